@@ -8,7 +8,7 @@ use Rattle.affinity.specs.Path.{are_related, serial, aggregate, volume, logical,
 use Rattle.affinity.specs.Place.{is_in_range, path_of_kind}
 use Rattle.affinity.specs.declared.kinds.Kind.TheVariants.{MakeVol, DropVol, Create, Delete, Seal, Unseal, Write, Punch, Read, List as ListFiles, Usage, Summary, SetLabel, Label}
 
--- the stripes of a small server's blocks, and of the default one's
+-- the stripes of some blocks, at the small geometry and at the default one
 first_block : stripe_of small 0 0 ≡ 0
 first_block = refl
 
@@ -27,7 +27,7 @@ next_run = refl
 round_again : stripe_of default_geometry 3 7 ≡ 0
 round_again = refl
 
--- the block is out of range, and the numbers that a kind doesn't have may be
+-- in range or not: a number that the kind has must be below its limit, one that it doesn't have may be anything
 block_behind : is_in_range small Write (0 ∷ 0 ∷ 0 ∷ 4 ∷ []) ≡ false
 block_behind = refl
 
@@ -49,7 +49,7 @@ numbers_of_kinds :
     ≡ 2 ∷ 2 ∷ 3 ∷ 3 ∷ 2 ∷ 2 ∷ 4 ∷ 4 ∷ 4 ∷ 2 ∷ 2 ∷ 0 ∷ 2 ∷ 2 ∷ []
 numbers_of_kinds = refl
 
--- each kind's place, by numbers of a server of two aggregates with two volumes each
+-- where a message of each kind belongs, on a server of two aggregates with two volumes each
 abbrev two_of_each : Geometry
 two_of_each = record small {
   aggregates = 2;
@@ -100,7 +100,7 @@ place_of_setlabel = refl
 place_of_label : path_of_kind two_of_each Label (1 ∷ 0 ∷ 9 ∷ 9 ∷ []) ≡ label 1 0
 place_of_label = refl
 
--- a label runs beside files and blocks, and not beside its volume
+-- which affinities are related: a label is unrelated to the files and blocks of its volume, and related to the volume itself
 label_beside_files : are_related (label 0 0) (logical 0 0) ≡ false
 label_beside_files = refl
 

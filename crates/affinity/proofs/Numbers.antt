@@ -1,4 +1,4 @@
--- A geometry is its eight numbers.
+-- Two geometries with the same eight numbers are equal.
 use Rattle.std.proofs.Common.{◌≡◌, ℕ, [], ◌∷◌, ap, subst}
 use Rattle.std.specs.Coded.{le_prop}
 use Rattle.std.specs.Prelude.{List}

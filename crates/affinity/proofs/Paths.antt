@@ -29,7 +29,7 @@ related_turned p q h = ⊎_elim
 pub unrelated_turned : (p q : Path) → are_related p q ≡ false → are_related q p ≡ false
 unrelated_turned p q h = false_from_ne_true _ (λ e. true≢false (sym (related_turned q p e) ∙ h))
 
--- Paths with one first number are related as their rests are.
+-- Two paths that aren't empty are related exactly if their first numbers are equal and their rests are related.
 pub related_below : (i : ℕ) (p q : Path) → are_related p q ≡ true → are_related (i ∷ p) (i ∷ q) ≡ true
 related_below i p q h = ⊎_elim
     (λ a. or_left _ _ (and_from _ _ (eq-eqb i i refl) a))
@@ -62,7 +62,7 @@ beginnings_related (x ∷ p) (y ∷ q) (z ∷ r) a b =
     (λ h. or_right _ _ (and_from _ _ (eq-eqb y x (sym same)) h))
     (or_cases _ _ (beginnings_related p q r first.1 second.1))
 
--- What lies at a path or below it is unrelated to what is unrelated to that path.
+-- If p is unrelated to q, then so is each path at or below p.
 pub unrelated_below : (p q r : Path) → are_related p q ≡ false → is_prefix p r ≡ true → are_related r q ≡ false
 unrelated_below p q r h under = false_from_ne_true _ (λ e. ⊎_elim
     (λ below. true≢false (sym (or_left _ _ (is_prefix-trans p r q under below)) ∙ h))

@@ -11,7 +11,7 @@ use Rattle.affinity.specs.declared.kinds.Kind.{Kind}
 use Rattle.affinity.specs.declared.kinds.Kind.TheVariants.{MakeVol, DropVol, Create, Delete, Seal, Unseal, Write, Punch, Read, List as ListFiles, Usage, Summary, SetLabel, Label}
 use Rattle.affinity.specs.declared.geometry.Geometry.{Geometry}
 
--- the stripe of a block is there
+-- the number of a block's stripe is below the number of stripes
 pub group_below : (g : Geometry) (f b : ℕ) → stripe_of g f b < g.stripes
 group_below g f b = mod_below _ g.stripes g.stripes_range.0
 

@@ -1,4 +1,5 @@
--- The numbers of affinities follow the tree: an affinity's number lies in the interval of another exactly where that one is at or above it.
+-- The numbers of affinities follow the tree: the interval of an affinity contains the number of another exactly where the other is the
+-- same affinity or lies below it.
 use Rattle.std.proofs.Common.{◌≡◌, ℕ, zero, suc, ◌+◌, ◌*◌, ◌<◌, ◌≤◌, Bool, ◌&&◌, nat_lt, [], ◌∷◌, refl, ⊎_elim, arith, ◌==◌, subst, ◌∙◌, sym, ap, true, false}
 use Rattle.std.specs.Prelude.{nat_le, ◌||◌, ◌-◌, ◌/◌, ◌%◌, if◌then◌else◌}
 use Rattle.std.proofs.lemmas.Bool.{cases_order}
@@ -34,7 +35,7 @@ in_volume g a v p (zero ∷ t ∷ x ∷ q) h k = absurd k
 in_volume g a v p (suc zero ∷ x ∷ q) h k = absurd k
 in_volume g a v p (suc (suc n) ∷ q) h k = absurd k
 
--- an affinity's interval lies in that of its volume
+-- an interval lies in another: `count` numbers from `first` on, at least one, are among the `space` numbers from `from` on
 pub record FitsIn (from space : ℕ) (first count : ℕ) : Type 0 where
   pub low : from ≤ first
   pub some : 0 < count
@@ -74,7 +75,7 @@ among_volumes g a v w p q h k =
     λ e. subst (λ (x : ℕ). IsPath g (a ∷ x ∷ q) → is_prefix p q ≡ contains (interval g (a ∷ v ∷ p)) (number g (a ∷ x ∷ q))) e (in_volume g a v p q h) k in
     children (2 + a * aggregate_size g) v w (number g (a ∷ w ∷ q)) (fits_in_volume g a v p h) fits.low (omega arith) same
 
--- a path's volume, and its aggregate, are there
+-- the numbers of a path's aggregate and volume are below their limits
 volume_there : (g : Geometry) (a v : ℕ) (p : Path) → IsPath g (a ∷ v ∷ p) → (a < g.aggregates) × (v < g.volumes)
 volume_there g a v [] h = h
 volume_there g a v (zero ∷ []) h = h
@@ -141,7 +142,7 @@ in_aggregate_at g a r = if r == 0 then aggregate a else in_volume_at g a ((r - 1
 pub path_at : Geometry → ℕ → Path
 path_at g n = if n == 0 then serial else in_aggregate_at g ((n - 1) / aggregate_size g) ((n - 1) % aggregate_size g)
 
--- a child's number, and what is left of it
+-- the number that is n above a node's own lies in the subtree of its child `child`, at offset `rest`; each child's subtree has w numbers
 pub record Splits (w child rest n : ℕ) : Type 0 where
   pub more : (n == 0) ≡ false
   pub child_is : (n - 1) / w ≡ child
@@ -202,7 +203,7 @@ path_at-zero : (g : Geometry) → path_at g 0 ≡ serial
 unfolding path_at
 path_at-zero g = refl
 
--- Each path is the one with its number.
+-- From a path's number `path_at` finds that path.
 pub path_at-number : (g : Geometry) (p : Path) → IsPath g p → path_at g (number g p) ≡ p
 path_at-number g [] h = path_at-zero g
 path_at-number g (a ∷ p) h =
@@ -219,9 +220,9 @@ path_unique g p q a h k =
     ∙ ap (path_at g) (sym (ap (λ i. i.number) h.interval) ∙ ap (λ i. i.number) k.interval)
     ∙ path_at-number g q k.path
 
--- ---- the same, as the code finds it
+-- ---- from a number to its path, by the steps of `Affinity::place`
 
--- the path with an affinity's number is the affinity's
+-- if q is the path that is found from the number of affinity a, then a is the affinity at q
 pub found : (g : Geometry) (n : ℕ) (a : Interval) (q : Path) → ((p : Path) × IsAffinityOf g p a) → n ≡ a.number → path_at g n ≡ q → IsAffinityOf g q a
 found g n a q h e at =
     let p_is : path_at g n ≡ h.0 = ap (path_at g) (e ∙ ap (λ i. i.number) h.1.interval) ∙ path_at-number g h.0 h.1.path in

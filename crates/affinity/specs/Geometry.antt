@@ -1,5 +1,5 @@
 -- Statement for clients: The configuration of a server (its geometry), and the stripe of a block. A geometry carries the proof that each
--- of its numbers is in range, as `g.stripes_range`.
+-- of its numbers is in range, in fields such as `g.stripes_range`.
 use Rattle.std.specs.Prelude.{ℕ, ◌+◌, ◌/◌, ◌%◌, List, [], ◌∷◌}
 use Rattle.std.proofs.Common.{lit≤}
 use Rattle.affinity.specs.declared.geometry.Geometry.{Geometry}
@@ -12,7 +12,7 @@ numbers_of g = g.aggregates ∷ g.volumes ∷ g.stripes ∷ g.width ∷ g.files 
 abbrev pub stripe_of : Geometry → ℕ → ℕ → ℕ
 stripe_of g f b = (f + b / g.width) % g.stripes
 
--- the default geometry, of which the options change single numbers
+-- the default geometry; each option of the command line changes one of its numbers. `lit≤ tt` proves that a numeral is at most another.
 abbrev pub default_geometry : Geometry
 default_geometry = record {
   aggregates = 1;

@@ -1,5 +1,5 @@
--- Statement for engineers: Affinities as numbers. The tree of a server is numbered in preorder: each affinity comes before all that lie
--- below it, and these are the numbers from its own up to its end.
+-- Statement for engineers: Affinities as intervals of numbers. The tree of a server is numbered in preorder: an affinity and all that lie
+-- below it have the numbers from its own number, which is the least of them, up to its end, the end excluded.
 use Rattle.std.specs.Prelude.{◌≡◌, ℕ, zero, suc, ◌+◌, ◌*◌, ◌<◌, [], ◌∷◌, Bool, ◌&&◌, nat_le, nat_lt}
 use Rattle.affinity.specs.Path.{Path}
 use Rattle.affinity.specs.declared.geometry.Geometry.{Geometry}
@@ -9,7 +9,7 @@ pub record Interval : Type 0 where
   pub number : ℕ
   pub end : ℕ
 
--- how many affinities a volume has: itself, its Volume Logical with the stripes, and its label
+-- how many affinities a volume has: itself, its logical one, the stripes below that, and its label
 abbrev pub volume_size : Geometry → ℕ
 volume_size g = 3 + g.stripes
 
@@ -21,7 +21,7 @@ aggregate_size g = 1 + g.volumes * volume_size g
 abbrev pub server_size : Geometry → ℕ
 server_size g = 1 + g.aggregates * aggregate_size g
 
--- The path is that of an affinity of the geometry: each number is below its limit.
+-- The path is that of an affinity of the geometry: each number is below its limit. A third number is 0 (files and blocks) or 1 (the label).
 abbrev pub IsPath : Geometry → Path → Type 0
 IsPath g [] = Unit {0}
 IsPath g (a ∷ []) = a < g.aggregates

@@ -6,8 +6,8 @@ use Rattle.std.specs.Prelude.{ℕ, ◌≤◌, List, [], ◌∷◌}
 abbrev pub IsWithin : ℕ → ℕ → ℕ → Type 0
 IsWithin least most n = (least ≤ n) × (n ≤ most)
 
--- Eight numbers, each in its range: aggregates; of each, volumes; of a volume, stripes, width (adjacent blocks in one stripe) and files;
--- blocks of a file; quota of a stripe; and records of a half.
+-- Eight numbers, each in its range: how many aggregates a server has, volumes an aggregate, and stripes a volume; the width (adjacent
+-- blocks in one stripe); how many files a volume has, and blocks a file; the quota of a stripe; and the records of a half of the log.
 abbrev pub AreInRange : List ℕ → Type 0
 AreInRange (aggregates ∷ volumes ∷ stripes ∷ width ∷ files ∷ blocks ∷ quota ∷ half ∷ []) =
     IsWithin 1 4 aggregates

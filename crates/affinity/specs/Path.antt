@@ -1,7 +1,8 @@
 -- Statement for clients: Paths name the affinities of a server: each begins with the paths of those above it.
 use Rattle.std.specs.Prelude.{ℕ, Bool, true, false, ◌&&◌, ◌||◌, ◌==◌, List, [], ◌∷◌}
 
--- the numbers from the root down: aggregate, volume, then 0 and the stripe, or 1 for the label
+-- the numbers from the root down: the aggregate, the volume, and 0 (the volume's files and blocks) or 1 (its label); after 0 the stripe.
+-- A path may end after any of these.
 abbrev pub Path : Type 0
 Path = List ℕ
 

@@ -49,7 +49,7 @@ path_of_numbers g Summary a v f b = serial
 path_of_numbers g SetLabel a v f b = label a v
 path_of_numbers g Label a v f b = label a v
 
--- the path at which a message of the kind belongs, by the list of its four numbers
+-- the path at which a message of the kind belongs, by the list of its four numbers; the path for a list of another length means nothing
 abbrev pub path_of_kind : Geometry → Kind → List ℕ → Path
 path_of_kind g k (a ∷ v ∷ f ∷ b ∷ []) = path_of_numbers g k a v f b
 path_of_kind g k _ = serial

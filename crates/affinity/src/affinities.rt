@@ -8,8 +8,8 @@ ghost use Rattle.affinity.specs.declared.geometry.Geometry.{Geometry};
 use crate::{Geometry, Place};
 use std::marker::Model;
 
-/// A place in the tree of a server's affinities: its number in preorder, and the end of the
-/// numbers of those below it.
+/// A node of the tree of affinities, as an interval of numbers: its own number in preorder, and the
+/// first number after those of the nodes below it. A `Place` is the same node by its own numbers.
 #[derive(Clone, Copy, Debug, PartialEq, Eq)]
 pub struct Affinity {
     number: u16,
@@ -99,8 +99,8 @@ impl Affinity {
     }
 }
 
-/// Whether one of two affinities of a geometry is the other, or lies above it: the number of one
-/// is among the other's numbers.
+/// Whether two affinities are related (in conflict): whether the number of one lies in the interval
+/// of the other. In one geometry this is so exactly if one is the other or lies above it.
 pub fn related(a: Affinity, b: Affinity) -> bool
     ensures intervals { result ≡ (contains a b.number || contains b a.number) }
     ensures paths { (g : Geometry) (p q : Path) → IsAffinityOf g p a → IsAffinityOf g q b → result ≡ are_related p q }
@@ -108,6 +108,7 @@ pub fn related(a: Affinity, b: Affinity) -> bool
     a.contains(b) || b.contains(a)
 }
 
+/// How many affinities a volume has, not how much it holds: itself, its logical one, the stripes and its label.
 fn volume_size(g: &Geometry) -> u16
     ensures value { result ≡ volume_size g.now }
     ensures most { result ≤ 11 }
@@ -115,6 +116,7 @@ fn volume_size(g: &Geometry) -> u16
     3 + g.stripes
 }
 
+/// How many affinities an aggregate has: itself, and those of its volumes.
 fn aggregate_size(g: &Geometry) -> u16
     ensures value { result ≡ aggregate_size g.now }
     ensures most { result ≤ 89 }
@@ -122,6 +124,7 @@ fn aggregate_size(g: &Geometry) -> u16
     1 + g.volumes * volume_size(g)
 }
 
+/// The number in preorder of the affinity of volume `v` of aggregate `a`.
 fn volume_number(g: &Geometry, a: u16, v: u16) -> u16
     requires aggregate { a < g.now.aggregates }
     requires volume { v < g.now.volumes }

@@ -53,7 +53,7 @@ impl fmt::Display for BadGeometry {
 
 impl Error for BadGeometry {}
 
-/// The number, where it is from `least` to `most`.
+/// The number `n` itself, if it is from `least` to `most`; else `BadGeometry`.
 fn within(least: u16, most: u16, n: u16) -> Result<u16, BadGeometry>
     ensures in_range { IsOk result ↔ IsWithin least most n }
     ensures same { IfOk result (λ m. m ≡ n) }
@@ -68,7 +68,7 @@ impl Geometry {
     ghost use Rattle.affinity.specs.Geometry.{numbers_of};
 
     /// The geometry with these numbers: aggregates, volumes, stripes, width, files, blocks, quota
-    /// and half, in this order. `BadGeometry` exactly where one leaves its range.
+    /// and half, in this order. `BadGeometry` exactly where one is out of its range.
     pub fn new(n: [u16; 8]) -> Result<Geometry, BadGeometry>
         ensures in_range { IsOk result ↔ AreInRange n }
         ensures same_numbers { IfOk result (λ g. numbers_of g ≡ n) }
@@ -112,8 +112,8 @@ impl Geometry {
     }
 }
 
-/// One aggregate of 4 volumes of 16 files of 64 blocks, in 4 stripes of width 4 that hold 64 blocks
-/// each, and log halves of 256 records.
+/// One aggregate of 4 volumes, and 256 records in each half of the log. A volume has 16 files of 64
+/// blocks, and 4 stripes of width 4, each of which can hold 64 blocks.
 impl Default for Geometry {
     ghost use Rattle.std.specs.Prelude.{◌≡◌};
     ghost use Rattle.affinity.specs.Geometry.{default_geometry};

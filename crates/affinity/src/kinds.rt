@@ -21,7 +21,7 @@ pub enum Kind {
     Label,
 }
 
-/// Whether messages of this kind change what the server holds.
+/// Whether messages of this kind may change what the server holds.
 pub fn changing(k: Kind) -> bool
     ensures { result ≡ is_changing k }
 {

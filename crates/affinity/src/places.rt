@@ -24,8 +24,8 @@ pub enum Place {
     Label(u16, u16),
 }
 
-/// The stripe of its volume to which block `b` of file `f` belongs. Runs of `width` blocks go to
-/// one stripe after another, and each file begins one stripe after the file before it.
+/// The number, in its volume, of the stripe to which block `b` of file `f` belongs. Runs of `width`
+/// blocks go to one stripe after another, and each file begins one stripe after the file before it.
 pub fn group_of(g: &Geometry, f: u16, b: u16) -> u16
     ensures value { result ≡ stripe_of g.now f b }
     ensures below { result < g.now.stripes }
@@ -62,8 +62,8 @@ fn place_by(g: &Geometry, k: Kind, n: [u16; 4]) -> Place
     }
 }
 
-/// Whether the numbers that the kind has are in range: whether there is a place for a message of
-/// this kind with these numbers, without finding it.
+/// Whether the numbers that the kind has are in range: whether `place_of` gives an affinity for a
+/// message of this kind with these numbers. It doesn't compute the affinity.
 pub fn is_in_range(g: &Geometry, k: Kind, n: [u16; 4]) -> bool
     ensures { result ≡ is_in_range g.now k n }
 {

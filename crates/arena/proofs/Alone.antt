@@ -26,7 +26,7 @@ module _ (slots nodes slot : ℕ) (next previous : ℕ → ℕ) (linked : IsLink
   pub alone_back : previous slot ≡ slot
   alone_back = ap previous (sym alone) ∙ linked.previous_undoes slot is_node
 
-  -- no way from another node comes by
+  -- no way from another node leads over the slot
   pub way-passes : (a : ℕ) (xs : List ℕ) (z : ℕ) → a < nodes → AreSlots nodes xs → a ≢ slot → IsWay next a xs z → AllByRecursion (λ x. x ≢ slot) xs
   way-passes a [] z below inside apart way = tt
   way-passes a (x ∷ xs) z below inside apart way =
@@ -43,7 +43,7 @@ module _ (slots nodes slot : ℕ) (next previous : ℕ → ℕ) (linked : IsLink
   count_of-alone = count_of-table slot (ring next slots) slots (nodes - slots)
       (λ e low high. count_of-nowhere slot (ring next slots e) (ring-passes e low (omega (arith, linked.slots_fit))))
 
--- the converse
+-- a slot that is on no list is its own neighbor
 pub alone-from_times : (slots nodes : ℕ) (next previous : ℕ → ℕ) → IsLinked slots nodes next previous → (a : ℕ) → a < slots → count_of a (concat (rings next slots nodes)) ≡ 0 → next a ≡ a
 alone-from_times slots nodes next previous linked a within none = elim (cases_eq (next a) a) [
   | inl e ↦ e

@@ -17,7 +17,7 @@ chain-without [] i d = refl
 chain-without (xs ∷ chains) i zero = refl
 chain-without (xs ∷ chains) i (suc d) = chain-without chains i d
 
--- the chain that a slot was moved to, and each other
+-- the chain that a slot was moved to, and each other chain
 pub chain-moved_same : (chains : List (List ℕ)) (i c : ℕ) → c < length chains → slice_index_or (moved chains i c) c [] ≡ without i (slice_index_or chains c []) ++ i ∷ []
 chain-moved_same chains i c within =
     get_or-set_same (map (without i) chains) c (slice_index_or (map (without i) chains) c [] ++ i ∷ []) [] (omega (arith, length-map chains (without i)))
@@ -81,7 +81,7 @@ module _ {T : Type 0} where
   pub chain-front : (m : ArenaView T) (i c : ℕ) → IsPartitioned m → front_of m c ≡ Some i → chain_at m c ≡ i ∷ without i (chain_at m c)
   chain-front m i c partitioned first = first-without i (chain_at m c) first (chained-once m i c partitioned)
 
-  -- the numbers of the slots in the parts add up to the capacity
+  -- the lengths of the parts add up to the capacity
   pub length-parts : (m : ArenaView T) → IsPartitioned m → length m.free + length (concat m.chains) + length (aside m) ≡ capacity_of m
   length-parts m partitioned =
       let all = listed m ++ aside m in

@@ -38,7 +38,7 @@ count_of-last i slot xs = elim (eqb_tells slot i) [
     alone : (slot == i) ≡ true → count_of i (slot ∷ []) ≡ 1
     alone e = rw e refl
 
--- a number that a list lost
+-- a number that was taken out of a list
 pub count_of-without_same : (i : ℕ) (xs : List ℕ) → count_of i (without i xs) ≡ 0
 count_of-without_same i [] = refl
 count_of-without_same i (x ∷ xs) = elim (eqb_tells x i) [
@@ -46,7 +46,7 @@ count_of-without_same i (x ∷ xs) = elim (eqb_tells x i) [
   | inr n ↦ rw n.0 (count_of-cons_other i x (without i xs) n.1 ∙ count_of-without_same i xs)
 ]
 
--- a list that lost another number
+-- another number was taken out of a list
 pub count_of-without_other : (i j : ℕ) (xs : List ℕ) → i ≢ j → count_of i (without j xs) ≡ count_of i xs
 count_of-without_other i j [] other = refl
 count_of-without_other i j (x ∷ xs) other = elim (eqb_tells x j) [
@@ -54,7 +54,7 @@ count_of-without_other i j (x ∷ xs) other = elim (eqb_tells x j) [
   | inr n ↦ rw (n.0, count_of-without_other i j xs other) refl
 ]
 
--- a list never had what it is without
+-- taking a number out of a list that doesn't have it changes nothing
 pub without-absent : (i : ℕ) (xs : List ℕ) → count_of i xs ≡ 0 → without i xs ≡ xs
 without-absent i [] none = refl
 without-absent i (x ∷ xs) none = elim (eqb_tells x i) [
@@ -108,7 +108,7 @@ count_of-at i [] k = omega arith
 count_of-at i (ys ∷ lists) zero = omega (arith, count_of-append i ys (concat lists))
 count_of-at i (ys ∷ lists) (suc k) = omega (arith, count_of-append i ys (concat lists), count_of-at i lists k)
 
--- a number that none of the list is
+-- a number from which each number of the list differs
 pub count_of-nowhere : (i : ℕ) (xs : List ℕ) → AllByRecursion (λ x. x ≢ i) xs → count_of i xs ≡ 0
 count_of-nowhere i [] apart = refl
 count_of-nowhere i (x ∷ xs) apart = count_of-cons_other i x xs apart.0 ∙ count_of-nowhere i xs apart.1

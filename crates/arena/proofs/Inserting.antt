@@ -17,7 +17,7 @@ pub record IsInserted (slot before : ℕ) (next previous next' previous' : ℕ �
   pub rest_next : (a : ℕ) → a ≢ slot → a ≢ before → next' a ≡ next a
   pub rest_previous : (a : ℕ) → a ≢ slot → a ≢ next before → previous' a ≡ previous a
 
--- a way stays that comes by neither node
+-- `next` stays along a way that leads over neither the slot nor the node before it
 rest-kept : (slot before : ℕ) (next next' : ℕ → ℕ) → ((a : ℕ) → a ≢ slot → a ≢ before → next' a ≡ next a) → (xs : List ℕ)
     → AllByRecursion (λ x. x ≢ slot) xs → AllByRecursion (λ x. x ≢ before) xs → AllByRecursion (λ x. next' x ≡ next x) xs
 rest-kept slot before next next' rest [] passes avoids = tt
@@ -78,7 +78,7 @@ module _ (slots nodes slot before : ℕ) (next previous next' previous' : ℕ �
     ]
   ]
 
-  -- the list with this end becomes this one, and no other comes by the node before the slot
+  -- the list becomes `made`, where no other list leads over the node before the slot
   module _ (list : ℕ) (made : List ℕ) (list_below : list < nodes - slots)
       (way : IsWay next' (slots + list) made (slots + list)) (inside : AreSlots slots made)
       (more : (i : ℕ) → count_of i made ≡ count_of i (slot ∷ ring next slots (slots + list)))
@@ -132,7 +132,7 @@ module _ (slots nodes slot before : ℕ) (next previous next' previous' : ℕ �
           subst Q (sym (ring-other end outside below n)) (other_way end outside below n))
     ]
 
-    -- the slot is once more in the lists, and each other as often as before
+    -- the slot is in the lists one time more, and each other slot as often as before
     count : (i : ℕ) → count_of i (concat (rings next' slots nodes)) ≡ count_of i (slot ∷ concat (rings next slots nodes))
     count i =
         let long : list < length (rings next slots nodes) = omega (arith, length-table (ring next slots) slots (nodes - slots)) in
@@ -187,7 +187,7 @@ module _ (slots nodes slot list : ℕ) (next previous next' previous' : ℕ → 
   end_below : slots + list < nodes
   end_below = omega (arith, linked.slots_fit)
 
-  -- no way over slots to another end comes by the node before this end
+  -- no way over slots to the end of another list leads over the node before the end of this one
   way-avoids : (a : ℕ) (xs : List ℕ) (z : ℕ) → AreSlots slots xs → z ≢ slots + list → IsWay next a xs z → (a ≢ previous (slots + list)) × AllByRecursion (λ x. x ≢ previous (slots + list)) xs
   way-avoids a [] z inside other way =
       ((λ same. other (sym way ∙ ap next same ∙ linked.next_undoes (slots + list) end_below)), tt)

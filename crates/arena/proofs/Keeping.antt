@@ -25,7 +25,7 @@ unlinked-free x rest chains once =
     let others = without_all-absent x chains (omega arith) in
     cc
 
--- what holds of each number that is in a list holds along the list
+-- what holds of each number that is in a list holds by `AllByRecursion`
 pub each-from_times : (P : ℕ → Type 0) (xs : List ℕ) → ((i : ℕ) → 0 < count_of i xs → P i) → AllByRecursion P xs
 each-from_times P [] each = tt
 each-from_times P (x ∷ xs) each =
@@ -235,7 +235,7 @@ module _ {T : Type 0} where
         ]))
   ]
 
-  -- no more slots are free than there are
+  -- there are at least as many slots as free ones
   pub kept-fits : (values : List (Option T)) (links : Linked) (count : ℕ) → ArenaRule values links count → count ≤ length values
   kept-fits values links count kept =
       let all = λ (i : ℕ). count_of-append i (free_in links.lists) (concat (chains_in links.lists)) in

@@ -8,7 +8,7 @@ use Rattle.arena.proofs.Ways.{walk-inside, count_of-no_slot, table-at, length-ta
 use Rattle.arena.proofs.Alone.{count_of-table}
 use Rattle.arena.proofs.Behind.{slot_or_none, first_of-ring}
 
--- the rows of numbers are the neighbors of lists
+-- the two arrays are as long as each other, and link lists (`IsLinked`)
 abbrev pub IsStored : ℕ → List ℕ → List ℕ → Type 0
 IsStored slots next previous =
     (length previous ≡ length next) × IsLinked slots (length next) (λ x. slice_index next x) (λ x. slice_index previous x)
@@ -17,7 +17,7 @@ IsStored slots next previous =
 abbrev pub stored : ℕ → List ℕ → Linked
 stored slots next = record { slots = slots; lists = rings (λ x. slice_index next x) slots (length next) }
 
--- the lists of a row that has other numbers, and as many
+-- the lists of another array of the same length
 pub stored-same : (slots : ℕ) (next next' : List ℕ) (lists : List (List ℕ)) → length next' ≡ length next
     → rings (λ x. slice_index next' x) slots (length next) ≡ lists → (stored slots next').lists ≡ lists
 stored-same slots next next' lists long same =
@@ -54,7 +54,7 @@ first-stored slots next previous list ok within =
     ∙ first_of-ring slots (length next) (λ x. slice_index next x) (λ x. slice_index previous x) ok.1 (slots + list) (omega arith)
     (end-below slots next previous list ok within)
 
--- what the code reads of a row
+-- what the code reads from an array
 pub read : (row : List ℕ) (node x : ℕ) → node < length row → x ≡ get_or row node x → x ≡ slice_index row node
 read row node x below got = got ∙ get_or_default row node x 0 below
 

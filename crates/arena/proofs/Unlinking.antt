@@ -22,7 +22,7 @@ module _ (slots nodes slot : ℕ) (next previous next' previous' : ℕ → ℕ) 
   is_node : slot < nodes
   is_node = omega (arith, linked.slots_fit)
 
-  -- where a way goes on behind node b, that went on behind node a
+  -- `next'` leads from node b to the node to which `next` leads from node a, but past the slot
   abbrev Follows : ℕ → ℕ → Type 0
   Follows b a = (next a ≢ slot → next' b ≡ next a) × (next a ≡ slot → next' b ≡ next slot)
 

@@ -57,13 +57,13 @@ count_of-no_slot slots i [] inside outside = refl
 count_of-no_slot slots i (x ∷ xs) inside outside =
     count_of-cons_other i x xs (λ same. absurd (let within : x < slots = inside.0 in omega arith)) ∙ count_of-no_slot slots i xs inside.1 outside
 
--- a way stays where its nodes lead on as before
+-- a way stays a way if `next` of each of its nodes is as before
 pub way-kept : (next next' : ℕ → ℕ) {a b : ℕ} (xs : List ℕ) (z : ℕ) → next' b ≡ next a → AllByRecursion (λ x. next' x ≡ next x) xs → IsWay next a xs z → IsWay next' b xs z
 way-kept next next' [] z first rest way = first ∙ way
 way-kept next next' (x ∷ xs) z first rest way =
     (first ∙ way.0, way-kept next next' xs z rest.0 rest.1 way.1)
 
--- the rows of two functions, where one is made of the other at each place
+-- the tables of two functions, one of which is made of the other at each number
 pub table-map : (at at' : ℕ → List ℕ) (made : List ℕ → List ℕ) (from count : ℕ) → ((e : ℕ) → from ≤ e → e < from + count → at' e ≡ made (at e)) → table at' from count ≡ map made (table at from count)
 table-map at at' made from zero each = refl
 table-map at at' made from (suc count) each =
@@ -79,7 +79,7 @@ pub map-same : (lists : List (List ℕ)) → map (λ xs. xs) lists ≡ lists
 map-same [] = refl
 map-same (xs ∷ lists) = ap (λ (l : List (List ℕ)). xs ∷ l) (map-same lists)
 
--- the rows of two functions that differ at one place
+-- the tables of two functions that differ at one number
 pub table-set : (at at' : ℕ → List ℕ) (from count k : ℕ) → k < count → ((e : ℕ) → from ≤ e → e < from + count → e ≢ from + k → at' e ≡ at e)
     → table at' from count ≡ slice_set (table at from count) k (at' (from + k))
 table-set at at' from zero k within others = absurd (omega arith)

@@ -4,7 +4,8 @@ use Rattle.std.specs.List.{concat}
 use Rattle.std.specs.Coded.{Coded, code_by, coded×, coded_ℕ, coded_list, coded_option}
 use Rattle.arena.specs.Lists.{count_of, is_on, without, numbers_from, first_of, behind_in}
 
--- What contracts see of an `Arena`: the value in each slot, if it holds one, the free list, and the chains. A slot on no list is aside.
+-- What contracts see of an `Arena`: the value in each slot, if it holds one, the free list, and the chains (linked lists of slots that hold
+-- values). A slot on no list is aside.
 pub record ArenaView (T : Type 0) : Type 0 where
   pub values : List (Option T)
   pub free : List ℕ

@@ -17,7 +17,7 @@ abbrev pub walk : (ℕ → ℕ) → ℕ → ℕ → ℕ → List ℕ
 walk next slots zero node = []
 walk next slots (suc steps) node = if nat_lt node slots then node ∷ walk next slots steps (next node) else []
 
--- the list whose end node this is: the slots from the node after it on, up to an end node
+-- the list of this sentinel (a node that is no slot): the slots from the node after it on, up to a sentinel
 abbrev pub ring : (ℕ → ℕ) → ℕ → ℕ → List ℕ
 ring next slots end = walk next slots slots (next end)
 
@@ -26,7 +26,7 @@ abbrev pub table : (ℕ → List ℕ) → ℕ → ℕ → List (List ℕ)
 table at from zero = []
 table at from (suc count) = at from ∷ table at (suc from) count
 
--- all lists: one for each node that is no slot
+-- all lists: one for each sentinel
 abbrev pub rings : (ℕ → ℕ) → ℕ → ℕ → List (List ℕ)
 rings next slots nodes = table (ring next slots) slots (nodes - slots)
 
@@ -48,14 +48,14 @@ pub record IsWellLinked (m : Linked) : Type 0 where
   pub once : (i : ℕ) → count_of i (concat m.lists) ≤ 1
   pub within : (i : ℕ) → 0 < count_of i (concat m.lists) → i < m.slots
 
--- The nodes below `slots` are slots, and each of the others is the end of a list.
+-- The nodes below `slots` are slots, and each of the others is the sentinel (`end`) of a list.
 pub record IsLinked (slots nodes : ℕ) (next previous : ℕ → ℕ) : Type 0 where
   pub slots_fit : slots ≤ nodes
   pub next_below : (a : ℕ) → a < nodes → next a < nodes
   pub previous_below : (a : ℕ) → a < nodes → previous a < nodes
   pub next_undoes : (a : ℕ) → a < nodes → next (previous a) ≡ a
   pub previous_undoes : (a : ℕ) → a < nodes → previous (next a) ≡ a
-  -- each list goes round to its own end
+  -- each list goes round to its own sentinel
   pub closed : (end : ℕ) → slots ≤ end → end < nodes → IsWay next end (ring next slots end) end
   pub once : (i : ℕ) → count_of i (concat (rings next slots nodes)) ≤ 1
   -- a slot that is on no list is its own neighbor

@@ -1,4 +1,4 @@
-//! A fixed array of slots with chains through them. All memory is taken at the start.
+//! A fixed array of slots with linked lists (chains) through them. All memory is allocated at the start.
 #![tactic(auto)]
 
 ghost use Rattle.std.specs.Prelude.{◌≡◌, ◌+◌, ◌<◌, length, slice_set, slice_index_or, IsTrue, IsSome, IfOk, Some, option_copied, vec_len};
@@ -19,8 +19,8 @@ const FREE: usize = 0;
 
 /// A fixed array of slots. A slot is free, on exactly one chain, or aside: claimed, and on no chain.
 ///
-/// A claimed slot holds a value or has it lent out, and a slot whose value is out is aside.
-/// Each call but `with_capacity` takes no memory, and leaves all unchanged where it refuses.
+/// A claimed slot (one that isn't free) holds a value or has it lent out, and a slot whose value is out is aside.
+/// After `with_capacity` no call takes memory, and a call that refuses changes nothing.
 #[derive(Drop)]
 pub struct Arena<T> {
     values: Vec<Option<T>>,
@@ -153,8 +153,8 @@ impl<T> Arena<T> {
         self.links.lists() - 1
     }
 
-    /// Puts a value into the first free slot, which is aside then, and gives its number. Where no
-    /// slot is free it hands the value back.
+    /// Puts a value into the first free slot and gives the slot's number. The slot is aside then. Where
+    /// no slot is free it hands the value back.
     pub fn put(&mut self, value: T) -> Result<usize, T>
         ensures answer { result ≡ put_answer self.old value }
         ensures arena { self.new ≡ after_put self.old value }
@@ -209,8 +209,8 @@ impl<T> Arena<T> {
         true
     }
 
-    /// Gives the value of a slot out, and takes the slot off its chain. It stays claimed, until
-    /// `restore` brings the value back. Gives `None`, and changes nothing, where `get` does.
+    /// Gives the value of a slot out, and takes the slot off its chain. The slot isn't free then: it waits
+    /// for `restore` to bring a value back. Gives `None`, and changes nothing, where `get` gives `None`.
     pub fn lend(&mut self, i: usize) -> Option<T>
         ensures answer { result ≡ value_at self.old i }
         ensures arena { self.new ≡ after_lend self.old i }
@@ -223,7 +223,7 @@ impl<T> Arena<T> {
         self.values[i].take()
     }
 
-    /// Brings a value into a slot whose value is out. The slot stays aside. Anywhere else it hands
+    /// Brings a value into a slot whose value is out. The slot stays aside. For any other slot it hands
     /// the value back, and changes nothing.
     pub fn restore(&mut self, i: usize, value: T) -> Result<(), T>
         ensures answer { result ≡ restore_answer self.old i value }
@@ -238,7 +238,7 @@ impl<T> Arena<T> {
     }
 
     /// Takes the value out of a slot, which becomes the first free one. Gives `None`, and changes
-    /// nothing, where `get` does.
+    /// nothing, where `get` gives `None`.
     pub fn take(&mut self, i: usize) -> Option<T>
         ensures answer { result ≡ value_at self.old i }
         ensures arena { self.new ≡ after_take self.old i }

@@ -9,9 +9,9 @@ use std::marker::Model;
 
 /// Lists of slots. A slot is on one list, or on none.
 ///
-/// The nodes below `slots` are the slots. Each node above them is both ends of a list, so that a
-/// list is a ring, and neither its first nor its last slot is a special case. A slot on no list is
-/// its own neighbor.
+/// The nodes numbered below `slots` are the slots. Each node from `slots` on is the sentinel of a list:
+/// before its first slot and after its last. So a list is a ring, and neither its first nor its last slot
+/// is a special case. A slot on no list is its own neighbor.
 #[derive(Drop)]
 pub(crate) struct Links {
     slots: usize,
@@ -34,7 +34,7 @@ impl Model for Links {
         × IsLinked a.slots (length a.next.items) (λ x. slice_index a.next.items x) (λ x. slice_index a.previous.items x) };
 }
 
-// The node after a node at the start.
+// The node after a node in new `Links`.
 fn next_at_start(slots: usize, node: usize) -> usize
     requires { slots < usize.MAX }
     ensures { result ≡ next_at_start slots node }
@@ -48,7 +48,7 @@ fn next_at_start(slots: usize, node: usize) -> usize
     }
 }
 
-// The node before a node at the start.
+// The node before a node in new `Links`.
 fn previous_at_start(slots: usize, node: usize) -> usize
     ensures { result ≡ previous_at_start slots node }
 {

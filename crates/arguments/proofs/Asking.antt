@@ -1,4 +1,4 @@
--- Words that are wrong ask for nothing, and a command has one name.
+-- Words (the arguments) that are refused ask for nothing, and a command has one name.
 use Rattle.std.proofs.Common.{◌≡◌, ◌∙◌, sym, subst, inl, inr, List, [], ◌∷◌, true, false, Option}
 use Rattle.std.specs.List.{list_all}
 use Rattle.std.proofs.lemmas.Bool.{and_parts}
@@ -13,7 +13,7 @@ use Rattle.arguments.specs.declared.parsing.Request.{Request}
 use Rattle.arguments.specs.declared.parsing.Request.TheVariants.{Help, Plain, Format, Show, Serve}
 use Rattle.arguments.specs.declared.parsing.ArgumentRefusal.TheVariants.{Words as by_words}
 
--- ---- words that are wrong
+-- ---- words that are refused
 
 mistake_among : (kinds : Kinds) (k : ErrorKind) → list_all is_mistake kinds ≡ true → IsAmong k kinds → is_mistake k ≡ true
 mistake_among [] k all among = absurd among
@@ -42,6 +42,6 @@ ask_for_nothing words (Help text) asks (inr out_of_range) = subst (IsAmong (kind
 pub two_names : (name other : Text) (command : Option (Text × List Row)) → IsNamed name command → IsNamed other command → name ≡ other
 two_names name other command named called = same_Some _ _ (sym named ∙ called)
 
--- and there are no mistakes in them
+-- words in which `clap` finds nothing are not refused for a mistake
 pub no_mistake : (words : List Text) (error : Error) → findings words ≡ [] → IsReason words (by_words error) → ⊥
 no_mistake words error nothing reason = subst (IsAmong (kind_of error)) nothing reason.0

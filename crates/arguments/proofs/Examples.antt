@@ -4,12 +4,12 @@ use Rattle.affinity.specs.Geometry.{default_geometry}
 use Rattle.clap.proofs.OnLiterals.{clap_on_literals}
 use Rattle.arguments.specs.Arguments.{AsksFormat, AsksHelp, AsksNoCommand, AsksOutOfRange, AsksPlain, AsksServeWith, AsksShow, AsksVersion, IsWrong}
 
--- two names are distinguished by it
+-- the first letter of a name: two names with different ones differ
 abbrev first_letter : Option (List ℕ) → ℕ
 first_letter (Some (letter ∷ name)) = letter
 first_letter _ = 0
 
--- the word `plain` is not the word `serve`
+-- the first letters of `plain` and `serve` differ
 plain_is_another : ◌≡◌ {A = ℕ} 112 115 → ⊥
 plain_is_another letter = absurd (omega (arith, letter))
 

@@ -15,11 +15,11 @@ use Rattle.clap.specs.Matches.{ReadsOne}
 use Rattle.arguments.specs.Arguments.{device_rule, number_of, rule_within}
 use Rattle.arguments.specs.Tables.{CommandRow, OptionRow, command_app, with_commands, with_options}
 
--- a command that is plain has no argument for the commands below it
+-- a command that is plain (`is_plain` of the definitions of `clap`, not the command `plain`) has no global argument
 pub no_globals : (groups external globals rest : Bool) → (groups && (external && (not globals && rest))) ≡ true → globals ≡ false
 no_globals groups external globals rest plain = not-true _ (and_parts _ _ (and_parts _ _ (and_parts _ _ plain).1).1).0
 
--- an option leaves a command plain
+-- a command with an option added stays plain in that sense
 options_are_plain : (options : List OptionRow) (a : App) → (with_options a options).top.is_plain ≡ a.top.is_plain
 options_are_plain [] a = refl
 options_are_plain (option ∷ options) a = options_are_plain options (with_rule a (rule_within option.0.now (pos option.2) (pos option.3)))

@@ -27,11 +27,11 @@ holds_by words error kind.DisplayHelp is h = (among words error kind.DisplayHelp
 holds_by words error kind.DisplayVersion is h = (among words error kind.DisplayVersion is (λ e. cc) h, ap is_mistake is)
 holds_by words error k is h = (among words error k is (λ e. cc) h, ap is_mistake is)
 
--- an error of one of the kinds that the words may have means what they ask, or a reason
+-- an error of a kind that is among the findings means a request that the words ask for, or a reason to refuse them
 pub holds : (words : List Text) (error : Error) → HasKind (findings words) error → Holds words (answer_of error)
 holds words error h = holds_by words error (kind_of error) refl h
 
--- and so does what the options ask for, where nothing is wrong with the words
+-- so does what the options ask for, where `clap` finds nothing in the words
 pub holds_requested : (words : List Text) (r : Result Request ArgumentRefusal) → findings words ≡ [] → IsRequested (subcommand_of waffd words) r → Holds words r
 holds_requested words (Ok (Plain g)) nothing is = (nothing, is.0, is.1)
 holds_requested words (Ok (Format path g)) nothing is = (nothing, is.0, is.1, is.2)

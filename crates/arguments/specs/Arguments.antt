@@ -1,4 +1,5 @@
--- Statement for engineers: What the arguments ask for. `clap` reads them, by its rules for the commands and options below.
+-- Statement for engineers: What the arguments ask for. `clap` reads them, by its rules for the commands and options below. Of its types an
+-- `App` is a command with its subcommands, a `Rule` one argument or option that it takes, and a `Row` one that was given, with its values.
 use Rattle.std.specs.Prelude.{◌≡◌, ◌≢◌, ◌&&◌, ◌⊎◌, ℕ, Bool, true, false, List, [], ◌∷◌, fold, length, Option, Some, None, option_and_then, option_map, unwrap_or, Result, Ok, Err, codes, if◌then◌else◌, nat_lt, ℤ, pos}
 use Rattle.std.specs.Char.{digit_value}
 use Rattle.std.specs.List.{list_all}
@@ -189,7 +190,7 @@ AsksServeWith words path numbers =
     (findings words ≡ []) × IsNamed (codes "serve") (command_of words) × (path ≡ device_at (command_of words))
     × (numbers ≡ service_at (command_of words))
 
--- The arguments ask for service without a device, or for a device, at numbers that are no geometry.
+-- The arguments ask for service without a device, or for a device to be made, at numbers that are no geometry.
 abbrev pub AsksOutOfRange : List Text → Type 0
 AsksOutOfRange words =
     (findings words ≡ []) × (¬ (IsNamed (codes "show") (command_of words))) × (¬ (IsNamed (codes "serve") (command_of words)))
@@ -216,7 +217,7 @@ IsWrong words = (findings words ≢ []) × (list_all is_mistake (findings words)
 abbrev pub AreRefused : List Text → Type 0
 AreRefused words = IsWrong words ⊎ AsksOutOfRange words
 
--- The arguments ask for this.
+-- The arguments ask for this request.
 abbrev pub Asks : List Text → Request → Type 0
 Asks words (Help text) = IsAmong (kind_of text) (findings words) × (is_mistake (kind_of text) ≡ false)
 Asks words (Plain g) = AsksPlain words g

@@ -31,7 +31,8 @@ const DEVICE: &str = "The file of the device";
 /// An option that takes a number: its name, what help prints of it, the least number that it takes and the greatest one.
 type NumberOption<'a> = (&'a str, &'a str, u16, u16);
 
-/// The options of a geometry, in the order of its numbers. Each takes all that fits: `Geometry::new` refuses what is out of range.
+/// The options of a geometry, in the order in which `Geometry::new` takes its numbers. Each takes any number of 16 bits: `Geometry::new`
+/// refuses what is out of range.
 const NUMBERS: [NumberOption<'static>; 8] = [
     ("aggregates", "Aggregates, 1 to 4 [default: 1]", 0, u16::MAX),
     (
@@ -78,7 +79,7 @@ const NUMBERS: [NumberOption<'static>; 8] = [
     ),
 ];
 
-/// The options of `serve`, in the order of its numbers.
+/// The options of `serve`, in the order of the fields of `ServiceNumbers`.
 const SERVICE: [NumberOption<'static>; 3] = [
     (
         "workers",
@@ -116,7 +117,7 @@ const COMMANDS: [CommandRow<'static>; 4] = [
 pub struct ServiceNumbers {
     /// Threads that run messages.
     pub workers: u16,
-    /// Lines that may be read and not be answered yet.
+    /// Lines that may be read whose reply is not sent yet.
     pub slots: u16,
     /// Records after which a checkpoint is made; with 0 one is made where the log is full.
     pub every: u16,

@@ -1,4 +1,4 @@
--- Why a device is refused whose named area is sound.
+-- For which records in force a device is refused, if the image of its named area has no fault.
 use Rattle.std.proofs.Common.{◌≡◌, ◌<◌, ◌≤◌, ◌==◌, ℕ, Bool, true, false, not, List, [], length, Option, Some, None, is_some, refl, sym, ◌∙◌, ap, arith}
 use Rattle.affinity.specs.declared.geometry.Geometry.{Geometry}
 use Rattle.checkpoint.specs.declared.fault.OpenFault.{OpenFault}
@@ -18,7 +18,7 @@ use Rattle.oplog.specs.Recovery.{named_area, run}
 use Rattle.oplog.proofs.Kept.{named_area-below}
 use Rattle.meaning.specs.State.{State}
 
--- the image of a device, where it is one
+-- an image that can be read has no fault
 pub image_fine : (g : Geometry) (number : ℕ) (now : List ℕ) → number < 2 → device_size (layout_of g) ≤ length now → AreBytes now → is_some (read g (part_bytes (layout_of g) (image_part number) now))
     ≡ true
     → image_fault g (part_bytes (layout_of g) (image_part number) now) ≡ None
@@ -28,7 +28,7 @@ image_fine g number now is_image long are some =
     ap (λ (t : Bool). fault_if (not t) BadVersion (fault_or_later BadPiece (first_bad_piece g bytes) None)) good.0
     ∙ ap (λ (o : Option ℕ). fault_or_later BadPiece o None) (no_bad_piece g bytes good.1)
 
--- by the records behind those of the named half
+-- where the named half is chained, and its records can be run: for those of the other half
 pub refused_behind : (g : Geometry) (c : List ℕ) (n : ℕ) (x : State) → NamedHolds g c n true x → refused g c ≡ records_fault g x (other n) (front (layout_of g) (other n) c)
 refused_behind g c n x is =
     past_chain g c is.header is.long_enough n is.named is.sound is.first is.decoded is.one ∙ named_sound g is.first n c x is.ran
@@ -38,7 +38,7 @@ none_behind : (g : Geometry) (h : ℕ) (o : Option State) → fault_or_later (Ba
 none_behind g h None = refl
 none_behind g h (Some x) = refl
 
--- by the records of the named half, where there are none behind
+-- where the named half isn't chained: for its own records
 pub refused_alone : (g : Geometry) (c : List ℕ) {n : ℕ} {x : State} → HasHeader g c → device_size (layout_of g) ≤ length c → n ≡ named_area (layout_of g) c
     → image_fault g (part_bytes (layout_of g) (image_part n) c) ≡ None → read g (part_bytes (layout_of g) (image_part n) c) ≡ Some x
     → (chain (layout_of g) n c == 1) ≡ false → refused g c ≡ records_fault g x n (front (layout_of g) n c)

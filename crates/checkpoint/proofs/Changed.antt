@@ -1,4 +1,4 @@
--- Segments of calls that write ranges of a device.
+-- Sequences of calls that write ranges of a device.
 use Rattle.std.proofs.Common.{◌≡◌, ℕ, zero, suc, ◌+◌, ◌≤◌, List, [], ◌∷◌, ◌++◌, length, take, replicate, refl, ◌∙◌, ap, arith}
 use Rattle.std.proofs.lemmas.List.{length-replicate, replicate-append-replicate, take-replicate}
 use Rattle.disk.specs.Device.{Medium, SameOutside, overlaid}
@@ -11,7 +11,7 @@ pub changed_within : {w0 w1 : Medium} {a k at n : ℕ} → a ≤ at → at + n �
 changed_within {w0} {w1} {a} {k} {at} {n} below behind moments =
     weaker w0 w1 _ _ moments (λ c after. record { old = after.old; left = after.left; change = wider at n after.old c after.change a k below behind })
 
--- one segment after another
+-- one sequence of calls after another
 pub changed_then : {w0 w1 w2 : Medium} {a k : ℕ} → CrashesChangeOnly w0 w1 (SameOutside a k) → CrashesChangeOnly w1 w2 (SameOutside a k) → CrashesChangeOnly w0 w2 (SameOutside a k)
 changed_then {w0} {w1} {w2} {a} {k} first second =
     then w0 w1 w2 _ first
@@ -20,7 +20,7 @@ changed_then {w0} {w1} {w2} {a} {k} first second =
     let before = leaves_now w0 w1 _ first after.old after.left in
     record { old = before.old; left = before.left; change = same_both a k before.old after.old c before.change after.change }))
 
--- what is written behind what was written
+-- two writes, the second where the first one ends, are one write
 overlaid-more : (xs : List ℕ) (at place : ℕ) (ys zs : List ℕ) → place ≡ at + length ys → overlaid (overlaid xs at ys) place zs ≡ overlaid xs at (ys ++ zs)
 overlaid-more [] at place ys zs is = refl
 overlaid-more (x ∷ xs) zero zero [] zs is = refl

@@ -38,7 +38,7 @@ numbers_there g header numbers is size read =
 pub are_in_range : (g : Geometry) → AreInRange (numbers_of g)
 are_in_range g = (g.aggregates_range, g.volumes_range, g.stripes_range, g.width_range, g.files_range, g.blocks_range, g.quota_range, g.half_range)
 
--- the numbers alone make the header
+-- geometries with the same numbers have the same header
 pub same_header : (g h : Geometry) → numbers_of g ≡ numbers_of h → header_of g ≡ header_of h
 same_header g h same = ap (λ (ns : List ℕ). magic ++ flat_map (little_bytes 2) ns ++ replicate 40 0) same
 

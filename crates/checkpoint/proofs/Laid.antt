@@ -22,18 +22,18 @@ use Rattle.oplog.proofs.Slices.{slice_slice}
 use Rattle.meaning.specs.State.{State, empty}
 use Rattle.meaning.proofs.Kept.{empty_is_state}
 
--- ---- bytes that are somewhere
+-- ---- bytes that lie at an offset (`HasBytesAt`)
 
--- a change beside them
+-- a change beside these bytes
 pub has_kept : (a : ℕ) {at n : ℕ} {bytes c torn : List ℕ} → (a + length bytes ≤ at) ⊎ (at + n ≤ a) → SameOutside at n c torn → HasBytesAt c a bytes → HasBytesAt torn a bytes
 has_kept a {at} {n} {bytes} {c} {torn} (inl before) same has = same_before at n c torn same a (length bytes) before ∙ has
 has_kept a {at} {n} {bytes} {c} {torn} (inr behind) same has = same_behind at n c torn same a (length bytes) behind ∙ has
 
--- what was written
+-- bytes that were written
 pub has_put : (c : List ℕ) (at : ℕ) (bytes : List ℕ) → at + length bytes ≤ length c → HasBytesAt (overlaid c at bytes) at bytes
 has_put c at bytes inside = range-overlaid c at bytes inside
 
--- zeros among them
+-- one of n zeros
 zero_there : (c : List ℕ) (at n i : ℕ) → HasBytesAt c at (replicate n 0) → i < n → get_or c (at + i) 0 ≡ 0
 zero_there c at n i has few =
     sym (get_or-drop at c i 0) ∙ sym (get_or-take n (drop at c) i 0 few)
@@ -108,7 +108,7 @@ pub version_empty : (g : Geometry) (c : List ℕ) → IsAllButHeader g c → nam
 version_empty g c laid =
     ap (λ (n : ℕ). version_in (part_bytes (layout_of g) (image_part n) c)) (names_0 g c laid) ∙ ap (λ (bytes : List ℕ). version_in bytes) (image_there g c laid)
 
--- ---- changes of it
+-- ---- changes of an empty device
 
 pub laid_kept : (g : Geometry) (at n : ℕ) (c torn : List ℕ) → at + n ≤ 64 → SameOutside at n c torn → IsAllButHeader g c → IsAllButHeader g torn
 laid_kept g at n c torn before same laid = record {

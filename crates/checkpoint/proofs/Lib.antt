@@ -1,5 +1,5 @@
 -- ---- for the layer above: why a device is refused and what it recovers to otherwise (Refusing, Behind), what a read leaves
--- ---- (Replays), whose header a device has (OneGeometry), and that one which recovers to a state isn't refused (Fine)
+-- ---- (Replays), whose header a device has (OneGeometry), and that one which recovers to a state isn't refused (NotRefused)
 pub mod Refusing
 pub mod Behind
 pub mod Replays

@@ -1,4 +1,4 @@
--- The header of a device is written: its numbers, and then its format byte.
+-- The header of a device is written: all behind its first byte, and then that one, the format byte.
 use Rattle.std.proofs.Common.{◌≡◌, ◌⊎◌, ℕ, ◌≤◌, List, [], ◌∷◌, length, drop, get_or, Some, inl, inr, ⊎_elim, sym, ◌∙◌, ap, subst, arith}
 use Rattle.affinity.specs.declared.geometry.Geometry.{Geometry}
 use Rattle.checkpoint.specs.Formatting.{FormatCrashImages, IsAllButFormatByte, IsAllButHeader, HasNoFormatByte, StaysUnformatted}

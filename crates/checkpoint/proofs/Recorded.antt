@@ -29,24 +29,24 @@ not_done : (r : Reply) → (r ≡ Done → ⊥) → is_done r ≡ false
 not_done Done differs = absurd (differs refl)
 not_done _ differs = refl
 
--- of a message that is logged
+-- a record of a message that is a change in range
 module _ (g : Geometry) (x : State) (m : Msg) (bytes : List ℕ) (whole : IsMessage m) (logged : IsChangeInRange g m) (are : bytes ≡ record_of m) where
   decoded : apply g x bytes ≡ apply_decoded g x bytes (Some m)
   decoded = ap (λ (o : Option Msg). apply_decoded g x bytes o) (ap message_in_fields are ∙ record_says g m whole logged.1)
 
-  -- that is carried out
+  -- if the message is carried out, its record leads to the state after it
   pub carried : reply_to g x m ≡ Done → apply g x bytes ≡ Some (next_state g x m)
   carried done =
       let same : bytes_eq bytes (record_of m) ≡ true = (bytes_eq-Decides bytes (record_of m)).1 are in
       decoded ∙ (λ i. if same i && logged.1 i && (logged.0 i && is_done (done i)) then Some (next_state g x m) else None)
 
-  -- that isn't
+  -- if it isn't, its record can't be run
   pub not_carried : (reply_to g x m ≡ Done → ⊥) → apply g x bytes ≡ None
   not_carried differs =
       decoded ∙ ap (λ (b : Bool). if b then Some (next_state g x m) else None)
       (and_right (bytes_eq bytes (record_of m) && is_in_range g m) (is_recorded m (reply_to g x m)) (and_right (is_changing (kind m)) (is_done (reply_to g x m)) (not_done (reply_to g x m) differs)))
 
--- of bytes that are the record of no message that is logged
+-- bytes that are the record of no change in range
 pub no_record : (g : Geometry) (x : State) (bytes : List ℕ) → length bytes ≡ 520 → AreBytes bytes → IsNoChangeRecord g bytes → apply g x bytes ≡ None
 no_record g x bytes size are none = by (message_in_fields bytes) refl
   where
@@ -62,14 +62,14 @@ no_record g x bytes size are none = by (message_in_fields bytes) refl
         no_record_says_none g bytes size are none m is (third.0, second.1) ((bytes_eq-Decides bytes (record_of m)).0 second.0)))
 
 module _ {g h : Geometry} (same : h ≡ g) (x : State) (half i : ℕ) (bytes : List ℕ) where
-  -- A record that couldn't be read gives the fault that its bytes give.
+  -- The fault of a record that couldn't be read is consistent with its bytes.
   pub read_fault : length bytes ≡ 520 → AreBytes bytes → (e : LogFault) → IsOfRecord h bytes (Err e) → NamesRecord half i (Err e) → IsConsistentFault (record_fault g x half i bytes) (fault_of_log e)
   read_fault size are Device of_it about = tt
   read_fault size are (BadRecord a b) of_it about =
       ap (λ (o : Option State). fault_if (is_none o) (faults.BadRecord half i) None) (no_record g x bytes size are (subst (λ (k : Geometry). IsNoChangeRecord k bytes) same of_it))
       ∙ (λ j. Some (faults.BadRecord (sym about.0 j) (sym about.1 j)))
 
-  -- So does one that isn't carried out.
+  -- A record whose message isn't carried out is a bad one.
   pub not_run : (m : Msg) → IsMessage m → IsChangeInRange h m → bytes ≡ record_of m → (reply_to g x m ≡ Done → ⊥) → record_fault g x half i bytes ≡ Some (faults.BadRecord half i)
   not_run m whole logged are differs =
       ap (λ (o : Option State). fault_if (is_none o) (faults.BadRecord half i) None) (not_carried g x m bytes whole (subst (λ (k : Geometry). IsChangeInRange k m) same logged) are differs)

@@ -1,4 +1,4 @@
--- One test after another, and what a device recovers to that passes all of them.
+-- The tests of a device, one after the other, and what a device that passes all of them recovers to.
 use Rattle.std.proofs.Common.{◌≡◌, ◌≢◌, ℕ, zero, suc, ◌+◌, ◌<◌, ◌≤◌, Bool, true, false, not, ◌&&◌, ◌==◌, List, [], ◌∷◌, ◌++◌, length, Option, Some, None, is_some, Result, Ok, Err, IfErr, inr, refl, sym, ◌∙◌, ap, subst, arith, length-append}
 use Rattle.std.specs.Prelude.{if◌then◌else◌, nat_le, nat_lt}
 use Rattle.std.proofs.lemmas.Bool.{and_left, and_right, cond-false, cond-true, le-leb, le-ltb}
@@ -214,7 +214,7 @@ shown c l s is told = record {
   summary = told.summary ∙ ap (λ (g : Geometry). reply_to g (state_in l.tree) Summary) (sym told.geometry);
 }
 
--- of a tree whose geometry is that of the header
+-- what was loaded, by the geometry of the header instead of the tree's, which is the same
 pub loaded : {g : Geometry} {c : List ℕ} {l : Loaded} → l.tree.geometry ≡ g → HasHeader g c → refused g c ≡ None → l.area ≡ named_area (layout_of g) c
     → l.version ≡ version_in (part_bytes (layout_of g) (image_part l.area) c) → l.records ≡ length (in_force (layout_of g) l.area c) → recovered_state g c ≡ Some (state_in l.tree) → IsLoaded c l
 loaded {c} {l} same head sound area version records state = record {
@@ -255,7 +255,7 @@ chain_half n t BadVersion is = tt
 chain_half n t (BadPiece k) is = tt
 chain_half n t BadChain is = tt
 
--- the fault of the records of a half is of one of that half
+-- a fault of the records of half n is of a record of half n
 pub records_half : (n : ℕ) (o : Option ℕ) (e : OpenFault) → IsConsistentFault (fault_or_later (BadRecord n) o None) e → IsOfHalf n e
 records_half n None (BadRecord h i) is = cc
 records_half n (Some k) (BadRecord h i) is = sym (ap half_in is)
@@ -272,7 +272,7 @@ records_half n o BadVersion is = tt
 records_half n o (BadPiece k) is = tt
 records_half n o BadChain is = tt
 
--- nor does the header
+-- the faults of the header are of no record
 pub header_half : (n : ℕ) (e : OpenFault) → IsOfHeader e → IsOfHalf n e
 header_half n Device is = tt
 header_half n OutOfMemory is = tt
@@ -284,9 +284,9 @@ header_half n (BadPiece k) is = tt
 header_half n BadChain is = tt
 header_half n (BadRecord h i) is = absurd is
 
--- ---- want of memory
+-- ---- no memory
 
--- The header alone takes none.
+-- No fault of reading the header is `OutOfMemory`: that takes no memory.
 pub never_out_of_memory : (e : OpenFault) → IsOfHeader e → e ≢ OutOfMemory
 never_out_of_memory Device is same = cc
 never_out_of_memory OutOfMemory is same = is
@@ -298,7 +298,7 @@ never_out_of_memory (BadPiece k) is same = is
 never_out_of_memory BadChain is same = is
 never_out_of_memory (BadRecord h i) is same = is
 
--- Behind the header, any refusal is one of a device with all its parts.
+-- Once the header was read, the device has all its parts: also if the answer is `OutOfMemory` then.
 pub behind_header : {T : Type 0} (r : Result T OpenFault) (keeps : Type 0) (c : List ℕ) → (keeps → IsWholeDevice c) → IfErr r (λ e. e ≡ OutOfMemory → keeps → IsWholeDevice c)
 behind_header (Ok v) keeps c held = tt
 behind_header (Err e) keeps c held = λ is. held

@@ -1,4 +1,4 @@
--- Records that are run one after the other, seen from where the run has come to.
+-- Records that are run one after the other, from the state after those that were run already.
 use Rattle.std.proofs.Common.{◌≡◌, ℕ, suc, ◌+◌, ◌<◌, List, [], ◌∷◌, length, drop, Option, Some, None, is_none, is_some, refl, sym, ◌∙◌, ap, subst, add-one}
 use Rattle.std.specs.Prelude.{if◌then◌else◌}
 use Rattle.std.proofs.lemmas.List.{drop_more}
@@ -28,7 +28,7 @@ same_bytes old new same = ap (λ (ms : List Moment). now_in ms) same
 
 -- ---- faults
 
--- A fault that was looked for alone comes of those that are looked for later too.
+-- If one test (o) gives only faults that several tests (p) give as well, an answer that is consistent with o is so with p.
 pub fault_from : (o p : Option OpenFault) → ((e : OpenFault) → o ≡ Some e → p ≡ Some e) → (e : OpenFault) → IsConsistentFault o e → IsConsistentFault p e
 fault_from o p gives Device is = tt
 fault_from o p gives OutOfMemory is = tt
@@ -61,7 +61,7 @@ module _ (g : Geometry) (h i : ℕ) (x : State) (r : List ℕ) (rs : List (List 
 -- ---- the front of a half, of which i records were run
 
 module _ (g : Geometry) (l : Layout) (h : ℕ) (c : List ℕ) (x0 : State) where
-  -- what is left of it, from state x on, is as the whole of it
+  -- running the records that are left, on the state x, gives what running all of them on x0 gives
   pub record IsAt (i : ℕ) (x : State) : Type 0 where
     pub ran : run (decoding g) (Some x0) (front l h c) ≡ run (decoding g) (Some x) (drop i (front l h c))
     pub first : first_bad_record g 0 (Some x0) (front l h c) ≡ first_bad_record g i (Some x) (drop i (front l h c))
@@ -86,7 +86,7 @@ module _ (g : Geometry) (l : Layout) (h : ℕ) (c : List ℕ) (x0 : State) where
       ap (λ (o : Option ℕ). fault_or_later (BadRecord h) o None) (before.first ∙ ap (λ (rs : List (List ℕ)). first_bad_record g i (Some x) rs) (next i few))
       ∙ bad_here g h i x (record_at l h i c) (drop (i + 1) (front l h c)) e is)
 
--- ---- of a tree, a log and bytes that are the same
+-- ---- the same by the geometry of a tree, a log and bytes that are equal to these
 
 module _ {a b : Log} (log : b ≡ a) {c d : List ℕ} (bytes : d ≡ c) (half : ℕ) where
   pub front_same : front (layout b) half d ≡ front (layout a) half c

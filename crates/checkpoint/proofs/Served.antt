@@ -20,20 +20,20 @@ use Rattle.parcel.proofs.SerialRuns.{served_step, served_is_in, served_state}
 use Rattle.meaning.specs.State.{IsState}
 use Rattle.affinity.proofs.Preorder.{path_unique}
 
--- the affinity that was asked for is that of the message's place
+-- the affinity that was found by kind and numbers is that of the message
 pub placed : {g : Geometry} (m : Msg) {k : Kind} {n : List ℕ} {a : Interval} → k ≡ kind m → n ≡ four_numbers m → IsAffinityOf g (path_of_kind g k n) a → IsAffinityOf g (path_of g m) a
 placed {g} m {n} {a} k_is n_is there = subst (λ (l : List ℕ). IsAffinityOf g (path_of_kind g (kind m) l) a) n_is (subst (λ (j : Kind). IsAffinityOf g (path_of_kind g j n) a) k_is there)
 
 module _ {g : Geometry} {m : Msg} {s : Standing} {l : Parcels} {job : JobView} (is : job ≡ record { geometry = g; ticket = 0; message = m; standing = s; parcels = l })
     {a : Interval} (there : IsAffinityOf g (path_of g m) a) {done : Done} (ran : IsJobRun job done) {old lent : Nodes}
     {h : Geometry} (same : g ≡ h) (took : (p : Path) → IsAffinityOf h p a → LendsAt h p s l old lent) where
-  -- what was lent by the tree of a geometry that is the same
+  -- what was lent, by a geometry equal to the tree's
   lends : LendsJob job old lent
   lends =
       subst (λ (j : JobView). LendsJob j old lent) (sym is)
       (subst (λ (i : Geometry). (p : Path) → IsAffinityOf i p a → LendsAt i p s l old lent) (sym same) took (path_of g m) there)
 
-  -- what was run goes back
+  -- the parcels can be restored after the run
   pub goes_back : CanBeRestored g (path_of g m) done.parcels lent
   goes_back = subst (λ (j : JobView). CanBeRestored j.geometry (job_place j) done.parcels lent) is (ran_goes_back job done old lent lends ran)
 
@@ -43,12 +43,12 @@ module _ {g : Geometry} {m : Msg} {s : Standing} {l : Parcels} {job : JobView} (
         subst (λ (i : Geometry). (q : Path) → IsAffinityOf i q a → IsKindOf q r → Fits i q r) alike
         (λ q at kind_is. subst (λ (x : Parcels). Fits g q x) (sym is_done) (subst (λ (p : Path). Fits g p done.parcels) (path_unique g (path_of g m) q a there at) goes_back.fits))
 
-    -- so a refusal to put it back can't come
+    -- so restoring them can't be refused
     pub goes : ((q : Path) → IsAffinityOf k q a → IsOut q lent → IsKindOf q r → ⊥) → ⊥
     goes refused =
         refused (path_of g m) (subst (λ (i : Geometry). IsAffinityOf i (path_of g m) a) alike there) goes_back.out (subst (λ (x : Parcels). IsKindOf (path_of g m) x) (sym is_done) goes_back.kind)
 
-    -- the whole of it
+    -- lend, run and restore
     module _ {new : Nodes} (put : (q : Path) → IsAffinityOf k q a → RestoresAt k q r lent new) where
       served : LendsRunsRestores job done old lent new
       served = record {

@@ -13,14 +13,14 @@ use Rattle.disk.proofs.Overlays.{item-overlaid, length-overlaid}
 use Rattle.oplog.specs.Changes.{CrashesChangeOnly}
 use Rattle.oplog.specs.Store.{Stored}
 
--- lists that differ at most in their first item, and not in that
+-- lists that differ at most in their first item, and have the same first item, are equal
 pub same_first : (xs ys : List ℕ) → SameOutside 0 1 xs ys → get_or ys 0 0 ≡ get_or xs 0 0 → ys ≡ xs
 same_first [] [] same first = refl
 same_first [] (y ∷ ys) same first = absurd (omega (arith, same.size))
 same_first (x ∷ xs) [] same first = absurd (omega (arith, same.size))
 same_first (x ∷ xs) (y ∷ ys) same first = λ i. first i ∷ same.after i
 
--- The format byte is written where it was 1: it still is, or it isn't.
+-- A format byte of 1 is written over: the bytes are the old ones, or the first byte isn't 1.
 pub torn_gate : (old c : List ℕ) → get_or old 0 0 ≡ 1 → SameOutside 0 1 old c → (c ≡ old) ⊎ HasNoFormatByte (length old) c
 torn_gate old c was same =
     ⊎_elim

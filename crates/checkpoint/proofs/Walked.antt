@@ -107,7 +107,7 @@ good_next g bytes n good here i few =
     (λ (no_less : n ≤ i). let same : i ≡ n = omega (arith, few, no_less) in ap (λ (k : ℕ). is_good g bytes k) same ∙ here)
     (cases_lt i n)
 
--- ---- what a step of the walk gives, by a tree's own geometry
+-- ---- what reading the next piece gives, by the geometry of the tree, which is equal to g
 
 module _ {g h : Geometry} (same : h ≡ g) (number n : ℕ) {at size : ℕ} (buffer : List ℕ) (is_image : number < 2) (below : n < piece_count g)
     (place : at ≡ part_at (layout_of g) (image_part number) + piece_at g n) (sized : size ≡ piece_size h n) where

@@ -8,7 +8,7 @@ use Rattle.disk.specs.Device.{Medium, IsCrashImage}
 use Rattle.device_map.specs.Layout.{slice, layout_of, part_at, half_part, image_part, image_size}
 use Rattle.meaning.specs.State.{empty}
 
--- What a crash of the device `before` leaves, what isn't formatted, or a sound device that recovers to the empty state.
+-- What a crash of the device `before` might leave, or a device that isn't formatted, or one that recovers to the empty state.
 abbrev pub FormatCrashImages : Geometry → Medium → List ℕ → Type 0
 FormatCrashImages g before c = IsCrashImage before c ⊎ (IsUnformatted c ⊎ (recovered_state g c ≡ Some empty))
 
@@ -25,14 +25,14 @@ StaysUnformatted n m = (c : List ℕ) → IsCrashImage m c → HasNoFormatByte n
 abbrev pub HasBytesAt : List ℕ → ℕ → List ℕ → Type 0
 HasBytesAt c at bytes = slice c at (length bytes) ≡ bytes
 
--- All of an empty device but for its header: zeros from the root zone to the gates of half 0, in the chain zone and
--- gates of half 1, and in the image but for the version.
+-- What an empty device needs besides its header: zeros from the root zone to the gates of half 0, in the chain zone and
+-- gates of half 1, and in image 0, but for its first byte, the version.
 pub record IsAllButHeader (g : Geometry) (c : List ℕ) : Type 0 where
   pub root : HasBytesAt c 64 (replicate (64 + (64 + g.half)) 0)
   pub one : HasBytesAt c (part_at (layout_of g) (half_part 1)) (replicate (64 + g.half) 0)
   pub image : HasBytesAt c (part_at (layout_of g) (image_part 0)) (2 ∷ replicate (image_size g - 1) 0)
 
--- All of an empty device but for its first byte, the format byte.
+-- What an empty device needs besides its first byte, the format byte.
 pub record IsAllButFormatByte (g : Geometry) (c : List ℕ) : Type 0 where
   pub laid : IsAllButHeader g c
   pub header : HasBytesAt c 1 (drop 1 (header_of g))

@@ -56,7 +56,7 @@ fault_of_log (log.BadRecord h i) = BadRecord h i
 abbrev pub record_fault : Geometry → State → ℕ → ℕ → List ℕ → Option OpenFault
 record_fault g x h i bytes = fault_if (is_none (apply g x bytes)) (BadRecord h i) None
 
--- the fault of the first of these records of half h that can't be run where it is
+-- the fault of the first of these records of half h that can't be run on what those before it make of the state x
 abbrev pub records_fault : Geometry → State → ℕ → List (List ℕ) → Option OpenFault
 records_fault g x h records = fault_or_later (BadRecord h) (first_bad_record g 0 (Some x) records) None
 
@@ -68,7 +68,7 @@ image_fault g bytes = fault_if (not (has_head bytes)) BadVersion (fault_or_later
 abbrev pub are_both_chained : Layout → List ℕ → Bool
 are_both_chained l c = (chain l 0 c == 1) && (chain l 1 c == 1)
 
--- the fault of the first record in force that can't be run where it is, from a state on, with area n as the named one
+-- the fault of the first record in force, with area n as the named one, that can't be run on what those before it make of the state x
 abbrev pub in_force_fault : Geometry → State → ℕ → List ℕ → Option OpenFault
 in_force_fault g x n c =
     let l = layout_of g in
@@ -76,9 +76,9 @@ in_force_fault g x n c =
     (fault_or_later (BadRecord (other n))
     (first_bad_record g 0 (run (decoding g) (Some x) (front l n c)) (if chain l n c == 1 then front l (other n) c else [])) None)
 
--- A device with these bytes has a header of this geometry and all its parts, this is its named area, and whether its half is
--- chained. The image there is sound, at most one half is chained, and the records of the named half lead from the state of
--- the image to this one.
+-- A device with these bytes has a header of this geometry and all its parts; `area` is its named area, and `chained` says whether the chain
+-- byte of the half there is 1. The image there has no fault, at most one chain byte is 1, and the records of the named half lead from the
+-- state of that image to the state x.
 pub record NamedHolds (g : Geometry) (c : List ℕ) (area : ℕ) (chained : Bool) (x : State) : Type 0 where
   pub header : HasHeader g c
   pub long_enough : device_size (layout_of g) ≤ length c

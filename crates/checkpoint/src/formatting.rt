@@ -1,7 +1,7 @@
 //! How a device is made.
 //!
-//! Its format byte is cleared first and set last, each with a sync of its own before and after it. So a crash leaves the
-//! old device, or one that isn't formatted, or the whole new one.
+//! Its format byte (the first byte, which is 1 on a formatted device) is cleared first and set last, each with a sync of its own before and
+//! after it. So a crash leaves what one could leave before, or a device that isn't formatted, or the whole new one.
 ghost use Rattle.std.specs.Prelude.{◌≡◌, ◌≢◌, ◌⊎◌, ◌↔◌, ◌+◌, ◌-◌, ◌<◌, ◌≤◌, Some, length, replicate, OnOk, IfOk, IfErr, MatchResult, IsErrOf, IsFalse, IsTrue};
 ghost use Rattle.affinity.specs.declared.geometry.Geometry.{Geometry};
 ghost use Rattle.checkpoint.specs.Formatting.{FormatCrashImages, IsAllButHeader, HasNoFormatByte, StaysUnformatted};
@@ -84,7 +84,7 @@ fn clear_format_byte<D: Disk>(disk: &mut D) -> Result<(), DiskFault>
     Ok(())
 }
 
-/// Writes all of an empty device but its header, and syncs.
+/// Writes what an empty device needs besides its header (`IsAllButHeader`), and syncs.
 fn lay_out<D: Disk>(disk: &mut D, zeros: &[u8], g: &Geometry) -> Result<(), DiskFault>
     requires zeros { zeros.now ≡ replicate (length zeros.now) 0 }
     requires some { 0 < length zeros.now }

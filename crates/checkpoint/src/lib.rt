@@ -3,8 +3,8 @@
 //! A device holds the state of its named image with the records in force run on it: `specs/Recovery.antt` defines that
 //! state by its bytes, and `specs/Refusals.antt` which devices are refused and why. `format` makes a device that recovers to the
 //! empty state, and a crash at any moment of it leaves the old device, one that isn't formatted, or the new one.
-//! `inspect` reports what a device holds, or why it is refused, and only reads it. `step` is the serial step of a whole
-//! tree, by which the records in force are run.
+//! `inspect` reports what a device holds, or why it is refused, and only reads it. `step` runs one message on a tree of which no part is
+//! checked out, as a serial server does: the records in force are run by it.
 #![tactic(auto)]
 
 mod fault;

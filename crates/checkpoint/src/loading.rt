@@ -117,7 +117,7 @@ fn chain_of<D: Disk>(disk: &mut D, g: &Geometry, area: usize) -> Result<bool, Op
     Ok(true)
 }
 
-/// What the named area of a device holds by itself.
+/// What `load_named` reports of the named area.
 #[derive(Clone, Copy)]
 pub struct Named {
     /// The number of the area, 0 or 1.
@@ -176,7 +176,7 @@ pub fn load_named<D: Disk>(
     })
 }
 
-/// Runs the records in force on the tree, where this area is named, and gives their number.
+/// Runs on the tree the records that are in force with this area as the named one, and gives their number.
 fn replay_in_force<D: Disk>(
     log: &mut Halves,
     disk: &mut D,

@@ -84,8 +84,8 @@ fn replay_front<D: Disk>(
     Ok(())
 }
 
-/// Runs the records of this half that are in force on the tree, in order, and gives their number. `BadRecord` exactly
-/// where one can't be run, with the first such record; then the tree isn't of use any more.
+/// Runs the records of this half's front on the tree, in order, and gives their number. `BadRecord` exactly where one
+/// can't be run, with the first such record; then the tree isn't of use any more.
 pub fn replay<D: Disk>(
     log: &mut Halves,
     disk: &mut D,

@@ -28,7 +28,7 @@ use Rattle.arguments.specs.declared.parsing.ArgumentRefusal.TheVariants as refus
 use Rattle.arguments.specs.declared.parsing.Request.{Request}
 use Rattle.arguments.specs.declared.parsing.Request.TheVariants.{Help, Plain, Format, Show, Serve}
 
--- ---- words that ask for no service
+-- ---- arguments that give no request, or ask for help or the version
 
 pub refused_by : (why : ArgumentRefusal) → ExitsRefused (status_of_refusal why)
 refused_by (refusal.Words error) = inl refl
@@ -45,7 +45,7 @@ helped arguments (Help text) (Ok _) old new no_service asks ends = (inl refl, en
 helped arguments (Help text) (Err Write) old new no_service asks ends = (inr (inl refl), ends)
 helped arguments (Help text) (Err fault) old new no_service asks ends = absurd ends
 
--- ---- a fault has a status of its own
+-- ---- no fault has status 0
 
 pub is_reported : (fault : Fault) → status_of fault ≡ 0 → ⊥
 is_reported Read none = cc
@@ -65,7 +65,7 @@ is_refused (refusal.Words error) none = cc
 is_refused refusal.OutOfMemory none = cc
 is_refused refusal.GeometryOutOfRange none = cc
 
--- ---- words that ask for something give no request for want of memory alone
+-- ---- arguments that ask for a command give no request only for want of memory
 
 nothing_written : (g : Geometry) (input old : Option (List ℕ)) → WritesOutput input old old (IsBeginning g empty)
 nothing_written g None old = tt
@@ -96,7 +96,7 @@ served_on_nothing arguments refusal.OutOfMemory asks reason =
 served_on_nothing arguments refusal.GeometryOutOfRange asks reason = absurd (reason.2 asks.1)
 served_on_nothing arguments (refusal.Words error) asks reason = absurd (no_mistake arguments error asks.0 reason)
 
--- ---- what the words ask for is done
+-- ---- what the arguments ask for is done
 
 pub served : (arguments : List Text) (request : Request) {g : Geometry} (end : Result (Unit {0}) Fault) {input left old new : Option (List ℕ)} → Asks arguments request
     → AsksPlain arguments g → Ends request end input left old new → ExitsPlain g (status_at end) input left old new

@@ -52,7 +52,7 @@ module _ {keeps : Type 0} {s : ServeOptions} {old new : Medium} {end : Result (U
         not_refused = is_not_refused g c state leaves.bytes on_device.recovers;
       }
 
--- whatever the end
+-- what was sent is kept, whatever the end
 pub keeps_acknowledged : {keeps : Type 0} {s : ServeOptions} {old new : Medium} (end : Result (Unit {0}) ServeFault) {input left before written : Option (List ℕ)}
     → HasServedBy keeps s old new end input left before written → KeepsAcknowledged keeps old new (command_result end) input before written
 keeps_acknowledged (Ok _) h = held h h.served.run.served
@@ -63,7 +63,7 @@ keeps_acknowledged (Err faults.Exhausted) h = held h h.served.run
 keeps_acknowledged (Err faults.NoWorkers) h = held h h.served.run
 keeps_acknowledged (Err faults.OutOfMemory) h = held h h.served.run
 
--- what follows of what is so follows of it at each end
+-- if P implies Q, then `UnlessWriteFailed` of P implies that of Q, at each end
 pub unless_write_failed : {P Q : Type 0} (end : Result (Unit {0}) Fault) (before written : Option (List ℕ)) → (P → Q) → UnlessWriteFailed end before written P → UnlessWriteFailed end before written Q
 unless_write_failed (Err ends.Write) before written f k = tt
 unless_write_failed (Err (ends.Open fault)) before written f k = k

@@ -27,7 +27,7 @@ is_idle slots c just = record { none_waits = just.none_waits; none_held = rw (ju
 
 -- ---- the run
 
--- what is known of the core before and after
+-- from what is known of the core before and after: the service is an incarnation of its device
 module _ (keeps : Type 0) (s : ServeOptions) (old : Medium) (start now : CoreView) (end : Result (Unit {0}) ServeFault)
     (input left before written : Option (List ℕ)) where
   pub is_incarnation : IsJustOpened s.slots start → (keeps → HasHeader start.geometry old.now) → (keeps → recovered_state start.geometry old.now ≡ Some (committed_in start))
@@ -58,7 +58,7 @@ module _ (keeps : Type 0) (s : ServeOptions) (old : Medium) (start now : CoreVie
     incarnation = let behind = legal_run_of keeps (machine_at_start s start) now input before written end served.run in is_incarnation fresh header recovered_before behind.0 behind.1 behind.2;
   }
 
--- such a service crashes safely
+-- a service as `HasServedBy` describes it crashes safely, whatever its end
 pub has_lived : {keeps : Type 0} {s : ServeOptions} {old new : Medium} (end : Result (Unit {0}) ServeFault) {input left before written : Option (List ℕ)}
     → HasServedBy keeps s old new end input left before written → CrashesSafely keeps s old new (command_result end) input left before written
 has_lived (Ok _) h = (Ok tt, refl, h)
@@ -86,7 +86,7 @@ recovers_for keeps now none leaves bytes = record {
 
 -- ---- each end, in the words of the serial server
 
--- no record of the log is in force, of the device as it is given back
+-- no record of the log is in force on the device that is given back, if none is on the core's
 no_records : (now : CoreView) (g : Geometry) (new : Medium) → now.geometry ≡ g → new ≡ now.medium → HasEmptyLog now → HasNoRecords g new
 no_records now g new same back none = rw (back, ← same) none
 
@@ -115,7 +115,7 @@ module _ {keeps : Type 0} {s : ServeOptions} {old new : Medium} {end : Result (U
   served_nothing same unread unwritten =
       (went (ap (λ (c : CoreView). c.geometry) same) (ap (λ (c : CoreView). c.failed) same ∙ h.fresh.works), ap committed_in same, unread, unwritten)
 
--- what a service promises of each of its ends
+-- what a service promises at each of its ends
 pub ends_on_device : {keeps : Type 0} {s : ServeOptions} {old new : Medium} (end : Result (Unit {0}) ServeFault) {input left before written : Option (List ℕ)}
     → (h : HasServedBy keeps s old new end input left before written) → (h.now.failed ≡ false → h.now.doubt ≡ []) → AreBytes new.now
     → EndsOnDevice keeps s old new (command_result end) input left before written

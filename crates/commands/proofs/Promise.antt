@@ -151,7 +151,7 @@ module _ (g : Geometry) (old new : Medium) (made : recovered_state g old.now ≡
       subst (λ (k : Geometry). BytesRecover k empty input before written c) own.0
       (subst (λ (y : State). BytesRecover h.geometry y input before written c) own.1 h.recovered)
 
-  -- A crash while it is opened leaves what recovers to the same.
+  -- A crash while the device is opened leaves what recovers to the same state, the empty one.
   crashed_so : IsSynced old → OpeningCrashImages old new → recovered_state g c ≡ Some empty
   crashed_so synced h = ⊎_elim (λ (was : IsCrashImage old c). ap (recovered_state g) (synced_left old c synced was) ∙ made) (λ (k : RecoversAsBefore old.now c). k.same g empty made)
       (⊎_elim
@@ -162,7 +162,7 @@ module _ (g : Geometry) (old new : Medium) (made : recovered_state g old.now ≡
       (past.later.before (moment_number old) c h.first.later
       (counts_now new (moment_number old) c (let a = h.first.later in let b = past.later.later in omega (arith, a, b)) leaves))) h.rest)
 
-  -- where it could not be opened
+  -- where the device could not be opened
   left_unopened : (input before written : Option (List ℕ)) → IsSynced old → OpeningCrashImages old new → written ≡ before → BytesRecover g empty input before written c
   left_unopened input before written synced opening unwritten =
       record { now = empty; holds_now = crashed_so synced opening; recovers = silent input }

@@ -1,4 +1,4 @@
--- A service is its three numbers.
+-- Options of a server with the same three numbers are equal.
 use Rattle.std.proofs.Common.{◌≡◌, ◌≤◌, ℕ, List, [], ◌∷◌, ap, subst}
 use Rattle.std.specs.Coded.{le_prop}
 use Rattle.commands.specs.Serving.{options_in_order}

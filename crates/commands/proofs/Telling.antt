@@ -9,13 +9,13 @@ use Rattle.commands.specs.Lines.{shown_lines}
 use Rattle.commands.specs.declared.faults.Fault.{Fault}
 use Rattle.commands.specs.declared.faults.Fault.TheVariants.{Write}
 
--- its lines are written, or the writer fails
+-- the lines of a device that is shown are written, or the writer fails
 pub shows : (shown : Shown) {lines : List ℕ} (end : Result (Unit {0}) Fault) (old new : Option (List ℕ)) → lines ≡ shown_lines shown → OnOk end (Appends old new lines)
     → IfErr end (λ fault. fault ≡ Write) → EndsShowing end old new
 shows shown (Ok _) old new are written fault = (shown, subst (Appends old new) are written)
 shows shown (Err e) old new are written fault = subst (λ f. EndsShowing (Err f) old new) (sym fault) tt
 
--- the same of the device that holds this
+-- the same, where these are the lines for the bytes of the device
 pub shows_bytes : {bytes : List ℕ} {shown : Shown} {lines : List ℕ} (end : Result (Unit {0}) Fault) (old new : Option (List ℕ)) → IsShown bytes shown → lines ≡ shown_lines shown
     → OnOk end (Appends old new lines) → IfErr end (λ fault. fault ≡ Write) → ShowsBytes bytes end old new
 shows_bytes {shown} (Ok _) old new is are written fault = (shown, is, subst (Appends old new) are written)

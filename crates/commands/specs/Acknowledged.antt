@@ -16,8 +16,8 @@ use Rattle.commands.specs.declared.faults.Fault.{Fault}
 use Rattle.commands.specs.declared.faults.Fault.TheVariants.{Write, Open}
 
 -- The device recovered to a state, and the output has these lines for the first lines of the input. A history has each message whose reply
--- was sent, reads too, by its ticket, with that reply. The bytes recover to the state to which its changes lead from there, perhaps with
--- more of the messages of the input, and they are not refused.
+-- was sent, reads included, with its ticket and that reply. The bytes recover to the state to which the changes of the history lead from
+-- the state before, perhaps with more of the messages of the input; and they are not refused.
 pub record HoldsAcknowledged (old : Medium) (input before written : Option (List ℕ)) (bytes : List ℕ) : Type 0 where
   pub geometry : Geometry
   pub start : State
@@ -32,13 +32,13 @@ pub record HoldsAcknowledged (old : Medium) (input before written : Option (List
   pub header : HasHeader geometry bytes
   pub not_refused : refused geometry bytes ≡ None
 
--- P holds, unless a write failed (then it is unknown what was sent) or the device could not be opened (then nothing was).
+-- P holds, unless a write failed (then it is unknown what was sent) or the device could not be opened (then nothing was sent).
 abbrev pub UnlessWriteFailed : Result (Unit {0}) Fault → Option (List ℕ) → Option (List ℕ) → Type 0 → Type 0
 UnlessWriteFailed (Err Write) before written P = Unit {0}
 UnlessWriteFailed (Err (Open fault)) before written P = written ≡ before
 UnlessWriteFailed _ before written P = P
 
--- What was sent when a service ended is held by whatever a crash leaves then.
+-- Whatever a crash leaves at the end of a service holds what was sent, with the exceptions of `UnlessWriteFailed`.
 abbrev pub KeepsAcknowledged : Type 0 → Medium → Medium → Result (Unit {0}) Fault → Option (List ℕ) → Option (List ℕ)
     → Option (List ℕ) → Type 0
 KeepsAcknowledged keeps old new end input before written =

@@ -37,7 +37,7 @@ status_of_refusal (refusal.Words _) = 2
 status_of_refusal refusal.OutOfMemory = status_of OutOfMemory
 status_of_refusal refusal.GeometryOutOfRange = status_of GeometryOutOfRange
 
--- The service came to an end that has this status.
+-- The serial server (`plain`) came to an end that has this status.
 abbrev pub ExitsPlain : Geometry → ℕ → Option (List ℕ) → Option (List ℕ) → Option (List ℕ) → Option (List ℕ) → Type 0
 ExitsPlain g status input remaining old new =
     (end : Result (Unit {0}) Fault) × (status ≡ status_at end) × EndsInMemory g end input remaining old new

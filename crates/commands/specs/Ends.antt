@@ -12,8 +12,9 @@ use Rattle.commands.specs.Lines.{formatted_line, shown_lines}
 use Rattle.commands.specs.declared.faults.Fault.{Fault}
 use Rattle.commands.specs.declared.faults.Fault.TheVariants.{Read, Write, OutOfMemory, Device, Format, Open}
 
--- What was written where the service came to this end, and what remains of the input: all that the serial server writes for the input, and
--- nothing remains; the answers to all whole lines that were taken; the first lines of the output. After a failed write it is unknown.
+-- What the serial server has written at this end, and what remains of the input. No fault: its whole output for the input, of which nothing
+-- remains. A failed read: the answers to all whole lines that were taken. No memory: the first lines of that output. After a failed write
+-- it is unknown what was written.
 abbrev pub EndsInMemory : Geometry → Result (Unit {0}) Fault → Option (List ℕ) → Option (List ℕ) → Option (List ℕ) → Option (List ℕ)
     → Type 0
 EndsInMemory g (Ok _) input remaining old new =
@@ -23,8 +24,8 @@ EndsInMemory g (Err Write) input remaining old new = Unit {0}
 EndsInMemory g (Err OutOfMemory) input remaining old new = WritesOutput input old new (IsBeginning g empty)
 EndsInMemory g (Err _) input remaining old new = ⊥
 
--- A device was made and its length printed, or it was not made and nothing was written. After a failed write it is unknown what was
--- written. What the file has is unknown.
+-- A device was made and its length printed, or it was not made and nothing was printed. After a failed write it is unknown what was
+-- printed. What the file holds is unknown.
 abbrev pub EndsFormatting : Geometry → Result (Unit {0}) Fault → Option (List ℕ) → Option (List ℕ) → Type 0
 EndsFormatting g (Ok _) old new = Appends old new (formatted_line g)
 EndsFormatting g (Err Write) old new = Unit {0}
@@ -34,7 +35,7 @@ EndsFormatting g (Err (Format formatting.TooShort)) old new = ⊥
 EndsFormatting g (Err (Format fault)) old new = new ≡ old
 EndsFormatting g (Err _) old new = ⊥
 
--- What a device holds was printed, or nothing was. After a failed write it is unknown what was written.
+-- What some device holds was printed, or nothing was. After a failed write it is unknown what was printed.
 abbrev pub EndsShowing : Result (Unit {0}) Fault → Option (List ℕ) → Option (List ℕ) → Type 0
 EndsShowing (Ok _) old new = (shown : Shown) × Appends old new (shown_lines shown)
 EndsShowing (Err Write) old new = Unit {0}

@@ -33,13 +33,13 @@ abbrev pub status_of_unreadable_arguments : ErrorKind → ℕ
 status_of_unreadable_arguments kind.OutOfMemory = status_of OutOfMemory
 status_of_unreadable_arguments _ = 2
 
--- the fault of the program where the serial server ends by one of its own
+-- the program's fault for a fault of the serial server
 abbrev pub fault_of_plain : PlainFault → Fault
 fault_of_plain plain.Read = Read
 fault_of_plain plain.Write = Write
 fault_of_plain plain.OutOfMemory = OutOfMemory
 
--- the fault of the program where the server on a device ends by one of its own
+-- the program's fault for a fault of the server on a device
 abbrev pub fault_of_serve : ServeFault → Fault
 fault_of_serve serving.NoWorkers = NoWorkers
 fault_of_serve serving.Read = Read
@@ -48,12 +48,12 @@ fault_of_serve serving.Device = Device
 fault_of_serve serving.OutOfMemory = OutOfMemory
 fault_of_serve serving.Exhausted = NoTicketLeft
 
--- how a service on a device ends, with the fault of the program
+-- how a service on a device ends, with the fault as one of the program's
 abbrev pub command_result : Result (Unit {0}) ServeFault → Result (Unit {0}) Fault
 command_result (Ok _) = Ok tt
 command_result (Err fault) = Err (fault_of_serve fault)
 
--- the fault of the program where the file of a device can't be made or opened
+-- the program's fault where the file of a device can't be made or opened
 abbrev pub fault_of_file : FileFault → Fault
 fault_of_file file.Device = Device
 fault_of_file file.OutOfMemory = OutOfMemory

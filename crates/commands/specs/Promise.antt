@@ -27,9 +27,8 @@ pub record IsRestart (g : Geometry) (first second : Result (Unit {0}) Fault)
 
 -- ---- the same of the bytes of a device
 
--- The old device recovered to the state `start`. These bytes recover to a state that a crash may leave of a server that began with
--- `start` and had this input and output.
--- The device keeps its bytes, so `keeps` of `RecoveredTo` is `Unit {0}`.
+-- The old device recovered to the state `start`. These bytes recover to a state that a crash may leave behind a server that began with
+-- `start` and had this input and output. The device keeps its bytes, so `keeps` of `RecoveredTo` is `Unit {0}`.
 pub record HoldsRecovered (old : Medium) (input before written : Option (List ℕ)) (bytes : List ℕ) : Type 0 where
   pub geometry : Geometry
   pub start : State

@@ -5,7 +5,7 @@ use Rattle.commands.specs.Serving.{options_in_order}
 use Rattle.commands.specs.declared.serve_options.ServeOptions.{ServeOptions}
 use Rattle.arguments.specs.Arguments.{IsNamed, command_of, device_at, findings, service_at}
 
--- the options of a server that is asked for with these: it has 64 workers at most, whatever the arguments say
+-- the numbers of a server's options, from those that the arguments give: the first, the number of workers, is at most 64, whatever they say
 abbrev pub with_at_most_64_workers : List ℕ → List ℕ
 with_at_most_64_workers [] = []
 with_at_most_64_workers (workers ∷ others) = min workers 64 ∷ others

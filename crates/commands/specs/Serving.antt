@@ -64,16 +64,16 @@ HasNoRecords g m = in_force (layout_of g) (named_area (layout_of g) m.now) m.now
 
 -- ---- how a service ends
 
--- Nothing was served: no input was read and no output written. The device was opened, and recovers to what it recovered to.
+-- Nothing was served: no input was read and no output written. The device was opened, and recovers to the same state as before.
 abbrev pub HasServedNothing : Type 0 → Medium → Medium → Option (List ℕ) → Option (List ℕ) → Option (List ℕ) → Option (List ℕ) → Type 0
 HasServedNothing keeps old new input remaining before written = (w : ServedDevice keeps old new) × (w.end ≡ w.start) × (remaining ≡ input)
     × (written ≡ before)
 
 -- What each end promises.
 -- No fault: the input has ended, and the output is that of the serial server for all of it, from the state to which the device
--- recovered. The device recovers to the state where that server is then, with no record in force.
--- A failed read: just the lines that were read whole are answered, and the device recovers to the state after them. No ticket left:
--- just the lines before one whose message is in range are answered, and the device recovers to the state after them.
+-- recovered. The device recovers to the last state of that server, with no record in force.
+-- A failed read: exactly the lines that were read whole are answered, and the device recovers to the state after them. No ticket left:
+-- exactly the lines before one whose message is in range are answered, and the device recovers to the state after them.
 -- A failed device: the first lines of the serial server's output. A failed write: it is unknown what was written.
 -- No workers, or no memory: nothing was served. A device that can't be opened: no input was read and no output written. The fault is one
 -- that its bytes show, or want of memory, or `Device`: the last exactly if the device failed. `IsRefusedUnwritten` says what was written

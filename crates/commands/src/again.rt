@@ -49,7 +49,7 @@ pub fn serve_again<T: Threads + Wait + Sync, R: Read, W: Write, S: Read, V: Writ
     next_w: &mut V,
 ) -> Result<(Result<(), Fault>, Result<(), Fault>), Fault>
     requires call { 0 < n }
-    // A `Torn::Mixed` has at least one byte.
+    // The pattern of a `Torn::Mixed`, which is put over the unsynced bytes, has at least one byte.
     requires bytes { HasPattern torn }
     ensures restart { IfOk result (λ ends. IsRestart geometry ends.0 ends.1 (R.remaining r.old) (W.contents w.old) (W.contents w.new)
         (S.remaining next_r.old) (V.contents next_w.old) (V.contents next_w.new)) }

@@ -10,7 +10,7 @@ use serving::ServeFault;
 use std::alloc::AllocError;
 use thiserror::Error;
 
-/// Why a command ended without what was asked of it.
+/// Why a command ended without having done what was asked for.
 #[derive(Clone, Copy, Debug, PartialEq, Eq, Error)]
 pub enum Fault {
     /// The input could not be read.
@@ -31,7 +31,7 @@ pub enum Fault {
     /// There are no workers to serve a device with.
     #[error("no workers")]
     NoWorkers,
-    /// Each ticket that a message can have was given.
+    /// No ticket is left for a message: all were given out.
     #[error("no ticket left")]
     NoTicketLeft,
     /// The device could not be made in its file.

@@ -22,9 +22,9 @@ fn formatted_text(alloc: Global, geometry: &Geometry) -> Result<Vec<u8>, AllocEr
     Ok(line)
 }
 
-/// Makes a device of this geometry in the file of this path, instead of a file that is there, and
-/// prints its length on `w`. At a fault other than a write's nothing is printed. No contract sees
-/// what the file then holds, since none knows whether a file keeps its bytes.
+/// Makes a device of this geometry in the file of this path, which replaces a file that is there, and prints its length on `w`. At any
+/// fault but a failed write on `w` nothing is printed. No contract sees what the file then holds, since none knows whether a file keeps its
+/// bytes.
 pub fn format_device<T: Files<File = File>, W: Write>(
     rt: &T,
     alloc: Global,

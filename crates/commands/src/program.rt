@@ -1,4 +1,4 @@
-//! The program over a reader and two writers.
+//! The program, with its input, output and error output as a reader and two writers.
 ghost use Rattle.std.specs.Prelude.{◌≡◌, ◌⊎◌, ℕ, List, [], ◌∷◌, codes, map, string_bytes};
 ghost use Rattle.affinity.specs.Geometry.{default_geometry};
 ghost use Rattle.commands.specs.Calls.{Ends, ExitsFormat, ExitsHelp, ExitsPlain, ExitsRefused, ExitsServe, ExitsShow, status_of_refusal};
@@ -31,7 +31,7 @@ fn service_of(numbers: ServiceNumbers) -> ServeOptions
     ServeOptions::new(numbers.workers, numbers.slots, numbers.every)
 }
 
-/// Does what was asked for, from `r` to `w`.
+/// Does what was asked for: input comes from `r`, output goes to `w`.
 pub fn run<T: Files<File = File> + Threads + Wait + Sync, R: Read, W: Write>(
     rt: &T,
     alloc: Global,
@@ -70,8 +70,8 @@ fn report_refusal<E: Write>(refusal: ArgumentRefusal, e: &mut E) -> u8
     }
 }
 
-/// Reads the arguments, the program's own name first, does what they ask for from `r` to `w`, prints a fault on `e`, and returns the exit
-/// status. Files are those of `rt`.
+/// Reads the arguments, the program's own name first, does what they ask for (input from `r`, output to `w`), prints a fault on `e`, and
+/// returns the exit status. Files are opened by `rt`.
 pub fn command<T: Files<File = File> + Threads + Wait + Sync, R: Read, W: Write, E: Write>(
     rt: &T,
     alloc: Global,

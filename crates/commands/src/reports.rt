@@ -10,7 +10,8 @@ use std::io::{ErrorKind, Write};
 /// The exit status where the arguments are wrong.
 pub const WRONG_ARGUMENTS: u8 = 2;
 
-/// What is printed of arguments that are not UTF-8. `clap` prints it elsewhere, but here it takes text alone.
+/// What is printed of arguments that are not UTF-8: the text of `clap`, which prints it itself in ordinary Rust. Here `clap` is given UTF-8
+/// alone.
 const NOT_TEXT: &str = "error: invalid UTF-8 was detected in one or more arguments
 
 For more information, try '--help'.

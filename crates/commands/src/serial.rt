@@ -7,7 +7,7 @@ use plain::serve_from;
 use std::alloc::Global;
 use std::io::{Read, Write};
 
-/// Answers the messages of `r` on `w`, from the state in which there is nothing.
+/// Answers the lines of `r` on `w`, from the empty state on.
 pub fn answer_input<R: Read, W: Write>(
     alloc: Global,
     geometry: &Geometry,

@@ -21,7 +21,7 @@ use std::sync::Wait;
 use std::thread::Threads;
 use workers::OpenGate;
 
-/// The same end, with the fault of the program.
+/// How serving ended, with the fault as one of the program's.
 fn command_result(end: Result<(), ServeFault>) -> Result<(), Fault>
     ensures { result ≡ command_result end }
 {
@@ -54,8 +54,8 @@ fn serve_core<T: Threads + Wait + Sync, R: Read, W: Write, D: Disk + Drop>(
     }
 }
 
-/// Opens a device and answers the lines of `r` on `w` with it, from the state to which it recovers. The device is given back as it
-/// was left.
+/// Opens a device and answers the lines of `r` on `w` with it, from the state to which it recovers. The device is given back as the server
+/// left it.
 pub fn serve_on<T: Threads + Wait + Sync, R: Read, W: Write, D: Disk + Drop>(
     rt: &T,
     alloc: Global,

@@ -26,7 +26,7 @@ fn add_reply(lines: &mut Vec<u8>, reply: &Reply) -> Result<(), AllocError>
     lines.extend_from_slice(&line[..length])
 }
 
-/// The numbers of a server's geometry.
+/// The eight numbers of a geometry.
 fn numbers(geometry: &Geometry) -> [u64; 8]
     ensures { result ≡ numbers_of geometry.now }
 {
@@ -47,7 +47,7 @@ fn shown_text(alloc: Global, shown: &Shown) -> Result<Vec<u8>, AllocError>
     Ok(lines)
 }
 
-/// Prints on `w` what a device holds. At a fault other than a write's nothing is printed.
+/// Prints on `w` what a device holds. At any fault but a failed write on `w` nothing is printed.
 fn show<D: Disk + Drop, W: Write>(alloc: Global, disk: D, w: &mut W) -> Result<(), Fault>
     ensures ends { EndsShowing result (W.contents w.old) (W.contents w.new) }
     ensures shown_text { D.keeps → ShowsBytes (D.medium disk).now result (W.contents w.old) (W.contents w.new) }
@@ -60,8 +60,8 @@ fn show<D: Disk + Drop, W: Write>(alloc: Global, disk: D, w: &mut W) -> Result<(
     write_lines(&lines, w)
 }
 
-/// Prints on `w` what the device in the file of this path holds. The file is only read, and not synced. At a fault but
-/// that of a write nothing is printed.
+/// Prints on `w` what the device in the file of this path holds. The file is only read, and not synced. At any fault but a failed write on
+/// `w` nothing is printed.
 pub fn show_device<T: Files<File = File>, W: Write>(
     rt: &T,
     alloc: Global,

@@ -16,8 +16,8 @@ use std::io::{Read, Write};
 use std::sync::Wait;
 use std::thread::Threads;
 
-/// Serves with a device that stops at its n-th call from now on, and crashes it. `_n` is there for the condition `stops` alone: the device
-/// that is served stops at call n. No `ensures` can say it, as a crash clears the injected fault.
+/// Serves with a device that stops at its n-th call from now on (that call and all later ones fail), and crashes it. `_n` is there for the
+/// condition `stops` alone: the device that is served stops at call n. No `ensures` can say it, as a crash clears the injected fault.
 fn serve_and_crash<T: Threads + Wait + Sync, R: Read, W: Write>(
     rt: &T,
     alloc: Global,
@@ -41,9 +41,9 @@ fn serve_and_crash<T: Threads + Wait + Sync, R: Read, W: Write>(
     (disk.crash(torn), end)
 }
 
-/// Answers the lines of `r` on `w` with a device that stops at its n-th call, whichever that is, and crashes it. The service ended as
-/// `serve_on` says. What the crash leaves, however it tears what was not synced, holds each change whose reply was written, unless a write
-/// of the output failed. The pattern of a `Mixed` tearing isn't empty.
+/// Answers the lines of `r` on `w` with a device that stops at its n-th call, whichever that is, and then crashes the device. The service
+/// ended as `serve_on` says. What the crash leaves, however it tears what was not synced, holds each change whose reply was written, unless
+/// a write of the output failed. The pattern of a `Torn::Mixed` isn't empty.
 pub fn serve_stopped<T: Threads + Wait + Sync, R: Read, W: Write>(
     rt: &T,
     alloc: Global,

@@ -1,5 +1,5 @@
--- Format for operators: The map of a device: six parts in a row, that are header, root zone, half 0, half 1, image 0, image 1. All sizes
--- and places count bytes.
+-- Format for operators: The map of a device: six parts in a row (header, root zone, half 0, half 1, image 0, image 1). All sizes and
+-- places are in bytes.
 use Rattle.std.specs.Prelude.{ℕ, zero, suc, ◌+◌, ◌-◌, ◌*◌, List, [], ◌∷◌, take, drop, get_or}
 use Rattle.affinity.specs.declared.geometry.Geometry.{Geometry}
 
@@ -74,7 +74,7 @@ part_at l k = offset (sizes l) k
 abbrev pub part_size : Layout → ℕ → ℕ
 part_size l k = get_or (sizes l) k 0
 
--- the bytes of part k of a device with the bytes c
+-- the bytes of part k of a device whose bytes are c
 abbrev pub part_bytes : Layout → ℕ → List ℕ → List ℕ
 part_bytes l k c = slice c (part_at l k) (part_size l k)
 

@@ -14,7 +14,7 @@ pub const ROOT_ZONE_SIZE: usize = 64;
 /// Where the root zone begins.
 pub const ROOT_ZONE_AT: u64 = HEADER_SIZE as u64;
 
-/// The size of what lies before the gates of a half: its chain byte and the bytes beside it.
+/// The size of what lies before the gates of a half: its chain byte and the 63 bytes after it.
 pub const CHAIN_ZONE_SIZE: usize = 64;
 
 /// The size of a record.

@@ -1,4 +1,4 @@
-//! The map of a device: where each of its parts begins and how long it is. No other crate spells out an offset of them.
+//! The map of a device: where each of its parts begins and how long it is. No other crate writes an offset of a part.
 #![tactic(auto)]
 
 mod layout;

@@ -15,7 +15,7 @@ module _ (old mid new : Medium) (P : List ℕ → Type 0) (so_far : CrashImagesA
   after_read at out (Err OutOfRange) reads = same old mid new P so_far (ap moments (reads.outside refl))
   after_read at out (Err Device) reads = same old mid new P so_far (ap moments (reads.device refl))
 
-  -- A sync leaves no more than there was, whatever it answers.
+  -- Whatever a sync answers, a crash after it leaves only what a crash before it might have left.
   pub after_sync : (r : Result (Unit {0}) DiskFault) → Syncs r mid new → CrashImagesAre old new P
   after_sync (Ok _) syncs =
       next old mid new P so_far (ap (λ (m : Medium). m.past) syncs.ok)

@@ -4,8 +4,8 @@ use Rattle.std.proofs.lemmas.List.{drop_more, drop-set-lt, take_more, take_more_
 use Rattle.disk.specs.Device.{SameButUnsynced}
 use Rattle.disk.specs.Torn.{torn_from}
 
--- What a crash leaves is made of the bytes that are torn already and of the rest: with k unsynced places among the
--- first i, the first i bytes are as they should be.
+-- What the loop has made after i bytes: the first i bytes, as they are now, and what tearing makes of the rest. k counts the unsynced
+-- offsets among the first i.
 abbrev pub torn_so_far : (ℕ → ℕ → ℕ) → ℕ → ℕ → List Bool → List ℕ → List ℕ
 torn_so_far put i k unsynced bytes = take i bytes ++ torn_from put i k (drop i unsynced) (drop i bytes)
 

@@ -43,14 +43,14 @@ not_elsewhere left = let last = left.same.1.0 in cc
 no_longer : IsTornFrom (1 ∷ []) (true ∷ []) (1 ∷ 1 ∷ []) → ⊥
 no_longer left = left.same
 
--- bytes 5 and 6 are written, then synced, then 5 is written over
+-- bytes 5 and 6 are written and synced, and then 9 is written over the 5
 abbrev twice : Medium
 twice = written 0 (9 ∷ []) (synced (written 0 (5 ∷ 6 ∷ []) (fresh_synced (1 ∷ 2 ∷ []))))
 
 three_moments_before : moment_number twice ≡ 3
 three_moments_before = refl
 
--- at first the old bytes, or anything while both are unsynced; at the end only the first byte
+-- A crash may leave the old bytes at first, and any bytes while both are unsynced; at the end only the first byte may be any byte.
 old_at_first : left_since twice 0 (1 ∷ 2 ∷ [])
 old_at_first = inr (inr (inl (lit≤ tt, record { same = tt; bytes = below (1 ∷ 2 ∷ []) (lit< tt, (lit< tt, tt)) })))
 

@@ -38,7 +38,7 @@ kept_same (b ∷ now) (suc n) (x ∷ c) long left = let rest = kept_same now n c
 pub synced_left : (m : Medium) (c : List ℕ) → IsSynced m → IsCrashImage m c → c ≡ m.now
 synced_left m c synced left = kept_same m.now (length m.now) c (omega arith) (subst (λ (l : List Bool). SameButUnsynced m.now l c) synced left.same)
 
--- then nothing is unsynced in any range
+-- where nothing is unsynced, nothing is in any range
 pub synced_range : (at n : ℕ) (m : Medium) → IsSynced m → at + n ≤ length m.now → take n (drop at m.unsynced) ≡ replicate n false
 synced_range at n m synced inside =
     ap (λ (l : List Bool). take n (drop at l)) synced ∙ ap (λ (l : List Bool). take n l) (drop-replicate at (length m.now) false) ∙ take-replicate n (length m.now - at) false (omega (arith, inside))
@@ -49,7 +49,7 @@ no_marks n = take_all n [] (omega arith)
 none_behind : (n : ℕ) → ◌≡◌ {A = List Bool} (drop n []) []
 none_behind n = drop_all n [] (omega arith)
 
--- A crash tears the first n offsets and the others each for itself.
+-- What a crash may leave of a device is, up to offset n and from there on, what one may leave of that part alone.
 front_same : (n : ℕ) (now : List ℕ) (unsynced : List Bool) (c : List ℕ) → SameButUnsynced now unsynced c → SameButUnsynced (take n now) (take n unsynced) (take n c)
 front_same zero now unsynced c left = tt
 front_same (suc n) [] unsynced [] left = tt
@@ -80,7 +80,7 @@ joined_same (suc n) (b ∷ now) [] (x ∷ c) front back =
 joined_same (suc n) (b ∷ now) (true ∷ unsynced) (x ∷ c) front back = joined_same n now unsynced c front back
 joined_same (suc n) (b ∷ now) (false ∷ unsynced) (x ∷ c) front back = (front.0, joined_same n now unsynced c front.1 back)
 
--- The same for a range of n bytes: where nothing in it is unsynced, a crash leaves there what a read gives.
+-- Where nothing in a range of n bytes is unsynced, a crash leaves there what a read gives.
 pub range_kept : (at n : ℕ) (m : Medium) (c : List ℕ) → take n (drop at m.unsynced) ≡ replicate n false → IsCrashImage m c → take n (drop at c) ≡ take n (drop at m.now)
 range_kept at n m c synced left =
     let within = front_same n (drop at m.now) (drop at m.unsynced) (drop at c) (back_same at m.now m.unsynced c left.same) in
@@ -91,7 +91,7 @@ along : {now now' : List ℕ} {unsynced unsynced' : List Bool} {c c' : List ℕ}
 along {now} {now'} {unsynced} {unsynced'} {c} {c'} e f g left =
     subst (λ (x : List ℕ). SameButUnsynced x unsynced' c') e (subst (λ (x : List Bool). SameButUnsynced now x c') f (subst (λ (x : List ℕ). SameButUnsynced now unsynced x) g left))
 
--- the bytes of a range as they were, in what a crash has left
+-- what a crash has left (c), with the bytes of this range as they were before (old)
 abbrev pub put_back : ℕ → ℕ → List ℕ → List ℕ → List ℕ
 put_back at n old c = overlaid c at (take n (drop at old))
 

@@ -1,4 +1,4 @@
--- How what a crash leaves at each moment goes on from call to call.
+-- What a crash leaves at any moment of a sequence of calls, as the sequence grows call by call.
 use Rattle.std.proofs.Common.{◌≡◌, ◌⊎◌, ◌≤◌, ℕ, List, [], ◌∷◌, length, inl, inr, ⊎_elim, ap, subst, arith}
 use Rattle.disk.specs.Device.{AreBytes, Moment, Medium, IsTornFrom, IsCrashImage, moments}
 use Rattle.disk.specs.Moments.{moment_number, LeftByMoments, left_since, CrashImagesAre}
@@ -13,7 +13,7 @@ none_later (m ∷ earlier) t c late since =
 pub counts_now : (m : Medium) (t : ℕ) (c : List ℕ) → t ≤ moment_number m → IsCrashImage m c → left_since m t c
 counts_now m t c late left = inl (late, left)
 
--- since this moment there is no other
+-- what a crash since the present moment might have left, one may leave now: there is no later moment
 pub only_now : (m : Medium) (c : List ℕ) → left_since m (moment_number m) c → IsCrashImage m c
 only_now m c since = ⊎_elim (λ (here : (moment_number m ≤ moment_number m) × IsCrashImage m c). here.1) (λ earlier. absurd (none_later m.past (moment_number m) c (omega arith) earlier)) since
 
@@ -25,7 +25,7 @@ started m P here = record {
   before = λ t c early since. inl since;
 }
 
--- one moment more
+-- one call more, which adds a moment
 pub next : (old mid new : Medium) (P : List ℕ → Type 0) → CrashImagesAre old mid P → new.past ≡ moments mid → ((c : List ℕ) → IsCrashImage new c → P c) → CrashImagesAre old new P
 next old mid new P so_far past here =
     let since : (t : ℕ) (c : List ℕ) → left_since new t c → P c ⊎ left_since mid t c =
@@ -36,7 +36,7 @@ next old mid new P so_far past here =
       before = λ t c early left. ⊎_elim (λ (p : P c). inr p) (so_far.before t c early) (since t c left);
     }
 
--- a call that changes nothing of what a crash leaves, now or earlier
+-- one call more, which adds no moment: what a crash leaves, now or earlier, is as before
 pub same : (old mid new : Medium) (P : List ℕ → Type 0) → CrashImagesAre old mid P → moments new ≡ moments mid → CrashImagesAre old new P
 same old mid new P so_far unchanged =
     let since : (t : ℕ) (c : List ℕ) → left_since new t c → left_since mid t c = λ t c. subst (λ (ms : List Moment). LeftByMoments ms t c) unchanged in
@@ -46,7 +46,7 @@ same old mid new P so_far unchanged =
       before = λ t c early left. so_far.before t c early (since t c left);
     }
 
--- a weaker fact of each
+-- what has P at each moment has Q, if P implies Q
 pub weaker : (old new : Medium) (P Q : List ℕ → Type 0) → CrashImagesAre old new P → ((c : List ℕ) → P c → Q c) → CrashImagesAre old new Q
 weaker old new P Q so_far enough = record {
   later = so_far.later;

@@ -48,7 +48,7 @@ same_none {X} at xs ys same =
     let rest : drop at ys ≡ drop at xs = same_drop at 0 xs ys same at (omega arith) in
     sym (take-append-drop at ys) ∙ ap (λ (l : List X). l ++ drop at ys) same.before ∙ ap (λ (l : List X). take at xs ++ l) rest ∙ take-append-drop at xs
 
--- The range that is known grows to one that holds it, or that is anywhere if it was empty.
+-- Lists that differ at most from a to e differ at most from b to f, if that range holds the first one, or the first one is empty.
 pub covered : {X : Type 0} (a e b f : ℕ) {xs ys : List X} → a ≤ e → (a ≡ e) ⊎ ((b ≤ a) × (e ≤ f)) → SameOutside a (e - a) xs ys → SameOutside b (f - b) xs ys
 covered {X} a e b f {xs} {ys} ordered (inl empty) same =
     let none : e - a ≡ 0 = omega (arith, empty) in
@@ -56,7 +56,7 @@ covered {X} a e b f {xs} {ys} ordered (inl empty) same =
     subst (λ (l : List X). SameOutside b (f - b) xs l) (sym is) (same_all b (f - b) xs)
 covered a e b f {xs} {ys} ordered (inr holds) same = wider a (e - a) xs ys same b (f - b) holds.0 (omega (arith, ordered, holds))
 
--- with the new items in the range, the whole is the new list
+-- lists that differ at most in a range: with the new items put there, the old list becomes the new one
 pub refreshed : {X : Type 0} (at n : ℕ) (new old part : List X) → SameOutside at n new old → part ≡ take n (drop at new) → put_mid at n old part ≡ new
 refreshed {X} at n new old part same is =
     let rest : drop n (drop at old) ≡ drop n (drop at new) = drop-drop n at old ∙ same.after ∙ sym (drop-drop n at new) in

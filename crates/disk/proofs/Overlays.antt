@@ -11,7 +11,7 @@ module _ {X : Type 0} where
   length-overlaid (x ∷ xs) zero (y ∷ items) = ap (λ (n : ℕ). suc n) (length-overlaid xs zero items)
   length-overlaid (x ∷ xs) (suc at) items = ap (λ (n : ℕ). suc n) (length-overlaid xs at items)
 
-  -- what lies before the places
+  -- what lies before the places that are written over
   pub take-overlaid : (xs : List X) (at : ℕ) (items : List X) → take at (overlaid xs at items) ≡ take at xs
   take-overlaid [] at items = refl
   take-overlaid (x ∷ xs) zero items = refl
@@ -23,7 +23,7 @@ module _ {X : Type 0} where
   back (x ∷ xs) zero (y ∷ items) = back xs zero items
   back (x ∷ xs) (suc at) items = back xs at items
 
-  -- what lies behind them
+  -- what lies behind these places
   pub drop-overlaid : (xs : List X) (at : ℕ) (items : List X) → drop (at + length items) (overlaid xs at items) ≡ drop (at + length items) xs
   drop-overlaid xs at items = sym (drop-drop (length items) at (overlaid xs at items)) ∙ back xs at items ∙ drop-drop (length items) at xs
 
@@ -33,17 +33,17 @@ module _ {X : Type 0} where
   front (x ∷ xs) [] inside = refl
   front (x ∷ xs) (y ∷ items) inside = ap (λ (l : List X). y ∷ l) (front xs items (omega (arith, inside)))
 
-  -- what the code writes
+  -- the list as what lies before these places, the items, and what lies behind
   pub overlaid_parts : (xs : List X) (at : ℕ) (items : List X) → at + length items ≤ length xs → overlaid xs at items ≡ take at xs ++ (items ++ drop (length items) (drop at xs))
   overlaid_parts xs zero items inside = front xs items (omega (arith, inside))
   overlaid_parts [] (suc at) items inside = absurd (omega (arith, inside))
   overlaid_parts (x ∷ xs) (suc at) items inside = ap (λ (l : List X). x ∷ l) (overlaid_parts xs at items (omega (arith, inside)))
 
-  -- what a part of a slice makes of the whole when these items are put into it
+  -- the whole slice, once these items were written through a borrow of a part of it (`put_mid`)
   pub overlaid_part : (xs : List X) (at k : ℕ) (items part : List X) → at + length items ≤ length xs → k ≡ length items → part ≡ items → put_mid at k xs part ≡ overlaid xs at items
   overlaid_part xs at k items part inside size is = rw (size, is) (sym (overlaid_parts xs at items inside))
 
-  -- what the places hold
+  -- what these places hold
   pub range-overlaid : (xs : List X) (at : ℕ) (items : List X) → at + length items ≤ length xs → take (length items) (drop at (overlaid xs at items)) ≡ items
   range-overlaid xs zero [] inside = refl
   range-overlaid [] zero (y ∷ items) inside = absurd (omega (arith, inside))
@@ -57,7 +57,7 @@ module _ {X : Type 0} where
   item-overlaid (x ∷ xs) zero y d items inside = refl
   item-overlaid (x ∷ xs) (suc at) y d items inside = item-overlaid xs at y d items (omega (arith, inside))
 
--- the same of marks
+-- the same of the flags that mark offsets as unsynced
 module _ (unsynced : List Bool) (at n : ℕ) where
   pub length-marked : length (marked unsynced at n) ≡ length unsynced
   length-marked = length-overlaid unsynced at (replicate n true)

@@ -6,7 +6,8 @@ use Rattle.disk.specs.Span.{HoldsUnsynced}
 use Rattle.disk.proofs.Outside.{covered, same_back, same_both, wider}
 use Rattle.disk.proofs.Overlays.{length-overlaid, overlaid_outside, marked_outside}
 
--- The range from a to e grows to the one from b to f, which holds n places from `at` on.
+-- A write of n bytes from `at` on: the range from a to e, outside which nothing is unsynced, grows to the one from b to f, which holds
+-- them, too.
 module _ (a e b f at n : ℕ) (m : Medium) (last_synced : List ℕ) (ordered : a ≤ e) (from : b ≤ at) (to : at + n ≤ f) (inside : f ≤ length m.now)
     (grows : (a ≡ e) ⊎ ((b ≤ a) × (e ≤ f))) (holds : HoldsUnsynced a e m last_synced) where
   marks : SameOutside b (f - b) (replicate (length m.now) false) (marked m.unsynced at n)

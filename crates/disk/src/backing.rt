@@ -5,10 +5,10 @@ ghost use Rattle.disk.specs.BackingFile.{device_result};
 
 use std::io;
 
-/// A file of a fixed length with positioned reads and writes: three calls, each of which `medium` shows once it has returned. What each
-/// does is stated in the words of the device's own contract.
+/// A file of a fixed length with three calls: a read and a write at an offset, and a sync. `medium` shows what the calls that have returned
+/// did. What each does is stated by the definitions of the contract of `Disk`: `Reads`, `Writes` and `Syncs`.
 pub trait BackingFile {
-    /// The file as a device has it: its bytes, which of them are unsynced, and its past.
+    /// The file as a device has it: its bytes, which of them are unsynced, its earlier moments, and how often it has failed.
     ghost medium: { Self → Medium };
 
     /// Whether the file keeps its bytes.

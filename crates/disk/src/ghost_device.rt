@@ -1,4 +1,5 @@
-//! What contracts know of a device's past, at no cost in memory: its moments so far, and how often it failed.
+//! What contracts know of a device, at no cost in memory: its bytes, which of them are unsynced, its moments so far, and how often it
+//! failed. All of it follows from the list of its calls, which a snapshot holds.
 ghost use Rattle.std.specs.Prelude.{◌≡◌, []};
 ghost use Rattle.disk.specs.Device.{fresh_synced};
 ghost use Rattle.disk.specs.GhostDevice.{medium_after, bytes_of};
@@ -7,7 +8,7 @@ use std::marker::Model;
 use std::mem;
 use std::snapshot::Snapshot;
 
-/// What a device reports of a call.
+/// A call of a device, as it is noted in the list of its calls.
 #[derive(Clone, Copy, Debug)]
 pub(crate) enum Call {
     /// A device in memory was made, with the given bytes.
@@ -25,7 +26,7 @@ pub(crate) enum Call {
     OpenedUnsynced(u64),
 }
 
-/// The bytes of a call, the last one first.
+/// The bytes that a call was given, the last one first.
 #[derive(Drop)]
 pub(crate) enum ByteList {
     Empty,
@@ -39,14 +40,14 @@ pub(crate) enum CallList {
     After(Call, Snapshot<ByteList>, Snapshot<CallList>),
 }
 
-/// The calls of a device as contracts see them: a snapshot takes no memory. Nothing in itself ties it to a device: each device
-/// does so by its own ghost fields.
+/// The calls of a device, for contracts alone: a snapshot takes no memory. By itself it is not tied to a device. `MemDisk` ties its
+/// bytes and flags to it by ghost fields, `HostFile` ties its length alone.
 #[derive(Drop)]
 pub(crate) struct GhostDevice {
     last: Snapshot<CallList>,
 }
 
-/// The loop has no effect, so a compiler leaves it out.
+/// These bytes as a list for contracts. The loop has no effect at run time, so a compiler leaves it out.
 fn snapshot_of(bytes: &[u8]) -> Snapshot<ByteList>
     ensures { bytes_of result.value ≡ bytes.now }
 {

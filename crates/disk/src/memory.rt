@@ -23,7 +23,7 @@ pub struct MemDisk {
     // At an unsynced offset, the byte of the last write there, even if it failed.
     last_written: Vec<u8>,
     unsynced: Vec<bool>,
-    // Outside it nothing is unsynced, and `last_synced` has the same bytes.
+    // Outside this range nothing is unsynced, and `last_synced` is the same as `bytes`.
     span: Span,
     call_counter: CallCounter,
     ghost_device: GhostDevice,
@@ -90,7 +90,7 @@ impl MemDisk {
         self.call_counter.injected_fault = InjectedFault::StopAt(n);
     }
 
-    /// The device after a crash, with no injected fault and no calls. It takes no memory.
+    /// The device after a crash, with no injected fault, and with its count of calls at 0. It takes no memory.
     pub fn crash(self, torn: Torn) -> MemDisk
         requires { HasPattern torn }
         ensures after { memory_of result ≡ after_crash torn (memory_of self) }
@@ -121,8 +121,8 @@ impl MemDisk {
         }
     }
 
-    /// A device as a crash would leave this one now, with no injected fault and no calls. This one goes on. `AllocError` where
-    /// there is no memory.
+    /// A new device as a crash would leave this one now, with no injected fault, and with its count of calls at 0. This one stays as it
+    /// is. `AllocError` where there is no memory.
     pub fn crashed(&self, alloc: Global, torn: &Torn) -> Result<MemDisk, AllocError>
         requires { HasPattern torn.now }
         ensures after { IfOk result (λ d. memory_of d ≡ made (crashed torn.now (memory_of self.now))) }

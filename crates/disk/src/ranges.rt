@@ -1,4 +1,4 @@
-//! Overwrites a range of bytes, marks one as unsynced, and tests whether a device has one.
+//! Ranges of a device: whether it has one, how one is written and marked as unsynced, and how a sync refreshes and clears one.
 ghost use Rattle.std.specs.Prelude.{◌≡◌, false, ◌+◌, ◌-◌, ◌<◌, ◌≤◌, ◌↔◌, length, replicate, IfOk, IsErrOf};
 ghost use Rattle.disk.specs.declared.fault.DiskFault.TheVariants.{OutOfRange, Device};
 ghost use Rattle.disk.specs.Device.{SameOutside, overlaid, marked};

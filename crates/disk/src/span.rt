@@ -1,4 +1,4 @@
-//! A range that holds all offsets that are unsynced, so that a sync looks at no more than these.
+//! A range that holds all offsets that are unsynced, so that a sync looks at this range alone.
 ghost use Rattle.std.specs.Prelude.{◌≡◌, ◌⊎◌, ◌≤◌, ◌==◌, if◌then◌else◌, max, min};
 
 #[derive(Clone, Copy, Debug)]

@@ -1,4 +1,7 @@
-//! Devices that are made: their bytes, and what a crash leaves.
+//! Devices that `format` makes: their bytes, and what a crash leaves.
+//!
+//! Offsets in the small device: header 0 (its first byte is the format byte), root zone 64; half 0: chain byte 128, gates
+//! 192, records (520 bytes each) 196; half 1: the same at 2276, 2340, 2344; image 0: 4424, its version first; image 1: 6632.
 ghost use Rattle.std.specs.Prelude.{◌<◌};
 
 use crate::common::{SMALL, holds};
@@ -10,17 +13,18 @@ use std::alloc::{AllocError, Global};
 use std::process::Abort;
 use std::test::Fail;
 
-/// The length of the small device.
+/// The length of the small device, in bytes.
 pub(crate) const LEN: usize = 8840;
 
-/// The header of its device, but for the zeros after.
+/// The header of the small device without the 40 zeros at its end: the format byte, `WAFFSRV`, and the numbers of `SMALL`,
+/// two bytes each, the lower one first.
 const HEADER: [u8; 24] = [
     1, 0x57, 0x41, 0x46, 0x46, 0x53, 0x52, 0x56, 1, 0, 1, 0, 2, 0, 1, 0, 2, 0, 4, 0, 2, 0, 4, 0,
 ];
 
-/// The old devices, and how many calls the making of a new one takes there: a sync, a read of the gate and, where it is
-/// open, a write and a sync; three writes of zeros; the version, the header after its gate, and the gate, each a write
-/// and a sync.
+/// The number of each old device (see `old_bytes`), and how many calls `format` makes of it: a sync, a read of the format
+/// byte and, where that is 1, a write and a sync; three writes of zeros; the version, the header after its format byte, and
+/// the format byte, each a write and a sync.
 const CALLS: [(usize, u64); 3] = [(0, 11), (1, 13), (2, 11)];
 
 /// Sets a byte, if there is one.
@@ -44,8 +48,8 @@ fn clear(bytes: &mut [u8], from: usize, to: usize) {
     }
 }
 
-/// The bytes of the small device: zeros, one with a volume in its log, or that one with its gate shut. What a longer device
-/// has behind its parts isn't zero.
+/// The bytes of an old device of this length, by its number: 0: zeros; 1: formatted, with a `makevol` in its log, and with a
+/// byte in image 1 that isn't 0; 2: the same with the format byte cleared. Bytes after the parts of the small device are 9.
 fn old_bytes(alloc: Global, len: usize, which: usize) -> Result<Vec<u8>, AllocError> {
     let mut bytes = vec![in alloc; 0u8; len]?;
     for at in LEN..len {
@@ -64,7 +68,7 @@ fn old_bytes(alloc: Global, len: usize, which: usize) -> Result<Vec<u8>, AllocEr
     Ok(bytes)
 }
 
-/// The same once an empty device is made of it: what lies in the records and in image 1 stays.
+/// The bytes of that device once `format` has made an empty one of it: the records, image 1 and what lies after it stay.
 pub(crate) fn new_bytes(alloc: Global, len: usize, which: usize) -> Result<Vec<u8>, AllocError> {
     let mut bytes = old_bytes(alloc, len, which)?;
     begin(&mut bytes, &HEADER);
@@ -89,7 +93,8 @@ fn an_empty_device_is_made(rt: HostRuntime) -> Result<(), Fail> {
     Ok(())
 }
 
-/// Where a request of `format` for memory is refused, not a call of the device was made, and the same call makes it.
+/// Where `format` is refused its memory, it has made no call of the device, whose bytes stay, and the next `format` of it
+/// succeeds.
 #[test]
 fn a_device_is_made_at_the_next_try(rt: HostRuntime) -> Result<(), Fail> {
     let alloc = rt.alloc();
@@ -123,8 +128,8 @@ fn a_short_device_stays(rt: HostRuntime) -> Result<(), Fail> {
     Ok(())
 }
 
-/// What is left on the device where the n-th call fails, and all later ones too if it stops there, and after a crash
-/// of this kind; and why it wasn't made.
+/// What is left of old device `which` after a `format` in which the n-th call of the device fails (and all later ones, if it
+/// stops there), and then a crash of this kind; and the fault, if `format` failed.
 fn left(
     alloc: Global,
     which: usize,
@@ -148,7 +153,8 @@ fn left(
     })
 }
 
-/// The device is the old one, or isn't formatted, or is the new one; and the new one if it was made.
+/// These are the bytes of the new device; or, if `format` has failed, those of the old one, or some whose format byte isn't
+/// 1.
 fn is_one_of(rt: &impl Abort, bytes: &[u8], old: &[u8], new: &[u8], made: bool) {
     let shut = match bytes.first() {
         Some(gate) => *gate != 1,
@@ -157,7 +163,8 @@ fn is_one_of(rt: &impl Abort, bytes: &[u8], old: &[u8], new: &[u8], made: bool) 
     holds(rt, bytes == new || !made && (bytes == old || shut));
 }
 
-/// Where the n-th call fails, that is reported exactly if there are as many calls, and the device is one of those.
+/// Where the n-th call fails, `format` reports that exactly if it makes so many calls, and after each kind of crash the
+/// device is one of those of `is_one_of`.
 fn may_fail(
     rt: &impl Abort,
     alloc: Global,

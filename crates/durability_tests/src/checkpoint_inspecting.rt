@@ -1,4 +1,7 @@
-//! What is reported of devices.
+//! What `inspect` reports of devices.
+//!
+//! Offsets in the small device: root byte 64; half 0: chain byte 128, gates 192, records (520 bytes each, the kind first)
+//! 196; half 1: gates 2340, records 2344; image 0: version 4424, the volume's piece 4488 and in it the label 4504.
 use crate::checkpoint_formatting::{LEN, new_bytes, put};
 use crate::common::{SMALL, holds};
 use affinity::Geometry;
@@ -9,8 +12,8 @@ use std::alloc::{AllocError, Global};
 use std::process::Abort;
 use std::test::Fail;
 
-/// How many calls of the device it takes to inspect an empty one: its header, the area, the head of an image, three
-/// pieces, a chain byte and the gates.
+/// How many calls `inspect` makes of an empty device, each a read: the header, the root byte, the head of the named image,
+/// its three pieces, the chain byte and the gates of the named half.
 const CALLS: u64 = 8;
 
 /// The formatted device with other bytes at some places.
@@ -22,7 +25,8 @@ fn device(alloc: Global, patches: &[(usize, u8)]) -> Result<MemDisk, AllocError>
     MemDisk::of_bytes(alloc, bytes)
 }
 
-/// What is reported if there are this many volumes and files, and no blocks.
+/// What is reported of a device whose area 0 is named, with this many records in force, volumes and files, no blocks, and an
+/// image of this version.
 fn shown(records: usize, volumes: u32, files: u32, version: u8) -> Result<Shown, Fail> {
     Ok(Shown {
         geometry: Geometry::new(SMALL)?,
@@ -37,7 +41,7 @@ fn shown(records: usize, volumes: u32, files: u32, version: u8) -> Result<Shown,
     })
 }
 
-/// The device is reported as empty, by few calls of it.
+/// The device is reported as empty, by `CALLS` calls of it.
 fn expect_empty(rt: &impl Abort, alloc: Global, disk: MemDisk) -> Result<(), Fail> {
     let calls = disk.calls();
     let want = shown(0, 0, 0, 2)?;
@@ -64,14 +68,15 @@ fn a_new_device_is_empty(rt: HostRuntime) -> Result<(), Fail> {
     }
 }
 
-/// Bytes that are set, and how many records, volumes and files are reported then, and the version of the image.
+/// Bytes that are set in a formatted device (offset and value), how many records in force, volumes and files are reported
+/// then, and the version of the image.
 const SHOWN: [(&[(usize, u8)], usize, u32, u32, u8); 7] = [
     (&[(64, 7)], 0, 0, 0, 2),
     (&[(192, 1), (196, 1)], 1, 1, 0, 2),
     (&[(4424, 1)], 0, 0, 0, 1),
     (&[(4424, 1), (4488, 1)], 0, 1, 0, 1),
     (&[(4488, 1), (4504, 1)], 0, 1, 0, 2),
-    // The other half counts after a chain alone.
+    // Half 1 is in force only if the chain byte of half 0, at 128, is 1.
     (
         &[(128, 1), (192, 1), (196, 1), (2340, 1), (2344, 3)],
         2,
@@ -94,7 +99,7 @@ fn records_and_images_are_reported(rt: HostRuntime) -> Result<(), Fail> {
     Ok(())
 }
 
-/// The first record after a cut is bad: where that is reported, nothing is changed.
+/// A cut was in progress, and the first record of half 1 is bad (zeros): that is reported, and the device stays as it was.
 #[test]
 fn a_bad_record_behind_a_cut_is_reported(rt: HostRuntime) -> Result<(), Fail> {
     let device = device(rt.alloc(), &[(128, 1), (2340, 1)])?;
@@ -109,8 +114,8 @@ fn a_bad_record_behind_a_cut_is_reported(rt: HostRuntime) -> Result<(), Fail> {
     Ok(())
 }
 
-/// Where a request of `inspect` for memory is refused, the device had one call, a read of its header, and the next try
-/// reports.
+/// Where a request of `inspect` for memory is refused, it has made one call of the device, a read of the header, and the
+/// next `inspect` succeeds.
 #[test]
 fn a_device_is_inspected_at_the_next_try(rt: HostRuntime) -> Result<(), Fail> {
     let alloc = rt.alloc();

@@ -8,8 +8,8 @@ use std::alloc::Global;
 use std::process::Abort;
 use std::test::Fail;
 
-/// What is done, and then the writes, the syncs and the bytes that it takes. A half has four gates after 64 bytes, and an
-/// image 2,208 bytes: a head of 64, a volume's piece of 64 and two stripes' of 1,040.
+/// What is done, and then the writes, the syncs and the bytes that it takes. A record has 520 bytes and a gate of one. A half has four
+/// gates after 64 bytes, and an image 2,208 bytes: a head of 64, a volume's piece of 64 and two stripes' of 1,040.
 const ACTS: [(Act, [u64; 3]); 18] = [
     (Act::Log(&[]), [0, 0, 0]),
     (Act::Log(&["makevol 0 0"]), [2, 2, 521]),
@@ -177,8 +177,8 @@ fn leaves(
     Ok(())
 }
 
-/// How many of 70 messages are in force where the device stopped at a call, with all old bytes, and with all new ones.
-/// The seventh call writes the gates of the second batch.
+/// The number of the device call at which the device stopped, and how many of 70 messages are in force then: after a crash that leaves the
+/// old bytes, and after one that leaves the new ones. The seventh call writes the gates of the second batch.
 const LEFT: [(u64, usize, usize); 8] = [
     (1, 0, 0),
     (2, 0, 0),

@@ -19,7 +19,7 @@ fn left_by(alloc: Global, numbers: [u16; 8], acts: &[Act]) -> Result<MemDisk, Wr
     Ok(device.crash(torn(alloc, OLD)?))
 }
 
-/// What is reported of a device: the area, how many records are in force, and how many volumes, files and blocks there are.
+/// What is reported of a device: the named area, how many records are in force, and how many volumes, files and blocks there are.
 fn is_shown(rt: &impl Abort, shown: &Shown, area: usize, records: usize, summary: [u32; 3]) {
     let [volumes, files, blocks] = summary;
     holds(rt, shown.area == area && shown.records == records);
@@ -31,7 +31,7 @@ fn is_shown(rt: &impl Abort, shown: &Shown, area: usize, records: usize, summary
     holds(rt, shown.summary == summary);
 }
 
-/// The device holds what these lines lead to. Gives it once it was opened.
+/// The device holds what these lines lead to. Gives the device as its opening leaves it.
 fn is_found(
     rt: &impl Abort,
     alloc: Global,
@@ -51,7 +51,7 @@ fn is_found(
     Ok(device)
 }
 
-/// What is shown of a device.
+/// What `inspect` reports of a device, and the device.
 fn shown_of(alloc: Global, device: MemDisk) -> Result<(Shown, MemDisk), Wrong> {
     match inspect(alloc, device) {
         Ok(shown) => Ok(shown),
@@ -59,7 +59,7 @@ fn shown_of(alloc: Global, device: MemDisk) -> Result<(Shown, MemDisk), Wrong> {
     }
 }
 
-/// A record after a cut, which goes to the other half.
+/// A record that is logged while a cut is in progress, so in the other half.
 const BEHIND: [Act; 3] = [
     Act::Log(&["makevol 0 0"]),
     Act::Cut,
@@ -74,8 +74,8 @@ const ENDED: [Act; 4] = [
     Act::End,
 ];
 
-/// What a crash after these acts leaves is shown so, with one volume and one file; both are there once it is opened, and
-/// that area is named.
+/// After these acts and a crash `inspect` reports this area and this many records, one volume and one file. Once the device is opened, both
+/// are there, area `opened` is named, and no record is in force.
 fn behind_a_cut(
     rt: &impl Abort,
     alloc: Global,
@@ -96,13 +96,14 @@ fn behind_a_cut(
 
 #[test]
 fn records_behind_a_cut_are_there(rt: HostRuntime) -> Result<(), Fail> {
-    // The cut is ended into area 0, and the last point goes into area 1.
+    // The first opening has named area 1, so the cut goes into area 0. It is ended by the next opening, or before by `Act::End`. The
+    // checkpoint at the end of that opening goes into area 1.
     behind_a_cut(&rt, rt.alloc(), &BEHIND, 1, 2, 1)?;
     behind_a_cut(&rt, rt.alloc(), &ENDED, 0, 1, 1)?;
     Ok(())
 }
 
-/// A file of four blocks in a volume.
+/// Makes a volume with an empty file, and then a point.
 const FILE: [Act; 3] = [
     Act::Log(&["makevol 0 0"]),
     Act::Log(&["create 0 0 0"]),
@@ -111,13 +112,13 @@ const FILE: [Act; 3] = [
 
 const WRITES: [&str; 3] = ["write 0 0 0 0 61", "write 0 0 0 1 62", "write 0 0 0 2 63"];
 
-/// How many calls opening a new flat device and making the file take.
+/// How many calls of a new `FLAT` device its opening and `FILE` take.
 fn calls_of_file(alloc: Global) -> Result<u64, Wrong> {
     let device = left_by_acts(alloc, device_with(alloc, FLAT, &[])?, &FILE)?;
     Ok(device.calls())
 }
 
-/// What is left of this device where the file is made and the writes are not logged, as it has failed.
+/// This device after `FILE` was done on it and `WRITES` were not logged, as the device failed.
 fn left_unlogged(alloc: Global, device: MemDisk) -> Result<MemDisk, Wrong> {
     let messages = messages_of(alloc, &WRITES)?;
     let Ok(mut server) = Server::open(alloc, device) else {
@@ -152,16 +153,16 @@ fn a_torn_batch_leaves_its_beginning(rt: HostRuntime) -> Result<(), Fail> {
         Act::Log(&["write 0 0 0 3 64"]),
     ];
     let device = left_by_acts(alloc, device, &more)?;
-    // What lies after the gates of the first incarnation is not in force.
+    // The records behind the shut gate of the first incarnation are never in force, whatever is logged later.
     let device = device.crash(torn(alloc, OLD)?);
     let lines = ["makevol 0 0", "create 0 0 0", "write 0 0 0 3 64"];
     is_found(&rt, alloc, FLAT, device, &lines)?;
     Ok(())
 }
 
-/// Cuts, and how many pieces are left after each act, where one is in progress.
+/// Acts, and how many pieces are left after each; none is given where no cut is in progress.
 const PIECES: [(Act, Option<usize>); 22] = [
-    // Into area 0, of which nothing is known.
+    // Into area 0, of which nothing is known: all three pieces are dirty.
     (Act::Cut, Some(3)),
     (Act::Piece, Some(2)),
     (Act::Piece, Some(1)),

@@ -1,4 +1,4 @@
-//! Incarnations of a server, which the device ends at any call.
+//! Incarnations of a server, each ended by a fault of the device at one of its calls, and what is found on the device then.
 use crate::common::{SMALL, equals};
 use crate::journal_trials::{Play, Script};
 use harness::{Act, Wrong, sweep};
@@ -6,16 +6,16 @@ use std::alloc::Global;
 use std::process::Abort;
 use std::test::Fail;
 
-/// Whatever call of the device fails, the changes that were answered are there, and some of the next,
-/// the first ones. There are `calls` calls.
+/// Whichever call of the device fails, the changes that were answered are found after it, and of those being logged a
+/// prefix. With no fault the opening and the script make `calls` calls of the device.
 fn survives(rt: &impl Abort, alloc: Global, script: &Script, calls: u64) -> Result<(), Wrong> {
     let play = Play::new(alloc, script)?;
     equals(rt, sweep(alloc, &play)?, calls);
     Ok(())
 }
 
-/// Opening syncs, reads the header, the area, the head of an image, three pieces, a chain byte and the gates, and makes a
-/// point.
+/// Opening syncs, reads the header, the root byte, the head of an image, three pieces, a chain byte and the gates, and makes
+/// a point.
 const OPENING: u64 = 9 + POINT;
 
 /// A batch is two writes and two syncs.
@@ -53,8 +53,8 @@ fn points_survive(rt: HostRuntime) -> Result<(), Fail> {
     Ok(survives(&rt, rt.alloc(), &POINTS, calls)?)
 }
 
-/// Cuts with batches between their pieces: of the first one all three pieces are written, and of the second one those of
-/// the volume and of both stripes.
+/// Cuts, and batches logged while the first is in progress. Each cut writes all three pieces, the volume's and both
+/// stripes': the first one as nothing is known of its area, the second one as `delete` has made all of them dirty.
 const CUTS: Script = Script {
     numbers: SMALL,
     patches: &[],
@@ -79,8 +79,10 @@ fn cuts_survive(rt: HostRuntime) -> Result<(), Fail> {
     Ok(survives(&rt, rt.alloc(), &CUTS, calls)?)
 }
 
-/// A device with a cut in progress, whose named image, of version 1, has a volume: half 0 has file 0 of it, and half 1
-/// after it a block of that file.
+/// A device with a cut in progress, whose named image, of version 1, has a volume. The record in half 0 makes its file 0,
+/// and the one in half 1, which follows, writes a block of that file. The patches in order: the image's version and the
+/// volume's first byte; the chain byte, a gate and a record's kind of half 0; a gate, a record's kind and the first byte of
+/// its block in half 1.
 const INTERRUPTED: Script = Script {
     numbers: SMALL,
     patches: &[
@@ -99,8 +101,8 @@ const INTERRUPTED: Script = Script {
 
 #[test]
 fn an_interrupted_cut_of_version_1_survives(rt: HostRuntime) -> Result<(), Fail> {
-    // A record of each half and the other chain byte and gates are read too, and the cut is ended by two writes and two
-    // syncs.
+    // A record of each half and the chain byte and the gates of half 1 are read too, and the cut is ended by two writes and
+    // two syncs.
     let calls = OPENING + 4 + 4 + BATCH;
     Ok(survives(&rt, rt.alloc(), &INTERRUPTED, calls)?)
 }

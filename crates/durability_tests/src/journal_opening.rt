@@ -1,8 +1,9 @@
 //! Devices that are opened, and such as are refused.
 //!
-//! Where the parts of the small device begin: magic 0, geometry 8 (records in a half: 22), root byte 64; half 0: chain byte 128, gates 192,
-//! records (of 520 bytes) 196; half 1: the same at 2276, 2340, 2344; image 0: format version 4424, the volume's piece 4488 (files +8, label
-//! +16), the stripes' pieces 4552 and 5592; image 1: 6632; end 8840. A new device has no image 1. Version 1 of an image has no labels.
+//! Where the parts of the small device begin: format byte 0, magic 1, geometry 8 (records in a half: 22), root byte 64; half 0: chain byte
+//! 128, gates 192, records (of 520 bytes) 196; half 1: the same at 2276, 2340, 2344; image 0: version 4424, the volume's piece 4488 (files
+//! +8, label +16), the stripes' pieces 4552 and 5592; image 1: 6632; end 8840. A new device has no image 1. Version 1 of an image has no
+//! labels.
 use crate::common::{SMALL, holds};
 use crate::journal_trials::left_by_acts;
 use affinity::Geometry;
@@ -17,7 +18,7 @@ use std::alloc::Global;
 use std::process::Abort;
 use std::test::Fail;
 
-/// Where a device isn't as it was formatted, and why it is refused.
+/// The bytes of a device that differ from a formatted one (offset and value), and why it is refused.
 const REFUSED: [(&[(usize, u8)], OpenFault); 21] = [
     (&[(0, 0)], OpenFault::NotFormatted),
     (&[(1, 0)], OpenFault::NotFormatted),
@@ -46,7 +47,7 @@ const REFUSED: [(&[(usize, u8)], OpenFault); 21] = [
     (&[(128, 1), (2276, 1), (192, 1)], OpenFault::BadChain),
 ];
 
-/// It is refused for this, and reported so too, and it stays as it was.
+/// `open` refuses this device with this fault, `inspect` does so too, and the bytes stay as they were.
 fn is_refused(
     rt: &impl Abort,
     alloc: Global,
@@ -95,8 +96,8 @@ fn a_short_device_is_refused(rt: HostRuntime) -> Result<(), Fail> {
     Ok(())
 }
 
-/// The length of a device of zeros, the call of it that fails, and what is reported. The sync comes before anything is looked
-/// at, and then one read shows that there is no magic.
+/// The length of a device of zeros, the number of the call of it that fails, and what `open` reports. The sync comes before anything is
+/// looked at. Then the length is tested, and one read shows that the device isn't formatted.
 const SYNCED_FIRST: [(u64, u64, OpenFault); 4] = [
     (127, 1, OpenFault::Device),
     (127, 2, OpenFault::TooShort),
@@ -154,7 +155,7 @@ const OPENED: [(&[(usize, u8)], &[&str], usize); 11] = [
     ),
 ];
 
-/// What a server that is opened on a device answers, and the device. Nothing is in its log.
+/// What a server that is opened on a device answers, and the device. Its log has room for all four records.
 fn opened(
     rt: &impl Abort,
     alloc: Global,
@@ -173,7 +174,8 @@ fn opened(
     Ok((answers?, device))
 }
 
-/// A device is opened, and holds that.
+/// A formatted device with these patches is opened. It answers as a server after these lines; this area is named then, with an image of
+/// version 2, and no record is in force.
 fn is_opened(
     rt: &impl Abort,
     alloc: Global,
@@ -253,7 +255,8 @@ impl Trial for Refusal {
     }
 }
 
-/// It stays refused whatever call fails, and then area 1 is named, with the snapshot of the cut.
+/// Whichever call of an opening fails, the next one refuses the device again. A refusal with no fault leaves area 1 named, with the state
+/// at the cut in its image: `volume` is two bytes of the volume's piece there, the made byte and the first one of the bitmap of files.
 fn stays_refused(
     rt: &impl Abort,
     alloc: Global,
@@ -318,7 +321,7 @@ fn a_device_is_opened_at_the_next_try(rt: HostRuntime) -> Result<(), Fail> {
 /// How many bytes a longer device has behind its parts.
 const BEHIND: usize = 600;
 
-/// What is done on a longer device: each call of a journal.
+/// What is done on a longer device: each kind of call of a journal.
 const ALL_CALLS: [Act; 7] = [
     Act::Log(&["makevol 0 0"]),
     Act::Point,
@@ -329,7 +332,7 @@ const ALL_CALLS: [Act; 7] = [
     Act::End,
 ];
 
-/// The formatted device, and these bytes behind it.
+/// The formatted device, and `BEHIND` bytes of 9 behind it.
 fn longer_device(alloc: Global) -> Result<MemDisk, Wrong> {
     let device = device_with(alloc, SMALL, &[])?;
     let mut bytes = device.bytes().to_vec(alloc)?;

@@ -8,8 +8,8 @@ use harness::{
 };
 use std::alloc::Global;
 
-/// The eight numbers of a geometry, in the order of `format`'s options: one volume of one file of four blocks, each in a stripe of its own,
-/// and eight records in a half.
+/// One volume of one file of four blocks, each in a stripe of its own, and eight records in a half. In order: aggregates, volumes, stripes,
+/// width, files, blocks, quota, records in a half.
 pub(crate) const FLAT: [u16; 8] = [1, 1, 4, 1, 1, 4, 1, 8];
 
 /// Does these things to a server, all of which go well.

@@ -20,7 +20,7 @@ fn is_change_in_range(g: &Geometry, m: &Msg) -> bool
     changing(m.kind()) && place_of(g, m.kind(), m.numbers()).is_some()
 }
 
-/// Whether the log keeps each of these.
+/// Whether each of these is a change in range: the log takes no others.
 fn are_changes_in_range(g: &Geometry, messages: &[Msg]) -> bool
     ensures { IsTrue result → AreChangesInRange g.now messages.now }
 {
@@ -63,7 +63,7 @@ fn chain_halves<D: Disk>(disk: &mut D, log: &mut Halves) -> Result<(), LogFault>
     Ok(())
 }
 
-/// Appends these, if there is room and the log keeps them, and gives whether it did.
+/// Appends these, if there is room and they are changes in range, and returns whether that succeeded.
 fn appends<D: Disk>(disk: &mut D, log: &mut Halves, messages: &[Msg]) -> bool
     requires not_failed { log.old.failed ≡ false }
     requires long_enough { IsLongEnough log.old (D.medium disk.old) }
@@ -77,7 +77,7 @@ fn appends<D: Disk>(disk: &mut D, log: &mut Halves, messages: &[Msg]) -> bool
         && log.append(disk, messages).is_ok()
 }
 
-/// Which half the messages go to: the other one once it is named, or the other one after a chain.
+/// How the half that isn't named, once it is cleared, becomes current, so that messages go there: it is named, or chained to the named one.
 #[derive(Clone, Copy, Drop)]
 pub(crate) enum Way {
     Named,
@@ -89,19 +89,22 @@ pub(crate) enum Way {
 pub(crate) enum Step {
     /// Clears the half that isn't named.
     Clear,
-    /// Clears it, and opens the chain to it.
+    /// Clears that half, and opens the chain to it.
     Chain,
-    /// Names it.
+    /// Names that half.
     Flip,
+    /// Takes this half as named and current, without a call of the device.
     Name(usize),
+    /// Counts the records in the front of this half.
     Front(usize),
+    /// Reads a record, named by its half and its number there.
     Record(usize, usize),
 }
 
-/// A call that wasn't made, since the log is not fit for it.
+/// The answer in place of a call that wasn't made, since the log is not fit for it. No record has these numbers.
 pub(crate) const UNFIT: LogFault = LogFault::BadRecord(9, 9);
 
-/// A server of one volume with two stripes: its log, and its device, which is long enough for it.
+/// The log of a server of one volume with two stripes, and its device, which is long enough for it.
 #[derive(Drop)]
 pub(crate) struct Server {
     pub(crate) disk: MemDisk,
@@ -118,7 +121,7 @@ impl Server {
         Ok(Server { disk, log })
     }
 
-    /// After one of the kinds of crash, with a log of which nothing is known.
+    /// The server after a crash of this kind (`harness::torn`), with a new log, which has read nothing of the device.
     pub(crate) fn crashed(self, alloc: Global, kind: usize) -> Result<Server, AllocError> {
         let Server { disk, log } = self;
         let g = log.geometry();
@@ -127,7 +130,7 @@ impl Server {
         Ok(Server { disk, log })
     }
 
-    /// Lets the n-th call of the device fail, and all later ones if it stops there.
+    /// Makes the n-th call of the device from now fail, and all later ones if it stops there; none if n is 0.
     pub(crate) fn fails_at(&mut self, n: u64, stops: bool) {
         if n == 0 {
             return;
@@ -139,12 +142,12 @@ impl Server {
         }
     }
 
-    /// Writes past the log, and gives whether it went well.
+    /// Writes to the device directly, not by a call of the log, and returns whether that succeeded.
     pub(crate) fn writes(&mut self, at: u64, bytes: &[u8]) -> bool {
         self.disk.write_at(at, bytes).is_ok()
     }
 
-    /// Changes the halves and appends these messages: whether all of it went well.
+    /// Makes the other half current in this way and appends these messages. Returns whether all of that succeeded.
     pub(crate) fn takes(&mut self, way: Way, messages: &[Msg]) -> bool {
         matches!(self.changes(way, messages), Ok(true))
     }
@@ -197,7 +200,7 @@ impl Server {
         Ok(())
     }
 
-    /// How many records the open front of a half has.
+    /// How many records the front of a half has.
     pub(crate) fn front(&mut self, half: usize) -> Result<usize, LogFault> {
         if self.log.failed() || half >= 2 {
             return Err(UNFIT);
@@ -225,7 +228,7 @@ impl Server {
         }
     }
 
-    /// The messages in the open front of a half.
+    /// The messages in the front of a half.
     pub(crate) fn messages(&mut self, alloc: Global, half: usize) -> Result<Vec<Msg>, Fail> {
         let mut messages = Vec::new(alloc);
         let count = self.front(half)?;
@@ -235,7 +238,7 @@ impl Server {
         Ok(messages)
     }
 
-    /// The byte at this place of the device.
+    /// The byte at this offset of the device; 256 if there is none.
     pub(crate) fn byte(&self, at: usize) -> u64 {
         self.disk
             .bytes()

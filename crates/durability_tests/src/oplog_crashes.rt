@@ -9,23 +9,23 @@ use std::test::Fail;
 
 const MESSAGES: [Msg; 3] = [Msg::MakeVol(0, 0), Msg::Seal(0, 0), Msg::Unseal(0, 0)];
 
-/// What a crash leaves of a server whose halves have four records.
+/// What a crash leaves of a server whose halves hold four records each.
 #[derive(Drop)]
 struct Left {
-    /// Whether the messages were taken.
+    /// Whether the messages were appended before the crash without a fault.
     went_well: bool,
-    /// The byte that names an area, and the chain byte of half 0.
+    /// The root byte, and the chain byte of half 0.
     root: u64,
     chain: u64,
-    /// The messages of the half that counts last.
+    /// The messages in the front of the last half that is in force.
     read: Vec<Msg>,
 }
 
-/// What a server recovers to, whose messages were taken or not.
+/// What is found on a server after a crash, before which its messages were appended or not.
 fn recovered(alloc: Global, way: Way, server: Server, went_well: bool) -> Result<Left, Fail> {
     let mut server = server;
     let (root, chain) = (server.byte(64), server.byte(128));
-    // A half that isn't named may hold anything while it is cleared; and unless the chain byte of half 0 is 1, half 1 doesn't count.
+    // A half that isn't named may hold anything while it is cleared; and unless the chain byte of half 0 is 1, half 1 isn't in force.
     let last = match way {
         Way::Named => root,
         Way::Chained => chain,
@@ -39,8 +39,8 @@ fn recovered(alloc: Global, way: Way, server: Server, went_well: bool) -> Result
     })
 }
 
-/// What a crash of this kind leaves of a server that takes the messages, of whose calls the n-th fails, and all later ones too if it
-/// stops there.
+/// What a crash of this kind leaves of a server that takes the messages, where the n-th call of its device fails, and all later ones too if
+/// it stops there.
 fn left_at(alloc: Global, way: Way, n: u64, stops: bool, kind: usize) -> Result<Left, Fail> {
     let mut server = Server::new(alloc, 4)?;
     server.fails_at(n, stops);
@@ -48,12 +48,13 @@ fn left_at(alloc: Global, way: Way, n: u64, stops: bool, kind: usize) -> Result<
     recovered(alloc, way, server.crashed(alloc, kind)?, went_well)
 }
 
-/// Of these messages the first m were read, after a fault at the n-th call and a crash of this kind.
+/// The messages that were read, after a fault at the n-th call and a crash of this kind, are a prefix of `MESSAGES`.
 fn is_beginning(rt: &impl Abort, read: &[Msg], n: u64, kind: usize) {
     let count = read.len();
     holds(rt, count <= MESSAGES.len());
     same_messages(rt, read, &MESSAGES[..count.min(MESSAGES.len())]);
-    // The seventh call writes the gates and the eighth syncs them: before, no record is there, and afterwards all are.
+    // The seventh call writes the gates and the eighth syncs them. A fault before the seventh leaves no record. Nine stands for no fault,
+    // as no ninth call is made: then all records are there.
     holds(rt, n > 6 || count == 0);
     holds(rt, n < 9 || count == 3);
     // `MIXED` leaves 1, 77, 1 in turn in unsynced bytes: here the three gates, whose write failed. A gate of 77 is shut.

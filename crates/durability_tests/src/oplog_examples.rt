@@ -1,4 +1,6 @@
 //! Worked examples on a device of 8,840 bytes.
+//!
+//! Offsets there: root byte 64; half 0: chain byte 128, gates 192, records (520 bytes each) 196; half 1: the same at 2276, 2340, 2344.
 use crate::common::{equals, holds};
 use crate::oplog_common::{Server, Step, Way, answers, finds, reads};
 use affinity::Geometry;
@@ -8,7 +10,7 @@ use oplog::{Halves, LogFault};
 use std::process::Abort;
 use std::test::Fail;
 
-/// The byte that names an area, the room, the half that is named and the one that records are appended to.
+/// The server has, in this order: the root byte, the room, the named half, and the current one, which records are appended to.
 fn recovers(rt: &impl Abort, server: &Server, want: [u64; 4]) {
     let [root, room, named, current] = want;
     equals(rt, server.byte(64), root);
@@ -17,7 +19,7 @@ fn recovers(rt: &impl Abort, server: &Server, want: [u64; 4]) {
     equals(rt, server.log.current() as u64, current);
 }
 
-/// Makes these calls, and looks at the server after each.
+/// These calls succeed, one after the other, and after each the server has the four numbers of its row, those of `recovers`.
 fn goes(rt: &impl Abort, server: &mut Server, rows: &[(Step, [u64; 4])]) {
     for (step, want) in rows {
         answers(rt, server.does(*step), Ok(()));
@@ -28,10 +30,10 @@ fn goes(rt: &impl Abort, server: &mut Server, rows: &[(Step, [u64; 4])]) {
 /// Half 1 is cleared and named: it has room for four records.
 const ROOM: [(Step, [u64; 4]); 2] = [(Step::Clear, [0, 0, 0, 0]), (Step::Flip, [1, 4, 1, 1])];
 
-/// A chain is opened to half 1, which is named then.
+/// A chain is opened to half 1, and then that half is named.
 const CHAIN: [(Step, [u64; 4]); 2] = [(Step::Chain, [0, 4, 0, 1]), (Step::Flip, [1, 4, 1, 1])];
 
-/// A half has room where it was cleared before it was named, and not since.
+/// A half that a flip names has room only if it was cleared since it was last named. One that `name` names has none.
 const CHANGES: [(Step, [u64; 4]); 8] = [
     (Step::Flip, [1, 0, 1, 1]),
     (Step::Clear, [1, 0, 1, 1]),
@@ -74,6 +76,7 @@ fn a_record_is_appended_and_read(rt: HostRuntime) -> Result<(), Fail> {
 fn zeros_are_no_record(rt: HostRuntime) -> Result<(), Fail> {
     let mut server = Server::new(rt.alloc(), 4)?;
     holds(&rt, server.takes(Way::Named, &[Msg::MakeVol(0, 0)]));
+    // The gate of record 1 is opened; the record itself is zeros.
     holds(&rt, server.writes(2341, &[1]));
     finds(&rt, server.front(1), 2);
     reads(&rt, server.record(1, 0), Ok(Msg::MakeVol(0, 0)));
@@ -81,8 +84,8 @@ fn zeros_are_no_record(rt: HostRuntime) -> Result<(), Fail> {
     Ok(())
 }
 
-/// Kind 1 makes a volume, 5 seals one, 13 labels one, 9 reads a block, 10 lists the files, and 14 asks for the label.
-/// There is no volume 1, and no kind 15.
+/// The first bytes of record 3 of half 0 (kind, aggregate, volume), and what reading it gives. Kind 1 makes a volume, 5 seals one, 13
+/// labels one, 9 reads a block, 10 lists the files, and 14 asks for the label. There is no volume 1, and no kind 15.
 const RECORDS: [([u8; 3], Result<Msg, LogFault>); 8] = [
     ([1, 0, 0], Ok(Msg::MakeVol(0, 0))),
     ([5, 0, 0], Ok(Msg::Seal(0, 0))),
@@ -104,7 +107,7 @@ fn no_message_that_changes_nothing_is_read(rt: HostRuntime) -> Result<(), Fail> 
     Ok(())
 }
 
-/// The gates of a half, and how many records its open front has.
+/// The gates of a half, and how many records its front has.
 const GATES: [([u8; 4], usize); 4] = [
     ([1, 77, 1, 0], 1),
     ([0, 1, 1, 1], 0),
@@ -126,10 +129,10 @@ fn the_front_ends_at_a_gate_that_is_not_open(rt: HostRuntime) -> Result<(), Fail
 #[test]
 fn clearing_keeps_the_records(rt: HostRuntime) -> Result<(), Fail> {
     let mut server = Server::new(rt.alloc(), 4)?;
-    // Half 1, and not a byte beside it.
+    // All bytes of half 1, and no others.
     holds(&rt, server.writes(2276, &[7; 2148]));
     answers(&rt, server.does(Step::Clear), Ok(()));
-    // The chain zone and the gates are 68 bytes.
+    // The chain byte, the 63 bytes after it and the four gates are zeros now: 68 bytes.
     equals(&rt, server.nonzero(), 2080);
     equals(&rt, server.byte(2276), 0);
     equals(&rt, server.byte(2343), 0);
@@ -137,7 +140,7 @@ fn clearing_keeps_the_records(rt: HostRuntime) -> Result<(), Fail> {
     Ok(())
 }
 
-/// It passes too where any one request for memory is refused.
+/// The test passes also if any one request for memory in it is refused.
 #[test]
 fn a_refused_log_is_made_at_the_next_try(rt: HostRuntime) -> Result<(), Fail> {
     let g = Geometry::default();
@@ -150,11 +153,11 @@ fn a_refused_log_is_made_at_the_next_try(rt: HostRuntime) -> Result<(), Fail> {
     Ok(())
 }
 
-/// Which call of the device fails, and which call of a new log it fails in.
+/// The number of the device call that fails, and the call of a new log in which it is made.
 const FAULTS: [(u64, Step); 5] = [
     (1, Step::Clear),
     (2, Step::Flip),
-    // Two calls clear the other half.
+    // The first two calls clear the other half, the third writes the chain byte.
     (3, Step::Chain),
     (1, Step::Front(0)),
     (1, Step::Record(0, 0)),

@@ -5,7 +5,8 @@ use oplog::layout::{device_len, half_at, half_size, image_at, image_size};
 use std::process::Abort;
 use std::test::Fail;
 
-/// Servers, and where the halves and the images of each lie, the sizes of both, and the length.
+/// Geometries (aggregates, volumes, stripes, width, files, blocks, quota, records in a half), and of a device of each: the offsets of half
+/// 0, half 1, image 0 and image 1, the size of a half, that of an image, and the length of the device.
 const LAYOUTS: [([u16; 8], [u64; 7]); 3] = [
     (SMALL, [128, 2276, 4424, 6632, 2148, 2208, 8840]),
     // the default numbers

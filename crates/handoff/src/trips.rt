@@ -18,14 +18,14 @@ const NUMBERS: [u16; 8] = [4, 8, 1, 1, 1, 1, 1, 4];
 /// How many places there can be: one for each volume.
 const MOST_PLACES: u16 = 32;
 
-// A volume that is there, not sealed, and has its file.
+// The standing of a volume that is made, not sealed, and has one file.
 const STANDING: Standing = Standing {
     made: true,
     sealed: false,
     files: 1,
 };
 
-// Writes the first block of volume k, and returns the job that reads it.
+// Writes the first block of volume number k in the tree, and returns the job that reads this block.
 fn reading(tree: &mut Tree, k: u16) -> Option<Job>
     ensures tree { tree.new.geometry ≡ tree.old.geometry }
     ensures job { IfSome result (λ job. job.geometry ≡ tree.old.geometry) }
@@ -54,7 +54,7 @@ fn offer(bench: &Bench, dispatch_seat: &mut DispatchSeat, k: usize, job: Job)
     }
 }
 
-// Offers at each place k the job that reads a block of volume k, on parcels of a new tree. Returns whether there is one for each.
+// Offers at each place k the job that reads a block of volume k, on parcels of a new tree. Returns whether a job could be made for each.
 fn offer_first(
     alloc: Global,
     bench: &Bench,
@@ -78,8 +78,7 @@ fn offer_first(
     Ok(all)
 }
 
-// Takes the result at a place, if it is there, and offers its message and its parcels again.
-// Returns whether a block was read there.
+// Takes the result at place k, if it was delivered, and offers its message and its parcels again. Returns whether the job had read a block.
 fn trip(bench: &Bench, dispatch_seat: &mut DispatchSeat, g: &Geometry, k: usize) -> bool
     requires bench { (dispatch_seat.old.bench ≡ bench.now) × (k < bench.now.slots) }
     requires lent { AreOfGeometry g.now dispatch_seat.old.lent }
@@ -97,7 +96,7 @@ fn trip(bench: &Bench, dispatch_seat: &mut DispatchSeat, g: &Geometry, k: usize)
     was_read
 }
 
-// Tries each place once. Returns how many round trips ended.
+// Tries each place once. Returns at how many a round trip ended.
 fn round(bench: &Bench, dispatch_seat: &mut DispatchSeat, g: &Geometry, places: usize) -> u64
     requires bench { (dispatch_seat.old.bench ≡ bench.now) × (places ≡ bench.now.slots) }
     requires lent { AreOfGeometry g.now dispatch_seat.old.lent }
@@ -136,7 +135,7 @@ fn go_round<R: Wait>(
     }
 }
 
-/// Makes `trips` round trips with `workers` workers and as many places. False where that is 0 or too many, or a job can't be made.
+/// Makes `trips` round trips with `workers` workers and as many places. False where `workers` is 0 or above 32, or a job can't be made.
 pub fn make_trips<R: Threads + Wait + Sync>(
     rt: &R,
     alloc: Global,

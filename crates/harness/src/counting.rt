@@ -8,14 +8,14 @@ pub struct Counts {
     pub writes: u64,
     pub syncs: u64,
 
-    /// How many bytes all writes had.
+    /// The bytes of all these writes together.
     pub written: u64,
 }
 
 /// A device that passes each call on to another one, and counts it.
 ///
-/// Contracts know nothing of what it keeps. So a call that has requirements on the recovered state has none here, and tests
-/// can make it without a proof of what they are about to find out.
+/// No contract says that it behaves as the device model: its `keeps` is ⊥ (false). So a requirement of the form `D.keeps → ..`, such as one
+/// on the state to which a device recovers, is void here: tests can call the journal without a proof of what they are about to find out.
 #[derive(Drop)]
 pub struct Counting<D: Disk> {
     device: D,
@@ -36,7 +36,7 @@ impl<D: Disk> Counting<D> {
         }
     }
 
-    /// The calls since it was made.
+    /// The calls since `new`.
     pub fn counts(&self) -> Counts {
         self.counts
     }

@@ -8,17 +8,17 @@ use std::alloc::{AllocError, Global};
 /// How many kinds of crash `torn` knows.
 pub const KINDS: usize = 7;
 
-/// The crash that leaves what the last sync left.
+/// The number of `Torn::Old`: a crash that leaves at each unsynced offset the byte of the last sync.
 pub const OLD: usize = 3;
 
-/// The crash that leaves what was last asked to be written.
+/// The number of `Torn::New`: a crash that leaves at each unsynced offset the byte last asked to be written there, even by a failed write.
 pub const NEW: usize = 4;
 
-/// The crash that leaves 1, 77, 1 in turn.
+/// The number of a `Torn::Mixed`: a crash that leaves the bytes 1, 77, 1 over and over at the unsynced offsets, from the lowest upward.
 pub const MIXED: usize = 5;
 
-/// One of the kinds of crash, by its number below `KINDS`. The first two put different bytes wherever something is unsynced,
-/// so where they leave the same, each kind does.
+/// One of the kinds of crash, by its number below `KINDS`. Kinds 0 and 1 leave different bytes at each unsynced offset: where both leave
+/// the same device, nothing is unsynced, and every kind leaves that device.
 pub fn torn(alloc: Global, kind: usize) -> Result<Torn, AllocError>
     ensures { IfOk result HasPattern }
 {

@@ -1,8 +1,9 @@
-//! What tests of durable crates share: trials on a device that fails, stops and crashes at each of its calls.
+//! What the tests of crates that keep data on a device share: trials on a device that fails, stops and crashes at each of its calls.
 //!
-//! A `Trial` does something on a device in memory. `sweep` injects a fault at each call of the device, with a crash of each
-//! kind after it. It opens what is left, once whole and once stopped at each call of that too, and checks whether what a
-//! server answers then is allowed. What it should answer comes from the serial server, by `expected`.
+//! A `Trial` does something on a device in memory. `sweep` makes it again and again: for each call of the device once with that call
+//! failing alone, and once for each kind of crash, with the device stopped at that call and then crashed. It opens what is left, and checks
+//! whether what a server answers then is allowed. After a crash it also stops that opening at each of its calls, crashes the device a
+//! second time and opens it again. What a server should answer comes from the serial server, by `expected`.
 #![tactic(auto)]
 
 mod counting;

@@ -1,4 +1,4 @@
-//! All that a server answers of what it holds, and what it should answer.
+//! Questions by which a server reports all that it holds, and the answers that it should give.
 ghost use Rattle.std.specs.Prelude.{◌≡◌};
 ghost use Rattle.parcel.specs.Tree.{IsWholeTree};
 
@@ -88,7 +88,7 @@ pub fn messages_of(alloc: Global, lines: &[&str]) -> Result<Vec<Msg>, Wrong> {
     Ok(messages)
 }
 
-/// What a whole tree replies to a message, which runs on it.
+/// What a whole tree (no part of it is lent) replies to a message, which runs on it.
 fn reply_of(tree: &mut Tree, m: Msg) -> Reply
     requires whole { IsWholeTree tree.old }
     ensures whole { IsWholeTree tree.new }
@@ -135,7 +135,7 @@ fn end_of(output: &[u8], count: usize) -> usize {
     if left == 0 { output.len() } else { 0 }
 }
 
-/// What the serial server answers to these lines, from the empty state on, and then to these questions.
+/// What the serial server answers to these lines, from the empty state on, and what it then answers to these questions.
 pub fn answers_and_replies(
     alloc: Global,
     g: &Geometry,
@@ -158,8 +158,8 @@ pub fn answers_and_replies(
     Ok((answers.to_vec(alloc)?, reply_lines.to_vec(alloc)?))
 }
 
-/// What the serial server answers to these questions once it has carried out these lines, from the empty state on. `Unfit`
-/// where one of them isn't done.
+/// What the serial server answers to these questions once it has carried out these lines, from the empty state on. `Unfit` where the reply
+/// to one of the lines isn't `done`.
 pub fn expected(
     alloc: Global,
     g: &Geometry,

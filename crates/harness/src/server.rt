@@ -1,4 +1,4 @@
-//! A server over a journal, for tests: what it holds, and its log.
+//! A server for tests: a tree and a journal, without the core.
 ghost use Rattle.std.specs.Prelude.{◌≡◌, IsTrue};
 ghost use Rattle.std.proofs.Props.{props};
 ghost use Rattle.oplog.specs.Changing.{AreChangesInRange, IsChangeInRange};
@@ -25,7 +25,7 @@ pub enum Act {
     /// One piece of a cut is written.
     Piece,
 
-    /// All pieces of a cut that are left are written, and it is ended.
+    /// The pieces that are left of a cut are written, and the cut is ended.
     End,
 }
 
@@ -60,14 +60,15 @@ fn are_changes_in_range(g: &Geometry, messages: &[Msg]) -> bool
 /// Why a server doesn't do what it was asked.
 #[derive(Clone, Copy, PartialEq, Eq)]
 pub enum Halt {
-    /// It can't do that now.
+    /// A condition of the call doesn't hold: a message is no change in range or isn't done, the log has no room, a cut is in progress or
+    /// isn't, or has pieces left, or the device failed before.
     Unfit,
 
     /// The device failed.
     Failed,
 }
 
-/// Turns a result of the journal into one of a server.
+/// Turns a result of the journal into one of this server.
 fn halted<T>(answer: Result<T, LogFault>) -> Result<T, Halt> {
     match answer {
         Ok(value) => Ok(value),
@@ -75,12 +76,12 @@ fn halted<T>(answer: Result<T, LogFault>) -> Result<T, Halt> {
     }
 }
 
-/// A server for tests, in place of the core: a state and a journal. It runs messages one after the other.
+/// A server for tests, in place of the core: a tree, which is the state, and a journal. It runs messages one after the other.
 #[derive(Drop)]
 pub struct Server<D: Disk> {
     journal: Journal<Counting<D>>,
     tree: Tree,
-    // The tree is whole. What follows `by` is for the prover alone.
+    // The tree is whole: no part of it is lent. What follows `by` is for the prover alone.
     ghost whole: { IsWholeTree tree } by { Prim.hlevel props },
     ghost same: { tree.geometry ≡ journal.geometry },
 }
@@ -94,7 +95,8 @@ impl<D: Disk> Server<D> {
         }
     }
 
-    /// Carries these changes out, and logs them in one batch. After a fault the server is of no more use.
+    /// Carries these changes out, and logs them in one batch. After an error the server is of no more use: its tree may have changes that
+    /// aren't in the log.
     pub fn log(&mut self, messages: &[Msg]) -> Result<(), Halt> {
         let g = self.journal.geometry();
         let is_fit = are_changes_in_range(&g, messages) && messages.len() <= self.journal.room();
@@ -104,7 +106,7 @@ impl<D: Disk> Server<D> {
         halted(self.journal.log(messages))
     }
 
-    /// Makes a point: the whole image in one call, while nothing is in flight.
+    /// Makes a point: a checkpoint in one call. `Unfit` while a cut is in progress.
     pub fn point(&mut self) -> Result<(), Halt> {
         if self.journal.failed() || self.journal.pieces_left().is_some() {
             return Err(Halt::Unfit);
@@ -176,7 +178,7 @@ impl<D: Disk> Server<D> {
         self.journal.failed()
     }
 
-    /// How often the device was called since it was opened.
+    /// How often the device was called, by the opening and since.
     pub fn counts(&self) -> Counts {
         self.journal.disk().counts()
     }
@@ -190,7 +192,7 @@ impl<D: Disk> Server<D> {
         reply_lines(alloc, &mut self.tree, questions)
     }
 
-    /// The device, and how often it was called since it was opened.
+    /// The device, and how often it was called, by the opening and since.
     pub fn into_device(self) -> (D, Counts) {
         let device = self.journal.into_disk();
         let counts = device.counts();
@@ -198,7 +200,7 @@ impl<D: Disk> Server<D> {
     }
 }
 
-/// Runs these messages, and gives whether all were done.
+/// Runs these messages, up to the first whose reply isn't `done`. Returns whether there was none such.
 fn carry_out(tree: &mut Tree, messages: &[Msg]) -> bool
     requires whole { IsWholeTree tree.old }
     ensures whole { IsWholeTree tree.new }
@@ -213,7 +215,7 @@ fn carry_out(tree: &mut Tree, messages: &[Msg]) -> bool
     true
 }
 
-/// Sets bytes, where there are any at these places.
+/// Sets bytes. Each patch is an offset and a byte; one past the end does nothing.
 fn set(bytes: &mut [u8], patches: &[(usize, u8)]) {
     for (at, byte) in patches {
         if let Some(there) = bytes.get_mut(*at) {
@@ -231,7 +233,8 @@ fn formatted(alloc: Global, g: Geometry) -> Result<MemDisk, Wrong> {
     }
 }
 
-/// A device that was formatted, with other bytes at some places.
+/// A device that was formatted with the geometry of these numbers (aggregates, volumes, stripes, width, files, blocks, quota, half), and in
+/// which bytes were set after that. Each patch is an offset and a byte.
 pub fn device_with(
     alloc: Global,
     numbers: [u16; 8],

@@ -15,10 +15,10 @@ const MOST_CALLS: u64 = 10_000;
 /// How far a trial came.
 #[derive(Clone, Copy)]
 pub struct Progress {
-    /// How many of its changes were answered: these are there after each crash.
+    /// How many of its changes were logged by a call that returned `Ok`: whatever a crash leaves has these.
     pub answered: usize,
 
-    /// How many of its changes may be there.
+    /// How many of its changes a crash may leave: those, and the ones of the call that failed.
     pub attempted: usize,
 
     /// Whether it ended with no fault of the device.
@@ -36,7 +36,7 @@ pub struct Ended {
 /// What is found on a device that is opened.
 #[derive(Drop, PartialEq, Eq)]
 pub enum OpenedDevice {
-    /// It is opened, and the server answers the questions so.
+    /// It is opened, and a server on it answers the questions so.
     Answers(Vec<u8>),
     /// It is refused.
     Refuses(OpenFault),
@@ -53,17 +53,17 @@ pub trait Trial {
     /// Does it on this device, until it ends or a call reports that the device has failed.
     fn run(&self, alloc: Global, device: MemDisk) -> Result<Ended, Wrong>;
 
-    /// Whether a crash after this much progress may leave this.
+    /// Whether this may be found on the device after this much progress and a crash, or none.
     fn allows(&self, progress: &Progress, found: &OpenedDevice) -> bool;
 }
 
 /// A fault of a device and the crash after it.
 #[derive(Clone, Copy, Debug)]
 pub struct Crash {
-    /// The number of the call that failed, from 1 on, with all later ones.
+    /// The number of the call that failed, from 1 on. Before a crash all later calls failed, too: the device stopped.
     pub call: u64,
 
-    /// The kind of crash. `KINDS`: there was none, and later calls went on.
+    /// The kind of crash (see `torn`). `KINDS`: there was no crash, and later calls worked.
     pub kind: usize,
 }
 
@@ -77,7 +77,7 @@ pub enum Wrong {
     /// didn't fail. The trial is wrong, or the server is.
     Unfit,
 
-    /// It doesn't end.
+    /// It isn't over after as many calls or tries as a test waits for.
     Endless,
 
     /// A device fault was not reported, or one was reported that did not happen.
@@ -89,7 +89,8 @@ pub enum Wrong {
     /// After the crash `inspect` and `open` disagree.
     Shown(Crash),
 
-    /// After the first crash, opening met the second one, and then something else was found than without it.
+    /// The opening after the first crash was stopped at the call of the second one. It didn't report that, or something else is found after
+    /// the second crash than without it.
     Reopened(Crash, Crash),
 }
 
@@ -142,7 +143,8 @@ fn inspected(alloc: Global, bytes: &[u8]) -> Result<Result<Shown, OpenFault>, Al
     }
 }
 
-/// Whether `inspect` agrees with `open` on a device of these bytes, before and after opening.
+/// Whether `inspect` agrees with what `open` found on a device: on its bytes before the opening, and on those after it (`opened`), where no
+/// record is in force then and the image has version 2. If the device is refused, it has to be for the same fault.
 fn is_shown(
     alloc: Global,
     bytes: &[u8],
@@ -163,7 +165,7 @@ fn is_shown(
     })
 }
 
-/// That the same was found again.
+/// Fails with `Reopened` unless the same was found again.
 fn same_again(is_same: bool, first: Crash, second: Crash) -> Result<(), Wrong> {
     if is_same {
         Ok(())
@@ -172,8 +174,8 @@ fn same_again(is_same: bool, first: Crash, second: Crash) -> Result<(), Wrong> {
     }
 }
 
-/// Opens a device that stops at this call: the device as it is then. None where it was opened, or refused, before that call;
-/// then the same is found as without a stop.
+/// Opens a device of the bytes that the first crash left; the device stops at the call of the second crash. Returns it as the opening
+/// leaves it. None where the opening was over before that call: then it has to find the same as without a stop.
 fn stopped(
     questions: &Questions,
     alloc: Global,
@@ -198,7 +200,8 @@ fn stopped(
     Ok(Some(device))
 }
 
-/// Opens the device that the second crash left: the same is found as behind the first one.
+/// Opens the device that the second crash left, unless it has the same bytes as after the first: the same has to be found as after the
+/// first.
 fn reopen_behind(
     questions: &Questions,
     alloc: Global,
@@ -214,8 +217,8 @@ fn reopen_behind(
     same_again(again == seen.found, first, second)
 }
 
-/// Opens a device of these bytes that stops at its n-th call, and opens it again after a crash of each kind. Whether it was
-/// opened, or refused, before that call.
+/// Opens a device of the bytes that the first crash left, stopped at its n-th call, and opens it again after a second crash of each kind.
+/// Returns whether the first of these openings was over, with a server or a refusal, before that call.
 fn reopen_at(
     alloc: Global,
     questions: &Questions,
@@ -236,8 +239,8 @@ fn reopen_at(
     Ok(false)
 }
 
-/// Opens a device of the bytes that the first crash left, stopped at each of its calls, and opens it again after a crash of each
-/// kind: what was seen of it is found each time.
+/// Opens a device of the bytes that the first crash left (`seen.bytes`), stopped at each of its calls in turn, and opens it again after a
+/// second crash of each kind: `seen.found` has to be found each time.
 pub fn reopen(
     alloc: Global,
     questions: &Questions,
@@ -259,7 +262,8 @@ pub struct Seen {
     pub found: OpenedDevice,
 }
 
-/// What is found on the device that a crash left, which is opened also stopped at each of its calls.
+/// What is found on the device that a crash left. `inspect` has to agree. The opening is also stopped at each of its calls, and what a
+/// second crash leaves is opened again (`reopen`).
 fn opened(
     alloc: Global,
     questions: &Questions,
@@ -276,7 +280,7 @@ fn opened(
     Ok(seen)
 }
 
-/// A trial and what was found in it so far.
+/// A trial, and what was found so far on the devices that its crashes left: those with the same bytes are opened once.
 #[derive(Drop)]
 struct Stops<'a, T: Trial> {
     alloc: Global,
@@ -285,14 +289,14 @@ struct Stops<'a, T: Trial> {
 }
 
 impl<T: Trial> Stops<'_, T> {
-    /// Whether a device of these bytes was opened already, and that is allowed.
+    /// Where a device of these bytes was opened already: whether what was found on it is allowed. None where none was.
     fn seen_before(&self, progress: &Progress, bytes: &[u8]) -> Option<bool> {
         let mut seen = self.seen.iter();
         let seen = seen.find(|seen| seen.bytes.as_slice() == bytes)?;
         Some(self.trial.allows(progress, &seen.found))
     }
 
-    /// What is found on the device that a crash left is allowed.
+    /// Fails unless what is found on the device that a crash left is allowed.
     fn look(&mut self, progress: &Progress, first: Crash, device: MemDisk) -> Result<(), Wrong> {
         match self.seen_before(progress, device.bytes()) {
             Some(true) => Ok(()),
@@ -313,7 +317,7 @@ impl<T: Trial> Stops<'_, T> {
         }
     }
 
-    /// Makes the trial on a device of which this call fails, and fails where that fault is not reported.
+    /// Makes the trial on a device of which this call fails. `Unreported` where that isn't reported, or is reported without the call.
     fn make(&self, first: Crash) -> Result<Ended, Wrong>
         requires { 0 < first.call }
     {
@@ -331,7 +335,7 @@ impl<T: Trial> Stops<'_, T> {
         }
     }
 
-    /// Makes the trial on a device that stops at this call, and crashes it. Returns whether it ended before that call.
+    /// Makes the trial on a device that stops at this call, and crashes the device. Returns whether the trial was over before that call.
     fn crash(&mut self, first: Crash) -> Result<bool, Wrong>
         requires { 0 < first.call }
     {
@@ -341,7 +345,7 @@ impl<T: Trial> Stops<'_, T> {
         Ok(progress.is_faultless)
     }
 
-    /// The same with a crash of each kind.
+    /// Calls `crash` with each kind of crash.
     fn stop(&mut self, call: u64) -> Result<bool, Wrong>
         requires { 0 < call }
     {
@@ -352,7 +356,7 @@ impl<T: Trial> Stops<'_, T> {
         Ok(is_faultless)
     }
 
-    /// Makes the trial on a device of which this call fails alone, and opens it with no crash.
+    /// Makes the trial on a device of which only this call fails, and opens the device without a crash.
     fn fail(&mut self, call: u64) -> Result<(), Wrong>
         requires { 0 < call }
     {
@@ -363,9 +367,9 @@ impl<T: Trial> Stops<'_, T> {
     }
 }
 
-/// Makes a trial once for each call of the device, which fails alone or stops it there, and each kind of crash after
-/// such a stop. What is left is opened, also stopped at each call and after each kind of crash again. Gives how many
-/// calls the trial makes with no fault.
+/// Makes a trial for each call of the device: once with that call failing alone, and once for each kind of crash, with the device stopped
+/// at that call and then crashed. What is left is opened. After a crash the opening is also stopped at each of its calls, and what a second
+/// crash of each kind leaves is opened again. Returns how many calls of the device the trial makes without a fault.
 pub fn sweep<T: Trial>(alloc: Global, trial: &T) -> Result<u64, Wrong> {
     let mut stops = Stops {
         alloc,

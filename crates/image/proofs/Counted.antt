@@ -83,7 +83,7 @@ picked_once n j p =
     (λ (high : n ≤ j). let none = picked_none n j p high in omega (arith, none))
     (cases_lt j n)
 
--- one block
+-- one block is counted at most once
 block_once : (n m i j : ℕ) → sum_below n (λ f. sum_below m (λ b. one_if ((f == i) && (b == j)))) ≤ 1
 block_once n m i j =
     let rows : sum_below n (λ f. sum_below m (λ b. one_if ((f == i) && (b == j)))) ≤ sum_below n (λ f. one_if (f == i)) =

@@ -1,4 +1,4 @@
--- Any pieces decode to something of a state's sizes, which is a state if each piece is that of what the pieces decode to.
+-- What pieces decode to has blocks and labels of the right size and keeps the quotas; it is a valid state if each piece is its encoding.
 use Rattle.std.proofs.Common.{◌≡◌, ℕ, suc, ◌+◌, ◌*◌, ◌-◌, ◌^◌, ◌<◌, ◌≤◌, Bool, true, false, ◌&&◌, List, [], length, drop, Option, Some, None, is_some, IfSome, refl, sym, ◌∙◌, ap, subst, arith, ⊎_elim, true≢false, length-take, length-drop}
 use Rattle.std.specs.Prelude.{◌==◌, nat_lt, if◌then◌else◌}
 use Rattle.std.specs.List.{AllByRecursion, flat_map}
@@ -109,7 +109,7 @@ module _ (version : ℕ) (g : Geometry) (pieces : ℕ → List ℕ)
 
 -- ---- pieces that spell what they decode to
 
--- a file that a number of bits has is below their count
+-- if a number has n bits, each file that it encodes is below n
 bit_within : (n : ℕ) (t : ℕ → Bool) (f : ℕ) → has_file (number_of n t) f ≡ true → f < n
 bit_within n t f on =
     ⊎_elim
@@ -165,7 +165,7 @@ module _ (version : ℕ) (g : Geometry) (pieces : ℕ → List ℕ) (sized : (n 
           )
       by false made on = absurd (omega (arith, bit_within 0 (λ f. false) k.2 on))
 
-  -- every entry of a stripe has its file and is within the numbers
+  -- of every entry of a stripe the file exists, and the block is in range
   entry_within : (a v s : ℕ) → AllByRecursion
       (λ (e : BlockEntry). (e.block < g.blocks) × ((decoded_by version g pieces).files (a, v, e.file) ≡ true))
       (stripe_entries g (decoded_by version g pieces) a v s)

@@ -133,14 +133,14 @@ volume_decoded = refl
 stripe_decoded : decoded_of 2 (image_of 2 small two_blocks) ≡ Summary 1 2 2
 stripe_decoded = refl
 
--- A block out of range is in its stripe's piece, and the volume's is good.
+-- A block number out of range makes the piece of its stripe bad, and not that of the volume.
 bad_stripe : is_good small (changed 130 4 (image_of 2 small two_blocks)) 1 ≡ false
 bad_stripe = refl
 
 good_volume : is_good small (changed 130 4 (image_of 2 small two_blocks)) 0 ≡ true
 good_volume = refl
 
--- Where a file is gone, its blocks are bad.
+-- With the bit of a file cleared, the volume's piece is good, and a stripe's that has a block of the file is bad.
 good_volume_without_a_file : is_good small (changed 72 1 (image_of 2 small two_blocks)) 0 ≡ true
 good_volume_without_a_file = refl
 
@@ -149,7 +149,7 @@ bad_stripe_without_a_file = refl
 
 -- ---- which pieces a message touches
 
--- of the volume's piece, that of its first stripe and that of its second
+-- whether a message may change the volume's piece, that of its first stripe and that of its second
 abbrev touched_in_small : Msg → List Bool
 touched_in_small m = may_change small m 0 ∷ may_change small m 1 ∷ may_change small m 2 ∷ []
 
@@ -184,7 +184,7 @@ questions_touch_nothing : touched_in_small (Read 0 0 1 1) ++ touched_in_small (L
     ++ touched_in_small AskSummary ++ touched_in_small (AskLabel 0 0) ≡ replicate 15 false
 questions_touch_nothing = refl
 
--- pieces 4, 5, 9 and 10 of the default server: the second of its four volumes has five pieces, behind the five of the first one
+-- pieces 4, 5, 9 and 10 of the default server: the second of its four volumes has pieces 5 to 9, after the five of the first volume
 abbrev touched_in_default : Msg → List Bool
 touched_in_default m = may_change default_geometry m 4 ∷ may_change default_geometry m 5 ∷ may_change default_geometry m 9 ∷ may_change default_geometry m 10 ∷ []
 

@@ -10,7 +10,7 @@ use Rattle.meaning.specs.State.{State, sum_below}
 use Rattle.image.specs.Pieces.{pieces_of_volume, piece_count, piece_part_size, piece_size, piece_at, piece_of, joined_below}
 use Rattle.image.specs.Image.{image_head, image_of, piece_in}
 
--- ---- sums of what comes again
+-- ---- sums of a function that repeats after k numbers
 
 module _ (k : ℕ) (h : ℕ → ℕ) where
   part_of_a_round : (m : ℕ) → sum_below (m * k) (λ n. h (n % k)) ≡ m * sum_below k h → (j : ℕ) → j ≤ k → sum_below (m * k + j) (λ n. h (n % k)) ≡ m * sum_below k h + sum_below j h
@@ -58,7 +58,7 @@ sum_grows f n (suc m) few =
     omega (arith, ap (λ (k : ℕ). sum_below k f) same))
     (cases_lt n (suc m))
 
--- a piece lies inside
+-- a piece lies inside its image
 pub piece_inside : (g : Geometry) (n : ℕ) → n < piece_count g → piece_at g n + piece_size g n ≤ image_size g
 piece_inside g n below = omega (arith, sum_grows (piece_size g) (suc n) (piece_count g) (omega (arith, below)), whole_image g)
 

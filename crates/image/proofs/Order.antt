@@ -17,7 +17,7 @@ all_map : {X : Type 0} (P Q : X → Type 0) → ((x : X) → P x → Q x) → (x
 all_map P Q weaker [] all = tt
 all_map P Q weaker (x ∷ xs) all = (weaker x all.0, all_map P Q weaker xs all.1)
 
--- Rows of entries by a number: those of a smaller number come before, so all of them ascend.
+-- A list of entries for each number: if entries of a smaller number come before those of a larger, the joined lists ascend.
 module _ (Q : BlockEntry → Type 0) (number : BlockEntry → ℕ) (h : ℕ → List BlockEntry) (of : (n : ℕ) → AllByRecursion (λ e. Q e × (number e ≡ n)) (h n)) (ascend : (n : ℕ) → IsAscending (h n))
     (before : (d e : BlockEntry) → Q d → Q e → number d < number e → ComesBefore d e) where
   all_small : (n : ℕ) → AllByRecursion (λ e. Q e × (number e < n)) (joined_below n h)

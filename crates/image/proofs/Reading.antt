@@ -78,7 +78,7 @@ module _ (f b : ℕ) where
   here false o = refl
 
 module _ (g : Geometry) (x : State) (is : IsState g x) where
-  -- a block is there only in a file that is, and within the numbers
+  -- a block exists only in a file that exists, and in range
   only_files : (a v f b : ℕ) (o : Option Block) (t : Bool) → x.blocks (a, v, f, b) ≡ o → x.files (a, v, f) ≡ t → (if t && true then o else None) ≡ o
   only_files a v f b o true has there = refl
   only_files a v f b None false has there = refl
@@ -261,7 +261,7 @@ module _ (g : Geometry) (x : State) (is : IsState g x) where
       let same = (bytes_eq-Decides (image_of 2 g x) (image_of 2 g (decoded_state 2 g (image_of 2 g x)))).1 (ap (image_of 2 g) (sym decoded_again)) in
       ap (λ (t : Bool). if t then Some (decoded_state 2 g (image_of 2 g x)) else None) same ∙ ap (λ (y : State). Some y) decoded_again
 
--- what is read is spelled
+-- bytes that are read as a state are its image
 pub spelling : (g : Geometry) (bytes : List ℕ) (x : State) → read g bytes ≡ Some x → bytes ≡ image_of (version_in bytes) g x
 spelling g bytes x is = by (is_image g bytes) refl is
   where

@@ -1,4 +1,4 @@
--- Pieces that are taken in one after the other decode to the same as together.
+-- Pieces that are taken in one after the other decode to the same state as all at once.
 use Rattle.std.proofs.Common.{◌≡◌, ◌≢◌, ℕ, zero, suc, ◌+◌, ◌<◌, ◌≤◌, Bool, true, false, ◌&&◌, List, [], replicate, Option, None, refl, sym, ◌∙◌, ap, arith, ⊎_elim, true≢false}
 use Rattle.std.specs.Prelude.{◌==◌, nat_lt, if◌then◌else◌}
 use Rattle.std.proofs.lemmas.Bool.{cases_lt, and_parts, and_from, lt-ltb, ltb-true, eqb-true, eq-eqb, false_from_ne_true}
@@ -34,7 +34,7 @@ module _ (g : Geometry) (pieces : ℕ → List ℕ) (n i : ℕ) where
   pub no_block_in_zeros : (f b : ℕ) → n ≤ i → block_in g (first_of g pieces n i) f b ≡ None
   no_block_in_zeros f b behind = ap (λ (l : List ℕ). block_in g l f b) (first_behind behind) ∙ ap (λ es. content_at es f b) (no_entries g.quota (piece_size g i))
 
--- one more piece makes no difference at another
+-- with one more piece the others are as before
 first_more : (g : Geometry) (pieces : ℕ → List ℕ) (n i : ℕ) → i ≢ n → first_of g pieces n i ≡ first_of g pieces (suc n) i
 first_more g pieces n i other =
     ⊎_elim
@@ -86,7 +86,7 @@ none_before version g pieces = λ i. record {
 -- ---- one more piece
 
 module _ (version : ℕ) (g : Geometry) (pieces : ℕ → List ℕ) (n : ℕ) (below : n < piece_count g) where
-  -- the key of its volume
+  -- the key of the volume of piece n
   same_volume : (k : VolumeKey) → is_volume (aggregate_of g n) (volume_of g n) k ≡ true → (aggregate_of g n ≡ k.0) × (volume_of g n ≡ k.1)
   same_volume k on =
       let parts = and_parts (aggregate_of g n == k.0) (volume_of g n == k.1) on in
@@ -106,12 +106,12 @@ module _ (version : ℕ) (g : Geometry) (pieces : ℕ → List ℕ) (n : ℕ) (b
       sym (λ i. volume_piece_number g (same.0 i) (same.1 i) + part i) ∙ number_there g n in
       ap (first_of g pieces (suc n)) number ∙ first_there g pieces (suc n) n (omega arith)
 
-  -- where the part is another one
+  -- with piece n, other parts of a volume are as before
   other_part : (a v p : ℕ) → p < pieces_of_volume g → part_of g n ≢ p → first_of g pieces n (volume_piece_number g a v + p) ≡ first_of g pieces (suc n) (volume_piece_number g a v + p)
   other_part a v p few other = first_more g pieces n (volume_piece_number g a v + p)
       (λ same. other (sym (ap (part_of g) same) ∙ part_there g a v p few))
 
-  -- where the volume is another one
+  -- with piece n, other volumes are as before
   other_volume : (k : VolumeKey) (p : ℕ) → p < pieces_of_volume g → is_volume (aggregate_of g n) (volume_of g n) k ≡ false → has_volume g k ≡ true
       → first_of g pieces n (volume_piece_number g k.0 k.1 + p) ≡ first_of g pieces (suc n) (volume_piece_number g k.0 k.1 + p)
   other_volume k p few off there =

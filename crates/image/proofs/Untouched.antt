@@ -120,7 +120,7 @@ module _ (x : State) (i j : ℕ) where
 -- ---- another part
 
 module _ (g : Geometry) (x : State) (is : IsState g x) (a v s : ℕ) where
-  -- A file that is made has no blocks.
+  -- A `create` leaves the piece of each stripe: the file that it makes has no blocks.
   created : (i j k : ℕ) → stripe_piece g (effect x (Create i j k)) a v s ≡ stripe_piece g x a v s
   created i j k = ap (stripe_bytes g.quota)
       (entries_same g (effect x (Create i j k)) x a v s (λ f b on. by f b (x.files (a, v, f)) (x.blocks (a, v, f, b)) refl refl))
@@ -135,7 +135,7 @@ module _ (g : Geometry) (x : State) (is : IsState g x) (a v s : ℕ) where
       by f b false (Some content) out has = absurd
           (true≢false (sym (is.blocks (a, v, f, b) (ap (λ (o : Option Block). is_some o) has)).1 ∙ out))
 
--- one block of another stripe
+-- a block that lies in another stripe is another block
 block_elsewhere : (g : Geometry) {s : ℕ} (i j k l : ℕ) (q : BlockKey) → s ≢ stripe_of g k l → stripe_of g q.2 q.3 ≡ s → is_block i j k l q ≡ false
 block_elsewhere g i j k l q other on =
     by (i == q.0) (j == q.1) (k == q.2) (l == q.3) (λ file block.

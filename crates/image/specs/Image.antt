@@ -44,7 +44,7 @@ is_image g bytes = let version = version_in bytes in is_version version
 abbrev pub read : Geometry → List ℕ → Option State
 read g bytes = if is_image g bytes then Some (decoded_state (version_in bytes) g bytes) else None
 
--- Piece n is that of what the image decodes to.
+-- Piece n is good: it is piece n of the state to which the image decodes.
 abbrev pub is_good : Geometry → List ℕ → ℕ → Bool
 is_good g bytes n = let version = version_in bytes in bytes_eq (piece_in g bytes n) (piece_of version g (decoded_state version g bytes) n)
 

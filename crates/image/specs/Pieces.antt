@@ -37,7 +37,7 @@ volume_of g n = n / pieces_of_volume g % g.volumes
 abbrev pub part_of : Geometry → ℕ → ℕ
 part_of g n = n % pieces_of_volume g
 
--- how many bytes a piece has: of a stripe, an entry for each block that it can hold
+-- how many bytes a piece has; that of a stripe has room for an entry for each block that the stripe can hold
 abbrev pub piece_part_size : Geometry → ℕ → ℕ
 piece_part_size g zero = volume_piece_size
 piece_part_size g (suc s) = g.quota * entry_size
@@ -45,13 +45,13 @@ piece_part_size g (suc s) = g.quota * entry_size
 abbrev pub piece_size : Geometry → ℕ → ℕ
 piece_size g n = piece_part_size g (part_of g n)
 
--- where a piece begins in an image: behind the head and the pieces before
+-- where a piece begins in an image: after the head and the pieces before it
 abbrev pub piece_at : Geometry → ℕ → ℕ
 piece_at g n = image_head_size + sum_below n (piece_size g)
 
 -- ---- how a state is spelled
 
--- the lists of the numbers below n, one after the other
+-- the lists f 0, f 1, .. up to f (n - 1), joined
 abbrev pub joined_below : {X : Type 0} → ℕ → (ℕ → List X) → List X
 joined_below zero f = []
 joined_below (suc n) f = joined_below n f ++ f n
@@ -91,7 +91,7 @@ part_piece version g x a v (suc s) = stripe_piece g x a v s
 abbrev pub piece_of : ℕ → Geometry → State → ℕ → List ℕ
 piece_of version g x n = part_piece version g x (aggregate_of g n) (volume_of g n) (part_of g n)
 
--- ---- what bytes decode to, whatever else they spell
+-- ---- what bytes decode to, whether or not they are the encoding of that
 
 -- n bytes from position `at` on
 abbrev pub bytes_at : ℕ → ℕ → List ℕ → List ℕ
@@ -131,7 +131,7 @@ decoded_by version g pieces =
       labels = λ k. if has_volume g k then label_in version (of_volume k) else None;
     }
 
--- ---- a state with what the bytes of one piece decode to, in the place of what it had there
+-- ---- a state in which one piece is replaced by what bytes decode to
 
 abbrev pub with_volume_piece : ℕ → State → ℕ → ℕ → List ℕ → State
 with_volume_piece version x a v bytes = record {

@@ -24,15 +24,16 @@ pub fn an_image_is_its_spelling()
     ensures { (g : Geometry) (bytes : List ℕ) (x : State) → read g bytes ≡ Some x → bytes ≡ image_of (version_in bytes) g x }
 {}
 
-/// Bytes of an image's length that are read as a state are read as one that keeps all its limits.
+/// If bytes of an image's length are read as a state, that state is a valid one of the geometry (`IsState`).
 pub fn what_is_read_is_a_state()
     ensures { (g : Geometry) (bytes : List ℕ) (x : State) → AreSizedBytes (piece_at g (piece_count g)) bytes
         → read g bytes ≡ Some x → IsState g x }
 {}
 
-/// The pieces of an image can be taken in one after the other, and what was taken in so far shows whether the
-/// last one is good. Good pieces so far decode to a state, with no block of a volume before the volume's piece.
-/// An image is read exactly where its head and all its pieces are good, as the state that these decode to in order.
+/// The pieces of an image can be taken in one after the other. The state with a piece taken in shows whether that piece
+/// is good. The first pieces, if they are good, decode to a valid state. Just before a volume's own piece is taken in,
+/// the state has no block of that volume. An image is read exactly if its head and all its pieces are good, and then as
+/// the state that these decode to in order.
 pub fn an_image_is_read_piece_by_piece()
     ensures state { (g : Geometry) (bytes : List ℕ) → AreSizedBytes (piece_at g (piece_count g)) bytes
         → (n : ℕ) → n ≤ piece_count g → AreGood g bytes n → IsState g (decoded_before (version_in bytes) g bytes n) }
@@ -47,7 +48,8 @@ pub fn an_image_is_read_piece_by_piece()
         → is_some (read g bytes) ≡ true → (has_head bytes ≡ true) × AreGood g bytes (piece_count g) }
 {}
 
-/// Each piece of an image has its size and is at its place, and the last one ends where the image's part of a device ends.
+/// Each piece of an image has its size (`piece_size`) and its place (`piece_at`), and the last one ends where the
+/// image's part of a device ends.
 pub fn an_image_is_cut_into_its_pieces()
     ensures pieces { (version : ℕ) (g : Geometry) (x : State) → IsState g x → (n : ℕ) → n < piece_count g
         → piece_in g (image_of version g x) n ≡ piece_of version g x n }

@@ -9,7 +9,7 @@ ghost use Rattle.device_map.specs.Layout.{entry_size};
 use affinity::Geometry;
 use device_map::{ENTRY_SIZE, IMAGE_HEAD_SIZE, VOLUME_PIECE_SIZE};
 
-/// The version of an image that is written, with which it begins.
+/// The version of the images that are written. An image begins with its version.
 pub const VERSION: u8 = 2;
 
 /// The version before it, which is read too: its volumes have no labels.

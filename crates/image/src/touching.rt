@@ -5,8 +5,8 @@ ghost use Rattle.image.specs.Touched.{may_change, may_change_part};
 use affinity::{Geometry, group_of};
 use messages::Msg;
 
-/// Whether a message may change piece `n` of an image: some of its volume's pieces, and none where it only asks.
-/// All other pieces stay as they are, whatever the reply to it is (`laws::an_untouched_piece_stays`).
+/// Whether a message may change piece `n` of an image. It may change pieces of its own volume alone, and none if it only asks.
+/// A piece that it may not change stays as it is, whatever the reply is (`laws::an_untouched_piece_stays`).
 pub fn touched(g: &Geometry, m: &Msg, n: usize) -> bool
     ensures { result ≡ may_change g.now m.now n }
 {

@@ -41,8 +41,8 @@ few_runs dirty = let few = few_after false dirty in omega (arith, few)
 
 -- ---- an image that is written in order
 
--- After n moments the pieces from n on are still to be looked at, and the bytes between two places are of a run that
--- is still to be written.
+-- The first n pieces were looked at, and the bytes from `from` to `at` are of a run that is still to be written. `start` and `now` are the
+-- device's moment numbers before the first write and now: the runs that are written and those that are left make up all runs.
 pub record RunsLeft (dirty : List Bool) (n from at start now : ℕ) : Type 0 where
   pub begun : from < at → now + 1 + runs_after true (drop n dirty) ≡ start + count_runs dirty
   pub ended : at ≤ from → now + runs_after false (drop n dirty) ≡ start + count_runs dirty
@@ -118,7 +118,7 @@ whole_run [] some all = absurd (omega (arith, some))
 whole_run (true ∷ dirty) some all = ap suc (all_after dirty (λ n few. all (suc n) (omega (arith, few))))
 whole_run (false ∷ dirty) some all = absurd (true≢false (sym (all 0 (omega arith))))
 
--- It is one run.
+-- An image all of whose pieces are dirty is one run.
 pub one_run : (g : Geometry) (dirty : List Bool) → length dirty ≡ piece_count g → AreAllDirty g dirty → count_runs dirty ≡ 1
 one_run g dirty size all =
     let some = some_piece g in
@@ -133,7 +133,7 @@ pub takes_all : {T E : Type 0} (r : Result T E) (n : ℕ) (old new : Medium) →
 takes_all (Ok x) n old new fine takes = takes
 takes_all (Err e) n old new fine takes = absurd (true≢false fine)
 
--- one that only reads
+-- a call that only reads adds no moment
 pub no_call : (old new : Medium) → moments new ≡ moments old → moment_number new ≡ moment_number old
 no_call old new same = let all = ap (λ (ms : List Moment). length ms) same in omega (arith, all)
 
@@ -145,7 +145,7 @@ finish_few g c = few (chain (layout_of g) (named_area (layout_of g) c) c == 1)
     few true = omega arith
     few false = omega arith
 
--- whether it finishes a cut is what the loading gives
+-- whether an opening finishes a cut is what loading the named area has reported
 pub finish_is : (g : Geometry) (c : List ℕ) (area : ℕ) (told chained : Bool) (x : State) → told ≡ chained → NamedHolds g c area told x → finish_cost g c ≡ if chained then 4 else 0
 finish_is g c area told chained x is held =
     sym (ap (λ (b : Bool). if b then 4 else 0) (held.chain ∙ ap (λ (n : ℕ). chain (layout_of g) n c == 1) held.named)) ∙ ap (λ (b : Bool). if b then 4 else 0) is

@@ -39,7 +39,7 @@ forced_more g {n} {h} {more} {a} {c} is_area is_half recovered_before has =
     ∙ grown_force (decoding g) (layout_of g) h more a c is_half has n is_area recovered_before.current
     ∙ ap (λ (k : ℕ). in_force (layout_of g) k a ++ more) (sym recovered_before.named)
 
--- a part is written that is neither the root zone nor a half
+-- a part other than the root zone and the halves is written
 pub forced_kept : (g : Geometry) (p : ℕ) (a c : List ℕ) → root_part ≢ p → ((h : ℕ) → h < 2 → half_part h ≢ p) → IsSameBut (layout_of g) p a c → records_in g c ≡ records_in g a
 forced_kept g p a c apart halves same =
     let n = named_area (layout_of g) a in

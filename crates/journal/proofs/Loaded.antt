@@ -1,4 +1,4 @@
--- What a device recovers to of which the named area was loaded.
+-- What a device recovers to, once its named area was loaded.
 use Rattle.std.proofs.Common.{◌≡◌, ◌==◌, ◌&&◌, ◌≤◌, ℕ, Bool, true, false, not, List, [], Option, Some, None, is_some, length, refl, sym, ◌∙◌, ap, subst, true≢false}
 use Rattle.std.specs.Prelude.{nat_le}
 use Rattle.std.proofs.lemmas.Bool.{le-leb}
@@ -59,7 +59,7 @@ alone_recovers log m x is synced = record {
       };
 }
 
--- ---- where it has one
+-- ---- where the named half has a chain
 
 module _ (g : Geometry) (c : List ℕ) (n : ℕ) (x : State) (is : NamedHolds g c n true x) where
   follows : (chain (layout_of g) n c == 1) ≡ true
@@ -94,7 +94,7 @@ unfinished_cut log m x bytes is synced is_state spelled = record {
       ∙ sym (ap (λ (o : Option State). run_on log.geometry o (front (layout_of log.geometry) log.named m.now)) is.decoded ∙ is.ran);
 }
 
--- ---- a test the other way round
+-- ---- a test by the code's negation of it
 
 pub not_on : (t : Bool) → not t ≡ true → t ≡ false
 not_on true is = absurd (true≢false (sym is))
@@ -104,7 +104,7 @@ pub not_off : (t : Bool) → not t ≡ false → t ≡ true
 not_off true is = refl
 not_off false is = absurd (true≢false is)
 
--- ---- as the log has it, on the device that was only read
+-- ---- the same by the log's geometry and named half, on the device after it was only read
 
 abbrev pub loaded_log : Geometry → ℕ → Log
 loaded_log g n = with_half_named n (new_log g)
@@ -132,7 +132,7 @@ pub record HasRoom (g : Geometry) (p : Parts) : Type 0 where
   pub other_dirty : length p.other_dirty.items ≡ piece_count g
   pub all : AreAllDirty g p.other_dirty.items
 
--- loaded with this log, of parts that had the room that it asks for
+-- parts q are loaded, with this log, if they keep the buffers of p, which have the sizes that the log's geometry asks for
 pub are_loaded : {p q : Parts} {log : Log} {m : Medium} → q.halves ≡ log → log.failed ≡ false → log.current ≡ log.named → IsWholeTree q.tree
     → q.tree.geometry ≡ log.geometry → KeepsBuffers p q → HasRoom log.geometry p → device_size (layout_of log.geometry) ≤ length m.now → AreLoaded q m
 are_loaded {q} {log} {m} is_log not_failed current_is_named tree geometry kept room long_enough =
@@ -151,7 +151,7 @@ are_loaded {q} {log} {m} is_log not_failed current_is_named tree geometry kept r
           (subst (λ (row : List Bool). AreAllDirty log.geometry row) (sym (λ i. (kept.other_dirty i).items)) room.all);
     }
 
--- once the last point is made
+-- once the point that ends an opening is made
 pub made : {p q r : Parts} {w2 w3 : Medium} → AreUnloaded p → q.halves.geometry ≡ p.tree.geometry → KeepsBuffers p q → AreLoaded q w2 → KeepsBuffers q r
     → r.tree ≡ q.tree → r.halves ≡ pointed_log q.halves → length w3.now ≡ length w2.now → IsMade r w3
 made {p} {q} {r} {w3} taken same room loaded room' tree log long =

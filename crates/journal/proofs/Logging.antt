@@ -73,7 +73,7 @@ half_below g n h x m are recovers =
     let is_area = named_below g n h x m are recovers in
     subst (λ (k : ℕ). k < 2) (recovers m.now (itself m.now m.unsynced are)).current (current_below n (eqb (chain (layout_of g) n m.now) 1) is_area)
 
--- what none of these messages touches stays, and what they lead to is a state
+-- an extent that none of these messages touches stays; and what they make of a state of this geometry is one, too (`IsState`)
 one_stays : (g : Geometry) (x : State) (m : Msg) (n : ℕ) → IsState g x → may_change g m n ≡ false → extent_of g (next_state g x m) n ≡ extent_of g x n
 one_stays g x m zero is off = ap (λ (l : List ℕ). image_head 2 ++ l) (piece_stays 2 g x is m 0 off)
 one_stays g x m (suc n) is off = piece_stays 2 g x is m (suc n) off
@@ -106,13 +106,13 @@ recoverable_of {log} {m} sound = record {
       omega (arith, count, most);
 }
 
--- the same of a log, a snapshot and flags that are equal to these
+-- a journal is sound if one with an equal log, snapshot, flags and count of pieces left is
 pub sound_along : {log log' : Log} {snapshot snapshot' : List ℕ} {named named' others others' pending : List Bool} {pieces_left pieces_left' : Option ℕ} {m : Medium} → log' ≡ log
     → snapshot' ≡ snapshot → named' ≡ named → others' ≡ others → pieces_left' ≡ pieces_left → IsSoundJournal log snapshot named others pending pieces_left m
     → IsSoundJournal log' snapshot' named' others' pending pieces_left' m
 sound_along {pending} {m} log bytes row row' pieces_left sound = subst (λ (t : Type 0). t) (sym (λ i. IsSoundJournal (log i) (bytes i) (row i) (row' i) pending (pieces_left i) m)) sound
 
--- how many records there are is no fact of a cut
+-- what holds of a cut doesn't depend on how many records the log counts in the current half
 cut_used : (log : Log) (used : ℕ) (snapshot : List ℕ) (pending : List Bool) (pieces_left : Option ℕ) (m : Medium) → IsCutIfRunning log snapshot pending pieces_left m
     → IsCutIfRunning (record log { used = used }) snapshot pending pieces_left m
 cut_used log used snapshot pending None m cut = tt
@@ -176,7 +176,7 @@ module _ {log : Log} {snapshot : List ℕ} {named others pending : List Bool} {p
     images : (i : ℕ) → i < 2 → image_in log.geometry i w1 ≡ image_in log.geometry i w0
     images i is_image = has.has.same.others (image_part i) (λ same. omega (arith, same, is_half))
 
-    -- whichever image it is
+    -- the image after the cut stays, be it the other image or, during a cut, the snapshot
     still_coming : (pieces_left : Option ℕ) → image_after_cut log snapshot pieces_left w1 ≡ image_after_cut log snapshot pieces_left w0
     still_coming None = images (other log.named) (omega arith)
     still_coming (Some k) = refl

@@ -31,7 +31,7 @@ pub still_read : (g : Geometry) (w0 w1 : Medium) → IsSynced w0 → moments w1 
 still_read g w0 w1 synced only =
     same w0 w0 w1 _ (started w0 _ (λ c left. ap (recovered_state g) (synced_left w0 c synced left))) only
 
--- one sequence of calls after another, on the bytes that recover to the same
+-- one sequence of calls after another: what is left recovers to the same as before the first one
 pub still_then : (g : Geometry) (w0 w1 w2 : Medium) → AreBytes w1.now → RecoversStill g w0 w1 → RecoversStill g w1 w2 → RecoversStill g w0 w2
 still_then g w0 w1 w2 are first second =
     then w0 w1 w2 _ first
@@ -40,7 +40,7 @@ still_then g w0 w1 w2 are first second =
 pub still_now : (g : Geometry) (w0 w1 : Medium) → AreBytes w1.now → RecoversStill g w0 w1 → recovered_state g w1.now ≡ recovered_state g w0.now
 still_now g w0 w1 are moments = leaves_now w0 w1 _ moments w1.now (itself w1.now w1.unsynced are)
 
--- what recovers to the same by the geometry of the header, and is refused alike
+-- what recovers to the same and is refused for the same fault by the geometry of the header does so by any geometry
 recovers_by_area : (g : Geometry) (before c : List ℕ) → HasHeader g before → device_size (layout_of g) ≤ length before → recovered_state g c ≡ recovered_state g before
     → ((fault : OpenFault) → refused g before ≡ Some fault → HasHeader g c × (refused g c ≡ Some fault)) → RecoversAsBefore before c
 recovers_by_area g before c head fits is alike = record {
@@ -90,13 +90,13 @@ alike_after g w0 w1 w2 head synced only later =
     then w0 w1 w2 _ (alike_read g w0 w1 head synced only)
     (weaker w1 w2 _ _ later (λ c is. record { header = is.header; refused = is.refused ∙ ap (λ (l : List ℕ). refused g l) (same_bytes w0 w1 only) }))
 
--- one that is refused or not
+-- a device, refused or not, of which what a crash leaves recovers to the same and is refused alike
 pub as_alike : (g : Geometry) (w0 w1 : Medium) → HasHeader g w0.now → device_size (layout_of g) ≤ length w0.now → RecoversStill g w0 w1
     → CrashImagesAre w0 w1 (IsRefusedAlike g w0.now) → CrashImagesAre w0 w1 (RecoversAsBefore w0.now)
 as_alike g w0 w1 head fits still alike =
     weaker w0 w1 _ _ (both_leave w0 w1 _ _ still alike) (λ c is. recovers_by_area g w0.now c head fits is.0 (λ fault was. (is.1.header, is.1.refused ∙ was)))
 
--- one that isn't
+-- a device that isn't refused, of which what a crash leaves recovers to the same
 pub as_still : (g : Geometry) (w0 w1 : Medium) → HasHeader g w0.now → device_size (layout_of g) ≤ length w0.now → refused g w0.now ≡ None
     → RecoversStill g w0 w1 → CrashImagesAre w0 w1 (RecoversAsBefore w0.now)
 as_still g w0 w1 head fits fine still = weaker w0 w1 _ _ still (λ c is. recovers_by_area g w0.now c head fits is (λ fault was. none_some (sym fine ∙ was)))
@@ -104,7 +104,7 @@ as_still g w0 w1 head fits fine still = weaker w0 w1 _ _ still (λ c is. recover
     none_some : {T : Type 0} {fault : OpenFault} → None ≡ Some fault → T
     none_some is = cc
 
--- after the device was read
+-- calls after a read: from before the read on, what a crash leaves recovers to the same
 pub still_after : (g : Geometry) (w0 w1 w2 : Medium) → IsSynced w0 → moments w1 ≡ moments w0 → RecoversStill g w1 w2 → RecoversStill g w0 w2
 still_after g w0 w1 w2 synced only still =
     then w0 w1 w2 _ (still_read g w0 w1 synced only) (weaker w1 w2 _ _ still (λ c is. is ∙ ap (recovered_state g) (same_bytes w0 w1 only)))
@@ -128,7 +128,7 @@ all_unwritten (BadPiece n) w0 w1 is own = is
 all_unwritten BadChain w0 w1 is own = is
 all_unwritten (BadRecord h i) w0 w1 is own = λ g head. ((λ named. is), (λ behind. absurd (behind (own g))))
 
--- what was refused behind, seen from before
+-- what a bad record after a cut leaves of w1 (`IsBadAfterCut`), it leaves of w0, which has the same bytes
 pub behind_from : (g : Geometry) (h i : ℕ) (w0 w1 w2 : Medium) → w1.now ≡ w0.now → IsBadAfterCut g h i w1 w2 → IsBadAfterCut g h i w0 w2
 behind_from g h i w0 w1 w2 now b = record {
   named = b.named;
@@ -138,7 +138,7 @@ behind_from g h i w0 w1 w2 now b = record {
   refused = b.refused;
 }
 
--- what is bad, seen from before
+-- the same of any fault after a cut (`IsFaultAfterCut`)
 pub bad_from : (g : Geometry) (h : ℕ) (e : OpenFault) (w0 w1 w2 : Medium) → w1.now ≡ w0.now → IsFaultAfterCut g h w1 w2 e → IsFaultAfterCut g h w0 w2 e
 bad_from g h Device w0 w1 w2 now bad = tt
 bad_from g h (BadRecord k i) w0 w1 w2 now bad = (bad.0, behind_from g k i w0 w1 w2 now bad.1)
@@ -150,7 +150,7 @@ bad_from g h BadVersion w0 w1 w2 now bad = bad
 bad_from g h (BadPiece n) w0 w1 w2 now bad = bad
 bad_from g h BadChain w0 w1 w2 now bad = bad
 
--- a bad record of the other half
+-- a fault after a cut leaves what a refusal may leave (`IsRefusedUnwritten`)
 pub bad_behind : {n : ℕ} → (e : OpenFault) (w0 w1 : Medium) (g : Geometry) → n < 2 → n ≡ named_area (layout_of g) w0.now → HasHeader g w0.now → IsFaultAfterCut g (other n) w0 w1 e
     → IsRefusedUnwritten w0 e w1
 bad_behind Device w0 w1 g is_area named head bad = tt
@@ -164,7 +164,7 @@ bad_behind BadVersion w0 w1 g is_area named head bad = absurd bad
 bad_behind (BadPiece k) w0 w1 g is_area named head bad = absurd bad
 bad_behind BadChain w0 w1 g is_area named head bad = absurd bad
 
--- nothing is unsynced then
+-- after a fault that follows a cut nothing is unsynced, unless the device failed
 pub bad_synced : (g : Geometry) (h : ℕ) (e : OpenFault) (w0 w1 : Medium) → e ≢ Device → IsFaultAfterCut g h w0 w1 e → IsSynced w1
 bad_synced g h Device w0 w1 other bad = absurd (other refl)
 bad_synced g h (BadRecord k i) w0 w1 other bad = bad.1.synced
@@ -176,7 +176,7 @@ bad_synced g h BadVersion w0 w1 other bad = absurd bad
 bad_synced g h (BadPiece n) w0 w1 other bad = absurd bad
 bad_synced g h BadChain w0 w1 other bad = absurd bad
 
--- seen from before the device was only read, or synced
+-- what a refusal leaves of w1 (`IsRefusedUnwritten`), it leaves of w0, which has the same bytes, if `IsUnwritten` is handed on so
 pub unwritten_from : (e : OpenFault) (w0 w1 w2 : Medium) → w1.now ≡ w0.now → (IsUnwritten w1 w2 → IsUnwritten w0 w2) → IsRefusedUnwritten w1 e w2 → IsRefusedUnwritten w0 e w2
 unwritten_from Device w0 w1 w2 now from is = tt
 unwritten_from TooShort w0 w1 w2 now from is = from is
@@ -239,7 +239,7 @@ alone_finished {log} {w0} {w1} {w2} are still held finished only =
       recovers = subst (λ (o : Option State). RecoversByArea log.geometry (other log.named) (other log.named) o w2) (sym now) (λ c left. finished.recovers c (leaves_read w1 w2 only c left));
     }
 
--- ---- the answer of a call that is handed on
+-- ---- the result of a call, from which a weaker fact follows
 
 pub if_ok : {T E : Type 0} (r : Result T E) (P Q : T → Type 0) → ((v : T) → P v → Q v) → IfOk r P → IfOk r Q
 if_ok (Ok v) P Q gives held = gives v held
@@ -257,8 +257,8 @@ pub record FinishedAndRefused (g : Geometry) (h : ℕ) (old new : Medium) : Type
   pub image : read g (image_in g h new) ≡ area_state g (named_area (layout_of g) old.now) old.now
   pub synced : IsSynced new
 
--- A record that can't be run is one of the half whose records are run, once the cut before it is finished: its area is named,
--- and the device is refused for it as it was.
+-- A cut was finished, and a record of half h behind it can't be run, or the device failed. In the first case the area of half h is named
+-- now, and the device is refused for this record, as it was before.
 pub bad_half : {g : Geometry} {h : ℕ} → (o : Option ℕ) → {w0 w2 : Medium} → (e : OpenFault) → e ≢ OutOfMemory
     → IsConsistentFault (fault_or_later (BadRecord h) o None) e → HasHeader g w0.now → IsRefused w0.now e → FinishedAndRefused g h w0 w2 → IsFaultAfterCut g h w0 w2 e
 bad_half o Device some is head why done = tt

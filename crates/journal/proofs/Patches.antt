@@ -17,7 +17,7 @@ use Rattle.oplog.proofs.Slices.{same_but_both, same_but_none, image_sized, part_
 
 -- ---- lists of bytes
 
--- the first of them are written, and the others are as they were
+-- the first `from` bytes are written, and the others are as they were
 pub record UpTo (from : ℕ) (bytes old new : List ℕ) : Type 0 where
   pub done : take from new ≡ take from bytes
   pub rest : drop from new ≡ drop from old
@@ -70,7 +70,7 @@ image_long g area m is_area whole =
     length-take-le (part_size (layout_of g) (image_part area)) (drop (part_at (layout_of g) (image_part area)) m.now)
     (omega (arith, inside, whole, length-drop (part_at (layout_of g) (image_part area)) m.now)) ∙ sized
 
--- So many bytes of the image are written, and nothing else has changed.
+-- The first `from` bytes of the image are written, and nothing else has changed.
 pub record IsPatched (g : Geometry) (area from : ℕ) (bytes : List ℕ) (old new : Medium) : Type 0 where
   pub moments : CrashesChangeOnly old new (IsSameBut (layout_of g) (image_part area))
   pub same : IsSameBut (layout_of g) (image_part area) old.now new.now
@@ -112,7 +112,7 @@ patch_passed {g} {area} n dirty {bytes} {w0} {w} agree few clean is ends so_far 
           (subst (λ (a : ℕ). slice (image_in g area w0) a (extent_size g n) ≡ slice bytes a (extent_size g n)) (sym is) (agree n few clean));
     }
 
--- all of it, and a sync
+-- all of the image is written, and then synced
 pub patch_synced : {g : Geometry} {area : ℕ} {bytes : List ℕ} {w0 w w1 : Medium} → area < 2 → length bytes ≡ image_size g
     → device_size (layout_of g) ≤ length w0.now → IsPatched g area (image_size g) bytes w0 w → w1 ≡ synced w → Imaged g area bytes w0 w1
 patch_synced {g} {area} {bytes} {w0} {w} is_area size whole so_far syncs =

@@ -38,7 +38,7 @@ piece_left log pending (Some l) n {count} some placed dirty_at is =
     let one : l - 1 ≡ count = omega (arith, fewer, is, placed.1) in
     ap (λ (k : ℕ). Some k) one
 
--- one fewer, and those are the ones that are pending then
+-- one fewer is left: as many as are pending once this one isn't
 pub piece_counted : (log : Log) (pending : List Bool) (pieces_left : Option ℕ) (n : ℕ) → {fewer : ℕ} → is_some pieces_left ≡ true → IsCutState log pending pieces_left
     → get_or pending n false ≡ true → fewer ≡ unwrap_or pieces_left 0 - 1 → fewer ≡ count_dirty (set pending n false)
 piece_counted log pending None n some placed dirty_at is = absurd (true≢false (sym some))
@@ -129,7 +129,7 @@ module _ {log : Log} {snapshot : List ℕ} {named others pending : List Bool} {p
           };
         }
 
--- what it changes, in the words of contracts
+-- the write changes one piece of the image that isn't named, in the words of contracts
 pub patches_one : {g : Geometry} {n k : ℕ} {bytes : List ℕ} {w0 w1 : Medium} → named_area (layout_of g) w0.now ≡ n → IsPieced g (other n) k bytes w0 w1
     → PatchesUnnamed g w0.now w1.now
 patches_one {g} {k} {w0} {w1} named pieced =

@@ -12,16 +12,17 @@ pub extent_next : (g : Geometry) (n : ℕ) → extent_at g (suc n) ≡ extent_at
 extent_next g zero = omega arith
 extent_next g (suc n) = omega arith
 
--- the same where the next number is given by a sum
+-- each part of a volume has a piece of at least one byte
 part_some : (g : Geometry) (p : ℕ) → 0 < piece_part_size g p
 part_some g zero = omega arith
 part_some g (suc s) = let some : 1 ≤ g.quota = g.quota_range.0 in omega (arith, some)
 
--- It has some bytes.
+-- An extent has at least one byte.
 pub extent_some : (g : Geometry) (n : ℕ) → 0 < extent_size g n
 extent_some g zero = omega arith
 extent_some g (suc n) = part_some g (part_of g (suc n))
 
+-- an extent ends where the next one begins, whose number is given by a sum
 pub extent_after : (g : Geometry) (n : ℕ) → extent_at g (n + 1) ≡ extent_at g n + extent_size g n
 extent_after g n = let next : n + 1 ≡ suc n = omega arith in ap (extent_at g) next ∙ extent_next g n
 

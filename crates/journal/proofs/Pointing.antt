@@ -107,7 +107,7 @@ module _ (g : Geometry) (n : ℕ) (x : Option State) (is_area : n < 2) (w0 w1 : 
               flipped.same.same.others (image_part n) (λ is. omega (arith, is)) ∙ imaged.same.others (image_part n) (λ is. omega (arith, is, is_area))
               ∙ cleared.same.same.others (image_part n) (λ is. omega (arith, is))
 
--- what is clean before the other half is cleared is so afterwards
+-- extents that are on the device before the other half is cleared are there afterwards
 pub still_clean : (g : Geometry) (n : ℕ) (dirty : List Bool) (bytes : List ℕ) → {h : ℕ} {w0 w1 : Medium} → h < 2 → Cleared (layout_of g) h w0 w1
     → AgreeOnClean g dirty (image_in g n w0) bytes → AgreeOnClean g dirty (image_in g n w1) bytes
 still_clean g n dirty bytes is_half cleared agree =

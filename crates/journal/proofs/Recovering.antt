@@ -74,7 +74,7 @@ and_last true true false is = is
 and_last true false c is = absurd (true≢false (sym is))
 and_last false b c is = absurd (true≢false (sym is))
 
--- where the named half has a chain, the other one has none
+-- where the chain byte of the named half is 1, that of the other half isn't
 pub chain_other : (g : Geometry) (n : ℕ) (c : List ℕ) → n < 2 → is_laid_out (decoding g) (layout_of g) c ≡ true → current_of (layout_of g) n c ≡ other n → eqb (chain (layout_of g) (other n) c) 1
     ≡ false
 chain_other g n c is_area laid follows =
@@ -104,7 +104,7 @@ pub run_none : (g : Geometry) (x : Option State) → run_on g x [] ≡ x
 run_none g None = refl
 run_none g (Some x) = refl
 
--- of both areas, as of one and of the other
+-- what holds of area n and of the other one holds of areas 0 and 1
 pub both_of : (P : ℕ → Type 0) (n : ℕ) → n < 2 → P n → P (other n) → P 0 × P 1
 both_of P zero is_area one another = (one, another)
 both_of P (suc zero) is_area one another = (another, one)

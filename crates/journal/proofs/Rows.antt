@@ -29,12 +29,12 @@ count_next t (false ∷ xs) (suc i) few is = count_next t xs i (omega (arith, fe
 pub count_after : (t : Bool) (xs : List Bool) (i : ℕ) → i < length xs → get_or xs i false ≡ t → count_dirty (take (i + 1) xs) ≡ one_if t + count_dirty (take i xs)
 count_after t xs i few is = let next : i + 1 ≡ suc i = omega arith in ap (λ (n : ℕ). count_dirty (take n xs)) next ∙ count_next t xs i few is
 
--- one number more before which no flag is set
+-- no flag before n + 1 is set if none before n is, and that of n isn't
 pub clear_next : (n : ℕ) (xs : List Bool) → get_or xs n false ≡ false → AreCleanBefore n xs → AreCleanBefore (n + 1) xs
 clear_next n xs off so_far i few =
     ⊎_elim (λ (less : i < n). so_far i less) (λ (more : n ≤ i). let here : i ≡ n = omega (arith, few, more) in ap (λ (k : ℕ). get_or xs k false) here ∙ off) (cases_lt i n)
 
--- the one at which the looking ended is cleared too
+-- nor if flag n is cleared
 pub clear_set : (n : ℕ) (xs : List Bool) → n < length xs → AreCleanBefore n xs → AreCleanBefore (n + 1) (set xs n false)
 clear_set n xs few so_far =
     clear_next n (set xs n false) (get_or-set_same xs n false false few)
@@ -50,7 +50,7 @@ count_most [] = omega arith
 count_most (true ∷ xs) = let most = count_most xs in omega (arith, most)
 count_most (false ∷ xs) = let most = count_most xs in omega (arith, most)
 
--- one flag fewer
+-- clearing a set flag takes one from the count
 pub count_cleared : (xs : List Bool) (n : ℕ) → get_or xs n false ≡ true → suc (count_dirty (set xs n false)) ≡ count_dirty xs
 count_cleared [] n is = absurd (true≢false (sym is))
 count_cleared (true ∷ xs) zero is = refl
@@ -79,7 +79,7 @@ module _ (g : Geometry) (xs ys : List ℕ) (agree : (n : ℕ) → n < piece_coun
       sym (take_all (extent_at g (piece_count g)) xs (omega (arith, long, end))) ∙ first_agree (piece_count g) (omega arith)
       ∙ take_all (extent_at g (piece_count g)) ys (omega (arith, long', end))
 
--- what is left of a list that is written over whole
+-- a list of `len` items after `new` was written over it from its start on
 abbrev pub whole_items : {X : Type 0} → ℕ → List X → List X → List X
 whole_items len new old = take len (new ++ drop (length new) old)
 
@@ -89,7 +89,7 @@ whole_put len new old size size' =
 
 -- ---- flags of what messages touch
 
--- one piece more is looked at: dirty where the message touches it, else as it was
+-- The first k pieces were looked at: each is dirty where it was or the message touches it. The others are as they were.
 pub record AreMarked (g : Geometry) (m : Msg) (k : ℕ) (old new : List Bool) : Type 0 where
   pub size : length new ≡ length old
   pub dirty_at : (i : ℕ) → i < k → (get_or new i true ≡ false) ↔ ((get_or old i true ≡ false) × (may_change g m i ≡ false))

@@ -42,14 +42,14 @@ module _ (g : Geometry) (x : Option State) (y : State) (snapshot : List ℕ) (is
   pub snapshot_agrees : (dirty : List Bool) (bytes : List ℕ) → IsUpToDate g x dirty bytes → AgreeOnClean g dirty bytes snapshot
   snapshot_agrees dirty bytes fresh n few clean = fresh y is n few clean ∙ sym (snapshot_is g y is_state n few) ∙ sym (ap (λ (l : List ℕ). extent_in g l n) spelled)
 
--- where all is dirty there is nothing that has to be right
+-- where all pieces are dirty, no piece has to be that of the state
 pub all_right : (g h : Geometry) (y : State) (dirty : List Bool) (bytes : List ℕ) → g ≡ h → AreAllDirty h dirty → AreCleanPiecesOf g y dirty bytes
 all_right g h y dirty bytes same all =
     subst (λ (z : Geometry). AreCleanPiecesOf z y dirty bytes) (sym same) (λ n few clean. absurd (true≢false (sym (all n few) ∙ clean)))
 
 -- ---- of a journal with no cut in progress
 
--- the last snapshot, where it is clean
+-- the clean pieces of the last snapshot are those of the state
 pub snapshot_right : {log : Log} {snapshot : List ℕ} {named others pending : List Bool} {pieces_left : Option ℕ} {w0 : Medium} {y : State} {g : Geometry} {dirty : List Bool} {bytes : List ℕ}
     → pieces_left ≡ None → IsSoundJournal log snapshot named others pending pieces_left w0 → recovered_state log.geometry w0.now ≡ Some y
     → g ≡ log.geometry → dirty ≡ named → bytes ≡ snapshot → AreCleanPiecesOf g y dirty bytes

@@ -59,7 +59,7 @@ rest_put at k bytes part inside size =
     ∙ drop_at (take at bytes ++ part) (drop k (drop at bytes)) (at + k) (length-append (take at bytes) part ∙ (λ i. length-take-le at bytes inside i + size i))
     ∙ drop-drop k at bytes
 
--- the same from one place on
+-- what is as it was from one place on is so from a later one on
 pub rest_more : (at k : ℕ) (now old : List ℕ) → drop at now ≡ drop at old → drop (at + k) now ≡ drop (at + k) old
 rest_more at k now old same = sym (drop-drop k at now) ∙ ap (drop k) same ∙ drop-drop k at old
 
@@ -68,7 +68,7 @@ pub piece_there : (g : Geometry) (x : State) (n : ℕ) (bytes : List ℕ) → ex
 piece_there g x zero bytes is = sym (drop-take 64 (piece_size g 0) bytes) ∙ ap (drop 64) is ∙ drop_at (image_head 2) (piece_of 2 g x 0) 64 refl
 piece_there g x (suc n) bytes is = is
 
--- An image with its head has the extents that it had.
+-- Once the head is written, each clean extent is still that of the state.
 pub headed : (g : Geometry) (x : State) (dirty : List Bool) (old new : List ℕ) → take 64 new ≡ image_head 2 → drop 64 new ≡ drop 64 old → AreCleanPiecesOf g x dirty old
     → AreCleanPiecesOf g x dirty new
 headed g x dirty old new head rest right zero few clean =
@@ -78,7 +78,7 @@ headed g x dirty old new head rest right (suc n) few clean =
 
 -- ---- one piece after the other
 
--- The first pieces are those of a state, and the rest is as it was: where what is clean was right at first.
+-- The first n pieces are done, and the rest is as it was at first. If the clean pieces were those of the state then, the first n are now.
 pub record IsSnapshotTo (g : Geometry) (x : State) (dirty : List Bool) (first : List ℕ) (n at : ℕ) (bytes : List ℕ) : Type 0 where
   pub place : at ≡ piece_at g n
   pub size : length bytes ≡ length first
@@ -90,7 +90,7 @@ module _ (g : Geometry) (x : State) (dirty : List Bool) (first : List ℕ) (n at
   inside : at + k ≤ length bytes
   inside = let in_image = piece_inside g n few in omega (arith, in_image, long, size, so_far.place, so_far.size)
 
-  -- a dirty piece is spelled
+  -- a dirty piece is encoded
   pub put_one : (k' : ℕ) (part : List ℕ) → k' ≡ k → length part ≡ k → part ≡ piece_of 2 g x n → IsSnapshotTo g x dirty first (n + 1) (at + k) (take at bytes ++ (part ++ drop k' (drop at bytes)))
   put_one k' part same size' is =
       subst (λ (j : ℕ). IsSnapshotTo g x dirty first (n + 1) (at + k) (take at bytes ++ (part ++ drop j (drop at bytes)))) (sym same)

@@ -6,7 +6,7 @@ use Rattle.oplog.specs.Front.{chain}
 use Rattle.device_map.specs.Layout.{layout_of}
 use Rattle.oplog.specs.Recovery.{named_area}
 
--- how many runs of dirty pieces begin among these, where the piece before them is dirty or not
+-- how many runs (of adjacent dirty pieces) begin among these; `before`: whether the piece before them is dirty
 abbrev pub runs_after : Bool → List Bool → ℕ
 runs_after before [] = 0
 runs_after before (false ∷ dirty) = runs_after false dirty

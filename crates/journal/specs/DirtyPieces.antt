@@ -19,7 +19,7 @@ count_dirty [] = 0
 count_dirty (true ∷ dirty) = suc (count_dirty dirty)
 count_dirty (false ∷ dirty) = count_dirty dirty
 
--- The flags after these messages: a piece is clean exactly where it was before and none of the messages touches it.
+-- The flags after these messages: a piece is clean exactly where it was before and none of the messages touches (may change) it.
 abbrev pub DirtiesTouched : Geometry → List Msg → List Bool → List Bool → Type 0
 DirtiesTouched g ms old new = (n : ℕ) → n < piece_count g
     → (get_or new n true ≡ false) ↔ ((get_or old n true ≡ false) × AllByRecursion (λ m. may_change g m n ≡ false) ms)

@@ -51,8 +51,8 @@ image_after_cut log snapshot (Some pieces_left) m = snapshot
 
 -- ---- the journal
 
--- What holds of a journal whose device has not failed and keeps its bytes. The lists are the dirty flags of the named area and
--- of the other one, and the flags of what is pending.
+-- What holds of a journal whose device has not failed and keeps its bytes. `named` and `others` are the dirty flags of the named
+-- image and of the other one; `pending` flags the pieces of a cut that are still to be written.
 pub record IsSoundJournal (log : Log) (snapshot : List ℕ) (named others pending : List Bool)
     (pieces_left : Option ℕ) (m : Medium) : Type 0 where
   pub some : is_some (recovered_state log.geometry m.now) ≡ true

@@ -27,7 +27,8 @@ RecoversByArea g n h x m = CrashRecovers (decoding g) (layout_of g) n h x m
 abbrev pub run_on : Geometry → Option State → List (List ℕ) → Option State
 run_on g x records = run (decoding g) x records
 
--- The device recovers to some state by the named area, with this half as the current one, whatever room that has.
+-- The device recovers to some state, and so does whatever a crash leaves now, by the named area with this half as the current one. How much
+-- room the half has isn't known by it.
 pub record RecoversWith (log : Log) (half : ℕ) (m : Medium) : Type 0 where
   pub some : is_some (recovered_state log.geometry m.now) ≡ true
   pub recovers : RecoversByArea log.geometry log.named half (recovered_state log.geometry m.now) m
@@ -107,7 +108,7 @@ cut_log log = record log { current = other log.named; used = 0; cleared = false 
 abbrev pub flipped_log : Log → Log
 flipped_log log = record log { named = other log.named; cleared = false }
 
--- once a cut that was in progress is finished; what room its half has is known only where it was cleared
+-- once a cut that was in progress is finished; its half counts as empty if it was cleared, else as full, since its room isn't known
 abbrev pub finished_log : Log → Log
 finished_log log = record log {
   named = other log.named;

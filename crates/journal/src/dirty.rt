@@ -67,7 +67,7 @@ fn first_piece(g: &Geometry, m: &Msg) -> usize
     volume_index * (usize::from(g.stripes) + 1)
 }
 
-/// Makes what a message touches dirty, and no more. It touches pieces of its own volume alone, so no others are looked at.
+/// Makes the pieces that a message touches (may change) dirty, and no others. These are of its own volume, so no others are looked at.
 fn dirty_one(g: &Geometry, m: &Msg, dirty: &mut [bool])
     requires size { length dirty.old ≡ piece_count g.now }
     ensures size { length dirty.new ≡ length dirty.old }
@@ -82,7 +82,7 @@ fn dirty_one(g: &Geometry, m: &Msg, dirty: &mut [bool])
     }
 }
 
-/// Makes what these messages touch dirty, and no more.
+/// Makes the pieces that these messages touch (may change) dirty, and no others.
 pub(crate) fn dirty_touched(g: &Geometry, messages: &[Msg], dirty: &mut [bool])
     requires size { length dirty.old ≡ piece_count g.now }
     ensures size { length dirty.new ≡ length dirty.old }

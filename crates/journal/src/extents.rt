@@ -26,8 +26,8 @@ fn extent_size(g: &Geometry, n: usize) -> usize
     }
 }
 
-/// Writes the bytes from `from` to `end` of an image at their place. Until a sync succeeds, a crash may leave any bytes
-/// there. `Device` exactly where the device failed.
+/// Writes the bytes from `from` to `end` of an image (a caller gives a run: adjacent extents) at their place in the image of this area.
+/// Until a sync succeeds, a crash may leave any bytes there. `Device` exactly where the device failed.
 fn write_run<D: Disk>(
     disk: &mut D,
     g: &Geometry,

@@ -50,7 +50,7 @@ pub struct Journal<D: Disk> {
     /// Which pieces of a cut are still to be written.
     pending: Vec<bool>,
 
-    /// No piece before this one is pending: the next one is looked for from here on.
+    /// No piece before this one is pending: the next pending one is looked for from here on.
     next_pending: usize,
 
     /// How many are pending, while a cut is in progress.
@@ -121,7 +121,7 @@ impl<D: Disk> Journal<D> {
         }
     }
 
-    /// Logs these messages, in order, which were carried out one after the other from what is committed.
+    /// Logs these messages, in order: changes that were carried out one after the other, from the committed state on.
     pub fn log(&mut self, messages: &[Msg]) -> Result<(), LogFault>
         requires not_failed { self.old.failed ≡ false }
         requires room { length messages.now ≤ self.old.room }
@@ -194,7 +194,7 @@ impl<D: Disk> Journal<D> {
             self.failed = true;
             return Err(fault);
         }
-        // None of the image that was just written is dirty.
+        // No piece of the image that was just written is dirty.
         swap_and_clear_dirty(&mut self.named_dirty, &mut self.other_dirty);
         Ok(())
     }

@@ -91,8 +91,8 @@ fn first_sync<D: Disk>(disk: &mut D) -> Result<(), OpenFault>
     Ok(())
 }
 
-/// Finishes a cut that was in progress: its state, which the tree holds, is written into the other area, which is then named.
-/// That is the state of the named image with the records of its own half run, without those of the other half.
+/// Finishes a cut that was in progress: an image of its state, which the tree holds, is written into the other area, which is then
+/// named. The state of the cut is that of the named image with the records of the named half run on it, without those of the other half.
 fn finish_cut<D: Disk>(parts: &mut Parts, disk: &mut D) -> Result<(), LogFault>
     requires loaded { AreLoaded parts.old (D.medium disk.old) }
     requires synced { D.keeps → IsSynced (D.medium disk.old) }
@@ -115,7 +115,7 @@ fn finish_cut<D: Disk>(parts: &mut Parts, disk: &mut D) -> Result<(), LogFault>
 }
 
 /// Finishes a cut that was in progress, and then runs the records after it on the tree, which holds the state of the
-/// cut. The other area is then named, and holds the state of the device by itself.
+/// cut. The other area is then named, and its image and its half alone give the state of the device.
 fn finish_cut_and_replay<D: Disk>(parts: &mut Parts, disk: &mut D) -> Result<(), OpenFault>
     requires loaded { AreLoaded parts.old (D.medium disk.old) }
     requires synced { D.keeps → IsSynced (D.medium disk.old) }

@@ -1,4 +1,4 @@
--- What a run answers is a beginning of what was logged, before and in it.
+-- The messages that a run answers are the first of those that were logged before it and in it.
 use Rattle.std.proofs.Common.{◌≡◌, ℕ, ◌≤◌, List, [], ◌∷◌, ◌++◌, refl, ap, sym, ◌∙◌, append_assoc, take, drop}
 use Rattle.std.specs.Prelude.{map, filter}
 use Rattle.std.proofs.lemmas.List.{append-nil, map-append}
@@ -35,7 +35,7 @@ module _ (w : CoreState) where
   one_answered (outcomes.Answered ticket reply) x e = refl
   one_answered _ x e = cc
 
--- Where nothing is answered, none of the outcome's messages is.
+-- An outcome that answers no message, and so gives no reply.
 record Silent (old : CoreState) (o : Outcome) : Type 0 where
   pub none : answered_at old o ≡ []
   pub same : ticket_replies (answered_at old o) ≡ answers o
@@ -43,7 +43,7 @@ record Silent (old : CoreState) (o : Outcome) : Type 0 where
 silent : (old : CoreState) (o : Outcome) → answers o ≡ [] → Silent old o
 silent old o e = record { none = none_answered old o e; same = ap ticket_replies (none_answered old o e) ∙ sym e }
 
--- What an event answers comes before what is logged then.
+-- What was logged before an event, and then what it logs, is the message that it answers, if any, and then what is logged after it.
 pub record Ordered (old new : CoreState) (p : Passed) (o : Outcome) : Type 0 where
   pub order : old.logged ++ p.gone ≡ answered_at old o ++ new.logged
   pub same : ticket_replies (answered_at old o) ≡ answers o
@@ -103,7 +103,7 @@ run_replies g old (event ∷ events) legal =
     ticket_replies-append (answered_at old.core event.outcome) (answered_messages event.state_after events)
     ∙ (λ i. k.same i ++ run_replies g event.state_after events legal.1 i)
 
--- Whatever is left later begins with the changes that were answered.
+-- The changes logged at the start, and then the log that a later crash leaves, begin with all changes that were answered.
 pub answered_left : (g : Geometry) {old : MachineState} {events : List Event} {k after : ℕ} {ms : List Msg} → IsLegal g old events → k ≤ after
     → IsLogAfter old events after ms
     → (rest : List Msg) × (recorded old.core.logged ++ ms ≡ answered_changes old (take k events) ++ rest)

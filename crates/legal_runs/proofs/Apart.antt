@@ -1,4 +1,4 @@
--- No two held messages are at related places: what a dispatch, a return and a log do to them.
+-- No two held messages are at related places: what a dispatch, a return and a log step do to them.
 use Rattle.std.proofs.Common.{◌≡◌, ℕ, ◌+◌, false, List, [], ◌∷◌, ◌++◌, Some, refl, ap, sym, ◌∙◌, subst, append_assoc, length, take, drop}
 use Rattle.std.specs.Prelude.{◌&&◌, ◌==◌, not, nat_lt}
 use Rattle.std.specs.List.{AllByRecursion, list_any}
@@ -63,7 +63,7 @@ back_apart g w ticket found h apart =
     (λ i. sym (entries-append w.ran ((e.0, e.1, reply_to g w.committed e.1) ∷ [])) i ++ sym k.rest i)))
     moved
 
--- A log moves nothing in the row of the held messages.
+-- A log step leaves the list of held messages as it is.
 pub log_held : (g : Geometry) (w : CoreState) (n : ℕ) → held (log g w n) ≡ held w
 log_held g w n =
     ap (λ l. l ++ (entries (drop n w.ran) ++ w.in_flight)) (entries-append w.logged (take n w.ran))

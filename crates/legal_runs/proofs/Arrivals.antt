@@ -24,9 +24,9 @@ use Rattle.legal_runs.proofs.Sound.{move_sound}
 use Rattle.legal_runs.proofs.Idle.{idle_sound, none_in_flight, none_ran, none_logged}
 use Rattle.legal_runs.proofs.Runs.{run_follows, run_answers}
 
--- ---- a run leaves its messages in a row that is as good as that of their arrivals
+-- ---- a run leaves its messages in a list (the row) that is in step with the list of arrivals
 
--- all that arrived: what was logged so far, then what ran, is dispatched and waits
+-- the row: all that arrived, namely what was logged so far, then what ran, what is in flight and what waits
 abbrev pub row : CoreState → List Replied → List Entry
 row w past = entries past ++ (entries w.ran ++ (w.in_flight ++ w.waiting))
 
@@ -41,14 +41,14 @@ any_front : (p : Entry → Bool) (us vs : List Entry) → list_any p (us ++ vs) 
 any_front p [] vs h = refl
 any_front p (u ∷ us) vs h = let k = or_parts (p u) (list_any p (us ++ vs)) h in or_false (p u) (list_any p us) k.0 (any_front p us vs k.1)
 
--- Two rows that are in step stay so where one more comes behind each, and where one of the second moves past unrelated ones.
+-- Two lists in step stay so when the same message is put behind each, and when a message of the second moves forward past unrelated ones.
 pub record KeepsInStep (g : Geometry) (AreInStep : List Entry → List Entry → Type 0) : Type 0 where
   pub push : (es fs : List Entry) (e : Entry) → AreInStep es fs → AreInStep (es ++ e ∷ []) (fs ++ e ∷ [])
   pub moved : (es ps us : List Entry) (e : Entry) (vs : List Entry) → AllByRecursion (λ d. are_related_entries g e d ≡ false) us
       → AreInStep es (ps ++ (us ++ e ∷ vs)) → AreInStep es (ps ++ e ∷ (us ++ vs))
 
 module _ (g : Geometry) (AreInStep : List Entry → List Entry → Type 0) (keeps : KeepsInStep g AreInStep) where
-  -- where nothing is logged and nothing comes
+  -- an event that logs no message, and at which none arrives
   quiet : (new : CoreState) (past : List Replied) (all : List Entry) (gone : List Replied) (come : List Entry) → gone ≡ [] → come ≡ []
       → AreInStep all (row new past) → AreInStep (all ++ come) (row new (past ++ gone))
   quiet new past all gone come e f good =
@@ -64,7 +64,7 @@ module _ (g : Geometry) (AreInStep : List Entry → List Entry → Type 0) (keep
       ∙ ap (λ l. entries past ++ l) (append_assoc (entries w.ran) _ (e ∷ []) ∙ ap
       (λ l. entries w.ran ++ l) (append_assoc w.in_flight w.waiting (e ∷ [])))
 
-  -- a related one with a smaller ticket doesn't wait
+  -- if no message of us is related to e and has a smaller ticket, and all have smaller tickets, none is related to e
   clear_of : (w : CoreState) (e : Entry) (us : List Entry) → list_any (λ d. nat_lt d.0 e.0 && are_related_entries g e d) us ≡ false
       → AllByRecursion (λ d. d.0 < e.0) us → AllByRecursion (λ d. are_related_entries g e d ≡ false) us
   clear_of w e [] h j = tt
@@ -160,7 +160,7 @@ module _ (g : Geometry) (AreInStep : List Entry → List Entry → Type 0) (keep
       (subst (λ l. AreInStep ((all ++ come)
       ++ arrived events) (row (end_state event.state_after events).core l)) (append_assoc past gone (logged_messages event.state_after events)) k)
 
-  -- From none on, all that arrived and the row are in step.
+  -- From a core state without messages on, the list of arrivals and the row are in step.
   pub arrivals_in_step : (old : MachineState) (events : List Event) → IsLegal g old events → IsIdle old.core → AreInStep [] []
       → AreInStep (arrived events) (row (end_state old events).core (logged_messages old events))
   arrivals_in_step old events legal idle start =
@@ -177,7 +177,7 @@ good_in_step g x = record {
 
 -- ---- none is lost, none is there twice, and related ones stay in order
 
--- The second row has the messages of the first, each as often. Those at related places are by ticket there, if they are so in the first.
+-- The second list has the messages of the first, each as often. Its messages at related places are by ticket, if those of the first are.
 pub record IsReordered (g : Geometry) (es fs : List Entry) : Type 0 where
   pub same : IsPermutation es fs
   pub ordered : EachBefore (InOrderIfRelated g) es → EachBefore (InOrderIfRelated g) fs
@@ -205,7 +205,7 @@ arrivals_reordered g old events legal idle =
 
 -- ---- tickets are given in order
 
--- from this ticket on
+-- The entry's ticket is n or a later one.
 abbrev IsFrom : ℕ → Entry → Type 0
 IsFrom n e = n ≤ e.0
 
@@ -258,7 +258,7 @@ each_less : (es : List Entry) → AreAscending es → AreEachLess es
 each_less [] h = tt
 each_less (e ∷ es) h = (h.0, each_less es h.1)
 
--- So they are in order already.
+-- So sorting them by ticket changes nothing.
 pub arrived_by_ticket : (g : Geometry) (old : MachineState) (events : List Event) → IsLegal g old events
     → by_ticket (arrived events) ≡ arrived events
 arrived_by_ticket g old events legal = by_ticket-ascending (arrived events) (each_less (arrived events) (run_ascending g old events legal))
@@ -273,14 +273,14 @@ module _ (g : Geometry) (old : MachineState) (events : List Event) (legal : IsLe
       subst (λ l. IsAsGood g x l (row (end_state old events).core (logged_messages old events))) (sym (arrived_by_ticket g old events legal))
       (arrivals_in_step g (IsAsGood g x) (good_in_step g x) old events legal idle (good_itself g x []))
 
-  -- Each reply to a message that the run logs is that of the serial server to the messages by ticket.
+  -- Each reply to a message that the run logs is one that the serial server gives to the messages by ticket.
   pub logged_by_ticket : (p : ℕ × Reply) → IsIn p (ticket_replies (logged_messages old events)) → IsIn p (serial_replies g old.core.committed (by_ticket (arrived events)))
   logged_by_ticket p is =
       let x = old.core.committed in
       good.tells p (subst (IsIn p) (sym (serial_replies-append g x (entries (logged_messages old events)) _)) (in_left p _ _
       (subst (IsIn p) (sym (run_follows g old events legal h).reply_pairs) is)))
 
-  -- So is each reply that it gives.
+  -- So is each reply that the run gives.
   pub answered_by_ticket : (p : ℕ × Reply) → IsIn p (answered events) → IsIn p (serial_replies g old.core.committed (by_ticket (arrived events)))
   answered_by_ticket p is =
       let all : ticket_replies (logged_messages old events) ≡ answered events ++ ticket_replies (end_state old events).core.logged =

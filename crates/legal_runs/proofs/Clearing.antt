@@ -1,4 +1,4 @@
--- Only an answer makes a waiting message conflict-free, and only one to a message that it touches.
+-- Only the answer to a message at a related place makes a waiting message conflict-free.
 use Rattle.std.proofs.Common.{◌≡◌, ℕ, ◌<◌, Bool, true, false, List, [], ◌∷◌, ◌++◌, Some, refl, ap, sym, ◌∙◌, subst, append_assoc, ⊎_elim, arith}
 use Rattle.std.specs.Prelude.{◌&&◌, ◌||◌, ◌==◌, not, nat_lt}
 use Rattle.std.specs.List.{AllByRecursion, list_any}
@@ -35,7 +35,7 @@ or_nothing true = refl
 or_nothing false = refl
 
 module _ (g : Geometry) (e : Entry) where
-  -- the waiting ones that come before it
+  -- whether message d keeps e back if it waits: it has a smaller ticket, and a related place
   abbrev comes_before : Entry → Bool
   comes_before d = nat_lt d.0 e.0 && are_related_entries g e d
 
@@ -55,7 +55,7 @@ module _ (g : Geometry) (e : Entry) where
       (λ b. list_any comes_before w.waiting || (b || false)) (later d (omega (arith, given, next)))
       ∙ or_nothing (list_any comes_before w.waiting))
 
-  -- Where it is related to the one that goes, that one's ticket is the smaller one.
+  -- If e is related to the message that is dispatched, that message has the smaller ticket.
   goes_first : (w : CoreState) (found : Entry × List Entry) → IsSoundCoreState g w → next_eligible g w ≡ Some found → IsIn e found.1
       → are_related_entries g e found.0 ≡ true → nat_lt found.0.0 e.0 ≡ true
   goes_first w found h first is touching =

@@ -17,7 +17,7 @@ legal_first g old events zero legal = tt
 legal_first g old [] (suc k) legal = tt
 legal_first g old (event ∷ events) (suc k) legal = (legal.0, legal_first g event.state_after events k legal.1)
 
--- the first events append a beginning of what more of them append
+-- what the first k events append is a prefix of what the first `after` events append
 pub appended_first : (old : MachineState) (events : List Event) (k after : ℕ) → k ≤ after
     → (rest : List Msg) × (appended_messages old (take after events) ≡ appended_messages old (take k events) ++ rest)
 appended_first old events zero after le = (appended_messages old (take after events), refl)
@@ -28,7 +28,7 @@ appended_first old (event ∷ events) (suc k) (suc after) le =
     let now = appended_at old.core event.step event.device_failed in
     (j.0, ap (λ l. now ++ l) j.1 ∙ sym (append_assoc now (appended_messages event.state_after (take k events)) j.0))
 
--- and log a beginning of what more of them log
+-- so it is with what they log
 pub went_first : (old : MachineState) (events : List Event) (k after : ℕ) → k ≤ after
     → (rest : List Replied) × (logged_messages old (take after events) ≡ logged_messages old (take k events) ++ rest)
 went_first old events zero after le = (logged_messages old (take after events), refl)
@@ -39,7 +39,7 @@ went_first old (event ∷ events) (suc k) (suc after) le =
     let now = logged_at old.core event.step event.device_failed in
     (j.0, ap (λ l. now ++ l) j.1 ∙ sym (append_assoc now (logged_messages event.state_after (take k events)) j.0))
 
--- Whatever is left, the log begins with all that was appended before.
+-- Whatever state a crash leaves, it comes of a log that begins with all that the first k events appended.
 pub left_begins : (g : Geometry) (old : MachineState) (events : List Event) (k : ℕ) (x : State) → IsLeftSince g old events k x
     → (rest : List Msg) × (x ≡ state_after_all g old.core.committed (appended_messages old (take k events) ++ rest))
 left_begins g old events k x left =
@@ -50,7 +50,7 @@ left_begins g old events k x left =
           ∙ append_assoc (appended_messages old (take k events)) j.0 rest),
     )
 
--- It is the committed state with a prefix of the messages to be appended then.
+-- If the next event has not ended, that is the state committed after k events, with a prefix of the messages in doubt then.
 pub left_is_committed : (g : Geometry) (old : MachineState) (events : List Event) (k : ℕ) (ms : List Msg) → IsLegal g old events
     → IsSoundCoreState g old.core → (log : IsLogAfter old events k ms)
     → state_after_all g old.core.committed ms

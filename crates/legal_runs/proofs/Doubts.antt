@@ -1,4 +1,4 @@
--- In `doubt` are the changes among a prefix of those that ran.
+-- In `doubt` are the changes among a prefix of those that ran: here changes are those that were carried out.
 use Rattle.std.proofs.Common.{◌≡◌, ℕ, zero, suc, ◌≤◌, Bool, true, false, List, [], ◌∷◌, refl, ap, sym, ◌∙◌, length, map, take, arith}
 use Rattle.std.specs.Prelude.{cond, filter, if◌then◌else◌}
 use Rattle.std.proofs.lemmas.List.{length-append, length-take-le, take-append-le, take-take}
@@ -32,7 +32,7 @@ none_first : (ran : List Replied) (k : ℕ) → AreOfFirst ran (take k [])
 none_first ran zero = none_of ran
 none_first ran (suc k) = none_of ran
 
--- So are the first of the changes among them.
+-- The first k of the changes among the messages that ran are the changes among a prefix of these messages.
 pub first_changes : (ran : List Replied) (k : ℕ) → AreOfFirst ran (take k (recorded ran))
 first_changes ran zero = none_of ran
 first_changes [] (suc k) = none_of []
@@ -62,7 +62,7 @@ first_changes (a ∷ ran) (suc k) =
 pub no_doubts : (w : CoreState) → w.doubt ≡ [] → DoubtIsPrefixOfRan w
 no_doubts w e = record { some = 0; at_most = omega arith; is = e }
 
--- a prefix of those in `doubt`
+-- A prefix of `doubt` is the changes among a prefix of those that ran.
 pub first_doubts : (w : CoreState) → DoubtIsPrefixOfRan w → (k : ℕ) → AreOfFirst w.ran (take k w.doubt)
 first_doubts w h k =
     let first = first_changes (take h.some w.ran) k in
@@ -81,7 +81,7 @@ move_doubts_ran g old new p (Backs ticket found one_out is e) none = no_doubts n
 move_doubts_ran g old new p (Logs n is e) none = no_doubts new (ap (λ w. w.doubt) is ∙ none)
 move_doubts_ran g old new p (Answers a rest front is e) none = no_doubts new (ap (λ w. w.doubt) is ∙ none)
 
--- Where the device has failed, what ran stays where it is; else nothing was in `doubt`.
+-- An event keeps this: if the device had failed before, what ran stays first in `ran`, and `doubt` stays; else nothing was in `doubt`.
 pub event_doubts_ran : (g : Geometry) (old : MachineState) (event : Event) → IsAllowed g old event → DoubtOnlyAfterFailure old.core
     → DoubtIsPrefixOfRan old.core → DoubtIsPrefixOfRan event.state_after.core
 event_doubts_ran g old event allowed only h = by old.core.failed refl
@@ -122,7 +122,7 @@ next_ran : (w : CoreState) (events : List Event) (k : ℕ) → AreOfFirst w.ran 
 next_ran w [] k = none_first w.ran k
 next_ran w (event ∷ events) k = to_append_ran w event.step k
 
--- a prefix of those that a crash may leave
+-- A prefix of `in_doubt`, which a crash may leave in the log, is the changes among a prefix of those that ran.
 pub crash_doubts_ran : (w : CoreState) → DoubtIsPrefixOfRan w → (events : List Event) (k : ℕ) → AreOfFirst w.ran (take k (in_doubt w events))
 crash_doubts_ran w h events k =
     elim w.failed as (λ b. AreOfFirst w.ran (take k (if b then w.doubt else next_batch w events))) [

@@ -1,4 +1,4 @@
--- What is in a list by recursion is an element of it, and the other way round; and what holds of all holds of it.
+-- `IsIn`, which goes down a list, holds exactly where `Contains`, which gives an index, does; what holds of all elements holds of each.
 use Rattle.std.proofs.Common.{◌≡◌, ℕ, ◌<◌, zero, suc, length, get_or, List, [], ◌∷◌, sym, subst, inl, inr, ⊎_elim, arith}
 use Rattle.std.specs.List.{AllByRecursion, Contains}
 use Rattle.legal_runs.proofs.SerialReplies.{IsIn}
@@ -15,7 +15,7 @@ pub contains_in : {A : Type 0} (xs : List A) (x : A) → IsIn x xs → Contains 
 contains_in [] x h = absurd h
 contains_in (y ∷ ys) x h = ⊎_elim (λ e. (0, omega arith, sym e)) (λ r. let c = contains_in ys x r in (suc c.0, omega (arith, c.1), c.2)) h
 
--- What holds of all holds of each.
+-- What holds of all elements of a list holds of each.
 pub holds_of : {A : Type 0} (P : A → Type 0) (xs : List A) → AllByRecursion P xs → (x : A) → IsIn x xs → P x
 holds_of P [] all x h = absurd h
 holds_of P (y ∷ ys) all x h = ⊎_elim (λ (e : x ≡ y). subst P (sym e) all.0) (λ r. holds_of P ys all.1 x r) h

@@ -154,7 +154,7 @@ they_are_answered_as_they_came_back : (x y : Block) → answers_of (after (two_h
     ≡ outcomes.Logged 1 ∷ outcomes.Answered 1 Done ∷ outcomes.Logged 0 ∷ outcomes.Idle ∷ outcomes.Logged 1 ∷ outcomes.Answered 0 Done ∷ []
 they_are_answered_as_they_came_back x y = refl
 
--- One record is left. What is dispatched and what ran is counted against it, and a question needs none.
+-- The log has room for one record. Changing messages that are in flight or ran count against it; a query needs no room.
 abbrev one_record : MachineState
 one_record = record { core = record (opened 4 with_file) { room = 1 }; hands = Empty ∷ Empty ∷ Empty ∷ [] }
 
@@ -166,7 +166,7 @@ room_is_kept_for_what_ran : (x y : Block) → answers_of one_record
     ∷ outcomes.NoRoom ∷ outcomes.PointRefused points.Held ∷ []
 room_is_kept_for_what_ran x y = refl
 
--- All tickets but one are given, and no slot is there.
+-- The next ticket would be the last one, which is never given; and there is no slot and no hand.
 the_last_ticket_is_not_given : answers_of (record { core = record (opened 0 empty) { next = 2 ^ 64 - 1 }; hands = [] })
     (steps.Arrive AskSummary ∷ steps.Arrive (Read 1 0 0 0) ∷ steps.Grant ∷ [])
     ≡ outcomes.ArriveRefused arrivals.Exhausted ∷ outcomes.ArriveRefused arrivals.Range ∷ outcomes.Idle ∷ []
@@ -196,17 +196,17 @@ a_point_in_progress_is_told_before_what_is_held = refl
 a_point_frees_all_records : (after (one_hand 1 empty) (whole (MakeVol 0 0) ++ (steps.Point ∷ []))).core.room ≡ 4
 a_point_frees_all_records = refl
 
--- three records are free again: the half took four, and one came since the point began
+-- there is room for three records: a half takes four, and one was appended since the cut
 room_after_a_point : (after (one_hand 1 empty) (whole (MakeVol 0 0) ++ (steps.Cut ∷ whole (Create 0 0 0)))).core.room ≡ 3
 room_after_a_point = refl
 
 -- ---- a device that fails
 
--- a volume is to be made, and ran
+-- a machine on which a `makevol` has run and isn't logged yet
 abbrev ran_one : MachineState
 ran_one = after (one_hand 2 empty) (steps.Arrive (MakeVol 0 0) ∷ steps.Grant ∷ steps.Run 0 ∷ steps.Back 0 ∷ [])
 
--- The device failed while it was logged.
+-- that machine, once the device has failed while the message was to be logged
 abbrev failed_one : MachineState
 failed_one = record { core = (fail_step ran_one.core (steps.Log 1)).1; hands = ran_one.hands }
 
@@ -246,7 +246,7 @@ failed_log = record { step = steps.Log 1; outcome = outcomes.LogFault faults.Dev
 failing_is_legal : IsLegal small ran_one (failed_log ∷ [])
 failing_is_legal = (record { touched = refl; core = refl; hands = refl }, tt)
 
--- the same reported for the log of a question
+-- an event like that, but for a log step that has only a query to log
 abbrev false_alarm : Event
 false_alarm = record { step = steps.Log 1; outcome = outcomes.LogFault faults.Device; device_failed = true; state_after = failed_one }
 
@@ -255,7 +255,7 @@ a_log_that_touches_no_device_doesnt_fail : IsAllowed small (after (one_hand 1 em
     → ⊥
 a_log_that_touches_no_device_doesnt_fail h = true≢false (sym h.touched)
 
--- an outcome that reports a failure where none was
+-- an event whose outcome reports a failure of the device, which didn't fail
 abbrev invented : Event
 invented = record { step = steps.Log 1; outcome = outcomes.LogFault faults.Device; device_failed = false; state_after = failed_one }
 
@@ -265,7 +265,7 @@ logged_or_failed e = cc
 a_failure_is_not_invented : IsAllowed small ran_one invented → ⊥
 a_failure_is_not_invented h = logged_or_failed (ap (λ x. x.0) h.does)
 
--- The volume may be there after a crash, or not; it may be while it is logged and when that has failed.
+-- A crash may leave the state without the volume (here: before the log step has ended) or with it (here: after that step has failed).
 nothing_was_written : IsLeftSince small ran_one (failed_log ∷ []) 0 empty
 nothing_was_written = record {
   after = 0;
@@ -287,7 +287,7 @@ the_volume_was_written = record {
   state = refl;
 }
 
--- What was logged and answered during a checkpoint is in the log too.
+-- A volume is made, an online checkpoint begins, and a file is made. A crash after that leaves both.
 abbrev cut_run : List Event
 cut_run = events_of (one_hand 1 empty) (whole (MakeVol 0 0) ++ (steps.Cut ∷ whole (Create 0 0 0)))
 
@@ -334,14 +334,14 @@ module _ (x y : Block) where
     in_order = refl;
   }
 
-  -- To one block they are done by ticket,
+  -- Two writes to one block are done in the order of their tickets,
   abbrev to_one_block : List Entry
   to_one_block = (0, Write 0 0 0 0 x) ∷ (1, Write 0 0 0 0 y) ∷ []
 
   not_turned : IsSerialHistory small with_file to_one_block ((1, Write 0 0 0 0 y, Done) ∷ (0, Write 0 0 0 0 x, Done) ∷ []) → ⊥
   not_turned h = let less = h.by_ticket.0.0 refl in omega (arith, less)
 
-  -- and the first isn't left out.
+  -- and the first isn't left out if the second is done.
   none_left_out : IsSerialHistory small with_file to_one_block ((1, Write 0 0 0 0 y, Done) ∷ []) → ⊥
   none_left_out h =
       let first : Entry = (0, Write 0 0 0 0 x) in

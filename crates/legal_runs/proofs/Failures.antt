@@ -18,7 +18,7 @@ use Rattle.legal_runs.specs.Eligible.{lacks_only_room, next_eligible}
 use Rattle.legal_runs.specs.Events.{Hand, MachineState, Empty, Job, Result, Event, IsAllowed, IsFault, IsWithoutFault, arrive, answer, unfinished_refusal, unless_refused, piece_refusal, point_refusal, flip_refusal, grant_to, run_hand, result_in, back_from, is_empty, apply_step, fail_step, touches_device}
 use Rattle.legal_runs.specs.Laws.{StaysFailed, reports_failure}
 
--- ---- what happens doesn't report a failure, and a fault does
+-- ---- a step during which the device doesn't fail reports no failure, and one during which it fails reports it
 
 either : {A : Type 0} (P : A → Type 0) (b : Bool) (x y : A) → P x → P y → P (if b then x else y)
 either P true x y h j = h
@@ -112,7 +112,7 @@ failure_reported g old event h = by event.device_failed h
     by true f = sym (fault_reported old.core event.step) ∙ ap (λ o. reports_failure o.0) f.core
     by false d = sym (happens_quiet g old d.to_write event.step) ∙ ap (λ o. reports_failure o.0) d.does
 
--- ---- then it has failed
+-- ---- after such a step the core has failed
 
 fault_fails : (w : CoreState) (s : Step) → (fail_step w s).1.failed ≡ true
 fault_fails w (steps.Arrive m) = refl
@@ -134,7 +134,7 @@ failure_fails g old event h device_failed = by event.device_failed h device_fail
     by true f device_failed = ap (λ o. o.1.failed) (sym f.core) ∙ fault_fails old.core event.step
     by false d device_failed = absurd (true≢false (sym device_failed))
 
--- ---- and permanently
+-- ---- and it stays failed
 
 module _ (g : Geometry) (n : ℕ) (state_after : CoreState) (row : List Hand) where
   abbrev stopped : CoreState

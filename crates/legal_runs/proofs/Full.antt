@@ -1,4 +1,4 @@
--- The number of dispatched messages grows and falls with that of full hands.
+-- The number of messages in flight grows and falls with that of full hands.
 use Rattle.std.proofs.Common.{◌≡◌, ℕ, ◌+◌, Bool, true, false, List, [], ◌∷◌, Option, Some, None, refl, ap, sym, ◌∙◌, subst, length, arith}
 use Rattle.std.specs.Prelude.{◌&&◌, not, cond, get_or, if◌then◌else◌, is_some, MatchBool, position, set, slice_get}
 use Rattle.std.proofs.lemmas.List.{length-append, nil_from_length}
@@ -21,7 +21,7 @@ use Rattle.legal_runs.proofs.Outs.{fault_keeps_out, happens_keeps_out}
 abbrev weight : Hand → ℕ
 weight hand = cond (not (is_empty hand)) 1 0
 
--- What a hand is set to counts in the place of what it was.
+-- Where a hand is set to something else, the count of full hands loses the old weight and gets the new one.
 pub full_hands-set : (hands : List Hand) (i : ℕ) (was now : Hand) → slice_get hands i ≡ Some was
     → full_hands (set hands i now) + weight was ≡ full_hands hands + weight now
 full_hands-set hands i was now e =
@@ -29,7 +29,7 @@ full_hands-set hands i was now e =
     let same = ap weight (get_or_from_slice_get hands i was was e) in
     omega (arith, counted, same)
 
--- What `pick` leaves is one shorter.
+-- The list that `pick` leaves is shorter by one.
 pub length-picked : {A : Type 0} (p : A → Bool) (xs : List A) (found : A × List A) → pick p xs ≡ Some found
     → length xs ≡ length found.1 + 1
 length-picked p xs found e =
@@ -38,7 +38,7 @@ length-picked p xs found e =
     let rest = ap length k.rest ∙ length-append k.before k.behind in
     omega (arith, whole, rest)
 
--- As many more or fewer are dispatched as hands are full.
+-- The number of messages in flight has changed by as much as that of full hands.
 abbrev pub Tallies : MachineState → MachineState → Type 0
 Tallies old new = length new.core.in_flight + full_hands old.hands ≡ length old.core.in_flight + full_hands new.hands
 
@@ -103,7 +103,7 @@ last_tallies g old (event ∷ events) legal =
     let rest = last_tallies g event.state_after events legal.1 in
     omega (arith, first, rest)
 
--- Where no hand is full, nothing is dispatched, if nothing was.
+-- If nothing was in flight at the start, and no hand is full at the end, nothing is in flight at the end.
 pub last_none_out : (g : Geometry) (old : MachineState) (events : List Event) → IsLegal g old events → old.core.in_flight ≡ []
     → full_hands (end_state old events).hands ≡ 0 → (end_state old events).core.in_flight ≡ []
 last_none_out g old events legal before after =

@@ -6,7 +6,7 @@ use Rattle.legal_runs.specs.CoreState.{Replied, CoreState, entries}
 use Rattle.legal_runs.specs.Eligible.{unlogged_changes}
 use Rattle.legal_runs.specs.Laws.{AreUnrelated, HaveRepliesAt, AreAscending, HaveDistinctTickets, IsSoundCoreState, IsIdle}
 
--- the parts of a list of which nothing is there
+-- if a list is empty, so is its second part
 pub none_behind : {A : Type 0} (xs ys : List A) → xs ++ ys ≡ [] → ys ≡ []
 none_behind [] ys e = e
 none_behind (x ∷ xs) ys e = cc

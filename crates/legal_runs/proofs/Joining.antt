@@ -1,4 +1,4 @@
--- A legal run goes on by every legal run from where it ended; and what a crash of either leaves, a crash of the two leaves.
+-- A legal run, and one from where it ended, are together one legal run; what a crash of either may leave, a crash of that one may leave.
 use Rattle.std.proofs.Common.{◌≡◌, ℕ, zero, suc, ◌+◌, ◌≤◌, true, false, List, [], ◌∷◌, ◌++◌, refl, ap, sym, ◌∙◌, subst, append_assoc, length, take, drop, arith}
 use Rattle.std.specs.Prelude.{if◌then◌else◌}
 use Rattle.std.proofs.lemmas.List.{drop-append-le, length-append, take-append-le}
@@ -39,7 +39,7 @@ runs_join g old (event ∷ events) more legal on =
 -- ---- what a crash leaves
 
 -- A prefix of `in_doubt` stays one when more events follow `rest`. If `rest` is empty, `in_doubt` is empty unless the
--- device has failed, and then it isn't that of an event.
+-- device has failed, and then it is `doubt`, whatever events follow.
 still_in_doubt : (w : CoreState) (rest more : List Event) (n : ℕ) → n ≤ length (in_doubt w rest)
     → (n ≤ length (in_doubt w (rest ++ more))) × (take n (in_doubt w rest) ≡ take n (in_doubt w (rest ++ more)))
 still_in_doubt w rest more zero le = (omega arith, refl)

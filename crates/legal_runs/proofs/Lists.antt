@@ -38,13 +38,13 @@ pub all_weaker : {A : Type 0} (P Q : A → Type 0) → ((x : A) → P x → Q x)
 all_weaker P Q f [] h = tt
 all_weaker P Q f (x ∷ xs) h = (f x h.0, all_weaker P Q f xs h.1)
 
--- All of another list with the same elements have it too.
+-- What holds of all elements of a list holds of all of a permutation of it.
 pub all_permuted : {A : Type 0} (P : A → Type 0) (xs ys : List A) → IsPermutation xs ys → AllByRecursion P xs → AllByRecursion P ys
 all_permuted P xs ys same h = recursion_from_All P ys (All-permutation P xs ys same (All-from_recursion P xs h))
 
 -- ---- the first of a list
 
--- the first n are as many as there are, at most
+-- the first n elements are the first k, for some k that is at most the length of the list
 pub first_few : {A : Type 0} (n : ℕ) (xs : List A) → (k : ℕ) × (k ≤ length xs) × (take k xs ≡ take n xs)
 first_few zero xs = (0, omega arith, refl)
 first_few (suc n) [] = (0, omega arith, refl)
@@ -69,7 +69,7 @@ module _ {A : Type 0} (R : A → A → Type 0) where
   before_without [] e vs h = h.1
   before_without (u ∷ us) e vs h = (all_without (R u) us e vs h.0, before_without us e vs h.1)
 
-  -- those before one
+  -- R holds between each element before e and e
   pub before_one : (us : List A) (e : A) (vs : List A) → EachBefore R (us ++ e ∷ vs) → AllByRecursion (λ u. R u e) us
   before_one [] e vs h = tt
   before_one (u ∷ us) e vs h = ((all_back (R u) us (e ∷ vs) h.0).0, before_one us e vs h.1)
@@ -79,12 +79,12 @@ module _ {A : Type 0} (R : A → A → Type 0) where
   before_join [] ys h j k = j
   before_join (x ∷ xs) ys h j k = (all_join (R x) xs ys h.0 k.0, before_join xs ys h.1 j k.1)
 
-  -- it holds between each of the first and each of the others
+  -- R holds between each element of the first part and each of the second
   pub before_across : (xs ys : List A) → EachBefore R (xs ++ ys) → AllByRecursion (λ x. AllByRecursion (R x) ys) xs
   before_across [] ys h = tt
   before_across (x ∷ xs) ys h = (all_back (R x) xs ys h.0, before_across xs ys h.1)
 
-  -- one moves before others that may come behind it
+  -- element e moves before the elements us, if R holds between it and each of them
   pub before_past : (xs us : List A) (e : A) (vs : List A) → AllByRecursion (R e) us → EachBefore R (xs ++ (us ++ e ∷ vs))
       → EachBefore R (xs ++ e ∷ (us ++ vs))
   before_past [] [] e vs free h = h
@@ -98,7 +98,7 @@ module _ {A : Type 0} (R : A → A → Type 0) where
     before_past xs us e vs free h.1,
   )
 
-  -- where it doesn't matter which of two comes first, one may move to the front
+  -- if R holds either way round, e may move before us
   pub before_moved : ((x y : A) → R x y → R y x) → (xs us : List A) (e : A) (vs : List A) → EachBefore R (xs ++ (us ++ e ∷ vs))
       → EachBefore R (xs ++ e ∷ (us ++ vs))
   before_moved turned xs us e vs h =
@@ -110,7 +110,7 @@ module _ {A : Type 0} (R : A → A → Type 0) where
 
 -- ---- what `pick` finds
 
--- It was between the two parts of what is left.
+-- The element that was found stood between `before` and `behind`, which are what is left.
 pub record Picked {A : Type 0} (p : A → Bool) (xs : List A) (found : A × List A) : Type 0 where
   pub before : List A
   pub behind : List A

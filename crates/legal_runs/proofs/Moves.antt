@@ -22,7 +22,7 @@ use Rattle.legal_runs.specs.Laws.{DoubtOnlyAfterFailure, DoubtIsPrefixOfRan}
 use Rattle.legal_runs.proofs.Apart.{length_held}
 use Rattle.legal_runs.proofs.Lists.{first_few}
 
--- nothing of this has changed
+-- No list, no ticket and no state that the laws look at has changed, and what they ask of the other fields still holds.
 pub record Same (old new : CoreState) : Type 0 where
   pub waiting : new.waiting ≡ old.waiting
   pub in_flight : new.in_flight ≡ old.in_flight
@@ -31,14 +31,14 @@ pub record Same (old new : CoreState) : Type 0 where
   pub committed : new.committed ≡ old.committed
   pub next : new.next ≡ old.next
   pub slots : new.slots ≡ old.slots
-  -- and what is in flight has room still
+  -- if the log had room for what is in flight or ran, it still has
   pub room : unlogged_changes old ≤ old.room → unlogged_changes old ≤ new.room
-  -- and nothing comes into `doubt`, unless the device has failed
+  -- nothing comes into `doubt` unless the device has failed
   pub doubt : DoubtOnlyAfterFailure old → DoubtOnlyAfterFailure new
-  -- and what is in `doubt` ran
+  -- what is in `doubt` still is the changes among the first of those that ran
   pub doubts : DoubtIsPrefixOfRan old → DoubtIsPrefixOfRan new
 
--- what passes at an event: the messages that it logs, those that arrive, and the replies that it gives
+-- what passes at an event: the messages that it logs (`gone`), those that arrive (`come`), and the replies that it gives
 pub record Passed : Type 0 where
   pub gone : List Replied
   pub come : List Entry
@@ -65,7 +65,7 @@ pub data Move (g : Geometry) (old new : CoreState) (p : Passed) : Type 0 where
       → (passes : p ≡ record { gone = []; come = []; reply_pairs = (a.0, a.2) ∷ [] }) → Move g old new p
 
 module _ (g : Geometry) (w : CoreState) where
-  -- the room and the pieces that are left alone
+  -- only the room and the number of pieces left change
   repoints : (room : ℕ) (pieces_left : Option ℕ) → (unlogged_changes w ≤ w.room → unlogged_changes w ≤ room) → Move g w
       (record w { room = room; pieces_left = pieces_left }) nothing
   repoints room pieces_left fits = Stays kept refl
@@ -84,7 +84,7 @@ module _ (g : Geometry) (w : CoreState) where
         doubts = λ h. record { some = h.some; at_most = h.at_most; is = h.is };
       }
 
-  -- nothing at all
+  -- nothing changes
   stays : Move g w w nothing
   stays = repoints w.room w.pieces_left (λ h. h)
 
@@ -117,7 +117,7 @@ module _ (g : Geometry) (w : CoreState) where
   answer_moves [] e = stays
   answer_moves (a ∷ as') e = Answers a as' e refl refl
 
-  -- nothing is in flight where a point may begin
+  -- nothing is in flight or ran where a checkpoint may begin
   none_unlogged : point_refusal w ≡ None → unlogged_changes w ≡ 0
   none_unlogged e =
       let a = past w.failed points.Failed _ e in
@@ -179,7 +179,7 @@ module _ (g : Geometry) (w : CoreState) where
   fails_moves : Move g w (fails w) nothing
   fails_moves = failing w.doubt (λ h. record { some = h.some; at_most = h.at_most; is = h.is })
 
-  -- what was to be logged is the first of what ran
+  -- what was to be appended is the changes among the first of those that ran
   log_fails : (k : ℕ) → Move g w (record w { failed = true; doubt = batch w k }) nothing
   log_fails k =
       let f = first_few k w.ran in

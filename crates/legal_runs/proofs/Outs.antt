@@ -27,14 +27,14 @@ use Rattle.legal_runs.proofs.Lists.{all_back, all_front, before_back}
 use Rattle.legal_runs.proofs.Moves.{Passed, Move, Stays, Arrives, Grants, Backs, Logs, Answers, moves}
 use Rattle.legal_runs.proofs.SerialReplies.{IsIn}
 
--- `R` holds between those before one of a row and it
+-- `R` holds between each element of xs and an element y that comes later
 pub before_in : {A : Type 0} (R : A → A → Type 0) (xs ys : List A) (y : A) → EachBefore R (xs ++ ys) → IsIn y ys
     → AllByRecursion (λ x. R x y) xs
 before_in R [] ys y h is = tt
 before_in R (x ∷ xs) ys y h is = (all_at (R x) ys y (all_back (R x) xs ys h.0) is, before_in R xs ys y h.1 is)
 
 module _ (g : Geometry) where
-  -- messages at other places leave what a message can read
+  -- messages at unrelated places leave what message m can read as it is
   fold_leaves : (x : State) (m : Msg) (ms : List Msg) → AllByRecursion (λ n. are_related (path_of g m) (path_of g n) ≡ false) ms
       → AgreeOn g (are_related (path_of g m)) (state_after_all g x ms) x
   fold_leaves x m [] apart = agree-refl x

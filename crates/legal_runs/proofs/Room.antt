@@ -22,7 +22,7 @@ out_count es = count_by (λ e. changes e.1) es
 abbrev ran_count : List Replied → ℕ
 ran_count as' = count_by (λ a. changes a.1) as'
 
--- what is logged is of a changing kind
+-- the messages that get a record are no more than those of a changing kind
 logged_few : (as' : List Replied) → count_by (λ a. is_recorded a.1 a.2) as' ≤ ran_count as'
 logged_few [] = omega arith
 logged_few (a ∷ as') =
@@ -46,7 +46,7 @@ batch_few w n =
 ran_split : (w : CoreState) (n : ℕ) → ran_count (take n w.ran) + ran_count (drop n w.ran) ≡ ran_count w.ran
 ran_split w n = sym (sum_by-append _ (take n w.ran) (drop n w.ran)) ∙ ap ran_count (take-append-drop n w.ran)
 
--- Whatever a log appends, there is room for it.
+-- Whatever a log step appends, the log has room for it.
 pub log_has_room : (w : CoreState) (n : ℕ) → unlogged_changes w ≤ w.room → length (batch w n) ≤ w.room
 log_has_room w n h = omega (arith, h, batch_few w n, ran_split w n)
 

@@ -17,7 +17,7 @@ use Rattle.legal_runs.proofs.Moves.{Passed, Move, Stays, Arrives, Grants, Backs,
 use Rattle.legal_runs.proofs.SerialReplies.{state_after_all-append, state_after_all-joined, serial_replies-append, ticket_replies-append}
 use Rattle.legal_runs.proofs.Sound.{row_of, event_sound}
 
--- ---- what goes to logged
+-- ---- what an event or a run logs
 
 -- What is logged has the serial server's replies, and the committed state follows.
 pub record Follows (g : Geometry) (old new : CoreState) (gone : List Replied) : Type 0 where
@@ -75,7 +75,7 @@ move_answers g old new p (Answers a rest front is e) =
     ap (λ p. ticket_replies old.logged ++ ticket_replies p.gone) e ∙ append-nil (ticket_replies old.logged) ∙ ap ticket_replies front ∙ ap
     (λ w. (a.0, a.2) ∷ ticket_replies w.logged) (sym is) ∙ ap (λ p. p.reply_pairs ++ ticket_replies new.logged) (sym e)
 
--- What a run answers is what was logged before and in it, in log order, up to what is logged still.
+-- The replies of what was logged before a run and in it, in log order, are those that it gives, and then those of what is still logged.
 pub run_answers : (g : Geometry) (old : MachineState) (events : List Event) → IsLegal g old events
     → ticket_replies old.core.logged ++ ticket_replies (logged_messages old events) ≡ answered events ++ ticket_replies (end_state old events).core.logged
 run_answers g old [] legal = append-nil (ticket_replies old.core.logged)
@@ -89,7 +89,7 @@ run_answers g old (event ∷ events) legal =
     ∙ ap (λ l. answers event.outcome ++ l) (run_answers g event.state_after events legal.1)
     ∙ sym (append_assoc (answers event.outcome) (answered events) (ticket_replies (end_state event.state_after events).core.logged))
 
--- ---- the journal
+-- ---- what is appended to the log
 
 -- What a step appends leads where the messages that it logs lead.
 appends : (g : Geometry) (w : CoreState) (s : Step) (device_failed : Bool) → IsSoundCoreState g w
@@ -109,7 +109,7 @@ appends g w steps.Cut device_failed h = refl
 appends g w steps.Piece device_failed h = refl
 appends g w steps.Flip device_failed h = refl
 
--- The committed state after a run is what its journal leaves.
+-- The committed state after a run is that to which the messages lead that it appends to the log.
 pub run_appended : (g : Geometry) (old : MachineState) (events : List Event) → IsLegal g old events → IsSoundCoreState g old.core
     → (end_state old events).core.committed ≡ state_after_all g old.core.committed (appended_messages old events)
 run_appended g old [] legal h = refl
@@ -132,7 +132,7 @@ appends_recorded w steps.Cut device_failed = refl
 appends_recorded w steps.Piece device_failed = refl
 appends_recorded w steps.Flip device_failed = refl
 
--- The journal is what is loggable of what a run logs.
+-- What a run appends to the log is the changes that were carried out among the messages that it logs.
 pub appended_is_recorded : (old : MachineState) (events : List Event) → appended_messages old events ≡ recorded (logged_messages old events)
 appended_is_recorded old [] = refl
 appended_is_recorded old (event ∷ events) =

@@ -1,4 +1,5 @@
--- What a run logs, and the first of the messages that ran after it, is a serial history of messages that arrived; and so is what a crash may leave.
+-- What a run logs, and then the first messages that ran and aren't logged, is a serial history of the arrivals; and so is what a crash
+-- may leave.
 use Rattle.std.proofs.Common.{◌≡◌, ℕ, ◌<◌, ◌≤◌, Bool, false, List, [], ◌∷◌, ◌++◌, ap, sym, ◌∙◌, subst, append_assoc, take, drop, ⊎_elim, arith}
 use Rattle.std.specs.Prelude.{◌==◌, IsPermutation}
 use Rattle.std.specs.List.{AllByRecursion, Contains, IsDistinct}
@@ -52,7 +53,7 @@ all_entries : (P : Entry → Type 0) (log : List Replied) → AllByRecursion P (
 all_entries P [] h = tt
 all_entries P (a ∷ log) h = (h.0, all_entries P log h.1)
 
--- Each message of it arrived.
+-- Each message of a serial history (here `log`) arrived.
 pub all_came : (g : Geometry) (x : State) (arrivals : List Entry) (log : List Replied) → IsSerialHistory g x arrivals log
     → AllByRecursion (λ a. Contains arrivals (entry a)) log
 all_came g x arrivals log h =
@@ -64,7 +65,7 @@ all_came g x arrivals log h =
 same_turned : (a b : ℕ) → (a == b) ≡ (b == a)
 same_turned a b = ⊎_elim (λ t. t.0 ∙ sym (eq-eqb b a (sym t.1))) (λ f. f.0 ∙ sym (ne_eqb b a (λ e. f.1 (sym e)))) (eqb_tells a b)
 
--- no two have one ticket
+-- whether two messages have the same ticket
 abbrev one_ticket : Entry → Entry → Bool
 one_ticket e d = e.0 == d.0
 
@@ -84,7 +85,7 @@ once_distinct (e ∷ es) h = (
   once_distinct es h.1,
 )
 
--- Where tickets ascend as messages arrive, no two in the log have one ticket.
+-- Where tickets ascend as messages arrive, no two messages of a serial history have the same one.
 pub all_once : (g : Geometry) (x : State) (arrivals : List Entry) (log : List Replied) → IsSerialHistory g x arrivals log
     → AreAscending arrivals → HaveDistinctTickets (entries log)
 all_once g x arrivals log h ascending =
@@ -105,7 +106,7 @@ module _ (g : Geometry) where
   each_before [] h = tt
   each_before (e ∷ es) h = (h.0, each_before es h.1)
 
-  -- It stays a serial history where more arrive.
+  -- A serial history stays one when more messages arrive.
   pub still_serial : (x : State) (arrivals more : List Entry) (log : List Replied) → AreAscending (arrivals ++ more)
       → IsSerialHistory g x arrivals log → IsSerialHistory g x (arrivals ++ more) log
   still_serial x arrivals more log ascending h =
@@ -122,7 +123,7 @@ module _ (g : Geometry) where
         in_order = h.in_order;
       }
 
--- ---- what a run logs, and what ran behind it
+-- ---- what a run logs, and what ran and isn't logged yet
 
 module _ (g : Geometry) (old : MachineState) (events : List Event) (legal : IsLegal g old events) (idle : IsIdle old.core) where
   abbrev now : CoreState
@@ -131,7 +132,7 @@ module _ (g : Geometry) (old : MachineState) (events : List Event) (legal : IsLe
   abbrev log : ℕ → List Replied
   log j = logged_messages old events ++ take j now.ran
 
-  -- each message that arrived is logged, ran, is dispatched or waits
+  -- each message that arrived was logged, ran, is in flight or waits
   pub none_lost : IsPermutation (arrived events) (row now (logged_messages old events))
   none_lost = (arrivals_reordered g old events legal idle).same
 
@@ -179,10 +180,10 @@ module _ (g : Geometry) (old : MachineState) (events : List Event) (legal : IsLe
       (subst (AllByRecursion (λ a. Contains (arrived events) (entry a))) logged_begins
       (all_front (λ a. Contains (arrived events) (entry a)) (logged_messages old events) (take 0 now.ran) came))
 
-  -- ---- and what may be left of it
+  -- ---- and what a crash may leave of it
 
   module _ (none : old.core.doubt ≡ []) where
-    -- a prefix of those in `doubt` in the end
+    -- a prefix of `doubt` in the end is the changes of such a history that come after what was logged
     pub doubts_in_order : (k : ℕ)
         → (j : ℕ) × IsSerialHistory g old.core.committed (arrived events) (log j) × (recorded (take j now.ran) ≡ take k now.doubt)
     doubts_in_order k =
@@ -199,7 +200,7 @@ module _ (g : Geometry) (old : MachineState) (events : List Event) (legal : IsLe
               ∙ sym (recorded-append (logged_messages old events) (take first.some now.ran)),
         )
 
--- Whatever a crash leaves in the log after n events, it is the changes of a serial history.
+-- Whatever a crash leaves in the log after k events, it is the changes of a serial history.
 pub left_in_order : (g : Geometry) {old : MachineState} {events : List Event} {k : ℕ} {ms : List Msg} → IsLegal g old events → IsIdle old.core
     → old.core.doubt ≡ [] → IsLogAfter old events k ms
     → (j : ℕ) × IsSerialHistory g old.core.committed (arrived (take k events))

@@ -1,4 +1,4 @@
--- Lists of messages: their replies, and what stays where one moves past unrelated ones.
+-- Lists of messages: their replies, and what stays where a message moves past unrelated ones.
 use Rattle.std.proofs.Common.{◌≡◌, ℕ, true, false, List, [], ◌∷◌, ◌++◌, refl, ap, sym, ◌∙◌, subst, map, ◌⊎◌, inl, inr, ⊎_elim}
 use Rattle.std.specs.Prelude.{filter, cond}
 use Rattle.std.specs.List.{AllByRecursion}
@@ -43,7 +43,8 @@ module _ (g : Geometry) where
   still_replied x a (d ∷ as') apart h =
       (h.0 ∙ sym (same_reply g x d.1 a.1 (apart_turned g (entry a) (entry d) apart.0)), still_replied x a as' apart.1 h.1)
 
-  -- messages that are not related, each with its reply at one state, run in a row
+  -- The messages `first` have the replies at state x also if they run one after the other, the changes among them lead to the same state as
+  -- all, and the replies of `rest`, which were those at x, are those at that state. It is so if no two messages are related.
   pub record InARow (x : State) (first rest : List Replied) : Type 0 where
     pub reply_pairs : serial_replies g x (entries first) ≡ ticket_replies first
     pub logs : state_after_all g x (recorded first) ≡ state_after_all g x (messages (entries first))
@@ -86,7 +87,7 @@ module _ {A : Type 0} (a : A) where
   in_either [] cs h = inr h
   in_either (b ∷ bs) cs h = ⊎_elim (λ e. inl (inl e)) (λ k. ⊎_elim (λ l. inl (inr l)) (λ r. inr r) (in_either bs cs k)) h
 
--- The list es leaves the state that fs leaves, and has the replies of fs.
+-- The list es leads to the state to which fs leads, and has each reply that fs has.
 pub record IsAsGood (g : Geometry) (x : State) (es fs : List Entry) : Type 0 where
   pub state : state_after_all g x (messages es) ≡ state_after_all g x (messages fs)
   pub tells : (p : ℕ × Reply) → IsIn p (serial_replies g x fs) → IsIn p (serial_replies g x es)
@@ -107,7 +108,7 @@ module _ (g : Geometry) where
         (in_either p (serial_replies g x fs) _ (subst (IsIn p) (serial_replies-append g x fs (e ∷ [])) r)));
   }
 
-  -- one moves to the front, past unrelated ones
+  -- message e moves to the front, past unrelated ones
   good_first : (x : State) (us : List Entry) (e : Entry) (vs : List Entry) → AllByRecursion (λ d. are_related_entries g e d ≡ false) us
       → IsAsGood g x (us ++ e ∷ vs) (e ∷ (us ++ vs))
   good_first x [] e vs h = good_itself x (e ∷ vs)

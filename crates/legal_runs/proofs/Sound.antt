@@ -19,7 +19,7 @@ use Rattle.legal_runs.proofs.Room.{move_room}
 once_turned : (e d : Entry) → (e.0 ≡ d.0 → ⊥) → d.0 ≡ e.0 → ⊥
 once_turned e d h is = h (sym is)
 
--- its ticket is given, and none that is to come
+-- The entry's ticket was given: it is below n, the next one.
 abbrev IsGiven : ℕ → Entry → Type 0
 IsGiven n e = e.0 < n
 
@@ -170,7 +170,7 @@ move_slots g old new p (Answers a rest front is e) = ap (λ w. w.slots) is
 pub event_slots : (g : Geometry) (old : MachineState) (event : Event) → IsAllowed g old event → event.state_after.core.slots ≡ old.core.slots
 event_slots g old event allowed = move_slots g old.core event.state_after.core _ (moves g old event allowed)
 
--- Whatever a run of events does, what is dispatched and what ran has room, and each message has a slot of those that there were.
+-- In each core state of a run the log has room for what is in flight or ran, and the slots that there were at the start are enough.
 pub run_fits : (g : Geometry) (old : MachineState) (events : List Event) → IsLegal g old events → IsSoundCoreState g old.core
     → AllByRecursion (λ event. HasRoom old.core.slots event.state_after.core) events
 run_fits g old [] legal h = tt

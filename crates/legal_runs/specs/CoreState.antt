@@ -27,7 +27,7 @@ pub record CoreState : Type 0 where
   pub logged : List Replied
   -- the state to which all messages logged so far have led
   pub committed : State
-  -- how many records the log still takes
+  -- how many more records the current half of the log takes
   pub room : ℕ
   -- the ticket of the next message
   pub next : ℕ
@@ -35,7 +35,7 @@ pub record CoreState : Type 0 where
   pub slots : ℕ
   -- whether the device has failed
   pub failed : Bool
-  -- the messages that were to be appended to the log when the device failed: it may or may not hold them
+  -- the messages that were to be appended to the log when the device failed: the log may hold any prefix of them
   pub doubt : List Msg
   -- how many pieces are left to write, while an online checkpoint is in progress; else `None`
   pub pieces_left : Option ℕ

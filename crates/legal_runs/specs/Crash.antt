@@ -20,19 +20,19 @@ abbrev pub next_batch : CoreState → List Event → List Msg
 next_batch w [] = []
 next_batch w (event ∷ events) = to_append w event.step
 
--- The messages of which a crash may leave a prefix in the log, in this core state, before the first of these events has ended: in a
--- failed core state `doubt`, and else what that event is to append.
+-- The messages of which a crash in this core state, or during the first of these events, may leave any prefix in the log: in a failed core
+-- state `doubt`, else what that event is to append.
 abbrev pub in_doubt : CoreState → List Event → List Msg
 in_doubt w events = if w.failed then w.doubt else next_batch w events
 
--- The messages `ms` are in the log if the crash comes after the first k events of a run and before the next has ended: all that were
--- appended, and the first `some` of the messages in doubt then (`in_doubt`).
+-- If a crash comes when the first k events of a run have ended and the next one has not, the messages `ms` may be what the run has left in
+-- the log: all that those k events appended, and the first `some` of the messages in doubt then (`in_doubt`).
 pub record IsLogAfter (old : MachineState) (events : List Event) (k : ℕ) (ms : List Msg) : Type 0 where
   pub some : ℕ
   pub at_most : some ≤ length (in_doubt (end_state old (take k events)).core (drop k events))
   pub is : ms ≡ appended_messages old (take k events) ++ take some (in_doubt (end_state old (take k events)).core (drop k events))
 
--- A crash may leave the state x, if it comes when k events of the run or more have ended: when `after` of them have.
+-- A crash that comes when at least k events of the run have ended (namely `after` of them) may leave the state x.
 pub record IsLeftSince (g : Geometry) (old : MachineState) (events : List Event) (k : ℕ) (x : State) : Type 0 where
   pub after : ℕ
   pub since : k ≤ after

@@ -1,4 +1,4 @@
--- Statement for operators: Events: what each step does to the core state and to the hands of a machine, and what it answers.
+-- Statement for operators: Events: what each step does to the core state and to the hands of a machine, and which outcome it has.
 use Rattle.std.specs.Prelude.{◌≡◌, ℕ, zero, suc, ◌+◌, ◌-◌, ◌^◌, ◌≤◌, Bool, true, false, not, ◌&&◌, ◌==◌, nat_lt, nat_le, List, [], ◌∷◌, ◌++◌, map, filter, length, take, drop, if◌then◌else◌, Option, Some, None, is_some, is_none, position, slice_get, set, MatchBool}
 use Rattle.std.specs.List.{list_any}
 use Rattle.affinity.specs.declared.geometry.Geometry.{Geometry}
@@ -19,7 +19,7 @@ use Rattle.legal_runs.specs.Eligible.{pick, next_eligible, lacks_only_room}
 
 -- ---- what each step does to the core, where the device doesn't fail
 
--- The message waits behind all others.
+-- The message gets the next ticket and waits behind all others; or it is refused, and nothing changes.
 abbrev pub arrive : Geometry → CoreState → Msg → Outcome × CoreState
 arrive g w m =
     if w.failed then (outcomes.ArriveRefused arrivals.Failed, w)
@@ -28,7 +28,7 @@ arrive g w m =
     else if nat_le w.slots (length w.waiting + length (held w)) then (outcomes.ArriveRefused arrivals.Full, w)
     else (outcomes.Ticket w.next, record w { waiting = w.waiting ++ (w.next, m) ∷ []; next = w.next + 1 })
 
--- The message `found.0` is dispatched, and the others, `found.1`, wait on.
+-- The message `found.0` is dispatched, and the other waiting messages, `found.1`, go on waiting.
 abbrev pub grant : CoreState → Entry × List Entry → CoreState
 grant w found = record w { waiting = found.1; in_flight = w.in_flight ++ found.0 ∷ [] }
 
@@ -61,7 +61,7 @@ log g w n = record w {
   room = w.room - length (batch w n);
 }
 
--- The message that was logged first (the second argument is what is logged) is answered: it leaves the core.
+-- The oldest logged message is answered and leaves the core; the second argument is the core's list `logged`.
 abbrev pub answer : CoreState → List Replied → Outcome × CoreState
 answer w [] = (outcomes.Idle, w)
 answer w (a ∷ as') = (outcomes.Answered a.0 a.2, record w { logged = as' })
@@ -93,16 +93,16 @@ unfinished_refusal (Some (suc n)) = Some points.Unfinished
 abbrev pub flip_refusal : CoreState → Option PointRefusal
 flip_refusal w = if w.failed then Some points.Failed else unfinished_refusal w.pieces_left
 
--- Where there is a reason against a step it is refused for that, and nothing changes; else this outcome and core state come of it.
+-- A step is refused for the reason given, if there is one, and nothing changes; else it has the outcome and core state `done`.
 abbrev pub unless_refused : CoreState → Option PointRefusal → Outcome × CoreState → Outcome × CoreState
 unless_refused w None done = done
 unless_refused w (Some why) done = (outcomes.PointRefused why, w)
 
--- a checkpoint in one call: a half of the log is free again
+-- a checkpoint in one call: a whole half of the log is free again
 abbrev pub point : Geometry → CoreState → Outcome × CoreState
 point g w = unless_refused w (point_refusal w) (outcomes.Pointed, record w { room = g.half })
 
--- an online checkpoint begins, with n pieces to write
+-- an online checkpoint begins, with n pieces to write: a whole half of the log is free again
 abbrev pub cut : Geometry → ℕ → CoreState → Outcome × CoreState
 cut g n w = unless_refused w (point_refusal w) (outcomes.Cut, record w { room = g.half; pieces_left = Some n })
 

@@ -15,7 +15,7 @@ pub data Incarnation : Type 0 where
   Unopened : Incarnation
   Ran : (start : MachineState) → (events : List Event) → (ended : ℕ) → Incarnation
 
--- The server began in state x with no message in it, and a crash may leave these messages in the log.
+-- The server began in state x with no message in it, and a crash when at least `ended` events were over may leave `log` in the log.
 pub record IsLogOfRun (g : Geometry) (x : State) (start : MachineState) (events : List Event) (ended : ℕ) (log : List Msg) : Type 0 where
   pub idle : IsIdle start.core
   pub committed : start.core.committed ≡ x
@@ -42,18 +42,18 @@ abbrev pub in_order : List (List Msg) → List Msg
 in_order [] = []
 in_order (log ∷ logs) = log ++ in_order logs
 
--- The state is one that these incarnations may leave, from the empty state on: the serial server comes there by the logs of all, in order.
+-- These incarnations, from the empty state on, may leave the state x: the serial server reaches it by the logs of all, in order.
 pub record IsLeftByIncarnations (g : Geometry) (incarnations : List Incarnation) (x : State) : Type 0 where
   pub logs : List (List Msg)
   pub are_logs : AreLogsOf g empty incarnations logs
   pub state : x ≡ state_after_all g empty (in_order logs)
 
--- The log begins with the changes that were answered before the crash.
+-- The log begins with the changes that were answered in the first `ended` events: when these were over, the crash had not come yet.
 abbrev pub HoldsAnswered : Incarnation → List Msg → Type 0
 HoldsAnswered Unopened log = Unit {0}
 HoldsAnswered (Ran start events ended) log = (rest : List Msg) × (log ≡ answered_changes start (take ended events) ++ rest)
 
--- Each log begins with the changes that were answered in its incarnation.
+-- Each log begins with the changes that were answered in its incarnation, as `HoldsAnswered` counts them.
 abbrev pub AllHoldAnswered : List Incarnation → List (List Msg) → Type 0
 AllHoldAnswered [] logs = Unit {0}
 AllHoldAnswered (incarnation ∷ incarnations) [] = ⊥

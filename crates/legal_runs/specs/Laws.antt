@@ -1,4 +1,4 @@
--- Statement for operators: The words of the laws of legal runs.
+-- Statement for operators: The definitions that the laws of legal runs use.
 use Rattle.std.specs.Prelude.{◌≡◌, ℕ, ◌+◌, ◌<◌, ◌≤◌, Bool, true, false, not, List, [], ◌∷◌, ◌++◌, map, length, count_by, take, IsPermutation}
 use Rattle.std.specs.List.{AllByRecursion}
 use Rattle.affinity.specs.declared.geometry.Geometry.{Geometry}
@@ -42,8 +42,8 @@ HaveRepliesAt g x as' = AllByRecursion (λ a. a.2 ≡ reply_to g x a.1) as'
 abbrev pub ticket_replies : List Replied → List (ℕ × Reply)
 ticket_replies as' = map (λ a. (a.0, a.2)) as'
 
--- The history could be a serial server's from state x on: it is a prefix of some order of all that arrived, in which each message is once
--- and messages at related places are by ticket; and each message has the reply that it gets where these run one after the other.
+-- The history could be a serial server's from state x on: it is a prefix of some order of all arrivals, in which each message is once and
+-- messages at related places are by ticket; and its replies are those that its messages get when they run one after the other from x on.
 pub record IsSerialHistory (g : Geometry) (x : State) (arrivals : List Entry) (history : List Replied) : Type 0 where
   -- the messages that arrived and are not in the history
   pub rest : List Entry
@@ -55,11 +55,11 @@ pub record IsSerialHistory (g : Geometry) (x : State) (arrivals : List Entry) (h
 pub record IsSoundCoreState (g : Geometry) (w : CoreState) : Type 0 where
   -- no two messages held at once are at related places
   pub apart : AreUnrelated g (held w)
-  -- the replies of those that ran are those at the committed state
+  -- each message that ran, and isn't logged yet, has the reply that it gets in the committed state
   pub replied : HaveRepliesAt g w.committed w.ran
   -- the waiting messages are in the order of their tickets
   pub ascending : AreAscending w.waiting
-  -- no two messages in flight or waiting have one ticket, and each ticket is below the next one to be given
+  -- no two messages in flight or waiting have the same ticket, and each of their tickets is below the next one to be given
   pub once : HaveDistinctTickets (w.in_flight ++ w.waiting)
   pub given : AllByRecursion (λ e. e.0 < w.next) (w.in_flight ++ w.waiting)
   -- the log has room for all changing messages that are in flight or ran
@@ -81,7 +81,7 @@ full_hands hands = count_by (λ hand. not (is_empty hand)) hands
 abbrev pub DoubtOnlyAfterFailure : CoreState → Type 0
 DoubtOnlyAfterFailure w = w.failed ≡ false → w.doubt ≡ []
 
--- In `doubt` are the changes among a prefix of those that ran.
+-- `doubt` is the changes that were carried out among the first `some` messages of `ran`.
 pub record DoubtIsPrefixOfRan (w : CoreState) : Type 0 where
   pub some : ℕ
   pub at_most : some ≤ length w.ran
@@ -115,7 +115,7 @@ pub record IsIdle (w : CoreState) : Type 0 where
   pub none_waits : w.waiting ≡ []
   pub none_held : held w ≡ []
 
--- Message a, the first that was logged, is answered: it is held no more.
+-- Message a, the oldest logged one, is answered: it is held no more.
 abbrev pub IsAnswered : CoreState → CoreState → Replied → Type 0
 IsAnswered old new a = old.logged ≡ a ∷ new.logged
 

@@ -20,7 +20,7 @@ abbrev pub end_state : MachineState → List Event → MachineState
 end_state old [] = old
 end_state old (event ∷ events) = end_state event.state_after events
 
--- the messages that a step logs: it moves them from `ran` to `logged`; by whether the device failed during it
+-- the messages that a step logs, which move from `ran` to `logged`; none, if the device failed during the step or before
 abbrev pub logged_at : CoreState → Step → Bool → List Replied
 logged_at w (steps.Log n) device_failed = if device_failed || w.failed then [] else take n w.ran
 logged_at w _ device_failed = []
@@ -35,7 +35,7 @@ abbrev pub arrives : Step → Outcome → List Entry
 arrives (steps.Arrive m) (outcomes.Ticket ticket) = (ticket, m) ∷ []
 arrives _ _ = []
 
--- the reply that an outcome gives, with the ticket of its message; none of any other outcome
+-- the reply that an outcome gives, with the ticket of its message; only `Answered` gives one
 abbrev pub answers : Outcome → List (ℕ × Reply)
 answers (outcomes.Answered ticket reply) = (ticket, reply) ∷ []
 answers _ = []
@@ -60,7 +60,7 @@ abbrev pub answered : List Event → List (ℕ × Reply)
 answered [] = []
 answered (event ∷ events) = answers event.outcome ++ answered events
 
--- the message that an outcome answers: the first that is logged; none of any other outcome
+-- the message that an outcome answers, the oldest logged one; only `Answered` answers one
 abbrev pub answered_at : CoreState → Outcome → List Replied
 answered_at w (outcomes.Answered ticket reply) = take 1 w.logged
 answered_at w _ = []
@@ -74,7 +74,7 @@ answered_messages w (event ∷ events) = answered_at w.core event.outcome ++ ans
 abbrev pub answered_changes : MachineState → List Event → List Msg
 answered_changes w events = recorded (answered_messages w events)
 
--- A run of steps: each had its outcome in an event of its own, and the last one left this machine state.
+-- A run of the steps `asked`, from `old` to `new`: the events have these steps, in order, and the outcomes `came`.
 pub record IsRun (g : Geometry) (old new : MachineState) (asked : List Step) (came : List Outcome) (events : List Event) : Type 0 where
   pub legal : IsLegal g old events
   pub of_steps : map (λ e. e.step) events ≡ asked

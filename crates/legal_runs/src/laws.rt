@@ -36,7 +36,7 @@ pub fn held_messages_are_unrelated()
 {}
 
 /// The messages that a run logs get the replies that the serial server gives them, one after the other in
-/// log order. They are answered so, in that order, after the ones logged before.
+/// log order. They are answered with these replies, in that order, after the messages that were logged before the run.
 pub fn replies_are_in_log_order()
     ensures replied { (g : Geometry) (old : MachineState) (events : List Event) → IsLegal g old events → IsSoundCoreState g old.core
         → ticket_replies (logged_messages old events) ≡ serial_replies g old.core.committed (entries (logged_messages old events)) }
@@ -45,8 +45,8 @@ pub fn replies_are_in_log_order()
         ≡ answered events ++ ticket_replies (end_state old events).core.logged }
 {}
 
-/// The committed state is where the messages that a run logs lead, and where those of them lead that it
-/// appends to the journal.
+/// The committed state after a run is the state to which the messages that it logs lead. The changes among them that
+/// it appends to the log lead to the same state.
 pub fn committed_is_what_was_logged()
     ensures logged { (g : Geometry) (old : MachineState) (events : List Event) → IsLegal g old events → IsSoundCoreState g old.core
         → (end_state old events).core.committed ≡ state_after_all g old.core.committed (messages (entries (logged_messages old events))) }
@@ -56,15 +56,15 @@ pub fn committed_is_what_was_logged()
         → appended_messages old events ≡ recorded (logged_messages old events) }
 {}
 
-/// A legal run goes on by every legal run from where it ended: they are one run. What it logs, appends,
+/// A legal run, and a legal run from where it ended, are together one legal run. What that one logs, appends,
 /// takes in and answers is what the two do, one after the other.
 pub fn legal_runs_join()
     ensures { (g : Geometry) (old : MachineState) (events more : List Event) → IsLegal g old events → IsLegal g (end_state old events) more
         → IsJoined g old events more }
 {}
 
-/// In each core state of a legal run there is room in the log for all that is dispatched and all that ran, and
-/// a slot for each message, of as many as there were in the beginning. So a log always has room for what
+/// In each core state of a legal run the log has room for all changing messages that are in flight or ran, and
+/// the slots that there were in the beginning are enough for all messages. So a log step always has room for what
 /// it appends.
 pub fn room_and_slots_are_enough()
     ensures run { (g : Geometry) (old : MachineState) (events : List Event) → IsLegal g old events → IsSoundCoreState g old.core
@@ -73,9 +73,9 @@ pub fn room_and_slots_are_enough()
 {}
 
 /// Where nothing waited and nothing was held in the beginning, each reply to a message that was logged or
-/// answered is the one that the serial server gives where all that arrived come by ticket. Tickets ascend,
-/// so no two have one. Where nothing waits and nothing is held in the end, the committed state is the serial
-/// server's too.
+/// answered is the one that the serial server gives if it runs all arrivals in the order of their tickets. Tickets
+/// ascend, so no two messages have the same one. Where nothing waits and nothing is held in the end, the committed
+/// state is the serial server's too.
 pub fn replies_are_by_ticket()
     ensures tickets { (g : Geometry) (old : MachineState) (events : List Event) → IsLegal g old events → AreAscending (arrived events) }
     ensures logged { (g : Geometry) (old : MachineState) (events : List Event) → IsLegal g old events → IsIdle old.core
@@ -90,8 +90,8 @@ pub fn replies_are_by_ticket()
 {}
 
 /// Where nothing waited and nothing was held in the beginning, no message is lost, and none is there twice: those
-/// that arrived are those that were logged, those that ran and are not logged yet, those that are dispatched and
-/// those that wait. So whatever is answered arrived. A ticket has one message.
+/// that arrived are those that were logged, those that ran and are not logged yet, those in flight and
+/// those that wait. So whatever is answered arrived. No two messages that arrived have the same ticket.
 pub fn messages_are_neither_lost_nor_doubled()
     ensures all { (g : Geometry) (old : MachineState) (events : List Event) → IsLegal g old events → IsIdle old.core
         → IsPermutation (arrived events) (entries (logged_messages old events) ++ (entries (end_state old events).core.ran
@@ -102,9 +102,9 @@ pub fn messages_are_neither_lost_nor_doubled()
         → Contains (arrived events) e → Contains (arrived events) d → e.0 ≡ d.0 → e ≡ d }
 {}
 
-/// Where nothing waited and nothing was held in the beginning, what a run logs, with the first m of those
-/// that ran after it, is a serial history of what arrived. Each message of a serial history arrived; where tickets ascend
-/// as messages arrive, no two of them have one, and it stays a serial history where more arrive.
+/// Where nothing waited and nothing was held in the beginning, what a run logs, followed by the first j of the messages
+/// that ran and are not logged yet, is a serial history of what arrived. Each message of a serial history arrived. If the
+/// arrivals have ascending tickets, no two messages of it have the same one, and it stays a serial history when more arrive.
 pub fn what_ran_is_a_serial_history()
     ensures run { (g : Geometry) (old : MachineState) (events : List Event) (j : ℕ) → IsLegal g old events → IsIdle old.core
         → IsSerialHistory g old.core.committed (arrived events) (logged_messages old events ++ take j (end_state old events).core.ran) }
@@ -116,8 +116,8 @@ pub fn what_ran_is_a_serial_history()
         → IsSerialHistory g x arrivals history → IsSerialHistory g x (arrivals ++ more) history }
 {}
 
-/// Only an answer makes a waiting message conflict-free, and only one to a message at a place related to its
-/// own. Whatever else comes, a message that waits on stays conflict-free, or stays not so.
+/// Only the answer to a message at a related place makes a waiting message conflict-free. At any other event
+/// a message that goes on waiting stays conflict-free if it was, and kept back if it was not.
 pub fn only_answers_clear()
     ensures { (g : Geometry) (old : MachineState) (event : Event) (e : Entry) → IsAllowed g old event → IsSoundCoreState g old.core
         → Contains old.core.waiting e → Contains event.state_after.core.waiting e
@@ -125,8 +125,9 @@ pub fn only_answers_clear()
         → is_conflict_free g event.state_after.core e ≡ is_conflict_free g old.core e }
 {}
 
-/// A step reports that the device failed exactly where it failed during the step, and then it has failed for
-/// good: dispatched messages are still given back, and logged ones are answered, but nothing else comes.
+/// A step reports that the device failed exactly if it failed during the step, and then the device counts as failed for
+/// good: messages in flight can still be given back, and logged ones answered, but no message arrives, is
+/// dispatched or is logged, and no checkpoint goes on.
 pub fn failures_are_reported_and_last()
     ensures reported { (g : Geometry) (old : MachineState) (event : Event) → IsAllowed g old event
         → event.device_failed ≡ reports_failure event.outcome }
@@ -136,13 +137,14 @@ pub fn failures_are_reported_and_last()
         → StaysFailed old.core event.state_after.core }
 {}
 
-/// Messages come into `doubt` only where the device fails.
+/// Messages come into `doubt` only if the device fails.
 pub fn only_a_failure_leaves_doubt()
     ensures { (g : Geometry) (old : MachineState) (event : Event) → IsAllowed g old event → DoubtOnlyAfterFailure old.core
         → DoubtOnlyAfterFailure event.state_after.core }
 {}
 
-/// In `doubt` are the changes among the first m of those that ran, and so are the first of them.
+/// `doubt` is the changes that were carried out among the first messages of `ran`. Each prefix of `doubt` is those among
+/// the first j of them, for some j.
 pub fn what_is_in_doubt_ran()
     ensures event { (g : Geometry) (old : MachineState) (event : Event) → IsAllowed g old event → DoubtOnlyAfterFailure old.core
         → DoubtIsPrefixOfRan old.core → DoubtIsPrefixOfRan event.state_after.core }
@@ -152,9 +154,9 @@ pub fn what_is_in_doubt_ran()
         → (j : ℕ) × (j ≤ length w.ran) × (recorded (take j w.ran) ≡ take k w.doubt) }
 {}
 
-/// What a crash may leave, if it comes when k events or more have ended, is the state to which all that these
-/// appended leads, with more after it. If it comes before the next one has ended, it is the state that was
-/// committed then, with the first m of the messages to be appended then (`in_doubt`).
+/// If a crash comes when k events or more have ended, what it may leave is a state to which all that the first k
+/// events appended leads, with other messages after it or none. If it comes after k events and before the next one has
+/// ended, that is the state committed after the k events, with the first m of the messages in doubt then (`in_doubt`).
 pub fn a_crash_leaves_what_was_appended()
     ensures begins { (g : Geometry) (old : MachineState) (events : List Event) (k : ℕ) (x : State) → IsLeftSince g old events k x
         → (rest : List Msg) × (x ≡ state_after_all g old.core.committed (appended_messages old (take k events) ++ rest)) }
@@ -164,9 +166,9 @@ pub fn a_crash_leaves_what_was_appended()
         (take log.some (in_doubt (end_state old (take k events)).core (drop k events))) }
 {}
 
-/// A crash of two runs, one after the other, may come in either. What it may leave in the log of the first, it may leave of both. What
-/// it may leave in the log of the second, it may leave of both, after all that the first appended. The same holds of the state that it
-/// may leave: of that of the second if the first is legal and began in a sound core state.
+/// Two runs, one after the other, are one run, and its crash may come in either. What a crash of the first may leave in the log, a crash
+/// of both may leave. What a crash of the second may leave in the log, a crash of both may leave after all that the first appended. The
+/// same holds of the state that a crash may leave; for the second run, if the first is legal and began in a sound core state.
 pub fn a_crash_may_come_in_either_run()
     ensures log_first { (old : MachineState) (events more : List Event) (k : ℕ) (ms : List Msg) → k ≤ length events
         → IsLogAfter old events k ms → IsLogAfter old (events ++ more) k ms }
@@ -180,8 +182,8 @@ pub fn a_crash_may_come_in_either_run()
         → IsLeftSince g old (events ++ more) (length events + k) x }
 {}
 
-/// What a run answers is a beginning of what was logged before and in it, in log order. So whatever a crash leaves, if it comes
-/// later, the log begins with every change that was answered.
+/// The messages that a run answers are the first of those that were logged before it and in it, in log order. So the changes that were
+/// logged and unanswered at its start, followed by whatever log a later crash leaves, begin with every change that was answered.
 pub fn answered_changes_are_in_the_log()
     ensures reply_pairs { (g : Geometry) (old : MachineState) (events : List Event) → IsLegal g old events
         → ticket_replies (answered_messages old events) ≡ answered events }
@@ -192,10 +194,11 @@ pub fn answered_changes_are_in_the_log()
         → (rest : List Msg) × (recorded old.core.logged ++ ms ≡ answered_changes old (take k events) ++ rest) }
 {}
 
-/// Where nothing waited, was held or was in `doubt` in the beginning, whatever a crash leaves in the log when k events
-/// have ended are the changes of a serial history of what had arrived: of all that was logged by then, with the first m
-/// of those that ran after it. What was logged begins with all that was answered by then, or before. The first
-/// of those in `doubt` in the end, however many, are the changes among the first of those that ran.
+/// Where nothing waited, was held or was in `doubt` in the beginning: what a crash leaves in the log when k events have
+/// ended is the changes that a serial history of what had arrived carried out. That is all that was logged by then, followed
+/// by the first j of the messages that ran and were not logged, for some j. What is logged in the first k events or more begins
+/// with all that is answered in the first k. Each prefix of `doubt` in the end is the changes among the first j of those that ran,
+/// for some j, and these, after what was logged, are a serial history, too.
 pub fn a_crash_leaves_a_serial_history()
     ensures left { (g : Geometry) (old : MachineState) (events : List Event) (k : ℕ) (ms : List Msg) → IsLegal g old events
         → IsIdle old.core → old.core.doubt ≡ [] → IsLogAfter old events k ms
@@ -211,8 +214,8 @@ pub fn a_crash_leaves_a_serial_history()
         × (recorded (take j (end_state old events).core.ran) ≡ take k (end_state old events).core.doubt) }
 {}
 
-/// Whatever comes, what a dispatched message can read of the committed state stays as it is: what is at its place, below it and
-/// above it.
+/// Whatever event comes, what a message in flight can read of the committed state stays as it is: what is at its place, below it
+/// and above it.
 pub fn messages_in_flight_see_no_change()
     ensures { (g : Geometry) (old : MachineState) (event : Event) (e : Entry) → IsAllowed g old event → IsSoundCoreState g old.core
         → Contains old.core.in_flight e → AgreeOn g (are_related (path_of g e.1)) event.state_after.core.committed old.core.committed }
@@ -224,8 +227,8 @@ pub fn only_grants_and_returns_change_what_is_in_flight()
         → event.state_after.core.in_flight ≡ old.core.in_flight }
 {}
 
-/// The number of dispatched messages grows and falls with that of full hands. So nothing is dispatched in the end where nothing was
-/// in the beginning and every hand is empty in the end.
+/// The number of messages in flight grows and falls with that of full hands (those with a job or a result). So nothing is in flight
+/// in the end if nothing was in the beginning and every hand is empty in the end.
 pub fn messages_in_flight_are_in_hands()
     ensures number { (g : Geometry) (old : MachineState) (events : List Event) → IsLegal g old events
         → length (end_state old events).core.in_flight + full_hands old.hands
@@ -234,8 +237,9 @@ pub fn messages_in_flight_are_in_hands()
         → full_hands (end_state old events).hands ≡ 0 → (end_state old events).core.in_flight ≡ [] }
 {}
 
-/// A further incarnation goes on from each state that the incarnations before it may have left. In whatever they leave, the log of
-/// each incarnation begins with every change that was answered in it.
+/// If the incarnations so far may leave a state, and one more begins in it, all of them may leave the state to which its log leads
+/// from there. What a crash of a run may leave comes of such a log. The log of each incarnation begins with every change that was
+/// answered in it (`HoldsAnswered`).
 pub fn incarnations_follow_one_another()
     ensures first { (g : Geometry) → IsLeftByIncarnations g [] empty }
     ensures next { (g : Geometry) (incarnations : List Incarnation) (incarnation : Incarnation) (x : State) (log : List Msg)

@@ -2,7 +2,7 @@
 
 use messages::{Msg, Reply};
 
-/// What a machine is to do. Hands are named by their number, from 0 on.
+/// What a machine (the model of a server: a core with hands) is to do. Hands are named by their number, from 0 on.
 #[derive(Clone, Copy, Debug, PartialEq, Eq)]
 pub enum Step {
     /// A message arrives.
@@ -17,13 +17,13 @@ pub enum Step {
     Log(usize),
     /// The message that was logged first is answered.
     Answer,
-    /// A checkpoint is made at once.
+    /// A checkpoint is made in one call.
     Point,
-    /// A checkpoint begins.
+    /// An online checkpoint begins.
     Cut,
-    /// A piece of the checkpoint in progress is written.
+    /// A piece of the online checkpoint in progress is written.
     Piece,
-    /// The checkpoint in progress ends.
+    /// The online checkpoint in progress ends.
     Flip,
 }
 
@@ -52,13 +52,13 @@ pub enum Outcome {
     LogFault(CoreFault),
     /// The message with this ticket has this reply, and is held no more.
     Answered(u64, Reply),
-    /// A checkpoint was made.
+    /// A checkpoint was made in one call.
     Pointed,
-    /// A checkpoint has begun.
+    /// An online checkpoint has begun.
     Cut,
     /// This many pieces are left to write.
     Left(usize),
-    /// The checkpoint has ended.
+    /// The online checkpoint has ended.
     Flipped,
     /// The step of a checkpoint may not be made, or failed.
     PointRefused(PointRefusal),
@@ -97,9 +97,9 @@ pub enum PointRefusal {
     Device,
     /// The device has failed before.
     Failed,
-    /// A checkpoint is in progress already.
+    /// An online checkpoint is in progress already.
     Running,
-    /// No checkpoint is in progress.
+    /// No online checkpoint is in progress.
     NotRunning,
     /// Pieces are left to write.
     Unfinished,

@@ -8,7 +8,7 @@ use parcel::{Done, run};
 use runs::HandContent;
 use std::mem;
 
-/// The least empty hand.
+/// The number of the first empty hand.
 pub(crate) fn first_empty(hands: &[HandContent]) -> Option<usize>
     ensures { result ≡ position (λ h. is_empty (hand_of h)) hands.now }
 {

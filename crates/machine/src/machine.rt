@@ -44,7 +44,7 @@ impl<D: Disk> Machine<D> {
         ensures kept { IfOk result (λ m. m.core ≡ core) }
         ensures refused { IfErr result (λ e. e.core ≡ core) }
     {
-        // Its contract states what the machine keeps from here on: the core state is sound.
+        // Called for its contract: the core state is sound, which the machine keeps from here on.
         core.slots();
         match empty_hands(alloc, hands) {
             Ok(hands) => Ok(Machine { core, hands }),
@@ -64,7 +64,7 @@ impl<D: Disk> Machine<D> {
         self.core.know_recovery();
     }
 
-    /// The core. What the hands have is dropped, so dispatched messages stay dispatched.
+    /// The core. The jobs and results that the hands have are dropped, so messages in flight stay in flight.
     pub fn into_core(self) -> Core<D>
         ensures { result ≡ self.core }
     {

@@ -35,9 +35,9 @@ pub(crate) fn make_step<D: Disk>(core: &mut Core<D>, hands: &mut [HandContent], 
     }
 }
 
-// ---- with the hands
+// ---- steps with the hands
 
-// Grants the eligible message with the least ticket to the least empty hand.
+// Grants the eligible message with the least ticket to the first empty hand.
 fn grant<D: Disk>(core: &mut Core<D>, hands: &mut [HandContent]) -> Outcome
     requires { HoldsJobs core.old.geometry (core_state_of core.old) hands.old }
     ensures step { IsMachineStep D.keeps (record { core = core.old; hands = hands.old })
@@ -99,7 +99,7 @@ fn give_back<D: Disk>(core: &mut Core<D>, hands: &mut [HandContent], hand: usize
     Outcome::Back(ticket)
 }
 
-// ---- of the core alone
+// ---- steps of the core alone
 
 fn take_in<D: Disk>(core: &mut Core<D>, message: &Msg) -> Outcome
     ensures step { IsCoreStep D.keeps core.old core.new (steps.Arrive message.now) result }

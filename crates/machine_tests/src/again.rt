@@ -25,8 +25,8 @@ const ITS_VOLUME: [Row; 4] = [
     Arrives("list 0 0", Outcome::Ticket(2)),
 ];
 
-/// Opens a device. Where memory is refused by the time of `most_calls` calls of the device, the device is unchanged, and a second try opens
-/// it.
+/// Opens a device. Where memory is refused, the device is unchanged; if it was called `most_calls` times or less by then, a second try
+/// opens it.
 fn opened_again(
     rt: &impl Abort,
     alloc: Global,

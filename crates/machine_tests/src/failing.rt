@@ -7,7 +7,7 @@ use std::alloc::Global;
 use std::process::Abort;
 use std::test::Fail;
 
-/// What is done, and the step behind it in which the device fails.
+/// What is done, and the step after it, in which the device fails.
 const FAULTS: [(&[Row], Row); 5] = [
     (
         &[
@@ -53,14 +53,15 @@ const FAILED: [Row; 8] = [
     Does(Step::Flip, Outcome::PointRefused(PointRefusal::Failed)),
 ];
 
-/// How many calls a new device meets in these rows.
+/// How many calls of a new device its opening and these rows make.
 fn calls_of(rt: &impl Abort, alloc: Global, rows: &[Row]) -> Result<u64, Wrong> {
     let mut machine = machine_on(alloc, device_with(alloc, SMALL, &[])?, 2, 2)?;
     goes_so(rt, &mut machine, rows);
     Ok(machine.into_core().into_disk().calls())
 }
 
-/// The first call of the device in a step fails alone. Then each step reports that it has failed, and the device isn't called again.
+/// Of the calls of the device the first one in step `failing` fails, and no other. From then on each step reports that the device has
+/// failed, or is idle, and none calls it.
 fn stays_failed(rt: &impl Abort, alloc: Global, before: &[Row], failing: Row) -> Result<(), Wrong> {
     let calls = calls_of(rt, alloc, before)?.saturating_add(1);
     let mut device = device_with(alloc, SMALL, &[])?;

@@ -13,7 +13,7 @@ use std::process::Abort;
 /// file lie in different stripes. In order: aggregates, volumes, stripes, width, files, blocks, quota, records in a half.
 pub(crate) const SMALL: [u16; 8] = [1, 1, 2, 1, 2, 4, 2, 4];
 
-/// One volume of one file of four blocks, each in a stripe of its own, and eight records in a half.
+/// One volume of one file of four blocks, each in a stripe of its own, and eight records in a half. The order is the same.
 pub(crate) const FLAT: [u16; 8] = [1, 1, 4, 1, 1, 4, 1, 8];
 
 /// A step of a machine, and its outcome.
@@ -56,7 +56,7 @@ pub(crate) fn open_machine(
     }
 }
 
-/// The same on a device that isn't refused.
+/// The same on a device that isn't refused; an error where it is.
 pub(crate) fn machine_on(
     alloc: Global,
     device: MemDisk,
@@ -83,7 +83,7 @@ fn message_of(rt: &impl Abort, line: &str) -> Msg {
     parse_line(line.as_bytes()).expect(rt, "a message")
 }
 
-/// The reply to this message, which no other one is in the way of.
+/// The reply to this message, on which all steps of `WHOLE` are made: no other message waits or is held.
 fn serve(rt: &impl Abort, machine: &mut Machine<MemDisk>, message: Msg) -> Option<Reply> {
     let Outcome::Ticket(ticket) = one(machine, Step::Arrive(message)) else {
         return None;

@@ -1,4 +1,4 @@
-//! Worked lists of steps, with outcomes by hand.
+//! Worked lists of steps, whose outcomes are written by hand.
 use crate::making::Row::{Arrives, Does, Serves};
 use crate::making::{FLAT, Row, SMALL, goes_so, holds, machine_on};
 use checkpoint::inspect;
@@ -10,7 +10,7 @@ use std::alloc::Global;
 use std::process::Abort;
 use std::test::Fail;
 
-/// A machine that was just opened, and all that it does.
+/// A machine with so many slots for messages and so many hands, that was just opened, and all that it does.
 #[derive(Clone, Copy, Drop)]
 struct Incarnation {
     slots: usize,
@@ -55,7 +55,7 @@ fn left_by(rt: &impl Abort, alloc: Global, incarnations: &Incarnations) -> Resul
     Ok(device)
 }
 
-/// How many calls a new device meets in the first m rows of an incarnation.
+/// How many calls of a new device the opening and the first rows of an incarnation make, where `first` says how many rows.
 fn calls_of(
     rt: &impl Abort,
     alloc: Global,
@@ -73,7 +73,7 @@ fn calls_of(
     Ok(lived(rt, alloc, device, &beginning)?.calls())
 }
 
-/// The device after an incarnation on a new one, where this injected fault is set after the first m rows.
+/// The device after an incarnation on a new one, where this injected fault counts from the end of the first rows, `first` of them.
 fn left_with(
     rt: &impl Abort,
     alloc: Global,
@@ -127,7 +127,7 @@ const A_FILE: Incarnation = Incarnation {
     ],
 };
 
-/// What a refusal changes isn't logged.
+/// A message that is refused has no record in the log.
 const REFUSED: Incarnations = Incarnations {
     numbers: SMALL,
     incarnations: &[Incarnation {
@@ -187,7 +187,8 @@ const ONE_HAND: Incarnation = Incarnation {
     ],
 };
 
-/// A write is related to no other stripe, but to the making of a file, which waits before it.
+/// The second write goes to another stripe than the first, and doesn't conflict with it, but with the `create` that waits before it. So it
+/// isn't granted. While all three slots are taken, a further message is refused as `Full`, and one out of range as `Range`.
 const THREE_SLOTS: Incarnations = Incarnations {
     numbers: SMALL,
     incarnations: &[
@@ -275,7 +276,7 @@ const SIDE_BY_SIDE: Incarnations = Incarnations {
     ],
 };
 
-/// The steps of a point in pieces, in and out of place.
+/// The steps of a cut, in order and out of order.
 const IN_PIECES: Incarnations = Incarnations {
     numbers: SMALL,
     incarnations: &[Incarnation {
@@ -303,8 +304,8 @@ fn steps_come_out_so(rt: HostRuntime) -> Result<(), Fail> {
     Ok(())
 }
 
-/// The same, and it prints where its first step comes and where its last one is over: in between no memory is asked for, which
-/// `tests/run calls` counts.
+/// As `lived`, but it prints a line before its first step and one after its last. In between no memory may be asked for: `tests/run calls`
+/// counts the requests.
 fn lived_without_memory(
     rt: &(impl Abort + Print),
     alloc: Global,
@@ -318,7 +319,7 @@ fn lived_without_memory(
     Ok(machine.into_core().into_disk())
 }
 
-/// The last of these incarnations takes memory before its steps alone.
+/// The last of these incarnations takes memory only before its first step.
 fn takes_memory_before_its_steps_alone(
     rt: &(impl Abort + Print),
     alloc: Global,
@@ -396,10 +397,10 @@ const OPENED: Incarnation = Incarnation {
     rows: &[],
 };
 
-/// How many rows come before that log.
+/// How many rows of `LOG_FAILS` come before its log step.
 const BEFORE_THE_LOG: usize = 4;
 
-/// The device fails in that log by this injected fault, and a crash of this kind comes, or none: what is opened again has this many
+/// The device fails in that log step by this injected fault, and a crash of this kind comes, or none: what is opened again has this many
 /// volumes.
 fn leaves_volumes(
     rt: &impl Abort,
@@ -417,7 +418,7 @@ fn leaves_volumes(
     Ok(())
 }
 
-// A log writes the records, syncs them, writes their gates and syncs these.
+// A log step makes four calls: it writes the records, syncs them, writes their gates and syncs these.
 
 #[test]
 fn a_log_that_stops_at_its_gate_leaves_the_change_only_if_that_was_written(
@@ -438,7 +439,8 @@ fn a_log_in_which_one_call_fails_leaves_the_change_only_if_its_gate_was_written(
     Ok(())
 }
 
-/// Three blocks are written side by side, and the device stops where they are logged, at the write of their gates.
+/// Three blocks are written side by side, and the device stops where they are logged, at the write of their gates. The log step comes after
+/// the first 15 rows.
 const THREE_WRITES: Incarnation = Incarnation {
     slots: 3,
     hands: 3,
@@ -505,7 +507,7 @@ fn torn_gates_leave_a_beginning(rt: HostRuntime) -> Result<(), Fail> {
     Ok(())
 }
 
-/// A change before a cut, and one after it.
+/// A change before a cut, and one while it is in progress.
 const BEHIND_A_CUT: Incarnations = Incarnations {
     numbers: SMALL,
     incarnations: &[Incarnation {
@@ -519,7 +521,7 @@ const BEHIND_A_CUT: Incarnations = Incarnations {
     }],
 };
 
-/// The same, and the point is ended.
+/// The same, and the cut is ended.
 const BEHIND_A_FLIP: Incarnations = Incarnations {
     numbers: SMALL,
     incarnations: &[Incarnation {
@@ -544,7 +546,8 @@ const BOTH: Incarnation = Incarnation {
     rows: &[Serves("list 0 0", "files 0")],
 };
 
-/// What a crash after these incarnations leaves is shown so. Both changes are there once it is opened, and area 1 is named.
+/// After these incarnations and a crash this area and this many records are reported. Once the device is opened, both changes are there,
+/// and area 1 is named.
 fn has_both(
     rt: &impl Abort,
     alloc: Global,
@@ -571,7 +574,7 @@ const CHANGED_PIECES: Incarnation = Incarnation {
     slots: 1,
     hands: 1,
     rows: &[
-        // Into area 0, of which nothing is known.
+        // Into area 0, of which nothing is known: all three pieces are dirty.
         Does(Step::Cut, Outcome::Cut),
         Does(Step::Piece, Outcome::Left(2)),
         Does(Step::Piece, Outcome::Left(1)),
@@ -600,7 +603,7 @@ const CHANGED_PIECES: Incarnation = Incarnation {
     ],
 };
 
-/// This many of these rows end with the end of a cut. Then this area is named, and has this many volumes, files and blocks.
+/// The first so many rows of `CHANGED_PIECES` end with the end of a cut. Then this area is named, with so many volumes, files and blocks.
 const NAMED: [(usize, usize, [u32; 3]); 5] = [
     (5, 0, [0, 0, 0]),
     (9, 1, [1, 0, 0]),
@@ -609,7 +612,7 @@ const NAMED: [(usize, usize, [u32; 3]); 5] = [
     (22, 0, [1, 1, 1]),
 ];
 
-/// The first m of these rows leave a device that is shown so.
+/// What the first rows, `first` of them, leave of a new device is reported so, with no record in force.
 fn cuts_leave(
     rt: &impl Abort,
     alloc: Global,
@@ -633,6 +636,7 @@ fn cuts_write_what_has_changed(rt: HostRuntime) -> Result<(), Fail> {
     for &(first, area, summary) in &NAMED {
         cuts_leave(&rt, alloc, first, area, summary)?;
     }
+    // Row 21, a step `Piece` of the last cut, has nothing to write, and makes no call of the device.
     let last_cut = calls_of(&rt, alloc, SMALL, &CHANGED_PIECES, 20)?;
     let no_piece = calls_of(&rt, alloc, SMALL, &CHANGED_PIECES, 21)?;
     holds(&rt, no_piece == last_cut);

@@ -1,4 +1,5 @@
-//! A machine on a device that fails, stops and is torn at any call, before, in and behind a cut.
+//! A machine on a device that fails, or stops and is torn, at any call of a run: at the opening, before a cut and while that is in
+//! progress.
 use crate::making::{SMALL, WHOLE, holds, one, open_machine};
 use affinity::Geometry;
 use checkpoint::OpenFault;
@@ -14,7 +15,7 @@ use std::test::Fail;
 /// The changes: the first is logged before the cut, the second one while it is in progress.
 const CHANGES: [&str; 2] = ["makevol 0 0", "create 0 0 0"];
 
-/// What comes behind both: the pieces of the cut, and its end.
+/// What follows both: the pieces of the cut, and its end.
 const END: [Step; 4] = [Step::Piece, Step::Piece, Step::Piece, Step::Flip];
 
 /// The steps of a machine, and the answers that may be found on its device: those of a server after the first m changes.
@@ -65,7 +66,7 @@ const UNOPENED: Progress = Progress {
     is_faultless: false,
 };
 
-/// How far a run is behind a step that came out so. A log has one change.
+/// How far a run has come after a step with this outcome. A `Log` step logs one change.
 fn behind(progress: Progress, outcome: &Outcome) -> Progress {
     let Progress {
         answered,
@@ -134,8 +135,8 @@ impl Trial for Play {
     }
 }
 
-/// Opening syncs, reads the header, the area, the head of an image, three pieces, a chain byte and the gates, and makes a
-/// point at once, of three writes and three syncs.
+/// Opening syncs, reads the header, the root byte, the head of an image, three pieces, a chain byte and the gates, and makes a point, of
+/// three writes and three syncs.
 const OPENING: u64 = 9 + 6;
 
 /// A log is two writes and two syncs.
@@ -144,7 +145,7 @@ const LOG: u64 = 4;
 /// A cut is two writes and two syncs, three pieces, and a sync, a write and a sync at its end.
 const CUT: u64 = 4 + 3 + 3;
 
-/// Whatever call of the device fails, what was logged is there, and of what was being logged a beginning.
+/// Whichever call of the device fails, what was logged is there, and what was being logged may be.
 #[test]
 fn a_change_behind_a_cut_survives(rt: HostRuntime) -> Result<(), Fail> {
     let calls = sweep(rt.alloc(), &Play::new(rt.alloc())?)?;

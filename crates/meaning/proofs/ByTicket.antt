@@ -74,12 +74,12 @@ module _ {A : Type 0} where
 
 -- ---- the replies
 
--- one that isn't before by its ticket is at an unrelated place
+-- where e comes before d, and in order if they are related, but has no smaller ticket, the two are at unrelated places
 unrelated : (g : Geometry) (e d : ℕ × Msg) → InOrderIfRelated g e d → nat_lt e.0 d.0 ≡ false → are_related (path_of g e.1) (path_of g d.1) ≡ false
 unrelated g e d h late = false_from_ne_true _ (λ r. true≢false (sym (lt-ltb e.0 d.0 (h r)) ∙ late))
 
 module _ (g : Geometry) (e : ℕ × Msg) where
-  -- a message that comes first may as well come at its ticket
+  -- the replies are the same if the first message comes later, where its ticket puts it
   pub serial_replies-put : (x : State) (ds : List (ℕ × Msg)) → AllByRecursion (InOrderIfRelated g e) ds → serial_replies g x (put e ds)
       ≡ put (e.0, reply_to g x e.1) (serial_replies g (next_state g x e.1) ds)
   serial_replies-put x [] h = refl

@@ -64,7 +64,7 @@ number_small (suc n) t =
     let one : (b : Bool) → (if b then 2 ^ n else 0) ≤ 2 ^ n = λ b. elim b as (λ b. (if b then 2 ^ n else 0) ≤ 2 ^ n) [ true ↦ omega arith | false ↦ omega arith ] in
     omega (arith, number_small n t, one (t n), pow-succ' 2 n)
 
--- numbers that are equal pick the same
+-- equal numbers of n + 1 bits have the same bit n
 one_same : (n : ℕ) (s t : ℕ → Bool) (b c : Bool) → number_of n s + (if b then 2 ^ n else 0) ≡ number_of n t + (if c then 2 ^ n else 0) → b ≡ c
 one_same n s t true true same = refl
 one_same n s t false false same = refl

@@ -21,7 +21,7 @@ use Rattle.meaning.specs.Laws.{outside, Commute}
 use Rattle.meaning.proofs.Agree.{agree-refl, agree-sym, agree-trans, agree_within, agree_everywhere, agree_either}
 use Rattle.meaning.proofs.Effects.{effect_agrees, effect_only}
 
--- ---- where the facts lie that a message may look at
+-- ---- where the parts of the state lie that a message may look at
 
 -- where in its volume a message goes: to the label, or towards its block
 abbrev in_volume : Geometry → Msg → Path
@@ -36,7 +36,7 @@ full g m = let n = key m in n.0 ∷ n.1 ∷ in_volume g m
 one : (a : ℕ) (b : Bool) → b ≡ true → ((a == a) && b) ≡ true
 one a b e = and_from (a == a) b (eq-eqb a a refl) e
 
--- each place is a beginning of it
+-- a message's place is a prefix of that path, or the whole of it
 place_begins : (g : Geometry) (m : Msg) → is_prefix (path_of g m) (full g m) ≡ true
 place_begins g (MakeVol a v) = one a true refl
 place_begins g (DropVol a v) = one a true refl
@@ -53,7 +53,7 @@ place_begins g AskSummary = refl
 place_begins g (SetLabel a v bytes) = is_prefix-refl (label a v)
 place_begins g (AskLabel a v) = is_prefix-refl (label a v)
 
--- so it is related to where its volume's marks (made, sealed) lie, and its files, its block or its label
+-- so the place is related to each prefix of that path: to where the volume's marks (made, sealed), its files, and the block or label lie
 related_to : (g : Geometry) (m : Msg) (q : Path) → is_prefix q (full g m) ≡ true → are_related (path_of g m) q ≡ true
 related_to g m q h = beginnings_related (path_of g m) q (full g m) (place_begins g m) h
 
@@ -98,7 +98,7 @@ module _ (g : Geometry) (R : Path → Bool) (x y : State) (h : AgreeOn g R x y) 
         let r = covers (stripe n.0 n.1 (stripe_of g n.2 n.3)) (related_in_volume g m (0 ∷ stripe_of g n.2 n.3 ∷ []) goes) in
         λ i. is_some (h.blocks n r i) || nat_lt (same_group_count n.0 n.1 (stripe_of g n.2 n.3) r i) g.quota
 
-  -- each test of a message has one answer in both
+  -- each check of a message has the same result in both states
   same_tests : (m : Msg) → ((q : Path) → are_related (path_of g m) q ≡ true → R q ≡ true) → AllByRecursion (λ test. passes g x m test ≡ passes g y m test) (checks m)
   same_tests (MakeVol a v) c = (refl, (ap not (h.made (a, v) (c _ (marks_related g (MakeVol a v)))), tt))
   same_tests (DropVol a v) c = (refl, (same_volume (DropVol a v) c, (same_sealed (DropVol a v) c, tt)))
@@ -190,7 +190,7 @@ left_alone g x m n h = agree_within
 pub same_reply : (g : Geometry) (x : State) (m n : Msg) → are_related (path_of g m) (path_of g n) ≡ false → reply_to g (next_state g x n) m ≡ reply_to g x m
 same_reply g x m n h = (reads_only g (are_related (path_of g m)) (next_state g x n) x m (left_alone g x m n h) (λ q r. r)).0
 
--- at the first one's place and below, both orders leave what the first one alone leaves
+-- at the place of m and below, both orders of m and n leave the same
 at_its_place : (g : Geometry) (x : State) (m n : Msg) → are_related (path_of g m) (path_of g n) ≡ false
     → AgreeOn g (is_prefix (path_of g m)) (next_state g (next_state g x m) n) (next_state g (next_state g x n) m)
 at_its_place g x m n h =

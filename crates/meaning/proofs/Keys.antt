@@ -61,7 +61,7 @@ other_file a v f b k ne = false_from_ne_true _ (λ e. ne (ap (λ (q : BlockKey).
 pub other_place : (a v f b : ℕ) (k : BlockKey) → (k.3 ≡ b → ⊥) → is_block a v f b k ≡ false
 other_place a v f b k ne = false_from_ne_true _ (λ e. ne (ap (λ (q : BlockKey). q.3) (sym (the_block a v f b k e))))
 
--- ---- what answers as after an insert is the set or map with the key
+-- ---- a set or map whose look-ups are those after an insert or a removal is the old one with the key put in or taken out
 
 or_cond : (b c : Bool) → cond b true c ≡ (b || c)
 or_cond true c = refl

@@ -1,4 +1,4 @@
--- Steps that aren't logged change nothing.
+-- Steps of which the log keeps no record change nothing.
 use Rattle.std.proofs.Common.{◌≡◌, true, false, List, [], ◌∷◌, Option, refl, ap, sym, ◌∙◌}
 use Rattle.std.specs.Prelude.{Some, None, if◌then◌else◌}
 use Rattle.std.proofs.lemmas.Bool.{true≢false}
@@ -10,7 +10,7 @@ use Rattle.meaning.specs.State.{State}
 use Rattle.meaning.specs.Serial.{refusal, effect, accepted_reply, reply_and_state, reply_to, next_state, state_after_all, is_recorded}
 use Rattle.meaning.specs.Laws.{logged}
 
--- a message whose answer isn't logged has no effect
+-- a message has no effect if with its reply, where it passes its checks, the log keeps no record of it
 effect_same : (g : Geometry) (x : State) (m : Msg) → is_recorded m (accepted_reply g x m) ≡ false → effect x m ≡ x
 effect_same g x (Read a v f b) h = refl
 effect_same g x (ListFiles a v) h = refl
@@ -27,7 +27,7 @@ effect_same g x (Write a v f b content) h = absurd (true≢false h)
 effect_same g x (Punch a v f b) h = absurd (true≢false h)
 effect_same g x (SetLabel a v bytes) h = absurd (true≢false h)
 
--- A message that isn't logged has changed nothing.
+-- A message of which the log keeps no record has changed nothing.
 pub unlogged_changes_nothing : (g : Geometry) (x : State) (m : Msg) → is_recorded m (reply_to g x m) ≡ false → next_state g x m ≡ x
 unlogged_changes_nothing g x m h = by (refusal g x m) h
   where
@@ -35,7 +35,7 @@ unlogged_changes_nothing g x m h = by (refusal g x m) h
     by None h = effect_same g x m h
     by (Some why) h = refl
 
--- So the messages that are logged are enough.
+-- So the messages with a record lead to the state to which all lead.
 pub fold_logged : (g : Geometry) (x : State) (ms : List Msg) → state_after_all g x (logged g x ms) ≡ state_after_all g x ms
 fold_logged g x [] = refl
 fold_logged g x (m ∷ ms) =

@@ -1,4 +1,4 @@
--- Inner: The checks of a message by its kind and its four numbers, with no message made.
+-- Inner: The checks of a message by its kind and its four numbers, for a caller that hasn't built the message.
 use Rattle.std.specs.Prelude.{ℕ, Bool, false, not, ◌||◌, nat_lt, List, [], ◌∷◌, find, slice_index, Option, None, Some, is_some}
 use Rattle.affinity.specs.declared.geometry.Geometry.{Geometry}
 use Rattle.affinity.specs.declared.kinds.Kind.{Kind}

@@ -36,7 +36,7 @@ abbrev pub is_refused : Reply → Bool
 is_refused (Refused why) = true
 is_refused _ = false
 
--- the messages of a list that are logged, where they run one after the other from x on
+-- those messages of a list that get a record in the log, where all run one after the other from x on
 abbrev pub logged : Geometry → State → List Msg → List Msg
 logged g x [] = []
 logged g x (m ∷ ms) = let rest = logged g (next_state g x m) ms in if is_recorded m (reply_to g x m) then m ∷ rest else rest

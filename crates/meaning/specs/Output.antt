@@ -29,7 +29,7 @@ output_lines g x (line ∷ ls) = answer_line g x (message_of line) ∷ output_li
 abbrev pub joined : List (List ℕ) → List ℕ
 joined pieces = flat_map (λ piece. piece) pieces
 
--- all that the serial server writes for an input, from a state on
+-- all bytes that the serial server writes for an input, from a state on
 abbrev pub serial_output : Geometry → State → List ℕ → List ℕ
 serial_output g x input = joined (output_lines g x (lines input))
 
@@ -48,8 +48,8 @@ with_newlines ls = flat_map (λ line. line ++ 10 ∷ []) ls
 abbrev pub HasNoNewline : List ℕ → Type 0
 HasNoNewline bytes = AllByRecursion (λ b. b ≢ 10) bytes
 
--- What was taken of the input is some whole lines and a beginning of a further one, and this is what is left of it. Only the whole lines
--- were answered, from a state on.
+-- Some whole lines were taken of the input, and a beginning of a further one (`begun`); `left` is the rest. Only the whole lines were
+-- answered, from the state `start` on.
 pub record AnswersWholeLines (g : Geometry) (start : State) (left : Option (List ℕ)) (input written : List ℕ) : Type 0 where
   pub whole : List (List ℕ)
   pub begun : List ℕ
@@ -64,7 +64,7 @@ pub record AnswersWholeLines (g : Geometry) (start : State) (left : Option (List
 abbrev pub IsBeginning : Geometry → State → List ℕ → List ℕ → Type 0
 IsBeginning g start input written = (n : ℕ) × (written ≡ joined (take n (output_lines g start (lines input))))
 
--- Where the input is known: P holds of it and of what was written after the old bytes.
+-- Where the input is known: P holds of it and of the bytes that were written, by which the output grew from `old` to `new`.
 abbrev pub WritesOutput : Option (List ℕ) → Option (List ℕ) → Option (List ℕ) → (List ℕ → List ℕ → Type 0) → Type 0
 WritesOutput None old new P = Unit {0}
 WritesOutput (Some input) old new P = (written : List ℕ) × Appends old new written × P input written

@@ -20,7 +20,7 @@ abbrev pub key_of : List ℕ → BlockKey
 key_of (a ∷ v ∷ f ∷ b ∷ []) = (a, v, f, b)
 key_of _ = (0, 0, 0, 0)
 
--- the volume, the file and the block of a message, where a number that it doesn't have is 0
+-- the key (aggregate, volume, file, block) that a message names; a number that it doesn't have is 0
 abbrev pub key : Msg → BlockKey
 key m = key_of (four_numbers m)
 
@@ -94,7 +94,7 @@ abbrev pub block_reply : Option Block → Reply
 block_reply None = Hole
 block_reply (Some content) = Found content
 
--- the number whose bits are the files of a volume
+-- the files of a volume as the bits of a number: bit f is 1 if file f is there
 abbrev pub file_bits : Geometry → State → ℕ → ℕ → ℕ
 file_bits g x a v = sum_below g.files (λ f. if x.files (a, v, f) then 2 ^ f else 0)
 
@@ -141,6 +141,6 @@ abbrev pub is_done : Reply → Bool
 is_done Done = true
 is_done _ = false
 
--- a changing message that was carried out
+-- whether the log keeps a record of a message with this reply: a changing message that was carried out
 abbrev pub is_recorded : Msg → Reply → Bool
 is_recorded m reply = is_changing (kind m) && is_done reply

@@ -1,4 +1,4 @@
--- Statement for clients: What a server keeps. A set is its test, and a map its look-up.
+-- Statement for clients: What a server keeps. A set is the function that tests whether a key is in it, a map the one that looks a key up.
 use Rattle.std.specs.Prelude.{◌≡◌, ℕ, zero, suc, ◌+◌, ◌<◌, ◌≤◌, Bool, true, false, not, ◌&&◌, ◌||◌, ◌==◌, List, if◌then◌else◌, Option, Some, None, is_some, IfSome}
 use Rattle.affinity.specs.declared.geometry.Geometry.{Geometry}
 use Rattle.affinity.specs.Geometry.{stripe_of}
@@ -13,7 +13,7 @@ Set K = K → Bool
 abbrev pub Map : Type 0 → Type 0 → Type 0
 Map K X = K → Option X
 
--- the set with those, or without those, that the test picks
+-- the set with the keys that the test picks added, or taken out
 abbrev pub adding : {K : Type 0} → (K → Bool) → Set K → Set K
 adding selected s k = selected k || s k
 

@@ -5,8 +5,8 @@ use Rattle.affinity.specs.Geometry.{stripe_of}
 use Rattle.affinity.specs.Path.{Path, is_prefix, volume, logical, stripe, label}
 use Rattle.meaning.specs.State.{State, VolumeKey, FileKey, BlockKey}
 
--- Where each fact lies: the flags of a volume at the volume, its files at its Volume Logical, its label at its Volume Label, a block at its
--- stripe.
+-- Where in the tree each part of the state lies: whether a volume is made and sealed at the volume's node, its files at its Volume Logical,
+-- its label at its Volume Label, a block at its stripe.
 abbrev pub path_of_volume : VolumeKey → Path
 path_of_volume k = volume k.0 k.1
 

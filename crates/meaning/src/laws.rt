@@ -15,8 +15,8 @@ ghost use Rattle.meaning.specs.Subtrees.{AgreeOn, subtree, standing};
 ghost use Rattle.meaning.specs.Order.{by_ticket, KeepsOrder};
 ghost use Rattle.meaning.specs.Laws.{outside, RunAlike, Commute, SameByTicket, is_refused, logged, AreInOrder};
 
-/// The empty state is a state, and each message leads from a state to a state: all numbers stay in
-/// range, blocks and labels keep their lengths, and no stripe gets more blocks than its quota.
+/// The empty state is a possible one (`IsState`), and each message leads from a possible state to a possible one: all
+/// numbers stay in range, blocks and labels keep their lengths, and no stripe gets more blocks than its quota.
 pub fn step_keeps_state()
     ensures nothing { (g : Geometry) → IsState g empty }
     ensures step { (g : Geometry) (x : State) (m : Msg) → IsState g x → IsMessage m → IsState g (next_state g x m) }
@@ -52,7 +52,8 @@ pub fn order_by_ticket()
     ensures same { (g : Geometry) (x : State) (es : List (ℕ × Msg)) → KeepsOrder g es → SameByTicket g x es }
 {}
 
-/// What isn't logged changes nothing, so the messages that are logged lead to the state of all.
+/// A message of which the log keeps no record (a query, or one that was refused) changes nothing. So those with a record
+/// lead to the state to which all lead.
 pub fn logged_messages_are_enough()
     ensures unlogged { (g : Geometry) (x : State) (m : Msg) → is_recorded m (reply_to g x m) ≡ false → next_state g x m ≡ x }
     ensures logged { (g : Geometry) (x : State) (ms : List Msg) → state_after_all g x (logged g x ms) ≡ state_after_all g x ms }

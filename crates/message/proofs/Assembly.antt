@@ -73,7 +73,7 @@ pub all_files : (files f : ℕ) → f ≡ 64 → codes "files" ++ files_below fi
 unfolding files_text
 all_files files f e = ap (λ n. codes "files" ++ files_below files n) e
 
--- no file above a number below which all bits are
+-- if all bits of the set lie below f, no file from f on is listed
 none_above : (files f m n : ℕ) → n ≡ m + f → files < 2 ^ f → files_below files n ≡ files_below files f
 none_above files f zero n is low = let same : n ≡ f = omega (arith, is) in ap (files_below files) same
 none_above files f (suc m) n is low =
@@ -89,7 +89,7 @@ files_end files f few none =
     let low : files < 2 ^ f = subst (λ (n : ℕ). files < n) (one-mul (2 ^ f)) less in
     ap (λ (text : List ℕ). codes "files" ++ text) (sym (none_above files f (64 - f) 64 all low))
 
--- no files where no bits are
+-- if the z bits from f on are 0, none of these files is listed
 none_between : (files f z : ℕ) → ((i : ℕ) → i < z → bit_at files (f + i) ≡ 0) → files_below files (f + z) ≡ files_below files f
 none_between files f zero none = let same : f + 0 ≡ f = omega arith in ap (files_below files) same
 none_between files f (suc z) none =

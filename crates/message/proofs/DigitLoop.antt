@@ -1,4 +1,4 @@
--- Steps of loops that decode pairs of digits and look at the greatest value in the end.
+-- Steps of loops that decode pairs of digits and look at the greatest value in the end. *Read*, of a digit or a byte, means decoded here.
 use Rattle.std.proofs.Common.{◌≡◌, ℕ, zero, suc, max, ◌+◌, ◌*◌, ◌-◌, ◌%◌, ◌<◌, ◌≤◌, ◌⊎◌, ⊎_elim, true, false, List, length, take, drop, slice_index, slice_set, Option, Some, None, Ok, Err, refl, sym, ap, subst, ◌∙◌, arith}
 use Rattle.std.specs.Prelude.{IsErr}
 use Rattle.std.specs.Option.{unwrap_or}
@@ -25,7 +25,7 @@ pair_read high low i h l =
 no_digit : (c : ℕ) → 16 ≤ value_of c → is_hex_digit c ≡ false
 no_digit c h = grind arith
 
--- what has a byte that is no digit isn't decoded
+-- decoding fails where one of the bytes is no digit
 other_refused : (s : List ℕ) (k : ℕ) → k < length s → 16 ≤ value_of (slice_index s k) → IsErr (decode_pairs 0 s)
 other_refused s k h other =
     elim (decode_pairs 0 s) as (λ r. decode_pairs 0 s ≡ r → IsErr r) [
@@ -67,21 +67,21 @@ read_more digits out from i v here before j least less = ⊎_elim
     (λ (more : i ≤ j). let last : i ≡ j = omega (arith, less, more) in subst (IsDecoded digits (slice_set out i v)) last here)
     (cases_lt j i)
 
--- Bytes stay read where they stay.
+-- Bytes that are read stay so if they don't change.
 pub read_still : (digits old new : List ℕ) (to : ℕ) → ((i : ℕ) → i < to → slice_index new i ≡ slice_index old i)
     → AreDecoded digits old 0 to → AreDecoded digits new 0 to
 read_still digits old new to same before i least less =
     let r = before i least less in
     record { high = r.high; low = r.low; byte = same i less ∙ r.byte }
 
--- those up to a place, and those from there on
+-- the bytes below `from` and those from `from` up to `to` are read, so all below `to` are
 pub read_both : (digits out : List ℕ) (from to : ℕ) → AreDecoded digits out 0 from → AreDecoded digits out from to → AreDecoded digits out 0 to
 read_both digits out from to first second i least less = ⊎_elim
     (λ (earlier : i < from). first i least earlier)
     (λ (later : from ≤ i). second i later less)
     (cases_lt i from)
 
--- A group of digits has these values, each of them a digit's. Their bytes are put in the places from `at` on, and those before it stay.
+-- A group of digits has these values, each of them a digit's. Their bytes are put in the places from `at` on, and those before `at` stay.
 pub record IsGroup (digits old new values : List ℕ) (at : ℕ) : Type 0 where
   pub each : (k : ℕ) → k < 32 → slice_index values k ≡ value_of (slice_index digits (2 * at + k))
   pub small : (k : ℕ) → k < 32 → slice_index values k < 16
@@ -105,7 +105,7 @@ group_at digits old new values at k g few =
       byte = g.pairs k few ∙ omega (arith, high, low, small_high, small_low);
     }
 
--- A group more is read.
+-- One group more is read.
 pub group_read : (digits old new values : List ℕ) (at : ℕ) → IsGroup digits old new values at → AreDecoded digits old 0 at
     → AreDecoded digits new 0 (at + 16)
 group_read digits old new values at g before i least less = ⊎_elim
@@ -129,11 +129,11 @@ decoded_to digits out (suc i) few fits all =
     (subst (λ (l : List ℕ). decode_pairs 0 digits ≡ prepend (take (i + 1) l) (decode_pairs (2 * (i + 1)) (drop (2 * (i + 1)) digits)))
     (set-get_or out i 0) step)
 
--- Where all bytes are read, the digits are decoded.
+-- Where all bytes are read, `decode_pairs` gives them.
 pub decoded : (digits out : List ℕ) → length digits ≡ 2 * length out → AreDecoded digits out 0 (length out) → decode_pairs 0 digits ≡ Ok out
 decoded digits out fits all =
     decode_done digits out (length out) (omega arith) (omega (arith, fits)) (decoded_to digits out (length out) (omega arith) fits all)
 
--- Where one is none, they are not.
+-- Where one of the digits is none, `decode_pairs` fails.
 pub not_decoded : (digits : List ℕ) → HasNonDigit digits → IsErr (decode_pairs 0 digits)
 not_decoded digits other = other_refused digits other.0 other.1 other.2

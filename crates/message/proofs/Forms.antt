@@ -13,7 +13,7 @@ use Rattle.message.proofs.Numbers.{number_no_space}
 use Rattle.message.proofs.Blocks.{block_no_space, label_no_space, bytes_block, no_block, label_bytes}
 use Rattle.messages.specs.Grammar.{◌>>=◌, first_number, of_volume, of_file, of_block, of_data, of_label, of_nothing}
 
--- what the first of several words encodes as a number goes to k, with the words after it
+-- k of the number that the first of several words encodes, and of the words after it
 abbrev pub onward : (ℕ → List (List ℕ) → Option Msg) → List (List ℕ) → Option Msg
 onward k ws = first_number ws >>= (λ p. k p.0 p.1)
 
@@ -27,13 +27,13 @@ onward_none k ws e = rw e refl
 abbrev beside : List (List ℕ) → ℕ → Option (ℕ × List (List ℕ))
 beside vs n = Some (n, vs)
 
--- a number, and k of the words behind it
+-- f of an optional number is k of the number and of the words vs behind it
 live : (o : Option ℕ) (vs : List (List ℕ)) (f : ℕ → Option Msg) (k : ℕ → List (List ℕ) → Option Msg) → ((n : ℕ) → f n ≡ k n vs)
     → (o >>= f) ≡ ((o >>= beside vs) >>= (λ p. k p.0 p.1))
 live None vs f k h = refl
 live (Some n) vs f k h = h n
 
--- words too few or too many
+-- no message, where k makes none of the words vs behind the number: they are too few or too many
 dead : (o : Option ℕ) (vs : List (List ℕ)) (k : ℕ → List (List ℕ) → Option Msg) → ((n : ℕ) → k n vs ≡ None)
     → None ≡ ((o >>= beside vs) >>= (λ p. k p.0 p.1))
 dead None vs k h = refl
@@ -141,12 +141,12 @@ of_label-onward make (a ∷ v ∷ []) = dead (number_in_word a) (v ∷ []) (λ n
 of_label-onward make (a ∷ v ∷ d ∷ []) = live (number_in_word a) (v ∷ d ∷ []) _ (λ n. label_from_volume (make n)) (λ n. refl)
 of_label-onward make (a ∷ v ∷ d ∷ w ∷ ws) = dead (number_in_word a) (v ∷ d ∷ w ∷ ws) (λ n. label_from_volume (make n)) (λ n. refl)
 
--- what is made of a value, if there is one
+-- if P holds of what f makes of each value, it holds of what f makes of an optional one
 made_of : {A : Type 0} (P : Msg → Type 0) (o : Option A) (f : A → Option Msg) → ((x : A) → IfSome (f x) P) → IfSome (o >>= f) P
 made_of P (Some x) f each = each x
 made_of P None f each = tt
 
--- words after `setlabel` make no other message
+-- the message that the words after `setlabel` make, if any, is a `setlabel`
 pub label_sets : (ws : List (List ℕ)) → IfSome (of_label SetLabel ws) (λ m. kind m ≡ kinds.SetLabel)
 label_sets [] = tt
 label_sets (a ∷ []) = tt
@@ -188,7 +188,7 @@ of_number-none make line h = let e = only-number line ∙ sym h in rw e refl
 only-label : (line : List ℕ) → only label_in_word (words line) ≡ label_in_word line
 only-label line = only-words label_in_word line (label_no_space line)
 
--- what is left of a `write` whose digits are not yet read
+-- the last step of a `write`: the rest of its line as the digits of a block
 pub of_digits-told : (make : Block → Msg) (line : List ℕ) → of_digits make (words line) ≡ option_map make (block_in_word line)
 of_digits-told make line = rw (only-block line) (elim (block_in_word line) as (λ o. (o >>= (λ content. Some (make content))) ≡ option_map make o) [ None ↦ refl | Some content ↦ refl ])
 

@@ -22,7 +22,7 @@ with_kind line word args k h e named = by_words line (word ∷ args) h e ∙ ap 
 pub without_kind : (line word : List ℕ) (args : List (List ℕ)) → length line ≤ 1100 → words line ≡ word ∷ args → None ≡ kind_named word → message_of line ≡ None
 without_kind line word args h e named = by_words line (word ∷ args) h e ∙ ap (λ (o : Option Kind). o >>= (λ k. of_kind k args)) (sym named)
 
--- only one kind has a keyword that is alone in its line
+-- a keyword alone in its line is a message only if it is `summary`
 pub needs_words : (k : Kind) → (k ≡ Summary → ⊥) → of_kind k [] ≡ None
 needs_words MakeVol h = refl
 needs_words DropVol h = refl
@@ -41,7 +41,7 @@ needs_words Label h = refl
 
 -- ---- a kind and its keyword
 
--- what a choice gave, it gave by its test or without it
+-- a choice that gave a kind gave it because its test passed, or from its other branch
 either : (t : Bool) (a b : Option Kind) (k : Kind) → cond t a b ≡ Some k → ((t ≡ true) × (a ≡ Some k)) ⊎ (b ≡ Some k)
 either true a b k h = inl (refl, h)
 either false a b k h = inr h
@@ -91,7 +91,7 @@ passes word k h = names_it word k ((bytes_eq-Decides word (keyword k)).0 h)
 
 -- ---- the keywords of one length
 
--- what is left to see of a word once it failed the test for a keyword, if that has its length
+-- the test failed, if it counts (the keyword has the word's length), and the rest holds
 abbrev pub FailsAlso : Bool → Bool → Type 0 → Type 0
 FailsAlso true test rest = (test ≡ false) × rest
 FailsAlso false test rest = rest
@@ -120,7 +120,7 @@ pub fails_all : (n : ℕ) (word : List ℕ) → length word ≡ n → FailsEach 
 unfolding kind_named
 fails_all n word len fails = sym (none_among n word all_kinds len fails)
 
--- a word that has the length of no keyword but one's, and fails the test for that, names no kind
+-- a word whose length is that of at most one keyword, and that fails the test for that keyword, names no kind
 pub no_length : (word : List ℕ) (k : Kind) → ((j : Kind) → (length word ≡ length (keyword j) → ⊥) ⊎ (j ≡ k)) → bytes_eq word (keyword k) ≡ false → None ≡ kind_named word
 no_length word k others fails = sym (names_none word (λ j is. elim (others j) [
   | inl other ↦ other (ap length is)
@@ -156,7 +156,7 @@ module _ (line : List ℕ) (none : (k : ℕ) → k ≤ 8 → k < length line →
       let is = ap length (its_keyword line k (sym named)) in
       words_whole line 9 (omega (arith, short, is)) (none_before line 9 (λ i low high. none i (omega arith) high))
 
-  -- one that is none has no message: its first word is the line, or too long for a keyword
+  -- a line that is no keyword spells no message: its first word is the whole line, or too long for a keyword
   pub no_keyword : length line ≤ 1100 → None ≡ kind_named line → message_of line ≡ None
   no_keyword fits named = elim (cases_lt 9 (length line)) [
     | inl long ↦

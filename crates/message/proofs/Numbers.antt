@@ -59,7 +59,7 @@ pub number_from : (w : List ℕ) → IsNumber w → number_in_word w ≡ Some (d
 unfolding number_in_word
 number_from w h = cond-true _ _ _ (and_from _ _ (is_numeral_from w h) (lt-ltb (digits_value 10 w) 65536 h.fits))
 
--- a word that lacks something encodes none
+-- a word that is no such number encodes none
 pub no_number : (w : List ℕ) → (IsNumber w → ⊥) → number_in_word w ≡ None
 no_number w h = elim (number_in_word w) as (λ o. number_in_word w ≡ o → o ≡ None) [ None ↦ λ e. refl | Some n ↦ λ e. absurd (h (number_parts w n e).0) ] refl
 
@@ -109,7 +109,7 @@ digits_no_space (c ∷ w) h =
 pub number_no_space : (w : List ℕ) (n : ℕ) → number_in_word w ≡ Some n → HasNoSpace w
 number_no_space w n h = digits_no_space w (number_parts w n h).0.digits
 
--- each of the digits is one
+-- each byte of a word of digits is a digit
 pub digit_at : (w : List ℕ) (i : ℕ) → all_ascii_digits w ≡ true → i < length w → is_ascii_digit (get_or w i 0) ≡ true
 digit_at [] i h lt = absurd (omega arith)
 digit_at (c ∷ w) zero h lt = (and_parts (is_ascii_digit c) (all_ascii_digits w) h).0
@@ -139,7 +139,7 @@ value_more w i v lt d e =
     let one = value_of_digit (get_or w i 0) d in
     omega (arith, more, one)
 
--- a value past 65535 in front
+-- a word whose first digits have a value past 65535 encodes no number
 pub too_large : (w : List ℕ) (i v : ℕ) → v ≡ digits_value 10 (take (i + 1) w) → 65535 < v → number_in_word w ≡ None
 too_large w i v e h = no_number w (λ n. let less = digits_value-take-le 10 w (i + 1) (omega arith) in let fits = n.fits in absurd (omega arith))
 

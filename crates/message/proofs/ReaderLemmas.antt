@@ -31,7 +31,7 @@ behind_first_line-within (x ∷ xs) ys h = behind_first_line-other x (xs ++ ys) 
 pub first_line-all : (xs : List ℕ) → IsWithinLine xs → first_line xs ≡ xs
 first_line-all xs h = ap first_line (sym (append-nil xs)) ∙ first_line-within xs [] h ∙ append-nil xs
 
--- the byte was not the newline that is contained
+-- a newline in a list whose first byte is none is in the rest
 later : (x : ℕ) (xs : List ℕ) → x ≢ 10 → Contains (x ∷ xs) 10 → Contains xs 10
 later x xs not (zero, low, is) = absurd (not is)
 later x xs not (suc k, low, is) = (k, omega arith, is)
@@ -128,7 +128,7 @@ LosesFront-kept None new keeps = tt
 LosesFront-kept (Some x) None keeps = absurd keeps
 LosesFront-kept (Some x) (Some y) keeps = record { got = []; rest = x; parts = refl; within_line = All-nil NoNewline; left_is = ap Some keeps }
 
--- what is held may be let go, where no newline is in it
+-- if the held bytes have no newline and are dropped, only a front of the first line is lost
 pub LosesFront-buffered : (buffered : List ℕ) (known : Option (List ℕ)) → IsWithinLine buffered → IfSome (prepend_known buffered known) (λ bs. LosesFront bs known)
 LosesFront-buffered buffered None within = tt
 LosesFront-buffered buffered (Some ys) within = record { got = buffered; rest = ys; parts = refl; within_line = within; left_is = refl }
@@ -155,7 +155,7 @@ passing_behind x b c first next =
     let second : c ≡ Some (behind_first_line first.rest) = subst P first.left_is next in
     second ∙ ap Some (sym (ap behind_first_line first.parts ∙ behind_first_line-within first.got first.rest first.within_line))
 
--- what lies behind the line is the same after some of the line was let go
+-- what lies behind the first line is the same after a front of the line was lost
 pub behind_first_line-later : (a b c : Option (List ℕ)) → IfSome a (λ bs. LosesFront bs b) → IfSome b (λ bs. c ≡ Some (behind_first_line bs)) → IfSome a (λ bs. c ≡ Some (behind_first_line bs))
 behind_first_line-later None b c first next = tt
 behind_first_line-later (Some x) b c first next = passing_behind x b c first next
@@ -218,7 +218,7 @@ NoneFrom-read xs ys i j k same before behind m low high = elim (cases_lt m j) [
 
 -- ---- steps of a reader of lines: held bytes, and what is to come
 
--- what is held was let go as well
+-- after a front of the first line was lost, the held bytes are dropped, too
 pub LosesFront-cleared : (a known : Option (List ℕ)) (buffered empty : List ℕ) → IfSome a (λ bs. LosesFront bs (prepend_known buffered known))
     → IsWithinLine buffered → empty ≡ [] → IfSome a (λ bs. LosesFront bs (prepend_known empty known))
 LosesFront-cleared a known buffered empty lost within none =
@@ -234,7 +234,7 @@ pub IsWhole-known_end : (ended : Bool) (buffered : List ℕ) (known : Option (Li
 IsWhole-known_end ended buffered known (inl known_end) = inr (IsAtEnd-known_end ended known known_end)
 IsWhole-known_end ended buffered known (inr there) = inl there
 
--- the first line is passed, after some of it was let go
+-- the first line is passed over, after a front of it was lost
 pub passed : (a known : Option (List ℕ)) (buffered rest : List ℕ) → IfSome a (λ bs. LosesFront bs (prepend_known buffered known)) → IsWhole buffered known
     → rest ≡ behind_first_line buffered → IfSome a (λ bs. prepend_known rest known ≡ Some (behind_first_line bs))
 passed a known buffered rest lost whole is =
@@ -304,7 +304,7 @@ closed_behind bs (Some rest) drained lost closed = elim closed [
   | inr known_end ↦ inr known_end
 ]
 
--- the same, where bytes in front of those were lost
+-- if the first line of what is left is whole, then so is the first line with the front that was lost
 pub HasWholeFirstLine-behind : (a b : Option (List ℕ)) (drained : Bool) → IfSome a (λ bs. LosesFront bs b) → HasWholeFirstLine b drained → HasWholeFirstLine a drained
 HasWholeFirstLine-behind None b drained lost closed = tt
 HasWholeFirstLine-behind (Some bs) b drained lost closed = closed_behind bs b drained lost closed

@@ -102,7 +102,7 @@ kind_again kinds.Summary = refl
 kind_again kinds.SetLabel = refl
 kind_again kinds.Label = refl
 
--- the message of its own kind, numbers and data
+-- a message is the one that its own kind, numbers and data make
 made_again : (m : Msg) → IsMessage m → assembled (kind m) (get_or (four_numbers m) 0 0) (get_or (four_numbers m) 1 0) (get_or (four_numbers m) 2 0) (get_or (four_numbers m) 3 0) (data_of m) ≡ m
 unfolding data_of
 made_again (MakeVol a v) h = refl
@@ -240,11 +240,11 @@ numbered_by (x ∷ ks) n k h = elim (cases_eq n (kind_number x)) [
   | inr not ↦ numbered_by ks n k (sym (cond-false _ _ _ (ne_eqb n (kind_number x) not)) ∙ h)
 ]
 
--- a kind's number is its own
+-- a kind's number gives that kind
 pub numbers_it : (n : ℕ) (k : Kind) → n ≡ kind_number k → Some k ≡ kind_numbered n
 numbers_it n k is = sym (ap kind_numbered is ∙ kind_again k)
 
--- what is no kind's number
+-- a number that is no kind's gives none
 pub numbers_none : (n : ℕ) → ((k : Kind) → n ≡ kind_number k → ⊥) → kind_numbered n ≡ None
 unfolding kind_numbered
 numbers_none n none = elim (kind_numbered n) as (λ o. kind_numbered n ≡ o → kind_numbered n ≡ None) [
@@ -252,7 +252,7 @@ numbers_none n none = elim (kind_numbered n) as (λ o. kind_numbered n ≡ o →
   | Some k ↦ λ e. absurd (none k (numbered_by all_kinds n k e))
 ] refl
 
--- what some optional kind makes of the fields
+-- a message that is made of an optional kind is made of a kind
 made : (o : Option Kind) (make : Kind → Msg) (m : Msg) → option_map make o ≡ Some m → (k : Kind) × (m ≡ make k)
 made (Some k) make m h = (k, sym (same_Some _ m h))
 made None make m h = cc h
@@ -283,7 +283,7 @@ module _ (bytes : List ℕ) (m : Msg) (size : length bytes ≡ 520) (fit : (i : 
   unfolding data_of
   setlabel_if_decoded is = ap data_of (by_kind kinds.SetLabel is)
 
-  -- the data of a label is there where zeros are behind the label
+  -- the bytes behind the head are the data of the `setlabel` exactly if those behind its label are zeros
   pub label_if_decoded : kind m ≡ kinds.SetLabel → (drop 40 bytes ≡ replicate 480 0) ↔ (drop 8 bytes ≡ data_of m)
   label_if_decoded is =
       let rest = drop 8 bytes in

@@ -1,4 +1,4 @@
--- The message by the words of a line, and the line by the message, are the same.
+-- The two definitions agree: the message that the words of a line make (`message_of`), and the lines that spell a message (`Spells`).
 use Rattle.std.proofs.Common.{◌≡◌, ℕ, ◌<◌, ◌≤◌, Bool, true, codes, List, [], ◌∷◌, ◌++◌, map, length, Option, Some, None, refl, ap, sym, subst, ◌∙◌, inl, inr}
 use Rattle.std.specs.Prelude.{◌&&◌, not, ◌==◌, nat_lt, ◌↔◌}
 use Rattle.std.specs.List.{AllByRecursion, join_with_byte}
@@ -25,7 +25,7 @@ AreSmall ns = AllByRecursion (λ n. n < 65536) ns
 
 -- ---- from the words to the message
 
--- what a step that gave a value shows
+-- if `o >>= f` gave a value, o has one, and f gave a value for it
 bind_some : {A B : Type 0} (o : Option A) (f : A → Option B) (y : B) → (o >>= f) ≡ Some y → (x : A) × (o ≡ Some x) × (f x ≡ Some y)
 bind_some (Some x) f y h = (x, refl, h)
 bind_some None f y h = cc h

@@ -69,7 +69,7 @@ words_split line i lt h e =
 pub words_whole : (line : List ℕ) (i : ℕ) → length line ≤ i → HasNoSpace (take i line) → words line ≡ line ∷ []
 words_whole line i h none = words_alone line (let e : take i line ≡ line = take_all i line h in rw e at none)
 
--- a line goes on in its first word: this is that word, and the words behind it
+-- the byte at index i of the line lies in its first word, `word`; the words behind that are `behind`
 pub record IsRestart (line : List ℕ) (i : ℕ) : Type 0 where
   pub word : List ℕ
   pub behind : List (List ℕ)
@@ -81,7 +81,7 @@ pub record IsRestart (line : List ℕ) (i : ℕ) : Type 0 where
 words_more : (b : ℕ) (line : List ℕ) → (b == 32) ≡ false → words (b ∷ line) ≡ in_first b (words line)
 words_more b line other = rw other refl
 
--- no byte up to a place is a space
+-- where no byte up to index i is a space, the byte at i lies in the first word
 pub goes_on : (line : List ℕ) (i : ℕ) → i < length line → HasNoSpace (take i line) → (get_or line i 0 == 32) ≡ false → IsRestart line i
 goes_on [] i lt none other = absurd (omega arith)
 goes_on (b ∷ line) zero lt none other = elim (words line) as (λ ws. words line ≡ ws → IsRestart (b ∷ line) 0) [
@@ -102,12 +102,12 @@ goes_on (b ∷ line) (suc i) lt none other =
 
 -- ---- what a whole line encodes
 
--- what a word encodes that is the only one
+-- what the word of a list of one word encodes
 abbrev pub only : {A : Type 0} → (List ℕ → Option A) → List (List ℕ) → Option A
 only says (w ∷ []) = says w
 only says _ = None
 
--- what a line encodes, where a line with a space encodes nothing
+-- if a text with a space encodes nothing, then what the only word of a line encodes is what the line encodes
 pub only-words : {A : Type 0} (says : List ℕ → Option A) (line : List ℕ) → ((x : A) → says line ≡ Some x → HasNoSpace line) → only says (words line) ≡ says line
 only-words {A} says line no_space =
     let none : (ws : List (List ℕ)) → join_with_byte 32 ws ≡ line → says line ≡ None → only says ws ≡ None =

@@ -3,7 +3,7 @@ use Rattle.std.specs.Prelude.{◌≡◌, ◌+◌, ◌*◌, ◌<◌, ◌≤◌, �
 use Rattle.std.specs.Option.{unwrap_or}
 use Rattle.hex.specs.Hex.{hex_digit_value}
 
--- the value of a hexadecimal digit, or 255 where the byte is none
+-- the value of a hexadecimal digit, or 255 where the byte is no digit
 abbrev pub value_of : ℕ → ℕ
 value_of c = unwrap_or (hex_digit_value c) 255
 
@@ -17,6 +17,6 @@ pub record IsDecoded (digits bytes : List ℕ) (i : ℕ) : Type 0 where
 abbrev pub HasNonDigit : List ℕ → Type 0
 HasNonDigit digits = (k : ℕ) × (k < length digits) × (16 ≤ value_of (slice_index digits k))
 
--- All bytes from `from` up to `to`, without that one, are decoded.
+-- The bytes with the indices from `from` up to `to`, `to` excluded, are decoded.
 abbrev pub AreDecoded : List ℕ → List ℕ → ℕ → ℕ → Type 0
 AreDecoded digits bytes from to = (i : ℕ) → from ≤ i → i < to → IsDecoded digits bytes i

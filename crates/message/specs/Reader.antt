@@ -24,7 +24,8 @@ abbrev pub still_to_come : Bool → Option (List ℕ) → Option (List ℕ)
 still_to_come false known = known
 still_to_come true known = option_map (λ _. []) known
 
--- the bytes that a line reader has not given yet, where they are known: those that it holds, and then what its reader has left
+-- the bytes that a line reader has not given yet, where they are known: those that it holds, and then (`prepend_known`) what its
+-- reader has left
 abbrev pub unread : {R : Type 0} → (R → Option (List ℕ)) → LineReader R → Option (List ℕ)
 unread remaining r = prepend_known (buffered_bytes r.buffered) (still_to_come r.ended (remaining r.reader))
 
@@ -52,7 +53,7 @@ has_failed r = r.failed
 abbrev pub source : {R : Type 0} → LineReader R → R
 source r = r.reader
 
--- Once a read has reported the end, the reader from which it reads has no known byte left.
+-- If a read has reported the end, nothing is left of the source, where that is known.
 abbrev pub KnowsEnd : {R : Type 0} → (R → Option (List ℕ)) → LineReader R → Type 0
 KnowsEnd remaining r = IsTrue (has_ended r) → IsAtEnd (remaining (source r))
 

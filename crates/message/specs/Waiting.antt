@@ -2,7 +2,7 @@
 use Rattle.std.specs.Prelude.{◌≤◌, ◌+◌, ℕ, List, length, Option}
 use Rattle.std.specs.Io.KnownBytes.{append_known}
 
--- all output, where it is known what the writer holds: what is written, and then what waits to be
+-- all output, where it is known what the writer holds: the bytes that it holds, and then those that wait to be written
 abbrev pub all_output : Option (List ℕ) → List ℕ → Option (List ℕ)
 all_output contents waiting = append_known contents waiting
 

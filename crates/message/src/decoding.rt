@@ -1,5 +1,5 @@
 //! Decodes the digits of a block, 32 digits (16 bytes) at a time. No loop ends early at a byte that is no digit, so that the compiler can
-//! use vectors: `hex`, which ends at the first one, takes many times as long.
+//! use vector instructions: `hex`, which ends at the first such byte, takes many times as long.
 
 ghost use Rattle.std.specs.Prelude.{◌≡◌, ◌≢◌, ◌+◌, ◌*◌, ◌%◌, ◌<◌, ◌≤◌, ℕ, length, slice_index, Ok, Some, None, IsErr, MatchResult};
 ghost use Rattle.std.specs.Option.{unwrap_or};
@@ -9,7 +9,7 @@ ghost use Rattle.message.specs.Digits.{AreDecoded, HasNonDigit, value_of};
 /// The value of a byte that is no digit: more than any digit's.
 const NO_DIGIT: u8 = 255;
 
-/// How many bytes are decoded at once: so few that the compiler unrolls the loops over them, and takes their digits in vectors.
+/// How many bytes are decoded at once: so few that the compiler unrolls the loops over them, and uses vector instructions.
 const LANES: usize = 16;
 
 /// The value of a digit, in either case, or `NO_DIGIT`.
@@ -63,8 +63,8 @@ fn put_pairs(values: &[u8; 2 * LANES], out: &mut [u8], at: usize)
     }
 }
 
-/// Decodes the pairs of digits from number `from` on into their bytes, and gives the greatest of their values. Where that is no digit's,
-/// the bytes are unspecified.
+/// Decodes the pairs of digits from pair `from` on into bytes, and gives the greatest value of these digits. Where that is no digit's
+/// value, the bytes are unspecified.
 fn decode_from(digits: &[u8], out: &mut [u8], from: usize) -> u8
     requires { length digits.now ≡ 2 * length out.old }
     ensures before { (i : ℕ) → i < from → slice_index out.new i ≡ slice_index out.old i }
@@ -82,8 +82,9 @@ fn decode_from(digits: &[u8], out: &mut [u8], from: usize) -> u8
     greatest
 }
 
-/// Decodes pairs of digits into as many bytes, and gives the greatest of their values. Where that
-/// is no digit's, the bytes are unspecified.
+/// Decodes pairs of digits into as many bytes, and gives the greatest value of these digits. Where
+/// that is no digit's value, the bytes are unspecified. `decode_pairs 0` is the result of `hex` for
+/// the pairs from the first one on.
 fn decode_all(digits: &[u8], out: &mut [u8]) -> u8
     requires { length digits.now ≡ 2 * length out.old }
     ensures digits { result < 16 → decode_pairs 0 digits.now ≡ Ok out.new }

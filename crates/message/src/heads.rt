@@ -1,4 +1,5 @@
-//! The head of a line: all that can be known of its message without the data.
+//! The head of a line: the kind and the numbers of its message, the data not decoded. Of a line that begins as a `setlabel` it has only
+//! that. In functions that work behind the keyword the argument `line` is the rest of the line.
 
 ghost use Rattle.std.specs.Prelude.{◌≡◌, ℕ, [], ◌∷◌, slice_index, option_map, IfSome, MatchOption, Some, None};
 ghost use Rattle.messages.specs.declared.Msg.{Msg};
@@ -22,8 +23,8 @@ use messages::Block;
 pub enum Head<'a> {
     /// The line is no message.
     NoMessage,
-    /// The line is a message without data, of this kind and with these numbers. Each that it
-    /// doesn't have is 0.
+    /// The line is a message without data, of this kind and with these numbers, with 0 for each
+    /// number that the kind doesn't have.
     WithoutData(Kind, [u16; 4]),
     /// The line is a `write` with these numbers, if these bytes are the digits of a block.
     Writes([u16; 4], &'a [u8]),
@@ -82,7 +83,7 @@ fn head_of_kind(kind: Kind, line: &[u8]) -> Head<'_>
     }
 }
 
-/// The head with these numbers, where there are any.
+/// The head with these numbers; `NoMessage` where there are none.
 fn head_without_data(kind: Kind, numbers: Option<[u16; 4]>) -> Head<'static>
     ensures { MatchOption numbers (result ≡ NoMessage) (λ ns. result ≡ WithoutData kind ns) }
 {

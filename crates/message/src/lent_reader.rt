@@ -12,7 +12,7 @@ pub trait Loan {
     ghost name: { GName };
 }
 
-/// For a call that lends: the proof of the function that makes it picks which loan it is.
+/// A call that lends a reader passes `Brand`. The caller's proof chooses the name; this 0 is a stand-in.
 impl Loan for Brand {
     ghost name = { 0 };
 }
@@ -22,8 +22,9 @@ impl Loan for Brand {
 ///
 /// A function that reads lines through a `&mut R` takes a `PhantomData<L>` for a loan `L`, and
 /// requires that the `&mut R` has the name of `L`. It makes `LineReader::new(LentReader { reader,
-/// of }, buffer)`, takes the reader out of `into_inner` again and gives it back. Its caller passes
-/// `Brand`, and its proof (`Invariants.antt`) sets the loan's name to that of its own reader.
+/// of }, buffer)`, takes the reader out of `into_inner` again and gives it back. The caller passes
+/// `Brand`, and the caller's proof (`Invariants.antt`) sets the name of the loan to that of the
+/// reader that it lends.
 #[derive(Drop)]
 pub struct LentReader<'a, R, L: Loan> {
     pub reader: &'a mut R,

@@ -1,4 +1,4 @@
-//! The message that a line spells.
+//! The message that a line spells. In functions that work behind the keyword the argument `line` is the rest of the line.
 
 ghost use Rattle.std.specs.Prelude.{◌≡◌, ◌≢◌, ℕ, ◌<◌, ◌≤◌, ◌∷◌, [], true, ◌↔◌, length, slice_index, IsTrue, IfSome, MatchOption, option_map};
 ghost use Rattle.std.specs.Str.{all_ascii_digits};
@@ -48,7 +48,7 @@ pub(crate) fn split_keyword(line: &[u8]) -> Option<(&[u8], &[u8])>
     None
 }
 
-/// The kind that a word names. Words of one length are compared at once, as numbers are.
+/// The kind that a word names. A word is compared with the keywords of its own length alone, each time at once, as integers are.
 pub(crate) fn kind_named(word: &[u8]) -> Option<Kind>
     ensures { result ≡ kind_named word.now }
 {
@@ -206,8 +206,8 @@ fn label_message(line: &[u8]) -> Option<Msg>
     Some(Msg::SetLabel(aggregate, volume, bytes_in_word(behind)?))
 }
 
-/// The number of one digit before the first space of a line, as most numbers are, and what comes
-/// after that space; `None` where there is another number, or none.
+/// If a line begins with one digit and a space, which is the usual case: the number, and what comes
+/// after the space. Else `None`, also where the first word is a longer number.
 fn digit_before_space(line: &[u8]) -> Option<(u16, &[u8])>
     ensures { IfSome result (λ p. first_number (words line.now) ≡ Some (p.0, words p.1.now)) }
 {
@@ -254,7 +254,7 @@ pub(crate) fn number_before_space(line: &[u8]) -> Option<(u16, &[u8])>
     None
 }
 
-/// The number that a word of digits encodes, where this is their value.
+/// The number that a word of decimal digits encodes, given the value of the digits.
 fn plain_number(value: u32, word: &[u8]) -> Option<u16>
     requires digits { all_ascii_digits word.now ≡ true }
     requires value { value ≡ digits_value 10 word.now }

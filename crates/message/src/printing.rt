@@ -162,7 +162,7 @@ fn append_number(n: u32, out: &mut [u8; 1031], at: usize) -> usize
     append_digits(n, out, at)
 }
 
-/// The same for a number of one digit, as the numbers of most files are.
+/// The same as `append_number` for a number of one digit, as those of the first ten files are.
 fn append_digit(n: u8, out: &mut [u8; 1031], at: usize) -> usize
     requires digit { n < 10 }
     requires room { at + 11 ≤ 1031 }
@@ -172,7 +172,7 @@ fn append_digit(n: u8, out: &mut [u8; 1031], at: usize) -> usize
     append(&[b' ', b'0' + n], out, at)
 }
 
-/// The same for a number of two digits, as the numbers of all other files are.
+/// The same as `append_number` for a number of two digits, as those of all other files are.
 fn append_two_digits(n: u8, out: &mut [u8; 1031], at: usize) -> usize
     requires least { 10 ≤ n }
     requires most { n < 100 }
@@ -183,7 +183,7 @@ fn append_two_digits(n: u8, out: &mut [u8; 1031], at: usize) -> usize
     append(&[b' ', b'0' + n / 10, b'0' + n % 10], out, at)
 }
 
-/// The same for any number.
+/// The same as `append_number`, for any number.
 fn append_digits(n: u32, out: &mut [u8; 1031], at: usize) -> usize
     requires { at + 11 ≤ 1031 }
     ensures text { AppendsText out.old out.new at result (spaced n) }
@@ -194,7 +194,8 @@ fn append_digits(n: u32, out: &mut [u8; 1031], at: usize) -> usize
     append(digits.format(n).as_bytes(), out, end)
 }
 
-/// Writes the digits that show some bytes after the first `at` bytes, and gives where they end.
+/// Writes `bytes` as hexadecimal digits after the first `at` bytes of `out`, and gives where the
+/// digits end. Zeros at the end of `bytes` are left out, as `shown_size` says.
 fn append_shown(bytes: &[u8], out: &mut [u8; 1031], at: usize) -> usize
     requires some { 1 ≤ length bytes.now }
     requires room { at + 2 * length bytes.now ≤ 1030 }

@@ -1,4 +1,5 @@
-//! The lines of an input, one after the other, from a buffer of a fixed length.
+//! The lines of an input, one after the other, from a buffer of a fixed length. In clauses `Keeps a b` says that the bytes a, where they
+//! are known, stay as they were, and `Consumes a b bs` that they lose bs at their front; `prepend_known bs a` is bs and then a.
 ghost use Rattle.std.specs.Prelude.{◌≡◌, ◌≢◌, ℕ, ◌+◌, ◌-◌, ◌<◌, ◌≤◌, ◌↔◌, ◌⊎◌, [], true, false, length, take, drop, slice_index, IsTrue, IsFalse, IsOk, IsErr, is_err, IfSome, IfOk, OnOk, OnErr, Contains, vec_len};
 ghost use Rattle.std.specs.Io.KnownBytes.{Keeps, Consumes, IsAtEnd, prepend_known};
 
@@ -21,7 +22,8 @@ pub enum Found {
 #[derive(Clone, Copy, Debug, PartialEq, Eq)]
 pub struct ReadFault;
 
-/// The bytes that are read and not yet given, `buffer[start..end]`, and the line that was given last.
+/// The bytes that are read and not yet given, `buffer[start..end]`, and the line that was given last,
+/// `buffer[line_start..line_end]`.
 #[derive(Drop)]
 struct Buffered {
     buffer: Vec<u8>,
@@ -29,7 +31,7 @@ struct Buffered {
     line_end: usize,
     start: usize,
 
-    /// Where the first newline of these bytes is, or `end`.
+    /// Where the first newline of the bytes not yet given is, or `end`.
     newline: usize,
     end: usize,
     ghost room: { 1101 ≤ vec_len buffer },
@@ -51,7 +53,7 @@ fn find_newline(bytes: &[u8]) -> usize
     memchr(b'\n', bytes).unwrap_or(bytes.len())
 }
 
-/// One read, into what lies from `at` on.
+/// Reads once, into the bytes of the buffer from `at` on.
 fn read_at<R: Read>(reader: &mut R, buffer: &mut [u8], at: usize) -> Result<usize, ReadFault>
     requires { at < length buffer.old }
     ensures front { take at buffer.new ≡ take at buffer.old }
@@ -67,7 +69,7 @@ fn read_at<R: Read>(reader: &mut R, buffer: &mut [u8], at: usize) -> Result<usiz
     }
 }
 
-/// The same, into a vector.
+/// The same as `read_at`, into a vector.
 fn read_over<R: Read>(reader: &mut R, buffer: &mut Vec<u8>, at: usize) -> Result<usize, ReadFault>
     requires { at < vec_len buffer.old }
     ensures len { vec_len buffer.new ≡ vec_len buffer.old }
@@ -126,7 +128,7 @@ impl Buffered {
         self.newline - self.start
     }
 
-    /// Gives no line any more.
+    /// Forgets the line that was given last: `line` is empty then.
     fn forget_line(&mut self)
         ensures bytes { buffered_bytes self.new ≡ buffered_bytes self.old }
         ensures line { given_line self.new ≡ [] }
@@ -135,7 +137,7 @@ impl Buffered {
         self.line_end = 0;
     }
 
-    /// Drops the first line.
+    /// Drops the first line, with its newline.
     fn pass_line(&mut self)
         ensures bytes { buffered_bytes self.new ≡ behind_first_line (buffered_bytes self.old) }
         ensures line { given_line self.new ≡ given_line self.old }
@@ -145,7 +147,7 @@ impl Buffered {
         self.newline = self.start + find_newline(behind);
     }
 
-    /// Gives the first line.
+    /// Makes the first line the one that was given last, and drops it from the bytes not yet given.
     fn take_line(&mut self)
         ensures bytes { buffered_bytes self.new ≡ behind_first_line (buffered_bytes self.old) }
         ensures line { given_line self.new ≡ first_line (buffered_bytes self.old) }
@@ -155,7 +157,7 @@ impl Buffered {
         self.pass_line();
     }
 
-    /// Drops all bytes.
+    /// Drops all bytes that are not yet given.
     fn clear(&mut self)
         ensures bytes { buffered_bytes self.new ≡ [] }
         ensures gone { self.new.start ≡ self.new.end }
@@ -224,17 +226,17 @@ impl Buffered {
     }
 }
 
-/// Gives the lines of an input one after the other, from a buffer of a fixed length. It takes no
+/// Gives the lines of an input one after the other, from a buffer of a fixed length. It allocates no
 /// memory.
 #[derive(Drop)]
 pub struct LineReader<R> {
     reader: R,
     buffered: Buffered,
 
-    /// A read has reported the end. No other follows.
+    /// A read has reported the end. No read follows.
     ended: bool,
 
-    /// A read has failed. No other follows, and nothing is held any more.
+    /// A read has failed, or too many reads were needed. No read follows, and nothing is held any more.
     failed: bool,
     ghost nothing_kept: { failed ≡ true → (buffered.start ≡ buffered.end) × (ended ≡ false) },
 }
@@ -290,7 +292,7 @@ impl<R: Read> LineReader<R> {
     ///
     /// `ReadFault` where a read fails, also one that was interrupted, and where more than 2^64 - 1
     /// reads are needed. All lines that were read whole were given before. From then on each call
-    /// reports it, and none reads.
+    /// returns `ReadFault`, and none reads.
     pub fn next_line(&mut self) -> Result<Found, ReadFault>
         ensures found { Finds result (unread R.remaining self.old)
             (line_of self.new) (unread R.remaining self.new) }
@@ -327,7 +329,7 @@ impl<R: Read> LineReader<R> {
         self.reader
     }
 
-    /// Whether a read is needed to know what is found.
+    /// Whether a read is needed to know what comes next: a line, one that is too long, or the end.
     fn wants_more(&self) -> bool
         ensures open { IsTrue result → IsFalse (has_ended self.now) }
         ensures within_line { IsTrue result → IsWithinLine (buffered_bytes self.now.buffered) }
@@ -370,7 +372,7 @@ impl<R: Read> LineReader<R> {
         }
     }
 
-    /// Reads until it is known what is found.
+    /// Reads until what is held shows what comes next: a line, one that is too long, or the end.
     fn gather(&mut self) -> Result<(), ReadFault>
         requires line { line_of self.old ≡ [] }
         requires not_failed { IsFalse (has_failed self.old) }
@@ -439,7 +441,7 @@ impl<R: Read> LineReader<R> {
         Ok(())
     }
 
-    /// Gives what is found, of what is held.
+    /// Gives what comes next, by what is held. A line that is too long may need more reads, to skip it.
     fn give(&mut self) -> Result<Found, ReadFault>
         requires line { line_of self.old ≡ [] }
         requires not_failed { IsFalse (has_failed self.old) }

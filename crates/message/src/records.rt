@@ -38,7 +38,7 @@ pub fn decode(bytes: &[u8; 520], g: &Geometry) -> Option<Msg>
     }
 }
 
-/// Whether the head is that of a message, its two zeros too.
+/// Whether the first 8 bytes are the head of this message's record, with two zeros at its end.
 fn has_head_of(bytes: &[u8; 520], m: &Msg) -> bool
     requires { FitsRecord m.now }
     ensures { IsTrue result ↔ (take 8 bytes.now ≡ record_head m.now) }
@@ -46,7 +46,7 @@ fn has_head_of(bytes: &[u8; 520], m: &Msg) -> bool
     bytes[..8] == head_of(m)[..]
 }
 
-/// Whether what comes after the head is the data of a message with these fields.
+/// Whether what comes after the head is the data of `m`, which was made of the fields of `bytes`.
 fn has_data_of(bytes: &[u8; 520], m: &Msg) -> bool
     requires { Some m.now ≡ message_in_fields bytes.now }
     ensures { IsTrue result ↔ (drop 8 bytes.now ≡ data_of m.now) }
@@ -78,7 +78,7 @@ fn label_data(label: &[u8; 32]) -> [u8; 512]
     bytes
 }
 
-/// The message that the fields encode, whatever is in those that it doesn't have.
+/// The message that the fields encode; fields that its kind doesn't use are ignored.
 fn message_in_fields(bytes: &[u8; 520]) -> Option<Msg>
     ensures { result ≡ message_in_fields bytes.now }
 {
@@ -123,6 +123,7 @@ fn assembled(kind: Kind, numbers: [u16; 4], bytes: &[u8; 520]) -> Msg
     }
 }
 
+/// The code of a kind: the first byte of its records.
 fn kind_number(kind: Kind) -> u8
     ensures { result ≡ kind_number kind }
 {
@@ -144,6 +145,7 @@ fn kind_number(kind: Kind) -> u8
     }
 }
 
+/// The kind that has this code.
 fn kind_numbered(number: u8) -> Option<Kind>
     ensures { result ≡ kind_numbered number }
 {

@@ -167,7 +167,7 @@ impl ReplyBuffer {
         &self.bytes.as_slice()[..self.len]
     }
 
-    /// Drops all that waits, since it was written.
+    /// Drops all that waits: for a caller that has written it.
     pub fn clear(&mut self)
         ensures { self.new ≡ [] }
     {

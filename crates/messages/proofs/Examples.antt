@@ -77,7 +77,7 @@ label_asked : message_of (codes "label 0 0") ≡ Some (AskLabel 0 0)
 unfolding message_of kind_named number_in_word
 label_asked = refl
 
--- ---- lines that are none
+-- ---- lines that are no messages
 
 summary_and_space : message_of (codes "summary ") ≡ None
 unfolding message_of kind_named number_in_word

@@ -14,7 +14,7 @@ use Rattle.messages.specs.Messages.{kind, numbers}
 
 -- ---- by the words of a line: which message they make, if any
 
--- the second function on the value of the first option, where it has one
+-- f applied to the value of an option, or `None` where it has none. Under `do` the line `x ← o` stands for it, as `let x = o?;` in Rust.
 infixl 10 ◌>>=◌
 abbrev pub ◌>>=◌ : {A B : Type 0} → Option A → (A → Option B) → Option B
 (Some x) >>= f = f x
@@ -35,7 +35,7 @@ of_volume make (a ∷ v ∷ []) = do
   Some (make aggregate volume)
 of_volume make _ = None
 
--- of three words: the numbers of an aggregate, a volume and a file
+-- the message that `make` makes of three words: the numbers of an aggregate, a volume and a file
 abbrev pub of_file : (ℕ → ℕ → ℕ → Msg) → List (List ℕ) → Option Msg
 of_file make (a ∷ v ∷ f ∷ []) = do
   aggregate ← number_in_word a
@@ -44,7 +44,7 @@ of_file make (a ∷ v ∷ f ∷ []) = do
   Some (make aggregate volume file)
 of_file make _ = None
 
--- of four words: the numbers of an aggregate, a volume, a file and a block
+-- the message that `make` makes of four words: the numbers of an aggregate, a volume, a file and a block
 abbrev pub of_block : (ℕ → ℕ → ℕ → ℕ → Msg) → List (List ℕ) → Option Msg
 of_block make (a ∷ v ∷ f ∷ b ∷ []) = do
   aggregate ← number_in_word a
@@ -54,7 +54,7 @@ of_block make (a ∷ v ∷ f ∷ b ∷ []) = do
   Some (make aggregate volume file block_number)
 of_block make _ = None
 
--- of five words: four numbers, and the digits of a block
+-- the message that `make` makes of five words: four numbers, and the digits of a block
 abbrev pub of_data : (ℕ → ℕ → ℕ → ℕ → Block → Msg) → List (List ℕ) → Option Msg
 of_data make (a ∷ v ∷ f ∷ b ∷ digits ∷ []) = do
   aggregate ← number_in_word a
@@ -65,7 +65,7 @@ of_data make (a ∷ v ∷ f ∷ b ∷ digits ∷ []) = do
   Some (make aggregate volume file block_number content)
 of_data make _ = None
 
--- of three words: two numbers, and the digits of a label
+-- the message that `make` makes of three words: two numbers, and the digits of a label
 abbrev pub of_label : (ℕ → ℕ → List ℕ → Msg) → List (List ℕ) → Option Msg
 of_label make (a ∷ v ∷ digits ∷ []) = do
   aggregate ← number_in_word a
@@ -74,7 +74,7 @@ of_label make (a ∷ v ∷ digits ∷ []) = do
   Some (make aggregate volume bytes)
 of_label make _ = None
 
--- the message m of no words
+-- the message m, if there are no words
 abbrev pub of_nothing : Msg → List (List ℕ) → Option Msg
 of_nothing m [] = Some m
 of_nothing m _ = None
@@ -139,12 +139,12 @@ message_of line = if nat_lt 1100 (length line) then None else of_words (words li
 
 -- ---- by the message: how its line is put together
 
--- The hexadecimal digits encode `size` bytes: one at least, and zeros after those that have digits.
+-- The hexadecimal digits encode at least one byte and at most `size`, and `whole` is these bytes with zeros after them up to `size` bytes.
 abbrev pub SpellsBytes : ℕ → List ℕ → List ℕ → Type 0
 SpellsBytes size digits whole = (bytes : List ℕ) × (decode_of digits ≡ Ok bytes) × (1 ≤ length bytes) × (length bytes ≤ size)
     × (whole ≡ padded size bytes)
 
--- These are the words after the numbers of the message: the digits of its block or label, or no word.
+-- The words `behind` are what follows the numbers of the message in its line: the digits of its block or label, or no word.
 abbrev pub IsData : Msg → List (List ℕ) → Type 0
 IsData (Write a v f b content) behind = (digits : List ℕ) × (behind ≡ digits ∷ []) × SpellsBytes 512 digits content.0
 IsData (SetLabel a v bytes) behind = (digits : List ℕ) × (behind ≡ digits ∷ []) × SpellsBytes 32 digits bytes

@@ -21,11 +21,11 @@ abbrev pub words : List ℕ → List (List ℕ)
 words [] = [] ∷ []
 words (b ∷ bs) = if b == 32 then [] ∷ words bs else in_first b (words bs)
 
--- decimal digits, with no zero in front but in 0 itself
+-- whether a word is one or more decimal digits, with no zero (byte 48) in front of others
 abbrev pub is_numeral : List ℕ → Bool
 is_numeral word = all_ascii_digits word && nat_lt 0 (length word) && (not (slice_index word 0 == 48) || (length word == 1))
 
--- the number from 0 to 65535 that a word encodes
+-- the number from 0 to 65535 that a word encodes, if it encodes one
 unfoldable pub number_in_word : List ℕ → Option ℕ
 number_in_word word = if is_numeral word && nat_lt (digits_value 10 word) 65536 then Some (digits_value 10 word) else None
 
@@ -33,12 +33,12 @@ number_in_word word = if is_numeral word && nat_lt (digits_value 10 word) 65536 
 abbrev pub padded : ℕ → List ℕ → List ℕ
 padded size bytes = bytes ++ replicate (size - length bytes) 0
 
--- the bytes that decoding gave, with zeros after them up to `size` bytes; none where it failed
+-- the bytes that decoding gave, with zeros after them up to `size` bytes; `None` where it failed
 abbrev pub padded_with : ℕ → Result (List ℕ) FromHexError → Option (List ℕ)
 padded_with size (Ok bytes) = Some (padded size bytes)
 padded_with size (Err e) = None
 
--- the bytes that a word encodes: hexadecimal digits, two for each byte, at least one byte and at most `size`, and zeros after them
+-- the `size` bytes that a word encodes: at least one byte and at most `size`, by two hexadecimal digits each, and zeros after these
 unfoldable pub bytes_in_word : ℕ → List ℕ → Option (List ℕ)
 bytes_in_word size word = if nat_le 2 (length word) && nat_le (length word) (2 * size) then padded_with size (decode_of word) else None
 

@@ -9,8 +9,8 @@ mod kinds;
 #[derive(Clone, Copy, Debug, PartialEq, Eq)]
 pub struct Block(pub [u8; 512]);
 
-/// A message. The numbers are, in this order, an aggregate, a volume of it, a file of that volume
-/// and a block of that file.
+/// A message. Its numbers are, in this order and as far as it has them, an aggregate, a volume of it,
+/// a file of that volume and a block of that file.
 #[derive(Clone, Copy, Debug, PartialEq, Eq)]
 pub enum Msg {
     /// Makes a volume, without files and with a label of zeros.
@@ -21,7 +21,7 @@ pub enum Msg {
     Create(u16, u16, u16),
     /// Removes a file and its blocks.
     Delete(u16, u16, u16),
-    /// Seals a volume: it can't be changed any more.
+    /// Seals a volume: until it is unsealed, each change of it but `seal` and `unseal` is refused.
     Seal(u16, u16),
     /// Unseals a volume.
     Unseal(u16, u16),
@@ -46,11 +46,11 @@ pub enum Msg {
 /// Why a message was refused.
 #[derive(Clone, Copy, Debug, PartialEq, Eq)]
 pub enum Refusal {
-    /// One of its numbers is not below its limit.
+    /// One of the message's numbers is not below its limit.
     Range,
     /// Its volume is not there.
     Volume,
-    /// What it makes is there already.
+    /// What the message makes is there already.
     Exists,
     /// Its volume is sealed.
     Sealed,

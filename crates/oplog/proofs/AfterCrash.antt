@@ -11,7 +11,7 @@ use Rattle.oplog.specs.Changes.{IsSameBut, IsSameButChain, HasAppended}
 use Rattle.oplog.specs.Crash.{RecoversBy, CrashRecovers, AppendRecovers, AllRecover, ImageRecovers, ClearRecovers, ChainRecovers, ChainedRecovers, TornRootRecovers, FlipRecovers}
 use Rattle.oplog.proofs.Kept.{same_named, same_chain, grown_as, root_kept, half_kept, image_kept, chain_kept}
 
--- a half that is current by itself has no chain
+-- where the named half is the current one, its chain byte isn't 1
 no_chain_by : (n : ℕ) (t : Bool) → n < 2 → cond t (other n) n ≡ n → t ≡ false
 no_chain_by n true is_area is = absurd (omega (arith, is, is_area))
 no_chain_by n false is_area is = refl
@@ -85,7 +85,7 @@ module _ {S : Type 0} (decoding : Decoding S) where
       let none = empty after.old after.left in
       chain_by is_area none.0 none.1 after.change recovered_before.named recovered_before.is)
 
-  -- at a device with nothing unsynced, of which a crash leaves what a read gives
+  -- Where nothing is unsynced, a crash leaves what a read gives, so it recovers as that does.
   committed : (g : Layout) (n h : ℕ) (x : Option S) (m : Medium) → IsSynced m → RecoversBy decoding g n h x m.now → CrashRecovers decoding g n h x m
   committed g n h x m synced recovers c left = subst (λ (l : List ℕ). RecoversBy decoding g n h x l) (sym (synced_left m c synced left)) recovers
 

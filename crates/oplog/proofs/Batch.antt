@@ -1,4 +1,5 @@
--- A batch of records: what a crash leaves while their bodies and then their gates are written, and what is there then.
+-- A batch of records: what a crash leaves while first their bodies (520 bytes each) and then their gates are written, and what is there
+-- at the end.
 use Rattle.std.proofs.Common.{◌≡◌, ℕ, ◌+◌, ◌-◌, ◌*◌, ◌<◌, ◌≤◌, List, [], length, take, drop, replicate, sym, ◌∙◌, ap, subst, arith}
 use Rattle.std.proofs.lemmas.List.{length-replicate}
 use Rattle.std.specs.List.{concat}

@@ -36,7 +36,7 @@ more_then {g} {h} {more} {others} {a} {b} {c} first second = record {
   front = second.front ∙ ap (λ (l : List (List ℕ)). l ++ others) first.front ∙ append_assoc (front g h a) more others;
 }
 
--- Of all these records the first were added to half h, behind k others.
+-- Of the records `all` the first ones, `more`, were added to half h, behind k others.
 pub record SoFar (g : Layout) (h k : ℕ) (more all : List (List ℕ)) (old new : Medium) : Type 0 where
   pub moments : CrashImagesAre old new (HasAppendedPrefix g h all old)
   pub has : HasAppendedAll g h k more old new
@@ -86,7 +86,7 @@ module _ (g : Layout) (h k : ℕ) (more batch later : List (List ℕ)) (w0 w w' 
     };
   }
 
--- ---- the same of messages, of which the first m are in and n more follow
+-- ---- the same of the records of messages, of which the first m were added and the next n follow
 module _ (g : Layout) (h k m n : ℕ) (messages : List Msg) (inside : m + n ≤ length messages) (w0 w w' : Medium) where
   parted : records_of (take m messages) ++ (records_of (take n (drop m messages)) ++ records_of (drop (m + n) messages)) ≡ records_of messages
   parted =

@@ -32,7 +32,7 @@ module _ (g : Layout) where
   pub beyond_read : (w0 w1 : Medium) → moments w1 ≡ moments w0 → KeepsBeyond g w0 w1
   beyond_read w0 w1 only = same w0 w0 w1 _ (beyond_none w0) only
 
-  -- a write before their end
+  -- a write that ends where the parts end, or before
   pub beyond_write : (at n : ℕ) (w0 w1 : Medium) → at + n ≤ device_size g → CrashesChangeOnly w0 w1 (SameOutside at n) → KeepsBeyond g w0 w1
   beyond_write at n w0 w1 before changes = beyond w0 w1 (SameOutside at n) behind changes
     where

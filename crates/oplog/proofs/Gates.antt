@@ -55,14 +55,14 @@ module _ (k n m : ℕ) (old c : List ℕ) (used : count_open old ≡ k) (shut : 
       sym (take-append-drop k c) ∙ ap (λ (l : List ℕ). l ++ drop k c) before
       ∙ ap (λ (l : List ℕ). replicate k 1 ++ l) (sym (take-append-drop n (drop k c)) ∙ ap (λ (l : List ℕ). take n (drop k c) ++ l) (drop-drop n k c ∙ still_shut))
 
-  -- whatever is in their place
+  -- whatever these n gates hold then, k + j gates are open before the first shut one, for some j up to n
   pub torn_gates : (j : ℕ) × (j ≤ n) × (count_open c ≡ k + j)
   torn_gates =
       let more = take n (drop k c) in
       let few : count_open (more ++ replicate (m - n) 0) ≤ n = omega (arith, open_within more (m - n), length-take n (drop k c)) in
       (count_open (more ++ replicate (m - n) 0), few, ap count_open parted ∙ open_ones k (more ++ replicate (m - n) 0))
 
-  -- when all of them are open
+  -- if all n are opened
   pub full_gates : take n (drop k c) ≡ replicate n 1 → count_open c ≡ k + n
   full_gates ones =
       let all : c ≡ replicate k 1 ++ (replicate n 1 ++ replicate (m - n) 0) = parted ∙ ap (λ (l : List ℕ). replicate k 1 ++ (l ++ replicate (m - n) 0)) ones in

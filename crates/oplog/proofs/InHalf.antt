@@ -10,12 +10,12 @@ use Rattle.oplog.proofs.Slices.{within, slice_slice}
 use Rattle.oplog.proofs.Gates.{torn_gates, full_gates, still_shut}
 use Rattle.oplog.proofs.RecordRows.{AreRows, rows_same, rows-add, rows_of}
 
--- These records are behind the front, and what lies before the gates is as it was.
+-- The front has grown by these records, and what lies before the gates is as it was.
 pub record HasMoreIn (capacity : ℕ) (more : List (List ℕ)) (old new : List ℕ) : Type 0 where
   pub chain_zone : take 64 new ≡ take 64 old
   pub front : front_in capacity new ≡ front_in capacity old ++ more
 
--- where the body of record k lies
+-- where the body of record k (its 520 bytes) begins
 abbrev pub body_at : ℕ → ℕ → ℕ
 body_at capacity k = 64 + capacity + k * 520
 
@@ -44,13 +44,13 @@ module _ (capacity k : ℕ) (more : List (List ℕ)) (sized : AreRows more) (roo
   chain_zone : take 64 new ≡ take 64 old
   chain_zone = same_take (64 + k) (length more) mid new gates 64 (omega arith) ∙ same_take (body_at capacity k) (length more * 520) old mid bodies 64 (omega arith)
 
-  -- the gates alone
+  -- of the gates, at most those of these records have changed
   gates_changed : SameOutside k (length more) (gates_in capacity old) (gates_in capacity new)
   gates_changed =
       let before : gates_in capacity mid ≡ gates_in capacity old = same_before (body_at capacity k) (length more * 520) old mid bodies 64 capacity (omega arith) in
       subst (λ (l : List ℕ). SameOutside k (length more) l (gates_in capacity new)) before (within 64 capacity k (length more) mid new room gates)
 
-  -- a prefix of the records is in force
+  -- if k + j gates are open before the first shut one, the front has grown by the first j records
   fronts : (j : ℕ) → j ≤ length more → count_open (gates_in capacity new) ≡ k + j → front_in capacity new ≡ front_in capacity old ++ take j more
   fronts j few opened =
       let records : drop (64 + capacity) new ≡ drop (64 + capacity) mid = same_drop (64 + k) (length more) mid new gates (64 + capacity) (omega (arith, room)) in
@@ -68,7 +68,7 @@ module _ (capacity k : ℕ) (more : List (List ℕ)) (sized : AreRows more) (roo
       let torn = torn_gates k (length more) (capacity - k) (gates_in capacity old) (gates_in capacity new) used shut gates_changed in
       (torn.0, torn.1, record { chain_zone = chain_zone; front = fronts torn.0 torn.1 torn.2 })
 
-  -- when all gates are open
+  -- if the gates of all these records are open
   module _ (ones : slice new (64 + k) (length more) ≡ replicate (length more) 1) where
     pub now_used : count_open (gates_in capacity new) ≡ k + length more
     now_used = full_gates k (length more) (capacity - k) (gates_in capacity old) (gates_in capacity new) used shut gates_changed (slice_gates ∙ ones)

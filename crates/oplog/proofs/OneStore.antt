@@ -14,7 +14,7 @@ use Rattle.oplog.specs.Store.{Stored}
 use Rattle.oplog.proofs.Slices.{LiesIn, within, same_but, half_sized, half_inside}
 use Rattle.oplog.proofs.Gates.{open_none}
 
--- what a write changes at most
+-- a store changes bytes of its range alone
 changed : (w0 w1 : Medium) (at : ℕ) (bytes : List ℕ) → Stored at bytes w0 w1 → SameOutside at (length bytes) w0.now w1.now
 changed w0 w1 at bytes stored = subst (λ (l : List ℕ). SameOutside at (length bytes) w0.now l) (sym stored.now) (overlaid_outside w0.now at bytes)
 

@@ -1,5 +1,5 @@
 -- A half is ready for an append if its front has `used` records, the gates behind it are 0, and nothing in it is unsynced. It stays
--- so while other parts of the device change, and a cleared one is so when it is named.
+-- ready while other parts of the device change. A half that was cleared is ready once it is put in force or named.
 use Rattle.std.proofs.Common.{◌≡◌, ◌≢◌, ◌<◌, ◌≤◌, ℕ, Bool, true, false, cond, List, length, drop, sym, ◌∙◌, ap, subst, arith}
 use Rattle.std.proofs.lemmas.Bool.{eq-eqb}
 use Rattle.disk.specs.Device.{Medium, IsSynced}
@@ -21,7 +21,7 @@ ready_kept {g} {h} {k} {w'} is_half apart fits ready same synced =
       synced = synced_range (part_at g (half_part h)) (part_size g (half_part h)) w' synced (omega (arith, fits, half_sized g h is_half, half_inside g h is_half));
     }
 
--- It stays so while a range of another part is written, synced or not.
+-- A half stays ready while a range of another part is written, synced or not.
 pub ready_beside : {g : Layout} {h k p i n at : ℕ} {w w' : Medium} → half_part h ≢ p → LiesIn g p i n at → TouchesOnly at n w w' → IsReady g h k w → IsReady g h k w'
 ready_beside {g} {h} {k} apart lies wrote ready =
     let kept = other_part (half_part h) lies apart wrote.now in
@@ -31,7 +31,7 @@ ready_beside {g} {h} {k} apart lies wrote ready =
       synced = other_part (half_part h) lies apart wrote.unsynced ∙ ready.synced;
     }
 
--- The current half was the named one, the other was cleared, and then the chain to it was opened.
+-- The other half was cleared, and then the chain byte of the named one was set to 1: the other half is current, and ready.
 pub ready_chained : (log : Log) {cleared opened : Log} {w0 w1 w2 : Medium} → log.named < 2 → cleared ≡ record log { cleared = true } → opened
     ≡ chained cleared → device_size (layout_of log.geometry) ≤ length w2.now → Cleared (layout_of log.geometry) (other log.named) w0 w1
     → Chained (layout_of cleared.geometry) cleared.named w1 w2 → IsReady (layout_of opened.geometry) opened.current opened.used w2
@@ -41,7 +41,7 @@ ready_chained log {opened} {w1} {w2} is_half first second fits clear chain =
     subst (λ (x : Log). IsReady (layout_of x.geometry) x.current x.used w2) (sym is)
     (ready_kept (omega arith) (λ same. omega (arith, same, is_half)) fits clear.ready chain'.same.same chain'.synced)
 
--- The current half was the named one, the other was cleared, and then it was named.
+-- The named half was the current one, the other half was cleared, and then that one was named: it is current, and ready.
 pub ready_named : (log : Log) {cleared named : Log} {w0 w1 w2 : Medium} → log.current ≡ log.named → cleared ≡ record log { cleared = true } → named
     ≡ flipped cleared → device_size (layout_of log.geometry) ≤ length w2.now → Cleared (layout_of log.geometry) (other log.named) w0 w1
     → Flipped (layout_of cleared.geometry) (other cleared.named) w1 w2 → IsReady (layout_of named.geometry) named.current named.used w2

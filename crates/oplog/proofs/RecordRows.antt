@@ -43,7 +43,7 @@ get_or-rows (suc n) (suc i) xs few =
     let wide : suc i * 520 ≡ 520 + i * 520 = omega arith in
     get_or-rows n i (drop 520 xs) (omega (arith, few)) ∙ ap (λ (l : List ℕ). take 520 l) (drop-drop (i * 520) 520 xs ∙ ap (λ (k : ℕ). drop k xs) (sym wide))
 
--- rows that were put in a row
+-- records that are joined to one list of bytes, and cut into j rows again, give the first j records
 pub rows_of : (rs : List (List ℕ)) (rest : List ℕ) (j : ℕ) → j ≤ length rs → AreRows rs → rows 520 j (concat rs ++ rest) ≡ take j rs
 rows_of rs rest zero few sized = refl
 rows_of [] rest (suc j) few sized = absurd (omega (arith, few))

@@ -1,4 +1,4 @@
--- Statement for engineers: What lies behind the parts of a device that is longer than they are.
+-- Statement for engineers: What lies behind the last part of a device that is longer than its parts (header, root zone, halves, images).
 use Rattle.std.specs.Prelude.{◌≡◌, List, ℕ, drop}
 use Rattle.disk.specs.Device.{Medium}
 use Rattle.oplog.specs.Changes.{CrashesChangeOnly}

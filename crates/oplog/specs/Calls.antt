@@ -31,7 +31,7 @@ Grows log messages old new = CrashImagesAre old new (HasAppendedPrefix (layout l
 abbrev pub HasAdded : Log → List Msg → Medium → Medium → Type 0
 HasAdded log messages old new = HasAppendedAll (layout log) log.current log.used (records_of messages) old new
 
--- In the half that isn't named only its chain zone and gates change.
+-- Only the chain zone (the chain byte and the bytes beside it) and the gates of the half that isn't named change.
 abbrev pub Clears : Log → Medium → Medium → Type 0
 Clears log old new = CrashesChangeOnly old new (IsSameButGates (layout log) (other log.named))
 

@@ -26,7 +26,7 @@ AreChangesInRange g messages = All (λ (m : Msg). IsChangeInRange g m) messages
 abbrev pub records_of : List Msg → List (List ℕ)
 records_of messages = map record_of messages
 
--- ---- laws of bad records: what a read answers with `BadRecord`, the record of no change in range
+-- ---- laws of bad records: those that a read answers with `BadRecord`, as their bytes are the record of no change in range
 
 -- On a device that is made of bytes each record is made of bytes, and `record_size` of them, whatever its gate is.
 abbrev pub RecordsAreBytes : Type 0

@@ -5,7 +5,7 @@ use Rattle.disk.specs.Device.{Medium}
 use Rattle.disk.specs.Moments.{moment_number}
 use Rattle.device_map.specs.Layout.{records_per_write}
 
--- how many batches n records make
+-- how many batches of up to 64 records (`records_per_write`) n records make
 abbrev pub write_groups : ℕ → ℕ
 write_groups n = (n + (records_per_write - 1)) / records_per_write
 

@@ -1,6 +1,7 @@
--- Statement for engineers: What a device recovers to after a crash, for the layer above, without the places of bytes. Each law takes
--- `CrashRecovers` of the device before a sequence of calls and gives `RecoversBy` of whatever a crash leaves during it, so that what one
--- law gives is what the next one takes.
+-- Statement for engineers: What a device recovers to after a crash, for the layer above, without the places of bytes. Most laws take
+-- `CrashRecovers` of the device before a sequence of calls. Those of a crash during the calls give `RecoversBy`, or what is built on it, of
+-- whatever it leaves. Those of the device after the calls (`AllRecover`, `ChainedRecovers`, `FlipRecovers`) give `CrashRecovers`, which the
+-- next law takes.
 use Rattle.std.specs.Prelude.{◌≡◌, ◌≢◌, ◌<◌, ◌≤◌, ℕ, List, [], length, take, Option}
 use Rattle.disk.specs.Device.{Medium, IsCrashImage}
 use Rattle.disk.specs.Moments.{CrashImagesAre}
@@ -10,8 +11,8 @@ use Rattle.oplog.specs.Recovery.{Decoding, named_area, current_of, recovers_by_a
 use Rattle.oplog.specs.Changes.{After, HasAppendedPrefix, HasAppendedAll, IsSameBut, IsSameButGates, IsSameButChain, IsSameButRoot, Chained, Flipped}
 
 module _ {S : Type 0} (decoding : Decoding S) where
-  -- These bytes recover to x by area n, which they name, with half h as their current one. Where h is n it is by that
-  -- area alone, and else both fronts are in force.
+  -- These bytes recover to x by area n, which they name, with half h as their current one. If h is n, the front of half n
+  -- alone is in force, else both fronts are.
   pub record RecoversBy (l : Layout) (n h : ℕ) (x : Option S) (c : List ℕ) : Type 0 where
     pub named : named_area l c ≡ n
     pub current : current_of l n c ≡ h

@@ -50,7 +50,7 @@ flipped log =
     }
     else record log { named = other log.named; cleared = false }
 
--- The log with the other half's records in force behind those of the named one: that half is current, with all its room.
+-- The log with the other half's records in force behind those of the named one: the other half is current, with all its room.
 abbrev pub chained : Log → Log
 chained log = record log { current = other log.named; used = 0; cleared = false }
 

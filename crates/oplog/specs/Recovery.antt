@@ -23,7 +23,7 @@ in_force l n c = if chain l n c == 1 then front l n c ++ front l (other n) c els
 abbrev pub current : Layout → List ℕ → ℕ
 current l c = current_of l (named_area l c) c
 
--- The words of the layer above: the state that an image's bytes hold, what becomes of a state by the record with these
+-- What the layer above defines: the state that an image's bytes hold, what becomes of a state by the record with these
 -- bytes, and whether bytes are a header. `read` is none where the bytes are no image,
 -- `apply` where they are no record that can be run on the state.
 pub record Decoding (S : Type 0) : Type 0 where
@@ -38,7 +38,7 @@ module _ {S : Type 0} (decoding : Decoding S) where
   run (Some x) [] = Some x
   run (Some x) (r ∷ rs) = run (decoding.apply x r) rs
 
-  -- The header and the length are as they should, and at most one chain byte is 1.
+  -- The bytes of the header are one, the device is long enough for its parts, and at most one chain byte is 1.
   abbrev pub is_laid_out : Layout → List ℕ → Bool
   is_laid_out l c = decoding.is_header (part_bytes l header_part c) && nat_le (device_size l) (length c)
       && not ((chain l 0 c == 1) && (chain l 1 c == 1))

@@ -4,6 +4,6 @@
 pub enum LogFault {
     /// The device failed during the call.
     Device,
-    /// The bytes of this record, named by its half and its number there, are no changing message in range.
+    /// The bytes of this record, given by its half and its number there, are not the record of a message in range of a changing kind.
     BadRecord(usize, usize),
 }

@@ -17,7 +17,7 @@ use messages::Msg;
 
 const OPEN_GATES: [u8; RECORDS_PER_WRITE] = [1; RECORDS_PER_WRITE];
 
-/// What lies before the records of a half, at most.
+/// How many bytes lie before the records of a half, at most: its chain byte, the bytes beside it, and its gates.
 const MOST_BYTES_BEFORE_RECORDS: usize = CHAIN_ZONE_SIZE + MOST_RECORDS;
 
 const ZEROS: [u8; MOST_BYTES_BEFORE_RECORDS] = [0; MOST_BYTES_BEFORE_RECORDS];
@@ -140,7 +140,7 @@ impl Half {
         self.open_gates(disk, used, messages.len())
     }
 
-    /// Adds these messages after the records in use, up to 64 at a time.
+    /// Adds these messages behind the first `used` records, which make up the front, up to 64 at a time.
     pub(crate) fn append<D: Disk>(
         self,
         disk: &mut D,

@@ -19,7 +19,7 @@ use std::marker::Model;
 /// The log of a device: which of its halves is named, which is current (records are appended to it), and how many records the current one
 /// holds.
 ///
-/// Only `new` takes memory. After a device fault it has failed: only calls that don't use the device may be made.
+/// Only `new` takes memory. After a device fault it has failed: from then on only calls that take `&self` may be made.
 #[derive(Drop)]
 pub struct Halves {
     geometry: Geometry,
@@ -139,7 +139,7 @@ impl Halves {
         // The current half's front has `used` records, all gates behind it are 0, and nothing in it is unsynced.
         requires ready { D.keeps → IsReadyFor self.old (D.medium disk.old) }
 
-        // A crash at any moment of the call leaves the front with the first m of the messages.
+        // A crash at any moment of the call leaves the current half's front as it was, with the first m messages behind it, for some m.
         ensures any_moment { D.keeps → Grows self.old messages.now (D.medium disk.old) (D.medium disk.new) }
         ensures added { OnOk result (D.keeps → HasAdded self.old messages.now (D.medium disk.old) (D.medium disk.new)) }
         ensures none { length messages.now ≡ 0 → disk.new ≡ disk.old }
@@ -192,7 +192,8 @@ impl Halves {
     }
 
     /// Puts the records of the other half in force after those of the named one, by the chain byte of the named half.
-    /// The other half becomes current, with room for all records. It was cleared since it was last named or current.
+    /// The other half becomes current, with room for all records. Clause `cleared` asks that it was cleared since it was last named or
+    /// current.
     pub fn open_chain<D: Disk>(&mut self, disk: &mut D) -> Result<(), LogFault>
         requires not_failed { self.old.failed ≡ false }
         requires current_is_named { self.old.current ≡ self.old.named }

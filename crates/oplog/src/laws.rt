@@ -3,8 +3,10 @@
 //!
 //! What a device recovers to comes from the layer above, as a `Decoding`: `read` gives the state that
 //! an image holds, `apply` what a record makes of a state, and `is_header` recognizes the device's header.
-//! Given to which state a device recovers before some calls, which area it names, and which half is current,
-//! each law says these three of whatever a crash leaves. The calls named below are those of `Halves`.
+//!
+//! All laws but the last two are of a sequence of calls. They assume to which state the device recovers before it (most also which area
+//! it names, and which half is current), and say to which state whatever a crash leaves recovers, by which area and with which half as
+//! the current one. The calls named below are those of `Halves`.
 
 ghost use Rattle.std.specs.Prelude.{◌≡◌, ◌<◌, ℕ, [], List, get_or, length};
 ghost use Rattle.oplog.specs.Crash.{AllRecover, AppendRecovers, ChainRecovers, ChainedRecovers, ClearRecovers, FlipRecovers, ImageRecovers, TornRootRecovers};
@@ -41,8 +43,8 @@ pub fn a_torn_root_does_no_harm<S>()
     ensures flipped { (decoding : Decoding S) → FlipRecovers decoding }
 {}
 
-/// Where `record` returns `BadRecord`, the bytes have the size of a record and are below 256, and no
-/// change in range has them for its record.
+/// Where `record` returns `BadRecord`, the bytes have the size of a record and are below 256. If their fields decode
+/// to a change in range (a message of a changing kind), they still aren't its record.
 pub fn a_bad_record_says_no_message()
     ensures bytes { RecordsAreBytes }
     ensures none { BadRecordIsOfNoChange }

@@ -1,4 +1,4 @@
--- A row of children: what is known of one child is known of the row, at paths one number longer.
+-- A row is the list of a node's children. What is known of one child is known of its row, at paths one number longer.
 use Rattle.std.proofs.Common.{◌≡◌, ℕ, zero, suc, ◌+◌, ◌<◌, Bool, true, false, List, [], ◌∷◌, length, take, drop, Option, refl, sym, ap, subst, ◌∙◌, arith}
 use Rattle.std.specs.Prelude.{◌-◌, ◌&&◌, ◌==◌, None, is_some, IfSome, slice_index_or, slice_set, if◌then◌else◌}
 use Rattle.std.proofs.lemmas.Bool.{eqb-true, eq-eqb, true≢false}
@@ -77,7 +77,7 @@ module _ {X : Type 0} (nodes : X → Nodes) (own : Node) (xs : List (Option X)) 
   row_same h [] = refl
   row_same h (j ∷ q) = same_cell j q (i == j) refl h
 
-  -- ---- the sentence of a child, and that of its row
+  -- ---- what holds of a child, and the same of its row
 
   row_all_in : {IsBelow : Path → Type 0} (count : ℕ) (p : Path) → ((q : Path) → IsBelow q → are_related p q ≡ true → is_some (child_nodes nodes (slice_index_or xs i None) q) ≡ true)
       → (q : Path) → IsRowPath count IsBelow q → are_related (i ∷ p) q ≡ true → is_some (children_nodes nodes own xs q) ≡ true

@@ -16,7 +16,7 @@ use Rattle.parcel.specs.Tree.{HasGap, IsOut, standing_at}
 abbrev no_blocks : StripePart
 no_blocks = record { quota = 2; entries = [] }
 
--- a node with what is below it: each child is nodes, or out
+-- a node with what is below it: of each child the nodes, or `None` where it is out
 abbrev below : Node → List (Option Nodes) → Nodes
 below own children = children_nodes (λ (n : Nodes). n) own children
 
@@ -43,18 +43,18 @@ second_is_in h = true≢false (ap is_some h.0)
 files_are_in : IsOut (0 ∷ 0 ∷ 0 ∷ []) without_first → ⊥
 files_are_in h = true≢false (ap is_some h.0)
 
--- a stripe is not out by itself where its files are out with it
+-- a stripe whose Volume Logical is out too is not out in the sense of `IsOut`
 stripe_of_no_files : IsOut (0 ∷ 0 ∷ 0 ∷ 0 ∷ []) (below Inner (Some (below Inner (Some (below (VolumeFlags true false) (None ∷ Some (leaf_of (LabelBytes None)) ∷ [])) ∷ [])) ∷ [])) → ⊥
 stripe_of_no_files h = true≢false (sym h.1)
 
--- what is related to the first stripe or lies above it has a gap
+-- the Volume Logical and the root, which lie above the first stripe, have a gap
 gap_at_files : HasGap small (0 ∷ 0 ∷ 0 ∷ []) without_first
 gap_at_files = (0 ∷ 0 ∷ 0 ∷ 0 ∷ [], (omega arith, omega arith, omega arith), refl, refl)
 
 gap_at_all : HasGap small [] without_first
 gap_at_all = (0 ∷ 0 ∷ 0 ∷ 0 ∷ [], (omega arith, omega arith, omega arith), refl, refl)
 
--- the second stripe has none
+-- the second stripe has no gap
 no_gap_at_second : (q : Path) → are_related (0 ∷ 0 ∷ 0 ∷ 1 ∷ []) q ≡ true → IsPath small q → without_first q ≡ None → ⊥
 no_gap_at_second [] related path out = true≢false (ap is_some out)
 no_gap_at_second (zero ∷ []) related path out = true≢false (ap is_some out)
@@ -83,7 +83,7 @@ no_gap_at_second (suc a ∷ v ∷ suc zero ∷ []) related path out = absurd (om
 no_gap_at_second (suc a ∷ v ∷ suc zero ∷ x ∷ q) related path out = absurd path
 no_gap_at_second (suc a ∷ v ∷ suc (suc i) ∷ q) related path out = absurd path
 
--- the standing: flags and files at a stripe, flags at the files and at the label, nothing above
+-- the standing: at a stripe flags and files, at the Volume Logical and the label flags, at the volume nothing
 standing_at_stripe : standing_at (0 ∷ 0 ∷ 0 ∷ 1 ∷ []) without_first ≡ record { made = true; sealed = false; files = 1 }
 standing_at_stripe = refl
 
@@ -96,7 +96,7 @@ standing_at_label = refl
 standing_at_volume : standing_at (0 ∷ 0 ∷ []) whole ≡ record { made = false; sealed = false; files = 0 }
 standing_at_volume = refl
 
--- to put the stripe back gives the whole tree again, at each place
+-- once the first stripe is put back, both stripes are as in the whole tree
 put_back_stripe : put_at (0 ∷ 0 ∷ 0 ∷ 0 ∷ []) (leaf_of (StripeBlocks no_blocks)) without_first (0 ∷ 0 ∷ 0 ∷ 0 ∷ []) ≡ whole (0 ∷ 0 ∷ 0 ∷ 0 ∷ [])
 put_back_stripe = refl
 
@@ -119,7 +119,7 @@ piece_with_a_label = refl
 piece_of_none : spelled (record sealed_volume { made = false }) ≡ replicate 64 0
 piece_of_none = refl
 
--- of the files that bytes encode, those of the geometry are looked at
+-- bits of files that the geometry doesn't have are dropped: it has files 0 and 1
 only_its_files : (decoded_piece 2 small (1 ∷ 1 ∷ replicate 6 0 ++ 7 ∷ replicate 55 0)).files ≡ 3
 only_its_files = refl
 

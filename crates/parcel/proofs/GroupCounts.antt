@@ -10,7 +10,7 @@ use Rattle.meaning.proofs.Sums.{sum_same, sum_zero, sum_one_more}
 use Rattle.parcel.specs.Fits.{FitsStripe}
 use Rattle.stripe.specs.Stripe.{BlockEntry, StripePart, ComesBefore, IsAscending, StripeRule, content_at}
 
--- ---- an entry isn't there again behind itself
+-- ---- no block has two entries
 
 before_differs : (d e : BlockEntry) → ComesBefore d e → ((d.file == e.file) && (d.block == e.block)) ≡ false
 before_differs d e h = false_from_ne_true ((d.file == e.file) && (d.block == e.block)) (λ is.
@@ -43,7 +43,7 @@ module _ (g : Geometry) (s : ℕ) where
   abbrev all_counted : List BlockEntry → ℕ
   all_counted es = sum_below g.files (λ f. sum_below g.blocks (λ b. counted es f b))
 
-  -- an entry in front counts one more, at its place
+  -- with one more entry in front of a list one more block is counted
   one_entry : (e : BlockEntry) (es : List BlockEntry) → AllByRecursion (ComesBefore e) es → Lies (e ∷ es) → all_counted (e ∷ es) ≡ all_counted es + 1
   one_entry e es before lies =
       let at = lies_first e es lies in

@@ -1,4 +1,4 @@
--- What was lent and run can be put back, and a tree keeps to the serial state while parcels are out at several places.
+-- What was lent and run can be put back, and a tree agrees with the serial server's state while parcels are out at several places.
 use Rattle.std.proofs.Common.{◌≡◌, ℕ, zero, suc, Bool, true, false, [], ◌∷◌, refl, sym, ap, subst, ◌∙◌, ⊎_elim}
 use Rattle.std.specs.Prelude.{◌||◌, ◌==◌, not, Option, None, Some, is_some}
 use Rattle.std.proofs.lemmas.Bool.{and_parts, and_from, cond-false, cond-true, eq-eqb, false_from_ne_true, not_from_false, not-true, or_cases, or_left, or_parts, or_right, true≢false}
@@ -142,7 +142,7 @@ module _ (g : Geometry) (out : Path → Bool) (p : Path) (apart : IsApart p out)
     state = h.state;
   }
 
-  -- ---- it is out as well, and comes back
+  -- ---- that place is out as well, and its parcels come back
 
   pub place_is_out : (n : Nodes) (x : State) → IsPath g p → TreeHolds g (with_place p out) n x → IsOut p n
   place_is_out n x path h = by p path (is_prefix-refl p) (λ q. apart q) h

@@ -1,4 +1,4 @@
--- What is lent or restored at a path leaves the state everywhere else.
+-- Lending or restoring at a path leaves the state as it is everywhere else.
 use Rattle.std.proofs.Common.{◌≡◌, Bool, true, false, [], ◌∷◌, refl, ap, ◌∙◌}
 use Rattle.std.specs.Prelude.{◌&&◌, ◌==◌, None, if◌then◌else◌}
 use Rattle.std.proofs.lemmas.Bool.{cond-false, not-true, true≢false}

@@ -16,7 +16,7 @@ use Rattle.parcel.specs.declared.parts.Parcels.TheVariants as parcels
 use Rattle.affinity.proofs.Paths.{related_below}
 use Rattle.parcel.proofs.ChildRows.{split, rest_of}
 
--- ---- answers under a test of the result
+-- ---- from one clause about a result to another
 
 pub map_none : {X P Q : Type 0} (o : Option X) → (P → Q) → IfNone o P → IfNone o Q
 map_none None f h = f h
@@ -38,7 +38,7 @@ pub map_err : {X E : Type 0} {P Q : E → Type 0} (r : Result X E) → ((e : E) 
 map_err (Ok x) f h = tt
 map_err (Err e) f h = f e h
 
--- ---- a sentence about a child, and the same about its row
+-- ---- what holds of a child, and the same of the row (the list of children) that it is in
 
 pub no_path : (p : Path) → length p < 1 → p ≡ []
 no_path p h = nil_from_length p (omega arith)
@@ -47,7 +47,7 @@ pub leaf_path : (p : Path) → IsLeafPath p → p ≡ []
 leaf_path [] h = refl
 leaf_path (x ∷ p) h = absurd h
 
--- what a child was, by what the index gave
+-- a child that indexing gave is the one in the row, whatever the default for a missing one is
 pub child_read : {X : Type 0} (xs : List (Option X)) (i n : ℕ) (child : Option X) → i < n → length xs ≡ n → child ≡ slice_index_or xs i child → child ≡ slice_index_or xs i None
 child_read xs i n child below count at = get_or_read xs i child (omega arith) at None
 
@@ -56,7 +56,7 @@ pub through : (Child Row : Path → Nodes → Nodes → Type 0) {p : Path} {was 
 through Child Row {p} {old} {new} {after} long is at step h = subst (λ q. Row q old after) (sym (split p long))
     (subst (λ n. Row (slice_index_or p 0 0 ∷ rest_of p) n after) (sym is) (step (subst (λ n. Child (rest_of p) n new) at h)))
 
--- ---- a volume, whose children are two
+-- ---- a volume, which has two children
 
 pub path_from : (p : Path) (i : ℕ) → 0 < length p → slice_index_or p 0 0 ≡ i → p ≡ i ∷ rest_of p
 path_from p i long e = split p long ∙ ap (λ k. k ∷ rest_of p) e

@@ -87,7 +87,7 @@ module _ (h : VolumeFacts) where
   same_blocks k e true = e
   same_blocks k e false = refl
 
-  -- other blocks, and the rest stays
+  -- the volume gets other blocks, and keeps the rest
   module _ (a v : ℕ) (blocks' : ℕ → ℕ → Option Block) where
     abbrev with_blocks : VolumeFacts
     with_blocks = record h { blocks = blocks' }
@@ -119,7 +119,7 @@ module _ (h : VolumeFacts) where
         blocks true i j = e i j
         blocks false i j = refl
 
-  -- other files, and the rest stays
+  -- the volume gets other files, and keeps the rest
   module _ (a v : ℕ) (files' : ℕ → Bool) where
     abbrev with_files : VolumeFacts
     with_files = record h { files = files' }
@@ -137,7 +137,7 @@ module _ (h : VolumeFacts) where
         files true j = e j
         files false j = refl
 
-  -- other files and blocks, and the rest stays
+  -- the volume gets other files and blocks, and keeps the rest
   module _ (a v : ℕ) (files' : ℕ → Bool) (blocks' : ℕ → ℕ → Option Block) where
     abbrev with_both : VolumeFacts
     with_both = record h { files = files'; blocks = blocks' }

@@ -1,4 +1,4 @@
--- A piece of a volume was read (part 0: its own, part s + 1: that of stripe s), and the volume is where the tree has it.
+-- A piece of a volume is read (part 0: its own, part s + 1: that of stripe s), and the piece's volume is found in the tree.
 use Rattle.std.proofs.Common.{◌≡◌, ℕ, zero, suc, ◌*◌, ◌%◌, ◌^◌, ◌<◌, Bool, true, false, List, [], ◌∷◌, length, get_or, slice_index_or, Option, Some, None, IfSome, is_some, refl, sym, ◌∙◌, ap, subst, arith, true≢false, mod-lt}
 use Rattle.std.specs.Prelude.{◌↔◌, ◌==◌, if◌then◌else◌, IsTrue, IsFalse}
 use Rattle.std.specs.List.{AllByRecursion}
@@ -151,7 +151,7 @@ module _ (g : Geometry) where
   label_same None = refl
   label_same (Some l) = refl
 
-  -- the state of nodes has there what the volume has
+  -- the state of the nodes has at that volume what the volume has
   pub state_there : (n : Nodes) (a v : ℕ) (w : Vol) → ((q : Path) → n (a ∷ v ∷ q) ≡ volume_nodes w q) → HasFacts (tree_state g n) a v (volume_facts g w)
   state_there n a v w at = record {
     made = ap node_made (at []);

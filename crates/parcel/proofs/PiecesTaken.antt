@@ -1,4 +1,4 @@
--- A piece that was read in the tree: its state is the one with that piece taken in.
+-- A piece was read into the tree: the tree's state is the one before, with that piece taken in.
 use Rattle.std.proofs.Common.{◌≡◌, ℕ, zero, suc, Bool, true, false, ◌&&◌, List, [], ◌∷◌, Option, Some, None, is_some, refl, sym, ◌∙◌, ap, subst}
 use Rattle.std.specs.Prelude.{◌↔◌, ◌==◌, if◌then◌else◌, IsTrue}
 use Rattle.std.proofs.lemmas.Bool.{and_parts, and_from, eqb-true, eq-eqb, not-true}
@@ -30,7 +30,7 @@ use Rattle.parcel.proofs.Shows.{has_none}
 use Rattle.parcel.proofs.StripePieces.{stripe_is_piece, stripe_state}
 use Rattle.parcel.proofs.VolumePieces.{volume_decoded, volume_state}
 
--- ---- states that have the same there
+-- ---- states that have the same in one volume
 
 module _ (g : Geometry) (a v : ℕ) where
   there_from : (x y : ℕ) (q : Path) → is_prefix (volume a v) (x ∷ y ∷ q) ≡ true → (a ≡ x) × (v ≡ y)
@@ -52,7 +52,7 @@ module _ (g : Geometry) (a v : ℕ) where
   here : is_volume a v (a, v) ≡ true
   here = and_from (a == a) (v == v) (eq-eqb a a refl) (eq-eqb v v refl)
 
-  -- what a state has there with a piece taken in
+  -- what a state with a piece taken in has in the volume of that piece
   pub facts_taken : (version : ℕ) (x : State) (h : VolumeFacts) → HasFacts x a v h → (part : ℕ) (bytes : List ℕ)
       → HasFacts (with_part version g x a v part bytes) a v (facts_with version g h part bytes)
   facts_taken version x h has zero bytes = record {
@@ -94,7 +94,7 @@ module _ (g : Geometry) (a v : ℕ) where
     labels = λ k r. refl;
   }
 
--- ---- the state stays one of the geometry
+-- ---- the state stays a valid one of the geometry
 
 files_told : (o : Option Logical) (f : ℕ) → files_in o f ≡ has_file (node_files (child_nodes logical_nodes o [])) f
 files_told None f = sym (has_none f)

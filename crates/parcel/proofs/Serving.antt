@@ -1,4 +1,4 @@
--- What was run at the place of a message fits where it was lent.
+-- Parcels on which a message ran fit at the affinity from which they were lent.
 use Rattle.std.proofs.Common.{subst}
 use Rattle.affinity.specs.declared.geometry.Geometry.{Geometry}
 use Rattle.affinity.specs.Interval.{Interval, IsAffinityOf}

@@ -1,4 +1,4 @@
--- What parcels show is what the nodes below their path hold, and the standing what the nodes above hold.
+-- Parcels show what the nodes at their path and below it hold, and the standing what the nodes above hold.
 use Rattle.std.proofs.Common.{◌≡◌, ℕ, zero, suc, Bool, true, false, [], ◌∷◌, ◌++◌, Option, refl, sym, ap, ◌∙◌}
 use Rattle.std.specs.Prelude.{◌&&◌, ◌==◌, None, Some, slice_index_or}
 use Rattle.std.proofs.lemmas.Bool.{and_parts, and_from, eqb-true, eq-eqb, true≢false}
@@ -24,7 +24,7 @@ use Rattle.parcel.specs.declared.parts.Parcels.TheVariants as parcels
 use Rattle.parcel.specs.declared.parts.Standing.{Standing}
 use Rattle.affinity.proofs.Paths.{related_first, related_rest}
 
--- The facts of a volume are those of the nodes from it on, at the homes that the test picks.
+-- The facts of a volume are what its nodes hold, at the paths (from the volume on) that the test R picks.
 pub record HoldsAt (g : Geometry) (R : Path → Bool) (h : VolumeFacts) (n : Nodes) : Type 0 where
   made : R [] ≡ true → h.made ≡ node_made (n [])
   sealed : R [] ≡ true → h.sealed ≡ node_sealed (n [])
@@ -119,7 +119,7 @@ module _ (g : Geometry) (R : Path → Bool) (n : Nodes) where
 
 -- ---- the standing
 
--- what lies above a path below a volume, where the test picks it
+-- The flags of the standing are those of the volume, if the test R picks its path (here the empty one).
 pub record StandsAt (R : Path → Bool) (t : Standing) (n : Nodes) : Type 0 where
   made : R [] ≡ true → t.made ≡ node_made (n [])
   sealed : R [] ≡ true → t.sealed ≡ node_sealed (n [])
@@ -202,7 +202,7 @@ subtree_shown g (a ∷ v ∷ suc zero ∷ []) t (parcels.Label l) n kind at =
     (label_holds g (is_prefix (1 ∷ [])) t (λ q. n (a ∷ v ∷ q)) (no_marks [] 1 t _) l (λ q r. true≢false (sym r)) (at []))
 subtree_shown g p t l n kind at = absurd kind
 
--- With the standing there, they show all that is related to the path.
+-- With the standing at the path, parcels show all that is related to it.
 pub related_shown : (g : Geometry) (p : Path) (t : Standing) (l : Parcels) (n : Nodes) → IsKindOf p l → ((q : Path) → n (p ++ q) ≡ parcels_nodes l q)
     → t ≡ standing_at p n → Shows g p t l (tree_state g n)
 related_shown g [] t (parcels.Root r) n kind at stands =

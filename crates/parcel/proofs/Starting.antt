@@ -22,7 +22,7 @@ use Rattle.parcel.proofs.Lending.{root_path}
 use Rattle.parcel.proofs.Shows.{has_none}
 use Rattle.parcel.proofs.Whole.{root_all_in}
 
--- ---- rows in which each is new
+-- ---- lists of children, each of which is new
 
 each_fits : {X : Type 0} (P : X → Type 0) (Fits : ℕ → X → Type 0) → ((i : ℕ) (x : X) → P x → Fits i x) → (i : ℕ) (xs : List (Option X)) → AllByRecursion (IsWholeChild P) xs → EachFits Fits i xs
 each_fits P Fits f i [] h = tt
@@ -113,7 +113,7 @@ module _ (g : Geometry) where
   text_empty None h = refl
   text_empty (Some l) h = h
 
-  -- the nodes from a volume on hold nothing
+  -- the nodes of a volume and below it hold nothing
   record IsEmptyAt (n : Nodes) : Type 0 where
     made : node_made (n []) ≡ false
     sealed : node_sealed (n []) ≡ false

@@ -1,4 +1,4 @@
--- A stripe's piece: bytes are the piece of what they decode to exactly where they are the piece of a stripe, and then they leave a state.
+-- A stripe's piece: bytes are the encoding of what they decode to exactly if `IsStripePiece` holds; then the state with them is valid.
 use Rattle.std.proofs.Common.{◌≡◌, ℕ, ◌+◌, ◌*◌, ◌-◌, ◌<◌, ◌≤◌, Bool, true, false, ◌&&◌, List, [], ◌∷◌, length, replicate, Option, Some, None, IfSome, is_some, refl, sym, ◌∙◌, ap, subst, arith, true≢false, length-append, ⊎_elim}
 use Rattle.std.specs.Prelude.{◌==◌, ◌^◌, if◌then◌else◌, nat_lt}
 use Rattle.std.specs.List.{AllByRecursion, flat_map}
@@ -23,7 +23,7 @@ use Rattle.parcel.proofs.GroupCounts.{Lies, lies_first, lies_behind}
 
 -- ---- from the tree
 
--- a stripe that fits has files that one byte encodes
+-- the file numbers in a stripe that fits are below 256, so one byte encodes each
 pub files_small : (g : Geometry) (s : ℕ) (es : List BlockEntry) → Lies g s es → AllByRecursion (λ (e : BlockEntry). e.file < 256) es
 files_small g s [] lies = tt
 files_small g s (e ∷ es) lies =
@@ -31,7 +31,7 @@ files_small g s (e ∷ es) lies =
     let most : g.files ≤ 64 = g.files_range.1 in
     (omega (arith, first, most), files_small g s es (lies_behind g s e es lies))
 
--- its blocks are those that a state has there
+-- its entries are those of the stripe in each state that has the same blocks there
 pub entries_spelled : {g : Geometry} {x : State} → IsState g x → (a v : ℕ) {s : ℕ} {p : StripePart} → IsAscending p.entries → FitsStripe g s p
     → ((f b : ℕ) → stripe_of g f b ≡ s → x.blocks (a, v, f, b) ≡ content_at p.entries f b) → p.entries ≡ stripe_entries g x a v s
 entries_spelled {g} {x} is a v {s} {p} up fits same = stripe_spelled is a v s p.entries up holds
@@ -187,7 +187,7 @@ module _ (g : Geometry) (x : State) (is : IsState g x) (a v s files : ℕ) (has 
 
 -- ---- into the tree
 
--- a file that a number of few bits has is below their count
+-- if a number has k bits, each file that it encodes is below k
 file_below : (k files f : ℕ) → files < 2 ^ k → has_file files f ≡ true → f < k
 file_below k files f small there =
     ⊎_elim
@@ -195,7 +195,7 @@ file_below k files f small there =
     (λ (no_less : k ≤ f). absurd (true≢false (sym there ∙ ap (λ (n : ℕ). n == 1) (bit_at_above files k f small no_less))))
     (cases_lt f k)
 
--- the entries of a stripe's piece fit there
+-- a stripe with the entries of a stripe's piece fits
 pub entries_fit : {g : Geometry} {s files : ℕ} {bytes : List ℕ} → files < 2 ^ g.files → IsStripePiece g files s bytes → {p : StripePart}
     → p.quota ≡ g.quota → p.entries ≡ entries_in g.quota bytes → FitsStripe g s p
 entries_fit {g} {s} {files} {bytes} small piece {p} quota entries = record {

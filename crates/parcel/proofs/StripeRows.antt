@@ -1,4 +1,4 @@
--- A row of stripes, each of which becomes another.
+-- The list (row) of a volume's stripes, before and after a call that changes each of them.
 use Rattle.std.proofs.Common.{◌≡◌, ℕ, suc, ◌<◌, Bool, true, false, List, [], ◌∷◌, Some, None, refl, ap, sym, ◌∙◌, length, slice_index_or, arith}
 use Rattle.std.specs.Prelude.{◌==◌, if◌then◌else◌, Option, is_some, IfSome}
 use Rattle.std.specs.List.{AllByRecursion}
@@ -25,7 +25,7 @@ module _ {X : Type 0} (R : Option X → Option X → Type 0) where
   pairs_from_places (x ∷ xs) [] e h = absurd (omega (arith, e))
   pairs_from_places (x ∷ xs) (y ∷ ys) e h = (h 0 (omega arith), pairs_from_places xs ys (omega (arith, e)) (λ s lt. h (suc s) (omega (arith, lt))))
 
-  -- what each fits stays so
+  -- if each fit at its number before, each still does
   pub still_fit : (Fits : ℕ → X → Type 0) → ((i : ℕ) (x y : Option X) → R x y → IfSome x (Fits i) → IfSome y (Fits i))
       → (i : ℕ) (xs ys : List (Option X)) → AllPairs xs ys → EachFits Fits i xs → EachFits Fits i ys
   still_fit Fits keeps i [] [] p h = tt
@@ -33,7 +33,7 @@ module _ {X : Type 0} (R : Option X → Option X → Type 0) where
   still_fit Fits keeps i (x ∷ xs) [] p h = absurd p
   still_fit Fits keeps i (x ∷ xs) (y ∷ ys) p h = (keeps i x y p.0 h.0, still_fit Fits keeps (suc i) xs ys p.1 h.1)
 
-  -- and where none is out, none is out
+  -- if none was out, none is
   pub still_whole : (W : X → Type 0) → ((x y : Option X) → R x y → IsWholeChild W x → IsWholeChild W y) → (xs ys : List (Option X)) → AllPairs xs ys
       → AllByRecursion (IsWholeChild W) xs → AllByRecursion (IsWholeChild W) ys
   still_whole W keeps [] [] p h = tt

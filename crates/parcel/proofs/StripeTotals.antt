@@ -30,7 +30,7 @@ pub quota_of : (g : Geometry) (s : ℕ) (place : Option StripePart) → IfSome p
 quota_of g s None fits = fits
 quota_of g s (Some p) fits = let most = g.quota_range.1 in omega (arith, fits.quota, most)
 
--- where there is none, none is counted
+-- where there is no file or no block, none is counted
 pub no_files : (g : Geometry) → file_total g (λ f. false) ≡ 0
 no_files g = sum_zero g.files
 

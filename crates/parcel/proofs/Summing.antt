@@ -13,7 +13,7 @@ use Rattle.parcel.specs.declared.running.totals.Totals.{Totals}
 pub sum_step : (n : ℕ) (h : ℕ → ℕ) → sum_below (n + 1) h ≡ sum_below n h + h n
 sum_step n h = ap (λ k. sum_below k h) (add-one n)
 
--- no more than n volumes can hold
+-- at most what n volumes can hold: 64 files each, of 256 blocks
 pub record IsFew (n : ℕ) (t : Totals) : Type 0 where
   pub volumes : t.volumes ≤ n
   pub files : t.files ≤ n * 64
@@ -37,7 +37,7 @@ few_of_sum n c each le few = record {
   blocks = let most : sum_below n (λ i. (each i).blocks) ≤ n * 131072 = sum_below-le_times n 131072 _ (λ i lt. let h = (few i).blocks in omega (arith, h, le)) in omega (arith, most);
 }
 
--- one more
+-- the totals of one more number, added to the sum
 pub sum_totals_step : (n : ℕ) (each : ℕ → Totals) (t u r : Totals) → t ≡ sum_totals n each → u ≡ each n → r
     ≡ record { volumes = t.volumes + u.volumes; files = t.files + u.files; blocks = t.blocks + u.blocks } → r ≡ sum_totals (n + 1) each
 sum_totals_step n each t u r before here added =

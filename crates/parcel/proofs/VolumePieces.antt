@@ -1,4 +1,4 @@
--- A volume's piece: what is spelled is what the volume has, and bytes that spell what they decode to leave a state.
+-- A volume's piece: it encodes what the volume has; and a state stays valid if bytes that encode what they decode to are taken in.
 use Rattle.std.proofs.Common.{◌≡◌, ℕ, zero, ◌%◌, ◌^◌, ◌<◌, ◌≤◌, Bool, true, false, List, [], ◌∷◌, ◌++◌, replicate, unwrap_or, Option, Some, None, IfSome, is_some, refl, sym, ◌∙◌, ap, subst, arith, ⊎_elim, true≢false, mod-lt}
 use Rattle.std.specs.Prelude.{◌==◌, if◌then◌else◌}
 use Rattle.std.proofs.lemmas.Bool.{cases_lt, and_parts, and_from, eqb-true, eq-eqb}
@@ -45,7 +45,7 @@ files_are : (g : Geometry) (x : State) (a v : ℕ) (o : Option Logical) → IfSo
 files_are g x a v None fits whole has = absurd whole
 files_are g x a v (Some l) fits whole has = (λ i. sum_below g.files (λ f. if has f i then 2 ^ f else 0)) ∙ bits_back g.files l.files fits.files
 
--- the piece of a volume of the tree is that of each state in which a volume has the same
+-- the piece of a volume of the tree is that of volume v of aggregate a in each state in which that volume has the same
 pub volume_written : (g : Geometry) (x : State) (a v : ℕ) (w : Vol) → FitsVolume g w → IsWholeVolume w → HasFacts x a v (volume_facts g w) → volume_piece 2 g x a v ≡ spelled (volume_piece_of w)
 volume_written g x a v w fits whole has =
     volume_spelled 2 g x (a, v) {p = volume_piece_of w} has.made has.sealed (files_are g x a v w.logical fits.logical whole.0 has.files)
@@ -90,7 +90,7 @@ module _ (version : ℕ) (g : Geometry) (bytes : List ℕ) (good : bytes ≡ spe
   eight_again : (n : ℕ) → n < 2 ^ 64 → little_number 8 (little_bytes 8 n) ≡ n
   eight_again n below = omega (arith, below)
 
-  -- they encode no file that the geometry hasn't
+  -- the bytes encode no file that the geometry doesn't have
   pub number_whole : number % 2 ^ g.files ≡ number
   number_whole = by (is_made_in bytes) refl
     where
@@ -129,7 +129,7 @@ module _ (version : ℕ) (g : Geometry) (bytes : List ℕ) (good : bytes ≡ spe
       (λ (no_less : g.files ≤ f). absurd (true≢false (sym there ∙ ap (λ (n : ℕ). n == 1) (bit_at_above number g.files f (subst (λ (n : ℕ). n < 2 ^ g.files) number_whole small) no_less))))
       (cases_lt f g.files)
 
-  -- what the volume has then
+  -- what a volume has with these bytes taken in
   pub facts_decoded : (w : Vol) → IsWholeVolume w → volume_facts g (volume_with (decoded_piece version g bytes) w) ≡ facts_with version g (volume_facts g w) zero bytes
   facts_decoded w whole = λ i. record {
     made = is_made_in bytes;

@@ -15,7 +15,7 @@ use Rattle.parcel.specs.Volume.{VolumeFacts, no_facts, facts_if, state_with}
 use Rattle.parcel.specs.declared.parts.Aggr.{Aggr}
 use Rattle.parcel.specs.declared.parts.Vol.{Vol}
 
--- ---- the row
+-- ---- the list of an aggregate's volumes
 
 abbrev pub changed_if : (VolumeFacts → VolumeFacts) → Bool → VolumeFacts → VolumeFacts
 changed_if change true h = change h

@@ -1,4 +1,4 @@
--- Where all below a place is in, each path below it is in, and else there is one that is out.
+-- If `is_whole_..` finds a node and all below it in, each path from there on is in; else some path is out.
 use Rattle.std.proofs.Common.{◌≡◌, ℕ, zero, suc, ◌+◌, ◌<◌, Bool, true, false, List, [], ◌∷◌, length, Option, refl, sym, ap, ◌∙◌, arith}
 use Rattle.std.specs.Prelude.{◌&&◌, None, Some, is_some, IfSome, slice_index_or}
 use Rattle.std.specs.List.{AllByRecursion, list_all}
@@ -54,11 +54,11 @@ root_whole (Some r) h = all_whole is_whole_aggregate IsWholeAggregate aggregate_
 
 -- ---- the definition, and the paths
 
--- each path from a place on is in
+-- each path that there is (`IsThere`) is in
 abbrev pub IsAllIn : (Path → Type 0) → Nodes → Type 0
 IsAllIn IsThere n = (q : Path) → IsThere q → is_some (n q) ≡ true
 
--- one of them is out
+-- some path that there is (`IsThere`) is out
 abbrev pub HasOneOut : (Path → Type 0) → Nodes → Type 0
 HasOneOut IsThere n = (q : Path) × IsThere q × (n q ≡ None)
 
@@ -67,7 +67,7 @@ child_whole_at IsWhole [] i below h = absurd (omega arith)
 child_whole_at IsWhole (x ∷ xs) zero below h = h.0
 child_whole_at IsWhole (x ∷ xs) (suc i) below h = child_whole_at IsWhole xs i (omega arith) h.1
 
--- a row of children: all of it is in where each child is, and a child with a gap is a gap of the row
+-- a row (the list of a node's children): nothing of it is out if nothing of a child is, and a gap in a child is a gap in the row
 module _ {X : Type 0} (nodes : X → Nodes) (IsBelow : Path → Type 0) where
   row_all_in : (Fits : ℕ → X → Type 0) (IsWhole : X → Type 0) (own : Node) {n : ℕ} (xs : List (Option X)) → length xs ≡ n
       → EachFits Fits 0 xs → AllByRecursion (IsWholeChild IsWhole) xs

@@ -24,7 +24,8 @@ abbrev pub EachFits : {X : Type 0} → (ℕ → X → Type 0) → ℕ → List (
 EachFits Fits i [] = Unit {0}
 EachFits Fits i (x ∷ xs) = IfSome x (Fits i) × EachFits Fits (suc i) xs
 
--- At the levels above a stripe: there are as many children as the geometry has, and each that is in fits.
+-- At the levels above a stripe: there are as many children as the geometry has, and each that is in fits. The bits of `files` are of files
+-- that the geometry has.
 pub record FitsLogical (g : Geometry) (l : Logical) : Type 0 where
   pub files : l.files < 2 ^ g.files
   pub count : length l.stripes.items ≡ g.stripes

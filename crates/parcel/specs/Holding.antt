@@ -1,4 +1,4 @@
--- Statement for engineers: A tree beside the serial state, while parcels are out at several places.
+-- Statement for engineers: How a tree agrees with the serial server's state while parcels are out at several places.
 use Rattle.std.specs.Prelude.{◌≡◌, Bool, true, false, not, ◌||◌, None}
 use Rattle.affinity.specs.declared.geometry.Geometry.{Geometry}
 use Rattle.affinity.specs.Interval.{IsPath}
@@ -21,14 +21,16 @@ with_place p out q = is_prefix p q || out q
 abbrev pub IsApart : Path → (Path → Bool) → Type 0
 IsApart p out = (q : Path) → out q ≡ true → are_related p q ≡ false
 
--- Just the paths of the set `out` are out of the tree, and at all others it agrees with a state of its geometry.
+-- The paths of the set `out` are out of the tree, and no others of its geometry. At all others the tree agrees with x, which is a valid
+-- state (`IsState`).
 pub record TreeHolds (g : Geometry) (out : Path → Bool) (n : Nodes) (x : State) : Type 0 where
   pub agrees : AgreeOn g (λ q. not (out q)) (tree_state g n) x
   pub others : (q : Path) → IsPath g q → n q ≡ None → out q ≡ true
   pub gone : (q : Path) → out q ≡ true → n q ≡ None
   pub state : IsState g x
 
--- The parcels of a job are out of a tree that holds a state, beside others at unrelated places: they show that state.
+-- A tree holds x while the parcels of a job are out, and the paths of the set `out`, to which the job's place is unrelated. The job's
+-- parcels and standing show x.
 pub record IsJobOut (out : Path → Bool) (job : JobView) (n : Nodes) (x : State) : Type 0 where
   pub holds : TreeHolds job.geometry (with_place (job_place job) out) n x
   pub apart : IsApart (job_place job) out

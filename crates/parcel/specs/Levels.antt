@@ -1,4 +1,4 @@
--- Inner: The tree level by level: the paths from a level on, and what it is to take out or to put back below it.
+-- Inner: The tree level by level: the paths that begin at a node of a level, and what it is to take out or to put back at such a path.
 use Rattle.std.specs.Prelude.{◌≡◌, ℕ, zero, suc, ◌<◌, Bool, true, false, ◌&&◌, [], ◌∷◌, ◌++◌, length, slice_index_or, Option, Some, None, is_some}
 use Rattle.std.specs.List.{AllByRecursion, list_all}
 use Rattle.affinity.specs.declared.geometry.Geometry.{Geometry}
@@ -14,14 +14,14 @@ use Rattle.parcel.specs.declared.parts.Aggr.{Aggr}
 use Rattle.parcel.specs.declared.parts.Root.{Root}
 use Rattle.parcel.specs.declared.parts.Parcels.{Parcels}
 
--- ---- the paths that there are, from a level on
+-- ---- the paths that there are from a node on
 
--- A path from a node without children on: the empty one.
+-- A path that begins at a node without children: the empty one.
 abbrev pub IsLeafPath : Path → Type 0
 IsLeafPath [] = Unit {0}
 IsLeafPath (i ∷ q) = ⊥
 
--- A path from a node with `count` children on, each of which has the paths `IsBelow`.
+-- A path that begins at a node with `count` children: the empty one, or the number of a child and then a path of that child (`IsBelow`).
 abbrev pub IsRowPath : ℕ → (Path → Type 0) → Path → Type 0
 IsRowPath count IsBelow [] = Unit {0}
 IsRowPath count IsBelow (i ∷ q) = (i < count) × IsBelow q
@@ -43,7 +43,7 @@ IsRootPath g = IsRowPath g.aggregates (IsAggregatePath g)
 
 -- ---- taking out
 
--- Nothing was taken at path p, and nothing changed: of the paths that there are, one that is related to p is out.
+-- Nothing was taken at path p, and nothing changed, since some path that there is (`IsThere`) is related to p and out.
 pub record TakesNothing (IsThere : Path → Type 0) (p : Path) (old new : Nodes) : Type 0 where
   pub gap : (q : Path) × IsThere q × (are_related p q ≡ true) × (old q ≡ None)
   pub same : SameNodes old new

@@ -1,4 +1,4 @@
--- Statement for operators: The tree as a map from paths to what each node has of its own. A path at which nothing is in has none.
+-- Statement for operators: The tree as a map from paths to nodes, each with what it has of its own. What is out has no node.
 use Rattle.std.specs.Prelude.{◌≡◌, ℕ, zero, suc, Bool, false, ◌==◌, if◌then◌else◌, List, [], ◌∷◌, slice_index_or, Option, Some, None}
 use Rattle.affinity.specs.declared.geometry.Geometry.{Geometry}
 use Rattle.affinity.specs.Geometry.{stripe_of}
@@ -63,7 +63,7 @@ aggregate_nodes r = children_nodes volume_nodes Inner r.volumes.items
 abbrev pub root_nodes : Root → Nodes
 root_nodes r = children_nodes aggregate_nodes Inner r.aggregates.items
 
--- the nodes of parcels, by the paths from their own place on
+-- the nodes of parcels, by paths that begin at their own place
 abbrev pub parcels_nodes : Parcels → Nodes
 parcels_nodes (parcels.Root r) = root_nodes r
 parcels_nodes (parcels.Aggr r) = aggregate_nodes r
@@ -74,7 +74,7 @@ parcels_nodes (parcels.Label l) = label_nodes l
 
 -- ---- changes
 
--- All is out at this path and below, and elsewhere as it was.
+-- Now all is out at this path and below it, and elsewhere all is as it was.
 abbrev pub TakesOut : Path → Nodes → Nodes → Type 0
 TakesOut p old new = (q : Path) → new q ≡ (if is_prefix p q then None else old q)
 

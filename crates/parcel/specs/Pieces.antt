@@ -28,7 +28,7 @@ spelled p =
 abbrev pub decoded_label : ℕ → List ℕ → List ℕ
 decoded_label version bytes = if version == 2 then bytes_at 16 32 bytes else no_label
 
--- what bytes decode to as a volume's piece, of the files that the geometry has
+-- what bytes decode to as a volume's piece; bits of files that the geometry doesn't have are dropped
 abbrev pub decoded_piece : ℕ → Geometry → List ℕ → VolumePiece
 decoded_piece version g bytes = record {
   made = is_made_in bytes;
@@ -46,7 +46,7 @@ volume_piece_of w = record {
   label = unwrap_or (shown_label w.label) no_label;
 }
 
--- a volume's files and stripes, with these files
+-- a Volume Logical with these files in the place of its own
 abbrev pub with_files : ℕ → Option Logical → Option Logical
 with_files files None = None
 with_files files (Some l) = Some (record l { files = files })
@@ -79,8 +79,8 @@ facts_with version g h zero bytes = record {
 }
 facts_with version g h (suc s) bytes = record h { blocks = λ f b. if stripe_of g f b == s then block_in g bytes f b else h.blocks f b }
 
--- The bytes were read into a volume as its own piece (part 0) or as that of stripe part - 1. They are good exactly if they are that piece
--- of what they decode to, and then the volume has that.
+-- The bytes were read into a volume as its own piece (part 0) or as that of stripe part - 1. They are good exactly if they are the encoding
+-- of what they decode to, and then the volume has what they decode to.
 pub record IsPieceOfVolumeRead (version : ℕ) (g : Geometry) (part : ℕ) (bytes : List ℕ) (good : Bool) (old new : Vol) : Type 0 where
   pub fits : FitsVolume g new
   pub whole : IsWholeVolume new

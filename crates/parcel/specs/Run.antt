@@ -22,7 +22,7 @@ pub record JobView : Type 0 where
   pub standing : Standing
   pub parcels : Parcels
 
--- The step of a message leads from one state to another, and this is its reply.
+-- From state x the serial step of the message gives this reply and state y.
 pub record IsSerialStep (g : Geometry) (x : State) (m : Msg) (given : Reply) (y : State) : Type 0 where
   pub reply : given ≡ reply_to g x m
   pub state : y ≡ next_state g x m

@@ -23,11 +23,11 @@ abbrev pub blocks_in : Option StripePart → ℕ → ℕ → Option Block
 blocks_in None f b = None
 blocks_in (Some p) f b = content_at p.entries f b
 
--- the blocks of a list of stripes, each in its own stripe
+-- the blocks of a volume's list of stripes: each is looked up in the stripe in which it lies
 abbrev pub blocks_of : Geometry → List (Option StripePart) → ℕ → ℕ → Option Block
 blocks_of g row f b = blocks_in (slice_index_or row (stripe_of g f b) None) f b
 
--- ---- one volume, by a parcel of it and the standing
+-- ---- the facts of one volume (what can be asked of it), by a parcel of it and the standing
 
 abbrev pub stripe_facts : Standing → StripePart → VolumeFacts
 stripe_facts t p = record { made = t.made; sealed = t.sealed; files = has_file t.files; blocks = content_at p.entries; label = None }

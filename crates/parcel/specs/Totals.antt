@@ -13,11 +13,11 @@ abbrev pub entry_count : Option StripePart → ℕ
 entry_count None = 0
 entry_count (Some p) = length p.entries
 
--- how many files of the geometry there are
+-- how many of the files that the geometry allows exist
 abbrev pub file_total : Geometry → (ℕ → Bool) → ℕ
 file_total g files = count_below g.files files
 
--- how many blocks of the geometry there are
+-- how many of the blocks that the geometry allows exist
 abbrev pub block_total : Geometry → (ℕ → ℕ → Option Block) → ℕ
 block_total g blocks = sum_below g.files (λ f. count_below g.blocks (λ b. is_some (blocks f b)))
 
@@ -25,7 +25,7 @@ block_total g blocks = sum_below g.files (λ f. count_below g.blocks (λ b. is_s
 abbrev pub totals_of : Geometry → VolumeFacts → Totals
 totals_of g h = record { volumes = one_if h.made; files = file_total g h.files; blocks = block_total g h.blocks }
 
--- the sums of the totals of each number below n
+-- the totals of all numbers below n, added up
 abbrev pub sum_totals : ℕ → (ℕ → Totals) → Totals
 sum_totals n each = record {
   volumes = sum_below n (λ i. (each i).volumes);

@@ -18,7 +18,7 @@ pub record TreeView : Type 0 where
   pub geometry : Geometry
   pub root : Option Root
 
--- what a tree keeps
+-- the invariant of a tree: what is in fits its geometry
 abbrev pub IsWellFormed : TreeView → Type 0
 IsWellFormed t = IfSome t.root (FitsRoot t.geometry)
 
@@ -54,8 +54,8 @@ abbrev pub IsOut : Path → Nodes → Type 0
 IsOut [] n = n [] ≡ None
 IsOut (x ∷ p) n = (n (x ∷ p) ≡ None) × (is_some (n (path_above (x ∷ p))) ≡ true)
 
--- what a message at a path sees of the nodes above: a stripe the flags and the files of its volume, Volume Logical and Volume Label the
--- flags
+-- what a message at a path sees of the nodes above: at a stripe the flags and the files of its volume, at a Volume Logical or Volume Label
+-- the flags alone, elsewhere nothing
 abbrev pub standing_at : Path → Nodes → Standing
 standing_at (a ∷ v ∷ zero ∷ s ∷ _) n = record {
   made = node_made (n (volume a v));

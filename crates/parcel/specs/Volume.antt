@@ -11,7 +11,7 @@ pub record VolumeFacts : Type 0 where
   pub blocks : ℕ → ℕ → Option Block
   pub label : Option (List ℕ)
 
--- the facts of a volume of which nothing is there
+-- the facts of a volume that isn't made, or that is out
 abbrev pub no_facts : VolumeFacts
 no_facts = record { made = false; sealed = false; files = λ f. false; blocks = λ f b. None; label = None }
 

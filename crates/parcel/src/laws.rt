@@ -22,13 +22,13 @@ ghost use Rattle.parcel.specs.declared.job.Done.{Done};
 ghost use Rattle.parcel.specs.declared.parts.Parcels.{Parcels};
 ghost use Rattle.parcel.specs.declared.parts.Standing.{Standing};
 
-/// A job that ran on the parcels of its place is a serial step of every state from which they can
-/// have been lent, whatever that state has elsewhere.
+/// The run of a job is a serial step of every state that the job's parcels and standing show at its
+/// place, whatever that state has elsewhere.
 pub fn run_is_serial()
     ensures { (job : JobView) (done : Done) (x : State) → IsJobRun job done → IsLentOf job x → IsSerialStepOf job done x }
 {}
 
-/// What is taken out or put back at a path leaves the state everywhere outside that path.
+/// Taking out or putting back at a path changes the state only at that path and below it.
 pub fn tree_agrees_elsewhere()
     ensures taken_leaves { (g : Geometry) (p : Path) (old new : Nodes) → TakesOut p old new
         → AgreeOn g (outside p) (tree_state g new) (tree_state g old) }
@@ -42,9 +42,9 @@ pub fn restored_parcels_are_in()
         → IsPath g (p ++ q) → is_some (new (p ++ q)) ≡ true }
 {}
 
-/// A message that is lent what it needs from a tree, runs on it and gives it back makes a serial
-/// step of the tree's state, whatever is out elsewhere: the reply is that of the step. Where all was
-/// in, all is in again, and where the tree held a state of its geometry, it holds one again.
+/// A message runs on what the tree lends for it, and what it leaves is put back: for the tree's state this
+/// is a serial step, with the reply of that step, whatever is out at unrelated places. If nothing was out
+/// before, nothing is out again. If the tree held a valid state of its geometry (`IsState`), it does again.
 pub fn lent_run_and_restored_is_a_step()
     ensures step { (job : JobView) (done : Done) (old lent new : Nodes) → LendsRunsRestores job done old lent new
         → IsSerialStep job.geometry (tree_state job.geometry old) job.message done.reply (tree_state job.geometry new) }
@@ -54,8 +54,8 @@ pub fn lent_run_and_restored_is_a_step()
         → IsMessage job.message → IsState job.geometry (tree_state job.geometry old) → IsState job.geometry (tree_state job.geometry new) }
 {}
 
-/// To show what a state has at a path, below it and above it, is to have its subtree and its standing
-/// there.
+/// Parcels and a standing show a state x at a path (`Shows`) exactly if their own state (`shown_state`)
+/// has the same subtree there as x, and the same standing.
 pub fn shown_is_subtree_and_standing()
     ensures has_subtree { (g : Geometry) (p : Path) (t : Standing) (l : Parcels) (x : State) → Shows g p t l x
         → subtree g p (shown_state g p t l) ≡ subtree g p x }
@@ -81,9 +81,9 @@ pub fn whole_tree_holds_its_state()
     ensures whole { (g : Geometry) (n : Nodes) (x : State) → TreeHolds g nowhere n x → IsIn g [] n × (tree_state g n ≡ x) }
 {}
 
-/// Where a place is unrelated to all that is out of a tree that holds a state, the tree lends it:
-/// nothing there, above or below is out. What it lends shows that state, and the tree holds the
-/// state with one place more out.
+/// A tree holds a state (`TreeHolds`), and a place is unrelated to all that is out of the tree. Then the
+/// tree can lend that place: nothing there, above or below is out. What it lends shows the state, and the
+/// tree still holds the state, with this place out too. Two equal sets of paths say the same (`alike`).
 pub fn place_apart_is_lent()
     ensures some { (g : Geometry) (out : Path → Bool) (p : Path) (n : Nodes) (x : State) →
         TreeHolds g out n x → IsApart p out → HasGap g p n → ⊥ }
@@ -97,15 +97,15 @@ pub fn place_apart_is_lent()
         ((q : Path) → out q ≡ set q) → TreeHolds g out n x → TreeHolds g set n x }
 {}
 
-/// A serial step at an unrelated place leaves what is out showing the new state.
+/// Parcels that show a state also show the state after a serial step at an unrelated place.
 pub fn step_elsewhere_is_shown()
     ensures { (g : Geometry) (p : Path) (t : Standing) (l : Parcels) (x : State) (m : Msg) →
         are_related p (path_of g m) ≡ false → Shows g p t l x → Shows g p t l (next_state g x m) }
 {}
 
-/// A job whose parcels are out of a tree that holds a state, whatever else is out, can be put back
-/// once it ran: its reply is that of the serial step of that state, and then the tree holds the
-/// state after the step, with one place fewer out.
+/// The parcels of a job are out of a tree that holds a state, perhaps beside others. Once the job ran,
+/// they can be put back, and its reply is that of the serial step from that state. With them put back,
+/// the tree holds the state after the step, with one place fewer out.
 pub fn job_back_is_a_step()
     ensures ok { (out : Path → Bool) (job : JobView) (done : Done) (n : Nodes) (x : State) →
         IsJobOut out job n x → IsJobRun job done →

@@ -1,4 +1,4 @@
-//! The parts of a server, level by level, and the parcels that they make.
+//! The parts of a server's state, a type for each kind of node, and `Parcels`: any one of them.
 mod paths;
 mod putting;
 mod standings;
@@ -12,7 +12,7 @@ pub(crate) use standings::{files_of, standing_at, volume_at};
 pub(crate) use starting::new_root;
 pub(crate) use taking::take_at;
 
-/// The files of a volume and its stripes.
+/// The Volume Logical of a volume: its files, and below them its stripes.
 #[derive(Drop)]
 pub struct Logical {
     /// File `f` is bit `f`.
@@ -47,7 +47,7 @@ pub struct Root {
     pub(crate) aggregates: Vec<Option<Aggr>>,
 }
 
-/// What lies at one place of the tree and below it. It moves as a handle of a few words, whatever
+/// What lies at one place of the tree and below it. Moving it copies a few machine words, however much
 /// it holds.
 #[derive(Drop)]
 pub enum Parcels {
@@ -59,9 +59,9 @@ pub enum Parcels {
     Label(Label),
 }
 
-/// What a message sees of what lies above its place: a message at a stripe the flags of its volume
-/// and its files, one at a Volume Logical or a Volume Label the flags, and any other nothing. What
-/// a place doesn't need is `false` and 0.
+/// What a message sees of the nodes above its place. At a stripe: the flags of its volume (made, sealed)
+/// and its files. At a Volume Logical or a Volume Label: the flags, and 0 for the files. At any other
+/// place nothing: `false` and 0.
 #[derive(Clone, Copy, Debug, PartialEq, Eq)]
 pub struct Standing {
     pub made: bool,

@@ -36,7 +36,7 @@ impl fmt::Display for BadPiece {
 
 impl Error for BadPiece {}
 
-/// Where a piece lies: its aggregate, its volume, and there 0 for the volume's own piece and `s + 1`
+/// What a piece is of: its aggregate, its volume, and as `part` 0 for the volume's own piece and `s + 1`
 /// for that of stripe s.
 #[derive(Clone, Copy)]
 pub(crate) struct PiecePlace {
@@ -61,7 +61,7 @@ fn place_of_piece(g: &Geometry, n: usize) -> PiecePlace
 }
 
 /// Writes piece `n` of the state that the tree holds into `out`, as an image of version 2 has it.
-/// Nothing of the tree may be out. The size is that of the piece: 64 bytes for a volume's own, and
+/// Nothing of the tree may be out. `out` has the size of the piece: 64 bytes for a volume's own, and
 /// 520 for each block that a stripe can hold.
 pub fn write_piece(t: &Tree, n: usize, out: &mut [u8])
     requires whole { IsWholeTree t.now }
@@ -100,9 +100,9 @@ fn write_part(volume: &Vol, g: &Geometry, part: usize, out: &mut [u8])
 }
 
 /// Reads `bytes` into the tree as piece `n`, in place of what the tree has there. `BadPiece` exactly
-/// where they differ from the encoding (in version 2 of an image) of what they decode to; what the tree
-/// has there is then unspecified. Nothing of the tree may be out, and before a volume's own piece is read
-/// the tree has no block of that volume.
+/// where they differ from the encoding (in version 2 of an image) of what they decode to; then it is
+/// unspecified what the tree holds. Nothing of the tree may be out, and when a volume's own piece is read
+/// the tree must have no block of that volume.
 pub fn read_piece(t: &mut Tree, n: usize, bytes: &[u8]) -> Result<(), BadPiece>
     requires whole { IsWholeTree t.old }
     requires piece { n < piece_count t.old.geometry }
@@ -119,8 +119,8 @@ pub fn read_piece(t: &mut Tree, n: usize, bytes: &[u8]) -> Result<(), BadPiece>
     read_piece_of_version(t, VERSION, n, bytes)
 }
 
-/// The same for an image of version 1, which has zeros instead of labels: each volume that is made
-/// gets a label of zeros.
+/// As `read_piece`, for an image of version 1, which has zeros instead of labels: each volume that is
+/// made gets a label of zeros.
 pub fn read_piece_1(t: &mut Tree, n: usize, bytes: &[u8]) -> Result<(), BadPiece>
     requires whole { IsWholeTree t.old }
     requires piece { n < piece_count t.old.geometry }
@@ -137,7 +137,7 @@ pub fn read_piece_1(t: &mut Tree, n: usize, bytes: &[u8]) -> Result<(), BadPiece
     read_piece_of_version(t, FIRST_VERSION, n, bytes)
 }
 
-// Takes in bytes as piece `n` of an image of a version.
+// Reads bytes into the tree as piece `n` of an image of this version.
 fn read_piece_of_version(t: &mut Tree, version: u8, n: usize, bytes: &[u8]) -> Result<(), BadPiece>
     requires whole { IsWholeTree t.old }
     requires piece { n < piece_count t.old.geometry }

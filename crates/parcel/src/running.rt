@@ -24,8 +24,8 @@ use at_stripe::run_at_stripe;
 use at_volume::run_at_volume;
 use messages::{Msg, Reply};
 
-/// Runs a message on its parcels: the reply is that of the serial server in the state that they and
-/// the standing show, and they show the state after it.
+/// Runs a job: the reply is that of the serial server in the state that its parcels and its standing
+/// show, and afterwards these show the state after that step.
 #[inline(always)]
 pub fn run(job: Job) -> Done
     ensures { IsJobRun job result }

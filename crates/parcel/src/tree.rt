@@ -51,9 +51,9 @@ impl Tree {
         self.geometry
     }
 
-    /// Takes out what lies at an affinity of the tree's geometry and below it, with what a message
-    /// there sees of the nodes above. None where something at the affinity, above it or below it is
-    /// out already: then nothing changes.
+    /// Takes out what lies at an affinity of the tree's geometry and below it. With it goes the standing,
+    /// a copy of what a message there sees of the nodes above. `None`, and nothing changes, where
+    /// something at the affinity, above it or below it is out already.
     pub fn lend(&mut self, a: Affinity) -> Option<(Standing, Parcels)>
         requires affinity { IsAffinity self.old.geometry a }
         ensures geometry { self.new.geometry ≡ self.old.geometry }
@@ -69,9 +69,9 @@ impl Tree {
         Some((standing, parcels))
     }
 
-    /// Puts parcels back at an affinity of the tree's geometry. Where they are of the affinity's kind, they have to be whole and of this
-    /// geometry. They are handed back as `Err`, and nothing changes, where what lies there isn't out, where the node above it is out too,
-    /// or where they are of another kind.
+    /// Puts parcels back at an affinity of the tree's geometry. Parcels of the affinity's kind have to be whole (nothing below them is out)
+    /// and to fit this geometry. They are handed back as `Err`, and nothing changes, where the affinity's own node is in, where the node
+    /// above it is out too, or where they are of another kind.
     pub fn restore(&mut self, a: Affinity, p: Parcels) -> Result<(), Parcels>
         requires affinity { IsAffinity self.old.geometry a }
         requires fits { (q : Path) → IsAffinityOf self.old.geometry q a → IsKindOf q p → Fits self.old.geometry q p }

@@ -1,10 +1,12 @@
-//! A call of an arena with what it must answer, so that a test is a table of calls.
+//! A call of an arena with what it must answer, so that a test is a table of calls. A chain is a linked list of slots.
 ghost use Rattle.std.specs.Prelude.{◌+◌, ◌<◌};
 
 use arena::Arena;
 use std::alloc::{AllocError, Global};
 use std::process::Abort;
 
+/// `Front` takes the number of a chain, `MoveTo` that of a slot and then that of a chain, and the others up to `Take`, but
+/// for `Put`, that of a slot. What the call must answer comes last.
 #[derive(Drop)]
 pub enum Call {
     Put(char, Result<usize, char>),
@@ -48,7 +50,7 @@ fn is_right(arena: &mut Arena<char>, call: &Call) -> bool {
     }
 }
 
-/// Makes these calls, one after the other.
+/// Makes these calls, one after the other, and looks at what each answers.
 pub fn checks(rt: &impl Abort, name: &str, arena: &mut Arena<char>, calls: &[Call]) {
     for (number, call) in calls.iter().enumerate() {
         assert!(rt; is_right(arena, call), "{name}, at call {number}");

@@ -4,6 +4,7 @@ use crate::arena_calls::Call::{Counts, Front, Get, Lend, MoveTo, Next, Put, Rest
 use crate::arena_calls::{Call, checks, made};
 use std::test::Fail;
 
+// Gives the value back. It compiles only for a type that is `Send` (may go to another thread), as an arena is.
 fn sent<T: Send>(value: T) -> T {
     value
 }
@@ -76,7 +77,7 @@ const MIDDLE: [Call; 18] = [
     Next(2, Some(0)),
     Next(0, None),
     Take(0, Some('a')),
-    // what was freed last goes first, and what was never used goes last
+    // of the free slots the one that was freed last is taken first, and one that was never used last
     Put('d', Ok(0)),
     Put('e', Ok(1)),
     Put('f', Ok(3)),

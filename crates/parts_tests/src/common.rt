@@ -1,4 +1,4 @@
-//! What tests share: assertions, called for each row of a test's table: as functions they are proved once.
+//! What tests share: assertions. Each is a function, so that it is proved once and not anew where a test calls it, for each row of a table.
 
 use std::process::Abort;
 

@@ -1,4 +1,4 @@
-//! A device over files that transfer little at a time, that are refused, and that are in memory.
+//! A device over a file that transfers little at a time, over one whose calls are all refused, and over one in memory.
 ghost use Rattle.std.specs.Prelude.{◌≡◌};
 ghost use Rattle.disk.specs.BackingFile.{device_result};
 
@@ -13,7 +13,8 @@ use std::os::unix::fs::FileExt;
 use std::sync::atomic::{AtomicU64, Ordering};
 use std::test::Fail;
 
-/// A file that transfers at most three bytes at a time, and of which each second call is interrupted.
+/// A file that transfers at most three bytes at a time. Of its reads and writes the first is interrupted, the third, and so on. It counts
+/// the calls of `sync_data`.
 #[derive(Drop)]
 struct Choppy<'a> {
     file: File,
@@ -99,7 +100,7 @@ impl OpenFile for Refusing {
     }
 }
 
-/// A device as a file, which keeps its bytes and fails as the device does.
+/// A file over a device (`FileBacked` is the reverse): it has the device's bytes, and a call of it fails where that of the device does.
 #[derive(Drop)]
 struct DeviceFile<D: Disk + Drop> {
     disk: D,
@@ -138,6 +139,7 @@ impl<D: Disk + Drop> BackingFile for DeviceFile<D> {
     ghost bytes = { λ f. D.Disk.bytes f.disk };
 }
 
+/// Calls of a device of twelve bytes.
 const CALLS: [Call; 7] = [
     Call::Write(1, b"abcdefgh"),
     Call::Sync,
@@ -184,7 +186,7 @@ fn a_call_that_is_refused_is_a_fault(rt: HostRuntime) -> Result<(), Fail> {
     Ok(expect(&rt, rt.alloc(), &mut disk, &CALLS, &wanted)?)
 }
 
-/// A file that keeps its bytes is the device that a device in memory is, also where one of its calls fails.
+/// A device over a file in memory answers each call as the device in memory itself does, also where one call fails.
 #[test]
 fn a_file_in_memory_answers_as_a_device(rt: HostRuntime) -> Result<(), Fail> {
     for n in 0..7_u64 {

@@ -66,11 +66,12 @@ fn may_write(rt: &HostRuntime, path: &str) -> bool {
         .is_ok()
 }
 
-/// It was refused with `Device`.
+/// The file was not created or opened, with `Device` as the reason.
 fn is_fault(rt: &impl Abort, made: Result<FileDisk, FileFault>) {
     holds(rt, matches!(made, Err(FileFault::Device)));
 }
 
+/// Calls of a device of twelve bytes.
 const CALLS: [Call; 8] = [
     Call::Write(3, b"abc"),
     Call::Write(11, b"z"),
@@ -197,7 +198,7 @@ fn a_file_opened_for_reading_takes_no_write(rt: HostRuntime) -> Result<(), Fail>
     place.remove(&rt)
 }
 
-/// The system refuses to sync this file, and unlike `/dev/null` also to write it.
+/// The system refuses to sync this file, and unlike `/dev/null` also to write it. Opening it for reading succeeds, so that doesn't sync.
 #[test]
 fn a_file_opened_for_reading_is_not_synced(rt: HostRuntime) {
     let path = "/proc/version";
@@ -210,7 +211,7 @@ fn a_read_only_file_is_a_fault(rt: HostRuntime) -> Result<(), Fail> {
     let place = TestFile::new(&rt, "read_only")?;
     place.write(&rt, b"kept")?;
     fs::set_permissions(&rt, place.path.as_str(), Permissions::from_mode(0o444))?;
-    // The administrator may write such a file.
+    // Root may write such a file.
     let wanted = if may_write(&rt, place.path.as_str()) {
         None
     } else {

@@ -19,6 +19,7 @@ fn set(disk: &mut MemDisk, injected_fault: &InjectedFault) {
     }
 }
 
+/// Calls of a device of four bytes: the third one is out of range, so it doesn't count as a call.
 const CALLS: [Call; 5] = [
     Call::Read(0, 4),
     Call::Write(0, &[1]),
@@ -27,7 +28,8 @@ const CALLS: [Call; 5] = [
     Call::Read(0, 1),
 ];
 
-/// Injected faults, set one after the other, and what each of the calls answers then.
+/// Injected faults, set one after the other, so that the last one replaces the others; and what each of `CALLS` answers
+/// then.
 const WITH_FAULTS: [(&[InjectedFault], [Result<(), DiskFault>; 5]); 5] = [
     (
         &[InjectedFault::FailAt(2)],
@@ -70,12 +72,12 @@ fn injected_faults_fail_the_calls_that_they_name(rt: HostRuntime) -> Result<(), 
     Ok(())
 }
 
-/// A device of three bytes, or the refusal of one request for memory.
+/// A device of three bytes, or an error where a request for memory is refused.
 fn of_three(alloc: Global) -> Result<MemDisk, AllocError> {
     MemDisk::of_bytes(alloc, vec![in alloc; 1, 2, 3]?)
 }
 
-/// It passes too where any one request for memory is refused.
+/// The test passes also if any one request for memory in it is refused.
 #[test]
 fn a_device_in_memory_is_made_at_the_next_try(rt: HostRuntime) -> Result<(), Fail> {
     let alloc = rt.alloc();

@@ -8,8 +8,9 @@ use std::alloc::{AllocError, Global};
 use std::process::Abort;
 use std::test::Fail;
 
-/// A device after some calls: which of them fails, if one does, what a read gives, and what each kind of crash
-/// leaves. `Mixed` puts 1, 77, 1, and again, at the unsynced bytes in order.
+/// A device of the bytes 10 to 15 after some calls: the number of the call that fails (none, if there are fewer calls), what
+/// a read gives, and what each kind of crash leaves. `Fill` puts 7 at each unsynced byte, and `Mixed` 1, 77, 1, and again,
+/// in order.
 #[derive(Drop)]
 struct Row {
     calls: &'static [Call],
@@ -78,7 +79,8 @@ fn device_of(alloc: Global, row: &Row) -> Result<MemDisk, AllocError> {
     Ok(disk)
 }
 
-/// What a crash of this kind leaves of the device, and a second one after it, where nothing is unsynced.
+/// A crash of this kind leaves these bytes of the device. A second crash changes none, as nothing is unsynced after the
+/// first.
 fn leaves(
     rt: &impl Abort,
     alloc: Global,

@@ -19,7 +19,7 @@ fn made(alloc: Global, g: &Geometry) -> Result<RunQueue, AllocError>
     }
 }
 
-/// It passes too where any one request for memory is refused.
+/// The test passes also if any one request for memory in it is refused.
 #[test]
 fn a_run_queue_is_made_at_the_next_try(rt: HostRuntime) -> Result<(), Fail> {
     let g = Geometry::default();
@@ -30,6 +30,7 @@ fn a_run_queue_is_made_at_the_next_try(rt: HostRuntime) -> Result<(), Fail> {
         changing: true,
         ticket: 0,
     };
+    // `true`: the log has room.
     holds(&rt, run_queue.next(true).is_none());
     run_queue.arrive(*queued);
     holds(&rt, run_queue.next(true) == Some(*queued));

@@ -16,7 +16,8 @@ use std::thread::Threads;
 use std::{env, thread};
 use workers::{Bench, DispatchSeat, DispatcherTask, Gate, OpenGate};
 
-/// One volume of two files of four blocks, in two stripes that hold two blocks each.
+/// One volume of two files of four blocks, in two stripes that hold two blocks each. In order: aggregates, volumes, stripes, width, files,
+/// blocks, quota, records in a half.
 const SMALL: [u16; 8] = [1, 1, 2, 1, 2, 4, 2, 4];
 
 /// How often a test tries before it gives up.
@@ -25,16 +26,17 @@ const MOST_TRIES: u32 = 1_000_000;
 /// How many kinds of message there are.
 const KINDS: u64 = 14;
 
-/// How far apart the tickets of one place are: more than there are places, and prime to the kinds.
+/// How far apart the tickets of the jobs at one place of the bench are, from round to round: more than there are places, so that no ticket
+/// comes twice, and coprime to `KINDS`, so that each place gets jobs of every kind.
 const STRIDE: u64 = 65;
 
 /// How often two jobs are offered while one worker may spin and the other sleeps.
 const MEETINGS: u64 = 500;
 
-/// How many looks the test pauses so that an idle worker is asleep: more than the 2,048 that one spins.
+/// How long the test pauses so that an idle worker is asleep, in turns of a loop: more than the 2,048 for which a worker spins.
 const LONG_PAUSE: u64 = 5_000;
 
-/// The pause before the two jobs are offered has fewer looks than this, so that the worker that just ended a job still spins.
+/// The pause before the two jobs are offered has fewer turns than this, so that the worker that just ended a job still spins.
 const SHORT_PAUSES: u64 = 50;
 
 // A message of each kind.
@@ -57,7 +59,7 @@ fn message(kind: u64) -> Msg {
     }
 }
 
-// The job of a ticket, on a new tree.
+// The job of a ticket: a message whose kind is the ticket modulo `KINDS`, on a new tree.
 fn job(alloc: Global, ticket: u64) -> Result<Option<Job>, Fail> {
     let mut tree = Tree::new(alloc, Geometry::new(SMALL)?)?;
     let g = tree.geometry();
@@ -79,7 +81,7 @@ fn reply_alone(alloc: Global, ticket: u64) -> Result<Option<Reply>, Fail> {
     Ok(Some(*run(job).reply()))
 }
 
-// Offers the job of a ticket; returns whether the place took it.
+// Offers the job of a ticket at place k of the bench. Returns whether the place took it.
 fn offer(
     bench: &Bench,
     dispatch_seat: &mut DispatchSeat,
@@ -96,7 +98,7 @@ fn offer(
     Ok(bench.offer(dispatch_seat, k, job).is_ok())
 }
 
-// The ticket and the reply of the result at a place, once it is there.
+// The ticket and the reply of the result at a place, once it is there; none if the test gives up.
 fn collect(bench: &Bench, dispatch_seat: &mut DispatchSeat, k: usize) -> Option<(u64, Reply)>
     requires { (dispatch_seat.old.bench ≡ bench.now) × (k < bench.now.slots) }
     ensures { dispatch_seat.new.bench ≡ dispatch_seat.old.bench }
@@ -143,7 +145,7 @@ fn offers_one(bench: &Bench, dispatch_seat: &mut DispatchSeat, alloc: Global) ->
     Ok(first && second && nothing)
 }
 
-/// It passes too where any one request for memory is refused.
+/// The test passes also if any one request for memory in it is refused.
 #[test]
 fn a_bench_is_opened_at_the_next_try(rt: HostRuntime) -> Result<(), Fail> {
     let alloc = rt.alloc();
@@ -229,7 +231,7 @@ impl<'c> DispatcherTask<Result<Option<(u64, Reply)>, Fail>> for RoundTrip<'c> {
     }
 }
 
-// If `with_workers` doesn't stop the worker once the task is done, this doesn't end.
+// If `with_workers` doesn't stop the worker once the task is done, this test doesn't end.
 #[test]
 fn a_task_is_done_beside_a_worker(rt: HostRuntime) -> Result<(), Fail> {
     let alloc = rt.alloc();
@@ -249,7 +251,8 @@ fn a_task_is_done_beside_a_worker(rt: HostRuntime) -> Result<(), Fail> {
     Ok(())
 }
 
-// Where a thread can't be started nobody stops the bench but `start`, so this ends only if it did.
+// Where a thread can't be started, the test returns without a `stop`. The scope waits for the threads that run, so the test ends only if
+// `start` has stopped the bench.
 #[test]
 fn a_bench_with_no_job_starts_and_ends(rt: HostRuntime) -> Result<(), Fail> {
     let (bench, dispatch_seat, seats) = Bench::open(rt.alloc(), 2, 3)?;
@@ -270,7 +273,7 @@ fn a_bench_with_no_job_starts_and_ends(rt: HostRuntime) -> Result<(), Fail> {
     )
 }
 
-// Each of many jobs at place 0 is there when the wait for it returns.
+// Of each of many jobs at place 0, one after the other, the result is there when the wait for it returns.
 fn jobs_waited_for<R: Wait>(
     bench: &Bench,
     dispatch_seat: &mut DispatchSeat,
@@ -324,7 +327,7 @@ fn a_wait_ends_with_the_delivery(rt: HostRuntime) -> Result<(), Fail> {
     Ok(())
 }
 
-// Holds up the job of each even ticket until that of the ticket after it was collected.
+// A gate that holds up the job of each even ticket until the result of the next ticket was collected.
 #[derive(Drop)]
 struct Holding {
     answered: AtomicU64,
@@ -359,7 +362,8 @@ impl Gate for Holding {
     }
 }
 
-// The job after an even ticket is collected while that of the ticket is held up.
+// Two jobs are offered, of an even ticket and the next one. The second one's result is collected while the first job is held up, and then
+// the first one's.
 fn two_jobs(
     bench: &Bench,
     dispatch_seat: &mut DispatchSeat,
@@ -382,15 +386,16 @@ fn two_jobs(
     Ok(offered && answered && freed && !gate.gave_up.load(Ordering::SeqCst))
 }
 
-// Lets some time pass.
+// Lets some time pass, in turns of a loop.
 fn pause(looks: u64) {
     for _ in 0..looks {
         spin_loop();
     }
 }
 
-// Again and again one of two workers has just done a job, and spins, while the other sleeps. Two jobs are offered then at once: the
-// one that spins may claim the first of them, which holds it up, while no offer has woken the other.
+// Again and again one of two workers has just done a job, and spins, while the other sleeps. Then two jobs are offered at once. No offer
+// wakes the sleeper while a worker spins; if that one claims the first job, where the gate holds it up, its claim has to wake the other for
+// the second job.
 fn all_meetings(
     bench: &Bench,
     dispatch_seat: &mut DispatchSeat,
@@ -517,7 +522,8 @@ fn await_result<R: Wait>(
     None
 }
 
-// Offers a job at each place, where the one before has to be collected first. Returns whether all was so.
+// Offers a job at each place, from the second round on once the result of the job before it there was collected. Returns whether each
+// result was right and each offer was taken.
 fn offer_round<R: Wait>(
     bench: &Bench,
     dispatch_seat: &mut DispatchSeat,
@@ -542,7 +548,7 @@ fn offer_round<R: Wait>(
     Ok(true)
 }
 
-// Collects the last job of each place, after which nothing is left. Returns whether all was so.
+// Collects the result of the last job at each place. Returns whether each was right, and nothing was left at its place.
 fn collect_round<R: Wait>(
     bench: &Bench,
     dispatch_seat: &mut DispatchSeat,

@@ -47,7 +47,7 @@ module _ {K : Type 0} (same : K → K → Bool) (IsIn : K → Type 0) (whole : (
       let rest = counted ks (IsDistinct-tail same e ks d) (λ k is. h k (or_right (same k e) (list_any (same k) ks) is)) in
       omega (arith, front, split, one, rest)
 
--- what is worth something where it is found
+-- the worth of what a look-up found, 0 where it found nothing
 abbrev pub found_worth : {X : Type 0} → (X → ℕ) → Option X → ℕ
 found_worth worth None = 0
 found_worth worth (Some x) = worth x

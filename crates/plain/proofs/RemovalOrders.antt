@@ -51,7 +51,7 @@ file_total = then_total (on_total (λ (k : FileKey). (k.0, k.1)) volume_total) (
 first_of_file : (a v f : ℕ) (q : BlockKey) → is_block_of_file a v f q ≡ true → IsLeBy block_order (a, v, f, 0) q
 first_of_file a v f q e = from_tied (file_order (a, v, f) (q.0, q.1, q.2)) q.3 (at_file a v f (q.0, q.1, q.2) ∙ e)
 
--- a key between the two is a block of the file
+-- a key between that first key and a block of the file is a block of the file
 within_file : (a v f : ℕ) (k q : BlockKey) → IsLeBy block_order (a, v, f, 0) k → IsLeBy block_order k q → is_block_of_file a v f q ≡ true → is_block_of_file a v f k ≡ true
 within_file a v f k q from to e =
     let here : FileKey = (k.0, k.1, k.2) in
@@ -59,7 +59,7 @@ within_file a v f k q from to e =
     let before = subst (λ (p : FileKey). is_gt (file_order here p) ≡ false) (sym (the_file a v f (q.0, q.1, q.2) e)) (first_part (file_order here (q.0, q.1, q.2)) (nat_cmp k.3 q.3) to) in
     sym (at_file a v f here) ∙ both_ways (file_order (a, v, f) here) (file_order here (a, v, f)) (file_total.antisymm (a, v, f) here) after before
 
--- where the first key from there on is no block of the file, the file has none
+-- where the first key in a map from (a, v, f, 0) on is no block of the file, the file has no block in it
 pub no_block_of_file : {X : Type 0} (m : BTreeMap BlockKey X) {r rest : List (BlockKey × X)} {a v f : ℕ} {k : BlockKey} {x : X}
     → IsRangeOf block_order (Included (a, v, f, 0)) Unbounded m r → r ≡ (k, x) ∷ rest
     → (◌≡◌ {A = FileKey} (a, v, f) (k.0, k.1, k.2) → ⊥) → (q : BlockKey) → is_block_of_file a v f q ≡ true → is_some (map.get block_order m q) ≡ false
@@ -87,7 +87,7 @@ within_volume a v k q from to e =
     let before = subst (λ (p : VolumeKey). is_gt (volume_order here p) ≡ false) (sym (the_volume a v (q.0, q.1) e)) upto in
     sym (at_volume a v here) ∙ both_ways (volume_order (a, v) here) (volume_order here (a, v)) (volume_total.antisymm (a, v) here) after before
 
--- where the first key from there on is no block of the volume, the volume has none
+-- where the first key in a map from (a, v, 0, 0) on is no block of the volume, the volume has no block in it
 pub no_block_of_volume : {X : Type 0} (m : BTreeMap BlockKey X) {r rest : List (BlockKey × X)} {a v : ℕ} {k : BlockKey} {x : X}
     → IsRangeOf block_order (Included (a, v, 0, 0)) Unbounded m r → r ≡ (k, x) ∷ rest
     → (◌≡◌ {A = VolumeKey} (a, v) (k.0, k.1) → ⊥) → (q : BlockKey) → is_block_of a v q ≡ true → is_some (map.get block_order m q) ≡ false

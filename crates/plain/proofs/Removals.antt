@@ -42,7 +42,7 @@ pub is_none : {X : Type 0} (o : Option X) → is_some o ≡ false → None ≡ o
 is_none None e = refl
 is_none (Some y) e = absurd (true≢false e)
 
--- where none is picked, nothing changes
+-- where no block is selected, nothing changes
 pub nothing_cleared : (selected : BlockKey → Bool) (x : State) → ((k : BlockKey) → selected k ≡ true → is_some (x.blocks k) ≡ false) → without_blocks selected x ≡ x
 nothing_cleared selected x none = λ i. record x { blocks = λ k. at k i }
   where
@@ -59,7 +59,7 @@ twice_cleared : {X : Type 0} (p q : Bool) (o : Option X) → (if p then None els
 twice_cleared true q o = refl
 twice_cleared false q o = refl
 
--- a block of a volume that goes before the others
+-- to remove one block of a volume and then all of them leaves the same as to remove all
 pub block_before_volume : (x : State) (a v f b : ℕ) → without_blocks (is_block_of a v) (effect x (Punch a v f b)) ≡ without_blocks (is_block_of a v) x
 block_before_volume x a v f b = λ i. record x { blocks = λ k. twice (is_block_of a v k) (f == k.2) (b == k.3) (x.blocks k) i }
   where
@@ -67,6 +67,6 @@ block_before_volume x a v f b = λ i. record x { blocks = λ k. twice (is_block_
     twice true q r o = refl
     twice false q r o = refl
 
--- a block of a file that goes before the others
+-- to remove one block of a file and then all of them leaves the same as to remove all
 pub block_before_others : (x : State) (a v f b : ℕ) → without_blocks (is_block_of_file a v f) (effect x (Punch a v f b)) ≡ without_blocks (is_block_of_file a v f) x
 block_before_others x a v f b = λ i. record x { blocks = λ k. twice_cleared (is_block_of_file a v f k) (b == k.3) (x.blocks k) i }

@@ -20,11 +20,11 @@ module _ (g : Geometry) (x y : State) (a v f b : ℕ) (others : (k : BlockKey) �
   abbrev counted : State → ℕ → ℕ → ℕ → ℕ → ℕ → ℕ
   counted z a' v' s f' b' = one_if ((stripe_of g f' b' == s) && is_some (z.blocks (a', v', f', b')))
 
-  -- another place counts as before
+  -- each key but (a, v, f, b) counts as before
   elsewhere : (a' v' s f' b' : ℕ) → is_block a v f b (a', v', f', b') ≡ false → counted y a' v' s f' b' ≡ counted x a' v' s f' b'
   elsewhere a' v' s f' b' other = λ i. one_if ((stripe_of g f' b' == s) && others (a', v', f', b') other i)
 
-  -- so does each place of another stripe
+  -- so does each key in another stripe
   in_other_stripe : (a' v' s f' b' : ℕ) → is_stripe a v (stripe_of g f b) (a', v', s) ≡ false → counted y a' v' s f' b' ≡ counted x a' v' s f' b'
   in_other_stripe a' v' s f' b' other =
       elim (stripe_of g f' b' == s) as (λ t. (stripe_of g f' b' == s) ≡ t → one_if (t && is_some (y.blocks (a', v', f', b'))) ≡ one_if (t && is_some (x.blocks (a', v', f', b')))) [
@@ -68,7 +68,7 @@ module _ (old new : StripeKey → Option ℕ) (a v s count : ℕ) (updates : (k 
       split true = refl
       split false = refl
 
-  -- the number that was noted at the key is noted there
+  -- if the number that was noted at the key is noted there again, nothing changes
   pub noted_again : count ≡ unwrap_or (old (a, v, s)) 0 → (k : StripeKey) → unwrap_or (new k) 0 ≡ unwrap_or (old k) 0
   noted_again same k = at_key k ∙ elim (is_stripe a v s k) as (λ t. is_stripe a v s k ≡ t → cond t count (unwrap_or (old k) 0) ≡ unwrap_or (old k) 0) [
     | false ↦ λ e. refl

@@ -1,4 +1,4 @@
--- Each step of a session that began in any state keeps what it has answered, and what it has written when it ends.
+-- A session of the serial server, from any state on: each step keeps `HasAnswered`, which at the end gives what was written.
 use Rattle.std.proofs.Common.{◌≡◌, ◌≢◌, ℕ, Bool, false, List, [], ◌∷◌, ◌++◌, length, take, Option, Some, None, refl, sym, ap, ◌∙◌, subst, append_assoc, append-nil, ⊎_elim}
 use Rattle.std.specs.Prelude.{IfSome}
 use Rattle.std.specs.Io.KnownBytes.{Appends, append_known}

@@ -18,7 +18,7 @@ pub has_none : (f : ℕ) → has_file 0 f ≡ false
 has_none f = ap (λ n. n == 1) (bit_at-zero f)
 
 module _ (m n : Map VolumeKey Volume) (a v : ℕ) (o : Option Volume) (h : (k : VolumeKey) → n k ≡ cond (is_at (volume_order (a, v)) k) o (m k)) where
-  -- what is asked of the volume at each key
+  -- `ask` of the volume at each key is that of the new one at (a, v), and that of the old one elsewhere
   asked : {X : Type 0} (ask : Option Volume → X) (k : VolumeKey) → ask (n k) ≡ cond (is_volume a v k) (ask o) (ask (m k))
   asked ask k = ap ask (h k ∙ ap (λ t. cond t o (m k)) (at_volume a v k)) ∙ split (is_volume a v k)
     where
@@ -114,7 +114,7 @@ module _ (m n : Map VolumeKey Volume) (a v : ℕ) (o : Option Volume) (h : (k : 
         labels = λ k. placed volume_label (Some bytes) (ap volume_label now) k i;
       }
 
-      -- its files are those of another number
+      -- the number whose bits are its files changes
       files_state : (files : ℕ) → o ≡ Some (record w { files = files }) → state_of n blocks ≡ record (state_of m blocks) { files = (state_of n blocks).files }
       files_state files now = λ i. record (state_of m blocks) {
         made = λ k. kept is_some (ap is_some now ∙ sym (ap is_some was)) k i;

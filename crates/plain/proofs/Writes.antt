@@ -11,7 +11,7 @@ use Rattle.plain.specs.Server.{StripeKey, is_stripe}
 use Rattle.meaning.proofs.Keys.{the_block, picks_block}
 use Rattle.plain.proofs.ServerCounts.{same_counts, one_more}
 
--- what is noted by stripe is what a state has
+-- the count that is noted for each stripe is how many blocks it has in the state
 abbrev pub AreCounts : Geometry → (StripeKey → ℕ) → State → Type 0
 AreCounts g noted x = (k : StripeKey) → noted k ≡ blocks_in_stripe g x k.0 k.1 k.2
 
@@ -25,7 +25,7 @@ module _ (x : State) (a v f b : ℕ) (content : Block) where
   pub others : (k : BlockKey) → is_block a v f b k ≡ false → is_some (written.blocks k) ≡ is_some (x.blocks k)
   others k e = ap (λ t. is_some (if t then Some content else x.blocks k)) e
 
-  -- a block in place of another one: there are blocks where there were
+  -- a block in place of another one: the same keys have blocks as before
   pub replaced : is_some (x.blocks (a, v, f, b)) ≡ true → (k : BlockKey) → is_some (written.blocks k) ≡ is_some (x.blocks k)
   replaced was k = elim (is_block a v f b k) as (λ t. is_block a v f b k ≡ t → is_some (if t then Some content else x.blocks k) ≡ is_some (x.blocks k)) [
     | true ↦ λ is. sym (sym (ap (λ k. is_some (x.blocks k)) (the_block a v f b k is)) ∙ was)

@@ -129,7 +129,7 @@ fn answer_question(
 }
 
 /// Adds the reply to a message that changes nothing and passes its checks. It is a function of its
-/// own, so that the stack has room for a reply with a block on this path alone.
+/// own, so that only this path takes stack for a reply with a block.
 #[inline(never)]
 fn add_whole_reply(
     g: &Geometry,
@@ -147,7 +147,8 @@ fn add_whole_reply(
     out.add_reply(&server.reply_by(g, kind, numbers));
 }
 
-/// Answers a `write` with these numbers and this word, which may be no block's digits.
+/// Answers a line that begins as a `write` with these numbers. `digits` is the rest of the line: if it
+/// encodes no block, the line is no message.
 #[inline(never)]
 fn answer_write(
     g: &Geometry,
@@ -254,7 +255,7 @@ fn answer_line(
     }
 }
 
-/// Writes the replies that wait before a read that may block, and where the answer to the next line would not fit.
+/// Writes the replies that wait, if no whole line is buffered (the next read may block), or if the longest reply would not fit behind them.
 fn send_before_line<R: Read, W: Write>(
     lines: &LineReader<R>,
     out: &mut ReplyBuffer,
@@ -349,7 +350,7 @@ fn answer_all<R: Read + Drop, W: Write>(
     if lines.is_drained() {
         return Ok(());
     }
-    // Not reached in practice, after 2^64 - 1 lines: the fault whose promise holds at any moment.
+    // Not reached in practice: more than 2^64 - 1 lines. The promise of `OutOfMemory` holds after any number of lines.
     Err(PlainFault::OutOfMemory)
 }
 

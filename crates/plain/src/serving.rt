@@ -24,13 +24,13 @@ fn read_buffer(alloc: Global) -> Result<Vec<u8>, AllocError>
 }
 
 /// Answers each line that a reader has left with one line of the output, from the empty state on,
-/// until the input ends. Replies are written before a read that may wait.
+/// until the input ends. Waiting replies are written before a read that may block.
 ///
 /// # Errors
 ///
 /// `PlainFault::Read` where a read fails, also one that was interrupted. The answers to all whole
 /// lines that were taken from the reader are written before. `PlainFault::OutOfMemory` where there
-/// is no memory or are more than 2^64 - 1 lines. What was answered until then is written before.
+/// is no memory, or there are more than 2^64 - 1 lines. What was answered until then is written before.
 /// `PlainFault::Write` where the output can't be written, and nothing more is written then.
 pub fn serve_from<R: Read, W: Write>(
     alloc: Global,
@@ -69,7 +69,7 @@ pub fn serve_from<R: Read, W: Write>(
     answered
 }
 
-/// The same over a reader that is given away.
+/// The same as `serve_from`, over a reader that is taken by value: what a failed read leaves isn't known.
 ///
 /// # Errors
 ///

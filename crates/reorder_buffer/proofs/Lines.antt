@@ -49,13 +49,13 @@ lines_of-append (Ticketed ∷ kinds) more [] rest many = absurd (omega (arith, m
 lines_of-append (Ticketed ∷ kinds) more (line ∷ ticketed) rest many =
     ap (λ l. line ∷ l) (lines_of-append kinds more ticketed rest (omega (arith, many)))
 
--- one without a ticket
+-- a line without a ticket
 pub lines_of-plain : (kinds more : List LineKind) (ticketed : List Line) → ticketed_among kinds ≡ length ticketed
     → lines_of (kinds ++ more) ticketed ≡ lines_of kinds ticketed ++ lines_of more []
 lines_of-plain kinds more ticketed many =
     ap (λ (l : List Line). lines_of (kinds ++ more) l) (sym (append-nil ticketed)) ∙ lines_of-append kinds more ticketed [] many
 
--- ---- those with tickets
+-- ---- lines with tickets
 
 one_with_ticket : (n : ℕ) (line : Line) (lines : List Line) → HasTicket n line → with_tickets (line ∷ lines) ≡ line ∷ with_tickets lines
 one_with_ticket n NoMessage lines of = absurd of
@@ -74,7 +74,7 @@ tickets_of_lines (Ticketed ∷ kinds) (line ∷ ticketed) n many from =
     one_with_ticket n line (lines_of kinds ticketed) from.0
     ∙ ap (λ (l : List Line). line ∷ l) (tickets_of_lines kinds ticketed (n + 1) (omega (arith, many)) from.1)
 
--- ---- every line answered where it is the ticket's
+-- ---- an answer to a ticket, among all lines and among those with tickets
 
 pub lines_of-answered : (ticket : ℕ) (reply : Reply) (kinds : List LineKind) (ticketed : List Line)
     → lines_of kinds (map (complete_one ticket reply) ticketed) ≡ map (complete_one ticket reply) (lines_of kinds ticketed)

@@ -5,7 +5,7 @@ use Rattle.std.proofs.lemmas.Bool.{ne_eqb}
 use Rattle.messages.specs.declared.Reply.{Reply}
 use Rattle.reorder_buffer.specs.ReorderBuffer.{Completed, Line, NoMessage, OutOfRange, Pending, complete_one, HaveTicketsFrom, AreConsecutive, HasTicket}
 
--- a line that has a ticket is that ticket's
+-- a line that is pending or completed is that of a message with some ticket
 pub ticket_in : (line : Line) → ((ticket : ℕ) × (line ≡ Pending ticket)) ⊎ ((ticket : ℕ) × (reply : Reply) × (line ≡ Completed ticket reply))
     → (ticket : ℕ) × HasTicket ticket line
 ticket_in line (inl (ticket, is)) = (ticket, subst (λ (l : Line). HasTicket ticket l) (sym is) refl)
@@ -17,11 +17,11 @@ one_more k = omega arith
 module _ (ticket : ℕ) (reply : Reply) where
   -- ---- what an answer leaves
 
-  -- these lines, as they are
+  -- The answer leaves these lines as they are.
   abbrev Left : List Line → Type 0
   Left lines = map (complete_one ticket reply) lines ≡ lines
 
-  -- the line of another message
+  -- the line of a message with another ticket stays
   left : (n : ℕ) (line : Line) → HasTicket n line → (n ≡ ticket → ⊥) → complete_one ticket reply line ≡ line
   left n NoMessage of differs = refl
   left n OutOfRange of differs = refl
@@ -33,19 +33,19 @@ module _ (ticket : ℕ) (reply : Reply) where
   both_left line ticketed first rest =
       ap (λ (l : Line). l ∷ map (complete_one ticket reply) ticketed) first ∙ ap (λ (l : List Line). line ∷ l) rest
 
-  -- those that all have greater tickets
+  -- lines stay that all have greater tickets
   pub greater_left : (n : ℕ) (ticketed : List Line) → ticket < n → HaveTicketsFrom n ticketed → Left ticketed
   greater_left n [] lt from = refl
   greater_left n (line ∷ ticketed) lt from =
       both_left line ticketed (left n line from.0 (λ e. omega (arith, e, lt))) (greater_left (n + 1) ticketed (omega (arith, lt)) from.1)
 
-  -- those that all have smaller ones
+  -- lines stay that all have smaller tickets
   pub smaller_left : (n : ℕ) (ticketed : List Line) → n + length ticketed ≤ ticket → HaveTicketsFrom n ticketed → Left ticketed
   smaller_left n [] le from = refl
   smaller_left n (line ∷ ticketed) le from =
       both_left line ticketed (left n line from.0 (λ e. omega (arith, e, le))) (smaller_left (n + 1) ticketed (omega (arith, le)) from.1)
 
-  -- those before the place of the ticket
+  -- lines stay that are before index i, where the line of the ticket is
   pub before_left : (n i : ℕ) (ticketed : List Line) → n + i ≡ ticket → HaveTicketsFrom n ticketed → Left (take i ticketed)
   before_left n zero ticketed is from = refl
   before_left n (suc i) [] is from = refl
@@ -53,7 +53,7 @@ module _ (ticket : ℕ) (reply : Reply) where
       both_left line (take i ticketed) (left n line from.0 (λ e. omega (arith, e, is)))
       (before_left (n + 1) i ticketed (omega (arith, is)) from.1)
 
-  -- those behind it
+  -- lines stay that are behind index i
   behind : (n i : ℕ) (ticketed : List Line) → n + i ≡ ticket → HaveTicketsFrom n ticketed → Left (drop (suc i) ticketed)
   behind n i [] is from = refl
   behind n zero (line ∷ ticketed) is from = greater_left (n + 1) ticketed (omega (arith, is)) from.1
@@ -65,13 +65,13 @@ module _ (ticket : ℕ) (reply : Reply) where
 
   -- ---- lines that are looked at
 
-  -- the first n were looked at
+  -- the lines once the first ones, so many, were looked at and answered
   abbrev pub looked : ℕ → List Line → List Line
   looked zero lines = lines
   looked (suc k) [] = []
   looked (suc k) (line ∷ lines) = complete_one ticket reply line ∷ looked k lines
 
-  -- it begins where those before are left as they are
+  -- the loop may begin at line k if the answer leaves those before it as they are
   pub looked_first : (k : ℕ) (lines : List Line) → Left (take k lines) → lines ≡ looked k lines
   looked_first zero lines same = refl
   looked_first (suc k) [] same = refl
@@ -79,7 +79,7 @@ module _ (ticket : ℕ) (reply : Reply) where
       ap (λ (l : List Line). get_or l 0 line ∷ lines) (sym same) ∙ ap (λ (l : List Line). complete_one ticket reply line ∷ l)
       (looked_first k lines (ap (λ (l : List Line). drop 1 l) same))
 
-  -- it ends where those behind are left as they are
+  -- the loop may end before line k if the answer leaves the lines from there on as they are
   pub looked_last : (k : ℕ) (lines : List Line) → Left (drop k lines) → looked k lines ≡ map (complete_one ticket reply) lines
   looked_last zero lines same = sym same
   looked_last (suc k) [] same = refl
@@ -92,7 +92,7 @@ module _ (ticket : ℕ) (reply : Reply) where
   then_next zero (line ∷ lines) d within = refl
   then_next (suc k) (line ∷ lines) d within = ap (λ l. complete_one ticket reply line ∷ l) (then_next k lines d (omega (arith, within)))
 
-  -- the next one is looked at
+  -- the next line is looked at
   pub looks_at : (k : ℕ) (lines : List Line) (line : Line) → k < length lines → line ≡ get_or (looked k lines) k line
       → set (looked k lines) k (complete_one ticket reply line) ≡ looked (k + 1) lines
   looks_at k lines line within is =

@@ -1,4 +1,4 @@
-//! The reorder buffer of the lines that were read and not retired yet, oldest first.
+//! The reorder buffer of the lines that were read and not retired yet (taken out, with the answer put into the reply buffer), oldest first.
 
 ghost use Rattle.std.specs.Prelude.{◌≡◌, ◌<◌, ◌≤◌, ◌+◌, ◌↔◌, ◌++◌, ◌∷◌, [], IfOk, IsTrue, MatchBool, MatchOption, ℕ, drop, length, map, take};
 ghost use Rattle.std.specs.VecDeque.{deque_len};
@@ -25,7 +25,7 @@ pub enum Line {
     Completed(u64, Reply),
 }
 
-/// Which kind of line lies at a place of the reorder buffer.
+/// Which kind of line it is, for each line of the reorder buffer.
 #[derive(Clone, Copy)]
 enum LineKind {
     /// A line that is no message.
@@ -36,11 +36,11 @@ enum LineKind {
     Ticketed,
 }
 
-/// The lines that were read and not retired yet, oldest first. A contract sees them, and how many there is room for. Once made it takes
-/// no memory.
+/// The lines that were read and not retired yet, oldest first. A contract sees them, and how many there is room for. Once made, the reorder
+/// buffer takes no more memory.
 ///
 /// A line without a ticket is its kind alone. Those with tickets lie in a queue of their own. Their tickets go up by one, so that a
-/// ticket gives the place of its line.
+/// ticket gives the index of its line there.
 pub struct ReorderBuffer {
     kinds: VecDeque<LineKind>,
     /// The lines with tickets, oldest first.
@@ -169,7 +169,7 @@ impl ReorderBuffer {
         }
     }
 
-    /// Whether the reply to the oldest line is known, so that it is the next one of the output.
+    /// Whether the answer to the oldest line is known, so that it is the next line of the output.
     fn can_retire(&self) -> bool
         ensures { result ≡ can_retire self.now.lines }
     {
@@ -179,8 +179,8 @@ impl ReorderBuffer {
         }
     }
 
-    /// Puts a line after the others; its ticket is the one after theirs, if it has one. It is inlined, so that a pending line is not copied
-    /// with the unused space of a reply.
+    /// Puts a line after the others. If it has a ticket, that is the next one after theirs. It is inlined, so that a pending line is not
+    /// copied with the unused space of a reply.
     #[inline(always)]
     pub fn push(&mut self, line: Line)
         requires room { length self.old.lines < self.old.slots }

@@ -1,4 +1,4 @@
--- Which message goes next, by tickets: where the tickets ascend, the first one that is conflict-free and has room.
+-- Which message is dispatched next, by tickets: where the tickets ascend, the first one that is conflict-free and has room.
 use Rattle.std.proofs.Common.{◌≡◌, ◌∙◌, ℕ, ◌<◌, Bool, true, false, not, ◌&&◌, ◌||◌, List, [], ◌∷◌, ◌++◌, Some, refl, ap, sym, arith, append_assoc}
 use Rattle.std.specs.Prelude.{if◌then◌else◌, nat_lt}
 use Rattle.std.specs.List.{list_any, find, AllByRecursion}
@@ -8,7 +8,7 @@ use Rattle.run_queue.specs.RunQueue.{are_related_intervals, is_free_of, has_room
 pub use Rattle.run_queue.specs.Order.{Ascend, waits_for, is_conflict_free}
 use Rattle.run_queue.specs.declared.queued_message.QueuedMessage.{QueuedMessage}
 
--- those that came before it count by their affinities alone
+-- of messages that all came before t, those that keep it back are those at related affinities
 all_early : (t : QueuedMessage) (ts : List QueuedMessage) → CameBefore t.ticket ts
     → list_any (waits_for t) ts ≡ list_any (λ d. are_related_intervals t.affinity d.affinity) ts
 all_early t [] before = refl
@@ -16,7 +16,7 @@ all_early t (d ∷ ts) before =
     ap (λ b. (b && are_related_intervals t.affinity d.affinity) || list_any (waits_for t) ts) (lt-ltb d.ticket t.ticket before.0)
     ∙ ap (λ b. are_related_intervals t.affinity d.affinity || b) (all_early t ts before.1)
 
--- no later one counts, nor does it itself
+-- a message that has no smaller ticket than t, as t itself, doesn't keep t back
 not_less : (t d : QueuedMessage) → (d.ticket < t.ticket → ⊥) → waits_for t d ≡ false
 not_less t d h = ap (λ b. b && are_related_intervals t.affinity d.affinity)
     (false_from_ne_true (nat_lt d.ticket t.ticket) (λ less. h (ltb-true d.ticket t.ticket less)))

@@ -80,11 +80,11 @@ front-none arena n q none =
     ∙ ap head (sym (q.queued n))
     ∙ ap (λ (is : List ℕ). head (queued_in arena is)) (none_first (chain_at arena n) none)
 
--- a slot of a queue has one
+-- the first slot of a queue has a message
 pub chained-some : (arena : ArenaView QueuedMessage) (n i : ℕ) → IsQueued arena → front_of arena n ≡ Some i → (t : QueuedMessage) × (value_at arena i ≡ Some t)
 chained-some arena n i q first = some_of (value_at arena i) (chained-holds arena i n q.partitioned (front-chained arena i n first))
 
--- the queue is its first one, and the others
+-- a queue is the message in its first slot, and then those in the other slots of its chain
 queue-parts : (arena : ArenaView QueuedMessage) (n i : ℕ) (t : QueuedMessage) → IsQueued arena → front_of arena n ≡ Some i → value_at arena i ≡ Some t
     → filter (has_number n) (waiting_in arena) ≡ t ∷ queued_in arena (without i (chain_at arena n))
 queue-parts arena n i t q first is =
@@ -119,7 +119,7 @@ waiting-same : {a b c d : ℕ} {ts us : List QueuedMessage} → a ≡ b → c �
     → ◌≡◌ {A = Waiting} (record { numbers = a; capacity = c; messages = ts }) (record { numbers = b; capacity = d; messages = us })
 waiting-same e f g = rw (e, f, g) refl
 
--- ---- one more
+-- ---- one more message
 
 pub free-from_put : (arena : ArenaView QueuedMessage) (t : QueuedMessage) (i : ℕ) → put_answer arena t ≡ Ok i → (rest : List ℕ) × (arena.free ≡ i ∷ rest)
 free-from_put arena t i answer = by arena.free refl
@@ -218,7 +218,7 @@ module _ (arena : ArenaView QueuedMessage) (t : QueuedMessage) (i : ℕ) (rest :
     queued = λ m. push-queued_at m ∙ ap (λ (ts : List QueuedMessage). filter (has_number m) ts) (sym push-waiting);
   }
 
--- where no slot is free, each has one
+-- if fewer messages wait than there are slots, a slot is free: else each would have a message
 pub push-room : (arena : ArenaView QueuedMessage) (t : QueuedMessage) → IsQueued arena → length (waiting_in arena) < length arena.values → (i : ℕ) × (rest : List ℕ) × (arena.free ≡ i ∷ rest)
 push-room arena t q less = by arena.free refl
   where
@@ -227,7 +227,7 @@ push-room arena t q less = by arena.free refl
         (let some = subst (λ (is : List ℕ). 0 < count_of i is) is (q.empty_is_free i below none) in omega (arith, some))) in omega (arith, all, less))
     by (i ∷ rest) is = (i, rest, is)
 
--- ---- one less
+-- ---- one message less
 
 abbrev pub popped : ArenaView QueuedMessage → ℕ → ArenaView QueuedMessage
 popped arena i = record { values = slice_set arena.values i None; free = i ∷ arena.free; chains = map (without i) arena.chains }
@@ -245,7 +245,7 @@ filters-turned p r (t ∷ ts) = elim (cases_Bool (p t)) [
   ]
 ]
 
--- two queues together have a slot no more often than all
+-- a slot occurs in two queues together no more often than among all messages
 count_in_slot-two : (s n m : ℕ) (ts : List QueuedMessage) → n ≢ m → count_in_slot s (filter (has_number n) ts) + count_in_slot s (filter (has_number m) ts) ≤ count_in_slot s ts
 count_in_slot-two s n m [] other = omega arith
 count_in_slot-two s n m (t ∷ ts) other =

@@ -22,7 +22,7 @@ ready_in-same ready_table n o here = get_or-set_same ready_table n o None here
 pub ready_in-other : (ready_table : List (Option QueuedMessage)) (n k : ℕ) (o : Option QueuedMessage) → k ≢ n → ready_in (slice_set ready_table n o) k ≡ ready_in ready_table k
 ready_in-other ready_table n k o other = get_or-set_other ready_table n k o None other
 
--- a rank stays, so that of the chunk does
+-- if the rank at number n stays, the least ranks that are kept for the chunks stay right
 pub least-kept : (ready_table : List (Option QueuedMessage)) (least : List ℕ) (n : ℕ) (o : Option QueuedMessage) → n < length ready_table → AreLeast ready_table least
     → rank_of o ≡ rank_of (ready_in ready_table n) → AreLeast (slice_set ready_table n o) least
 least-kept ready_table least n o here are same chunk i below = elim (cases_eq (16 * chunk + i) n) [
@@ -35,7 +35,7 @@ least-kept ready_table least n o here are same chunk i below = elim (cases_eq (1
       omega (arith, was, new))
 ]
 
--- the least rank of its chunk is found anew
+-- else the least rank of n's chunk is found anew
 pub least-found : (ready_table : List (Option QueuedMessage)) (least : List ℕ) (n found : ℕ) (o : Option QueuedMessage) → AreLeast ready_table least → n / 16 < length least
     → ((i : ℕ) → i < 16 → found ≤ rank_of (ready_in (slice_set ready_table n o) (16 * (n / 16) + i)))
     → AreLeast (slice_set ready_table n o) (slice_set least (n / 16) found)
@@ -66,9 +66,9 @@ none-least numbers chunks chunk i below =
     at_most (suc chunks) zero = omega arith
     at_most (suc chunks) (suc chunk) = at_most chunks chunk
 
--- ---- who goes first
+-- ---- which message is dispatched first
 
--- the first one that may be dispatched at a number below this one, and at n behind it
+-- the first message that may be dispatched at a number below from + n is the earliest of that below `from` and the n entries from there on
 module _ (g : Geometry) (room : Bool) (held waiting : List QueuedMessage) (placed : AllByRecursion (λ d. IsAffinity g d.affinity) waiting) (ascends : Ascend waiting)
     (ready_table : List (Option QueuedMessage)) (right : (n : ℕ) → IsEntryRight held waiting ready_table n) where
   pub below-from : (from n : ℕ) → earliest_from (has_room room) ready_table from n (first_below room held waiting from) ≡ first_below room held waiting (from + n)

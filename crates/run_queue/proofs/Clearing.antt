@@ -47,7 +47,7 @@ has_own t = eq-eqb t.affinity.number t.affinity.number refl
 abbrev pub is_near : QueuedMessage → List ℕ → ℕ → Bool
 is_near t above m = contains t.affinity m || list_any (λ n. n == m) above
 
--- ---- no one near keeps it back
+-- ---- no message at a related affinity keeps t back
 
 module _ (g : Geometry) (t : QueuedMessage) (above : List ℕ) (are : AreAbove g t.affinity above) where
   near : (d : QueuedMessage) → IsAffinity g d.affinity → are_related_intervals t.affinity d.affinity ≡ true → is_near t above d.affinity.number ≡ true
@@ -106,7 +106,7 @@ module _ (g : Geometry) (t : QueuedMessage) (above : List ℕ) (are : AreAbove g
       let first = none_waits waiting placed ascends (λ m close. (or_parts _ _ (none m close)).1) in
       rw (free, first) refl
 
-  -- ---- someone near does
+  -- ---- a message at a related affinity does
 
   barred-held : (held : List QueuedMessage) (m : ℕ) → AllByRecursion (λ d. IsAffinity g d.affinity) held → is_near t above m ≡ true
       → is_some (find (has_number m) held) ≡ true → list_any (λ other. are_related_intervals t.affinity other.affinity) held ≡ true

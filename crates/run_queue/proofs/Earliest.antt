@@ -1,4 +1,4 @@
--- The next one is the first of those that may go at each number.
+-- The message that `next` gives is the earliest of those that may be dispatched at each affinity number.
 use Rattle.std.proofs.Common.{◌≡◌, ◌∙◌, ℕ, zero, suc, ◌+◌, ◌<◌, ◌≤◌, min, Bool, true, false, not, ◌&&◌, ◌||◌, List, [], ◌∷◌, find, Option, Some, None, refl, ap, sym, inl, inr, arith}
 use Rattle.std.specs.Prelude.{nat_lt, ◌==◌, if◌then◌else◌}
 use Rattle.std.specs.List.{list_any, AllByRecursion}
@@ -15,7 +15,7 @@ use Rattle.run_queue.proofs.ByTicket.{next_is_first}
 use Rattle.run_queue.proofs.Nearby.{contains-own, number-below}
 use Rattle.run_queue.proofs.Clearing.{find-cons, find-skip, find-all, find-passes, has_own}
 
--- ---- the first one that passes a test
+-- ---- the first message that passes a test
 
 find-same : (p q : QueuedMessage → Bool) → ((t : QueuedMessage) → p t ≡ q t) → (ts : List QueuedMessage) → find p ts ≡ find q ts
 find-same p q same [] = refl
@@ -41,7 +41,7 @@ takes (Some d) t later = rw (lt-ltb t.ticket d.ticket (later d refl)) refl
 itself : (t : QueuedMessage) → earlier (Some t) (Some t) ≡ Some t
 itself t = rw (false_from_ne_true (nat_lt t.ticket t.ticket) (λ less. let below = ltb-true t.ticket t.ticket less in omega (arith, below))) refl
 
--- a later one is passed over
+-- a message with a rank above that of the best one so far (o) is passed over
 pub passed : (p : QueuedMessage → Bool) (o m : Option QueuedMessage) → min (rank_of o) last_rank < rank_of m → earlier o (if_passes p m) ≡ o
 passed p o None later = refl
 passed p None (Some t) later = absurd (let low = min-le_right t.ticket last_rank in omega (arith, later, low))
@@ -59,7 +59,7 @@ passed p (Some d) (Some t) later = by (p t)
     by false = refl
     by true = rw (false_from_ne_true (nat_lt t.ticket d.ticket) (λ less. let below = ltb-true t.ticket d.ticket less in omega (arith, is_later, below))) refl
 
--- later ones are
+-- n entries are passed over if all their ranks are above
 pub all-passed : (p : QueuedMessage → Bool) (ready_table : List (Option QueuedMessage)) (from n : ℕ) (o : Option QueuedMessage)
     → ((i : ℕ) → i < n → min (rank_of o) last_rank < rank_of (ready_in ready_table (from + i))) → earliest_from p ready_table from n o ≡ o
 all-passed p ready_table from zero o later = refl
@@ -67,7 +67,7 @@ all-passed p ready_table from (suc n) o later =
     ap (λ (best : Option QueuedMessage). earlier best (if_passes p (ready_in ready_table (from + n)))) (all-passed p ready_table from n o (λ i below. later i (omega (arith, below))))
     ∙ passed p o (ready_in ready_table (from + n)) (later n (omega arith))
 
--- of two tests: the earlier one of the first that passes each
+-- the first message that passes one of two tests is the earlier of the two that are first to pass each
 find-either : (p q : QueuedMessage → Bool) (ts : List QueuedMessage) → Ascend ts → find (λ t. p t || q t) ts ≡ earlier (find p ts) (find q ts)
 find-either p q [] ascends = refl
 find-either p q (t ∷ ts) ascends = elim (cases_Bool (p t)) [
@@ -89,7 +89,7 @@ find-either p q (t ∷ ts) ascends = elim (cases_Bool (p t)) [
   ]
 ]
 
--- ---- a conflict-free one is the first at its number
+-- ---- a conflict-free message is the first at its number
 
 pub own_overlap : (g : Geometry) (t d : QueuedMessage) → IsAffinity g t.affinity → t.affinity.number ≡ d.affinity.number → are_related_intervals t.affinity d.affinity ≡ true
 own_overlap g t d placed same = or_left _ _ (ap (λ n. contains t.affinity n) (sym same) ∙ contains-own g t.affinity placed)
@@ -126,11 +126,11 @@ or_nothing : (b : Bool) → b ≡ (b || false)
 or_nothing true = refl
 or_nothing false = refl
 
--- the first one that may go at a number below this one
+-- the first message that may be dispatched at an affinity number below n
 abbrev pub first_below : Bool → List QueuedMessage → List QueuedMessage → ℕ → Option QueuedMessage
 first_below room held waiting n = find (λ t. nat_lt t.affinity.number n && (has_room room t && is_conflict_free held waiting t)) waiting
 
--- ---- the one that may go at a number
+-- ---- the message that may be dispatched at a number
 
 some_first : (p q : QueuedMessage → Bool) (ts : List QueuedMessage) (t : QueuedMessage) → find p ts ≡ Some t → q t ≡ true → find (λ u. p u && q u) ts ≡ Some t
 some_first p q [] t found good = absurd (cc)
@@ -145,7 +145,7 @@ module _ (g : Geometry) (room : Bool) (held waiting : List QueuedMessage) (place
   abbrev goes : QueuedMessage → Bool
   goes t = has_room room t && is_conflict_free held waiting t
 
-  -- where the first one may not go, no one may
+  -- where the first message at a number may not be dispatched, none there may
   pub none_at : (n : ℕ) (f : QueuedMessage) → find (has_number n) waiting ≡ Some f → (has_room room f && is_conflict_free held waiting f) ≡ false
       → dispatchable_at room held waiting n ≡ None
   none_at n f first not_good = by (dispatchable_at room held waiting n) refl

@@ -49,7 +49,7 @@ volume_above = refl
 all_below : are_related_intervals (interval small serial) (interval small (stripe 0 0 1)) ≡ true
 all_below = refl
 
--- ---- who may go
+-- ---- which message may be dispatched
 
 nothing_waits : next_queued true (write ∷ []) [] ≡ None
 nothing_waits = refl
@@ -57,22 +57,22 @@ nothing_waits = refl
 alone : next_queued true [] (write ∷ []) ≡ Some write
 alone = refl
 
--- the first of several, and not the last
+-- of several that may be dispatched the first one is, and not the last
 in_order : next_queued true [] (write ∷ other_write ∷ []) ≡ Some write
 in_order = refl
 
--- at a held affinity no one goes, and another one passes
+-- at an affinity where a message is held none is dispatched, and one elsewhere passes it
 is_held : next_queued true (write ∷ []) (read ∷ []) ≡ None
 is_held = refl
 
 passes_beside : next_queued true (write ∷ []) (read ∷ other_write ∷ []) ≡ Some other_write
 passes_beside = refl
 
--- the one that holds need not be the last that went
+-- a held message keeps others back even if another one was dispatched after it
 held_before : next_queued true (set_label ∷ write ∷ []) (read ∷ []) ≡ None
 held_before = refl
 
--- a create above a held stripe waits, and nothing below it passes it, though its own stripe is free
+-- a create above a held stripe waits, and a later write below it doesn't pass it, though that write's own stripe is free
 waits_above : next_queued true (write ∷ []) (create ∷ other_write ∷ []) ≡ None
 waits_above = refl
 
@@ -80,11 +80,11 @@ waits_above = refl
 then_above : next_queued true [] (create ∷ other_write ∷ []) ≡ Some create
 then_above = refl
 
--- and while it is held, only what lies beside it goes
+-- and while the create is held, only a message at an unrelated affinity is dispatched
 label_passes : next_queued true (create ∷ []) (other_write ∷ set_label ∷ []) ≡ Some set_label
 label_passes = refl
 
--- without room only what changes nothing goes, and it passes no earlier one at its affinity
+-- without room in the log only a message that changes nothing is dispatched, and it passes no earlier one at its affinity
 no_room : next_queued false [] (write ∷ other_write ∷ []) ≡ None
 no_room = refl
 
@@ -94,7 +94,7 @@ read_goes = refl
 read_stays : next_queued false [] (write ∷ read ∷ []) ≡ None
 read_stays = refl
 
--- one that is passed over for another blocks those behind it too
+-- a message that is kept back keeps later ones at related affinities back, too
 blocked_behind : next_queued true (write ∷ []) (read ∷ create ∷ other_write ∷ set_label ∷ []) ≡ Some set_label
 blocked_behind = refl
 

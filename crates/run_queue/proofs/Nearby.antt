@@ -11,7 +11,7 @@ use Rattle.affinity.proofs.Paths.{is_prefix-refl}
 use Rattle.affinity.proofs.Preorder.{is_prefix-contains, path_at, path_at-number}
 use Rattle.run_queue.specs.RelatedNumbers.{numbers_above, AreAbove}
 
--- ---- beginnings of a path
+-- ---- prefixes of a path
 
 is_prefix-is : (q p : Path) → is_prefix q p ≡ true → q ≡ take (length q) p
 is_prefix-is [] p h = refl
@@ -41,7 +41,7 @@ short g (a ∷ v ∷ zero ∷ s ∷ r ∷ p) h = absurd h
 short g (a ∷ v ∷ suc zero ∷ s ∷ r ∷ p) h = absurd h
 short g (a ∷ v ∷ suc (suc k) ∷ s ∷ r ∷ p) h = absurd h
 
--- the paths above one that there is are there
+-- the prefixes of an affinity's path are paths of affinities, too
 one_is : (g : Geometry) (p : Path) → IsPath g p → IsPath g (take 1 p)
 one_is g [] h = tt
 one_is g (a ∷ []) h = h
@@ -83,7 +83,7 @@ same_path g p q h k same = sym (path_at-number g p h) ∙ ap (path_at g) same �
 is_at : (g : Geometry) (p q : Path) (k : ℕ) → q ≡ take k p → (number g (take k p) == number g q) ≡ true
 is_at g p q k same = eq-eqb _ _ (ap (λ (r : Path). number g r) (sym same))
 
--- a beginning of n numbers is found among those, or is the path itself
+-- a prefix q of the path p is p itself, or its affinity's number is among `numbers_above`
 found_at : (g : Geometry) (p q : Path) (k : ℕ) → IsPath g p → q ≡ take k p
     → (q ≡ p) ⊎ (list_any (λ n. n == number g q) (numbers_above g p) ≡ true)
 found_at g p q zero h is = inr (rw (is_at g p q 0 is) refl)

@@ -1,4 +1,4 @@
--- What is known of the one that goes next.
+-- What is known of the message that is dispatched next.
 use Rattle.std.proofs.Common.{◌≡◌, ◌∙◌, Bool, true, false, List, [], ◌∷◌, ◌++◌, Some, refl, ap, subst, ◌||◌}
 use Rattle.std.specs.Prelude.{if◌then◌else◌}
 use Rattle.std.specs.List.{list_any}
@@ -7,7 +7,7 @@ use Rattle.std.proofs.lemmas.Option.{none-some, same_Some}
 use Rattle.run_queue.specs.RunQueue.{RunQueueView, can_dispatch, first_dispatchable, has_slot, IsNext}
 use Rattle.run_queue.specs.declared.queued_message.QueuedMessage.{QueuedMessage}
 
--- the one that goes next waits
+-- the message that is dispatched next is one of those that wait
 waits_from : (room : Bool) (held earlier later : List QueuedMessage) (t : QueuedMessage) → first_dispatchable room held earlier later ≡ Some t
     → list_any (has_slot t.slot) later ≡ true
 waits_from room held earlier [] t h = absurd (none-some t h)

@@ -61,7 +61,7 @@ messages-begun g next slots w h are none_waits none_held = record {
   held_placed = rw none_held tt;
 }
 
--- ---- one that arrives
+-- ---- a message that arrives
 
 pub messages-arrived : {g : Geometry} {slots : ℕ} {w : Waiting} {h : HeldMessages} (t : QueuedMessage) → AreQueued g slots w h → IsAffinity g t.affinity
     → CameBefore t.ticket w.messages → t.slot < slots → list_any (has_slot t.slot) (w.messages ++ h.messages) ≡ false
@@ -101,7 +101,7 @@ kept-arrived {w} {v} {h} t {before} {after} are queued came later stay here = re
     is : v.messages ≡ w.messages ++ t ∷ []
     is = ap (λ (x : Waiting). x.messages) came
 
--- ---- what is freed
+-- ---- an affinity that is freed
 
 pub messages-freed : {g : Geometry} {slots : ℕ} {w : Waiting} {h : HeldMessages} (n : ℕ) → AreQueued g slots w h
     → AreQueued g slots w (record h { messages = without_number n h.messages })
@@ -136,7 +136,7 @@ kept-freed {g} {slots} {w} {h} {k} {t} n {before} {after} are found freed near s
     is : k.messages ≡ without_number t.affinity.number h.messages
     is = ap (λ (x : HeldMessages). x.messages) freed ∙ ap (λ m. without_number m h.messages) number
 
--- ---- the one that goes next
+-- ---- the message that is dispatched next
 
 module _ (g : Geometry) (slots : ℕ) (w : Waiting) (h : HeldMessages) (are : AreQueued g slots w h) (t : QueuedMessage) (room : Bool)
     (next : next_queued room h.messages w.messages ≡ Some t) where
@@ -152,7 +152,7 @@ module _ (g : Geometry) (slots : ℕ) (w : Waiting) (h : HeldMessages) (are : Ar
   pub next-first : find (has_number t.affinity.number) w.messages ≡ Some t
   next-first = clear-first g h.messages w.messages (λ u. has_room room u && is_conflict_free h.messages w.messages u) are.waiting_placed are.ascends found next-clear
 
-  -- no other one that waits has its slot
+  -- no other message that waits has its slot
   pub next-once : count_in_slot t.slot w.messages ≤ 1
   next-once = omega (arith, are.in_slots t.slot, limit-most t.slot slots)
 
@@ -249,7 +249,7 @@ module _ (g : Geometry) (slots : ℕ) (w v : Waiting) (h k : HeldMessages) (t : 
       is : v.messages ≡ without_slot t.slot w.messages
       is = ap (λ (x : Waiting). x.messages) gone
 
--- ---- who holds
+-- ---- which message holds an affinity
 
 pub none-holds : (p : QueuedMessage → Bool) (ts : List QueuedMessage) → find p ts ≡ None → list_any p ts ≡ false
 none-holds p [] none = refl

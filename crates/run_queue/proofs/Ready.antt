@@ -1,4 +1,4 @@
--- Which ready entries stay right, and what they show of those that may go.
+-- Which ready entries stay right, and what they show of the messages that may be dispatched.
 use Rattle.std.proofs.Common.{◌≡◌, ◌≢◌, ◌∙◌, ℕ, zero, suc, ◌+◌, ◌<◌, ◌≤◌, Bool, true, false, not, ◌&&◌, ◌||◌, List, [], ◌∷◌, ◌++◌, find, take, Option, Some, None, refl, ap, sym, subst, inl, inr, arith, length, slice_index_or}
 use Rattle.std.specs.Prelude.{nat_lt, if◌then◌else◌, replicate}
 use Rattle.std.specs.List.{list_any, AllByRecursion}
@@ -22,7 +22,7 @@ use Rattle.run_queue.proofs.Earliest.{none_at, some_at, empty_at, false_and_righ
 
 -- ---- what the ready entries show
 
--- the one that may go at a number is the one that is conflict-free there, if there is room for it
+-- the message that may be dispatched at a number is the ready one there, if the log has room for it
 pub room-at : (g : Geometry) (room : Bool) (held waiting : List QueuedMessage) → AllByRecursion (λ d. IsAffinity g d.affinity) waiting → Ascend waiting
     → (n : ℕ) → if_passes (has_room room) (ready_at held waiting n) ≡ dispatchable_at room held waiting n
 room-at g room held waiting placed ascends n = by (find (has_number n) waiting) refl
@@ -39,7 +39,7 @@ room-at g room held waiting placed ascends n = by (find (has_number n) waiting) 
           ∙ sym (none_at g room held waiting placed ascends n f is (ap (λ b. has_room room f && b) kept ∙ false_and_right _))
     ]
 
--- where the first one stays, and is conflict-free or not as it was
+-- an entry stays right if the message that is first at its number stays first, and as conflict-free as it was
 pub ready-same : (held waiting held' waiting' : List QueuedMessage) (n : ℕ) → find (has_number n) waiting' ≡ find (has_number n) waiting
     → ((f : QueuedMessage) → find (has_number n) waiting ≡ Some f → is_conflict_free held' waiting' f ≡ is_conflict_free held waiting f)
     → ready_at held' waiting' n ≡ ready_at held waiting n
@@ -78,7 +78,7 @@ update_ready-past g held waiting ready_table n placed all past =
 pub stay-trans : (held waiting : List QueuedMessage) (a b c : List (Option QueuedMessage)) → StayRight held waiting a b → StayRight held waiting b c → StayRight held waiting a c
 stay-trans held waiting a b c first second = (second.0 ∙ first.0, λ n right. second.1 n (first.1 n right))
 
--- ---- one that arrives
+-- ---- a message that arrives
 
 find-last_other : (p : QueuedMessage → Bool) (ts : List QueuedMessage) (t : QueuedMessage) → p t ≡ false → find p (ts ++ t ∷ []) ≡ find p ts
 find-last_other p [] t other = find-skip p t [] other
@@ -98,7 +98,7 @@ or_nothing : (b : Bool) → (b || false) ≡ b
 or_nothing true = refl
 or_nothing false = refl
 
--- a later one keeps back no one
+-- a message t that arrives later than f doesn't keep f back
 later-clear : (held waiting : List QueuedMessage) (t f : QueuedMessage) → f.ticket < t.ticket → is_conflict_free held (waiting ++ t ∷ []) f ≡ is_conflict_free held waiting f
 later-clear held waiting t f less =
     let not_first : waits_for f t ≡ false = ap (λ b. b && are_related_intervals f.affinity t.affinity)
@@ -152,9 +152,9 @@ take-past zero (x ∷ xs) h = absurd (omega arith)
 take-past (suc k) [] h = refl
 take-past (suc k) (x ∷ xs) h = ap (λ (r : List ℕ). x ∷ r) (take-past k xs (omega arith))
 
--- ---- one that goes
+-- ---- a message that is dispatched
 
--- no other one has its slot
+-- no other message has t's slot
 none-alone : (t : QueuedMessage) (ts : List QueuedMessage) → count_in_slot t.slot ts ≡ 0 → AllByRecursion (λ u. has_slot t.slot u ≡ true → u ≡ t) ts
 none-alone t [] none = tt
 none-alone t (d ∷ ts) none = elim (eqb_tells d.slot t.slot) [
@@ -255,7 +255,7 @@ module _ (held held' waiting : List QueuedMessage) (t : QueuedMessage) (joined :
   it_alone : AllByRecursion (λ u. has_slot t.slot u ≡ true → u ≡ t) waiting
   it_alone = alone (has_number t.affinity.number) waiting t first once
 
-  -- a related one was kept back by it before it went
+  -- a message f at a related affinity was kept back by t before t was dispatched
   kept_before : (n : ℕ) (f : QueuedMessage) → find (has_number n) waiting ≡ Some f → t.affinity.number ≢ n → are_related_intervals f.affinity t.affinity ≡ true
       → is_conflict_free held waiting f ≡ false
   kept_before n f found other near = elim (leb_tells (suc t.ticket) f.ticket) [
@@ -297,9 +297,9 @@ module _ (held held' waiting : List QueuedMessage) (t : QueuedMessage) (joined :
     | inr other ↦ stay.1 n (right n ∙ sym (ready-gone n other))
   ]
 
--- ---- what is freed
+-- ---- an affinity that is freed
 
--- a number is that of one affinity
+-- two affinities with the same number are the same
 pub same_affinity : (g : Geometry) (a b : Interval) → IsAffinity g a → IsAffinity g b → a.number ≡ b.number → a ≡ b
 same_affinity g a b h k same =
     let number_a = ap (λ (i : Interval). i.number) h.1.interval in

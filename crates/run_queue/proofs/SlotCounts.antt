@@ -87,7 +87,7 @@ limit-most s n = elim (leb_tells (suc s) n) [
   | inr e ↦ rw e.0 (omega arith)
 ]
 
--- slots below n that occur once at most are at most n
+-- messages in slots below n, no two of them in the same slot, are at most n
 few : (n : ℕ) (ts : List QueuedMessage) → ((s : ℕ) → count_in_slot s ts ≤ (if nat_lt s n then 1 else 0)) → length ts ≤ n
 few zero [] once = omega arith
 few zero (t ∷ ts) once =
@@ -108,7 +108,7 @@ few (suc n) ts once =
           omega (arith, count_in_slot-without_other s n ts other, once s, limit-out s (suc n) behind))
     ]
 
--- those that wait and those that are held are no more than there are slots
+-- messages that wait and that are held are together no more than there are slots
 pub fits : (n : ℕ) (ws hs : List QueuedMessage) → AreInSlots n ws hs → length ws + length hs ≤ n
 fits n ws hs in_slots =
     let k = few n (ws ++ hs) (λ s. rw (count_in_slot-append s ws hs) (in_slots s)) in
@@ -129,7 +129,7 @@ in_slots-arrived n ws hs t in_slots there new s = elim (cases_eq t.slot s) [
     here : count_in_slot t.slot (ws ++ t ∷ []) + count_in_slot t.slot hs ≤ (if nat_lt t.slot n then 1 else 0)
     here = omega (arith, none, count_in_slot-append t.slot ws (t ∷ []), count_in_slot-cons_is t.slot t [] refl, limit-in t.slot n there)
 
--- so there is a seat for it
+-- so there is a slot for a message that arrives
 pub room-arrived : (n : ℕ) (ws hs : List QueuedMessage) (t : QueuedMessage) → AreInSlots n ws hs → t.slot < n
     → list_any (has_slot t.slot) (ws ++ hs) ≡ false → length ws < n
 room-arrived n ws hs t in_slots there new =

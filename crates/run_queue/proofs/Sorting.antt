@@ -62,7 +62,7 @@ length-by_ticket : (ts : List QueuedMessage) → length (by_ticket ts) ≡ lengt
 length-by_ticket [] = refl
 length-by_ticket (t ∷ ts) = length-insert t (by_ticket ts) ∙ ap (λ k. suc k) (length-by_ticket ts)
 
--- where each place is taken, there are as many as places
+-- where each entry has a message, there are as many messages as entries
 length-full : (entries : List (Option QueuedMessage)) → ((i : ℕ) → i < length entries → slice_index_or entries i None ≡ None → ⊥)
     → length (present entries) ≡ length entries
 length-full [] full = refl
@@ -86,7 +86,7 @@ count_in_slot-insert s t (d ∷ ts) = elim (leb_tells (suc t.ticket) d.ticket) [
   ])
 ]
 
--- ---- one more
+-- ---- one more message
 
 insert-last : (t : QueuedMessage) (ts : List QueuedMessage) → CameBefore t.ticket ts → insert t ts ≡ ts ++ t ∷ []
 insert-last t [] before = refl
@@ -102,7 +102,7 @@ insert-before x t (d ∷ ts) less = elim (leb_tells (suc x.ticket) d.ticket) [
   | inr n ↦ rw n.0 (ap (λ (us : List QueuedMessage). d ∷ us) (insert-before x t ts less))
 ]
 
--- one that comes to an empty place with the greatest ticket is last
+-- a message with the greatest ticket, put in an empty entry, is last in the order of tickets
 pub order-come : (entries : List (Option QueuedMessage)) (i : ℕ) (t : QueuedMessage) → i < length entries → slice_index_or entries i None ≡ None
     → CameBefore t.ticket (by_ticket (present entries))
     → by_ticket (present (slice_set entries i (Some t))) ≡ by_ticket (present entries) ++ t ∷ []
@@ -115,7 +115,7 @@ order-come (Some x ∷ entries) (suc i) t below empty before =
     ap (λ (us : List QueuedMessage). insert x us) (order-come entries i t (omega arith) empty parts.1)
     ∙ insert-before x t (by_ticket (present entries)) parts.0
 
--- ---- one less
+-- ---- one message less
 
 pub without-absent : (s : ℕ) (ts : List QueuedMessage) → count_in_slot s ts ≡ 0 → without_slot s ts ≡ ts
 without-absent s [] none = refl
@@ -173,7 +173,7 @@ there-at (Some x ∷ entries) (suc i) t h =
       | inr n ↦ omega (arith, count, rest, count_in_slot-cons_other t.slot x (by_ticket (present entries)) n.1)
     ]
 
--- one whose place is emptied is gone, and the others stay
+-- a message whose entry is emptied is gone, and the others stay in order
 pub order-leave : (entries : List (Option QueuedMessage)) (i : ℕ) (t : QueuedMessage) → slice_index_or entries i None ≡ Some t
     → count_in_slot t.slot (by_ticket (present entries)) ≤ 1 → Ascend (by_ticket (present entries))
     → by_ticket (present (slice_set entries i None)) ≡ without_slot t.slot (by_ticket (present entries))

@@ -25,7 +25,7 @@ pub start-view : (n : ℕ) → ◌≡◌ {A = HeldMessages}
     (record { numbers = length {A = Option QueuedMessage} (replicate n None); messages = present (replicate n None) }) (record { numbers = n; messages = [] })
 start-view n = held-same _ _ _ _ (length-replicate {A = Option QueuedMessage} n None) (none_held n)
 
--- ---- the one at a number
+-- ---- the message at a number
 
 none-below : (entries : List (Option QueuedMessage)) (k n : ℕ) → AreByNumberFrom k entries → n < k → find (has_number n) (present entries) ≡ None
 none-below [] k n stand less = refl
@@ -48,7 +48,7 @@ found-from (Some t ∷ entries) k (suc i) n stand is =
 pub found-at : (entries : List (Option QueuedMessage)) (n : ℕ) → AreByNumberFrom 0 entries → find (has_number n) (present entries) ≡ slice_index_or entries n None
 found-at entries n stand = found-from entries 0 n n stand (omega arith)
 
--- ---- one more
+-- ---- one more message
 
 stand-hold_from : (entries : List (Option QueuedMessage)) (k i : ℕ) (t : QueuedMessage) → AreByNumberFrom k entries → i < length entries → t.affinity.number ≡ k + i
     → AreByNumberFrom k (slice_set entries i (Some t))
@@ -73,7 +73,7 @@ between-hold (Some x ∷ entries) (suc i) t below empty =
     let rest = between-hold entries i t (omega arith) empty in
     (x ∷ rest.0, rest.1, ap (λ (ts : List QueuedMessage). x ∷ ts) rest.2, ap (λ (ts : List QueuedMessage). x ∷ ts) rest.3)
 
--- ---- one less
+-- ---- one message less
 
 stand-free_from : (entries : List (Option QueuedMessage)) (k i : ℕ) → AreByNumberFrom k entries → AreByNumberFrom k (slice_set entries i None)
 stand-free_from [] k i stand = tt
@@ -85,7 +85,7 @@ stand-free_from (Some x ∷ entries) k (suc i) stand = (stand.0, stand-free_from
 pub stand-free : (entries : List (Option QueuedMessage)) (n : ℕ) → AreByNumberFrom 0 entries → AreByNumberFrom 0 (slice_set entries n None)
 stand-free entries n stand = stand-free_from entries 0 n stand
 
--- what is not there is not dropped
+-- where no message is held at a number, none is dropped
 pub without-none : (n : ℕ) (ts : List QueuedMessage) → find (has_number n) ts ≡ None → without_number n ts ≡ ts
 without-none n [] none = refl
 without-none n (t ∷ ts) none = elim (cases_Bool (has_number n t)) [

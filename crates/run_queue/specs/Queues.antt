@@ -13,13 +13,13 @@ pub record Waiting : Type 0 where
   pub capacity : ℕ
   pub messages : List QueuedMessage
 
--- the messages of a list of slots, or of a table by affinity number, without the empty entries
+-- the messages of a list of slots, or of a table by affinity number; empty entries are skipped
 abbrev pub present : List (Option QueuedMessage) → List QueuedMessage
 present [] = []
 present (None ∷ entries) = present entries
 present (Some t ∷ entries) = t ∷ present entries
 
--- the list with message t in front of the first with a greater ticket
+-- the list with message t put in front of the first message that has a greater ticket
 abbrev pub insert : QueuedMessage → List QueuedMessage → List QueuedMessage
 insert t [] = t ∷ []
 insert t (d ∷ messages) = if nat_lt t.ticket d.ticket then t ∷ d ∷ messages else d ∷ insert t messages
@@ -50,7 +50,7 @@ IsFirstGone n before after =
     (t : QueuedMessage) → find (has_number n) before.messages ≡ Some t
     → after ≡ record before { messages = without_slot t.slot before.messages }
 
--- what contracts see of `Holders`: how many numbers there are, and which messages are held, by number
+-- what contracts see of `Holders`: for how many affinity numbers it has entries, and which messages are held, in the order of their numbers
 pub record HeldMessages : Type 0 where
   pub numbers : ℕ
   pub messages : List QueuedMessage
@@ -61,6 +61,6 @@ AreByNumberFrom k [] = Unit {0}
 AreByNumberFrom k (None ∷ entries) = AreByNumberFrom (suc k) entries
 AreByNumberFrom k (Some t ∷ entries) = (t.affinity.number ≡ k) × AreByNumberFrom (suc k) entries
 
--- Message t was inserted somewhere into the list, and the others stay in order.
+-- The list `after` is `before` with message t inserted somewhere; the others stay in order.
 abbrev pub IsBetween : QueuedMessage → List QueuedMessage → List QueuedMessage → Type 0
 IsBetween t before after = (low : List QueuedMessage) × (high : List QueuedMessage) × (before ≡ low ++ high) × (after ≡ low ++ t ∷ high)

@@ -24,7 +24,7 @@ ready_in ready_table n = slice_index_or ready_table n None
 abbrev pub IsEntryRight : List QueuedMessage → List QueuedMessage → List (Option QueuedMessage) → ℕ → Type 0
 IsEntryRight held waiting ready_table n = ready_in ready_table n ≡ ready_at held waiting n
 
--- No entry that was right is wrong, and there are as many.
+-- Each entry that was right in the table `before` is right in `after`, which has as many entries.
 abbrev pub StayRight : List QueuedMessage → List QueuedMessage → List (Option QueuedMessage) → List (Option QueuedMessage) → Type 0
 StayRight held waiting before after =
     (length after ≡ length before) × ((n : ℕ) → IsEntryRight held waiting before n → IsEntryRight held waiting after n)
@@ -38,12 +38,12 @@ AreRelatedRight g a held waiting ready_table = (b : Interval) → IsAffinity g b
 abbrev pub last_rank : ℕ
 last_rank = 18446744073709551614
 
--- the rank of a message: its ticket (the two greatest share one rank). `None` ranks last.
+-- the rank of an entry: the ticket of its message (the two greatest tickets share one rank). `None` ranks last.
 abbrev pub rank_of : Option QueuedMessage → ℕ
 rank_of None = 18446744073709551615
 rank_of (Some t) = min t.ticket last_rank
 
--- the oldest of `best` and the ready messages at n numbers from `from` on that pass the test
+-- the earliest of `best` and those ready messages, at the n numbers from `from` on, that pass the test
 abbrev pub earliest_from : (QueuedMessage → Bool) → List (Option QueuedMessage) → ℕ → ℕ → Option QueuedMessage → Option QueuedMessage
 earliest_from p ready_table from zero best = best
 earliest_from p ready_table from (suc n) best =

@@ -7,7 +7,7 @@ use Rattle.affinity.specs.declared.geometry.Geometry.{Geometry}
 use Rattle.run_queue.specs.RunQueue.{are_related_intervals, has_number}
 use Rattle.run_queue.specs.declared.queued_message.QueuedMessage.{QueuedMessage}
 
--- the numbers of the affinities above the one with this path, and, where they are fewer than four, its own
+-- the numbers of the affinities above the one with this path; where they are fewer than four, its own number fills the list up
 abbrev pub numbers_above : Geometry → Path → List ℕ
 numbers_above g p = number g (take 0 p) ∷ number g (take 1 p) ∷ number g (take 2 p) ∷ number g (take 3 p) ∷ []
 

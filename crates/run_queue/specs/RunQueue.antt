@@ -16,7 +16,7 @@ pub record RunQueueView : Type 0 where
 abbrev pub queue_at_start : Geometry → ℕ → RunQueueView
 queue_at_start geometry slots = record { geometry = geometry; waiting = []; held = []; slots = slots }
 
--- whether two affinities are related: the number of one is among those of the other, as one is the other or lies above it
+-- whether two affinities are related: the interval of one (its own number and those of all affinities below it) has the other's number
 abbrev pub are_related_intervals : Interval → Interval → Bool
 are_related_intervals a b = contains a b.number || contains b a.number
 
@@ -24,7 +24,7 @@ are_related_intervals a b = contains a b.number || contains b a.number
 abbrev pub is_free_of : List QueuedMessage → QueuedMessage → Bool
 is_free_of others t = not (list_any (λ other. are_related_intervals t.affinity other.affinity) others)
 
--- whether there is room in the log for the message: only one that may change something needs it
+-- whether the log has room for the message (`room`: for one more record): only a message that may change something needs it
 abbrev pub has_room : Bool → QueuedMessage → Bool
 has_room room t = room || not t.changing
 
@@ -32,7 +32,7 @@ has_room room t = room || not t.changing
 abbrev pub can_dispatch : Bool → List QueuedMessage → List QueuedMessage → QueuedMessage → Bool
 can_dispatch room held earlier t = has_room room t && (is_free_of held t && is_free_of earlier t)
 
--- the first of the last list that may be dispatched, where `earlier` came before that list and still wait
+-- the first message of the last argument that may be dispatched; those in `earlier` came before all of these and still wait
 abbrev pub first_dispatchable : Bool → List QueuedMessage → List QueuedMessage → List QueuedMessage → Option QueuedMessage
 first_dispatchable room held earlier [] = None
 first_dispatchable room held earlier (t ∷ later) =

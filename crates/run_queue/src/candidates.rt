@@ -7,14 +7,14 @@ ghost use Rattle.run_queue.specs.ReadyTable.{earliest_from, if_passes, ready_in}
 use crate::QueuedMessage;
 use crate::ready_table::{CHUNK, ReadyTable};
 
-// Whether there is room for it.
+// Whether the log has room for the message, if it needs any.
 fn has_room(log_has_room: bool, queued: &QueuedMessage) -> bool
     ensures { result ≡ has_room log_has_room queued.now }
 {
     log_has_room || !queued.changing
 }
 
-// Whether it came before the best so far.
+// Whether the message came before the best one so far.
 fn is_earlier(best: Option<&QueuedMessage>, queued: &QueuedMessage) -> bool
     ensures { result ≡ is_earlier (option_copied best.entry) queued.now }
 {
@@ -39,8 +39,8 @@ fn better(log_has_room: bool, ready_table: &ReadyTable, best: usize, number: usi
     }
 }
 
-/// The affinity number at which the earliest of these ready messages waits: the best so far, and those in a chunk (16 numbers in a row) for
-/// which there is room.
+/// The affinity number at which the earliest of these ready messages waits: the one at number `best`, and those in a chunk (16 numbers in
+/// a row) for which the log has room.
 pub(crate) fn best_in(
     log_has_room: bool,
     ready_table: &ReadyTable,

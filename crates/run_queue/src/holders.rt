@@ -29,7 +29,7 @@ impl Model for Holders {
 impl Holders {
     ghost use Rattle.run_queue.specs.Queues.{IsBetween};
 
-    /// `numbers` numbers, at which no message is held. `AllocError` where there is no memory.
+    /// A table for `numbers` affinity numbers, at which no message is held. `AllocError` where there is no memory.
     pub(crate) fn new(alloc: Global, numbers: usize) -> Result<Holders, AllocError>
         ensures { IfOk result (λ h. h ≡ record { numbers = numbers; messages = [] }) }
     {
@@ -62,7 +62,7 @@ impl Holders {
         self.entries[number] = Some(queued);
     }
 
-    /// What is held at a number is held no longer.
+    /// The message that is held at a number, if there is one, is held no longer.
     pub(crate) fn free(&mut self, number: usize)
         ensures { self.new ≡ record self.old { messages = without_number number self.old.messages } }
     {

@@ -13,6 +13,6 @@ pub struct QueuedMessage {
     /// Whether it may change what the server holds, so that it needs room in the log.
     pub changing: bool,
 
-    /// Its place in the order of arrival.
+    /// Its number in the order of arrival.
     pub ticket: u64,
 }

@@ -1,4 +1,4 @@
-//! The ready table: at each number the first message of that queue, if it is conflict-free.
+//! The ready table: for each affinity number the first message that waits there, if it is conflict-free.
 ghost use Rattle.std.specs.Prelude.{◌≡◌, ◌+◌, ◌*◌, ◌<◌, ◌≤◌, ℕ, get_or, length, min, replicate, slice_set, option_copied, IfOk, None};
 ghost use Rattle.run_queue.specs.ReadyTable.{last_rank, ready_in, rank_of};
 
@@ -6,7 +6,7 @@ use crate::QueuedMessage;
 use std::alloc::{AllocError, Global};
 use std::marker::Model;
 
-/// How many numbers there are in a chunk.
+/// How many affinity numbers there are in a chunk, a part of the table.
 pub(crate) const CHUNK: usize = 16;
 
 /// The last rank that a ready message may have. The greatest `u64` means that none is ready.
@@ -14,8 +14,8 @@ const LAST_RANK: u64 = u64::MAX - 1;
 
 /// For each number of an affinity the first message that waits there, if it is conflict-free.
 ///
-/// `next` is called often and looks for the earliest ready message. So each has a rank, which is its ticket, and the
-/// least rank of each chunk of numbers is kept: most chunks are skipped for it alone.
+/// `RunQueue::next` is called often and looks for the earliest ready message. So each has a rank, which is its ticket, and
+/// the least rank of each chunk of numbers is kept: most chunks are skipped for it alone.
 ///
 /// All memory is taken by `new`.
 #[derive(Drop)]
@@ -115,7 +115,7 @@ impl ReadyTable {
     }
 }
 
-// The rank of this one.
+// The rank of an entry.
 fn rank_of(ready: &Option<QueuedMessage>) -> u64
     ensures { result ≡ rank_of ready.now }
 {

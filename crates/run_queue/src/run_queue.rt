@@ -25,7 +25,7 @@ pub struct RunQueue {
     geometry: Geometry,
     waiting: Queues,
     held: Holders,
-    ready_table: ReadyTable, // the first one in each queue, if it is conflict-free
+    ready_table: ReadyTable, // the first message in each queue, if it is conflict-free
     slots: usize,
 }
 
@@ -57,8 +57,8 @@ fn chunks_of(g: &Geometry) -> usize
 impl RunQueue {
     ghost use Rattle.run_queue.specs.RunQueue.{queue_at_start, CameBefore, IsNext, HasJoined};
 
-    /// No message waits or is held. Arrivals will be at affinities of the geometry, in slots below `slots`, which is below the greatest
-    /// `usize`. There is room for any geometry. `AllocError` where there is no memory.
+    /// A run queue in which no message waits or is held. Arrivals will be at affinities of the geometry, in slots below `slots`, which is
+    /// below the greatest `usize`. There is room for any geometry. `AllocError` where there is no memory.
     pub fn new(alloc: Global, geometry: &Geometry, slots: usize) -> Result<RunQueue, AllocError>
         requires { slots < usize.MAX }
         ensures { IfOk result (λ queue. queue ≡ queue_at_start geometry.now slots) }
@@ -108,7 +108,7 @@ impl RunQueue {
         Some(queued.slot)
     }
 
-    /// A message joins the end of the queue. Its ticket is above all others there, and its slot is unused.
+    /// A message joins those that wait, as the last. Its ticket is above theirs, and no waiting or held message has its slot.
     pub fn arrive(&mut self, queued: QueuedMessage)
         requires placed { IsAffinity self.old.geometry queued.affinity }
         requires later { CameBefore queued.ticket self.old.waiting }
@@ -150,7 +150,7 @@ impl RunQueue {
         );
     }
 
-    /// What is held at an affinity is held no longer. Nothing changes where nothing is held there.
+    /// The message that is held at an affinity is held no longer. Nothing changes if none is held there.
     pub fn free(&mut self, a: Affinity)
         ensures { self.new ≡ record self.old { held = without_number a.number self.old.held } }
     {

@@ -48,7 +48,7 @@ impl Queues {
         })
     }
 
-    /// The first one at a number.
+    /// The first message that waits at an affinity number.
     pub(crate) fn front(&self, number: usize) -> Option<QueuedMessage>
         ensures first { result ≡ find (has_number number) self.now.messages }
         ensures ascends { Ascend self.now.messages }
@@ -57,7 +57,7 @@ impl Queues {
         self.messages.get(i).copied()
     }
 
-    /// One more waits, with a ticket above those of all others.
+    /// One more message waits, in the queue of its affinity's number. Its ticket is above those of all others.
     pub(crate) fn push(&mut self, queued: QueuedMessage)
         requires number { queued.affinity.number < self.old.numbers }
         requires later { CameBefore queued.ticket self.old.messages }
@@ -70,7 +70,7 @@ impl Queues {
         }
     }
 
-    /// The first one at a number waits no longer. Waiting messages have slots of their own.
+    /// Removes the first message that waits at a number. No two waiting messages have the same slot.
     pub(crate) fn pop(&mut self, number: usize)
         requires once { (slot : ℕ) → count_in_slot slot self.old.messages ≤ 1 }
         ensures { IsFirstGone number self.old self.new }

@@ -49,7 +49,7 @@ take_none : {A : Type 0} (n : ℕ) → ◌≡◌ {A = List A} (take n []) []
 take_none zero = refl
 take_none (suc n) = refl
 
--- Where nothing has failed, `doubt` is empty, so the bytes hold the state with none of any messages.
+-- If the device hasn't failed, `doubt` is empty, so the bytes recover to the state with none of the messages ms, whatever these are.
 pub some_of : (g : Geometry) (x : State) (failed : Bool) (doubt ms : List Msg) (c : List ℕ) → (failed ≡ false → doubt ≡ [])
     → RecoversWithPrefix g x doubt c → RecoversWithPrefix g x (if failed then doubt else ms) c
 some_of g x true doubt ms c none h = h
@@ -138,7 +138,7 @@ map-set [] (suc i) h = refl
 map-set (x ∷ hands) zero h = refl
 map-set (x ∷ hands) (suc i) h = ap (λ (l : List Hand). hand_of x ∷ l) (map-set hands i h)
 
--- the least empty hand of the definitions is that of the machine
+-- the first empty hand is the same by the definitions and in the machine
 position_map : (hands : List HandContent) → position is_empty (map hand_of hands) ≡ position (λ h. is_empty (hand_of h)) hands
 position_map hands = λ i. of (at hands i) (length-map hands hand_of i)
   where

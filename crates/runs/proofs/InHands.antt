@@ -50,7 +50,7 @@ module _ (g : Geometry) where
     once = h.once;
   }
 
-  -- One hand has something else, of a message that no other hand has.
+  -- Hand k now has something else: nothing, or the job or result of a message that no other hand has.
   module _ (w : CoreState) (hands : List HandContent) (h : HoldsJobs g w hands) (k : ℕ) (within : k < length hands) (new : HandContent)
       (is : IsHandOf g w new)
       (fresh : (i ticket : ℕ) → i ≢ k → ticket_in (hand_at hands i) ≡ Some ticket → ticket_in new ≡ Some ticket → ⊥) where

@@ -56,7 +56,7 @@ module _ (g : Geometry) where
     nothing_more : (c : List ℕ) → Recovers incarnations c → Recovers (incarnations ++ Unopened ∷ []) c
     nothing_more c h = record { state = h.state; is = h.is; left = next_incarnation g incarnations Unopened h.state [] h.left refl }
 
-    -- The header gives the numbers, and there is one for all incarnations.
+    -- The header gives the geometry, so an incarnation that has a run has the geometry g, too.
     run_geometry : (start : MachineState) (events : List Event) (k : ℕ) → IsRunIncarnation l start events k → l.geometry ≡ g
     run_geometry start events k run = one_geometry l.geometry g l.at_open.now run.header at_first.state at_first.is
 

@@ -37,7 +37,7 @@ use Rattle.scheduler.specs.CoreView.{CoreView, RecoversNow, core_state_of}
 abbrev pub RecoversAt : Geometry → MachineState → List Event → List ℕ → ℕ → Type 0
 RecoversAt g w events c j = RecoversWithPrefix g (end_state w (take j events)).core.committed (in_doubt (end_state w (take j events)).core (drop j events)) c
 
--- At some such place from event k on.
+-- The bytes c recover so (`RecoversAt`) for some number of events, `at`, that is k or more.
 pub record RecoversSince (g : Geometry) (w : MachineState) (events : List Event) (k : ℕ) (c : List ℕ) : Type 0 where
   pub at : ℕ
   pub since : k ≤ at
@@ -57,7 +57,7 @@ module _ (g : Geometry) where
   earlier : (w : MachineState) (events : List Event) (k j : ℕ) (c : List ℕ) → j ≤ k → RecoversSince g w events k c → RecoversSince g w events j c
   earlier w events k j c le h = record { at = h.at; since = omega (arith, h.since, le); within = h.within; recovers = h.recovers }
 
-  -- It was left before the run, or at some moment of it.
+  -- What a crash at moment t or later leaves, where t is not after the run's start, it leaves before the run or at some moment of it.
   parted : (w : MachineState) (m : Medium) (device_events : List DeviceEvent) → AreSafe g w m device_events → (t : ℕ) (c : List ℕ) → t ≤ moment_number m
       → left_since (device_after m device_events) t c → left_since m t c ⊎ RecoversSince g w (events_of device_events) 0 c
   parted w m [] safe t c early since = inl since
@@ -108,7 +108,7 @@ module _ (g : Geometry) where
         };
       }
 
-  -- These stages led to this machine, and a crash at any moment of an event leaves what it may.
+  -- These events led to this machine, and a crash at any moment of an event leaves what it may.
   pub record HasPassed (w : MachineState) (m : Medium) (device_events : List DeviceEvent) (new : MachineView) : Type 0 where
     pub legal : IsLegal g w (events_of device_events)
     pub safe : AreSafe g w m device_events
@@ -116,7 +116,7 @@ module _ (g : Geometry) where
     pub geometry : new.core.geometry ≡ g
     pub device : device_after m device_events ≡ new.core.medium
 
-  -- So it is where the core at the end is as it always is.
+  -- So a crash of the whole run leaves what it may, if the core at its end keeps what `Core::know_recovery` promises.
   pub left_since_event : {w : MachineState} {m : Medium} {device_events : List DeviceEvent} {new : MachineView} → HasPassed w m device_events new → IsSoundCoreState g w.core
       → (new.core.failed ≡ false → new.core.doubt ≡ []) → RecoversNow new.core → (k : ℕ) (c : List ℕ) → k ≤ length device_events
       → left_since new.core.medium (moment_number (device_after m (take k device_events))) c → RecoversForRun g w (events_of device_events) k c
@@ -129,7 +129,7 @@ module _ (g : Geometry) where
       recovers_for_run w (events_of device_events) k c h.legal sound (from_event m device_events h.safe ends k le
       (subst (λ (x : Medium). left_since x (moment_number (device_after m (take k device_events))) c) (sym h.device) since))
 
-  -- ---- stages behind others
+  -- ---- events behind others
 
   pub safe-append : (w : MachineState) (m : Medium) (xs ys : List DeviceEvent) → AreSafe g w m xs
       → AreSafe g (end_state w (events_of xs)) (device_after m xs) ys → AreSafe g w m (xs ++ ys)
@@ -221,7 +221,7 @@ has_run {old} {new} sound h none recovers =
           (answered_by_ticket g w events h.run.legal sound idle reply (in_contained _ reply is));
     }
 
--- The next step of a list, whose hands are these by another name.
+-- The run of the first i steps is extended by the next one; `hands` and `lent` are the same hands by two names.
 pub next_device_events : {keeps : Type 0} {old : MachineView} {core : CoreView} {hands lent : List HandContent} {new : MachineView} (asked : List Step) {i : ℕ} (d : Step)
     (came : List Outcome) {outcome : Outcome} → lent ≡ hands → (i < length asked) × (i < length came)
     → HasDeviceEvents keeps old (record { core = core; hands = hands }) (take i asked) (take i came)

@@ -26,8 +26,8 @@ pub record DeviceIncarnation : Type 0 where
   pub geometry : Geometry
   pub incarnation : Incarnation
 
--- What the next incarnation begins with: what a crash leaves that comes at moment t or later, with nothing unsynced; or the device as it
--- is, where no crash came and it is opened again.
+-- What the next incarnation begins with: what is left by a crash at moment t or later, with nothing unsynced; or the device as it is, if no
+-- crash came and it is opened again.
 abbrev pub IsPassedOn : Medium → ℕ → Medium → Type 0
 IsPassedOn m t next = ((left_since m t next.now) × IsSynced next) ⊎ ((next ≡ m) × (t ≤ moment_number m) × AreBytes m.now)
 

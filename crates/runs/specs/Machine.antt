@@ -59,7 +59,7 @@ pub record HoldsJobs (g : Geometry) (w : CoreState) (hands : List HandContent) :
 
 -- ---- runs
 
--- These steps had these outcomes, and led from one machine to the other.
+-- The steps `asked` had the outcomes `came`, and led from the machine `old` to `new`.
 pub record HasDeviceEvents (keeps : Type 0) (old new : MachineView) (asked : List Step) (came : List Outcome) : Type 0 where
   pub device_events : List DeviceEvent
   pub run : IsRun old.core.geometry (machine_of old) (machine_of new) asked came (events_of device_events)

@@ -19,7 +19,7 @@ ghost use Rattle.meaning.specs.State.{empty};
 
 /// A device is formatted. Then it has any number of incarnations, one after the other: in each it is opened, a machine makes a run
 /// of any steps, and a crash comes at any moment, also while it is opened and within a call, and leaves any bytes where something
-/// was unsynced. Each server that is opened has the numbers with which the device was formatted. Whatever the last crash leaves
+/// was unsynced. Each server that is opened has the geometry with which the device was formatted. Whatever the last crash leaves
 /// recovers to the state that the serial server reaches, from the empty one on, by the logs of all incarnations in order. The log
 /// of each incarnation begins with every change that was answered before its crash. What the last crash leaves has the header of
 /// the format and isn't refused: the next opening gives that state, unless the device fails or there is no memory (`Core::open`).

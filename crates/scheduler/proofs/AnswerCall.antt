@@ -20,7 +20,7 @@ use Rattle.scheduler.specs.Slots.{HasChains, SlotView, slots_on, no_slot, slot_v
 use Rattle.scheduler.specs.declared.slot.Slot.{Slot}
 use Rattle.run_queue.specs.RunQueue.{RunQueueView, without_number}
 
--- the first slot of a chain is one that there is
+-- the number of the first slot of a chain is below the arena's capacity
 pub front_low : {T : Type 0} (arena : ArenaView T) (c i : ℕ) → IsPartitioned arena → front_of arena c ≡ Some i → i < capacity_of arena
 front_low arena c i partitioned first =
     let some = chained-listed arena i c (front-chained arena i c first) in
@@ -82,7 +82,7 @@ module _ (keeps : Type 0) (arena : ArenaView Slot) (replies : List Reply) (tree 
       (λ i. (outcomes.Answered taken.ticket (get_or replies slot Done), core_state_in (after_is i)))
       ∙ ap (answer (core_state_in p)) (sym (answer_front keeps p k x behind whole (suc p.free) refl))
 
--- an item that there is, whatever recovers to one that isn't
+-- an item within the list is the same whatever the default is
 pub get_or_any : {X : Type 0} (xs : List X) (i : ℕ) (d e : X) → i < length xs → get_or xs i d ≡ get_or xs i e
 get_or_any [] i d e low = absurd (omega (arith, low))
 get_or_any (x ∷ xs) zero d e low = refl

@@ -59,7 +59,7 @@ module _ (keeps : Type 0) (arena : ArenaView Slot) (replies : List Reply) (tree 
   abbrev m : Msg
   m = value.message
 
-  -- where it is neither refused for the device, nor for its numbers, nor for want of tickets
+  -- where the message is refused neither for the device, nor for its numbers, nor for want of tickets
   tested : journal.failed ≡ false → is_in_range journal.geometry m ≡ true → (next == 2 ^ 64 - 1) ≡ false
       → arrive journal.geometry (core_state_in p) m ≡ (if nat_le (capacity_of arena) (length (core_state_in p).waiting + length (held (core_state_in p)))
       then (outcomes.ArriveRefused arrivals.Full, core_state_in p)

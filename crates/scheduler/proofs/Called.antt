@@ -1,4 +1,4 @@
--- What each call answers makes it an event of a legal run.
+-- Each call of a core, with what it returns, is an event of a legal run.
 use Rattle.std.proofs.Common.{◌≡◌, ℕ, ◌<◌, ◌≤◌, zero, suc, Bool, false, List, length, take, Option, Some, None, Result, Ok, Err, refl, ap, sym, ◌∙◌, arith}
 use Rattle.std.specs.Prelude.{if◌then◌else◌, is_none, not}
 use Rattle.std.proofs.lemmas.Bool.{and_from, lt-ltb, not_from_false}
@@ -31,7 +31,7 @@ module _ (g : Geometry) (old new : CoreState) where
   answer_called r e hands =
       record { to_write = 0; at_most = omega arith; does = ap (λ (x : Outcome × CoreState). (x.0, In x.1 hands)) (sym e) }
 
-  -- whether a log is refused
+  -- the outcome of a log step and the core state after it, by whether it is refused (b)
   abbrev log_if : ℕ → Bool → Outcome × CoreState
   log_if n b = if b then (outcomes.LogFault faults.Failed, old) else (outcomes.Logged (length (take n old.ran)), log g old n)
 

@@ -134,12 +134,12 @@ module _ {T : Type 0} (m : ArenaView T) (partitioned : IsPartitioned m) (i from 
 
 -- ---- the slots on a chain
 
--- those of a chain that is the same, where no value has changed
+-- a chain that is the same has the same slots with the same replies, where no value has changed
 pub same_slots : (arena new : ArenaView Slot) (replies : List Reply) (c : ℕ) → new.values ≡ arena.values → chain_at new c ≡ chain_at arena c
     → slots_on new replies c ≡ slots_on arena replies c
 same_slots arena new replies c values chain = λ k. map (λ i. (i, unwrap_or (slice_index_or (values k) i None) no_slot, get_or replies i Done)) (chain k)
 
--- A slot left one chain, where it was between two parts, and joined another, with the reply that lies there now.
+-- Slot x left the chain `from`, where it was between `before` and `behind`; it is last on the chain `to`, with the reply now at its number.
 pub record MovedSlot (arena new : ArenaView Slot) (replies new_replies : List Reply) (from to : ℕ) (before : List SlotView) (x : SlotView) (behind : List SlotView) : Type 0 where
   pub left : slots_on new new_replies from ≡ before ++ behind
   pub joined : slots_on new new_replies to ≡ slots_on arena replies to ++ (x.0, x.1, get_or new_replies x.0 Done) ∷ []
@@ -216,7 +216,7 @@ module _ (arena : ArenaView Slot) (replies new_replies : List Reply) (is : HasCh
   pub slot_moved : (i : ℕ) → i ≡ x.0 → MovedSlot arena (after_move arena i to) replies new_replies from to before x behind
   slot_moved i same = subst (λ n. MovedSlot arena (after_move arena n to) replies new_replies from to before x behind) (number ∙ sym same) moved_at
 
--- A new slot joined a chain, with the reply that lies there.
+-- Slot i, which was free, is last on the chain `to`, with the value that was put in and the reply at its number.
 pub record JoinedSlot (arena new : ArenaView Slot) (replies : List Reply) (i to : ℕ) (value : Slot) : Type 0 where
   pub joined : slots_on new replies to ≡ slots_on arena replies to ++ (i, value, get_or replies i Done) ∷ []
   pub stays : (d : ℕ) → d ≢ to → slots_on new replies d ≡ slots_on arena replies d

@@ -80,7 +80,7 @@ ascend_from (y ∷ ys) h = (later y ys h.0, ascend_from ys h.1)
     later y [] h = tt
     later y (z ∷ ys) h = (h.0, later y ys h.1)
 
--- A place among others, of which the message is the first that passes.
+-- The slots ys are `before`, `at` and `behind`; `at` is that of message t, and its entry is the first that passes the test q.
 pub record Chosen (q : Entry → Bool) (ys : List SlotView) (t : QueuedMessage) : Type 0 where
   pub before : List SlotView
   pub at : SlotView
@@ -151,7 +151,7 @@ none_picked q (e ∷ es) h = by (none_picked q es) (q e) refl h
     by deeper true is h = absurd (true≢false h)
     by deeper false is h = ap (pick_if e es (pick q es)) is ∙ ap (λ o. pick_if e es o false) (deeper h)
 
--- ---- a core's
+-- ---- the message that a core chooses
 
 module _ (keeps : Type 0) (p : Parts) (k : IsCore keeps p) where
   abbrev geometry : Geometry
@@ -194,7 +194,7 @@ module _ (keeps : Type 0) (p : Parts) (k : IsCore keeps p) where
     pub none_goes : next_queued room p.queue.held p.queue.waiting ≡ None → next_eligible geometry w ≡ None
     none_goes h = none_picked (is_eligible geometry w) w.waiting (none_any h)
 
-  -- ---- why none goes
+  -- ---- why none is dispatched
 
   clear_test : Same (λ t. has_room true t && is_conflict_free p.queue.held p.queue.waiting t) (is_clear_in geometry w) p.phases.waiting
   clear_test = all_of (IsPlaced geometry) _ (λ x a. clear_same x a) p.phases.waiting k.placed.waiting

@@ -9,7 +9,7 @@ use Rattle.legal_runs.proofs.Apart.{length_held}
 use Rattle.scheduler.specs.Parts.{Parts, entry_of, replied_of, core_state_in}
 use Rattle.scheduler.specs.Slots.{SlotView}
 
--- how many changing messages are at these places
+-- how many of the messages in these slots are of a changing kind
 abbrev pub changing : List SlotView → ℕ
 changing xs = count_by (λ x. changes x.1.message) xs
 

@@ -70,7 +70,7 @@ length_at [] (suc c) = omega arith
 length_at (ys ∷ lists) zero = let all = length-append ys (concat lists) in omega (arith, all)
 length_at (ys ∷ lists) (suc c) = let all = length-append ys (concat lists) in let deeper = length_at lists c in omega (arith, all, deeper)
 
--- a chain is no longer than the row
+-- a chain has no more slots than the arena
 pub chain_short : (arena : ArenaView Slot) (c : ℕ) → IsPartitioned arena → length (chain_at arena c) ≤ capacity_of arena
 chain_short arena c partitioned = let all = length-parts arena partitioned in let at = length_at arena.chains c in omega (arith, all, at)
 

@@ -39,7 +39,7 @@ use Rattle.scheduler.specs.declared.slot.Slot.{Slot}
 use Rattle.run_queue.specs.RunQueue.{HasJoined, RunQueueView, next_queued, without_slot}
 use Rattle.run_queue.specs.declared.queued_message.QueuedMessage.{QueuedMessage}
 
--- places made of numbers among which this one isn't
+-- if i is none of these numbers, the slots with these numbers all have other numbers than i
 numbers_off : (arena : ArenaView Slot) (replies : List Reply) (i : ℕ) (xs : List ℕ) → count_of i xs ≡ 0 → AllByRecursion (λ y. (y.0 == i) ≡ false) (map (slot_view_at arena replies) xs)
 numbers_off arena replies i [] none = tt
 numbers_off arena replies i (x ∷ xs) none = elim (eqb_tells x i) [
@@ -47,7 +47,7 @@ numbers_off arena replies i (x ∷ xs) none = elim (eqb_tells x i) [
   | inr n ↦ (n.0, numbers_off arena replies i xs (sym (count_of-cons_other i x xs n.1) ∙ none))
 ]
 
--- a slot that holds a value
+-- an entry that holds a value isn't `None`
 pub some_value : (o : Option Slot) → is_some o ≡ true → o ≡ None → ⊥
 some_value None holds none = true≢false (sym holds)
 some_value (Some s) holds none = true≢false (sym holds ∙ ap is_some none)

@@ -25,7 +25,7 @@ use Rattle.scheduler.specs.Slots.{SlotView}
 use Rattle.run_queue.specs.RunQueue.{HasJoined, has_slot, without_slot}
 use Rattle.run_queue.specs.declared.queued_message.QueuedMessage.{QueuedMessage}
 
--- those with other slots stay
+-- messages in other slots stay when one slot's message is taken out
 others_stay : (slot : ℕ) (ys : List SlotView) → AllByRecursion (λ y. (y.0 == slot) ≡ false) ys → without_slot slot (map queued_of ys) ≡ map queued_of ys
 others_stay slot [] all = refl
 others_stay slot (y ∷ ys) all = (λ i. cond (not (all.0 i)) (queued_of y ∷ without_slot slot (map queued_of ys)) (without_slot slot (map queued_of ys)))

@@ -31,7 +31,7 @@ from_none g x ms c h = record { added = 0; at_most = omega arith; is = h.is ∙ 
     none : (k : ℕ) → k ≤ 0 → k ≡ 0
     none k few = omega (arith, few)
 
--- the same bytes through a call that leaves the device alone
+-- a crash during a call that leaves the device alone leaves what a crash before it may leave
 pub still_standing : (keeps : Type 0) (p : Parts) → IsCore keeps p → keeps → (ms : List Msg) (new : CoreView) → new.medium ≡ p.journal.medium
     → RecoversThroughout ms (core_view_of p) new
 still_standing keeps p k keep ms new same =

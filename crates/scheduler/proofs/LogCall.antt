@@ -61,7 +61,7 @@ none_to_log : (failed : Bool) (many : ℕ) → failed ≡ false → (not failed 
 none_to_log true many works quiet = absurd (true≢false works)
 none_to_log false many works quiet = let few = ltb-false 0 many quiet in omega (arith, few)
 
--- as many are of a changing kind in these slots as at these places
+-- `changing_in`, by the numbers of slots, and `changing`, of the slots themselves, count the same
 counted : (arena : ArenaView Slot) (replies : List Reply) (ys : List ℕ) → changing_in arena ys ≡ changing (map (slot_view_at arena replies) ys)
 counted arena replies [] = refl
 counted arena replies (y ∷ ys) =
@@ -184,7 +184,7 @@ module _ (keeps : Type 0) (arena : ArenaView Slot) (replies : List Reply) (tree 
           pub some_were_passed : (length passed ≡ 0 → new ≡ journal) → length (batch_of (core_state_in p) n) ≡ 0 → ⊥
           some_were_passed same none = true≢false (sym (ap (λ (j : JournalView). j.failed) broken) ∙ ap (λ (j : JournalView). j.failed) (same (none_passed none)) ∙ works)
 
-        -- ---- they are logged
+        -- ---- the messages are logged
 
         module _ (made : new ≡ record journal { room = journal.room - length passed; dirty = new.dirty; medium = new.medium })
             (settles : keeps → committed new ≡ option_map (λ x. state_after_all journal.geometry x passed) (committed journal)) (recovers : keeps → IsRecoverable new)

@@ -71,7 +71,7 @@ module _ (g : Geometry) where
         | false ↦ λ e. k
       ] refl
 
--- those that a log of n hands to the journal, by their places
+-- the changes that a log step of n hands to the journal, as they are in the slots
 abbrev pub batch_at : Parts → ℕ → List Msg
 batch_at p n = recorded (map replied_of (take n p.phases.ran))
 

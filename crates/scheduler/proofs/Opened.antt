@@ -52,7 +52,7 @@ module _ (keeps : Type 0) (slots : ℕ) (replies : List Reply) (tree : TreeView)
       no_doubt = λ works. refl;
     }
 
-    -- the same of parts that are these
+    -- the same of parts that are equal to these
     module _ (arena : ArenaView Slot) (arena_is : arena ≡ empty_arena slots 4) where
       pub opened_parts : (queue : RunQueueView) (batch : List Msg) (first : TreeView) (since_open : List Msg)
           → queue ≡ queue_at_start journal.geometry slots → batch ≡ [] → first ≡ tree → since_open ≡ []

@@ -1,4 +1,4 @@
--- What the affinity of a message's kind and numbers shows of the message.
+-- What is known of a message's kind and numbers, that they are in range and where they belong, holds of the message.
 use Rattle.std.proofs.Common.{◌≡◌, ℕ, true, List, sym, subst, ◌∙◌}
 use Rattle.affinity.specs.Interval.{Interval, IsAffinityOf}
 use Rattle.affinity.specs.Place.{is_in_range as numbers_are_in_range, path_of_kind}

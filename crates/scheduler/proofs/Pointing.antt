@@ -27,7 +27,7 @@ use Rattle.scheduler.proofs.Journaling.{called_sound, step_core, step_throughout
 use Rattle.scheduler.specs.CoreView.{RecoversThroughout}
 use Rattle.scheduler.specs.Parts.{IsCore, Parts, entry_of, is_below, core_view_of, reached, core_state_in}
 
--- ---- why a point may begin
+-- ---- where a checkpoint may begin: no message is held, no other one is in progress, the device works
 
 past : (b : Bool) (why : PointRefusal) (o : Option PointRefusal) → (if b then Some why else o) ≡ None → (b ≡ false) × (o ≡ None)
 past true why o e = absurd (true≢false (ap is_some e))
@@ -103,7 +103,7 @@ module _ (keeps : Type 0) (p : Parts) (k : IsCore keeps p) (new : JournalView)
   abbrev w : CoreState
   w = core_state_in p
 
-  -- failing leaves all that makes a core state sound
+  -- if the device fails, the core state stays sound
   failed_sound : IsSoundCoreState g (core_state_in (with_journal p p.journal.room p.journal.pieces_left true p.journal.dirty new.medium))
   failed_sound = record {
     apart = k.sound.apart;
@@ -123,7 +123,7 @@ module _ (keeps : Type 0) (p : Parts) (k : IsCore keeps p) (new : JournalView)
   cut_sound why n few = called_sound g w (record w { room = g.half; pieces_left = Some n }) steps.Cut outcomes.Cut false
       (cut_called g w (record w { room = g.half; pieces_left = Some n }) (Ok tt) (why, (n, few, refl))) k.sound
 
-  -- whatever is left to write
+  -- however many pieces are left to write, the core state stays sound
   left_sound : (pieces_left : Option ℕ) → IsSoundCoreState g (core_state_in (with_journal p p.journal.room pieces_left p.journal.failed new.dirty new.medium))
   left_sound pieces_left = record {
     apart = k.sound.apart;

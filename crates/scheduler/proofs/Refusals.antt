@@ -16,7 +16,7 @@ use Rattle.device_map.specs.Layout.{device_size, layout_of}
 use Rattle.meaning.specs.State.{State}
 use Rattle.scheduler.specs.Opening.{IsShownByBytes}
 
--- what is found first, and the answer to it
+-- the first of these that holds of the bytes c, and the answer to it: a refusal, or `None` for an opening
 data Found (c : List ℕ) (answer : Option OpenFault) : Type 0 where
   Short : length c < 128 → answer ≡ Some TooShort → Found c answer
   Unformatted : IsUnformatted c → answer ≡ Some NotFormatted → Found c answer

@@ -41,9 +41,9 @@ use Rattle.scheduler.specs.Slots.{HasChains, SlotView, slots_on, slot_view_at}
 use Rattle.scheduler.specs.declared.slot.Slot.{Slot}
 use Rattle.run_queue.specs.RunQueue.{RunQueueView, has_number, has_slot, holds_at}
 
--- ---- the place of an entry
+-- ---- the slot of an entry
 
--- a place among others, of which this is the entry
+-- The slots ys are `before`, `at` and `behind`, and e is the entry of `at`.
 pub record Recovers (e : Entry) (ys : List SlotView) : Type 0 where
   pub before : List SlotView
   pub at : SlotView
@@ -65,7 +65,7 @@ recovers_at e (y ∷ ys) (suc k) low is = let s = recovers_at e ys k (omega (ari
 pub recovers_in : (e : Entry) (ys : List SlotView) → Contains (map entry_of ys) e → Recovers e ys
 recovers_in e ys h = recovers_at e ys h.0 h.1 h.2
 
--- ---- who holds a number
+-- ---- which message holds an affinity number
 
 not_false : (b : Bool) → not b ≡ true → b ≡ false
 not_false true e = absurd (true≢false (sym e))
@@ -79,7 +79,7 @@ and_false : (a b : Bool) → b ≡ false → (a && b) ≡ false
 and_false true b e = e
 and_false false b e = refl
 
--- none of those with other numbers is at this slot with this number
+-- if no slot in ys has the affinity number n, none has it together with the slot number given
 none_at : (n slot : ℕ) (ys : List SlotView) → AllByRecursion (λ y. not (has_number n (queued_of y)) ≡ true) ys → list_any (λ y. holds_at n slot (queued_of y)) ys ≡ false
 none_at n slot [] all = refl
 none_at n slot (y ∷ ys) all =
@@ -148,7 +148,7 @@ module _ (keeps : Type 0) (p : Parts) (k : IsCore keeps p) (before : List SlotVi
   others_behind = other_numbers g x x_placed behind (all_back (IsPlaced g) before (x ∷ behind) all_out).1
       (all_back (λ d. are_related_entries g (entry_of x) d ≡ false) us (map entry_of behind) alone)
 
-  -- who holds its number is the one in flight
+  -- the slot that holds the affinity number of the message in flight is that message's slot
   pub holder_is : (slot : ℕ) → list_any (holds_at n slot) p.queue.held ≡ true → slot ≡ x.0
   holder_is slot has =
       let t : SlotView → Bool = λ (y : SlotView). holds_at n slot (queued_of y) in

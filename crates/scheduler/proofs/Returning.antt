@@ -27,7 +27,7 @@ use Rattle.scheduler.proofs.Trees.{back_reaches, back_tree}
 use Rattle.scheduler.specs.Parts.{IsCore, IsPlaced, Parts, entry_of, is_below, reached, replied_of, core_state_in}
 use Rattle.scheduler.specs.Slots.{SlotView}
 
--- the one with a ticket that no other one has is the one that is found
+-- `find_in_flight` finds the entry with a ticket, if no other entry has that ticket; `step_pick` is one step of the search
 abbrev step_pick : Entry → List Entry → Option (Entry × List Entry) → Bool → Option (Entry × List Entry)
 step_pick e es o b = if b then Some (e, es) else option_map (λ (found : Entry × List Entry). (found.0, e ∷ found.1)) o
 

@@ -1,4 +1,4 @@
--- Lists of slot numbers where one is between two parts, and lists that are made of them.
+-- Lists of slot numbers, cut at one of them, and lists that a function makes of slot numbers.
 use Rattle.std.proofs.Common.{◌≡◌, ◌≢◌, ℕ, ◌≤◌, ◌<◌, List, [], ◌∷◌, ◌++◌, map, refl, sym, ap, ◌∙◌, arith, inl, inr}
 use Rattle.std.proofs.lemmas.Bool.{eq-eqb}
 use Rattle.std.proofs.lemmas.Bool.Decides.{eqb_tells}
@@ -6,7 +6,7 @@ use Rattle.std.proofs.lemmas.List.Elements.{filter-append}
 use Rattle.arena.specs.Lists.{count_of, without}
 use Rattle.arena.proofs.Counts.{count_of-append, count_of-cons_is, count_of-cons_other, count_of-cons_same, without-absent}
 
--- a list without one that occurs in it once
+-- a list without a number that occurs in it once
 pub without-split : (i : ℕ) (xs ys : List ℕ) → count_of i (xs ++ i ∷ ys) ≤ 1 → without i (xs ++ i ∷ ys) ≡ xs ++ ys
 without-split i xs ys once =
     let all = count_of-append i xs (i ∷ ys) in
@@ -19,7 +19,7 @@ without-split i xs ys once =
 pub count_of-split : (i : ℕ) (xs ys : List ℕ) → 0 < count_of i (xs ++ i ∷ ys)
 count_of-split i xs ys = let all = count_of-append i xs (i ∷ ys) in let same = count_of-cons_same i ys in omega (arith, all, same)
 
--- two ways to make items of numbers that agree but for one number, which isn't in the list
+-- two functions that agree on all numbers but i give the same list of items, where i isn't in the list
 pub map_same : {X : Type 0} (f h : ℕ → X) (i : ℕ) (xs : List ℕ) → ((j : ℕ) → j ≢ i → h j ≡ f j) → count_of i xs ≡ 0 → map h xs ≡ map f xs
 map_same f h i [] agree none = refl
 map_same f h i (x ∷ xs) agree none = elim (eqb_tells x i) [
@@ -27,7 +27,7 @@ map_same f h i (x ∷ xs) agree none = elim (eqb_tells x i) [
   | inr n ↦ (λ k. agree x n.1 k ∷ map_same f h i xs agree (sym (count_of-cons_other i x xs n.1) ∙ none) k)
 ]
 
--- a list of items that are made of numbers, cut at one of them
+-- The list `map f xs` is `before`, x and `behind`; so xs is cut at the number of which f makes x.
 pub record MapSplit {X : Type 0} (f : ℕ → X) (xs : List ℕ) (before : List X) (x : X) (behind : List X) : Type 0 where
   pub front : List ℕ
   pub at : ℕ

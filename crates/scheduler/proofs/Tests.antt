@@ -66,13 +66,13 @@ any_filter test q (t ∷ ts) = by (q t) (any_filter test q ts)
     by true rest = ap (λ b. test t || b) rest
     by false rest = rest
 
--- where all pass one test, it makes no difference to another
+-- where all messages pass the test q, any passes q and `test` exactly if any passes `test`
 pub any_passing : (test q : QueuedMessage → Bool) (xs : List SlotView) → AllByRecursion (λ x. q (queued_of x) ≡ true) xs
     → list_any (λ x. q (queued_of x) && test (queued_of x)) xs ≡ list_any (λ x. test (queued_of x)) xs
 any_passing test q [] all = refl
 any_passing test q (x ∷ xs) all = λ i. (all.0 i && test (queued_of x)) || any_passing test q xs all.1 i
 
--- the first of those that are logged is gone
+-- the oldest logged message is gone, and the held messages are those without it
 pub any_answered : (test q : QueuedMessage → Bool) (l : Phases) {x : SlotView} {behind : List SlotView} → l.logged ≡ x ∷ behind → q (queued_of x) ≡ false
     → AllByRecursion (λ x. q (queued_of x) ≡ true) behind → AllByRecursion (λ x. q (queued_of x) ≡ true) l.ran → AllByRecursion (λ x. q (queued_of x) ≡ true) l.in_flight
     → held_any (λ t. q t && test t) l ≡ held_any test (record l { logged = behind })

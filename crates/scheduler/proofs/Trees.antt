@@ -35,7 +35,7 @@ use Rattle.meaning.specs.Subtrees.{AgreeOn}
 use Rattle.meaning.specs.State.{State}
 use Rattle.scheduler.specs.Parts.{is_below, reached}
 
--- a place that is unrelated to those of some messages is unrelated to all below them
+-- a message's place that is unrelated to the places of other messages is unrelated to all nodes at or below these
 pub apart_below : (g : Geometry) (e : Entry) (es : List Entry) → AllByRecursion (λ d. are_related_entries g e d ≡ false) es → IsApart (path_of g e.1) (is_below g es)
 apart_below g e [] apart q below = absurd (false_is below)
   where
@@ -129,7 +129,7 @@ module _ (g : Geometry) (w : CoreState) (sound : IsSoundCoreState g w) (before :
   pub back_is_out : IsPath g (path_of g e.1) → IsOut (path_of g e.1) n
   back_is_out path = place_is_out g (is_below g (before ++ behind)) (path_of g e.1) (apart_below g e (before ++ behind) apart_others) n (reached g w) path held_out
 
-  -- what a run in the committed state leaves is what one leaves in the state that was reached
+  -- what the message leaves at its place in the committed state is what it leaves there in the state that was reached
   back_agrees : AgreeOn g (are_related (path_of g e.1)) (next_state g w.committed e.1) (next_state g (reached g w) e.1)
   back_agrees = (reads_only g (are_related (path_of g e.1)) w.committed (reached g w) e.1
       (agree-sym (entries_leave g w.committed e (entries w.ran) apart_ran)) (λ q r. r)).1
@@ -141,7 +141,7 @@ module _ (g : Geometry) (w : CoreState) (sound : IsSoundCoreState g w) (before :
       restored_holds g (is_below g (before ++ behind)) (path_of g e.1) (apart_below g e (before ++ behind) apart_others) e.1 refl t l n new (reached g w)
       held_out put fits (agree-trans shows back_agrees) message
 
--- ---- messages that are logged
+-- ---- messages that are logged, and what was reached: the state after all that ran
 
 pub log_reaches : (g : Geometry) (w : CoreState) (n : ℕ) → IsSoundCoreState g w → reached g (log g w n) ≡ reached g w
 log_reaches g w n sound =
@@ -149,7 +149,7 @@ log_reaches g w n sound =
     ∙ sym (state_after_all-append g w.committed (entries (take n w.ran)) (entries (drop n w.ran)))
     ∙ ap (λ es. state_after_all g w.committed (messages es)) (sym (entries-append (take n w.ran) (drop n w.ran)) ∙ ap entries (take-append-drop n w.ran))
 
--- a message that is given back leads on from what was reached
+-- when a message is given back, the state reached is the one to which it leads from the state reached before
 pub back_reaches : (g : Geometry) (x : State) (ran : List Replied) (a : Replied)
     → state_after_all g x (messages (entries (ran ++ a ∷ []))) ≡ next_state g (state_after_all g x (messages (entries ran))) a.1
 back_reaches g x ran a = ap (λ es. state_after_all g x (messages es)) (entries-append ran (a ∷ [])) ∙ state_after_all-append g x (entries ran) ((a.0, a.1) ∷ [])

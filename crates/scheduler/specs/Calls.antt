@@ -1,4 +1,4 @@
--- Statement for engineers: What the calls of a core answer and make of its core state, and which events they are.
+-- Statement for engineers: What the calls of a core return, what they make of its core state, and which events they are.
 use Rattle.std.specs.Prelude.{◌≡◌, ℕ, ◌+◌, Bool, true, false, List, take, length, Option, Some, None, Result, Ok, Err}
 use Rattle.affinity.specs.declared.geometry.Geometry.{Geometry}
 use Rattle.legal_runs.specs.Eligible.{next_eligible}
@@ -81,7 +81,7 @@ abbrev pub checkpoint_device_failed : {T : Type 0} → Result T PointRefusal →
 checkpoint_device_failed (Err points.Device) = true
 checkpoint_device_failed _ = false
 
--- The count of device faults has grown by one if the device failed during the call, and else is the same.
+-- The count of device faults has grown by one if the device failed during the call, and is as before if it did not.
 abbrev pub CountsFailure : Bool → ℕ → ℕ → Type 0
 CountsFailure true old new = new ≡ old + 1
 CountsFailure false old new = new ≡ old
@@ -106,7 +106,7 @@ abbrev pub log_outcome : Result ℕ CoreFault → Outcome
 log_outcome (Ok count) = outcomes.Logged count
 log_outcome (Err why) = outcomes.LogFault why
 
--- the outcome of a step of a checkpoint: `made` of what the call gives, or the refusal
+-- the outcome of a step of a checkpoint, by the result of the core's call: `made x` if it gave x, else the refusal
 abbrev pub step_outcome : {T : Type 0} → (T → Outcome) → Result T PointRefusal → Outcome
 step_outcome made (Ok x) = made x
 step_outcome made (Err why) = outcomes.PointRefused why

@@ -20,14 +20,15 @@ pub record CoreView : Type 0 where
   -- the tree when the core was opened, and the messages appended to the log since then: they lead to the committed state
   pub opened : TreeView
   pub since_open : List Msg
-  -- how many records the log still takes, the ticket of the next message, and how many messages the core can have at once
+  -- how many more records the current half of the log takes, the ticket of the next message, and how many messages the core can have
+  -- at once
   pub room : ℕ
   pub next : ℕ
   pub slots : ℕ
   -- whether the device has failed, and what was to be appended to the log when it did
   pub failed : Bool
   pub doubt : List Msg
-  -- how many pieces are left to write, while a checkpoint is in progress
+  -- how many pieces are left to write, while an online checkpoint is in progress; else `None`
   pub pieces_left : Option ℕ
   pub medium : Medium
 

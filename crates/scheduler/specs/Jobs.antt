@@ -11,7 +11,8 @@ use Rattle.parcel.specs.declared.job.Done.{Done}
 use Rattle.parcel.specs.declared.parts.Standing.{Standing}
 use Rattle.meaning.specs.Serial.{next_state, reply_to}
 
--- The job is of a message in flight, and it shows what the committed state has at the message's place.
+-- The job is of a message in flight, and its parcels and standing are what the committed state has at the message's place, below it and
+-- above it.
 pub record IsJobOf (g : Geometry) (w : CoreState) (job : JobView) : Type 0 where
   pub geometry : job.geometry ≡ g
   pub in_flight : Contains w.in_flight (job.ticket, job.message)

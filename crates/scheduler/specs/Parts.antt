@@ -23,7 +23,7 @@ use Rattle.scheduler.specs.declared.slot.Slot.{Slot}
 use Rattle.run_queue.specs.RunQueue.{RunQueueView}
 use Rattle.run_queue.specs.declared.queued_message.QueuedMessage.{QueuedMessage}
 
--- the message in a slot with its ticket; with its reply too; and as the run queue has it
+-- the message in a slot: with its ticket (`entry_of`), with its ticket and reply (`replied_of`), and as the run queue has it (`queued_of`)
 abbrev pub entry_of : SlotView → Entry
 entry_of x = (x.1.ticket, x.1.message)
 
@@ -48,7 +48,7 @@ pub record Parts : Type 0 where
   pub tree : TreeView
   pub journal : JournalView
   pub queue : RunQueueView
-  -- the batch that is handed to the journal; after a fault of the device it stays, as `doubt`
+  -- the changes that a call of `log` hands to the journal; if the device fails then, they stay, as `doubt`
   pub batch : List Msg
   -- the ticket of the next message
   pub next : ℕ

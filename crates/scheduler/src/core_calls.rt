@@ -59,7 +59,8 @@ pub struct Core<D: Disk> {
     tree: Tree,
     journal: Journal<D>,
 
-    /// What is handed to the journal. After a fault of the device it stays, as `doubt`: what was to be appended.
+    /// The changes that a call of `log` hands to the journal. If the device fails then, they stay here, as `doubt`: the log may hold any
+    /// prefix of them.
     batch: Vec<Msg>,
 
     /// The ticket of the next message.
@@ -100,7 +101,7 @@ pub(crate) fn one_if(is_so: bool) -> usize
     if is_so { 1 } else { 0 }
 }
 
-// Whether a message is held: in flight, ran or logged (chains 1, 2 and 3 of `slot.rt`).
+// Whether any message is held: in flight, ran or logged (chains 1, 2 and 3 of `slot.rt`).
 fn holds_any(slots: &Arena<Slot>) -> bool
     requires { HasChains slots.now }
     ensures { result ≡ nat_lt 0 (length (chain_at slots.now 3) + (length (chain_at slots.now 2) + length (chain_at slots.now 1))) }
@@ -112,8 +113,8 @@ impl<D: Disk> Core<D> {
     /// Opens a device that a crash may have left, for as many messages at once as there are slots.
     ///
     /// Takes its own memory first: where there is none, the device is handed back as it was given. Then the device is opened as by
-    /// `journal::open`, with the same faults: it is read, a cut that was in progress is finished, and a checkpoint is made. No message
-    /// waits or is held then, the next ticket is 0, and the log has all its room, with no record in force.
+    /// `journal::open`, with the same faults: it is read, a cut that was in progress is finished, and a checkpoint is made. In the opened
+    /// core no message waits or is held, the next ticket is 0, and the log has all its room, with no record in force.
     pub fn open(alloc: Global, d: D, slots: usize) -> Result<Core<D>, OpenError<D>>
         ensures opened { IfOk result (IsJustOpened slots) }
         ensures header { IfOk result (λ core. D.keeps → HasHeader core.geometry (D.medium d).now) }
@@ -139,7 +140,8 @@ impl<D: Disk> Core<D> {
             (λ e. moment_number (D.medium e.disk) ≤ moment_number (D.medium d) + 11) }
         ensures refused { IfErr result (λ e. D.keeps → IsRefused (D.medium d).now e.fault) }
 
-        // A refusal writes nothing, unless the device fails, or a record behind a cut is bad: then the cut was finished first.
+        // A refusal writes nothing, unless the device fails, or the fault is a bad record in the half that a cut began: then the cut
+        // was finished first.
         ensures unwritten { IfErr result (λ e. D.keeps → IsRefusedUnwritten (D.medium d) e.fault (D.medium e.disk)) }
 
         // A device that recovers to a state is opened, and one whose bytes call for a refusal is refused with just that fault,
@@ -220,7 +222,8 @@ impl<D: Disk> Core<D> {
         Ok(ticket)
     }
 
-    /// Dispatches the eligible message with the least ticket, with what it needs of the tree.
+    /// Dispatches the eligible message with the least ticket, with what it needs of the tree. Eligible is a waiting message that conflicts
+    /// with no held one and no earlier waiting one, if the log has room for the record that it may need.
     pub fn grant(&mut self) -> Granted
         ensures state_after { IsGranted self.old.geometry (core_state_of self.old) (core_state_of self.new) result }
         ensures geometry { self.new.geometry ≡ self.old.geometry }
@@ -308,8 +311,8 @@ impl<D: Disk> Core<D> {
         Ok(count)
     }
 
-    /// The ticket and the reply of the message that was logged first. It leaves the core: its affinity and its slot
-    /// are free then. None where no message is logged.
+    /// Answers the oldest logged message: returns its ticket and its reply. The message leaves the core, which frees its
+    /// affinity and its slot. `None` where no message is logged.
     pub fn answer(&mut self) -> Option<(u64, Reply)>
         ensures state_after { (answer_outcome result, core_state_of self.new) ≡ answer (core_state_of self.old) self.old.logged }
         ensures geometry { self.new.geometry ≡ self.old.geometry }
@@ -340,7 +343,7 @@ impl<D: Disk> Core<D> {
         None
     }
 
-    /// Makes a checkpoint, where no message is held: the log is empty then.
+    /// Makes a checkpoint in one call, where no message is held: no record is in force afterwards.
     pub fn point(&mut self) -> Result<(), PointRefusal>
         ensures state_after { IsCheckpointStep (core_state_of self.old) (core_state_of self.new) (point_refusal (core_state_of self.old))
             (core_state_of self.new ≡ record (core_state_of self.old) { room = self.old.geometry.half }) result }
@@ -364,7 +367,7 @@ impl<D: Disk> Core<D> {
         Ok(())
     }
 
-    /// Begins a checkpoint that goes on while messages are served: what is committed now is what it will hold.
+    /// Begins an online checkpoint, where no message is held. It will hold what is committed now, and goes on while messages are served.
     pub fn cut(&mut self) -> Result<(), PointRefusal>
         ensures state_after { IsCheckpointStep (core_state_of self.old) (core_state_of self.new) (point_refusal (core_state_of self.old))
             ((n : ℕ) × (n ≤ piece_count self.old.geometry)
@@ -385,7 +388,7 @@ impl<D: Disk> Core<D> {
         Ok(())
     }
 
-    /// Writes the next piece of the checkpoint in progress, and returns how many are left. With none left it touches nothing.
+    /// Writes the next piece of the online checkpoint in progress, and returns how many are left. With none left it touches nothing.
     pub fn piece(&mut self) -> Result<usize, PointRefusal>
         ensures state_after { IsPieceStep (core_state_of self.old) (core_state_of self.new) result }
         ensures geometry { self.new.geometry ≡ self.old.geometry }
@@ -407,7 +410,7 @@ impl<D: Disk> Core<D> {
         }
     }
 
-    /// Ends the checkpoint in progress, once every piece is written.
+    /// Ends the online checkpoint in progress, once every piece is written.
     pub fn flip(&mut self) -> Result<(), PointRefusal>
         ensures state_after { IsCheckpointStep (core_state_of self.old) (core_state_of self.new) (flip_refusal (core_state_of self.old))
             (core_state_of self.new ≡ record (core_state_of self.old) { pieces_left = None }) result }
@@ -433,7 +436,7 @@ impl<D: Disk> Core<D> {
         Ok(())
     }
 
-    /// How many messages fit in.
+    /// How many messages the core can have at once, waiting or held.
     pub fn slots(&self) -> usize
         ensures slots { result ≡ self.now.slots }
         ensures sound { IsSoundCoreState self.now.geometry (core_state_of self.now) }
@@ -441,14 +444,14 @@ impl<D: Disk> Core<D> {
         self.slots.capacity()
     }
 
-    /// How many pieces are left to write, while a checkpoint is in progress.
+    /// How many pieces are left to write, while an online checkpoint is in progress; else `None`.
     pub fn pieces_left(&self) -> Option<usize>
         ensures { result ≡ self.now.pieces_left }
     {
         self.journal.pieces_left()
     }
 
-    /// Whether the device has failed: it has to be opened again.
+    /// Whether the device has failed. If so, it has to be opened again.
     pub fn failed(&self) -> bool
         ensures { result ≡ self.now.failed }
     {

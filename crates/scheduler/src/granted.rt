@@ -1,4 +1,4 @@
-//! What a grant gives, and which message it chooses.
+//! What a grant (`Core::grant`, the dispatch of a message) gives, and which message it chooses.
 ghost use Rattle.std.specs.Prelude.{◌≡◌, IfErr, MatchResult, None, Some, cond, is_some, true};
 ghost use Rattle.scheduler.specs.declared.granted.Granted.TheVariants as granted;
 ghost use Rattle.run_queue.specs.RunQueue.{next_queued};

@@ -24,8 +24,8 @@ pub(crate) struct CoreMemory {
     pub(crate) batch: Vec<Msg>,
 }
 
-/// Room for `slots` messages; it is empty. The device's geometry isn't known yet: the queue begins with the default
-/// one (`default_geometry` in clauses), which `set_geometry` replaces, and has room for any. `AllocError` where there is no memory.
+/// Memory for `slots` messages, with none in it. The device's geometry isn't known yet: the run queue begins with the default
+/// geometry (`default_geometry` in clauses), which `set_geometry` replaces, and has room for any. `AllocError` where there is no memory.
 pub(crate) fn take_memory(alloc: Global, slots: usize) -> Result<CoreMemory, AllocError>
     ensures arena { IfOk result (λ m. m.slots ≡ empty_arena slots 4) }
     ensures partitioned { IfOk result (λ m. IsPartitioned m.slots) }

@@ -1,4 +1,4 @@
-//! What a core keeps of a message, and how far it has come.
+//! What a core keeps of a message, and the chains of the arena that show how far each message has come.
 
 use affinity::Affinity;
 use messages::Msg;
@@ -18,7 +18,7 @@ pub(crate) const RAN: usize = 2;
 /// The chain of logged messages.
 pub(crate) const LOGGED: usize = 3;
 
-/// A message that was taken in: its ticket, and where it belongs.
+/// A message that was taken in, with its ticket and the affinity where it belongs.
 #[derive(Clone, Copy)]
 pub(crate) struct Slot {
     pub(crate) ticket: u64,

@@ -5,14 +5,18 @@ use affinity::{BadGeometry, Geometry, Kind, place_of, related};
 use std::process::Abort;
 use std::test::Fail;
 
+/// Two aggregates of two volumes, each of two stripes. In order: aggregates, volumes, stripes, width, files, blocks, quota, records in a
+/// half.
 const TWO_OF_EACH: [u16; 8] = [2, 2, 2, 1, 2, 4, 2, 4];
 
+/// The greatest geometry, in the same order.
 const GREATEST: [u16; 8] = [4, 8, 8, 64, 64, 256, 64, 1024];
 
-/// A message's kind and numbers, and the number and the end of its affinity where the numbers are in range.
+/// A message's kind and numbers (aggregate, volume, file, block), and where these are in range the number of its affinity (its place in
+/// preorder) and the end (the number after the affinity's subtree).
 type Numbered = (Kind, [u16; 4], Option<(u16, u16)>);
 
-/// Servers, and messages of each.
+/// Geometries, and messages to a server of each.
 const NUMBERED: [([u16; 8], &[Numbered]); 3] = [
     (
         SMALL,
@@ -24,7 +28,7 @@ const NUMBERED: [([u16; 8], &[Numbered]); 3] = [
             (Kind::Read, [0, 0, 0, 0], Some((4, 5))),
             (Kind::Punch, [0, 0, 0, 1], Some((5, 6))),
             (Kind::SetLabel, [0, 0, 0, 0], Some((6, 7))),
-            // The numbers that a kind has are tested, and no others.
+            // Only the numbers that a kind has are tested: a `seal` has no file and no block.
             (Kind::Write, [0, 0, 0, 4], None),
             (Kind::Write, [0, 0, 2, 0], None),
             (Kind::Create, [0, 0, 2, 0], None),
@@ -76,8 +80,8 @@ const EACH_AFFINITY: [(Kind, [u16; 4]); 7] = [
     (Kind::SetLabel, [0, 0, 0, 0]),
 ];
 
-/// Which of them are related, in the same order: all but a stripe to the other one, and the label to both stripes and to
-/// volume logical.
+/// Which of them are related, in the same order. Unrelated are the two stripes, the label and each stripe, and the label and the volume
+/// logical; all others are related.
 const ARE_RELATED: [[bool; 7]; 7] = [
     [true, true, true, true, true, true, true],
     [true, true, true, true, true, true, true],
@@ -88,7 +92,7 @@ const ARE_RELATED: [[bool; 7]; 7] = [
     [true, true, true, false, false, false, true],
 ];
 
-/// Whether one of them is related so to each.
+/// This message's affinity is related to that of each message of `EACH_AFFINITY` exactly if the row says so.
 fn checks_related(rt: &impl Abort, g: &Geometry, message: (Kind, [u16; 4]), row: &[bool]) {
     let found = place_of(g, message.0, message.1);
     for ((kind, numbers), want) in EACH_AFFINITY.iter().zip(row) {

@@ -9,7 +9,9 @@ fn decodes(rt: &impl Abort, front: &[u8], g: &Geometry, message: Option<Msg>) {
     assert_eq!(rt; decode(&padded(front), g), message, "at {front:?}");
 }
 
-/// What records begin with, with zeros after it, and what they encode at the default geometry.
+/// The first bytes of records, which zeros follow, and the message that each is at the default geometry, or none. The bytes
+/// are the kind, the aggregate, the volume, the file, the block (two, the lower one first), two that have to be zeros, and
+/// then the data.
 const RECORDS: [(&[u8], Option<Msg>); 9] = [
     (&[1], Some(Msg::MakeVol(0, 0))),
     (&[1, 0, 3], Some(Msg::MakeVol(0, 3))),

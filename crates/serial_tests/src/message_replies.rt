@@ -10,6 +10,7 @@ fn spells(rt: &impl Abort, reply: &Reply, line: &[u8]) {
     same(rt, &out[..size], line);
 }
 
+/// Replies and their lines. `Files` has a number whose bit f is 1 if file f is there.
 const REPLIES: [(Reply, &str); 14] = [
     (Reply::Done, "done\n"),
     (Reply::Hole, "hole\n"),
@@ -48,7 +49,7 @@ const REPLIES: [(Reply, &str); 14] = [
     ),
 ];
 
-/// What blocks begin with, with zeros after it, and their lines.
+/// The first bytes of blocks, which zeros follow, and the reply line of each.
 const BLOCKS: [(&[u8], &str); 5] = [
     (b"ab", "block 6162\n"),
     (b"", "block 00\n"),

@@ -8,7 +8,7 @@ use std::alloc::{AllocError, Global};
 use std::process::Abort;
 use std::test::Fail;
 
-// The reply to a message; none where what it needs is out, which it never is here.
+// The reply to a message; none if what it needs is out, which never happens here.
 fn serve(tree: &mut Tree, message: &Msg) -> Option<Reply> {
     let g = tree.geometry();
     let message = *message;

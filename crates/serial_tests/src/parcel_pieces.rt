@@ -1,4 +1,8 @@
-//! Pieces of an image are taken into a new tree, which is asked by messages and written again.
+//! Pieces of an image are read into a new tree. The tree then answers messages, or is written as pieces again.
+//!
+//! A piece is given by the bytes of it that aren't 0: offset and value. Of a volume's piece, byte 0 is 1 if the volume is
+//! made, byte 1 if it is sealed; from 8 on there is a bitmap of its files, from 16 on its label. A stripe's piece has
+//! entries of 520 bytes: 1, the file, the block (two bytes), four zeros, and the content from 8 on.
 ghost use Rattle.std.specs.Prelude.{◌≡◌, length, IfOk, OnOk};
 ghost use Rattle.serial_tests.specs.Pieces.{IsNewTree, IsSmallTree};
 
@@ -13,16 +17,16 @@ use std::test::Fail;
 /// A volume with files 0 and 1, whose label begins with 7.
 const VOLUME: [(usize, u8); 3] = [(0, 1), (8, 3), (16, 7)];
 
-/// Block 0 of file 0, and block 1 of file 1, which holds 0x61.
+/// Block 0 of file 0, which begins with 0x62, and block 1 of file 1, which begins with 0x61. Both lie in stripe 0.
 const STRIPE: [(usize, u8); 6] = [(0, 1), (8, 0x62), (520, 1), (521, 1), (522, 1), (528, 0x61)];
 
-/// A volume with file 0, whose label begins with 6162.
+/// A volume with file 0, whose label begins with 0x61, 0x62.
 const LABELED: [(usize, u8); 4] = [(0, 1), (8, 1), (16, 0x61), (17, 0x62)];
 
 /// A sealed volume with files 0 and 1.
 const SEALED: [(usize, u8); 3] = [(0, 1), (1, 1), (8, 3)];
 
-/// Block 1 of file 1, which begins with 61.
+/// Block 1 of file 1, which begins with 0x61.
 const ONE_BLOCK: [(usize, u8); 4] = [(0, 1), (1, 1), (2, 1), (8, 0x61)];
 
 fn new_tree(alloc: Global) -> Result<Tree, Fail>
@@ -64,7 +68,7 @@ fn read_both(tree: &mut Tree, volume: &[u8], stripe: &[u8]) -> Result<(), BadPie
     read_piece(tree, 1, stripe)
 }
 
-// The same bytes are written again, and zeros for the second stripe.
+// The tree is written as these bytes of the volume and the first stripe, and as zeros for the second stripe.
 fn expect_written(rt: &impl Abort, tree: &Tree, volume: &[u8], stripe: &[u8])
     requires { IsSmallTree tree.now }
 {
@@ -78,7 +82,8 @@ fn expect_written(rt: &impl Abort, tree: &Tree, volume: &[u8], stripe: &[u8])
     holds(rt, of_stripe.iter().all(|byte| *byte == 0));
 }
 
-// Whether a tree takes in a volume's piece with these bytes, and then a stripe's with those.
+// A new tree takes in a volume's piece and then a stripe's, with these bytes, exactly if `good`. Then it is written as the
+// same bytes.
 fn expect_good(
     rt: &impl Abort,
     alloc: Global,
@@ -108,6 +113,8 @@ const GOOD: [Row<'static>; 5] = [
     (&LABELED, &[]),
 ];
 
+/// What is bad, in order: sealed but not made; a made byte that is 2; byte 2, which has to be 0; file 2, which is out of
+/// range; a byte after the label; an entry of file 1, which isn't there; a byte where there is no entry.
 const BAD: [Row<'static>; 7] = [
     (&[(1, 1)], &[]),
     (&[(0, 2)], &[]),
@@ -152,7 +159,7 @@ const OF_SEALED: [(&str, &str); 4] = [
     ("read 0 0 1 1", "block 61"),
 ];
 
-/// What the volume is, its pieces, and what is answered of it.
+/// What the volume is, its pieces, and lines with the replies to them.
 const ANSWERS: [(&str, Row<'static>, &[(&str, &str)]); 3] = [
     ("a volume with two files", (&VOLUME, &STRIPE), &OF_TWO_FILES),
     ("a labeled volume", (&LABELED, &[]), &OF_LABELED),
@@ -183,7 +190,7 @@ fn a_tree_answers_by_its_pieces(rt: HostRuntime) -> Result<(), Fail> {
     Ok(())
 }
 
-// Whether a tree takes in a volume's piece of version 1. Then its label is zeros.
+// A new tree takes in this volume's piece of an image of version 1 exactly if `good`. Then the label is zeros.
 fn expect_version_1(
     rt: &impl Abort,
     alloc: Global,

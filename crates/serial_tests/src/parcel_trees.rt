@@ -19,7 +19,7 @@ fn new_tree(alloc: Global, g: Geometry) -> Result<Tree, AllocError> {
     }
 }
 
-// The affinity of a message of this kind, at file 0.
+// The affinity of a message of this kind at volume 0, file 0 and this block.
 fn affinity_of(rt: &impl Abort, tree: &Tree, kind: Kind, block: u16) -> Affinity
     ensures { IsAffinityOf tree.now.geometry (path_of_kind tree.now.geometry kind (0 ∷ 0 ∷ 0 ∷ block ∷ [])) result }
 {
@@ -40,14 +40,16 @@ fn lend_stripe(rt: &impl Abort, tree: &mut Tree, block: u16) -> StripeParcel {
     }
 }
 
-// Each row's message has something out at its affinity exactly if the row says so; what is in is lent now.
+// For each row, the parcels at the affinity of its message are lent, and stay out. That is refused exactly if the row says that some are
+// out already.
 fn expect_each(rt: &impl Abort, tree: &mut Tree, rows: &[(Kind, u16, bool)]) {
     for (kind, block, out) in rows {
         holds(rt, lent(rt, tree, *kind, *block).is_none() == *out);
     }
 }
 
-// Kind, block, and whether it is out: blocks 0 and 2 lie in one stripe, block 1 in the other.
+// While the stripe of block 0 is out: a kind, a block, and whether some of the parcels at that message's affinity are out. Blocks 0 and 2
+// lie in one stripe, block 1 in the other, which the row before the last lends.
 const BESIDE: [(Kind, u16, bool); 9] = [
     (Kind::Read, 0, true),
     (Kind::Read, 2, true),

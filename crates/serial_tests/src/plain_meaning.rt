@@ -77,7 +77,7 @@ const DEFAULT_LIMITS: [(&str, &str); 6] = [
     ("read 0 0 0 64", "error range"),
 ];
 
-// Stripe 0 holds two blocks: of file 0 the even ones, of file 1 the odd ones.
+// Stripe 0 can hold two blocks. The even blocks of file 0 and the odd ones of file 1 belong there.
 const FULL_STRIPE: [(&str, &str); 13] = [
     ("makevol 0 0", "done"),
     ("create 0 0 0", "done"),
@@ -188,7 +188,7 @@ const COUNTS: [(&str, &str); 10] = [
     ("usage 0 1", "error range"),
 ];
 
-/// The serial server gives these replies, and so does a tree that lends each message the parcels of its place.
+/// The serial server gives these replies, and so does a tree that lends each message the parcels at its affinity.
 pub(crate) const SESSIONS: [Session<'static>; 15] = [
     ("each kind of message", SMALL, &EACH_KIND),
     ("a block is read back", SMALL, &READ_BACK),

@@ -7,7 +7,7 @@ use std::io::{Read, Write};
 use std::process::Abort;
 use std::test::Fail;
 
-/// How a session ends that serves this input at a geometry.
+/// How a session ends that serves this input at a geometry. Numbers out of range, which no test has, count as `OutOfMemory`.
 pub(crate) fn served_into<R: Read + Drop, W: Write>(
     alloc: Global,
     numbers: [u16; 8],
@@ -20,7 +20,7 @@ pub(crate) fn served_into<R: Read + Drop, W: Write>(
     serve_plain(alloc, &geometry, input, output)
 }
 
-/// An empty output with room for all that is written here, so that no write takes memory.
+/// An empty output with room for all that a test writes, so that no write takes memory.
 pub(crate) fn room(alloc: Global) -> Result<Vec<u8>, AllocError> {
     Vec::with_capacity(alloc, 4096)
 }

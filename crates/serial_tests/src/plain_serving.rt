@@ -72,7 +72,7 @@ fn expect<R: Read + Drop>(
     Ok(())
 }
 
-/// Whole lines and one that is cut, of which only the first and the third change something.
+/// Whole lines and a last one without its newline. Only the first and the third change something.
 const LINES: &[u8] = b"makevol 0 0
 makevol 0 0
 create 0 0 0
@@ -87,7 +87,7 @@ error line
 summary 1 1 0
 ";
 
-// The first few lines, whole.
+// The first `count` lines, with their newlines.
 fn first_lines(lines: &[u8], count: usize) -> &[u8] {
     let mut left = count;
     for (at, byte) in lines.iter().enumerate() {
@@ -101,7 +101,7 @@ fn first_lines(lines: &[u8], count: usize) -> &[u8] {
     lines
 }
 
-// How many lines end here.
+// How many lines end in these bytes.
 fn count_lines(bytes: &[u8]) -> usize {
     bytes.iter().filter(|byte| **byte == b'\n').count()
 }
@@ -135,7 +135,7 @@ impl<'a> Read for ByteByByte<'a> {
     }
 }
 
-// How a session ends whose write or flush with this number fails, and how many there were.
+// How a session ends whose write or flush with this number fails, and how many of both it made.
 fn served_until(
     alloc: Global,
     fails: usize,
@@ -168,7 +168,7 @@ fn after_each_write_that_fails_nothing_more_is_written(rt: HostRuntime) -> Resul
     Ok(())
 }
 
-/// Lines that take memory for a volume, a block and a number for its stripe, and others that take none.
+/// Lines that take memory for a volume, for a block and for the number of blocks in its stripe, and others that take none.
 const FIRST_OF_ALL: &[u8] = b"makevol 0 0
 setlabel 0 0 6162
 create 0 0 0
@@ -185,7 +185,7 @@ done
 block 6162
 ";
 
-// What was written before memory was refused is whole lines.
+// What was written before memory was refused is the first few replies, whole.
 fn is_beginning(rt: &impl Abort, written: &[u8]) {
     same(
         rt,
@@ -194,7 +194,7 @@ fn is_beginning(rt: &impl Abort, written: &[u8]) {
     );
 }
 
-/// It passes too where any one request for memory is refused.
+/// The test passes also if any one request for memory in it is refused.
 #[test]
 fn lines_are_answered_at_the_next_try(rt: HostRuntime) -> Result<(), Fail> {
     let alloc = rt.alloc();

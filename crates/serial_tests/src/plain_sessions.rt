@@ -16,7 +16,7 @@ struct Client<'a> {
     next: usize,
     got: &'a Cell<usize>,
 
-    /// Whether it had got something else at one of the reads.
+    /// Whether the client had got another number of bytes at one of the reads.
     is_amiss: &'a Cell<bool>,
 }
 
@@ -54,7 +54,7 @@ impl Write for Pipe<'_> {
     }
 }
 
-/// How many bytes a client got in all, where it had got what it should at each read.
+/// How many bytes a client got in all; an error if it had not got what it should at one of the reads.
 fn got_in_time(alloc: Global, reads: &[(usize, &[u8])]) -> Result<usize, PlainFault> {
     let got = Cell::new(0);
     let is_amiss = Cell::new(false);
@@ -75,6 +75,8 @@ fn got_in_time(alloc: Global, reads: &[(usize, &[u8])]) -> Result<usize, PlainFa
     Ok(got.get())
 }
 
+/// The replies are `done`, `error exists`, `done` and `summary 1 1 0`: with their newlines 5, 13, 5 and
+/// 14 bytes.
 const READS: [(usize, &[u8]); 4] = [
     (0, b"makevol 0 0\n"),
     (5, b"makevol 0 0\ncreate 0 "),

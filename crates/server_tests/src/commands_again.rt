@@ -1,4 +1,5 @@
-//! Two incarnations of one device: the first stops at each of its calls and is crashed, and the second one reports what is there.
+//! Two incarnations of one device, by `serve_again`: in the first the device stops at its n-th call, for each n, and crashes; the second is
+//! asked what the crash left.
 ghost use Rattle.std.specs.Prelude.{◌<◌};
 
 use crate::commands_calls::System;
@@ -12,11 +13,11 @@ use std::test::Fail;
 /// More calls than the first incarnation makes of its device.
 const CALLS: u64 = 120;
 
-/// What the first incarnation is asked with the answers, what the second one is asked, and what it may answer: each with the number of
-/// lines that were acknowledged at most where it does.
+/// The lines of the first incarnation, each with its answer; those of the second; and what the second may answer. Beside each of these
+/// answers stands how many lines of the first can have been acknowledged at most where it is given: with more, more would have survived.
 type Row<'a> = (&'a [(&'a str, &'a str)], &'a str, &'a [(&'a str, usize)]);
 
-/// Each line is related to those before it: it is there only with them.
+/// Each line is related to (in conflict with) those before it: it survives a crash only with them.
 const RELATED: Row<'static> = (
     &[
         ("makevol 0 0\n", "done\n"),
@@ -32,7 +33,7 @@ const RELATED: Row<'static> = (
     ],
 );
 
-/// Block 1 is in another stripe: it may be there without what was written to block 0 before.
+/// Block 1 lies in another stripe than block 0: the write to it may survive without an earlier one to block 0.
 const STRIPES: Row<'static> = (
     &[
         ("makevol 0 0\n", "done\n"),
@@ -54,7 +55,7 @@ const STRIPES: Row<'static> = (
     ],
 );
 
-/// Some lines change nothing, and a label may be there without a file before it.
+/// Some lines change nothing; and the label may survive without the file that was created before it.
 const UNCHANGED: Row<'static> = (
     &[
         ("makevol 0 0\n", "done\n"),
@@ -75,8 +76,8 @@ const UNCHANGED: Row<'static> = (
     ],
 );
 
-/// What came of two incarnations: how many lines of the first one were acknowledged, whether it ended without fault, and which of the
-/// states of its `Row` the second one found.
+/// What came of two incarnations: how many lines of the first were acknowledged, whether it ended without a fault, and which of the answers
+/// of its `Row`, by index, the second gave.
 #[derive(Clone, Copy, PartialEq, Eq)]
 struct Found {
     acknowledged: usize,
@@ -84,7 +85,7 @@ struct Found {
     state: usize,
 }
 
-/// How many of these answers were written, one after the other and nothing else.
+/// How many of these answers were written, from the first on. None where anything else was written, or a part of an answer.
 fn acknowledged(lines: &[(&str, &str)], written: &[u8]) -> Option<usize> {
     let mut rest = written;
     let mut count = 0usize;
@@ -98,7 +99,7 @@ fn acknowledged(lines: &[(&str, &str)], written: &[u8]) -> Option<usize> {
     if rest.is_empty() { Some(count) } else { None }
 }
 
-/// The lines that are asked, one after the other.
+/// The lines that are asked, as one input.
 fn asked(alloc: Global, lines: &[(&str, &str)]) -> Result<String, AllocError> {
     let mut input = String::new(alloc);
     for (line, _) in lines {
@@ -107,7 +108,9 @@ fn asked(alloc: Global, lines: &[(&str, &str)]) -> Result<String, AllocError> {
     Ok(input)
 }
 
-/// That the second incarnation answers as the serial server does from a state with each acknowledged line, and without a gap.
+/// Runs both incarnations: the device of the first stops at its n-th call and is torn by the crash of kind `at` (`harness::torn`). Fails
+/// unless the first wrote the answers to its first lines, to all where it had no fault, and the second had no fault and answered as the row
+/// allows after that many.
 fn expect_incarnations<T: System>(rt: &T, row: &Row<'_>, n: u64, at: usize) -> Result<Found, Fail>
     requires { 0 < n }
 {
@@ -148,8 +151,8 @@ fn expect_incarnations<T: System>(rt: &T, row: &Row<'_>, n: u64, at: usize) -> R
     )))
 }
 
-/// What is seen of the incarnations of a `Row`: whether one stopped, whether one did so with some lines acknowledged, and whether two
-/// tearings at one call left two states.
+/// What is seen of the incarnations of a `Row`: whether a first one stopped, whether one did so with some lines acknowledged, and whether
+/// two tearings at one call left different states.
 #[derive(Clone, Copy, Default, PartialEq, Eq)]
 struct Seen {
     stopped: bool,
@@ -167,7 +170,7 @@ impl Seen {
     }
 }
 
-/// What is seen of the incarnations that stop at this call, one for each tearing.
+/// What is seen of the incarnations whose device stops at this call, one for each tearing.
 fn look<T: System>(rt: &T, row: &Row<'_>, n: u64) -> Result<Seen, Fail>
     requires { 0 < n }
 {
@@ -184,8 +187,8 @@ fn look<T: System>(rt: &T, row: &Row<'_>, n: u64) -> Result<Seen, Fail>
     Ok(seen)
 }
 
-/// That it is so at each call, up to one that no first incarnation comes to; and that some stopped with lines acknowledged, and some
-/// tearings left two states.
+/// Tries each call, up to one that no first incarnation comes to. By then some have to have stopped with lines acknowledged, and two
+/// tearings at one call to have left different states.
 fn expect_row<T: System>(rt: &T, row: &Row<'_>) -> Result<(), Fail> {
     let mut seen = Seen::default();
     for n in 1..CALLS {

@@ -51,8 +51,8 @@ error volume
 summary 0 0 0
 ";
 
-/// The arguments, the input's lines and the answers. Rows without options come first, then some with one option, each with what it limits;
-/// the last two give every option its least and its greatest value.
+/// The arguments, the input's lines and the answers. Rows without options come first, then some with one option, each with a line that is
+/// beyond its limit; the last two give every option its least and its greatest value.
 const ANSWERED: [(&str, &str, &str); 15] = [
     (PLAIN, "", ""),
     (PLAIN, MADE, MADE_REPLY),
@@ -116,7 +116,7 @@ fn answers_each_line_with_a_line(rt: HostRuntime) -> Result<(), Fail> {
     Ok(())
 }
 
-/// How many bytes a line has, what comes behind it, and the answers.
+/// How many bytes a line has, what comes after it, and the answers.
 const LONG: [(usize, &[u8], &str); 4] = [
     (1100, b"\nmakevol 0 0\n", "error line\ndone\n"),
     (1101, b"\nmakevol 0 0\n", "error line\ndone\n"),
@@ -136,7 +136,7 @@ fn long_lines_are_one_line(rt: HostRuntime) -> Result<(), Fail> {
 }
 
 /// How lines are given, the lines, the status, the answers, and how a fault is reported: reads of one byte change nothing, each reply is
-/// written before the next read, and a read that fails leaves the answers to whole lines.
+/// written before the next read, and the whole lines before a read that fails are answered.
 const GIVEN: [(Streams, &str, u8, &str, &str); 3] = [
     (Streams::ByteByByte, MADE, 0, MADE_REPLY, ""),
     (Streams::LineByLine, MADE, 0, MADE_REPLY, ""),

@@ -33,10 +33,10 @@ pub(crate) enum Streams {
     /// The output takes nothing.
     ClosedOutput,
 
-    /// The output takes all, and can't pass it on.
+    /// The output takes all that is written, and each flush fails.
     StuckOutput,
 
-    /// Neither the output nor what is printed of faults is taken.
+    /// The output and the standard error refuse what is written.
     AllClosed,
 }
 
@@ -85,7 +85,7 @@ impl Read for Input<'_> {
     }
 }
 
-/// Keeps what it takes, and counts the lines.
+/// An output that keeps what it takes, and counts its lines in `answered`, at which the input looks.
 #[derive(Drop)]
 struct Output<'a> {
     taken: Vec<u8>,
@@ -142,7 +142,7 @@ impl<'a> Call<'a> {
     }
 }
 
-/// How a call ended: its status, what it printed, and what it printed of faults.
+/// How a call ended: its status, and what it printed on the output and (`faults`) on the standard error.
 #[derive(Drop)]
 struct Ended {
     status: u8,
@@ -225,7 +225,7 @@ fn amiss(arguments: &str, ended: &Ended) -> Fail {
     Fail::new(format_args!("{arguments}: {found}, {printed}, {error_text}"))
 }
 
-/// That a call ends so: its status, what it prints, and what it prints of faults.
+/// Fails unless a call ends so: its status, and what it prints on the output and (`faults`) on the standard error.
 pub(crate) fn expect<T: System>(
     rt: &T,
     call: Call<'_>,
@@ -244,6 +244,7 @@ pub(crate) fn expect<T: System>(
     }
 }
 
+/// The options of a geometry, as help prints them.
 const OPTIONS: &str = "
       --aggregates <N>  Aggregates, 1 to 4 [default: 1]
       --volumes <N>     Volumes of each aggregate, 1 to 8 [default: 4]
@@ -255,13 +256,15 @@ const OPTIONS: &str = "
       --half <N>        Records in each half of the log, 4 to 1024 [default: 256]
 ";
 
+/// The options of `serve`, as help prints them.
 const SERVICE: &str = "
       --workers <N>  Threads that run messages, 0 to 64 [default: 2]
       --slots <N>    Lines that are read and whose reply is not sent, 1 to 1024 [default: 16]
       --every <N>    Changes between checkpoints, 0 to 1024; 0 makes them where the log is full [default: 0]
 ";
 
-/// Arguments that ask for help or the version, and a part of what is printed. `tests/run` looks at the kit and the logic in the version.
+/// Arguments that ask for help or the version, and a part of what is printed. `tests/run` tests which kit and which logic the version
+/// names.
 const HELP: [(&str, &str); 24] = [
     ("waffd --help", "Usage: waffd "),
     ("waffd -h", "Usage: waffd "),
@@ -422,7 +425,7 @@ const WRONG: [(&str, Expected<'static>); 48] = [
     ("waffd plain --half 65535", OUT_OF_RANGE),
 ];
 
-/// No line is answered for them.
+/// With wrong arguments no line of the input is answered.
 #[test]
 fn wrong_arguments_are_reported_on_standard_error(rt: HostRuntime) -> Result<(), Fail> {
     for &(arguments, error_text) in &WRONG {
@@ -481,7 +484,7 @@ fn what_cannot_be_written_is_a_write_fault(rt: HostRuntime) -> Result<(), Fail> 
     Ok(())
 }
 
-/// That a fault which was met outside a command has this status and this text.
+/// Fails unless a fault that was met outside a command is reported by this status and this text.
 fn expect_report(found: u8, faults: &[u8], status: u8, error_text: &str) -> Result<(), Fail> {
     if found == status && text(faults) == error_text {
         return Ok(());
@@ -509,7 +512,7 @@ fn unreadable_arguments_are_reported(rt: HostRuntime) -> Result<(), Fail> {
     Ok(())
 }
 
-/// How it is reported that no ticket was left. No test can use up 2^64 - 1 tickets, so the fault is given.
+/// How it is reported that no ticket was left. No test can use up 2^64 - 1 tickets, so the fault is handed to `report`.
 #[test]
 fn that_no_ticket_is_left_has_its_text(rt: HostRuntime) -> Result<(), Fail> {
     let mut faults = Vec::new(rt.alloc());

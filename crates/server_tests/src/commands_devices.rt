@@ -17,7 +17,7 @@ pub(crate) const SERVE: &str = "waffd serve @";
 /// The length of the small device.
 pub(crate) const LEN: usize = 8840;
 
-/// Its header, but for the zeros after.
+/// Its header, but for the zeros after: 1 and WAFFSRV, and the eight numbers of the geometry in two bytes each.
 const HEADER: [u8; 24] = [
     1, 0x57, 0x41, 0x46, 0x46, 0x53, 0x52, 0x56, 1, 0, 1, 0, 2, 0, 1, 0, 2, 0, 4, 0, 2, 0, 4, 0,
 ];
@@ -47,10 +47,15 @@ fn put(bytes: &mut [u8], at: usize, byte: u8) {
     }
 }
 
-/// Bytes that are set in the small device that was just made.
+/// Bytes that are set in the small device after it was made: each is an offset and a byte. Where the parts of this device begin:
+/// - 0: the header; 64: the root byte, which names area 1 if it is 1, else area 0
+/// - 128: the chain byte of half 0; 192: its four gates; 196: its records of 520 bytes
+/// - 2276: the chain byte of half 1; 2340: its gates; 2344: its records
+/// - 4424: the version of image 0; 4488: its piece 0 (of the volume; 4504: the label); 4552, 5592: its pieces 1 and 2 (of the stripes)
+/// - 6632: the version of image 1; 6696: its piece 0 (6704: the files); 6760: its piece 1
 pub(crate) type Changes<'a> = &'a [(usize, u8)];
 
-/// The bytes of the small device, just made, with these set.
+/// The bytes of the small device, just made, with these set. A new one has its header and, in image 0, the version 2.
 pub(crate) fn made_bytes(alloc: Global, changes: Changes<'_>) -> Result<Vec<u8>, AllocError> {
     let mut bytes = vec![in alloc; 0u8; LEN]?;
     for (at, byte) in HEADER.iter().enumerate() {
@@ -69,7 +74,7 @@ pub(crate) fn write_made<T: System>(rt: &T, path: &str, changes: Changes<'_>) ->
     Ok(fs::write(rt, path, bytes.as_slice())?)
 }
 
-/// What is in the file of a device behind a call.
+/// What is in the file of a device after a call.
 #[derive(Clone, Copy, Drop)]
 pub(crate) enum Left<'a> {
     /// It isn't looked at.
@@ -82,7 +87,7 @@ pub(crate) enum Left<'a> {
     Made(Changes<'a>),
 }
 
-/// That a call on the device in a file ends so, and leaves this.
+/// Fails unless a call on the device in a file ends so, and leaves this.
 pub(crate) fn expect_left<T: System>(
     rt: &T,
     call: Call<'_>,
@@ -107,7 +112,7 @@ pub(crate) fn expect_left<T: System>(
     Err(Fail::new(format_args!("{arguments}: other bytes")))
 }
 
-/// That `show` prints this of the device in a file, which stays.
+/// Fails unless `show` prints this of the device in a file, and leaves the file as it was.
 pub(crate) fn expect_shown<T: System>(rt: &T, path: &str, output: &str) -> Result<(), Fail> {
     let call = Call::on(path, SHOW, b"");
     expect_left(rt, call, 0, Expected::Is(output), NOTHING, Left::Same)
@@ -133,7 +138,7 @@ fn a_device_is_made_and_shown(rt: HostRuntime) -> Result<(), Fail> {
     Ok(())
 }
 
-/// Lengths to which the file of a device is cut or made longer, and how it is shown then.
+/// Lengths to which the file of a device is cut or made longer, and the status, the output and the fault of `show` then.
 const LENGTHS: [(u64, u8, &str, &str); 4] = [
     (9000, 0, MADE, ""),
     (8839, 1, "", TOO_SHORT),
@@ -185,7 +190,8 @@ pub(crate) const DAMAGED: [Damage<'static>; 18] = [
     (&[(128, 1), (2276, 1)], "waffd: bad chain\n"),
 ];
 
-/// That a call on a small device with these bytes set ends by this fault, with nothing printed, and leaves that. A refusal does so twice.
+/// Fails unless a call on a small device with the bytes `before` set ends by this fault, with no output, and leaves it with those of
+/// `after` set. Where the device is refused (status 1), a second such call has to do the same.
 fn expect_refusal<T: System>(
     rt: &T,
     path: &str,
@@ -205,7 +211,8 @@ fn expect_refusal<T: System>(
     Ok(())
 }
 
-/// Behind a checkpoint that was cut short there is a bad record: `serve` finishes the checkpoint before it reports that.
+/// The chain byte of half 0 is 1: a cut was in progress. The first record of half 1, which is in force then, is bad: zeros. `serve`
+/// finishes the cut before it reports the record.
 const BAD_BEHIND: Changes<'static> = &[(128, 1), (2340, 1)];
 
 const BAD_RECORD: &str = "waffd: bad record 1 0\n";
@@ -217,8 +224,9 @@ const WITHOUT_WORKERS: &str = "waffd serve @ --workers 0";
 /// A call, what is set in its device, with which status and fault it ends, and what is set afterwards.
 type Refused<'a> = (&'a str, Changes<'a>, u8, &'a str, Changes<'a>);
 
-/// A device is opened before its workers are counted, which leaves a checkpoint of the empty state in the other area: a new one,
-/// one with an image of the first version, and one that is refused.
+/// First `BAD_BEHIND`, with `show` and with `serve`. Then calls without workers: the device is opened before its workers are counted, and
+/// opening makes a checkpoint of its state, the empty one, in area 1. So it is with a new device and with one whose image has version 1;
+/// one that is refused stays as it is.
 const REFUSED: [Refused<'static>; 5] = [
     (SHOW, BAD_BEHIND, 1, BAD_RECORD, BAD_BEHIND),
     (
@@ -276,8 +284,8 @@ fn each_refusal_has_its_text_and_leaves_the_file_so(rt: HostRuntime) -> Result<(
     Ok(())
 }
 
-/// A root byte that names no area 1; an older image; a volume in the log, by its gate and its record; and area 1 named, whose
-/// image has a volume with file 0, of which block 0 is there.
+/// A root byte of 7, which names area 0, since only 1 names area 1; an image of version 1; a volume in the log, by its gate and its record;
+/// and area 1 named, whose image has a volume with file 0, of which block 0 is there.
 const SHOWN: [(Changes<'static>, &str); 4] = [
     (&[(64, 7)], MADE),
     (
@@ -317,8 +325,8 @@ fn no_file_is_made_for_a_geometry_out_of_range(rt: HostRuntime) -> Result<(), Fa
     Ok(())
 }
 
-/// There is no such file, nor such a folder, and a folder is no file. Then the program that runs, which the system lets nobody write,
-/// and a file that it refuses to sync: `show` reads both, and so neither writes nor syncs.
+/// First paths of no file, in no folder, and of a folder. Then the running program, which the system lets nobody write, and a file that the
+/// system refuses to sync: `show` reads both, so it neither writes nor syncs.
 const UNOPENED: [(&str, &str); 11] = [
     ("waffd serve /tmp/waffd_tests_nothing", DEVICE_FAULT),
     (
@@ -350,7 +358,7 @@ fn what_the_system_refuses_is_a_device_fault(rt: HostRuntime) -> Result<(), Fail
     Ok(())
 }
 
-/// The administrator may write such a file: then it is only shown.
+/// The administrator may write such a file nevertheless: then `serve` and `format` are not tried.
 #[test]
 fn a_device_that_may_only_be_read_is_shown(rt: HostRuntime) -> Result<(), Fail> {
     let path = new_path(&rt, "read_only")?;
@@ -378,7 +386,7 @@ fn a_device_that_may_only_be_read_is_shown(rt: HostRuntime) -> Result<(), Fail> 
     Ok(())
 }
 
-/// At once or at the flush.
+/// Calls, and outputs that fail at once or at the flush.
 const UNWRITTEN: [(&str, Streams); 4] = [
     (FORMAT, Streams::ClosedOutput),
     (FORMAT, Streams::StuckOutput),

@@ -28,9 +28,9 @@ const THREE_DONE: &str = "done\ndone\ndone\n";
 
 const TWO_WRITES: &str = "makevol 0 0\ncreate 0 0 0\nwrite 0 0 0 0 61\nwrite 0 0 0 1 62\n";
 
-/// Behind the plain ones: a root byte that names no area 1; a torn gate in the log, behind which no record counts; a point that was
-/// cut short, whose other half has a record of its own; an image of the first version with a volume; and one of the second, whose
-/// volume has a label.
+/// First new devices. Then, with bytes set (`Changes` explains the offsets): a root byte that isn't 1 and so names area 0; a torn gate in
+/// the log, after which no record counts; area 1 named, a cut in progress (the chain byte of half 1 is 1), and a record in each half; an
+/// image of version 1 with a volume; and one of version 2, whose volume has a label.
 const INCARNATIONS: [Incarnation<'static>; 11] = [
     (&[], SERVE, "", "", 0, "0 0 0"),
     (
@@ -123,7 +123,8 @@ const INCARNATIONS: [Incarnation<'static>; 11] = [
     ),
 ];
 
-/// That `show` prints this of the device in a file, and that the next run goes on from there, also behind one whose output is closed.
+/// Fails unless `show` prints this of the device in a file, the next run goes on from there, and so does one after a run whose output was
+/// closed.
 fn expect_next<T: System>(
     rt: &T,
     path: &str,
@@ -189,7 +190,7 @@ fn a_fault_of_the_input_leaves_the_changes_in_the_log(rt: HostRuntime) -> Result
     Ok(())
 }
 
-/// Lines of each kind, with each refusal, and lines that are none, with their answers. Each part begins and ends with no volume.
+/// Messages of each kind, with each refusal, and lines that are no messages, with their answers. Each part begins and ends with no volume.
 const LINES: [(&[u8], &str); 9] = [
     (b"list 0 0\nsummary\n", "error volume\nsummary 0 0 0\n"),
     (
@@ -334,7 +335,8 @@ done
     ),
 ];
 
-/// Lines that are too long to be written out: the beginning of each, how many times which text comes then, and its answer.
+/// Lines that are too long to be written out here: the beginning of each, how often the text after it is repeated, that text, and the
+/// answer.
 const LONG: [(&str, usize, &str, &str); 5] = [
     ("write 0 0 0 0 ", 513, "61", "error line\n"),
     ("setlabel 0 0 ", 33, "61", "error line\n"),
@@ -344,7 +346,7 @@ const LONG: [(&str, usize, &str, &str); 5] = [
     ("summary", 0, "", "summary 0 0 0\n"),
 ];
 
-/// All these lines.
+/// The lines of `LINES` and `LONG`, as one input.
 fn all_lines(alloc: Global) -> Result<Vec<u8>, AllocError> {
     let mut lines = Vec::new(alloc);
     for &(part, _) in &LINES {
@@ -362,7 +364,7 @@ fn all_lines(alloc: Global) -> Result<Vec<u8>, AllocError> {
     Ok(lines)
 }
 
-/// What is answered to them.
+/// The answers to them.
 fn all_replies(alloc: Global) -> Result<String, AllocError> {
     let mut replies = String::new(alloc);
     for &(_, error_text) in &LINES {
@@ -374,7 +376,7 @@ fn all_replies(alloc: Global) -> Result<String, AllocError> {
     Ok(replies)
 }
 
-/// The serial server, and others.
+/// The serial server, and servers on a device with several numbers of workers, slots and records between checkpoints.
 const SERVERS: [&str; 12] = [
     "waffd plain --volumes 1 --stripes 2 --width 1 --files 2 --blocks 4 --quota 2",
     "waffd serve @ --workers 1 --slots 1",
@@ -405,7 +407,7 @@ fn each_server_answers_the_same(rt: HostRuntime) -> Result<(), Fail> {
     Ok(())
 }
 
-/// What a longer file has behind the device.
+/// What a longer file has after the bytes of the device.
 const BEHIND: &[u8] = b"these bytes are not of the device";
 
 #[test]

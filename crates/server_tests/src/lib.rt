@@ -1,6 +1,7 @@
 //! Tests of the server and of the program's commands by their public surfaces, over devices in memory and in files, and with threads.
-//! Shared by the others: serving_running (whole calls of a server), serving_noting (devices and streams that note what is done with them)
-//! and serving_drawing (lines drawn from a seed).
+//! Shared by other modules: serving_running (whole calls of a server), serving_noting (devices and streams that note what is done with
+//! them), serving_drawing (lines drawn from a seed), serving_images (what a served device holds), commands_calls (a call of the program
+//! with its streams in memory) and commands_devices (a small device in a file).
 #![tactic(auto)]
 
 #[cfg(test)]

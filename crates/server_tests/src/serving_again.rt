@@ -1,4 +1,4 @@
-//! A second call of a server, on the core that the first one gave back; and one behind a call for which memory was refused.
+//! A second call of `serve`, on the core that the first one gave back; and one after a call for which memory was refused.
 ghost use Rattle.std.specs.Prelude.{◌≡◌, false, IfOk, IsTrue};
 ghost use Rattle.legal_runs.specs.Laws.{IsIdle};
 ghost use Rattle.scheduler.specs.CoreView.{core_state_of};
@@ -20,11 +20,11 @@ const FIRST: &[u8] = b"makevol 0 0\ncreate 0 0 0\nwrite 0 0 0 0 61\n";
 
 const SECOND: &[u8] = b"read 0 0 0 0\nwrite 0 0 0 1 62\nread 0 0 0 1\n";
 
-/// What both are answered.
+/// The answers to both inputs.
 const ANSWERS: &[u8] = b"done\ndone\ndone\nblock 61\ndone\nblock 62\n";
 
-/// Whether the first input can't be read to its end, whether a cut is begun after it, and which area is named in the end:
-/// opening names area 1, and each checkpoint the other one. An input that ends has a checkpoint after it.
+/// Whether a read fails at the end of the first input, whether a cut is begun after it, and which area is named at last: opening names area
+/// 1, and each checkpoint the other area. A checkpoint is made at the end of an input, unless a read failed there.
 const TWICE: [(bool, bool, usize); 4] = [
     (false, false, 1),
     (true, false, 0),
@@ -38,7 +38,7 @@ fn unfit(core: Core<MemDisk>) -> Wrong {
     Wrong::Unfit
 }
 
-/// Serves the first input, at whose end the reader fails, or doesn't.
+/// Serves the first input, at whose end a read fails if `fails`.
 fn serve_first<T: Threads + Wait + Sync>(
     rt: &T,
     alloc: Global,
@@ -80,7 +80,7 @@ fn serve_first<T: Threads + Wait + Sync>(
     }
 }
 
-/// Begins a cut, if one is wanted: whether all is well.
+/// Begins a cut, if `cuts`. Returns false where the core couldn't begin it.
 fn begin_cut(core: &mut Core<MemDisk>, cuts: bool) -> bool
     requires idle { IsIdle (core_state_of core.old) }
     requires works { core.old.failed ≡ false }
@@ -96,7 +96,7 @@ fn begin_cut(core: &mut Core<MemDisk>, cuts: bool) -> bool
     }
 }
 
-/// Serves both inputs on one core: the device and what was answered.
+/// Serves both inputs on one core. Returns the device and the answers.
 fn serve_twice<T: Threads + Wait + Sync>(
     rt: &T,
     alloc: Global,
@@ -141,7 +141,8 @@ fn a_core_that_came_back_is_served_on(rt: HostRuntime) -> Result<(), Fail> {
     Ok(())
 }
 
-/// Serves the first input. Where memory is refused nothing was read or written, and the core that is given back is served on.
+/// Serves the first input. Where memory is refused, nothing may have been read or written, and the same input is served with the core that
+/// was given back.
 fn serve_at_next_try<T: Threads + Wait + Sync>(
     rt: &T,
     alloc: Global,

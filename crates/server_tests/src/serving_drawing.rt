@@ -1,7 +1,7 @@
 //! Lines that are drawn from a seed.
 use std::alloc::{AllocError, Global};
 
-/// Numbers that follow one another from a seed.
+/// Pseudorandom numbers from a seed, each made from the one before.
 #[derive(Drop)]
 struct Draw {
     state: u64,
@@ -12,7 +12,7 @@ impl Draw {
         Draw { state: seed }
     }
 
-    /// The next number, below this one.
+    /// The next number, below `end`.
     fn below(&mut self, end: u64) -> u64 {
         self.state = self
             .state
@@ -21,7 +21,7 @@ impl Draw {
         (self.state >> 33) % end.max(1)
     }
 
-    /// A digit below this number, smaller ones more often.
+    /// A digit below `end`, smaller ones more often.
     fn digit(&mut self, end: u64) -> u8 {
         let most = self.below(end).saturating_add(1);
         b'0' + (self.below(most) % 10) as u8
@@ -52,7 +52,7 @@ const KINDS: [(&[u8], usize, usize); 20] = [
     (b"label", 2, 0),
 ];
 
-/// One line. Its numbers are digits below `end`, and one line of 32 is no message.
+/// Adds one line. Its numbers are digits below `end`. One line of 32, on average, ends in a blank, so it is no message.
 fn add_line(draw: &mut Draw, end: u64, lines: &mut Vec<u8>) -> Result<(), AllocError> {
     let kind = draw.below(20) as usize;
     let (word, numbers, digits) = KINDS[kind % KINDS.len()];
@@ -74,7 +74,7 @@ fn add_line(draw: &mut Draw, end: u64, lines: &mut Vec<u8>) -> Result<(), AllocE
     Ok(())
 }
 
-/// Lines whose numbers are digits below `end`, after the ones that make a volume with two files.
+/// `count` lines whose numbers are digits below `end`, after three that make a volume with two files.
 pub(crate) fn draw_lines(
     alloc: Global,
     seed: u64,

@@ -1,4 +1,4 @@
-//! Servers on devices that fail or stop at any call, and are torn after that.
+//! Servers on devices that fail at any one call, or stop there and are torn by a crash after that.
 use crate::serving_noting::Notes;
 use crate::serving_running::{ALL_AT_ONCE, End, Left, SMALL, Way, holds, session};
 use affinity::Geometry;
@@ -14,7 +14,8 @@ use std::test::Fail;
 use std::thread::Threads;
 use workers::OpenGate;
 
-/// Changes that are done. Those at 2 and 3, and at 5 and 6, are unrelated; any others are related.
+/// Changes, each of which is done after those before it. Two that follow each other are related, but for those at 2 and 3, and at 5 and 6;
+/// the one at 4 is related to all of these four.
 const CHANGES: [&str; 10] = [
     "makevol 0 0",
     "create 0 0 0",
@@ -28,7 +29,8 @@ const CHANGES: [&str; 10] = [
     "unseal 0 0",
 ];
 
-/// Orders in which they may be logged: any other order leaves at each point a state that one of these leaves.
+/// Orders in which they may be logged. Two more are possible, in which only one of the two pairs is swapped: after each number of changes
+/// these have a state that one of the orders here has.
 const ORDERS: [[usize; 10]; 2] = [
     [0, 1, 2, 3, 4, 5, 6, 7, 8, 9],
     [0, 1, 3, 2, 4, 6, 5, 7, 8, 9],
@@ -37,7 +39,7 @@ const ORDERS: [[usize; 10]; 2] = [
 /// Some changes, and what a server answers to the questions after them.
 #[derive(Drop)]
 struct Known {
-    /// The sum of 2 to the power of each one's index.
+    /// A bit mask of the changes: bit i for the one at i in `CHANGES`.
     changes: u32,
     replies: Vec<u8>,
 }
@@ -47,15 +49,16 @@ struct Known {
 struct Play {
     /// To how many of the changes the device recovers.
     recovered_changes: usize,
+    /// The other changes, as the input.
     lines: Vec<u8>,
     /// The device before anything is served on it.
     initial_bytes: Vec<u8>,
     questions: Questions,
-    /// First those after 0 to 10 changes in the order of `CHANGES`.
+    /// What is known after the first 0 to 10 changes, for each of the `ORDERS`.
     known: Vec<Known>,
 }
 
-/// What is known after the changes of this order.
+/// What is known after these changes (indices in `CHANGES`) in this order.
 fn known_after(
     alloc: Global,
     g: &Geometry,
@@ -75,7 +78,7 @@ fn known_after(
     Ok(Known { changes, replies })
 }
 
-/// The sum of 2 to the power of each number below this one.
+/// The bit mask of the first `count` changes.
 fn first(count: usize) -> u32 {
     let mut sum = 0u32;
     for _ in 0..count {
@@ -85,7 +88,7 @@ fn first(count: usize) -> u32 {
 }
 
 impl Play {
-    /// One on a device that was formatted, with other bytes at some places, so that it recovers to a prefix of the changes.
+    /// A play on a device that was formatted and has these patches set, so that it recovers to as many of the changes.
     fn new(
         alloc: Global,
         patches: &[(usize, u8)],
@@ -125,7 +128,7 @@ impl Play {
         known.any(|known| known.changes & acknowledged == acknowledged && known.replies == *replies)
     }
 
-    /// Serves on a device that fails at this call, and gives what a crash leaves.
+    /// Serves on a device that fails at the call of this crash. Returns how that went, and what the crash leaves.
     fn meet<T: Threads + Wait + Sync>(
         &self,
         rt: &T,
@@ -153,7 +156,7 @@ impl Play {
             output: _output,
         } = left;
         let is_faultless = device.calls() < n;
-        // No call follows the one that failed, also where the core that was given back is asked for more.
+        // No call of the device follows the one that failed, even where the core that was given back is asked for more.
         let is_last = is_faultless || device.calls() == n;
         let is_reported = is_last
             && is_fault_reported(end, is_faultless)
@@ -173,7 +176,8 @@ impl Play {
     }
 }
 
-/// What a crash leaves of a device. No fault is injected into the one that is opened.
+/// The device that a crash leaves; where there is none (kind `KINDS`), one of the same bytes. No fault is injected into the device
+/// returned.
 fn left_of(alloc: Global, device: MemDisk, crash: Crash) -> Result<MemDisk, Wrong> {
     if crash.kind < KINDS {
         Ok(device.crash(torn(alloc, crash.kind)?))
@@ -182,7 +186,7 @@ fn left_of(alloc: Global, device: MemDisk, crash: Crash) -> Result<MemDisk, Wron
     }
 }
 
-/// Makes the call of this crash fail (kind `KINDS`: it alone), or stops the device from it on. Returns the call's number.
+/// Makes the device stop at the call of this crash; if its kind is `KINDS`, that call alone fails. Returns the call's number.
 fn set_injected_fault(device: &mut MemDisk, crash: Crash) -> u64 {
     let n = crash.call.max(1);
     if crash.kind < KINDS {
@@ -193,8 +197,8 @@ fn set_injected_fault(device: &mut MemDisk, crash: Crash) -> u64 {
     n
 }
 
-/// Whether no reply was written before its record was synced, and fewer synced changes than there are workers have no reply yet: each of
-/// these comes after one that another worker still has.
+/// Whether no reply was written before its record was synced, and at the end of the session fewer changes are synced without a written
+/// reply than there are workers: each of these has overtaken a change that another worker had, whose reply comes before its own.
 fn only_synced_are_acknowledged(notes: &Notes, way: Way) -> bool {
     let unacknowledged = notes.logged.get().saturating_sub(notes.taken.get());
     !notes.is_early.get() && unacknowledged < way.workers as u64
@@ -203,20 +207,21 @@ fn only_synced_are_acknowledged(notes: &Notes, way: Way) -> bool {
 /// What came of a session whose device was to fail.
 #[derive(Drop)]
 struct Met {
-    /// It ended before that.
+    /// It ended before the call that was to fail.
     is_faultless: bool,
-    /// Lines were written, and records are in the half behind the one that is named.
+    /// Two replies or more were written, and `is_chained` held of the device's bytes before the crash.
     is_chained: bool,
-    /// How many lines were written.
+    /// How many replies were written.
     acknowledged: usize,
-    /// The device behind the crash.
+    /// The device after the crash, if there was one.
     left: MemDisk,
 }
 
 /// Where the chain byte of a half lies, and the first gate of the other one.
 const CHAINED: [(usize, usize); 2] = [(128, 2340), (2276, 192)];
 
-/// Whether a half is open to the other one behind it, and that has a record.
+/// Whether the chain byte of a half is 1, and the first gate of the other half is open: a record was logged since a cut began. The root
+/// byte isn't looked at, so this holds during the cut and after its flip, until the next checkpoint clears the half with the chain byte.
 fn is_chained(bytes: &[u8]) -> bool {
     CHAINED.iter().any(|(chain, gate)| bytes.get(*chain) == Some(&1)
         && bytes.get(*gate) == Some(&1))
@@ -235,21 +240,22 @@ fn is_fault_reported(end: End, is_faultless: bool) -> bool {
 /// More calls than a session has.
 const MOST_CALLS: u64 = 1000;
 
-/// Devices that were opened, of which those with the same bytes are opened once.
+/// What was found on the devices that were opened: those with the same bytes are opened once.
 #[derive(Drop)]
 struct Openings {
     seen: Vec<Seen>,
 }
 
 impl Openings {
-    /// The place of a device of these bytes among the opened ones.
+    /// The index in `seen` of a device of these bytes.
     fn index_of(&self, bytes: &[u8]) -> Option<usize> {
         self.seen
             .iter()
             .position(|seen| seen.bytes.as_slice() == bytes)
     }
 
-    /// Opens the device that a crash left, also stopped at each of its calls and torn again, and gives its place.
+    /// Opens the device that a crash left, unless one with its bytes was opened before. That opening is also stopped at each of its calls,
+    /// and what a second crash leaves is opened again (`harness::reopen`). Returns the index in `seen`.
     fn open(
         &mut self,
         alloc: Global,
@@ -283,8 +289,9 @@ impl Openings {
     }
 }
 
-/// Lets a session meet a fault at each call of the device, with a crash of each kind behind it, and with none, where the call fails
-/// alone. At some of them records are in both halves.
+/// Serves on a device with a fault at each of its calls in turn: for each kind of crash once with the device stopped there and then
+/// crashed, and once with that call failing alone. What is found after that has to be allowed. One session at least has to be
+/// `Met::is_chained`.
 fn survives<T: Threads + Wait + Sync>(
     rt: &T,
     alloc: Global,
@@ -349,7 +356,8 @@ const THREE: &[u8] = b"makevol 0 0\ncreate 0 0 0\nwrite 0 0 0 0 61\n";
 const TWO_DONE: &[u8] = b"done\ndone\n";
 
 /// Serves three changes with one worker and a checkpoint (a cut) after each, on a device that stops at its n-th call. Returns whether that
-/// was met, and whether two lines were written while the chain of half 1 was open and half 0 had a record behind it.
+/// call was made, and whether it ended the session after two replies were written, while the chain byte of half 1 was 1 and the first gate
+/// of half 0 open: so they are from the second change on, until the second cut clears half 1.
 fn stops_in_a_cut<T: Threads + Wait + Sync>(
     rt: &T,
     alloc: Global,
@@ -394,9 +402,10 @@ fn a_device_stops_with_records_in_both_halves(rt: HostRuntime) -> Result<(), Fai
     Err(Wrong::Endless.into())
 }
 
-/// Patches of a formatted device (at 4424 the version of image 0, at 4488 its first piece; at 128, 192 and 2340 a chain byte and gates, and
-/// then records), and to how many changes the device then recovers: none; and three, where a cut was in progress: the image has the volume,
-/// half 0 the file, and half 1 behind it the block.
+/// Patches of a formatted device, and to how many changes it then recovers. At 4424 lies the version of image 0, at 4488 its first piece,
+/// at 128 the chain byte of half 0, at 192 and 2340 the first gates of both halves, at 196 and 2344 their first records. The first device
+/// has an empty image of version 1. On the second a cut was in progress: such an image has the volume, half 0 the file, and half 1, which
+/// is in force after it, the block.
 const OLD_IMAGES: [(&[(usize, u8)], usize); 2] = [
     (&[(4424, 1)], 0),
     (

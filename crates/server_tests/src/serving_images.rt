@@ -1,4 +1,4 @@
-//! Long lines, and what is in the image at the end of a service, at several numbers of workers and slots.
+//! Long lines, and what the image has when serving has ended, with several numbers of workers and slots.
 use crate::serving_running::{SMALL, Way, holds, serial, serve_lines, writes};
 use checkpoint::{OpenFault, inspect};
 use disk::MemDisk;
@@ -10,7 +10,7 @@ use std::sync::Wait;
 use std::test::Fail;
 use std::thread::Threads;
 
-/// These lines are answered so, however many workers and slots there are.
+/// Fails unless these lines are answered so, by the serial server and with several numbers of workers and slots.
 fn answers<T: Threads + Wait + Sync + Abort>(
     rt: &T,
     alloc: Global,
@@ -33,7 +33,7 @@ fn answers<T: Threads + Wait + Sync + Abort>(
     Ok(())
 }
 
-/// This line with this many bytes of this kind behind it.
+/// This line, and then `count` times this byte.
 fn long_line(alloc: Global, line: &[u8], byte: u8, count: usize) -> Result<Vec<u8>, AllocError> {
     let mut long = line.to_vec(alloc)?;
     for _ in 0..count {
@@ -42,8 +42,8 @@ fn long_line(alloc: Global, line: &[u8], byte: u8, count: usize) -> Result<Vec<u
     Ok(long)
 }
 
-/// What lines begin with, what is behind and how often, and where they end: too much data, too long a label, a line as long as may be
-/// and a longer one, and a last line without an end that is longer by far.
+/// How a line begins, the byte that follows and how often, and how it ends: too much data, too long a label, a line of the greatest length
+/// and one that is a byte longer, and a last line, without a newline, that is longer by far.
 const LONG_LINES: [(&[u8], u8, usize, &[u8]); 5] = [
     (b"write 0 0 0 0 ", b'6', 1026, b"\n"),
     (b"setlabel 0 0 ", b'6', 66, b"\n"),
@@ -62,14 +62,15 @@ fn lines_that_are_too_long_are_answered(rt: HostRuntime) -> Result<(), Fail> {
     Ok(())
 }
 
-/// A device that was formatted, with other bytes at some places; lines, and after how many records a checkpoint; and then the area
-/// that is named, and how many volumes, files and blocks there are. Opening names area 1, and each checkpoint the other one.
+/// Patches (offset and byte) of a device that was formatted; the lines that are served on it, and after how many records a checkpoint is
+/// due (0: only where the log is full); and then the area that is named at last, and how many volumes, files and blocks there are. Opening
+/// names area 1, and each checkpoint the other area; one is made at the end of the input.
 const LEAVES: [(&[(usize, u8)], &[u8], u64, usize, [u32; 3]); 5] = [
     (&[], b"", 0, 0, [0, 0, 0]),
     (&[], THREE_CHANGES, 0, 0, [1, 1, 1]),
-    // A checkpoint is due with the second record, not after it.
+    // A checkpoint is due once two records are logged, not only with a third.
     (&[], TWO_CHANGES, 2, 1, [1, 1, 0]),
-    // Images of version 1, the second with a volume.
+    // The image has version 1 (its version lies at 4424); in the second row it has a volume (at 4488).
     (&[(4424, 1)], b"", 0, 0, [0, 0, 0]),
     (&[(4424, 1), (4488, 1)], b"label 0 0\n", 0, 0, [1, 0, 0]),
 ];
@@ -78,7 +79,8 @@ const TWO_CHANGES: &[u8] = b"makevol 0 0\ncreate 0 0 0\n";
 
 const THREE_CHANGES: &[u8] = b"makevol 0 0\ncreate 0 0 0\nwrite 0 0 0 0 61\n";
 
-/// Where lines were served to their end, this area is named, and there is so much in it, and no record after it.
+/// Looks at a device on which lines were served to their end: fails the test unless this area is named, its image has version 2 and so many
+/// volumes, files and blocks, and no record is in force.
 pub(crate) fn leaves(
     rt: &impl Abort,
     alloc: Global,

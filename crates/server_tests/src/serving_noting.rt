@@ -4,7 +4,7 @@ use std::io;
 use std::io::{ErrorKind, Read, Write};
 use std::sync::atomic::{AtomicBool, AtomicU64, Ordering};
 
-/// A number that every thread may look at, and one adds to.
+/// A number at which every thread may look, and which only one thread changes.
 #[derive(Drop)]
 pub(crate) struct Count(AtomicU64);
 
@@ -26,7 +26,7 @@ impl Count {
     }
 }
 
-/// Whether something has come, which every thread may look at.
+/// Whether something has happened: every thread may look at it.
 #[derive(Drop)]
 pub(crate) struct Flag(AtomicBool);
 
@@ -47,16 +47,16 @@ impl Flag {
 /// What a device, a reader and a writer of one server have seen.
 #[derive(Drop)]
 pub(crate) struct Notes {
-    /// Gates of records that were written since the last sync.
+    /// Gates that were opened (1 was written to them) since the last sync.
     unsynced: Count,
-    /// Records whose gates were synced.
+    /// Gates that were opened and then synced: the records that count.
     pub(crate) logged: Count,
-    /// Chain bytes that became 1.
+    /// How often 1 was written to a chain byte: the cuts that began.
     pub(crate) cuts: Count,
-    /// How often the root byte was written.
+    /// How often the root byte was written: by the opening, and at the end of each checkpoint.
     pub(crate) points: Count,
     pub(crate) syncs: Count,
-    /// Writes into the images of a server with 64 records in a half.
+    /// Writes at or after `IMAGES`: of a server with 64 records in a half, the pieces of images.
     pub(crate) pieces: Count,
     pub(crate) reads: Count,
     /// Writes and flushes of the output.
@@ -65,13 +65,13 @@ pub(crate) struct Notes {
     given: Count,
     /// Lines that the writer took.
     pub(crate) taken: Count,
-    /// Lines that it took before its last flush.
+    /// Lines that the writer took before its last flush.
     pub(crate) flushed: Count,
     /// Whether the writer has failed.
     failed: Flag,
     /// Whether a line was written before its record was synced.
     pub(crate) is_early: Flag,
-    /// Whether the input was read while a line was not answered, or while its answer was not flushed.
+    /// Whether the input was read while a line that the reader had given had no answer, or one that wasn't flushed.
     pub(crate) is_late: Flag,
     /// Whether something was read or written after a fault of the writer.
     pub(crate) is_deaf: Flag,
@@ -103,7 +103,7 @@ impl Notes {
         }
     }
 
-    /// Something was read or written.
+    /// Notes that something is read or written, which is wrong once the writer has failed.
     fn note_stream(&self) {
         if self.failed.get() {
             self.is_deaf.set();
@@ -118,13 +118,13 @@ const ROOT: u64 = 64;
 /// 520 for a record.
 const IMAGES: u64 = 128 + 2 * (64 + 64 + 64 * 520);
 
-/// Where the chain bytes of the two halves of the small server lie.
+/// Where the chain bytes of the two halves of the small server (`SMALL`) lie.
 const CHAINS: [u64; 2] = [128, 2276];
 
-/// Where the gates of the records lie in the two halves of the small server, each with the first byte after them.
+/// Where the gates of each half of the small server begin, and where they end.
 const GATES: [(u64, u64); 2] = [(192, 196), (2340, 2344)];
 
-/// How many gates of records are opened where these bytes are written from here on.
+/// How many gates are opened by writing these bytes from offset `at` on.
 fn gates_in(at: u64, bytes: &[u8]) -> u64 {
     let mut count = 0u64;
     for (number, byte) in bytes.iter().enumerate() {
@@ -139,12 +139,12 @@ fn gates_in(at: u64, bytes: &[u8]) -> u64 {
     count
 }
 
-/// Whether a chain byte becomes 1 where these bytes are written from here on.
+/// Whether a chain byte becomes 1 by writing these bytes from offset `at` on.
 fn opens_chain(at: u64, bytes: &[u8]) -> bool {
     CHAINS.contains(&at) && bytes.first() == Some(&1)
 }
 
-/// A device that passes each call on to another one, and notes it. Contracts know nothing of what it keeps.
+/// A device that passes each call on to another one, and notes it. No contract says that it behaves as the device model: its `keeps` is ⊥.
 #[derive(Drop)]
 pub(crate) struct Noting<'a, D: Disk> {
     pub(crate) device: D,
@@ -187,7 +187,8 @@ impl<D: Disk> Disk for Noting<'_, D> {
     ghost bytes = { λ n. D.bytes n.device };
 }
 
-/// Gives its bytes in pieces of this size. At their end it fails, or there is nothing more.
+/// A reader that gives its bytes, `size` at a time: these are no pieces of an image. At their end a read fails if `fails`, else it gives
+/// nothing.
 #[derive(Drop)]
 pub(crate) struct Pieces<'a> {
     pub(crate) left: &'a [u8],
@@ -215,7 +216,7 @@ impl Read for Pieces<'_> {
     }
 }
 
-/// Takes at most this many bytes at a time. The n-th call fails, where n is not 0.
+/// A writer that takes at most `size` bytes at a time. Its call number `fails_at`, a write or a flush, fails, unless that is 0.
 #[derive(Drop)]
 pub(crate) struct Taking<'a> {
     pub(crate) output: Vec<u8>,
@@ -225,7 +226,7 @@ pub(crate) struct Taking<'a> {
 }
 
 impl Taking<'_> {
-    /// One more call, which fails or doesn't.
+    /// Notes one more call, and fails if it is number `fails_at`.
     fn call(&mut self) -> io::Result<()> {
         self.notes.note_stream();
         self.notes.writes.add(1);

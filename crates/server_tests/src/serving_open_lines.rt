@@ -15,7 +15,7 @@ use workers::OpenGate;
 /// How many lines there are; each takes a ticket.
 const MANY: usize = 500;
 
-/// These lines. Neighbors are unrelated.
+/// `MANY` lines. Neighbors are unrelated.
 fn reads(alloc: Global) -> Result<Vec<u8>, AllocError> {
     let mut lines = Vec::new(alloc);
     for _ in 0..MANY / 4 {
@@ -24,8 +24,8 @@ fn reads(alloc: Global) -> Result<Vec<u8>, AllocError> {
     Ok(lines)
 }
 
-/// Serves these lines to a writer whose n-th call fails: how many were read by then, which is the next ticket, and how many of their
-/// answers were written and flushed.
+/// Serves these lines to a writer whose n-th call fails. Returns how many were read by then, which is the ticket that the core gives next,
+/// and how many of their answers were written and flushed.
 fn stopped_at<T: Threads + Wait + Sync>(
     rt: &T,
     alloc: Global,
@@ -61,7 +61,7 @@ fn stopped_at<T: Threads + Wait + Sync>(
     }
 }
 
-/// How many calls of the writer are tried.
+/// The calls of the writer before this one are made to fail, each in its turn.
 const CALLS: u64 = 12;
 
 #[test]

@@ -10,7 +10,7 @@ use std::thread;
 use std::thread::Threads;
 use workers::Gate;
 
-/// Holds the jobs of these tickets until the message with the ticket behind them is answered.
+/// Keeps the jobs with tickets from `first` on and below `last` waiting in their workers, until the message with ticket `last` is answered.
 #[derive(Drop)]
 struct Holding {
     first: u64,
@@ -42,15 +42,15 @@ impl Gate for Holding {
     }
 }
 
-/// Messages of which some are held until the one behind them is answered.
+/// Messages, some of which are kept waiting in their workers until the one after them is answered.
 #[derive(Clone, Copy)]
 struct AtOnce {
-    /// The geometry of the server.
+    /// The geometry of the server, its numbers in the order of `format`'s options.
     numbers: [u16; 8],
     lines: &'static [u8],
     workers: usize,
     slots: usize,
-    /// The first message that is held, and the one behind the last.
+    /// The ticket of the first message that is kept waiting, and of the one after the last such (counted from 0).
     first: u64,
     last: u64,
     tries: u32,
@@ -61,7 +61,7 @@ struct AtOnce {
 /// One volume of one file of four blocks, each in a stripe of its own.
 const FOUR: [u16; 8] = [1, 1, 4, 1, 1, 4, 1, 8];
 
-/// The last message is answered while a worker has each of those that are held.
+/// In each row message `last` is answered while each of those that are kept waiting is in flight with a worker.
 const AT_ONCE: [AtOnce; 6] = [
     AtOnce {
         numbers: SMALL,
@@ -83,7 +83,8 @@ const AT_ONCE: [AtOnce; 6] = [
         tries: 1_000_000,
         want: b"done\ndone\ndone\ndone\n",
     },
-    // The answer to message 0 waits with two lines behind it. It is sent, since message 3 could not be read else.
+    // With three slots message 3 can't be read before the answer to message 0 is sent: so that is sent while messages 1 and 2 are kept
+    // waiting.
     AtOnce {
         numbers: FOUR,
         lines: b"punch 0 0 0 0\npunch 0 0 0 1\npunch 0 0 0 2\npunch 0 0 0 3\n",
@@ -94,7 +95,7 @@ const AT_ONCE: [AtOnce; 6] = [
         tries: 16_000_000,
         want: b"done\ndone\ndone\ndone\n",
     },
-    // Busy processors may be slow to answer while seven jobs are held.
+    // While seven jobs are kept waiting, busy processors may be slow to answer the eighth message: so each job has more tries.
     AtOnce {
         numbers: FLAT,
         lines: b"punch 0 0 0 0\npunch 0 0 0 1\npunch 0 0 0 2\npunch 0 0 0 3\npunch 0 0 0 4\npunch 0 0 0 5\npunch 0 0 0 6\npunch 0 0 0 7\n",
@@ -129,8 +130,8 @@ const AT_ONCE: [AtOnce; 6] = [
 
 const A_FILE: &[u8] = b"makevol 0 0\ncreate 0 0 0\n";
 
-/// Serves these lines where there is a file, and gives what they are answered. `Endless` where the last isn't answered while
-/// each of the others is held.
+/// Serves these lines where there is a file, and returns their answers. `Endless` where a job gave up waiting for the answer to message
+/// `last`, or the session ended with a fault.
 fn runs_at_once<T: Threads + Wait + Sync>(
     rt: &T,
     alloc: Global,

@@ -16,24 +16,24 @@ use workers::Gate;
 /// One volume of one file of eight blocks, each in a stripe of its own, and 64 records in a half.
 const WIDE: [u16; 8] = [1, 1, 8, 1, 1, 8, 1, 64];
 
-/// A point is due after eight records: while the pieces of eight blocks are written into an image, the next eight blocks come.
+/// A checkpoint is due after eight records: while it writes the pieces of eight stripes into an image, the next eight writes come.
 const EIGHT: Way = Way {
     workers: 8,
     slots: 8,
     every: 8,
 };
 
-/// Looks at the device when a message is answered. Between two answers for which the log was written in one go there is one piece
-/// at most.
+/// Looks at the device when a message is answered. Between two answers without a sync between them, whose messages were logged together,
+/// one piece of an image is written at most.
 #[derive(Drop)]
 struct Stepwise<'a> {
     notes: &'a Notes,
-    /// How many syncs there were at the last answer, and how many pieces.
+    /// How many syncs there were by the last answer, and how many pieces were written.
     syncs: Count,
     pieces: Count,
-    /// How often there was one piece between two such answers.
+    /// How often one piece was written between two such answers.
     steps: Count,
-    /// Whether there were more.
+    /// Whether there were more between two of them.
     is_amiss: Flag,
 }
 
@@ -54,7 +54,7 @@ impl Gate for Stepwise<'_> {
     }
 }
 
-/// A write of each block: they are unrelated.
+/// A write of each block; any two are unrelated.
 const EIGHT_WRITES: &[u8] = b"write 0 0 0 0 61
 write 0 0 0 1 61
 write 0 0 0 2 61
@@ -65,10 +65,10 @@ write 0 0 0 6 61
 write 0 0 0 7 61
 ";
 
-/// How often they come.
+/// How often these eight writes come.
 const ROUNDS: u64 = 100;
 
-/// A file and the writes of its blocks, and what they are answered.
+/// The lines that make a file and write its blocks, and their answers.
 fn lines(alloc: Global) -> Result<(Vec<u8>, Vec<u8>), AllocError> {
     let mut lines = b"makevol 0 0\ncreate 0 0 0\n".to_vec(alloc)?;
     let mut answers = b"done\ndone\n".to_vec(alloc)?;
@@ -110,14 +110,15 @@ fn one_piece_is_written_behind_each_answer(rt: HostRuntime) -> Result<(), Fail> 
 
 const A_FILE: &[u8] = b"makevol 0 0\ncreate 0 0 0\n";
 
-/// A point is due after each change.
+/// A checkpoint is due after each change.
 const EACH: Way = Way {
     workers: 2,
     slots: 16,
     every: 1,
 };
 
-/// How many pieces the first point on an opened device writes: those of the stripes and of the volume.
+/// How many pieces the first checkpoint writes after a device was opened, where all are dirty: those of the eight stripes and of the
+/// volume.
 const PIECES: u64 = 9;
 
 /// A device with a file.
@@ -130,11 +131,11 @@ fn with_a_file<T: Threads + Wait + Sync>(rt: &T, alloc: Global) -> Result<MemDis
 /// How often a job looks whether a piece was written, before it goes on.
 const LOOKS: u32 = 1_000_000;
 
-/// Holds job 1, and looks whether a piece is written meanwhile.
+/// Keeps job 1 waiting in its worker, and looks whether a piece is written meanwhile.
 #[derive(Drop)]
 struct Watching<'a> {
     notes: &'a Notes,
-    /// How many pieces there were when the job began.
+    /// How many pieces were written before that.
     pieces: Count,
     is_amiss: Flag,
 }
@@ -160,7 +161,8 @@ impl Gate for Watching<'_> {
 
 const TWICE: &[u8] = b"punch 0 0 0 0\npunch 0 0 0 0\n";
 
-/// The point that message 0 makes due is in progress while job 1 is in flight: nothing is answered meanwhile, so no piece is written.
+/// The checkpoint that is due after message 0 is in progress while job 1 is in flight. Nothing is answered meanwhile, so no piece may be
+/// written.
 #[test]
 fn no_piece_is_written_while_a_job_is_out_and_none_is_answered(
     rt: HostRuntime,
@@ -189,12 +191,12 @@ fn no_piece_is_written_while_a_job_is_out_and_none_is_answered(
     Ok(())
 }
 
-/// Remembers how many pieces there were when a message was last answered.
+/// Remembers how many pieces were written when a message was last answered.
 #[derive(Drop)]
 struct AtAnswer<'a> {
     notes: &'a Notes,
     pieces: Count,
-    /// How many there were when the first one was.
+    /// How many were written when message 0 was answered.
     first: Count,
 }
 
@@ -210,7 +212,7 @@ impl Gate for AtAnswer<'_> {
     }
 }
 
-/// Looks, when lines are sent to it, how many pieces were written since the last of them was answered: one at most.
+/// A writer that looks, at each write, how many pieces were written since a message was last answered: it has to be one at most.
 #[derive(Drop)]
 struct Prompt<'a> {
     output: Vec<u8>,
@@ -235,7 +237,8 @@ impl Write for Prompt<'_> {
 /// Changes of 14 bytes, of which a client sends two at a time.
 const PAIRS: &[u8] = b"punch 0 0 0 0\npunch 0 0 0 0\npunch 0 0 0 1\npunch 0 0 0 1\n";
 
-/// A client sends two changes and waits for both replies. The second is sent before the rest of the point that the first made due.
+/// A client sends two changes and waits for both replies. The second reply is sent before the rest of the checkpoint that the first change
+/// made due.
 #[test]
 fn no_reply_waits_for_a_whole_point(rt: HostRuntime) -> Result<(), Fail> {
     let notes = Notes::new();

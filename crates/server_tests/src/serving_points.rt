@@ -1,4 +1,4 @@
-//! When records are logged, and when checkpoints are made.
+//! When records are logged, and when checkpoints are made. Here *points* are checkpoints of both kinds, in one call or online.
 use crate::serving_noting::Notes;
 use crate::serving_running::{
     ALL_AT_ONCE, End, FLAT, Left, SMALL, Streams, Way, holds, serve_lines, session,
@@ -26,8 +26,8 @@ fn changes(alloc: Global, count: usize) -> Result<Vec<u8>, AllocError> {
     Ok(lines)
 }
 
-/// How many changes there are, and after how many there is a checkpoint; and how many checkpoints are made, at least and at most. A half
-/// of the log has four records.
+/// How many changes there are; after how many a checkpoint is due (0: only where the log is full); and how many checkpoints are made, at
+/// least and at most. A half of the log has four records.
 const POINTS: [(usize, u64, u64, u64); 10] = [
     // There is a checkpoint where the log is full and at the end.
     (0, 0, 1, 1),
@@ -43,8 +43,8 @@ const POINTS: [(usize, u64, u64, u64); 10] = [
     (40, 100, 10, 10),
 ];
 
-/// Serves changes in pieces of this size. No line is written before its record is synced; gives how many checkpoints there
-/// were.
+/// Serves changes, read and written `size` bytes at a time. Each has to be logged, and none may be acknowledged before its record is
+/// synced. Returns how many checkpoints were made after that of the opening.
 fn points_of<T: Threads + Wait + Sync + Abort>(
     rt: &T,
     alloc: Global,
@@ -92,7 +92,7 @@ fn points_are_made_where_they_are_due(rt: HostRuntime) -> Result<(), Fail> {
     Ok(())
 }
 
-/// One change of each stripe.
+/// One change in each stripe.
 const EIGHT: &[u8] = b"punch 0 0 0 0
 punch 0 0 0 1
 punch 0 0 0 2
@@ -131,7 +131,8 @@ fn syncs_of<T: Threads + Wait + Sync + Abort>(
     Ok(notes.syncs.get())
 }
 
-/// How often lines are served until they are logged at once: a worker that waits for a processor comes too late.
+/// How often these lines are served at most, until they are logged together: where the worker waits for a processor, a result comes too
+/// late for the batch of the others.
 const TRIES: usize = 100;
 
 #[test]

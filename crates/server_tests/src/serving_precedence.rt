@@ -1,4 +1,4 @@
-//! Which fault is reported if several befall one session.
+//! Which fault is reported if several come in one session.
 use crate::serving_noting::Notes;
 use crate::serving_running::{ALL_AT_ONCE, End, Left, SMALL, Streams, Way, ends, holds, session};
 use checkpoint::OpenFault;
@@ -35,7 +35,8 @@ struct Failed {
     writer: bool,
 }
 
-/// How a session ends of which these have failed: it has begun if anything was read.
+/// How a session has to end in which these have failed. Where it has not begun (nothing was read), a device that failed did so at its
+/// opening.
 fn end_of(failed: Failed, has_begun: bool) -> End {
     match (failed.writer, failed.device) {
         (true, _) => End::Fault(ServeFault::Write),
@@ -45,7 +46,7 @@ fn end_of(failed: Failed, has_begun: bool) -> End {
     }
 }
 
-/// Serves the lines, and looks at what is reported.
+/// Serves the lines, and fails unless the session ends as `end_of` says. Returns what has failed.
 fn sent<T: Threads + Wait + Sync + Abort>(
     rt: &T,
     alloc: Global,
@@ -77,7 +78,7 @@ fn sent<T: Threads + Wait + Sync + Abort>(
 /// More calls than a session has.
 const MOST_CALLS: u64 = 1000;
 
-/// Lets each call of the device fail in turn, together with this call of the writer. Returns whether both failed at some of them.
+/// Lets each call of the device fail in turn, together with this call of the writer. Returns whether both failed in some session.
 fn fail_each_call<T: Threads + Wait + Sync + Abort>(
     rt: &T,
     alloc: Global,

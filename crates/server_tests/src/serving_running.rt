@@ -17,14 +17,14 @@ use std::sync::Wait;
 use std::thread::Threads;
 use workers::{Gate, OpenGate};
 
-/// One volume of two files of four blocks, in two stripes that hold two blocks each, and four records in a half.
-/// Neighboring blocks of a file lie in different stripes.
+/// The geometry of the small server, its numbers in the order of `format`'s options: one volume of two files of four blocks, in two stripes
+/// that hold two blocks each, and four records in a half. Neighboring blocks of a file lie in different stripes.
 pub(crate) const SMALL: [u16; 8] = [1, 1, 2, 1, 2, 4, 2, 4];
 
 /// One volume of one file of eight blocks, each in a stripe of its own, and eight records in a half.
 pub(crate) const FLAT: [u16; 8] = [1, 1, 8, 1, 1, 8, 1, 8];
 
-/// How a server is run: its workers and slots, and after how many records there is a checkpoint.
+/// How a server is run: its workers and slots, and after how many records a checkpoint is due (`every`; 0: only where the log is full).
 #[derive(Clone, Copy)]
 pub(crate) struct Way {
     pub(crate) workers: usize,
@@ -35,7 +35,7 @@ pub(crate) struct Way {
 /// How a server ended.
 #[derive(Clone, Copy, Debug, PartialEq, Eq)]
 pub(crate) enum End {
-    /// With its input.
+    /// At the end of its input, with no fault.
     Whole,
     /// Its device was refused.
     Unopened(OpenFault),
@@ -51,14 +51,17 @@ pub(crate) struct Ended<D: Disk> {
     pub(crate) end: End,
 }
 
+/// Fails the test unless these bytes, which were written, are those wanted.
 pub(crate) fn writes(rt: &impl Abort, got: &[u8], want: &[u8]) {
     assert_eq!(rt; str::from_utf8(got), str::from_utf8(want));
 }
 
+/// Fails the test unless this is so.
 pub(crate) fn holds(rt: &impl Abort, fact: bool) {
     assert!(rt; fact);
 }
 
+/// Fails the test unless a server ended as is wanted.
 pub(crate) fn ends(rt: &impl Abort, got: End, want: End) {
     assert_eq!(rt; got, want);
 }
@@ -86,7 +89,7 @@ fn says_failed<D: Disk>(core: &mut Core<D>) -> bool {
         && core.flip() == Err(PointRefusal::Failed)
 }
 
-/// How a server ended with this fault. Where its device failed, its core is asked for more.
+/// How a server ended with this fault. Where its device failed, its core is asked for more, and has to refuse.
 fn fault_end<D: Disk>(core: &mut Core<D>, fault: ServeFault) -> End {
     if fault == ServeFault::Device && !says_failed(core) {
         return End::IgnoresFault;
@@ -149,7 +152,7 @@ pub(crate) const ALL_AT_ONCE: Streams = Streams {
     fails_at: 0,
 };
 
-/// What is left of a session.
+/// What a session leaves.
 #[derive(Drop)]
 pub(crate) struct Left {
     pub(crate) device: MemDisk,

@@ -27,7 +27,7 @@ fn serve_new<T: Threads + Wait + Sync>(
     Ok(session(rt, alloc, device, way, lines, streams, &OpenGate, notes))
 }
 
-/// Workers, slots, and how many records are between checkpoints.
+/// Ways to run a server: without checkpoints by a count of records, and, the last, with one after each record.
 const WAYS: [Way; 3] = [
     Way {
         workers: 1,
@@ -63,7 +63,8 @@ fn whole_lines(bytes: &[u8]) -> &[u8] {
     }
 }
 
-/// Where the input can be read so far alone, its whole lines are answered, and the last checkpoint is left out.
+/// Serves an input at whose end a read fails: its whole lines have to be answered, and no checkpoint is made at its end. `read` is how many
+/// bytes are read at a time.
 fn meets_fault<T: Threads + Wait + Sync + Abort>(
     rt: &T,
     alloc: Global,
@@ -100,7 +101,7 @@ fn meets_fault<T: Threads + Wait + Sync + Abort>(
 
 #[test]
 fn whole_lines_are_answered_before_a_failed_read(rt: HostRuntime) -> Result<(), Fail> {
-    // Behind each byte, the ways in turn.
+    // The input is cut off after each byte. Each way is tried at every third of these lengths.
     for (way, (read, first)) in WAYS.iter().zip([(8, 0), (70_000, 1), (20, 2)]) {
         for end in (first..=LINES.len()).step_by(WAYS.len()) {
             let input = LINES.get(..end).unwrap_or_default();
@@ -110,7 +111,7 @@ fn whole_lines_are_answered_before_a_failed_read(rt: HostRuntime) -> Result<(), 
     Ok(())
 }
 
-/// Whether the n-th call of the writer failed: then nothing more was read or written.
+/// Returns whether the n-th call of the writer failed. Nothing may be read or written after it.
 fn fails_to_write<T: Threads + Wait + Sync + Abort>(
     rt: &T,
     alloc: Global,
@@ -169,8 +170,8 @@ fn nothing_is_read_or_written_behind_a_failed_write(rt: HostRuntime) -> Result<(
     Ok(())
 }
 
-/// Random lines that come in pieces of this size are answered as they have to, and nothing waits for a read. Gives how many
-/// reads there are, and how many writes and flushes.
+/// Serves lines, `read` bytes at a time. They have to be answered as by the serial server, and no answer may wait for a read. Returns how
+/// many reads there were, and how many writes and flushes.
 fn calls_of<T: Threads + Wait + Sync + Abort>(
     rt: &T,
     alloc: Global,
@@ -202,7 +203,7 @@ fn nothing_waits_for_a_read(rt: HostRuntime) -> Result<(), Fail> {
     Ok(())
 }
 
-/// How often this line comes.
+/// How many lines are piped in.
 const MANY: usize = 5000;
 
 /// How many writes and flushes the answers to lines without a ticket take, with 1, 16 and 3 slots: two for each 1, 16 or 3 lines, and for
@@ -241,7 +242,7 @@ fn no_workers_are_refused(rt: HostRuntime) -> Result<(), Fail> {
     let left = serve_new(&rt, rt.alloc(), NO_WORKERS, LINES, streams, &notes)?;
     ends(&rt, left.end, End::Fault(ServeFault::NoWorkers));
     holds(&rt, notes.reads.get() == 0 && notes.writes.get() == 0);
-    // The core was given back, and its device is served on as if nothing had been.
+    // The core was given back untouched: its device can be served on as if nothing had been.
     let (_, output) = serve_lines(&rt, rt.alloc(), left.device, WAYS[0], LINES)?;
     let want = serial(rt.alloc(), SMALL, LINES)?;
     writes(&rt, output.as_slice(), want.as_slice());

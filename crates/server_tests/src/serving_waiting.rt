@@ -1,4 +1,4 @@
-//! Jobs that are held until the output is written to, while a checkpoint is due, and while the output fails.
+//! Jobs that are kept waiting in a worker until the output is written to, while a checkpoint is due, and while the output fails.
 use crate::serving_noting::{Flag, Notes};
 use crate::serving_running::{
     ALL_AT_ONCE, End, Left, SMALL, Streams, Way, ends, holds, serve_lines, session,
@@ -18,7 +18,8 @@ use workers::Gate;
 /// How often a worker looks whether it may go on, before it gives up.
 const MOST_TRIES: u32 = 1_000_000;
 
-/// Holds job 1 until the output is written to: by then the dispatcher has granted what may be granted after message 0.
+/// Keeps job 1 waiting in its worker until the output is written to. By then message 0 is answered, and the dispatcher has dispatched what
+/// may be dispatched after that.
 #[derive(Drop)]
 struct Held<'a> {
     notes: &'a Notes,
@@ -68,8 +69,8 @@ struct Met {
     device: MemDisk,
 }
 
-/// Serves three lines with two workers where there is a file; the n-th call of the output fails, where n is not 0. The answer to
-/// message 0 is written while job 1 is held.
+/// Serves three lines with two workers where there is a file. Call number `fails_at` of the output fails, unless that is 0. The answer to
+/// message 0 is written while job 1 is kept waiting.
 fn meet<T: Threads + Wait + Sync + Abort>(
     rt: &T,
     alloc: Global,
@@ -109,7 +110,7 @@ fn meet<T: Threads + Wait + Sync + Abort>(
 #[test]
 fn nothing_goes_out_while_a_point_is_due(rt: HostRuntime) -> Result<(), Fail> {
     let lines = b"write 0 0 0 0 61\nwrite 0 0 0 1 62\nwrite 0 0 0 0 63\n";
-    // After message 0 message 2 may be dispatched, where no checkpoint is due.
+    // Once message 0 is answered, message 2 may be dispatched, unless a checkpoint is due: then a cut begins first.
     for (every, is_early) in [(0, true), (1, false)] {
         let met = meet(&rt, rt.alloc(), every, lines, 0)?;
         ends(&rt, met.end, End::Whole);
@@ -126,7 +127,7 @@ fn jobs_that_are_out_are_logged_behind_a_failed_write(rt: HostRuntime) -> Result
     let Ok((shown, _)) = inspect(rt.alloc(), met.device) else {
         return Err(Wrong::Unfit.into());
     };
-    // Nothing more is granted then.
+    // Messages 0 and 1 have records. Message 2, which is related to 1, isn't dispatched any more.
     holds(&rt, met.answered && shown.records == 2);
     Ok(())
 }

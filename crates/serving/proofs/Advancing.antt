@@ -1,4 +1,4 @@
--- The answers to lines in the output, and that a session goes on with fewer lines outstanding.
+-- The answers to lines in the output, and what stays true of a session when some of its outstanding lines are sent.
 use Rattle.std.proofs.Common.{◌≡◌, ℕ, Bool, true, false, List, [], ◌∷◌, ◌++◌, Option, None, refl, ap, sym, ◌∙◌, subst, map, append_assoc}
 use Rattle.std.specs.Prelude.{Result, Ok, Err, OnErr, OnOk}
 use Rattle.std.proofs.lemmas.Bool.{true≢false}
@@ -19,7 +19,7 @@ texts_both (x ∷ sent_lines) more = ap (λ z. answer_text x ++ z) (texts_both s
 
 -- ---- fewer lines outstanding
 
--- The first of the old lines, each completed, were written after what was written before, and the others are the new ones.
+-- The first of the lines `old` have answers, which were written after `before`; the others are `new`.
 pub record Sends (old new : List Line) (before written : Option (List ℕ)) : Type 0 where
   pub sent_lines : List Line
   pub were : old ≡ sent_lines ++ new
@@ -30,7 +30,7 @@ pub forgets : {keeps : Type 0} {start now : MachineView} {unsent : List Line} {i
     → ServingProgress keeps start now unsent input unread ended before written → ServingProgress keeps start now unsent input unread ended None None
 forgets h = record { consumed = h.consumed; sent_lines = h.sent_lines; takes = h.takes; serving = h.serving; output = tt }
 
--- The first of the lines that were not sent were written.
+-- The first of the lines that were not sent are sent now: the others are outstanding still.
 pub sends_on : {keeps : Type 0} {start m : MachineView} {unsent rest : List Line} {input unread : Option (List ℕ)} {ended : Bool} {before old now : Option (List ℕ)}
     → Sends unsent rest old now → ServingProgress keeps start m unsent input unread ended before old → ServingProgress keeps start m rest input unread ended before now
 sends_on {start} {rest} {before} {old} {now} sends h =
@@ -51,7 +51,7 @@ sends_on {start} {rest} {before} {old} {now} sends h =
           (Appends-trans before old now (joined (map answer_text h.sent_lines)) (joined (map answer_text sends.sent_lines)) h.output sends.output);
     }
 
--- Where the device works, all is logged.
+-- A call either gives P at `Ok`, or the device has failed at `Err`: so P holds where the device works.
 pub logged_or_failed : {A E P : Type 0} (failed : Bool) (result : Result A E) → OnOk result P → OnErr result (failed ≡ true) → failed ≡ false → P
 logged_or_failed failed (Ok x) all fails works = all
 logged_or_failed failed (Err e) all fails works = absurd (true≢false (sym fails ∙ works))

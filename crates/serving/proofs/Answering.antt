@@ -1,4 +1,4 @@
--- A message that is answered, and its line in the reorder buffer.
+-- A message that is answered: what changes in its line in the reorder buffer, and in the core state.
 use Rattle.std.proofs.Common.{◌≡◌, ◌+◌, ℕ, true, false, List, [], ◌∷◌, ◌++◌, Option, Some, None, refl, ap, sym, ◌∙◌, subst, map, inl, append-nil, arith, length, suc, Bool, ◌⊎◌, inr, ⊎_elim}
 use Rattle.std.specs.Prelude.{if◌then◌else◌, ◌==◌}
 use Rattle.std.specs.List.{AllByRecursion, Contains}
@@ -36,12 +36,12 @@ module _ (g : Geometry) (reply_pairs : List (ℕ × Reply)) (ticket : ℕ) (repl
   now_there : Contains more (ticket, reply)
   now_there = contains_in more (ticket, reply) (in_right (ticket, reply) reply_pairs ((ticket, reply) ∷ []) (inl refl))
 
-  -- A reply that is there now was there, or is this one.
+  -- A reply in the longer list was there before, or is the new one.
   in_more : (ps : List (ℕ × Reply)) (p : ℕ × Reply) → IsIn p (ps ++ (ticket, reply) ∷ []) → IsIn p ps ⊎ (p ≡ (ticket, reply))
   in_more [] p is = ⊎_elim (λ e. inr e) (λ none. absurd none) is
   in_more (q ∷ ps) p is = ⊎_elim (λ e. inl (inl e)) (λ rest. ⊎_elim (λ there. inl (inr there)) (λ e. inr e) (in_more ps p rest)) is
 
-  -- To another ticket there is still none.
+  -- If there was no reply to another ticket t, there is none to t now.
   none_still : (t : ℕ) → (t == ticket) ≡ false → NoneIsTo reply_pairs t → NoneIsTo more t
   none_still t other none r there = ⊎_elim
       (λ was. none r (contains_in reply_pairs (t, r) was))
@@ -49,7 +49,7 @@ module _ (g : Geometry) (reply_pairs : List (ℕ × Reply)) (ticket : ℕ) (repl
       let same : t ≡ ticket = ap (λ (q : ℕ × Reply). q.0) e in true≢false (sym (eq-eqb t ticket same) ∙ other))
       (in_more reply_pairs (t, r) (in_contained more (t, r) there))
 
-  -- What was known of a line that is completed is known of it still.
+  -- What was known of a line that has its answer is still known of it with one reply more.
   known_still : (n : ℕ) (o : Option Msg) (known : Line) → has_answer known ≡ true → IsKnown g reply_pairs n o known → IsKnown g more n o known
   known_still n None NoMessage done k = tt
   known_still n None OutOfRange done k = absurd k
@@ -60,7 +60,7 @@ module _ (g : Geometry) (reply_pairs : List (ℕ × Reply)) (ticket : ℕ) (repl
   known_still n (Some m) (Pending t) done k = absurd (true≢false (sym done))
   known_still n (Some m) (Completed t r) done k = (k.0, k.1, still_there (t, r) k.2)
 
-  -- So is the reply, where it is to its message.
+  -- What is known of any line is known with one reply more, once that is stored in its message's line (`complete_one`).
   known_answered : (n : ℕ) (o : Option Msg) (known : Line) → IsKnown g reply_pairs n o known → IsKnown g more n o (complete_one ticket reply known)
   known_answered n o NoMessage k = known_still n o NoMessage refl k
   known_answered n o OutOfRange k = known_still n o OutOfRange refl k
@@ -111,7 +111,7 @@ answered_goes_on {keeps} {start} {new} {ticket} {reply} {unsent} p h =
       output = h.output;
     }
 
--- A message was answered with this reply, or none was.
+-- The message with this ticket was answered with this reply; or (`None`) no message was answered.
 abbrev pub IsAnswered : Type 0 → MachineView → MachineView → Option (ℕ × Reply) → Type 0
 IsAnswered keeps old new None = IsInternal keeps old new
 IsAnswered keeps old new (Some reply_pairs) = HandsHaveJobs new × RunsBetween keeps old new [] (reply_pairs ∷ [])
@@ -138,7 +138,7 @@ one_answered w new (a ∷ as') reply_pairs e =
       ap (λ (l : List Replied). suc (length l)) (sym rest),
     )
 
--- where none was
+-- where no message was answered
 pub none_answered : (keeps : Type 0) (old new : MachineView) (r : Option (ℕ × Reply)) → ((reply_pairs : ℕ × Reply) → r ≡ Some reply_pairs → ⊥)
     → IsAnswered keeps old new r → IsInternal keeps old new
 none_answered keeps old new (Some reply_pairs) not a = absurd (not reply_pairs refl)
@@ -146,25 +146,25 @@ none_answered keeps old new None not a = a
 
 -- ---- the core state after an answer
 
--- Nothing has changed but what is logged.
+-- An answer changes nothing of the core state but which messages are logged.
 pub answered_state : (w new : CoreState) (logged : List Replied) (o : Outcome) → (o, new) ≡ answer w logged → new ≡ record w { logged = new.logged }
 answered_state w new [] o e =
     let is = ap (λ (x : Outcome × CoreState). x.1) e in is ∙ ap (λ (x : CoreState). record w { logged = x.logged }) (sym is)
 answered_state w new (a ∷ as') o e =
     let is = ap (λ (x : Outcome × CoreState). x.1) e in is ∙ ap (λ (x : CoreState). record w { logged = x.logged }) (sym is)
 
--- One less is logged.
+-- After an answer one message less is logged.
 pub fewer_logged : (w new : CoreState) (logged : List Replied) (p : ℕ × Reply) → (answer_outcome (Some p), new) ≡ answer w logged
     → length new.logged + 1 ≡ length logged
 fewer_logged w new [] p e = let o : outcomes.Answered p.0 p.1 ≡ outcomes.Idle = ap (λ (x : Outcome × CoreState). x.0) e in cc
 fewer_logged w new (a ∷ as') p e = let left = ap (λ (x : Outcome × CoreState). length x.1.logged) e in omega (arith, left)
 
--- None was.
+-- If there was no message to answer, none is logged.
 pub none_logged : (w new : CoreState) (logged : List Replied) → (answer_outcome None, new) ≡ answer w logged → w.logged ≡ logged → new.logged ≡ []
 none_logged w new [] e is = ap (λ (x : Outcome × CoreState). x.1.logged) e ∙ is
 none_logged w new (a ∷ as') e is = let o : outcomes.Idle ≡ outcomes.Answered a.0 a.2 = ap (λ (x : Outcome × CoreState). x.0) e in cc
 
--- What changed nothing else so far, and then changed nothing else, has changed nothing else.
+-- If two changes, one after the other, leave all of a core state but which messages are logged, so do both together.
 pub answered_on : (w once now : CoreState) → once ≡ record w { logged = once.logged } → now ≡ record once { logged = now.logged }
     → now ≡ record w { logged = now.logged }
 answered_on w once now before one = one ∙ ap (λ (x : CoreState). record x { logged = now.logged }) before

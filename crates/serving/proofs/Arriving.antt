@@ -1,4 +1,4 @@
--- A line that is read, and its message that arrives.
+-- A line that is read, and its message, which arrives if it takes a ticket.
 use Rattle.std.proofs.Common.{◌≡◌, ◌≢◌, ℕ, ◌+◌, true, false, List, [], ◌∷◌, ◌++◌, Option, refl, ap, sym, ◌∙◌, subst, append_assoc, append-nil, arith, Some, None}
 use Rattle.std.specs.Prelude.{Bool, Result, Ok, Err, if◌then◌else◌, not, nat_le, ◌==◌, ◌^◌, ◌-◌, length}
 use Rattle.affinity.specs.declared.geometry.Geometry.{Geometry}
@@ -79,7 +79,7 @@ module _ {keeps : Type 0} {start old : MachineView} {consumed : List (List ℕ)}
         answered = s.answered;
       }
 
--- What is known where nothing is answered is known whatever is, if none of it is to this ticket.
+-- What is known of a line while there are no replies is known with these replies, too, if none of them is to its ticket n.
 known_anyway : (g : Geometry) (reply_pairs : List (ℕ × Reply)) (n : ℕ) (o : Option Msg) (known : Line) → NoneIsTo reply_pairs n → IsKnown g [] n o known
     → IsKnown g reply_pairs n o known
 known_anyway g reply_pairs n None NoMessage fresh k = k
@@ -91,7 +91,7 @@ known_anyway g reply_pairs n (Some m) OutOfRange fresh k = k
 known_anyway g reply_pairs n (Some m) (Pending t) fresh k = (k.0, k.1, subst (NoneIsTo reply_pairs) (sym k.1) fresh)
 known_anyway g reply_pairs n (Some m) (Completed t r) fresh k = let none = k.2.1 in absurd (omega (arith, none))
 
--- A line is consumed.
+-- After a line is consumed, it is the last of the lines that are not sent.
 pub serves_taken : {keeps : Type 0} {start old new : MachineView} {consumed : List (List ℕ)} {sent_lines unsent : List Line} {known : Line} (line : List ℕ)
     → IsIdle (core_state_of start.core) → IsTaken keeps old new (message_of line) known → IsServing keeps start old consumed sent_lines unsent
     → IsServing keeps start new (consumed ++ line ∷ []) sent_lines (unsent ++ known ∷ [])
@@ -176,7 +176,7 @@ module _ (keeps : Type 0) (old new : CoreView) (m : Msg) (hands : List HandConte
     not_range = not_range;
   }
 
-  -- Its line is consumed, or it is refused.
+  -- By the result of the arrival: the message's line is consumed, or the message is refused.
   abbrev pub ArrivesSo : Result ℕ ArriveRefusal → Type 0
   ArrivesSo (Ok t) = IsTaken keeps was now (Some m) (Pending t)
   ArrivesSo (Err arrivals.Range) = IsTaken keeps was now (Some m) OutOfRange

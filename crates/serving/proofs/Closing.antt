@@ -38,13 +38,13 @@ so_far_none : (contents : Option (List ℕ)) → all_output contents [] ≡ cont
 so_far_none None = refl
 so_far_none (Some bytes) = ap (λ (l : List ℕ). Some l) (append-nil bytes)
 
--- Of the run that led there, where the core at the end is as it always is, and of its end.
+-- What a server promises at its end: of the run that led there (given what `know_recovery` ensures of the core), and of that end.
 pub record PromisesAll (keeps : Type 0) (start : MachineView) (new : CoreView) (input remaining before written : Option (List ℕ))
     (result : Result (Unit {0}) ServeFault) : Type 0 where
   pub run : (new.failed ≡ false → new.doubt ≡ []) → (keeps → RecoversNow new) → HasRunWith keeps start new input before written result
   pub ends : EndsWith start.core new input remaining before written result
 
--- nothing is in flight once all is collected
+-- no hand has a job where nothing is lent at any place
 all_empty : (n : ℕ) → full_hands (map hand_in (map lent_hand (replicate n None))) ≡ 0
 all_empty zero = refl
 all_empty (suc n) = all_empty n
@@ -56,7 +56,7 @@ module _ {keeps : Type 0} {s : Start} {p : SessionView} (u : SessionInvariant ke
   abbrev now : MachineView
   now = machine p
 
-  -- what was written, where the output works and no answer waits
+  -- how far the server has come, with all that was sent as its output, where the output works and no answer waits
   written : {unsent : List Line} {unread : Option (List ℕ)} {drained : Bool} → SessionProgress keeps s p unread drained → p.reorder_buffer.lines ≡ unsent → p.output_failed ≡ false
       → p.reply_buffer ≡ [] → ServingProgress keeps start now unsent s.input unread drained s.before p.sent
   written {unsent} {unread} {drained} h is output_works flushed =
@@ -126,7 +126,7 @@ module _ {keeps : Type 0} {s : Start} {p : SessionView} (u : SessionInvariant ke
   stopped : {read_end : ReadEnd} → p.read_end ≡ Some read_end → HasEndedReading keeps s p read_end
   stopped is = subst (λ (o : Option _). ReadsOrHasEnded keeps s p o) is u.reads
 
-  -- By what has ended it, it promises all that a server does.
+  -- A session that has ended with this result promises what a server does.
   pub promises_by : (result : Result (Unit {0}) ServeFault) → EndsBy p result
       → PromisesAll keeps start p.core s.input p.remaining s.before p.sent result
   promises_by (Ok tt) e = at_end e.0 (stopped e.1)
@@ -137,13 +137,13 @@ module _ {keeps : Type 0} {s : Start} {p : SessionView} (u : SessionInvariant ke
   promises_by (Err faults.NoWorkers) e = absurd e
   promises_by (Err faults.OutOfMemory) e = absurd e
 
--- A session is where its start says: nothing was read or sent since, nor has its core moved.
+-- A session is as at its start: nothing was read or sent since, and its core has not changed.
 pub record IsAtStart (s : Start) (p : SessionView) : Type 0 where
   pub core : p.core ≡ s.core
   pub input : p.remaining ≡ s.input
   pub before : p.sent ≡ s.before
 
--- Where nothing has moved since the start, it promises what a server does that had no memory.
+-- A session that is as at its start promises what a server does that had no memory.
 declined : {keeps : Type 0} {s : Start} {p : SessionView} → IsIdle (core_state_of s.core) → IsAtStart s p
     → PromisesAll keeps (start_machine s) p.core s.input p.remaining s.before p.sent (Err faults.OutOfMemory)
 declined {keeps} {s} {p} idle at =
@@ -156,7 +156,7 @@ declined {keeps} {s} {p} idle at =
       ends = (refl, refl, refl);
     })))
 
--- So it promises, whether it has ended or nothing has moved since the start.
+-- A session promises what a server does if it has ended, or is as at its start.
 promises_or_declines : {keeps : Type 0} {s : Start} {old p : SessionView} → SessionInvariant keeps s p → IsAtStart s old → (result : Result (Unit {0}) ServeFault)
     → EndsOrDeclines old p result → PromisesAll keeps (start_machine s) p.core s.input p.remaining s.before p.sent result
 promises_or_declines u at (Ok tt) e = promises_by u (Ok tt) e
@@ -167,13 +167,13 @@ promises_or_declines u at (Err faults.Device) e = promises_by u (Err faults.Devi
 promises_or_declines u at (Err faults.Write) e = promises_by u (Err faults.Write) e
 promises_or_declines u at (Err faults.NoWorkers) e = absurd e
 
--- Where a session has served since a start, and this has ended it or nothing has moved, so much is promised of it.
+-- The same, with what is known of the session's end given for `now`, which equals it.
 pub promises_from : {keeps : Type 0} {s : Start} {old p now : SessionView} → SessionInvariant keeps s p → p ≡ now → IsAtStart s old
     → (result : Result (Unit {0}) ServeFault) → EndsOrDeclines old now result
     → PromisesAll keeps (start_machine s) p.core s.input p.remaining s.before p.sent result
 promises_from {old} u is at result e = promises_or_declines u at result (subst (λ (p : SessionView). EndsOrDeclines old p result) (sym is) e)
 
--- Where each line that was read is answered and nothing has failed, the reason why no more was read has ended it.
+-- Where each line that was read is answered and nothing has failed, the session ends with what is reported for its `read_end`.
 ended_for : (keeps : Type 0) (o : Option Start) (p : SessionView) → SessionInvariantFrom keeps o p → IsServed p → (read_end : ReadEnd) → p.read_end ≡ Some read_end
     → EndsBy p (end_of read_end)
 ended_for keeps None p u served read_end is = absurd u
@@ -188,7 +188,7 @@ empties_for ends_of_reading.ReadFailed P emptied = tt
 empties_for ends_of_reading.TicketsExhausted P emptied = tt
 empties_for ends_of_reading.DeviceFailed P emptied = tt
 
--- It has finished, or it has halted.
+-- By the result of `finish`: the session has finished, or it has halted.
 module _ (keeps : Type 0) (p : SessionView) (same : Type 0) where
   pub finished : {read_end : ReadEnd} (r : Result (Unit {0}) Halted) → p.read_end ≡ Some read_end
       → OnOk r ((p.reorder_buffer.lines ≡ []) × (p.reply_buffer ≡ []) × (p.output_failed ≡ false)) → OnOk r (p.core.failed ≡ false)
@@ -201,7 +201,7 @@ module _ (keeps : Type 0) (p : SessionView) (same : Type 0) where
 so_if : {A : Type 0} (o : Option A) (x : A) (P : A → Type 0) → o ≡ Some x → IfSome o P → P x
 so_if o x P is h = subst (λ (o : Option _). IfSome o P) is h
 
--- Where it has finished, it ends as is reported for the reason why no more was read.
+-- A session that has finished ends with what is reported for its `read_end`.
 pub ends_finished : (keeps : Type 0) (o : Option Start) (p : SessionView) → SessionInvariantFrom keeps o p → (read_end : ReadEnd) → HasFinished keeps p read_end
     → (result : Result (Unit {0}) ServeFault) → IfSome p.read_end (λ why. result ≡ end_of why)
     → EndsBy p result × OnOk result (keeps → HasEmptyLog p.core)
@@ -210,7 +210,7 @@ ends_finished keeps o p u read_end f result reported =
     subst (λ (r : Result (Unit {0}) ServeFault). EndsBy p r × OnOk r (keeps → HasEmptyLog p.core)) (sym is)
     (ended_for keeps o p u f.served read_end f.is, empties_for read_end (keeps → HasEmptyLog p.core) f.emptied)
 
--- By what is reported of a call for which all workers were started, or one wasn't.
+-- With all workers started, a session ends with what is reported (`EndsBy`); if one could not be started, the session is as it was.
 reported_so : (old p : SessionView) (F : Type 0) (r : Result (Result (Unit {0}) ServeFault) F) → IfOk r (λ end. EndsBy p end) → OnErr r (p ≡ old)
     → EndsOrDeclines old p (reported r)
 reported_so old p F (Ok (Ok tt)) ends same = ends
@@ -240,7 +240,7 @@ module _ (p : SessionView) (P F : Type 0) (r : Result (Result (Unit {0}) ServeFa
   pub emptied_at_end : (result : Result (Unit {0}) ServeFault) → result ≡ reported r → OnOk result P
   emptied_at_end result is = subst (λ (q : Result (Unit {0}) ServeFault). OnOk q P) (sym is) (emptied_so P F r (both r gives).1)
 
--- It is no want of workers.
+-- What ends a session is never `NoWorkers`.
 pub has_workers : (old p : SessionView) (result : Result (Unit {0}) ServeFault) → EndsOrDeclines old p result → HadWorkers result
 has_workers old p (Ok tt) e = tt
 has_workers old p (Err faults.OutOfMemory) e = tt
@@ -250,7 +250,7 @@ has_workers old p (Err faults.Device) e = tt
 has_workers old p (Err faults.Write) e = tt
 has_workers old p (Err faults.NoWorkers) e = absurd e
 
--- Where there are workers, their want is not reported.
+-- Where there are workers, each result but `NoWorkers` is as `FailsWithoutWorkers` says.
 pub refuses_none : (workers : ℕ) → workers ≢ 0 → (result : Result (Unit {0}) ServeFault) → HadWorkers result → FailsWithoutWorkers workers result
 refuses_none workers some (Ok tt) h = some
 refuses_none workers some (Err faults.NoWorkers) h = absurd h
@@ -260,7 +260,7 @@ refuses_none workers some (Err faults.Device) h = some
 refuses_none workers some (Err faults.OutOfMemory) h = some
 refuses_none workers some (Err faults.Exhausted) h = some
 
--- The same of as many workers, where as much remains of the input.
+-- `ServePromise` stays true for an equal number of workers and an equal rest of the input.
 pub serves_as : {keeps : Type 0} {core : CoreView} {back : CoreView × Result (Unit {0}) ServeFault} {input before written remaining rest : Option (List ℕ)}
     {places workers : ℕ} → places ≡ workers → remaining ≡ rest → ServePromise keeps places core back input remaining before written → ServePromise keeps workers core back input rest before written
 serves_as {keeps} {core} {back} {input} {before} {written} {rest} {places} as_many same h =
@@ -269,7 +269,7 @@ serves_as {keeps} {core} {back} {input} {before} {written} {rest} {places} as_ma
 
 -- ---- where it begins
 
--- A reader of lines that has not ended is not drained.
+-- A reader of lines that has not seen the end of its input is not drained.
 pub not_drained : (ended none_held : Bool) → ended ≡ false → (ended && none_held) ≡ false
 not_drained ended none_held not_ended = ap (λ (b : Bool). b && none_held) not_ended
 

@@ -33,22 +33,22 @@ none_to_seven reply there = ⊎_elim
     (λ (e : (7, reply) ≡ (8, Summary 1 0 0)). let same : ◌≡◌ {A = ℕ} 7 8 = ap (λ (q : ℕ × Reply). q.0) e in absurd (omega (arith, same)))
     (λ none. absurd none) (in_contained ((8, Summary 1 0 0) ∷ []) (7, reply) there)
 
--- The second message was answered before the first: the first line waits for it.
+-- The second message was answered before the first, whose line still waits for its reply.
 one_is_answered : AreKnown small ((8, Summary 1 0 0) ∷ []) 7 four_lines (Pending 7 ∷ OutOfRange ∷ NoMessage ∷ Completed 8 (Summary 1 0 0) ∷ [])
 unfolding message_of kind_named number_in_word
 one_is_answered = ((refl, refl, none_to_seven), (refl, (tt, ((refl, refl, (0, lit≤ tt, refl)), tt))))
 
--- No reply is known that was not given.
+-- No line is completed by a reply that was not given.
 not_answered_yet : AreKnown small [] 7 (codes "summary" ∷ []) (Completed 7 (Summary 1 0 0) ∷ []) → ⊥
 unfolding message_of kind_named number_in_word
 not_answered_yet h = let none = h.0.2.1 in absurd (omega (arith, none))
 
--- No line waits that was answered.
+-- No line is pending whose message was answered.
 answered_already : AreKnown small ((7, Summary 1 0 0) ∷ []) 7 (codes "summary" ∷ []) (Pending 7 ∷ []) → ⊥
 unfolding message_of kind_named number_in_word
 answered_already h = h.0.2 (Summary 1 0 0) (0, lit≤ tt, refl)
 
--- Nor is one known by the ticket of another message.
+-- No line is completed by a reply to the ticket of another message.
 not_by_another_ticket : AreKnown small ((8, Done) ∷ []) 7 (codes "makevol 0 0" ∷ []) (Completed 8 Done ∷ []) → ⊥
 unfolding message_of kind_named number_in_word
 not_by_another_ticket h = cc

@@ -13,7 +13,7 @@ use Rattle.serving.proofs.Arriving.{next_is}
 use Rattle.serving.proofs.Tickets.{next-append}
 
 module _ (g : Geometry) (reply_pairs : List (ℕ × Reply)) where
-  -- so are those with tickets, from n on, and the last ticket after them
+  -- the lines that have tickets have consecutive ones from n on, and the ticket after these is `last`
   abbrev Follow : ℕ → ℕ → List Line → Type 0
   Follow n last lines = HaveTicketsFrom n (with_tickets lines ++ Pending last ∷ [])
 

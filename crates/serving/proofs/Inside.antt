@@ -23,7 +23,7 @@ use Rattle.serving.specs.Lines.{Completed, AreKnown, IsKnown, Line, NoMessage, O
 use Rattle.serving.specs.Runs.{unanswered}
 use Rattle.serving.proofs.Counting.{run_counts}
 
--- ---- how many of the replies are to tickets from one on
+-- ---- how many of the replies are to a ticket or to a later one
 
 abbrev one : ℕ → ℕ → ℕ
 one n ticket = if nat_le n ticket then 1 else 0
@@ -58,7 +58,7 @@ later_most : (n : ℕ) (ps : List (ℕ × Reply)) → later n ps ≤ length ps
 later_most n [] = omega arith
 later_most n (p ∷ ps) = let o = one_most n p.0 in let l = later_most n ps in omega (arith, o, l)
 
--- one of them is to this ticket
+-- if a reply is to ticket n, fewer replies are to tickets after n than to n and those after it
 later_one : (n : ℕ) (reply : Reply) (ps : List (ℕ × Reply)) → IsIn (n, reply) ps → later (n + 1) ps + 1 ≤ later n ps
 later_one n reply [] is = absurd is
 later_one n reply (p ∷ ps) is = ⊎_elim
@@ -77,7 +77,7 @@ module _ (g : Geometry) (replies : List (ℕ × Reply)) where
   few_asked None = omega arith
   few_asked (Some m) = elim (is_in_range g m) as (λ b. length (if b then m ∷ [] else []) ≤ 1) [ true ↦ omega arith | false ↦ omega arith ]
 
-  -- Each line takes a ticket at most.
+  -- Each line takes at most one ticket.
   unsent_take : (n : ℕ) (ls : List (List ℕ)) (unsent : List Line) → AreKnown g replies n ls unsent → length (admitted g ls) ≤ length unsent
   unsent_take n [] [] k = omega arith
   unsent_take n [] (known ∷ unsent) k = absurd k
@@ -89,7 +89,7 @@ module _ (g : Geometry) (replies : List (ℕ × Reply)) where
       let all = length-append (admitted_in g o) (admitted g ls) in
       omega (arith, rest, few, all)
 
-  -- A line that is completed takes no ticket, or one to which a reply was given.
+  -- A line that has its answer takes no ticket, or one to which a reply was given.
   answered_takes : (n : ℕ) (o : Option Msg) (known : Line) → IsKnown g replies n o known → has_answer known ≡ true
       → length (admitted_in g o) + later (next_ticket n (admitted_in g o)) replies ≤ later n replies
   answered_takes n None NoMessage k done = omega arith
@@ -107,7 +107,7 @@ module _ (g : Geometry) (replies : List (ℕ × Reply)) where
       let l = later_one n reply replies is in
       subst (λ (l : List Msg). length l + later (next_ticket n l) replies ≤ later n replies) (sym single) (omega (arith, l))
 
-  -- The lines that take tickets are those that were written, each of which was answered, and at most those that were not.
+  -- No more lines take tickets than there are replies to ticket n or later ones, and lines that are not sent.
   lines_take : (n : ℕ) (ls : List (List ℕ)) (sent_lines unsent : List Line) → AreKnown g replies n ls (sent_lines ++ unsent)
       → AllByRecursion (λ line. has_answer line ≡ true) sent_lines → length (admitted g ls) ≤ later n replies + length unsent
   lines_take n ls [] unsent k done = let l = unsent_take n ls unsent k in omega (arith, l)

@@ -39,19 +39,19 @@ use Rattle.serving.proofs.Tickets.{quiet_ticket}
 
 -- ---- lines that are sent, completed or retired
 
--- what was written of lines, where the output may have failed
+-- lines are sent, as far as the output is known: nothing is known of it once it has failed
 sends_unless : {lines rest : List Line} {old now : Option (List ℕ)} (b : Bool) → Sends lines rest old now → Sends lines rest (known_unless b old) (known_unless b now)
 sends_unless true sends = record { sent_lines = sends.sent_lines; were = sends.were; have_answers = sends.have_answers; output = tt }
 sends_unless false sends = sends
 
--- What waits is to be sent after what was sent.
+-- With the answers that wait written after what was sent, their lines are sent.
 sends_waiting : (waiting lines : List Line) (reply_buffer : List ℕ) (sent : Option (List ℕ)) → HaveAnswers waiting → reply_buffer ≡ joined (map answer_text waiting)
     → Sends (waiting ++ lines) lines sent (all_output sent reply_buffer)
 sends_waiting waiting lines reply_buffer None answered is = record { sent_lines = waiting; were = refl; have_answers = answered; output = tt }
 sends_waiting waiting lines reply_buffer (Some bytes) answered is =
     record { sent_lines = waiting; were = refl; have_answers = answered; output = ap (λ (l : List ℕ). bytes ++ l) is }
 
--- A line that is completed stays as it is at a further answer.
+-- A line that has its answer stays as it is when a message is answered.
 is_left : (ticket : ℕ) (reply : Reply) (line : Line) → has_answer line ≡ true → complete_one ticket reply line ≡ line
 is_left ticket reply NoMessage answered = refl
 is_left ticket reply OutOfRange answered = refl
@@ -65,7 +65,7 @@ are_left ticket reply (line ∷ waiting) lines answered =
     ap (λ (x : Line). x ∷ map (complete_one ticket reply) (waiting ++ lines)) (is_left ticket reply line answered.0)
     ∙ ap (λ (l : List Line). line ∷ l) (are_left ticket reply waiting lines answered.1)
 
--- the oldest line, where it is completed, and the others
+-- the oldest line, if it has its answer, and the lines after it
 pub record Fronts (lines rest : List Line) : Type 0 where
   pub line : Line
   pub were : lines ≡ line ∷ rest
@@ -76,7 +76,7 @@ fronts : (lines rest : List Line) → rest ≡ drop 1 lines → can_retire lines
 fronts [] rest is next = absurd (true≢false (sym next))
 fronts (line ∷ lines) rest is next = record { line = line; were = ap (λ (l : List Line). line ∷ l) (sym is); answered = next; retires = refl }
 
--- All that was answered in the output leads to the reorder buffer, whether it waits or not.
+-- With the answers that wait taken as written, the lines that are not sent are those of the reorder buffer.
 pub to_reorder_buffer : {keeps : Type 0} {s : Start} {p : SessionView} {unread : Option (List ℕ)} {drained : Bool} → SessionProgress keeps s p unread drained
     → ServingProgress keeps (start_machine s) (machine p) p.reorder_buffer.lines s.input unread drained (known_unless p.output_failed s.before)
     (known_unless p.output_failed (all_output p.sent p.reply_buffer))
@@ -84,7 +84,7 @@ to_reorder_buffer {p} h = sends_on (sends_unless p.output_failed (sends_waiting 
 
 module _ (keeps : Type 0) where
   module _ (s : Start) (p : SessionView) where
-    -- Why no more is read stays so.
+    -- The reason why no more is read stays true while the next ticket stays the same and a failed device stays failed.
     why_on : (core : CoreView) (unread : Option (List ℕ)) (drained : Bool) (read_end : ReadEnd) → core.next ≡ p.core.next → (p.core.failed ≡ true → core.failed ≡ true)
         → IsReadEnd s.core.geometry p.core unread drained p.remaining read_end → IsReadEnd s.core.geometry core unread drained p.remaining read_end
     why_on core unread drained ends_of_reading.EndOfInput next failed h = h
@@ -92,7 +92,7 @@ module _ (keeps : Type 0) where
     why_on core unread drained ends_of_reading.TicketsExhausted next failed h = (next ∙ h.0, h.1)
     why_on core unread drained ends_of_reading.DeviceFailed next failed h = failed h
 
-    -- the other place, where as much of the input is unread as at this one
+    -- session q, with the input as in session p: as much unread, drained and remaining
     abbrev reading_at : SessionView → SessionView
     reading_at q = record q { unread = p.unread; drained = p.drained; remaining = p.remaining }
 
@@ -107,7 +107,7 @@ module _ (keeps : Type 0) where
       why = why_on q.core h.unread h.drained read_end next failed h.why;
     }
 
-    -- so much of the input is unread, wherever it is
+    -- how far the session has come, whether it still reads or not
     pub progress_at_end : (read_end : Option ReadEnd) → ReadsOrHasEnded keeps s p read_end → (unread : Option (List ℕ)) × (drained : Bool) × SessionProgress keeps s p unread drained
     progress_at_end None h = (p.unread, p.drained, h)
     progress_at_end (Some read_end) h = (h.unread, h.drained, h.progress_at_end)
@@ -135,9 +135,9 @@ module _ (keeps : Type 0) where
 
   -- ---- steps
 
-  -- from a place at which a session keeps its invariant, whatever its start
+  -- from a session p that satisfies its invariant, whatever its start
   module _ (o : Option Start) (p : SessionView) (u : SessionInvariantFrom keeps o p) where
-    -- To another it goes on, if it does from each start.
+    -- Session q satisfies the invariant, if it does so for each start for which p does.
     goes_to : (q : SessionView) → ((s : Start) → SessionInvariant keeps s p → SessionInvariant keeps s q) → SessionInvariantFrom keeps o q
     goes_to q progress = from o u
       where
@@ -145,7 +145,7 @@ module _ (keeps : Type 0) where
         from None u = absurd u
         from (Some s) u = progress s u
 
-    -- The machine goes on.
+    -- The machine has moved, but no message has arrived or was answered.
     pub on_machine : (core : CoreView) (dispatch_seat : DispatchSeatView) → IsInternal keeps (machine p) (machine_with_jobs core dispatch_seat.lent)
         → dispatch_seat.bench ≡ p.dispatch_seat.bench → length dispatch_seat.lent ≡ length p.dispatch_seat.lent
         → SessionInvariantFrom keeps o (record p { core = core; dispatch_seat = dispatch_seat })
@@ -197,7 +197,7 @@ module _ (keeps : Type 0) where
               }) p.read_end u.reads;
         })
 
-    -- The oldest line of the reorder buffer waits to be sent.
+    -- The oldest line of the reorder buffer is retired: its answer waits to be sent.
     on_add_text : (buffer : ReorderBufferView) (bytes : List ℕ) → buffer.lines ≡ drop 1 p.reorder_buffer.lines → can_retire p.reorder_buffer.lines ≡ true
         → bytes ≡ p.reply_buffer ++ retired_text p.reorder_buffer.lines → buffer.slots ≡ p.reorder_buffer.slots
         → SessionInvariantFrom keeps o (record p { reorder_buffer = buffer; reply_buffer = bytes })
@@ -226,7 +226,7 @@ module _ (keeps : Type 0) where
               }) p.read_end u.reads;
         })
 
-    -- So it does where it is completed, and else nothing moves.
+    -- The oldest line is retired if it has its answer, and else nothing changes.
     pub on_retire_front : (buffer : ReorderBufferView) (bytes : List ℕ) (retired : Bool) → retired ≡ can_retire p.reorder_buffer.lines
         → MatchBool retired (bytes ≡ p.reply_buffer ++ retired_text p.reorder_buffer.lines) (bytes ≡ p.reply_buffer)
         → MatchBool retired (buffer.lines ≡ drop 1 p.reorder_buffer.lines) (buffer ≡ p.reorder_buffer) → buffer.slots ≡ p.reorder_buffer.slots
@@ -236,7 +236,7 @@ module _ (keeps : Type 0) where
         subst (λ (r : ReorderBufferView). SessionInvariantFrom keeps o (record p { reorder_buffer = r; reply_buffer = bytes })) (sym dropped)
         (subst (λ (l : List ℕ). SessionInvariantFrom keeps o (record p { reply_buffer = l })) (sym added) u)
 
-    -- All that waits is sent.
+    -- All answers that wait are sent.
     pub on_send : (reply_buffer : List ℕ) (sent : Option (List ℕ)) (n : ℕ) → reply_buffer ≡ [] → Appends p.sent sent p.reply_buffer → n ≡ length p.reorder_buffer.lines
         → SessionInvariantFrom keeps o (record p { reply_buffer = reply_buffer; sent = sent; outstanding = n })
     on_send reply_buffer sent n none appends are =
@@ -266,7 +266,7 @@ module _ (keeps : Type 0) where
               }) p.read_end u.reads;
         })
 
-    -- It could not be sent.
+    -- The answers could not be sent: the output has failed.
     pub on_break : (sent : Option (List ℕ)) → SessionInvariantFrom keeps o (record p { sent = sent; output_failed = true })
     on_break sent =
         let q : SessionView = record p { sent = sent; output_failed = true } in
@@ -288,7 +288,7 @@ module _ (keeps : Type 0) where
               }) p.read_end u.reads;
         })
 
-  -- What waits may be sent, where the core is as it always is.
+  -- The answers that wait may be sent, given what `know_recovery` ensures of the core.
   pub may_send : (o : Option Start) (p : SessionView) → SessionInvariantFrom keeps o p → p.output_failed ≡ false → (p.core.failed ≡ false → p.core.doubt ≡ [])
       → (keeps → RecoversNow p.core) → MaySend keeps o p.sent p.core p.reply_buffer
   may_send None p u output_works none recovers = absurd u
@@ -309,7 +309,7 @@ module _ (keeps : Type 0) where
 
   -- ---- lines that are read
 
-  -- From a place where it reads, to what was read: how the start sees it.
+  -- A session that still reads: how far it has come since its start.
   pub reading : (s : Start) (p : SessionView) → p.read_end ≡ None → SessionInvariant keeps s p → SessionProgress keeps s p p.unread p.drained
   reading s p is u = subst (λ (o : Option ReadEnd). ReadsOrHasEnded keeps s p o) is u.reads
 
@@ -358,7 +358,7 @@ module _ (keeps : Type 0) where
                 (line_goes_on u.idle going closes line t found h.progress);
           })
 
-      -- One that is too long is read.
+      -- A line that is too long is read: it counts as no message.
       pub on_long_line : (o : Option Start) → SessionInvariantFrom keeps o p → IsTaken keeps (machine p) (machine next) None known
           → IfSome p.unread (λ bs. PassesLine bs unread) → SessionInvariantFrom keeps o next
       on_long_line None u t found = absurd u

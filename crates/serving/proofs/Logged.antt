@@ -73,7 +73,7 @@ module _ (keeps : Type 0) (start : MachineView) (new : CoreView) (input : Option
             ∙ ap (λ (ms : List Msg). Some (state_after_all g (committed_in start.core) ms)) (found.2 ∙ ap recorded whole);
       }
 
-  -- So does what a crash leaves since event k ended.
+  -- What a crash leaves since event k ended holds all that was logged by then.
   pub holds_logged : keeps → (k : ℕ) (c : List ℕ) → k ≤ length device_events
       → left_since new.medium (moment_number (device_after start.core.medium (take k device_events))) c
       → RecoversToHistory g (committed_in start.core) (ticketed start.core.next (admitted g consumed)) (logged_messages w (take k events)) c
@@ -81,7 +81,7 @@ module _ (keeps : Type 0) (start : MachineView) (new : CoreView) (input : Option
       subst (λ (es : List Entry). RecoversToHistory g (committed_in start.core) es (logged_messages w (take k events)) c) r.arrived_are
       (holds_since k c (r.crash kept k c le since))
 
-  -- And in the end all that was logged.
+  -- What a crash leaves at the end of the run holds all that was logged.
   pub holds_all : keeps → (c : List ℕ) → IsCrashImage new.medium c
       → RecoversToHistory g (committed_in start.core) (ticketed start.core.next (admitted g consumed)) (logged_messages w events) c
   holds_all kept c leaves =
@@ -125,7 +125,7 @@ module _ (g : Geometry) (replies : List (ℕ × Reply)) (log : List Replied) (wh
             k.1 all.1,
       )
 
--- the message that was answered so
+-- the message to which such a reply by ticket was given
 said_of : (as' : List Replied) (p : ℕ × Reply) → IsIn p (ticket_replies as') → (m : Msg) × IsIn (p.0, m, p.1) as'
 said_of [] p is = absurd is
 said_of (a ∷ as') p is = ⊎_elim
@@ -137,7 +137,7 @@ module _ (keeps : Type 0) (start : MachineView) (new : CoreView) (unsent : List 
   abbrev run_log : List Replied
   run_log = logged_messages (machine_of start) (events_of h.device_events)
 
-  -- A message of the input that was sent a reply by its ticket was logged with it.
+  -- A message of the input to whose ticket the run gave a reply was logged with that reply.
   was_logged : (ticket : ℕ) (m : Msg) (reply : Reply) → IsIn (ticket, m) (ticketed start.core.next (admitted start.core.geometry h.consumed))
       → Contains (answered (events_of h.device_events)) (ticket, reply) → Contains run_log (ticket, m, reply)
   was_logged ticket m reply asks told =
@@ -158,7 +158,7 @@ module _ (keeps : Type 0) (start : MachineView) (new : CoreView) (unsent : List 
       (in_left (ticket, m, reply) (answered_messages w events) (end_state w events).core.logged
       (subst (λ (m' : Msg). IsIn (ticket, m', reply) (answered_messages w events)) same one.1)))
 
-  -- Each line that was written is kept in the log of the run.
+  -- Each line that was written is in the history of what the run logged (`AreInHistory`).
   pub written_are_kept : AreInHistory start.core.geometry run_log start.core.next h.consumed (map answer_text h.sent_lines)
   written_are_kept = are_kept start.core.geometry (answered (events_of h.device_events)) run_log
       (ticketed start.core.next (admitted start.core.geometry h.consumed)) was_logged start.core.next h.consumed h.sent_lines unsent (λ e is. is) h.known h.have_answers

@@ -5,7 +5,7 @@ use Rattle.std.proofs.lemmas.List.Quantifiers.{position-Some}
 use Rattle.std.proofs.lemmas.List.Sums.{sum_by-set}
 use Rattle.parcel.specs.Run.{JobView}
 
--- One place less is free.
+-- Once a job is lent at the first free place, one place less is free.
 pub fewer_free : (lent : List (Option JobView)) (k : ℕ) (job : JobView) → position is_none lent ≡ Some k
     → count_by is_none (set lent k (Some job)) + 1 ≡ count_by is_none lent
 fewer_free lent k job first =

@@ -22,7 +22,8 @@ works_so : (b : Bool) (o : Option PointRefusal) → (if b then Some points.Faile
 works_so true o e = absurd (none-some points.Failed (sym e))
 works_so false o e = refl
 
--- A step is refused where the device fails, or for its reason.
+-- If the step's own condition (`why`) gives this refusal only where the device had failed before, then the device has failed after the
+-- refusal.
 refused_so : (old new : CoreState) (why : Option PointRefusal) (made : Type 0) (refusal : PointRefusal) → IsCheckpointStep old new why made (Err refusal)
     → (why ≡ Some refusal → old.failed ≡ true) → new.failed ≡ true
 refused_so old new why made points.Device h failed = ap (λ (w : CoreState). w.failed) h.1
@@ -58,7 +59,7 @@ module _ (old : CoreState) (pieces_left : old.pieces_left ≡ None) (new : CoreS
     none_rests : None ≡ rest
     none_rests = ap (λ (l : List Entry). if_held (nat_lt 0 (length l))) (sym none_held) ∙ no_other
 
-    -- Where none is held, only by the device.
+    -- Where no message is held, a point is refused only if the device has failed.
     pub point_fails : (r : Result (Unit {0}) PointRefusal) → IsCheckpointStep old new (point_refusal old) made r → OnErr r (new.failed ≡ true)
     point_fails (Ok x) h = tt
     point_fails (Err refusal) h = refused_so old new (point_refusal old) made refusal h
@@ -72,7 +73,7 @@ module _ (old : CoreState) (pieces_left : old.pieces_left ≡ None) (new : CoreS
   held_alone true refusal e = sym (ap why_of e)
   held_alone false refusal e = absurd (none-some refusal e)
 
-  -- Where it is refused for another reason than that one is held, it is by the device.
+  -- If it is refused for another reason than `Held`, the device has failed.
   begins_or_fails : (refusal : PointRefusal) → refusal ≢ points.Held → IsCheckpointStep old new (point_refusal old) made (Err refusal) → new.failed ≡ true
   begins_or_fails refusal not_held h = refused_so old new (point_refusal old) made refusal h
       (λ e. failed_so old.failed rest refusal e (λ d. absurd (not_held (held_alone (nat_lt 0 (length (held old))) refusal (no_other ∙ d)))))
@@ -85,7 +86,8 @@ module _ (old : CoreState) (pieces_left : old.pieces_left ≡ None) (new : CoreS
   none_waits none_held true e = true≢false (sym (ap is_held e))
   none_waits none_held false e = none-some points.Held (none_rests none_held ∙ e)
 
-  -- So a session halts only where the device has failed, and else it has begun, where none is held.
+  -- A session that halts at the result of `cut` does so because the device has failed. If it doesn't halt and no message is held, the
+  -- checkpoint has begun (`begins`).
   pub halts : {same : Type 0} (output_works : Type 0) (cut : Result (Unit {0}) PointRefusal) (result : Result (Unit {0}) Halted)
       → IsCheckpointStep old new (point_refusal old) made cut → BeginsOrWaits cut result → same → MatchResult result (λ _. same) (λ _. output_works → new.failed ≡ true)
   halts output_works cut (Ok x) h b s = s
@@ -110,7 +112,7 @@ point_works old new room (Err why) h = tt
 
 -- ---- a piece
 
--- one less is left
+-- one piece less is left to write
 pub piece_left : (old new : CoreState) (r : Result ℕ PointRefusal) (n : ℕ) → IsPieceStep old new r → old.pieces_left ≡ Some n
     → OnOk r (new.pieces_left ≡ Some (n - 1))
 piece_left old new (Ok k) n h e = ap (λ (w : CoreState). w.pieces_left) h.2 ∙ ap Some (h.1 ∙ ap pieces_after e)

@@ -1,4 +1,4 @@
--- What a server promises of its whole call, where it has come so far.
+-- What a server that has come so far promises of its whole call: the run that led to its output.
 use Rattle.std.proofs.Common.{◌≡◌, ℕ, Bool, false, List, [], ◌++◌, Option, Some, None, ap, sym, ◌∙◌, append-nil, replicate}
 use Rattle.std.specs.Prelude.{Ok, Err}
 use Rattle.std.specs.Io.KnownBytes.{IsAtEnd}
@@ -27,7 +27,7 @@ all_taken (Some input) (Some bs) ended consumed t at_end =
     let none : t.0 ≡ [] = sym (same_Some bs t.0 t.1) ∙ at_end in
     t.2.to_come ∙ ap (λ l. consumed ++ lines l) none ∙ append-nil consumed
 
--- where the core at the end is as it always is
+-- given what `know_recovery` ensures of the core at the end
 module _ {keeps : Type 0} {start now : MachineView} (idle : IsIdle (core_state_of start.core)) {input unread : Option (List ℕ)} {ended : Bool}
     {before written : Option (List ℕ)} (no_doubt : now.core.failed ≡ false → now.core.doubt ≡ []) (recovers : keeps → RecoversNow now.core) where
   pub runs_whole : ServingProgress keeps start now [] input unread ended before written → IsAtEnd unread
@@ -50,7 +50,7 @@ module _ {keeps : Type 0} {start now : MachineView} (idle : IsIdle (core_state_o
       → HasRunWith keeps start now.core input before written (Err faults.Device)
   runs_to_device {unsent} h last = (unsent, has_served keeps start now idle no_doubt recovers h, last)
 
-  -- whatever was written since
+  -- where a write failed: whatever was written since
   pub runs_to_write : {unsent : List Line} (torn : Option (List ℕ)) → ServingProgress keeps start now unsent input unread ended before written
       → HasRunWith keeps start now.core input before torn (Err faults.Write)
   runs_to_write torn h = let s = has_served keeps start now idle no_doubt recovers h in (s.consumed, s.device_events, s.run)

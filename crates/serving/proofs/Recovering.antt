@@ -58,7 +58,7 @@ Spell [] [] = Unit {0}
 Spell (line ∷ ls) (e ∷ es) = (message_of line ≡ Some e.1) × Spell ls es
 Spell _ _ = ⊥
 
--- This part of the lines encodes these messages, which lead where the lines lead.
+-- Some of the lines, a closed part of them (`IsClosedPart`), encode these messages.
 pub record SpellsPart (g : Geometry) (es : List Entry) (ls : List (List ℕ)) : Type 0 where
   pub part : List (List ℕ)
   pub spell : Spell part es
@@ -97,7 +97,7 @@ none_related : (g : Geometry) (o : Option Msg) → admitted_in g o ≡ [] → (p
 none_related g o h [] = tt
 none_related g o h (line ∷ part) = (unrelated_none g o h (message_of line), none_related g o h part)
 
--- unrelated messages are so as lines
+-- lines that encode unrelated messages are unrelated
 unrelated_too : (g : Geometry) (n : ℕ) (m : Msg) (part : List (List ℕ)) (es : List Entry) → Spell part es
     → AllByRecursion (λ e. are_related_entries g (n, m) e ≡ false) es
     → AllByRecursion (λ other. are_related_lines g (Some m) (message_of other) ≡ false) part
@@ -110,7 +110,7 @@ unrelated_too g n m (line ∷ part) (e ∷ es) s h = (
   unrelated_too g n m part es s.1 h.1,
 )
 
--- whether a line takes a ticket
+-- a line takes no ticket, or one, for its message
 abbrev TakesOne : Geometry → Option Msg → Type 0
 TakesOne g o = (admitted_in g o ≡ []) ⊎ ((m : Msg) × (o ≡ Some m) × (admitted_in g o ≡ m ∷ []))
 
@@ -162,11 +162,12 @@ spells_part g n (line ∷ ls) es h =
 
 -- ---- the lines that were acknowledged
 
--- a reply by a smaller ticket is none to these
+-- Each reply of the log is to a ticket before n, or is the serial server's to one of these messages.
 abbrev pub HaveSerialReplies : Geometry → State → ℕ → List Replied → List Entry → Type 0
 HaveSerialReplies g x n log es = (t : ℕ) (m : Msg) (reply : Reply) → IsIn (t, m, reply) log → (t < n) ⊎ IsIn (t, reply) (serial_replies g x es)
 
--- These lines answer the first of the lines. The messages of the log are theirs, with a part of the others.
+-- What was written answers the first of the lines, as the serial server does. The messages lead to the state to which these first lines and
+-- a closed part of the others lead.
 pub record AnswersFirst (g : Geometry) (x : State) (es : List Entry) (ls written : List (List ℕ)) : Type 0 where
   pub first : List (List ℕ)
   pub others : List (List ℕ)
@@ -196,7 +197,7 @@ state_stays : (g : Geometry) (x : State) (o : Option Msg) → admitted_in g o �
 state_stays g x None h = refl
 state_stays g x (Some m) h = ap (λ (q : Reply × State). q.1) (refused_for_range g x m (not_in_range g m h))
 
--- The line that is kept for a line is the serial server's, if its reply is.
+-- The output line for an input line (`IsInHistory`) is the serial server's, if the reply in the history is.
 kept_line : (g : Geometry) (x : State) (log : List Replied) (n : ℕ) (o : Option Msg) (line : List ℕ) → IsInHistory g log n o line
     → ((m : Msg) (reply : Reply) → o ≡ Some m → is_in_range g m ≡ true → IsIn (n, m, reply) log → reply ≡ reply_to g x m) → line ≡ answer_line g x o
 kept_line g x log n None line k same = k
@@ -206,7 +207,7 @@ kept_line g x log n (Some m) line k same = ⊎_elim
     (λ (has : (is_in_range g m ≡ true) × ((reply : Reply) × (line ≡ reply_line reply) × Contains log (n, m, reply))).
     has.1.1 ∙ ap reply_line (same m has.1.0 refl has.0 (in_contained log (n, m, has.1.0) has.1.2))) k
 
--- What is kept for a line with a ticket is in the log.
+-- If an output line answers a message in range (`IsInHistory`), the log has that message with a reply.
 kept_reply : (g : Geometry) (log : List Replied) (n : ℕ) (m : Msg) (line : List ℕ) → is_in_range g m ≡ true → IsInHistory g log n (Some m) line
     → (reply : Reply) × IsIn (n, m, reply) log
 kept_reply g log n m line is k = ⊎_elim
@@ -223,7 +224,7 @@ ranges_too g m h = elim (is_in_range g m) as (λ b. (if b then m ∷ [] else [])
 some_is : (m k : Msg) → Some m ≡ Some k → m ≡ k
 some_is m k h = cc
 
--- The first message is given its own reply, and the replies to come are given after it.
+-- The first message has the serial server's reply in the log, and the others have theirs, from the state after it.
 module _ (g : Geometry) (x : State) (n : ℕ) (m : Msg) (log : List Replied) (es : List Entry) (serial_all : HaveSerialReplies g x n log ((n, m) ∷ es)) where
   its_reply : AllByRecursion (λ e. n + 1 ≤ e.0) es → (k : Msg) (reply : Reply) → IsIn (n, k, reply) log → reply ≡ reply_to g x m
   its_reply h k reply is = ⊎_elim
@@ -329,7 +330,8 @@ longer g part (line ∷ ls) rest h = ⊎_elim
     (λ (k : AllByRecursion (λ other. are_related_lines g (message_of line) (message_of other) ≡ false) part × IsClosedPart g part ls).
     inr (k.0, longer g part ls rest k.1)) h
 
--- Where the first lines of an input were consumed, and a log has what was written for the first of these, it leads where a restart may go on.
+-- Where the first lines of an input were consumed, and a log has the replies that were written for the first of these, the log leads to a
+-- state from which a restart may go on.
 recovers_to : {g : Geometry} {x : State} {input : List ℕ} {log : List Replied} {bytes : List ℕ} (n : ℕ) (consumed written : List (List ℕ))
     → AreFirst (Some input) consumed → AreInHistory g log n consumed written → (h : RecoversToHistory g x (ticketed n (admitted g consumed)) log bytes)
     → RecoversTo g x (state_after_all g x (recorded (log ++ h.more))) input (joined written)
@@ -348,7 +350,7 @@ recovers_to {g} {x} {log} n consumed written first kept h =
       state = sorted.state ∙ a.state;
     }
 
--- So it is where these bytes hold what was written.
+-- The same of the bytes of a device that recover to that state.
 pub bytes_recover : {g : Geometry} {x : State} {input before written : Option (List ℕ)} {log : List Replied} {bytes : List ℕ} (n : ℕ)
     (consumed answers : List (List ℕ)) → AreFirst input consumed → Appends before written (joined answers) → AreInHistory g log n consumed answers
     → RecoversToHistory g x (ticketed n (admitted g consumed)) log bytes → BytesRecover g x input before written bytes
@@ -363,7 +365,7 @@ bytes_recover {g} {x} {input} {before} {written} {log} n consumed answers first 
     so None first = tt
     so (Some all) first = (joined answers, output, recovers_to n consumed answers first kept h)
 
--- where nothing was written, nothing of the input need be there
+-- where nothing was written, the state may be that of the start, with no line of the input in it
 pub none_written : (g : Geometry) (x : State) (input : List ℕ) → RecoversTo g x x input []
 none_written g x input = record {
   acknowledged = [];

@@ -18,7 +18,7 @@ create = codes "create 0 0 0"
 abbrev delete : List ℕ
 delete = codes "delete 0 0 0"
 
--- a block, and one of the other stripe
+-- two lines: one for a block, and one for a block of the other stripe
 abbrev punch : List ℕ
 punch = codes "punch 0 0 0 0"
 
@@ -85,7 +85,7 @@ no_older_change_is_lost h = not_behind_a_gap create delete a_file_is_related_to_
 no_file_is_missing : IsClosedPart small (punch ∷ []) (create ∷ punch ∷ []) → ⊥
 no_file_is_missing h = not_behind_a_gap create punch a_block_is_related_to_its_file (λ same. absurd (omega (arith, same))) h
 
--- They are there in their order.
+-- The lines of a closed part are in their order.
 not_out_of_order : IsClosedPart small (create ∷ make ∷ []) (make ∷ create ∷ []) → ⊥
 unfolding message_of kind_named number_in_word
 not_out_of_order h = ⊎_elim
@@ -103,7 +103,7 @@ after ls = state_after_lines small empty ls
 they_are_two_lines : lines input ≡ make ∷ create ∷ []
 they_are_two_lines = refl
 
--- Nothing was acknowledged, and both are there.
+-- No line was acknowledged, and the state is that after both.
 more_may_be_there : RecoversTo small empty (after (make ∷ create ∷ [])) input []
 more_may_be_there = record {
   acknowledged = [];
@@ -115,7 +115,7 @@ more_may_be_there = record {
   state = refl;
 }
 
--- The first was acknowledged, and it alone is there.
+-- The first line was acknowledged, and the state is that after it alone.
 what_was_acknowledged_is_there : RecoversTo small empty (after (make ∷ [])) input (codes "done\n")
 unfolding message_of kind_named number_in_word
 what_was_acknowledged_is_there = record {

@@ -48,7 +48,7 @@ module _ {keeps : Type 0} {old new : MachineView} {step : Step} {outcome : Outco
     any_moment = λ kept. (k.any_moment kept, tt);
   }
 
--- A segment in which nothing arrives and nothing is answered leaves what is known of the lines.
+-- A segment in which no message arrives and none is answered leaves what is known of the lines as it was.
 pub quiet_goes_on : {keeps : Type 0} {start old new : MachineView} {unsent : List Line} {input unread : Option (List ℕ)} {ended : Bool}
     {before written : Option (List ℕ)} → RunsBetween keeps old new [] [] → ServingProgress keeps start old unsent input unread ended before written
     → ServingProgress keeps start new unsent input unread ended before written

@@ -56,7 +56,7 @@ nothing_in (Some job) e = absurd (true≢false (sym e))
 pub nothing_there : (lent : List (Option JobView)) (k : ℕ) → position is_none lent ≡ Some k → lent_at lent k ≡ None
 nothing_there lent k first = nothing_in (lent_at lent k) (position-Some is_none lent k None first).1
 
--- what an offer answers there
+-- what an offer gives at a place where nothing is lent
 pub offered : (o : Option JobView) (P : Type 0) (Q : JobView → Type 0) → o ≡ None → MatchOption o P Q → P
 offered o P Q none h = subst (λ (o : Option JobView). MatchOption o P Q) none h
 
@@ -71,7 +71,7 @@ module _ (keeps : Type 0) (old new : CoreView) (lent : List (Option JobView)) (n
   least : position vacant hands ≡ Some k
   least = first_place lent ∙ first
 
-  -- a step that answers nothing
+  -- a grant in which no message is answered is an internal step
   quiet : (after : List HandContent) (outcome : Outcome) → answers outcome ≡ [] → HandsHaveJobs (record { core = new; hands = after })
       → IsMachineStep keeps (record { core = old; hands = hands }) (record { core = new; hands = after }) steps.Grant outcome
       → IsInternal keeps (machine_with_jobs old lent) (record { core = new; hands = after })
@@ -99,7 +99,7 @@ module _ (keeps : Type 0) (old new : CoreView) (lent : List (Option JobView)) (n
   none_goes_any_more failed still = quiet hands outcomes.Failed refl (still_holds keeps old new hands none recovers geometry same h still)
       (failed_step keeps old new hands none recovers geometry same k least failed still)
 
-  -- Whatever was granted, and lent if it is a job.
+  -- Whatever the grant gives: a job, which is lent then, or none.
   pub sends : (r : Granted) (after : List (Option JobView)) (what : Dispatched) → IsGranted old.geometry (core_state_of old) (core_state_of new) r
       → OffersGranted k lent r after what → IsInternal keeps (machine_with_jobs old lent) (machine_with_jobs new after)
   sends (granted.Job job) after what g l = subst (λ (x : List (Option JobView)). IsInternal keeps (machine_with_jobs old lent) (machine_with_jobs new x)) (sym l.1) (goes_out job g)

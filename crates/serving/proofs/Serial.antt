@@ -1,4 +1,4 @@
--- Lines that are known, beside the lines of the serial server.
+-- Lines of which the answers are known, compared with the lines of the serial server.
 use Rattle.std.proofs.Common.{◌≡◌, ◌⊎◌, ℕ, suc, ◌+◌, ◌<◌, ◌≤◌, Bool, true, false, List, [], ◌∷◌, ◌++◌, Option, Some, None, refl, ap, sym, ◌∙◌, subst, length, map, take, drop, inl, inr, ⊎_elim, arith, append_assoc, append-nil}
 use Rattle.std.specs.Prelude.{if◌then◌else◌, find, not}
 use Rattle.std.specs.List.{AllByRecursion}
@@ -78,11 +78,12 @@ admitted-append g (l ∷ ls) ms =
 -- ---- the lines
 
 module _ (g : Geometry) (replies : List (ℕ × Reply)) where
-  -- Each reply was given to a message before ticket n, or is given from here on.
+  -- Each reply is to a ticket before n, or is the serial server's to one of these messages, which have the tickets from n on.
   abbrev pub HaveSerialReplies : State → ℕ → List Msg → Type 0
   HaveSerialReplies x n ms = (p : ℕ × Reply) → IsIn p replies → (p.0 < n) ⊎ IsIn p (serial_replies g x (ticketed n ms))
 
-  -- A line that is completed is answered as the serial server answers it, and the replies after it go on.
+  -- A line that has its answer is answered as the serial server answers it, and the other replies are the serial server's from the state
+  -- after it.
   record IsServedBy (x : State) (n : ℕ) (ms : List Msg) (o : Option Msg) (known : Line) : Type 0 where
     retires : answer_text known ≡ answer_line g x o
     tells : HaveSerialReplies (state_after_line g x o) (next_ticket n (admitted_in g o)) ms
@@ -133,7 +134,7 @@ module _ (g : Geometry) (replies : List (ℕ × Reply)) where
         tells = subst (λ (l : List Msg). HaveSerialReplies (next_state g x m) (next_ticket n l) ms) (sym one) (with_ticket x n ms m on);
       }
 
-  -- The lines that are completed are the first lines of the serial server.
+  -- The answers to the lines that were sent are the first lines of the serial server's output.
   module _ (more : List (List ℕ)) (unsent : List Line) where
     pub sent_lines_are_serial : (x : State) (n : ℕ) (ls : List (List ℕ)) (sent_lines : List Line) → HaveSerialReplies x n (admitted g ls)
         → AreKnown g replies n ls (sent_lines ++ unsent) → AllByRecursion (λ line. has_answer line ≡ true) sent_lines
@@ -152,7 +153,7 @@ module _ (g : Geometry) (replies : List (ℕ × Reply)) where
   as_many n (l ∷ ls) [] k = absurd k
   as_many n (l ∷ ls) (known ∷ lines) k = ap suc (as_many (next_ticket n (admitted_in g (message_of l))) ls lines k.1)
 
-  -- Where none is left, they are all.
+  -- Where each line was sent, the answers are all lines of that output.
   pub all_lines_answered : (x : State) (n : ℕ) (ls : List (List ℕ)) (sent_lines : List Line) → HaveSerialReplies x n (admitted g ls)
       → AreKnown g replies n ls (sent_lines ++ []) → AllByRecursion (λ line. has_answer line ≡ true) sent_lines
       → map answer_text sent_lines ≡ output_lines g x ls

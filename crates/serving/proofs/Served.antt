@@ -1,4 +1,4 @@
--- What a server has written when it ends, beside the serial server.
+-- What a server has written when it ends, compared with the serial server.
 use Rattle.std.proofs.Common.{◌≡◌, ◌≢◌, ℕ, ◌<◌, Bool, true, false, List, [], ◌∷◌, ◌++◌, Option, Some, None, ap, sym, ◌∙◌, subst, length, map, take, inr, ⊎_elim, append_assoc, append-nil, arith}
 use Rattle.std.specs.Prelude.{IfSome, Ok, Err}
 use Rattle.std.specs.Io.KnownBytes.{IsAtEnd}
@@ -56,7 +56,7 @@ module _ (keeps : Type 0) (start now : MachineView) (idle : IsIdle (core_state_o
         (answered_by_ticket g (machine_of start) (events_of s.segment.device_events) s.segment.legal sound idle p
         (subst (IsIn p) (sym s.segment.reply_pairs_are) is)))
 
-    -- Each that was answered has a ticket before the next.
+    -- Each ticket that was answered comes before the next one to be given.
     pub ticket_before : (p : ℕ × Reply) → IsIn p s.reply_pairs → p.0 < next_ticket start.core.next (admitted g consumed)
     ticket_before p is = ⊎_elim
         (λ (lt : p.0 < start.core.next). let from = next_from start.core.next (admitted g consumed) in omega (arith, lt, from))
@@ -75,7 +75,7 @@ module _ (keeps : Type 0) (start now : MachineView) (idle : IsIdle (core_state_o
     begins : (more : List (List ℕ)) → map answer_text sent_lines ≡ take (length sent_lines) (output_lines g x (consumed ++ more))
     begins more = sent_lines_are_serial g s.reply_pairs more unsent x start.core.next consumed sent_lines serial_pairs s.known s.answered
 
-  -- all that was consumed is answered
+  -- where each line that was consumed is answered
   served : {consumed : List (List ℕ)} {sent_lines : List Line} → IsServing keeps start now consumed sent_lines [] → IsIdle (core_state_of now.core)
       → AreServed g x (committed_in now.core) consumed (joined (map answer_text sent_lines))
   served {consumed} {sent_lines} s ends =

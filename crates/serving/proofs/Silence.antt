@@ -1,4 +1,4 @@
--- Where all that has arrived is still inside, no reply may be sent.
+-- While each message that has arrived is still in the core, waiting or held, no reply may be sent.
 use Rattle.std.proofs.Common.{◌≡◌, ◌⊎◌, inl, inr, refl, ℕ, ◌+◌, List, [], ◌∷◌, ◌++◌, Option, Some, None, ap, sym, subst, length, map, arith}
 use Rattle.std.specs.Prelude.{slice_index_or}
 use Rattle.std.specs.List.{AllByRecursion}
@@ -76,7 +76,7 @@ module _ (keeps : Type 0) (s : Start) (sent : Option (List ℕ)) (now : CoreView
       (subst (λ (l : List (ℕ × Reply)). AreKnown s.core.geometry l s.core.next m.served.consumed (m.served.sent_lines ++ (m.next ++ m.rest))) none_answered m.served.known)
       m.have_answers
 
--- Each such line reports that it has none.
+-- The answer to a line without a reply reports that the line is no message, or out of range.
 say_none : (ls : List Line) → AllByRecursion HasNoReply ls → AllByRecursion (λ line. (line ≡ no_message) ⊎ (line ≡ reply_line (Refused Range))) (map answer_text ls)
 say_none [] all = tt
 say_none (NoMessage ∷ ls) all = (inl refl, say_none ls all.1)
@@ -88,7 +88,7 @@ pub no_reply : (keeps : Type 0) (s : Start) (sent : Option (List ℕ)) (now : Co
     → MaySend keeps (Some s) sent now bytes → SendsNoReply bytes
 no_reply keeps s sent now bytes all_inside m = (map answer_text m.next, m.bytes_are, say_none m.next (is_silent keeps s sent now bytes m all_inside))
 
--- No such line reports that a message was carried out.
+-- The answers to such lines are never the line `done`.
 not_done : (ls : List Line) → AllByRecursion HasNoReply ls → reply_line Done ≡ joined (map answer_text ls) → ⊥
 not_done [] all is = let h = ap (λ (l : List ℕ). length l) is in absurd (omega (arith, h))
 not_done (NoMessage ∷ ls) all is = let h = ap (λ (l : List ℕ). slice_index_or l 0 0) is in absurd (omega (arith, h))

@@ -1,4 +1,4 @@
--- How many messages fit in, and that one finds a slot.
+-- How many messages the core has slots for, and that a message finds a slot.
 use Rattle.std.proofs.Common.{◌≡◌, ◌≢◌, ℕ, ◌+◌, ◌<◌, ◌≤◌, Bool, true, false, List, [], ◌∷◌, ◌++◌, Option, refl, ap, sym, ◌∙◌, length, arith}
 use Rattle.std.specs.Prelude.{if◌then◌else◌, nat_le, not, ◌==◌, ◌^◌, ◌-◌}
 use Rattle.std.proofs.lemmas.Bool.{leb-true}
@@ -32,7 +32,7 @@ passes_count {old} {new} p =
     let tells = ap length p.reply_pairs_are in
     omega (arith, run, ends, came, tells)
 
--- ---- how many fit in
+-- ---- the number of slots stays the same
 
 move_slots : (g : Geometry) (old new : CoreState) (p : Passed) → Move g old new p → new.slots ≡ old.slots
 move_slots g old new p (Stays s e) = s.slots
@@ -57,7 +57,7 @@ passes_slots {old} p =
 abbrev outcome_of : Outcome × CoreState → Outcome
 outcome_of x = x.0
 
--- A message that finds fewer inside than fit in isn't refused for want of a slot.
+-- Where the core has fewer messages than slots, a further one isn't refused for want of a slot.
 isnt_full : (g : Geometry) (w : CoreState) (m : Msg) → unanswered w < w.slots → (arrive g w m).0 ≢ outcomes.ArriveRefused arrivals.Full
 isnt_full g w m few = of w.failed (not (is_in_range g m)) (w.next == 2 ^ 64 - 1) (nat_le w.slots (unanswered w)) (λ e. leb-true w.slots (unanswered w) e)
   where
@@ -72,7 +72,7 @@ isnt_full g w m few = of w.failed (not (is_in_range g m)) (w.next == 2 ^ 64 - 1)
     of false false false true le e = let full = le refl in omega (arith, few, full)
     of false false false false le e = cc
 
--- Where fewer lines are in the reorder buffer than there are slots, a message finds one.
+-- Where fewer lines are unsent than the core has slots, a message isn't refused for want of a slot.
 pub finds_a_slot : {keeps : Type 0} {start now : MachineView} {unsent : List Line} {input unread : Option (List ℕ)} {ended : Bool} {before written : Option (List ℕ)}
     (m : Msg) → IsIdle (core_state_of start.core) → ServingProgress keeps start now unsent input unread ended before written
     → length unsent < start.core.slots → (arrive now.core.geometry (core_state_of now.core) m).0 ≢ outcomes.ArriveRefused arrivals.Full

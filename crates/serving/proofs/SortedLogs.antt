@@ -25,7 +25,7 @@ use Rattle.legal_runs.proofs.SerialReplies.{IsIn}
 
 -- ---- some of a list, in their order
 
--- These are some of them, in order, and `Out` holds of each that is left out.
+-- The first list has some of the second, in their order, and `Out` holds of each that is left out.
 abbrev pub AreAmong : (Entry → Type 0) → List Entry → List Entry → Type 0
 AreAmong Out es [] = es ≡ []
 AreAmong Out es (a ∷ all) = ((rest : List Entry) × (es ≡ a ∷ rest) × AreAmong Out rest all) ⊎ (Out a × AreAmong Out es all)
@@ -45,7 +45,7 @@ put_first : (e : Entry) (ds : List Entry) → AllByRecursion (λ d. e.0 < d.0) d
 put_first e [] h = refl
 put_first e (d ∷ ds) h = ap (λ b. if b then e ∷ d ∷ ds else d ∷ put e ds) (lt-ltb e.0 d.0 h.0)
 
--- One more is put to its place in both.
+-- One more message is put into both lists, by its ticket.
 put_among : (Out : Entry → Type 0) (e : Entry) (es all : List Entry) → AreInOrder all → AreAmong Out es all
     → AreAmong Out (put e es) (put e all)
 put_among Out e es [] h among = subst (λ l. AreAmong Out (put e l) (e ∷ [])) (sym among) (inl ([], refl, refl))
@@ -75,7 +75,7 @@ sorted_among Out (e ∷ es) rest out =
 
 -- ---- without a gap
 
--- They are some of all, in their order: where one is left out, so is each related one after it.
+-- The first list has some of the second, in their order: where a message is left out, so is each related one after it.
 abbrev pub HasNoGap : Geometry → List Entry → List Entry → Type 0
 HasNoGap g es [] = es ≡ []
 HasNoGap g es (a ∷ all) = ((rest : List Entry) × (es ≡ a ∷ rest) × HasNoGap g rest all)
@@ -115,7 +115,7 @@ in_rest : (e c : Entry) (es ds : List Entry) → AllByRecursion (λ c. e.0 < c.0
 in_rest e c es ds h in_es in_ds = ⊎_elim
     (λ (same : c ≡ e). absurd (no_earlier e c es h in_es (let at = ap (λ (d : Entry). d.0) same in omega (arith, at)))) (λ late. late) in_ds
 
--- Two lists of the same messages whose tickets ascend are one.
+-- Two lists of the same messages, both with ascending tickets, are equal.
 pub same_order : (es ds : List Entry) → AreAscending es → AreAscending ds → ((e : Entry) → IsIn e es → IsIn e ds)
     → ((e : Entry) → IsIn e ds → IsIn e es) → es ≡ ds
 same_order [] [] h k there back = refl
@@ -217,7 +217,7 @@ sorted_log g x arrivals log ascending h =
     keeps_front [] rest h = tt
     keeps_front (e ∷ es) rest h = (all_front (InOrderIfRelated g e) es rest h.0, keeps_front es rest h.1)
 
-    -- each of the first is before each of the others
+    -- each message of the first list may come before each of the others: related ones are in order
     across : (es rest : List Entry) → KeepsOrder g (es ++ rest) → AllByRecursion (λ e. AllByRecursion (InOrderIfRelated g e) rest) es
     across [] rest h = tt
     across (e ∷ es) rest h = (all_back (InOrderIfRelated g e) es rest h.0, across es rest h.1)

@@ -49,7 +49,7 @@ module _ (g : Geometry) (w : CoreState) (m : Msg) where
   fails false true false true e = let o : outcomes.ArriveRefused arrivals.Full ≡ outcomes.ArriveRefused arrivals.Failed = e in cc
   fails false true false false e = let o : outcomes.Ticket w.next ≡ outcomes.ArriveRefused arrivals.Failed = e in cc
 
-  -- For want of a ticket it is refused where it is in range and none is left.
+  -- A message that is refused for want of a ticket is in range, and no ticket is left.
   exhausted_so : (arrive g w m).0 ≡ outcomes.ArriveRefused arrivals.Exhausted → (is_in_range g m ≡ true) × (w.next ≡ 2 ^ 64 - 1)
   exhausted_so e =
       let k = none_left w.failed (is_in_range g m) (w.next == 2 ^ 64 - 1) (nat_le w.slots (length w.waiting + length (held w))) e in
@@ -60,13 +60,14 @@ module _ (g : Geometry) (w : CoreState) (m : Msg) where
 
 -- ---- a line whose message is refused
 
--- What was read gives this line.
+-- If a line was found, it is the first line of what was unread.
 pub gives : (line : List ℕ) (unread now_unread : Option (List ℕ)) → IfSome unread (λ bs. GivesLine line bs now_unread)
     → IfSome unread (λ bs. (rest : Option (List ℕ)) × GivesLine line bs rest)
 gives line None now_unread found = tt
 gives line (Some bs) now_unread found = (now_unread, found)
 
--- Where there is a slot for it, no more is read for the reason that this gives.
+-- Where the message of a line is refused, and not for want of a slot, reading ends for the reason that goes with the refusal
+-- (`read_end_of`).
 pub stops_at_refusal : {keeps : Type 0} {old new : MachineView} {m : Msg} {why : ArriveRefusal} (unread remaining : Option (List ℕ)) (drained : Bool) (line : List ℕ)
     → message_of line ≡ Some m → IfSome unread (λ bs. (rest : Option (List ℕ)) × GivesLine line bs rest) → IsRefusedLine keeps old new m why
     → ((arrive old.core.geometry (core_state_of old.core) m).0 ≢ outcomes.ArriveRefused arrivals.Full)

@@ -36,7 +36,7 @@ module _ (keeps : Type 0) (old new : CoreView) (none : old.failed ≡ false → 
   abbrev now : MachineView
   now = record { core = new; hands = hands }
 
-  -- It is consumed, and this is known of it; or its message is refused.
+  -- The line is consumed, and this is known of it; or its message is refused.
   abbrev pub ComesSo : Option Msg → Result (Option ℕ) ArriveRefusal → Type 0
   ComesSo o (Ok (Some ticket)) = IsTaken keeps was now o (Pending ticket)
   ComesSo o (Ok None) = IsTaken keeps was now o NoMessage
@@ -74,7 +74,7 @@ still keeps m h = record { holds = h; segment = stays keeps m }
 
 module _ {keeps : Type 0} {start old new : MachineView} {unsent : List Line} {known : Line} {input unread now_unread : Option (List ℕ)} {ended now_ended : Bool}
     {before written : Option (List ℕ)} (idle : IsIdle (core_state_of start.core)) (going : ended ≡ false) (closes : HasWholeFirstLine unread now_ended) where
-  -- It was given.
+  -- The next line was found, and is consumed.
   pub line_goes_on : (line : List ℕ) → IsTaken keeps old new (message_of line) known → IfSome unread (λ bs. GivesLine line bs now_unread)
       → ServingProgress keeps start old unsent input unread ended before written
       → ServingProgress keeps start new (unsent ++ known ∷ []) input now_unread now_ended before written
@@ -86,7 +86,7 @@ module _ {keeps : Type 0} {start old new : MachineView} {unsent : List Line} {kn
     output = h.output;
   }
 
-  -- It was too long, and passed over.
+  -- The next line was too long: it was skipped, and is consumed as no message.
   pub long_line_goes_on : IsTaken keeps old new None known → IfSome unread (λ bs. PassesLine bs now_unread)
       → ServingProgress keeps start old unsent input unread ended before written
       → ServingProgress keeps start new (unsent ++ known ∷ []) input now_unread now_ended before written

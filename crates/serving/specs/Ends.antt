@@ -51,8 +51,9 @@ abbrev pub AreFirst : Option (List ℕ) → List (List ℕ) → Type 0
 AreFirst None consumed = Unit {0}
 AreFirst (Some input) consumed = (more : List (List ℕ)) × (lines input ≡ consumed ++ more)
 
--- A legal run leads from the start to the core at the end. `device_events` are its events, each with the device as it left it. Its tickets
--- go, in order, to the messages in range among the first lines of the input.
+-- A legal run leads from the machine at the start to the core at the end. `device_events` are its events, each with the device as it left
+-- it. The messages that arrive in it are those in range among `consumed`, which are the first lines of the input; they take the tickets in
+-- order.
 pub record HasRunLines (keeps : Type 0) (start : MachineView) (new : CoreView)
     (input : Option (List ℕ)) (consumed : List (List ℕ)) (device_events : List DeviceEvent) : Type 0 where
   pub first : AreFirst input consumed
@@ -71,9 +72,9 @@ pub record HasRunLines (keeps : Type 0) (start : MachineView) (new : CoreView)
       → left_since new.medium (moment_number (device_after start.core.medium (take k device_events))) c
       → RecoversForRun start.core.geometry (machine_of start) (events_of device_events) k c
 
--- A legal run (`HasRunLines`) led to the output: each reply there is to a line that is no message or is out of range, or to a message
--- that the run answered. `unsent` are the lines that were read and have no reply in the output. `known`: each consumed line is as its
--- `Line` says, with its ticket, and with the reply that the run gave it, if it did.
+-- A legal run (`HasRunLines`) led to the output: each reply there is to a line that is no message or is out of range, or to a message that
+-- the run answered. `unsent` are the lines that were read and have no reply in the output. `known`: each consumed line is as its `Line`
+-- says, with its ticket, and with the reply that the run gave it, if the run gave one.
 pub record HasServed (keeps : Type 0) (start : MachineView) (new : CoreView) (unsent : List Line)
     (input before written : Option (List ℕ)) : Type 0 where
   pub consumed : List (List ℕ)

@@ -39,8 +39,8 @@ next_ticket n (m ∷ ms) = next_ticket (n + 1) ms
 abbrev pub NoneIsTo : List (ℕ × Reply) → ℕ → Type 0
 NoneIsTo replies ticket = (reply : Reply) → Contains replies (ticket, reply) → ⊥
 
--- `Line` states rightly what is known of a line with this message, or with none. If the message takes a ticket, that is n; if its answer is
--- known, it is among `replies`; if the line is pending, none of them is to its ticket.
+-- `Line` states rightly what is known of a line with this message, or with none. If the message takes a ticket, that is n; if the line is
+-- completed, its reply is among `replies`, by that ticket; if it is pending, none of them is to its ticket.
 abbrev pub IsKnown : Geometry → List (ℕ × Reply) → ℕ → Option Msg → Line → Type 0
 IsKnown g replies n None NoMessage = Unit {0}
 IsKnown g replies n (Some m) OutOfRange = is_in_range g m ≡ false

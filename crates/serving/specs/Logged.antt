@@ -1,5 +1,5 @@
--- Statement for operators: What was written for the lines that were consumed, beside the history (messages with their replies, reads among
--- them) to whose state a device recovers.
+-- Statement for operators: What was written for the lines that were consumed, compared with the history (messages with their replies, reads
+-- among them) to whose state a device recovers.
 use Rattle.std.specs.Prelude.{◌≡◌, ◌⊎◌, ℕ, true, false, List, [], ◌∷◌, ◌++◌, Option, Some, None}
 use Rattle.std.specs.List.{Contains}
 use Rattle.affinity.specs.declared.geometry.Geometry.{Geometry}
@@ -33,8 +33,8 @@ AreInHistory g history n [] (line ∷ lines) = ⊥
 AreInHistory g history n (l ∷ ls) (line ∷ lines) =
     IsInHistory g history n (message_of l) line × AreInHistory g history (next_ticket n (admitted_in g (message_of l))) ls lines
 
--- The bytes of a device recover to the state to which the changes of this serial history and of some more messages lead from state x. Both
--- together could be a serial server's history of the messages that arrived.
+-- The bytes of a device recover to the state to which the changes of this serial history and of some more messages lead from state x. The
+-- history and these together could be a serial server's history of the messages that arrived.
 pub record RecoversToHistory (g : Geometry) (x : State) (arrivals : List Entry) (history : List Replied) (bytes : List ℕ) : Type 0 where
   pub more : List Replied
   pub serial : IsSerialHistory g x arrivals (history ++ more)

@@ -17,7 +17,7 @@ use Rattle.serving.specs.Lines.{Completed, HaveAnswers, Line, Pending, admitted,
 use Rattle.serving.specs.Runs.{machine_with_jobs}
 use Rattle.serving.specs.Logged.{AreInHistory, RecoversToHistory}
 
--- where the call of a server begins: its core, how many jobs may be lent at once, its input, and what was sent before
+-- what the call of a server begins with: its core, how many jobs may be lent at once, its input, and what was sent before
 pub record Start : Type 0 where
   pub core : CoreView
   pub places : ℕ
@@ -28,9 +28,9 @@ pub record Start : Type 0 where
 abbrev pub start_machine : Start → MachineView
 start_machine s = machine_with_jobs s.core (replicate s.places None)
 
--- A device of these bytes holds what was sent since the start: a line for each of the first lines of the input. Each message of them that
--- took a ticket is in a history, with the reply that was sent. The bytes recover to the state to which the changes of that history lead
--- from the one at the start, perhaps with more of the messages that arrived; and they are not refused.
+-- A device of these bytes holds what was sent since the start: a line for each of the first lines of the input. Each message among these
+-- lines that took a ticket is in a history, with the reply that was sent. The bytes recover to the state to which the changes of that
+-- history lead from the one at the start, perhaps with more of the messages that arrived; and they are not refused.
 pub record HoldsSent (s : Start) (sent : Option (List ℕ)) (bytes : List ℕ) : Type 0 where
   pub consumed : List (List ℕ)
   pub first : AreFirst s.input consumed
@@ -66,7 +66,7 @@ abbrev pub SendsNoReply : List ℕ → Type 0
 SendsNoReply bytes = (ls : List (List ℕ)) × (bytes ≡ joined ls)
     × AllByRecursion (λ line. (line ≡ no_message) ⊎ (line ≡ reply_line (Refused Range))) ls
 
--- a line that is answered without a reply to a message: it is none, or one that is out of range
+-- a line that is answered without a reply to a message in range: it is no message, or one that is out of range
 abbrev pub HasNoReply : Line → Type 0
 HasNoReply (Pending ticket) = ⊥
 HasNoReply (Completed ticket reply) = ⊥

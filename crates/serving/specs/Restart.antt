@@ -11,12 +11,12 @@ use Rattle.messages.specs.declared.Msg.{Msg}
 use Rattle.meaning.specs.Output.{WritesOutput, joined, output_lines, state_after_lines}
 use Rattle.meaning.specs.State.{State}
 
--- Two lines are related if the messages that they encode are in range, at related places.
+-- Two lines are related if the messages that they encode are in range and in conflict: the path of one's affinity begins the other's.
 abbrev pub are_related_lines : Geometry → Option Msg → Option Msg → Bool
 are_related_lines g (Some m) (Some n) = is_in_range g m && is_in_range g n && are_related (path_of g m) (path_of g n)
 are_related_lines g _ _ = false
 
--- The part has some of the lines, in their order. Where a line is left out, so is each related one after it.
+-- The part has some of the lines, in their order. Where a line is left out, each later line related to it is left out, too.
 abbrev pub IsClosedPart : Geometry → List (List ℕ) → List (List ℕ) → Type 0
 IsClosedPart g part [] = part ≡ []
 IsClosedPart g part (line ∷ ls) = ((rest : List (List ℕ)) × (part ≡ line ∷ rest) × IsClosedPart g rest ls)

@@ -1,5 +1,5 @@
--- Statement for operators: A segment of a server's run: its machine, which is the core with what is lent, before and after, and what a
--- crash meanwhile may leave.
+-- Statement for operators: A segment of a server's run: its machine (the core, and as hands the places with the jobs lent there) before and
+-- after, and what a crash meanwhile may leave.
 use Rattle.std.specs.Prelude.{◌≡◌, ◌+◌, ℕ, List, [], map, length, count_by, Option, Some, None}
 use Rattle.legal_runs.specs.Runs.{IsLegal, answered, arrived, end_state}
 use Rattle.legal_runs.specs.CoreState.{Entry, CoreState, held}

@@ -24,9 +24,9 @@ pub record HasServedAll (keeps : Type 0) (start : MachineView) (new : CoreView) 
   pub served : HasServed keeps start new [] input before written
   pub all : AreAll input served.consumed
 
--- A run led to what was written, and each line that was consumed is answered in the output. Where the device failed, some last lines may
--- have no answer there: from the first on that has no reply yet. Where the output failed it is unknown what was written; `device_events`
--- are the events of the run, each with the device after it.
+-- A run led to what was written, and each line that was consumed is answered in the output. Where the device failed, this is so up to the
+-- first line without a reply: that line and those after it have no answer in the output. Where the output failed it is unknown what was
+-- written; `device_events` are the events of the run, each with the device after it.
 abbrev pub HasRunWith : Type 0 → MachineView → CoreView → Option (List ℕ) → Option (List ℕ) → Option (List ℕ)
     → Result (Unit {0}) ServeFault → Type 0
 HasRunWith keeps start new input before written (Ok _) = HasServedAll keeps start new input before written
@@ -36,12 +36,12 @@ HasRunWith keeps start new input before written (Err faults.Write) =
     (consumed : List (List ℕ)) × (device_events : List DeviceEvent) × HasRunLines keeps start new input consumed device_events
 HasRunWith keeps start new input before written (Err _) = HasServed keeps start new [] input before written
 
--- It ends with `NoWorkers` exactly where there are none.
+-- The call ends with `NoWorkers` exactly where there are no workers.
 abbrev pub FailsWithoutWorkers : ℕ → Result (Unit {0}) ServeFault → Type 0
 FailsWithoutWorkers workers (Err faults.NoWorkers) = workers ≡ 0
 FailsWithoutWorkers workers _ = workers ≢ 0
 
--- It didn't end with `NoWorkers`.
+-- The call didn't end with `NoWorkers`.
 abbrev pub HadWorkers : Result (Unit {0}) ServeFault → Type 0
 HadWorkers (Err faults.NoWorkers) = ⊥
 HadWorkers _ = Unit {0}

@@ -1,4 +1,4 @@
--- Inner: Where a session is, its invariant since its start, and how a call moves it.
+-- Inner: The state of a session, its invariant since its start, and how a call moves it.
 use Rattle.std.specs.Prelude.{◌≡◌, ◌≢◌, ◌+◌, ◌≤◌, ◌-◌, ◌^◌, ℕ, Bool, true, false, List, [], ◌++◌, length, map, Option, Some, None, IfSome, IsTrue, MatchResult, OnErr, Result, Ok, Err}
 use Rattle.std.specs.Io.KnownBytes.{IsAtEnd}
 use Rattle.affinity.specs.declared.geometry.Geometry.{Geometry}
@@ -37,7 +37,7 @@ pub record SessionView : Type 0 where
   pub reorder_buffer : ReorderBufferView
   pub reply_buffer : List ℕ
   pub sent : Option (List ℕ)
-  -- how many lines were read and their replies not sent
+  -- how many lines were read whose answers are not sent
   pub outstanding : ℕ
   -- whether sending has failed
   pub output_failed : Bool
@@ -45,7 +45,7 @@ pub record SessionView : Type 0 where
   pub read_end : Option ReadEnd
   -- what is unread of the input
   pub unread : Option (List ℕ)
-  -- whether the end of the input was seen, and all its lines were given
+  -- whether the end of the input was seen, and nothing is buffered any more
   pub drained : Bool
   -- whether the end of the input was seen
   pub ended : Bool
@@ -58,7 +58,8 @@ machine p = machine_with_jobs p.core p.dispatch_seat.lent
 
 -- ---- why no more is read
 
--- The last argument is why no more is read: `unread` is what wasn't consumed of the input then, `remaining` what its reader has left.
+-- The last argument is why no more is read. `unread` is what wasn't consumed of the input when reading ended, `remaining` what its reader
+-- has left.
 abbrev pub IsReadEnd : Geometry → CoreView → Option (List ℕ) → Bool → Option (List ℕ) → ReadEnd → Type 0
 IsReadEnd g now unread drained remaining ends_of_reading.EndOfInput = IsAtEnd unread × IsAtEnd remaining
 IsReadEnd g now unread drained remaining ends_of_reading.ReadFailed = (drained ≡ false) × IfSome unread (λ bs. LosesFront bs remaining)
@@ -75,7 +76,7 @@ known_unless true known = None
 known_unless false known = known
 
 -- From the start of the call a legal run has led to this session, and `unread` is what is left of the input. The answers that wait are
--- those of the next lines to be sent, each of which is known; after them come the lines of the reorder buffer.
+-- those to the next lines in order, `waiting`; after these lines come those of the reorder buffer.
 pub record SessionProgress (keeps : Type 0) (s : Start) (p : SessionView) (unread : Option (List ℕ)) (drained : Bool) : Type 0 where
   pub waiting : List Line
   pub have_answers : HaveAnswers waiting
@@ -100,7 +101,7 @@ ReadsOrHasEnded keeps s p (Some read_end) = HasEndedReading keeps s p read_end
 
 -- What is true of a session between any two calls of it.
 pub record SessionInvariant (keeps : Type 0) (s : Start) (p : SessionView) : Type 0 where
-  -- nothing was in the core or its `doubt` at the start, and the reorder buffer has room for no more lines than the core has slots
+  -- no message was in the core or its `doubt` at the start, and the reorder buffer has room for no more lines than the core has slots
   pub idle : IsIdle (core_state_of s.core)
   pub none_in_doubt : s.core.doubt ≡ []
   pub fits : p.reorder_buffer.slots ≤ s.core.slots
@@ -115,8 +116,8 @@ abbrev pub SessionInvariantFrom : Type 0 → Option Start → SessionView → Ty
 SessionInvariantFrom keeps None p = ⊥
 SessionInvariantFrom keeps (Some s) p = SessionInvariant keeps s p
 
--- A call may begin at this start: nothing is in the core or its `doubt`, it works, and the reorder buffer is empty and has room for no
--- more lines than the core has slots.
+-- A call may begin at this start: no message is in the core or its `doubt`, the device has not failed, and the reorder buffer is empty and
+-- has room for no more lines than the core has slots.
 pub record CanBegin (start : Option Start) (core : CoreView) (places : ℕ) (input sent : Option (List ℕ))
     (reorder_buffer : ReorderBufferView) : Type 0 where
   pub is : start ≡ Some (record { core = core; places = places; input = input; before = sent })
@@ -141,7 +142,8 @@ abbrev pub IsSessionStep : {A : Type 0} → SessionView → SessionView → Resu
 IsSessionStep old new result = (new.read_end ≡ old.read_end)
     × MatchResult result (λ _. new.output_failed ≡ old.output_failed) (λ _. HasHalted new)
 
--- By the result of `cut`: the checkpoint has begun, or waits until no message is held; or the session halts.
+-- What a session makes of the result of `cut`. At `Ok`, or if only a held message was in the way, it doesn't halt; at any other refusal it
+-- does.
 abbrev pub BeginsOrWaits : Result (Unit {0}) PointRefusal → Result (Unit {0}) Halted → Type 0
 BeginsOrWaits (Ok _) result = OnErr result ⊥
 BeginsOrWaits (Err why) result = MatchResult result (λ _. why ≡ refusals.Held) (λ _. why ≢ refusals.Held)

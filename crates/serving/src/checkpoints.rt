@@ -1,4 +1,4 @@
-//! Checkpoints of a session: when one is due, the one that begins then, and the one in progress, which is carried to its end.
+//! Checkpoints of a session: when one is due, how it begins, and how it is carried to its end step by step.
 
 ghost use Rattle.std.specs.Prelude.{◌≡◌, ◌+◌, ℕ, false, [], None, Some, IfOk, MatchBool, OnOk};
 ghost use Rattle.legal_runs.specs.CoreState.{held};
@@ -15,14 +15,14 @@ use std::io::Read;
 /// When checkpoints are due. A wrong count makes them at other times, which no contract forbids.
 #[derive(Clone, Copy)]
 pub(crate) struct CheckpointTrigger {
-    /// After how many records one is due; 0: only where the log has no room.
+    /// After how many records a checkpoint is due; 0: none is due by their count.
     every: u64,
     /// Of the messages answered since the last checkpoint began: how many have a record in the log.
     logged_since: u64,
 }
 
 impl CheckpointTrigger {
-    /// One in which nothing was logged yet.
+    /// A trigger that has counted nothing yet.
     pub(crate) fn new(every: u64) -> CheckpointTrigger {
         CheckpointTrigger {
             every,
@@ -37,7 +37,8 @@ impl CheckpointTrigger {
         }
     }
 
-    /// Takes the result of `cut`: a checkpoint has begun; or (`Held`) one will, once no message is in progress; else the device has failed.
+    /// Takes the result of the core's `cut`. `Ok`: a checkpoint has begun, and the count starts anew. `Held`: none can begin while a
+    /// message is in progress, and the loop goes on. Any other error halts: the device has failed, where no checkpoint was in progress.
     fn note_cut(&mut self, cut: Result<(), PointRefusal>) -> Result<(), Halted>
         ensures { BeginsOrWaits cut result }
     {
@@ -51,14 +52,15 @@ impl CheckpointTrigger {
         }
     }
 
-    /// Whether a checkpoint is due by the record count. None is while one is in progress (`pieces_left` is its number of unwritten pieces).
+    /// Whether a checkpoint is due by the record count. None is due while one is in progress (`pieces_left` is its number of unwritten
+    /// pieces; `None` if none is).
     pub(crate) fn is_due(&self, pieces_left: Option<usize>) -> bool {
         pieces_left.is_none() && self.every != 0 && self.logged_since >= self.every
     }
 }
 
 impl<'c, R: Read, D: Disk, L: ReplySink<D>> Session<'c, R, D, L> {
-    /// Takes the checkpoint in progress a step on, if there is one: to its next piece or, where all are written, to its end. Returns
+    /// Takes one step of the checkpoint in progress, if there is one: writes its next piece or, where all are written, ends it. Returns
     /// whether there was one.
     pub(crate) fn advance_checkpoint(&mut self) -> Result<bool, Halted>
         ensures session_step { IsSessionStep self.old self.new result }
@@ -93,8 +95,8 @@ impl<'c, R: Read, D: Disk, L: ReplySink<D>> Session<'c, R, D, L> {
         self.trigger.note_cut(cut)
     }
 
-    /// Where no job is in flight and no message may be dispatched or read: takes the checkpoint in progress a step on, or begins one where
-    /// it is due or a message lacks only room in the log. Returns whether it did either.
+    /// Called where no job is in flight and no message may be dispatched or read. It takes one step of the checkpoint in progress; if there
+    /// is none, it begins one where it is due or a message lacks only room in the log. Returns whether there was either to do.
     pub(crate) fn advance_or_begin_checkpoint(&mut self, lacks_room: bool) -> Result<bool, Halted>
         ensures session_step { IsSessionStep self.old self.new result }
     {

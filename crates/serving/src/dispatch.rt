@@ -21,28 +21,28 @@ use workers::{Bench, DispatchSeat};
 /// their gates.
 const BATCH: usize = 64;
 
-/// So many polls of all places in a row without a result end the batch: it is logged as it is. They take about ten times as long as a
-/// thread takes to wake up. The count begins anew with each result, so a reply may wait for up to that many polls for each later result
+/// After so many polls of all places in a row without a result the batch is logged as it is. So many polls take about ten times as long as
+/// a thread takes to wake up. The count begins anew with each result, so a reply may wait for up to that many polls for each later result
 /// of its batch.
 const MAX_POLLS: usize = 16384;
 
 /// The thread yields the processor once in this many polls.
 const POLLS_PER_YIELD: usize = 32;
 
-/// What was collected in one iteration, and what kept messages from being dispatched. `budget` falls with each message, so collecting ends;
-/// no contract says that it begins at `BATCH`.
+/// What was collected in one iteration, and whether messages lacked only room in the log to be dispatched. `budget` falls with each
+/// message, so collecting ends; no contract says that it begins at `BATCH`.
 #[derive(Clone, Copy)]
 struct Batch {
     /// How many more messages may be collected before what ran is logged.
     budget: usize,
-    /// Whether one of them changed something, so that it has to be written to the log.
+    /// Whether one of the collected messages changed something, so that it has to be written to the log.
     changed: bool,
     /// Whether the last dispatch ended because no message was eligible, and some message lacked only room in the log.
     lacks_room: bool,
 }
 
 impl Batch {
-    /// One in which nothing was collected yet.
+    /// A batch in which nothing was collected yet.
     fn new(lacks_room: bool) -> Batch {
         Batch {
             budget: BATCH,
@@ -51,7 +51,7 @@ impl Batch {
         }
     }
 
-    /// A message was collected, which changed something or didn't.
+    /// Counts a message that was collected: `changed` is whether it changed something.
     fn add(&mut self, changed: bool)
         ensures { self.new.budget ≡ self.old.budget - 1 }
     {
@@ -64,14 +64,15 @@ impl Batch {
         self.budget < BATCH
     }
 
-    /// Whether what ran is to be logged before more is collected.
+    /// Whether the batch is full: what ran is to be logged before more is collected.
     fn is_full(&self) -> bool
         ensures { IsTrue result ↔ (self.now.budget ≡ 0) }
     {
         self.budget == 0
     }
 
-    /// Whether it is to be logged now: it is full, or it has results of which none needs a write. In both cases waiting gains nothing.
+    /// Whether the batch is to be logged now: it is full, or it has results of which none needs a write to the log. In both cases waiting
+    /// gains nothing.
     fn is_ready_to_log(&self) -> bool {
         self.is_full() || self.has_results() && !self.changed
     }
@@ -90,8 +91,8 @@ enum Dispatched {
     Failed,
 }
 
-/// If a job was granted, offers it to the workers at place k of a bench, the first free one. Returns how that ended. Inlined, so that
-/// the job isn't moved once more.
+/// If a job was granted (dispatched by the core), offers it to the workers at place k of the bench, the first free place. Returns what came
+/// of the grant. Inlined, so that the job isn't moved once more.
 #[inline(always)]
 fn offer_granted(
     bench: &Bench,
@@ -116,7 +117,7 @@ fn offer_granted(
     }
 }
 
-/// Spins once after poll number `polls`, or yields where that is a multiple of `POLLS_PER_YIELD`.
+/// A pause after poll number `polls`: one spin of the processor or, where the number is a multiple of `POLLS_PER_YIELD`, a yield.
 fn pause(polls: usize) {
     if polls % POLLS_PER_YIELD == 0 {
         yield_now();
@@ -126,7 +127,7 @@ fn pause(polls: usize) {
 }
 
 impl<'c, R: Read, D: Disk, L: ReplySink<D>> Session<'c, R, D, L> {
-    /// Dispatches the eligible message with the least ticket to place k, the first free one.
+    /// Dispatches the eligible message with the least ticket, if there is one, to place k, the first free one.
     fn dispatch_to(&mut self, k: usize) -> Dispatched
         requires first { position is_none self.old.dispatch_seat.lent ≡ Some k }
         ensures as_before { KeepsReadEndAndOutputFailed self.old self.new }
@@ -155,7 +156,8 @@ impl<'c, R: Read, D: Disk, L: ReplySink<D>> Session<'c, R, D, L> {
     }
 
     /// Dispatches messages, unless a checkpoint is due by the record count. Returns whether it ended because no message was eligible and
-    /// some message lacked only room in the log. Where the device has failed, none is dispatched: the next call of `log` reports that.
+    /// some message lacked only room in the log. Where the device has failed, none is dispatched: the next call of the core's `log` reports
+    /// the failure.
     fn dispatch_ready(&mut self) -> bool
         ensures as_before { KeepsReadEndAndOutputFailed self.old self.new }
     {
@@ -163,7 +165,7 @@ impl<'c, R: Read, D: Disk, L: ReplySink<D>> Session<'c, R, D, L> {
             && matches!(self.dispatch_all(), Dispatched::NoRoom)
     }
 
-    /// Collects the result of the job at place k, if it was delivered. Returns whether the job changed something.
+    /// Collects the result of the job at place k, if it was delivered. Returns whether the job changed something; `None` without a result.
     fn collect_one(&mut self, k: usize) -> Option<bool>
         requires place { k < length self.old.dispatch_seat.lent }
         ensures as_before { KeepsReadEndAndOutputFailed self.old self.new }
@@ -179,7 +181,7 @@ impl<'c, R: Read, D: Disk, L: ReplySink<D>> Session<'c, R, D, L> {
         Some(changed)
     }
 
-    /// Polls each place once, and collects the results that were delivered, until the batch is full. Returns whether there was one.
+    /// Polls each place once, and collects the results that were delivered, until the batch is full. Returns whether there was a result.
     fn collect_delivered(&mut self, batch: &mut Batch) -> bool
         ensures as_before { KeepsReadEndAndOutputFailed self.old self.new }
         ensures failed { self.new.core.failed ≡ self.old.core.failed }
@@ -245,7 +247,7 @@ impl<'c, R: Read, D: Disk, L: ReplySink<D>> Session<'c, R, D, L> {
         ensures logged { OnOk result (self.new.core.ran ≡ []) }
         ensures failed { OnErr result (self.new.core.failed ≡ true) }
     {
-        let count = self.core.slots(); // no more messages can have run
+        let count = self.core.slots(); // more messages than slots can't have run
         or_halt(self.core.log(count))
     }
 
@@ -265,15 +267,15 @@ impl<'c, R: Read, D: Disk, L: ReplySink<D>> Session<'c, R, D, L> {
         Ok(())
     }
 
-    /// Whether unsent answers make up at least half of the lines that may be outstanding. They are sent then, so that new lines can be read
-    /// while the others are in progress.
+    /// Whether the lines with unsent answers are at least half of those that may be outstanding. The answers are sent then, so that new
+    /// lines can be read while the other lines are in progress.
     fn is_half_unsent(&self) -> bool {
         let slots = self.reorder_buffer.slots();
         self.outstanding.saturating_sub(self.reorder_buffer.len()) >= slots - slots / 2
     }
 
-    /// Where nothing was read or collected, or the session has caught up: sends the answers that wait. If a buffered line may then be read,
-    /// it returns. Else, if a job is in flight, it waits for a result; if none is, it calls `advance_or_begin_checkpoint`.
+    /// Called where nothing was read or collected, or the session has caught up. It sends the answers that wait. If a buffered line may
+    /// then be read, it returns. Else, if a job is in flight, it waits for a delivery; if none is, it calls `advance_or_begin_checkpoint`.
     fn flush_or_wait<W: GatedRuntime>(
         &mut self,
         rt: &W,
@@ -297,7 +299,8 @@ impl<'c, R: Read, D: Disk, L: ReplySink<D>> Session<'c, R, D, L> {
         })
     }
 
-    /// Whether reading goes on, each line that was read is retired, and none is buffered: the client may wait for what is to be sent.
+    /// Whether reading goes on, each line that was read is retired, and no further line is buffered: the client may be waiting for the
+    /// answers that are still to be sent.
     fn has_caught_up(&self) -> bool {
         self.read_end.is_none() && self.reorder_buffer.len() == 0 && !self.line_reader.holds_line()
     }

@@ -1,5 +1,6 @@
-//! The loop of a session: lines are read and worked off, until no more is read and each is answered. Where the device or the output
-//! has failed, jobs in flight are waited for and their results collected, and what can still be done is done.
+//! The loop of a session: lines are read and worked off, until no more is read and each is answered. Where the device or the output has
+//! failed, jobs in flight are waited for and their results collected; what ran is logged if the device works, and the answers next in order
+//! are sent if the output works.
 
 ghost use Rattle.std.specs.Prelude.{◌≡◌, Err, IfSome, MatchResult, None, OnOk, Some, [], false};
 ghost use Rattle.serving.specs.Serve.{HasEmptyLog};
@@ -16,7 +17,7 @@ use std::io::Read;
 use std::sync::Wait;
 use workers::{DispatcherTask, Gate};
 
-/// What a server reports where no more was read for this reason; nothing, if there is none.
+/// What a server reports where it read no more for this reason: no fault at the end of the input. Without a reason it reports none either.
 fn reported_for(read_end: Option<ReadEnd>) -> Result<(), ServeFault>
     ensures { IfSome read_end (λ why. result ≡ end_of why) }
 {
@@ -37,7 +38,7 @@ impl<'c, R: Read, D: Disk, L: ReplySink<D>> Session<'c, R, D, L> {
         ensures { EndsBy self.new (Err result) }
     {
         self.drain_workers(rt);
-        // A device that has failed logs nothing. Where it fails here, the end that is reported is the same.
+        // A device that has failed logs nothing. If it fails only here, the output has failed before, and `Write` is reported all the same.
         let _logged = self.log_what_ran();
         match self.answer_and_flush(rt) {
             Ok(()) => ServeFault::Device,
@@ -45,7 +46,7 @@ impl<'c, R: Read, D: Disk, L: ReplySink<D>> Session<'c, R, D, L> {
         }
     }
 
-    /// Why the loop ends, once no more is read, each line that was read is retired, and no checkpoint is in progress.
+    /// Why the loop ends, once no more is read, each line that was read is retired, and no checkpoint is in progress. `None`: it goes on.
     fn ended(&self) -> Option<ReadEnd>
         ensures { IfSome result
             (λ read_end. (self.now.read_end ≡ Some read_end) × (self.now.reorder_buffer.lines ≡ []) × (self.now.core.pieces_left ≡ None)) }
@@ -58,7 +59,7 @@ impl<'c, R: Read, D: Disk, L: ReplySink<D>> Session<'c, R, D, L> {
     }
 
     /// Sends the answers in the reply buffer, and at the end of the input makes the last checkpoint: no message is in the core then, and
-    /// the log is empty after it. It halts where the device or the output has failed.
+    /// the log is empty after the checkpoint. `Halted` where the device or the output has failed.
     fn finish(&mut self, read_end: ReadEnd) -> Result<(), Halted>
         requires all_retired { self.old.reorder_buffer.lines ≡ [] }
         requires none { self.old.core.pieces_left ≡ None }
@@ -105,9 +106,9 @@ impl<'c, R: Read, D: Disk, L: ReplySink<D>> DispatcherTask<Result<(), ServeFault
 
     ghost gives = { λ old new end. EndsBy new end × OnOk end (D.keeps → HasEmptyLog new.core) };
 
-    /// Serves line after line until the input ends, with a checkpoint where one is due, and one at the end of the input. All that was
-    /// answered is written when it returns, unless the output failed. If several things fail in one call, an output failure is reported
-    /// rather than a device failure, and that rather than any other.
+    /// Serves line after line until the input ends, with a checkpoint where one is due, and one at the end of the input. When it returns,
+    /// the answers are written up to the first line that has none, unless the output failed. If several things fail in one call, an output
+    /// failure is reported rather than a device failure, and a device failure rather than any other.
     fn run_task<T: Wait, G: Gate>(&mut self, rt: &T, gate: &G) -> Result<(), ServeFault> {
         let rt = &(rt, gate);
         match self.serve_lines(rt) {

@@ -1,9 +1,9 @@
-//! What a session runs with beside its bench: the runtime of its call, and the gate whose hooks it calls.
+//! What a session runs with beside its bench: the runtime of its call, by which it waits, and the `Gate` (hooks for tests) that it calls.
 
 use std::sync::Wait;
 use workers::Gate;
 
-/// A runtime, and the gate that is notified of each answered message.
+/// A runtime, and the `Gate` whose hook is called for each answered message.
 pub(crate) trait GatedRuntime: Wait {
     /// The message of this ticket was just answered.
     fn answered(&self, ticket: u64);

@@ -17,9 +17,9 @@ use reorder_buffer::{Line, ReorderBuffer};
 use scheduler::Core;
 use std::io::Read;
 
-/// Takes the line of these bytes into the reorder buffer, and its message, if it is one in range, into the core; one out of range takes no
-/// ticket. `Err` is why no more is read: the core refuses the message for another reason, and the line isn't taken in. Where the reorder
-/// buffer has room for the line, the core has a slot for its message.
+/// Takes the line of these bytes into the reorder buffer and, if it is a message in range, the message into the core; a message out of
+/// range takes no ticket. `Err` is why no more is read: the core refuses the message for another reason than its range, and the line isn't
+/// taken in. Where the reorder buffer has room for the line, the core has a slot for its message.
 fn take<D: Disk>(
     core: &mut Core<D>,
     reorder_buffer: &mut ReorderBuffer,
@@ -62,8 +62,8 @@ fn may_read(read_end: Option<ReadEnd>, outstanding: usize, slots: usize) -> bool
 }
 
 impl<'c, R: Read, D: Disk, L: ReplySink<D>> Session<'c, R, D, L> {
-    /// Reads the next line, if there is one, and takes it in. Returns whether it did: if not, no more is read, and `read_end` says why. It
-    /// is called while fewer lines are outstanding than there are slots.
+    /// Reads the next line, if there is one, and takes it in. Returns whether it did. If it didn't, no more is read from now on, and
+    /// `read_end` says why. It may be called only while fewer lines are outstanding than there are slots.
     fn read_next(&mut self) -> bool
         requires reads { self.old.read_end ≡ None }
         requires room { self.old.outstanding < self.old.reorder_buffer.slots }
@@ -115,9 +115,9 @@ impl<'c, R: Read, D: Disk, L: ReplySink<D>> Session<'c, R, D, L> {
             && self.line_reader.holds_line()
     }
 
-    /// Reads the lines in the input buffer, while fewer lines are outstanding than there are slots. If `last`, what the loop did before, is
-    /// `Idle`, one line is read even if none is buffered, which may wait: lines that come with it are read too, so that their changes are
-    /// logged together. None is read once reading has ended.
+    /// Reads the lines in the input buffer, while fewer lines are outstanding than there are slots. If `last`, what the loop did in its
+    /// last iteration, is `Idle`, one line is read even if none is buffered: this may wait for input. Lines that the same read brings in
+    /// are read too, so that their changes are logged together. None is read once reading has ended.
     pub(crate) fn read_more(&mut self, last: Activity) -> Activity
         ensures output_failed { self.new.output_failed ≡ self.old.output_failed }
     {

@@ -49,7 +49,7 @@ pub fn known_lines_are_serial()
     ensures state { (g : Geometry) (x : State) (ls : List (List ℕ)) → state_after_all g x (admitted g ls) ≡ state_after_lines g x ls }
 {}
 
-/// A segment of a run that goes on where another ended makes one segment with it.
+/// Two segments of a run, the second of which begins where the first ends, are together one segment.
 pub fn segments_join<D: Disk>()
     ensures { (old mid new : MachineView) (arriving more : List Entry) (replies others : List (ℕ × Reply))
         → RunsBetween D.keeps old mid arriving replies
@@ -79,10 +79,11 @@ pub fn each_unanswered_message_has_its_line<D: Disk>()
         → unanswered (core_state_of now.core) ≤ length unsent }
 {}
 
-/// A server that began with nothing in it has written what the serial server writes, however many messages ran at once: at the end of the
-/// input all of it; where a read failed, the answers to the whole lines that were read; where no ticket was left, those to the lines
-/// before; and at every moment a prefix of it in whole lines. Where each line that was read is answered, nothing waits or is held, and
-/// it has committed what the serial server reaches. One legal run led to all that was written.
+/// A server in whose core nothing waited or was held at the start has written what the serial server writes, however many messages ran at
+/// once: at the end of the input all of it; where a read failed, the answers to the whole lines that were read; where a line found no
+/// ticket, the answers to the lines before it; where the device failed, a prefix of it in whole lines. In the first three cases nothing
+/// waits or is held, and the core has committed the state that the serial server has after the answered lines. One legal run led to all
+/// that was written (`run`).
 pub fn serving_ends_as_the_serial_server<D: Disk>()
     ensures end_of_input { (start now : MachineView) (input unread : Option (List ℕ)) (drained : Bool) (before written : Option (List ℕ))
         → IsIdle (core_state_of start.core) → ServingProgress D.keeps start now [] input unread drained before written
@@ -105,10 +106,10 @@ pub fn serving_ends_as_the_serial_server<D: Disk>()
         → (D.keeps → RecoversNow now.core) → HasServed D.keeps start now.core unsent input before written }
 {}
 
-/// Where `doubt` was empty in the beginning, the device holds what was answered. Each line that was written for a message with a
-/// ticket is of a message logged in its run, with that ticket and that reply. After a crash at any moment since event number k
-/// ended, the device recovers to the state after all that was logged by then, perhaps with more of the messages that arrived. After a
-/// crash when the server has ended, the same of all that was logged in the run.
+/// Where `doubt` was empty in the beginning, the device holds what was answered. Each line that was written for a message with a ticket is
+/// of a message that was logged in the run, with that ticket and that reply. After a crash at any moment since event number k ended, the
+/// device recovers to the state after all that was logged by then, perhaps with more of the messages that arrived. After a crash when the
+/// server has ended, it recovers so for all that was logged in the run.
 pub fn what_was_sent_is_on_the_device<D: Disk>()
     ensures logged { (start : MachineView) (new : CoreView) (input : Option (List ℕ)) (consumed : List (List ℕ))
         (device_events : List DeviceEvent)
@@ -143,8 +144,9 @@ pub fn what_may_be_sent_is_recovered<D: Disk>()
         → BytesRecover s.core.geometry (committed_in s.core) s.input s.before later c }
 {}
 
-/// Nothing may be sent too early: as long as each message that has arrived is still inside, waiting or held, no call may send a reply,
-/// alone or among other lines: it sends lines for what is no message or out of range. So none reports that a message was carried out.
+/// Nothing may be sent too early: as long as each message that has arrived is still in the core, waiting or held, no call may send a reply
+/// to a message in range, alone or among other lines. The only lines that may be sent then report that a line is no message, or that a
+/// message is out of range. So none reports that a message was carried out.
 pub fn nothing_is_sent_before_it_is_answered<D: Disk>()
     ensures none { (s : Start) (sent : Option (List ℕ)) (now : CoreView) (bytes : List ℕ)
         → unanswered (core_state_of now) + s.core.next ≡ now.next

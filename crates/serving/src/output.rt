@@ -13,20 +13,21 @@ use message::WriteFault;
 use scheduler::Core;
 use std::io::Read;
 
-/// Where a server sends its lines. Its precondition holds wherever `send` is called, even in a function that never returns: what is sent
-/// was answered before, and whatever a crash leaves of the device then holds it.
+/// Where a server sends its lines. The condition of `send` is proved wherever `send` is called, even in a function that never returns: what
+/// is sent was answered before, and whatever a crash leaves of the device then holds it.
 pub trait ReplySink<D: Disk> {
     ghost use Rattle.std.specs.Prelude.{List, ℕ, Option, OnOk};
     ghost use Rattle.std.specs.Io.KnownBytes.{Appends};
     ghost use Rattle.serving.specs.Output.{MaySend, Start};
 
-    /// The state at the start of the `serve` call whose lines are sent; none before it.
+    /// What the `serve` call whose lines are sent began with (its core, places, input and output); `None` before that call.
     ghost start: { Option Start };
 
     /// What was sent, if it is known.
     ghost sent: { Self → Option (List ℕ) };
 
-    /// Sends lines, each with its newline, after those that were sent before. The core is as it is now.
+    /// Sends lines, each with its newline, after those that were sent before. `core` is the server's core as it is now: the condition
+    /// speaks of it.
     ///
     /// # Errors
     ///
@@ -37,8 +38,8 @@ pub trait ReplySink<D: Disk> {
 }
 
 impl<'c, R: Read, D: Disk, L: ReplySink<D>> Session<'c, R, D, L> {
-    /// Answers the message that was logged first, if there is one: its line in the reorder buffer is completed then. Returns whether there
-    /// was one. A change that was carried out counts towards the next checkpoint, saturating.
+    /// Answers the message that was logged first, if there is one: its line in the reorder buffer gets the reply. Returns whether there was
+    /// one. A change that was carried out is counted towards the next checkpoint, by a count that saturates.
     pub(crate) fn answer_first<W: GatedRuntime>(&mut self, rt: &W) -> bool
         ensures as_before { KeepsReadEndAndOutputFailed self.old self.new }
         ensures dispatch_seat { self.new.dispatch_seat ≡ self.old.dispatch_seat }
@@ -57,7 +58,7 @@ impl<'c, R: Read, D: Disk, L: ReplySink<D>> Session<'c, R, D, L> {
         true
     }
 
-    /// Sends the answers in the reply buffer, unless something could not be sent before.
+    /// Sends the answers in the reply buffer. `Halted` if that fails, or if an earlier send had failed: then nothing is sent.
     pub(crate) fn flush_replies(&mut self) -> Result<(), Halted>
         ensures session_step { IsSessionStep self.old self.new result }
         ensures same { (self.new.core ≡ self.old.core) × (self.new.reorder_buffer ≡ self.old.reorder_buffer)
@@ -99,7 +100,8 @@ impl<'c, R: Read, D: Disk, L: ReplySink<D>> Session<'c, R, D, L> {
         }
     }
 
-    /// Retires the oldest line of the reorder buffer into the reply buffer, if its answer is known. Returns whether it did.
+    /// Retires the oldest line of the reorder buffer, if its answer is known: the answer goes into the reply buffer. Returns whether it
+    /// did.
     fn retire_first(&mut self) -> Result<bool, Halted>
         ensures session_step { IsSessionStep self.old self.new result }
         ensures same { (self.new.core ≡ self.old.core) × (self.new.dispatch_seat ≡ self.old.dispatch_seat) }

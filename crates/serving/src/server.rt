@@ -33,11 +33,12 @@ pub enum ServeFault {
     Read,
     /// The output could not be written. What was written of it is unknown.
     Write,
-    /// The device failed. Only whole lines were written, and each reply to a message with a ticket is of one that was logged before.
+    /// The device failed. Only whole lines were written, and each reply among them to a message with a ticket is to a message that was
+    /// logged before.
     Device,
     /// There was no memory, or a thread could not be started. Nothing was read or written.
     OutOfMemory,
-    /// There is no ticket left. The lines before the one that found none are answered.
+    /// There is no ticket left. The lines before the one whose message found no ticket are answered.
     Exhausted,
 }
 
@@ -50,8 +51,8 @@ pub struct ServeError<D: Disk> {
     pub fault: ServeFault,
 }
 
-// What a server has before it reads: room for what is read, for the lines that are not retired and for the answers that wait, and a
-// bench with its seats. Nothing lies there yet.
+// What a server has before it reads: room for what is read, for the lines that are not retired and for the answers that wait, and a bench
+// with its seats. None of it is used yet.
 struct Preallocated {
     input: Vec<u8>,
     reorder_buffer: ReorderBuffer,
@@ -66,8 +67,8 @@ struct Preallocated {
     ghost none_lent: { dispatch_seat.lent ≡ replicate bench.slots None },
 }
 
-// Takes the memory for lines of which at most `slots` are outstanding, and opens a bench with a place for each
-// worker (contracts call the places `bench.slots`).
+// Takes the memory for lines of which at most `slots` are outstanding, and opens a bench with a place for each worker. Contracts call the
+// number of places `bench.slots`; it has nothing to do with the `slots` for lines.
 fn take_memory(alloc: Global, slots: usize, workers: usize) -> Result<Preallocated, AllocError>
     requires { workers ≤ 64 }
     ensures slots { IfOk result (λ memory. memory.reorder_buffer.slots ≡ slots) }
@@ -87,7 +88,7 @@ fn take_memory(alloc: Global, slots: usize, workers: usize) -> Result<Preallocat
     })
 }
 
-// What a server hands back: its core, and its fault, if it ended before the end of its input or a thread could not be started.
+// What a server hands back: its core, and its fault, if it ended before the end of its input or (`Err`) a thread could not be started.
 fn hand_back<D: Disk>(
     core: Core<D>,
     ended: Result<Result<(), ServeFault>, AllocError>,
@@ -105,8 +106,8 @@ fn hand_back<D: Disk>(
     Err(ServeError { core, fault })
 }
 
-// Serves the lines of a reader that is borrowed, and hands back the reader and the sink, too. `N` names that loan (see
-// `message::LentReader`): a caller passes `Brand`, and its proof chooses the name.
+// Serves the lines of a reader that is borrowed, and hands back the reader and the sink, too. `N` names the loan of the reader (see
+// `message::LentReader`): a caller passes `Brand`, and the caller's proof chooses the name.
 fn serve_borrowed<
     'a,
     'c,
@@ -171,10 +172,11 @@ fn serve_borrowed<
     (hand_back(core, ended), reader, sink)
 }
 
-/// Reads the lines that a reader still has and sends one line for each, while `workers` threads run the messages. The lines and the core
-/// are as the serial server would leave them, for every schedule of the workers. A checkpoint is made after `every` records, if that isn't
-/// 0, where the log has no room, and at the end of the input. All memory is taken before the first read, and the threads have ended when it
-/// returns. Lines are sent under the condition of `ReplySink::send` and in no other way.
+/// Reads the lines that a reader still has and sends one line for each, while `workers` threads run the messages. At the end of the input
+/// the lines that were sent are the serial server's, and the core has committed the serial server's state, for every schedule of the
+/// workers. A checkpoint is made after each `every` records (0: never by their count), where the log has no room, and at the end of the
+/// input. All memory is taken before the first read, and the threads have ended when it returns. Lines are sent under the condition of
+/// `ReplySink::send` and in no other way.
 ///
 /// # Errors
 ///
@@ -233,7 +235,8 @@ trait Beginning {
     ghost name: { GName };
 }
 
-// For the one call in `serve`: its proof (`proofs/server/serve/Invariants.antt`) chooses the start and the loan, and these are stand-ins.
+// For the one call in `serve`: its proof (`proofs/server/serve/Invariants.antt`) chooses the start and the loan, and the values here are
+// stand-ins.
 impl Beginning for Brand {
     ghost use Rattle.std.specs.Prelude.{None};
 
@@ -242,7 +245,8 @@ impl Beginning for Brand {
     ghost name = { 0 };
 }
 
-// A writer that is borrowed, to which lines are sent. Its type names the loan, so that no other writer can be put in its place.
+// A writer that is borrowed, to which lines are sent. The type `Output` names the loan, so that no other writer can be put in the place of
+// this one.
 struct Output<'w, W, B: Beginning> {
     w: &'w mut W,
     of: PhantomData<B>,
@@ -316,9 +320,9 @@ fn serve_writer<
 }
 
 /// Reads the lines that a reader still has and writes one line of output for each, while `workers` threads of their own run the messages.
-/// The lines and the core are as the serial server would leave them, for every schedule of the workers. A checkpoint is made after `every`
-/// records, if that isn't 0, where the log has no room, and at the end of the input. All memory is taken before the first read, and the
-/// threads have ended when it returns.
+/// At the end of the input the lines that were written are the serial server's, and the core has committed the serial server's state, for
+/// every schedule of the workers. A checkpoint is made after each `every` records (0: never by their count), where the log has no room, and
+/// at the end of the input. All memory is taken before the first read, and the threads have ended when it returns.
 ///
 /// # Errors
 ///

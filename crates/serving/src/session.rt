@@ -1,5 +1,5 @@
-//! A session: the core, the dispatcher's seat, the lines that were read, and the answers that wait, with the input of the call and
-//! its sink. Its invariant: from the start of the call a legal run has led to where it is.
+//! A session: the core, the dispatcher's seat, the lines that were read, and the answers that wait, with the input of the call and its
+//! sink. Its invariant: from the start of the call a legal run has led to its present state.
 
 ghost use Rattle.std.specs.Prelude.{◌≡◌, MatchResult, OnOk, Ok};
 
@@ -31,7 +31,7 @@ pub(crate) enum ReadEnd {
 pub(crate) enum Activity {
     /// It did something, or more can be done without waiting.
     Busy,
-    /// It did nothing. Where all parts of the loop are idle, it may wait for input.
+    /// It did nothing. Where all parts of the loop are idle, the loop may wait for input.
     Idle,
 }
 
@@ -39,7 +39,7 @@ pub(crate) enum Activity {
 #[derive(Clone, Copy)]
 pub(crate) struct Halted;
 
-/// The result of a call of the core, with `Halted` for any error: there an error means that the device has failed.
+/// The result of a call of the core, with `Halted` for any error. It is used where an error means that the device has failed.
 pub(crate) fn or_halt<T, E: Copy>(answer: Result<T, E>) -> Result<T, Halted>
     ensures { MatchResult answer (λ x. result ≡ Ok x) (λ _. OnOk result ⊥) }
 {
@@ -63,15 +63,16 @@ pub(crate) struct Session<'c, R: Read, D: Disk, L: ReplySink<D>> {
     pub(crate) trigger: CheckpointTrigger,
     /// The input.
     pub(crate) line_reader: LineReader<R>,
-    /// Why no more of it is read, once that is so.
+    /// Why no more of the input is read; `None` while reading goes on.
     pub(crate) read_end: Option<ReadEnd>,
-    /// How many lines are outstanding: read, and not answered in the output. They are in the reorder buffer, or their answers wait.
+    /// How many lines are outstanding: read, and not answered in the output. They are in the reorder buffer, or their answers wait in the
+    /// reply buffer.
     pub(crate) outstanding: usize,
     /// Where it sends the lines.
     pub(crate) sink: L,
-    /// Whether that has failed. Nothing more is sent then.
+    /// Whether the sink has failed. Nothing more is sent then.
     pub(crate) output_failed: bool,
-    /// The bench where its jobs are offered.
+    /// The bench where jobs are offered to the workers.
     pub(crate) bench: &'c Bench,
 }
 

@@ -6,7 +6,7 @@ use Rattle.byteorder.specs.Endian.{little_bytes, little_number}
 use Rattle.stripe.specs.Stripe.{BlockEntry}
 use Rattle.stripe.specs.Entries.{entry_bytes, entry_in, entries_in}
 
--- An entry has room for its block's number, and a whole block.
+-- The entry can be encoded: its content is a whole block, and its block's number fits in two bytes.
 pub record IsSpellable (e : BlockEntry) : Type 0 where
   pub long : length e.content.0 ≡ 512
   pub small : e.block < 65536

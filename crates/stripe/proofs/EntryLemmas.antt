@@ -7,7 +7,7 @@ use Rattle.messages.specs.declared.Block.{Block}
 use Rattle.stripe.specs.Stripe.{BlockEntry, content_at, ComesBefore, IsAscending}
 use Rattle.stripe.specs.Index.{no_entry, PrecedesEntry, IsSplit, IsAt, IsGap, rewritten}
 
--- ---- two places
+-- ---- whether two blocks are the same one
 
 pub match_tells : (f b i j : ℕ) → ((((f == i) && (b == j)) ≡ true) × (f ≡ i) × (b ≡ j)) ⊎ ((((f == i) && (b == j)) ≡ false) × ((f ≡ i) → (b ≡ j) → ⊥))
 match_tells f b i j = elim (eqb_tells f i) [
@@ -122,7 +122,7 @@ content-here (e ∷ es) (suc n) within up =
 pub content-at : (es : List BlockEntry) (f b n : ℕ) → IsAscending es → IsAt es f b n → content_at es f b ≡ Some (slice_index_or es n no_entry).content
 content-at es f b n up at = rw (← at.file, ← at.block) (content-here es n at.within up)
 
--- another entry behind the head leaves what the head holds
+-- look-up in two lists with the same head, where it finds the same behind the head
 under_head : (e : BlockEntry) (i j : ℕ) (x y : Option Block) → x ≡ y
     → (if (i == e.file) && (j == e.block) then Some e.content else x) ≡ (if (i == e.file) && (j == e.block) then Some e.content else y)
 under_head e i j x y same = ap (λ (o : Option Block). if (i == e.file) && (j == e.block) then Some e.content else o) same
@@ -171,7 +171,7 @@ content-rewritten {es} {f} {b} {n} content up at i j = elim (match_tells f b i j
   | inr o ↦ rw o.0 (other-rewritten es n content i j at.within (λ file block. o.1 (sym (file ∙ at.file)) (sym (block ∙ at.block))))
 ]
 
--- ---- a run is cut out
+-- ---- a run (entries next to each other) is cut out
 
 -- look-up doesn't see a run in which nothing matches
 content-cut_other : (es : List BlockEntry) (from end : ℕ) (i j : ℕ) → from ≤ end
@@ -216,7 +216,7 @@ module _ {X : Type 0} (P Q : X → Type 0) where
   all-between (suc from) (suc end) [] first second = tt
   all-between (suc from) (suc end) (x ∷ xs) first second = all-between from end xs first second.1
 
--- the entries around one
+-- the entries before one in the list and behind it
 before-at : (es : List BlockEntry) (n : ℕ) → n < length es → IsAscending es → AllByRecursion (λ e. ComesBefore e (slice_index_or es n no_entry)) (take n es)
 before-at [] n within up = absurd (omega arith)
 before-at (e ∷ es) zero within up = tt
@@ -249,7 +249,7 @@ content-cleared es f b n up at i j =
           (alone-at NotThere es n (λ file block. o.1 (sym (file ∙ at.file)) (sym (block ∙ at.block)))))
     ]
 
--- ---- the run of a file
+-- ---- the run of a file: its entries, which are next to each other
 
 IsBefore-start : (i j f : ℕ) → PrecedesEntry i j f 0 → i < f
 IsBefore-start i j f (inl low) = low
@@ -295,7 +295,7 @@ content-missing es f b none i j = elim (match_tells f b i j) [
   | inr o ↦ rw o.0 refl
 ]
 
--- ---- a gap
+-- ---- a gap: the position at which a block would be inserted
 
 apart-behind : (i j f b : ℕ) → (PrecedesEntry i j f b → ⊥) → ((i ≡ f) → (j ≡ b) → ⊥) → PrecedesEntry f b i j
 apart-behind i j f b unordered other = elim (leb_tells (suc f) i) [

@@ -17,7 +17,7 @@ no_block_of f b e = ⊎_elim
     other_half true q off = off
     other_half false q off = refl
 
--- Nothing is held of a block that comes before all entries.
+-- Look-up finds nothing of a block that comes before all entries.
 pub content-before : (f b : ℕ) (es : List BlockEntry) → AllByRecursion (λ e. PrecedesEntry f b e.file e.block) es → content_at es f b ≡ None
 content-before f b [] before = refl
 content-before f b (e ∷ es) before = ap (λ (t : Bool). if t then Some e.content else content_at es f b) (no_block_of f b e before.0) ∙ content-before f b es before.1

@@ -74,12 +74,12 @@ row_spelled (m ∷ f ∷ l ∷ h ∷ p ∷ q ∷ r ∷ []) long marked blank l_s
 length-entry_in : (row : List ℕ) → length row ≡ 520 → length (entry_bytes (entry_in row)) ≡ 520
 length-entry_in row long = omega (arith, length-drop 8 row, long)
 
--- ---- as far as some entries were read
+-- ---- after some entries were read
 
 abbrev pub row_at : List ℕ → ℕ → List ℕ
 row_at bytes n = take 520 (drop (n * 520) bytes)
 
--- The first entries were read: they fill the front of the bytes, and the others are still there.
+-- The first n entries were read, and are `es`: they fill the front of the bytes, and the others are still to be read.
 pub record HasRead (g : Geometry) (files s : ℕ) (bytes : List ℕ) (es : List BlockEntry) (n : ℕ) : Type 0 where
   pub front : take (n * 520) bytes ≡ flat_map entry_bytes es
   pub ascending : IsAscending es
@@ -92,7 +92,7 @@ module _ (g : Geometry) (files s : ℕ) (bytes : List ℕ) (long : length bytes 
       let fits : n * 520 ≤ length bytes = omega (arith, few, long) in
       ap length (sym has.front) ∙ length-take-le (n * 520) bytes fits
 
-  -- all of them
+  -- all entries were read
   pub all_read : (es : List BlockEntry) → HasRead g files s bytes es g.quota → IsStripePiece g files s bytes × (es ≡ entries_in g.quota bytes)
   all_read es has =
       let none : g.quota - g.quota ≡ 0 = omega arith in

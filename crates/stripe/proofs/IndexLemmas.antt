@@ -16,7 +16,7 @@ use Rattle.stripe.proofs.EntryLemmas.{before-before, content-at, ascending-rewri
 
 -- ---- the search
 
--- what the search asks of a place
+-- what the search asks of an index entry: whether its block comes before block b of file f
 abbrev pub is_before : IndexEntry → ℕ → ℕ → Bool
 is_before p f b = nat_lt p.file f || ((p.file == f) && nat_lt p.block b)
 
@@ -210,7 +210,7 @@ stored-written arena index n p content stored within here =
       small = rw long stored.small;
     }
 
--- the slot of a place is there
+-- the slot of an index entry is in the arena
 pub slot-within : (arena : ArenaView Block) (index : List IndexEntry) (n : ℕ) (p : IndexEntry) → IsStored arena index → n < length index
     → p ≡ slice_index_or index n p → p.slot < length arena.values
 slot-within arena index n p stored within here = held-within arena.values p.slot (stored.hold p.slot (count_of-place index n p within here))
@@ -253,7 +253,7 @@ length-index_inserted index zero p = refl
 length-index_inserted [] (suc n) p = refl
 length-index_inserted (q ∷ index) (suc n) p = ap (λ k. suc k) (length-index_inserted index n p)
 
--- a free slot holds nothing, so no place has it
+-- a free slot holds nothing, so no index entry has it
 unclaimed : (arena : ArenaView Block) (index : List IndexEntry) (i : ℕ) → IsStored arena index → 0 < count_of i arena.free → count_of i (slots_of index) ≡ 0
 unclaimed arena index i stored some = elim (leb_tells 1 (count_of i (slots_of index))) [
   | inl e ↦ absurd (let held = stored.hold i e.1 in let empty = stored.partitioned.free_empty i some in let lost : false ≡ true = sym (ap is_some empty) ∙ held in cc)
@@ -325,9 +325,9 @@ module _ (arena : ArenaView Block) (index : List IndexEntry) (slot : ℕ) (conte
           small = rw is (let small = stored.small in omega arith);
         }
 
--- ---- a run is cut out
+-- ---- a run (index entries next to each other) is cut out
 
--- the slots of n places of a run were taken
+-- the slots of the first `count` index entries of a run were taken out of the arena
 pub record IsTaken (before now : ArenaView Block) (run : List IndexEntry) (count : ℕ) : Type 0 where
   pub partitioned : IsPartitioned now
   pub free : length now.free ≡ length before.free + count
@@ -469,7 +469,7 @@ place-read (q ∷ run) (suc k) d low = place-read run k d (omega arith)
 abbrev pub run_of : List IndexEntry → ℕ → ℕ → List IndexEntry
 run_of index from end = take (end - from) (drop from index)
 
--- the next place of the run between two indices
+-- the slot of the next index entry of a run is taken
 pub taken-next : {before now : ArenaView Block} {index : List IndexEntry} (from end : ℕ) {k : ℕ} (d : IndexEntry) → IsStored before index → from ≤ end
     → IsTaken before now (run_of index from end) k → k < length (run_of index from end)
     → IsPartitioned (after_take now (slice_index_or (run_of index from end) k d).slot)

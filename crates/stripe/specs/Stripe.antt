@@ -19,7 +19,7 @@ abbrev pub content_at : List BlockEntry → ℕ → ℕ → Option Block
 content_at [] f b = None
 content_at (e ∷ es) f b = if (f == e.file) && (b == e.block) then Some e.content else content_at es f b
 
--- entry d comes before entry e: its file has the lower number, or the files are the same and its block has
+-- entry d comes before entry e: d has the lower file, or the same file and the lower block
 abbrev pub ComesBefore : BlockEntry → BlockEntry → Type 0
 ComesBefore d e = (d.file < e.file) ⊎ ((d.file ≡ e.file) × (d.block < e.block))
 
@@ -28,7 +28,7 @@ abbrev pub IsAscending : List BlockEntry → Type 0
 IsAscending [] = Unit {0}
 IsAscending (e ∷ es) = AllByRecursion (ComesBefore e) es × IsAscending es
 
--- what every stripe keeps
+-- the invariant of a stripe: its blocks ascend, and are at most its quota
 pub record StripeRule (p : StripePart) : Type 0 where
   pub ascending : IsAscending p.entries
   pub within : length p.entries ≤ p.quota

@@ -9,8 +9,7 @@ use messages::Block;
 use std::alloc::{AllocError, Global};
 use std::marker::Model;
 
-/// The blocks of one stripe of a volume, at most as many as its quota. All memory is taken at the
-/// start.
+/// The blocks of one stripe of a volume, at most as many as its quota. `new` allocates all memory.
 #[derive(Drop)]
 pub struct StripeParcel {
     blocks: Arena<Block>,
@@ -116,7 +115,7 @@ impl StripeParcel {
         })
     }
 
-    // The index of a block, or the one at which it would be.
+    // The position of a block in the index, or as `Err` the one at which it would be inserted.
     fn find(&self, f: u16, b: u16) -> Result<usize, usize>
         ensures found { MatchResult result (IsAt self.now.entries f b) (IsGap self.now.entries f b) }
         ensures most { length self.now.entries ≤ 64 }
@@ -129,7 +128,7 @@ impl StripeParcel {
         }
     }
 
-    // Puts content into the block at an index.
+    // Puts content into the block at position `n` of the index.
     fn write(&mut self, n: usize, content: &Block)
         requires { n < length self.old.entries }
         ensures { self.new ≡ record self.old { entries = rewritten self.old.entries n content.now } }
@@ -141,7 +140,7 @@ impl StripeParcel {
         }
     }
 
-    // Makes a block at an index.
+    // Makes a block, at position `n` of the index.
     fn insert(&mut self, n: usize, f: u16, b: u16, content: &Block)
         requires gap { IsGap self.old.entries f b n }
         requires room { length self.old.entries < self.old.quota }
@@ -162,7 +161,7 @@ impl StripeParcel {
         };
     }
 
-    // Removes the blocks from one index up to another.
+    // Removes the blocks from position `from` of the index up to `end`, which stays.
     fn remove_blocks(&mut self, from: usize, end: usize)
         requires order { from ≤ end }
         requires within { end ≤ length self.old.entries }

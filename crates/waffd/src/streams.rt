@@ -7,8 +7,9 @@ use std::rt::Files;
 const UNREADABLE: &str = "/";
 
 /// Occupies the descriptors of those standard streams that are closed, for as long as the result is kept: a file gets the lowest free
-/// descriptor, so without this the text for a closed stream could be written into the device. It holds three descriptors, whichever streams
-/// are closed. A read or a write of a stream that was closed fails, as before. Where nothing can be opened, nothing is occupied.
+/// descriptor, so without this the text for a closed stream could be written into the device. The result holds three descriptors, whichever
+/// streams are closed. A read or a write of a stream that was closed fails, as it would without this. Where nothing can be opened, nothing
+/// is occupied.
 pub fn reserve_standard_descriptors<R: Files>(rt: &R) -> [io::Result<R::File>; 3] {
     [
         File::open(rt, UNREADABLE),

@@ -1,4 +1,4 @@
--- Each kind of step keeps the rule.
+-- Each kind of step keeps the rule of the bench (`BenchRule`).
 use Rattle.std.proofs.Common.{◌≡◌, ◌≢◌, ℕ, zero, suc, ◌+◌, ◌<◌, ◌≤◌, List, [], ◌∷◌, ◌++◌, map, length, get_or, set, replicate, Option, None, Some, eqb, sym, refl, ap, ◌∙◌, subst, ⊎_elim, arith, length-set, get_or-set_other, get_or-set_same}
 use Rattle.std.proofs.lemmas.List.{set-get_or, length-replicate, get_or-replicate}
 use mathlib.Core.Option.{none, some, some-injective, some-ne-none}
@@ -17,7 +17,7 @@ use Rattle.workers.specs.declared.seats.SeatRole.{SeatRole}
 use Rattle.workers.specs.declared.seats.SeatRole.TheVariants.{Dispatcher, Idle, Claimed}
 use Rattle.workers.proofs.Rows.{set_at, there}
 
--- The kinds of view are distinct.
+-- A dispatcher's view is never that of a worker with a claim.
 dispatch_seat_is_no_claim : (r k : ℕ) (l : LentJobs) (job : JobView) → Dispatcher r l ≡ Claimed k job → ⊥
 dispatch_seat_is_no_claim r k l job e = cc
 
@@ -185,7 +185,7 @@ at_answered (is_delivered job done w l at run) e = (job, done, l, at, run)
 none_is_no_job : {o : Option JobView} {job : JobView} → o ≡ None → o ≡ Some job → ⊥
 none_is_no_job e f = cc
 
--- where nothing is lent
+-- the state of a place where nothing is lent
 at_empty : {r k word : ℕ} {o : Option JobView} {slot : SlotState} → PlaceState r k word o slot → o ≡ None
     → (word ≡ 0) × (k < r → slot ≡ some (None))
 at_empty (is_empty w l b a) e = (w, b)
@@ -197,7 +197,7 @@ at_empty (is_delivered job done w l at run) e = absurd (none_is_no_job e l)
 unclaimed : {s : BenchTable} (h : BenchRule s) {k n : ℕ} → get_or s.words (k + 6) 0 ≡ n → n ≢ 2 → (seat : ℕ) (job : JobView) → get_elem? s.views seat ≡ some (Claimed k job) → ⊥
 unclaimed h {k} e ne seat job at = ne (sym e ∙ (h.claims seat k job at).0)
 
--- what a step on the word of place k gives for that place, its kind gives
+-- a step on the word of place k that the relation allows for place k is allowed by `OfPlace`, too: the word belongs to no other place
 of_place : (relation : ℕ → SeatState → ℕ → SeatState → Type 0) {slots : ℕ} (id k : ℕ) (me : SeatState) (f : ℕ → ℕ) (st : Step (Option CellContent)) → st.word ≡ k + 6
     → Allows BenchRule slots id me (k + 6) f (λ n w. relation k me n w) → Allows BenchRule slots id me (k + 6) f (λ n w. OfPlace relation st me n w)
 of_place relation id k me f st here allowed s h long at fits =

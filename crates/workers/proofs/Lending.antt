@@ -27,11 +27,11 @@ same_head e f = ap first_of (sym e ∙ f)
 pub starts : {m : SeatState} (ls : LentJobs) → m ≡ (Dispatcher 0 ls, empty_slots 0 ls) → m.1 ≡ empty_slots_from 0 ls
 starts ls e = ap (λ (n : SeatState). n.1) e ∙ sym (spare_from_start ls)
 
--- rotated to place k
+-- the seat after its list of slots was rotated to place k
 pub turned_to : {m n : SeatState} {ls : LentJobs} {xs ys : List (ℕ × Option CellContent)} → m ≡ (Dispatcher 0 ls, xs) → n ≡ (m.0, ys) → n ≡ (Dispatcher 0 ls, ys)
 turned_to {ys = ys} e f = f ∙ λ i. ((e i).0, ys)
 
--- with a job in the slot of place k
+-- the seat after a job was laid into the slot of place k
 pub filled : {k : ℕ} {ls : LentJobs} {x : Option CellContent} {m n : SeatState} → m ≡ (Dispatcher 0 ls, empty_slots_from k ls) → n ≡ (m.0, (k, x) ∷ rest m.1) → k < length ls → lent_at ls k ≡ None
     → n ≡ (Dispatcher 0 ls, (k, x) ∷ others k ls)
 filled {k} {ls} {x} e f near empty = f ∙ (ap (λ (y : SeatState). (y.0, (k, x) ∷ rest y.1)) e ∙ λ i. (Dispatcher 0 ls, (k, x) ∷ rest (spare_from_empty k ls near empty i)))
@@ -40,7 +40,7 @@ pub lends : {k : ℕ} {ls : LentJobs} {job : JobView} {m n : SeatState} → m �
     → n ≡ (Dispatcher 0 (set ls k (Some job)), empty_slots_from (k + 1) (set ls k (Some job)))
 lends {k} {ls} {job} e f near = f ∙ (ap (λ (y : SeatState). (Dispatcher 0 (set (lent_of y.0) k (job_on y.1)), rest y.1)) e ∙ λ i. (Dispatcher 0 (set ls k (Some job)), lent_rest k ls job near i))
 
--- the result was taken out of the slot of place k
+-- the seat after the result was taken out of the slot of place k
 pub comes_back : {k : ℕ} (ls : LentJobs) {job : JobView} {done : Done} {m n : SeatState} → m ≡ (Dispatcher 0 (set ls k None), (k, Some (Delivered done)) ∷ empty_slots_from k ls) → n
     ≡ (m.0, (k, None) ∷ rest m.1)
     → k < length ls → lent_at ls k ≡ Some job → n ≡ (Dispatcher 0 (set ls k None), empty_slots_from k (set ls k None))
@@ -55,7 +55,7 @@ flags_of e f = e ∙ sym (ap (λ (n : SeatState). map is_some (lent_of n.0)) f)
 pub flag_set : (fs : List Bool) (k : ℕ) (ls : LentJobs) (o : Option JobView) → fs ≡ map is_some ls → set fs k (is_some o) ≡ map is_some (set ls k o)
 flag_set fs k ls o e = ap (λ gs. set gs k (is_some o)) e ∙ sym (map-set is_some ls k o)
 
--- rotated to the end
+-- the seat after its list was rotated to the end: the slots are in order again
 pub settles : (j : ℕ) {n : ℕ} {ls : LentJobs} {m w : SeatState} → m ≡ (Dispatcher 0 ls, empty_slots_from j ls) → w ≡ (m.0, empty_slots_from n (lent_of m.0)) → n ≡ length ls → w
     ≡ (Dispatcher 0 ls, empty_slots 0 ls)
 settles j {n} {ls} e f long = f ∙ (ap (λ (y : SeatState). (y.0, empty_slots_from n (lent_of y.0))) e ∙ λ i. (Dispatcher 0 ls, spare_from_end n ls long i))

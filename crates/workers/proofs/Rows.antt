@@ -1,4 +1,4 @@
--- Lists read by `get_elem?`, and the two lists that a place has a part in.
+-- Lists read by `get_elem?`: a list after one element was set, and a list of equal elements.
 use Rattle.std.proofs.Common.{◌≡◌, ℕ, zero, suc, ◌<◌, List, [], ◌∷◌, length, set, replicate, refl, sym, arith}
 use mathlib.Core.Option.{some, none, some-ne-none}
 use lib.ListN.{get_elem?}

@@ -31,7 +31,7 @@ spare_one i o ls e = ap (λ x. empty_slots i (x ∷ ls)) e
 spare_none : (i : ℕ) (o : Option JobView) (ls : LentJobs) (job : JobView) → o ≡ Some job → empty_slots i (o ∷ ls) ≡ empty_slots (suc i) ls
 spare_none i o ls job e = ap (λ x. empty_slots i (x ∷ ls)) e
 
--- the first k + 1 places are the first k and place k
+-- the empty slots of the first k + 1 places are those of the first k and that of place k, if it has one
 spare_take : (i k : ℕ) (ls : LentJobs) → k < length ls → empty_slots i (take (suc k) ls) ≡ empty_slots i (take k ls) ++ empty_slots (i + k) (get_or ls k None ∷ [])
 spare_take i k [] h = absurd (omega arith)
 spare_take i zero (x ∷ xs) h = let e : i ≡ i + 0 = omega arith in ap (λ m. empty_slots m (x ∷ [])) e

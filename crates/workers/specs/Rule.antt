@@ -41,8 +41,8 @@ pub data PlaceState (untaken k word : ℕ) (lent : Option JobView) (slot : SlotS
   is_delivered : (job : JobView) (done : Done) → word ≡ 3 → lent ≡ Some job → slot ≡ some (Some (Delivered done)) → IsJobRun job done
       → PlaceState untaken k word lent slot
 
--- There is one dispatcher, which knows what is lent. A worker that has claimed a place has the job that is lent there, and no other has
--- claimed it.
+-- There is one dispatcher, which knows what is lent. A worker that has claimed a place has the job that is lent there, and no other worker
+-- has claimed that place.
 pub record BenchRule (s : BenchTable) : Type 0 where
   pub dispatch_seat : ℕ
   pub untaken : ℕ

@@ -28,7 +28,7 @@ abbrev pub lent_of : SeatRole → List (Option JobView)
 lent_of (Dispatcher untaken lent) = lent
 lent_of _ = []
 
--- a worker with no job
+-- what a worker's seat knows and has while it has no job: no slot
 abbrev pub idle : Me (Option CellContent) SeatRole
 idle = (Idle, [])
 
@@ -42,7 +42,8 @@ empty_slots i (Some job ∷ lent) = empty_slots (suc i) lent
 abbrev pub empty_slots_from : ℕ → List (Option JobView) → List (ℕ × Option CellContent)
 empty_slots_from i lent = empty_slots i (drop i lent) ++ empty_slots 0 (take i lent)
 
--- A dispatcher's seat between two calls: it has the slot of each place where nothing is lent, and the flags show which these are.
+-- A dispatcher's seat between two calls: it has the slot of each place where nothing is lent, and a flag for each place, true where
+-- something is lent.
 pub record IsDispatchSeat (z : TableId) (me : Me (Option CellContent) SeatRole) (flags : List Bool) : Type 0 where
   pub bench : IsBench z
   pub seat : me ≡ (Dispatcher 0 (lent_of me.0), empty_slots 0 (lent_of me.0))

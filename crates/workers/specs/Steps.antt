@@ -1,6 +1,6 @@
 -- Statement for engineers: What a seat knows after each kind of step: a relation of the seat before, the number found and the seat after.
--- The bench is a table of slots, one for each place, each with an atomic number, its word: 0 empty, 1 offered, 2 claimed, 3 delivered.
--- A try finds the word's number.
+-- The bench is a table of slots, one for each place, each with an atomic number, its word: 0 empty, 1 offered, 2 claimed, 3 delivered. A
+-- step finds the number that the word had.
 use Rattle.std.specs.Prelude.{◌≡◌, ◌≢◌, ℕ, List, ◌∷◌, slice_set, Option, None, Some}
 use Rattle.atomic_table.specs.Table.{Me, Step, rest}
 use Rattle.parcel.specs.Run.{JobView, IsJobRun}
@@ -26,11 +26,11 @@ job_on _ = None
 abbrev pub TakesSlot : ℕ → SeatState → SeatState → Type 0
 TakesSlot k m w = w ≡ (Dispatcher k (lent_of m.0), (k, None) ∷ m.1)
 
--- The dispatcher's slot that was taken last goes back to the table with its job, which is lent from now on.
+-- The slot that the dispatcher's seat took last goes back to the table with the job in it, which is lent at place k from now on.
 abbrev pub Offers : ℕ → SeatState → SeatState → Type 0
 Offers k m w = w ≡ (Dispatcher 0 (slice_set (lent_of m.0) k (job_on m.1)), rest m.1)
 
--- A try to claim: a worker takes the slot of place k with the job, if it found the word 1, else nothing changes.
+-- A try to claim: a worker takes the slot of place k with the job if it found the word 1 (offered); else nothing changes.
 abbrev pub Claims : ℕ → SeatState → ℕ → SeatState → Type 0
 Claims k m found w =
     (found ≡ 1 → (job : JobView) × (w ≡ (Claimed k job, (k, Some (Offered job)) ∷ m.1)))
@@ -40,8 +40,8 @@ Claims k m found w =
 abbrev pub Delivers : SeatState → SeatState → Type 0
 Delivers m w = w ≡ (Idle, rest m.1)
 
--- A try to collect: the dispatcher takes the slot of place k with the result of the job lent there, if it found the word 3, else nothing
--- changes.
+-- A try to collect: the dispatcher takes the slot of place k with the result of the job lent there if it found the word 3 (delivered); else
+-- nothing changes.
 abbrev pub Collects : ℕ → SeatState → ℕ → SeatState → Type 0
 Collects k m found w =
     (found ≡ 3 → (job : JobView) × (done : Done) × (lent_at (lent_of m.0) k ≡ Some job) × IsJobRun job done

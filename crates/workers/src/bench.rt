@@ -26,7 +26,7 @@ pub struct Bench {
     pub(crate) table: Table<JobCell, SeatRole, usize, BenchInvariant, Global>,
 }
 
-// By hand, as a derived one is proved anew in each crate that drops a bench, with all that a job may hold.
+// Written by hand: a derived `Drop` is proved anew in each crate that drops a bench, with all that a job may hold.
 impl Drop for Bench {
     fn drop(self) {
         let Bench { table: _ } = self;
@@ -87,8 +87,8 @@ impl Bench {
         Ok(())
     }
 
-    /// The result of the job that was last offered at place k through this seat, if it was delivered.
-    /// One try, which waits for nobody.
+    /// Takes the result of the job that was last offered at place k through this seat, if it was delivered. It tries once and waits for
+    /// nobody.
     pub fn collect(&self, seat: &mut DispatchSeat, k: usize) -> Option<Done>
         requires { (seat.old.bench ≡ self.now) × (k < self.now.slots) }
         ensures bench { seat.new.bench ≡ seat.old.bench }
@@ -118,7 +118,7 @@ impl Bench {
     }
 }
 
-// A table with a word and a slot for each place, all empty, and the first seat.
+// A table with a word and a slot for each place, all empty, and its first seat, the dispatcher's.
 fn lay(
     alloc: Global,
     words: &[u64],
@@ -204,7 +204,7 @@ fn put_offer(words: &Words, seat: &mut Seat, lent: &mut [bool], k: usize, job: J
     rotate_to(seat, lent, k + 1, lent.len());
 }
 
-// Takes the slot of a place that isn't free, if the result of its job was delivered. Else nothing changes.
+// Takes the slot of place k, if the result of its job was delivered. Else nothing changes. Returns whether it was.
 fn try_collect(words: &Words, seat: &mut Seat, lent: &[bool], k: usize) -> bool
     requires bench { (seat.old.table_id ≡ words.now.table_id) × (k < words.now.table_id.slots) }
     requires dispatch_seat { IsDispatchSeat words.now.table_id seat.old.me lent.now }
@@ -220,7 +220,7 @@ fn try_collect(words: &Words, seat: &mut Seat, lent: &[bool], k: usize) -> bool
     false
 }
 
-// Takes the result out of the slot of a place that was won.
+// Takes the result out of the slot of place k, which `try_collect` has just taken.
 fn take_delivered(words: &Words, seat: &mut Seat, lent: &mut [bool], k: usize) -> Done
     requires bench { (seat.old.table_id ≡ words.now.table_id) × (k < words.now.table_id.slots) × IsBench words.now.table_id }
     requires won { (jobs : LentJobs) × HasCollected k jobs seat.old.me × (lent.old ≡ map is_some jobs)

@@ -12,13 +12,13 @@ use std::thread::{Scope, Threads};
 
 /// What the calling thread does at a bench while others work there, and its result.
 pub trait DispatcherTask<E> {
-    /// Whether it can be begun.
+    /// Whether the task can be begun.
     ghost can_begin: { Self → Type 0 };
 
-    /// What comes of it, by how it was before and how it is then.
+    /// What the task promises: a relation of the task before, the task afterwards, and the result.
     ghost gives: { Self → Self → E → Type 0 };
 
-    /// Does it.
+    /// Does the task.
     fn run_task<T: Wait, G: Gate>(&mut self, rt: &T, gate: &G) -> E
         requires { can_begin self.old }
         ensures { gives self.old self.new result };
@@ -28,14 +28,14 @@ pub trait DispatcherTask<E> {
         ensures { self.new ≡ self.old };
 }
 
-/// For the proof alone: what was lent through this reference is its owner's again.
+/// For the proof alone: ends a `&mut` borrow, so that its owner knows that the value stays as it is now. (No job is lent here.)
 pub fn know_returned<T>(lent: &mut T)
     ensures { lent.new ≡ lent.old }
 {
     let _ = lent;
 }
 
-// Does a task that is lent while a worker works at each of these seats, and gives it back.
+// Does a task that is borrowed, while a worker works at each of these seats, and gives the borrow back.
 fn run_borrowed_task<'s, 'm, T: Threads + Wait + Sync, G: Gate + Sync, E, S: DispatcherTask<E>, X>(
     scope: &Scope<'s, X>,
     bench: &'s Bench,

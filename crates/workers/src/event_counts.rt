@@ -1,4 +1,4 @@
-//! How either side waits for the other. No contract depends on who waits or is woken.
+//! How the dispatcher and the workers wait for each other. No contract depends on who waits or is woken.
 ghost use Rattle.std.specs.Prelude.{◌≡◌};
 ghost use Rattle.workers.specs.Seats.{IsAtBench, IsBench};
 
@@ -16,7 +16,7 @@ const SPINS: usize = 64;
 /// than the dispatcher takes to write the replies of 32 lines, after which it offers again.
 const SPIN_ROUNDS: usize = 32;
 
-/// Sleeps while the event count of the deliveries has this number, and returns the one that it has then.
+/// Sleeps while the event count of the deliveries is `seen`, and returns its number afterwards.
 pub fn wait_delivery<R: Wait>(words: &Words, seat: &mut Seat, rt: &R, seen: u64) -> u64
     requires { IsAtBench words.now.table_id seat.old.table_id }
     ensures { (seat.new.table_id ≡ seat.old.table_id) × (seat.new.me ≡ seat.old.me) }
@@ -36,8 +36,8 @@ pub fn wait_delivery<R: Wait>(words: &Words, seat: &mut Seat, rt: &R, seen: u64)
     number
 }
 
-/// Adds one to the event count of the deliveries, and wakes the dispatcher if the number found is the one recorded in `SLEPT_AT`.
-/// Returns whether it did so.
+/// Adds one to the event count of the deliveries, and wakes the dispatcher if the number before was the one recorded in `SLEPT_AT`. Returns
+/// whether it signaled the dispatcher.
 pub fn signal_delivery(words: &Words, seat: &mut Seat) -> bool
     requires { IsAtBench words.now.table_id seat.old.table_id }
     ensures { (seat.new.table_id ≡ seat.old.table_id) × (seat.new.me ≡ seat.old.me) }
@@ -59,7 +59,7 @@ pub fn wake_worker(words: &Words)
     }
 }
 
-// Whether the event count of the offers is seen with another number than this one within one round.
+// Whether one round of spinning sees that the event count of the offers is no longer `seen`.
 fn is_offered_now(words: &Words, seen: u64) -> bool
     requires { IsBench words.now.table_id }
 {
@@ -72,7 +72,7 @@ fn is_offered_now(words: &Words, seen: u64) -> bool
     false
 }
 
-// Whether the event count of the offers is seen with another number within `SPIN_ROUNDS` rounds. It yields after each.
+// The same for `SPIN_ROUNDS` rounds, with a yield after each of them.
 fn is_offered_soon(words: &Words, seen: u64) -> bool
     requires { IsBench words.now.table_id }
 {
@@ -85,7 +85,7 @@ fn is_offered_soon(words: &Words, seen: u64) -> bool
     false
 }
 
-/// Spins for a while, and then sleeps, while the event count of the offers has this number.
+/// Spins for a while, as long as the event count of the offers is `seen`, and then calls `sleep`, unless the count has changed.
 pub fn spin_then_sleep<R: Wait>(words: &Words, seat: &mut Seat, rt: &R, seen: u64)
     requires { IsAtBench words.now.table_id seat.old.table_id }
     ensures { (seat.new.table_id ≡ seat.old.table_id) × (seat.new.me ≡ seat.old.me) }
@@ -98,7 +98,7 @@ pub fn spin_then_sleep<R: Wait>(words: &Words, seat: &mut Seat, rt: &R, seen: u6
     }
 }
 
-/// Sleeps while the event count of the offers has this number.
+/// Sleeps until it is woken, if the event count of the offers is `seen`. It may also return without a wake.
 pub fn sleep<R: Wait>(words: &Words, seat: &mut Seat, rt: &R, seen: u64)
     requires { IsAtBench words.now.table_id seat.old.table_id }
     ensures { (seat.new.table_id ≡ seat.old.table_id) × (seat.new.me ≡ seat.old.me) }

@@ -1,6 +1,6 @@
 //! Hooks in which a test may hold up the workers.
 
-/// Two hooks: one before a job runs, one after its message is answered. A server's own do nothing.
+/// Two hooks: one before a job runs, one after its message is answered. Those of a server outside tests do nothing (`OpenGate`).
 pub trait Gate {
     /// A worker calls this just before it runs the job of this ticket.
     fn before(&self, ticket: u64);

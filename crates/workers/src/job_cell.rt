@@ -1,4 +1,4 @@
-//! What lies at a place: a job, or the result of one. Each has a `Vec` of its own, so that only one of them is moved.
+//! What lies at a place: a job, or the result of one. Job and result have a `Vec` each, so that only the one that is there is moved.
 ghost use Rattle.std.specs.Prelude.{◌≡◌, Option, None, Some, IfOk};
 ghost use Rattle.parcel.specs.Run.{JobView};
 ghost use Rattle.parcel.specs.declared.job.Done.{Done as TheDone};
@@ -8,8 +8,8 @@ use parcel::{Done, Job};
 use std::alloc::{AllocError, Global};
 use std::marker::Model;
 
-/// What a cell holds, as clauses see it. No value of it is made at run time: an enum has the size of its larger case,
-/// and writing the smaller one would clear the rest.
+/// What a cell holds, as clauses see it. No value of it is made at run time: an enum has the size of its larger case, and writing the
+/// smaller case would clear the rest of it.
 pub enum CellContent {
     Offered(Job),
     Delivered(Done),

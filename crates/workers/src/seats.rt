@@ -9,7 +9,7 @@ use parcel::Job;
 use std::collections::LinkedList;
 use std::marker::Model;
 
-/// What a seat knows. No value of it is made.
+/// What a seat knows, as clauses see it. No value of it is made at run time.
 pub enum SeatRole {
     /// How many places have a slot that the seat has not taken from the table yet (none but while the bench is opened), and the job that is
     /// lent at each place.
@@ -34,7 +34,7 @@ pub struct DispatchSeat {
     pub(crate) seen: u64,
 }
 
-// By hand, as a bench's.
+// Written by hand for the reason that stands at the `Drop` of `Bench`.
 impl Drop for DispatchSeat {
     fn drop(self) {
         let DispatchSeat {
@@ -80,12 +80,14 @@ impl DispatchSeat {
     }
 }
 
+// The first flag that is false.
 fn first_down(flags: &[bool]) -> Option<usize>
     ensures { result ≡ position not flags.now }
 {
     flags.iter().position(|is_up| !*is_up)
 }
 
+// Whether some flag is true.
 fn is_any_up(flags: &[bool]) -> bool
     ensures { result ≡ list_any (λ is_up. is_up) flags.now }
 {
@@ -97,7 +99,7 @@ pub struct WorkSeat {
     pub(crate) seat: Seat,
 }
 
-// By hand, as a bench's.
+// Written by hand for the reason that stands at the `Drop` of `Bench`.
 impl Drop for WorkSeat {
     fn drop(self) {
         let WorkSeat { seat: _ } = self;
@@ -120,7 +122,7 @@ impl WorkSeat {
     ghost use Rattle.std.specs.Prelude.{◌≡◌};
     ghost use Rattle.workers.specs.Seats.{idle};
 
-    // The seat as the table knows it.
+    // The seat of the table that is inside.
     pub(crate) fn into_inner(self) -> Seat
         ensures bench { result.table_id ≡ self }
         ensures idle { result.me ≡ idle }

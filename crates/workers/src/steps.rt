@@ -20,7 +20,7 @@ use parcel::{Done, Job};
 /// The shared part of the table: its words and its slots. A variable of this type is called `words`.
 pub type Words = Shared<JobCell, SeatRole, usize, BenchInvariant>;
 
-/// The rule of the table. It gets the number of places when it is made.
+/// The rule of the bench's table. `first` is the role of its first seat, from the number of places with which the table is made.
 pub struct BenchInvariant;
 
 impl TableRule<JobCell, SeatRole, usize> for BenchInvariant {
@@ -29,9 +29,10 @@ impl TableRule<JobCell, SeatRole, usize> for BenchInvariant {
     ghost first = { λ places. Dispatcher places (replicate places None) };
 }
 
-// What each kind of step makes of its seat's view `me` (its role, and the slots that it has, the one taken last first), and the view of
-// a worker's seat split off the dispatcher's. `Split` and `Play` are of `atomic_table`: `then` relates the step, the view before (m),
-// the number found in the word, and the view after (w), and `OfPlace` says it of the place whose word the step changes.
+// What each kind of step makes of its seat's view `me` (its role, and the slots that it has, the one taken last first), and the view of a
+// worker's seat split off the dispatcher's. `Split` and `Play` are traits of `atomic_table`, for a split of a seat and for a step. `then`
+// is a relation of the step, the view before (m), the number found in the word, and the view after (w); `OfPlace` makes it from a relation
+// for the place whose word the step changes.
 struct Splitting;
 
 struct TakingSlot;
@@ -108,7 +109,7 @@ pub fn offer(words: &Words, seat: &mut Seat, k: usize)
     words.store::<Offering>(seat, k + FIRST_PLACE, OFFERED);
 }
 
-/// Takes the job of a place if it still has one that nobody claimed. One try.
+/// Takes the job of place k, if it still has one that nobody claimed, and returns whether it did. It tries once.
 pub fn claim(words: &Words, seat: &mut Seat, k: usize) -> bool
     requires bench { IsAtBench words.now.table_id seat.old.table_id }
     requires place { k < words.now.table_id.slots }
@@ -132,7 +133,7 @@ pub fn deliver(words: &Words, seat: &mut Seat, k: usize)
     words.store::<Delivering>(seat, k + FIRST_PLACE, DELIVERED);
 }
 
-/// Takes the result of a place if it was delivered. One try.
+/// Takes the slot of place k with the result of its job, if that was delivered, and returns whether it did. It tries once.
 pub fn collect(words: &Words, seat: &mut Seat, k: usize) -> bool
     requires bench { IsAtBench words.now.table_id seat.old.table_id }
     requires place { k < words.now.table_id.slots }
@@ -171,7 +172,7 @@ pub fn count_in(words: &Words, seat: &mut Seat, who: usize)
     words.fetch_add::<Bookkeeping>(seat, who, 1);
 }
 
-/// Counts it among these no more.
+/// Takes the worker off that count again.
 pub fn count_out(words: &Words, seat: &mut Seat, who: usize)
     requires bench { IsAtBench words.now.table_id seat.old.table_id }
     requires who { who < FIRST_PLACE }

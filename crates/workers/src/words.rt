@@ -1,4 +1,4 @@
-//! The words of the table and what they may be.
+//! The words of the table, each by its number, and the values of a place's word.
 ghost use Rattle.std.specs.Prelude.{◌≡◌, ◌%◌, ◌^◌};
 
 /// The word that is 0 at first, and 1 once the bench is stopped.
@@ -10,14 +10,14 @@ pub const OFFER_EVENT: usize = 1;
 /// The event count of the deliveries, on which the dispatcher sleeps: how often it was signaled. It wraps.
 pub const DELIVERY_EVENT: usize = 2;
 
-/// How many workers sleep on the event count of the offers, or are about to.
+/// The word that counts the workers that sleep on the event count of the offers, or are about to.
 pub const SLEEPERS: usize = 3;
 
-/// How many workers spin on the event count of the offers.
+/// The word that counts the workers that spin on the event count of the offers.
 pub const SPINNERS: usize = 4;
 
-/// The number of the event count of the deliveries at which the dispatcher sleeps or slept last. Before its first sleep it is 0, so the
-/// first delivery wakes even where nobody sleeps.
+/// The word that records at which number of the event count of the deliveries the dispatcher sleeps or slept last. Before its first sleep
+/// this is 0, so the first delivery signals it even where it doesn't sleep.
 pub const SLEPT_AT: usize = 5;
 
 /// How many words there are before those of the places.
@@ -38,7 +38,7 @@ pub const CLAIMED: u64 = 2;
 /// A place's word: its slot has the result of the job that was offered there.
 pub const DELIVERED: u64 = 3;
 
-/// The low half of an event count's number, by which a thread sleeps on it.
+/// The low half of an event count's number: a thread goes to sleep only if the low half of the count is this.
 pub fn low_half(number: u64) -> u32
     ensures { result ≡ number % 2 ^ 32 }
 {

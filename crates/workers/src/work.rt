@@ -21,7 +21,7 @@ use std::thread::{Scope, Threads};
 enum Round {
     /// No job could be claimed.
     Idle,
-    /// The last result was delivered while the dispatcher was awake.
+    /// At least one result was delivered. The last delivery didn't have to wake the dispatcher.
     Served,
     /// The last delivery signaled the dispatcher to wake: it slept, or this was the first delivery of all.
     Woke,
@@ -43,7 +43,8 @@ impl Bench {
                 break;
             }
             match serve_round(words, &mut worker_seat, places, gate) {
-                // A worker that woke the dispatcher doesn't spin: beside busy threads one that yields would wait for their time slices.
+                // A worker whose delivery woke the dispatcher doesn't spin: where other threads keep the processors busy, it would wait for
+                // their time slices each time it yields.
                 Round::Idle if last == Round::Woke => {
                     sleep(words, &mut worker_seat, rt, seen);
                     last = Round::Idle;
@@ -109,8 +110,8 @@ impl Bench {
     }
 }
 
-// Wakes another worker where a place after k has a job too. An offer wakes nobody while a worker spins,
-// and that may be this worker, which is busy now with the job that it has claimed.
+// Wakes another worker where a place after k has a job too. An offer wakes nobody while a worker spins. The worker that spun may be this
+// one, which is busy now with the job that it has claimed.
 fn wake_another(words: &Words, k: usize, places: usize)
     requires bench { IsBench words.now.table_id }
     requires places { (k < places) × (places ≡ words.now.table_id.slots) }
@@ -123,7 +124,7 @@ fn wake_another(words: &Words, k: usize, places: usize)
     }
 }
 
-// Tries each place once, and does the jobs that it could claim.
+// Tries each place once, and does the job of each place that it could claim.
 fn serve_round<G: Gate>(words: &Words, seat: &mut Seat, places: usize, gate: &G) -> Round
     requires bench { IsAtBench words.now.table_id seat.old.table_id }
     requires places { places ≡ words.now.table_id.slots }

@@ -4,7 +4,7 @@ ghost use Rattle.affinity.specs.Place.{path};
 
 use affinity::Place;
 
-/// The numbers of a place's path, and how many they are.
+/// The numbers of a place's path, at the front of an array, and how many they are.
 pub(crate) fn path_of(place: Place) -> ([usize; 4], usize)
     ensures depth { result.1 ≤ 4 }
     ensures numbers { take result.1 result.0 ≡ path place }

@@ -1,4 +1,5 @@
-//! Parcels are put back into the tree, level by level.
+//! Parcels are put back into the tree, level by level. A function gets a node, which is `None` where it
+//! is out, and the rest of the path from that node on. One named `.._itself` puts the node back.
 ghost use Rattle.std.specs.Prelude.{◌≡◌, [], ◌∷◌, zero, suc, ℕ, IfErr, OnOk, IfSome};
 ghost use Rattle.affinity.specs.Interval.{IsPath};
 ghost use Rattle.affinity.specs.Place.{path};
@@ -233,7 +234,7 @@ fn put_root_itself(node: &mut Option<Root>, g: &Geometry, p: Parcels) -> Result<
     }
 }
 
-/// Puts parcels back at a place that is out, where they are of its kind.
+/// Puts parcels back at a place that is out, if they are of its kind; else hands them back as `Err`.
 pub(crate) fn put_at(
     root: &mut Option<Root>,
     g: &Geometry,

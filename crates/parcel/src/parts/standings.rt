@@ -57,7 +57,7 @@ pub(crate) fn files_of(volume: &Vol) -> u64
     }
 }
 
-/// A volume, where it and its aggregate are in.
+/// A volume, where it and the nodes above it are in.
 pub(crate) fn volume_at(root: &Option<Root>, a: usize, v: usize) -> Option<&Vol>
     ensures { option_copied result ≡ volume_of_tree root.now a v }
 {

@@ -1,4 +1,4 @@
-//! Parcels of which nothing is made and nothing is out. All memory is taken here.
+//! New parcels: no volume is made, and nothing is out. All memory of a tree is allocated here.
 ghost use Rattle.std.specs.Prelude.{IfOk};
 ghost use Rattle.parcel.specs.Levels.{IsNewLogical, IsNewVolume, IsNewAggregate, IsNewRoot};
 

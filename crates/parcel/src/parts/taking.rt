@@ -1,5 +1,6 @@
 //! Parcels are taken out of the tree, level by level. Nothing is taken where something at the path,
-//! above it or below it is out.
+//! above it or below it is out. A function gets a node, which is `None` where it is out, and the rest of
+//! the path from that node on. One named `.._itself` takes the node with all below it.
 ghost use Rattle.std.specs.Prelude.{[], ◌∷◌, zero, suc, ℕ, IfNone, IfSome};
 ghost use Rattle.affinity.specs.Interval.{IsPath};
 ghost use Rattle.affinity.specs.Place.{path};

@@ -1,4 +1,4 @@
-//! Whether all below a place is in.
+//! Whether a node and all below it are in: nothing of it is lent.
 ghost use Rattle.std.specs.Prelude.{◌≡◌};
 ghost use Rattle.parcel.specs.Levels.{is_whole_logical, is_whole_volume, is_whole_aggregate, is_whole_root};
 

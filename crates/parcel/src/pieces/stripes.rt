@@ -22,14 +22,15 @@ pub(super) fn write_stripe(stripe: &StripeParcel, g: &Geometry, s: usize, out: &
         → x.blocks (a, v, f, b) ≡ content_at stripe.now.entries f b)
         → out.new ≡ stripe_piece g.now x a v s }
 {
-    // A stripe keeps its blocks in their order: the proof gets that from `len`.
+    // The call of `len` is for the proof: it ensures that the blocks ascend and are within the quota.
     let most = usize::from(g.quota);
     prove!(stripe.len() <= most);
     stripe.write_piece(out);
 }
 
-/// Replaces the blocks of stripe `s` of a volume by those in `bytes`. Gives whether the bytes are such a
-/// piece, of files that exist. Where they aren't, the stripe is left without a block.
+/// Replaces the blocks of stripe `s` of a volume by those in `bytes`. Gives whether the bytes are a piece
+/// of that stripe, with blocks only of files that the volume has. Where they aren't, no clause says which
+/// blocks the stripe has (the code leaves none).
 pub(super) fn read_stripe(logical: &mut Logical, g: &Geometry, s: usize, bytes: &[u8]) -> bool
     requires fits { FitsLogical g.now logical.old }
     requires whole { IsWholeLogical logical.old }
@@ -47,7 +48,7 @@ pub(super) fn read_stripe(logical: &mut Logical, g: &Geometry, s: usize, bytes: 
     read_at(&mut logical.stripes[s], g, files, s as u16, bytes)
 }
 
-// Takes in the piece of the stripe at one place.
+// Replaces the blocks of one stripe by those in `bytes`.
 fn read_at(node: &mut Option<StripeParcel>, g: &Geometry, files: u64, s: u16, bytes: &[u8]) -> bool
     requires fits { IfSome node.old (FitsStripe g.now s) }
     requires whole { IsWholeChild (λ (p : StripePart). Unit {0}) node.old }

@@ -38,7 +38,7 @@ fn label_of(volume: &Vol) -> [u8; 32]
     }
 }
 
-/// The number in which each file of the geometry is there.
+/// The number whose bit `f` is 1 for each file `f` of the geometry, and 0 for all others.
 fn all_files(g: &Geometry) -> u64
     ensures { result ≡ 2 ^ g.now.files - 1 }
 {
@@ -129,8 +129,8 @@ pub(super) fn write_volume(volume: &Vol, out: &mut [u8])
     VolumePiece::of(volume).write(out);
 }
 
-/// Takes in a volume's piece: whether the bytes spell what they decode to. Where they don't, the
-/// volume stays.
+/// Reads a volume's piece into the volume. Gives whether the bytes are the encoding of what they decode
+/// to. Where they aren't, the volume stays as it is.
 pub(super) fn read_volume(volume: &mut Vol, g: &Geometry, version: u8, bytes: &[u8]) -> bool
     requires size { length bytes.now ≡ 64 }
     ensures good { IsTrue result ↔ (bytes.now ≡ spelled (decoded_piece version g.now bytes.now)) }

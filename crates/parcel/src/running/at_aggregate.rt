@@ -55,7 +55,7 @@ fn clear_in(node: &mut Option<StripeParcel>)
     }
 }
 
-// Removes all blocks from all stripes.
+// Removes all blocks from each stripe that isn't checked out.
 fn clear_stripes(stripes: &mut Vec<Option<StripeParcel>>)
     ensures count { vec_len stripes.new ≡ vec_len stripes.old }
     ensures each { (s : ℕ) → s < vec_len stripes.old
@@ -94,8 +94,8 @@ fn clear(node: &mut Option<Vol>)
     }
 }
 
-// Makes a volume that isn't there. The message has to pass the checks of a `makevol`, which are the same for each aggregate, so 0 stands
-// for any.
+// Makes a volume, or refuses to. Clause `checks` says that the message has the checks of a `makevol`: they are the same for each aggregate,
+// so 0 stands for any.
 fn make_volume(aggregate: &mut Aggr, g: &Geometry, message: &Msg, v: u16) -> Reply
     requires checks { checks message.now ≡ checks (Msg.MakeVol 0 v) }
     requires volume { v < g.now.volumes }
@@ -115,7 +115,7 @@ fn make_volume(aggregate: &mut Aggr, g: &Geometry, message: &Msg, v: u16) -> Rep
     Reply::Done
 }
 
-// Removes a volume with all that it has. The message has to pass the checks of a `dropvol`.
+// Removes a volume with all that it has, or refuses to. The message has the checks of a `dropvol`.
 fn drop_volume(aggregate: &mut Aggr, g: &Geometry, message: &Msg, v: u16) -> Reply
     requires checks { checks message.now ≡ checks (Msg.DropVol 0 v) }
     requires volume { v < g.now.volumes }

@@ -1,4 +1,5 @@
-//! Messages at the label of a volume.
+//! Messages at the label of a volume: they set it and ask for it.
+//! Clauses write `Msg.Label 0 0` for a `label` of any volume: its checks are the same for each.
 
 ghost use Rattle.std.specs.Prelude.{◌≡◌};
 ghost use Rattle.messages.specs.declared.Msg.{Msg};

@@ -1,4 +1,5 @@
-//! Messages at the files of a volume and its stripes: they make, remove and list files.
+//! Messages at a Volume Logical, the files of a volume with its stripes: they make, remove and list files.
+//! Clauses write `Msg.List 0 0` for a `list` of any volume: its checks are the same for each.
 
 ghost use Rattle.std.specs.Prelude.{◌≡◌, ℕ, ◌<◌, slice_index_or, None, vec_len};
 ghost use Rattle.messages.specs.declared.Msg.{Msg};
@@ -43,7 +44,7 @@ fn drop_in(node: &mut Option<StripeParcel>, f: u16)
     }
 }
 
-// Removes the blocks of a file from all stripes.
+// Removes the blocks of a file from each stripe that isn't checked out.
 fn drop_file(stripes: &mut Vec<Option<StripeParcel>>, f: u16)
     ensures count { vec_len stripes.new ≡ vec_len stripes.old }
     ensures each { (s : ℕ) → s < vec_len stripes.old
@@ -86,7 +87,7 @@ fn list(logical: &Logical, g: &Geometry, standing: Standing, message: &Msg) -> R
     Reply::Files(logical.files)
 }
 
-/// Runs a message at the files of a volume and its stripes.
+/// Runs a message at a Volume Logical.
 pub(crate) fn run_at_logical(
     logical: &mut Logical,
     g: &Geometry,

@@ -1,4 +1,5 @@
 //! Messages at a stripe: they write, remove and read blocks.
+//! Clauses write `Msg.Read 0 0 f b` for a `read` in any volume: its checks are the same for each.
 
 ghost use Rattle.std.specs.Prelude.{◌≡◌, ◌<◌, ◌||◌, is_some, length, nat_lt};
 ghost use Rattle.affinity.specs.declared.geometry.Geometry.{Geometry};
@@ -77,7 +78,7 @@ fn punch(stripe: &mut StripeParcel, standing: Standing, message: &Msg, f: u16, b
     Reply::Done
 }
 
-// The block of a file.
+// A block of a file, or a hole where it isn't there.
 fn read(stripe: &StripeParcel, standing: Standing, message: &Msg, f: u16, b: u16) -> Reply
     requires file { f < 64 }
     requires checks { checks message.now ≡ checks (Msg.Read 0 0 f b) }

@@ -1,4 +1,4 @@
-//! Why messages are refused, by what they see of their volume.
+//! Why messages are refused, by what they see of their volume: the first check that fails, or `None` if all are passed.
 
 ghost use Rattle.std.specs.Prelude.{◌≡◌, ◌<◌, ◌∷◌, [], not, find, None};
 ghost use Rattle.messages.specs.declared.Refusal.TheVariants.{Range, Volume, Exists, Sealed, File, Space};
@@ -22,7 +22,7 @@ struct Seen {
     room: bool,
 }
 
-/// Of a volume that isn't made.
+/// All `false`: a base for the fields that the checks of a message don't look at.
 const UNMADE: Seen = Seen {
     made: false,
     sealed: false,
@@ -77,7 +77,7 @@ pub(crate) fn make_refusal(message: &Msg, made: bool) -> Option<Refusal>
     seen.refusal(message)
 }
 
-/// Why a question about a volume, its sealing or its unsealing is refused.
+/// Why a `seal` or an `unseal` of a volume, or a question about it, is refused.
 pub(crate) fn volume_refusal(message: &Msg, made: bool) -> Option<Refusal>
     requires { checks message.now ≡ Range ∷ Volume ∷ [] }
     ensures { result ≡ guard made Volume None }
@@ -86,7 +86,7 @@ pub(crate) fn volume_refusal(message: &Msg, made: bool) -> Option<Refusal>
     seen.refusal(message)
 }
 
-/// Why what a volume has can't be changed.
+/// Why a volume can't be dropped, or its label can't be set.
 pub(crate) fn change_refusal(message: &Msg, made: bool, sealed: bool) -> Option<Refusal>
     requires { checks message.now ≡ Range ∷ Volume ∷ Sealed ∷ [] }
     ensures { result ≡ guard_open made sealed None }

@@ -25,8 +25,8 @@ impl Server {
         }
     }
 
-    /// The block that answers a read, where it lies, so that it isn't copied. Where there is none,
-    /// or the reply is another, `answer` gives the reply.
+    /// The block that answers a read, by reference, so that it isn't copied. It is `None` where there
+    /// is no block, or where a block isn't the reply: then `answer` gives the reply.
     pub(crate) fn block_shown(&self, g: &Geometry, m: &Msg) -> Option<&Block>
         requires sound { IsConsistent g.now self.now }
         ensures { IfSome result (λ content.
@@ -92,9 +92,9 @@ impl Server {
         }
     }
 
-    /// The block that answers a `read`, where it lies. A block that is there has a file and a volume,
-    /// so the read passes its checks without looking those up. Where there is none, the reply to a
-    /// `read` that passes its checks is a hole.
+    /// The block that answers a `read`, by reference. A block that is there has a file and a volume, so
+    /// the read passes its checks, and these needn't be looked up. Where there is no block, the reply
+    /// to a `read` that passes its checks is a hole.
     pub(crate) fn block_by(&self, g: &Geometry, kind: Kind, numbers: [u16; 4]) -> Option<&Block>
         requires sound { IsConsistent g.now self.now }
         ensures shown { IfSome result (λ content.

@@ -35,8 +35,8 @@ impl Server {
         }
     }
 
-    /// How many blocks a volume has: the numbers noted for its stripes. It walks these notes
-    /// alone.
+    /// How many blocks a volume has: the sum of the counts that are kept for its stripes. It walks
+    /// these counts alone, not the blocks.
     pub(super) fn blocks_of(&self, g: &Geometry, a: u16, v: u16) -> u32
         requires counted { HasRightCounts g.now self.now }
         ensures { result ≡ block_count g.now (server_state self.now) a v }

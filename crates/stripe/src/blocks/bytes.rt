@@ -16,7 +16,7 @@ const ENTRY_SIZE: usize = 520;
 /// How many bytes come before the content of a block in its entry.
 const ENTRY_HEAD: usize = 8;
 
-/// Whether a file is one of those that a number has as its bits.
+/// Whether a file is one of those that a number encodes: file f by bit f.
 fn has_file(files: u64, file: u16) -> bool
     ensures { result ≡ has_file files file }
 {
@@ -71,7 +71,7 @@ impl StripeParcel {
         out[at..].fill(0);
     }
 
-    /// Writes the block at an index.
+    /// Writes the entry of the block at position `n` of the index.
     fn write_entry(&self, n: usize, row: &mut [u8])
         requires n { n < length self.now.entries }
         requires row { length row.old ≡ 520 }
@@ -85,9 +85,9 @@ impl StripeParcel {
         }
     }
 
-    /// Takes in the blocks of a piece of stripe `s` of a volume with these files, none being there
-    /// before. Returns whether the bytes are such a piece. Where they aren't, it is unspecified which
-    /// blocks are there.
+    /// Reads a piece of stripe `s` of a volume with these files. The stripe has to be empty before.
+    /// Returns whether the bytes are such a piece. Where they aren't, it is unspecified which blocks the
+    /// stripe has.
     pub fn read_piece(&mut self, g: &Geometry, files: u64, s: u16, bytes: &[u8]) -> bool
         requires empty { self.old.entries ≡ [] }
         requires quota { self.old.quota ≡ g.now.quota }
@@ -109,8 +109,8 @@ impl StripeParcel {
         true
     }
 
-    /// Takes in an entry after all that are there, if it is one and can be there. Returns whether it
-    /// was taken.
+    /// Appends the block of an entry, if the 520 bytes are one that can be in stripe `s` and comes after
+    /// all blocks that are there. Returns whether it did.
     fn push(&mut self, g: &Geometry, files: u64, s: u16, row: &[u8]) -> bool
         requires row { length row.now ≡ 520 }
         requires marked { get_or row.now 0 0 ≡ 1 }

@@ -1,4 +1,4 @@
--- The two tests together are those of the law on intervals.
+-- The two calls of `contains` give the two sides of `||` in clause `intervals`; clause `paths` follows by `are_related-contains`.
 use Rattle.std.proofs.Common.{◌∙◌, sym, ap}
 use Rattle.std.specs.Prelude.{◌||◌}
 use Rattle.affinity.specs.Interval.{contains}

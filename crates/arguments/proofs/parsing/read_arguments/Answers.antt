@@ -5,7 +5,7 @@ use Rattle.arguments.specs.Arguments.{IsRequested, findings, waffd}
 use Rattle.arguments.proofs.Reading.{Holds, holds, holds_requested, if_err, if_ok}
 use Rattle.arguments.proofs.parsing.read_arguments.Goals as goal
 
--- clap took the words, and the options give the rest
+-- clap takes the words, and their options give the request
 taken : (c : goal.Joined-matches) → Holds (map string_bytes c.args.words.now) c.requested.result
 taken c =
     let words = map string_bytes c.args.words.now in
@@ -16,7 +16,7 @@ taken c =
     let same : given ≡ subcommand_of waffd words = subst Q c.in_ok-commands.ensures (λ simple. (c.in-Ok.ensures.matches simple).1) refl in
     holds_requested words c.requested.result nothing (subst (λ s. IsRequested s c.requested.result) same c.requested.ensures)
 
--- clap answered the words
+-- clap gives an error for the words
 answered : (c : goal.After-answered) → Holds (map string_bytes c.args.words.now) c.answered.result
 answered c =
     let words = map string_bytes c.args.words.now in

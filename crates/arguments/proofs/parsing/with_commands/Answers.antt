@@ -1,4 +1,4 @@
--- One more row adds its command behind those before it: no option is for the commands below it.
+-- One more row adds its command behind those before it: no option of the command is global.
 use Rattle.std.proofs.Common.{◌∙◌, ap, ap₂, sym}
 use Rattle.clap.specs.Words.{App, with_subcommand}
 use Rattle.arguments.proofs.Options.{is_plain_in_row, no_globals, one_more_command}

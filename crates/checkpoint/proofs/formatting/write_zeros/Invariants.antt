@@ -1,4 +1,4 @@
--- So many zeros are written and nothing outside the range is changed; and how many are left.
+-- `done` zeros are written, and nothing outside the range is changed; what decreases is the number of those left.
 use Rattle.std.proofs.Common.{◌≡◌, ◌≤◌, ◌-◌, length, replicate}
 use Rattle.disk.specs.Device.{SameOutside, overlaid}
 use Rattle.oplog.specs.Changes.{CrashesChangeOnly}

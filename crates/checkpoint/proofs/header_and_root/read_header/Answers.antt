@@ -1,4 +1,4 @@
--- A refusal names the first test that the bytes fail: the marks, the geometry, or the length for that geometry.
+-- A refusal is for the first test that the bytes fail: the length, the magic, the geometry, or the length for that geometry.
 use Rattle.std.proofs.Common.{not, Some, length, take, inr, sym, ◌∙◌, ap, arith, ℕ, List}
 use Rattle.std.proofs.lemmas.Bool.{cond-true, lt-ltb, not-false, true≢false}
 use Rattle.std.proofs.lemmas.List.{take-take}

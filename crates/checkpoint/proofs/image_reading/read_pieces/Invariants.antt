@@ -1,4 +1,4 @@
--- The pieces so far were good and are in the tree, which is empty at the others; the device was only read.
+-- The pieces so far were good and are in the tree, where a volume without any of them has no block; the device was only read.
 use Rattle.std.proofs.Common.{◌≡◌, ◌+◌, length}
 use Rattle.checkpoint.proofs.Walked.{AreFree}
 use Rattle.disk.specs.Device.{moments}

@@ -1,4 +1,4 @@
--- Bytes are taken in exactly where they are the piece of what they spell, in the version of the image.
+-- Bytes are taken in exactly where they are the encoding of what they decode to, in the version of the image.
 use Rattle.std.proofs.Common.{◌≡◌, ℕ, sym, ◌∙◌}
 use Rattle.image.specs.Pieces.{piece_of, with_piece}
 use Rattle.parcel.specs.Tree.{state_in}

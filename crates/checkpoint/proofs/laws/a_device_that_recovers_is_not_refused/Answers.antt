@@ -1,4 +1,4 @@
--- The lemma.
+-- Both claims, that it has the header and that it isn't refused, are lemmas of `NotRefused`.
 use Rattle.checkpoint.proofs.NotRefused.{has_header, is_not_refused}
 use Rattle.checkpoint.proofs.laws.a_device_that_recovers_is_not_refused.Goals as goal
 

@@ -1,4 +1,4 @@
--- The record has one message, or none; it is run exactly where its reply is `Done`, and else it is bad.
+-- The record is that of one message, or of none. It is run exactly where there is a message whose reply is `Done`, and is bad otherwise.
 use Rattle.std.proofs.Common.{Some, sym, ◌∙◌, ap, subst}
 use Rattle.std.proofs.lemmas.Result.{err_from_is_err_and}
 use Rattle.affinity.specs.declared.geometry.Geometry.{Geometry}

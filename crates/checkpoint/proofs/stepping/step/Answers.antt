@@ -1,4 +1,5 @@
--- Nothing of the tree is out, so the place is lent; what was run fits there, and makes the serial step.
+-- Nothing of the tree is out, so the parcels at the message's affinity are lent; after the run they are restored, and the state has made
+-- the serial step.
 use Rattle.std.proofs.Common.{◌≡◌, [], sym, ◌∙◌, subst}
 use Rattle.affinity.specs.declared.geometry.Geometry.{Geometry}
 use Rattle.parcel.specs.Nodes.{tree_state}

@@ -1,4 +1,4 @@
--- Two incarnations, from what is promised of each.
+-- The promise over two incarnations, from what is promised of each.
 use Rattle.commands.proofs.Promise.{restart}
 use Rattle.commands.proofs.again.serve_again.Goals as goal
 

@@ -60,7 +60,7 @@ pub returns-in-Err-run-clause-served : goal.returns-in-Err-run-clause-served
 returns-in-Err-run-clause-served g c = λ path s asks.
     rw c.report.ensures (served_on (map string_bytes c.args.arguments.now) c.in-Ok.request (Err c.in-Err-run.fault) c.in-Ok.ensures.ok asks c.in-Err-run.ensures)
 
--- words that are refused ask for nothing
+-- arguments that are refused ask for nothing
 
 pub returns-in-Ok-run-clause-refused : goal.returns-in-Ok-run-clause-refused
 returns-in-Ok-run-clause-refused g c = λ wrong. absurd (ask_for_nothing (map string_bytes c.args.arguments.now) c.in-Ok.request c.in-Ok.ensures.ok wrong)
@@ -68,7 +68,7 @@ returns-in-Ok-run-clause-refused g c = λ wrong. absurd (ask_for_nothing (map st
 pub returns-in-Err-run-clause-refused : goal.returns-in-Err-run-clause-refused
 returns-in-Err-run-clause-refused g c = λ wrong. absurd (ask_for_nothing (map string_bytes c.args.arguments.now) c.in-Ok.request c.in-Ok.ensures.ok wrong)
 
--- words that ask for no service
+-- arguments that ask for no command
 
 pub returns-in-Err-clause-unserved : goal.returns-in-Err-clause-unserved
 returns-in-Err-clause-unserved g c = λ no_service. rw c.report_refusal.ensures (inr (refused_by c.in-Err.refusal, refl, refl))
@@ -92,7 +92,7 @@ returns-in-Ok-run-clause-plain g c = λ program are. returns-in-Ok-run-clause-se
 pub returns-in-Err-run-clause-plain : goal.returns-in-Err-run-clause-plain
 returns-in-Err-run-clause-plain g c = λ program are. returns-in-Err-run-clause-served_plain g c default_geometry (asks_alone (map string_bytes c.args.arguments.now) program are)
 
--- a fault has a status of its own, and so has a refusal
+-- no fault has status 0, and no refusal
 
 pub returns-in-Err-clause-quiet : goal.returns-in-Err-clause-quiet
 returns-in-Err-clause-quiet g c = λ none. absurd (is_refused c.in-Err.refusal (rw c.report_refusal.ensures at none))

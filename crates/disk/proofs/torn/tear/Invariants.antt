@@ -1,4 +1,4 @@
--- Tearing the rest of the bytes as they are now gives what tearing all of them gives.
+-- The bytes so far are torn: tearing the others as well gives what tearing all bytes at first would have given.
 use Rattle.std.proofs.Common.{◌≡◌, ◌≤◌}
 use Rattle.disk.specs.Torn.{torn_byte, torn_from}
 use Rattle.disk.proofs.Crashes.{torn_so_far}

@@ -1,4 +1,4 @@
--- The log keeps this message too, so it keeps all up to this one.
+-- This message is a change in range, too, so all messages up to it are.
 use Rattle.std.proofs.Common.{ℕ, get_or, subst}
 use Rattle.std.proofs.lemmas.List.{get_or_default}
 use borrow.Author.Count.{below_more}

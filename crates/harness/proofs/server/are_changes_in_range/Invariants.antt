@@ -1,4 +1,4 @@
--- The log keeps each of the messages so far.
+-- Each message so far is a change in range: one that the log takes.
 use Rattle.std.proofs.Common.{ℕ, ◌<◌, get_or}
 use Rattle.messages.specs.declared.Msg.{Msg}
 use Rattle.oplog.specs.Changing.{IsChangeInRange}

@@ -1,4 +1,4 @@
--- The lemma of that name.
+-- The lemma `read_again` of `Reading`.
 use Rattle.image.proofs.Reading.{read_again}
 use Rattle.image.proofs.laws.a_state_is_read_again.Goals as goal
 

@@ -1,4 +1,4 @@
--- The lemma of that name.
+-- The lemma `spelling` of `Reading`.
 use Rattle.image.proofs.Reading.{spelling}
 use Rattle.image.proofs.laws.an_image_is_its_spelling.Goals as goal
 

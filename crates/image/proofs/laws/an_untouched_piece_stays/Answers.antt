@@ -1,4 +1,4 @@
--- The lemma of that name.
+-- The lemma `piece_stays` of `Untouched`.
 use Rattle.image.proofs.Untouched.{piece_stays}
 use Rattle.image.proofs.laws.an_untouched_piece_stays.Goals as goal
 

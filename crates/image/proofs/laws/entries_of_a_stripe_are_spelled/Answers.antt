@@ -1,4 +1,4 @@
--- The lemma of that name.
+-- The lemma `spelled` of `Order`.
 use Rattle.image.proofs.Order.{spelled}
 use Rattle.image.proofs.laws.entries_of_a_stripe_are_spelled.Goals as goal
 

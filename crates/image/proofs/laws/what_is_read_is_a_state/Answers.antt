@@ -1,4 +1,4 @@
--- The lemma of that name.
+-- The lemma `read_is_a_state` of `Walk`.
 use Rattle.image.proofs.Walk.{read_is_a_state}
 use Rattle.image.proofs.laws.what_is_read_is_a_state.Goals as goal
 

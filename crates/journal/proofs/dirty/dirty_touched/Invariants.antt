@@ -1,4 +1,4 @@
--- What the messages so far touch is dirty, and no more.
+-- The pieces that the messages so far touch are dirty, and the others are as they were.
 use Rattle.std.proofs.Common.{◌≡◌, length, take}
 use Rattle.journal.specs.DirtyPieces.{DirtiesTouched}
 use Rattle.journal.proofs.dirty.dirty_touched.Given as goal

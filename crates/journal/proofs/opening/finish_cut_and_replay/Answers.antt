@@ -1,4 +1,4 @@
--- The cut is finished, and then the records behind it are run; a bad one refuses the device as it did before.
+-- The cut is finished, and then the records behind it are run; if one is bad, the device is refused for it, as it was before.
 use Rattle.std.proofs.Common.{◌≡◌, ℕ, List, Option, Some, refl, sym, ◌∙◌, ap, subst, arith}
 use Rattle.std.proofs.lemmas.Result.{err_from_is_err_and}
 use Rattle.checkpoint.specs.declared.fault.OpenFault.{OpenFault}

@@ -1,4 +1,4 @@
--- Without a cut in progress the named area holds the state; else the cut is finished, and the records behind it run.
+-- Without a cut in progress the named area holds the state; else the cut is finished, and the records behind it are run.
 use Rattle.std.proofs.Common.{Bool, true, false, refl, sym, ◌∙◌, ap, subst, arith}
 use Rattle.std.proofs.lemmas.Result.{err_from_is_err_and}
 use Rattle.affinity.specs.declared.geometry.Geometry.{Geometry}

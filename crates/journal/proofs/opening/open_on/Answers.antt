@@ -1,4 +1,4 @@
--- Up to the end of the first sync a crash leaves what one before could, and then what opening synced bytes leaves.
+-- Until the first sync is over, a crash leaves what one before it could; from then on, what it leaves while a synced device is opened.
 use Rattle.std.proofs.Common.{ℕ, List, sym, subst, arith}
 use Rattle.std.proofs.lemmas.Result.{err_from_is_err_and}
 use Rattle.checkpoint.specs.Header.{HasHeader}

@@ -1,4 +1,5 @@
--- Header, memory, load and last point, one after the other: a refusal is that of the bytes, a crash recovers to the same.
+-- Header, memory, load and last point, one after the other: a refusal is one that the bytes show, and what a crash leaves
+-- recovers to the same, or is refused alike.
 use Rattle.std.proofs.Common.{◌≡◌, ◌≤◌, Bool, List, ℕ, length, sym, ◌∙◌, ap, subst, arith}
 use Rattle.std.proofs.lemmas.Result.{err_from_is_err_and}
 use Rattle.affinity.specs.declared.geometry.Geometry.{Geometry}

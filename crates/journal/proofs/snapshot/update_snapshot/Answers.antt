@@ -1,4 +1,4 @@
--- A dirty piece is spelled at its place, the others stay, and all pieces with the head make up the image.
+-- A dirty piece is encoded at its place, the others stay, and all pieces with the head make up the image.
 use Rattle.std.proofs.Common.{◌≡◌, ◌+◌, ◌-◌, ◌<◌, ◌≤◌, ℕ, List, length, rules, refl, sym, ◌∙◌, ap, subst, arith}
 use Rattle.std.proofs.lemmas.Grind.{common_steps}
 use Rattle.image.specs.Image.{image_of}

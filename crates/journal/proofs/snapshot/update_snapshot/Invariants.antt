@@ -1,4 +1,4 @@
--- Up to here the bytes are those of the image, if the clean pieces were so at first.
+-- Up to the next piece the bytes are those of the image, if the clean pieces were those of the state at first.
 use Rattle.journal.proofs.SnapshotBytes.{IsSnapshotTo}
 use Rattle.parcel.specs.Tree.{state_in}
 use Rattle.journal.proofs.snapshot.update_snapshot.Given as goal

@@ -1,4 +1,4 @@
--- While the other half is cleared, and then chained while empty, a crash recovers to the same; records go there next.
+-- The other half is cleared, and then put in force while it is empty: what a crash leaves recovers to the same. Records go there next.
 use Rattle.std.proofs.Common.{subst, arith}
 use Rattle.std.proofs.lemmas.Result.{err_from_is_err_and}
 use Rattle.journal.proofs.Cutting.{begun_forced, begun_images, begun_none, begun_ready, begun_recovers, chain_moments, named_below}

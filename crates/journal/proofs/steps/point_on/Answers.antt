@@ -1,4 +1,4 @@
--- While the other area is cleared and written a crash reads the named one; then both recover to the same.
+-- While the other area is cleared and written, recovery reads the named one alone; once it is written, both areas recover to the same.
 use Rattle.std.proofs.Common.{◌≡◌, ◌<◌, ℕ, sym, ◌∙◌, subst, arith}
 use Rattle.std.proofs.lemmas.Result.{err_from_is_err_and}
 use Rattle.affinity.specs.declared.geometry.Geometry.{Geometry}

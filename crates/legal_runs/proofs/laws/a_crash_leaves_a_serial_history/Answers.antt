@@ -1,4 +1,4 @@
--- The lemmas on what may be left of serial histories.
+-- The lemmas on what a crash may leave of serial histories.
 use Rattle.legal_runs.proofs.SerialHistories.{answered_begins, doubts_in_order, left_in_order}
 use Rattle.legal_runs.proofs.laws.a_crash_leaves_a_serial_history.Goals as goal
 

@@ -1,4 +1,4 @@
--- The lemmas on what may be left.
+-- The lemmas on what a crash may leave.
 use Rattle.legal_runs.proofs.Crashes.{left_begins, left_is_committed}
 use Rattle.legal_runs.proofs.laws.a_crash_leaves_what_was_appended.Goals as goal
 

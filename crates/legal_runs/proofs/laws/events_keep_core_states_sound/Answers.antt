@@ -1,4 +1,4 @@
--- The lemmas on core states in which nothing is, and on events.
+-- The lemmas on core states in which nothing waits or is held, and on events.
 use Rattle.legal_runs.proofs.Idle.{idle_sound}
 use Rattle.legal_runs.proofs.Sound.{event_sound}
 use Rattle.legal_runs.proofs.laws.events_keep_core_states_sound.Goals as goal

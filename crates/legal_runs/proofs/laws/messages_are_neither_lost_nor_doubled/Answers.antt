@@ -1,4 +1,4 @@
--- The lemmas on what arrives.
+-- The lemmas on the messages that arrive.
 use Rattle.legal_runs.specs.Runs.{arrived}
 use Rattle.legal_runs.proofs.Arrivals.{run_ascending}
 use Rattle.legal_runs.proofs.Elements.{in_contained}

@@ -1,4 +1,4 @@
--- A message that isn't logged leaves the state, so the run without it comes to the same state.
+-- A message of which the log keeps no record leaves the state as it is, so without it the others lead to the same state.
 use Rattle.meaning.proofs.Unchanged.{fold_logged}
 use Rattle.meaning.proofs.laws.logged_messages_are_enough.Goals as goal
 

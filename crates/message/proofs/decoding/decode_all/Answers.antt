@@ -1,4 +1,4 @@
--- Each group puts its bytes behind those before it, and the rest puts the others.
+-- Each group puts its bytes behind those before it, and `decode_from` puts the bytes behind the last group.
 use Rattle.std.proofs.Common.{◌≡◌, ℕ, ◌+◌, ◌*◌, ◌<◌, ⊎_elim, max, ap, arith, length, slice_index, sym, ◌∙◌, subst}
 use Rattle.std.proofs.Math.Nat.{le-max_left, le-max_right}
 use Rattle.message.specs.Digits.{AreDecoded, value_of}

@@ -1,4 +1,4 @@
--- The values so far are those of the digits, and the greatest of them is known.
+-- The values so far are those of the digits, and none of them is above `greatest`.
 use Rattle.std.proofs.Common.{◌≡◌, ℕ, ◌+◌, ◌<◌, ◌≤◌, slice_index}
 use Rattle.message.specs.Digits.{HasNonDigit, value_of}
 use Rattle.message.proofs.decoding.values_at.Given as goal

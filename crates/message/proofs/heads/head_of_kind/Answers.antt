@@ -1,4 +1,4 @@
--- A word after the keyword of a summary spells none, and of a label the head has only that it is set.
+-- A `summary` with a word behind its keyword is no message; the head of a `setlabel` has only its kind.
 use Rattle.messages.specs.declared.Msg.TheVariants.{Summary}
 use Rattle.messages.specs.Lines.{words}
 use Rattle.message.proofs.Forms.{nothing_behind, label_sets}

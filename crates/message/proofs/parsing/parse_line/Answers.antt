@@ -1,4 +1,4 @@
--- The line is split into words, the first names the kind and the rest its numbers; by one equation for both clauses.
+-- The line is split into words: the first names the kind, and the rest are its numbers and its data.
 use Rattle.std.proofs.Common.{◌≡◌, ℕ, List, [], Option, Some, ap, sym, ◌∙◌}
 use Rattle.std.specs.Prelude.{◌↔◌}
 use Rattle.affinity.specs.declared.kinds.Kind.{Kind}
@@ -10,7 +10,7 @@ use Rattle.message.proofs.Keywords.{with_kind, without_kind, needs_words, keywor
 use Rattle.message.proofs.Spelling.{read_iff_spelled}
 use Rattle.message.proofs.parsing.parse_line.Goals as goal
 
--- one equation shows both clauses
+-- both clauses follow from one equation: the result is `message_of` of the line
 both : (line : List ℕ) (r : Option Msg) → r ≡ message_of line → record { value : r ≡ message_of line; exact : (m : Msg) → (r ≡ Some m) ↔ Spells line m }
 both line r e = record { value = e; exact = read_iff_spelled line r e }
 

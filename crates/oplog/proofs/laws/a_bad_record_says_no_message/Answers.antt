@@ -1,4 +1,4 @@
--- A message whose record the bytes are would be the one of their fields, and that one is not logged.
+-- What the fields decode to is a message, since bytes are below 256; so they aren't its record, as they are that of no change in range.
 use Rattle.oplog.proofs.BadRecords.{records_are_bytes, no_record_says_none}
 use Rattle.oplog.proofs.laws.a_bad_record_says_no_message.Goals as goal
 

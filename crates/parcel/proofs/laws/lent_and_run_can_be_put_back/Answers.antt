@@ -1,4 +1,4 @@
--- What was lent left its place empty, and a run leaves parcels that suit the message, so that fit there.
+-- What was lent left its place out, and a run leaves parcels that the message can run on again: so they fit there.
 use Rattle.parcel.proofs.Holding.{lent_is_out, ran_goes_back}
 use Rattle.parcel.proofs.Lending.{kind_of}
 use Rattle.parcel.proofs.laws.lent_and_run_can_be_put_back.Goals as goal

@@ -1,4 +1,4 @@
--- What is read in one child is read in this level.
+-- A piece that is read into a child is read into the node above it, whose other children stay.
 use Rattle.std.proofs.Common.{◌≡◌, ℕ, ◌<◌, ◌∷◌, [], length, slice_index_or, slice_set, Option, Some, sym, ◌∙◌, ap, subst, arith}
 use Rattle.std.specs.Prelude.{None, IfSome}
 use Rattle.std.proofs.lemmas.List.{get_or_read, length-set}

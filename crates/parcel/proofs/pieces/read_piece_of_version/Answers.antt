@@ -1,4 +1,4 @@
--- What was read at the place of the piece.
+-- The bytes were read into the volume of the piece; if they are good, the state is the one before, with the piece taken in.
 use Rattle.std.proofs.Common.{◌≡◌, ℕ, ◌<◌, List, ◌∷◌, length, true, false, true≢false, None, refl, sym, ◌∙◌, ap, subst}
 use Rattle.affinity.specs.Interval.{IsPath}
 use Rattle.affinity.specs.Path.{Path, volume}

@@ -1,4 +1,4 @@
--- The volume is in, and the state has what it has.
+-- The volume of the piece is in, and the state has of it what the volume has.
 use Rattle.std.proofs.Common.{◌≡◌, ℕ, ◌<◌, Some, sym, ◌∙◌, ap, subst}
 use Rattle.std.specs.Prelude.{IfSome, option_copied}
 use Rattle.image.specs.Pieces.{piece_count, piece_of, part_piece}

@@ -1,4 +1,4 @@
--- No one at an earlier number does.
+-- At no number before this one does `conflicts_at` hold.
 use Rattle.std.proofs.Common.{◌≡◌, false, take}
 use Rattle.std.specs.List.{list_any}
 use Rattle.run_queue.specs.RelatedNumbers.{conflicts_at}

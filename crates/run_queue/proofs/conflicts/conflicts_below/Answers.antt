@@ -1,4 +1,4 @@
--- Each number below the affinity is looked at.
+-- The number of the affinity and each one below it are looked at.
 use Rattle.std.proofs.Common.{◌≡◌, false, inl, inr, arith, sym, subst, ◌∙◌}
 use Rattle.std.proofs.lemmas.Bool.{cases_eq, and_parts, leb-true, ltb-true}
 use Rattle.run_queue.specs.RelatedNumbers.{conflicts_at}

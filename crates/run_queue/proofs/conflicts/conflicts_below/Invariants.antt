@@ -1,4 +1,4 @@
--- No one at an earlier number does.
+-- At no number of the affinity before this one does `conflicts_at` hold.
 use Rattle.std.proofs.Common.{◌≡◌, ◌<◌, ◌≤◌, ℕ, false}
 use Rattle.run_queue.specs.RelatedNumbers.{conflicts_at}
 use Rattle.run_queue.proofs.conflicts.conflicts_below.Given as goal

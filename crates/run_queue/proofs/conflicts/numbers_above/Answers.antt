@@ -1,4 +1,4 @@
--- The place of the affinity has the places above it.
+-- The `Place` of an affinity tells those above it, and so their numbers.
 use Rattle.std.proofs.Common.{◌≡◌, ◌∙◌, ℕ, ap, subst, refl, [], ◌∷◌}
 use Rattle.std.specs.Prelude.{List}
 use Rattle.affinity.specs.Interval.{Interval}

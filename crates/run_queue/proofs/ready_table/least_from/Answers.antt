@@ -1,4 +1,4 @@
--- A rank of the chunk was looked at, or it isn't there.
+-- Each rank of the chunk was looked at, unless the table ends before its number.
 use Rattle.std.proofs.Common.{suc, ◌+◌, ◌≤◌, length, min, arith, inl, inr}
 use Rattle.std.proofs.Math.Nat.{le-min}
 use Rattle.std.proofs.lemmas.Bool.Decides.{leb_tells}

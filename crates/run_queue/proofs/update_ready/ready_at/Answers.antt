@@ -1,4 +1,4 @@
--- The first one is at an affinity of the geometry, as all are that wait.
+-- The first message at a number is at an affinity of the geometry, as all are that wait.
 use Rattle.std.proofs.Common.{◌∙◌, sym}
 use Rattle.affinity.specs.Interval.{IsAffinity}
 use Rattle.run_queue.specs.RunQueue.{has_number}

@@ -1,4 +1,4 @@
--- A number with a ready entry gets the right one, and at the others no one waits.
+-- A number that the ready table has gets the right entry, and at other numbers no message waits.
 use Rattle.std.proofs.Common.{arith}
 use Rattle.run_queue.proofs.Ready.{update_ready-past}
 use Rattle.run_queue.proofs.update_ready.update_ready.Goals as goal

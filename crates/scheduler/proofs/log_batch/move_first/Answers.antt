@@ -1,4 +1,4 @@
--- Of those that ran there is a first, and it becomes the last of the logged ones.
+-- Of the messages that ran there is a first one, and it becomes the last of the logged ones.
 use Rattle.std.proofs.Common.{sym, subst, ◌∙◌}
 use Rattle.arena.specs.ArenaView.{IsPartitioned, ArenaView}
 use Rattle.scheduler.proofs.Shifting.{first_is_there, first_logged}

@@ -1,4 +1,4 @@
--- Each iteration moves one more, and those that are left are the ones behind it.
+-- Each iteration moves one more message, and those that still ran and aren't logged are the ones behind it.
 use Rattle.std.proofs.Common.{◌<◌, sym, subst, length, arith, List, ℕ}
 use Rattle.arena.specs.ArenaView.{chain_at}
 use Rattle.scheduler.proofs.Shifting.{left_over, none_logged, one_more_logged}

@@ -1,4 +1,4 @@
--- So many are logged so far.
+-- As many messages are logged as there were iterations.
 use Rattle.scheduler.specs.Moving.{HasLogged}
 use Rattle.scheduler.proofs.log_batch.move_ran.Given as goal
 

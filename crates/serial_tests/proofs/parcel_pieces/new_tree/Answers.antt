@@ -1,4 +1,4 @@
--- The empty state is one of each geometry.
+-- The empty state is a state of each geometry.
 use Rattle.std.proofs.Common.{[], sym, ◌∙◌, ap, subst}
 use Rattle.affinity.specs.Geometry.{numbers_of}
 use Rattle.affinity.specs.declared.geometry.Geometry.{Geometry}

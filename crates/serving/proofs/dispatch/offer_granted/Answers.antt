@@ -1,4 +1,4 @@
--- Nothing is lent at the first place where nothing is.
+-- Nothing is lent at place k, which is the first free one, so that the offer there isn't refused.
 use Rattle.std.proofs.Common.{◌≡◌, Err, Ok, Some, refl, subst, sym, ◌∙◌}
 use Rattle.std.specs.Prelude.{slice_set}
 use Rattle.scheduler.specs.declared.granted.Granted.{Granted}

@@ -1,4 +1,4 @@
--- The lemmas on known lines.
+-- The lemmas on lines of which the answers are known.
 use Rattle.std.proofs.Common.{[], ap, inr, ◌∙◌, append-nil, take, length}
 use Rattle.legal_runs.proofs.Elements.{contains_in, in_contained}
 use Rattle.meaning.specs.Output.{output_lines}

@@ -1,4 +1,4 @@
--- While all messages are inside none was answered, so no line that may be sent is a message's reply.
+-- While all messages are in the core none was answered, so no line that may be sent is a reply to a message in range.
 use Rattle.serving.proofs.Silence.{no_reply, nothing_done}
 use Rattle.serving.proofs.laws.nothing_is_sent_before_it_is_answered.Goals as goal
 

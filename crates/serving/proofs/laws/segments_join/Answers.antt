@@ -1,4 +1,4 @@
--- The lemma of segments.
+-- The lemma that two segments, one after the other, are one.
 use Rattle.serving.proofs.Chain.{passes_on}
 use Rattle.serving.proofs.laws.segments_join.Goals as goal
 

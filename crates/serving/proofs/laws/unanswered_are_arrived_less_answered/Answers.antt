@@ -1,4 +1,4 @@
--- The lemmas on what is inside.
+-- The lemmas on how many messages are in the core, and on its slots.
 use Rattle.serving.proofs.Slots.{finds_a_slot, passes_count, passes_slots}
 use Rattle.serving.proofs.laws.unanswered_are_arrived_less_answered.Goals as goal
 

@@ -1,4 +1,4 @@
--- Where it begins; and what it promises, since the core at the end is as it always is.
+-- The session's invariant where it begins; and what the call promises, given what `know_recovery` ensures of the core at the end.
 use Rattle.std.proofs.Common.{List, Option, ap, refl, sym, subst, ℕ, ◌∙◌}
 use Rattle.std.specs.Prelude.{OnOk, Result}
 use Rattle.scheduler.specs.CoreView.{CoreView}

@@ -1,4 +1,4 @@
--- What is promised of a server that was refused, and of one that was not.
+-- What is promised without workers or memory, and what is promised of a server that ran.
 use Rattle.std.proofs.Common.{refl, rules}
 use Rattle.serving.proofs.Closing.{serves_as}
 use Rattle.serving.proofs.Promises.{no_memory_ran, no_workers_ran}

@@ -1,4 +1,4 @@
--- As many places as were asked for.
+-- There are as many slots and places as were asked for.
 use Rattle.serving.proofs.server.take_memory.Goals as goal
 
 pub returns-clause-slots : goal.returns-clause-slots

@@ -1,4 +1,4 @@
--- The links are those of the start.
+-- The links are those of new `Links`: all slots on the first list.
 use Rattle.std.proofs.Common.{ℕ, List, ap, slice_index, arith, length}
 use Rattle.arena.specs.Linked.{Linked}
 use Rattle.arena.proofs.Start.{IsLinked-start, rings-start}

@@ -1,4 +1,4 @@
--- The links so far.
+-- The nodes so far have the neighbors that they have in new `Links`.
 use Rattle.std.proofs.Common.{◌≡◌, ◌<◌, ◌≤◌, ℕ, List, length, slice_index, vec_capacity}
 use Rattle.arena.specs.Linked.{next_at_start, previous_at_start}
 use Rattle.arena.proofs.links.Links.new.Given as goal

@@ -1,4 +1,4 @@
--- A snapshot of the committed state is made, the log goes on in the other half, and the other image's dirty pieces are left.
+-- A snapshot of the committed state is made, the log goes on in the other half, and the other image's dirty pieces are left to write.
 use Rattle.std.proofs.Common.{◌≡◌, ◌-◌, Bool, false, Option, Some, None, ℕ, List, length, replicate, refl, sym, ◌∙◌, ap, subst, arith}
 use Rattle.std.proofs.lemmas.List.{length-replicate}
 use Rattle.affinity.specs.declared.geometry.Geometry.{Geometry}

@@ -1,4 +1,4 @@
--- Up to the root byte a crash reads the old area and then the new one, and both recover to the committed state.
+-- What a crash leaves names the old area or the new one, and the device recovers to the committed state by either.
 use Rattle.std.proofs.Common.{◌≡◌, false, Option, Some, ℕ, List, ◌++◌, length, refl, sym, ◌∙◌, ap, subst, arith}
 use Rattle.affinity.specs.declared.geometry.Geometry.{Geometry}
 use Rattle.checkpoint.specs.Recovery.{recovered_state}

@@ -1,4 +1,4 @@
--- A crash recovers to the committed state with the first m of the messages run on it; all they touch is dirty.
+-- What a crash leaves recovers to the committed state with the first m of the messages run on it; all that they touch is dirty.
 use Rattle.std.proofs.Common.{◌≡◌, ℕ, ◌+◌, ◌++◌, false, Some, length, option_map, refl, sym, ◌∙◌, ap, subst, arith}
 use Rattle.affinity.specs.declared.geometry.Geometry.{Geometry}
 use Rattle.checkpoint.specs.Recovery.{recovered_state}

@@ -1,4 +1,4 @@
--- A piece is written into the image that isn't named, so a crash recovers to the same; one fewer is left.
+-- A piece is written into the image that isn't named, so what a crash leaves recovers to the same; one piece fewer is left.
 use Rattle.std.proofs.Common.{◌≡◌, ◌<◌, ◌-◌, ℕ, Bool, true, false, List, length, get_or, Option, Some, is_some, option_map, refl, sym, ◌∙◌, ap, subst, arith}
 use Rattle.std.proofs.lemmas.List.{length-set}
 use Rattle.affinity.specs.declared.geometry.Geometry.{Geometry}

@@ -1,4 +1,4 @@
--- The unread bytes stay the same, nothing is read where a line was held; and how many reads may still be needed.
+-- The unread bytes stay the same, and nothing is read where a line was held. The loop ends: each read brings a byte, or is the last.
 use Rattle.std.proofs.Common.{◌≡◌, ◌-◌, [], false, true, cond, length}
 use Rattle.std.specs.Io.KnownBytes.{Keeps}
 use Rattle.message.specs.Reader.{buffered_bytes, unread, line_of, HoldsLine, KnowsEnd, has_ended, has_failed}
@@ -14,6 +14,6 @@ invariant-loop-self g l = record {
   at_end : KnowsEnd g.R.Read.remaining l.initial.self → KnowsEnd g.R.Read.remaining l.self;
 }
 
--- the reads that may be needed
+-- a bound on the reads that may still be needed
 abbrev pub decreases-loop-self : goal.decreases-loop-self
 decreases-loop-self g l = cond l.self.ended 0 (1102 - length (buffered_bytes l.self.buffered))

@@ -1,4 +1,4 @@
--- The batches so far are in the front, by four calls of the device each; and how many messages are left.
+-- The batches so far are in the front, at four writes and syncs each; and what decreases is the number of messages left.
 use Rattle.std.proofs.Common.{◌≡◌, ◌<◌, ◌≤◌, ◌+◌, ◌-◌, ◌*◌, ◌%◌, length, take, vec_len}
 use Rattle.disk.specs.Moments.{moment_number}
 use Rattle.oplog.specs.Costs.{write_groups}

@@ -1,4 +1,4 @@
--- A log that is ready for records has a current half that is.
+-- If a log is ready for records, its current half is.
 use Rattle.std.proofs.Common.{sym, subst}
 use Rattle.oplog.specs.Calls.{IsReadyFor}
 use Rattle.oplog.specs.Log.{Log}

@@ -1,4 +1,4 @@
--- Parcels of this kind fit here.
+-- By clause `parcels`, a Volume Logical that is put back fits at this node.
 use Rattle.std.proofs.Common.{ℕ, zero, [], ◌∷◌, subst}
 use Rattle.parcel.specs.Fits.{Fits, IsKindOf}
 use Rattle.parcel.proofs.parts.putting.put_logical_itself.Goals as goal

@@ -1,4 +1,4 @@
--- Parcels of this kind fit here.
+-- By clause `parcels`, a volume that is put back fits at this node.
 use Rattle.std.proofs.Common.{ℕ, [], ◌∷◌, subst}
 use Rattle.parcel.specs.Fits.{Fits, IsKindOf}
 use Rattle.parcel.proofs.parts.putting.put_volume_itself.Goals as goal

@@ -1,4 +1,4 @@
--- So many are made so far, and there is room for the rest.
+-- As many new children as the counter says are in the vector, and there is room for the rest.
 use Rattle.std.proofs.Common.{◌≡◌, ◌≤◌, length, vec_capacity}
 use Rattle.std.specs.List.{AllByRecursion}
 use Rattle.parcel.specs.Fits.{IsWholeChild}

@@ -1,4 +1,4 @@
--- What is done to a child is done to the row.
+-- What is taken from a volume is taken from the aggregate, at a path one number longer.
 use Rattle.std.proofs.Common.{◌≡◌, ℕ, ◌<◌, ◌∷◌, sym, ap, subst, ◌∙◌, arith}
 use Rattle.std.specs.Prelude.{Some, None, IfSome, slice_index_or}
 use Rattle.std.proofs.lemmas.List.{length-set}

@@ -1,4 +1,4 @@
--- What is done to a stripe is done to the row.
+-- A stripe that is taken is taken from the Volume Logical, at a path one number longer.
 use Rattle.std.proofs.Common.{◌≡◌, ℕ, zero, ◌+◌, ◌<◌, [], ◌∷◌, sym, ap, subst, ◌∙◌, arith}
 use Rattle.std.specs.Prelude.{Some, None, IfSome, slice_index_or}
 use Rattle.std.proofs.lemmas.List.{length-set}

@@ -1,4 +1,4 @@
--- It is taken where all below it is in.
+-- A Volume Logical is taken where nothing below it is out.
 use Rattle.std.proofs.Common.{◌≡◌, true, false, subst, refl}
 use Rattle.std.specs.Prelude.{Some, IfSome}
 use Rattle.parcel.specs.Fits.{FitsLogical, IsWholeChild, IsWholeLogical}

@@ -1,4 +1,4 @@
--- What is done to the files and stripes or to the label is done to the volume.
+-- What is taken from the Volume Logical, or the label, is taken from the volume, at a path one number longer.
 use Rattle.std.proofs.Common.{◌≡◌, ℕ, ◌∷◌, sym, subst}
 use Rattle.std.specs.Prelude.{Some, IfSome}
 use Rattle.parcel.specs.Fits.{Fits}

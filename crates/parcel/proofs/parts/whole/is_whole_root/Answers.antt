@@ -1,4 +1,4 @@
--- The row is asked child by child.
+-- The children are tested one by one.
 use Rattle.std.proofs.Common.{◌∙◌, ap, sym, rules}
 use Rattle.std.proofs.lemmas.Iterator.{YieldsList-from_slice}
 use Rattle.std.proofs.lemmas.Iterator.Search.{all_from_yields_List}

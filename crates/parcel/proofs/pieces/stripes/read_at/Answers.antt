@@ -1,4 +1,4 @@
--- What a stripe's piece decodes to fits there.
+-- What a stripe's piece decodes to fits the stripe.
 use Rattle.std.proofs.Common.{refl, ◌∙◌, ap, subst}
 use Rattle.std.specs.Prelude.{IfSome}
 use Rattle.stripe.specs.Stripe.{StripePart, content_at}

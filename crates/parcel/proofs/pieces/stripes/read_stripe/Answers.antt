@@ -1,4 +1,4 @@
--- The stripe is one of its row.
+-- The stripe that is read is one of the volume's list, and the others stay.
 use Rattle.std.proofs.Common.{◌≡◌, ℕ, ◌<◌, length, slice_index_or, sym, subst, ◌∙◌, arith}
 use Rattle.std.specs.Prelude.{None, IfSome}
 use Rattle.std.proofs.lemmas.List.{get_or_read, length-set}

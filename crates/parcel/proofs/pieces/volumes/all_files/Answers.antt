@@ -1,4 +1,4 @@
--- The ones below the number of files.
+-- The number has a 1 in each bit below the number of files.
 use Rattle.std.proofs.Common.{◌≡◌, ℕ, ◌-◌, ◌≤◌, ◌^◌, ◌∙◌, ap, arith}
 use Rattle.std.proofs.lemmas.Nat.Bits.{ones_shr}
 use Rattle.parcel.proofs.pieces.volumes.all_files.Goals as goal

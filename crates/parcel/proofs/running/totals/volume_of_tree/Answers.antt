@@ -1,4 +1,4 @@
--- A volume that is not in counts as zeros.
+-- A volume that is out counts as zeros.
 use Rattle.std.proofs.Common.{ap, sym, ◌∙◌}
 use Rattle.parcel.specs.Shown.{child_facts, volume_facts}
 use Rattle.parcel.specs.Totals.{totals_of}

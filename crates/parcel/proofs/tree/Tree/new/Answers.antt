@@ -1,4 +1,4 @@
--- What is new holds nothing, and all of it is in.
+-- A new tree holds the empty state, and all of it is in.
 use Rattle.parcel.proofs.Starting.{root_fits, new_all_in, new_state}
 use Rattle.parcel.proofs.tree.Tree.new.Goals as goal
 

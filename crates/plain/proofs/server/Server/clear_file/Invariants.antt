@@ -1,4 +1,4 @@
--- But for blocks of this file the state is as it was, the counts are right; and the blocks get fewer.
+-- Apart from blocks of this file the state is as it was, and the counts are right. Each iteration lowers the number of blocks.
 use Rattle.std.proofs.Common.{◌≡◌}
 use Rattle.std.specs.BTreeMap.{btree_map_len}
 use Rattle.meaning.specs.State.{is_block_of_file}

@@ -1,4 +1,4 @@
--- A volume has as many files as its number has ones, and one that isn't there has none.
+-- A volume has as many files as its field `files` has bits set, and a volume that isn't there has none.
 use Rattle.std.proofs.Common.{sym}
 use Rattle.std.specs.BTreeMap as map
 use Rattle.meaning.specs.KeyOrders.{volume_order, block_order}

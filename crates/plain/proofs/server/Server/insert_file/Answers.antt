@@ -1,4 +1,4 @@
--- The volume that is found changes so, and no other: the effect of a create.
+-- A file is added to the volume that is found, and no other volume changes: the effect of a create.
 use Rattle.std.proofs.Common.{rules, Some, refl, sym}
 use Rattle.std.specs.BTreeMap as map
 use Rattle.meaning.specs.KeyOrders.{volume_order, block_order}

@@ -1,4 +1,4 @@
--- A volume with nothing in it comes to its key, which is the effect of a makevol.
+-- A volume with nothing in it is inserted at its key, which is the effect of a makevol.
 use Rattle.std.proofs.Common.{refl, sym}
 use Rattle.std.specs.BTreeMap as map
 use Rattle.meaning.specs.KeyOrders.{volume_order, block_order}

@@ -1,4 +1,4 @@
--- The number of a volume has its files as its bits, and one that isn't there has none.
+-- The bits of a volume's field `files` are its files, and a volume that isn't there has none.
 use Rattle.std.proofs.Common.{ap, sym}
 use Rattle.messages.specs.declared.Reply.TheVariants.{Files}
 use Rattle.std.specs.BTreeMap as map

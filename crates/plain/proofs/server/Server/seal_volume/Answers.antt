@@ -1,4 +1,4 @@
--- The volume that is found changes so, and no other: the effect of a seal.
+-- The volume that is found is sealed, and no other changes: the effect of a seal.
 use Rattle.std.proofs.Common.{rules, Some, true, refl, sym}
 use Rattle.std.specs.BTreeMap as map
 use Rattle.meaning.specs.KeyOrders.{volume_order, block_order}

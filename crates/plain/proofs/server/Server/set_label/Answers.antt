@@ -1,4 +1,4 @@
--- The volume that is found changes so, and no other: the effect of a setlabel.
+-- The label of the volume that is found is set, and no other volume changes: the effect of a setlabel.
 use Rattle.std.proofs.Common.{rules, Some, refl, sym}
 use Rattle.std.specs.BTreeMap as map
 use Rattle.meaning.specs.KeyOrders.{volume_order, block_order}

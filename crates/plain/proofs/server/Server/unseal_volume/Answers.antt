@@ -1,4 +1,4 @@
--- The volume that is found changes so, and no other: the effect of a unseal.
+-- The volume that is found is unsealed, and no other changes: the effect of an unseal.
 use Rattle.std.proofs.Common.{rules, Some, false, refl, sym}
 use Rattle.std.specs.BTreeMap as map
 use Rattle.meaning.specs.KeyOrders.{volume_order, block_order}

@@ -1,4 +1,4 @@
--- Each line has its kind.
+-- There is one kind for each line.
 use Rattle.std.proofs.Common.{◌≡◌, ap, arith}
 use Rattle.reorder_buffer.specs.ReorderBuffer.{ReorderBufferView}
 use Rattle.reorder_buffer.proofs.Lines.{length-lines}

@@ -1,4 +1,4 @@
--- Each line has its kind.
+-- There is one kind for each line.
 use Rattle.std.proofs.Common.{arith}
 use Rattle.reorder_buffer.proofs.Lines.{length-lines}
 use Rattle.reorder_buffer.proofs.reorder_buffer.ReorderBuffer.len.Goals as goal

@@ -1,4 +1,4 @@
--- The place of a number has the one that is held there.
+-- The entry of a number has the message that is held there.
 use Rattle.std.proofs.Common.{◌∙◌, sym, ap, find, length, refl, None, arith}
 use Rattle.std.proofs.lemmas.Option.{slice_get_read, get_or_from_slice_get}
 use Rattle.run_queue.specs.RunQueue.{has_number}

@@ -1,4 +1,4 @@
--- The place of a number is emptied.
+-- The entry of a number is emptied.
 use Rattle.std.proofs.Common.{refl, arith}
 use Rattle.run_queue.proofs.Standing.{stand-free, free-view, free-past}
 use Rattle.run_queue.proofs.holders.Holders.free.Goals as goal

@@ -1,4 +1,4 @@
--- The place of its number takes it.
+-- The entry of its affinity's number takes the message.
 use Rattle.std.proofs.Common.{◌≡◌, ◌∙◌, ◌<◌, sym, ap, subst, find, Some, None}
 use Rattle.std.specs.Prelude.{slice_set}
 use Rattle.run_queue.specs.RunQueue.{has_number}

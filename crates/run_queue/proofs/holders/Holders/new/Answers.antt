@@ -1,4 +1,4 @@
--- No one is held at any number.
+-- No message is held at any number.
 use Rattle.std.proofs.Common.{◌≡◌, arith}
 use Rattle.run_queue.proofs.Standing.{start-stand, start-view}
 use Rattle.run_queue.proofs.holders.Holders.new.Goals as goal

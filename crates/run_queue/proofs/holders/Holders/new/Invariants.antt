@@ -1,4 +1,4 @@
--- No one is held at the numbers so far.
+-- No message is held at the numbers so far.
 use Rattle.std.proofs.Common.{◌≡◌, ◌≤◌, replicate, None, vec_capacity}
 use Rattle.run_queue.proofs.holders.Holders.new.Given as goal
 

@@ -1,4 +1,4 @@
--- No entry is set at any number, and there is no rank.
+-- No entry is set at any number, so each rank, and the least of each chunk, is the greatest `u64`.
 use Rattle.std.proofs.Common.{◌≡◌, ◌∙◌, ◌+◌, ◌/◌, ℕ, zero, suc, ◌∷◌, List, refl, ap, sym, subst, arith, length, map, replicate, Option, None}
 use Rattle.std.proofs.lemmas.List.{length-replicate}
 use Rattle.run_queue.specs.ReadyTable.{AreLeast, rank_of}

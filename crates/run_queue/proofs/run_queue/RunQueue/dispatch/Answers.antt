@@ -1,4 +1,4 @@
--- The one that goes is the first in its queue, and no one is held where it will be.
+-- The message that is dispatched is the first in its queue, and none is held at its affinity.
 use Rattle.std.proofs.Common.{◌≡◌, arith, sym, subst, find, Some, refl}
 use Rattle.run_queue.specs.RunQueue.{RunQueueView, IsNext, has_number}
 use Rattle.run_queue.proofs.Nearby.{number-below}

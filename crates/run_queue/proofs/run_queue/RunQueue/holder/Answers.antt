@@ -1,4 +1,4 @@
--- The one at the number holds it.
+-- The message in the entry of the affinity's number is the one that is held there.
 use Rattle.std.proofs.Common.{◌≡◌, ◌∙◌, sym, subst, true, false, arith}
 use Rattle.std.specs.List.{list_any}
 use Rattle.run_queue.specs.RunQueue.{RunQueueView, has_number, holds_at}

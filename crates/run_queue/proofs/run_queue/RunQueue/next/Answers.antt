@@ -1,4 +1,4 @@
--- Each chunk was looked at, or none in it is before the best one.
+-- Each chunk was looked at, or no ready message in it is earlier than the best one.
 use Rattle.std.proofs.Common.{◌≡◌, ◌∙◌, ◌+◌, ◌*◌, sym, ap, arith, Option}
 use Rattle.run_queue.specs.RunQueue.{RunQueueView, has_room, next_queued}
 use Rattle.run_queue.specs.ReadyTable.{earliest_from, ready_in}

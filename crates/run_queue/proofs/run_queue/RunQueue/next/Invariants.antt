@@ -1,4 +1,4 @@
--- The best one so far is ready, the first one that may go at a number of an earlier chunk.
+-- The best ready message so far is the first that may be dispatched at a number of an earlier chunk.
 use Rattle.std.proofs.Common.{◌≡◌, ◌*◌}
 use Rattle.run_queue.specs.ReadyTable.{ready_in}
 use Rattle.run_queue.proofs.Earliest.{first_below}

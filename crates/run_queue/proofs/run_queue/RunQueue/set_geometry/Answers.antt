@@ -1,4 +1,4 @@
--- No one waits and no one is held, so all are at affinities of any geometry.
+-- No message waits or is held, so all (none) are at affinities of the new geometry.
 use Rattle.std.proofs.Common.{◌≡◌, [], subst, sym}
 use Rattle.run_queue.specs.RunQueue.{RunQueueView}
 use Rattle.run_queue.proofs.QueueCalls.{messages-begun}

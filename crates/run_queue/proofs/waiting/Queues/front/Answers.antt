@@ -1,4 +1,4 @@
--- The first slot of the chain has the first one of the queue.
+-- The first slot of the chain has the first message of the queue.
 use Rattle.std.proofs.Common.{◌∙◌, sym, ap, find}
 use Rattle.run_queue.specs.RunQueue.{has_number}
 use Rattle.run_queue.specs.Queues.{Waiting}

@@ -1,4 +1,4 @@
--- No one waits in an empty arena.
+-- No message waits in an empty arena.
 use Rattle.std.proofs.lemmas.List.{length-replicate}
 use Rattle.run_queue.proofs.Chains.{start-waiting, start-queued}
 use Rattle.run_queue.proofs.waiting.Queues.new.Goals as goal

@@ -1,4 +1,4 @@
--- It takes a free slot, and is last on its chain.
+-- The message takes a free slot, which is then the last on its chain.
 use Rattle.std.proofs.Common.{◌∙◌, ◌<◌, ℕ, sym, ap, subst, List, length}
 use Rattle.arena.specs.ArenaView.{ArenaView, IsPartitioned, slot_from, after_move}
 use Rattle.run_queue.specs.RunQueue.{CameBefore}

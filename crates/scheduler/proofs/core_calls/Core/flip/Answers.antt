@@ -1,4 +1,4 @@
--- A refusal touches nothing; the flip keeps the committed state at each moment, and ends the point.
+-- A refusal touches nothing; the flip keeps the committed state at each moment, and ends the online checkpoint.
 use Rattle.std.proofs.Common.{◌≡◌, ◌≤◌, ◌+◌, [], refl, sym, subst, ◌∙◌}
 use Rattle.std.specs.Prelude.{if◌then◌else◌}
 use Rattle.disk.specs.Moments.{CrashImagesAre, moment_number}

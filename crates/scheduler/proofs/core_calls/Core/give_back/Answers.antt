@@ -1,4 +1,4 @@
--- The slot that holds the affinity is the message's; its parcels are lent, so they go back in, and it has run.
+-- The slot that holds the affinity is the message's. The message's parcels are lent, so they go back into the tree, and it has run.
 use Rattle.std.proofs.Common.{◌≡◌, ℕ, ◌+◌, ◌<◌, ◌≤◌, List, length, slice_set, Some, sym, ap, subst, ◌∙◌}
 use Rattle.std.specs.Prelude.{vec_capacity}
 use Rattle.std.proofs.lemmas.Bool.{true≢false}

@@ -1,4 +1,4 @@
--- Where there is no memory nothing was called; and what was opened keeps what a core keeps.
+-- Where there is no memory for the core, the device wasn't called; and an opened core keeps what a core keeps.
 use Rattle.std.proofs.Common.{◌≡◌, ◌∙◌, ◌≤◌, ℕ, Some, refl, inl, sym, ap, subst, arith}
 use Rattle.std.specs.Prelude.{vec_capacity}
 use Rattle.std.proofs.lemmas.Result.{err_from_is_err_and}

@@ -1,4 +1,4 @@
--- It keeps its invariant, and halts only where the device does.
+-- The session keeps its invariant, and halts only where the device has failed.
 use Rattle.std.proofs.Common.{◌≡◌, ℕ, Some, ap, false, refl, ◌∙◌}
 use Rattle.legal_runs.specs.CoreState.{CoreState}
 use Rattle.scheduler.proofs.Called.{cut_called}

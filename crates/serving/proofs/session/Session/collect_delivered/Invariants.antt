@@ -1,4 +1,4 @@
--- Where the session and the batch are; and at how many places it has not looked.
+-- What stays so of the session and the batch from place to place; and how many places are still to be polled.
 use Rattle.std.proofs.Common.{◌≡◌, ◌<◌, ◌≤◌, ◌-◌, length}
 use Rattle.std.specs.Prelude.{IsTrue}
 use Rattle.serving.specs.Session.{KeepsReadEndAndOutputFailed}

@@ -1,4 +1,4 @@
--- The lemma on places that are taken.
+-- Each message that is dispatched takes a free place, so the loop ends.
 use Rattle.std.proofs.Common.{List, Option, Some, ap, set, sym, arith, ◌∙◌}
 use Rattle.std.specs.Prelude.{count_by, is_none, position}
 use Rattle.parcel.specs.Run.{JobView}

@@ -6,6 +6,6 @@ use Rattle.serving.proofs.session.Session.dispatch_all.Given as goal
 abbrev pub invariant-loop-k : goal.invariant-loop-k
 invariant-loop-k g l = KeepsReadEndAndOutputFailed l.initial.self l.self
 
--- the places where nothing is lent
+-- how many places are free
 abbrev pub decreases-loop-k : goal.decreases-loop-k
 decreases-loop-k g l = count_by is_none l.self.dispatch_seat.lent

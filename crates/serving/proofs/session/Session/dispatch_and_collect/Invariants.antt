@@ -1,4 +1,5 @@
--- How many more messages may be collected, and how often it looks for each.
+-- The loop ends: each turn collects a message, of which the batch takes only so many, or is one more of at most 16,384 polls in a row
+-- without a result.
 use Rattle.std.proofs.Common.{◌≤◌, ◌+◌, ◌-◌, ◌*◌}
 use Rattle.serving.specs.Session.{KeepsReadEndAndOutputFailed}
 use Rattle.serving.proofs.session.Session.dispatch_and_collect.Given as goal

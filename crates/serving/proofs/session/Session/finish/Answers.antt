@@ -1,4 +1,5 @@
--- It keeps its invariant, and the reorder buffer is empty still where the last point is made, which fails only where the device does.
+-- The session keeps its invariant; its reorder buffer is still empty when the last checkpoint is made, which fails only where the device
+-- fails.
 use Rattle.std.proofs.Common.{◌≡◌, ap, refl, ◌∙◌}
 use Rattle.reorder_buffer.specs.ReorderBuffer.{ReorderBufferView}
 use Rattle.scheduler.proofs.Called.{point_called}

@@ -1,4 +1,4 @@
--- What waits may be sent; and the session keeps its invariant.
+-- The answers that wait may be sent; and the session keeps its invariant.
 use Rattle.std.proofs.Common.{ℕ, List, subst, sym}
 use Rattle.std.specs.Io.KnownBytes.{Appends}
 use Rattle.serving.specs.Output.{MaySend}

@@ -1,4 +1,4 @@
--- It keeps its invariant, and the lemmas on logs.
+-- The session keeps its invariant; and the lemmas on logs.
 use Rattle.std.proofs.Common.{refl}
 use Rattle.scheduler.proofs.Called.{log_called}
 use Rattle.scheduler.specs.CoreView.{core_state_of}

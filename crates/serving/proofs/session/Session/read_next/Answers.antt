@@ -1,4 +1,4 @@
--- The line is read, or no more is; and the session keeps its invariant.
+-- A line is read, or reading ends; in both cases the session keeps its invariant.
 use Rattle.std.proofs.Common.{◌≡◌, ◌<◌, ◌+◌, ◌∷◌, [], arith, ℕ, List, Ok, Option, Some, ap, length, map, refl, subst, sym, ◌∙◌}
 use Rattle.std.specs.Prelude.{IfSome}
 use Rattle.std.proofs.lemmas.List.{length-append}

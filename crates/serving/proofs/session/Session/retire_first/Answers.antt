@@ -1,4 +1,4 @@
--- The line waits where it is completed, and the session keeps its invariant.
+-- The answer to the oldest line waits to be sent, if it is known; and the session keeps its invariant.
 use Rattle.std.proofs.Common.{◌∙◌, ap}
 use Rattle.serving.specs.Session.{SessionView}
 use Rattle.serving.proofs.Invariant.{on_retire_front}

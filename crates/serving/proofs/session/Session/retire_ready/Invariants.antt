@@ -1,4 +1,4 @@
--- The lines so far wait to be sent; and how many are in the reorder buffer still.
+-- Core and seat stay as they are while lines are retired; and how many lines are still in the reorder buffer.
 use Rattle.std.proofs.Common.{◌≡◌, length}
 use Rattle.serving.specs.Session.{KeepsReadEndAndOutputFailed}
 use Rattle.serving.proofs.session.Session.retire_ready.Given as goal

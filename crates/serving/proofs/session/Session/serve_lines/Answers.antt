@@ -1,4 +1,4 @@
--- Each line is answered, and nothing has failed.
+-- By the result of `finish`: each line that was read is answered and nothing has failed, or the session has halted.
 use Rattle.std.proofs.Common.{◌∙◌}
 use Rattle.serving.proofs.Closing.{finished}
 use Rattle.serving.proofs.session.Session.serve_lines.Goals as goal

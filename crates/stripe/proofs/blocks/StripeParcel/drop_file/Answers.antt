@@ -1,4 +1,4 @@
--- The run of the file is cut out, and no other block.
+-- The blocks of a file are next to each other in the index; they are cut out, and no other block.
 use Rattle.std.proofs.Common.{◌+◌, ◌≤◌, length, refl, arith}
 use Rattle.stripe.specs.Index.{IsSplit}
 use Rattle.stripe.proofs.EntryLemmas.{run-order, content-file, ascending-removed, length-removed}

@@ -1,4 +1,4 @@
--- All blocks come before exactly where the place of the block is behind all of them.
+-- All blocks come before this one exactly if its position in the index is behind all of them.
 use Rattle.std.proofs.Common.{◌≡◌, ◌∙◌, subst, sym, arith, length}
 use Rattle.std.specs.List.{AllByRecursion}
 use Rattle.std.proofs.lemmas.Bool.{eqb-true, eq-eqb}

@@ -1,4 +1,4 @@
--- The split is at the block, or at a gap.
+-- The search (`split`) ends at the block, or at the gap where it would be inserted.
 use Rattle.std.proofs.Common.{◌≡◌, ap, sym, ◌∙◌, slice_index_or}
 use Rattle.stripe.specs.Stripe.{StripePart, BlockEntry}
 use Rattle.stripe.specs.Index.{IsSplit, entries_of}

@@ -1,4 +1,4 @@
--- The first free slot gets the content, and the index a place for it.
+-- The first free slot gets the content, and the index an entry for it.
 use Rattle.std.proofs.Common.{◌≡◌, ◌≤◌, ap, sym, arith, length, vec_capacity, Ok}
 use Rattle.arena.specs.ArenaView.{put_answer}
 use Rattle.stripe.specs.Stripe.{StripePart}

@@ -1,4 +1,4 @@
--- The slots of the run are freed, and the index loses the run.
+-- The slots of the index entries in the range are freed, and the index loses these entries.
 use Rattle.std.proofs.Common.{◌≡◌, ◌-◌, ◌≤◌, ap, ◌∙◌, arith, length}
 use Rattle.stripe.specs.Stripe.{StripePart}
 use Rattle.stripe.proofs.IndexLemmas.{IsTaken, run_of, taken-none, taken-next, entries-cut, stored-cut, part_same, length-entries, length-run}

@@ -1,4 +1,4 @@
--- The slots of the run so far are free.
+-- The slots of the index entries so far, from position `from` on, are free.
 use Rattle.stripe.proofs.IndexLemmas.{IsTaken}
 use Rattle.stripe.proofs.blocks.StripeParcel.remove_blocks.Given as goal
 

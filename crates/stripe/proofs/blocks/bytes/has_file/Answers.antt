@@ -1,4 +1,4 @@
--- A number of 64 bits has none from 64 on.
+-- A number of 64 bits has no bit from 64 on.
 use Rattle.std.proofs.Common.{sym, ◌∙◌, ap}
 use Rattle.std.specs.Prelude.{◌==◌}
 use Rattle.std.proofs.lemmas.Bool.{le-ltb}

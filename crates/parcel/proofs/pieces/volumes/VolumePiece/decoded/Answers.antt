@@ -1,4 +1,4 @@
--- The bits of the files that there are.
+-- The bits of files that the geometry doesn't have are masked out.
 use Rattle.std.proofs.Common.{◌≡◌, ℕ, ◌%◌, ◌^◌, ◌-◌, bit_and, ◌∙◌, ap}
 use Rattle.std.proofs.lemmas.Nat.{and_mask}
 use Rattle.parcel.specs.Pieces.{decoded_piece}
