@@ -59,15 +59,15 @@ module _ (keeps : Type 0) (s : ServeOptions) (old : Medium) (start now : CoreVie
   }
 
 -- a service as `HasServedBy` describes it crashes safely, whatever its end
-pub has_lived : {keeps : Type 0} {s : ServeOptions} {old new : Medium} (end : Result (Unit {0}) ServeFault) {input left before written : Option (List ℕ)}
+pub crashes_safely : {keeps : Type 0} {s : ServeOptions} {old new : Medium} (end : Result (Unit {0}) ServeFault) {input left before written : Option (List ℕ)}
     → HasServedBy keeps s old new end input left before written → CrashesSafely keeps s old new (command_result end) input left before written
-has_lived (Ok _) h = (Ok tt, refl, h)
-has_lived (Err faults.NoWorkers) h = (Err faults.NoWorkers, refl, h)
-has_lived (Err faults.Read) h = (Err faults.Read, refl, h)
-has_lived (Err faults.Write) h = (Err faults.Write, refl, h)
-has_lived (Err faults.Device) h = (Err faults.Device, refl, h)
-has_lived (Err faults.OutOfMemory) h = (Err faults.OutOfMemory, refl, h)
-has_lived (Err faults.Exhausted) h = (Err faults.Exhausted, refl, h)
+crashes_safely (Ok _) h = (Ok tt, refl, h)
+crashes_safely (Err faults.NoWorkers) h = (Err faults.NoWorkers, refl, h)
+crashes_safely (Err faults.Read) h = (Err faults.Read, refl, h)
+crashes_safely (Err faults.Write) h = (Err faults.Write, refl, h)
+crashes_safely (Err faults.Device) h = (Err faults.Device, refl, h)
+crashes_safely (Err faults.OutOfMemory) h = (Err faults.OutOfMemory, refl, h)
+crashes_safely (Err faults.Exhausted) h = (Err faults.Exhausted, refl, h)
 
 -- ---- what the device recovers to
 

@@ -14,7 +14,7 @@ use Rattle.image.proofs.Measures.{state_is_measured}
 use Rattle.image.proofs.Reading.{read_again}
 use Rattle.journal.specs.Keeping.{IsUpToDate, IsCutState, IsSoundJournal}
 use Rattle.journal.specs.Steps.{RecoversByNamedAlone, IsCutBegun, IsPointed, RecoversByArea, cut_log, pointed_log, run_on}
-use Rattle.journal.specs.Extents.{AgreeOnClean, AreAllDirty, AreCleanPiecesOf, image_in, extent_in, extent_of}
+use Rattle.journal.specs.Extents.{AgreeOnClean, AreAllDirty, AreCleanExtentsOf, image_in, extent_in, extent_of}
 use Rattle.journal.proofs.Cutting.{named_below}
 use Rattle.journal.proofs.Forced.{forced_synced}
 use Rattle.journal.proofs.Recovering.{holds_now, run_none}
@@ -43,19 +43,19 @@ module _ (g : Geometry) (x : Option State) (y : State) (snapshot : List ℕ) (is
   snapshot_agrees dirty bytes fresh n few clean = fresh y is n few clean ∙ sym (snapshot_is g y is_state n few) ∙ sym (ap (λ (l : List ℕ). extent_in g l n) spelled)
 
 -- where all pieces are dirty, no piece has to be that of the state
-pub all_right : (g h : Geometry) (y : State) (dirty : List Bool) (bytes : List ℕ) → g ≡ h → AreAllDirty h dirty → AreCleanPiecesOf g y dirty bytes
+pub all_right : (g h : Geometry) (y : State) (dirty : List Bool) (bytes : List ℕ) → g ≡ h → AreAllDirty h dirty → AreCleanExtentsOf g y dirty bytes
 all_right g h y dirty bytes same all =
-    subst (λ (z : Geometry). AreCleanPiecesOf z y dirty bytes) (sym same) (λ n few clean. absurd (true≢false (sym (all n few) ∙ clean)))
+    subst (λ (z : Geometry). AreCleanExtentsOf z y dirty bytes) (sym same) (λ n few clean. absurd (true≢false (sym (all n few) ∙ clean)))
 
 -- ---- of a journal with no cut in progress
 
 -- the clean pieces of the last snapshot are those of the state
 pub snapshot_right : {log : Log} {snapshot : List ℕ} {named others pending : List Bool} {pieces_left : Option ℕ} {w0 : Medium} {y : State} {g : Geometry} {dirty : List Bool} {bytes : List ℕ}
     → pieces_left ≡ None → IsSoundJournal log snapshot named others pending pieces_left w0 → recovered_state log.geometry w0.now ≡ Some y
-    → g ≡ log.geometry → dirty ≡ named → bytes ≡ snapshot → AreCleanPiecesOf g y dirty bytes
+    → g ≡ log.geometry → dirty ≡ named → bytes ≡ snapshot → AreCleanExtentsOf g y dirty bytes
 snapshot_right {log} {named} {y} {dirty} {bytes} alone sound is same same' same'' =
-    subst (λ (h : Geometry). AreCleanPiecesOf h y dirty bytes) (sym same) (subst (λ (row : List Bool). AreCleanPiecesOf log.geometry y row bytes) (sym same')
-    (subst (λ (l : List ℕ). AreCleanPiecesOf log.geometry y named l) (sym same'') (sound.snapshot_up_to_date alone y is)))
+    subst (λ (h : Geometry). AreCleanExtentsOf h y dirty bytes) (sym same) (subst (λ (row : List Bool). AreCleanExtentsOf log.geometry y row bytes) (sym same')
+    (subst (λ (l : List ℕ). AreCleanExtentsOf log.geometry y named l) (sym same'') (sound.snapshot_up_to_date alone y is)))
 
 module _ {log : Log} {snapshot snapshot' : List ℕ} {named others pending : List Bool} {pieces_left : Option ℕ} {w0 : Medium} {y : State} (alone : pieces_left ≡ None)
     (placed' : IsCutState log pending pieces_left) (sound' : IsSoundJournal log snapshot named others pending pieces_left w0)

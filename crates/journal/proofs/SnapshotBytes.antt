@@ -6,7 +6,7 @@ use Rattle.affinity.specs.declared.geometry.Geometry.{Geometry}
 use Rattle.image.specs.Image.{image_head, image_of}
 use Rattle.image.specs.Pieces.{joined_below, piece_at, piece_count, piece_of, piece_size}
 use Rattle.image.proofs.Joining.{piece_inside, whole_image}
-use Rattle.journal.specs.Extents.{AreCleanPiecesOf, extent_in, extent_of}
+use Rattle.journal.specs.Extents.{AreCleanExtentsOf, extent_in, extent_of}
 use Rattle.device_map.specs.Layout.{image_size, slice}
 use Rattle.meaning.specs.State.{State, sum_below}
 
@@ -69,8 +69,8 @@ piece_there g x zero bytes is = sym (drop-take 64 (piece_size g 0) bytes) ∙ ap
 piece_there g x (suc n) bytes is = is
 
 -- Once the head is written, each clean extent is still that of the state.
-pub headed : (g : Geometry) (x : State) (dirty : List Bool) (old new : List ℕ) → take 64 new ≡ image_head 2 → drop 64 new ≡ drop 64 old → AreCleanPiecesOf g x dirty old
-    → AreCleanPiecesOf g x dirty new
+pub headed : (g : Geometry) (x : State) (dirty : List Bool) (old new : List ℕ) → take 64 new ≡ image_head 2 → drop 64 new ≡ drop 64 old → AreCleanExtentsOf g x dirty old
+    → AreCleanExtentsOf g x dirty new
 headed g x dirty old new head rest right zero few clean =
     take-add 64 (piece_size g 0) new ∙ (λ i. head i ++ take (piece_size g 0) (rest i)) ∙ ap (λ (l : List ℕ). image_head 2 ++ l) (piece_there g x 0 old (right 0 few clean))
 headed g x dirty old new head rest right (suc n) few clean =
@@ -83,7 +83,7 @@ pub record IsSnapshotTo (g : Geometry) (x : State) (dirty : List Bool) (first : 
   pub place : at ≡ piece_at g n
   pub size : length bytes ≡ length first
   pub rest : drop at bytes ≡ drop at first
-  pub so_far : AreCleanPiecesOf g x dirty first → take at bytes ≡ first_pieces g x n
+  pub so_far : AreCleanExtentsOf g x dirty first → take at bytes ≡ first_pieces g x n
 
 module _ (g : Geometry) (x : State) (dirty : List Bool) (first : List ℕ) (n at k : ℕ) (bytes : List ℕ) (long : length first ≡ image_size g) (few : n < piece_count g) (size : k ≡ piece_size g n)
     (so_far : IsSnapshotTo g x dirty first n at bytes) where

@@ -31,8 +31,8 @@ abbrev pub AgreeOnClean : Geometry → List Bool → List ℕ → List ℕ → T
 AgreeOnClean g dirty xs ys = (n : ℕ) → n < piece_count g → get_or dirty n true ≡ false → extent_in g xs n ≡ extent_in g ys n
 
 -- Each clean extent is the one of this state.
-abbrev pub AreCleanPiecesOf : Geometry → State → List Bool → List ℕ → Type 0
-AreCleanPiecesOf g x dirty bytes = (n : ℕ) → n < piece_count g → get_or dirty n true ≡ false → extent_in g bytes n ≡ extent_of g x n
+abbrev pub AreCleanExtentsOf : Geometry → State → List Bool → List ℕ → Type 0
+AreCleanExtentsOf g x dirty bytes = (n : ℕ) → n < piece_count g → get_or dirty n true ≡ false → extent_in g bytes n ≡ extent_of g x n
 
 -- Every extent is dirty.
 abbrev pub AreAllDirty : Geometry → List Bool → Type 0

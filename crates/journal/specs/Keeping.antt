@@ -7,7 +7,7 @@ use Rattle.image.specs.Image.{read, version_in}
 use Rattle.journal.specs.Journal.{JournalView, records_in}
 use Rattle.journal.specs.DirtyPieces.{count_dirty}
 use Rattle.journal.specs.Steps.{RecoversByArea, run_on}
-use Rattle.journal.specs.Extents.{AgreeOnClean, AreCleanPiecesOf, image_in}
+use Rattle.journal.specs.Extents.{AgreeOnClean, AreCleanExtentsOf, image_in}
 use Rattle.oplog.specs.Calls.{IsReadyFor}
 use Rattle.oplog.specs.Front.{front}
 use Rattle.device_map.specs.Layout.{layout_of, other}
@@ -18,7 +18,7 @@ use Rattle.meaning.specs.State.{State, IsState}
 
 -- If there is a state x: each clean extent of these bytes (a piece, the first with the image's head) is that of x.
 abbrev pub IsUpToDate : Geometry → Option State → List Bool → List ℕ → Type 0
-IsUpToDate g x dirty bytes = (y : State) → x ≡ Some y → AreCleanPiecesOf g y dirty bytes
+IsUpToDate g x dirty bytes = (y : State) → x ≡ Some y → AreCleanExtentsOf g y dirty bytes
 
 -- ---- a cut
 

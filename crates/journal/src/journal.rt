@@ -9,7 +9,7 @@ ghost use Rattle.journal.specs.Images.{KeepsImages, PatchesUnnamed};
 ghost use Rattle.journal.specs.Journal.{JournalView, AreCarriedOut, RecoversWithPrefix, IsRecoverable, after_call, records, committed};
 ghost use Rattle.journal.specs.DirtyPieces.{AreBothTouched, count_dirty, cut_dirty, flipped_dirty, pointed_dirty};
 ghost use Rattle.oplog.specs.Beyond.{KeepsBeyond};
-ghost use Rattle.oplog.specs.Costs.{Costs, write_groups};
+ghost use Rattle.oplog.specs.Costs.{Costs, batch_count};
 ghost use Rattle.device_map.specs.Layout.{layout_of};
 ghost use Rattle.oplog.specs.Log.{CountsLogFault, IsNotBadRecord};
 ghost use Rattle.oplog.specs.Changing.{AreChangesInRange, records_of};
@@ -139,7 +139,7 @@ impl<D: Disk> Journal<D> {
         ensures recoverable { OnOk result (D.keeps → IsRecoverable self.new) }
         ensures dirties { OnOk result (AreBothTouched self.old.geometry messages.now self.old.dirty self.new.dirty) }
         ensures none { length messages.now ≡ 0 → self.new ≡ self.old }
-        ensures costs { D.keeps → Costs result (4 * write_groups (length messages.now)) self.old.medium self.new.medium }
+        ensures costs { D.keeps → Costs result (4 * batch_count (length messages.now)) self.old.medium self.new.medium }
         ensures after { self.new ≡ after_call result
             (record self.old { room = self.old.room - length messages.now; dirty = self.new.dirty; medium = self.new.medium })
             self.old }

@@ -2,7 +2,7 @@
 ghost use Rattle.std.specs.Prelude.{◌≡◌, ◌≤◌, drop, length, take};
 ghost use Rattle.image.specs.Image.{image_head, image_of};
 ghost use Rattle.image.specs.Pieces.{piece_count};
-ghost use Rattle.journal.specs.Extents.{AreCleanPiecesOf};
+ghost use Rattle.journal.specs.Extents.{AreCleanExtentsOf};
 ghost use Rattle.device_map.specs.Layout.{image_size};
 ghost use Rattle.parcel.specs.Tree.{IsWholeTree, state_in};
 
@@ -26,7 +26,7 @@ pub(crate) fn update_snapshot(tree: &Tree, dirty: &[bool], bytes: &mut [u8])
     requires whole { IsWholeTree tree.now }
     requires dirty { length dirty.now ≡ piece_count tree.now.geometry }
     requires size { length bytes.old ≡ image_size tree.now.geometry }
-    ensures image { AreCleanPiecesOf tree.now.geometry (state_in tree.now) dirty.now bytes.old
+    ensures image { AreCleanExtentsOf tree.now.geometry (state_in tree.now) dirty.now bytes.old
         → bytes.new ≡ image_of 2 tree.now.geometry (state_in tree.now) }
     ensures size { length bytes.new ≡ length bytes.old }
 {

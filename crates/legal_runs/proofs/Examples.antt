@@ -174,31 +174,31 @@ the_last_ticket_is_not_given = refl
 
 -- ---- checkpoints in steps
 
-the_steps_of_a_point : answers_of (one_hand 1 empty) (steps.Cut ∷ steps.Cut ∷ steps.Flip ∷ steps.Piece ∷ steps.Piece ∷ steps.Piece
+the_steps_of_a_cut : answers_of (one_hand 1 empty) (steps.Cut ∷ steps.Cut ∷ steps.Flip ∷ steps.Piece ∷ steps.Piece ∷ steps.Piece
     ∷ steps.Piece ∷ steps.Flip ∷ steps.Flip ∷ steps.Piece ∷ [])
     ≡ outcomes.Cut ∷ outcomes.PointRefused points.Running ∷ outcomes.PointRefused points.Unfinished ∷ outcomes.Left 2 ∷ outcomes.Left 1
     ∷ outcomes.Left 0 ∷ outcomes.Left 0 ∷ outcomes.Flipped ∷ outcomes.PointRefused points.NotRunning
     ∷ outcomes.PointRefused points.NotRunning ∷ []
-the_steps_of_a_point = refl
+the_steps_of_a_cut = refl
 
-messages_during_a_point : answers_of (one_hand 1 empty) (whole (MakeVol 0 0) ++ (steps.Cut ∷ whole (Create 0 0 0))
+messages_during_a_cut : answers_of (one_hand 1 empty) (whole (MakeVol 0 0) ++ (steps.Cut ∷ whole (Create 0 0 0))
     ++ (steps.Point ∷ steps.Piece ∷ steps.Piece ∷ steps.Piece ∷ steps.Flip ∷ []))
     ≡ done 0 ++ (outcomes.Cut ∷ done 1)
     ++ (outcomes.PointRefused points.Running ∷ outcomes.Left 2 ∷ outcomes.Left 1 ∷ outcomes.Left 0 ∷ outcomes.Flipped ∷ [])
-messages_during_a_point = refl
+messages_during_a_cut = refl
 
-a_point_in_progress_is_told_before_what_is_held : answers_of (one_hand 1 empty)
+a_cut_in_progress_is_reported_before_what_is_held : answers_of (one_hand 1 empty)
     (steps.Cut ∷ steps.Arrive AskSummary ∷ steps.Grant ∷ steps.Point ∷ steps.Cut ∷ [])
     ≡ outcomes.Cut ∷ outcomes.Ticket 0 ∷ outcomes.Granted 0 0 ∷ outcomes.PointRefused points.Running
     ∷ outcomes.PointRefused points.Running ∷ []
-a_point_in_progress_is_told_before_what_is_held = refl
+a_cut_in_progress_is_reported_before_what_is_held = refl
 
 a_point_frees_all_records : (after (one_hand 1 empty) (whole (MakeVol 0 0) ++ (steps.Point ∷ []))).core.room ≡ 4
 a_point_frees_all_records = refl
 
 -- there is room for three records: a half takes four, and one was appended since the cut
-room_after_a_point : (after (one_hand 1 empty) (whole (MakeVol 0 0) ++ (steps.Cut ∷ whole (Create 0 0 0)))).core.room ≡ 3
-room_after_a_point = refl
+room_during_a_cut : (after (one_hand 1 empty) (whole (MakeVol 0 0) ++ (steps.Cut ∷ whole (Create 0 0 0)))).core.room ≡ 3
+room_during_a_cut = refl
 
 -- ---- a device that fails
 
@@ -233,9 +233,9 @@ a_question_touches_no_device = refl
 a_change_touches_the_device : touches_device ran_one.core (steps.Log 1) ≡ true
 a_change_touches_the_device = refl
 
-a_point_with_nothing_to_write_touches_no_device : touches_device (after (one_hand 1 empty) (steps.Cut ∷ steps.Piece ∷ steps.Piece
+a_cut_with_nothing_to_write_touches_no_device : touches_device (after (one_hand 1 empty) (steps.Cut ∷ steps.Piece ∷ steps.Piece
     ∷ steps.Piece ∷ [])).core steps.Piece ≡ false
-a_point_with_nothing_to_write_touches_no_device = refl
+a_cut_with_nothing_to_write_touches_no_device = refl
 
 -- ---- legal runs, and what a crash of one may leave
 

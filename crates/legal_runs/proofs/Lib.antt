@@ -16,7 +16,7 @@ pub mod Failures
 pub mod Answering
 pub mod Outs
 pub mod Full
-pub mod Living
+pub mod Incarnations
 pub mod Doubts
 pub mod SerialHistories
 -- ---- this crate's own

@@ -14,7 +14,11 @@ use runs::HandContent;
 use scheduler::{Core, Granted};
 
 /// Makes one step, and returns its outcome.
-pub(crate) fn make_step<D: Disk>(core: &mut Core<D>, hands: &mut [HandContent], step: &Step) -> Outcome
+pub(crate) fn make_step<D: Disk>(
+    core: &mut Core<D>,
+    hands: &mut [HandContent],
+    step: &Step,
+) -> Outcome
     requires { HoldsJobs core.old.geometry (core_state_of core.old) hands.old }
     ensures step { IsMachineStep D.keeps (record { core = core.old; hands = hands.old })
         (record { core = core.new; hands = hands.new }) step.now result }

@@ -35,7 +35,7 @@ enum InjectedFault {
 }
 
 /// A machine does these things on a device, which it gives back.
-fn lived(
+fn run_incarnation(
     rt: &impl Abort,
     alloc: Global,
     device: MemDisk,
@@ -50,7 +50,7 @@ fn lived(
 fn left_by(rt: &impl Abort, alloc: Global, incarnations: &Incarnations) -> Result<MemDisk, Wrong> {
     let mut device = device_with(alloc, incarnations.numbers, &[])?;
     for incarnation in incarnations.incarnations {
-        device = lived(rt, alloc, device, incarnation)?;
+        device = run_incarnation(rt, alloc, device, incarnation)?;
     }
     Ok(device)
 }
@@ -70,7 +70,7 @@ fn calls_of(
         hands: incarnation.hands,
         rows,
     };
-    Ok(lived(rt, alloc, device, &beginning)?.calls())
+    Ok(run_incarnation(rt, alloc, device, &beginning)?.calls())
 }
 
 /// The device after an incarnation on a new one, where this injected fault counts from the end of the first rows, `first` of them.
@@ -88,7 +88,7 @@ fn left_with(
         InjectedFault::FailAt(n) => device.fail_at(calls.saturating_add(n.max(1))),
         InjectedFault::StopAt(n) => device.stop_at(calls.saturating_add(n.max(1))),
     }
-    lived(rt, alloc, device, incarnation)
+    run_incarnation(rt, alloc, device, incarnation)
 }
 
 /// What is reported of a device: the named area, how many records are in force, and how many volumes, files and
@@ -277,7 +277,7 @@ const SIDE_BY_SIDE: Incarnations = Incarnations {
 };
 
 /// The steps of a cut, in order and out of order.
-const IN_PIECES: Incarnations = Incarnations {
+const CUT_STEPS: Incarnations = Incarnations {
     numbers: SMALL,
     incarnations: &[Incarnation {
         slots: 1,
@@ -298,15 +298,15 @@ const IN_PIECES: Incarnations = Incarnations {
 
 #[test]
 fn steps_come_out_so(rt: HostRuntime) -> Result<(), Fail> {
-    for incarnations in [FULL_LOG, THREE_SLOTS, LABEL, SIDE_BY_SIDE, IN_PIECES] {
+    for incarnations in [FULL_LOG, THREE_SLOTS, LABEL, SIDE_BY_SIDE, CUT_STEPS] {
         left_by(&rt, rt.alloc(), &incarnations)?;
     }
     Ok(())
 }
 
-/// As `lived`, but it prints a line before its first step and one after its last. In between no memory may be asked for: `tests/run calls`
-/// counts the requests.
-fn lived_without_memory(
+/// As `run_incarnation`, but it prints a line before its first step and one after its last. In between no memory may be asked for:
+/// `tests/run calls` counts the requests.
+fn run_without_memory(
     rt: &(impl Abort + Print),
     alloc: Global,
     device: MemDisk,
@@ -330,9 +330,9 @@ fn takes_memory_before_its_steps_alone(
     };
     let mut device = device_with(alloc, incarnations.numbers, &[])?;
     for incarnation in earlier {
-        device = lived(rt, alloc, device, incarnation)?;
+        device = run_incarnation(rt, alloc, device, incarnation)?;
     }
-    lived_without_memory(rt, alloc, device, last)?;
+    run_without_memory(rt, alloc, device, last)?;
     Ok(())
 }
 
@@ -349,8 +349,8 @@ fn two_writes_side_by_side_take_no_memory(rt: HostRuntime) -> Result<(), Fail> {
 }
 
 #[test]
-fn a_point_in_pieces_takes_no_memory(rt: HostRuntime) -> Result<(), Fail> {
-    takes_memory_before_its_steps_alone(&rt, rt.alloc(), &IN_PIECES)?;
+fn a_cut_takes_no_memory(rt: HostRuntime) -> Result<(), Fail> {
+    takes_memory_before_its_steps_alone(&rt, rt.alloc(), &CUT_STEPS)?;
     Ok(())
 }
 
@@ -413,7 +413,7 @@ fn leaves_volumes(
     if let Some(kind) = crash {
         device = device.crash(torn(alloc, kind)?);
     }
-    let device = lived(rt, alloc, device, &OPENED)?;
+    let device = run_incarnation(rt, alloc, device, &OPENED)?;
     is_shown(rt, alloc, device, 0, 0, [volumes, 0, 0])?;
     Ok(())
 }
@@ -501,9 +501,9 @@ fn torn_gates_leave_a_beginning(rt: HostRuntime) -> Result<(), Fail> {
         InjectedFault::StopAt(3),
     )?;
     let device = device.crash(torn(alloc, MIXED)?);
-    let device = lived(&rt, alloc, device, &FIRST_BLOCK)?;
+    let device = run_incarnation(&rt, alloc, device, &FIRST_BLOCK)?;
     let device = device.crash(torn(alloc, OLD)?);
-    lived(&rt, alloc, device, &LAST_BLOCK)?;
+    run_incarnation(&rt, alloc, device, &LAST_BLOCK)?;
     Ok(())
 }
 
@@ -557,7 +557,7 @@ fn has_both(
 ) -> Result<(), Wrong> {
     let device = left_by(rt, alloc, incarnations)?.crash(torn(alloc, OLD)?);
     let device = is_shown(rt, alloc, device, area, records, [1, 1, 0])?;
-    let device = lived(rt, alloc, device, &BOTH)?;
+    let device = run_incarnation(rt, alloc, device, &BOTH)?;
     is_shown(rt, alloc, device, 1, 0, [1, 1, 0])?;
     Ok(())
 }
@@ -625,7 +625,7 @@ fn cuts_leave(
         hands: CHANGED_PIECES.hands,
         rows: CHANGED_PIECES.rows.get(..first).unwrap_or(&[]),
     };
-    let device = lived(rt, alloc, device_with(alloc, SMALL, &[])?, &beginning)?;
+    let device = run_incarnation(rt, alloc, device_with(alloc, SMALL, &[])?, &beginning)?;
     is_shown(rt, alloc, device, area, 0, summary)?;
     Ok(())
 }
@@ -641,9 +641,9 @@ fn cuts_write_what_has_changed(rt: HostRuntime) -> Result<(), Fail> {
     let no_piece = calls_of(&rt, alloc, SMALL, &CHANGED_PIECES, 21)?;
     holds(&rt, no_piece == last_cut);
     let device = device_with(alloc, SMALL, &[])?;
-    let device = lived(&rt, alloc, device, &CHANGED_PIECES)?;
+    let device = run_incarnation(&rt, alloc, device, &CHANGED_PIECES)?;
     let device = device.crash(torn(alloc, OLD)?);
-    let device = lived(&rt, alloc, device, &OPENED)?;
+    let device = run_incarnation(&rt, alloc, device, &OPENED)?;
     is_shown(&rt, alloc, device, 1, 0, [1, 1, 1])?;
     Ok(())
 }

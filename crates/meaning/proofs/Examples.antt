@@ -10,7 +10,7 @@ use Rattle.messages.specs.declared.Reply.{Reply}
 use Rattle.messages.specs.declared.Reply.TheVariants.{Done, Hole, Block as Found, Files, Usage, Summary, Refused, Label}
 use Rattle.meaning.specs.State.{empty}
 use Rattle.meaning.specs.Serial.{state_after_all, replies}
-use Rattle.meaning.specs.Laws.{logged}
+use Rattle.meaning.specs.Laws.{recorded_of}
 
 -- what the small server answers, from nothing
 abbrev answers : List Msg → List Reply
@@ -78,13 +78,13 @@ a_sealed_volume_is_not_changed x = refl
 a_volume_is_made_once : answers (MakeVol 0 0 ∷ MakeVol 0 0 ∷ []) ≡ Done ∷ Refused Exists ∷ []
 a_volume_is_made_once = refl
 
-a_refused_message_is_not_logged : logged small empty (MakeVol 0 0 ∷ MakeVol 0 0 ∷ []) ≡ MakeVol 0 0 ∷ []
-a_refused_message_is_not_logged = refl
+a_refused_message_has_no_record : recorded_of small empty (MakeVol 0 0 ∷ MakeVol 0 0 ∷ []) ≡ MakeVol 0 0 ∷ []
+a_refused_message_has_no_record = refl
 
-only_changes_are_logged : (x : Block) (bytes : List ℕ) → logged small empty
+only_changes_have_records : (x : Block) (bytes : List ℕ) → recorded_of small empty
     (MakeVol 0 0 ∷ Create 0 0 0 ∷ Read 0 0 0 0 ∷ Write 0 0 0 0 x ∷ ListFiles 0 0 ∷ AskUsage 0 0 ∷ AskSummary ∷ SetLabel 0 0 bytes ∷ AskLabel 0 0
     ∷ []) ≡ MakeVol 0 0 ∷ Create 0 0 0 ∷ Write 0 0 0 0 x ∷ SetLabel 0 0 bytes ∷ []
-only_changes_are_logged x bytes = refl
+only_changes_have_records x bytes = refl
 
 -- ---- what is asked
 

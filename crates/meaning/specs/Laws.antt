@@ -37,9 +37,9 @@ is_refused (Refused why) = true
 is_refused _ = false
 
 -- those messages of a list that get a record in the log, where all run one after the other from x on
-abbrev pub logged : Geometry → State → List Msg → List Msg
-logged g x [] = []
-logged g x (m ∷ ms) = let rest = logged g (next_state g x m) ms in if is_recorded m (reply_to g x m) then m ∷ rest else rest
+abbrev pub recorded_of : Geometry → State → List Msg → List Msg
+recorded_of g x [] = []
+recorded_of g x (m ∷ ms) = let rest = recorded_of g (next_state g x m) ms in if is_recorded m (reply_to g x m) then m ∷ rest else rest
 
 -- The entries are sorted by ticket: each ticket is at most those after it.
 abbrev pub AreInOrder : {A : Type 0} → List (ℕ × A) → Type 0

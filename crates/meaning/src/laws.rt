@@ -13,7 +13,7 @@ ghost use Rattle.meaning.specs.State.{State, IsState, empty};
 ghost use Rattle.meaning.specs.Serial.{refusal, reply_to, next_state, state_after_all, is_recorded};
 ghost use Rattle.meaning.specs.Subtrees.{AgreeOn, subtree, standing};
 ghost use Rattle.meaning.specs.Order.{by_ticket, KeepsOrder};
-ghost use Rattle.meaning.specs.Laws.{outside, RunAlike, Commute, SameByTicket, is_refused, logged, AreInOrder};
+ghost use Rattle.meaning.specs.Laws.{outside, RunAlike, Commute, SameByTicket, is_refused, recorded_of, AreInOrder};
 
 /// The empty state is a possible one (`IsState`), and each message leads from a possible state to a possible one: all
 /// numbers stay in range, blocks and labels keep their lengths, and no stripe gets more blocks than its quota.
@@ -54,7 +54,7 @@ pub fn order_by_ticket()
 
 /// A message of which the log keeps no record (a query, or one that was refused) changes nothing. So those with a record
 /// lead to the state to which all lead.
-pub fn logged_messages_are_enough()
-    ensures unlogged { (g : Geometry) (x : State) (m : Msg) → is_recorded m (reply_to g x m) ≡ false → next_state g x m ≡ x }
-    ensures logged { (g : Geometry) (x : State) (ms : List Msg) → state_after_all g x (logged g x ms) ≡ state_after_all g x ms }
+pub fn recorded_messages_are_enough()
+    ensures unrecorded { (g : Geometry) (x : State) (m : Msg) → is_recorded m (reply_to g x m) ≡ false → next_state g x m ≡ x }
+    ensures recorded { (g : Geometry) (x : State) (ms : List Msg) → state_after_all g x (recorded_of g x ms) ≡ state_after_all g x ms }
 {}

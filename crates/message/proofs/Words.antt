@@ -70,7 +70,7 @@ pub words_whole : (line : List ℕ) (i : ℕ) → length line ≤ i → HasNoSpa
 words_whole line i h none = words_alone line (let e : take i line ≡ line = take_all i line h in rw e at none)
 
 -- the byte at index i of the line lies in its first word, `word`; the words behind that are `behind`
-pub record IsRestart (line : List ℕ) (i : ℕ) : Type 0 where
+pub record IsInFirstWord (line : List ℕ) (i : ℕ) : Type 0 where
   pub word : List ℕ
   pub behind : List (List ℕ)
   pub parts : words line ≡ word ∷ behind
@@ -82,9 +82,9 @@ words_more : (b : ℕ) (line : List ℕ) → (b == 32) ≡ false → words (b �
 words_more b line other = rw other refl
 
 -- where no byte up to index i is a space, the byte at i lies in the first word
-pub goes_on : (line : List ℕ) (i : ℕ) → i < length line → HasNoSpace (take i line) → (get_or line i 0 == 32) ≡ false → IsRestart line i
+pub goes_on : (line : List ℕ) (i : ℕ) → i < length line → HasNoSpace (take i line) → (get_or line i 0 == 32) ≡ false → IsInFirstWord line i
 goes_on [] i lt none other = absurd (omega arith)
-goes_on (b ∷ line) zero lt none other = elim (words line) as (λ ws. words line ≡ ws → IsRestart (b ∷ line) 0) [
+goes_on (b ∷ line) zero lt none other = elim (words line) as (λ ws. words line ≡ ws → IsInFirstWord (b ∷ line) 0) [
   | [] ↦ λ e. absurd (words_some line e)
   | w ∷ ws ↦ λ e. record { word = b ∷ w; behind = ws; parts = words_more b line other ∙ ap (in_first b) e; long = omega arith; here = refl; same = refl }
 ] refl

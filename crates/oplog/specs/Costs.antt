@@ -6,8 +6,8 @@ use Rattle.disk.specs.Moments.{moment_number}
 use Rattle.device_map.specs.Layout.{records_per_write}
 
 -- how many batches of up to 64 records (`records_per_write`) n records make
-abbrev pub write_groups : ℕ → ℕ
-write_groups n = (n + (records_per_write - 1)) / records_per_write
+abbrev pub batch_count : ℕ → ℕ
+batch_count n = (n + (records_per_write - 1)) / records_per_write
 
 -- A call with this result made n writes and syncs or, if it failed, at most n.
 abbrev pub Costs : {T E : Type 0} → Result T E → ℕ → Medium → Medium → Type 0

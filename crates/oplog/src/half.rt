@@ -2,7 +2,7 @@
 ghost use Rattle.std.specs.Prelude.{◌≡◌, ◌+◌, ◌*◌, ◌<◌, ◌≤◌, length, IfOk, OnOk, IsErrOf, min, replicate, vec_len};
 ghost use Rattle.disk.specs.Device.{IsDeviceCall, SameOutside, moments};
 ghost use Rattle.oplog.specs.Changes.{CrashesChangeOnly};
-ghost use Rattle.oplog.specs.Costs.{Costs, write_groups};
+ghost use Rattle.oplog.specs.Costs.{Costs, batch_count};
 ghost use Rattle.oplog.specs.Front.{front, count_open};
 ghost use Rattle.device_map.specs.Layout.{layout_of, part_at, half_part};
 ghost use Rattle.oplog.specs.Changing.{AreChangesInRange};
@@ -157,7 +157,7 @@ impl Half {
         ensures any_moment { D.keeps → HalfGrows self messages.now (D.medium disk.old) (D.medium disk.new) }
         ensures added { OnOk result (D.keeps → HalfHasAdded self used messages.now (D.medium disk.old) (D.medium disk.new)) }
         ensures none { length messages.now ≡ 0 → disk.new ≡ disk.old }
-        ensures costs { D.keeps → Costs result (4 * write_groups (length messages.now)) (D.medium disk.old) (D.medium disk.new) }
+        ensures costs { D.keeps → Costs result (4 * batch_count (length messages.now)) (D.medium disk.old) (D.medium disk.new) }
         ensures buffer { vec_len buffer.new ≡ vec_len buffer.old }
         ensures inside { IsErrOf result DiskFault.OutOfRange → ⊥ }
         ensures call { IsDeviceCall result (D.medium disk.old) (D.medium disk.new) }

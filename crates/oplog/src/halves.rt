@@ -57,7 +57,7 @@ impl Model for Halves {
 
 impl Halves {
     ghost use Rattle.oplog.specs.Log.{new_log, with_half_named, flipped, chained, log_after, IsLogCall, IsNotBadRecord, NamesRecord};
-    ghost use Rattle.oplog.specs.Costs.{Costs, write_groups};
+    ghost use Rattle.oplog.specs.Costs.{Costs, batch_count};
     ghost use Rattle.oplog.specs.Calls.{IsLongEnough, IsReadyFor, Grows, HasAdded, Clears, HasCleared, Chains, HasChained, Flips, HasFlipped, HasFront, IsOfRecordAt};
 
     /// The log of a device that wasn't read yet: until `name`, half 0 counts as named and current, without room.
@@ -145,7 +145,7 @@ impl Halves {
         ensures none { length messages.now ≡ 0 → disk.new ≡ disk.old }
 
         // Four device calls for each batch: its records, a sync, its gates, a sync.
-        ensures costs { D.keeps → Costs result (4 * write_groups (length messages.now)) (D.medium disk.old) (D.medium disk.new) }
+        ensures costs { D.keeps → Costs result (4 * batch_count (length messages.now)) (D.medium disk.old) (D.medium disk.new) }
         ensures log { self.new ≡ log_after result self.old
             (record self.old { used = self.old.used + length messages.now }) }
         ensures no_bad_record { IsNotBadRecord result }

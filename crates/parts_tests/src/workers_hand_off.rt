@@ -329,21 +329,21 @@ fn a_wait_ends_with_the_delivery(rt: HostRuntime) -> Result<(), Fail> {
 
 // A gate that holds up the job of each even ticket until the result of the next ticket was collected.
 #[derive(Drop)]
-struct Holding {
+struct Delaying {
     answered: AtomicU64,
     gave_up: AtomicBool,
 }
 
-impl Holding {
-    fn new() -> Holding {
-        Holding {
+impl Delaying {
+    fn new() -> Delaying {
+        Delaying {
             answered: AtomicU64::new(0),
             gave_up: AtomicBool::new(false),
         }
     }
 }
 
-impl Gate for Holding {
+impl Gate for Delaying {
     fn before(&self, ticket: u64) {
         if ticket % 2 == 1 {
             return;
@@ -368,7 +368,7 @@ fn two_jobs(
     bench: &Bench,
     dispatch_seat: &mut DispatchSeat,
     alloc: Global,
-    gate: &Holding,
+    gate: &Delaying,
     ticket: u64,
 ) -> Result<bool, Fail>
     requires { (dispatch_seat.old.bench ≡ bench.now) × (1 < bench.now.slots) }
@@ -400,7 +400,7 @@ fn all_meetings(
     bench: &Bench,
     dispatch_seat: &mut DispatchSeat,
     alloc: Global,
-    gate: &Holding,
+    gate: &Delaying,
     meetings: u64,
 ) -> Result<bool, Fail>
     requires { (dispatch_seat.old.bench ≡ bench.now) × (1 < bench.now.slots) }
@@ -432,7 +432,7 @@ fn first_and_meetings(
     bench: &Bench,
     dispatch_seat: &mut DispatchSeat,
     alloc: Global,
-    gate: &Holding,
+    gate: &Delaying,
     meetings: u64,
 ) -> Result<bool, Fail>
     requires { (dispatch_seat.old.bench ≡ bench.now) × (1 < bench.now.slots) }
@@ -449,7 +449,7 @@ fn two_workers_meet<R: Threads + Wait + Sync>(
     meetings: u64,
 ) -> Result<bool, Fail> {
     let (bench, dispatch_seat, seats) = Bench::open(alloc, 2, 2)?;
-    let gate = Holding::new();
+    let gate = Delaying::new();
     let (bench, gate) = (&bench, &gate);
     thread::scope(
         thread::scope_env(),

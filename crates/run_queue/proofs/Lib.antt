@@ -6,7 +6,7 @@ mod SlotCounts
 mod Examples
 mod Sorting
 mod Chains
-mod Standing
+mod HeldMessages
 mod Nearby
 mod Clearing
 mod Earliest

@@ -5,5 +5,5 @@ pub mod Running
 pub mod InHands
 pub mod Jobs
 -- For the laws of this crate.
-pub mod Living
+pub mod Incarnations
 pub mod Ending

@@ -15,7 +15,7 @@ ghost use Rattle.legal_runs.specs.Laws.{IsSoundCoreState};
 ghost use Rattle.legal_runs.specs.CoreState.{Entry};
 ghost use Rattle.legal_runs.specs.declared.outcomes.Step.TheVariants as steps;
 ghost use Rattle.oplog.specs.Beyond.{KeepsBeyond};
-ghost use Rattle.oplog.specs.Costs.{Costs, write_groups};
+ghost use Rattle.oplog.specs.Costs.{Costs, batch_count};
 ghost use Rattle.device_map.specs.Layout.{layout_of};
 ghost use Rattle.oplog.specs.Recovery.{in_force, named_area};
 ghost use Rattle.meaning.specs.State.{State};
@@ -292,7 +292,7 @@ impl<D: Disk> Core<D> {
 
         // It takes four writes and syncs for each 64 records or fewer; where it fails, at most that.
         ensures costs { D.keeps
-            → Costs result (4 * write_groups (length (batch (core_state_of self.old) n))) self.old.medium self.new.medium }
+            → Costs result (4 * batch_count (length (batch (core_state_of self.old) n))) self.old.medium self.new.medium }
         ensures untouched { touches_device (core_state_of self.old) (steps.Log n) ≡ false → self.new.medium ≡ self.old.medium }
     {
         if self.journal.failed() {

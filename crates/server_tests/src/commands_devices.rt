@@ -53,24 +53,24 @@ fn put(bytes: &mut [u8], at: usize, byte: u8) {
 /// - 2276: the chain byte of half 1; 2340: its gates; 2344: its records
 /// - 4424: the version of image 0; 4488: its piece 0 (of the volume; 4504: the label); 4552, 5592: its pieces 1 and 2 (of the stripes)
 /// - 6632: the version of image 1; 6696: its piece 0 (6704: the files); 6760: its piece 1
-pub(crate) type Changes<'a> = &'a [(usize, u8)];
+pub(crate) type Patches<'a> = &'a [(usize, u8)];
 
 /// The bytes of the small device, just made, with these set. A new one has its header and, in image 0, the version 2.
-pub(crate) fn made_bytes(alloc: Global, changes: Changes<'_>) -> Result<Vec<u8>, AllocError> {
+pub(crate) fn made_bytes(alloc: Global, patches: Patches<'_>) -> Result<Vec<u8>, AllocError> {
     let mut bytes = vec![in alloc; 0u8; LEN]?;
     for (at, byte) in HEADER.iter().enumerate() {
         put(&mut bytes, at, *byte);
     }
     put(&mut bytes, 4424, 2);
-    for (at, byte) in changes {
+    for (at, byte) in patches {
         put(&mut bytes, *at, *byte);
     }
     Ok(bytes)
 }
 
 /// Makes the file a small device with these bytes set.
-pub(crate) fn write_made<T: System>(rt: &T, path: &str, changes: Changes<'_>) -> Result<(), Fail> {
-    let bytes = made_bytes(rt.alloc(), changes)?;
+pub(crate) fn write_made<T: System>(rt: &T, path: &str, patches: Patches<'_>) -> Result<(), Fail> {
+    let bytes = made_bytes(rt.alloc(), patches)?;
     Ok(fs::write(rt, path, bytes.as_slice())?)
 }
 
@@ -84,7 +84,7 @@ pub(crate) enum Left<'a> {
     Same,
 
     /// The small device, just made, with these bytes set.
-    Made(Changes<'a>),
+    Made(Patches<'a>),
 }
 
 /// Fails unless a call on the device in a file ends so, and leaves this.
@@ -99,7 +99,7 @@ pub(crate) fn expect_left<T: System>(
     let wanted = match left {
         Left::Any => None,
         Left::Same => Some(fs::read(rt, call.path)?),
-        Left::Made(changes) => Some(made_bytes(rt.alloc(), changes)?),
+        Left::Made(patches) => Some(made_bytes(rt.alloc(), patches)?),
     };
     expect(rt, call, status, output, faults)?;
     let Some(wanted) = wanted else {
@@ -162,7 +162,7 @@ fn a_device_may_be_longer_and_not_shorter(rt: HostRuntime) -> Result<(), Fail> {
 }
 
 /// Damage to a device that was just made, and how it is reported.
-pub(crate) type Damage<'a> = (Changes<'a>, &'a str);
+pub(crate) type Damage<'a> = (Patches<'a>, &'a str);
 
 /// What `show` and `serve` refuse alike.
 pub(crate) const DAMAGED: [Damage<'static>; 18] = [
@@ -196,10 +196,10 @@ fn expect_refusal<T: System>(
     rt: &T,
     path: &str,
     arguments: &str,
-    before: Changes<'_>,
+    before: Patches<'_>,
     status: u8,
     error_text: &str,
-    after: Changes<'_>,
+    after: Patches<'_>,
 ) -> Result<(), Fail> {
     write_made(rt, path, before)?;
     let times = if status == 1 { 2 } else { 1 };
@@ -213,7 +213,7 @@ fn expect_refusal<T: System>(
 
 /// The chain byte of half 0 is 1: a cut was in progress. The first record of half 1, which is in force then, is bad: zeros. `serve`
 /// finishes the cut before it reports the record.
-const BAD_BEHIND: Changes<'static> = &[(128, 1), (2340, 1)];
+const BAD_BEHIND: Patches<'static> = &[(128, 1), (2340, 1)];
 
 const BAD_RECORD: &str = "waffd: bad record 1 0\n";
 
@@ -222,7 +222,7 @@ const NO_WORKERS: &str = "waffd: no workers\n";
 const WITHOUT_WORKERS: &str = "waffd serve @ --workers 0";
 
 /// A call, what is set in its device, with which status and fault it ends, and what is set afterwards.
-type Refused<'a> = (&'a str, Changes<'a>, u8, &'a str, Changes<'a>);
+type Refused<'a> = (&'a str, Patches<'a>, u8, &'a str, Patches<'a>);
 
 /// First `BAD_BEHIND`, with `show` and with `serve`. Then calls without workers: the device is opened before its workers are counted, and
 /// opening makes a checkpoint of its state, the empty one, in area 1. So it is with a new device and with one whose image has version 1;
@@ -256,16 +256,16 @@ const REFUSED: [Refused<'static>; 5] = [
 #[test]
 fn each_refusal_has_its_text_and_leaves_the_file_so(rt: HostRuntime) -> Result<(), Fail> {
     let path = new_path(&rt, "refused")?;
-    for &(changes, error_text) in &DAMAGED {
+    for &(patches, error_text) in &DAMAGED {
         for arguments in [SHOW, SERVE] {
             expect_refusal(
                 &rt,
                 path.as_str(),
                 arguments,
-                changes,
+                patches,
                 1,
                 error_text,
-                changes,
+                patches,
             )?;
         }
     }
@@ -286,7 +286,7 @@ fn each_refusal_has_its_text_and_leaves_the_file_so(rt: HostRuntime) -> Result<(
 
 /// A root byte of 7, which names area 0, since only 1 names area 1; an image of version 1; a volume in the log, by its gate and its record;
 /// and area 1 named, whose image has a volume with file 0, of which block 0 is there.
-const SHOWN: [(Changes<'static>, &str); 4] = [
+const SHOWN: [(Patches<'static>, &str); 4] = [
     (&[(64, 7)], MADE),
     (
         &[(4424, 1)],
@@ -305,8 +305,8 @@ const SHOWN: [(Changes<'static>, &str); 4] = [
 #[test]
 fn what_a_device_holds_is_shown(rt: HostRuntime) -> Result<(), Fail> {
     let path = new_path(&rt, "shown")?;
-    for &(changes, output) in &SHOWN {
-        write_made(&rt, path.as_str(), changes)?;
+    for &(patches, output) in &SHOWN {
+        write_made(&rt, path.as_str(), patches)?;
         expect_shown(&rt, path.as_str(), output)?;
     }
     fs::remove_file(&rt, path.as_str())?;

@@ -1,7 +1,7 @@
 //! Calls of the command `serve`, on files of the system.
 use crate::commands_calls::{Call, Expected, NOTHING, Streams, System, expect};
 use crate::commands_devices::{
-    Changes, LEN, MADE as JUST_MADE, SERVE, expect_shown, made_bytes, new_path, write_made,
+    LEN, MADE as JUST_MADE, Patches, SERVE, expect_shown, made_bytes, new_path, write_made,
 };
 use std::alloc::{AllocError, Global};
 use std::fs;
@@ -20,7 +20,7 @@ fn shown(alloc: Global, area: u8, records: u8, summary: &str) -> Result<String, 
 
 /// What is set in a device that was made, the call that serves it, the input and the output, and the area and the summary that `show`
 /// prints of it afterwards.
-type Incarnation<'a> = (Changes<'a>, &'a str, &'a str, &'a str, u8, &'a str);
+type Incarnation<'a> = (Patches<'a>, &'a str, &'a str, &'a str, u8, &'a str);
 
 const THREE_CHANGES: &str = "makevol 0 0\ncreate 0 0 0\nwrite 0 0 0 0 61\n";
 
@@ -28,7 +28,7 @@ const THREE_DONE: &str = "done\ndone\ndone\n";
 
 const TWO_WRITES: &str = "makevol 0 0\ncreate 0 0 0\nwrite 0 0 0 0 61\nwrite 0 0 0 1 62\n";
 
-/// First new devices. Then, with bytes set (`Changes` explains the offsets): a root byte that isn't 1 and so names area 0; a torn gate in
+/// First new devices. Then, with bytes set (`Patches` explains the offsets): a root byte that isn't 1 and so names area 0; a torn gate in
 /// the log, after which no record counts; area 1 named, a cut in progress (the chain byte of half 1 is 1), and a record in each half; an
 /// image of version 1 with a volume; and one of version 2, whose volume has a label.
 const INCARNATIONS: [Incarnation<'static>; 11] = [

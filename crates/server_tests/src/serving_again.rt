@@ -4,7 +4,7 @@ ghost use Rattle.legal_runs.specs.Laws.{IsIdle};
 ghost use Rattle.scheduler.specs.CoreView.{core_state_of};
 
 use crate::serving_images::leaves;
-use crate::serving_noting::{Notes, Pieces};
+use crate::serving_noting::{ChunkReader, Notes};
 use crate::serving_running::{SMALL, writes};
 use disk::MemDisk;
 use harness::{Wrong, device_with};
@@ -53,7 +53,7 @@ fn serve_first<T: Threads + Wait + Sync>(
     ensures works { IfOk result (λ core. core.failed ≡ false) }
 {
     let notes = Notes::new();
-    let mut reader = Pieces {
+    let mut reader = ChunkReader {
         left: FIRST,
         size: 70_000,
         fails,

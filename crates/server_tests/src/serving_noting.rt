@@ -190,14 +190,14 @@ impl<D: Disk> Disk for Noting<'_, D> {
 /// A reader that gives its bytes, `size` at a time: these are no pieces of an image. At their end a read fails if `fails`, else it gives
 /// nothing.
 #[derive(Drop)]
-pub(crate) struct Pieces<'a> {
+pub(crate) struct ChunkReader<'a> {
     pub(crate) left: &'a [u8],
     pub(crate) size: usize,
     pub(crate) fails: bool,
     pub(crate) notes: &'a Notes,
 }
 
-impl Read for Pieces<'_> {
+impl Read for ChunkReader<'_> {
     fn read(&mut self, buf: &mut [u8]) -> io::Result<usize> {
         self.notes.note_stream();
         self.notes.reads.add(1);

@@ -12,7 +12,7 @@ use workers::Gate;
 
 /// Keeps the jobs with tickets from `first` on and below `last` waiting in their workers, until the message with ticket `last` is answered.
 #[derive(Drop)]
-struct Holding {
+struct Delaying {
     first: u64,
     last: u64,
     /// How often a job looks whether it may go on, before it gives up.
@@ -21,7 +21,7 @@ struct Holding {
     gave_up: AtomicBool,
 }
 
-impl Gate for Holding {
+impl Gate for Delaying {
     fn before(&self, ticket: u64) {
         if ticket < self.first || ticket >= self.last {
             return;
@@ -144,7 +144,7 @@ fn runs_at_once<T: Threads + Wait + Sync>(
     };
     let device = device_with(alloc, row.numbers, &[])?;
     let (device, _) = serve_lines(rt, alloc, device, way, A_FILE)?;
-    let gate = Holding {
+    let gate = Delaying {
         first: row.first,
         last: row.last,
         tries: row.tries,

@@ -1,5 +1,5 @@
 //! How far the checkpoint in progress goes on after an answer, while a job is in flight, and before a reply is sent.
-use crate::serving_noting::{Count, Flag, Notes, Noting, Pieces};
+use crate::serving_noting::{ChunkReader, Count, Flag, Notes, Noting};
 use crate::serving_running::{
     ALL_AT_ONCE, End, Way, ends, holds, serve_lines, serve_on, session, writes,
 };
@@ -251,7 +251,7 @@ fn no_reply_waits_for_a_whole_point(rt: HostRuntime) -> Result<(), Fail> {
         device: with_a_file(&rt, rt.alloc())?,
         notes: &notes,
     };
-    let mut reader = Pieces {
+    let mut reader = ChunkReader {
         left: PAIRS,
         size: 28,
         fails: false,

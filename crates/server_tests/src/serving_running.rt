@@ -1,6 +1,6 @@
 //! Whole calls of a server on a device, and how they end.
 
-use crate::serving_noting::{Notes, Noting, Pieces, Taking};
+use crate::serving_noting::{ChunkReader, Notes, Noting, Taking};
 use affinity::Geometry;
 use checkpoint::OpenFault;
 use disk::{Disk, MemDisk};
@@ -171,7 +171,7 @@ pub(crate) fn session<T: Threads + Wait + Sync, G: Gate + Sync>(
     gate: &G,
     notes: &Notes,
 ) -> Left {
-    let mut reader = Pieces {
+    let mut reader = ChunkReader {
         left: lines,
         size: streams.read,
         fails: streams.fails,

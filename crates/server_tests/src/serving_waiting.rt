@@ -21,7 +21,7 @@ const MOST_TRIES: u32 = 1_000_000;
 /// Keeps job 1 waiting in its worker until the output is written to. By then message 0 is answered, and the dispatcher has dispatched what
 /// may be dispatched after that.
 #[derive(Drop)]
-struct Held<'a> {
+struct Delaying<'a> {
     notes: &'a Notes,
     gave_up: Flag,
     /// Whether job 2 ran before a cut had begun.
@@ -30,7 +30,7 @@ struct Held<'a> {
     answered: Flag,
 }
 
-impl Held<'_> {
+impl Delaying<'_> {
     /// Waits until the output is written to.
     fn wait(&self) {
         for _ in 0..MOST_TRIES {
@@ -43,7 +43,7 @@ impl Held<'_> {
     }
 }
 
-impl Gate for Held<'_> {
+impl Gate for Delaying<'_> {
     fn before(&self, ticket: u64) {
         match ticket {
             1 => self.wait(),
@@ -86,7 +86,7 @@ fn meet<T: Threads + Wait + Sync + Abort>(
     let device = device_with(alloc, SMALL, &[])?;
     let (device, _) = serve_lines(rt, alloc, device, way, b"makevol 0 0\ncreate 0 0 0\n")?;
     let notes = Notes::new();
-    let gate = Held {
+    let gate = Delaying {
         notes: &notes,
         gave_up: Flag::new(),
         is_early: Flag::new(),

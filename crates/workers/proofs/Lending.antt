@@ -56,9 +56,9 @@ pub flag_set : (fs : List Bool) (k : ℕ) (ls : LentJobs) (o : Option JobView) �
 flag_set fs k ls o e = ap (λ gs. set gs k (is_some o)) e ∙ sym (map-set is_some ls k o)
 
 -- the seat after its list was rotated to the end: the slots are in order again
-pub settles : (j : ℕ) {n : ℕ} {ls : LentJobs} {m w : SeatState} → m ≡ (Dispatcher 0 ls, empty_slots_from j ls) → w ≡ (m.0, empty_slots_from n (lent_of m.0)) → n ≡ length ls → w
+pub rotated_to_end : (j : ℕ) {n : ℕ} {ls : LentJobs} {m w : SeatState} → m ≡ (Dispatcher 0 ls, empty_slots_from j ls) → w ≡ (m.0, empty_slots_from n (lent_of m.0)) → n ≡ length ls → w
     ≡ (Dispatcher 0 ls, empty_slots 0 ls)
-settles j {n} {ls} e f long = f ∙ (ap (λ (y : SeatState). (y.0, empty_slots_from n (lent_of y.0))) e ∙ λ i. (Dispatcher 0 ls, spare_from_end n ls long i))
+rotated_to_end j {n} {ls} e f long = f ∙ (ap (λ (y : SeatState). (y.0, empty_slots_from n (lent_of y.0))) e ∙ λ i. (Dispatcher 0 ls, spare_from_end n ls long i))
 
 pub dispatch_seat_of : {z : TableId} {m : SeatState} {fs : List Bool} {ls : LentJobs} → IsBench z → m ≡ (Dispatcher 0 ls, empty_slots 0 ls) → fs ≡ map is_some ls → length fs ≡ z.slots
     → IsDispatchSeat z m fs

@@ -10,7 +10,7 @@ use Rattle.commands.specs.Serving.{EndsOnDevice, CrashesSafely}
 use Rattle.commands.specs.declared.faults.Fault.{Fault}
 use Rattle.commands.proofs.Kept.{keeps_acknowledged}
 use Rattle.commands.proofs.Promise.{leaves_recovered}
-use Rattle.commands.proofs.OnDevice.{ends_on_device, has_lived, has_served_by}
+use Rattle.commands.proofs.OnDevice.{ends_on_device, crashes_safely, has_served_by}
 use Rattle.commands.proofs.serve.serve_on.Goals as goal
 
 pub returns-in-Err-clause-ends : goal.returns-in-Err-clause-ends
@@ -46,7 +46,7 @@ returns g c =
     record {
       ends = given_back (λ m r. EndsOnDevice keeps service old m r input left before written)
           (ends_on_device end by c.know_recovery.ensures.no_doubt bytes);
-      crash_safe = given_back (λ m r. CrashesSafely keeps service old m r input left before written) (has_lived end by);
+      crash_safe = given_back (λ m r. CrashesSafely keeps service old m r input left before written) (crashes_safely end by);
       kept = given_back (λ m r. KeepsAcknowledged keeps old m r input before written) (keeps_acknowledged end by);
       recovers = given_back (λ m r. LeavesRecovered keeps old m r input before written) (leaves_recovered end by);
     }

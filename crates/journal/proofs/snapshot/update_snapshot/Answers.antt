@@ -5,7 +5,7 @@ use Rattle.image.specs.Image.{image_of}
 use Rattle.image.proofs.Measures.{length-piece, state_is_measured}
 use Rattle.meaning.specs.State.{IsState}
 use Rattle.image.specs.Pieces.{piece_count, piece_of}
-use Rattle.journal.specs.Extents.{AreCleanPiecesOf}
+use Rattle.journal.specs.Extents.{AreCleanExtentsOf}
 use Rattle.image.proofs.Joining.{piece_inside, whole_image}
 use Rattle.journal.proofs.SnapshotBytes.{IsSnapshotTo, all_put, headed, none_behind, pass_one, put_one}
 use Rattle.affinity.specs.declared.geometry.Geometry.{Geometry}
@@ -87,6 +87,6 @@ returns-clause-image c = λ right.
     let all : c.loop-n.n ≡ piece_count c.geometry-g.result = omega (arith, count, c.loop-n-test.false, c.loop-n.auto.n-end, c.requires.dirty) in
     let size : length c.loop-n.bytes ≡ image_size c.geometry-g.result = c.loop-n.invariant.size ∙ c.write_head.ensures.size ∙ c.requires.size ∙ sym (ap image_size same) in
     let right' = headed c.geometry-g.result x c.args.dirty.now c.args.bytes.now c.write_head.new.bytes c.write_head.ensures.head c.write_head.ensures.rest
-    (subst (λ (g : Geometry). AreCleanPiecesOf g x c.args.dirty.now c.args.bytes.now) (sym same) right) in
+    (subst (λ (g : Geometry). AreCleanExtentsOf g x c.args.dirty.now c.args.bytes.now) (sym same) right) in
     all_put c.geometry-g.result x all c.loop-n.invariant.place size (c.loop-n.invariant.so_far right')
     ∙ ap (λ (g : Geometry). image_of 2 g x) same

@@ -1,5 +1,5 @@
 -- The lemmas on incarnations.
-use Rattle.legal_runs.proofs.Living.{no_incarnation, next_incarnation, incarnation_of_run, all_answered}
+use Rattle.legal_runs.proofs.Incarnations.{no_incarnation, next_incarnation, incarnation_of_run, all_answered}
 use Rattle.legal_runs.proofs.laws.incarnations_follow_one_another.Goals as goal
 
 pub returns-clause-first : goal.returns-clause-first

@@ -3,7 +3,7 @@ use Rattle.std.proofs.Common.{◌+◌, ◌∙◌, Some, true, arith}
 use Rattle.std.proofs.lemmas.List.{length-set}
 use Rattle.workers.specs.Seats.{lent_of}
 use Rattle.workers.proofs.Turning.{others}
-use Rattle.workers.proofs.Lending.{within, turned_to, filled, lends, flags_of, flag_set, held_at, settles, counted, dispatch_seat_of}
+use Rattle.workers.proofs.Lending.{within, turned_to, filled, lends, flags_of, flag_set, held_at, rotated_to_end, counted, dispatch_seat_of}
 use Rattle.workers.proofs.bench.put_offer.Goals as goal
 
 pub offer-requires-clause-job : goal.offer-requires-clause-job
@@ -33,4 +33,4 @@ returns-clause-dispatch_seat c = let m = c.args.seat.now.me in let k = c.args.k 
     let lent = lends full c.offer.ensures.lent near in
     let flags = flag_set c.args.lent.now k ls (Some c.args.job) d.flagged in
     let long = counted c.args.lent.now ls d.flagged in let wide = length-set ls k (Some c.args.job) in let flags_long = length-set c.args.lent.now k true in
-    dispatch_seat_of d.bench (settles (k + 1) lent c.rotate_to-2.ensures.slots (omega arith)) flags (flags_long ∙ d.places)
+    dispatch_seat_of d.bench (rotated_to_end (k + 1) lent c.rotate_to-2.ensures.slots (omega arith)) flags (flags_long ∙ d.places)

@@ -3,7 +3,7 @@ use Rattle.std.proofs.Common.{ap, sym, ◌∙◌, None, false, arith}
 use Rattle.std.proofs.lemmas.List.{length-set}
 use Rattle.workers.specs.Steps.{SeatState}
 use Rattle.workers.specs.Seats.{lent_of}
-use Rattle.workers.proofs.Lending.{headed, comes_back, flags_of, flag_set, held_at, settles, counted, dispatch_seat_of}
+use Rattle.workers.proofs.Lending.{headed, comes_back, flags_of, flag_set, held_at, rotated_to_end, counted, dispatch_seat_of}
 use Rattle.workers.proofs.bench.take_delivered.Goals as goal
 
 pub take_result-done-requires : goal.take_result-done-requires
@@ -27,7 +27,7 @@ returns-clause-dispatch_seat c = let jobs = c.requires.won.0 in let won = c.requ
     let long = c.requires.won.3 in let wide = counted _ jobs c.requires.won.2 in let inside = c.requires.bench.1 in
     let back = comes_back jobs won.seat c.take_result-done.ensures.slot (omega arith) won.was_lent in
     let set_wide = length-set jobs k None in let flags_long = length-set c.args.lent.now k false in
-    let rests = settles k back c.rotate_to.ensures.slots (omega arith) in
+    let rests = rotated_to_end k back c.rotate_to.ensures.slots (omega arith) in
     dispatch_seat_of c.requires.bench.2 rests (flag_set c.args.lent.now k jobs None c.requires.won.2) (flags_long ∙ long)
 
 pub returns-clause-lent : goal.returns-clause-lent
@@ -35,5 +35,5 @@ returns-clause-lent c = let jobs = c.requires.won.0 in let won = c.requires.won.
     let long = c.requires.won.3 in let wide = counted _ jobs c.requires.won.2 in let inside = c.requires.bench.1 in
     let back = comes_back jobs won.seat c.take_result-done.ensures.slot (omega arith) won.was_lent in
     let set_wide = length-set jobs k None in let flags_long = length-set c.args.lent.now k false in
-    let rests = settles k back c.rotate_to.ensures.slots (omega arith) in
+    let rests = rotated_to_end k back c.rotate_to.ensures.slots (omega arith) in
     ap (λ (n : SeatState). lent_of n.0) rests ∙ sym (ap (λ (n : SeatState). lent_of n.0) won.seat)

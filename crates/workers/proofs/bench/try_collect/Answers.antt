@@ -5,7 +5,7 @@ use Rattle.workers.specs.Rule.{lent_at}
 use Rattle.workers.specs.Seats.{lent_of}
 use Rattle.workers.specs.declared.job_cell.CellContent.TheVariants.{Delivered}
 use Rattle.workers.specs.declared.seats.SeatRole.TheVariants.{Dispatcher}
-use Rattle.workers.proofs.Lending.{turned_to, counted, settles}
+use Rattle.workers.proofs.Lending.{turned_to, counted, rotated_to_end}
 use Rattle.workers.proofs.bench.try_collect.Goals as goal
 
 pub returns-then-collect-clause-won : goal.returns-then-collect-clause-won
@@ -24,4 +24,4 @@ pub returns-clause-lost : goal.returns-clause-lost
 returns-clause-lost c = λ _. let m = c.args.seat.now.me in let k = c.args.k in let ls = lent_of m.0 in let d = c.requires.dispatch_seat in
     let at = turned_to d.seat c.rotate_to.ensures.slots in
     let still = c.collect.ensures.lost c.if-collect.false ∙ at in
-    settles k still c.rotate_to-2.ensures.slots (counted _ ls d.flagged) ∙ sym d.seat
+    rotated_to_end k still c.rotate_to-2.ensures.slots (counted _ ls d.flagged) ∙ sym d.seat

@@ -2,7 +2,7 @@
 use Rattle.std.proofs.Common.{◌≡◌, ◌∙◌, ℕ, ◌+◌, ◌-◌, ◌*◌, ap, length, take, subst, arith, refl}
 use Rattle.std.proofs.lemmas.Result.{err_from_is_err_and}
 use Rattle.disk.specs.Moments.{moment_number}
-use Rattle.oplog.specs.Costs.{write_groups}
+use Rattle.oplog.specs.Costs.{batch_count}
 use Rattle.oplog.proofs.Costs.{batch_left, one_batch, whole_batch}
 use Rattle.std.proofs.lemmas.Grind.{common_steps}
 use Rattle.device_map.specs.Layout.{layout_of}
@@ -38,7 +38,7 @@ returns-in_err-append_batch-clause-costs g c =
 pub returns-clause-costs : goal.returns-clause-costs
 returns-clause-costs g c = λ k.
     let all : c.loop-done.done ≡ length c.args.messages.now = omega arith in
-    c.loop-done.invariant.takes k ∙ ap (λ (n : ℕ). moment_number (g.D.Disk.medium c.args.disk.now) + 4 * write_groups n) all
+    c.loop-done.invariant.takes k ∙ ap (λ (n : ℕ). moment_number (g.D.Disk.medium c.args.disk.now) + 4 * batch_count n) all
 
 pub loop-done-preserved : goal.loop-done-preserved
 loop-done-preserved g c = record {

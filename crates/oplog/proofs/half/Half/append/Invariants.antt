@@ -1,7 +1,7 @@
 -- The batches so far are in the front, at four writes and syncs each; and what decreases is the number of messages left.
 use Rattle.std.proofs.Common.{◌≡◌, ◌<◌, ◌≤◌, ◌+◌, ◌-◌, ◌*◌, ◌%◌, length, take, vec_len}
 use Rattle.disk.specs.Moments.{moment_number}
-use Rattle.oplog.specs.Costs.{write_groups}
+use Rattle.oplog.specs.Costs.{batch_count}
 use Rattle.device_map.specs.Layout.{layout_of}
 use Rattle.oplog.specs.Changing.{records_of}
 use Rattle.oplog.proofs.Batches.{SoFar}
@@ -15,7 +15,7 @@ invariant-loop-done g l = record {
   len : length (g.D.Disk.medium l.disk).now ≡ length (g.D.Disk.medium l.initial.disk).now;
   faults : (g.D.Disk.medium l.disk).faults ≡ (g.D.Disk.medium l.initial.disk).faults;
   whole : l.done < length l.messages → l.done % 64 ≡ 0;
-  takes : g.D.Disk.keeps → moment_number (g.D.Disk.medium l.disk) ≡ moment_number (g.D.Disk.medium l.initial.disk) + 4 * write_groups l.done;
+  takes : g.D.Disk.keeps → moment_number (g.D.Disk.medium l.disk) ≡ moment_number (g.D.Disk.medium l.initial.disk) + 4 * batch_count l.done;
   so_far : g.D.Disk.keeps → SoFar (layout_of l.self.geometry) l.self.number l.used (records_of (take l.done l.messages)) (records_of l.messages)
       (g.D.Disk.medium l.initial.disk) (g.D.Disk.medium l.disk);
 }

@@ -3,7 +3,7 @@ use Rattle.std.proofs.Common.{◌∙◌, sym, ap, find, length, refl, None, arit
 use Rattle.std.proofs.lemmas.Option.{slice_get_read, get_or_from_slice_get}
 use Rattle.run_queue.specs.RunQueue.{has_number}
 use Rattle.run_queue.specs.Queues.{HeldMessages}
-use Rattle.run_queue.proofs.Standing.{found-at, found-past}
+use Rattle.run_queue.proofs.HeldMessages.{found-at, found-past}
 use Rattle.run_queue.proofs.holders.Holders.at.Goals as goal
 
 pub returns-then-number-len : goal.returns-then-number-len

@@ -1,6 +1,6 @@
 -- The entry of a number is emptied.
 use Rattle.std.proofs.Common.{refl, arith}
-use Rattle.run_queue.proofs.Standing.{stand-free, free-view, free-past}
+use Rattle.run_queue.proofs.HeldMessages.{stand-free, free-view, free-past}
 use Rattle.run_queue.proofs.holders.Holders.free.Goals as goal
 
 pub invariant_of-self : goal.invariant_of-self

@@ -3,7 +3,7 @@ use Rattle.std.proofs.Common.{◌≡◌, ◌∙◌, ◌<◌, sym, ap, subst, fin
 use Rattle.std.specs.Prelude.{slice_set}
 use Rattle.run_queue.specs.RunQueue.{has_number}
 use Rattle.run_queue.specs.Queues.{HeldMessages, present}
-use Rattle.run_queue.proofs.Standing.{stand-hold, between-hold, found-at}
+use Rattle.run_queue.proofs.HeldMessages.{stand-hold, between-hold, found-at}
 use Rattle.run_queue.proofs.holders.Holders.hold.Goals as goal
 
 pub invariant_of-self : goal.invariant_of-self

@@ -1,6 +1,6 @@
 -- No message is held at any number.
 use Rattle.std.proofs.Common.{◌≡◌, arith}
-use Rattle.run_queue.proofs.Standing.{start-stand, start-view}
+use Rattle.run_queue.proofs.HeldMessages.{start-stand, start-view}
 use Rattle.run_queue.proofs.holders.Holders.new.Goals as goal
 
 pub invariant_of-result : goal.invariant_of-result

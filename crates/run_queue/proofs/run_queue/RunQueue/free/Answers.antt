@@ -5,7 +5,7 @@ use Rattle.run_queue.specs.RunQueue.{has_number}
 use Rattle.run_queue.specs.Queues.{HeldMessages}
 use Rattle.run_queue.specs.Invariant.{AreQueued}
 use Rattle.run_queue.proofs.Clearing.{find-all}
-use Rattle.run_queue.proofs.Standing.{without-none}
+use Rattle.run_queue.proofs.HeldMessages.{without-none}
 use Rattle.run_queue.proofs.QueueCalls.{messages-freed, kept-freed}
 use Rattle.run_queue.proofs.run_queue.RunQueue.free.Goals as goal
 

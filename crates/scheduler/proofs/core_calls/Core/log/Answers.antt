@@ -10,7 +10,7 @@ use Rattle.messages.specs.declared.Reply.{Reply}
 use Rattle.oplog.proofs.Answered.{on_ok}
 use Rattle.oplog.proofs.Beyond.{beyond_none}
 use Rattle.oplog.specs.Beyond.{KeepsBeyond}
-use Rattle.oplog.specs.Costs.{write_groups}
+use Rattle.oplog.specs.Costs.{batch_count}
 use Rattle.device_map.specs.Layout.{layout_of}
 use Rattle.scheduler.proofs.Journaling.{still_standing}
 use Rattle.scheduler.proofs.LogCall.{broken_from, broken_takes, doubt_call_core, doubt_call_state, log_call_core, log_call_throughout, log_call_state, log_carried, log_count, log_fits, log_unlogged, log_length, log_changes, log_low, log_ran, log_size, log_untouched, made_from, made_takes, none_taken, some_were_passed}
@@ -243,12 +243,12 @@ returns-clause-beyond g c = λ keep.
     subst (λ (o : CoreView). KeepsBeyond (layout_of o.geometry) o.medium c.log.new.self.medium) c.self.view_is (c.log.ensures.beyond keep)
 
 pub returns-then-failed-clause-costs : goal.returns-then-failed-clause-costs
-returns-then-failed-clause-costs g c = λ keep. none_taken c.args.self.now.medium (4 * write_groups (length (batch (core_state_of c.args.self.now) c.args.n)))
+returns-then-failed-clause-costs g c = λ keep. none_taken c.args.self.now.medium (4 * batch_count (length (batch (core_state_of c.args.self.now) c.args.n)))
 
 pub returns-then-is_err-clause-costs : goal.returns-then-is_err-clause-costs
 returns-then-is_err-clause-costs g c = λ keep.
-    subst (λ (o : CoreView). moment_number c.log.new.self.medium ≤ moment_number o.medium + 4 * write_groups (length (batch (core_state_of o) c.args.n))) c.self.view_is
-    (subst (λ (m : ℕ). moment_number c.log.new.self.medium ≤ moment_number c.self.inside.journal.medium + 4 * write_groups m)
+    subst (λ (o : CoreView). moment_number c.log.new.self.medium ≤ moment_number o.medium + 4 * batch_count (length (batch (core_state_of o) c.args.n))) c.self.view_is
+    (subst (λ (m : ℕ). moment_number c.log.new.self.medium ≤ moment_number c.self.inside.journal.medium + 4 * batch_count m)
     (log_length g.D.Disk.keeps c.self.inside.slots c.self.inside.replies.items c.self.inside.tree c.self.inside.journal c.self.inside.queue
     c.self.inside.batch.items c.self.inside.next c.self.inside.unlogged c.self.inside.history.opened c.self.inside.history.since_open
     c.self.invariant.0 c.self.invariant.1 (sym c.failed.ensures ∙ c.if-failed.false) c.args.n c.min-count.result c.self.inside.ran
@@ -259,8 +259,8 @@ returns-then-is_err-clause-costs g c = λ keep.
 
 pub returns-clause-costs : goal.returns-clause-costs
 returns-clause-costs g c = λ keep.
-    subst (λ (o : CoreView). moment_number c.log.new.self.medium ≡ moment_number o.medium + 4 * write_groups (length (batch (core_state_of o) c.args.n))) c.self.view_is
-    (subst (λ (m : ℕ). moment_number c.log.new.self.medium ≡ moment_number c.self.inside.journal.medium + 4 * write_groups m)
+    subst (λ (o : CoreView). moment_number c.log.new.self.medium ≡ moment_number o.medium + 4 * batch_count (length (batch (core_state_of o) c.args.n))) c.self.view_is
+    (subst (λ (m : ℕ). moment_number c.log.new.self.medium ≡ moment_number c.self.inside.journal.medium + 4 * batch_count m)
     (log_length g.D.Disk.keeps c.self.inside.slots c.self.inside.replies.items c.self.inside.tree c.self.inside.journal c.self.inside.queue
     c.self.inside.batch.items c.self.inside.next c.self.inside.unlogged c.self.inside.history.opened c.self.inside.history.since_open
     c.self.invariant.0 c.self.invariant.1 (sym c.failed.ensures ∙ c.if-failed.false) c.args.n c.min-count.result c.self.inside.ran

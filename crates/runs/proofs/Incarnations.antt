@@ -12,7 +12,7 @@ use Rattle.disk.proofs.Moments.{bytes_since, counts_now, only_now}
 use Rattle.disk.specs.Device.{AreBytes, IsSynced, IsCrashImage, Medium}
 use Rattle.disk.specs.Moments.{left_since, moment_number}
 use Rattle.journal.specs.Opening.{IsPastSync, OpeningCrashImages, RecoversAsBefore}
-use Rattle.legal_runs.proofs.Living.{all_answered, incarnation_of_run, next_incarnation, no_incarnation}
+use Rattle.legal_runs.proofs.Incarnations.{all_answered, incarnation_of_run, next_incarnation, no_incarnation}
 use Rattle.legal_runs.specs.Events.{Event, MachineState}
 use Rattle.legal_runs.specs.Incarnations.{IsLeftByIncarnations, Incarnation, Ran, Unopened}
 use Rattle.legal_runs.specs.Runs.{IsLegal}
