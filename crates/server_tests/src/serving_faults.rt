@@ -217,14 +217,15 @@ struct Met {
     left: MemDisk,
 }
 
-/// Where the chain byte of a half lies, and the first gate of the other one.
-const CHAINED: [(usize, usize); 2] = [(128, 2340), (2276, 192)];
-
-/// Whether the chain byte of a half is 1, and the first gate of the other half is open: a record was logged since a cut began. The root
-/// byte isn't looked at, so this holds during the cut and after its flip, until the next checkpoint clears the half with the chain byte.
+/// Whether a cut is in progress, and a record was logged since it began: the chain byte of the named half is 1, and the first gate of the
+/// other half is open. Half 1 is named if the root byte, at 64, is 1. The chain bytes lie at 128 and 2276, the gates at 192 and 2340.
 fn is_chained(bytes: &[u8]) -> bool {
-    CHAINED.iter().any(|(chain, gate)| bytes.get(*chain) == Some(&1)
-        && bytes.get(*gate) == Some(&1))
+    let (chain, gate) = if bytes.get(64) == Some(&1) {
+        (2276, 192)
+    } else {
+        (128, 2340)
+    };
+    bytes.get(chain) == Some(&1) && bytes.get(gate) == Some(&1)
 }
 
 /// Whether a server may end so on a device that has not failed (`is_faultless`), or has failed.
@@ -356,8 +357,7 @@ const THREE: &[u8] = b"makevol 0 0\ncreate 0 0 0\nwrite 0 0 0 0 61\n";
 const TWO_DONE: &[u8] = b"done\ndone\n";
 
 /// Serves three changes with one worker and a checkpoint (a cut) after each, on a device that stops at its n-th call. Returns whether that
-/// call was made, and whether it ended the session after two replies were written, while the chain byte of half 1 was 1 and the first gate
-/// of half 0 open: so they are from the second change on, until the second cut clears half 1.
+/// call was made, and whether it ended the session after two replies were written, during a cut since whose beginning a record was logged.
 fn stops_in_a_cut<T: Threads + Wait + Sync>(
     rt: &T,
     alloc: Global,
@@ -381,9 +381,7 @@ fn stops_in_a_cut<T: Threads + Wait + Sync>(
         end,
         output,
     } = left;
-    let bytes = device.bytes();
-    let is_chained = bytes.get(2276) == Some(&1) && bytes.get(192) == Some(&1);
-    let is_in_a_cut = end == End::Fault(ServeFault::Device) && is_chained;
+    let is_in_a_cut = end == End::Fault(ServeFault::Device) && is_chained(device.bytes());
     let has_sent_two = output.as_slice().starts_with(TWO_DONE);
     Ok((device.calls() >= n, is_in_a_cut && has_sent_two))
 }
