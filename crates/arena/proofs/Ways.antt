@@ -1,4 +1,4 @@
--- Ways over nodes, and the lists that they make.
+-- Ways (paths along `next`) over nodes (slots, and the sentinels at which lists end), and the lists that they make.
 use Rattle.std.proofs.Common.{◌≡◌, ◌≢◌, ℕ, zero, suc, ◌+◌, ◌<◌, ◌≤◌, List, [], ◌∷◌, ◌++◌, map, length, refl, ap, ◌∙◌, inl, inr, arith, add-zero, slice_set, slice_index_or}
 use Rattle.std.proofs.lemmas.Bool.{lt-ltb, le-ltb}
 use Rattle.std.proofs.lemmas.Bool.Decides.{eqb_tells, leb_tells}
@@ -12,7 +12,7 @@ abbrev pub AreSlots : ℕ → List ℕ → Type 0
 AreSlots slots xs = AllByRecursion (λ x. x < slots) xs
 
 module _ (next : ℕ → ℕ) (slots : ℕ) where
-  -- a way over slots to an end is what the walk finds
+  -- a way over slots to a sentinel is what the walk finds
   pub walk-way : (steps a : ℕ) (xs : List ℕ) (z : ℕ) → IsWay next a xs z → AreSlots slots xs → slots ≤ z → length xs ≤ steps → walk next slots steps (next a) ≡ xs
   walk-way zero a [] z way inside outside short = refl
   walk-way zero a (x ∷ xs) z way inside outside short = absurd (omega arith)
@@ -63,7 +63,7 @@ way-kept next next' [] z first rest way = first ∙ way
 way-kept next next' (x ∷ xs) z first rest way =
     (first ∙ way.0, way-kept next next' xs z rest.0 rest.1 way.1)
 
--- the tables of two functions, one of which is made of the other at each number
+-- if `at' e` is `made (at e)` at each number e, the table of at' is that of at with `made` mapped over it
 pub table-map : (at at' : ℕ → List ℕ) (made : List ℕ → List ℕ) (from count : ℕ) → ((e : ℕ) → from ≤ e → e < from + count → at' e ≡ made (at e)) → table at' from count ≡ map made (table at from count)
 table-map at at' made from zero each = refl
 table-map at at' made from (suc count) each =

@@ -228,7 +228,7 @@ loaded {c} {l} same head sound area version records state = record {
 
 -- ---- of which half a bad record is
 
--- the faults of the head and the pieces of an image are of no record
+-- the faults of the head and the pieces of an image name no record
 pub image_half : (n : ℕ) (t : Bool) (o : Option ℕ) (e : OpenFault) → IsConsistentFault (fault_if t BadVersion (fault_or_later BadPiece o None)) e → IsOfHalf n e
 image_half n true o (BadRecord h i) is = cc
 image_half n false None (BadRecord h i) is = cc
@@ -272,7 +272,7 @@ records_half n o BadVersion is = tt
 records_half n o (BadPiece k) is = tt
 records_half n o BadChain is = tt
 
--- the faults of the header are of no record
+-- the faults of the header name no record
 pub header_half : (n : ℕ) (e : OpenFault) → IsOfHeader e → IsOfHalf n e
 header_half n Device is = tt
 header_half n OutOfMemory is = tt
@@ -298,7 +298,7 @@ never_out_of_memory (BadPiece k) is same = is
 never_out_of_memory BadChain is same = is
 never_out_of_memory (BadRecord h i) is same = is
 
--- Once the header was read, the device has all its parts: also if the answer is `OutOfMemory` then.
+-- Once the header was read, the device is known to have all its parts, even if memory lacks then.
 pub behind_header : {T : Type 0} (r : Result T OpenFault) (keeps : Type 0) (c : List ℕ) → (keeps → IsWholeDevice c) → IfErr r (λ e. e ≡ OutOfMemory → keeps → IsWholeDevice c)
 behind_header (Ok v) keeps c held = tt
 behind_header (Err e) keeps c held = λ is. held

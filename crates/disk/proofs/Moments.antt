@@ -9,11 +9,11 @@ none_later [] t c late since = since
 none_later (m ∷ earlier) t c late since =
     ⊎_elim (λ (here : (t ≤ length earlier) × IsTornFrom m.now m.unsynced c). omega (arith, here.0, late)) (none_later earlier t c (omega (arith, late))) since
 
--- what a crash may leave now it might have left at some moment since an earlier one
+-- what a crash may leave now is among what one might have left since moment t, if t isn't later than now
 pub counts_now : (m : Medium) (t : ℕ) (c : List ℕ) → t ≤ moment_number m → IsCrashImage m c → left_since m t c
 counts_now m t c late left = inl (late, left)
 
--- what a crash since the present moment might have left, one may leave now: there is no later moment
+-- what is left since the present moment is what a crash may leave now: there is no later moment
 pub only_now : (m : Medium) (c : List ℕ) → left_since m (moment_number m) c → IsCrashImage m c
 only_now m c since = ⊎_elim (λ (here : (moment_number m ≤ moment_number m) × IsCrashImage m c). here.1) (λ earlier. absurd (none_later m.past (moment_number m) c (omega arith) earlier)) since
 

@@ -11,7 +11,7 @@ pub enum Torn {
     New,
     /// This byte.
     Fill(u8),
-    /// These bytes, from the lowest such offset upward, and again from the first when they end.
+    /// These bytes, repeated as often as needed, from the lowest such offset upward.
     Mixed(Vec<u8>),
 }
 

@@ -30,14 +30,14 @@ const CUT: u64 = 4;
 /// A piece is one write.
 const PIECE: u64 = 1;
 
-/// The end of a cut is a sync, a write and a sync.
+/// The flip that ends a cut is a sync, a write and a sync.
 const FLIP: u64 = 3;
 
 /// Batches and points (the whole image in one call).
 const POINTS: Script = Script {
     numbers: SMALL,
     patches: &[],
-    before: &[],
+    recovered: &[],
     acts: &[
         Act::Log(&["makevol 0 0"]),
         Act::Log(&["create 0 0 0", "write 0 0 0 0 61", "setlabel 0 0 07"]),
@@ -58,7 +58,7 @@ fn points_survive(rt: HostRuntime) -> Result<(), Fail> {
 const CUTS: Script = Script {
     numbers: SMALL,
     patches: &[],
-    before: &[],
+    recovered: &[],
     acts: &[
         Act::Log(&["makevol 0 0"]),
         Act::Cut,
@@ -79,9 +79,9 @@ fn cuts_survive(rt: HostRuntime) -> Result<(), Fail> {
     Ok(survives(&rt, rt.alloc(), &CUTS, calls)?)
 }
 
-/// A device with a cut in progress, whose named image, of version 1, has a volume. The record in half 0 makes its file 0,
-/// and the one in half 1, which follows, writes a block of that file. The patches in order: the image's version and the
-/// volume's first byte; the chain byte, a gate and a record's kind of half 0; a gate, a record's kind and the first byte of
+/// A device with a cut in progress, whose named image, of version 1, has a volume. The record in half 0 makes its file 0, and the one in
+/// half 1, which follows, writes a block of that file. `recovered` are lines that lead to the same state. The patches in order: the image's
+/// version and the volume's first byte; the chain byte, a gate and a record's kind of half 0; a gate, a record's kind and the first byte of
 /// its block in half 1.
 const INTERRUPTED: Script = Script {
     numbers: SMALL,
@@ -95,14 +95,14 @@ const INTERRUPTED: Script = Script {
         (2344, 7),
         (2352, 0x61),
     ],
-    before: &["makevol 0 0", "create 0 0 0", "write 0 0 0 0 61"],
+    recovered: &["makevol 0 0", "create 0 0 0", "write 0 0 0 0 61"],
     acts: &[Act::Log(&["setlabel 0 0 07"])],
 };
 
 #[test]
 fn an_interrupted_cut_of_version_1_survives(rt: HostRuntime) -> Result<(), Fail> {
-    // A record of each half and the chain byte and the gates of half 1 are read too, and the cut is ended by two writes and
-    // two syncs.
+    // A record of each half and the chain byte and the gates of half 1 are read too, and the cut is finished: all
+    // pieces in one write, and a flip.
     let calls = OPENING + 4 + 4 + BATCH;
     Ok(survives(&rt, rt.alloc(), &INTERRUPTED, calls)?)
 }
@@ -111,7 +111,7 @@ fn an_interrupted_cut_of_version_1_survives(rt: HostRuntime) -> Result<(), Fail>
 const VERSION_1: Script = Script {
     numbers: SMALL,
     patches: &[(4424, 1), (4488, 1)],
-    before: &["makevol 0 0"],
+    recovered: &["makevol 0 0"],
     acts: &[],
 };
 

@@ -47,8 +47,8 @@ pub(crate) struct Script {
     /// The bytes that differ from those of a newly formatted device: offset and value.
     pub(crate) patches: &'static [(usize, u8)],
 
-    /// The lines that lead to the state to which the device recovers.
-    pub(crate) before: &'static [&'static str],
+    /// Lines that lead to the state to which the device recovers: they are not run on it.
+    pub(crate) recovered: &'static [&'static str],
     pub(crate) acts: &'static [Act],
 }
 
@@ -66,7 +66,7 @@ impl Play<'_> {
             return Err(Wrong::Unfit);
         };
         let questions = Questions::new(alloc, &g)?;
-        let mut lines = script.before.to_vec(alloc)?;
+        let mut lines = script.recovered.to_vec(alloc)?;
         let mut expected_answers = Vec::new(alloc);
         expected_answers.push(expected(alloc, &g, lines.as_slice(), &questions)?)?;
         for act in script.acts {

@@ -53,7 +53,7 @@ pub trait Trial {
     /// Does it on this device, until it ends or a call reports that the device has failed.
     fn run(&self, alloc: Global, device: MemDisk) -> Result<Ended, Wrong>;
 
-    /// Whether this may be found on the device after this much progress and a crash, or none.
+    /// Whether this may be found on the device after this much progress, with or without a crash.
     fn allows(&self, progress: &Progress, found: &OpenedDevice) -> bool;
 }
 
@@ -128,7 +128,7 @@ fn device_of(alloc: Global, bytes: &[u8]) -> Result<MemDisk, AllocError> {
     MemDisk::of_bytes(alloc, bytes.to_vec(alloc)?)
 }
 
-/// Whether what `inspect` reports agrees with what an opened server answers.
+/// Whether the summary that `inspect` reports is what an opened server answers to its first question.
 fn agrees(shown: &Shown, reply_lines: &[u8]) -> bool {
     let mut line = [0; LONGEST_REPLY];
     let size = write_reply(&shown.summary, &mut line);
@@ -143,8 +143,8 @@ fn inspected(alloc: Global, bytes: &[u8]) -> Result<Result<Shown, OpenFault>, Al
     }
 }
 
-/// Whether `inspect` agrees with what `open` found on a device: on its bytes before the opening, and on those after it (`opened`), where no
-/// record is in force then and the image has version 2. If the device is refused, it has to be for the same fault.
+/// Whether `inspect` agrees with what `open` found on a device: on its bytes before the opening, and on those after it (`opened`), in
+/// which no record may be in force and the image has to have version 2. If the device is refused, it has to be for the same fault.
 fn is_shown(
     alloc: Global,
     bytes: &[u8],
@@ -200,8 +200,8 @@ fn stopped(
     Ok(Some(device))
 }
 
-/// Opens the device that the second crash left, unless it has the same bytes as after the first: the same has to be found as after the
-/// first.
+/// Opens the device that the second crash left, unless it has the same bytes as after the first. What is found has to be what was found
+/// after the first.
 fn reopen_behind(
     questions: &Questions,
     alloc: Global,
@@ -317,7 +317,8 @@ impl<T: Trial> Stops<'_, T> {
         }
     }
 
-    /// Makes the trial on a device of which this call fails. `Unreported` where that isn't reported, or is reported without the call.
+    /// Makes the trial on a device of which this call fails. `Unreported` where that isn't reported, or where a fault is
+    /// reported though that call was not made.
     fn make(&self, first: Crash) -> Result<Ended, Wrong>
         requires { 0 < first.call }
     {

@@ -1,4 +1,4 @@
--- The entries of a stripe ascend, so entries that ascend and hold the same blocks are these.
+-- The entries of a stripe ascend, so any ascending list that holds the same blocks is the same list.
 use Rattle.std.proofs.Common.{◌≡◌, ◌≢◌, ℕ, zero, suc, ◌<◌, Bool, true, false, ◌&&◌, List, [], ◌∷◌, Option, Some, None, refl, sym, ◌∙◌, ap, arith, inl, inr, ⊎_elim}
 use Rattle.std.specs.Prelude.{◌==◌, if◌then◌else◌}
 use Rattle.std.specs.List.{AllByRecursion}
@@ -63,7 +63,7 @@ module _ (g : Geometry) (x : State) (a v s : ℕ) where
   entries_ascend =
       rows_ascend (λ (e : BlockEntry). Unit {0}) (λ (e : BlockEntry). e.file) (λ f. joined_below g.blocks (row f)) of_file file_ascends (λ d e of_d of_e less. inl less) g.files
 
--- what the entries of a stripe hold, of any block
+-- what the entries of a stripe hold for a given block
 module _ (g : Geometry) (x : State) (is : IsState g x) (a v s f b : ℕ) where
   pub stripe_holds : content_at (stripe_entries g x a v s) f b ≡ (if stripe_of g f b == s then x.blocks (a, v, f, b) else None)
   stripe_holds =

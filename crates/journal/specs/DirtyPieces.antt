@@ -10,7 +10,7 @@ use Rattle.messages.specs.declared.Msg.{Msg}
 pub record DirtyPieces : Type 0 where
   -- of the image that is named
   pub named : List Bool
-  -- of the other one, as it is or will be once a cut is written
+  -- of the other one, as it is; during a cut, as it will be at the cut's end
   pub other : List Bool
 
 -- how many are dirty

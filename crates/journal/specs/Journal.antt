@@ -18,7 +18,7 @@ pub record JournalView : Type 0 where
   pub room : ℕ
   -- how many pieces of a cut are still to be written, while one is in progress
   pub pieces_left : Option ℕ
-  -- which pieces of each image may differ from those of what is committed
+  -- which pieces of each image may differ from those of the committed state's image
   pub dirty : DirtyPieces
   -- whether the device has failed in a call
   pub failed : Bool
@@ -56,7 +56,7 @@ pub record RecoversWithPrefix (g : Geometry) (x : State) (ms : List Msg) (c : Li
   pub at_most : added ≤ length ms
   pub is : recovered_state g c ≡ Some (state_after_all g x (take added ms))
 
--- a journal after a call with this result: at `Ok` as given, and else as before but for its device, and failed
+-- a journal after a call with this result: at `Ok` it is `done`; else it is as before, with the device of `done`, and has failed
 abbrev pub after_call : {T E : Type 0} → Result T E → JournalView → JournalView → JournalView
 after_call (Ok _) done old = done
 after_call (Err _) done old = record old { failed = true; medium = done.medium }

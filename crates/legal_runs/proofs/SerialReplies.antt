@@ -9,7 +9,7 @@ use Rattle.meaning.specs.State.{State}
 use Rattle.meaning.specs.Serial.{reply_to, next_state, state_after_all, is_recorded}
 use Rattle.meaning.specs.Order.{serial_replies, messages}
 use Rattle.meaning.proofs.Frame.{commute, same_reply}
-use Rattle.meaning.proofs.Unchanged.{unlogged_changes_nothing}
+use Rattle.meaning.proofs.Unchanged.{unrecorded_changes_nothing}
 use Rattle.legal_runs.specs.CoreState.{Entry, Replied, entry, entries, are_related_entries}
 use Rattle.legal_runs.specs.Events.{recorded}
 use Rattle.legal_runs.specs.Laws.{AreUnrelated, HaveRepliesAt, ticket_replies}
@@ -62,7 +62,7 @@ module _ (g : Geometry) where
             (λ (a : Replied). a.1) (cond b (a ∷ filter (λ a. is_recorded a.1 a.2) first) (filter (λ a. is_recorded a.1 a.2) first)))
             ≡ state_after_all g (next_state g x a.1) (messages (entries first))) [
               | true ↦ λ e. k.logs
-              | false ↦ λ e. ap (λ y. state_after_all g y (recorded first)) (sym (unlogged_changes_nothing g x a.1 (ap (is_recorded a.1) (sym h.0)
+              | false ↦ λ e. ap (λ y. state_after_all g y (recorded first)) (sym (unrecorded_changes_nothing g x a.1 (ap (is_recorded a.1) (sym h.0)
                   ∙ e))) ∙ k.logs
             ] refl;
         still = k.still;

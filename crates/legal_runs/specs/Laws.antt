@@ -42,8 +42,9 @@ HaveRepliesAt g x as' = AllByRecursion (λ a. a.2 ≡ reply_to g x a.1) as'
 abbrev pub ticket_replies : List Replied → List (ℕ × Reply)
 ticket_replies as' = map (λ a. (a.0, a.2)) as'
 
--- The history could be a serial server's from state x on: it is a prefix of some order of all arrivals, in which each message is once and
--- messages at related places are by ticket; and its replies are those that its messages get when they run one after the other from x on.
+-- The history could be a serial server's from state x on: it is a prefix of some order of all arrivals, in which each message occurs once,
+-- and messages at related places are in the order of their tickets; and its replies are those that its messages get when they run one after
+-- the other from x on.
 pub record IsSerialHistory (g : Geometry) (x : State) (arrivals : List Entry) (history : List Replied) : Type 0 where
   -- the messages that arrived and are not in the history
   pub rest : List Entry

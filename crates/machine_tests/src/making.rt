@@ -10,7 +10,8 @@ use std::alloc::Global;
 use std::process::Abort;
 
 /// One volume of two files of four blocks, in two stripes that hold two blocks each, and four records in a half. Neighboring blocks of a
-/// file lie in different stripes. In order: aggregates, volumes, stripes, width, files, blocks, quota, records in a half.
+/// file lie in different stripes. In order: aggregates, volumes, stripes, width (adjacent blocks in one stripe), files, blocks, quota,
+/// records in a half.
 pub(crate) const SMALL: [u16; 8] = [1, 1, 2, 1, 2, 4, 2, 4];
 
 /// One volume of one file of four blocks, each in a stripe of its own, and eight records in a half. The order is the same.
@@ -22,7 +23,7 @@ pub(crate) enum Row {
     /// The message of this line arrives.
     Arrives(&'static str, Outcome),
     Does(Step, Outcome),
-    /// The message of this line arrives, and goes by hand 0 until it is answered with this line.
+    /// The message of the first line arrives, is run by hand 0, and is answered with the second line.
     Serves(&'static str, &'static str),
 }
 
@@ -83,7 +84,7 @@ fn message_of(rt: &impl Abort, line: &str) -> Msg {
     parse_line(line.as_bytes()).expect(rt, "a message")
 }
 
-/// The reply to this message, on which all steps of `WHOLE` are made: no other message waits or is held.
+/// Makes all steps of `WHOLE` for this message, and returns its reply. No other message may wait or be held.
 fn serve(rt: &impl Abort, machine: &mut Machine<MemDisk>, message: Msg) -> Option<Reply> {
     let Outcome::Ticket(ticket) = one(machine, Step::Arrive(message)) else {
         return None;

@@ -24,8 +24,8 @@ pub fn step_keeps_state()
         → IsState g (state_after_all g x ms) }
 {}
 
-/// A message whose check fails is answered with that refusal, and a message that is answered with a
-/// refusal changes nothing.
+/// A message that fails a check (`refusal` is the first such) is answered with that refusal, and a message that is
+/// answered with a refusal changes nothing.
 pub fn refusal_changes_nothing()
     ensures refused { (g : Geometry) (x : State) (m : Msg) (why : Refusal) → refusal g x m ≡ Some why → reply_to g x m ≡ Refused why }
     ensures unchanged { (g : Geometry) (x : State) (m : Msg) → is_refused (reply_to g x m) ≡ true → next_state g x m ≡ x }

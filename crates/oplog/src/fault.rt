@@ -4,6 +4,7 @@
 pub enum LogFault {
     /// The device failed during the call.
     Device,
-    /// The bytes of this record, given by its half and its number there, are not the record of a message in range of a changing kind.
+    /// The bytes of this record, given by its half and its number there, are not the record of a change (a message of a changing kind)
+    /// whose numbers are in range.
     BadRecord(usize, usize),
 }

@@ -4,11 +4,11 @@ use Rattle.messages.specs.declared.Refusal.{Refusal}
 use Rattle.messages.specs.declared.Refusal.TheVariants.{Range, Volume, Exists, Sealed, File, Space}
 use Rattle.parcel.specs.declared.running.refusals.Seen.{Seen}
 
--- whether the message passes the check that refuses with this reason
+-- whether the message passes the check that refuses with this reason. `exists`: what it makes is there already; `file`: its file is there
 abbrev pub passes : Seen → Refusal → Bool
 passes s Range = true
 passes s Volume = s.made
 passes s Exists = not s.exists
 passes s Sealed = not s.sealed
 passes s File = s.file
-passes s Space = s.room
+passes s Space = s.space

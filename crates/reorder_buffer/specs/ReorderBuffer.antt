@@ -29,7 +29,7 @@ answer_text OutOfRange = reply_line (Refused Range)
 answer_text (Pending ticket) = []
 answer_text (Completed ticket reply) = reply_line reply
 
--- the line after the message with this ticket was given this reply: completed, if it is the line of that message
+-- what a line becomes when the message with this ticket gets this reply: completed, if it is that message's line; else it stays
 abbrev pub complete_one : ℕ → Reply → Line → Line
 complete_one ticket reply (Pending t) = if t == ticket then Completed t reply else Pending t
 complete_one ticket reply line = line
@@ -40,7 +40,7 @@ complete_one ticket reply line = line
 pub record ReorderBufferView : Type 0 where
   -- the lines, oldest first
   pub lines : List Line
-  -- how many there is room for
+  -- how many lines it can hold
   pub slots : ℕ
 
 -- whether the answer to the oldest line is known, so that it can be retired

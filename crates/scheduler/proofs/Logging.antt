@@ -26,7 +26,7 @@ use Rattle.messages.specs.declared.Msg.{Msg}
 use Rattle.oplog.specs.Changing.{AreChangesInRange, IsChangeInRange}
 use Rattle.parcel.specs.Holding.{TreeHolds}
 use Rattle.parcel.specs.Tree.{tree_nodes}
-use Rattle.meaning.proofs.Unchanged.{unlogged_changes_nothing}
+use Rattle.meaning.proofs.Unchanged.{unrecorded_changes_nothing}
 use Rattle.meaning.specs.Serial.{state_after_all, is_recorded, next_state}
 use Rattle.meaning.specs.State.{State}
 use Rattle.scheduler.proofs.Counting.{changing, changing-append, unlogged_of}
@@ -58,7 +58,7 @@ module _ (g : Geometry) where
       elim (is_recorded a.1 a.2) as (λ b. is_recorded a.1 a.2 ≡ b
       → AreCarriedOut g x (map (λ (a : Replied). a.1) (cond b (a ∷ filter (λ a. is_recorded a.1 a.2) first) (filter (λ a. is_recorded a.1 a.2) first)))) [
         | true ↦ λ e. (known.0.0, (first_true (is_changing (kind a.1)) _ e, known.0.1), ap (is_recorded a.1) (sym h.0) ∙ e, k)
-        | false ↦ λ e. subst (λ y. AreCarriedOut g y (recorded first)) (unlogged_changes_nothing g x a.1 (ap (is_recorded a.1) (sym h.0) ∙ e)) k
+        | false ↦ λ e. subst (λ y. AreCarriedOut g y (recorded first)) (unrecorded_changes_nothing g x a.1 (ap (is_recorded a.1) (sym h.0) ∙ e)) k
       ] refl
 
   pub each_changes : (first : List Replied) → AreKnown g first → AllByRecursion (λ m. IsChangeInRange g m) (recorded first)

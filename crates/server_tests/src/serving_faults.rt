@@ -201,7 +201,7 @@ fn set_injected_fault(device: &mut MemDisk, crash: Crash) -> u64 {
 /// reply than there are workers: each of these has overtaken a change that another worker had, whose reply comes before its own.
 fn only_synced_are_acknowledged(notes: &Notes, way: Way) -> bool {
     let unacknowledged = notes.logged.get().saturating_sub(notes.taken.get());
-    !notes.is_early.get() && unacknowledged < way.workers as u64
+    !notes.is_reply_early.get() && unacknowledged < way.workers as u64
 }
 
 /// What came of a session whose device was to fail.

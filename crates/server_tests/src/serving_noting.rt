@@ -47,16 +47,16 @@ impl Flag {
 /// What a device, a reader and a writer of one server have seen.
 #[derive(Drop)]
 pub(crate) struct Notes {
-    /// Gates that were opened (1 was written to them) since the last sync.
+    /// Gates of the small server (`SMALL`) that were opened (1 was written to them) since the last sync.
     unsynced: Count,
     /// Gates that were opened and then synced: the records that count.
     pub(crate) logged: Count,
-    /// How often 1 was written to a chain byte: the cuts that began.
+    /// How often 1 was written to a chain byte of the small server: the cuts that began.
     pub(crate) cuts: Count,
     /// How often the root byte was written: by the opening, and at the end of each checkpoint.
-    pub(crate) points: Count,
+    pub(crate) root_writes: Count,
     pub(crate) syncs: Count,
-    /// Writes at or after `IMAGES`: of a server with 64 records in a half, the pieces of images.
+    /// Writes at or after `IMAGES`: pieces of images, if the server has 64 records in a half.
     pub(crate) pieces: Count,
     pub(crate) reads: Count,
     /// Writes and flushes of the output.
@@ -69,12 +69,12 @@ pub(crate) struct Notes {
     pub(crate) flushed: Count,
     /// Whether the writer has failed.
     failed: Flag,
-    /// Whether a line was written before its record was synced.
-    pub(crate) is_early: Flag,
-    /// Whether the input was read while a line that the reader had given had no answer, or one that wasn't flushed.
+    /// Whether a line was written before its record was synced, where each line is a change that gets a record.
+    pub(crate) is_reply_early: Flag,
+    /// Whether the input was read while the answer to a line that the reader had given was missing or not flushed.
     pub(crate) is_late: Flag,
     /// Whether something was read or written after a fault of the writer.
-    pub(crate) is_deaf: Flag,
+    pub(crate) went_on_after_fault: Flag,
 }
 
 /// How many lines end in these bytes.
@@ -88,7 +88,7 @@ impl Notes {
             unsynced: Count::new(),
             logged: Count::new(),
             cuts: Count::new(),
-            points: Count::new(),
+            root_writes: Count::new(),
             syncs: Count::new(),
             pieces: Count::new(),
             reads: Count::new(),
@@ -97,16 +97,16 @@ impl Notes {
             taken: Count::new(),
             flushed: Count::new(),
             failed: Flag::new(),
-            is_early: Flag::new(),
+            is_reply_early: Flag::new(),
             is_late: Flag::new(),
-            is_deaf: Flag::new(),
+            went_on_after_fault: Flag::new(),
         }
     }
 
     /// Notes that something is read or written, which is wrong once the writer has failed.
     fn note_stream(&self) {
         if self.failed.get() {
-            self.is_deaf.set();
+            self.went_on_after_fault.set();
         }
     }
 }
@@ -166,7 +166,7 @@ impl<D: Disk> Disk for Noting<'_, D> {
 
     fn write_at(&mut self, at: u64, bytes: &[u8]) -> Result<(), DiskFault> {
         self.notes.unsynced.add(gates_in(at, bytes));
-        self.notes.points.add(u64::from(at == ROOT));
+        self.notes.root_writes.add(u64::from(at == ROOT));
         self.notes.pieces.add(u64::from(at >= IMAGES));
         self.notes.cuts.add(u64::from(opens_chain(at, bytes)));
         self.device.write_at(at, bytes)
@@ -187,8 +187,7 @@ impl<D: Disk> Disk for Noting<'_, D> {
     ghost bytes = { λ n. D.bytes n.device };
 }
 
-/// A reader that gives its bytes, `size` at a time: these are no pieces of an image. At their end a read fails if `fails`, else it gives
-/// nothing.
+/// A reader that gives its bytes, `size` at a time. At their end a read fails if `fails`, else it gives nothing.
 #[derive(Drop)]
 pub(crate) struct ChunkReader<'a> {
     pub(crate) left: &'a [u8],
@@ -244,7 +243,7 @@ impl Write for Taking<'_> {
         let piece = &buf[..self.size.min(buf.len())];
         self.notes.taken.add(ends_in(piece));
         if self.notes.taken.get() > self.notes.logged.get() {
-            self.notes.is_early.set();
+            self.notes.is_reply_early.set();
         }
         self.output.write(piece)
     }

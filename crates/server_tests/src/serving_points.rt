@@ -64,16 +64,16 @@ fn points_of<T: Threads + Wait + Sync + Abort>(
     let Left { device, end, .. } = left;
     let is_whole = end == End::Whole && notes.taken.get() == count as u64;
     let all_logged = notes.logged.get() == count as u64;
-    holds(rt, is_whole && all_logged && !notes.is_early.get());
+    holds(rt, is_whole && all_logged && !notes.is_reply_early.get());
     let Ok((shown, _)) = inspect(alloc, device) else {
         return Err(Wrong::Unfit);
     };
     // Opening names area 1, and each checkpoint the other one.
     holds(
         rt,
-        shown.records == 0 && shown.area as u64 == notes.points.get() % 2,
+        shown.records == 0 && shown.area as u64 == notes.root_writes.get() % 2,
     );
-    Ok(notes.points.get().saturating_sub(1))
+    Ok(notes.root_writes.get().saturating_sub(1))
 }
 
 #[test]

@@ -139,7 +139,7 @@ fn fails_to_write<T: Threads + Wait + Sync + Abort>(
     let is_all = left.output.len() == want.len();
     holds(
         rt,
-        is_beginning && (is_all || has_failed) && !notes.is_deaf.get(),
+        is_beginning && (is_all || has_failed) && !notes.went_on_after_fault.get(),
     );
     Ok(has_failed)
 }

@@ -1,4 +1,5 @@
-//! Jobs that are kept waiting in a worker until the output is written to, while a checkpoint is due, and while the output fails.
+//! A job is kept waiting in its worker until the output is written to: what is dispatched meanwhile if a checkpoint is due, and what is
+//! still logged if the output fails.
 use crate::serving_noting::{Flag, Notes};
 use crate::serving_running::{
     ALL_AT_ONCE, End, Left, SMALL, Streams, Way, ends, holds, serve_lines, session,
@@ -25,7 +26,7 @@ struct Delaying<'a> {
     notes: &'a Notes,
     gave_up: Flag,
     /// Whether job 2 ran before a cut had begun.
-    is_early: Flag,
+    ran_before_cut: Flag,
     /// Whether message 1 was answered.
     answered: Flag,
 }
@@ -47,7 +48,7 @@ impl Gate for Delaying<'_> {
     fn before(&self, ticket: u64) {
         match ticket {
             1 => self.wait(),
-            2 if self.notes.cuts.get() == 0 => self.is_early.set(),
+            2 if self.notes.cuts.get() == 0 => self.ran_before_cut.set(),
             _ => {}
         }
     }
@@ -61,23 +62,23 @@ impl Gate for Delaying<'_> {
 
 /// What was seen of three writes: message 1 is unrelated to message 0, and message 2 is related to one of them.
 #[derive(Drop)]
-struct Met {
+struct Seen {
     end: End,
-    is_early: bool,
+    ran_before_cut: bool,
     /// Whether message 1 was answered.
     answered: bool,
     device: MemDisk,
 }
 
-/// Serves three lines with two workers where there is a file. Call number `fails_at` of the output fails, unless that is 0. The answer to
-/// message 0 is written while job 1 is kept waiting.
-fn meet<T: Threads + Wait + Sync + Abort>(
+/// Serves three lines with two workers on a device that has volume 0 with file 0. Call number `fails_at` of the output fails, unless that
+/// is 0. The answer to message 0 is written while job 1 is kept waiting.
+fn serve_three<T: Threads + Wait + Sync + Abort>(
     rt: &T,
     alloc: Global,
     every: u64,
     lines: &[u8],
     fails_at: u64,
-) -> Result<Met, Wrong> {
+) -> Result<Seen, Wrong> {
     let way = Way {
         workers: 2,
         slots: 4,
@@ -89,7 +90,7 @@ fn meet<T: Threads + Wait + Sync + Abort>(
     let gate = Delaying {
         notes: &notes,
         gave_up: Flag::new(),
-        is_early: Flag::new(),
+        ran_before_cut: Flag::new(),
         answered: Flag::new(),
     };
     let streams = Streams {
@@ -98,36 +99,36 @@ fn meet<T: Threads + Wait + Sync + Abort>(
     };
     let left = session(rt, alloc, device, way, lines, streams, &gate, &notes);
     let Left { device, end, .. } = left;
-    holds(rt, !gate.gave_up.get() && !notes.is_early.get());
-    Ok(Met {
+    holds(rt, !gate.gave_up.get() && !notes.is_reply_early.get());
+    Ok(Seen {
         end,
-        is_early: gate.is_early.get(),
+        ran_before_cut: gate.ran_before_cut.get(),
         answered: gate.answered.get(),
         device,
     })
 }
 
 #[test]
-fn nothing_goes_out_while_a_point_is_due(rt: HostRuntime) -> Result<(), Fail> {
+fn nothing_is_dispatched_while_a_checkpoint_is_due(rt: HostRuntime) -> Result<(), Fail> {
     let lines = b"write 0 0 0 0 61\nwrite 0 0 0 1 62\nwrite 0 0 0 0 63\n";
     // Once message 0 is answered, message 2 may be dispatched, unless a checkpoint is due: then a cut begins first.
-    for (every, is_early) in [(0, true), (1, false)] {
-        let met = meet(&rt, rt.alloc(), every, lines, 0)?;
-        ends(&rt, met.end, End::Whole);
-        holds(&rt, met.is_early == is_early && met.answered);
+    for (every, ran_before_cut) in [(0, true), (1, false)] {
+        let seen = serve_three(&rt, rt.alloc(), every, lines, 0)?;
+        ends(&rt, seen.end, End::Whole);
+        holds(&rt, seen.ran_before_cut == ran_before_cut && seen.answered);
     }
     Ok(())
 }
 
 #[test]
-fn jobs_that_are_out_are_logged_behind_a_failed_write(rt: HostRuntime) -> Result<(), Fail> {
+fn jobs_in_flight_are_logged_after_the_output_failed(rt: HostRuntime) -> Result<(), Fail> {
     let lines = b"write 0 0 0 0 61\nwrite 0 0 0 1 62\nwrite 0 0 0 1 63\n";
-    let met = meet(&rt, rt.alloc(), 0, lines, 1)?;
-    ends(&rt, met.end, End::Fault(ServeFault::Write));
-    let Ok((shown, _)) = inspect(rt.alloc(), met.device) else {
+    let seen = serve_three(&rt, rt.alloc(), 0, lines, 1)?;
+    ends(&rt, seen.end, End::Fault(ServeFault::Write));
+    let Ok((shown, _)) = inspect(rt.alloc(), seen.device) else {
         return Err(Wrong::Unfit.into());
     };
     // Messages 0 and 1 have records. Message 2, which is related to 1, isn't dispatched any more.
-    holds(&rt, met.answered && shown.records == 2);
+    holds(&rt, seen.answered && shown.records == 2);
     Ok(())
 }

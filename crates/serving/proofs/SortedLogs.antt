@@ -14,7 +14,7 @@ use Rattle.meaning.specs.Order.{by_ticket, messages, put, serial_replies, InOrde
 use Rattle.meaning.specs.Serial.{state_after_all, is_recorded, next_state, reply_to}
 use Rattle.meaning.specs.State.{State}
 use Rattle.meaning.proofs.ByTicket.{all-by_ticket, state_after_all-by_ticket, in_order-by_ticket, permutation-by_ticket, serial_replies-by_ticket}
-use Rattle.meaning.proofs.Unchanged.{unlogged_changes_nothing}
+use Rattle.meaning.proofs.Unchanged.{unrecorded_changes_nothing}
 use Rattle.legal_runs.specs.Events.{recorded}
 use Rattle.legal_runs.specs.Laws.{AreAscending, IsSerialHistory, ticket_replies}
 use Rattle.legal_runs.specs.CoreState.{Entry, Replied, are_related_entries, entries}
@@ -184,7 +184,7 @@ log_leads g x (a ∷ log) h =
     (λ (a : Replied). a.1) (cond b (a ∷ filter (λ a. is_recorded a.1 a.2) log) (filter (λ a. is_recorded a.1 a.2) log)))
     ≡ state_after_all g (next_state g x a.1) (messages (entries log))) [
       | true ↦ λ e. rest
-      | false ↦ λ e. ap (λ y. state_after_all g y (recorded log)) (sym (unlogged_changes_nothing g x a.1 (ap (is_recorded a.1) (sym reply) ∙ e))) ∙ rest
+      | false ↦ λ e. ap (λ y. state_after_all g y (recorded log)) (sym (unrecorded_changes_nothing g x a.1 (ap (is_recorded a.1) (sym reply) ∙ e))) ∙ rest
     ] refl
 
 -- A serial history in the order of its tickets: some of all that arrived, without a gap. They lead to the state to which the

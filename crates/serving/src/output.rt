@@ -37,9 +37,11 @@ pub trait ReplySink<D: Disk> {
         ensures sent { OnOk result (Appends (sent self.old) (sent self.new) lines.now) };
 }
 
+// In clauses `read_end` is why no more is read. `IsSessionStep` says that it stays; at `Ok` so does `output_failed`, and at `Err` the
+// output or the device has failed.
 impl<'c, R: Read, D: Disk, L: ReplySink<D>> Session<'c, R, D, L> {
-    /// Answers the message that was logged first, if there is one: its line in the reorder buffer gets the reply. Returns whether there was
-    /// one. A change that was carried out is counted towards the next checkpoint, by a count that saturates.
+    /// Answers the oldest logged message that isn't answered, if there is one: its line in the reorder buffer gets the reply. Returns
+    /// whether there was one. A change that was carried out is counted towards the next checkpoint, by a count that saturates.
     pub(crate) fn answer_first<W: GatedRuntime>(&mut self, rt: &W) -> bool
         ensures as_before { KeepsReadEndAndOutputFailed self.old self.new }
         ensures dispatch_seat { self.new.dispatch_seat ≡ self.old.dispatch_seat }

@@ -5,7 +5,7 @@ use Rattle.std.proofs.lemmas.List.{length-set}
 use Rattle.std.specs.List.{AllByRecursion}
 use Rattle.messages.specs.declared.Block.{Block}
 use Rattle.stripe.specs.Stripe.{BlockEntry, content_at, ComesBefore, IsAscending}
-use Rattle.stripe.specs.Index.{no_entry, PrecedesEntry, IsSplit, IsAt, IsGap, rewritten}
+use Rattle.stripe.specs.Index.{no_entry, PrecedesBlock, IsSplit, IsAt, IsGap, rewritten}
 
 -- ---- whether two blocks are the same one
 
@@ -24,7 +24,7 @@ no_match f b i j other = elim (match_tells f b i j) [ inl e ↦ absurd (other e.
 is_match : (f b i j : ℕ) → f ≡ i → b ≡ j → ((f == i) && (b == j)) ≡ true
 is_match f b i j file block = elim (match_tells f b i j) [ inl e ↦ e.0 | inr n ↦ absurd (n.1 file block) ]
 
-before_other : (i j f b : ℕ) → PrecedesEntry i j f b → (f ≡ i) → (b ≡ j) → ⊥
+before_other : (i j f b : ℕ) → PrecedesBlock i j f b → (f ≡ i) → (b ≡ j) → ⊥
 before_other i j f b (inl low) file block = omega arith
 before_other i j f b (inr same) file block = omega (arith, same.1)
 
@@ -98,13 +98,13 @@ ascending-inserted (e ∷ es) (suc n) d before behind up = (
 
 -- ---- look-up
 
-content-later : (f b : ℕ) (es : List BlockEntry) → AllByRecursion (λ e. PrecedesEntry f b e.file e.block) es → content_at es f b ≡ None
+content-later : (f b : ℕ) (es : List BlockEntry) → AllByRecursion (λ e. PrecedesBlock f b e.file e.block) es → content_at es f b ≡ None
 content-later f b [] later = refl
 content-later f b (e ∷ es) later =
     rw (no_match f b e.file e.block (λ file block. before_other f b e.file e.block later.0 (sym file) (sym block))) (content-later f b es later.1)
 
-pub content-gap : (es : List BlockEntry) (f b n : ℕ) → AllByRecursion (λ e. PrecedesEntry e.file e.block f b) (take n es)
-    → AllByRecursion (λ e. PrecedesEntry f b e.file e.block) (drop n es) → content_at es f b ≡ None
+pub content-gap : (es : List BlockEntry) (f b n : ℕ) → AllByRecursion (λ e. PrecedesBlock e.file e.block f b) (take n es)
+    → AllByRecursion (λ e. PrecedesBlock f b e.file e.block) (drop n es) → content_at es f b ≡ None
 content-gap es f b zero before behind = content-later f b es behind
 content-gap [] f b (suc n) before behind = refl
 content-gap (e ∷ es) f b (suc n) before behind =
@@ -251,12 +251,12 @@ content-cleared es f b n up at i j =
 
 -- ---- the run of a file: its entries, which are next to each other
 
-IsBefore-start : (i j f : ℕ) → PrecedesEntry i j f 0 → i < f
+IsBefore-start : (i j f : ℕ) → PrecedesBlock i j f 0 → i < f
 IsBefore-start i j f (inl low) = low
 IsBefore-start i j f (inr same) = absurd (omega (arith, same.1))
 
-pub run-order : (es : List BlockEntry) (f first end : ℕ) → first ≤ length es → AllByRecursion (λ e. PrecedesEntry e.file e.block f 0) (take first es)
-    → AllByRecursion (λ e. PrecedesEntry e.file e.block (f + 1) 0 → ⊥) (drop end es) → first ≤ end
+pub run-order : (es : List BlockEntry) (f first end : ℕ) → first ≤ length es → AllByRecursion (λ e. PrecedesBlock e.file e.block f 0) (take first es)
+    → AllByRecursion (λ e. PrecedesBlock e.file e.block (f + 1) 0 → ⊥) (drop end es) → first ≤ end
 run-order es f zero end within before behind = omega arith
 run-order [] f (suc first) end within before behind = absurd (omega arith)
 run-order (e ∷ es) f (suc first) zero within before behind =
@@ -268,14 +268,14 @@ pub content-file : (es : List BlockEntry) (f first end : ℕ) → IsSplit es f 0
     → content_at (take first es ++ drop end es) i j ≡ (if f == i then None else content_at es i j)
 content-file es f first end low high i j =
     let NotThere = λ (e : BlockEntry). (i ≡ e.file) → (j ≡ e.block) → ⊥ in
-    let From = λ (e : BlockEntry). PrecedesEntry e.file e.block f 0 → ⊥ in
-    let Below = λ (e : BlockEntry). PrecedesEntry e.file e.block (f + 1) 0 in
+    let From = λ (e : BlockEntry). PrecedesBlock e.file e.block f 0 → ⊥ in
+    let Below = λ (e : BlockEntry). PrecedesBlock e.file e.block (f + 1) 0 in
     elim (eqb_tells f i) [
       | inl e ↦ rw e.0 (content-cut_none es first end i j
-          (all-weaken (λ (d : BlockEntry). PrecedesEntry d.file d.block f 0) NotThere
+          (all-weaken (λ (d : BlockEntry). PrecedesBlock d.file d.block f 0) NotThere
           (λ d before file block. let under = IsBefore-start d.file d.block f before in absurd (omega (arith, e.1)))
           (take first es) low.before)
-          (all-weaken (λ (d : BlockEntry). PrecedesEntry d.file d.block (f + 1) 0 → ⊥) NotThere
+          (all-weaken (λ (d : BlockEntry). PrecedesBlock d.file d.block (f + 1) 0 → ⊥) NotThere
           (λ d behind file block. behind (inl (omega (arith, e.1))))
           (drop end es) high.behind))
       | inr n ↦ rw n.0 (content-cut_other es first end i j (run-order es f first end low.within low.before high.behind)
@@ -297,7 +297,7 @@ content-missing es f b none i j = elim (match_tells f b i j) [
 
 -- ---- a gap: the position at which a block would be inserted
 
-apart-behind : (i j f b : ℕ) → (PrecedesEntry i j f b → ⊥) → ((i ≡ f) → (j ≡ b) → ⊥) → PrecedesEntry f b i j
+apart-behind : (i j f b : ℕ) → (PrecedesBlock i j f b → ⊥) → ((i ≡ f) → (j ≡ b) → ⊥) → PrecedesBlock f b i j
 apart-behind i j f b unordered other = elim (leb_tells (suc f) i) [
   | inl e ↦ inl e.1
   | inr n ↦ elim (eqb_tells i f) [
@@ -312,23 +312,23 @@ apart-behind i j f b unordered other = elim (leb_tells (suc f) i) [
   ]
 ]
 
-pub before-before : (i j k l f b : ℕ) → PrecedesEntry i j k l → PrecedesEntry k l f b → PrecedesEntry i j f b
+pub before-before : (i j k l f b : ℕ) → PrecedesBlock i j k l → PrecedesBlock k l f b → PrecedesBlock i j f b
 before-before i j k l f b (inl low) (inl high) = inl (omega arith)
 before-before i j k l f b (inl low) (inr same) = inl (let e = same.0 in omega arith)
 before-before i j k l f b (inr same) (inl high) = inl (let e = same.0 in omega arith)
 before-before i j k l f b (inr same) (inr also) = inr (same.0 ∙ also.0, let e = same.1 in let d = also.1 in omega arith)
 
-behind-first : (es : List BlockEntry) (f b : ℕ) → IsAscending es → AllByRecursion (λ e. PrecedesEntry e.file e.block f b → ⊥) es
+behind-first : (es : List BlockEntry) (f b : ℕ) → IsAscending es → AllByRecursion (λ e. PrecedesBlock e.file e.block f b → ⊥) es
     → (0 < length es → ((slice_index_or es 0 no_entry).file ≡ f) → ((slice_index_or es 0 no_entry).block ≡ b) → ⊥)
-    → AllByRecursion (λ e. PrecedesEntry f b e.file e.block) es
+    → AllByRecursion (λ e. PrecedesBlock f b e.file e.block) es
 behind-first [] f b up behind other = tt
 behind-first (e ∷ es) f b up behind other =
     let first = apart-behind e.file e.block f b behind.0 (other (omega arith)) in
-    (first, all-weaken (ComesBefore e) (λ d. PrecedesEntry f b d.file d.block) (λ d later. before-before f b e.file e.block d.file d.block first later) es up.0)
+    (first, all-weaken (ComesBefore e) (λ d. PrecedesBlock f b d.file d.block) (λ d later. before-before f b e.file e.block d.file d.block first later) es up.0)
 
-behind-gap : (es : List BlockEntry) (f b n : ℕ) → IsAscending es → AllByRecursion (λ e. PrecedesEntry e.file e.block f b → ⊥) (drop n es)
+behind-gap : (es : List BlockEntry) (f b n : ℕ) → IsAscending es → AllByRecursion (λ e. PrecedesBlock e.file e.block f b → ⊥) (drop n es)
     → (n < length es → ((slice_index_or es n no_entry).file ≡ f) → ((slice_index_or es n no_entry).block ≡ b) → ⊥)
-    → AllByRecursion (λ e. PrecedesEntry f b e.file e.block) (drop n es)
+    → AllByRecursion (λ e. PrecedesBlock f b e.file e.block) (drop n es)
 behind-gap es f b zero up behind other = behind-first es f b up behind other
 behind-gap [] f b (suc n) up behind other = tt
 behind-gap (e ∷ es) f b (suc n) up behind other = behind-gap es f b n up.1 behind (λ within. other (omega arith))

@@ -4,11 +4,11 @@ use Rattle.std.specs.Prelude.{◌==◌, if◌then◌else◌}
 use Rattle.std.specs.List.{AllByRecursion}
 use Rattle.std.proofs.lemmas.Bool.{cases_lt, eq-eqb, eqb-true, ne_eqb, and_from, and_parts}
 use Rattle.stripe.specs.Stripe.{BlockEntry, content_at, ComesBefore, IsAscending}
-use Rattle.stripe.specs.Index.{PrecedesEntry}
+use Rattle.stripe.specs.Index.{PrecedesBlock}
 
 -- ---- what entries hold
 
-no_block_of : (f b : ℕ) (e : BlockEntry) → PrecedesEntry f b e.file e.block → ((f == e.file) && (b == e.block)) ≡ false
+no_block_of : (f b : ℕ) (e : BlockEntry) → PrecedesBlock f b e.file e.block → ((f == e.file) && (b == e.block)) ≡ false
 no_block_of f b e = ⊎_elim
     (λ (file : f < e.file). ap (λ (t : Bool). t && (b == e.block)) (ne_eqb f e.file (λ same. omega (arith, same, file))))
     (λ (block : (f ≡ e.file) × (b < e.block)). other_half (f == e.file) (b == e.block) (ne_eqb b e.block (λ same. omega (arith, same, block.1))))
@@ -18,7 +18,7 @@ no_block_of f b e = ⊎_elim
     other_half false q off = refl
 
 -- Look-up finds nothing of a block that comes before all entries.
-pub content-before : (f b : ℕ) (es : List BlockEntry) → AllByRecursion (λ e. PrecedesEntry f b e.file e.block) es → content_at es f b ≡ None
+pub content-before : (f b : ℕ) (es : List BlockEntry) → AllByRecursion (λ e. PrecedesBlock f b e.file e.block) es → content_at es f b ≡ None
 content-before f b [] before = refl
 content-before f b (e ∷ es) before = ap (λ (t : Bool). if t then Some e.content else content_at es f b) (no_block_of f b e before.0) ∙ content-before f b es before.1
 
@@ -26,7 +26,7 @@ content-head : (e : BlockEntry) (es : List BlockEntry) → content_at (e ∷ es)
 content-head e es = ap (λ (t : Bool). if t then Some e.content else content_at es e.file e.block)
     (and_from (e.file == e.file) (e.block == e.block) (eq-eqb e.file e.file refl) (eq-eqb e.block e.block refl))
 
-before_both : (f b i j k l : ℕ) → PrecedesEntry f b i j → PrecedesEntry i j k l → PrecedesEntry f b k l
+before_both : (f b i j k l : ℕ) → PrecedesBlock f b i j → PrecedesBlock i j k l → PrecedesBlock f b k l
 before_both f b i j k l first second =
     ⊎_elim
     (λ (file : f < i). inl (⊎_elim (λ (more : i < k). omega (arith, file, more)) (λ (same : (i ≡ k) × (j < l)). omega (arith, file, same.0)) second))
@@ -37,11 +37,11 @@ before_both f b i j k l first second =
     second)
     first
 
-all_behind : (f b : ℕ) (e : BlockEntry) (es : List BlockEntry) → PrecedesEntry f b e.file e.block → AllByRecursion (ComesBefore e) es → AllByRecursion (λ d. PrecedesEntry f b d.file d.block) es
+all_behind : (f b : ℕ) (e : BlockEntry) (es : List BlockEntry) → PrecedesBlock f b e.file e.block → AllByRecursion (ComesBefore e) es → AllByRecursion (λ d. PrecedesBlock f b d.file d.block) es
 all_behind f b e [] before rest = tt
 all_behind f b e (d ∷ es) before rest = (before_both f b e.file e.block d.file d.block before rest.0, all_behind f b e es before rest.1)
 
-which_first : (f b i j : ℕ) → PrecedesEntry f b i j ⊎ (PrecedesEntry i j f b ⊎ ((f ≡ i) × (b ≡ j)))
+which_first : (f b i j : ℕ) → PrecedesBlock f b i j ⊎ (PrecedesBlock i j f b ⊎ ((f ≡ i) × (b ≡ j)))
 which_first f b i j =
     ⊎_elim
     (λ (less : f < i). inl (inl less))
@@ -76,11 +76,11 @@ ascending_same [] (e ∷ es) up rising same = absurd (some_is_not_none e.content
 ascending_same (d ∷ ds) [] up rising same = absurd (some_is_not_none d.content (content_at (d ∷ ds) d.file d.block) (content-head d ds) (same d.file d.block))
 ascending_same (d ∷ ds) (e ∷ es) up rising same =
     ⊎_elim
-    (λ (first : PrecedesEntry d.file d.block e.file e.block).
+    (λ (first : PrecedesBlock d.file d.block e.file e.block).
     absurd (some_is_not_none d.content (content_at (d ∷ ds) d.file d.block) (content-head d ds)
     (same d.file d.block ∙ content-before d.file d.block (e ∷ es) (first, all_behind d.file d.block e es first rising.0))))
     (⊎_elim
-    (λ (second : PrecedesEntry e.file e.block d.file d.block).
+    (λ (second : PrecedesBlock e.file e.block d.file d.block).
     absurd (some_is_not_none e.content (content_at (e ∷ es) e.file e.block) (content-head e es)
     (sym (same e.file e.block) ∙ content-before e.file e.block (d ∷ ds) (second, all_behind e.file e.block d ds second up.0))))
     (λ (both : (d.file ≡ e.file) × (d.block ≡ e.block)).

@@ -11,7 +11,7 @@ use Rattle.arena.proofs.Counts.{length-numbers, count_of-append, count_of-cons_s
 use Rattle.arena.specs.ArenaView.{ArenaView, value_at, holds_value, IsPartitioned, with_value, slot_from, put_answer, put_into, after_put, after_take, empty_arena}
 use Rattle.stripe.specs.declared.blocks.IndexEntry.{IndexEntry}
 use Rattle.stripe.specs.Stripe.{BlockEntry, StripePart, content_at, ComesBefore, IsAscending}
-use Rattle.stripe.specs.Index.{no_block, entry_at, entries_of, slots_of, IsStored, no_entry, PrecedesEntry, IsSplit, IsAt, IsGap, rewritten}
+use Rattle.stripe.specs.Index.{no_block, entry_at, entries_of, slots_of, IsStored, no_entry, PrecedesBlock, IsSplit, IsAt, IsGap, rewritten}
 use Rattle.stripe.proofs.EntryLemmas.{before-before, content-at, ascending-rewritten, ascending-inserted, ascending-removed}
 
 -- ---- the search
@@ -20,7 +20,7 @@ use Rattle.stripe.proofs.EntryLemmas.{before-before, content-at, ascending-rewri
 abbrev pub is_before : IndexEntry → ℕ → ℕ → Bool
 is_before p f b = nat_lt p.file f || ((p.file == f) && nat_lt p.block b)
 
-is_before-true : (p : IndexEntry) (f b : ℕ) → is_before p f b ≡ true → PrecedesEntry p.file p.block f b
+is_before-true : (p : IndexEntry) (f b : ℕ) → is_before p f b ≡ true → PrecedesBlock p.file p.block f b
 is_before-true p f b passes = elim (leb_tells (suc p.file) f) [
   | inl e ↦ inl e.1
   | inr n ↦ elim (eqb_tells p.file f) [
@@ -32,7 +32,7 @@ is_before-true p f b passes = elim (leb_tells (suc p.file) f) [
   ]
 ]
 
-is_before-from : (p : IndexEntry) (f b : ℕ) → PrecedesEntry p.file p.block f b → is_before p f b ≡ true
+is_before-from : (p : IndexEntry) (f b : ℕ) → PrecedesBlock p.file p.block f b → is_before p f b ≡ true
 is_before-from p f b before = elim (leb_tells (suc p.file) f) [
   | inl e ↦ rw e.0 refl
   | inr n ↦ elim (eqb_tells p.file f) [
@@ -44,15 +44,15 @@ is_before-from p f b before = elim (leb_tells (suc p.file) f) [
   ]
 ]
   where
-    no_way : f < suc p.file → b < suc p.block → PrecedesEntry p.file p.block f b → ⊥
+    no_way : f < suc p.file → b < suc p.block → PrecedesBlock p.file p.block f b → ⊥
     no_way high over (inl low) = omega arith
     no_way high over (inr same) = omega (arith, same.1)
 
-    apart : f < suc p.file → p.file ≢ f → PrecedesEntry p.file p.block f b → ⊥
+    apart : f < suc p.file → p.file ≢ f → PrecedesBlock p.file p.block f b → ⊥
     apart high other (inl low) = omega arith
     apart high other (inr same) = other same.0
 
-is_before-not : (p : IndexEntry) (f b : ℕ) → is_before p f b ≡ false → PrecedesEntry p.file p.block f b → ⊥
+is_before-not : (p : IndexEntry) (f b : ℕ) → is_before p f b ≡ false → PrecedesBlock p.file p.block f b → ⊥
 is_before-not p f b fails before = let passes = is_before-from p f b before in let lost : true ≡ false = sym passes ∙ fails in cc
 
 all-index : (values : List (Option Block)) (P : BlockEntry → Type 0) (index : List IndexEntry) (n : ℕ) (d : IndexEntry) → n < length index
@@ -75,7 +75,7 @@ is_before-partitioned values (p ∷ index) f b up (suc i) (suc j) d order within
 
 before-from : (values : List (Option Block)) (index : List IndexEntry) (f b n : ℕ)
     → ((k : ℕ) (d : IndexEntry) → k < n → k < length index → is_before (slice_index_or index k d) f b ≡ true)
-    → AllByRecursion (λ e. PrecedesEntry e.file e.block f b) (take n (entries_of values index))
+    → AllByRecursion (λ e. PrecedesBlock e.file e.block f b) (take n (entries_of values index))
 before-from values index f b zero all = tt
 before-from values [] f b (suc n) all = tt
 before-from values (p ∷ index) f b (suc n) all = (
@@ -85,7 +85,7 @@ before-from values (p ∷ index) f b (suc n) all = (
 
 behind-from : (values : List (Option Block)) (index : List IndexEntry) (f b n : ℕ)
     → ((k : ℕ) (d : IndexEntry) → n ≤ k → k < length index → is_before (slice_index_or index k d) f b ≡ false)
-    → AllByRecursion (λ e. PrecedesEntry e.file e.block f b → ⊥) (drop n (entries_of values index))
+    → AllByRecursion (λ e. PrecedesBlock e.file e.block f b → ⊥) (drop n (entries_of values index))
 behind-from values [] f b zero all = tt
 behind-from values [] f b (suc n) all = tt
 behind-from values (p ∷ index) f b zero all = (

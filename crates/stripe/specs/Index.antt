@@ -9,10 +9,11 @@ use Rattle.affinity.specs.declared.geometry.Geometry.{Geometry}
 use Rattle.stripe.specs.Entries.{entry_bytes, entry_in, fits_stripe}
 use Rattle.stripe.specs.Stripe.{BlockEntry, ComesBefore, IsAscending}
 
--- the content of an empty slot and the entry past the end of a list: defaults that no stripe has
+-- what is looked up where a slot is empty: no real block has no bytes
 abbrev pub no_block : Block
 no_block = record { 0 = [] }
 
+-- what is looked up past the end of a list of entries
 abbrev pub no_entry : BlockEntry
 no_entry = record { file = 0; block = 0; content = no_block }
 
@@ -38,14 +39,14 @@ pub record IsStored (arena : ArenaView Block) (index : List IndexEntry) : Type 0
   pub small : capacity_of arena ≤ 64
 
 -- block j of file i comes before block b of file f
-abbrev pub PrecedesEntry : ℕ → ℕ → ℕ → ℕ → Type 0
-PrecedesEntry i j f b = (i < f) ⊎ ((i ≡ f) × (j < b))
+abbrev pub PrecedesBlock : ℕ → ℕ → ℕ → ℕ → Type 0
+PrecedesBlock i j f b = (i < f) ⊎ ((i ≡ f) × (j < b))
 
 -- n blocks come before block b of file f: the first n
 pub record IsSplit (es : List BlockEntry) (f b n : ℕ) : Type 0 where
   pub within : n ≤ length es
-  pub before : AllByRecursion (λ e. PrecedesEntry e.file e.block f b) (take n es)
-  pub behind : AllByRecursion (λ e. PrecedesEntry e.file e.block f b → ⊥) (drop n es)
+  pub before : AllByRecursion (λ e. PrecedesBlock e.file e.block f b) (take n es)
+  pub behind : AllByRecursion (λ e. PrecedesBlock e.file e.block f b → ⊥) (drop n es)
 
 -- block b of file f is at index n
 pub record IsAt (es : List BlockEntry) (f b n : ℕ) : Type 0 where
@@ -56,14 +57,14 @@ pub record IsAt (es : List BlockEntry) (f b n : ℕ) : Type 0 where
 -- block b of file f is not there, and would be inserted at index n
 pub record IsGap (es : List BlockEntry) (f b n : ℕ) : Type 0 where
   pub within : n ≤ length es
-  pub before : AllByRecursion (λ e. PrecedesEntry e.file e.block f b) (take n es)
-  pub behind : AllByRecursion (λ e. PrecedesEntry f b e.file e.block) (drop n es)
+  pub before : AllByRecursion (λ e. PrecedesBlock e.file e.block f b) (take n es)
+  pub behind : AllByRecursion (λ e. PrecedesBlock f b e.file e.block) (drop n es)
 
 -- the entries with other content at index n
 abbrev pub rewritten : List BlockEntry → ℕ → Block → List BlockEntry
 rewritten es n content = slice_set es n (record (slice_index_or es n no_entry) { content = content })
 
--- The 520 bytes are an entry that can be in stripe s after the entries es.
+-- The 520 bytes are an entry that can be in stripe s after the entries es, in a volume whose files are the bits of `files`.
 pub record IsNextEntry (g : Geometry) (files s : ℕ) (es : List BlockEntry) (row : List ℕ) : Type 0 where
   pub spelled : row ≡ entry_bytes (entry_in row)
   pub fits : fits_stripe g files s (entry_in row).file (entry_in row).block ≡ true

@@ -1,6 +1,6 @@
-//! The kinds of atomic step on the table, each one try: six that move seats and slots (split, take_slot, offer, claim, deliver, collect),
-//! the signal, the stop, and three by which a thread records that it waits. Nothing else changes a word. Between its steps a seat fills
-//! or empties a slot that it has.
+//! The kinds of atomic step on the bench's table, each made once, without a retry: six that move seats and slots (split, take_slot, offer,
+//! claim, deliver, collect), the signal, the stop, and three by which a thread records that it waits. Nothing else changes a word. Between
+//! its steps a seat fills or empties a slot that it has.
 ghost use Rattle.std.specs.Prelude.{◌≡◌, ◌+◌, ◌<◌, [], ◌∷◌, replicate, slice_set, None, Some, IsTrue, IsFalse};
 ghost use Rattle.atomic_table.specs.Table.{rest};
 ghost use Rattle.parcel.specs.Run.{JobView, IsJobRun};
@@ -20,7 +20,7 @@ use parcel::{Done, Job};
 /// The shared part of the table: its words and its slots. A variable of this type is called `words`.
 pub type Words = Shared<JobCell, SeatRole, usize, BenchInvariant>;
 
-/// The rule of the bench's table. `first` is the role of its first seat, from the number of places with which the table is made.
+/// The rule of the bench's table. `first` is the role of its first seat, given the number of places of the table.
 pub struct BenchInvariant;
 
 impl TableRule<JobCell, SeatRole, usize> for BenchInvariant {
@@ -31,8 +31,8 @@ impl TableRule<JobCell, SeatRole, usize> for BenchInvariant {
 
 // What each kind of step makes of its seat's view `me` (its role, and the slots that it has, the one taken last first), and the view of a
 // worker's seat split off the dispatcher's. `Split` and `Play` are traits of `atomic_table`, for a split of a seat and for a step. `then`
-// is a relation of the step, the view before (m), the number found in the word, and the view after (w); `OfPlace` makes it from a relation
-// for the place whose word the step changes.
+// relates the step, the view before it (m), the number that it found in the word, and the view after it (w). `OfPlace r` says r of the
+// place whose word the step changes.
 struct Splitting;
 
 struct TakingSlot;
@@ -163,25 +163,25 @@ pub fn set_stop(words: &Words, seat: &mut Seat)
     words.store::<Bookkeeping>(seat, STOP, 1);
 }
 
-/// Counts the worker among those that sleep, or among those that spin.
-pub fn count_in(words: &Words, seat: &mut Seat, who: usize)
+/// Counts the worker in: `counter` is the word that counts the workers that sleep, or the one that counts those that spin.
+pub fn count_in(words: &Words, seat: &mut Seat, counter: usize)
     requires bench { IsAtBench words.now.table_id seat.old.table_id }
-    requires who { who < FIRST_PLACE }
+    requires counter { counter < FIRST_PLACE }
     ensures { (seat.new.table_id ≡ seat.old.table_id) × (seat.new.me ≡ seat.old.me) }
 {
-    words.fetch_add::<Bookkeeping>(seat, who, 1);
+    words.fetch_add::<Bookkeeping>(seat, counter, 1);
 }
 
-/// Takes the worker off that count again.
-pub fn count_out(words: &Words, seat: &mut Seat, who: usize)
+/// Counts the worker out again, of the same word.
+pub fn count_out(words: &Words, seat: &mut Seat, counter: usize)
     requires bench { IsAtBench words.now.table_id seat.old.table_id }
-    requires who { who < FIRST_PLACE }
+    requires counter { counter < FIRST_PLACE }
     ensures { (seat.new.table_id ≡ seat.old.table_id) × (seat.new.me ≡ seat.old.me) }
 {
-    words.fetch_sub::<Bookkeeping>(seat, who, 1);
+    words.fetch_sub::<Bookkeeping>(seat, counter, 1);
 }
 
-/// Records at which number of the event count of the deliveries the dispatcher goes to sleep.
+/// Records the value of the deliveries' event count at which the dispatcher goes to sleep.
 pub fn announce_sleep(words: &Words, seat: &mut Seat, number: u64)
     requires { IsAtBench words.now.table_id seat.old.table_id }
     ensures { (seat.new.table_id ≡ seat.old.table_id) × (seat.new.me ≡ seat.old.me) }

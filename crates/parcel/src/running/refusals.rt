@@ -18,17 +18,17 @@ struct Seen {
     exists: bool,
     /// Whether its file is there.
     file: bool,
-    /// Whether there is room for the block that it writes.
-    room: bool,
+    /// Whether the stripe has space for the block that it writes.
+    space: bool,
 }
 
 /// All `false`: a base for the fields that the checks of a message don't look at.
-const UNMADE: Seen = Seen {
+const ALL_FALSE: Seen = Seen {
     made: false,
     sealed: false,
     exists: false,
     file: false,
-    room: false,
+    space: false,
 };
 
 impl Seen {
@@ -44,7 +44,7 @@ impl Seen {
             Refusal::Exists => !self.exists,
             Refusal::Sealed => !self.sealed,
             Refusal::File => self.file,
-            Refusal::Space => self.room,
+            Refusal::Space => self.space,
         }
     }
 
@@ -72,7 +72,7 @@ pub(crate) fn make_refusal(message: &Msg, made: bool) -> Option<Refusal>
 {
     let seen = Seen {
         exists: made,
-        ..UNMADE
+        ..ALL_FALSE
     };
     seen.refusal(message)
 }
@@ -82,7 +82,7 @@ pub(crate) fn volume_refusal(message: &Msg, made: bool) -> Option<Refusal>
     requires { checks message.now ≡ Range ∷ Volume ∷ [] }
     ensures { result ≡ guard made Volume None }
 {
-    let seen = Seen { made, ..UNMADE };
+    let seen = Seen { made, ..ALL_FALSE };
     seen.refusal(message)
 }
 
@@ -94,7 +94,7 @@ pub(crate) fn change_refusal(message: &Msg, made: bool, sealed: bool) -> Option<
     let seen = Seen {
         made,
         sealed,
-        ..UNMADE
+        ..ALL_FALSE
     };
     seen.refusal(message)
 }
@@ -116,7 +116,7 @@ pub(crate) fn create_refusal(
         made,
         sealed,
         exists,
-        ..UNMADE
+        ..ALL_FALSE
     };
     seen.refusal(message)
 }
@@ -138,31 +138,31 @@ pub(crate) fn file_change_refusal(
         made,
         sealed,
         file,
-        ..UNMADE
+        ..ALL_FALSE
     };
     seen.refusal(message)
 }
 
-/// Why a block can't be written, if it can't. `room`: there is room for it.
+/// Why a block can't be written, if it can't. `space`: the stripe has space for it.
 pub(crate) fn write_refusal(
     message: &Msg,
     made: bool,
     sealed: bool,
     files: u64,
     f: u16,
-    room: bool,
+    space: bool,
 ) -> Option<Refusal>
     requires file { f < 64 }
     requires checks { checks message.now ≡ Range ∷ Volume ∷ Sealed ∷ File ∷ Space ∷ [] }
-    ensures { result ≡ guard_open made sealed (guard (has_file files f) File (guard room Space None)) }
+    ensures { result ≡ guard_open made sealed (guard (has_file files f) File (guard space Space None)) }
 {
     let file = has_file(files, f);
     let seen = Seen {
         made,
         sealed,
         file,
-        room,
-        ..UNMADE
+        space,
+        ..ALL_FALSE
     };
     seen.refusal(message)
 }
@@ -177,7 +177,7 @@ pub(crate) fn read_refusal(message: &Msg, made: bool, files: u64, f: u16) -> Opt
     let seen = Seen {
         made,
         file,
-        ..UNMADE
+        ..ALL_FALSE
     };
     seen.refusal(message)
 }

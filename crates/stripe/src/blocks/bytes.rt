@@ -4,7 +4,7 @@ ghost use Rattle.std.specs.Prelude.{◌≡◌, ◌↔◌, ◌*◌, ◌<◌, ◌=
 ghost use Rattle.std.specs.List.{list_all, AllByRecursion};
 ghost use Rattle.messages.specs.Replies.{has_file};
 ghost use Rattle.stripe.specs.Entries.{entry_bytes, entry_in, entries_in, stripe_bytes, fits_stripe, IsStripePiece};
-ghost use Rattle.stripe.specs.Index.{no_entry, PrecedesEntry, IsNextEntry};
+ghost use Rattle.stripe.specs.Index.{no_entry, PrecedesBlock, IsNextEntry};
 
 use super::StripeParcel;
 use affinity::{Geometry, group_of};
@@ -139,7 +139,7 @@ impl StripeParcel {
 
     /// Whether all blocks that are there come before this one.
     fn ends_before(&self, file: u16, block: u16) -> bool
-        ensures { IsTrue result ↔ (AllByRecursion (λ e. PrecedesEntry e.file e.block file block) self.now.entries) }
+        ensures { IsTrue result ↔ (AllByRecursion (λ e. PrecedesBlock e.file e.block file block) self.now.entries) }
     {
         self.split(usize::from(file), usize::from(block)) == self.len()
     }

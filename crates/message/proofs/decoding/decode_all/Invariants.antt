@@ -1,4 +1,4 @@
--- While the greatest value is a digit's, the groups so far are decoded; once it is not, one of the bytes is no digit.
+-- While each value so far is a digit's, the groups so far are decoded; once it is not, one of the bytes is no digit.
 use Rattle.std.proofs.Common.{◌≡◌, ◌*◌, ◌<◌, ◌≤◌, length}
 use Rattle.message.specs.Digits.{AreDecoded, HasNonDigit}
 use Rattle.message.proofs.decoding.decode_all.Given as goal

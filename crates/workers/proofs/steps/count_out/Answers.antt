@@ -4,5 +4,5 @@ use Rattle.workers.proofs.Keeps.{bookkeeping_keeps}
 use Rattle.workers.proofs.steps.count_out.Goals as goal
 
 pub fetch_sub-requires : goal.fetch_sub-requires
-fetch_sub-requires c = let w = c.requires.bench.1.0 in let low = c.requires.who in
-    (search rules, omega arith, bookkeeping_keeps _ _ c.args.seat.now.me c.args.who (λ n. (n + (2 ^ 64 - 1)) % 2 ^ 64) low)
+fetch_sub-requires c = let w = c.requires.bench.1.0 in let low = c.requires.counter in
+    (search rules, omega arith, bookkeeping_keeps _ _ c.args.seat.now.me c.args.counter (λ n. (n + (2 ^ 64 - 1)) % 2 ^ 64) low)

@@ -1,4 +1,5 @@
--- A refusal touches nothing; the flip keeps the committed state at each moment, and ends the online checkpoint.
+-- A call that is refused before it reaches the journal touches nothing. The flip ends the online checkpoint, and keeps the committed
+-- state at each moment.
 use Rattle.std.proofs.Common.{◌≡◌, ◌≤◌, ◌+◌, [], refl, sym, subst, ◌∙◌}
 use Rattle.std.specs.Prelude.{if◌then◌else◌}
 use Rattle.disk.specs.Moments.{CrashImagesAre, moment_number}

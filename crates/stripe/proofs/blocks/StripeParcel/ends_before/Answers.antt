@@ -3,7 +3,7 @@ use Rattle.std.proofs.Common.{◌≡◌, ◌∙◌, subst, sym, arith, length}
 use Rattle.std.specs.List.{AllByRecursion}
 use Rattle.std.proofs.lemmas.Bool.{eqb-true, eq-eqb}
 use Rattle.std.proofs.lemmas.List.{take_all}
-use Rattle.stripe.specs.Index.{PrecedesEntry, IsSplit}
+use Rattle.stripe.specs.Index.{PrecedesBlock, IsSplit}
 use Rattle.stripe.proofs.EntryReading.{all_split}
 use Rattle.stripe.proofs.blocks.StripeParcel.ends_before.Goals as goal
 
@@ -12,8 +12,8 @@ returns c =
     let parts : IsSplit c.args.self.now.entries c.args.file c.args.block c.split.result = rw (← c.from.ensures, ← c.from-2.ensures) c.split.ensures.parts in (
       λ is.
           let last : c.split.result ≡ length c.args.self.now.entries = eqb-true c.split.result c.len.result is ∙ c.len.ensures.count in
-          subst (AllByRecursion (λ e. PrecedesEntry e.file e.block c.args.file c.args.block)) (take_all c.split.result c.args.self.now.entries (omega (arith, last))) parts.before,
+          subst (AllByRecursion (λ e. PrecedesBlock e.file e.block c.args.file c.args.block)) (take_all c.split.result c.args.self.now.entries (omega (arith, last))) parts.before,
       λ all.
           eq-eqb c.split.result c.len.result
-          (all_split (λ e. PrecedesEntry e.file e.block c.args.file c.args.block) c.args.self.now.entries c.split.result parts.within all parts.behind ∙ sym c.len.ensures.count),
+          (all_split (λ e. PrecedesBlock e.file e.block c.args.file c.args.block) c.args.self.now.entries c.split.result parts.within all parts.behind ∙ sym c.len.ensures.count),
     )

@@ -4,7 +4,7 @@ use Rattle.std.specs.List.{AllByRecursion, insert}
 use Rattle.std.proofs.lemmas.List.{get_or-drop, length-drop, take_all}
 use Rattle.std.proofs.lemmas.List.Edits.{insert_end}
 use Rattle.stripe.specs.Entries.{entry_in, fits_stripe}
-use Rattle.stripe.specs.Index.{PrecedesEntry}
+use Rattle.stripe.specs.Index.{PrecedesBlock}
 use Rattle.stripe.specs.Stripe.{BlockEntry}
 use Rattle.stripe.proofs.EntryReading.{row_spelled}
 use Rattle.stripe.proofs.blocks.StripeParcel.push.Goals as goal
@@ -21,8 +21,8 @@ returns-clause-pushed c is =
       record {
         spelled = row_spelled c.args.row.now c.requires.row c.requires.marked blank (c.type_inv.row 2).fits (c.type_inv.row 3).fits;
         fits = (λ i. fits_stripe c.args.g.now c.args.files c.args.s (sym file_is i) (sym block_is i)) ∙ sym c.fits_stripe.ensures ∙ stands;
-        behind = subst (λ (f : ℕ). AllByRecursion (λ e. PrecedesEntry e.file e.block f (entry_in c.args.row.now).block) c.args.self.now.entries) file_is
-            (subst (λ (b : ℕ). AllByRecursion (λ e. PrecedesEntry e.file e.block c.from-file.result b) c.args.self.now.entries) block_is before);
+        behind = subst (λ (f : ℕ). AllByRecursion (λ e. PrecedesBlock e.file e.block f (entry_in c.args.row.now).block) c.args.self.now.entries) file_is
+            (subst (λ (b : ℕ). AllByRecursion (λ e. PrecedesBlock e.file e.block c.from-file.result b) c.args.self.now.entries) block_is before);
       },
       c.insert.ensures
           ∙ (λ i. record {
