@@ -59,7 +59,7 @@ def of_run(figures):
     return [text]
 
 
-HEAD = ("lines, slots", "1 worker", "2", "4", "pipe", "batch", "twice", "cpu us", "twice", "syncs/k", "B/change")
+HEAD = ("lines, slots", "1 worker", "2", "4", "pipe", "batch", "twice", "cpu us", "twice us", "syncs/k", "B/change")
 
 
 def table_row(figures, geometry, mix, slots):
@@ -137,14 +137,14 @@ def of_missed(figures):
 
 
 def of_speed(figures):
-    """The few figures of the front page: writes with 64 and 256 lines open."""
+    """The few figures of the front page: writes with 64 and 256 slots."""
     rows = [served(geometry, "write", slots) for geometry in GEOMETRIES for slots in (64, 256)]
     speeds = [figures.median(row, program, "lines/s") for row in rows for program in OF_WAFFD]
     syncs = [figures.median(row, program, "syncs") for row in rows for program in OF_WAFFD]
     batch, twice = (span([round(figures.ratio(row, other, MAIN, "lines/s"), 1) for row in rows]) for other in ("batch", "twice"))
     sync = figures.median({"part": "disk"}, "disk", "us")
     quick = QUICK * figures.told["is_quick"]
-    return [f"{quick}With 64 or 256 lines outstanding, {span([round(speed, -3) for speed in speeds])} writes of full blocks a second, and "
+    return [f"{quick}With 64 or 256 slots, {span([round(speed, -3) for speed in speeds])} writes of full blocks a second, and "
             f"{span(syncs)} syncs for 1,000 of them; writing and syncing a record takes {number(sync)} microseconds. An ordinary unproved Rust server is {batch} "
             f"times as fast; {twice} times, if it locks and syncs as `waffd` does."]
 

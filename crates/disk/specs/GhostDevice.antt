@@ -23,7 +23,7 @@ medium_after (OpenedUnsynced size) bytes m = fresh_unsynced (replicate size 0)
 -- the bytes of a list that has the last one first, in order
 abbrev pub bytes_of : ByteList → List ℕ
 bytes_of Empty = []
-bytes_of (More' byte shape before) = bytes_of before ++ byte ∷ []
+bytes_of (More' byte _ before) = bytes_of before ++ byte ∷ []
 
 -- a ghost device as contracts see it
 pub record GhostDeviceView : Type 0 where
@@ -32,4 +32,4 @@ pub record GhostDeviceView : Type 0 where
 -- a device after these calls
 abbrev pub medium_after_all : CallList → Medium
 medium_after_all Nothing = fresh_synced []
-medium_after_all (After' call bytes shape before) = medium_after call (bytes_of bytes.value) (medium_after_all before)
+medium_after_all (After' call bytes _ before) = medium_after call (bytes_of bytes.value) (medium_after_all before)

@@ -20,8 +20,8 @@ pub struct HostFile<T: FileExt + OpenFile + Drop> {
 }
 
 impl<T: FileExt + OpenFile + Drop> HostFile<T> {
-    /// A file of this length, which is synced. Contracts see zeros for its bytes, whatever it holds. That promises nothing wrong: what they
-    /// say of the bytes that a read gives has the condition `FileKeeps`, which is false.
+    /// A file of this length, which is synced. Contracts see zeros for its bytes, whatever it holds. That does no harm: each clause on the
+    /// bytes that a read gives has the condition `FileKeeps`, which is false.
     pub fn opened_synced(file: T, size: u64) -> HostFile<T>
         ensures { result.ghost_device.medium ≡ fresh_synced (replicate size 0) }
     {

@@ -136,7 +136,7 @@ impl Halves {
         requires changes { AreChangesInRange self.old.geometry messages.now }
         requires room { self.old.used + length messages.now ≤ self.old.geometry.half }
         requires long_enough { IsLongEnough self.old (D.medium disk.old) }
-        // The current half's front has `used` records, all gates behind it are 0, and nothing in it is unsynced.
+        // The current half's front has `used` records, all gates behind it are 0, and nothing in this half is unsynced.
         requires ready { D.keeps → IsReadyFor self.old (D.medium disk.old) }
 
         // A crash at any moment of the call leaves the current half's front as it was, with the first m messages behind it, for some m.

@@ -69,9 +69,9 @@ impl Tree {
         Some((standing, parcels))
     }
 
-    /// Puts parcels back at an affinity of the tree's geometry. Parcels of the affinity's kind have to be whole (nothing below them is out)
-    /// and to fit this geometry. They are handed back as `Err`, and nothing changes, where the affinity's own node is in, where the node
-    /// above it is out too, or where they are of another kind.
+    /// Puts parcels back at an affinity of the tree's geometry. If they are of the affinity's kind, they have to be whole (nothing below
+    /// them is out) and to fit this geometry. Parcels of another kind are handed back as `Err`, and nothing changes; so are all where the
+    /// affinity's own node is in, or where the node above it is out too.
     pub fn restore(&mut self, a: Affinity, p: Parcels) -> Result<(), Parcels>
         requires affinity { IsAffinity self.old.geometry a }
         requires fits { (q : Path) → IsAffinityOf self.old.geometry q a → IsKindOf q p → Fits self.old.geometry q p }

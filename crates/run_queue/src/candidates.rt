@@ -39,8 +39,8 @@ fn better(log_has_room: bool, ready_table: &ReadyTable, best: usize, number: usi
     }
 }
 
-/// The affinity number at which the earliest of these ready messages waits: the one at number `best`, and those in a chunk (16 numbers in
-/// a row) for which the log has room.
+/// The affinity number at which the earliest of some ready messages waits. Candidates are the one at number `best`, and those in a chunk
+/// (16 numbers in a row) for which the log has room.
 pub(crate) fn best_in(
     log_has_room: bool,
     ready_table: &ReadyTable,

@@ -49,8 +49,8 @@ impl<D: Disk> Core<D> {
     }
 
     /// Takes in the message that a line (without its newline) encodes, and gives it the next ticket, as `arrive` does. `None` if the line
-    /// is no message; then nothing changes. A message is built in place: its block is copied once, into its slot. A `setlabel` is also
-    /// copied from what a parser returns.
+    /// is no message; then nothing changes. A message is built in place: its block is copied once, into its slot. A `setlabel` is
+    /// copied once more, out of the result of `parse_line`.
     pub fn arrive_line(&mut self, line: &[u8]) -> Result<Option<u64>, ArriveRefusal>
         ensures arrives { ArrivesByLine self.old self.new (message_of line.now) result }
         ensures geometry { self.new.geometry ≡ self.old.geometry }

@@ -26,8 +26,7 @@ DispatchesTo g k old lent new new_lent dispatched.NoneEligible = IsNoGrant g old
 DispatchesTo g k old lent new new_lent dispatched.NoRoom = IsNoGrant g old new outcomes.NoRoom × (new_lent ≡ lent)
 DispatchesTo g k old lent new new_lent dispatched.Failed = (old.failed ≡ true) × (new ≡ old) × (new_lent ≡ lent)
 
--- Why no further message of this core state is dispatched: no place is free (`Job`: a message took the last one), or no message may be
--- dispatched.
+-- Why no further message of this core state is dispatched: no place is free (`Job`), or no message may be dispatched.
 abbrev pub IsEndOfDispatch : Geometry → CoreState → List (Option JobView) → Dispatched → Type 0
 IsEndOfDispatch g w lent dispatched.Job = position is_none lent ≡ None
 IsEndOfDispatch g w lent dispatched.NoneEligible = IsNoGrant g w w outcomes.NoneEligible

@@ -38,7 +38,8 @@ impl CheckpointTrigger {
     }
 
     /// Takes the result of the core's `cut`. `Ok`: a checkpoint has begun, and the count starts anew. `Held`: none can begin while a
-    /// message is in progress, and the loop goes on. Any other error halts: the device has failed, where no checkpoint was in progress.
+    /// message is in progress, and the loop goes on. Any other error halts: as no checkpoint was in progress, the device has
+    /// failed.
     fn note_cut(&mut self, cut: Result<(), PointRefusal>) -> Result<(), Halted>
         ensures { BeginsOrWaits cut result }
     {

@@ -21,9 +21,9 @@ use workers::{Bench, DispatchSeat};
 /// their gates.
 const BATCH: usize = 64;
 
-/// After so many polls of all places in a row without a result the batch is logged as it is. So many polls take about ten times as long as
-/// a thread takes to wake up. The count begins anew with each result, so a reply may wait for up to that many polls for each later result
-/// of its batch.
+/// After this many polls in succession without a result, each of all places, the batch is logged as it is. They take about ten times as
+/// long as a thread takes to wake up. Each result restarts the count, so a reply may wait for as many polls once more for each later
+/// result of its batch.
 const MAX_POLLS: usize = 16384;
 
 /// The thread yields the processor once in this many polls.
@@ -81,7 +81,7 @@ impl Batch {
 /// What came of dispatching a message.
 #[derive(Clone, Copy)]
 enum Dispatched {
-    /// The message is dispatched, and its job is offered to the workers.
+    /// The message is dispatched, and its job is offered to the workers. As the end of dispatching: no place is free.
     Job,
     /// No message is eligible, and none lacks only room in the log.
     NoneEligible,
@@ -276,7 +276,7 @@ impl<'c, R: Read, D: Disk, L: ReplySink<D>> Session<'c, R, D, L> {
 
     /// Called where nothing was read or collected, or the session has caught up. It sends the answers that wait. If a buffered line may
     /// then be read, it returns. Else, if a job is in flight, it waits for a delivery; if none is, it calls `advance_or_begin_checkpoint`.
-    fn flush_or_wait<W: GatedRuntime>(
+    fn flush_then_wait<W: GatedRuntime>(
         &mut self,
         rt: &W,
         lacks_room: bool,
@@ -319,6 +319,6 @@ impl<'c, R: Read, D: Disk, L: ReplySink<D>> Session<'c, R, D, L> {
         if (matches!(read, Activity::Busy) || batch.has_results()) && !self.has_caught_up() {
             return Ok(Activity::Busy);
         }
-        self.flush_or_wait(rt, batch.lacks_room)
+        self.flush_then_wait(rt, batch.lacks_room)
     }
 }

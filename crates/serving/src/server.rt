@@ -20,7 +20,7 @@ use std::sync::Wait;
 use std::thread::Threads;
 use workers::{Bench, DispatchSeat, Gate, WorkSeat, know_returned};
 
-/// The size of the input buffer in bytes: some 240 lines with a full block. The buffer is filled again only when it has no whole line and
+/// The size of the input buffer in bytes: some 250 lines with a full block. The buffer is filled again only when it has no whole line and
 /// no line is outstanding. So its size also limits how many lines are outstanding, however many slots there are.
 const READ_SIZE: usize = 262_144;
 
@@ -88,7 +88,8 @@ fn take_memory(alloc: Global, slots: usize, workers: usize) -> Result<Preallocat
     })
 }
 
-// What a server hands back: its core, and its fault, if it ended before the end of its input or (`Err`) a thread could not be started.
+// What a server hands back: its core, with a fault if it ended before the end of its input, or if a thread could not be started (the outer
+// `Err` of `ended`).
 fn hand_back<D: Disk>(
     core: Core<D>,
     ended: Result<Result<(), ServeFault>, AllocError>,

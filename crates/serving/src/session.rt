@@ -35,7 +35,7 @@ pub(crate) enum Activity {
     Idle,
 }
 
-/// A session ends before it has answered what it has read: the device or the output has failed, as the session records.
+/// The session must end before it has answered all that it has read: the device or the output has failed, as its fields show.
 #[derive(Clone, Copy)]
 pub(crate) struct Halted;
 

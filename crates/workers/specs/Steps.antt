@@ -21,7 +21,7 @@ abbrev pub job_on : List (ℕ × Option CellContent) → Option JobView
 job_on ((k, Some (Offered job)) ∷ _) = Some job
 job_on _ = None
 
--- While the bench is opened: the dispatcher's seat takes the slot of place k, which is empty. The number in `Dispatcher` is how
+-- While the bench is being opened: the dispatcher's seat takes the slot of place k, which is empty. The number in `Dispatcher` is how
 -- many places' slots are still to be taken, those below k: 0 once the bench is open.
 abbrev pub TakesSlot : ℕ → SeatState → SeatState → Type 0
 TakesSlot k m w = w ≡ (Dispatcher k (lent_of m.0), (k, None) ∷ m.1)

@@ -11,8 +11,8 @@ use std::marker::Model;
 
 /// What a seat knows, as clauses see it. No value of it is made at run time.
 pub enum SeatRole {
-    /// How many places have a slot that the seat has not taken from the table yet (none but while the bench is opened), and the job that is
-    /// lent at each place.
+    /// How many places have a slot that the seat has not taken from the table yet (none but while the bench is being opened), and the job
+    /// that is lent at each place.
     Dispatcher(u64, LinkedList<Option<Job>>),
     /// A worker with no job.
     Idle,
