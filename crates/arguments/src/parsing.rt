@@ -12,7 +12,7 @@ use clap::{Arg, ArgMatches, Command};
 use std::alloc::{AllocError, Global};
 
 /// What `--version` prints behind the program's name: its version, and the kit and the logic with which it is proved. The letter behind the
-/// kit's number, its revision, is left out: two are in use, with one logic.
+/// kit's number, its revision, is left out: revisions differ, and their logic is the same.
 const VERSION: &str = "0.1.0 (proved with rattle-kit-13, logic dac8208d650f15bf)";
 
 // What help prints of the commands.
@@ -158,7 +158,7 @@ impl From<AllocError> for ArgumentRefusal {
 }
 
 /// What an error of `clap` means: help or the version, a mistake in the arguments, or want of memory.
-fn answered<'a>(error: clap::Error) -> Result<Request<'a>, ArgumentRefusal>
+fn outcome_of<'a>(error: clap::Error) -> Result<Request<'a>, ArgumentRefusal>
     ensures { result ≡ answer_of error }
 {
     if error.kind() == ErrorKind::OutOfMemory {
@@ -329,7 +329,7 @@ fn requested<'a>(matches: &ArgMatches<'a>) -> Result<Request<'a>, ArgumentRefusa
     }
 }
 
-/// What the arguments ask for, the program's own name first.
+/// What the arguments ask for. `words` begins with the program's own name.
 pub fn read_arguments<'a>(
     alloc: Global,
     words: &'a [String],
@@ -339,6 +339,6 @@ pub fn read_arguments<'a>(
 {
     match commands(alloc)?.try_get_matches_from(words) {
         Ok(matches) => requested(&matches),
-        Err(error) => answered(error),
+        Err(error) => outcome_of(error),
     }
 }

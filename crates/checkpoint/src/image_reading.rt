@@ -17,9 +17,9 @@ use disk::Disk;
 use image::layout::{piece_count, piece_size};
 use parcel::{Tree, read_piece, read_piece_1};
 
-/// Decodes these bytes into the tree, as piece `n` of an image of this version. `BadPiece` exactly where piece `n` of the state that
-/// results, encoded again, has other bytes. Part 0 of a volume is the volume's own piece, the others are its stripes': clause `empty` asks
-/// that a volume has no block before its own piece is decoded.
+/// Decodes these bytes into the tree, as piece `n` of an image of this version. `BadPiece` exactly where encoding piece `n` of the
+/// resulting state gives other bytes. Part 0 of a volume is the volume's own piece, the others are its stripes', which come after it: so
+/// clause `empty` asks that a volume has no block when its own piece is decoded.
 fn take_piece(tree: &mut Tree, version: u8, n: usize, piece: &[u8]) -> Result<(), OpenFault>
     requires whole { IsWholeTree tree.old }
     requires known { is_version version ≡ true }

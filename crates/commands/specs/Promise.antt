@@ -17,23 +17,23 @@ known_unless_write_failed _ before = before
 -- A server ran from the empty state on one input and ended, and its device crashed. A second server ran on what the crash left, with
 -- another input.
 pub record IsRestart (g : Geometry) (first second : Result (Unit {0}) Fault)
-    (input before written next_input next_before next_written : Option (List ℕ)) : Type 0 where
+    (input before after next_input next_before next_after : Option (List ℕ)) : Type 0 where
   -- the state that the crash left
   pub now : State
-  pub recovers : WritesOutput input (known_unless_write_failed first before) written (RecoversTo g empty now)
+  pub recovers : WritesOutput input (known_unless_write_failed first before) after (RecoversTo g empty now)
   -- if the first server ended without a fault, all of its input was answered
-  pub all_answered : OnOk first (WritesOutput input before written (λ bytes out. out ≡ serial_output g empty bytes))
-  pub next : OnOk second (WritesOutput next_input next_before next_written (λ bytes out. out ≡ serial_output g now bytes))
+  pub all_answered : OnOk first (WritesOutput input before after (λ bytes out. out ≡ serial_output g empty bytes))
+  pub next : OnOk second (WritesOutput next_input next_before next_after (λ bytes out. out ≡ serial_output g now bytes))
 
 -- ---- the same of the bytes of a device
 
--- The old device recovered to the state `start`. These bytes recover to a state that a crash may leave behind a server that began with
--- `start` and had this input and output. The device keeps its bytes, so `keeps` of `RecoveredTo` is `Unit {0}`.
-pub record HoldsRecovered (old : Medium) (input before written : Option (List ℕ)) (bytes : List ℕ) : Type 0 where
+-- The old device recovered to the state `start`. These bytes recover to a state to which a crash may bring the device of a server that
+-- began with `start` and had this input and output. The condition `keeps` of `RecoveredTo` is true here (`Unit {0}`).
+pub record HoldsRecovered (old : Medium) (input before after : Option (List ℕ)) (bytes : List ℕ) : Type 0 where
   pub geometry : Geometry
   pub start : State
   pub recovered_before : RecoveredTo (Unit {0}) old geometry start
-  pub recovered : BytesRecover geometry start input before written bytes
+  pub recovered : BytesRecover geometry start input before after bytes
 
 -- P, unless the device could not be opened
 abbrev pub IfOpened : Result (Unit {0}) Fault → Type 0 → Type 0
@@ -43,5 +43,5 @@ IfOpened _ P = P
 -- Whatever a crash leaves when a service has come to this end recovers as `HoldsRecovered` says, unless the device could not be opened.
 abbrev pub LeavesRecovered : Type 0 → Medium → Medium → Result (Unit {0}) Fault → Option (List ℕ) → Option (List ℕ)
     → Option (List ℕ) → Type 0
-LeavesRecovered keeps old new end input before written = IfOpened end
-    (keeps → (c : List ℕ) → IsCrashImage new c → HoldsRecovered old input (known_unless_write_failed end before) written c)
+LeavesRecovered keeps old new end input before after = IfOpened end
+    (keeps → (c : List ℕ) → IsCrashImage new c → HoldsRecovered old input (known_unless_write_failed end before) after c)

@@ -10,8 +10,7 @@ use std::io::{ErrorKind, Write};
 /// The exit status where the arguments are wrong.
 pub const WRONG_ARGUMENTS: u8 = 2;
 
-/// What is printed of arguments that are not UTF-8: the text of `clap`, which prints it itself in ordinary Rust. Here `clap` is given UTF-8
-/// alone.
+/// What is printed where an argument is not UTF-8. In ordinary Rust `clap` prints this text; here it never sees such an argument.
 const NOT_TEXT: &str = "error: invalid UTF-8 was detected in one or more arguments
 
 For more information, try '--help'.

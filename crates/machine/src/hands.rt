@@ -25,7 +25,7 @@ fn is_vacant(hand: &HandContent) -> bool
     }
 }
 
-/// Runs the job that the hand has, and returns whether it has one.
+/// Runs the job that the hand has, and returns whether it had one.
 pub(crate) fn run_in(hand: &mut HandContent) -> bool
     ensures { IsRunIn hand.old hand.new result }
 {

@@ -1,6 +1,6 @@
-//! Calls that take memory. `tests/run calls` runs each test once for each allocation, which it refuses. If that is one of the call that the
-//! test is about, the call fails, is made again and succeeds. If it is another one, the test ends with an error, as what it works on can't
-//! be made. `MADE_AGAIN` in `tests/run` has the least number of allocations of each call, counted by hand: who adds one raises it.
+//! Calls that take memory. `tests/run calls` runs each test once for each allocation, which it refuses. If the call under test made it, the
+//! call fails, is made again and succeeds; if the test's setup made it, the test ends with an error. `MADE_AGAIN` in `tests/run` has the
+//! least number of allocations of each call, counted by hand: raise it where you add one.
 use crate::making::Row::{Arrives, Does, Serves};
 use crate::making::{Row, SMALL, goes_so, holds};
 use checkpoint::OpenFault;
@@ -13,8 +13,8 @@ use std::alloc::Global;
 use std::process::Abort;
 use std::test::Fail;
 
-/// The bytes of a formatted device that differ where a `makevol` is in its log: at 192 the first gate of half 0 is open, at 196 its record
-/// has the kind.
+/// The bytes of a formatted device that differ where a `makevol` is in its log: at 192 the first gate of half 0 is open, at 196 the
+/// kind of its record is 1.
 const A_VOLUME: [(usize, u8); 2] = [(192, 1), (196, 1)];
 
 /// What a machine answers on that device from its first step on.
@@ -25,8 +25,8 @@ const ITS_VOLUME: [Row; 4] = [
     Arrives("list 0 0", Outcome::Ticket(2)),
 ];
 
-/// Opens a device. Where memory is refused, the device is unchanged; if it was called `most_calls` times or less by then, a second try
-/// opens it.
+/// Opens a device. Where memory is refused, the device is unchanged; if the device was called `most_calls` times or less by then, a second
+/// try opens it.
 fn opened_again(
     rt: &impl Abort,
     alloc: Global,

@@ -48,7 +48,7 @@ pub(crate) fn split_keyword(line: &[u8]) -> Option<(&[u8], &[u8])>
     None
 }
 
-/// The kind that a word names. A word is compared with the keywords of its own length alone, each time at once, as integers are.
+/// The kind that a word names. A word is compared only with keywords of its own length, each by one comparison, as of integers.
 pub(crate) fn kind_named(word: &[u8]) -> Option<Kind>
     ensures { result ≡ kind_named word.now }
 {

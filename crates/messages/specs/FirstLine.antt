@@ -43,7 +43,7 @@ pub record LosesFront (bs : List ℕ) (left : Option (List ℕ)) : Type 0 where
 
 -- ---- the end of the input
 
--- Where the bytes are known, their first line is whole: it ends with a newline, or `drained` holds. A reader is drained if its input has
--- ended and it has given all of it; so the line ends with the input.
+-- Where the bytes are known, their first line is whole: it ends with a newline, or the reader is drained after it (the input has ended and
+-- every byte was given), so the line ends with the input.
 abbrev pub HasWholeFirstLine : Option (List ℕ) → Bool → Type 0
 HasWholeFirstLine old drained = IfSome old (λ bs. Contains bs 10 ⊎ (drained ≡ true))

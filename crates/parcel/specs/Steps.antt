@@ -22,8 +22,8 @@ guard_open made sealed later = guard made Volume (guard (not sealed) Sealed late
 
 -- In a state with one volume and nothing else, the message's serial step changes that volume's facts from `old` to `new`, whichever volume
 -- it is.
-abbrev pub IsStepWithin : Geometry → (ℕ → ℕ → Msg) → VolumeFacts → Reply → VolumeFacts → Type 0
-IsStepWithin g m old given new = (a v : ℕ) → is_in_range g (m a v) ≡ true
+abbrev pub IsVolumeStep : Geometry → (ℕ → ℕ → Msg) → VolumeFacts → Reply → VolumeFacts → Type 0
+IsVolumeStep g m old given new = (a v : ℕ) → is_in_range g (m a v) ≡ true
     → IsSerialStep g (one_volume a v old) (m a v) given (one_volume a v new)
 
 -- the state in which aggregate a alone has anything

@@ -1,4 +1,4 @@
--- Statement for engineers: One volume by what can be asked of it (its facts), and a state by the facts of each volume.
+-- Statement for engineers: The facts of a volume (what can be asked of it), and the state that has given facts for each volume.
 use Rattle.std.specs.Prelude.{ℕ, Bool, true, false, ◌&&◌, ◌==◌, List, Option, None}
 use Rattle.messages.specs.declared.Block.{Block}
 use Rattle.meaning.specs.State.{State}

@@ -198,7 +198,8 @@ fn a_file_opened_for_reading_takes_no_write(rt: HostRuntime) -> Result<(), Fail>
     place.remove(&rt)
 }
 
-/// The system refuses to sync this file, and unlike `/dev/null` also to write it. Opening it for reading succeeds, so that doesn't sync.
+/// A regular file (`/dev/null` is none) that the system refuses to write and to sync. Opening it for reading succeeds, so that doesn't
+/// sync.
 #[test]
 fn a_file_opened_for_reading_is_not_synced(rt: HostRuntime) {
     let path = "/proc/version";

@@ -32,7 +32,7 @@ has_room room t = room || not t.changing
 abbrev pub can_dispatch : Bool → List QueuedMessage → List QueuedMessage → QueuedMessage → Bool
 can_dispatch room held earlier t = has_room room t && (is_free_of held t && is_free_of earlier t)
 
--- the first message of the last argument that may be dispatched; those in `earlier` came before all of these and still wait
+-- of the last list, the first message that may be dispatched; those in `earlier` came before all of these and still wait
 abbrev pub first_dispatchable : Bool → List QueuedMessage → List QueuedMessage → List QueuedMessage → Option QueuedMessage
 first_dispatchable room held earlier [] = None
 first_dispatchable room held earlier (t ∷ later) =
@@ -66,6 +66,6 @@ CameBefore ticket messages = AllByRecursion (λ t. t.ticket < ticket) messages
 abbrev pub IsNext : RunQueueView → QueuedMessage → Type 0
 IsNext q t = (room : Bool) × (next_queued room q.held q.waiting ≡ Some t)
 
--- The messages of the second list are those of the first and this one, by membership alone: in any order, and with any repeats.
+-- A message is in the second list exactly if it is in the first or is t. Order and repeats don't matter.
 abbrev pub HasJoined : QueuedMessage → List QueuedMessage → List QueuedMessage → Type 0
 HasJoined t before after = (test : QueuedMessage → Bool) → list_any test after ≡ (test t || list_any test before)

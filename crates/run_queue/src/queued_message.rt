@@ -4,7 +4,7 @@ use affinity::Affinity;
 /// A message that waits, or that is held since it was dispatched.
 #[derive(Clone, Copy, Debug, PartialEq, Eq)]
 pub struct QueuedMessage {
-    /// The slot where the message is kept.
+    /// The core's slot, in which the message is kept.
     pub slot: usize,
 
     /// Where the message belongs.

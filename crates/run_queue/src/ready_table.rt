@@ -1,4 +1,4 @@
-//! The ready table: for each affinity number the first message that waits there, if it is conflict-free.
+//! The ready table: for each affinity number the first message that waits there, if it is conflict-free, whatever room the log has.
 ghost use Rattle.std.specs.Prelude.{◌≡◌, ◌+◌, ◌*◌, ◌<◌, ◌≤◌, ℕ, get_or, length, min, replicate, slice_set, option_copied, IfOk, None};
 ghost use Rattle.run_queue.specs.ReadyTable.{last_rank, ready_in, rank_of};
 
@@ -14,8 +14,8 @@ const LAST_RANK: u64 = u64::MAX - 1;
 
 /// For each number of an affinity the first message that waits there, if it is conflict-free.
 ///
-/// `RunQueue::next` is called often and looks for the earliest ready message. So each has a rank, which is its ticket, and
-/// the least rank of each chunk of numbers is kept: most chunks are skipped for it alone.
+/// `RunQueue::next` is called often and looks for the earliest ready message. So each has a rank (its ticket, but
+/// `LAST_RANK` at most), and the least rank of each chunk of numbers is kept: a look at that is enough to skip most chunks.
 ///
 /// All memory is taken by `new`.
 #[derive(Drop)]
@@ -81,8 +81,7 @@ impl ReadyTable {
         }
     }
 
-    /// A ready message with a greater rank than this can't be earlier than the one at `number`. Where none is ready there, the
-    /// last rank.
+    /// The rank at `number`, or the last rank where no message is ready there: a ready message with a greater rank came later.
     pub(crate) fn bound(&self, number: usize) -> u64
         ensures { result ≡ min (rank_of (ready_in self.now number)) last_rank }
     {

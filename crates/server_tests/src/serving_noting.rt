@@ -207,10 +207,10 @@ impl Read for ChunkReader<'_> {
             return Err(io::Error::from(ErrorKind::Other));
         }
         let len = self.size.min(buf.len()).min(self.left.len());
-        let (piece, left) = self.left.split_at(len);
-        buf[..len].copy_from_slice(piece);
+        let (chunk, left) = self.left.split_at(len);
+        buf[..len].copy_from_slice(chunk);
         self.left = left;
-        self.notes.given.add(ends_in(piece));
+        self.notes.given.add(ends_in(chunk));
         Ok(len)
     }
 }
@@ -240,12 +240,12 @@ impl Taking<'_> {
 impl Write for Taking<'_> {
     fn write(&mut self, buf: &[u8]) -> io::Result<usize> {
         self.call()?;
-        let piece = &buf[..self.size.min(buf.len())];
-        self.notes.taken.add(ends_in(piece));
+        let chunk = &buf[..self.size.min(buf.len())];
+        self.notes.taken.add(ends_in(chunk));
         if self.notes.taken.get() > self.notes.logged.get() {
             self.notes.is_reply_early.set();
         }
-        self.output.write(piece)
+        self.output.write(chunk)
     }
 
     fn flush(&mut self) -> io::Result<()> {

@@ -1,5 +1,5 @@
--- What was sent is on the device: what a crash leaves since any event of a run, and that each line that was written is of a message
--- that was logged.
+-- What was sent is on the device: what a crash after event k leaves holds all that was logged by then, and each line that was written for
+-- a message with a ticket is of a message that was logged.
 use Rattle.std.proofs.Common.{◌≡◌, ℕ, zero, suc, ◌≤◌, Bool, true, List, [], ◌∷◌, ◌++◌, Option, Some, None, refl, ap, sym, ◌∙◌, subst, length, take, drop, map, inl, inr, ⊎_elim, append_assoc, arith}
 use Rattle.std.specs.Prelude.{if◌then◌else◌}
 use Rattle.std.specs.List.{AllByRecursion, Contains}
@@ -125,7 +125,7 @@ module _ (g : Geometry) (replies : List (ℕ × Reply)) (log : List Replied) (wh
             k.1 all.1,
       )
 
--- the message to which such a reply by ticket was given
+-- the message behind a pair of a ticket and a reply
 said_of : (as' : List Replied) (p : ℕ × Reply) → IsIn p (ticket_replies as') → (m : Msg) × IsIn (p.0, m, p.1) as'
 said_of [] p is = absurd is
 said_of (a ∷ as') p is = ⊎_elim
@@ -137,7 +137,7 @@ module _ (keeps : Type 0) (start : MachineView) (new : CoreView) (unsent : List 
   abbrev run_log : List Replied
   run_log = logged_messages (machine_of start) (events_of h.device_events)
 
-  -- A message of the input to whose ticket the run gave a reply was logged with that reply.
+  -- If the run gave a reply to a message's ticket, the message was logged with that reply.
   was_logged : (ticket : ℕ) (m : Msg) (reply : Reply) → IsIn (ticket, m) (ticketed start.core.next (admitted start.core.geometry h.consumed))
       → Contains (answered (events_of h.device_events)) (ticket, reply) → Contains run_log (ticket, m, reply)
   was_logged ticket m reply asks told =

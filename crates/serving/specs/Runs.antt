@@ -1,5 +1,5 @@
--- Statement for operators: A segment of a server's run: its machine (the core, and as hands the places with the jobs lent there) before and
--- after, and what a crash meanwhile may leave.
+-- Statement for operators: A segment of a server's run: its machine (the core; its hands are the bench's places, with the jobs lent there)
+-- before and after, and what a crash meanwhile may leave.
 use Rattle.std.specs.Prelude.{◌≡◌, ◌+◌, ℕ, List, [], map, length, count_by, Option, Some, None}
 use Rattle.legal_runs.specs.Runs.{IsLegal, answered, arrived, end_state}
 use Rattle.legal_runs.specs.CoreState.{Entry, CoreState, held}
@@ -40,7 +40,7 @@ pub record RunsBetween (keeps : Type 0) (old new : MachineView) (arriving : List
   pub device : device_after old.core.medium device_events ≡ new.core.medium
   -- the device failed as often as the events say
   pub failures : new.core.medium.faults ≡ old.core.medium.faults + count_by (λ e. e.device_failed) (events_of device_events)
-  -- what a crash leaves at each crash point of each event
+  -- At each crash point of each event a crash leaves the committed state, with a prefix of what the event appends.
   pub any_moment : keeps → AreSafe old.core.geometry (machine_of old) old.core.medium device_events
 
 -- ---- what the hands have

@@ -1,4 +1,5 @@
-//! What a session runs with beside its bench: the runtime of its call, by which it waits, and the `Gate` (hooks for tests) that it calls.
+//! What a session (one call of `serve`) is given beside its bench: the runtime, through which it waits, and the `Gate` (hooks for tests)
+//! that it calls.
 
 use std::sync::Wait;
 use workers::Gate;

@@ -1,6 +1,7 @@
 //! The bench: its table, and what the dispatcher does there.
 //!
-//! The table has a word (its state) and a slot (a job cell) for each place. A slot lies in the table or belongs to one seat.
+//! The table has a word (its state) and a slot (a job cell) for each place, and six words before these (`words.rt`). A slot lies in the
+//! table or belongs to one seat, which reaches only the first of its slots: so the dispatcher's are rotated (`rotate_to`).
 //! In clauses a seat has its table (`table_id`) and `me`. `me.0` is its role: `Dispatcher n lent` says that n slots are still to be taken
 //! from the table, and which jobs are lent. `me.1` are the slots that it has, the one taken last first.
 ghost use Rattle.std.specs.Prelude.{◌≡◌, ◌+◌, ◌<◌, ◌≤◌, [], ◌∷◌, map, replicate, is_some, slice_set, Option, None, Some, IfOk, IfSome, IfNone, All, MatchOption, IsTrue, IsFalse, length, vec_len, Ok, Err};
@@ -21,7 +22,8 @@ use parcel::{Done, Job};
 use std::alloc::{AllocError, Global};
 use std::marker::Model;
 
-/// The table at which one dispatcher and its workers meet. A contract sees the table's identity; its `slots` are the places.
+/// The table at which one dispatcher and its workers meet. A contract sees the table's identity; its `slots` is the number of
+/// places, and has nothing to do with the `slots` for lines.
 pub struct Bench {
     pub(crate) table: Table<JobCell, SeatRole, usize, BenchInvariant, Global>,
 }
@@ -56,9 +58,9 @@ impl Bench {
         ensures dispatcher { IfOk result (λ r. (r.1.bench ≡ r.0) × (r.1.lent ≡ replicate places None)) }
         ensures workers { IfOk result (λ r. (vec_len r.2 ≡ workers) × All (λ w. w ≡ r.0) r.2.items) }
     {
-        let words = vec![in alloc; 0; places + FIRST_PLACE]?;
+        let initial_words = vec![in alloc; 0; places + FIRST_PLACE]?;
         let lent = vec![in alloc; false; places]?;
-        let (table, mut seat) = lay(alloc, &words, places)?;
+        let (table, mut seat) = lay(alloc, &initial_words, places)?;
         take_slots(&table.shared, &mut seat, places);
         let seats = seat_workers(alloc, &table.shared, &mut seat, workers)?;
         let dispatch_seat = DispatchSeat {

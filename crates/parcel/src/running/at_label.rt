@@ -8,7 +8,7 @@ ghost use Rattle.meaning.specs.Serial.{checks};
 ghost use Rattle.parcel.specs.Fits.{IsRunnable};
 ghost use Rattle.parcel.specs.Run.{IsSerialStep};
 ghost use Rattle.parcel.specs.Shown.{label_facts, shown_state};
-ghost use Rattle.parcel.specs.Steps.{IsStepWithin};
+ghost use Rattle.parcel.specs.Steps.{IsVolumeStep};
 ghost use Rattle.parcel.specs.declared.parts.Parcels.{Parcels};
 
 use super::refusals::{change_refusal, volume_refusal};
@@ -25,7 +25,7 @@ fn set_label(
     bytes: &[u8; 32],
 ) -> Reply
     requires { checks message.now ≡ checks (Msg.SetLabel 0 0 bytes.now) }
-    ensures { IsStepWithin g.now (λ a v. Msg.SetLabel a v bytes.now) (label_facts standing label.old) result
+    ensures { IsVolumeStep g.now (λ a v. Msg.SetLabel a v bytes.now) (label_facts standing label.old) result
         (label_facts standing label.new) }
 {
     if let Some(why) = change_refusal(message, standing.made, standing.sealed) {
@@ -38,7 +38,7 @@ fn set_label(
 // The label.
 fn get_label(label: &Label, g: &Geometry, standing: Standing, message: &Msg) -> Reply
     requires { checks message.now ≡ checks (Msg.Label 0 0) }
-    ensures { IsStepWithin g.now Msg.Label (label_facts standing label.now) result (label_facts standing label.now) }
+    ensures { IsVolumeStep g.now Msg.Label (label_facts standing label.now) result (label_facts standing label.now) }
 {
     if let Some(why) = volume_refusal(message, standing.made) {
         return Reply::Refused(why);

@@ -9,7 +9,7 @@ ghost use Rattle.meaning.specs.Serial.{checks};
 ghost use Rattle.parcel.specs.Fits.{FitsLogical, IsWholeLogical, IsRunnable};
 ghost use Rattle.parcel.specs.Run.{IsSerialStep};
 ghost use Rattle.parcel.specs.Shown.{logical_facts, shown_state};
-ghost use Rattle.parcel.specs.Steps.{IsStepWithin};
+ghost use Rattle.parcel.specs.Steps.{IsVolumeStep};
 ghost use Rattle.parcel.specs.declared.parts.Parcels.{Parcels};
 
 use super::refusals::{create_refusal, file_change_refusal, volume_refusal};
@@ -22,7 +22,7 @@ fn create(logical: &mut Logical, g: &Geometry, standing: Standing, message: &Msg
     requires checks { checks message.now ≡ checks (Msg.Create 0 0 f) }
     requires file { f < g.now.files }
     requires fits { FitsLogical g.now logical.old }
-    ensures step { IsStepWithin g.now (λ a v. Msg.Create a v f) (logical_facts g.now standing logical.old) result
+    ensures step { IsVolumeStep g.now (λ a v. Msg.Create a v f) (logical_facts g.now standing logical.old) result
         (logical_facts g.now standing logical.new) }
     ensures fits { FitsLogical g.now logical.new }
     ensures stripes { logical.new.stripes ≡ logical.old.stripes }
@@ -61,7 +61,7 @@ fn delete(logical: &mut Logical, g: &Geometry, standing: Standing, message: &Msg
     requires file { f < g.now.files }
     requires fits { FitsLogical g.now logical.old }
     requires whole { IsWholeLogical logical.old }
-    ensures step { IsStepWithin g.now (λ a v. Msg.Delete a v f) (logical_facts g.now standing logical.old) result
+    ensures step { IsVolumeStep g.now (λ a v. Msg.Delete a v f) (logical_facts g.now standing logical.old) result
         (logical_facts g.now standing logical.new) }
     ensures fits { FitsLogical g.now logical.new }
     ensures whole { IsWholeLogical logical.new }
@@ -79,7 +79,7 @@ fn delete(logical: &mut Logical, g: &Geometry, standing: Standing, message: &Msg
 fn list(logical: &Logical, g: &Geometry, standing: Standing, message: &Msg) -> Reply
     requires fits { FitsLogical g.now logical.now }
     requires checks { checks message.now ≡ checks (Msg.List 0 0) }
-    ensures { IsStepWithin g.now Msg.List (logical_facts g.now standing logical.now) result (logical_facts g.now standing logical.now) }
+    ensures { IsVolumeStep g.now Msg.List (logical_facts g.now standing logical.now) result (logical_facts g.now standing logical.now) }
 {
     if let Some(why) = volume_refusal(message, standing.made) {
         return Reply::Refused(why);

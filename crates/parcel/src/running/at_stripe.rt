@@ -10,7 +10,7 @@ ghost use Rattle.meaning.specs.Serial.{checks};
 ghost use Rattle.parcel.specs.Fits.{FitsStripe, IsRunnable};
 ghost use Rattle.parcel.specs.Run.{IsSerialStep};
 ghost use Rattle.parcel.specs.Shown.{stripe_facts, shown_state};
-ghost use Rattle.parcel.specs.Steps.{IsStepWithin};
+ghost use Rattle.parcel.specs.Steps.{IsVolumeStep};
 ghost use Rattle.stripe.specs.Stripe.{StripeRule, content_at};
 ghost use Rattle.parcel.specs.declared.parts.Parcels.{Parcels};
 
@@ -41,7 +41,7 @@ fn write(
     requires file { f < g.now.files }
     requires block { b < g.now.blocks }
     requires fits { FitsStripe g.now (stripe_of g.now f b) stripe.old }
-    ensures step { IsStepWithin g.now (λ a v. Msg.Write a v f b content.now) (stripe_facts standing stripe.old) result
+    ensures step { IsVolumeStep g.now (λ a v. Msg.Write a v f b content.now) (stripe_facts standing stripe.old) result
         (stripe_facts standing stripe.new) }
     ensures fits { FitsStripe g.now (stripe_of g.now f b) stripe.new }
 {
@@ -62,7 +62,7 @@ fn write(
 fn punch(stripe: &mut StripeParcel, standing: Standing, message: &Msg, f: u16, b: u16) -> Reply
     requires file { f < 64 }
     requires checks { checks message.now ≡ checks (Msg.Punch 0 0 f b) }
-    ensures step { (g : Geometry) → IsStepWithin g (λ a v. Msg.Punch a v f b) (stripe_facts standing stripe.old) result
+    ensures step { (g : Geometry) → IsVolumeStep g (λ a v. Msg.Punch a v f b) (stripe_facts standing stripe.old) result
         (stripe_facts standing stripe.new) }
     ensures fits { (g : Geometry) → FitsStripe g (stripe_of g f b) stripe.old → FitsStripe g (stripe_of g f b) stripe.new }
 {
@@ -82,7 +82,7 @@ fn punch(stripe: &mut StripeParcel, standing: Standing, message: &Msg, f: u16, b
 fn read(stripe: &StripeParcel, standing: Standing, message: &Msg, f: u16, b: u16) -> Reply
     requires file { f < 64 }
     requires checks { checks message.now ≡ checks (Msg.Read 0 0 f b) }
-    ensures { (g : Geometry) → IsStepWithin g (λ a v. Msg.Read a v f b) (stripe_facts standing stripe.now) result
+    ensures { (g : Geometry) → IsVolumeStep g (λ a v. Msg.Read a v f b) (stripe_facts standing stripe.now) result
         (stripe_facts standing stripe.now) }
 {
     if let Some(why) = read_refusal(message, standing.made, standing.files, f) {

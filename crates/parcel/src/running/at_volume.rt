@@ -9,7 +9,7 @@ ghost use Rattle.meaning.specs.Serial.{checks};
 ghost use Rattle.parcel.specs.Fits.{FitsVolume, IsRunnable};
 ghost use Rattle.parcel.specs.Run.{IsSerialStep};
 ghost use Rattle.parcel.specs.Shown.{volume_facts, shown_state};
-ghost use Rattle.parcel.specs.Steps.{IsStepWithin};
+ghost use Rattle.parcel.specs.Steps.{IsVolumeStep};
 ghost use Rattle.parcel.specs.declared.parts.Parcels.{Parcels};
 ghost use Rattle.parcel.specs.declared.parts.Standing.{Standing};
 
@@ -22,7 +22,7 @@ use messages::{Msg, Reply};
 // Seals the volume, whether it was sealed or not.
 fn seal(volume: &mut Vol, message: &Msg) -> Reply
     requires { checks message.now ≡ checks (Msg.Seal 0 0) }
-    ensures step { (g : Geometry) → IsStepWithin g Msg.Seal (volume_facts g volume.old) result (volume_facts g volume.new) }
+    ensures step { (g : Geometry) → IsVolumeStep g Msg.Seal (volume_facts g volume.old) result (volume_facts g volume.new) }
     ensures logical { volume.new.logical ≡ volume.old.logical }
     ensures label { volume.new.label ≡ volume.old.label }
 {
@@ -36,7 +36,7 @@ fn seal(volume: &mut Vol, message: &Msg) -> Reply
 // Unseals the volume, whether it was sealed or not.
 fn unseal(volume: &mut Vol, message: &Msg) -> Reply
     requires { checks message.now ≡ checks (Msg.Unseal 0 0) }
-    ensures step { (g : Geometry) → IsStepWithin g Msg.Unseal (volume_facts g volume.old) result (volume_facts g volume.new) }
+    ensures step { (g : Geometry) → IsVolumeStep g Msg.Unseal (volume_facts g volume.old) result (volume_facts g volume.new) }
     ensures logical { volume.new.logical ≡ volume.old.logical }
     ensures label { volume.new.label ≡ volume.old.label }
 {
@@ -51,7 +51,7 @@ fn unseal(volume: &mut Vol, message: &Msg) -> Reply
 fn usage(volume: &Vol, g: &Geometry, message: &Msg) -> Reply
     requires fits { FitsVolume g.now volume.now }
     requires checks { checks message.now ≡ checks (Msg.Usage 0 0) }
-    ensures { IsStepWithin g.now Msg.Usage (volume_facts g.now volume.now) result (volume_facts g.now volume.now) }
+    ensures { IsVolumeStep g.now Msg.Usage (volume_facts g.now volume.now) result (volume_facts g.now volume.now) }
 {
     if let Some(why) = volume_refusal(message, volume.made) {
         return Reply::Refused(why);

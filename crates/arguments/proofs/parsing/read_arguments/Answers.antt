@@ -17,12 +17,12 @@ taken c =
     holds_requested words c.requested.result nothing (subst (λ s. IsRequested s c.requested.result) same c.requested.ensures)
 
 -- clap gives an error for the words
-answered : (c : goal.After-answered) → Holds (map string_bytes c.args.words.now) c.answered.result
-answered c =
+outcome_of : (c : goal.After-outcome_of) → Holds (map string_bytes c.args.words.now) c.outcome_of.result
+outcome_of c =
     let words = map string_bytes c.args.words.now in
     let P : App → Type 0 = λ a. is_simple_and_free a ≡ true → HasKind (fault_of a words) c.in-Err.error in
     let kinds : HasKind (findings words) c.in-Err.error = subst P c.in_ok-commands.ensures c.in-Err.ensures.kinds refl in
-    rw c.answered.ensures (holds words c.in-Err.error kinds)
+    rw c.outcome_of.ensures (holds words c.in-Err.error kinds)
 
 pub returns-in-Ok-clause-ok : goal.returns-in-Ok-clause-ok
 returns-in-Ok-clause-ok c = if_ok (map string_bytes c.args.words.now) c.requested.result (taken c)
@@ -31,7 +31,7 @@ pub returns-in-Ok-clause-err : goal.returns-in-Ok-clause-err
 returns-in-Ok-clause-err c = if_err (map string_bytes c.args.words.now) c.requested.result (taken c)
 
 pub returns-in-Err-clause-ok : goal.returns-in-Err-clause-ok
-returns-in-Err-clause-ok c = if_ok (map string_bytes c.args.words.now) c.answered.result (answered c)
+returns-in-Err-clause-ok c = if_ok (map string_bytes c.args.words.now) c.outcome_of.result (outcome_of c)
 
 pub returns-in-Err-clause-err : goal.returns-in-Err-clause-err
-returns-in-Err-clause-err c = if_err (map string_bytes c.args.words.now) c.answered.result (answered c)
+returns-in-Err-clause-err c = if_err (map string_bytes c.args.words.now) c.outcome_of.result (outcome_of c)

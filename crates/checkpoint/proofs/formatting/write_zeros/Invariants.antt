@@ -1,4 +1,4 @@
--- `done` zeros are written, and nothing outside the range is changed; what decreases is the number of those left.
+-- So far `done` zeros are written, and nothing outside the range is changed; the number of zeros left decreases.
 use Rattle.std.proofs.Common.{◌≡◌, ◌≤◌, ◌-◌, length, replicate}
 use Rattle.disk.specs.Device.{SameOutside, overlaid}
 use Rattle.oplog.specs.Changes.{CrashesChangeOnly}

@@ -1,4 +1,5 @@
--- All pieces are dirty, so the snapshot is the image of the state which the named area holds without the records of the other half.
+-- All pieces are dirty, so the snapshot is a whole image of the cut's state: that of the named image with the named half's records run on
+-- it, and none of the other half's.
 use Rattle.std.proofs.Common.{Bool, List, length, refl, sym, ◌∙◌, ap, subst}
 use Rattle.affinity.specs.declared.geometry.Geometry.{Geometry}
 use Rattle.image.specs.Image.{image_of, read}

@@ -1,4 +1,4 @@
--- Sorting by ticket moves a message past unrelated ones alone, with which its step commutes.
+-- Sorting by ticket moves a message only past unrelated ones, and its step commutes with theirs.
 use Rattle.meaning.proofs.ByTicket.{in_order-by_ticket, permutation-by_ticket, same_by_ticket}
 use Rattle.meaning.proofs.laws.order_by_ticket.Goals as goal
 

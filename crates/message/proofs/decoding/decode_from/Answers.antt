@@ -1,4 +1,4 @@
--- Each pair puts one byte, and the greatest value of all is at least 16 exactly where one character is no digit.
+-- Each pair of hexadecimal digits gives one byte, and the greatest value so far is 16 or more exactly if some character is no digit.
 use Rattle.std.proofs.Common.{◌+◌, ◌*◌, arith, sym, ◌∙◌, inl, inr}
 use Rattle.std.proofs.lemmas.List.{get_or-set_other, length-set}
 use Rattle.message.proofs.DigitLoop.{byte_read, greatest_other, greatest_small, read_more}

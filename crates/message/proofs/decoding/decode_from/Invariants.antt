@@ -1,4 +1,4 @@
--- While the greatest value is a digit's, the pairs so far are decoded; once it is not, one of the bytes is no digit.
+-- While the greatest value is below 16, the pairs so far are decoded; once it is not, one of the bytes is no digit.
 use Rattle.std.proofs.Common.{◌≡◌, ℕ, ◌<◌, ◌≤◌, length, slice_index}
 use Rattle.message.specs.Digits.{AreDecoded, HasNonDigit}
 use Rattle.message.proofs.decoding.decode_from.Given as goal

@@ -1,4 +1,4 @@
--- The slots of the places so far were moved behind the others, and the seat is else as it was.
+-- The slots of the places so far were moved behind the others, and otherwise the seat is as it was.
 use Rattle.std.proofs.Common.{◌≡◌}
 use Rattle.workers.specs.Seats.{lent_of, empty_slots_from}
 use Rattle.workers.proofs.seats.rotate_to.Given as goal

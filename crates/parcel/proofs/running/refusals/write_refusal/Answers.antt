@@ -1,4 +1,4 @@
--- The first check that fails, of those of a write: the volume, the seal, the file and space in the stripe.
+-- The first check that fails, of those of a write: the volume, the seal, the file and space in the stripe. The range always passes here.
 use Rattle.std.proofs.Common.{ap, ◌∙◌}
 use Rattle.std.specs.Prelude.{None}
 use Rattle.messages.specs.declared.Refusal.TheVariants.{File, Space}
