@@ -8,8 +8,9 @@ ghost use Rattle.affinity.specs.declared.geometry.Geometry.{Geometry};
 use crate::{Geometry, Place};
 use std::marker::Model;
 
-/// A node of the tree of affinities, as an interval of numbers: its own number in preorder, and the
-/// first number after those of the nodes below it. A `Place` is the same node by its own numbers.
+/// A node of the tree of affinities, as an interval of numbers: its number in preorder, and the first
+/// number after its own and those of the nodes below it. A `Place` is the same node by its kind and the
+/// numbers of its aggregate, volume and stripe.
 #[derive(Clone, Copy, Debug, PartialEq, Eq)]
 pub struct Affinity {
     number: u16,
@@ -57,7 +58,7 @@ impl Affinity {
         self.number
     }
 
-    /// The first number after those of the affinities below this one.
+    /// The first number after that of this affinity and those of the affinities below it.
     pub fn end(&self) -> u16
         ensures { result ≡ self.now.end }
     {

@@ -1,4 +1,4 @@
--- What a few writes to the two arrays of links do to the lists.
+-- The two arrays of links, the lists that they hold, and what is read of these.
 use Rattle.std.proofs.Common.{◌≡◌, ℕ, ◌+◌, ◌-◌, ◌<◌, List, length, ap, ◌∙◌, inl, inr, arith, slice_index, get_or}
 use Rattle.std.proofs.lemmas.List.{get_or_default}
 use Rattle.std.proofs.lemmas.Bool.Decides.{leb_tells}
@@ -17,7 +17,7 @@ IsStored slots next previous =
 abbrev pub stored : ℕ → List ℕ → Linked
 stored slots next = record { slots = slots; lists = rings (λ x. slice_index next x) slots (length next) }
 
--- the lists of another array of the same length
+-- another array of the same length that links the same lists
 pub stored-same : (slots : ℕ) (next next' : List ℕ) (lists : List (List ℕ)) → length next' ≡ length next
     → rings (λ x. slice_index next' x) slots (length next) ≡ lists → (stored slots next').lists ≡ lists
 stored-same slots next next' lists long same =
@@ -40,7 +40,7 @@ pub end-below : (slots : ℕ) (next previous : List ℕ) (list : ℕ) → IsStor
 end-below slots next previous list ok within =
     omega (arith, length-table (ring (λ x. slice_index next x) slots) slots (length next - slots), ok.1.slots_fit)
 
--- the end of a list that a contract sees
+-- the sentinel of a list, as contracts see the list, lies within the arrays
 pub end-there : (slots : ℕ) (next previous : List ℕ) (links : Linked) (list : ℕ) → stored slots next ≡ links → IsStored slots next previous → list < length links.lists → slots + list < length next
 end-there slots next previous links list view ok within = end-below slots next previous list ok (rw (← view) at within)
 

@@ -19,7 +19,7 @@ pub record Memory : Type 0 where
   -- at an unsynced offset, the byte of the last write there, even if it failed
   pub last_written : List ℕ
   pub injected_fault : InjectedFault
-  -- the reads, writes and syncs so far, without those out of range
+  -- how many reads, writes and syncs there were, without those out of range; it saturates
   pub calls : ℕ
 
 abbrev pub memory_of : MemDisk → Memory
@@ -68,7 +68,7 @@ after_sync (Ok _) m = record (counted m) { medium = synced m.medium; last_synced
 after_sync (Err OutOfRange) m = m
 after_sync (Err Device) m = record (counted m) { medium = failed m.medium }
 
--- what a crash of this kind leaves: torn from byte 0 on, with no unsynced byte before it
+-- what a crash of this kind leaves (the zeros: from offset 0 on, with 0 unsynced bytes below it)
 abbrev pub crashed : Torn → Memory → List ℕ
 crashed kind m = torn_from (torn_byte kind m.last_synced m.last_written) 0 0 m.medium.unsynced m.medium.now
 

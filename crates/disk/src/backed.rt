@@ -23,7 +23,7 @@ impl<F: BackingFile + Drop> FileBacked<F> {
 }
 
 /// The device's result for this result of its file.
-fn as_fault(answer: io::Result<()>) -> Result<(), DiskFault>
+fn device_result(answer: io::Result<()>) -> Result<(), DiskFault>
     ensures { result ≡ device_result answer }
 {
     answer.map_err(|_| DiskFault::Device)
@@ -40,16 +40,16 @@ impl<F: BackingFile + Drop> Disk for FileBacked<F> {
 
     fn read_at(&mut self, at: u64, out: &mut [u8]) -> Result<(), DiskFault> {
         check_range(self.len(), at, out.len())?;
-        as_fault(self.file.read_exact_at(out, at))
+        device_result(self.file.read_exact_at(out, at))
     }
 
     fn write_at(&mut self, at: u64, bytes: &[u8]) -> Result<(), DiskFault> {
         check_range(self.len(), at, bytes.len())?;
-        as_fault(self.file.write_all_at(bytes, at))
+        device_result(self.file.write_all_at(bytes, at))
     }
 
     fn sync(&mut self) -> Result<(), DiskFault> {
-        as_fault(self.file.sync_data())
+        device_result(self.file.sync_data())
     }
 
     // The file's length is a u64.

@@ -11,7 +11,7 @@ use parcel::Tree;
 use plain::serve_plain;
 use std::alloc::{AllocError, Global};
 
-/// What a server is asked so that it answers all that it holds: `summary` first, then of each volume `usage`, `list` and
+/// What a server is asked, so that its answers show all that it holds: `summary` first, then of each volume `usage`, `list` and
 /// `label`, and each block of each of its files.
 #[derive(Drop)]
 pub struct Questions {

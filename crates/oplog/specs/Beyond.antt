@@ -4,10 +4,10 @@ use Rattle.disk.specs.Device.{Medium}
 use Rattle.oplog.specs.Changes.{CrashesChangeOnly}
 use Rattle.device_map.specs.Layout.{Layout, device_size}
 
--- What lies behind the parts is the same.
+-- What lies after the parts is the same.
 abbrev pub IsSameBeyond : Layout → List ℕ → List ℕ → Type 0
 IsSameBeyond l old c = drop (device_size l) c ≡ drop (device_size l) old
 
--- A crash at any moment from `old` to `new` leaves behind the parts what a crash of `old` might have left.
+-- After the parts a crash at any moment from `old` to `new` leaves what a crash of `old` might have left there.
 abbrev pub KeepsBeyond : Layout → Medium → Medium → Type 0
 KeepsBeyond l old new = CrashesChangeOnly old new (IsSameBeyond l)

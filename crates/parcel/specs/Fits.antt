@@ -19,13 +19,13 @@ pub record FitsStripe (g : Geometry) (s : ℕ) (p : StripePart) : Type 0 where
   pub quota : p.quota ≡ g.quota
   pub lies : (f b : ℕ) → is_some (content_at p.entries f b) ≡ true → (f < g.files) × (b < g.blocks) × (stripe_of g f b ≡ s)
 
--- Each child that is in fits at its number, where the list's first child is number i.
+-- Each child that isn't out fits at its number, where the list's first child is number i.
 abbrev pub EachFits : {X : Type 0} → (ℕ → X → Type 0) → ℕ → List (Option X) → Type 0
 EachFits Fits i [] = Unit {0}
 EachFits Fits i (x ∷ xs) = IfSome x (Fits i) × EachFits Fits (suc i) xs
 
--- At the levels above a stripe: there are as many children as the geometry has, and each that is in fits. The bits of `files` are of files
--- that the geometry has.
+-- At the levels above a stripe: there are as many children as the geometry has, and each that isn't out fits. The bits of `files` are of
+-- files that the geometry has.
 pub record FitsLogical (g : Geometry) (l : Logical) : Type 0 where
   pub files : l.files < 2 ^ g.files
   pub count : length l.stripes.items ≡ g.stripes
@@ -83,7 +83,7 @@ Fits g (a ∷ v ∷ zero ∷ s ∷ []) (parcels.Stripe p) = FitsStripe g s p
 Fits g (a ∷ v ∷ suc zero ∷ []) (parcels.Label l) = Unit {0}
 Fits g _ _ = ⊥
 
--- The message is in range, and the parcels are those of its place.
+-- The message can run on the parcels: it is in range, and they are those of its place.
 pub record IsRunnable (g : Geometry) (m : Msg) (p : Parcels) : Type 0 where
   pub range : is_in_range g m ≡ true
   pub fits : Fits g (path_of g m) p

@@ -1,4 +1,4 @@
--- Inner: The pieces of an image, by what one volume of the tree has.
+-- Inner: The pieces of one volume of the tree, and what the volume has once one of them was read.
 use Rattle.std.specs.Prelude.{◌≡◌, ◌↔◌, ℕ, Bool, zero, suc, ◌==◌, ◌%◌, ◌^◌, if◌then◌else◌, List, [], ◌∷◌, ◌++◌, replicate, unwrap_or, Option, Some, None, IfSome, IsTrue}
 use Rattle.affinity.specs.Geometry.{stripe_of}
 use Rattle.affinity.specs.Path.{Path}
@@ -46,7 +46,7 @@ volume_piece_of w = record {
   label = unwrap_or (shown_label w.label) no_label;
 }
 
--- a Volume Logical with these files in the place of its own
+-- a volume's `Logical` with these files instead of its own
 abbrev pub with_files : ℕ → Option Logical → Option Logical
 with_files files None = None
 with_files files (Some l) = Some (record l { files = files })
@@ -79,8 +79,8 @@ facts_with version g h zero bytes = record {
 }
 facts_with version g h (suc s) bytes = record h { blocks = λ f b. if stripe_of g f b == s then block_in g bytes f b else h.blocks f b }
 
--- The bytes were read into a volume as its own piece (part 0) or as that of stripe part - 1. They are good exactly if they are the encoding
--- of what they decode to, and then the volume has what they decode to.
+-- The bytes were read into a volume as its own piece (part 0) or as that of the stripe with number `part` - 1. They are good exactly if
+-- they are the encoding of what they decode to, and then the volume has what they decode to.
 pub record IsPieceOfVolumeRead (version : ℕ) (g : Geometry) (part : ℕ) (bytes : List ℕ) (good : Bool) (old new : Vol) : Type 0 where
   pub fits : FitsVolume g new
   pub whole : IsWholeVolume new

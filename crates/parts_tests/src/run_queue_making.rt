@@ -8,8 +8,8 @@ use run_queue::{QueuedMessage, RunQueue};
 use std::alloc::{AllocError, Global};
 use std::test::Fail;
 
-// A run queue of three slots. If memory is refused, the call is made once more, and has to succeed then: `tests/run calls`
-// refuses requests.
+// A run queue of three slots. If memory is refused, the call is made once more, and has to succeed then: the script `tests/run`,
+// with the argument `calls`, refuses each request in turn.
 fn made(alloc: Global, g: &Geometry) -> Result<RunQueue, AllocError>
     ensures { IfOk result (λ run_queue. run_queue ≡ queue_at_start g.now 3) }
 {

@@ -129,7 +129,7 @@ fn answer_question(
 }
 
 /// Adds the reply to a message that changes nothing and passes its checks. It is a function of its
-/// own, so that only this path takes stack for a reply with a block.
+/// own, so that only this path takes the stack of a whole `Reply`, which has room for a block.
 #[inline(never)]
 fn add_whole_reply(
     g: &Geometry,
@@ -328,7 +328,7 @@ fn answer_all<R: Read + Drop, W: Write>(
     w: &mut W,
 ) -> Result<(), PlainFault>
     requires sound { IsConsistent g.now server.old }
-    requires begun { is_drained lines.old ≡ false }
+    requires not_drained { is_drained lines.old ≡ false }
     requires knows { KnowsEnd R.remaining lines.old }
     ensures ok { OnOk result (WritesOutput (unread R.remaining lines.old)
         (all_output (W.contents w.old) out.old) (all_output (W.contents w.new) out.new)
@@ -350,7 +350,7 @@ fn answer_all<R: Read + Drop, W: Write>(
     if lines.is_drained() {
         return Ok(());
     }
-    // Not reached in practice: more than 2^64 - 1 lines. The promise of `OutOfMemory` holds after any number of lines.
+    // Not reached in practice: more than 2^64 - 1 lines. What is promised for `OutOfMemory` holds after any number of lines.
     Err(PlainFault::OutOfMemory)
 }
 

@@ -1,10 +1,10 @@
-//! Why a serial server ends before the end of its input.
+//! Why a serial server didn't answer its whole input, or didn't write all answers.
 
 ghost use Rattle.std.specs.Prelude.{◌≡◌};
 
 use message::WriteFault;
 
-/// Why the serial server ended before the end of its input.
+/// Why the serial server didn't answer its whole input, or didn't write all answers.
 #[derive(Clone, Copy, Debug, PartialEq, Eq)]
 pub enum PlainFault {
     /// The input could not be read.

@@ -1,4 +1,4 @@
-//! Where messages belong, how affinities are numbered, and which are related; and the text of numbers out of range.
+//! Where messages belong, how affinities are numbered, and which are related; and the text of `BadGeometry`.
 
 use crate::common::SMALL;
 use affinity::{BadGeometry, Geometry, Kind, place_of, related};
@@ -12,8 +12,8 @@ const TWO_OF_EACH: [u16; 8] = [2, 2, 2, 1, 2, 4, 2, 4];
 /// The greatest geometry, in the same order.
 const GREATEST: [u16; 8] = [4, 8, 8, 64, 64, 256, 64, 1024];
 
-/// A message's kind and numbers (aggregate, volume, file, block), and where these are in range the number of its affinity (its place in
-/// preorder) and the end (the number after the affinity's subtree).
+/// A message's kind and numbers (aggregate, volume, file, block). Then, if these are in range, two numbers: that of its affinity (its
+/// position in preorder), and the first one after the affinity's subtree.
 type Numbered = (Kind, [u16; 4], Option<(u16, u16)>);
 
 /// Geometries, and messages to a server of each.
@@ -28,10 +28,10 @@ const NUMBERED: [([u16; 8], &[Numbered]); 3] = [
             (Kind::Read, [0, 0, 0, 0], Some((4, 5))),
             (Kind::Punch, [0, 0, 0, 1], Some((5, 6))),
             (Kind::SetLabel, [0, 0, 0, 0], Some((6, 7))),
-            // Only the numbers that a kind has are tested: a `seal` has no file and no block.
             (Kind::Write, [0, 0, 0, 4], None),
             (Kind::Write, [0, 0, 2, 0], None),
             (Kind::Create, [0, 0, 2, 0], None),
+            // Only the numbers that a kind has are range-checked: a `seal` has no file and no block.
             (Kind::Seal, [0, 0, 9, 9], Some((2, 7))),
             (Kind::Seal, [0, 1, 0, 0], None),
             (Kind::DropVol, [1, 0, 0, 0], None),
@@ -62,7 +62,7 @@ fn checks_numbers(rt: &impl Abort, g: &Geometry, rows: &[Numbered]) {
 }
 
 #[test]
-fn servers_are_numbered(rt: HostRuntime) -> Result<(), Fail> {
+fn affinities_are_numbered(rt: HostRuntime) -> Result<(), Fail> {
     for &(numbers, rows) in &NUMBERED {
         checks_numbers(&rt, &Geometry::new(numbers)?, rows);
     }

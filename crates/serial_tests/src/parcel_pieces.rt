@@ -9,7 +9,7 @@ ghost use Rattle.serial_tests.specs.Pieces.{IsNewTree, IsSmallTree};
 use crate::common::{SMALL, holds};
 use crate::parcel_lines::expect_replies;
 use affinity::Geometry;
-use parcel::{BadPiece, Tree, read_piece, read_piece_1, write_piece};
+use parcel::{BadPiece, Tree, read_piece, read_version_1_piece, write_piece};
 use std::alloc::Global;
 use std::process::Abort;
 use std::test::Fail;
@@ -125,11 +125,11 @@ const BAD: [Row<'static>; 7] = [
     (&VOLUME, &[(1039, 1)]),
 ];
 
-const TAKEN: [(&[Row<'static>], bool); 2] = [(&GOOD, true), (&BAD, false)];
+const GOOD_AND_BAD: [(&[Row<'static>], bool); 2] = [(&GOOD, true), (&BAD, false)];
 
 #[test]
 fn good_pieces_come_back_and_bad_ones_are_refused(rt: HostRuntime) -> Result<(), Fail> {
-    for &(rows, good) in &TAKEN {
+    for &(rows, good) in &GOOD_AND_BAD {
         for (volume, stripe) in rows {
             expect_good(&rt, rt.alloc(), volume, stripe, good)?;
         }
@@ -198,7 +198,7 @@ fn expect_version_1(
     good: bool,
 ) -> Result<(), Fail> {
     let mut tree = new_tree(alloc)?;
-    let read = first_piece(&mut tree, &volume_piece(volume));
+    let read = read_version_1_volume(&mut tree, &volume_piece(volume));
     holds(rt, read.is_ok() == good);
     if good {
         expect_replies(
@@ -212,11 +212,11 @@ fn expect_version_1(
     Ok(())
 }
 
-fn first_piece(tree: &mut Tree, volume: &[u8]) -> Result<(), BadPiece>
+fn read_version_1_volume(tree: &mut Tree, volume: &[u8]) -> Result<(), BadPiece>
     requires new { IsNewTree tree.old }
     requires volume { length volume.now ≡ 64 }
 {
-    read_piece_1(tree, 0, volume)
+    read_version_1_piece(tree, 0, volume)
 }
 
 #[test]

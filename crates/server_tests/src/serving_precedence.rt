@@ -35,7 +35,7 @@ struct Failed {
     writer: bool,
 }
 
-/// How a session has to end in which these have failed. Where it has not begun (nothing was read), a device that failed did so at its
+/// How a session has to end when these have failed. Where it has not begun (nothing was read), a device that failed did so at its
 /// opening.
 fn end_of(failed: Failed, has_begun: bool) -> End {
     match (failed.writer, failed.device) {
@@ -47,13 +47,14 @@ fn end_of(failed: Failed, has_begun: bool) -> End {
 }
 
 /// Serves the lines, and fails unless the session ends as `end_of` says. Returns what has failed.
-fn sent<T: Threads + Wait + Sync + Abort>(
+fn serve_failing<T: Threads + Wait + Sync + Abort>(
     rt: &T,
     alloc: Global,
     way: Way,
     failing: Failing,
 ) -> Result<Failed, Wrong> {
     let notes = Notes::new();
+    // The reader fails at the end of the input, and this call of the writer fails.
     let streams = Streams {
         fails: true,
         fails_at: failing.writer,
@@ -87,7 +88,7 @@ fn fail_each_call<T: Threads + Wait + Sync + Abort>(
 ) -> Result<bool, Wrong> {
     let mut both = false;
     for device in 1..MOST_CALLS {
-        let failed = sent(rt, alloc, way, Failing { device, writer })?;
+        let failed = serve_failing(rt, alloc, way, Failing { device, writer })?;
         if !failed.device {
             return Ok(both);
         }
@@ -100,6 +101,7 @@ fn fail_each_call<T: Threads + Wait + Sync + Abort>(
 fn an_output_fault_is_reported_before_a_device_fault_and_that_before_a_read_fault(
     rt: HostRuntime,
 ) -> Result<(), Fail> {
+    // A checkpoint is due only where the log is full, and then after each record.
     for every in [0, 1] {
         let way = Way {
             workers: 2,

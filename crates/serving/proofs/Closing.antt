@@ -201,7 +201,7 @@ module _ (keeps : Type 0) (p : SessionView) (same : Type 0) where
 so_if : {A : Type 0} (o : Option A) (x : A) (P : A → Type 0) → o ≡ Some x → IfSome o P → P x
 so_if o x P is h = subst (λ (o : Option _). IfSome o P) is h
 
--- A session that has finished ends with what is reported for its `read_end`.
+-- A session that has answered every line returns the result for the reason why it stopped reading (`read_end`).
 pub ends_finished : (keeps : Type 0) (o : Option Start) (p : SessionView) → SessionInvariantFrom keeps o p → (read_end : ReadEnd) → HasFinished keeps p read_end
     → (result : Result (Unit {0}) ServeFault) → IfSome p.read_end (λ why. result ≡ end_of why)
     → EndsBy p result × OnOk result (keeps → HasEmptyLog p.core)

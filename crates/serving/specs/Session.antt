@@ -61,12 +61,12 @@ machine p = machine_with_jobs p.core p.dispatch_seat.lent
 -- The last argument is why no more is read. `unread` is what wasn't consumed of the input when reading ended, `remaining` what its reader
 -- has left.
 abbrev pub IsReadEnd : Geometry → CoreView → Option (List ℕ) → Bool → Option (List ℕ) → ReadEnd → Type 0
-IsReadEnd g now unread drained remaining ends_of_reading.EndOfInput = IsAtEnd unread × IsAtEnd remaining
-IsReadEnd g now unread drained remaining ends_of_reading.ReadFailed = (drained ≡ false) × IfSome unread (λ bs. LosesFront bs remaining)
-IsReadEnd g now unread drained remaining ends_of_reading.TicketsExhausted = (now.next ≡ 2 ^ 64 - 1)
+IsReadEnd g core unread drained remaining ends_of_reading.EndOfInput = IsAtEnd unread × IsAtEnd remaining
+IsReadEnd g core unread drained remaining ends_of_reading.ReadFailed = (drained ≡ false) × IfSome unread (λ bs. LosesFront bs remaining)
+IsReadEnd g core unread drained remaining ends_of_reading.TicketsExhausted = (core.next ≡ 2 ^ 64 - 1)
     × ((line : List ℕ) × (m : Msg) × IfSome unread (λ bs. (rest : Option (List ℕ)) × GivesLine line bs rest)
     × (message_of line ≡ Some m) × (is_in_range g m ≡ true))
-IsReadEnd g now unread drained remaining ends_of_reading.DeviceFailed = now.failed ≡ true
+IsReadEnd g core unread drained remaining ends_of_reading.DeviceFailed = core.failed ≡ true
 
 -- ---- the session invariant
 
@@ -75,8 +75,8 @@ abbrev pub known_unless : Bool → Option (List ℕ) → Option (List ℕ)
 known_unless true known = None
 known_unless false known = known
 
--- From the start of the call a legal run has led to this session, and `unread` is what is left of the input. The answers that wait are
--- those to the next lines in order, `waiting`; after these lines come those of the reorder buffer.
+-- From the start of the call of `serve` a legal run has led to this session, and `unread` is what is left of the input. The answers that
+-- wait are those to the next lines in order, `waiting`; after these lines come those of the reorder buffer.
 pub record SessionProgress (keeps : Type 0) (s : Start) (p : SessionView) (unread : Option (List ℕ)) (drained : Bool) : Type 0 where
   pub waiting : List Line
   pub have_answers : HaveAnswers waiting
@@ -111,13 +111,13 @@ pub record SessionInvariant (keeps : Type 0) (s : Start) (p : SessionView) : Typ
   pub knows : IsTrue p.ended → IsAtEnd p.remaining
   pub reads : ReadsOrHasEnded keeps s p p.read_end
 
--- `SessionInvariant` from this start. Before a call has begun there is no start, and no session satisfies this.
+-- `SessionInvariant` from this start. Before a call of `serve` has begun there is no start, and no session satisfies this.
 abbrev pub SessionInvariantFrom : Type 0 → Option Start → SessionView → Type 0
 SessionInvariantFrom keeps None p = ⊥
 SessionInvariantFrom keeps (Some s) p = SessionInvariant keeps s p
 
--- A call may begin at this start: no message is in the core or its `doubt`, the device has not failed, and the reorder buffer is empty and
--- has room for no more lines than the core has slots.
+-- A call of `serve` may begin at this start: no message is in the core or its `doubt`, the device has not failed, and the reorder buffer is
+-- empty and has room for no more lines than the core has slots.
 pub record CanBegin (start : Option Start) (core : CoreView) (places : ℕ) (input sent : Option (List ℕ))
     (reorder_buffer : ReorderBufferView) : Type 0 where
   pub is : start ≡ Some (record { core = core; places = places; input = input; before = sent })

@@ -1,4 +1,5 @@
--- The slots that the dispatcher's seat holds, as they are rotated.
+-- The dispatcher's seat has a list of slots: the job cell of each place where nothing is lent. It reaches only the first, so the list is
+-- rotated.
 use Rattle.std.proofs.Common.{◌≡◌, ℕ, zero, suc, ◌+◌, ◌<◌, Bool, true, false, List, [], ◌∷◌, ◌++◌, map, length, get_or, set, take, drop, replicate, Option, None, Some, is_some, refl, sym, ap, ◌∙◌, append_assoc, arith, drop-cons}
 use Rattle.std.proofs.lemmas.List.{take-set, drop-set-lt, get_or-set_same, length-set}
 use Rattle.atomic_table.specs.Table.{turned}

@@ -70,8 +70,8 @@ impl VolumePiece {
         }
     }
 
-    /// Decodes a volume's piece. The bytes that it doesn't use aren't checked, and bits of files that
-    /// the geometry doesn't have are dropped.
+    /// Decodes a volume's piece. Bytes that no field uses aren't checked here (`read_volume` refuses them
+    /// unless they are zero), and bits of files that the geometry doesn't have are dropped.
     fn decoded(g: &Geometry, version: u8, bytes: &[u8]) -> VolumePiece
         requires size { length bytes.now ≡ 64 }
         ensures { result ≡ decoded_piece version g.now bytes.now }
@@ -129,8 +129,8 @@ pub(super) fn write_volume(volume: &Vol, out: &mut [u8])
     VolumePiece::of(volume).write(out);
 }
 
-/// Reads a volume's piece into the volume. Gives whether the bytes are the encoding of what they decode
-/// to. Where they aren't, the volume stays as it is.
+/// Reads a volume's piece into the volume. Gives whether the bytes are canonical: the encoding of what they
+/// decode to. Where they aren't, the volume stays as it is.
 pub(super) fn read_volume(volume: &mut Vol, g: &Geometry, version: u8, bytes: &[u8]) -> bool
     requires size { length bytes.now ≡ 64 }
     ensures good { IsTrue result ↔ (bytes.now ≡ spelled (decoded_piece version g.now bytes.now)) }

@@ -6,7 +6,7 @@ use Rattle.plain.proofs.SessionSteps.{begins, stops_short}
 use Rattle.plain.proofs.answering.answer_all.Goals as goal
 
 pub loop-init : goal.loop-init
-loop-init g c = record { sound = c.requires.sound; knows = c.requires.knows; answered = rw c.requires.begun begins }
+loop-init g c = record { sound = c.requires.sound; knows = c.requires.knows; answered = rw c.requires.not_drained begins }
 
 -- the input has ended
 pub returns-then-not-branch-clause-ok : goal.returns-then-not-branch-clause-ok

@@ -1,4 +1,4 @@
--- The chain of those that ran is walked slot by slot: each slot has a message, and the log keeps it if it is a change that was carried out.
+-- The chain of slots whose messages ran is walked slot by slot: each slot has a message, and the log keeps it if it is a change that was carried out.
 use Rattle.std.proofs.Common.{sym, ap, ◌∙◌, refl, length, arith}
 use Rattle.std.specs.Prelude.{cond, option_copied}
 use Rattle.affinity.specs.Kind.{is_changing}

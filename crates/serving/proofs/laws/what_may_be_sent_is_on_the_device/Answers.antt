@@ -1,4 +1,4 @@
--- Each line that may be sent is of a logged message, or needs no log, so each crash image holds it.
+-- Each line that may be sent answers a logged message, or needs no record; so whatever a crash leaves holds it.
 use Rattle.serving.proofs.Holding.{holds_sent}
 use Rattle.serving.proofs.laws.what_may_be_sent_is_on_the_device.Goals as goal
 

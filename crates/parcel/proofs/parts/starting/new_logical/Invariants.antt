@@ -1,4 +1,4 @@
--- As many new children as the counter says are in the vector, and there is room for the rest.
+-- The vector has as many new children as the counter says, and room for the rest.
 use Rattle.std.proofs.Common.{◌≡◌, ◌≤◌, [], length, vec_capacity}
 use Rattle.std.specs.List.{AllByRecursion}
 use Rattle.parcel.specs.Fits.{IsWholeChild}

@@ -1,4 +1,4 @@
--- A session that has finished ends with what is reported for its `read_end`.
+-- A session that has answered every line returns the result for the reason why it stopped reading (`read_end`).
 use Rattle.std.proofs.Common.{◌≡◌, subst}
 use Rattle.std.specs.Prelude.{IfSome}
 use Rattle.serving.specs.Session.{SessionInvariantFrom, SessionView, end_of}
