@@ -146,7 +146,7 @@ def of_speed(figures):
     quick = QUICK * figures.told["is_quick"]
     return [f"{quick}With 64 or 256 slots, {span([round(speed, -3) for speed in speeds])} writes of full blocks a second, and "
             f"{span(syncs)} syncs for 1,000 of them; writing and syncing a record takes {number(sync)} microseconds. An ordinary unproved Rust server is {batch} "
-            f"times as fast; {twice} times, if it locks and syncs as `waffd` does."]
+            f"times as fast as `waffd` with 2 workers; {twice} times, if it locks and syncs as `waffd` does."]
 
 
 PAGES = {os.path.join("docs", "speed.md"): {"run": of_run, "table": of_table, "others": of_others, "missed": of_missed},
