@@ -26,7 +26,7 @@ CountsOpenFault (Err _) old new = new ≡ old
 abbrev pub IsOpeningCall : {T : Type 0} → Result T OpenFault → Medium → Medium → Type 0
 IsOpeningCall result old new = CountsOpenFault result old.faults new.faults × (length new.now ≡ length old.now)
 
--- This fault is the given one, which the bytes of a device with a header show, or `Device` or `OutOfMemory`, which bytes don't show.
+-- This fault is `Device` or `OutOfMemory`, which no bytes show, or the given one, which is of a device with a header.
 abbrev pub IsConsistentFault : Option OpenFault → OpenFault → Type 0
 IsConsistentFault given Device = Unit {0}
 IsConsistentFault given OutOfMemory = Unit {0}
@@ -42,7 +42,7 @@ IsOfHeader NotFormatted = Unit {0}
 IsOfHeader BadGeometry = Unit {0}
 IsOfHeader fault = ⊥
 
--- A bad record is one of this half.
+-- If the fault is a bad record, the record is one of this half.
 abbrev pub IsOfHalf : ℕ → OpenFault → Type 0
 IsOfHalf half (BadRecord h i) = h ≡ half
 IsOfHalf half fault = Unit {0}
@@ -68,7 +68,7 @@ image_fault g bytes = fault_if (not (has_head bytes)) BadVersion (fault_or_later
 abbrev pub are_both_chained : Layout → List ℕ → Bool
 are_both_chained l c = (chain l 0 c == 1) && (chain l 1 c == 1)
 
--- the fault of the first record in force, with area n as the named one, that can't be run on what those before it make of the state x
+-- with area n named, the records in force are run on state x, one after the other: the fault of the first that can't be run
 abbrev pub in_force_fault : Geometry → State → ℕ → List ℕ → Option OpenFault
 in_force_fault g x n c =
     let l = layout_of g in

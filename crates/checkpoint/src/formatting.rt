@@ -1,7 +1,7 @@
 //! How a device is made.
 //!
 //! Its format byte (the first byte, which is 1 on a formatted device) is cleared first and set last, each with a sync of its own before and
-//! after it. So a crash leaves what one could leave before, or a device that isn't formatted, or the whole new one.
+//! after it. So a crash leaves what a crash just before the call could leave, or a device that isn't formatted, or the whole new one.
 ghost use Rattle.std.specs.Prelude.{◌≡◌, ◌≢◌, ◌⊎◌, ◌↔◌, ◌+◌, ◌-◌, ◌<◌, ◌≤◌, Some, length, replicate, OnOk, IfOk, IfErr, MatchResult, IsErrOf, IsFalse, IsTrue};
 ghost use Rattle.affinity.specs.declared.geometry.Geometry.{Geometry};
 ghost use Rattle.checkpoint.specs.Formatting.{FormatCrashImages, IsAllButHeader, HasNoFormatByte, StaysUnformatted};
@@ -96,9 +96,9 @@ fn lay_out<D: Disk>(disk: &mut D, zeros: &[u8], g: &Geometry) -> Result<(), Disk
     ensures inside { IsErrOf result DiskFault.OutOfRange → ⊥ }
     ensures call { IsDeviceCall result (D.medium disk.old) (D.medium disk.new) }
 {
-    let front = CHAIN_ZONE_SIZE + usize::from(g.half);
-    write_zeros(disk, zeros, ROOT_ZONE_AT, ROOT_ZONE_SIZE + front)?;
-    write_zeros(disk, zeros, half_at(g, 1), front)?;
+    let chain_and_gates = CHAIN_ZONE_SIZE + usize::from(g.half);
+    write_zeros(disk, zeros, ROOT_ZONE_AT, ROOT_ZONE_SIZE + chain_and_gates)?;
+    write_zeros(disk, zeros, half_at(g, 1), chain_and_gates)?;
     write_zeros(disk, zeros, image_at(g, 0), image_size(g))?;
     store(disk, image_at(g, 0), &[VERSION])?;
     Ok(())
@@ -124,7 +124,7 @@ fn write_header<D: Disk>(disk: &mut D, g: &Geometry) -> Result<(), DiskFault>
     Ok(())
 }
 
-/// Makes a device that is long enough.
+/// Formats a device, which has to be long enough.
 fn format_on<D: Disk>(disk: &mut D, zeros: &[u8], g: &Geometry) -> Result<(), DiskFault>
     requires zeros { zeros.now ≡ replicate (length zeros.now) 0 }
     requires some { 0 < length zeros.now }

@@ -27,7 +27,7 @@ pub const IMAGE_HEAD_SIZE: usize = 64;
 pub const VOLUME_PIECE_SIZE: usize = 64;
 
 /// The size of a block's entry in the piece of a stripe.
-pub const ENTRY_SIZE: usize = 520;
+pub const BLOCK_ENTRY_SIZE: usize = 520;
 
 /// The size of each half.
 pub fn half_size(g: &Geometry) -> usize
@@ -44,7 +44,7 @@ pub fn image_size(g: &Geometry) -> usize
     ensures most { result ≤ 8521792 }
 {
     let volumes = usize::from(g.aggregates) * usize::from(g.volumes);
-    let stripes = usize::from(g.stripes) * (usize::from(g.quota) * ENTRY_SIZE);
+    let stripes = usize::from(g.stripes) * (usize::from(g.quota) * BLOCK_ENTRY_SIZE);
     IMAGE_HEAD_SIZE + volumes * (VOLUME_PIECE_SIZE + stripes)
 }
 

@@ -1,8 +1,8 @@
 //! A device of bytes: what a read of it gives, and what a crash may leave.
 //!
-//! `Disk` is the contract that durable code rests on. `MemDisk` keeps it, and can fail and crash on purpose.
-//! `FileBacked` is a device with a file behind it, proved over the three calls of `BackingFile`. `FileDisk` is that over a file of the
-//! system, of which no contract can state that it keeps its bytes.
+//! `Disk` is the contract that durable code rests on. `MemDisk` keeps it, and can fail and crash on purpose. `FileBacked` is a device with
+//! a file behind it, proved over the three calls of `BackingFile`. `FileDisk` is a `FileBacked` over a file of the system, of which no
+//! contract can state that it keeps its bytes.
 #![tactic(auto)]
 
 mod backed;

@@ -7,7 +7,7 @@ ghost use Rattle.image.specs.Pieces.{piece_count, piece_size};
 ghost use Rattle.device_map.specs.Layout.{entry_size};
 
 use affinity::Geometry;
-use device_map::{ENTRY_SIZE, IMAGE_HEAD_SIZE, VOLUME_PIECE_SIZE};
+use device_map::{BLOCK_ENTRY_SIZE, IMAGE_HEAD_SIZE, VOLUME_PIECE_SIZE};
 
 /// The version of the images that are written. An image begins with its version.
 pub const VERSION: u8 = 2;
@@ -30,7 +30,7 @@ pub fn largest_piece(g: &Geometry) -> usize
     ensures some { 0 < result }
     ensures most { result ≤ 33280 }
 {
-    usize::from(g.quota) * ENTRY_SIZE
+    usize::from(g.quota) * BLOCK_ENTRY_SIZE
 }
 
 /// The size of piece `n`.

@@ -10,7 +10,7 @@ use std::alloc::Global;
 use std::process::Abort;
 use std::test::Fail;
 
-/// A machine with so many slots for messages and so many hands, that was just opened, and all that it does.
+/// How many slots for messages and how many hands a machine has that was just opened, and the rows that it goes through.
 #[derive(Clone, Copy, Drop)]
 struct Incarnation {
     slots: usize,
@@ -25,7 +25,7 @@ struct Incarnations {
     incarnations: &'static [Incarnation],
 }
 
-/// The call of the device that fails, counted from where this is set.
+/// The call of the device that fails, counted from 1, after the first rows.
 #[derive(Clone, Copy, Drop)]
 enum InjectedFault {
     /// This call alone.
@@ -73,7 +73,7 @@ fn calls_of(
     Ok(run_incarnation(rt, alloc, device, &beginning)?.calls())
 }
 
-/// The device after an incarnation on a new one, where this injected fault counts from the end of the first rows, `first` of them.
+/// The device after an incarnation on a new one with this injected fault, whose call is counted from after row number `first`.
 fn left_with(
     rt: &impl Abort,
     alloc: Global,
@@ -439,8 +439,8 @@ fn a_log_in_which_one_call_fails_leaves_the_change_only_if_its_gate_was_written(
     Ok(())
 }
 
-/// Three blocks are written side by side, and the device stops where they are logged, at the write of their gates. The log step comes after
-/// the first 15 rows.
+/// Three blocks, each in a stripe of its own (`FLAT`), are written side by side, and the device stops where they are logged, at the write
+/// of their gates. The log step comes after the first 15 rows.
 const THREE_WRITES: Incarnation = Incarnation {
     slots: 3,
     hands: 3,
@@ -464,7 +464,8 @@ const THREE_WRITES: Incarnation = Incarnation {
     ],
 };
 
-/// The gates are open, shut and open: the first block alone is there. Another one takes its place.
+/// The gates are open, shut and open: the first block alone is there. Then another block is written, and
+/// the first is punched.
 const FIRST_BLOCK: Incarnation = Incarnation {
     slots: 1,
     hands: 1,
@@ -603,7 +604,7 @@ const CHANGED_PIECES: Incarnation = Incarnation {
     ],
 };
 
-/// The first so many rows of `CHANGED_PIECES` end with the end of a cut. Then this area is named, with so many volumes, files and blocks.
+/// How many rows of `CHANGED_PIECES` there are up to the end of a cut; the area that is named then; and its volumes, files and blocks.
 const NAMED: [(usize, usize, [u32; 3]); 5] = [
     (5, 0, [0, 0, 0]),
     (9, 1, [1, 0, 0]),

@@ -1,4 +1,5 @@
--- Statement for engineers: What the laws of steps say of messages: they commute, run alike in two states, or give the same by ticket.
+-- Statement for engineers: What it is for messages to commute, to run alike in two states, and to give the same replies and state when run
+-- by ticket.
 use Rattle.std.specs.Prelude.{◌≡◌, ℕ, ◌≤◌, Bool, true, false, not, List, [], ◌∷◌, if◌then◌else◌}
 use Rattle.std.specs.List.{AllByRecursion}
 use Rattle.affinity.specs.declared.geometry.Geometry.{Geometry}

@@ -1,6 +1,6 @@
 //! What every message means: the states of a server, the reply and the effect of a message in one, and their laws.
 //!
-//! The definitions are in `specs`. No code runs here but the table of the checks of each kind.
+//! The definitions are in `specs`. The only code is a table: which checks a message of each kind has to pass.
 #![tactic(auto)]
 
 pub mod laws;

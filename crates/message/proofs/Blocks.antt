@@ -15,7 +15,7 @@ use Rattle.messages.specs.declared.Block.{Block}
 use Rattle.messages.specs.Lines.{bytes_in_word, block_in_word, label_in_word, padded, padded_with}
 use Rattle.message.proofs.Words.{HasNoSpace}
 
--- a word with what makes it encode n bytes
+-- w is the hexadecimal digits of `bytes`, of which there are 1 to `size`
 pub record IsDigits (size : ℕ) (w bytes : List ℕ) : Type 0 where
   pub low : 2 ≤ length w
   pub high : length w ≤ 2 * size
@@ -103,7 +103,7 @@ told_ok : (d : Result (List ℕ) FromHexError) (r : Result (Unit {0}) FromHexErr
 told_ok (Ok bytes) r out h = (ap result_ok h.0, h.1)
 told_ok (Err x) r out h = ap result_ok h
 
--- what the crate's decoding showed, its error left out
+-- what the decoding of the crate `hex` showed, its error left out
 pub decoded_by_hex : (w : List ℕ) (n : ℕ) (r : Result (Unit {0}) FromHexError) (o : Option (Unit {0})) (out : List ℕ)
     → MatchResult (decode_sized w n) (λ bytes. (r ≡ Ok tt) × (out ≡ bytes)) (λ e. r ≡ Err e) → o ≡ result_ok r → Decoded w n o out
 decoded_by_hex w n r o out h e = rw e (told_ok (decode_sized w n) r out h)

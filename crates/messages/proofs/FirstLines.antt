@@ -1,4 +1,4 @@
--- Lines and the first line, and lines that are too long.
+-- The lines of some bytes are the first line and then the lines of the rest; and what holds of a line that is too long.
 use Rattle.std.proofs.Common.{◌≡◌, ◌≢◌, ℕ, ◌<◌, inl, inr, eqb, List, [], ◌∷◌, length, None, refl, sym, ap, ◌∙◌}
 use Rattle.std.proofs.lemmas.Bool.{cond-true, cond-false, eq-eqb, ne_eqb, cases_eq, lt-ltb}
 use Rattle.messages.specs.Lines.{lines, in_first}

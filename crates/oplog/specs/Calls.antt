@@ -67,8 +67,8 @@ IsOfRecordAt log h i m result = IsOfRecord log.geometry (record_at (layout log) 
 
 -- ---- what calls of one half ask and do
 
-abbrev pub HalfFits : Half → Medium → Type 0
-HalfFits half m = device_size (layout_of half.geometry) ≤ length m.now
+abbrev pub IsLongEnoughForHalf : Half → Medium → Type 0
+IsLongEnoughForHalf half m = device_size (layout_of half.geometry) ≤ length m.now
 
 abbrev pub IsHalfReady : Half → ℕ → Medium → Type 0
 IsHalfReady half used m = IsReady (layout_of half.geometry) half.number used m

@@ -47,7 +47,7 @@ pub(crate) struct Half {
 }
 
 impl Half {
-    ghost use Rattle.oplog.specs.Calls.{HalfFits, IsHalfReady, HalfGrows, HalfHasAdded};
+    ghost use Rattle.oplog.specs.Calls.{IsLongEnoughForHalf, IsHalfReady, HalfGrows, HalfHasAdded};
 
     /// How many records it can hold.
     pub(crate) fn capacity(self) -> usize
@@ -82,7 +82,7 @@ impl Half {
 
     /// Writes zeros over its chain byte, the bytes beside it and its gates, and syncs.
     pub(crate) fn clear<D: Disk>(self, disk: &mut D) -> Result<(), DiskFault>
-        requires long_enough { HalfFits self (D.medium disk.old) }
+        requires long_enough { IsLongEnoughForHalf self (D.medium disk.old) }
         ensures any_moment { D.keeps → CrashesChangeOnly (D.medium disk.old) (D.medium disk.new)
             (SameOutside (part_at (layout_of self.geometry) (half_part self.number)) (64 + self.geometry.half)) }
         ensures cleared { OnOk result (D.keeps →
@@ -99,7 +99,7 @@ impl Half {
     fn open_gates<D: Disk>(self, disk: &mut D, first: usize, count: usize) -> Result<(), DiskFault>
         requires batch { count ≤ 64 }
         requires room { first + count ≤ self.geometry.half }
-        requires long_enough { HalfFits self (D.medium disk.old) }
+        requires long_enough { IsLongEnoughForHalf self (D.medium disk.old) }
         ensures any_moment { D.keeps → CrashesChangeOnly (D.medium disk.old) (D.medium disk.new)
             (SameOutside (part_at (layout_of self.geometry) (half_part self.number) + (64 + first)) count) }
         ensures opened { OnOk result (D.keeps →
@@ -124,7 +124,7 @@ impl Half {
         requires batch { length messages.now ≤ 64 }
         requires room { used + length messages.now ≤ self.geometry.half }
         requires buffer { length messages.now * 520 ≤ vec_len buffer.old }
-        requires long_enough { HalfFits self (D.medium disk.old) }
+        requires long_enough { IsLongEnoughForHalf self (D.medium disk.old) }
         // The front has `used` records, all gates behind it are 0, and nothing in this half is unsynced.
         requires ready { D.keeps → IsHalfReady self used (D.medium disk.old) }
         ensures any_moment { D.keeps → HalfGrows self messages.now (D.medium disk.old) (D.medium disk.new) }
@@ -140,7 +140,7 @@ impl Half {
         self.open_gates(disk, used, messages.len())
     }
 
-    /// Adds these messages behind the first `used` records, which make up the front, up to 64 at a time.
+    /// Adds these messages, up to 64 at a time, after the first `used` records, which make up the front.
     pub(crate) fn append<D: Disk>(
         self,
         disk: &mut D,
@@ -151,7 +151,7 @@ impl Half {
         requires changes { AreChangesInRange self.geometry messages.now }
         requires room { used + length messages.now ≤ self.geometry.half }
         requires buffer { min self.geometry.half 64 * 520 ≤ vec_len buffer.old }
-        requires long_enough { HalfFits self (D.medium disk.old) }
+        requires long_enough { IsLongEnoughForHalf self (D.medium disk.old) }
         // The front has `used` records, all gates behind it are 0, and nothing in this half is unsynced.
         requires ready { D.keeps → IsHalfReady self used (D.medium disk.old) }
         ensures any_moment { D.keeps → HalfGrows self messages.now (D.medium disk.old) (D.medium disk.new) }
@@ -174,7 +174,7 @@ impl Half {
     /// How many records its front has. The gates are read into `gates`.
     pub(crate) fn front<D: Disk>(self, disk: &mut D, gates: &mut [u8]) -> Result<usize, DiskFault>
         requires size { length gates.old ≡ self.geometry.half }
-        requires long_enough { HalfFits self (D.medium disk.old) }
+        requires long_enough { IsLongEnoughForHalf self (D.medium disk.old) }
         ensures front { IfOk result (λ n. D.keeps → n ≡ length (front (layout_of self.geometry) self.number (D.medium disk.old).now)) }
         ensures within { IfOk result (λ n. n ≤ self.geometry.half) }
         ensures untouched { D.keeps → moments (D.medium disk.new) ≡ moments (D.medium disk.old) }

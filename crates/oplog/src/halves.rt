@@ -136,10 +136,10 @@ impl Halves {
         requires changes { AreChangesInRange self.old.geometry messages.now }
         requires room { self.old.used + length messages.now ≤ self.old.geometry.half }
         requires long_enough { IsLongEnough self.old (D.medium disk.old) }
-        // The current half's front has `used` records, all gates behind it are 0, and nothing in this half is unsynced.
+        // The current half's front has `used` records, all gates after it are 0, and nothing in this half is unsynced.
         requires ready { D.keeps → IsReadyFor self.old (D.medium disk.old) }
 
-        // A crash at any moment of the call leaves the current half's front as it was, with the first m messages behind it, for some m.
+        // A crash at any moment of the call leaves the current half's front as it was, with the first m messages after it, for some m.
         ensures any_moment { D.keeps → Grows self.old messages.now (D.medium disk.old) (D.medium disk.new) }
         ensures added { OnOk result (D.keeps → HasAdded self.old messages.now (D.medium disk.old) (D.medium disk.new)) }
         ensures none { length messages.now ≡ 0 → disk.new ≡ disk.old }
@@ -192,7 +192,7 @@ impl Halves {
     }
 
     /// Puts the records of the other half in force after those of the named one, by the chain byte of the named half.
-    /// The other half becomes current, with room for all records. Clause `cleared` asks that it was cleared since it was last named or
+    /// The other half becomes current, with the room of a whole half. Clause `cleared` asks that it was cleared since it was last named or
     /// current.
     pub fn open_chain<D: Disk>(&mut self, disk: &mut D) -> Result<(), LogFault>
         requires not_failed { self.old.failed ≡ false }
@@ -221,8 +221,8 @@ impl Halves {
     }
 
     /// Names the other half, by the first byte of the root zone. If the named half was also the current one, the other half becomes
-    /// current: with room for all records if it was cleared since it was last named or current, with none if it wasn't. If the other half
-    /// was current already, it stays so, with its room.
+    /// current: with the room of a whole half if it was cleared since it was last named or current, with none if it wasn't. If the other
+    /// half was current already, it stays so, with its room.
     pub fn flip_root<D: Disk>(&mut self, disk: &mut D) -> Result<(), LogFault>
         requires not_failed { self.old.failed ≡ false }
         requires long_enough { IsLongEnough self.old (D.medium disk.old) }

@@ -1,7 +1,7 @@
 //! The map of a device, as `device_map` has it, and how many records a half and a write take.
 
 pub use device_map::{
-    CHAIN_ZONE_SIZE, ENTRY_SIZE, HEADER_SIZE, IMAGE_HEAD_SIZE, RECORD_SIZE, ROOT_ZONE_AT,
+    BLOCK_ENTRY_SIZE, CHAIN_ZONE_SIZE, HEADER_SIZE, IMAGE_HEAD_SIZE, RECORD_SIZE, ROOT_ZONE_AT,
     ROOT_ZONE_SIZE, VOLUME_PIECE_SIZE, device_len, half_at, half_size, image_at, image_size,
 };
 

@@ -24,8 +24,8 @@ use at_stripe::run_at_stripe;
 use at_volume::run_at_volume;
 use messages::{Msg, Reply};
 
-/// Runs a job: the reply is that of the serial server in the state that its parcels and its standing
-/// show, and afterwards these show the state after that step.
+/// Runs a job: the serial server, in the state that the job's parcels and standing show, gives this reply;
+/// afterwards they show the state in which it is then.
 #[inline(always)]
 pub fn run(job: Job) -> Done
     ensures { IsJobRun job result }

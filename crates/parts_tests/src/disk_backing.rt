@@ -13,8 +13,8 @@ use std::os::unix::fs::FileExt;
 use std::sync::atomic::{AtomicU64, Ordering};
 use std::test::Fail;
 
-/// A file that transfers at most three bytes at a time. Of its reads and writes the first is interrupted, the third, and so on. It counts
-/// the calls of `sync_data`.
+/// A file that transfers at most three bytes at a time. Every other read or write is interrupted, beginning with the first. It counts the
+/// calls of `sync_data`.
 #[derive(Drop)]
 struct Choppy<'a> {
     file: File,
@@ -152,7 +152,7 @@ const CALLS: [Call; 7] = [
 
 const ANSWERS: [Result<(), DiskFault>; 7] = [FINE, FINE, FINE, OUTSIDE, FINE, FINE, FINE];
 
-/// The system may transfer less than it was asked, and may be interrupted.
+/// A call may transfer less than was asked, and may be interrupted.
 #[test]
 fn what_a_file_transfers_in_parts_is_whole(rt: HostRuntime) -> Result<(), Fail> {
     let place = TestFile::new(&rt, "parts")?;

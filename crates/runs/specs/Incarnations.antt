@@ -31,8 +31,8 @@ pub record DeviceIncarnation : Type 0 where
 abbrev pub IsPassedOn : Medium → ℕ → Medium → Type 0
 IsPassedOn m t next = ((left_since m t next.now) × IsSynced next) ⊎ ((next ≡ m) × (t ≤ moment_number m) × AreBytes m.now)
 
--- The device was opened with the geometry of its header, and with no message in the core; the run was made, and the crash came when k of
--- its events or more had ended.
+-- The device was opened with the geometry of its header, and with no message in the core; the run was made, and the crash came after at
+-- least k of its events had ended.
 pub record IsRunIncarnation (l : DeviceIncarnation) (start : MachineState) (events : List Event) (k : ℕ) : Type 0 where
   pub header : HasHeader l.geometry l.at_open.now
   pub recovered_before : recovered_state l.geometry l.at_open.now ≡ Some start.core.committed

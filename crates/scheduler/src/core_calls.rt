@@ -124,7 +124,7 @@ impl<D: Disk> Core<D> {
             (named_area (layout_of core.geometry) core.medium.now) core.medium.now ≡ []) }
 
         // Until the first sync of the call is over, a crash leaves what a crash just before the call could have left. After it, what a
-        // crash leaves recovers to the same state, or is refused for the same fault.
+        // crash leaves recovers to the state to which the device recovered before the call, or is refused for the fault that it had.
         ensures any_moment { D.keeps → MatchResult result
             (λ core. OpeningCrashImages (D.medium d) core.medium)
             (λ e. OpeningCrashImages (D.medium d) (D.medium e.disk)) }
@@ -140,8 +140,8 @@ impl<D: Disk> Core<D> {
             (λ e. moment_number (D.medium e.disk) ≤ moment_number (D.medium d) + 11) }
         ensures refused { IfErr result (λ e. D.keeps → IsRefused (D.medium d).now e.fault) }
 
-        // A refusal writes nothing, unless the device fails, or the fault is a bad record in the half that a cut began: then the cut
-        // was finished first.
+        // A refusal writes nothing, unless the device fails, or the fault is a bad record in the half after the named one, while
+        // a cut was in progress: the cut is finished before these records are run.
         ensures unwritten { IfErr result (λ e. D.keeps → IsRefusedUnwritten (D.medium d) e.fault (D.medium e.disk)) }
 
         // A device that recovers to a state is opened, and one whose bytes call for a refusal is refused with just that fault,
@@ -286,7 +286,7 @@ impl<D: Disk> Core<D> {
         ensures geometry { self.new.geometry ≡ self.old.geometry }
         ensures counts { CountsFailure (log_device_failed result) self.old.medium.faults self.new.medium.faults }
 
-        // A crash at any moment of the call leaves what was committed, with the first m of what is appended.
+        // A crash at any moment of the call leaves what was committed, with the first m of what is appended, for some m.
         ensures any_moment { D.keeps → RecoversThroughout (batch (core_state_of self.old) n) self.old self.new }
         ensures beyond { D.keeps → KeepsBeyond (layout_of self.old.geometry) self.old.medium self.new.medium }
 

@@ -103,9 +103,7 @@ fn checks_related(rt: &impl Abort, g: &Geometry, message: (Kind, [u16; 4]), row:
 }
 
 #[test]
-fn each_stripe_is_related_to_all_but_the_other_one_and_the_label(
-    rt: HostRuntime,
-) -> Result<(), Fail> {
+fn affinities_are_related_as_listed(rt: HostRuntime) -> Result<(), Fail> {
     let g = Geometry::new(SMALL)?;
     for (message, row) in EACH_AFFINITY.iter().zip(ARE_RELATED.iter()) {
         checks_related(&rt, &g, *message, row);

@@ -33,8 +33,7 @@ pub enum ServeFault {
     Read,
     /// The output could not be written. What was written of it is unknown.
     Write,
-    /// The device failed. Only whole lines were written, and each reply among them to a message with a ticket is to a message that was
-    /// logged before.
+    /// The device failed. Only whole lines were written, and a message with a ticket was logged before its reply was written.
     Device,
     /// There was no memory, or a thread could not be started. Nothing was read or written.
     OutOfMemory,
@@ -177,7 +176,7 @@ fn serve_borrowed<
 /// the lines that were sent are the serial server's, and the core has committed the serial server's state, for every schedule of the
 /// workers. A checkpoint is made after each `every` records (0: never by their count), where the log has no room, and at the end of the
 /// input. All memory is taken before the first read, and the threads have ended when it returns. Lines are sent under the condition of
-/// `ReplySink::send` and in no other way.
+/// `ReplySink::send` (the device holds already what is sent) and in no other way.
 ///
 /// # Errors
 ///
@@ -218,12 +217,13 @@ pub fn serve_to<T: Threads + Wait + Sync, R: Read, L: ReplySink<D>, D: Disk + Dr
         CheckpointTrigger::new(every),
         PhantomData,
     );
+    // For the proof: the borrow of the reader ends here.
     know_returned(reader);
     (ended, sink)
 }
 
-/// What a call that serves a writer began with (a `Start`: core, places, input, output), and the name by which proofs know its borrow of
-/// the writer.
+/// What a call that writes its replies to a writer began with (a `Start`: core, places, input, output), and the name by which proofs know
+/// its borrow of the writer.
 trait Beginning {
     ghost use Rattle.std.specs.Prelude.{Option};
     ghost use Rattle.std.specs.Borrow.{GName};
@@ -276,7 +276,7 @@ struct Setting<'c, T, G> {
     gate: &'c G,
 }
 
-// Serves for a writer that is borrowed, and gives it back.
+// Serves with a borrowed writer as the output, and gives it back.
 fn serve_writer<
     'c,
     'w,

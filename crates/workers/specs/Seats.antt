@@ -23,7 +23,8 @@ IsBench z = (z.words ≡ z.slots + 6) × (z.slots ≤ 64)
 abbrev pub IsAtBench : TableId → TableId → Type 0
 IsAtBench table seat = (seat ≡ table) × IsBench table
 
--- the jobs that are lent, as far as a seat knows: all for the dispatcher's, none for a worker's
+-- the jobs that are lent, as far as a seat knows: all for the dispatcher's, none for a worker's. `untaken` is how many places' slots the
+-- dispatcher's seat has not taken out of the table yet: 0 once the bench is open.
 abbrev pub lent_of : SeatRole → List (Option JobView)
 lent_of (Dispatcher untaken lent) = lent
 lent_of _ = []

@@ -11,7 +11,7 @@ use affinity::{Geometry, group_of};
 use messages::Block;
 
 /// How many bytes an entry has.
-const ENTRY_SIZE: usize = 520;
+const BLOCK_ENTRY_SIZE: usize = 520;
 
 /// How many bytes come before the content of a block in its entry.
 const ENTRY_HEAD: usize = 8;
@@ -65,8 +65,8 @@ impl StripeParcel {
     {
         let mut at = 0;
         for n in 0..self.len() {
-            self.write_entry(n, &mut out[at..at + ENTRY_SIZE]);
-            at += ENTRY_SIZE;
+            self.write_entry(n, &mut out[at..at + BLOCK_ENTRY_SIZE]);
+            at += BLOCK_ENTRY_SIZE;
         }
         out[at..].fill(0);
     }
@@ -98,11 +98,11 @@ impl StripeParcel {
         ensures quota { self.new.quota ≡ self.old.quota }
     {
         for n in 0..usize::from(g.quota) {
-            let at = n * ENTRY_SIZE;
+            let at = n * BLOCK_ENTRY_SIZE;
             if bytes[at] != 1 {
                 return are_zeros(&bytes[at..]);
             }
-            if !self.push(g, files, s, &bytes[at..at + ENTRY_SIZE]) {
+            if !self.push(g, files, s, &bytes[at..at + BLOCK_ENTRY_SIZE]) {
                 return false;
             }
         }

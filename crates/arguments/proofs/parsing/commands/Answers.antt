@@ -1,4 +1,4 @@
--- The rows are those of the four commands.
+-- The rows of the parser's table are those of the four commands.
 use Rattle.arguments.specs.Tables.{command_app}
 use Rattle.arguments.proofs.parsing.commands.Goals as goal
 

@@ -1,4 +1,4 @@
--- The record is that of one message, or of none. It is run exactly where there is a message whose reply is `Done`, and is bad otherwise.
+-- A record's bytes encode one message or none. The record is run if there is a message whose reply is `Done`; otherwise it is bad.
 use Rattle.std.proofs.Common.{Some, sym, ◌∙◌, ap, subst}
 use Rattle.std.proofs.lemmas.Result.{err_from_is_err_and}
 use Rattle.affinity.specs.declared.geometry.Geometry.{Geometry}

@@ -1,4 +1,4 @@
--- The number of the affinity and each one below it are looked at.
+-- The loop looks at the number of the affinity and at those of all affinities below it in the tree.
 use Rattle.std.proofs.Common.{◌≡◌, false, inl, inr, arith, sym, subst, ◌∙◌}
 use Rattle.std.proofs.lemmas.Bool.{cases_eq, and_parts, leb-true, ltb-true}
 use Rattle.run_queue.specs.RelatedNumbers.{conflicts_at}

@@ -1,4 +1,4 @@
--- What stays so while one message after the other is answered; and how many are still logged.
+-- What stays so while one message after the other is answered; and how many logged messages are left to answer.
 use Rattle.std.proofs.Common.{length}
 use Rattle.serving.specs.Session.{KeepsReadEndAndOutputFailed}
 use Rattle.serving.proofs.session.Session.log_and_reply.Given as goal
