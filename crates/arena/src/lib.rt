@@ -69,6 +69,7 @@ fn fill<T>(values: &mut Vec<Option<T>>, i: usize, value: T)
 }
 
 impl<T> Arena<T> {
+    // Both are about a returned `&mut`: what is written through it is written to the slot. They are not about `lend`.
     ghost use Rattle.arena.specs.Lends.{lends_get, lends_value};
 
     /// `slots` free slots in order, and `chains` empty chains, numbered from 0. `AllocError` where

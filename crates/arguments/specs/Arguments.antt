@@ -1,5 +1,6 @@
 -- Statement for engineers: What the arguments ask for. `clap` reads them, by its rules for the commands and options below. Of its types an
--- `App` is a command with its subcommands, a `Rule` one argument or option that it takes, and a `Row` one that was given, with its values.
+-- `App` is a command with its subcommands (its `top` is the command without them), a `Rule` one argument or option that it takes, and a
+-- `Row` one that was given, with its values.
 use Rattle.std.specs.Prelude.{◌≡◌, ◌≢◌, ◌&&◌, ◌⊎◌, ℕ, Bool, true, false, List, [], ◌∷◌, fold, length, Option, Some, None, option_and_then, option_map, unwrap_or, Result, Ok, Err, codes, if◌then◌else◌, nat_lt, ℤ, pos}
 use Rattle.std.specs.Char.{digit_value}
 use Rattle.std.specs.List.{list_all}
@@ -84,7 +85,7 @@ number_of text =
     if nat_lt 0 (length digits) && list_all (λ d. nat_lt (digit_value d) 10) digits
     && nat_lt (digits_value 10 digits) 65536 then Some (digits_value 10 digits) else None
 
--- the number of an option among those that were given, or the default
+-- the number of an option among those that were given, or the default; `one_of name rows` is the value that was given to it, as a text
 abbrev pub number_in : List Row → Text → ℕ → ℕ
 number_in rows name default = unwrap_or (option_and_then number_of (one_of name rows)) default
 

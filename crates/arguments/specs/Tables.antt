@@ -1,4 +1,5 @@
--- Inner: The parser that a table of options and a table of commands describe. A `Bor T` is a reference to a T, which is its `now`.
+-- Inner: The parser that a table of options and a table of commands describe. A `Bor T` is a reference to a T, which is its `now`; `pos n`
+-- is n as an integer.
 use Rattle.std.specs.Prelude.{ℕ, Bool, List, fold, if◌then◌else◌, pos}
 use Rattle.std.specs.Borrow.{Bor}
 use Rattle.clap.specs.Words.{App, Text, new_app, with_rule, with_subcommand}

@@ -170,7 +170,8 @@ fn outcome_of<'a>(error: clap::Error) -> Result<Request<'a>, ArgumentRefusal>
     Ok(Request::Help(error))
 }
 
-/// An option that takes a number from `least` to `most`.
+/// An option that takes a number from `least` to `most`. In clauses `rule_of` is the description of an argument by which `clap` reads words
+/// (without help's texts), and `pos n` is n as an integer. `local`: subcommands of its command don't take the option, too.
 fn number<'a>(alloc: Global, name: &'a str, help: &'a str, least: u16, most: u16) -> Arg<'a>
     ensures rule { rule_of result ≡ rule_within name.entry.now (pos least) (pos most) }
     ensures local { result.global ≡ false }
@@ -193,7 +194,7 @@ fn device<'a>(alloc: Global) -> Arg<'a>
         .help(DEVICE)
 }
 
-/// The command with each of these options added.
+/// The command with each of these options added. In clauses `app_of` is the same description of a command and its subcommands.
 fn with_options<'a>(
     alloc: Global,
     command: Command<'a>,

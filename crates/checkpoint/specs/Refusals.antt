@@ -52,7 +52,7 @@ refused g c =
     (fault_or_later (BadRecord n) (first_bad_record g 0 (read g bytes) (front l n c))
     (fault_or_later (BadRecord (other n)) (first_bad_record g 0 (run (decoding g) (read g bytes) (front l n c)) chained) None)))))
 
--- The device is long enough for a header, and doesn't begin with the magic.
+-- The device is long enough for a header and a root zone (64 bytes each), and doesn't begin with the magic.
 abbrev pub IsUnformatted : List ℕ → Type 0
 IsUnformatted c = (128 ≤ length c) × (take 8 c ≢ magic)
 

@@ -23,6 +23,7 @@ pub fn read_header<D: Disk>(disk: &mut D) -> Result<Geometry, OpenFault>
     ensures header { IfOk result (λ g. D.keeps → HasHeader g (D.medium disk.old).now) }
     ensures long_enough { IfOk result (λ g. device_size (layout_of g) ≤ length (D.medium disk.old).now) }
     ensures refused { IfErr result (λ e. D.keeps → IsRefused (D.medium disk.old).now e) }
+    // `IsOfHeader`: `Device`, `TooShort`, `NotFormatted` or `BadGeometry`.
     ensures by_header { IfErr result (λ e. IsOfHeader e) }
     ensures untouched { D.keeps → moments (D.medium disk.new) ≡ moments (D.medium disk.old) }
     ensures call { IsOpeningCall result (D.medium disk.old) (D.medium disk.new) }

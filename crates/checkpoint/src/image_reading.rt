@@ -46,8 +46,10 @@ fn take_piece(tree: &mut Tree, version: u8, n: usize, piece: &[u8]) -> Result<()
     Ok(())
 }
 
-/// Reads the pieces of an image with a head into a new tree, through a buffer. `BadPiece` exactly where one of them
-/// differs from the encoding of what the image decodes to, with the first such piece; then the tree isn't of use any more.
+/// Reads the pieces of image `number` (0 or 1), which has a head, into a new tree, through a buffer. `BadPiece` exactly where one of them
+/// differs from the encoding of what the image decodes to, with the first such piece; then the tree isn't of use any more. Any other error
+/// is `Device`, which is consistent with any bytes (`IsConsistentFault`). Clause `room` asks that the buffer takes a stripe's piece: 520
+/// bytes, the entry of a block, for each block that a stripe can hold.
 pub(crate) fn read_pieces<D: Disk>(
     disk: &mut D,
     tree: &mut Tree,

@@ -60,6 +60,8 @@ fn show(loaded: Loaded) -> Shown
 pub fn inspect<D: Disk>(alloc: Global, d: D) -> Result<(Shown, D), OpenError<D>>
     ensures shown { IfOk result (λ r. D.keeps → IsShown (D.medium d).now r.0) }
     ensures refused { IfErr result (λ e. D.keeps → IsRefused (D.medium d).now e.fault) }
+
+    // `IsWholeDevice`: it has the header of a geometry and the length for all its parts, whatever these hold.
     ensures memory { IfErr result (λ e. e.fault ≡ OpenFault.OutOfMemory → D.keeps → IsWholeDevice (D.medium d).now) }
     ensures untouched { D.keeps → MatchResult result
         (λ r. moments (D.medium r.1) ≡ moments (D.medium d))

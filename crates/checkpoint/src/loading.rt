@@ -45,7 +45,8 @@ pub(crate) struct Loaded {
 }
 
 /// All memory that loading a device of this geometry takes: an empty tree, a log of which nothing is known, and a
-/// buffer for the largest piece of an image. `OutOfMemory` where there isn't so much.
+/// buffer for the largest piece of an image (that of a stripe: 520 bytes, the entry of a block, for each block that it can hold).
+/// `OutOfMemory` where there isn't so much.
 pub fn take_loading_memory(
     alloc: Global,
     g: &Geometry,
@@ -63,7 +64,8 @@ pub fn take_loading_memory(
     Ok((tree, log, buffer))
 }
 
-/// Reads the image of this area into an empty tree, and gives its version.
+/// Reads the image of this area into an empty tree, and gives its version. An error is the first fault of the image, or `Device`, which is
+/// consistent with any bytes (`IsConsistentFault`).
 fn read_image<D: Disk>(
     disk: &mut D,
     tree: &mut Tree,
@@ -220,6 +222,7 @@ pub(crate) fn load<D: Disk>(alloc: Global, disk: &mut D) -> Result<Loaded, OpenF
     ensures parts { IfOk result (λ l.
         device_size (layout_of l.tree.geometry) ≤ length (D.medium disk.old).now) }
     ensures refused { IfErr result (λ e. D.keeps → IsRefused (D.medium disk.old).now e) }
+    // `IsWholeDevice`: it has the header of a geometry and the length for all its parts, whatever these hold.
     ensures memory { IfErr result (λ e. e ≡ OutOfMemory → D.keeps → IsWholeDevice (D.medium disk.old).now) }
     ensures untouched { D.keeps → moments (D.medium disk.new) ≡ moments (D.medium disk.old) }
     ensures call { IsOpeningCall result (D.medium disk.old) (D.medium disk.new) }

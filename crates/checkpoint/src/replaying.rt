@@ -18,7 +18,7 @@ use oplog::Halves;
 use parcel::Tree;
 
 /// Runs record `i` of this half on the tree. `BadRecord` exactly where it can't be run there; then the tree isn't
-/// of use any more.
+/// of use any more. Any other error is `Device`, which is consistent with any bytes (`IsConsistentFault`).
 fn replay_record<D: Disk>(
     log: &mut Halves,
     disk: &mut D,

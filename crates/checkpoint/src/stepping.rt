@@ -27,6 +27,7 @@ pub fn step(tree: &mut Tree, m: Msg) -> Reply
     let Some((standing, parcels)) = tree.lend(affinity) else {
         unreachable!()
     };
+    // 0 is its ticket, which nothing looks at.
     let done = run(Job::new(g, 0, m, standing, parcels));
     let reply = *done.reply();
     let Ok(()) = tree.restore(affinity, done.into_parcels()) else {

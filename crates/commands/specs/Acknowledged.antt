@@ -17,7 +17,7 @@ use Rattle.commands.specs.declared.faults.Fault.TheVariants.{Write, Open}
 
 -- The device recovered to a state, and the output has these lines for the first lines of the input. A history has each message whose reply
 -- was sent, reads included, with its ticket and that reply. The bytes recover to the state to which the changes of the history lead from
--- the state before, perhaps with more of the messages of the input; and they are not refused.
+-- the state before, perhaps with more of the messages of the input; and they are not refused. 0 is the first ticket after an opening.
 pub record HoldsAcknowledged (old : Medium) (input before written : Option (List ℕ)) (bytes : List ℕ) : Type 0 where
   pub geometry : Geometry
   pub start : State

@@ -44,7 +44,8 @@ EndsShowing (Err OutOfMemory) old new = new ≡ old
 EndsShowing (Err (Open fault)) old new = new ≡ old
 EndsShowing (Err _) old new = ⊥
 
--- How `show` ends where the device has these bytes: what is printed is what they hold, and a refusal is that of these bytes.
+-- How `show` ends where the device has these bytes: what is printed is what they hold, and a refusal is one for what they show. Of the
+-- faults `Device` and `OutOfMemory`, which bytes don't show, `IsRefused` says nothing.
 abbrev pub ShowsBytes : List ℕ → Result (Unit {0}) Fault → Option (List ℕ) → Option (List ℕ) → Type 0
 ShowsBytes bytes (Ok _) old new = (shown : Shown) × IsShown bytes shown × Appends old new (shown_lines shown)
 ShowsBytes bytes (Err (Open fault)) old new = IsRefused bytes fault

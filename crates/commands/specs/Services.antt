@@ -10,7 +10,7 @@ abbrev pub with_at_most_64_workers : List ℕ → List ℕ
 with_at_most_64_workers [] = []
 with_at_most_64_workers (workers ∷ others) = min workers 64 ∷ others
 
--- The arguments ask for service with the device in the file of this path.
+-- The arguments ask for service with the device in the file of this path. `findings`: a call for help or the version, or mistakes.
 abbrev pub AsksServe : List Text → Text → ServeOptions → Type 0
 AsksServe arguments path s =
     (findings arguments ≡ []) × IsNamed (codes "serve") (command_of arguments) × (path ≡ device_at (command_of arguments))

@@ -76,8 +76,8 @@ HasServedNothing keeps old new input remaining before written = (w : ServedDevic
 -- exactly the lines before one whose message is in range are answered, and the device recovers to the state after them.
 -- A failed device: the first lines of the serial server's output. A failed write: it is unknown what was written.
 -- No workers, or no memory: nothing was served. A device that can't be opened: no input was read and no output written. The fault is one
--- that its bytes show, or want of memory, or `Device`: the last exactly if the device failed. `IsRefusedUnwritten` says what was written
--- to it.
+-- that its bytes show, or want of memory, or `Device`: the last exactly if the device failed. `IsRefusedUnwritten`: nothing was written to
+-- it, unless it failed, or the bad record is in the half that was not named: then the opening has finished an interrupted cut before.
 abbrev pub EndsOnDevice : Type 0 → ServeOptions → Medium → Medium → Result (Unit {0}) Fault
     → Option (List ℕ) → Option (List ℕ) → Option (List ℕ) → Option (List ℕ) → Type 0
 EndsOnDevice keeps s old new (Ok _) input remaining before written = (s.workers ≢ 0)
@@ -142,13 +142,14 @@ pub record HasServedBy (keeps : Type 0) (s : ServeOptions) (old new : Medium) (e
   pub recovered_before : keeps → recovered_state start.geometry old.now ≡ Some (committed_in start)
   pub opening : keeps → OpeningCrashImages old start.medium
   pub served : ServePromise keeps s.workers start (now, end) input remaining before written
+  -- whatever a crash leaves now recovers to the committed state with a prefix of the messages in `doubt`
   pub leaves : keeps → RecoversNow now
   pub given_back : new ≡ now.medium
   pub incarnation : keeps → let run = legal_run_of keeps (machine_at_start s start) now input before written end served.run
       in IsIncarnation s start old new run.1
 
--- `HasServedBy` holds; or the device could not be opened. A crash during the opening leaves bytes that recover to the same state, or are
--- refused for the same fault.
+-- `HasServedBy` holds; or the device could not be opened. A crash during the opening leaves what a crash before it might have left or,
+-- from the opening's first sync on, bytes that recover to the same state as the device did, or are refused for the same fault.
 abbrev pub CrashesSafely : Type 0 → ServeOptions → Medium → Medium → Result (Unit {0}) Fault → Option (List ℕ) → Option (List ℕ)
     → Option (List ℕ) → Option (List ℕ) → Type 0
 CrashesSafely keeps s old new (Err (Open fault)) input remaining before written = keeps → OpeningCrashImages old new

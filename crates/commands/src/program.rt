@@ -101,6 +101,7 @@ pub fn command<T: Files<File = File> + Threads + Wait + Sync, R: Read, W: Write,
         → ExitsHelp result × (R.remaining r.new ≡ R.remaining r.old) }
     ensures refused { AreRefused (map string_bytes arguments.now)
         → ExitsRefused result × (r.new ≡ r.old) × (w.new ≡ w.old) }
+    // `AsksNoCommand`: the arguments ask for help or the version, or have mistakes, also where they name a command.
     ensures unserved { AsksNoCommand (map string_bytes arguments.now)
         → (ExitsHelp result × (R.remaining r.new ≡ R.remaining r.old))
         ⊎ (ExitsRefused result × (r.new ≡ r.old) × (w.new ≡ w.old)) }

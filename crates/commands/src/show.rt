@@ -39,6 +39,7 @@ fn shown_text(alloc: Global, shown: &Shown) -> Result<Vec<u8>, AllocError>
 {
     let mut lines = Vec::new(alloc);
     add_line(&mut lines, "geometry", &numbers(&shown.geometry))?;
+    // The area that is named, 0 or 1, and how many records are in force, also those chained in the other half.
     add_line(&mut lines, "area", &[shown.area as u64])?;
     add_line(&mut lines, "records", &[shown.records as u64])?;
     add_reply(&mut lines, &shown.summary)?;

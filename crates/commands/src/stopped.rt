@@ -43,7 +43,7 @@ fn serve_and_crash<T: Threads + Wait + Sync, R: Read, W: Write>(
 
 /// Answers the lines of `r` on `w` with a device that stops at its n-th call, whichever that is, and then crashes the device. The service
 /// ended as `serve_on` says. What the crash leaves, however it tears what was not synced, holds each change whose reply was written, unless
-/// a write of the output failed. The pattern of a `Torn::Mixed` isn't empty.
+/// a write of the output failed. A `Torn::Mixed` puts its pattern, again and again, over the unsynced bytes; the pattern isn't empty.
 pub fn serve_stopped<T: Threads + Wait + Sync, R: Read, W: Write>(
     rt: &T,
     alloc: Global,

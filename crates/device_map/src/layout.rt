@@ -29,7 +29,7 @@ pub const VOLUME_PIECE_SIZE: usize = 64;
 /// The size of a block's entry in the piece of a stripe.
 pub const BLOCK_ENTRY_SIZE: usize = 520;
 
-/// The size of each half.
+/// The size of each half, which holds `g.half` records.
 pub fn half_size(g: &Geometry) -> usize
     ensures size { result ≡ half_size g.now.half }
     ensures most { result ≤ 533568 }

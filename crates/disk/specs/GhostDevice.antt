@@ -20,7 +20,8 @@ medium_after Failed bytes m = failed m
 medium_after (OpenedSynced size) bytes m = fresh_synced (replicate size 0)
 medium_after (OpenedUnsynced size) bytes m = fresh_unsynced (replicate size 0)
 
--- the bytes of a list that has the last one first, in order
+-- The bytes of a list that has the last one first, in order. (`More'` is `More` of the Rust type, so `After'` below: the snapshot of the
+-- items before is two arguments there, the second of them its value.)
 abbrev pub bytes_of : ByteList → List ℕ
 bytes_of Empty = []
 bytes_of (More' byte _ before) = bytes_of before ++ byte ∷ []

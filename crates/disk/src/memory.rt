@@ -90,7 +90,8 @@ impl MemDisk {
         self.call_counter.injected_fault = InjectedFault::StopAt(n);
     }
 
-    /// The device after a crash, with no injected fault, and with its count of calls at 0. It takes no memory.
+    /// The device after a crash, with no injected fault, and with its count of calls at 0. It takes no memory. `HasPattern` asks of a
+    /// `Mixed` crash alone that it has a byte; the other kinds need none.
     pub fn crash(self, torn: Torn) -> MemDisk
         requires { HasPattern torn }
         ensures after { memory_of result ≡ after_crash torn (memory_of self) }
@@ -122,7 +123,7 @@ impl MemDisk {
     }
 
     /// A new device as a crash would leave this one now, with no injected fault, and with its count of calls at 0. This one stays as it
-    /// is. `AllocError` where there is no memory.
+    /// is. `AllocError` where there is no memory. In clause `after`, `crashed` is the bytes that such a crash leaves.
     pub fn crashed(&self, alloc: Global, torn: &Torn) -> Result<MemDisk, AllocError>
         requires { HasPattern torn.now }
         ensures after { IfOk result (λ d. memory_of d ≡ made (crashed torn.now (memory_of self.now))) }
@@ -204,6 +205,7 @@ impl Disk for MemDisk {
         ensures inside { IsErrOf result OutOfRange → ⊥ }
         ensures call { IsDeviceCall result (medium_of self.old) (medium_of self.new) }
         ensures syncs { Unit {0} → Syncs result (medium_of self.old) (medium_of self.new) }
+        // A sync answers as a call for 0 bytes from offset 0 on, which is never out of range.
         ensures answer { result ≡ call_result 0 0 (memory_of self.old) }
         ensures after { memory_of self.new ≡ after_sync result (memory_of self.old) }
     {

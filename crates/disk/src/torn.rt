@@ -16,7 +16,7 @@ pub enum Torn {
 }
 
 impl Torn {
-    /// The byte that it puts at the unsynced offset i, with k unsynced ones below it.
+    /// The byte that it puts at the unsynced offset i, with k unsynced ones below it. `HasPattern`: if it is `Mixed`, it has a byte.
     fn byte(&self, last_synced: &[u8], last_written: &[u8], i: usize, k: usize) -> u8
         requires has_bytes { HasPattern self.now }
         requires in_last_synced { i < length last_synced.now }
@@ -32,7 +32,8 @@ impl Torn {
     }
 }
 
-/// Puts at each unsynced offset of these bytes what such a crash leaves there.
+/// Puts at each unsynced offset of these bytes what such a crash leaves there. (The zeros in its promise: from offset 0 on, with 0 unsynced
+/// bytes below it.)
 pub(crate) fn tear(
     kind: &Torn,
     last_synced: &[u8],

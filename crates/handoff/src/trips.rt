@@ -12,20 +12,22 @@ use std::thread;
 use std::thread::Threads;
 use workers::{Bench, DispatchSeat, OpenGate};
 
-/// Four aggregates of eight volumes, each with one file of one block.
+/// Four aggregates of eight volumes, each with one file of one block. In the order of `Geometry::new`: aggregates, volumes, stripes, width,
+/// files, blocks, quota, and records in a half of the log.
 const NUMBERS: [u16; 8] = [4, 8, 1, 1, 1, 1, 1, 4];
 
-/// How many places there can be: one for each volume.
+/// How many places of the bench there can be: one for each volume.
 const MOST_PLACES: u16 = 32;
 
-// The standing of a volume that is made, not sealed, and has one file.
+// The standing of a volume that is made, not sealed, and has file 0 alone: `files` is no count, but a set of bits, with bit f for file f.
 const STANDING: Standing = Standing {
     made: true,
     sealed: false,
     files: 1,
 };
 
-// Writes the first block of volume number k in the tree, and returns the job that reads this block.
+// Writes the first block of volume number k in the tree, and returns the job that reads this block. Both messages have ticket 0. `place` is
+// here the affinity of the block, and no place of the bench.
 fn reading(tree: &mut Tree, k: u16) -> Option<Job>
     ensures tree { tree.new.geometry ≡ tree.old.geometry }
     ensures job { IfSome result (λ job. job.geometry ≡ tree.old.geometry) }

@@ -14,7 +14,7 @@ ghost use Rattle.meaning.specs.Serial.{next_state};
 ghost use Rattle.meaning.specs.State.{State, IsState};
 ghost use Rattle.stripe.specs.Stripe.{BlockEntry, IsAscending, content_at};
 
-/// The image of a state is read as that state.
+/// The image of a state in version 2 (the one that is written) is read as that state.
 pub fn a_state_is_read_again()
     ensures { (g : Geometry) (x : State) → IsState g x → read g (image_of 2 g x) ≡ Some x }
 {}
@@ -33,7 +33,7 @@ pub fn what_is_read_is_a_state()
 /// The pieces of an image can be taken in one after the other. The state with a piece taken in shows whether that piece
 /// is good. The first pieces, if they are good, decode to a valid state. Just before a volume's own piece is taken in,
 /// the state has no block of that volume. An image is read exactly if its head and all its pieces are good, and then as
-/// the state that these decode to in order.
+/// the state that these decode to in order. (`decoded_before .. n` is the state to which the pieces before piece n decode.)
 pub fn an_image_is_read_piece_by_piece()
     ensures state { (g : Geometry) (bytes : List ℕ) → AreSizedBytes (piece_at g (piece_count g)) bytes
         → (n : ℕ) → n ≤ piece_count g → AreGood g bytes n → IsState g (decoded_before (version_in bytes) g bytes n) }

@@ -2,7 +2,7 @@
 //! is read again.
 //!
 //! The definitions are in `specs/`, and the laws that they obey are the contracts of the functions of
-//! `laws`, which do nothing. `layout` is the map of an image, and `touched` gives the pieces that a message may change.
+//! `laws`, which do nothing. `layout` is the map of an image, and `touched` tells whether a message may change a piece.
 #![tactic(auto)]
 
 pub mod laws;

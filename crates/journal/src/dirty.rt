@@ -57,7 +57,7 @@ pub(crate) fn swap_and_clear_dirty(named: &mut Vec<bool>, other: &mut Vec<bool>)
     clear_dirty(named);
 }
 
-/// The number of the first piece of a message's volume.
+/// The number of the first piece of a message's volume. (Clause `most` is not tight: it lets a volume's pieces be added.)
 fn first_piece(g: &Geometry, m: &Msg) -> usize
     ensures first { result ≡ volume_piece_number g.now (key m.now).0 (key m.now).1 }
     ensures most { result < 2 ^ 49 }

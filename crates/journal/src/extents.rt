@@ -14,7 +14,7 @@ use disk::{Disk, DiskFault};
 use image::layout::piece_size;
 use oplog::store::write;
 
-/// How many bytes extent `n` of an image has.
+/// How many bytes extent `n` of an image has. (`most`: a head, 64 bytes, and the largest piece of any geometry, 64 entries of 520.)
 fn extent_size(g: &Geometry, n: usize) -> usize
     ensures size { result ≡ extent_size g.now n }
     ensures most { result ≤ 33344 }

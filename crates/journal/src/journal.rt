@@ -70,6 +70,7 @@ impl<D: Disk> Model for Journal<D> {
 
     ghost view = { λ j. journal_view_of j.halves j.named_dirty.items j.other_dirty.items j.pieces_left j.failed (D.medium j.disk) };
 
+    // `geometry.half` is how many records a half holds. `IsCutState` isn't only of a cut: without one, the current half is the named one.
     ghost invariant = { λ j. IsLongEnough j.halves (D.medium j.disk)
         × (j.halves.used ≤ j.halves.geometry.half)
         × (length j.snapshot.items ≡ image_size j.halves.geometry)

@@ -51,7 +51,8 @@ struct Parts {
     pending: Vec<bool>,
 }
 
-/// All memory that opening a device takes, with a buffer for the largest piece of an image.
+/// All memory that opening a device takes, with a buffer for the largest piece of an image (that of a stripe: 520 bytes, the entry of a
+/// block, for each block that it can hold).
 fn take_memory(alloc: Global, g: &Geometry) -> Result<(Parts, Vec<u8>), OpenFault>
     ensures taken { IfOk result (λ r. AreUnloaded r.0) }
     ensures geometry { IfOk result (λ r. r.0.tree.geometry ≡ g.now) }
@@ -93,6 +94,8 @@ fn first_sync<D: Disk>(disk: &mut D) -> Result<(), OpenFault>
 
 /// Finishes a cut that was in progress: an image of its state, which the tree holds, is written into the other area, which is then
 /// named. The state of the cut is that of the named image with the records of the named half run on it, without those of the other half.
+/// In clause `recovers`, `true` says that the named half is chained. Clause `room` is not of the log: all flags stay, and so does the size
+/// of `snapshot`.
 fn finish_cut<D: Disk>(parts: &mut Parts, disk: &mut D) -> Result<(), LogFault>
     requires loaded { AreLoaded parts.old (D.medium disk.old) }
     requires synced { D.keeps → IsSynced (D.medium disk.old) }
@@ -208,6 +211,7 @@ fn open_synced<D: Disk>(alloc: Global, disk: &mut D) -> Result<Parts, OpenFault>
     ensures any_moment { D.keeps → CrashImagesAre (D.medium disk.old) (D.medium disk.new) (RecoversAsBefore (D.medium disk.old).now) }
     ensures beyond { D.keeps → (g : Geometry) → HasHeader g (D.medium disk.old).now
         → KeepsBeyond (layout_of g) (D.medium disk.old) (D.medium disk.new) }
+    // Writes and syncs: 6 for the checkpoint, and 4 to finish a cut if one was in progress.
     ensures costs { D.keeps → MatchResult result
         (λ p. moment_number (D.medium disk.new)
         ≡ moment_number (D.medium disk.old) + (finish_cost p.halves.geometry (D.medium disk.old).now + 6))
@@ -261,6 +265,8 @@ fn open_on<D: Disk>(alloc: Global, disk: &mut D) -> Result<Parts, OpenFault>
 pub fn open<D: Disk>(alloc: Global, d: D) -> Result<(Journal<D>, Tree), OpenError<D>>
     ensures opened { IfOk result (λ r. D.keeps → IsOpened (D.medium d) r.0 (state_in r.1)) }
     ensures tree { IfOk result (λ r. (r.1.geometry ≡ r.0.geometry) × IsWholeTree r.1) }
+
+    // There is room for as many records as a half holds (`geometry.half`).
     ensures begins { IfOk result (λ r.
         (r.0.room ≡ r.0.geometry.half) × (r.0.pieces_left ≡ None) × (r.0.failed ≡ false)) }
 
@@ -284,6 +290,8 @@ pub fn open<D: Disk>(alloc: Global, d: D) -> Result<(Journal<D>, Tree), OpenErro
 
     // The first sync comes before all else: only a fault of the device leaves something unsynced.
     ensures synced { IfErr result (λ e. e.fault ≢ OpenFault.Device → D.keeps → IsSynced (D.medium e.disk)) }
+
+    // `IsWholeDevice`: it has the header of a geometry and the length for all its parts, whatever these hold.
     ensures memory { IfErr result (λ e. e.fault ≡ OpenFault.OutOfMemory → D.keeps → IsWholeDevice (D.medium d).now) }
     ensures device { IfErr result (λ e. e.fault ≡ OpenFault.Device
         ↔ (D.medium e.disk).faults ≡ (D.medium d).faults + 1) }

@@ -98,7 +98,7 @@ abbrev pub unless_refused : CoreState → Option PointRefusal → Outcome × Cor
 unless_refused w None done = done
 unless_refused w (Some why) done = (outcomes.PointRefused why, w)
 
--- a checkpoint in one call: a whole half of the log is free again
+-- a checkpoint in one call: a whole half of the log (`g.half` records) is free again
 abbrev pub point : Geometry → CoreState → Outcome × CoreState
 point g w = unless_refused w (point_refusal w) (outcomes.Pointed, record w { room = g.half })
 

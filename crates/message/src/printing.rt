@@ -8,7 +8,8 @@ use itoa::Buffer;
 use messages::{Block, Refusal, Reply};
 
 /// Writes the line of a reply, its newline included, into the front of `out`, and gives the
-/// line's length in bytes. What lies after the line stays as it was.
+/// line's length in bytes. What lies after the line stays as it was. The longest line has 1,031 bytes: `block `, two digits for
+/// each byte of a block, and the newline.
 #[inline(always)]
 pub fn write_reply(reply: &Reply, out: &mut [u8; 1031]) -> usize
     ensures length { result ≡ length (reply_line reply.now) }
@@ -147,7 +148,7 @@ fn append(text: &[u8], out: &mut [u8; 1031], at: usize) -> usize
     end
 }
 
-/// Writes a space and a number after the first `at` bytes, and gives where they end.
+/// Writes a space and a number (of ten digits at most: 11 bytes) after the first `at` bytes, and gives where they end.
 fn append_number(n: u32, out: &mut [u8; 1031], at: usize) -> usize
     requires { at + 11 ≤ 1031 }
     ensures text { AppendsText out.old out.new at result (spaced n) }

@@ -1,5 +1,8 @@
 //! The lines of an input, one after the other, from a buffer of a fixed length. In clauses `Keeps a b` says that the bytes a, where they
-//! are known, stay as they were, and `Consumes a b bs` that they lose bs at their front; `prepend_known bs a` is bs and then a.
+//! are known, stay as they were, and `Consumes a b bs` that they lose bs at their front; `prepend_known bs a` is bs and then a. `unread` is
+//! what isn't given yet: the bytes that are held, and then, until a read reports the end, what the reader has left. `LosesFront bs a`: a is
+//! what is left of bs after some first bytes, none of them a newline. `KnowsEnd`: once a read has reported the end, the reader has nothing
+//! left.
 ghost use Rattle.std.specs.Prelude.{◌≡◌, ◌≢◌, ℕ, ◌+◌, ◌-◌, ◌<◌, ◌≤◌, ◌↔◌, ◌⊎◌, [], true, false, length, take, drop, slice_index, IsTrue, IsFalse, IsOk, IsErr, is_err, IfSome, IfOk, OnOk, OnErr, Contains, vec_len};
 ghost use Rattle.std.specs.Io.KnownBytes.{Keeps, Consumes, IsAtEnd, prepend_known};
 

@@ -1,4 +1,5 @@
-//! The replies that wait to be written, in a buffer of a fixed length.
+//! The replies that wait to be written, in a buffer of a fixed length. In clauses `all_output` is what the writer holds, where that is
+//! known, and then what waits.
 
 ghost use Rattle.std.specs.Prelude.{◌≡◌, ◌+◌, ◌≤◌, ◌⊎◌, ◌↔◌, [], ◌++◌, length, take, vec_len, IsTrue, IsOk, IfOk, OnOk, OnErr};
 ghost use Rattle.std.specs.Io.KnownBytes.{Appends};

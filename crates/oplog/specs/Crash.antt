@@ -52,7 +52,8 @@ module _ {S : Type 0} (decoding : Decoding S) where
   ImageRecovers = (l : Layout) (n h : ℕ) (x : Option S) (old new : Medium) → n < 2 → CrashRecovers l n h x old
       → CrashImagesAre old new (After old (IsSameBut l (image_part (other n)))) → CrashImagesAre old new (RecoversBy l n h x)
 
-  -- While the half that isn't named is cleared, and isn't the current one, whatever a crash leaves recovers to x.
+  -- While the half that isn't named is cleared (`IsSameButGates`: its chain zone changes, too), and isn't the current one, whatever a crash
+  -- leaves recovers to x.
   abbrev pub ClearRecovers : Type 0
   ClearRecovers = (l : Layout) (n : ℕ) (x : Option S) (old new : Medium) → n < 2 → CrashRecovers l n n x old
       → CrashImagesAre old new (After old (IsSameButGates l (other n))) → CrashImagesAre old new (RecoversBy l n n x)

@@ -80,7 +80,8 @@ impl Half {
         self.start() + (CHAIN_ZONE_SIZE + self.capacity() + i * RECORD_SIZE) as u64
     }
 
-    /// Writes zeros over its chain byte, the bytes beside it and its gates, and syncs.
+    /// Writes zeros over its chain byte, the bytes beside it and its gates, and syncs. `IsLongEnoughForHalf`: the device is long enough for
+    /// all its parts, not only for this half.
     pub(crate) fn clear<D: Disk>(self, disk: &mut D) -> Result<(), DiskFault>
         requires long_enough { IsLongEnoughForHalf self (D.medium disk.old) }
         ensures any_moment { D.keeps → CrashesChangeOnly (D.medium disk.old) (D.medium disk.new)

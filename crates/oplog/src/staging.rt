@@ -8,7 +8,8 @@ use crate::layout::RECORD_SIZE;
 use message::encode;
 use messages::Msg;
 
-/// Writes the record of a message into a place of 520 bytes.
+/// Writes the record of a message into a place of 520 bytes. `FitsRecord`: its aggregate, volume and file are below 256, as each has one
+/// byte there.
 fn put_record(m: &Msg, place: &mut [u8])
     requires room { FitsRecord m.now }
     requires size { length place.old ≡ 520 }

@@ -37,7 +37,7 @@ decoded_piece version g bytes = record {
   label = decoded_label version bytes;
 }
 
--- the piece of a volume of the tree
+-- the piece of a volume of the tree; `0 ∷ []` is the path from the volume to its Logical, which has the files
 abbrev pub volume_piece_of : Vol → VolumePiece
 volume_piece_of w = record {
   made = w.made;

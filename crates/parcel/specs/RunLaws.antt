@@ -20,7 +20,7 @@ job_place job = path_of job.geometry job.message
 abbrev pub IsLentOf : JobView → State → Type 0
 IsLentOf job x = Shows job.geometry (job_place job) job.standing job.parcels x
 
--- The job was made of what a tree lent at the message's place.
+-- The job was made of what a tree lent at the message's place. The tree has the nodes `old` before, and `lent` after it.
 abbrev pub LendsJob : JobView → Nodes → Nodes → Type 0
 LendsJob job old lent = LendsAt job.geometry (job_place job) job.standing job.parcels old lent
 

@@ -45,6 +45,7 @@ pub fn restored_parcels_are_in()
 /// A message runs on what the tree lends for it, and what it leaves is put back: for the tree's state this
 /// is a serial step, with the reply of that step, whatever is out at unrelated places. If nothing was out
 /// before, nothing is out again. If the tree held a valid state of its geometry (`IsState`), it does again.
+/// (`lent`, here and below, are the nodes of the tree after it lent: those that it still has.)
 pub fn lent_run_and_restored_is_a_step()
     ensures step { (job : JobView) (done : Done) (old lent new : Nodes) → LendsRunsRestores job done old lent new
         → IsSerialStep job.geometry (tree_state job.geometry old) job.message done.reply (tree_state job.geometry new) }
@@ -55,7 +56,8 @@ pub fn lent_run_and_restored_is_a_step()
 {}
 
 /// Parcels and a standing show a state x at a path (`Shows`) exactly if their own state (`shown_state`)
-/// has the same subtree there as x, and the same standing.
+/// has the same subtree there as x, and the same standing. (`subtree` and `standing` of a state are states: what it has at
+/// the path and below, and what it has above the path.)
 pub fn shown_is_subtree_and_standing()
     ensures has_subtree { (g : Geometry) (p : Path) (t : Standing) (l : Parcels) (x : State) → Shows g p t l x
         → subtree g p (shown_state g p t l) ≡ subtree g p x }

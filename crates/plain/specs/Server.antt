@@ -45,7 +45,8 @@ StripeKey = ℕ × ℕ × ℕ
 abbrev pub is_stripe : ℕ → ℕ → ℕ → StripeKey → Bool
 is_stripe a v s k = (a == k.0) && (v == k.1) && (s == k.2)
 
--- how many blocks the server has counted in a stripe, 0 where it has no entry
+-- how many blocks the server has counted in a stripe, 0 where it has no entry. `file_order` orders keys of three numbers: a file's, and
+-- here a stripe's.
 abbrev pub noted : Server → StripeKey → ℕ
 noted server k = unwrap_or (map.get file_order server.used k) 0
 

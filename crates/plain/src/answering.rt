@@ -1,4 +1,6 @@
-//! A session of the serial server: line after line is answered.
+//! A session of the serial server: line after line is answered. In clauses `all_output` is what the writer holds, where that is known, and
+//! then what waits; `unread` is what a reader of lines hasn't given yet: the bytes that it holds, and then, until a read reports the end,
+//! what its source has left.
 
 ghost use Rattle.std.specs.Prelude.{◌≡◌, ◌≤◌, ◌++◌, ℕ, List, [], Option, Some, true, false, option_map, IfOk, OnOk, OnErr, IsErrOf, IsFalse, MatchBool, vec_len};
 ghost use Rattle.std.specs.Io.KnownBytes.{Appends, IsAtEnd};
@@ -279,6 +281,7 @@ fn answer_next<R: Read + Drop, W: Write>(
 ) -> Result<bool, PlainFault>
     requires { IsConsistent g.now server.old }
     ensures sound { IsConsistent g.now server.new }
+    // `start`, `input` and `before`: the state, what was unread and the output when the session began.
     ensures answered { (start : State) (input before : Option (List ℕ)) →
         HasAnswered g.now start input (unread R.remaining lines.old) (is_drained lines.old)
         (server_state server.old) before (all_output (W.contents w.old) out.old) →
@@ -355,7 +358,7 @@ fn answer_all<R: Read + Drop, W: Write>(
 }
 
 /// Answers each line that a lent reader has left, from the empty state on, leaves the last answers
-/// waiting, and gives the reader back.
+/// waiting, and gives the reader back. The buffer has 1,101 bytes at least: the longest line and its newline.
 pub(crate) fn answer_lent<'a, R: Read, W: Write, L: Loan>(
     alloc: Global,
     g: &Geometry,

@@ -85,6 +85,7 @@ impl Server {
         kind: Kind,
         numbers: [u16; 4],
     ) -> Result<Option<Refusal>, AllocError>
+        // Kind and numbers fit each other: the kind has no data, and a number that it doesn't have is 0.
         requires asked { IsWithoutData kind numbers (Some (message_without_data kind numbers)) }
         requires changes { is_changing kind ≡ true }
         requires sound { IsConsistent g.now self.old }

@@ -20,7 +20,8 @@ fn number_at(g: &Geometry, place: Place) -> u16
     Affinity::at(g, place).number()
 }
 
-/// The numbers of the affinities above this one; where they are fewer than four, its own number fills the array up.
+/// The numbers of the affinities above this one, first that of the root, which is 0; where they are fewer than four, its own number fills
+/// the array up.
 pub(crate) fn numbers_above(g: &Geometry, a: Affinity) -> [u16; 4]
     requires { IsAffinity g.now a }
     ensures { (p : Path) → IsAffinityOf g.now p a → result ≡ numbers_above g.now p }

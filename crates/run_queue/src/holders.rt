@@ -51,7 +51,7 @@ impl Holders {
         }
     }
 
-    /// One more message is held, at a number where none is.
+    /// One more message is held, at a number where none is. `IsBetween`: the new list is the old one with it inserted somewhere.
     pub(crate) fn hold(&mut self, queued: QueuedMessage)
         requires number { queued.affinity.number < self.old.numbers }
         requires free { find (has_number queued.affinity.number) self.old.messages ≡ None }

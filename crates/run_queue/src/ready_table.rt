@@ -16,6 +16,7 @@ const LAST_RANK: u64 = u64::MAX - 1;
 ///
 /// `RunQueue::next` is called often and looks for the earliest ready message. So each has a rank (its ticket, but
 /// `LAST_RANK` at most), and the least rank of each chunk of numbers is kept: a look at that is enough to skip most chunks.
+/// Contracts only say that what is kept is no greater than any rank of the chunk (`AreLeast`).
 ///
 /// All memory is taken by `new`.
 #[derive(Drop)]

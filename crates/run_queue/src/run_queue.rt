@@ -46,7 +46,7 @@ impl Model for RunQueue {
     ghost invariant = { λ t. QueueInvariant t.geometry t.slots t.waiting t.held t.ready_table };
 }
 
-/// How many chunks the ready table has for the affinities of a geometry.
+/// How many chunks the ready table has for the affinities of a geometry, of which there are `server_size`.
 fn chunks_of(g: &Geometry) -> usize
     ensures few { result ≤ 4097 }
     ensures all { server_size g.now ≤ 16 * result }

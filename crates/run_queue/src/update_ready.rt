@@ -1,5 +1,5 @@
-//! How the ready table follows waiting and held messages. It has an entry for each affinity, by number: the affinity's first waiting
-//! message, if that is free of conflicts.
+//! How the ready table follows waiting and held messages. It has an entry for each affinity (`server_size` is how many there are), by
+//! number: the affinity's first waiting message, if that is free of conflicts.
 ghost use Rattle.std.specs.Prelude.{◌≡◌, ◌≤◌, ◌==◌, ℕ, true, length};
 ghost use Rattle.std.specs.List.{list_any, AllByRecursion};
 ghost use Rattle.affinity.specs.Interval.{IsAffinity, contains, server_size};

@@ -59,7 +59,7 @@ RecoversThroughout appended old new =
     CrashImagesAre old.medium new.medium (RecoversWithPrefix old.geometry (core_state_of old).committed
     (if old.failed then old.doubt else appended))
 
--- A core that was just opened: nothing waits or is held, no ticket was given, and the log has all its room.
+-- A core that was just opened: nothing waits or is held, no ticket was given, and the log has all its room (`half` records).
 pub record IsJustOpened (slots : ℕ) (c : CoreView) : Type 0 where
   pub none_waits : c.waiting ≡ []
   pub none_in_flight : c.in_flight ≡ []

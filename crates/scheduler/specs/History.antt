@@ -9,7 +9,7 @@ pub record HistoryView : Type 0 where
   pub opened : TreeView
   pub since_open : List Msg
 
--- the messages of all batches, the oldest first
+-- the messages of all batches, the oldest first (`After'` is `After` with its last snapshot taken apart: `before` is the value in it)
 abbrev pub messages_in : Appended → List Msg
 messages_in Nothing = []
 messages_in (After' batch _ before) = messages_in before ++ batch.value.items

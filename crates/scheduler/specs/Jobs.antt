@@ -18,7 +18,8 @@ pub record IsJobOf (g : Geometry) (w : CoreState) (job : JobView) : Type 0 where
   pub in_flight : Contains w.in_flight (job.ticket, job.message)
   pub lent : IsLentOf job w.committed
 
--- The message is in flight, and `done` is its result if it runs in the committed state: the reply, and the parcels after it.
+-- The message is in flight, and `done` is its result if it runs in the committed state: the reply, and the parcels after it. A result
+-- has no standing of its own, so `standing` is any with which these parcels show the state after it.
 pub record IsResultOf (g : Geometry) (w : CoreState) (done : Done) : Type 0 where
   pub in_flight : Contains w.in_flight (done.ticket, done.message)
   pub runnable : IsRunnable g done.message done.parcels

@@ -38,7 +38,7 @@ phases_of arena replies = record {
   logged = slots_on arena replies 3;
 }
 
--- The arena is divided among four chains, as above, and the free slots.
+-- The arena has four chains, as above, and a slot is on one of them at most, or free (`IsPartitioned` allows slots that are neither).
 pub record HasChains (arena : ArenaView Slot) : Type 0 where
   pub partitioned : IsPartitioned arena
   pub four : length arena.chains ≡ 4

@@ -56,6 +56,7 @@ impl<D: Disk> Core<D> {
         ensures geometry { self.new.geometry ≡ self.old.geometry }
         ensures untouched { self.new.medium ≡ self.old.medium }
     {
+        // The head is what the line is, its data not decoded: `digits` are the hex digits of a block, if they are that.
         match head_of_line(line) {
             Head::NoMessage => Ok(None),
             Head::WithoutData(kind, numbers) => {

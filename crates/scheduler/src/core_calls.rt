@@ -69,7 +69,7 @@ pub struct Core<D: Disk> {
     /// How many changing messages are in flight, or ran and are not logged yet.
     unlogged: usize,
 
-    /// How many messages ran and are not logged yet.
+    /// How many messages ran and are not logged yet: those on chain 2 of `slots`.
     ran: usize,
     history: History,
 }
@@ -138,6 +138,8 @@ impl<D: Disk> Core<D> {
         ensures costs { D.keeps → MatchResult result
             (λ core. moment_number core.medium ≡ moment_number (D.medium d) + opening_cost core.geometry (D.medium d).now)
             (λ e. moment_number (D.medium e.disk) ≤ moment_number (D.medium d) + 11) }
+
+        // The bytes call for the fault; but `IsRefused` asks nothing of `Device` and `OutOfMemory`, which no bytes show.
         ensures refused { IfErr result (λ e. D.keeps → IsRefused (D.medium d).now e.fault) }
 
         // A refusal writes nothing, unless the device fails, or the fault is a bad record in the half after the named one, while
@@ -286,7 +288,8 @@ impl<D: Disk> Core<D> {
         ensures geometry { self.new.geometry ≡ self.old.geometry }
         ensures counts { CountsFailure (log_device_failed result) self.old.medium.faults self.new.medium.faults }
 
-        // A crash at any moment of the call leaves what was committed, with the first m of what is appended, for some m.
+        // A crash at any moment of the call leaves what was committed, with the first m of what is appended, for some m; or of `doubt`,
+        // where the device had failed before.
         ensures any_moment { D.keeps → RecoversThroughout (batch (core_state_of self.old) n) self.old self.new }
         ensures beyond { D.keeps → KeepsBeyond (layout_of self.old.geometry) self.old.medium self.new.medium }
 
@@ -343,14 +346,15 @@ impl<D: Disk> Core<D> {
         None
     }
 
-    /// Makes a checkpoint in one call, where no message is held: no record is in force afterwards.
+    /// Makes a checkpoint in one call, where no message is held: no record is in force afterwards, and the log has room for a whole half
+    /// (`geometry.half` records).
     pub fn point(&mut self) -> Result<(), PointRefusal>
         ensures state_after { IsCheckpointStep (core_state_of self.old) (core_state_of self.new) (point_refusal (core_state_of self.old))
             (core_state_of self.new ≡ record (core_state_of self.old) { room = self.old.geometry.half }) result }
         ensures geometry { self.new.geometry ≡ self.old.geometry }
         ensures counts { CountsFailure (checkpoint_device_failed result) self.old.medium.faults self.new.medium.faults }
 
-        // A crash at any moment of the call leaves what was committed.
+        // A crash at any moment of the call leaves what was committed; where the device had failed before, with a prefix of `doubt`.
         ensures any_moment { D.keeps → RecoversThroughout [] self.old self.new }
         ensures beyond { D.keeps → KeepsBeyond (layout_of self.old.geometry) self.old.medium self.new.medium }
         ensures emptied { OnOk result (D.keeps → in_force (layout_of self.new.geometry)

@@ -20,7 +20,7 @@ fn is_recorded(message: &Msg, reply: &Reply) -> bool
     changing(message.kind()) && matches!(reply, Reply::Done)
 }
 
-// Appends a message that ran to the batch if the log keeps it.
+// Appends a message that ran to the batch if the log keeps it. The 0 in the clause is for its ticket, which doesn't matter there.
 fn push_if_recorded(message: &Msg, reply: &Reply, batch: &mut Vec<Msg>)
     requires room { length batch.old.items < vec_capacity batch.old }
     ensures batch { batch.new.items ≡ batch.old.items ++ recorded ((0, message.now, reply.now) ∷ []) }

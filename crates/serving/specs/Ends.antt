@@ -65,7 +65,8 @@ pub record HasRunLines (keeps : Type 0) (start : MachineView) (new : CoreView)
   pub device : device_after start.core.medium device_events ≡ new.medium
   -- the device failed as often as the events say
   pub failures : new.medium.faults ≡ start.core.medium.faults + count_by (λ e. e.device_failed) (events_of device_events)
-  -- what a crash leaves at each moment of each event
+  -- A crash at any moment of an event leaves the state committed before it, with a prefix of what the event appends or, once the device
+  -- has failed, of `doubt`.
   pub any_moment : keeps → AreSafe start.core.geometry (machine_of start) start.core.medium device_events
   -- For every k: a crash at any moment since event number k ended leaves a device that recovers to a state which the run may leave.
   pub crash : keeps → (k : ℕ) (c : List ℕ) → k ≤ length device_events

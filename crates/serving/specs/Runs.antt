@@ -40,12 +40,14 @@ pub record RunsBetween (keeps : Type 0) (old new : MachineView) (arriving : List
   pub device : device_after old.core.medium device_events ≡ new.core.medium
   -- the device failed as often as the events say
   pub failures : new.core.medium.faults ≡ old.core.medium.faults + count_by (λ e. e.device_failed) (events_of device_events)
-  -- At each crash point of each event a crash leaves the committed state, with a prefix of what the event appends.
+  -- At each crash point of each event a crash leaves the state committed before it, with a prefix of what the event appends or, once the
+  -- device has failed, of `doubt`.
   pub any_moment : keeps → AreSafe old.core.geometry (machine_of old) old.core.medium device_events
 
 -- ---- what the hands have
 
--- Each hand that isn't empty has the job of a message in flight, or its result; each message in one hand.
+-- Each hand that isn't empty has the job of a message in flight, or its result; each message in one hand. And the core state is sound: it
+-- has what each core state keeps (`HoldsJobs` asks for that, too).
 abbrev pub HandsHaveJobs : MachineView → Type 0
 HandsHaveJobs m = HoldsJobs m.core.geometry (core_state_of m.core) m.hands
 

@@ -59,7 +59,7 @@ machine p = machine_with_jobs p.core p.dispatch_seat.lent
 -- ---- why no more is read
 
 -- The last argument is why no more is read. `unread` is what wasn't consumed of the input when reading ended, `remaining` what its reader
--- has left.
+-- has left. `LosesFront`: of what is unread the first bytes were read and are lost, none of them a newline, and the others remain.
 abbrev pub IsReadEnd : Geometry → CoreView → Option (List ℕ) → Bool → Option (List ℕ) → ReadEnd → Type 0
 IsReadEnd g core unread drained remaining ends_of_reading.EndOfInput = IsAtEnd unread × IsAtEnd remaining
 IsReadEnd g core unread drained remaining ends_of_reading.ReadFailed = (drained ≡ false) × IfSome unread (λ bs. LosesFront bs remaining)

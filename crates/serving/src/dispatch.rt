@@ -237,7 +237,8 @@ impl<'c, R: Read, D: Disk, L: ReplySink<D>> Session<'c, R, D, L> {
         batch
     }
 
-    /// Logs all that ran, by one call of `log`. Where nothing ran, it only reports whether the device has failed.
+    /// Logs all that ran, by one call of `log`, and returns how many messages these were, reads included. Where nothing ran, it only
+    /// reports whether the device has failed.
     pub(crate) fn log_what_ran(&mut self) -> Result<usize, Halted>
         ensures session_step { IsSessionStep self.old self.new result }
         ensures same { (self.new.reorder_buffer ≡ self.old.reorder_buffer) × (self.new.reply_buffer ≡ self.old.reply_buffer)

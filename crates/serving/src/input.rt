@@ -19,7 +19,8 @@ use std::io::Read;
 
 /// Takes the line of these bytes into the reorder buffer and, if it is a message in range, the message into the core; a message out of
 /// range takes no ticket. `Err` is why no more is read: the core refuses the message for another reason than its range, and the line isn't
-/// taken in. Where the reorder buffer has room for the line, the core has a slot for its message.
+/// taken in. Where the reorder buffer has room for the line, the core has a slot for its message. `hands` are the bench's
+/// places with the jobs lent there, whichever these are: they stay as they are.
 fn take<D: Disk>(
     core: &mut Core<D>,
     reorder_buffer: &mut ReorderBuffer,

@@ -80,10 +80,11 @@ pub fn each_unanswered_message_has_its_line<D: Disk>()
 {}
 
 /// A server in whose core nothing waited or was held at the start has written what the serial server writes, however many messages ran at
-/// once: at the end of the input all of it; where a read failed, the answers to the whole lines that were read; where a line found no
-/// ticket, the answers to the lines before it; where the device failed, a prefix of it in whole lines. In the first three cases nothing
-/// waits or is held, and the core has committed the state that the serial server has after the answered lines. One legal run led to all
-/// that was written (`run`).
+/// once: at the end of the input all of it; where a read failed, the answers to the whole lines that were read (`LosesFront`: what was
+/// read of a further line, without its newline, is lost); where a line found no ticket, the answers to the lines before it; where the
+/// device failed, a prefix of it in whole lines. In the first three cases nothing waits or is held, and the core has committed the state
+/// that the serial server has after the answered lines. One legal run led to all that was written (`run`). `RecoversNow`: whatever a crash
+/// leaves now recovers to the committed state with a prefix of the messages in `doubt`.
 pub fn serving_ends_as_the_serial_server<D: Disk>()
     ensures end_of_input { (start now : MachineView) (input unread : Option (List ℕ)) (drained : Bool) (before written : Option (List ℕ))
         → IsIdle (core_state_of start.core) → ServingProgress D.keeps start now [] input unread drained before written

@@ -51,7 +51,7 @@ pub struct ServeError<D: Disk> {
 }
 
 // What a server has before it reads: room for what is read, for the lines that are not retired and for the answers that wait, and a bench
-// with its seats. None of it is used yet.
+// with its seats. None of it is used yet. `holds_a_line`: the longest line has 1,100 bytes and its newline.
 struct Preallocated {
     input: Vec<u8>,
     reorder_buffer: ReorderBuffer,
@@ -88,7 +88,7 @@ fn take_memory(alloc: Global, slots: usize, workers: usize) -> Result<Preallocat
 }
 
 // What a server hands back: its core, with a fault if it ended before the end of its input, or if a thread could not be started (the outer
-// `Err` of `ended`).
+// `Err` of `ended`). `RecoversNow`: whatever a crash leaves now recovers to the committed state with a prefix of the messages in `doubt`.
 fn hand_back<D: Disk>(
     core: Core<D>,
     ended: Result<Result<(), ServeFault>, AllocError>,

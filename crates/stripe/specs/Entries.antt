@@ -26,7 +26,8 @@ entries_in (suc n) bytes = if get_or bytes 0 0 == 1 then entry_in (take 520 byte
 
 -- ---- pieces
 
--- Block b of file f can be in stripe s of a volume with these files: f is one of them, b is in range, and the block lies in that stripe.
+-- Block b of file f can be in stripe s of a volume whose files are the bits of `files`: f is one of them, b is in range, and the block lies
+-- in that stripe.
 abbrev pub fits_stripe : Geometry → ℕ → ℕ → ℕ → ℕ → Bool
 fits_stripe g files s f b = has_file files f && nat_lt b g.blocks && (stripe_of g f b == s)
 

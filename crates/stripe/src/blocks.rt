@@ -38,6 +38,7 @@ impl StripeParcel {
         requires most { quota ≤ 64 }
         ensures { IfOk result (λ s. s ≡ record { quota = quota; entries = [] }) }
     {
+        // An arena with 0 chains: the index has the order.
         let blocks = Arena::with_capacity(alloc, quota, 0)?;
         let index = Vec::with_capacity(alloc, quota)?;
         Ok(StripeParcel { blocks, index })

@@ -27,7 +27,8 @@ abbrev pub lent_at : LentJobs → ℕ → Option JobView
 lent_at lent k = slice_index_or lent k None
 
 -- Word 0 is the stop word; 1 and 2 are the event counts of offers and of deliveries; 3 and 4 count the workers that sleep and that spin;
--- 5 is the count of deliveries at which the dispatcher slept last. The rule says nothing of these six. Behind them each place has its word.
+-- 5 is the count of deliveries at which the dispatcher slept last. The rule says nothing of these six. Behind them each place has its word:
+-- `word_of k` is the position of that of place k, not its value.
 abbrev pub word_of : ℕ → ℕ
 word_of k = k + 6
 

@@ -48,6 +48,6 @@ Collects k m found w =
     × (w ≡ (Dispatcher 0 (slice_set (lent_of m.0) k None), (k, Some (Delivered done)) ∷ m.1)))
     × (found ≢ 3 → w ≡ m)
 
--- the relation holds for the place whose word this step changes
+-- The relation holds for the place whose word this step changes. `st.word` and `word_of k` are positions among the words, no values.
 abbrev pub OfPlace : {F : Type 0} → (ℕ → SeatState → ℕ → SeatState → Type 0) → Step F → SeatState → ℕ → SeatState → Type 0
 OfPlace relation st m found w = (k : ℕ) → st.word ≡ word_of k → relation k m found w

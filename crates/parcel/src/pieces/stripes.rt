@@ -1,4 +1,4 @@
-//! A stripe's piece of an image, from the stripe of a volume and into it.
+//! A stripe's piece of an image, 520 bytes for each block that it can hold, from the stripe of a volume and into it.
 ghost use Rattle.std.specs.Prelude.{◌≡◌, ◌↔◌, ◌*◌, ◌<◌, ◌^◌, ◌==◌, ℕ, length, if◌then◌else◌, IfSome, IsTrue};
 ghost use Rattle.affinity.specs.Geometry.{stripe_of};
 ghost use Rattle.image.specs.Pieces.{block_in, stripe_piece};
@@ -48,7 +48,7 @@ pub(super) fn read_stripe(logical: &mut Logical, g: &Geometry, s: usize, bytes: 
     read_at(&mut logical.stripes[s], g, files, s as u16, bytes)
 }
 
-// Replaces the blocks of one stripe by those in `bytes`.
+// Replaces the blocks of one stripe by those in `bytes`. The bits of `files` are the files of its volume.
 fn read_at(node: &mut Option<StripeParcel>, g: &Geometry, files: u64, s: u16, bytes: &[u8]) -> bool
     requires fits { IfSome node.old (FitsStripe g.now s) }
     requires whole { IsWholeChild (λ (p : StripePart). Unit {0}) node.old }

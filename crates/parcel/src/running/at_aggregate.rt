@@ -95,7 +95,7 @@ fn clear(node: &mut Option<Vol>)
 }
 
 // Makes a volume, or refuses to. Clause `checks` says that the message has the checks of a `makevol`: they are the same for each aggregate,
-// so 0 stands for any.
+// so 0 stands for any. (`at_aggregate g a r` is the state that has r as aggregate a, and nothing else.)
 fn make_volume(aggregate: &mut Aggr, g: &Geometry, message: &Msg, v: u16) -> Reply
     requires checks { checks message.now ≡ checks (Msg.MakeVol 0 v) }
     requires volume { v < g.now.volumes }

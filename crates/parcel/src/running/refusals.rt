@@ -1,4 +1,6 @@
 //! Why messages are refused, by what they see of their volume: the first check that fails, or `None` if all are passed.
+//! In clauses `guard passes why later` is the refusal `why` where `passes` is false, else `later`; `guard_open made sealed later` checks
+//! that the volume is made and then that it isn't sealed, before `later`.
 
 ghost use Rattle.std.specs.Prelude.{◌≡◌, ◌<◌, ◌∷◌, [], not, find, None};
 ghost use Rattle.messages.specs.declared.Refusal.TheVariants.{Range, Volume, Exists, Sealed, File, Space};
