@@ -17,8 +17,9 @@ pub const NEW: usize = 4;
 /// The number of a `Torn::Mixed`: a crash that leaves the bytes 1, 77, 1 over and over at the unsynced offsets, from the lowest upward.
 pub const MIXED: usize = 5;
 
-/// One of the kinds of crash, by its number below `KINDS`. At each unsynced offset kind 0 leaves another byte than kind 1: where both
-/// leave the same device, nothing is unsynced, and every kind leaves that device.
+/// One of the kinds of crash, by its number below `KINDS`. At each unsynced offset kind 0 leaves another byte than kind 1 (`Torn::Fill`
+/// leaves its byte at each of them): where both leave the same device, nothing is unsynced, and every kind leaves that device. `HasPattern`
+/// says that a `Torn::Mixed` has a byte at least.
 pub fn torn(alloc: Global, kind: usize) -> Result<Torn, AllocError>
     ensures { IfOk result HasPattern }
 {

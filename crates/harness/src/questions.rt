@@ -15,6 +15,7 @@ use std::alloc::{AllocError, Global};
 /// `label`, and each block of each of its files.
 #[derive(Drop)]
 pub struct Questions {
+    // The same questions as lines and as messages.
     lines: Vec<u8>,
     messages: Vec<Msg>,
 }
@@ -40,6 +41,7 @@ impl Questions {
         self.messages.as_slice()
     }
 
+    /// Adds the questions about one volume.
     fn ask_volume(
         &mut self,
         alloc: Global,
@@ -57,6 +59,7 @@ impl Questions {
         Ok(())
     }
 
+    /// Adds those about one file, which is given by its aggregate, its volume and its number.
     fn ask_file(&mut self, alloc: Global, g: &Geometry, file: [u16; 3]) -> Result<(), AllocError> {
         let [a, v, f] = file;
         for b in 0..g.blocks {
@@ -66,6 +69,7 @@ impl Questions {
         Ok(())
     }
 
+    /// Adds a question; no server is asked yet. A line that is no message would be left out.
     fn ask(&mut self, line: &str) -> Result<(), AllocError> {
         if let Some(message) = parse_line(line.as_bytes()) {
             self.lines.extend_from_slice(line.as_bytes())?;
@@ -88,7 +92,8 @@ pub fn messages_of(alloc: Global, lines: &[&str]) -> Result<Vec<Msg>, Wrong> {
     Ok(messages)
 }
 
-/// What a whole tree (no part of it is lent) replies to a message, which runs on it.
+/// What a whole tree (no part of it is lent) replies to a message, which runs on it (by `step`), unless it has no place there: a number of
+/// it is out of range.
 fn reply_of(tree: &mut Tree, m: Msg) -> Reply
     requires whole { IsWholeTree tree.old }
     ensures whole { IsWholeTree tree.new }
@@ -121,7 +126,7 @@ pub fn reply_lines(
     Ok(reply_lines)
 }
 
-/// How many bytes the first `count` lines take; 0 if there are fewer lines.
+/// How many bytes the first `count` lines of an output take; 0 if there are fewer lines.
 fn end_of(output: &[u8], count: usize) -> usize {
     let mut left = count;
     for (at, byte) in output.iter().enumerate() {

@@ -45,7 +45,7 @@ fn is_change_in_range(g: &Geometry, m: &Msg) -> bool
     changing(m.kind()) && place_of(g, m.kind(), m.numbers()).is_some()
 }
 
-/// Whether each of these is a change in range.
+/// Whether each of these is a change in range: of a kind that may change the state (`changing`), with numbers that the geometry has.
 fn are_changes_in_range(g: &Geometry, messages: &[Msg]) -> bool
     ensures { IsTrue result → AreChangesInRange g.now messages.now }
 {
@@ -200,7 +200,8 @@ impl<D: Disk> Server<D> {
     }
 }
 
-/// Runs these messages, up to the first whose reply isn't `done`. Returns whether there was none such.
+/// Runs these messages on the whole tree, each by `step`, which gives its reply, up to the first whose reply isn't `done`. Returns whether
+/// there was none such. `place_of` gives none where a number of a message is out of range.
 fn carry_out(tree: &mut Tree, messages: &[Msg]) -> bool
     requires whole { IsWholeTree tree.old }
     ensures whole { IsWholeTree tree.new }
@@ -224,7 +225,7 @@ fn set(bytes: &mut [u8], patches: &[(usize, u8)]) {
     }
 }
 
-/// A device that was formatted.
+/// A device that was formatted. In memory, and as long as its geometry asks, only a want of memory can prevent that.
 fn formatted(alloc: Global, g: Geometry) -> Result<MemDisk, Wrong> {
     let disk = MemDisk::new(alloc, device_len(&g))?;
     match format(alloc, disk, g) {
@@ -233,8 +234,9 @@ fn formatted(alloc: Global, g: Geometry) -> Result<MemDisk, Wrong> {
     }
 }
 
-/// A device that was formatted with the geometry of these numbers (aggregates, volumes, stripes, width, files, blocks, quota, half), and in
-/// which bytes were set after that. Each patch is an offset and a byte.
+/// A device that was formatted with the geometry of these numbers (aggregates, volumes, stripes, width, files, blocks, quota, and how many
+/// records a half of the log takes), and in which bytes were set after that. Each patch is an offset and a byte. `Unfit` where there is no
+/// such geometry.
 pub fn device_with(
     alloc: Global,
     numbers: [u16; 8],

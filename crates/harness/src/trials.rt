@@ -15,7 +15,8 @@ const MOST_CALLS: u64 = 10_000;
 /// How far a trial came.
 #[derive(Clone, Copy)]
 pub struct Progress {
-    /// How many of its changes were logged by a call that returned `Ok`: whatever a crash leaves has these.
+    /// How many of its changes were logged by a call that returned `Ok`: whatever a crash leaves has these. The glossary's *answered* is
+    /// another: no reply is meant.
     pub answered: usize,
 
     /// How many of its changes a crash may leave: those, and the ones of the call that failed.
@@ -63,7 +64,8 @@ pub struct Crash {
     /// The number of the call that failed, from 1 on. Before a crash all later calls failed, too: the device stopped.
     pub call: u64,
 
-    /// The kind of crash (see `torn`). `KINDS`: there was no crash, and later calls worked.
+    /// The kind of crash: a number below `KINDS`, which is how many there are (`torn` gives what each leaves at unsynced offsets). `KINDS`
+    /// itself: there was no crash, and later calls worked.
     pub kind: usize,
 }
 
@@ -155,6 +157,7 @@ fn is_shown(
     let after = inspected(alloc, opened)?;
     Ok(match (before, after, found) {
         (Ok(before), Ok(after), OpenedDevice::Answers(reply_lines)) => {
+            // The opening has made a checkpoint: then all is in the image.
             let is_new = after.records == 0 && after.version == 2;
             is_new
                 && agrees(&before, reply_lines.as_slice())
@@ -309,6 +312,7 @@ impl<T: Trial> Stops<'_, T> {
         }
     }
 
+    /// Fails unless this, which was found, is allowed.
     fn judge(&self, progress: &Progress, first: Crash, found: &OpenedDevice) -> Result<(), Wrong> {
         if self.trial.allows(progress, found) {
             Ok(())
@@ -346,7 +350,7 @@ impl<T: Trial> Stops<'_, T> {
         Ok(progress.is_faultless)
     }
 
-    /// Calls `crash` with each kind of crash.
+    /// Calls `crash` with each kind of crash. Returns whether the trial was over before that call of the device.
     fn stop(&mut self, call: u64) -> Result<bool, Wrong>
         requires { 0 < call }
     {

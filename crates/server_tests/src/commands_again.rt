@@ -1,5 +1,6 @@
 //! Two incarnations of one device, by `serve_again`: in the first the device stops at its n-th call, for each n, and crashes; the second is
-//! asked what the crash left.
+//! asked what the crash left. The server is the small one (`SMALL`: one volume of two files of four blocks in two stripes). There are
+//! `KINDS` kinds of crash; `torn` gives what each leaves at the unsynced offsets.
 ghost use Rattle.std.specs.Prelude.{◌<◌};
 
 use crate::commands_calls::System;
@@ -108,9 +109,9 @@ fn asked(alloc: Global, lines: &[(&str, &str)]) -> Result<String, AllocError> {
     Ok(input)
 }
 
-/// Runs both incarnations: the device of the first stops at its n-th call and is torn by the crash of kind `at` (`harness::torn`). Fails
-/// unless the first wrote the answers to its first lines, to all where it had no fault, and the second had no fault and answered as the row
-/// allows after that many.
+/// Runs both incarnations (with one worker, four slots, and no checkpoint by a count of records): the device of the first stops at its n-th
+/// call and is torn by the crash of kind `at` (`harness::torn`). Fails unless the first wrote the answers to its first lines, to all where
+/// it had no fault, and the second had no fault and answered as the row allows after that many.
 fn expect_incarnations<T: System>(rt: &T, row: &Row<'_>, n: u64, at: usize) -> Result<Found, Fail>
     requires { 0 < n }
 {

@@ -1,9 +1,11 @@
-//! Calls of the command `plain` on messages.
+//! Calls of the command `plain` on messages. `expect` makes a call (`Call::of`: these arguments, this input), and fails the test unless it
+//! ends with this status, output and standard error (`NOTHING`: empty).
 use crate::commands_calls::{Call, Expected, NOTHING, Streams, expect};
 use std::test::Fail;
 
 const PLAIN: &str = "waffd plain";
 
+/// Lines that make a volume and a file, write a block of it, and read that.
 const MADE: &str = "makevol 0 0\ncreate 0 0 0\nwrite 0 0 0 0 6162\nread 0 0 0 0\n";
 
 const MADE_REPLY: &str = "done\ndone\ndone\nblock 6162\n";

@@ -128,10 +128,12 @@ pub(crate) struct Call<'a> {
 }
 
 impl<'a> Call<'a> {
+    /// A call without a path, whose input is given at once.
     pub(crate) fn of(arguments: &'a str, input: &'a [u8]) -> Call<'a> {
         Call::on("", arguments, input)
     }
 
+    /// A call on the device in the file at this path.
     pub(crate) fn on(path: &'a str, arguments: &'a str, input: &'a [u8]) -> Call<'a> {
         Call {
             arguments,
@@ -160,6 +162,7 @@ fn split(alloc: Global, call: &Call<'_>) -> Result<Vec<String>, AllocError> {
     Ok(arguments)
 }
 
+/// Makes this call, and gives how it ended.
 fn end_of<T: System>(rt: &T, call: &Call<'_>) -> Result<Ended, AllocError> {
     let arguments = split(rt.alloc(), call)?;
     let answered = Cell::new(0);
@@ -197,7 +200,7 @@ fn end_of<T: System>(rt: &T, call: &Call<'_>) -> Result<Ended, AllocError> {
     })
 }
 
-/// A text that is printed, or a part of it.
+/// What has to be printed: this text, or one that has this part.
 #[derive(Clone, Copy, Drop)]
 pub(crate) enum Expected<'a> {
     Is(&'a str),
@@ -225,7 +228,7 @@ fn amiss(arguments: &str, ended: &Ended) -> Fail {
     Fail::new(format_args!("{arguments}: {found}, {printed}, {error_text}"))
 }
 
-/// Fails unless a call ends so: its status, and what it prints on the output and (`faults`) on the standard error.
+/// Makes a call, and fails unless it ends so: its status, and what it prints on the output and (`faults`) on the standard error.
 pub(crate) fn expect<T: System>(
     rt: &T,
     call: Call<'_>,
@@ -309,6 +312,7 @@ fn help_goes_to_the_output(rt: HostRuntime) -> Result<(), Fail> {
     Ok(())
 }
 
+/// The fault of a call that leaves out the device's path.
 const UNMET: Expected<'static> = Expected::Has(
     "error: the following required arguments were not provided",
 );
@@ -493,6 +497,7 @@ fn expect_report(found: u8, faults: &[u8], status: u8, error_text: &str) -> Resu
     Err(Fail::new(format_args!("{error_text}: {found}, {faults}")))
 }
 
+/// The fault of arguments that aren't text.
 const NO_TEXT: &str = "error: invalid UTF-8 was detected in one or more arguments
 
 For more information, try '--help'.

@@ -1,4 +1,5 @@
-//! Calls of the commands for devices, on files of the system.
+//! Calls of the commands for devices, on files of the system. `expect` makes a call, and fails the test unless it ends with this status,
+//! output and standard error (`NOTHING`: empty).
 use crate::commands_calls::{Call, Expected, NOTHING, Streams, System, expect};
 use std::alloc::{AllocError, Global};
 use std::fs::{self, OpenOptions, Permissions};
@@ -6,7 +7,8 @@ use std::os::unix::fs::PermissionsExt;
 use std::process;
 use std::test::Fail;
 
-/// Makes a small device: one volume of two files of four blocks, in two stripes that hold two blocks each, and four records in a half.
+/// Makes a small device in the file whose path `@` stands for: one volume of two files of four blocks, in two stripes that hold two blocks
+/// each, and four records in a half.
 pub(crate) const FORMAT: &str =
     "waffd format @ --volumes 1 --stripes 2 --width 1 --files 2 --blocks 4 --quota 2 --half 4";
 
@@ -14,7 +16,7 @@ pub(crate) const SHOW: &str = "waffd show @";
 
 pub(crate) const SERVE: &str = "waffd serve @";
 
-/// The length of the small device.
+/// The length of the small device, in bytes.
 pub(crate) const LEN: usize = 8840;
 
 /// Its header, but for the zeros after: 1 and WAFFSRV, and the eight numbers of the geometry in two bytes each.
@@ -30,7 +32,7 @@ const DEVICE_FAULT: &str = "waffd: device fault\n";
 
 const TOO_SHORT: &str = "waffd: device too short\n";
 
-/// A path at which there is no file.
+/// A path at which there is no file: one that is there is removed.
 pub(crate) fn new_path(rt: &HostRuntime, name: &str) -> Result<String, Fail> {
     let id = process::id(rt.process());
     let path = format!(in rt.alloc(); "/tmp/waffd_tests_{name}_{id}")?;
@@ -87,7 +89,7 @@ pub(crate) enum Left<'a> {
     Made(Patches<'a>),
 }
 
-/// Fails unless a call on the device in a file ends so, and leaves this.
+/// Makes a call on the device in a file, and fails unless it ends so (`faults`: on the standard error), and leaves this.
 pub(crate) fn expect_left<T: System>(
     rt: &T,
     call: Call<'_>,
@@ -138,7 +140,7 @@ fn a_device_is_made_and_shown(rt: HostRuntime) -> Result<(), Fail> {
     Ok(())
 }
 
-/// Lengths to which the file of a device is cut or made longer, and the status, the output and the fault of `show` then.
+/// Lengths, in bytes, to which the file of a device is cut or made longer, and the status, the output and the fault of `show` then.
 const LENGTHS: [(u64, u8, &str, &str); 4] = [
     (9000, 0, MADE, ""),
     (8839, 1, "", TOO_SHORT),

@@ -1,4 +1,6 @@
-//! Calls of the command `serve`, on files of the system.
+//! Calls of the command `serve`, on files of the system. `SERVE` is `waffd serve @`, where `@` stands for the path of the device, and the
+//! device is the small one, `LEN` bytes long, just made (`made_bytes`, `write_made`) with some bytes set. `expect` makes a call, and fails
+//! the test unless it ends with this status, output and standard error (`NOTHING`: empty).
 use crate::commands_calls::{Call, Expected, NOTHING, Streams, System, expect};
 use crate::commands_devices::{
     LEN, MADE as JUST_MADE, Patches, SERVE, expect_shown, made_bytes, new_path, write_made,
@@ -7,11 +9,12 @@ use std::alloc::{AllocError, Global};
 use std::fs;
 use std::test::Fail;
 
+/// Lines that make a volume and a file, write a block of it, and read that. (`JUST_MADE` is what `show` prints of a device just made.)
 const MADE: &str = "makevol 0 0\ncreate 0 0 0\nwrite 0 0 0 0 6162\nread 0 0 0 0\n";
 
 const MADE_REPLY: &str = "done\ndone\ndone\nblock 6162\n";
 
-/// What `show` prints of the small device.
+/// What `show` prints of the small device: the area that is named, how many records are in force, and so many volumes, files and blocks.
 fn shown(alloc: Global, area: u8, records: u8, summary: &str) -> Result<String, AllocError> {
     format!(in alloc;
         "geometry 1 1 2 1 2 4 2 4\narea {area}\nrecords {records}\nsummary {summary}\nimage 2\n"
@@ -138,12 +141,12 @@ fn expect_next<T: System>(
         shown(rt.alloc(), area, records, summary)?.as_str(),
     )?;
     let mut call = Call::on(path, SERVE, b"summary");
-    let error_text = format!(in rt.alloc(); "summary {summary}\n")?;
-    expect(rt, call, 0, Expected::Is(error_text.as_str()), NOTHING)?;
+    let reply_line = format!(in rt.alloc(); "summary {summary}\n")?;
+    expect(rt, call, 0, Expected::Is(reply_line.as_str()), NOTHING)?;
     call.streams = Streams::ClosedOutput;
     expect(rt, call, 1, NOTHING, Expected::Is("waffd: write fault\n"))?;
     call.streams = Streams::Open;
-    expect(rt, call, 0, Expected::Is(error_text.as_str()), NOTHING)
+    expect(rt, call, 0, Expected::Is(reply_line.as_str()), NOTHING)
 }
 
 #[test]
@@ -367,11 +370,11 @@ fn all_lines(alloc: Global) -> Result<Vec<u8>, AllocError> {
 /// The answers to them.
 fn all_replies(alloc: Global) -> Result<String, AllocError> {
     let mut replies = String::new(alloc);
-    for &(_, error_text) in &LINES {
-        replies.push_str(error_text)?;
+    for &(_, reply_text) in &LINES {
+        replies.push_str(reply_text)?;
     }
-    for &(_, _, _, error_text) in &LONG {
-        replies.push_str(error_text)?;
+    for &(_, _, _, reply_text) in &LONG {
+        replies.push_str(reply_text)?;
     }
     Ok(replies)
 }
@@ -420,8 +423,8 @@ fn what_lies_behind_a_device_stays(rt: HostRuntime) -> Result<(), Fail> {
     let arguments = "waffd serve @ --every 2";
     let call = Call::on(path.as_str(), arguments, THREE_CHANGES.as_bytes());
     expect(&rt, call, 0, Expected::Is(THREE_DONE), NOTHING)?;
-    let error_text = shown(rt.alloc(), 1, 0, "1 1 1")?;
-    expect_shown(&rt, path.as_str(), error_text.as_str())?;
+    let shown_text = shown(rt.alloc(), 1, 0, "1 1 1")?;
+    expect_shown(&rt, path.as_str(), shown_text.as_str())?;
     let left = fs::read(&rt, path.as_str())?;
     fs::remove_file(&rt, path.as_str())?;
     if left.get(LEN..) == Some(BEHIND) {

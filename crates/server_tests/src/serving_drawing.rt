@@ -28,7 +28,8 @@ impl Draw {
     }
 }
 
-/// What a line begins with, how many numbers follow, and how many digits of data after them.
+/// What a line begins with, how many numbers follow, and how many digits of data (two a byte) after them. Each row is drawn as often as any
+/// other: a message that has more rows comes more often.
 const KINDS: [(&[u8], usize, usize); 20] = [
     (b"makevol", 2, 0),
     (b"dropvol", 2, 0),

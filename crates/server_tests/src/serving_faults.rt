@@ -1,4 +1,6 @@
-//! Servers on devices that fail at any one call, or stop there and are torn by a crash after that.
+//! Servers on devices that fail at any one call, or stop there and are torn by a crash after that. They are small (`SMALL`: one volume of
+//! two files of four blocks in two stripes, and four records in a half of the log). There are `KINDS` kinds of crash; `torn` gives what
+//! each leaves at the unsynced offsets, and `expected` what the serial server answers to questions after some changes.
 use crate::serving_noting::Notes;
 use crate::serving_running::{ALL_AT_ONCE, End, Left, SMALL, Way, holds, session};
 use affinity::Geometry;
@@ -72,14 +74,14 @@ fn known_after(
             return Err(Wrong::Unfit);
         };
         lines.push(*line)?;
-        changes |= first(*index + 1) ^ first(*index);
+        changes |= mask_of_first(*index + 1) ^ mask_of_first(*index);
     }
     let replies = expected(alloc, g, lines.as_slice(), questions)?;
     Ok(Known { changes, replies })
 }
 
 /// The bit mask of the first `count` changes.
-fn first(count: usize) -> u32 {
+fn mask_of_first(count: usize) -> u32 {
     let mut sum = 0u32;
     for _ in 0..count {
         sum = (sum << 1) | 1;
@@ -123,12 +125,13 @@ impl Play {
         let OpenedDevice::Answers(replies) = found else {
             return false;
         };
-        let acknowledged = first(self.recovered_changes.saturating_add(acknowledged));
+        let acknowledged = mask_of_first(self.recovered_changes.saturating_add(acknowledged));
         let mut known = self.known.iter();
         known.any(|known| known.changes & acknowledged == acknowledged && known.replies == *replies)
     }
 
-    /// Serves on a device that fails at the call of this crash. Returns how that went, and what the crash leaves.
+    /// Serves on a device that fails at the call of this crash (all is read and written at once, the streams don't fail). Returns how that
+    /// went, and what the crash leaves.
     fn meet<T: Threads + Wait + Sync>(
         &self,
         rt: &T,
@@ -292,7 +295,7 @@ impl Openings {
 
 /// Serves on a device with a fault at each of its calls in turn: for each kind of crash once with the device stopped there and then
 /// crashed, and once with that call failing alone. What is found after that has to be allowed. One session at least has to be
-/// `Met::is_chained`.
+/// `Met::is_chained`, else this fails with `Unfit`.
 fn survives<T: Threads + Wait + Sync>(
     rt: &T,
     alloc: Global,
@@ -325,7 +328,7 @@ fn survives<T: Threads + Wait + Sync>(
     Err(Wrong::Endless)
 }
 
-/// A way with four slots.
+/// A way with four slots, and a checkpoint after `every` records (0: only where the log is full).
 fn way(workers: usize, every: u64) -> Way {
     Way {
         workers,

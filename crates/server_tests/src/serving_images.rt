@@ -1,4 +1,6 @@
-//! Long lines, and what the image has when serving has ended, with several numbers of workers and slots.
+//! Long lines, and what the image has when serving has ended, with several numbers of workers and slots. The server is the small one
+//! (`SMALL`): one volume of two files of four blocks, and four records in a half of the log. `holds` and `writes` fail the test unless a
+//! fact holds, or the bytes that were written are those wanted.
 use crate::serving_running::{SMALL, Way, holds, serial, serve_lines, writes};
 use checkpoint::{OpenFault, inspect};
 use disk::MemDisk;
@@ -20,6 +22,7 @@ fn answers<T: Threads + Wait + Sync + Abort>(
     writes(rt, serial(alloc, SMALL, lines)?.as_slice(), want);
     for workers in [1, 2, 8] {
         for slots in [1, 2, 16] {
+            // `every: 0`: no checkpoint is due by a count of records.
             let way = Way {
                 workers,
                 slots,
@@ -33,7 +36,7 @@ fn answers<T: Threads + Wait + Sync + Abort>(
     Ok(())
 }
 
-/// This line, and then `count` times this byte.
+/// The beginning of a line, and then `count` times this byte.
 fn long_line(alloc: Global, line: &[u8], byte: u8, count: usize) -> Result<Vec<u8>, AllocError> {
     let mut long = line.to_vec(alloc)?;
     for _ in 0..count {
@@ -80,7 +83,7 @@ const TWO_CHANGES: &[u8] = b"makevol 0 0\ncreate 0 0 0\n";
 const THREE_CHANGES: &[u8] = b"makevol 0 0\ncreate 0 0 0\nwrite 0 0 0 0 61\n";
 
 /// Looks at a device on which lines were served to their end: fails the test unless this area is named, its image has version 2 and so many
-/// volumes, files and blocks, and no record is in force.
+/// volumes, files and blocks, and no record is in force. `Unfit` where the device is refused.
 pub(crate) fn leaves(
     rt: &impl Abort,
     alloc: Global,
@@ -111,14 +114,14 @@ pub(crate) fn leaves(
 
 #[test]
 fn all_is_in_the_image_at_the_end(rt: HostRuntime) -> Result<(), Fail> {
-    for (changes, lines, every, area, counts) in LEAVES {
+    for (patches, lines, every, area, counts) in LEAVES {
         for workers in [1, 2] {
             let way = Way {
                 workers,
                 slots: 4,
                 every,
             };
-            let device = device_with(rt.alloc(), SMALL, changes)?;
+            let device = device_with(rt.alloc(), SMALL, patches)?;
             let (device, _) = serve_lines(&rt, rt.alloc(), device, way, lines)?;
             leaves(&rt, rt.alloc(), device, area, counts)?;
         }

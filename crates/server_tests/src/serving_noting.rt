@@ -47,7 +47,8 @@ impl Flag {
 /// What a device, a reader and a writer of one server have seen.
 #[derive(Drop)]
 pub(crate) struct Notes {
-    /// Gates of the small server (`SMALL`) that were opened (1 was written to them) since the last sync.
+    /// Gates of records of the small server (`SMALL`, with four records in a half) that were opened (1 was written to them) since the last
+    /// sync.
     unsynced: Count,
     /// Gates that were opened and then synced: the records that count.
     pub(crate) logged: Count,
@@ -55,9 +56,11 @@ pub(crate) struct Notes {
     pub(crate) cuts: Count,
     /// How often the root byte was written: by the opening, and at the end of each checkpoint.
     pub(crate) root_writes: Count,
+    /// Calls of `sync`, failed ones included.
     pub(crate) syncs: Count,
     /// Writes at or after `IMAGES`: pieces of images, if the server has 64 records in a half.
     pub(crate) pieces: Count,
+    /// Reads of the input.
     pub(crate) reads: Count,
     /// Writes and flushes of the output.
     pub(crate) writes: Count,
@@ -139,12 +142,13 @@ fn gates_in(at: u64, bytes: &[u8]) -> u64 {
     count
 }
 
-/// Whether a chain byte becomes 1 by writing these bytes from offset `at` on.
+/// Whether a chain byte becomes 1 by writing these bytes from offset `at` on: so a cut begins.
 fn opens_chain(at: u64, bytes: &[u8]) -> bool {
     CHAINS.contains(&at) && bytes.first() == Some(&1)
 }
 
-/// A device that passes each call on to another one, and notes it. No contract says that it behaves as the device model: its `keeps` is ⊥.
+/// A device that passes each call on to another one, and notes it. No contract says that it behaves as the device model: its `keeps` is ⊥,
+/// so what a contract asks for under `D.keeps → ..` need not be proved here.
 #[derive(Drop)]
 pub(crate) struct Noting<'a, D: Disk> {
     pub(crate) device: D,

@@ -1,4 +1,5 @@
-//! How many lines are read and not answered in the output: no more than there are slots.
+//! How many lines are open, that is read and not answered in the output: no more than there are slots. The server is the small one
+//! (`SMALL`), with one volume of two files of four blocks. `holds` fails the test unless a fact holds.
 use crate::serving_noting::{Notes, Taking};
 use crate::serving_running::{SMALL, holds};
 use disk::MemDisk;
@@ -15,7 +16,7 @@ use workers::OpenGate;
 /// How many lines there are; each takes a ticket.
 const MANY: usize = 500;
 
-/// `MANY` lines. Neighbors are unrelated.
+/// `MANY` lines. Neighbors are unrelated. There is no volume, so each is answered `error volume`.
 fn reads(alloc: Global) -> Result<Vec<u8>, AllocError> {
     let mut lines = Vec::new(alloc);
     for _ in 0..MANY / 4 {
@@ -25,7 +26,7 @@ fn reads(alloc: Global) -> Result<Vec<u8>, AllocError> {
 }
 
 /// Serves these lines to a writer whose n-th call fails. Returns how many were read by then, which is the ticket that the core gives next,
-/// and how many of their answers were written and flushed.
+/// and how many of their answers were written and flushed. `Unfit` where the server ended by no write fault.
 fn stopped_at<T: Threads + Wait + Sync>(
     rt: &T,
     alloc: Global,
@@ -35,6 +36,7 @@ fn stopped_at<T: Threads + Wait + Sync>(
 ) -> Result<(u64, u64), Wrong> {
     let notes = Notes::new();
     let mut input = lines;
+    // It takes all that is written at once.
     let mut writer = Taking {
         output: Vec::new(alloc),
         size: 70_000,
@@ -45,6 +47,7 @@ fn stopped_at<T: Threads + Wait + Sync>(
     let Ok(core) = Core::open(alloc, device, slots) else {
         return Err(Wrong::OutOfMemory);
     };
+    // With two workers, without checkpoints by a count of records, and with hooks that do nothing.
     match serve(rt, alloc, core, &mut input, &mut writer, 2, 0, &OpenGate) {
         Err(ServeError { mut core, fault }) => {
             let read = core.arrive(&Msg::Summary);

@@ -1,4 +1,5 @@
-//! Which messages run at once.
+//! Which messages run at once. Here a `Gate` is a hook of the server: a worker calls `before` just before it runs a job, the dispatcher
+//! `answered` just after a message is answered. `writes` fails the test unless the bytes that were written are those wanted.
 use crate::serving_noting::Notes;
 use crate::serving_running::{ALL_AT_ONCE, End, FLAT, SMALL, Way, serve_lines, session, writes};
 use harness::{Wrong, device_with};
@@ -61,7 +62,8 @@ struct AtOnce {
 /// One volume of one file of four blocks, each in a stripe of its own.
 const FOUR: [u16; 8] = [1, 1, 4, 1, 1, 4, 1, 8];
 
-/// In each row message `last` is answered while each of those that are kept waiting is in flight with a worker.
+/// `SMALL` has one volume, in whose two stripes neighboring blocks alternate; `FLAT` has one file of eight blocks in eight stripes. In each
+/// row message `last` is answered while each of those that are kept waiting is in flight with a worker.
 const AT_ONCE: [AtOnce; 6] = [
     AtOnce {
         numbers: SMALL,
@@ -130,8 +132,8 @@ const AT_ONCE: [AtOnce; 6] = [
 
 const A_FILE: &[u8] = b"makevol 0 0\ncreate 0 0 0\n";
 
-/// Serves these lines where there is a file, and returns their answers. `Endless` where a job gave up waiting for the answer to message
-/// `last`, or the session ended with a fault.
+/// Serves these lines where there is a file, all read at once, and returns their answers. No checkpoint is due by a count of records
+/// (`every: 0`). `Endless` where a job gave up waiting for the answer to message `last`, or the session ended with a fault.
 fn runs_at_once<T: Threads + Wait + Sync>(
     rt: &T,
     alloc: Global,

@@ -1,4 +1,7 @@
-//! How far the checkpoint in progress goes on after an answer, while a job is in flight, and before a reply is sent.
+//! How far the checkpoint in progress goes on after an answer, while a job is in flight, and before a reply is sent. Here a `Gate` is a
+//! hook of the server: a worker calls `before` just before it runs a job, the dispatcher `answered` just after a message is answered.
+//! `ends`, `holds` and `writes` fail the test unless an end, a fact, or what was written is as it has to be; `ALL_AT_ONCE` is streams of
+//! which each call takes all, and none fails; `session` serves lines, and what it leaves is the device, the end and the output.
 use crate::serving_noting::{ChunkReader, Count, Flag, Notes, Noting};
 use crate::serving_running::{
     ALL_AT_ONCE, End, Way, ends, holds, serve_lines, serve_on, session, writes,
@@ -27,6 +30,7 @@ const EIGHT: Way = Way {
 /// one piece of an image is written at most.
 #[derive(Drop)]
 struct Stepwise<'a> {
+    /// What the device has noted, by which its syncs and pieces are counted.
     notes: &'a Notes,
     /// How many syncs there were by the last answer, and how many pieces were written.
     syncs: Count,
@@ -121,7 +125,7 @@ const EACH: Way = Way {
 /// volume.
 const PIECES: u64 = 9;
 
-/// A device with a file.
+/// A device with an empty file.
 fn with_a_file<T: Threads + Wait + Sync>(rt: &T, alloc: Global) -> Result<MemDisk, Wrong> {
     let device = device_with(alloc, WIDE, &[])?;
     let (device, _) = serve_lines(rt, alloc, device, EACH, A_FILE)?;
@@ -159,6 +163,7 @@ impl Gate for Watching<'_> {
     fn answered(&self, _ticket: u64) {}
 }
 
+/// The second is related to the first, so it runs only after that was answered.
 const TWICE: &[u8] = b"punch 0 0 0 0\npunch 0 0 0 0\n";
 
 /// The checkpoint that is due after message 0 is in progress while job 1 is in flight. Nothing is answered meanwhile, so no piece may be
@@ -212,7 +217,8 @@ impl Gate for AtAnswer<'_> {
     }
 }
 
-/// A writer that looks, at each write, how many pieces were written since a message was last answered: it has to be one at most.
+/// A writer by which replies have to be prompt: it looks, at each write, how many pieces were written since a message was last answered: it
+/// has to be one at most.
 #[derive(Drop)]
 struct Prompt<'a> {
     output: Vec<u8>,
@@ -240,7 +246,7 @@ const PAIRS: &[u8] = b"punch 0 0 0 0\npunch 0 0 0 0\npunch 0 0 0 1\npunch 0 0 0 
 /// A client sends two changes and waits for both replies. The second reply is sent before the rest of the checkpoint that the first change
 /// made due.
 #[test]
-fn no_reply_waits_for_a_whole_point(rt: HostRuntime) -> Result<(), Fail> {
+fn no_reply_waits_for_a_whole_checkpoint(rt: HostRuntime) -> Result<(), Fail> {
     let notes = Notes::new();
     let gate = AtAnswer {
         notes: &notes,
@@ -251,6 +257,7 @@ fn no_reply_waits_for_a_whole_point(rt: HostRuntime) -> Result<(), Fail> {
         device: with_a_file(&rt, rt.alloc())?,
         notes: &notes,
     };
+    // It gives 28 bytes at a time of what is left, and then ends without a fault.
     let mut reader = ChunkReader {
         left: PAIRS,
         size: 28,

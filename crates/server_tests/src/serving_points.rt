@@ -1,4 +1,6 @@
-//! When records are logged, and when checkpoints are made. Here *points* are checkpoints of both kinds, in one call or online.
+//! When records are logged, and when checkpoints are made. Here *points* are checkpoints of both kinds, in one call or online. Of the
+//! servers `SMALL` has four records in a half of the log, and `FLAT` eight, and eight stripes of one block. `holds` fails the test unless a
+//! fact holds; `OpenGate` stands for hooks that do nothing.
 use crate::serving_noting::Notes;
 use crate::serving_running::{
     ALL_AT_ONCE, End, FLAT, Left, SMALL, Streams, Way, holds, serve_lines, session,
@@ -43,8 +45,8 @@ const POINTS: [(usize, u64, u64, u64); 10] = [
     (40, 100, 10, 10),
 ];
 
-/// Serves changes, read and written `size` bytes at a time. Each has to be logged, and none may be acknowledged before its record is
-/// synced. Returns how many checkpoints were made after that of the opening.
+/// Serves changes, read and written `size` bytes at a time (else as `ALL_AT_ONCE`: nothing fails). Each has to be logged, and none may be
+/// acknowledged before its record is synced. Returns how many checkpoints were made after that of the opening.
 fn points_of<T: Threads + Wait + Sync + Abort>(
     rt: &T,
     alloc: Global,
@@ -103,7 +105,8 @@ punch 0 0 0 6
 punch 0 0 0 7
 ";
 
-/// How many syncs there are where these lines come with one read and one worker runs them, from the opening to the last checkpoint.
+/// How many syncs there are where these lines come with one read and one worker runs them, from the opening to the last checkpoint. None is
+/// made by a count of records (`every: 0`).
 fn syncs_of<T: Threads + Wait + Sync + Abort>(
     rt: &T,
     alloc: Global,

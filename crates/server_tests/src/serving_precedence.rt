@@ -1,4 +1,5 @@
-//! Which fault is reported if several come in one session.
+//! Which fault is reported if several come in one session of the small server (`SMALL`: four records in a half of the log). `ends` and
+//! `holds` fail the test unless a session ended so, or a fact holds.
 use crate::serving_noting::Notes;
 use crate::serving_running::{ALL_AT_ONCE, End, Left, SMALL, Streams, Way, ends, holds, session};
 use checkpoint::OpenFault;
@@ -21,7 +22,7 @@ no message
 read 0 0 0 0
 ";
 
-/// Which call of the device fails, and which of the writer. 0: none.
+/// Which call of the device fails, and which of the writer (a write or a flush), counted from 1. 0: none.
 #[derive(Clone, Copy)]
 struct Failing {
     device: u64,
@@ -54,7 +55,7 @@ fn serve_failing<T: Threads + Wait + Sync + Abort>(
     failing: Failing,
 ) -> Result<Failed, Wrong> {
     let notes = Notes::new();
-    // The reader fails at the end of the input, and this call of the writer fails.
+    // The reader fails at the end of the input, and this call of the writer fails; else all is read and written at once.
     let streams = Streams {
         fails: true,
         fails_at: failing.writer,

@@ -66,7 +66,7 @@ pub(crate) fn ends(rt: &impl Abort, got: End, want: End) {
     assert_eq!(rt; got, want);
 }
 
-/// What the serial server answers to these lines, from the empty state on.
+/// What the serial server answers to these lines, from the empty state on. `Unfit` where no geometry has these numbers.
 pub(crate) fn serial(alloc: Global, numbers: [u16; 8], lines: &[u8]) -> Result<Vec<u8>, Wrong> {
     let Ok(g) = Geometry::new(numbers) else {
         return Err(Wrong::Unfit);
@@ -78,7 +78,7 @@ pub(crate) fn serial(alloc: Global, numbers: [u16; 8], lines: &[u8]) -> Result<V
     }
 }
 
-/// Whether a core reports that its device has failed, whatever it is asked.
+/// Whether a core reports that its device has failed, whatever it is asked (`log(1)`: to log at most one message).
 fn says_failed<D: Disk>(core: &mut Core<D>) -> bool {
     core.arrive(&Msg::Summary) == Err(ArriveRefusal::Failed)
         && matches!(core.grant(), Granted::Failed)
@@ -140,7 +140,7 @@ pub(crate) struct Streams {
     pub(crate) fails: bool,
     /// How many bytes are written at a time.
     pub(crate) written: usize,
-    /// Which call of the writer fails. 0: none.
+    /// Which call of the writer fails (a write or a flush), from 1 on. 0: none.
     pub(crate) fails_at: u64,
 }
 
@@ -160,7 +160,8 @@ pub(crate) struct Left {
     pub(crate) output: Vec<u8>,
 }
 
-/// Serves these lines on a device in memory, and notes what is done with it and with the streams.
+/// Serves these lines on a device in memory, and notes what is done with it and with the streams: the device is `Noting`, the input a
+/// `ChunkReader`, and the output `Taking`. `gate` is the server's hooks, which may hold up its workers.
 pub(crate) fn session<T: Threads + Wait + Sync, G: Gate + Sync>(
     rt: &T,
     alloc: Global,
@@ -192,7 +193,8 @@ pub(crate) fn session<T: Threads + Wait + Sync, G: Gate + Sync>(
     }
 }
 
-/// Serves these lines on a device to their end. Gives the device and the output.
+/// Serves these lines on a device to their end, with hooks that do nothing (`OpenGate`). Gives the device and the output; `Unfit` where the
+/// server ended otherwise.
 pub(crate) fn serve_lines<T: Threads + Wait + Sync, D: Disk + Drop>(
     rt: &T,
     alloc: Global,

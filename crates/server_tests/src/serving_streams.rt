@@ -1,4 +1,6 @@
-//! How input is read and output is written, and what happens if one of them fails.
+//! How input is read and output is written, and what happens if one of them fails. `ends`, `holds` and `writes` fail the test unless a
+//! session ended so, a fact holds, or what was written is as wanted; `serial` gives what the serial server writes. `SMALL` has one volume
+//! of two files of four blocks, and four records in a half of the log.
 use crate::serving_drawing::draw_lines;
 use crate::serving_noting::Notes;
 use crate::serving_running::{
@@ -14,7 +16,8 @@ use std::test::Fail;
 use std::thread::Threads;
 use workers::OpenGate;
 
-/// Serves these lines on a new device.
+/// Serves these lines on a new device. Of `streams`: `read` and `written` are how many bytes are read and written at a time, and `fails_at`
+/// is the call of the writer that fails (0: none). `ALL_AT_ONCE` reads and writes all at a time, and nothing fails.
 fn serve_new<T: Threads + Wait + Sync>(
     rt: &T,
     alloc: Global,
@@ -101,7 +104,7 @@ fn meets_fault<T: Threads + Wait + Sync + Abort>(
 
 #[test]
 fn whole_lines_are_answered_before_a_failed_read(rt: HostRuntime) -> Result<(), Fail> {
-    // The input is cut off after each byte. Each way is tried at every third of these lengths.
+    // The input is cut off after each byte. Each way is tried at every third of these lengths, and reads 8, 70,000 or 20 bytes at a time.
     for (way, (read, first)) in WAYS.iter().zip([(8, 0), (70_000, 1), (20, 2)]) {
         for end in (first..=LINES.len()).step_by(WAYS.len()) {
             let input = LINES.get(..end).unwrap_or_default();
@@ -164,6 +167,7 @@ fn each_call_fails<T: Threads + Wait + Sync + Abort>(
 
 #[test]
 fn nothing_is_read_or_written_behind_a_failed_write(rt: HostRuntime) -> Result<(), Fail> {
+    // So many bytes are read at a time.
     for (way, read) in WAYS.iter().zip([13, 70_000, 40]) {
         each_call_fails(&rt, rt.alloc(), *way, read)?;
     }
@@ -194,6 +198,7 @@ fn calls_of<T: Threads + Wait + Sync + Abort>(
 
 #[test]
 fn nothing_waits_for_a_read(rt: HostRuntime) -> Result<(), Fail> {
+    // 100 lines, drawn from the seed 3, whose numbers are below 4.
     let lines = draw_lines(rt.alloc(), 3, 4, 100)?;
     for &way in &WAYS {
         for read in [1, 12, 100] {
@@ -216,10 +221,10 @@ fn piped_input_takes_few_calls(rt: HostRuntime) -> Result<(), Fail> {
     for _ in 0..MANY {
         lines.extend_from_slice(b"read 9 0 0 0\n")?;
     }
-    for (way, most) in WAYS.iter().zip(WRITES) {
+    for (way, want) in WAYS.iter().zip(WRITES) {
         // The input is read in one go.
         let (reads, writes) = calls_of(&rt, rt.alloc(), *way, lines.as_slice(), 70_000)?;
-        holds(&rt, reads <= 3 && writes == most);
+        holds(&rt, reads <= 3 && writes == want);
     }
     Ok(())
 }

@@ -1,5 +1,6 @@
 //! A job is kept waiting in its worker until the output is written to: what is dispatched meanwhile if a checkpoint is due, and what is
-//! still logged if the output fails.
+//! still logged if the output fails. `ends` and `holds` fail the test unless a session ended so, or a fact holds. Hooks of the server
+//! (`Gate`): a worker calls `before` just before it runs a job, the dispatcher `answered` just after a message is answered.
 use crate::serving_noting::{Flag, Notes};
 use crate::serving_running::{
     ALL_AT_ONCE, End, Left, SMALL, Streams, Way, ends, holds, serve_lines, session,
@@ -70,8 +71,9 @@ struct Seen {
     device: MemDisk,
 }
 
-/// Serves three lines with two workers on a device that has volume 0 with file 0. Call number `fails_at` of the output fails, unless that
-/// is 0. The answer to message 0 is written while job 1 is kept waiting.
+/// Serves three lines with two workers on a device that has volume 0 with file 0 (`SMALL`: neighboring blocks lie in different stripes). A
+/// checkpoint is due after `every` records (0: only where the log is full). Call number `fails_at` of the output fails, unless that is 0.
+/// The answer to message 0 is written while job 1 is kept waiting.
 fn serve_three<T: Threads + Wait + Sync + Abort>(
     rt: &T,
     alloc: Global,
@@ -123,6 +125,7 @@ fn nothing_is_dispatched_while_a_checkpoint_is_due(rt: HostRuntime) -> Result<()
 #[test]
 fn jobs_in_flight_are_logged_after_the_output_failed(rt: HostRuntime) -> Result<(), Fail> {
     let lines = b"write 0 0 0 0 61\nwrite 0 0 0 1 62\nwrite 0 0 0 1 63\n";
+    // No checkpoint is due by a count of records, and the first call of the output fails.
     let seen = serve_three(&rt, rt.alloc(), 0, lines, 1)?;
     ends(&rt, seen.end, End::Fault(ServeFault::Write));
     let Ok((shown, _)) = inspect(rt.alloc(), seen.device) else {
