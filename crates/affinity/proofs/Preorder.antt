@@ -6,7 +6,7 @@ use Rattle.std.proofs.lemmas.Bool.{cases_order}
 use Rattle.std.proofs.lemmas.Bool.Decides.{nat_tests}
 use Rattle.std.proofs.lemmas.Nat.{row_fits, div-mul-add, mod-mul-add}
 use Rattle.affinity.specs.Path.{Path, is_prefix, are_related, serial, aggregate, volume, logical, stripe, label}
-use Rattle.affinity.specs.Interval.{IsPath, IsAffinityOf, Interval, interval, contains, number, size, volume_number, volume_size, aggregate_size, server_size}
+use Rattle.affinity.specs.Interval.{IsPath, IsAffinityOf, Interval, interval, contains, number, size, volume_number, volume_size, aggregate_size, affinity_count}
 use Rattle.affinity.specs.declared.geometry.Geometry.{Geometry}
 
 -- ---- among the paths of one volume
@@ -110,7 +110,7 @@ among_aggregates g a b p q h k =
     λ e. subst (λ (x : ℕ). IsPath g (x ∷ q) → is_prefix p q ≡ contains (interval g (a ∷ p)) (number g (x ∷ q))) e (in_aggregate g a p q h) k in
     children 1 a b (number g (b ∷ q)) (fits_in_aggregate g a p h) fits.low (omega arith) same
 
-fits_in_server : (g : Geometry) (p : Path) → IsPath g p → FitsIn 0 (server_size g) (number g p) (size g p)
+fits_in_server : (g : Geometry) (p : Path) → IsPath g p → FitsIn 0 (affinity_count g) (number g p) (size g p)
 fits_in_server g [] h = record { low = omega arith; some = omega arith; high = omega arith }
 fits_in_server g (a ∷ p) h =
     let fits = fits_in_aggregate g a p h in

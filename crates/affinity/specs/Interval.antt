@@ -18,8 +18,8 @@ abbrev pub aggregate_size : Geometry → ℕ
 aggregate_size g = 1 + g.volumes * volume_size g
 
 -- how many affinities a server has: itself, and those of its aggregates
-abbrev pub server_size : Geometry → ℕ
-server_size g = 1 + g.aggregates * aggregate_size g
+abbrev pub affinity_count : Geometry → ℕ
+affinity_count g = 1 + g.aggregates * aggregate_size g
 
 -- The path is that of an affinity of the geometry: each number is below its limit. A third number is 0 (files and blocks) or 1 (the label).
 abbrev pub IsPath : Geometry → Path → Type 0
@@ -46,7 +46,7 @@ number g (a ∷ v ∷ suc _ ∷ _) = volume_number g a v + 2 + g.stripes
 
 -- how many affinities there are at a path and below it
 abbrev pub size : Geometry → Path → ℕ
-size g [] = server_size g
+size g [] = affinity_count g
 size g (a ∷ []) = aggregate_size g
 size g (a ∷ v ∷ []) = volume_size g
 size g (a ∷ v ∷ zero ∷ []) = 1 + g.stripes

@@ -2,7 +2,7 @@
 use Rattle.std.proofs.Common.{◌≡◌, ℕ, List, [], ◌∷◌, Option, Some, codes, refl, ap, sym, subst, lit≤, arith, ◌≤◌}
 use Rattle.affinity.specs.Geometry.{default_geometry}
 use Rattle.clap.proofs.OnLiterals.{clap_on_literals}
-use Rattle.arguments.specs.Arguments.{AsksFormat, AsksHelp, AsksNoCommand, AsksOutOfRange, AsksPlain, AsksServeWith, AsksShow, AsksVersion, IsWrong}
+use Rattle.arguments.specs.Arguments.{AsksFormat, AsksHelp, RunsNoCommand, AsksOutOfRange, AsksPlain, AsksServeWith, AsksShow, AsksVersion, IsWrong}
 
 -- the first letter of a name: two names with different ones differ
 abbrev first_letter : Option (List ℕ) → ℕ
@@ -49,15 +49,15 @@ pub version_of_a_command_is_wrong : (program : List ℕ) → IsWrong (program �
 unfolding clap_on_literals
 version_of_a_command_is_wrong program = (λ e. cc, refl)
 
-pub help_is_no_service : (program : List ℕ) → AsksNoCommand (program ∷ codes "help" ∷ [])
+pub help_is_no_service : (program : List ℕ) → RunsNoCommand (program ∷ codes "help" ∷ [])
 unfolding clap_on_literals
 help_is_no_service program = λ e. cc
 
-pub help_on_plain_is_no_service : (program : List ℕ) → AsksNoCommand (program ∷ codes "help" ∷ codes "plain" ∷ [])
+pub help_on_plain_is_no_service : (program : List ℕ) → RunsNoCommand (program ∷ codes "help" ∷ codes "plain" ∷ [])
 unfolding clap_on_literals
 help_on_plain_is_no_service program = λ e. cc
 
-pub help_on_no_command_is_no_service : (program : List ℕ) → AsksNoCommand (program ∷ codes "help" ∷ codes "flat" ∷ [])
+pub help_on_no_command_is_no_service : (program : List ℕ) → RunsNoCommand (program ∷ codes "help" ∷ codes "flat" ∷ [])
 unfolding clap_on_literals
 help_on_no_command_is_no_service program = λ e. cc
 

@@ -207,8 +207,8 @@ AsksVersion words = findings words ≡ DisplayVersion ∷ []
 
 -- No command is carried out: the arguments ask for help or the version, or there are mistakes in them. For arguments after `help` the
 -- findings leave open which of these it is.
-abbrev pub AsksNoCommand : List Text → Type 0
-AsksNoCommand words = findings words ≢ []
+abbrev pub RunsNoCommand : List Text → Type 0
+RunsNoCommand words = findings words ≢ []
 
 -- There are mistakes in the arguments, and they ask for no help and no version.
 abbrev pub IsWrong : List Text → Type 0

@@ -11,7 +11,7 @@ use Rattle.checkpoint.specs.declared.loading.Loaded.{Loaded}
 use Rattle.checkpoint.specs.Header.{HasHeader, header_of, is_header}
 use Rattle.checkpoint.specs.Loading.{IsConsistentFault, IsOfHalf, IsOfHeader, are_both_chained, image_fault, in_force_fault, records_fault}
 use Rattle.checkpoint.specs.Recovery.{apply, recovered_state, decoding}
-use Rattle.checkpoint.specs.Refusals.{IsWholeDevice, IsRefused, fault_if, fault_or_later, first_bad_piece, first_bad_record, refused}
+use Rattle.checkpoint.specs.Refusals.{HasHeaderAndParts, IsRefused, fault_if, fault_or_later, first_bad_piece, first_bad_record, refused}
 use Rattle.checkpoint.specs.Shown.{IsLoaded, IsShown, ShowsLoaded}
 use Rattle.checkpoint.proofs.Replays.{fault_from}
 use Rattle.image.specs.Image.{has_head, read, version_in}
@@ -299,6 +299,6 @@ never_out_of_memory BadChain is same = is
 never_out_of_memory (BadRecord h i) is same = is
 
 -- Once the header was read, the device is known to have all its parts, even if memory lacks then.
-pub behind_header : {T : Type 0} (r : Result T OpenFault) (keeps : Type 0) (c : List ℕ) → (keeps → IsWholeDevice c) → IfErr r (λ e. e ≡ OutOfMemory → keeps → IsWholeDevice c)
+pub behind_header : {T : Type 0} (r : Result T OpenFault) (keeps : Type 0) (c : List ℕ) → (keeps → HasHeaderAndParts c) → IfErr r (λ e. e ≡ OutOfMemory → keeps → HasHeaderAndParts c)
 behind_header (Ok v) keeps c held = tt
 behind_header (Err e) keeps c held = λ is. held

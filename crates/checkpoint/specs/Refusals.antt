@@ -61,7 +61,7 @@ abbrev pub HasNoGeometry : List ℕ → Type 0
 HasNoGeometry c = (128 ≤ length c) × (take 8 c ≡ magic) × ((g : Geometry) → HasHeader g c → ⊥)
 
 -- The device has the header of a geometry, and is long enough for all its parts.
-pub record IsWholeDevice (c : List ℕ) : Type 0 where
+pub record HasHeaderAndParts (c : List ℕ) : Type 0 where
   pub geometry : Geometry
   pub header : HasHeader geometry c
   pub parts : device_size (layout_of geometry) ≤ length c

@@ -1,6 +1,6 @@
 //! What a device holds, or why it is refused.
 ghost use Rattle.std.specs.Prelude.{◌≡◌, ◌↔◌, ◌+◌, IfErr, IfOk, MatchResult, length};
-ghost use Rattle.checkpoint.specs.Refusals.{IsWholeDevice, IsRefused};
+ghost use Rattle.checkpoint.specs.Refusals.{HasHeaderAndParts, IsRefused};
 ghost use Rattle.checkpoint.specs.Shown.{IsShown, ShowsLoaded};
 ghost use Rattle.disk.specs.Device.{moments};
 ghost use Rattle.parcel.specs.Tree.{IsWholeTree};
@@ -61,8 +61,8 @@ pub fn inspect<D: Disk>(alloc: Global, d: D) -> Result<(Shown, D), OpenError<D>>
     ensures shown { IfOk result (λ r. D.keeps → IsShown (D.medium d).now r.0) }
     ensures refused { IfErr result (λ e. D.keeps → IsRefused (D.medium d).now e.fault) }
 
-    // `IsWholeDevice`: it has the header of a geometry and the length for all its parts, whatever these hold.
-    ensures memory { IfErr result (λ e. e.fault ≡ OpenFault.OutOfMemory → D.keeps → IsWholeDevice (D.medium d).now) }
+    // `HasHeaderAndParts`: it has the header of a geometry and the length for all its parts, whatever these hold.
+    ensures memory { IfErr result (λ e. e.fault ≡ OpenFault.OutOfMemory → D.keeps → HasHeaderAndParts (D.medium d).now) }
     ensures untouched { D.keeps → MatchResult result
         (λ r. moments (D.medium r.1) ≡ moments (D.medium d))
         (λ e. moments (D.medium e.disk) ≡ moments (D.medium d)) }

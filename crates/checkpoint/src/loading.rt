@@ -4,7 +4,7 @@ ghost use Rattle.checkpoint.specs.declared.fault.OpenFault.TheVariants.{BadChain
 ghost use Rattle.checkpoint.specs.Header.{HasHeader};
 ghost use Rattle.checkpoint.specs.Loading.{IsOpeningCall, IsConsistentFault, IsOfHalf, NamedHolds, are_both_chained, image_fault, in_force_fault};
 ghost use Rattle.checkpoint.specs.Recovery.{decoding};
-ghost use Rattle.checkpoint.specs.Refusals.{IsWholeDevice, IsRefused, fault_if};
+ghost use Rattle.checkpoint.specs.Refusals.{HasHeaderAndParts, IsRefused, fault_if};
 ghost use Rattle.checkpoint.specs.Shown.{IsLoaded};
 ghost use Rattle.disk.specs.Device.{moments};
 ghost use Rattle.image.specs.Image.{read, version_in};
@@ -222,8 +222,8 @@ pub(crate) fn load<D: Disk>(alloc: Global, disk: &mut D) -> Result<Loaded, OpenF
     ensures parts { IfOk result (λ l.
         device_size (layout_of l.tree.geometry) ≤ length (D.medium disk.old).now) }
     ensures refused { IfErr result (λ e. D.keeps → IsRefused (D.medium disk.old).now e) }
-    // `IsWholeDevice`: it has the header of a geometry and the length for all its parts, whatever these hold.
-    ensures memory { IfErr result (λ e. e ≡ OutOfMemory → D.keeps → IsWholeDevice (D.medium disk.old).now) }
+    // `HasHeaderAndParts`: it has the header of a geometry and the length for all its parts, whatever these hold.
+    ensures memory { IfErr result (λ e. e ≡ OutOfMemory → D.keeps → HasHeaderAndParts (D.medium disk.old).now) }
     ensures untouched { D.keeps → moments (D.medium disk.new) ≡ moments (D.medium disk.old) }
     ensures call { IsOpeningCall result (D.medium disk.old) (D.medium disk.new) }
 {

@@ -20,7 +20,7 @@ use Rattle.commands.specs.Services.{AsksServe, with_at_most_64_workers}
 use Rattle.commands.specs.Faults.{status_of}
 use Rattle.arguments.proofs.Asking.{no_mistake, two_names}
 use Rattle.arguments.proofs.Options.{in_range}
-use Rattle.arguments.specs.Arguments.{Asks, AsksFormat, AsksNoCommand, AsksPlain, AsksShow, IsReason, command_of}
+use Rattle.arguments.specs.Arguments.{Asks, AsksFormat, RunsNoCommand, AsksPlain, AsksShow, IsReason, command_of}
 use Rattle.commands.specs.declared.faults.Fault.{Fault}
 use Rattle.commands.specs.declared.faults.Fault.TheVariants.{Read, Write, GeometryOutOfRange, OutOfMemory, Device, NoWorkers, NoTicketLeft, Format as ByFormat, Open as ByOpen}
 use Rattle.arguments.specs.declared.parsing.ArgumentRefusal.{ArgumentRefusal}
@@ -36,7 +36,7 @@ refused_by refusal.OutOfMemory = inr refl
 refused_by refusal.GeometryOutOfRange = inl refl
 
 pub helped : (arguments : List Text) (request : Request) (end : Result (Unit {0}) Fault) {input left : Option (List ℕ)} (old new : Option (List ℕ))
-    → AsksNoCommand arguments → Asks arguments request → Ends request end input left old new → ExitsHelp (status_at end) × (left ≡ input)
+    → RunsNoCommand arguments → Asks arguments request → Ends request end input left old new → ExitsHelp (status_at end) × (left ≡ input)
 helped arguments (Plain g) end old new no_service asks ends = absurd (no_service asks.0)
 helped arguments (Format path g) end old new no_service asks ends = absurd (no_service asks.0)
 helped arguments (Show path) end old new no_service asks ends = absurd (no_service asks.0)

@@ -13,7 +13,7 @@ use Rattle.disk.specs.Moments.{moment_number}
 use Rattle.disk.specs.RealFile.{FileKeeps}
 use Rattle.disk.specs.declared.fault.FileFault.{FileFault}
 use Rattle.disk.specs.declared.torn.Torn.{Torn}
-use Rattle.journal.specs.Opening.{IsRefusedUnwritten, OpeningCrashImages}
+use Rattle.journal.specs.Opening.{IsLeftByRefusal, OpeningCrashImages}
 use Rattle.legal_runs.specs.Incarnations.{Ran}
 use Rattle.runs.specs.Incarnations.{IsRunIncarnation}
 use Rattle.runs.specs.Machine.{MachineView, machine_of}
@@ -76,7 +76,7 @@ HasServedNothing keeps old new input remaining before written = (w : ServedDevic
 -- exactly the lines before one whose message is in range are answered, and the device recovers to the state after them.
 -- A failed device: the first lines of the serial server's output. A failed write: it is unknown what was written.
 -- No workers, or no memory: nothing was served. A device that can't be opened: no input was read and no output written. The fault is one
--- that its bytes show, or want of memory, or `Device`: the last exactly if the device failed. `IsRefusedUnwritten`: nothing was written to
+-- that its bytes show, or want of memory, or `Device`: the last exactly if the device failed. `IsLeftByRefusal`: nothing was written to
 -- it, unless it failed, or the bad record is in the half that was not named: then the opening has finished an interrupted cut before.
 abbrev pub EndsOnDevice : Type 0 → ServeOptions → Medium → Medium → Result (Unit {0}) Fault
     → Option (List ℕ) → Option (List ℕ) → Option (List ℕ) → Option (List ℕ) → Type 0
@@ -97,7 +97,7 @@ EndsOnDevice keeps s old new (Err NoWorkers) input remaining before written = (s
 EndsOnDevice keeps s old new (Err OutOfMemory) input remaining before written = (s.workers ≢ 0)
     × HasServedNothing keeps old new input remaining before written
 EndsOnDevice keeps s old new (Err (Open fault)) input remaining before written =
-    (keeps → IsRefused old.now fault × IsRefusedUnwritten old fault new) × (remaining ≡ input) × (written ≡ before)
+    (keeps → IsRefused old.now fault × IsLeftByRefusal old fault new) × (remaining ≡ input) × (written ≡ before)
     × ((fault ≡ open_faults.Device) ↔ (new.faults ≡ old.faults + 1))
 EndsOnDevice keeps s old new (Err _) input remaining before written = ⊥
 

@@ -3,7 +3,7 @@ ghost use Rattle.std.specs.Prelude.{◌≡◌, ◌⊎◌, ℕ, List, [], ◌∷�
 ghost use Rattle.affinity.specs.Geometry.{default_geometry};
 ghost use Rattle.commands.specs.Calls.{Ends, ExitsFormat, ExitsHelp, ExitsPlain, ExitsRefused, ExitsServe, ExitsShow, status_of_refusal};
 ghost use Rattle.commands.specs.Services.{AsksServe, with_at_most_64_workers};
-ghost use Rattle.arguments.specs.Arguments.{AsksFormat, AsksHelp, AsksNoCommand, AsksPlain, AsksShow, AsksVersion, AreRefused, service_numbers};
+ghost use Rattle.arguments.specs.Arguments.{AsksFormat, AsksHelp, RunsNoCommand, AsksPlain, AsksShow, AsksVersion, AreRefused, service_numbers};
 ghost use Rattle.affinity.specs.declared.geometry.Geometry.{Geometry};
 ghost use Rattle.commands.specs.Serving.{options_in_order};
 ghost use Rattle.commands.specs.declared.serve_options.ServeOptions.{ServeOptions};
@@ -101,8 +101,8 @@ pub fn command<T: Files<File = File> + Threads + Wait + Sync, R: Read, W: Write,
         → ExitsHelp result × (R.remaining r.new ≡ R.remaining r.old) }
     ensures refused { AreRefused (map string_bytes arguments.now)
         → ExitsRefused result × (r.new ≡ r.old) × (w.new ≡ w.old) }
-    // `AsksNoCommand`: the arguments ask for help or the version, or have mistakes, also where they name a command.
-    ensures unserved { AsksNoCommand (map string_bytes arguments.now)
+    // `RunsNoCommand`: the arguments ask for help or the version, or have mistakes, also where they name a command.
+    ensures unserved { RunsNoCommand (map string_bytes arguments.now)
         → (ExitsHelp result × (R.remaining r.new ≡ R.remaining r.old))
         ⊎ (ExitsRefused result × (r.new ≡ r.old) × (w.new ≡ w.old)) }
     ensures quiet { result ≡ 0 → e.new ≡ e.old }

@@ -16,7 +16,7 @@ use Rattle.journal.specs.Journal.{records_in}
 use Rattle.journal.proofs.Forced.{forced_alone, forced_both}
 use Rattle.journal.proofs.Pointing.{clear_moments, clear_recovers}
 use Rattle.journal.proofs.Recovering.{as_other, both_of, chain_other, half_same, holds_by, laid_by, ready_none, shut_current, shut_force}
-use Rattle.oplog.specs.Changes.{CrashesChangeOnly, Chained, Cleared, Flipped, IsReady, IsSameButChain, IsSameButGates, IsSameButRoot}
+use Rattle.oplog.specs.Changes.{CrashesChangeOnly, Chained, Cleared, Flipped, IsReady, IsSameButChain, IsSameButChainAndGates, IsSameButRoot}
 use Rattle.oplog.specs.Crash.{RecoversBy, RecoversEitherWay}
 use Rattle.oplog.specs.Front.{chain, front}
 use Rattle.device_map.specs.Layout.{layout_of, device_size, part_bytes, half_part, image_part, root_part, other}
@@ -34,7 +34,7 @@ named_below g n h x m are recovers = subst (λ (k : ℕ). k < 2) (recovers m.now
 -- ---- the beginning
 
 module _ (g : Geometry) (n : ℕ) (x : Option State) (is_area : n < 2) (w0 w1 w2 : Medium) (recovers : RecoversByArea g n n x w0)
-    (clears : CrashesChangeOnly w0 w1 (IsSameButGates (layout_of g) (other n))) (cleared : Cleared (layout_of g) (other n) w0 w1)
+    (clears : CrashesChangeOnly w0 w1 (IsSameButChainAndGates (layout_of g) (other n))) (cleared : Cleared (layout_of g) (other n) w0 w1)
     (chains : CrashesChangeOnly w1 w2 (IsSameButChain (layout_of g) n)) where
   empty : (c : List ℕ) → IsCrashImage w1 c → (front (layout_of g) (other n) c ≡ []) × (chain (layout_of g) (other n) c ≢ 1)
   empty c left =

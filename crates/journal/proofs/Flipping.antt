@@ -6,7 +6,7 @@ use Rattle.disk.specs.Device.{AreBytes, Medium}
 use Rattle.disk.proofs.Leaves.{itself}
 use Rattle.image.specs.Image.{version_in}
 use Rattle.image.specs.Pieces.{piece_count}
-use Rattle.journal.specs.Keeping.{IsUpToDate, IsCutState, IsSoundJournal}
+use Rattle.journal.specs.Keeping.{IsUpToDate, FitsCutState, IsSoundJournal}
 use Rattle.journal.specs.Steps.{IsFlipped, IsCutWritten, RecoversByArea, flipped_log}
 use Rattle.journal.specs.Extents.{image_in}
 use Rattle.journal.proofs.Cutting.{named_below}
@@ -22,9 +22,9 @@ use Rattle.meaning.specs.State.{State}
 
 module _ {log : Log} {snapshot : List ℕ} {named others pending : List Bool} {pieces_left : Option ℕ} {w0 : Medium} (none_left : pieces_left ≡ Some 0) where
   pub flip_asks : IsLongEnough log w0 → length snapshot ≡ image_size log.geometry → length pending ≡ piece_count log.geometry → AreBytes w0.now
-      → IsCutState log pending pieces_left → IsSoundJournal log snapshot named others pending pieces_left w0 → IsCutWritten log snapshot w0
+      → FitsCutState log pending pieces_left → IsSoundJournal log snapshot named others pending pieces_left w0 → IsCutWritten log snapshot w0
   flip_asks whole size size' are placed' sound =
-      let placed = subst (λ (l : Option ℕ). IsCutState log pending l) none_left placed' in
+      let placed = subst (λ (l : Option ℕ). FitsCutState log pending l) none_left placed' in
       let sound' = subst (λ (l : Option ℕ). IsSoundJournal log snapshot named others pending l w0) none_left sound in
       record {
         by = record {
@@ -37,10 +37,10 @@ module _ {log : Log} {snapshot : List ℕ} {named others pending : List Bool} {p
         behind = sound'.by_cut.behind;
       }
 
-  pub flip_sound : {w1 : Medium} → AreBytes w0.now → AreBytes w1.now → IsCutState log pending pieces_left → IsCutWritten log snapshot w0
+  pub flip_sound : {w1 : Medium} → AreBytes w0.now → AreBytes w1.now → FitsCutState log pending pieces_left → IsCutWritten log snapshot w0
       → IsSoundJournal log snapshot named others pending pieces_left w0 → IsFlipped log w0 w1 → IsSoundJournal (flipped_log log) snapshot others named pending None w1
   flip_sound {w1} are are' placed' written sound flipped =
-      let placed = subst (λ (l : Option ℕ). IsCutState log pending l) none_left placed' in
+      let placed = subst (λ (l : Option ℕ). FitsCutState log pending l) none_left placed' in
       let sound' = subst (λ (l : Option ℕ). IsSoundJournal log snapshot named others pending l w0) none_left sound in
       let is_area = named_below log.geometry log.named log.current (recovered_state log.geometry w0.now) w0 are sound.recovers in
       let same = holds_now log.geometry (other log.named) (other log.named) (recovered_state log.geometry w0.now) w1 are' flipped.at.recovers in

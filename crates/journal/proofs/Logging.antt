@@ -15,7 +15,7 @@ use Rattle.image.proofs.Untouched.{piece_stays}
 use Rattle.meaning.proofs.Kept.{step_kept}
 use Rattle.std.specs.List.{AllByRecursion}
 use Rattle.journal.specs.Journal.{AreCarriedOut, RecoversWithPrefix, IsRecoverable, records_in}
-use Rattle.journal.specs.Keeping.{IsCutIfRunning, IsUpToDate, IsCutState, IsSoundJournal, image_after_cut, journal_view_of}
+use Rattle.journal.specs.Keeping.{IsCutIfRunning, IsUpToDate, FitsCutState, IsSoundJournal, image_after_cut, journal_view_of}
 use Rattle.journal.specs.DirtyPieces.{AreBothTouched, DirtiesTouched}
 use Rattle.journal.specs.Steps.{RecoversByArea, run_on}
 use Rattle.journal.specs.Extents.{AgreeOnClean, image_in, extent_of}
@@ -181,7 +181,7 @@ module _ {log : Log} {snapshot : List ℕ} {named others pending : List Bool} {p
     still_coming None = images (other log.named) (omega arith)
     still_coming (Some k) = refl
 
-    cut_more : (pieces_left : Option ℕ) → IsCutState log pending pieces_left → IsCutIfRunning log snapshot pending pieces_left w0 → IsCutIfRunning log snapshot pending pieces_left w1
+    cut_more : (pieces_left : Option ℕ) → FitsCutState log pending pieces_left → IsCutIfRunning log snapshot pending pieces_left w0 → IsCutIfRunning log snapshot pending pieces_left w1
     cut_more None placed cut = tt
     cut_more (Some k) placed cut = record {
       behind =
@@ -193,7 +193,7 @@ module _ {log : Log} {snapshot : List ℕ} {named others pending : List Bool} {p
       version = cut.version;
     }
 
-    pub log_sound : {named' others' : List Bool} → IsCutState log pending pieces_left
+    pub log_sound : {named' others' : List Bool} → FitsCutState log pending pieces_left
         → AreBothTouched log.geometry ms (record { named = named; other = others }) (record { named = named'; other = others' })
         → IsSoundJournal (record log { used = log.used + length ms }) snapshot named' others' pending pieces_left w1
     log_sound {named'} {others'} placed touched =
@@ -225,7 +225,7 @@ module _ {log : Log} {snapshot : List ℕ} {named others pending : List Bool} {p
 
 -- ---- the same in the words of the code
 
-pub placed_used : (log : Log) (used : ℕ) (pending : List Bool) (pieces_left : Option ℕ) → IsCutState log pending pieces_left → IsCutState (record log { used = used }) pending pieces_left
+pub placed_used : (log : Log) (used : ℕ) (pending : List Bool) (pieces_left : Option ℕ) → FitsCutState log pending pieces_left → FitsCutState (record log { used = used }) pending pieces_left
 placed_used log used pending None placed = placed
 placed_used log used pending (Some k) placed = placed
 
@@ -235,7 +235,7 @@ touched_along {g} ms {old} {old'} {new'} same was is touched =
 
 pub log_kept : {log : Log} {snapshot : List ℕ} {named others pending named' others' : List Bool} {pieces_left : Option ℕ} → (ms : List Msg) → {w0 w1 : Medium} → AreBytes w0.now
     → AreBytes w1.now → IsSoundJournal log snapshot named others pending pieces_left w0
-    → ((x : State) → recovered_state log.geometry w0.now ≡ Some x → AreCarriedOut log.geometry x ms) → HasAdded log ms w0 w1 → IsCutState log pending pieces_left
+    → ((x : State) → recovered_state log.geometry w0.now ≡ Some x → AreCarriedOut log.geometry x ms) → HasAdded log ms w0 w1 → FitsCutState log pending pieces_left
     → AreBothTouched log.geometry ms (record { named = named; other = others }) (record { named = named'; other = others' })
     → IsSoundJournal (record log { used = log.used + length ms }) snapshot named' others' pending pieces_left w1
 log_kept {log} ms {w0} {w1} are are' sound out has placed touched =

@@ -15,7 +15,7 @@ use Rattle.disk.specs.Moments.{CrashImagesAre, left_since}
 use Rattle.disk.proofs.Leaves.{synced_left, itself}
 use Rattle.disk.proofs.Moments.{leaves_now, same, started, then, weaker}
 use Rattle.image.specs.Image.{read}
-use Rattle.journal.specs.Opening.{area_state, IsBadAfterCut, IsRefusedUnwritten, IsUnwritten, OpeningCrashImages, RecoversAsBefore}
+use Rattle.journal.specs.Opening.{area_state, IsBadAfterCut, IsLeftByRefusal, IsUnwritten, OpeningCrashImages, RecoversAsBefore}
 use Rattle.journal.specs.Parts.{IsFaultAfterCut, IsRefusedAlike}
 use Rattle.journal.specs.Steps.{RecoversByNamedAlone, IsCutFinished, RecoversByArea, RecoversStill, finished_log}
 use Rattle.journal.specs.Extents.{image_in}
@@ -117,7 +117,7 @@ unread w0 w1 only = record {
   later = same w0 w0 w1 _ (started w0 _ (λ c left. left)) only;
 }
 
-pub all_unwritten : (e : OpenFault) (w0 w1 : Medium) → IsUnwritten w0 w1 → ((g : Geometry) → IsOfHalf (named_area (layout_of g) w0.now) e) → IsRefusedUnwritten w0 e w1
+pub all_unwritten : (e : OpenFault) (w0 w1 : Medium) → IsUnwritten w0 w1 → ((g : Geometry) → IsOfHalf (named_area (layout_of g) w0.now) e) → IsLeftByRefusal w0 e w1
 all_unwritten Device w0 w1 is own = tt
 all_unwritten TooShort w0 w1 is own = is
 all_unwritten NotFormatted w0 w1 is own = is
@@ -150,9 +150,9 @@ bad_from g h BadVersion w0 w1 w2 now bad = bad
 bad_from g h (BadPiece n) w0 w1 w2 now bad = bad
 bad_from g h BadChain w0 w1 w2 now bad = bad
 
--- a fault after a cut leaves what a refusal may leave (`IsRefusedUnwritten`)
+-- a fault after a cut leaves what a refusal may leave (`IsLeftByRefusal`)
 pub bad_behind : {n : ℕ} → (e : OpenFault) (w0 w1 : Medium) (g : Geometry) → n < 2 → n ≡ named_area (layout_of g) w0.now → HasHeader g w0.now → IsFaultAfterCut g (other n) w0 w1 e
-    → IsRefusedUnwritten w0 e w1
+    → IsLeftByRefusal w0 e w1
 bad_behind Device w0 w1 g is_area named head bad = tt
 bad_behind (BadRecord h i) w0 w1 g is_area named head bad =
     λ k head'. ((λ here. absurd (omega (arith, is_area, bad.0, here, named))), (λ behind. subst (λ (x : Geometry). IsBadAfterCut x h i w0 w1) (same_geometry g k (sym head ∙ head')) bad.1))
@@ -176,8 +176,8 @@ bad_synced g h BadVersion w0 w1 other bad = absurd bad
 bad_synced g h (BadPiece n) w0 w1 other bad = absurd bad
 bad_synced g h BadChain w0 w1 other bad = absurd bad
 
--- what a refusal leaves of w1 (`IsRefusedUnwritten`), it leaves of w0, which has the same bytes, if `IsUnwritten` is handed on so
-pub unwritten_from : (e : OpenFault) (w0 w1 w2 : Medium) → w1.now ≡ w0.now → (IsUnwritten w1 w2 → IsUnwritten w0 w2) → IsRefusedUnwritten w1 e w2 → IsRefusedUnwritten w0 e w2
+-- what a refusal leaves of w1 (`IsLeftByRefusal`), it leaves of w0, which has the same bytes, if `IsUnwritten` is handed on so
+pub unwritten_from : (e : OpenFault) (w0 w1 w2 : Medium) → w1.now ≡ w0.now → (IsUnwritten w1 w2 → IsUnwritten w0 w2) → IsLeftByRefusal w1 e w2 → IsLeftByRefusal w0 e w2
 unwritten_from Device w0 w1 w2 now from is = tt
 unwritten_from TooShort w0 w1 w2 now from is = from is
 unwritten_from NotFormatted w0 w1 w2 now from is = from is

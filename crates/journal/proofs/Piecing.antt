@@ -10,7 +10,7 @@ use Rattle.disk.proofs.Leaves.{itself}
 use Rattle.disk.proofs.Moments.{leaves_now}
 use Rattle.image.specs.Image.{read}
 use Rattle.journal.specs.Images.{PatchesAt, PatchesUnnamed}
-use Rattle.journal.specs.Keeping.{IsUpToDate, IsCutState, IsSoundJournal}
+use Rattle.journal.specs.Keeping.{IsUpToDate, FitsCutState, IsSoundJournal}
 use Rattle.journal.specs.DirtyPieces.{count_dirty}
 use Rattle.journal.specs.Steps.{RecoversByArea, run_on}
 use Rattle.journal.specs.Extents.{IsPatchedAt, image_in, extent_in}
@@ -30,7 +30,7 @@ use Rattle.meaning.specs.State.{State}
 
 -- ---- how many are left
 
-pub piece_left : (log : Log) (pending : List Bool) (pieces_left : Option ℕ) (n : ℕ) → {count : ℕ} → is_some pieces_left ≡ true → IsCutState log pending pieces_left
+pub piece_left : (log : Log) (pending : List Bool) (pieces_left : Option ℕ) (n : ℕ) → {count : ℕ} → is_some pieces_left ≡ true → FitsCutState log pending pieces_left
     → get_or pending n false ≡ true → count ≡ count_dirty (set pending n false) → option_map (λ l. l - 1) pieces_left ≡ Some count
 piece_left log pending None n some placed dirty_at is = absurd (true≢false (sym some))
 piece_left log pending (Some l) n {count} some placed dirty_at is =
@@ -39,19 +39,19 @@ piece_left log pending (Some l) n {count} some placed dirty_at is =
     ap (λ (k : ℕ). Some k) one
 
 -- one fewer is left: as many as are pending once this one isn't
-pub piece_counted : (log : Log) (pending : List Bool) (pieces_left : Option ℕ) (n : ℕ) → {fewer : ℕ} → is_some pieces_left ≡ true → IsCutState log pending pieces_left
+pub piece_counted : (log : Log) (pending : List Bool) (pieces_left : Option ℕ) (n : ℕ) → {fewer : ℕ} → is_some pieces_left ≡ true → FitsCutState log pending pieces_left
     → get_or pending n false ≡ true → fewer ≡ unwrap_or pieces_left 0 - 1 → fewer ≡ count_dirty (set pending n false)
 piece_counted log pending None n some placed dirty_at is = absurd (true≢false (sym some))
 piece_counted log pending (Some l) n some placed dirty_at is = let one = count_cleared pending n dirty_at in omega (arith, one, is, placed.1)
 
 -- where none is pending, none is left
-pub none_due : (log : Log) (pending : List Bool) (pieces_left : Option ℕ) → is_some pieces_left ≡ true → IsCutState log pending pieces_left → count_dirty pending ≡ 0 → pieces_left ≡ Some 0
+pub none_due : (log : Log) (pending : List Bool) (pieces_left : Option ℕ) → is_some pieces_left ≡ true → FitsCutState log pending pieces_left → count_dirty pending ≡ 0 → pieces_left ≡ Some 0
 none_due log pending None some placed none = absurd (true≢false (sym some))
 none_due log pending (Some l) some placed none = ap (λ (k : ℕ). Some k) (sym placed.1 ∙ none)
 
-pub piece_some : (log : Log) (pending : List Bool) (pieces_left : Option ℕ) (n : ℕ) → IsCutState log pending pieces_left → get_or pending n false ≡ true → pieces_left ≡ Some 0 → ⊥
+pub piece_some : (log : Log) (pending : List Bool) (pieces_left : Option ℕ) (n : ℕ) → FitsCutState log pending pieces_left → get_or pending n false ≡ true → pieces_left ≡ Some 0 → ⊥
 piece_some log pending pieces_left n placed dirty_at none =
-    let placed' = subst (λ (l : Option ℕ). IsCutState log pending l) none placed in
+    let placed' = subst (λ (l : Option ℕ). FitsCutState log pending l) none placed in
     let fewer = count_cleared pending n dirty_at in
     omega (arith, fewer, placed'.1)
 

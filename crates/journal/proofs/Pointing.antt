@@ -10,7 +10,7 @@ use Rattle.image.specs.Image.{read}
 use Rattle.journal.specs.Steps.{RecoversByArea}
 use Rattle.journal.specs.Extents.{AgreeOnClean, Imaged, image_in}
 use Rattle.journal.proofs.Recovering.{as_other, both_of, half_same, holds_by, holds_moments, laid_by, not_one, ready_none, run_none, shut_current, shut_force}
-use Rattle.oplog.specs.Changes.{CrashesChangeOnly, Cleared, Flipped, IsReady, IsSameBut, IsSameButGates, IsSameButRoot}
+use Rattle.oplog.specs.Changes.{CrashesChangeOnly, Cleared, Flipped, IsReady, IsSameBut, IsSameButChainAndGates, IsSameButRoot}
 use Rattle.oplog.specs.Crash.{RecoversBy, RecoversEitherWay}
 use Rattle.oplog.specs.Front.{chain, front}
 use Rattle.device_map.specs.Layout.{layout_of, device_size, part_bytes, half_part, image_part, other}
@@ -19,7 +19,7 @@ use Rattle.oplog.proofs.AfterCrash.{clear_by_area, flip_by_area, image_by_area, 
 use Rattle.oplog.proofs.Ready.{ready_kept}
 use Rattle.meaning.specs.State.{State}
 
-module _ (g : Geometry) (n : ℕ) (x : Option State) (is_area : n < 2) (w0 w1 : Medium) (recovers : RecoversByArea g n n x w0) (clears : CrashesChangeOnly w0 w1 (IsSameButGates (layout_of g) (other n)))
+module _ (g : Geometry) (n : ℕ) (x : Option State) (is_area : n < 2) (w0 w1 : Medium) (recovers : RecoversByArea g n n x w0) (clears : CrashesChangeOnly w0 w1 (IsSameButChainAndGates (layout_of g) (other n)))
   where
     by_clear : CrashImagesAre w0 w1 (RecoversBy (decoding g) (layout_of g) n n x)
     by_clear = clear_by_area (decoding g) (layout_of g) n x w0 w1 is_area recovers clears

@@ -12,7 +12,7 @@ use Rattle.image.specs.Pieces.{joined_below, piece_count, piece_of, piece_size}
 use Rattle.image.proofs.Cuts.{piece_again}
 use Rattle.image.proofs.Measures.{state_is_measured}
 use Rattle.image.proofs.Reading.{read_again}
-use Rattle.journal.specs.Keeping.{IsUpToDate, IsCutState, IsSoundJournal}
+use Rattle.journal.specs.Keeping.{IsUpToDate, FitsCutState, IsSoundJournal}
 use Rattle.journal.specs.Steps.{RecoversByNamedAlone, IsCutBegun, IsPointed, RecoversByArea, cut_log, pointed_log, run_on}
 use Rattle.journal.specs.Extents.{AgreeOnClean, AreAllDirty, AreCleanExtentsOf, image_in, extent_in, extent_of}
 use Rattle.journal.proofs.Cutting.{named_below}
@@ -58,10 +58,10 @@ snapshot_right {log} {named} {y} {dirty} {bytes} alone sound is same same' same'
     (subst (λ (l : List ℕ). AreCleanExtentsOf log.geometry y named l) (sym same'') (sound.snapshot_up_to_date alone y is)))
 
 module _ {log : Log} {snapshot snapshot' : List ℕ} {named others pending : List Bool} {pieces_left : Option ℕ} {w0 : Medium} {y : State} (alone : pieces_left ≡ None)
-    (placed' : IsCutState log pending pieces_left) (sound' : IsSoundJournal log snapshot named others pending pieces_left w0)
+    (placed' : FitsCutState log pending pieces_left) (sound' : IsSoundJournal log snapshot named others pending pieces_left w0)
     (is : recovered_state log.geometry w0.now ≡ Some y) (is_state : IsState log.geometry y) (spelled : snapshot' ≡ image_of 2 log.geometry y) (are : AreBytes w0.now) where
   pub current_is_named : log.current ≡ log.named
-  current_is_named = subst (λ (l : Option ℕ). IsCutState log pending l) alone placed'
+  current_is_named = subst (λ (l : Option ℕ). FitsCutState log pending l) alone placed'
 
   sound : IsSoundJournal log snapshot named others pending None w0
   sound = subst (λ (l : Option ℕ). IsSoundJournal log snapshot named others pending l w0) alone sound'

@@ -40,9 +40,9 @@ IsCutIfRunning log snapshot pending None m = Unit {0}
 IsCutIfRunning log snapshot pending (Some pieces_left) m = IsCut log snapshot pending m
 
 -- which half is current, and how many extents are pending
-abbrev pub IsCutState : Log → List Bool → Option ℕ → Type 0
-IsCutState log pending None = log.current ≡ log.named
-IsCutState log pending (Some pieces_left) = (log.current ≡ other log.named) × (count_dirty pending ≡ pieces_left)
+abbrev pub FitsCutState : Log → List Bool → Option ℕ → Type 0
+FitsCutState log pending None = log.current ≡ log.named
+FitsCutState log pending (Some pieces_left) = (log.current ≡ other log.named) × (count_dirty pending ≡ pieces_left)
 
 -- the image of the area that isn't named: the one it has, or while a cut is in progress the one it will have
 abbrev pub image_after_cut : Log → List ℕ → Option ℕ → Medium → List ℕ

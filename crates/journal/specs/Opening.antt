@@ -5,7 +5,7 @@ use Rattle.checkpoint.specs.declared.fault.OpenFault.{OpenFault}
 use Rattle.checkpoint.specs.declared.fault.OpenFault.TheVariants.{Device, BadRecord}
 use Rattle.checkpoint.specs.Header.{HasHeader}
 use Rattle.checkpoint.specs.Recovery.{recovered_state, decoding}
-use Rattle.checkpoint.specs.Refusals.{IsWholeDevice, refused}
+use Rattle.checkpoint.specs.Refusals.{HasHeaderAndParts, refused}
 use Rattle.checkpoint.specs.Version.{named_version}
 use Rattle.disk.specs.Device.{Medium, IsCrashImage, IsSynced}
 use Rattle.disk.specs.Moments.{CrashImagesAre}
@@ -38,7 +38,7 @@ pub record RecoversAsBefore (before c : List ℕ) : Type 0 where
   pub same : (g : Geometry) (x : State) → recovered_state g before ≡ Some x → recovered_state g c ≡ Some x
   pub alike : (g : Geometry) (fault : OpenFault) → HasHeader g before → refused g before ≡ Some fault
       → HasHeader g c × (refused g c ≡ Some fault)
-  pub kept : (IsWholeDevice before → ⊥) → c ≡ before
+  pub kept : (HasHeaderAndParts before → ⊥) → c ≡ before
 
 -- The first sync is over: nothing was unsynced then, and from then on a crash leaves what recovers to the same, or is refused
 -- for the same fault.
@@ -77,9 +77,9 @@ pub record IsBadAfterCut (g : Geometry) (h i : ℕ) (old new : Medium) : Type 0 
 
 -- A refusal with this fault leaves the device unwritten, unless the device failed, or the bad record is one of the half
 -- after the named one, which is reported once the cut was finished.
-abbrev pub IsRefusedUnwritten : Medium → OpenFault → Medium → Type 0
-IsRefusedUnwritten old Device new = Unit {0}
-IsRefusedUnwritten old (BadRecord h i) new =
+abbrev pub IsLeftByRefusal : Medium → OpenFault → Medium → Type 0
+IsLeftByRefusal old Device new = Unit {0}
+IsLeftByRefusal old (BadRecord h i) new =
     (g : Geometry) → HasHeader g old.now
     → (h ≡ named_area (layout_of g) old.now → IsUnwritten old new) × (h ≢ named_area (layout_of g) old.now → IsBadAfterCut g h i old new)
-IsRefusedUnwritten old fault new = IsUnwritten old new
+IsLeftByRefusal old fault new = IsUnwritten old new

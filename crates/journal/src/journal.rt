@@ -62,7 +62,7 @@ impl<D: Disk> Model for Journal<D> {
     ghost use Rattle.std.specs.Prelude.{◌≡◌, ◌≤◌, false, length};
     ghost use Rattle.image.specs.Pieces.{piece_count};
     ghost use Rattle.journal.specs.Journal.{JournalView};
-    ghost use Rattle.journal.specs.Keeping.{AreCleanBefore, IsCutState, IsSoundJournal, journal_view_of};
+    ghost use Rattle.journal.specs.Keeping.{AreCleanBefore, FitsCutState, IsSoundJournal, journal_view_of};
     ghost use Rattle.oplog.specs.Calls.{IsLongEnough};
     ghost use Rattle.device_map.specs.Layout.{image_size};
 
@@ -70,14 +70,14 @@ impl<D: Disk> Model for Journal<D> {
 
     ghost view = { λ j. journal_view_of j.halves j.named_dirty.items j.other_dirty.items j.pieces_left j.failed (D.medium j.disk) };
 
-    // `geometry.half` is how many records a half holds. `IsCutState` isn't only of a cut: without one, the current half is the named one.
+    // `geometry.half` is how many records a half holds. `FitsCutState` isn't only of a cut: without one, the current half is the named one.
     ghost invariant = { λ j. IsLongEnough j.halves (D.medium j.disk)
         × (j.halves.used ≤ j.halves.geometry.half)
         × (length j.snapshot.items ≡ image_size j.halves.geometry)
         × (length j.named_dirty.items ≡ piece_count j.halves.geometry)
         × (length j.other_dirty.items ≡ piece_count j.halves.geometry)
         × (length j.pending.items ≡ piece_count j.halves.geometry)
-        × (j.failed ≡ false → (j.halves.failed ≡ false) × IsCutState j.halves j.pending.items j.pieces_left)
+        × (j.failed ≡ false → (j.halves.failed ≡ false) × FitsCutState j.halves j.pending.items j.pieces_left)
         × (j.failed ≡ false → D.keeps →
         IsSoundJournal j.halves j.snapshot.items j.named_dirty.items j.other_dirty.items j.pending.items j.pieces_left (D.medium j.disk))
         × (j.next_pending ≤ length j.pending.items) × AreCleanBefore j.next_pending j.pending.items };

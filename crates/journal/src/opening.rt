@@ -5,12 +5,12 @@ ghost use Rattle.checkpoint.specs.declared.fault.OpenFault.TheVariants.{Device, 
 ghost use Rattle.checkpoint.specs.Header.{HasHeader};
 ghost use Rattle.checkpoint.specs.Loading.{IsOpeningCall, NamedHolds};
 ghost use Rattle.checkpoint.specs.Recovery.{recovered_state};
-ghost use Rattle.checkpoint.specs.Refusals.{IsWholeDevice, IsRefused, refused};
+ghost use Rattle.checkpoint.specs.Refusals.{HasHeaderAndParts, IsRefused, refused};
 ghost use Rattle.disk.specs.Device.{IsSynced, IsCrashImage};
 ghost use Rattle.disk.specs.Moments.{CrashImagesAre, moment_number};
 ghost use Rattle.image.specs.Image.{image_of};
 ghost use Rattle.journal.specs.Costs.{finish_cost, opening_cost};
-ghost use Rattle.journal.specs.Opening.{IsOpened, IsRefusedUnwritten, OpeningCrashImages, RecoversAsBefore};
+ghost use Rattle.journal.specs.Opening.{IsOpened, IsLeftByRefusal, OpeningCrashImages, RecoversAsBefore};
 ghost use Rattle.journal.specs.Parts.{AreLoaded, AreUnloaded, IsFaultAfterCut, IsMade, IsMadeOf, IsRefusedAlike, KeepsBuffers};
 ghost use Rattle.journal.specs.Steps.{RecoversByNamedAlone, IsCutFinished, IsPointed, RecoversStill, finished_log, pointed_log};
 ghost use Rattle.oplog.specs.Beyond.{KeepsBeyond};
@@ -169,7 +169,7 @@ fn load_in_order<D: Disk>(
     ensures was { OnOk result (D.keeps → recovered_state parts.old.tree.geometry (D.medium disk.old).now ≡ Some (state_in parts.new.tree)) }
     ensures sound { OnOk result (D.keeps → refused parts.old.tree.geometry (D.medium disk.old).now ≡ None) }
     ensures refused { IfErr result (λ e. D.keeps → IsRefused (D.medium disk.old).now e) }
-    ensures unwritten { IfErr result (λ e. D.keeps → IsRefusedUnwritten (D.medium disk.old) e (D.medium disk.new)) }
+    ensures unwritten { IfErr result (λ e. D.keeps → IsLeftByRefusal (D.medium disk.old) e (D.medium disk.new)) }
     ensures synced { IfErr result (λ e. e ≢ Device → D.keeps → IsSynced (D.medium disk.new)) }
     ensures loaded { OnOk result (AreLoaded parts.new (D.medium disk.new)) }
     ensures geometry { OnOk result (parts.new.halves.geometry ≡ parts.old.tree.geometry) }
@@ -220,9 +220,9 @@ fn open_synced<D: Disk>(alloc: Global, disk: &mut D) -> Result<Parts, OpenFault>
     ensures made { IfOk result (λ p. IsMade p (D.medium disk.new)) }
     ensures whole { IfOk result (λ p. IsWholeTree p.tree) }
     ensures refused { IfErr result (λ e. D.keeps → IsRefused (D.medium disk.old).now e) }
-    ensures unwritten { IfErr result (λ e. D.keeps → IsRefusedUnwritten (D.medium disk.old) e (D.medium disk.new)) }
+    ensures unwritten { IfErr result (λ e. D.keeps → IsLeftByRefusal (D.medium disk.old) e (D.medium disk.new)) }
     ensures synced { IfErr result (λ e. e ≢ Device → D.keeps → IsSynced (D.medium disk.new)) }
-    ensures memory { IfErr result (λ e. e ≡ OutOfMemory → D.keeps → IsWholeDevice (D.medium disk.old).now) }
+    ensures memory { IfErr result (λ e. e ≡ OutOfMemory → D.keeps → HasHeaderAndParts (D.medium disk.old).now) }
     ensures call { IsOpeningCall result (D.medium disk.old) (D.medium disk.new) }
 {
     let g = read_header(disk)?;
@@ -245,9 +245,9 @@ fn open_on<D: Disk>(alloc: Global, disk: &mut D) -> Result<Parts, OpenFault>
     ensures made { IfOk result (λ p. IsMade p (D.medium disk.new)) }
     ensures whole { IfOk result (λ p. IsWholeTree p.tree) }
     ensures refused { IfErr result (λ e. D.keeps → IsRefused (D.medium disk.old).now e) }
-    ensures unwritten { IfErr result (λ e. D.keeps → IsRefusedUnwritten (D.medium disk.old) e (D.medium disk.new)) }
+    ensures unwritten { IfErr result (λ e. D.keeps → IsLeftByRefusal (D.medium disk.old) e (D.medium disk.new)) }
     ensures synced { IfErr result (λ e. e ≢ Device → D.keeps → IsSynced (D.medium disk.new)) }
-    ensures memory { IfErr result (λ e. e ≡ OutOfMemory → D.keeps → IsWholeDevice (D.medium disk.old).now) }
+    ensures memory { IfErr result (λ e. e ≡ OutOfMemory → D.keeps → HasHeaderAndParts (D.medium disk.old).now) }
     ensures call { IsOpeningCall result (D.medium disk.old) (D.medium disk.new) }
 {
     first_sync(disk)?;
@@ -286,13 +286,13 @@ pub fn open<D: Disk>(alloc: Global, d: D) -> Result<(Journal<D>, Tree), OpenErro
         (λ r. moment_number r.0.medium ≡ moment_number (D.medium d) + opening_cost r.0.geometry (D.medium d).now)
         (λ e. moment_number (D.medium e.disk) ≤ moment_number (D.medium d) + 11) }
     ensures refused { IfErr result (λ e. D.keeps → IsRefused (D.medium d).now e.fault) }
-    ensures unwritten { IfErr result (λ e. D.keeps → IsRefusedUnwritten (D.medium d) e.fault (D.medium e.disk)) }
+    ensures unwritten { IfErr result (λ e. D.keeps → IsLeftByRefusal (D.medium d) e.fault (D.medium e.disk)) }
 
     // The first sync comes before all else: only a fault of the device leaves something unsynced.
     ensures synced { IfErr result (λ e. e.fault ≢ OpenFault.Device → D.keeps → IsSynced (D.medium e.disk)) }
 
-    // `IsWholeDevice`: it has the header of a geometry and the length for all its parts, whatever these hold.
-    ensures memory { IfErr result (λ e. e.fault ≡ OpenFault.OutOfMemory → D.keeps → IsWholeDevice (D.medium d).now) }
+    // `HasHeaderAndParts`: it has the header of a geometry and the length for all its parts, whatever these hold.
+    ensures memory { IfErr result (λ e. e.fault ≡ OpenFault.OutOfMemory → D.keeps → HasHeaderAndParts (D.medium d).now) }
     ensures device { IfErr result (λ e. e.fault ≡ OpenFault.Device
         ↔ (D.medium e.disk).faults ≡ (D.medium d).faults + 1) }
     ensures no_fault { IfOk result (λ r. r.0.medium.faults ≡ (D.medium d).faults) }

@@ -9,7 +9,7 @@ use Rattle.disk.proofs.Outside.{same_drop}
 use Rattle.disk.proofs.Overlays.{overlaid_outside, range-overlaid, length-overlaid, item-overlaid}
 use Rattle.device_map.specs.Layout.{Layout, slice, part_bytes, part_at, part_size, half_part, root_part, device_size}
 use Rattle.oplog.specs.Front.{count_open, gates}
-use Rattle.oplog.specs.Changes.{IsSameButGates, IsSameButChain, IsSameButRoot, After, Cleared, Chained, Flipped}
+use Rattle.oplog.specs.Changes.{IsSameButChainAndGates, IsSameButChain, IsSameButRoot, After, Cleared, Chained, Flipped}
 use Rattle.oplog.specs.Store.{Stored}
 use Rattle.oplog.proofs.Slices.{LiesIn, within, same_but, half_sized, half_inside}
 use Rattle.oplog.proofs.Gates.{open_none}
@@ -23,7 +23,7 @@ module _ (g : Layout) (h at : ℕ) (bytes : List ℕ) (is_half : h < 2) (place :
   few : length bytes ≡ 64 + g.capacity
   few = ap length are ∙ length-replicate (64 + g.capacity) 0
 
-  gates_alone : (old c : List ℕ) → SameOutside at (length bytes) old c → IsSameButGates g h old c
+  gates_alone : (old c : List ℕ) → SameOutside at (length bytes) old c → IsSameButChainAndGates g h old c
   gates_alone old c same =
       let lies : LiesIn g (half_part h) 0 (length bytes) at = omega (arith, place, few, half_sized g h is_half) in
       let same' = subst (λ (a : ℕ). SameOutside a (length bytes) old c) lies.place same in
@@ -33,7 +33,7 @@ module _ (g : Layout) (h at : ℕ) (bytes : List ℕ) (is_half : h < 2) (place :
             (within (part_at g (half_part h)) (part_size g (half_part h)) 0 (length bytes) old c lies.inside same') (64 + g.capacity) (omega (arith, few));
       }
 
-  pub clear_moments : (w0 w1 : Medium) → CrashImagesAre w0 w1 (After w0 (SameOutside {X = ℕ} at (length bytes))) → CrashImagesAre w0 w1 (After w0 (IsSameButGates g h))
+  pub clear_moments : (w0 w1 : Medium) → CrashImagesAre w0 w1 (After w0 (SameOutside {X = ℕ} at (length bytes))) → CrashImagesAre w0 w1 (After w0 (IsSameButChainAndGates g h))
   clear_moments w0 w1 moments = weaker w0 w1 _ _ moments (λ c after. record { old = after.old; left = after.left; change = gates_alone after.old c after.change })
 
   module _ (w0 w1 : Medium) (fits : device_size g ≤ length w0.now) (stored : Stored at bytes w0 w1) where

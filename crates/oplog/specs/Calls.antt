@@ -7,7 +7,7 @@ use Rattle.oplog.specs.declared.fault.LogFault.{LogFault}
 use Rattle.oplog.specs.declared.half.Half.{Half}
 use Rattle.device_map.specs.Layout.{layout_of, device_size, other}
 use Rattle.oplog.specs.Front.{front, record_at}
-use Rattle.oplog.specs.Changes.{CrashesChangeOnly, HasAppendedPrefix, HasAppendedAll, IsReady, IsSameButGates, IsSameButChain, IsSameButRoot, Cleared, Chained, Flipped}
+use Rattle.oplog.specs.Changes.{CrashesChangeOnly, HasAppendedPrefix, HasAppendedAll, IsReady, IsSameButChainAndGates, IsSameButChain, IsSameButRoot, Cleared, Chained, Flipped}
 use Rattle.oplog.specs.Changing.{records_of}
 use Rattle.oplog.specs.Log.{Log, layout, IsOfRecord}
 
@@ -33,7 +33,7 @@ HasAdded log messages old new = HasAppendedAll (layout log) log.current log.used
 
 -- Only the chain zone (the chain byte and the bytes beside it) and the gates of the half that isn't named change.
 abbrev pub Clears : Log → Medium → Medium → Type 0
-Clears log old new = CrashesChangeOnly old new (IsSameButGates (layout log) (other log.named))
+Clears log old new = CrashesChangeOnly old new (IsSameButChainAndGates (layout log) (other log.named))
 
 -- The half that isn't named is cleared, and nothing is unsynced.
 abbrev pub HasCleared : Log → Medium → Medium → Type 0

@@ -22,7 +22,7 @@ pub record HasAppended (l : Layout) (h : ℕ) (more : List (List ℕ)) (old c : 
   pub front : front l h c ≡ front l h old ++ more
 
 -- Only the chain byte of half h, the bytes beside it, and its gates differ: its records stay.
-pub record IsSameButGates (l : Layout) (h : ℕ) (old c : List ℕ) : Type 0 where
+pub record IsSameButChainAndGates (l : Layout) (h : ℕ) (old c : List ℕ) : Type 0 where
   pub same : IsSameBut l (half_part h) old c
   pub records : drop (chain_zone_size + l.capacity) (part_bytes l (half_part h) c)
       ≡ drop (chain_zone_size + l.capacity) (part_bytes l (half_part h) old)
@@ -77,7 +77,7 @@ pub record HasAppendedAll (l : Layout) (h k : ℕ) (more : List (List ℕ)) (old
 
 -- The chain byte of half h, the bytes beside it and its gates are 0, and nothing is unsynced.
 pub record Cleared (l : Layout) (h : ℕ) (old new : Medium) : Type 0 where
-  pub same : IsSameButGates l h old.now new.now
+  pub same : IsSameButChainAndGates l h old.now new.now
   pub zeros : take (chain_zone_size + l.capacity) (part_bytes l (half_part h) new.now) ≡ replicate (chain_zone_size + l.capacity) 0
   pub chain : chain l h new.now ≡ 0
   pub ready : IsReady l h 0 new

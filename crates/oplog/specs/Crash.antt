@@ -8,7 +8,7 @@ use Rattle.disk.specs.Moments.{CrashImagesAre}
 use Rattle.device_map.specs.Layout.{Layout, image_part, other}
 use Rattle.oplog.specs.Front.{chain, front}
 use Rattle.oplog.specs.Recovery.{Decoding, named_area, current_of, recovers_by_area, run}
-use Rattle.oplog.specs.Changes.{After, HasAppendedPrefix, HasAppendedAll, IsSameBut, IsSameButGates, IsSameButChain, IsSameButRoot, Chained, Flipped}
+use Rattle.oplog.specs.Changes.{After, HasAppendedPrefix, HasAppendedAll, IsSameBut, IsSameButChainAndGates, IsSameButChain, IsSameButRoot, Chained, Flipped}
 
 module _ {S : Type 0} (decoding : Decoding S) where
   -- These bytes recover to x by area n, which they name, with half h as their current one. If h is n, the front of half n
@@ -52,11 +52,11 @@ module _ {S : Type 0} (decoding : Decoding S) where
   ImageRecovers = (l : Layout) (n h : ℕ) (x : Option S) (old new : Medium) → n < 2 → CrashRecovers l n h x old
       → CrashImagesAre old new (After old (IsSameBut l (image_part (other n)))) → CrashImagesAre old new (RecoversBy l n h x)
 
-  -- While the half that isn't named is cleared (`IsSameButGates`: its chain zone changes, too), and isn't the current one, whatever a crash
-  -- leaves recovers to x.
+  -- While the half that isn't named is cleared (`IsSameButChainAndGates`: its chain zone changes, too), and isn't the current one, whatever
+  -- a crash leaves recovers to x.
   abbrev pub ClearRecovers : Type 0
   ClearRecovers = (l : Layout) (n : ℕ) (x : Option S) (old new : Medium) → n < 2 → CrashRecovers l n n x old
-      → CrashImagesAre old new (After old (IsSameButGates l (other n))) → CrashImagesAre old new (RecoversBy l n n x)
+      → CrashImagesAre old new (After old (IsSameButChainAndGates l (other n))) → CrashImagesAre old new (RecoversBy l n n x)
 
   -- The chain byte of the named half is written, while the other half has no record in its front and no chain.
   -- Whatever becomes of the byte, the device recovers to x.

@@ -8,7 +8,7 @@ use Rattle.std.specs.List.{AllByRecursion}
 use Rattle.affinity.specs.Interval.{IsAffinity}
 use Rattle.affinity.specs.declared.geometry.Geometry.{Geometry}
 use Rattle.run_queue.specs.RunQueue.{has_room}
-use Rattle.run_queue.specs.ReadyTable.{AreLeast, IsEntryRight, earliest_from, if_passes, ready_in, rank_of}
+use Rattle.run_queue.specs.ReadyTable.{AreLowerBounds, IsEntryRight, earliest_from, if_passes, ready_in, rank_of}
 use Rattle.run_queue.specs.Order.{Ascend, earlier}
 use Rattle.run_queue.specs.declared.queued_message.QueuedMessage.{QueuedMessage}
 use Rattle.run_queue.proofs.Earliest.{first_below, below-step}
@@ -23,8 +23,8 @@ pub ready_in-other : (ready_table : List (Option QueuedMessage)) (n k : ℕ) (o 
 ready_in-other ready_table n k o other = get_or-set_other ready_table n k o None other
 
 -- if the rank at number n stays, the least ranks that are kept for the chunks stay right
-pub least-kept : (ready_table : List (Option QueuedMessage)) (least : List ℕ) (n : ℕ) (o : Option QueuedMessage) → n < length ready_table → AreLeast ready_table least
-    → rank_of o ≡ rank_of (ready_in ready_table n) → AreLeast (slice_set ready_table n o) least
+pub least-kept : (ready_table : List (Option QueuedMessage)) (least : List ℕ) (n : ℕ) (o : Option QueuedMessage) → n < length ready_table → AreLowerBounds ready_table least
+    → rank_of o ≡ rank_of (ready_in ready_table n) → AreLowerBounds (slice_set ready_table n o) least
 least-kept ready_table least n o here are same chunk i below = elim (cases_eq (16 * chunk + i) n) [
   | inl at ↦ (let was = are chunk i below in
       let old = ap (λ k. rank_of (ready_in ready_table k)) at in
@@ -36,9 +36,9 @@ least-kept ready_table least n o here are same chunk i below = elim (cases_eq (1
 ]
 
 -- else the least rank of n's chunk is found anew
-pub least-found : (ready_table : List (Option QueuedMessage)) (least : List ℕ) (n found : ℕ) (o : Option QueuedMessage) → AreLeast ready_table least → n / 16 < length least
+pub least-found : (ready_table : List (Option QueuedMessage)) (least : List ℕ) (n found : ℕ) (o : Option QueuedMessage) → AreLowerBounds ready_table least → n / 16 < length least
     → ((i : ℕ) → i < 16 → found ≤ rank_of (ready_in (slice_set ready_table n o) (16 * (n / 16) + i)))
-    → AreLeast (slice_set ready_table n o) (slice_set least (n / 16) found)
+    → AreLowerBounds (slice_set ready_table n o) (slice_set least (n / 16) found)
 least-found ready_table least n found o are here new chunk i below = elim (cases_eq chunk (n / 16)) [
   | inl at ↦ (let low = new i below in
       let value = ap (λ k. get_or (slice_set least (n / 16) found) k 0) at ∙ get_or-set_same least (n / 16) found 0 here in
@@ -55,7 +55,7 @@ least-found ready_table least n found o are here new chunk i below = elim (cases
 
 -- ---- at the start
 
-pub none-least : (numbers chunks : ℕ) → AreLeast (replicate numbers None) (replicate chunks 18446744073709551615)
+pub none-least : (numbers chunks : ℕ) → AreLowerBounds (replicate numbers None) (replicate chunks 18446744073709551615)
 none-least numbers chunks chunk i below =
     let none = ap (λ m. rank_of m) (none-ready numbers (16 * chunk + i)) in
     let low = at_most chunks chunk in

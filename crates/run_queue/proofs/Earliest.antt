@@ -5,7 +5,7 @@ use Rattle.std.specs.List.{list_any, AllByRecursion}
 use Rattle.std.proofs.lemmas.Bool.{eq-eqb, ne_eqb, eqb-true, ltb-true, lt-ltb, cases_Bool, cases_eq, and_parts, and_from, or_left, or_right, or_parts, true≢false, false_from_ne_true}
 use Rattle.std.proofs.lemmas.Bool.Decides.{leb_tells}
 use Rattle.std.proofs.Math.Nat.{min-eq_left, min-eq_right, min-le_left, min-le_right}
-use Rattle.affinity.specs.Interval.{IsAffinity, contains, server_size}
+use Rattle.affinity.specs.Interval.{IsAffinity, contains, affinity_count}
 use Rattle.affinity.specs.declared.geometry.Geometry.{Geometry}
 use Rattle.run_queue.specs.RunQueue.{are_related_intervals, is_free_of, has_room, has_number, next_queued}
 use Rattle.run_queue.specs.ReadyTable.{earliest_from, if_passes, last_rank, ready_in, rank_of}
@@ -214,11 +214,11 @@ module _ (g : Geometry) (room : Bool) (held waiting : List QueuedMessage) (place
         | inr k ↦ find-skip (λ t. nat_lt t.affinity.number n && p t) t ts (is ∙ k) ∙ all_below n ts p low.1 ∙ sym (find-skip p t ts k)
       ]
 
-  low : (n : ℕ) → server_size g ≤ n → (ts : List QueuedMessage) → AllByRecursion (λ d. IsAffinity g d.affinity) ts → AllByRecursion (λ t. t.affinity.number < n) ts
+  low : (n : ℕ) → affinity_count g ≤ n → (ts : List QueuedMessage) → AllByRecursion (λ d. IsAffinity g d.affinity) ts → AllByRecursion (λ t. t.affinity.number < n) ts
   low n past [] h = tt
   low n past (t ∷ ts) h = ((let below = number-below g t.affinity h.0 in omega (arith, below, past)), low n past ts h.1)
 
-  pub below-all : (n : ℕ) → server_size g ≤ n → first_below room held waiting n ≡ next_queued room held waiting
+  pub below-all : (n : ℕ) → affinity_count g ≤ n → first_below room held waiting n ≡ next_queued room held waiting
   below-all n past =
       all_below n waiting (λ t. has_room room t && is_conflict_free held waiting t) (low n past waiting placed)
       ∙ sym (next_is_first room held waiting ascends)

@@ -4,7 +4,7 @@ use Rattle.std.specs.Prelude.{slice_set, replicate}
 use Rattle.std.proofs.lemmas.Bool.{eq-eqb, ne_eqb, cases_Bool}
 use Rattle.std.proofs.lemmas.List.{length-set, length-replicate}
 use Rattle.run_queue.specs.RunQueue.{has_number, without_number}
-use Rattle.run_queue.specs.Queues.{HeldMessages, present, AreByNumberFrom, IsBetween}
+use Rattle.run_queue.specs.Queues.{HeldMessages, present, AreByNumberFrom, HasInserted}
 use Rattle.run_queue.specs.declared.queued_message.QueuedMessage.{QueuedMessage}
 
 held-same : (a b : ℕ) (ts us : List QueuedMessage) → a ≡ b → ts ≡ us
@@ -64,7 +64,7 @@ pub stand-hold : (entries : List (Option QueuedMessage)) (t : QueuedMessage) →
 stand-hold entries t stand below = stand-hold_from entries 0 t.affinity.number t stand below (omega arith)
 
 pub between-hold : (entries : List (Option QueuedMessage)) (i : ℕ) (t : QueuedMessage) → i < length entries → slice_index_or entries i None ≡ None
-    → IsBetween t (present entries) (present (slice_set entries i (Some t)))
+    → HasInserted t (present entries) (present (slice_set entries i (Some t)))
 between-hold [] i t below empty = absurd (omega arith)
 between-hold (None ∷ entries) zero t below empty = ([], present entries, refl, refl)
 between-hold (Some x ∷ entries) zero t below empty = absurd (cc)

@@ -5,7 +5,7 @@ use Rattle.std.specs.List.{list_any}
 use Rattle.std.proofs.lemmas.Bool.{eq-eqb, eqb-true, cases_Bool, and_parts, and_from, or_cases, or_right, true≢false}
 use Rattle.std.proofs.lemmas.Bool.Decides.{nat_tests}
 use Rattle.affinity.specs.Path.{Path, is_prefix}
-use Rattle.affinity.specs.Interval.{Interval, IsPath, IsAffinity, IsAffinityOf, contains, interval, number, server_size}
+use Rattle.affinity.specs.Interval.{Interval, IsPath, IsAffinity, IsAffinityOf, contains, interval, number, affinity_count}
 use Rattle.affinity.specs.declared.geometry.Geometry.{Geometry}
 use Rattle.affinity.proofs.Paths.{is_prefix-refl}
 use Rattle.affinity.proofs.Preorder.{is_prefix-contains, path_at, path_at-number}
@@ -143,7 +143,7 @@ are_above g p a h b k =
 pub contains-own : (g : Geometry) (a : Interval) → IsAffinity g a → contains a a.number ≡ true
 contains-own g a h = rw h.1.interval (sym (is_prefix-contains g h.0 h.0 h.1.path h.1.path) ∙ is_prefix-refl h.0)
 
-pub number-below : (g : Geometry) (a : Interval) → IsAffinity g a → a.number < server_size g
+pub number-below : (g : Geometry) (a : Interval) → IsAffinity g a → a.number < affinity_count g
 number-below g a h =
     let whole : contains (interval g []) (number g h.0) ≡ true = sym (is_prefix-contains g [] h.0 tt h.1.path) in
     let is : a.number ≡ number g h.0 = ap (λ (i : Interval). i.number) h.1.interval in

@@ -6,12 +6,12 @@ use Rattle.std.proofs.lemmas.Bool.{eq-eqb, eqb-true, cases_Bool, and_parts, and_
 use Rattle.std.proofs.lemmas.Bool.Decides.{eqb_tells}
 use Rattle.std.proofs.lemmas.List.{length-replicate}
 use Rattle.std.proofs.lemmas.Nat.{mul-le}
-use Rattle.affinity.specs.Interval.{IsAffinity, server_size}
+use Rattle.affinity.specs.Interval.{IsAffinity, affinity_count}
 use Rattle.affinity.specs.declared.geometry.Geometry.{Geometry}
 use Rattle.run_queue.specs.RunQueue.{IsNext, are_related_intervals, is_free_of, has_room, has_slot, has_number, holds_at, without_slot, without_number, next_queued, CameBefore}
 use Rattle.run_queue.specs.Slots.{count_in_slot}
 use Rattle.run_queue.specs.Order.{is_conflict_free}
-use Rattle.run_queue.specs.Queues.{Waiting, HeldMessages, IsBetween, IsFirstGone}
+use Rattle.run_queue.specs.Queues.{Waiting, HeldMessages, HasInserted, IsFirstGone}
 use Rattle.run_queue.specs.ReadyTable.{IsEntryRight, StayRight, AreRelatedRight}
 use Rattle.run_queue.specs.Invariant.{AreQueued, AreEntriesRight, QueueInvariant}
 use Rattle.run_queue.specs.declared.queued_message.QueuedMessage.{QueuedMessage}
@@ -26,7 +26,7 @@ use Rattle.run_queue.proofs.Ready.{none-ready, right-arrived, right-gone, right-
 -- ---- the start
 
 -- a geometry has at most 357 affinities (`MOST_AFFINITIES`), so 357 queues serve any geometry
-all_below : (g : Geometry) → server_size g ≤ 357
+all_below : (g : Geometry) → affinity_count g ≤ 357
 all_below g =
     let volumes : g.volumes * (3 + g.stripes) ≤ 8 * 11 = mul-le g.volumes (3 + g.stripes) 8 11 g.volumes_range.1 (let most = g.stripes_range.1 in omega (arith, most)) in
     let aggregates : g.aggregates * (1 + g.volumes * (3 + g.stripes)) ≤ 4 * 89 = mul-le g.aggregates (1 + g.volumes * (3 + g.stripes)) 4 89 g.aggregates_range.1 (omega (arith, volumes)) in
@@ -199,11 +199,11 @@ count_in_slot-between s low high t = elim (eqb_tells t.slot s) [
 ]
 
 pub messages-gone : {g : Geometry} {slots : ℕ} {w : Waiting} {h k : HeldMessages} (t : QueuedMessage) → AreQueued g slots w h → IsAffinity g t.affinity
-    → list_any (has_slot t.slot) w.messages ≡ true → k ≡ record h { messages = k.messages } → IsBetween t h.messages k.messages
+    → list_any (has_slot t.slot) w.messages ≡ true → k ≡ record h { messages = k.messages } → HasInserted t h.messages k.messages
     → AreQueued g slots (record w { messages = without_slot t.slot w.messages }) k
 messages-gone {g} {slots} {w} {h} {k} t are placed waits same between = record {
   queues = are.queues;
-  entries = subst (λ (l : HeldMessages). (any : Geometry) → server_size any ≤ l.numbers) (sym same) are.entries;
+  entries = subst (λ (l : HeldMessages). (any : Geometry) → affinity_count any ≤ l.numbers) (sym same) are.entries;
   capacity = are.capacity;
   in_slots = λ s.
       let all = in_slots-gone slots w.messages h.messages t are.in_slots waits s in
@@ -219,7 +219,7 @@ messages-gone {g} {slots} {w} {h} {k} t are placed waits same between = record {
 
 module _ (g : Geometry) (slots : ℕ) (w v : Waiting) (h k : HeldMessages) (t : QueuedMessage) (are : AreQueued g slots w h)
     (next : IsNext (record { geometry = g; waiting = w.messages; held = h.messages; slots = slots }) t) (n : ℕ) (number : n ≡ t.affinity.number)
-    (popped : IsFirstGone n w v) (same : k ≡ record h { messages = k.messages }) (joined : IsBetween t h.messages k.messages) where
+    (popped : IsFirstGone n w v) (same : k ≡ record h { messages = k.messages }) (joined : HasInserted t h.messages k.messages) where
   first : find (has_number t.affinity.number) w.messages ≡ Some t
   first = next-first g slots w h are t next.0 next.1
 

@@ -7,12 +7,12 @@ use Rattle.std.proofs.lemmas.Bool.Decides.{eqb_tells, leb_tells}
 use Rattle.std.proofs.lemmas.List.Folds.{list_any-append}
 use Rattle.std.proofs.lemmas.Option.{none-some}
 use Rattle.affinity.specs.Path.{Path}
-use Rattle.affinity.specs.Interval.{Interval, IsAffinity, contains, interval, server_size}
+use Rattle.affinity.specs.Interval.{Interval, IsAffinity, contains, interval, affinity_count}
 use Rattle.affinity.specs.declared.geometry.Geometry.{Geometry}
 use Rattle.run_queue.specs.RunQueue.{are_related_intervals, is_free_of, has_room, has_slot, has_number, without_slot, without_number, CameBefore}
 use Rattle.run_queue.specs.Slots.{count_in_slot}
 use Rattle.run_queue.specs.Order.{Ascend, waits_for, is_conflict_free, dispatchable_at}
-use Rattle.run_queue.specs.Queues.{IsBetween}
+use Rattle.run_queue.specs.Queues.{HasInserted}
 use Rattle.run_queue.specs.ReadyTable.{if_passes, ready_at, ready_in, IsEntryRight, StayRight, AreRelatedRight}
 use Rattle.run_queue.specs.declared.queued_message.QueuedMessage.{QueuedMessage}
 use Rattle.run_queue.proofs.Nearby.{number-below, same_path}
@@ -62,7 +62,7 @@ none-ready zero i = refl
 none-ready (suc n) zero = refl
 none-ready (suc n) (suc i) = none-ready n i
 
-none-at : (g : Geometry) (waiting : List QueuedMessage) (n : ℕ) → AllByRecursion (λ d. IsAffinity g d.affinity) waiting → server_size g ≤ n
+none-at : (g : Geometry) (waiting : List QueuedMessage) (n : ℕ) → AllByRecursion (λ d. IsAffinity g d.affinity) waiting → affinity_count g ≤ n
     → find (has_number n) waiting ≡ None
 none-at g [] n placed past = refl
 none-at g (d ∷ waiting) n placed past =
@@ -70,7 +70,7 @@ none-at g (d ∷ waiting) n placed past =
     find-skip (has_number n) d waiting (ne_eqb d.affinity.number n (λ same. omega (arith, below, same, past))) ∙ none-at g waiting n placed.1 past
 
 pub update_ready-past : (g : Geometry) (held waiting : List QueuedMessage) (ready_table : List (Option QueuedMessage)) (n : ℕ) → AllByRecursion (λ d. IsAffinity g d.affinity) waiting
-    → server_size g ≤ length ready_table → length ready_table ≤ n → IsEntryRight held waiting ready_table n
+    → affinity_count g ≤ length ready_table → length ready_table ≤ n → IsEntryRight held waiting ready_table n
 update_ready-past g held waiting ready_table n placed all past =
     past-ready_table ready_table n past
     ∙ ap (λ (o : Option QueuedMessage). if_passes (is_conflict_free held waiting) o) (sym (none-at g waiting n placed (omega (arith, all, past))))
@@ -210,7 +210,7 @@ or_moved true true c = refl
 or_moved true false c = refl
 or_moved false b c = refl
 
-any-between : (q : QueuedMessage → Bool) (t : QueuedMessage) (before after : List QueuedMessage) → IsBetween t before after → list_any q after ≡ (q t || list_any q before)
+any-between : (q : QueuedMessage → Bool) (t : QueuedMessage) (before after : List QueuedMessage) → HasInserted t before after → list_any q after ≡ (q t || list_any q before)
 any-between q t before after h =
     ap (λ (ts : List QueuedMessage). list_any q ts) h.3
     ∙ list_any-append q h.0 (t ∷ h.1)
@@ -250,7 +250,7 @@ not_held held waiting u near = ap (λ b. not b && not (list_any (waits_for u) wa
 not_first : (held waiting : List QueuedMessage) (u : QueuedMessage) → list_any (waits_for u) waiting ≡ true → is_conflict_free held waiting u ≡ false
 not_first held waiting u late = ap (λ b. is_free_of held u && not b) late ∙ false_and_right (is_free_of held u)
 
-module _ (held held' waiting : List QueuedMessage) (t : QueuedMessage) (joined : IsBetween t held held') (ascends : Ascend waiting)
+module _ (held held' waiting : List QueuedMessage) (t : QueuedMessage) (joined : HasInserted t held held') (ascends : Ascend waiting)
     (once : count_in_slot t.slot waiting ≤ 1) (first : find (has_number t.affinity.number) waiting ≡ Some t) (clear : is_conflict_free held waiting t ≡ true) where
   it_alone : AllByRecursion (λ u. has_slot t.slot u ≡ true → u ≡ t) waiting
   it_alone = alone (has_number t.affinity.number) waiting t first once

@@ -1,7 +1,7 @@
 -- Inner: How a `RunQueue` keeps waiting and held messages.
 use Rattle.std.specs.Prelude.{◌≡◌, ◌≤◌, ℕ, List, length, Option}
 use Rattle.std.specs.List.{AllByRecursion}
-use Rattle.affinity.specs.Interval.{IsAffinity, server_size}
+use Rattle.affinity.specs.Interval.{IsAffinity, affinity_count}
 use Rattle.affinity.specs.declared.geometry.Geometry.{Geometry}
 use Rattle.run_queue.specs.Order.{Ascend}
 use Rattle.run_queue.specs.Queues.{Waiting, HeldMessages}
@@ -11,8 +11,8 @@ use Rattle.run_queue.specs.declared.queued_message.QueuedMessage.{QueuedMessage}
 
 -- There is a queue and an entry for each affinity of any geometry, and each message has a slot of its own.
 pub record AreQueued (g : Geometry) (slots : ℕ) (waiting : Waiting) (held : HeldMessages) : Type 0 where
-  pub queues : (any : Geometry) → server_size any ≤ waiting.numbers
-  pub entries : (any : Geometry) → server_size any ≤ held.numbers
+  pub queues : (any : Geometry) → affinity_count any ≤ waiting.numbers
+  pub entries : (any : Geometry) → affinity_count any ≤ held.numbers
   pub capacity : waiting.capacity ≡ slots
   pub in_slots : AreInSlots slots waiting.messages held.messages
   pub ascends : Ascend waiting.messages
@@ -21,7 +21,7 @@ pub record AreQueued (g : Geometry) (slots : ℕ) (waiting : Waiting) (held : He
 
 -- The ready table has an entry for each affinity of any geometry, and each entry is right.
 pub record AreEntriesRight (held waiting : List QueuedMessage) (ready_table : List (Option QueuedMessage)) : Type 0 where
-  pub numbers : (any : Geometry) → server_size any ≤ length ready_table
+  pub numbers : (any : Geometry) → affinity_count any ≤ length ready_table
   pub right : (n : ℕ) → IsEntryRight held waiting ready_table n
 
 -- What a `RunQueue` keeps.

@@ -62,5 +62,5 @@ AreByNumberFrom k (None ∷ entries) = AreByNumberFrom (suc k) entries
 AreByNumberFrom k (Some t ∷ entries) = (t.affinity.number ≡ k) × AreByNumberFrom (suc k) entries
 
 -- The list `after` is `before` with message t inserted somewhere; the others stay in order.
-abbrev pub IsBetween : QueuedMessage → List QueuedMessage → List QueuedMessage → Type 0
-IsBetween t before after = (low : List QueuedMessage) × (high : List QueuedMessage) × (before ≡ low ++ high) × (after ≡ low ++ t ∷ high)
+abbrev pub HasInserted : QueuedMessage → List QueuedMessage → List QueuedMessage → Type 0
+HasInserted t before after = (low : List QueuedMessage) × (high : List QueuedMessage) × (before ≡ low ++ high) × (after ≡ low ++ t ∷ high)

@@ -50,5 +50,5 @@ earliest_from p ready_table from (suc n) best =
     earlier (earliest_from p ready_table from n best) (if_passes p (ready_in ready_table (from + n)))
 
 -- The rank kept for a chunk is no greater than that of any of its sixteen entries.
-abbrev pub AreLeast : List (Option QueuedMessage) → List ℕ → Type 0
-AreLeast ready_table least = (chunk i : ℕ) → i < 16 → get_or least chunk 0 ≤ rank_of (ready_in ready_table (16 * chunk + i))
+abbrev pub AreLowerBounds : List (Option QueuedMessage) → List ℕ → Type 0
+AreLowerBounds ready_table least = (chunk i : ℕ) → i < 16 → get_or least chunk 0 ≤ rank_of (ready_in ready_table (16 * chunk + i))

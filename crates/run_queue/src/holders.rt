@@ -27,7 +27,7 @@ impl Model for Holders {
 }
 
 impl Holders {
-    ghost use Rattle.run_queue.specs.Queues.{IsBetween};
+    ghost use Rattle.run_queue.specs.Queues.{HasInserted};
 
     /// A table for `numbers` affinity numbers, at which no message is held. `AllocError` where there is no memory.
     pub(crate) fn new(alloc: Global, numbers: usize) -> Result<Holders, AllocError>
@@ -51,12 +51,12 @@ impl Holders {
         }
     }
 
-    /// One more message is held, at a number where none is. `IsBetween`: the new list is the old one with it inserted somewhere.
+    /// One more message is held, at a number where none is. `HasInserted`: the new list is the old one with it inserted somewhere.
     pub(crate) fn hold(&mut self, queued: QueuedMessage)
         requires number { queued.affinity.number < self.old.numbers }
         requires free { find (has_number queued.affinity.number) self.old.messages ≡ None }
         ensures rest { self.new ≡ record self.old { messages = self.new.messages } }
-        ensures messages { IsBetween queued self.old.messages self.new.messages }
+        ensures messages { HasInserted queued self.old.messages self.new.messages }
     {
         let number = usize::from(queued.affinity.number());
         self.entries[number] = Some(queued);

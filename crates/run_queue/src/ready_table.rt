@@ -16,7 +16,7 @@ const LAST_RANK: u64 = u64::MAX - 1;
 ///
 /// `RunQueue::next` is called often and looks for the earliest ready message. So each has a rank (its ticket, but
 /// `LAST_RANK` at most), and the least rank of each chunk of numbers is kept: a look at that is enough to skip most chunks.
-/// Contracts only say that what is kept is no greater than any rank of the chunk (`AreLeast`).
+/// Contracts only say that what is kept is no greater than any rank of the chunk (`AreLowerBounds`).
 ///
 /// All memory is taken by `new`.
 #[derive(Drop)]
@@ -28,14 +28,14 @@ pub(crate) struct ReadyTable {
 
 impl Model for ReadyTable {
     ghost use Rattle.std.specs.Prelude.{◌≡◌, ◌+◌, ◌/◌, ◌≤◌, List, Option, length, map};
-    ghost use Rattle.run_queue.specs.ReadyTable.{AreLeast, rank_of};
+    ghost use Rattle.run_queue.specs.ReadyTable.{AreLowerBounds, rank_of};
     ghost use Rattle.run_queue.specs.declared.queued_message.QueuedMessage.{QueuedMessage};
 
     ghost Value = { List (Option QueuedMessage) };
 
     ghost view = { λ m. m.ready.items };
 
-    ghost invariant = { λ m. (m.ranks.items ≡ map rank_of m.ready.items) × AreLeast m.ready.items m.least.items
+    ghost invariant = { λ m. (m.ranks.items ≡ map rank_of m.ready.items) × AreLowerBounds m.ready.items m.least.items
         × (length m.ready.items ≤ 65536) × (length m.least.items ≡ length m.ready.items / 16 + 1) };
 }
 

@@ -1,7 +1,7 @@
 //! Waiting and held messages, and which of them is dispatched next.
 ghost use Rattle.std.specs.Prelude.{◌≡◌, ◌+◌, ◌*◌, ◌<◌, ◌≤◌, ◌++◌, ◌∷◌, true, false, [], length, IfOk, IfSome, IfNone};
 ghost use Rattle.std.specs.List.{list_any};
-ghost use Rattle.affinity.specs.Interval.{IsAffinity, server_size};
+ghost use Rattle.affinity.specs.Interval.{IsAffinity, affinity_count};
 ghost use Rattle.run_queue.specs.RunQueue.{next_queued, has_slot, has_number, without_slot, without_number, holds_at};
 
 use crate::QueuedMessage;
@@ -46,10 +46,10 @@ impl Model for RunQueue {
     ghost invariant = { λ t. QueueInvariant t.geometry t.slots t.waiting t.held t.ready_table };
 }
 
-/// How many chunks the ready table has for the affinities of a geometry, of which there are `server_size`.
+/// How many chunks the ready table has for the affinities of a geometry, of which there are `affinity_count`.
 fn chunks_of(g: &Geometry) -> usize
     ensures few { result ≤ 4097 }
-    ensures all { server_size g.now ≤ 16 * result }
+    ensures all { affinity_count g.now ≤ 16 * result }
 {
     usize::from(Affinity::at(g, Place::Serial).end()) / CHUNK + 1
 }

@@ -1,8 +1,8 @@
-//! How the ready table follows waiting and held messages. It has an entry for each affinity (`server_size` is how many there are), by
+//! How the ready table follows waiting and held messages. It has an entry for each affinity (`affinity_count` is how many there are), by
 //! number: the affinity's first waiting message, if that is free of conflicts.
 ghost use Rattle.std.specs.Prelude.{◌≡◌, ◌≤◌, ◌==◌, ℕ, true, length};
 ghost use Rattle.std.specs.List.{list_any, AllByRecursion};
-ghost use Rattle.affinity.specs.Interval.{IsAffinity, contains, server_size};
+ghost use Rattle.affinity.specs.Interval.{IsAffinity, contains, affinity_count};
 ghost use Rattle.run_queue.specs.Order.{Ascend};
 ghost use Rattle.run_queue.specs.ReadyTable.{ready_at, IsEntryRight, StayRight, AreRelatedRight};
 
@@ -36,7 +36,7 @@ pub(crate) fn update_ready(
     waiting: &Queues,
     number: usize,
 )
-    requires numbers { server_size g.now ≤ length ready_table.old }
+    requires numbers { affinity_count g.now ≤ length ready_table.old }
     requires held_placed { AllByRecursion (λ t. IsAffinity g.now t.affinity) held.now.messages }
     requires waiting_placed { AllByRecursion (λ t. IsAffinity g.now t.affinity) waiting.now.messages }
     requires ascends { Ascend waiting.now.messages }
@@ -56,7 +56,7 @@ fn update_ready_below(
     waiting: &Queues,
     a: Affinity,
 )
-    requires numbers { server_size g.now ≤ length ready_table.old }
+    requires numbers { affinity_count g.now ≤ length ready_table.old }
     requires held_placed { AllByRecursion (λ t. IsAffinity g.now t.affinity) held.now.messages }
     requires waiting_placed { AllByRecursion (λ t. IsAffinity g.now t.affinity) waiting.now.messages }
     requires ascends { Ascend waiting.now.messages }
@@ -76,7 +76,7 @@ fn update_ready_each(
     waiting: &Queues,
     numbers: &[u16],
 )
-    requires numbers { server_size g.now ≤ length ready_table.old }
+    requires numbers { affinity_count g.now ≤ length ready_table.old }
     requires held_placed { AllByRecursion (λ t. IsAffinity g.now t.affinity) held.now.messages }
     requires waiting_placed { AllByRecursion (λ t. IsAffinity g.now t.affinity) waiting.now.messages }
     requires ascends { Ascend waiting.now.messages }
@@ -98,7 +98,7 @@ pub(crate) fn update_ready_related(
     a: Affinity,
 )
     requires placed { IsAffinity g.now a }
-    requires numbers { server_size g.now ≤ length ready_table.old }
+    requires numbers { affinity_count g.now ≤ length ready_table.old }
     requires held_placed { AllByRecursion (λ t. IsAffinity g.now t.affinity) held.now.messages }
     requires waiting_placed { AllByRecursion (λ t. IsAffinity g.now t.affinity) waiting.now.messages }
     requires ascends { Ascend waiting.now.messages }

@@ -9,7 +9,7 @@ ghost use Rattle.checkpoint.specs.declared.fault.OpenFault.TheVariants as faults
 ghost use Rattle.disk.specs.Moments.{moment_number};
 ghost use Rattle.image.specs.Pieces.{piece_count};
 ghost use Rattle.journal.specs.Costs.{longest_point, opening_cost};
-ghost use Rattle.journal.specs.Opening.{IsRefusedUnwritten, OpeningCrashImages};
+ghost use Rattle.journal.specs.Opening.{IsLeftByRefusal, OpeningCrashImages};
 ghost use Rattle.legal_runs.specs.Events.{answer, arrive, batch, flip_refusal, give_back, find_in_flight, point_refusal, touches_device};
 ghost use Rattle.legal_runs.specs.Laws.{IsSoundCoreState};
 ghost use Rattle.legal_runs.specs.CoreState.{Entry};
@@ -144,7 +144,7 @@ impl<D: Disk> Core<D> {
 
         // A refusal writes nothing, unless the device fails, or the fault is a bad record in the half after the named one, while
         // a cut was in progress: the cut is finished before these records are run.
-        ensures unwritten { IfErr result (λ e. D.keeps → IsRefusedUnwritten (D.medium d) e.fault (D.medium e.disk)) }
+        ensures unwritten { IfErr result (λ e. D.keeps → IsLeftByRefusal (D.medium d) e.fault (D.medium e.disk)) }
 
         // A device that recovers to a state is opened, and one whose bytes call for a refusal is refused with just that fault,
         // unless the device fails or `OutOfMemory` is reported.

@@ -8,7 +8,7 @@ use Rattle.atomic_table.specs.Table.{Step, step, Act, keeps, takes, gives, Valid
 use Rattle.atomic_table.proofs.Lists.{at_set, at_longer, at_snoc, set_else, set_again, exchanged}
 use Rattle.parcel.specs.Run.{JobView, IsJobRun}
 use Rattle.parcel.specs.declared.job.Done.{Done}
-use Rattle.workers.specs.Rule.{BenchTable, SlotState, LentJobs, lent_at, word_of, PlaceState, is_empty, is_offered, is_claimed, is_delivered, BenchRule}
+use Rattle.workers.specs.Rule.{BenchTable, SlotState, LentJobs, lent_at, word_index, PlaceState, is_empty, is_offered, is_claimed, is_delivered, BenchRule}
 use Rattle.workers.specs.Steps.{SeatState, TakesSlot, Offers, Claims, Delivers, Collects, OfPlace}
 use Rattle.workers.specs.Seats.{idle}
 use Rattle.workers.specs.declared.job_cell.CellContent.{CellContent}
@@ -72,7 +72,7 @@ dispatch_seat_moves {s} h id k {n} {r} {q} {o} {l} {slot} me near free slot_take
       dispatch_seat = id;
       untaken = q;
       lent = set l k o;
-      words = length-set s.words (k + 6) n ∙ (h.words ∙ ap word_of (sym (length-set s.homes k slot)));
+      words = length-set s.words (k + 6) n ∙ (h.words ∙ ap word_index (sym (length-set s.homes k slot)));
       lent_length = length-set l k o ∙ (lent_length ∙ sym (length-set s.homes k slot));
       dispatcher = set_at s.views id (Dispatcher r l) (Dispatcher q (set l k o)) me;
       no_other = λ seat p m at. ⊎_elim (λ t. t.0) (λ t. h.no_other seat p m t.1 ∙ sym d.0) (at_set s.views id seat (Dispatcher q (set l k o)) (Dispatcher p m) at);
@@ -112,7 +112,7 @@ worker_moves {s} h id {k} {n} {v} {w} {slot} me near workers free mine stands =
       dispatch_seat = h.dispatch_seat;
       untaken = h.untaken;
       lent = h.lent;
-      words = length-set s.words (k + 6) n ∙ (h.words ∙ ap word_of (sym (length-set s.homes k slot)));
+      words = length-set s.words (k + 6) n ∙ (h.words ∙ ap word_index (sym (length-set s.homes k slot)));
       lent_length = h.lent_length ∙ sym (length-set s.homes k slot);
       dispatcher = set_else s.views id h.dispatch_seat w not_dispatch_seat ∙ h.dispatcher;
       no_other = λ seat p m at. ⊎_elim (λ t. absurd (workers.1 p m t.1)) (λ t. h.no_other seat p m t.1) (at_set s.views id seat w (Dispatcher p m) at);
@@ -349,7 +349,7 @@ opens n ws long zeros =
       dispatch_seat = 0;
       untaken = n;
       lent = replicate n None;
-      words = long ∙ ap word_of (sym slots);
+      words = long ∙ ap word_index (sym slots);
       lent_length = length-replicate n None ∙ sym slots;
       dispatcher = refl;
       no_other = λ seat r l at. (only_one (Dispatcher n (replicate n None)) (Dispatcher r l) seat at).0;

@@ -28,9 +28,9 @@ lent_at lent k = slice_index_or lent k None
 
 -- Word 0 is the stop word; 1 and 2 are the event counts of offers and of deliveries; 3 and 4 count the workers that sleep and that spin;
 -- 5 is the count of deliveries at which the dispatcher slept last. The rule says nothing of these six. Behind them each place has its word:
--- `word_of k` is the position of that of place k, not its value.
-abbrev pub word_of : ℕ → ℕ
-word_of k = k + 6
+-- `word_index k` is the position of that of place k, not its value.
+abbrev pub word_index : ℕ → ℕ
+word_index k = k + 6
 
 -- The state of place k, by its word, by what is lent there and by where its slot is. While the bench is being opened, the dispatcher's
 -- seat takes the slots from the last place down: those of the places below `untaken` are still in the table. Once the bench is open,
@@ -48,13 +48,13 @@ pub record BenchRule (s : BenchTable) : Type 0 where
   pub dispatch_seat : ℕ
   pub untaken : ℕ
   pub lent : LentJobs
-  pub words : length s.words ≡ word_of (length s.homes)
+  pub words : length s.words ≡ word_index (length s.homes)
   pub lent_length : length lent ≡ length s.homes
   pub dispatcher : get_elem? s.views dispatch_seat ≡ some (Dispatcher untaken lent)
   pub no_other : (seat r : ℕ) (l : LentJobs) → get_elem? s.views seat ≡ some (Dispatcher r l) → seat ≡ dispatch_seat
   pub claims : (seat k : ℕ) (job : JobView) → get_elem? s.views seat ≡ some (Claimed k job)
-      → (slice_index s.words (word_of k) ≡ 2) × (lent_at lent k ≡ Some job)
+      → (slice_index s.words (word_index k) ≡ 2) × (lent_at lent k ≡ Some job)
   pub one_claim : (seat other k : ℕ) (job job' : JobView) → get_elem? s.views seat ≡ some (Claimed k job)
       → get_elem? s.views other ≡ some (Claimed k job') → seat ≡ other
   pub places : (k : ℕ) (slot : SlotState) → get_elem? s.homes k ≡ some slot
-      → PlaceState untaken k (slice_index s.words (word_of k)) (lent_at lent k) slot
+      → PlaceState untaken k (slice_index s.words (word_index k)) (lent_at lent k) slot

@@ -5,7 +5,7 @@ use Rattle.std.specs.Prelude.{◌≡◌, ◌≢◌, ℕ, List, ◌∷◌, slice_
 use Rattle.atomic_table.specs.Table.{Me, Step, rest}
 use Rattle.parcel.specs.Run.{JobView, IsJobRun}
 use Rattle.parcel.specs.declared.job.Done.{Done}
-use Rattle.workers.specs.Rule.{lent_at, word_of}
+use Rattle.workers.specs.Rule.{lent_at, word_index}
 use Rattle.workers.specs.Seats.{lent_of}
 use Rattle.workers.specs.declared.job_cell.CellContent.{CellContent}
 use Rattle.workers.specs.declared.job_cell.CellContent.TheVariants.{Offered, Delivered}
@@ -48,6 +48,6 @@ Collects k m found w =
     × (w ≡ (Dispatcher 0 (slice_set (lent_of m.0) k None), (k, Some (Delivered done)) ∷ m.1)))
     × (found ≢ 3 → w ≡ m)
 
--- The relation holds for the place whose word this step changes. `st.word` and `word_of k` are positions among the words, no values.
+-- The relation holds for the place whose word this step changes. `st.word` and `word_index k` are positions among the words, no values.
 abbrev pub OfPlace : {F : Type 0} → (ℕ → SeatState → ℕ → SeatState → Type 0) → Step F → SeatState → ℕ → SeatState → Type 0
-OfPlace relation st m found w = (k : ℕ) → st.word ≡ word_of k → relation k m found w
+OfPlace relation st m found w = (k : ℕ) → st.word ≡ word_index k → relation k m found w

@@ -97,7 +97,7 @@ pub(crate) fn volume_totals(volume: &Vol, g: &Geometry) -> Totals
 }
 
 // How much a volume holds: nothing where it is checked out.
-fn volume_of_tree(node: &Option<Vol>, g: &Geometry) -> Totals
+fn volume_in(node: &Option<Vol>, g: &Geometry) -> Totals
     requires { IfSome node.now (FitsVolume g.now) }
     ensures { result ≡ totals_of g.now (child_facts (volume_facts g.now) node.now) }
 {
@@ -114,7 +114,7 @@ fn aggregate_totals(aggregate: &Aggr, g: &Geometry) -> Totals
 {
     let mut totals = NOTHING;
     for v in 0..aggregate.volumes.len() {
-        totals = totals.plus(volume_of_tree(&aggregate.volumes[v], g));
+        totals = totals.plus(volume_in(&aggregate.volumes[v], g));
     }
     totals
 }

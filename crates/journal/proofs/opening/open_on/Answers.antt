@@ -2,7 +2,7 @@
 use Rattle.std.proofs.Common.{ℕ, List, sym, subst, arith}
 use Rattle.std.proofs.lemmas.Result.{err_from_is_err_and}
 use Rattle.checkpoint.specs.Header.{HasHeader}
-use Rattle.checkpoint.specs.Refusals.{IsWholeDevice}
+use Rattle.checkpoint.specs.Refusals.{HasHeaderAndParts}
 use Rattle.journal.specs.Parts.{IsMadeOf}
 use Rattle.journal.proofs.Costs.{opening_after}
 use Rattle.journal.proofs.Opened.{if_err, if_ok, never_synced, synced_then, unwritten_from, unwritten_then}
@@ -37,7 +37,7 @@ returns-clause-unwritten g c =
 
 pub returns-clause-memory : goal.returns-clause-memory
 returns-clause-memory g c =
-    if_err c.open_synced.result _ _ (λ e told is k. subst (λ (l : List ℕ). IsWholeDevice l) (c.first_sync.ensures.now k) (told is k)) c.open_synced.ensures.memory
+    if_err c.open_synced.result _ _ (λ e told is k. subst (λ (l : List ℕ). HasHeaderAndParts l) (c.first_sync.ensures.now k) (told is k)) c.open_synced.ensures.memory
 
 pub returns-in_err-first_sync-clause-beyond : goal.returns-in_err-first_sync-clause-beyond
 returns-in_err-first_sync-clause-beyond g c = λ k h head.

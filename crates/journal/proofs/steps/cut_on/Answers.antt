@@ -5,7 +5,7 @@ use Rattle.journal.proofs.Cutting.{begun_forced, begun_images, begun_none, begun
 use Rattle.journal.proofs.Pointing.{clear_moments}
 use Rattle.oplog.proofs.Beyond.{beyond, beyond_then}
 use Rattle.oplog.specs.Calls.{Chains, HasChained}
-use Rattle.oplog.specs.Changes.{IsSameButChain, IsSameButGates}
+use Rattle.oplog.specs.Changes.{IsSameButChain, IsSameButChainAndGates}
 use Rattle.device_map.specs.Layout.{layout_of, other}
 use Rattle.oplog.specs.Log.{Log}
 use Rattle.journal.proofs.steps.cut_on.Goals as goal
@@ -63,7 +63,7 @@ returns-in_err-clear_other-clause-beyond g c = λ k.
     let l = layout_of c.args.halves.now.geometry in
     let w0 = g.D.Disk.medium c.args.disk.now in
     let w1 = g.D.Disk.medium c.clear_other.new.disk in
-    let cleared = beyond l w0 w1 (IsSameButGates l (other c.args.halves.now.named)) (λ o d h. h.same.rest) (c.clear_other.ensures.any_moment k) in
+    let cleared = beyond l w0 w1 (IsSameButChainAndGates l (other c.args.halves.now.named)) (λ o d h. h.same.rest) (c.clear_other.ensures.any_moment k) in
     cleared
 
 pub returns-in_err-open_chain-clause-beyond : goal.returns-in_err-open_chain-clause-beyond
@@ -71,7 +71,7 @@ returns-in_err-open_chain-clause-beyond g c = λ k.
     let l = layout_of c.args.halves.now.geometry in
     let w0 = g.D.Disk.medium c.args.disk.now in
     let w1 = g.D.Disk.medium c.clear_other.new.disk in
-    let cleared = beyond l w0 w1 (IsSameButGates l (other c.args.halves.now.named)) (λ o d h. h.same.rest) (c.clear_other.ensures.any_moment k) in
+    let cleared = beyond l w0 w1 (IsSameButChainAndGates l (other c.args.halves.now.named)) (λ o d h. h.same.rest) (c.clear_other.ensures.any_moment k) in
     let w2 = g.D.Disk.medium c.open_chain.new.disk in
     let chains = subst (λ (log : Log). Chains log w1 w2) c.in_ok-clear_other.ensures.log (c.open_chain.ensures.any_moment k) in
     beyond_then l w0 w1 w2 cleared (beyond l w1 w2 (IsSameButChain l c.args.halves.now.named) (λ o d h. h.same.rest) chains)
@@ -81,7 +81,7 @@ returns-clause-beyond g c = λ k.
     let l = layout_of c.args.halves.now.geometry in
     let w0 = g.D.Disk.medium c.args.disk.now in
     let w1 = g.D.Disk.medium c.clear_other.new.disk in
-    let cleared = beyond l w0 w1 (IsSameButGates l (other c.args.halves.now.named)) (λ o d h. h.same.rest) (c.clear_other.ensures.any_moment k) in
+    let cleared = beyond l w0 w1 (IsSameButChainAndGates l (other c.args.halves.now.named)) (λ o d h. h.same.rest) (c.clear_other.ensures.any_moment k) in
     let w2 = g.D.Disk.medium c.open_chain.new.disk in
     let chains = subst (λ (log : Log). Chains log w1 w2) c.in_ok-clear_other.ensures.log (c.open_chain.ensures.any_moment k) in
     beyond_then l w0 w1 w2 cleared (beyond l w1 w2 (IsSameButChain l c.args.halves.now.named) (λ o d h. h.same.rest) chains)

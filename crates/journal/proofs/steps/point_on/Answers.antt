@@ -8,7 +8,7 @@ use Rattle.journal.proofs.Pointing.{clear_moments, flip_moments, image_moments, 
 use Rattle.oplog.proofs.Answered.{on_ok}
 use Rattle.oplog.proofs.Beyond.{beyond, beyond_then}
 use Rattle.oplog.specs.Calls.{Flips, HasFlipped}
-use Rattle.oplog.specs.Changes.{CrashesChangeOnly, IsSameBut, IsSameButGates, IsSameButRoot}
+use Rattle.oplog.specs.Changes.{CrashesChangeOnly, IsSameBut, IsSameButChainAndGates, IsSameButRoot}
 use Rattle.device_map.specs.Layout.{layout_of, image_part, other}
 use Rattle.oplog.specs.Log.{Log}
 use Rattle.journal.proofs.steps.point_on.Goals as goal
@@ -94,7 +94,7 @@ returns-in_err-clear_other-clause-beyond g c = λ k.
     let l = layout_of c.args.halves.now.geometry in
     let w0 = g.D.Disk.medium c.args.disk.now in
     let w1 = g.D.Disk.medium c.clear_other.new.disk in
-    let cleared = beyond l w0 w1 (IsSameButGates l (other c.args.halves.now.named)) (λ o d h. h.same.rest) (c.clear_other.ensures.any_moment k) in
+    let cleared = beyond l w0 w1 (IsSameButChainAndGates l (other c.args.halves.now.named)) (λ o d h. h.same.rest) (c.clear_other.ensures.any_moment k) in
     cleared
 
 pub returns-then-is_err-clause-beyond : goal.returns-then-is_err-clause-beyond
@@ -102,7 +102,7 @@ returns-then-is_err-clause-beyond g c = λ k.
     let l = layout_of c.args.halves.now.geometry in
     let w0 = g.D.Disk.medium c.args.disk.now in
     let w1 = g.D.Disk.medium c.clear_other.new.disk in
-    let cleared = beyond l w0 w1 (IsSameButGates l (other c.args.halves.now.named)) (λ o d h. h.same.rest) (c.clear_other.ensures.any_moment k) in
+    let cleared = beyond l w0 w1 (IsSameButChainAndGates l (other c.args.halves.now.named)) (λ o d h. h.same.rest) (c.clear_other.ensures.any_moment k) in
     let w2 = g.D.Disk.medium c.write_image.new.disk in
     let writes = along (λ (x : Geometry) (n : ℕ). CrashesChangeOnly w1 w2 (IsSameBut (layout_of x) (image_part (other n)))) c.geometry-g.ensures c.named-area.ensures.named
     (c.write_image.ensures.any_moment k) in
@@ -114,7 +114,7 @@ returns-in_err-flip_root-clause-beyond g c = λ k.
     let l = layout_of c.args.halves.now.geometry in
     let w0 = g.D.Disk.medium c.args.disk.now in
     let w1 = g.D.Disk.medium c.clear_other.new.disk in
-    let cleared = beyond l w0 w1 (IsSameButGates l (other c.args.halves.now.named)) (λ o d h. h.same.rest) (c.clear_other.ensures.any_moment k) in
+    let cleared = beyond l w0 w1 (IsSameButChainAndGates l (other c.args.halves.now.named)) (λ o d h. h.same.rest) (c.clear_other.ensures.any_moment k) in
     let w2 = g.D.Disk.medium c.write_image.new.disk in
     let writes = along (λ (x : Geometry) (n : ℕ). CrashesChangeOnly w1 w2 (IsSameBut (layout_of x) (image_part (other n)))) c.geometry-g.ensures c.named-area.ensures.named
     (c.write_image.ensures.any_moment k) in
@@ -128,7 +128,7 @@ returns-clause-beyond g c = λ k.
     let l = layout_of c.args.halves.now.geometry in
     let w0 = g.D.Disk.medium c.args.disk.now in
     let w1 = g.D.Disk.medium c.clear_other.new.disk in
-    let cleared = beyond l w0 w1 (IsSameButGates l (other c.args.halves.now.named)) (λ o d h. h.same.rest) (c.clear_other.ensures.any_moment k) in
+    let cleared = beyond l w0 w1 (IsSameButChainAndGates l (other c.args.halves.now.named)) (λ o d h. h.same.rest) (c.clear_other.ensures.any_moment k) in
     let w2 = g.D.Disk.medium c.write_image.new.disk in
     let writes = along (λ (x : Geometry) (n : ℕ). CrashesChangeOnly w1 w2 (IsSameBut (layout_of x) (image_part (other n)))) c.geometry-g.ensures c.named-area.ensures.named
     (c.write_image.ensures.any_moment k) in

@@ -8,7 +8,7 @@ use Rattle.image.specs.Image.{image_of}
 use Rattle.image.specs.Pieces.{piece_count}
 use Rattle.journal.specs.Journal.{JournalView, records, records_in, committed}
 use Rattle.journal.specs.Images.{KeepsImages}
-use Rattle.journal.specs.Keeping.{IsCutState, journal_view_of}
+use Rattle.journal.specs.Keeping.{FitsCutState, journal_view_of}
 use Rattle.journal.specs.DirtyPieces.{all_clean, count_dirty, cut_dirty}
 use Rattle.journal.specs.Steps.{cut_log}
 use Rattle.journal.proofs.Logging.{recoverable_of, sound_along}
@@ -120,7 +120,7 @@ invariant_of-self-2 g c =
           ∙ ap (λ v. length v.items) c.swap.ensures.y_after ∙ c.self.invariant.5 ∙ sym (ap piece_count same),
       ap (λ v. length v.items) c.swap.ensures.x_after ∙ c.self.invariant.4 ∙ sym (ap piece_count same),
       (λ fine.
-          let placed = subst (λ (o : Option ℕ). IsCutState c.self.inside.halves c.self.inside.pending.items o) no_cut (c.self.invariant.6 fine).1 in (
+          let placed = subst (λ (o : Option ℕ). FitsCutState c.self.inside.halves c.self.inside.pending.items o) no_cut (c.self.invariant.6 fine).1 in (
             ap (λ (l : Log). l.failed) log ∙ (c.self.invariant.6 fine).0,
             (ap (λ (l : Log). l.current) log ∙ sym (ap (λ (l : Log). other l.named) log), sym (c.count_dirty.ensures ∙ ap count_dirty c.deref-2.ensures.value)),
           )),

@@ -5,7 +5,7 @@ use Rattle.checkpoint.specs.Recovery.{recovered_state}
 use Rattle.disk.specs.Moments.{CrashImagesAre}
 use Rattle.journal.specs.Journal.{JournalView, records, records_in, committed}
 use Rattle.journal.specs.Images.{KeepsImages}
-use Rattle.journal.specs.Keeping.{IsCutState}
+use Rattle.journal.specs.Keeping.{FitsCutState}
 use Rattle.journal.specs.Steps.{IsCutWritten}
 use Rattle.checkpoint.specs.Version.{named_version}
 use Rattle.journal.proofs.Flipping.{flip_asks, flip_sound, flip_version}
@@ -86,7 +86,7 @@ invariant_of-self-2 g c =
       ap (λ v. length v.items) c.swap.ensures.y_after ∙ c.self.invariant.3 ∙ sym (ap piece_count c.flip_on.ensures.geometry),
       c.self.invariant.5 ∙ sym (ap piece_count c.flip_on.ensures.geometry),
       (λ fine.
-          let placed = subst (λ (l : Option ℕ). IsCutState c.self.inside.halves c.self.inside.pending.items l) none (c.self.invariant.6 fine).1 in
+          let placed = subst (λ (l : Option ℕ). FitsCutState c.self.inside.halves c.self.inside.pending.items l) none (c.self.invariant.6 fine).1 in
           (ap (λ (l : Log). l.failed) log ∙ (c.self.invariant.6 fine).0, ap (λ (l : Log). l.current) log ∙ placed.0 ∙ sym (ap (λ (l : Log). l.named) log))),
       (λ fine k.
           let sound = c.self.invariant.7 fine k in

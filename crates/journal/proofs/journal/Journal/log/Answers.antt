@@ -5,7 +5,7 @@ use Rattle.checkpoint.specs.Recovery.{recovered_state}
 use Rattle.disk.specs.Moments.{CrashImagesAre}
 use Rattle.image.specs.Pieces.{piece_count}
 use Rattle.journal.specs.Journal.{AreCarriedOut, JournalView, RecoversWithPrefix, records, records_in, committed}
-use Rattle.journal.specs.Keeping.{IsCutState, journal_view_of}
+use Rattle.journal.specs.Keeping.{FitsCutState, journal_view_of}
 use Rattle.journal.specs.DirtyPieces.{AreBothTouched}
 use Rattle.journal.proofs.Logging.{log_kept, log_moments, log_records, log_told, placed_used, recoverable_of, sound_along, touched_along}
 use Rattle.journal.proofs.Rows.{same_dirty, whole_items, whole_put}
@@ -118,7 +118,7 @@ invariant_of-self-2 g c =
       c.self.invariant.5 ∙ sym (ap piece_count geometry),
       (λ fine. (
         ap (λ (l : Log). l.failed) log ∙ (c.self.invariant.6 fine).0,
-        subst (λ (l : Log). IsCutState l c.self.inside.pending.items c.self.inside.pieces_left) (sym log)
+        subst (λ (l : Log). FitsCutState l c.self.inside.pending.items c.self.inside.pieces_left) (sym log)
             (placed_used c.self.inside.halves (c.self.inside.halves.used + length c.args.messages.now) c.self.inside.pending.items c.self.inside.pieces_left
             (c.self.invariant.6 fine).1),
       )),

@@ -8,7 +8,7 @@ use Rattle.disk.proofs.Moments.{started}
 use Rattle.disk.specs.Moments.{CrashImagesAre}
 use Rattle.journal.specs.Journal.{JournalView, IsRecoverable, records, committed}
 use Rattle.journal.specs.Images.{PatchesUnnamed}
-use Rattle.journal.specs.Keeping.{AreCleanBefore, IsCutState}
+use Rattle.journal.specs.Keeping.{AreCleanBefore, FitsCutState}
 use Rattle.journal.specs.DirtyPieces.{count_dirty}
 use Rattle.journal.proofs.Logging.{recoverable_of}
 use Rattle.journal.proofs.Rows.{clear_set}
@@ -160,7 +160,7 @@ invariant_of-self-2 g c =
       length-set c.self.inside.pending.items c.in-Some.n false ∙ c.self.invariant.5,
       (λ fine.
           let pieces_left = some_left c.self.inside.pieces_left (ap (λ (h : JournalView). is_some h.pieces_left) c.self.view_is ∙ c.requires.running) in
-          let placed = subst (λ (l : Option ℕ). IsCutState c.self.inside.halves c.self.inside.pending.items l) pieces_left.1 (c.self.invariant.6 fine).1 in (
+          let placed = subst (λ (l : Option ℕ). FitsCutState c.self.inside.halves c.self.inside.pending.items l) pieces_left.1 (c.self.invariant.6 fine).1 in (
             (c.self.invariant.6 fine).0,
             (
               placed.0,

@@ -8,7 +8,7 @@ use Rattle.image.specs.Image.{image_of, read}
 use Rattle.image.specs.Pieces.{piece_count}
 use Rattle.journal.specs.Costs.{point_cost}
 use Rattle.journal.specs.Journal.{JournalView, committed}
-use Rattle.journal.specs.Keeping.{IsCutState}
+use Rattle.journal.specs.Keeping.{FitsCutState}
 use Rattle.journal.specs.Steps.{IsPointed}
 use Rattle.journal.specs.Extents.{AgreeOnClean, image_in}
 use Rattle.journal.proofs.Costs.{few_runs}
@@ -167,7 +167,7 @@ invariant_of-self-2 g c =
       c.self.invariant.5 ∙ sym (ap piece_count same),
       (λ fine. (
         ap (λ (l : Log). l.failed) log ∙ (c.self.invariant.6 fine).0,
-        subst (λ (o : Option ℕ). IsCutState c.point_on.new.halves c.self.inside.pending.items o) (sym no_cut) (ap (λ (l : Log). l.current) log ∙ sym (ap (λ (l : Log). l.named) log)),
+        subst (λ (o : Option ℕ). FitsCutState c.point_on.new.halves c.self.inside.pending.items o) (sym no_cut) (ap (λ (l : Log). l.current) log ∙ sym (ap (λ (l : Log). l.named) log)),
       )),
       (λ fine k.
           let w0 = g.D.Disk.medium c.self.inside.disk in

@@ -1,7 +1,7 @@
 -- No entry is set at any number, so each rank, and the least of each chunk, is the greatest `u64`.
 use Rattle.std.proofs.Common.{◌≡◌, ◌∙◌, ◌+◌, ◌/◌, ℕ, zero, suc, ◌∷◌, List, refl, ap, sym, subst, arith, length, map, replicate, Option, None}
 use Rattle.std.proofs.lemmas.List.{length-replicate}
-use Rattle.run_queue.specs.ReadyTable.{AreLeast, rank_of}
+use Rattle.run_queue.specs.ReadyTable.{AreLowerBounds, rank_of}
 use Rattle.run_queue.specs.declared.queued_message.QueuedMessage.{QueuedMessage}
 use Rattle.run_queue.proofs.Chunks.{none-least}
 use Rattle.run_queue.proofs.ready_table.ReadyTable.new.Goals as goal
@@ -23,8 +23,8 @@ invariant_of-result c =
     let least : c.in_ok-least.least.items ≡ replicate (c.args.numbers / 16 + 1) 18446744073709551615
     = c.in_ok-least.ensures.items_if_clones_equal (λ y same. same) in (
       c.in_ok-ranks.ensures.items_if_clones_equal (λ y same. same) ∙ no_ranks c.args.numbers ∙ ap (λ (ready_table : List (Option QueuedMessage)). map rank_of ready_table) (sym none),
-      subst (λ (ready_table : List (Option QueuedMessage)). AreLeast ready_table c.in_ok-least.least.items) (sym none)
-          (subst (λ (ls : List ℕ). AreLeast (replicate c.args.numbers None) ls) (sym least) (none-least c.args.numbers (c.args.numbers / 16 + 1))),
+      subst (λ (ready_table : List (Option QueuedMessage)). AreLowerBounds ready_table c.in_ok-least.least.items) (sym none)
+          (subst (λ (ls : List ℕ). AreLowerBounds (replicate c.args.numbers None) ls) (sym least) (none-least c.args.numbers (c.args.numbers / 16 + 1))),
       omega (arith, many, c.requires),
       ap (λ (ls : List ℕ). length ls) least ∙ length-replicate (c.args.numbers / 16 + 1) 18446744073709551615 ∙ ap (λ n. n / 16 + 1) (sym many),
     )
