@@ -2,6 +2,9 @@
 //!
 //! Offsets in the small device: header 0 (its first byte is the format byte), root zone 64; half 0: chain byte 128, gates
 //! 192, records (520 bytes each) 196; half 1: the same at 2276, 2340, 2344; image 0: 4424, its version first; image 1: 6632.
+//!
+//! `SMALL` is the geometry of that device: one volume of two files of four blocks, in two stripes that hold two blocks each, and four
+//! records in a half. `KINDS` is how many kinds of crash there are. `holds` asserts.
 ghost use Rattle.std.specs.Prelude.{◌<◌};
 
 use crate::common::{SMALL, holds};
@@ -153,18 +156,18 @@ fn left(
     })
 }
 
-/// These are the bytes of the new device; or, if `format` has failed, those of the old one, or some whose format byte isn't
-/// 1.
+/// Asserts that these are the bytes of the new device; or, unless `format` succeeded (`made`), those of the old one, or some whose format
+/// byte isn't 1.
 fn is_one_of(rt: &impl Abort, bytes: &[u8], old: &[u8], new: &[u8], made: bool) {
-    let shut = match bytes.first() {
-        Some(gate) => *gate != 1,
+    let unformatted = match bytes.first() {
+        Some(format_byte) => *format_byte != 1,
         None => false,
     };
-    holds(rt, bytes == new || !made && (bytes == old || shut));
+    holds(rt, bytes == new || !made && (bytes == old || unformatted));
 }
 
-/// Where the n-th call fails, `format` reports that exactly if it makes so many calls, and after each kind of crash the
-/// device is one of those of `is_one_of`.
+/// Asserts that where the n-th call fails, `format` reports that exactly if it makes so many calls, and after each kind of crash the device
+/// is one of those of `is_one_of`.
 fn may_fail(
     rt: &impl Abort,
     alloc: Global,
@@ -193,6 +196,7 @@ fn may_fail(
 #[test]
 fn each_call_may_fail(rt: HostRuntime) -> Result<(), Fail> {
     for &(which, calls) in &CALLS {
+        // Call 14 is never made: there are 13 at most.
         for n in 1..15 {
             may_fail(&rt, rt.alloc(), which, true, n, calls)?;
             may_fail(&rt, rt.alloc(), which, false, n, calls)?;

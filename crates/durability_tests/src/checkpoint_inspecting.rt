@@ -2,6 +2,9 @@
 //!
 //! Offsets in the small device: root byte 64; half 0: chain byte 128, gates 192, records (520 bytes each, the kind first)
 //! 196; half 1: gates 2340, records 2344; image 0: version 4424, the volume's piece 4488 and in it the label 4504.
+//!
+//! That device has `LEN` bytes and the geometry `SMALL`: one volume of two files of four blocks, in two stripes, and four records in a
+//! half. `put` sets a byte. `holds` asserts.
 use crate::checkpoint_formatting::{LEN, new_bytes, put};
 use crate::common::{SMALL, holds};
 use affinity::Geometry;
@@ -18,6 +21,7 @@ const CALLS: u64 = 8;
 
 /// The formatted device with other bytes at some places.
 fn device(alloc: Global, patches: &[(usize, u8)]) -> Result<MemDisk, AllocError> {
+    // 0: a device of zeros was formatted.
     let mut bytes = new_bytes(alloc, LEN, 0)?;
     for (at, byte) in patches {
         put(&mut bytes, *at, *byte);
@@ -41,7 +45,7 @@ fn shown(records: usize, volumes: u32, files: u32, version: u8) -> Result<Shown,
     })
 }
 
-/// The device is reported as empty, by `CALLS` calls of it.
+/// Asserts that the device is reported as empty, by `CALLS` calls of it.
 fn expect_empty(rt: &impl Abort, alloc: Global, disk: MemDisk) -> Result<(), Fail> {
     let calls = disk.calls();
     let want = shown(0, 0, 0, 2)?;

@@ -7,10 +7,12 @@ use std::process::Abort;
 /// file lie in different stripes. In order: aggregates, volumes, stripes, width, files, blocks, quota, records in a half.
 pub(crate) const SMALL: [u16; 8] = [1, 1, 2, 1, 2, 4, 2, 4];
 
+/// Asserts this.
 pub(crate) fn holds(rt: &impl Abort, fact: bool) {
     assert!(rt; fact);
 }
 
+/// Asserts that this number is that one.
 pub(crate) fn equals(rt: &impl Abort, got: u64, want: u64) {
     assert_eq!(rt; got, want);
 }

@@ -9,7 +9,8 @@ use std::process::Abort;
 use std::test::Fail;
 
 /// What is done, and then the writes, the syncs and the bytes that it takes. A record has 520 bytes and a gate of one. A half has four
-/// gates after 64 bytes, and an image 2,208 bytes: a head of 64, a volume's piece of 64 and two stripes' of 1,040.
+/// gates after 64 bytes, which a checkpoint clears (68), as it writes the root byte (1). An image has 2,208 bytes: a head of 64, a volume's
+/// piece of 64 and two stripes' of 1,040. `End` writes the pieces that are left of a cut, and ends it.
 const ACTS: [(Act, [u64; 3]); 18] = [
     (Act::Log(&[]), [0, 0, 0]),
     (Act::Log(&["makevol 0 0"]), [2, 2, 521]),
@@ -43,7 +44,7 @@ const ACTS: [(Act, [u64; 3]); 18] = [
     (Act::End, [1, 2, 1]),
 ];
 
-/// There are `reads` more reads, and `more` writes, syncs and bytes.
+/// Asserts that there are `reads` more reads, and `more` writes, syncs and bytes.
 fn are_more(rt: &impl Abort, before: &Counts, after: &Counts, reads: u64, more: [u64; 3]) {
     let [writes, syncs, written] = more;
     equals(rt, after.reads, before.reads.saturating_add(reads));
@@ -52,7 +53,7 @@ fn are_more(rt: &impl Abort, before: &Counts, after: &Counts, reads: u64, more: 
     equals(rt, after.written, before.written.saturating_add(written));
 }
 
-/// An act takes this many more writes, syncs and bytes.
+/// Asserts that an act takes this many more writes, syncs and bytes.
 fn takes(
     rt: &impl Abort,
     alloc: Global,
@@ -80,7 +81,8 @@ fn each_act_takes_few_calls(rt: HostRuntime) -> Result<(), Fail> {
     Ok(())
 }
 
-/// What opening a device with these patches takes: reads, then writes, syncs and bytes.
+/// Asserts what opening a device with these patches takes: reads, then writes, syncs and bytes. `Wrong::Unfit`, here and below: it didn't
+/// go as it was written.
 fn opening_cost(
     rt: &impl Abort,
     alloc: Global,
@@ -142,7 +144,7 @@ fn logged_until(alloc: Global, messages: &[Msg], n: u64) -> Result<(bool, MemDis
         return Err(Wrong::Unfit);
     };
     let logged = server.log(messages);
-    // The server took the call, and it failed exactly if the journal has failed.
+    // The server took the call (else it gives `Halt::Unfit`), and it failed exactly if the journal has failed.
     let is_reported = logged != Err(Halt::Unfit) && logged.is_err() == server.failed();
     let (device, _) = server.into_device();
     if is_reported {
@@ -152,8 +154,8 @@ fn logged_until(alloc: Global, messages: &[Msg], n: u64) -> Result<(bool, MemDis
     }
 }
 
-/// Where the device stops at the n-th device call of one `log` of `count` messages, `records` of them are in force after a crash of
-/// this kind.
+/// Asserts that where the device stops at the n-th device call of one `log` of `count` messages, `records` of them are in force after a
+/// crash of this kind.
 fn leaves(
     rt: &impl Abort,
     alloc: Global,
@@ -178,7 +180,7 @@ fn leaves(
 }
 
 /// The number of the device call at which the device stopped, and how many of 70 messages are in force then: after a crash that leaves the
-/// old bytes, and after one that leaves the new ones. The seventh call writes the gates of the second batch.
+/// synced bytes (`OLD`), and after one that leaves the last ones written (`NEW`). The seventh call writes the gates of the second batch.
 const LEFT: [(u64, usize, usize); 8] = [
     (1, 0, 0),
     (2, 0, 0),

@@ -1,4 +1,7 @@
 //! Worked examples of logs, points and cuts.
+//!
+//! Geometries: `SMALL` has one volume of two files of four blocks, in two stripes; `FLAT`, one file of four blocks, each in a stripe of its
+//! own. `End` writes the pieces that are left of a cut, and ends it. `Wrong::Unfit`: a test doesn't go as it was written. `holds` asserts.
 use crate::common::{SMALL, holds};
 use crate::journal_trials::{FLAT, act_all, left_by_acts};
 use affinity::Geometry;
@@ -19,7 +22,8 @@ fn left_by(alloc: Global, numbers: [u16; 8], acts: &[Act]) -> Result<MemDisk, Wr
     Ok(device.crash(torn(alloc, OLD)?))
 }
 
-/// What is reported of a device: the named area, how many records are in force, and how many volumes, files and blocks there are.
+/// Asserts that this is reported of a device: the named area, how many records are in force, and how many volumes, files and blocks there
+/// are.
 fn is_shown(rt: &impl Abort, shown: &Shown, area: usize, records: usize, summary: [u32; 3]) {
     let [volumes, files, blocks] = summary;
     holds(rt, shown.area == area && shown.records == records);
@@ -31,7 +35,7 @@ fn is_shown(rt: &impl Abort, shown: &Shown, area: usize, records: usize, summary
     holds(rt, shown.summary == summary);
 }
 
-/// The device holds what these lines lead to. Gives the device as its opening leaves it.
+/// Asserts that the device holds what these lines lead to. Gives the device as its opening leaves it.
 fn is_found(
     rt: &impl Abort,
     alloc: Global,
@@ -74,8 +78,8 @@ const ENDED: [Act; 4] = [
     Act::End,
 ];
 
-/// After these acts and a crash `inspect` reports this area and this many records, one volume and one file. Once the device is opened, both
-/// are there, area `opened` is named, and no record is in force.
+/// Asserts that after these acts and a crash `inspect` reports this area and this many records, one volume and one file, and that once the
+/// device is opened, both are there, area `opened` is named, and no record is in force.
 fn behind_a_cut(
     rt: &impl Abort,
     alloc: Global,
@@ -134,8 +138,8 @@ fn left_unlogged(alloc: Global, device: MemDisk) -> Result<MemDisk, Wrong> {
     }
 }
 
-/// What three writes to a file leave where the device stopped at the write of their gates, which were torn: they are open,
-/// shut and open.
+/// What three writes to a file leave where the device stopped at the write of their gates, which were torn: `MIXED` leaves 1, 77, 1 there,
+/// so they are open, shut and open.
 fn torn_writes(alloc: Global) -> Result<MemDisk, Wrong> {
     let mut device = device_with(alloc, FLAT, &[])?;
     device.stop_at(calls_of_file(alloc)?.saturating_add(3));

@@ -6,8 +6,8 @@ use std::alloc::Global;
 use std::process::Abort;
 use std::test::Fail;
 
-/// Whichever call of the device fails, the changes that were answered are found after it, and of those being logged a
-/// prefix. With no fault the opening and the script make `calls` calls of the device.
+/// Asserts: whichever call of the device fails, the changes that were answered (logged without a fault) are found after it, and of those
+/// being logged a prefix. With no fault the opening and the script make `calls` calls of the device: `sweep` gives how many.
 fn survives(rt: &impl Abort, alloc: Global, script: &Script, calls: u64) -> Result<(), Wrong> {
     let play = Play::new(alloc, script)?;
     equals(rt, sweep(alloc, &play)?, calls);
@@ -33,7 +33,7 @@ const PIECE: u64 = 1;
 /// The flip that ends a cut is a sync, a write and a sync.
 const FLIP: u64 = 3;
 
-/// Batches and points (the whole image in one call).
+/// Batches and points (the whole image in one call). `SMALL` has one volume of two files of four blocks, in two stripes.
 const POINTS: Script = Script {
     numbers: SMALL,
     patches: &[],
@@ -53,8 +53,9 @@ fn points_survive(rt: HostRuntime) -> Result<(), Fail> {
     Ok(survives(&rt, rt.alloc(), &POINTS, calls)?)
 }
 
-/// Cuts, and batches logged while the first is in progress. Each cut writes all three pieces, the volume's and both
-/// stripes': the first one as nothing is known of its area, the second one as `delete` has made all of them dirty.
+/// Cuts, and batches logged while the first is in progress; `End` writes the pieces that are left, and flips. Each cut writes all three
+/// pieces, the volume's and both stripes': the first one as nothing is known of its area, the second one as `delete` has made all of them
+/// dirty.
 const CUTS: Script = Script {
     numbers: SMALL,
     patches: &[],

@@ -4,6 +4,9 @@
 //! 128, gates 192, records (of 520 bytes) 196; half 1: the same at 2276, 2340, 2344; image 0: version 4424, the volume's piece 4488 (files
 //! +8, label +16), the stripes' pieces 4552 and 5592; image 1: 6632; end 8840. A new device has no image 1. Version 1 of an image has no
 //! labels.
+//!
+//! `SMALL` is the geometry of that device. `Wrong::Unfit`: a test doesn't go as it was written. `KINDS` is how many kinds of crash there
+//! are, of which `torn` gives one by its number. `holds` asserts.
 use crate::common::{SMALL, holds};
 use crate::journal_trials::left_by_acts;
 use affinity::Geometry;
@@ -47,7 +50,7 @@ const REFUSED: [(&[(usize, u8)], OpenFault); 21] = [
     (&[(128, 1), (2276, 1), (192, 1)], OpenFault::BadChain),
 ];
 
-/// `open` refuses this device with this fault, `inspect` does so too, and the bytes stay as they were.
+/// Asserts that `open` refuses this device with this fault, that `inspect` does so too, and that the bytes stay as they were.
 fn is_refused(
     rt: &impl Abort,
     alloc: Global,
@@ -174,8 +177,8 @@ fn opened(
     Ok((answers?, device))
 }
 
-/// A formatted device with these patches is opened. It answers as a server after these lines; this area is named then, with an image of
-/// version 2, and no record is in force.
+/// Asserts that a formatted device with these patches is opened. It answers as a server after these lines; this area is named then, with an
+/// image of version 2, and no record is in force.
 fn is_opened(
     rt: &impl Abort,
     alloc: Global,
@@ -255,8 +258,9 @@ impl Trial for Refusal {
     }
 }
 
-/// Whichever call of an opening fails, the next one refuses the device again. A refusal with no fault leaves area 1 named, with the state
-/// at the cut in its image: `volume` is two bytes of the volume's piece there, the made byte and the first one of the bitmap of files.
+/// Asserts: whichever call of an opening fails (`sweep` tries each), the next one refuses the device again. A refusal with no fault leaves
+/// area 1 named, with the state at the cut in its image: `volume` is two bytes of the volume's piece there, the made byte and the first one
+/// of the bitmap of files.
 fn stays_refused(
     rt: &impl Abort,
     alloc: Global,
@@ -321,7 +325,7 @@ fn a_device_is_opened_at_the_next_try(rt: HostRuntime) -> Result<(), Fail> {
 /// How many bytes a longer device has behind its parts.
 const BEHIND: usize = 600;
 
-/// What is done on a longer device: each kind of call of a journal.
+/// What is done on a longer device: each kind of call of a journal; `End` writes the pieces that are left of a cut, and ends it.
 const ALL_CALLS: [Act; 7] = [
     Act::Log(&["makevol 0 0"]),
     Act::Point,

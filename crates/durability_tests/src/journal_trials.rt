@@ -12,7 +12,7 @@ use std::alloc::Global;
 /// width, files, blocks, quota, records in a half.
 pub(crate) const FLAT: [u16; 8] = [1, 1, 4, 1, 1, 4, 1, 8];
 
-/// Does these things to a server, all of which go well.
+/// Does these things to a server, all of which go well. `Wrong::Unfit`, here and below: it didn't go as it was written.
 pub(crate) fn act_all(
     alloc: Global,
     server: &mut Server<MemDisk>,
@@ -42,6 +42,7 @@ pub(crate) fn left_by_acts(alloc: Global, device: MemDisk, acts: &[Act]) -> Resu
 /// A device, what leads to the state to which it recovers, and what is done to a server on it.
 #[derive(Drop)]
 pub(crate) struct Script {
+    /// The geometry, in the order of `FLAT`.
     pub(crate) numbers: [u16; 8],
 
     /// The bytes that differ from those of a newly formatted device: offset and value.
@@ -83,7 +84,8 @@ impl Play<'_> {
     }
 }
 
-/// How far a script came, and whether no call of the device failed.
+/// How far a script came, and whether no call of the device failed. Those changes count as `answered` that were logged without a fault, and
+/// as `attempted` these and the ones of the batch that failed.
 fn progress_of(answered: usize, attempted: usize, is_faultless: bool) -> Progress {
     Progress {
         answered,

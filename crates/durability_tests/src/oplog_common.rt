@@ -109,7 +109,7 @@ pub(crate) const UNFIT: LogFault = LogFault::BadRecord(9, 9);
 pub(crate) struct Server {
     pub(crate) disk: MemDisk,
     pub(crate) log: Halves,
-    ghost whole: { IsLongEnough log (medium_of disk) },
+    ghost long_enough: { IsLongEnough log (medium_of disk) },
 }
 
 impl Server {
@@ -149,10 +149,11 @@ impl Server {
 
     /// Makes the other half current in this way and appends these messages. Returns whether all of that succeeded.
     pub(crate) fn takes(&mut self, way: Way, messages: &[Msg]) -> bool {
-        matches!(self.changes(way, messages), Ok(true))
+        matches!(self.try_take(way, messages), Ok(true))
     }
 
-    fn changes(&mut self, way: Way, messages: &[Msg]) -> Result<bool, LogFault> {
+    /// As `takes`. `UNFIT` where the log isn't fit for it.
+    fn try_take(&mut self, way: Way, messages: &[Msg]) -> Result<bool, LogFault> {
         if self.log.failed() || self.log.current() != self.log.named() {
             return Err(UNFIT);
         }
@@ -209,6 +210,7 @@ impl Server {
         Ok(count)
     }
 
+    /// Reads a record, by its half and its number there.
     pub(crate) fn record(&mut self, half: usize, i: usize) -> Result<Msg, LogFault> {
         if self.log.failed() || half >= 2 || i >= usize::from(self.log.geometry().half) {
             return Err(UNFIT);
@@ -217,6 +219,7 @@ impl Server {
         Ok(message)
     }
 
+    /// Makes this call of the log, unless the log isn't fit for it (`UNFIT`).
     pub(crate) fn does(&mut self, step: Step) -> Result<(), LogFault> {
         match step {
             Step::Clear => self.clears(),
@@ -258,18 +261,22 @@ impl Server {
     }
 }
 
+/// Asserts that a call answered so.
 pub(crate) fn answers(rt: &impl Abort, got: Result<(), LogFault>, want: Result<(), LogFault>) {
     assert_eq!(rt; got, want);
 }
 
+/// Asserts what came of reading a record.
 pub(crate) fn reads(rt: &impl Abort, got: Result<Msg, LogFault>, want: Result<Msg, LogFault>) {
     assert_eq!(rt; got, want);
 }
 
+/// Asserts how many records were counted in a front.
 pub(crate) fn finds(rt: &impl Abort, got: Result<usize, LogFault>, want: usize) {
     assert_eq!(rt; got, Ok(want));
 }
 
+/// Asserts that these messages are those.
 pub(crate) fn same_messages(rt: &impl Abort, got: &[Msg], want: &[Msg]) {
     assert_eq!(rt; got, want);
 }

@@ -1,4 +1,7 @@
 //! Devices that fail or stop at each call, and crashes of every kind.
+//!
+//! `KINDS` is how many kinds of crash there are. A server takes messages into its other half, which is cleared, and then named
+//! (`Way::Named`) or chained to the named one (`Way::Chained`). `holds` and `same_messages` assert.
 use crate::common::holds;
 use crate::oplog_common::{Server, Way, same_messages};
 use harness::{KINDS, MIXED};
@@ -48,7 +51,7 @@ fn left_at(alloc: Global, way: Way, n: u64, stops: bool, kind: usize) -> Result<
     recovered(alloc, way, server.crashed(alloc, kind)?, went_well)
 }
 
-/// The messages that were read, after a fault at the n-th call and a crash of this kind, are a prefix of `MESSAGES`.
+/// Asserts that the messages that were read, after a fault at the n-th call and a crash of this kind, are a prefix of `MESSAGES`.
 fn is_beginning(rt: &impl Abort, read: &[Msg], n: u64, kind: usize) {
     let count = read.len();
     holds(rt, count <= MESSAGES.len());

@@ -1,6 +1,9 @@
 //! Worked examples on a device of 8,840 bytes.
 //!
 //! Offsets there: root byte 64; half 0: chain byte 128, gates 192, records (520 bytes each) 196; half 1: the same at 2276, 2340, 2344.
+//!
+//! `equals`, `holds`, `answers` (of a call), `finds` (how many records a front has) and `reads` (of a record) are assertions. The 4 of
+//! `Server::new` is the number of records in a half; `takes(Way::Named, ..)` clears the other half, names it and appends there.
 use crate::common::{equals, holds};
 use crate::oplog_common::{Server, Step, Way, answers, finds, reads};
 use affinity::Geometry;
@@ -10,8 +13,8 @@ use oplog::{Halves, LogFault};
 use std::process::Abort;
 use std::test::Fail;
 
-/// The server has, in this order: the root byte, the room, the named half, and the current one, which records are appended to.
-fn recovers(rt: &impl Abort, server: &Server, want: [u64; 4]) {
+/// Asserts that the server has, in this order: the root byte, the room, the named half, and the current one, which records are appended to.
+fn has_numbers(rt: &impl Abort, server: &Server, want: [u64; 4]) {
     let [root, room, named, current] = want;
     equals(rt, server.byte(64), root);
     equals(rt, server.log.room() as u64, room);
@@ -19,11 +22,12 @@ fn recovers(rt: &impl Abort, server: &Server, want: [u64; 4]) {
     equals(rt, server.log.current() as u64, current);
 }
 
-/// These calls succeed, one after the other, and after each the server has the four numbers of its row, those of `recovers`.
+/// Asserts that these calls succeed, one after the other, and that after each the server has the four numbers of its row, those of
+/// `has_numbers`.
 fn goes(rt: &impl Abort, server: &mut Server, rows: &[(Step, [u64; 4])]) {
     for (step, want) in rows {
         answers(rt, server.does(*step), Ok(()));
-        recovers(rt, server, *want);
+        has_numbers(rt, server, *want);
     }
 }
 
@@ -59,10 +63,10 @@ fn a_half_that_was_cleared_has_room(rt: HostRuntime) -> Result<(), Fail> {
 fn a_record_is_appended_and_read(rt: HostRuntime) -> Result<(), Fail> {
     let mut server = Server::new(rt.alloc(), 4)?;
     equals(&rt, server.disk.len(), 8840);
-    recovers(&rt, &server, [0, 0, 0, 0]);
+    has_numbers(&rt, &server, [0, 0, 0, 0]);
     holds(&rt, server.takes(Way::Named, &[Msg::MakeVol(0, 0)]));
     holds(&rt, !server.log.failed());
-    recovers(&rt, &server, [1, 3, 1, 1]);
+    has_numbers(&rt, &server, [1, 3, 1, 1]);
     // The root byte, the gate, and the first byte of the record.
     equals(&rt, server.byte(2340), 1);
     equals(&rt, server.byte(2344), 1);
@@ -99,9 +103,9 @@ const RECORDS: [([u8; 3], Result<Msg, LogFault>); 8] = [
 
 #[test]
 fn no_message_that_changes_nothing_is_read(rt: HostRuntime) -> Result<(), Fail> {
-    for &(front, wanted) in &RECORDS {
+    for &(first, wanted) in &RECORDS {
         let mut server = Server::new(rt.alloc(), 4)?;
-        holds(&rt, server.writes(196 + 3 * 520, &front));
+        holds(&rt, server.writes(196 + 3 * 520, &first));
         reads(&rt, server.record(0, 3), wanted);
     }
     Ok(())
@@ -167,6 +171,7 @@ const FAULTS: [(u64, Step); 5] = [
 fn a_failed_log_says_so(rt: HostRuntime) -> Result<(), Fail> {
     for &(n, step) in &FAULTS {
         let mut server = Server::new(rt.alloc(), 4)?;
+        // `false`: calls after the n-th work.
         server.fails_at(n, false);
         answers(&rt, server.does(step), Err(LogFault::Device));
         holds(&rt, server.log.failed());

@@ -5,8 +5,9 @@ use oplog::layout::{device_len, half_at, half_size, image_at, image_size};
 use std::process::Abort;
 use std::test::Fail;
 
-/// Geometries (aggregates, volumes, stripes, width, files, blocks, quota, records in a half), and of a device of each: the offsets of half
-/// 0, half 1, image 0 and image 1, the size of a half, that of an image, and the length of the device.
+/// Geometries (aggregates, volumes, stripes, width, files, blocks, quota, records in a half), and of a device of each, in bytes: the
+/// offsets of half 0, half 1, image 0 and image 1, the size of a half, that of an image, and the length of the device. `SMALL` is that of
+/// the small server of tests, with four records in a half.
 const LAYOUTS: [([u16; 8], [u64; 7]); 3] = [
     (SMALL, [128, 2276, 4424, 6632, 2148, 2208, 8840]),
     // the default numbers
@@ -23,6 +24,7 @@ const LAYOUTS: [([u16; 8], [u64; 7]); 3] = [
     ),
 ];
 
+/// Asserts that the parts lie so.
 fn lies(rt: &impl Abort, g: &Geometry, want: [u64; 7]) {
     let found = [
         half_at(g, 0),

@@ -1,6 +1,9 @@
 //! Calls that take memory. `tests/run calls` runs each test once for each allocation, which it refuses. If the call under test made it, the
 //! call fails, is made again and succeeds; if the test's setup made it, the test ends with an error. `MADE_AGAIN` in `tests/run` has the
 //! least number of allocations of each call, counted by hand: raise it where you add one.
+//!
+//! `SMALL` is a geometry of one volume and four records in a half. `goes_so` makes the steps of rows and asserts their outcomes; `holds`
+//! asserts, too. The last number of `Core::open` is that of slots.
 use crate::making::Row::{Arrives, Does, Serves};
 use crate::making::{Row, SMALL, goes_so, holds};
 use checkpoint::OpenFault;
@@ -17,7 +20,7 @@ use std::test::Fail;
 /// kind of its record is 1.
 const A_VOLUME: [(usize, u8); 2] = [(192, 1), (196, 1)];
 
-/// What a machine answers on that device from its first step on.
+/// What a machine answers on that device from its first step on. `NotRunning`: no cut is in progress, so there is no piece to write.
 const ITS_VOLUME: [Row; 4] = [
     Does(Step::Piece, Outcome::PointRefused(PointRefusal::NotRunning)),
     Serves("makevol 0 0", "error exists"),
@@ -90,6 +93,7 @@ fn core_opened_again(
 ) -> Result<Core<MemDisk>, Wrong> {
     let device = device_with(alloc, SMALL, &A_VOLUME)?;
     let core = opened_again(rt, alloc, device, most_calls)?;
+    // None: no cut is in progress.
     holds(rt, core.slots() == 2 && core.pieces_left().is_none());
     Ok(core)
 }

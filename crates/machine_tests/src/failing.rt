@@ -1,4 +1,8 @@
 //! What a machine reports once a call of its device has failed.
+//!
+//! In an outcome `Device` says that the device fails in this step, and `Failed` that it has failed before; `PointRefused` is that of any
+//! step of a checkpoint. `goes_so` makes the steps of rows and asserts their outcomes; `holds` asserts, too. Each device is newly
+//! formatted, with the geometry `SMALL` of one volume in two stripes (three pieces), and each machine has two slots and two hands.
 use crate::making::Row::{Arrives, Does};
 use crate::making::{Row, SMALL, goes_so, holds, machine_on};
 use harness::{Wrong, device_with};
@@ -60,8 +64,8 @@ fn calls_of(rt: &impl Abort, alloc: Global, rows: &[Row]) -> Result<u64, Wrong> 
     Ok(machine.into_core().into_disk().calls())
 }
 
-/// Of the calls of the device the first one in step `failing` fails, and no other. From then on each step reports that the device has
-/// failed, or is idle, and none calls it.
+/// Asserts: of the calls of the device the first one in step `failing` fails, and no other. From then on each step reports that the device
+/// has failed, or is idle, and none calls it.
 fn stays_failed(rt: &impl Abort, alloc: Global, before: &[Row], failing: Row) -> Result<(), Wrong> {
     let calls = calls_of(rt, alloc, before)?.saturating_add(1);
     let mut device = device_with(alloc, SMALL, &[])?;

@@ -27,7 +27,7 @@ pub(crate) enum Row {
     Serves(&'static str, &'static str),
 }
 
-/// All that is done with one message after its arrival.
+/// All that is done with one message after its arrival. `Run` and `Back` have the number of a hand, `Log` the most messages to log.
 pub(crate) const WHOLE: [Step; 5] = [
     Step::Grant,
     Step::Run(0),
@@ -36,6 +36,7 @@ pub(crate) const WHOLE: [Step; 5] = [
     Step::Answer,
 ];
 
+/// Asserts this.
 pub(crate) fn holds(rt: &impl Abort, fact: bool) {
     assert!(rt; fact);
 }
@@ -57,7 +58,7 @@ pub(crate) fn open_machine(
     }
 }
 
-/// The same on a device that isn't refused; an error where it is.
+/// The same on a device that isn't refused; an error where it is, `Unfit` if for another reason than memory.
 pub(crate) fn machine_on(
     alloc: Global,
     device: MemDisk,
@@ -100,6 +101,7 @@ fn serve(rt: &impl Abort, machine: &mut Machine<MemDisk>, message: Msg) -> Optio
     }
 }
 
+/// Asserts that the message of this line is served with this reply.
 fn is_served(rt: &impl Abort, machine: &mut Machine<MemDisk>, line: &str, want: &str) {
     let reply = serve(rt, machine, message_of(rt, line)).expect(rt, "an answer");
     let mut out = [0; LONGEST_REPLY];
@@ -110,11 +112,12 @@ fn is_served(rt: &impl Abort, machine: &mut Machine<MemDisk>, line: &str, want: 
     );
 }
 
+/// Asserts that this comes of the step.
 fn comes_of(rt: &impl Abort, machine: &mut Machine<MemDisk>, step: Step, want: Outcome) {
     assert_eq!(rt; one(machine, step), want);
 }
 
-/// The machine does these things, with these outcomes.
+/// The machine does these things; asserts that they have these outcomes.
 pub(crate) fn goes_so(rt: &impl Abort, machine: &mut Machine<MemDisk>, rows: &[Row]) {
     for row in rows {
         match *row {

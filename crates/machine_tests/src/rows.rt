@@ -1,4 +1,10 @@
 //! Worked lists of steps, whose outcomes are written by hand.
+//!
+//! Steps `Run` and `Back` have the number of a hand, and `Log` the most messages to log. Outcomes `Ticket`, `Back` and `Answered` have a
+//! ticket, `Granted` a hand and a ticket, and `Left` the number of pieces that are left. `goes_so` makes the steps and asserts their
+//! outcomes; `holds` asserts, too. `SMALL` is a geometry of one volume of two files of four blocks, in two stripes; a half has four
+//! records. `Wrong::Unfit`: a test doesn't go as it was written. Crashes leave the synced bytes (`OLD`), those of the last writes (`NEW`),
+//! or 1, 77, 1 at the unsynced offsets in turn (`MIXED`).
 use crate::making::Row::{Arrives, Does, Serves};
 use crate::making::{FLAT, Row, SMALL, goes_so, holds, machine_on};
 use checkpoint::inspect;
@@ -91,8 +97,8 @@ fn left_with(
     run_incarnation(rt, alloc, device, incarnation)
 }
 
-/// What is reported of a device: the named area, how many records are in force, and how many volumes, files and
-/// blocks there are. Gives the device.
+/// Asserts that this is reported of a device: the named area, how many records are in force, and how many volumes, files and blocks there
+/// are. Gives the device.
 fn is_shown(
     rt: &impl Abort,
     alloc: Global,
@@ -400,8 +406,8 @@ const OPENED: Incarnation = Incarnation {
 /// How many rows of `LOG_FAILS` come before its log step.
 const BEFORE_THE_LOG: usize = 4;
 
-/// The device fails in that log step by this injected fault, and a crash of this kind comes, or none: what is opened again has this many
-/// volumes.
+/// The device fails in that log step by this injected fault, and a crash of this kind comes, or none. Asserts that what is opened again has
+/// this many volumes.
 fn leaves_volumes(
     rt: &impl Abort,
     alloc: Global,
@@ -547,8 +553,8 @@ const BOTH: Incarnation = Incarnation {
     rows: &[Serves("list 0 0", "files 0")],
 };
 
-/// After these incarnations and a crash this area and this many records are reported. Once the device is opened, both changes are there,
-/// and area 1 is named.
+/// Asserts that after these incarnations and a crash this area and this many records are reported, and that once the device is opened, both
+/// changes are there, and area 1 is named.
 fn has_both(
     rt: &impl Abort,
     alloc: Global,
@@ -613,7 +619,7 @@ const NAMED: [(usize, usize, [u32; 3]); 5] = [
     (22, 0, [1, 1, 1]),
 ];
 
-/// What the first rows, `first` of them, leave of a new device is reported so, with no record in force.
+/// Asserts that what the first rows, `first` of them, leave of a new device is reported so, with no record in force.
 fn cuts_leave(
     rt: &impl Abort,
     alloc: Global,

@@ -12,7 +12,8 @@ use legal_runs::{CoreFault, Outcome, PointRefusal, Step};
 use std::alloc::Global;
 use std::test::Fail;
 
-/// The changes: the first is logged before the cut, the second one while it is in progress.
+/// The changes (`SMALL` has one volume of two files, in two stripes): the first is logged before the cut, the second one while it is in
+/// progress.
 const CHANGES: [&str; 2] = ["makevol 0 0", "create 0 0 0"];
 
 /// What follows both: the pieces of the cut, and its end.
@@ -26,7 +27,7 @@ struct Play {
     expected_answers: Vec<Vec<u8>>,
 }
 
-/// The steps of the whole run.
+/// The steps of the whole run. `WHOLE` are those of one message after its arrival, from `Grant` to `Answer`.
 fn steps(alloc: Global) -> Result<Vec<Step>, Wrong> {
     let mut steps = Vec::new(alloc);
     for message in messages_of(alloc, &CHANGES)?.as_slice() {
@@ -59,7 +60,8 @@ impl Play {
     }
 }
 
-/// How far a run came in which the device failed at its opening.
+/// How far a run came in which the device failed at its opening. In a `Progress` those changes count as `answered` that a step logged
+/// without a fault, and as `attempted` these and the ones of a log step that failed.
 const UNOPENED: Progress = Progress {
     answered: 0,
     attempted: 0,
@@ -103,6 +105,7 @@ impl Trial for Play {
     }
 
     fn run(&self, alloc: Global, device: MemDisk) -> Result<Ended, Wrong> {
+        // One slot, one hand. `one` gives the outcome of a step.
         match open_machine(alloc, device, 1, 1) {
             Ok(mut machine) => {
                 let mut progress = Progress {
@@ -119,6 +122,7 @@ impl Trial for Play {
                 device,
                 progress: UNOPENED,
             }),
+            // The trial didn't go as it was written.
             Err(_) => Err(Wrong::Unfit),
         }
     }
@@ -139,7 +143,7 @@ impl Trial for Play {
 /// three writes and three syncs.
 const OPENING: u64 = 9 + 6;
 
-/// A log is two writes and two syncs.
+/// A log step is two writes and two syncs.
 const LOG: u64 = 4;
 
 /// A cut is two writes and two syncs, three pieces, and a sync, a write and a sync at its end.
@@ -148,6 +152,7 @@ const CUT: u64 = 4 + 3 + 3;
 /// Whichever call of the device fails, what was logged is there, and what was being logged may be.
 #[test]
 fn a_change_behind_a_cut_survives(rt: HostRuntime) -> Result<(), Fail> {
+    // `sweep` makes a run for each call that may fail, and gives how many calls one makes without a fault. `holds` asserts.
     let calls = sweep(rt.alloc(), &Play::new(rt.alloc())?)?;
     holds(&rt, calls == OPENING + 2 * LOG + CUT);
     Ok(())

@@ -9,16 +9,29 @@ use std::process::Abort;
 /// for `Put`, that of a slot. What the call must answer comes last.
 #[derive(Drop)]
 pub enum Call {
+    /// Puts a value into a free slot: the slot, or the value where none is free.
     Put(char, Result<usize, char>),
+
+    /// The first slot of the chain.
     Front(usize, Option<usize>),
+
+    /// The slot after this one on its chain.
     Next(usize, Option<usize>),
+
+    /// Makes the slot the last of the chain, and returns whether that could be done.
     MoveTo(usize, usize, bool),
     Get(usize, Option<char>),
 
     /// Writes where there is a value, and returns whether there was one.
     Write(usize, char, bool),
+
+    /// Gives the value out; the slot waits for `Restore`, and isn't free.
     Lend(usize, Option<char>),
+
+    /// Brings a value back; handed back where none is out.
     Restore(usize, char, Result<(), char>),
+
+    /// Takes the value out, and frees the slot.
     Take(usize, Option<char>),
 
     /// How many slots are free, and how many there are.
@@ -50,7 +63,7 @@ fn is_right(arena: &mut Arena<char>, call: &Call) -> bool {
     }
 }
 
-/// Makes these calls, one after the other, and looks at what each answers.
+/// Makes these calls, one after the other, and asserts that each answers as it must.
 pub fn checks(rt: &impl Abort, name: &str, arena: &mut Arena<char>, calls: &[Call]) {
     for (number, call) in calls.iter().enumerate() {
         assert!(rt; is_right(arena, call), "{name}, at call {number}");

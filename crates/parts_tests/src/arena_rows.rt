@@ -1,4 +1,8 @@
 //! An arena at work, slot by slot.
+//!
+//! A row is a call, whose answer comes last; `checks` makes the calls and asserts that they answer so. `Front` takes a chain (a linked list
+//! of slots) and answers its first slot; `MoveTo` takes a slot and the chain whose last it becomes; `Restore`, a slot and a value that
+//! comes back after `Lend`. `Counts`: how many slots are free, and how many there are.
 
 use crate::arena_calls::Call::{Counts, Front, Get, Lend, MoveTo, Next, Put, Restore, Take, Write};
 use crate::arena_calls::{Call, checks, made};

@@ -1,4 +1,7 @@
 //! A device over a file that transfers little at a time, over one whose calls are all refused, and over one in memory.
+//!
+//! `expect` makes calls and asserts their answers: `FINE` (it succeeds), `FAULT` (the device fails), `OUTSIDE` (out of range). `holds` and
+//! `same` assert, too.
 ghost use Rattle.std.specs.Prelude.{◌≡◌};
 ghost use Rattle.disk.specs.BackingFile.{device_result};
 
@@ -155,12 +158,12 @@ const ANSWERS: [Result<(), DiskFault>; 7] = [FINE, FINE, FINE, OUTSIDE, FINE, FI
 /// A call may transfer less than was asked, and may be interrupted.
 #[test]
 fn what_a_file_transfers_in_parts_is_whole(rt: HostRuntime) -> Result<(), Fail> {
-    let place = TestFile::new(&rt, "parts")?;
-    place.write(&rt, b"000000000000")?;
+    let test_file = TestFile::new(&rt, "parts")?;
+    test_file.write(&rt, b"000000000000")?;
     let file = OpenOptions::new()
         .read(true)
         .write(true)
-        .open(&rt, place.path())?;
+        .open(&rt, test_file.path())?;
     let syncs = AtomicU64::new(0);
     let calls = AtomicU64::new(0);
     let file = Choppy {
@@ -168,15 +171,16 @@ fn what_a_file_transfers_in_parts_is_whole(rt: HostRuntime) -> Result<(), Fail> 
         calls,
         syncs: &syncs,
     };
+    // The file counts as synced, and as 12 bytes long: `opened_synced` makes no call of it.
     let mut disk = FileBacked::new(HostFile::opened_synced(file, 12));
     expect(&rt, rt.alloc(), &mut disk, &CALLS, &ANSWERS)?;
-    same(&rt, &place.read(&rt)?, b"0abcdefgh00z");
+    same(&rt, &test_file.read(&rt)?, b"0abcdefgh00z");
     let mut whole = [0; 12];
     disk.read_at(0, &mut whole)?;
     same(&rt, &whole, b"0abcdefgh00z");
     holds(&rt, syncs.load(Ordering::Relaxed) == 2);
     drop(disk);
-    place.remove(&rt)
+    test_file.remove(&rt)
 }
 
 #[test]
@@ -195,6 +199,7 @@ fn a_file_in_memory_answers_as_a_device(rt: HostRuntime) -> Result<(), Fail> {
         let disk = failing(rt.alloc(), n)?;
         let mut file = FileBacked::new(DeviceFile { disk });
         expect(&rt, rt.alloc(), &mut file, &CALLS, wanted.as_slice())?;
+        // A fault shows in the answers.
         holds(&rt, n == 0 || wanted.as_slice() != ANSWERS.as_slice());
     }
     Ok(())

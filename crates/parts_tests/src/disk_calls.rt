@@ -7,6 +7,7 @@ use std::process::Abort;
 pub(crate) enum Call {
     /// Reads this many bytes from this offset on.
     Read(u64, usize),
+    /// Writes these bytes from this offset on.
     Write(u64, &'static [u8]),
     Sync,
 }
@@ -35,7 +36,7 @@ pub(crate) fn answers<D: Disk>(
     Ok(answers)
 }
 
-/// These calls are answered so.
+/// Makes these calls, and asserts that they are answered so.
 pub(crate) fn expect<D: Disk>(
     rt: &impl Abort,
     alloc: Global,

@@ -1,4 +1,7 @@
 //! Files of the system as devices.
+//!
+//! `expect` makes calls and asserts their answers: `FINE` (it succeeds), `FAULT` (the device fails), `OUTSIDE` (out of range). `holds` and
+//! `same` assert, too.
 use crate::common::{holds, same};
 use crate::disk_calls::{Call, FAULT, FINE, OUTSIDE, expect};
 use disk::{Disk, DiskFault, FileDisk, FileFault};
@@ -66,7 +69,7 @@ fn may_write(rt: &HostRuntime, path: &str) -> bool {
         .is_ok()
 }
 
-/// The file was not created or opened, with `Device` as the reason.
+/// Asserts that the file was not created or opened, with `Device` as the reason.
 fn is_fault(rt: &impl Abort, made: Result<FileDisk, FileFault>) {
     holds(rt, matches!(made, Err(FileFault::Device)));
 }
@@ -89,20 +92,20 @@ const ANSWERS: [Result<(), DiskFault>; 8] = [
 
 #[test]
 fn a_file_holds_what_was_written(rt: HostRuntime) -> Result<(), Fail> {
-    let place = TestFile::new(&rt, "written")?;
-    place.write(&rt, b"something else that was there")?;
-    let mut disk = place.create(&rt, 12)?;
+    let test_file = TestFile::new(&rt, "written")?;
+    test_file.write(&rt, b"something else that was there")?;
+    let mut disk = test_file.create(&rt, 12)?;
     expect(&rt, rt.alloc(), &mut disk, &CALLS, &ANSWERS)?;
-    same(&rt, &place.read(&rt)?, b"\0\0\0abc\0\0\0\0\0z");
+    same(&rt, &test_file.read(&rt)?, b"\0\0\0abc\0\0\0\0\0z");
     drop(disk);
 
-    let mut disk = place.open(&rt)?;
+    let mut disk = test_file.open(&rt)?;
     holds(&rt, disk.len() == 12);
     let mut part = [0; 5];
     disk.read_at(2, &mut part)?;
     same(&rt, &part, b"\0abc\0");
     drop(disk);
-    place.remove(&rt)
+    test_file.remove(&rt)
 }
 
 /// Reads of a device of eight bytes whose file has six.
@@ -115,33 +118,36 @@ const SHORT_READS: [Call; 4] = [
 
 #[test]
 fn a_file_that_ends_early_is_a_fault(rt: HostRuntime) -> Result<(), Fail> {
-    let place = TestFile::new(&rt, "short")?;
-    let mut disk = place.create(&rt, 8)?;
-    place.write(&rt, b"\0\0\0\0\0\0")?;
+    let test_file = TestFile::new(&rt, "short")?;
+    let mut disk = test_file.create(&rt, 8)?;
+    test_file.write(&rt, b"\0\0\0\0\0\0")?;
     let wanted = [FAULT, FINE, FAULT, OUTSIDE];
     expect(&rt, rt.alloc(), &mut disk, &SHORT_READS, &wanted)?;
     holds(&rt, disk.len() == 8);
     drop(disk);
-    place.remove(&rt)
+    test_file.remove(&rt)
 }
 
 #[test]
 fn what_the_system_refuses_is_a_fault(rt: HostRuntime) -> Result<(), Fail> {
-    let place = TestFile::new(&rt, "refused")?;
-    let below = format!(in rt.alloc(); "{}/missing/device", place.folder)?;
+    let test_file = TestFile::new(&rt, "refused")?;
+    let below = format!(in rt.alloc(); "{}/missing/device", test_file.folder)?;
     // There is no such file, nor such a folder, and neither a folder nor `/dev/null` is a regular file.
-    is_fault(&rt, place.open(&rt));
+    is_fault(&rt, test_file.open(&rt));
     is_fault(&rt, FileDisk::open(&rt, below.as_str()));
-    is_fault(&rt, FileDisk::open(&rt, place.folder.as_str()));
-    is_fault(&rt, place.open_read_only(&rt));
+    is_fault(&rt, FileDisk::open(&rt, test_file.folder.as_str()));
+    is_fault(&rt, test_file.open_read_only(&rt));
     is_fault(&rt, FileDisk::open_read_only(&rt, below.as_str()));
-    is_fault(&rt, FileDisk::open_read_only(&rt, place.folder.as_str()));
+    is_fault(
+        &rt,
+        FileDisk::open_read_only(&rt, test_file.folder.as_str()),
+    );
     is_fault(&rt, FileDisk::open_read_only(&rt, "/dev/null"));
     is_fault(&rt, FileDisk::create(&rt, below.as_str(), 4));
-    is_fault(&rt, FileDisk::create(&rt, place.folder.as_str(), 4));
+    is_fault(&rt, FileDisk::create(&rt, test_file.folder.as_str(), 4));
     // No file is that long.
-    is_fault(&rt, place.create(&rt, u64::MAX));
-    place.remove(&rt)
+    is_fault(&rt, test_file.create(&rt, u64::MAX));
+    test_file.remove(&rt)
 }
 
 /// Writes that reach past the end of a device of four bytes.
@@ -155,13 +161,13 @@ const OUTSIDE_WRITES: [Call; 4] = [
 /// Each write reaches past the end: it is refused, and the file keeps its bytes and its length.
 #[test]
 fn a_write_out_of_range_changes_nothing(rt: HostRuntime) -> Result<(), Fail> {
-    let place = TestFile::new(&rt, "outside")?;
-    place.write(&rt, b"kept")?;
-    let mut disk = place.open(&rt)?;
+    let test_file = TestFile::new(&rt, "outside")?;
+    test_file.write(&rt, b"kept")?;
+    let mut disk = test_file.open(&rt)?;
     expect(&rt, rt.alloc(), &mut disk, &OUTSIDE_WRITES, &[OUTSIDE; 4])?;
-    same(&rt, &place.read(&rt)?, b"kept");
+    same(&rt, &test_file.read(&rt)?, b"kept");
     drop(disk);
-    place.remove(&rt)
+    test_file.remove(&rt)
 }
 
 /// The system opens this file and refuses to sync it.
@@ -183,19 +189,19 @@ const READ_ONLY_CALLS: [Call; 4] = [
 /// Root, whom no permission keeps from writing, can't write either.
 #[test]
 fn a_file_opened_for_reading_takes_no_write(rt: HostRuntime) -> Result<(), Fail> {
-    let place = TestFile::new(&rt, "for_reading")?;
-    place.write(&rt, b"kept")?;
-    fs::set_permissions(&rt, place.path.as_str(), Permissions::from_mode(0o444))?;
-    let mut disk = place.open_read_only(&rt)?;
+    let test_file = TestFile::new(&rt, "for_reading")?;
+    test_file.write(&rt, b"kept")?;
+    fs::set_permissions(&rt, test_file.path.as_str(), Permissions::from_mode(0o444))?;
+    let mut disk = test_file.open_read_only(&rt)?;
     holds(&rt, disk.len() == 4);
     let wanted = [FINE, FAULT, FINE, OUTSIDE];
     expect(&rt, rt.alloc(), &mut disk, &READ_ONLY_CALLS, &wanted)?;
     let mut part = [0; 3];
     disk.read_at(1, &mut part)?;
     same(&rt, &part, b"ept");
-    same(&rt, &place.read(&rt)?, b"kept");
+    same(&rt, &test_file.read(&rt)?, b"kept");
     drop(disk);
-    place.remove(&rt)
+    test_file.remove(&rt)
 }
 
 /// A regular file (`/dev/null` is none) that the system refuses to write and to sync. Opening it for reading succeeds, so that doesn't
@@ -209,15 +215,15 @@ fn a_file_opened_for_reading_is_not_synced(rt: HostRuntime) {
 
 #[test]
 fn a_read_only_file_is_a_fault(rt: HostRuntime) -> Result<(), Fail> {
-    let place = TestFile::new(&rt, "read_only")?;
-    place.write(&rt, b"kept")?;
-    fs::set_permissions(&rt, place.path.as_str(), Permissions::from_mode(0o444))?;
+    let test_file = TestFile::new(&rt, "read_only")?;
+    test_file.write(&rt, b"kept")?;
+    fs::set_permissions(&rt, test_file.path.as_str(), Permissions::from_mode(0o444))?;
     // Root may write such a file.
-    let wanted = if may_write(&rt, place.path.as_str()) {
+    let wanted = if may_write(&rt, test_file.path.as_str()) {
         None
     } else {
         Some(FileFault::Device)
     };
-    holds(&rt, place.open(&rt).err() == wanted);
-    place.remove(&rt)
+    holds(&rt, test_file.open(&rt).err() == wanted);
+    test_file.remove(&rt)
 }

@@ -7,7 +7,9 @@ use std::test::Fail;
 
 #[derive(Drop)]
 enum InjectedFault {
+    /// The call of this number, from 1 on, fails alone.
     FailAt(u64),
+    /// That call fails, and all after it.
     StopAt(u64),
 }
 
@@ -28,8 +30,8 @@ const CALLS: [Call; 5] = [
     Call::Read(0, 1),
 ];
 
-/// Injected faults, set one after the other, so that the last one replaces the others; and what each of `CALLS` answers
-/// then.
+/// Injected faults, set one after the other, so that the last one replaces the others; and what each of `CALLS` answers then: `FINE`, it
+/// succeeds; `FAULT`, the device fails; `OUTSIDE`, the call is out of range.
 const WITH_FAULTS: [(&[InjectedFault], [Result<(), DiskFault>; 5]); 5] = [
     (
         &[InjectedFault::FailAt(2)],
@@ -62,9 +64,11 @@ fn injected_faults_fail_the_calls_that_they_name(rt: HostRuntime) -> Result<(), 
         for injected_fault in injected_faults {
             set(&mut disk, injected_fault);
         }
+        // Makes the calls, and asserts that they are answered so.
         expect(&rt, rt.alloc(), &mut disk, &CALLS, &wanted)?;
         // A call that answers `OutOfRange` is not counted.
         holds(&rt, disk.calls() == 4);
+        // A crash that leaves the synced bytes (`Torn::Old`) also removes the fault.
         let mut disk = disk.crash(Torn::Old);
         holds(&rt, disk.calls() == 0);
         expect(&rt, rt.alloc(), &mut disk, &CALLS, &WITHOUT_FAULT)?;

@@ -8,9 +8,9 @@ use std::alloc::{AllocError, Global};
 use std::process::Abort;
 use std::test::Fail;
 
-/// A device of the bytes 10 to 15 after some calls: the number of the call that fails (none, if there are fewer calls), what
-/// a read gives, and what each kind of crash leaves. `Fill` puts 7 at each unsynced byte, and `Mixed` 1, 77, 1, and again,
-/// in order.
+/// A device of the bytes 10 to 15 after some calls: the number of the call that fails (none, if there are fewer calls), what a read gives,
+/// and what each kind of crash leaves. At each unsynced offset `Old` leaves the byte of the last sync, `New` that of the last write, even
+/// if it failed, `Fill` 7, and `Mixed` 1, 77, 1, and again, in order.
 #[derive(Drop)]
 struct Row {
     calls: &'static [Call],
@@ -79,8 +79,7 @@ fn device_of(alloc: Global, row: &Row) -> Result<MemDisk, AllocError> {
     Ok(disk)
 }
 
-/// A crash of this kind leaves these bytes of the device. A second crash changes none, as nothing is unsynced after the
-/// first.
+/// Asserts that a crash of this kind leaves these bytes of the device. A second crash changes none, as nothing is unsynced after the first.
 fn leaves(
     rt: &impl Abort,
     alloc: Global,
@@ -96,7 +95,7 @@ fn leaves(
     Ok(())
 }
 
-/// After these calls each kind of crash tears what is unsynced.
+/// Asserts that after these calls each kind of crash leaves what the row says.
 fn tears(rt: &impl Abort, alloc: Global, row: &Row) -> Result<(), AllocError> {
     same(rt, device_of(alloc, row)?.bytes(), &row.now);
     leaves(rt, alloc, row, Torn::Old, &row.old)?;

@@ -30,7 +30,7 @@ fn a_run_queue_is_made_at_the_next_try(rt: HostRuntime) -> Result<(), Fail> {
         changing: true,
         ticket: 0,
     };
-    // `true`: the log has room.
+    // `next` gives the first message that may be dispatched, and leaves it in the queue; `true`: the log has room. `holds` asserts.
     holds(&rt, run_queue.next(true).is_none());
     run_queue.arrive(*queued);
     holds(&rt, run_queue.next(true) == Some(*queued));

@@ -1,4 +1,7 @@
 //! Jobs handed to real threads, and their results.
+//!
+//! `Bench::open` takes the number of places and that of workers, of which each has one of the `seats`; in clauses `slots` is the number of
+//! places. A gate is a hook: `OpenGate` does nothing, so it holds no job up. `holds` asserts.
 ghost use Rattle.std.specs.Prelude.{◌≡◌, ◌<◌, ◌≤◌, All};
 
 use crate::common::holds;
@@ -208,6 +211,7 @@ impl<'c> Model for RoundTrip<'c> {
 }
 
 impl<'c> DispatcherTask<Result<Option<(u64, Reply)>, Fail>> for RoundTrip<'c> {
+    // It may begin at any time, and nothing is promised of what it gives.
     ghost can_begin = { λ s. Unit {0} };
 
     ghost gives = { λ old new end. Unit {0} };
@@ -330,7 +334,9 @@ fn a_wait_ends_with_the_delivery(rt: HostRuntime) -> Result<(), Fail> {
 // A gate that holds up the job of each even ticket until the result of the next ticket was collected.
 #[derive(Drop)]
 struct Delaying {
+    // The ticket of which the hook `answered` was called last.
     answered: AtomicU64,
+    // Whether a job was held up in vain: that call didn't come.
     gave_up: AtomicBool,
 }
 
@@ -381,14 +387,15 @@ fn two_jobs(
     let offered = bench.offer(dispatch_seat, 0, first).is_ok()
         && bench.offer(dispatch_seat, 1, second).is_ok();
     let answered = collect(bench, dispatch_seat, 1).is_some();
+    // The hook, which lets the first job run.
     gate.answered(behind);
     let freed = collect(bench, dispatch_seat, 0).is_some();
     Ok(offered && answered && freed && !gate.gave_up.load(Ordering::SeqCst))
 }
 
 // Lets some time pass, in turns of a loop.
-fn pause(looks: u64) {
-    for _ in 0..looks {
+fn pause(turns: u64) {
+    for _ in 0..turns {
         spin_loop();
     }
 }
@@ -477,7 +484,7 @@ fn two_jobs_run_at_once(rt: HostRuntime) -> Result<(), Fail> {
 }
 
 #[test]
-fn a_worker_that_is_held_up_calls_another(rt: HostRuntime) -> Result<(), Fail> {
+fn a_worker_that_is_held_up_wakes_another(rt: HostRuntime) -> Result<(), Fail> {
     let meetings = most_rounds(&rt).min(MEETINGS);
     let fine = two_workers_meet(&rt, rt.alloc(), meetings)?;
     holds(&rt, fine);
@@ -537,6 +544,7 @@ fn offer_round<R: Wait>(
 {
     let (rt, alloc) = with;
     for k in 0..places {
+        // The ticket of the job before it there.
         let before = round.wrapping_mul(STRIDE).wrapping_add(k as u64);
         if round > 0 && !is_answer(await_result(bench, dispatch_seat, rt, k), before, alone) {
             return Ok(false);

@@ -16,7 +16,7 @@ const GREATEST: [u16; 8] = [4, 8, 8, 64, 64, 256, 64, 1024];
 /// position in preorder), and the first one after the affinity's subtree.
 type Numbered = (Kind, [u16; 4], Option<(u16, u16)>);
 
-/// Geometries, and messages to a server of each.
+/// Geometries, and messages to a server of each. `SMALL` has one volume of two files of four blocks, in two stripes.
 const NUMBERED: [([u16; 8], &[Numbered]); 3] = [
     (
         SMALL,
@@ -54,6 +54,7 @@ const NUMBERED: [([u16; 8], &[Numbered]); 3] = [
     ),
 ];
 
+// Asserts what the rows say. `place_of` gives an affinity (not a `Place`); none where a number is out of range.
 fn checks_numbers(rt: &impl Abort, g: &Geometry, rows: &[Numbered]) {
     for (kind, numbers, want) in rows {
         let found = place_of(g, *kind, *numbers).map(|a| (a.number(), a.end()));
@@ -69,7 +70,8 @@ fn affinities_are_numbered(rt: HostRuntime) -> Result<(), Fail> {
     Ok(())
 }
 
-/// A message at each affinity of a small server: serial, aggregate, volume, volume logical, both stripes, label.
+/// A message at each affinity of a small server: serial, aggregate, volume, volume logical, both stripes, label (a node of its own below
+/// the volume).
 const EACH_AFFINITY: [(Kind, [u16; 4]); 7] = [
     (Kind::Summary, [0, 0, 0, 0]),
     (Kind::MakeVol, [0, 0, 0, 0]),
@@ -92,7 +94,7 @@ const ARE_RELATED: [[bool; 7]; 7] = [
     [true, true, true, false, false, false, true],
 ];
 
-/// This message's affinity is related to that of each message of `EACH_AFFINITY` exactly if the row says so.
+/// Asserts that this message's affinity is related to that of each message of `EACH_AFFINITY` exactly if the row says so.
 fn checks_related(rt: &impl Abort, g: &Geometry, message: (Kind, [u16; 4]), row: &[bool]) {
     let found = place_of(g, message.0, message.1);
     for ((kind, numbers), want) in EACH_AFFINITY.iter().zip(row) {
@@ -112,7 +114,7 @@ fn affinities_are_related_as_listed(rt: HostRuntime) -> Result<(), Fail> {
 }
 
 #[test]
-fn bad_geometry_is_named(rt: HostRuntime) -> Result<(), Fail> {
+fn bad_geometry_has_its_text(rt: HostRuntime) -> Result<(), Fail> {
     let text = format!(in rt.alloc(); "{}", BadGeometry)?;
     assert!(rt; text.as_str() == "geometry out of range");
     Ok(())

@@ -12,27 +12,30 @@ pub(crate) const SMALL: [u16; 8] = [1, 1, 2, 1, 2, 4, 2, 4];
 pub(crate) const DEFAULTS: [u16; 8] = [1, 4, 4, 4, 16, 64, 64, 256];
 
 // Bytes that begin with these, with zeros after them.
-pub(crate) fn padded<const N: usize>(front: &[u8]) -> [u8; N] {
+pub(crate) fn padded<const N: usize>(first: &[u8]) -> [u8; N] {
     let mut bytes = [0; N];
-    for (byte, given) in bytes.iter_mut().zip(front) {
+    for (byte, given) in bytes.iter_mut().zip(first) {
         *byte = *given;
     }
     bytes
 }
 
-pub(crate) fn block_of(front: &[u8]) -> Block {
-    Block(padded(front))
+// A block that begins with these bytes, with zeros after them.
+pub(crate) fn block_of(first: &[u8]) -> Block {
+    Block(padded(first))
 }
 
+// Asserts that these bytes are those.
 pub(crate) fn same(rt: &impl Abort, got: &[u8], want: &[u8]) {
     assert_eq!(rt; got, want);
 }
 
-// `same` of bytes that are text. The name says what is compared, and is reported where the two differ.
+// `same` (so an assertion, too) of bytes that are text. The name says what is compared, and is reported where the two differ.
 pub(crate) fn same_text(rt: &impl Abort, name: &str, got: &[u8], want: &[u8]) {
     assert_eq!(rt; str::from_utf8(got), str::from_utf8(want), "{name}");
 }
 
+// Asserts this.
 pub(crate) fn holds(rt: &impl Abort, fact: bool) {
     assert!(rt; fact);
 }

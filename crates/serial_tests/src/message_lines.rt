@@ -4,6 +4,7 @@ use crate::common::{block_of, padded};
 use message::{Msg, parse_line};
 use std::process::Abort;
 
+// Asserts that this line is this message; none: that it is no message.
 fn says(rt: &impl Abort, line: &[u8], message: Option<Msg>) {
     assert_eq!(rt; parse_line(line), message, "at {line:?}");
 }
@@ -44,9 +45,9 @@ fn reads_messages(rt: HostRuntime) {
     for (line, message) in MESSAGES.iter() {
         says(&rt, line.as_bytes(), Some(*message));
     }
-    for (line, numbers, front) in WRITES.iter() {
+    for (line, numbers, first) in WRITES.iter() {
         let [a, v, f, b] = *numbers;
-        let message = Msg::Write(a, v, f, b, block_of(front));
+        let message = Msg::Write(a, v, f, b, block_of(first));
         says(&rt, line.as_bytes(), Some(message));
     }
     let label = Msg::SetLabel(0, 0, padded(b"ab"));

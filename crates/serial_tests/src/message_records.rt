@@ -5,12 +5,13 @@ use affinity::Geometry;
 use message::{Msg, decode, encode};
 use std::process::Abort;
 
-fn decodes(rt: &impl Abort, front: &[u8], g: &Geometry, message: Option<Msg>) {
-    assert_eq!(rt; decode(&padded(front), g), message, "at {front:?}");
+// Asserts that the record of these first bytes, with zeros after them, is this message; none: that it is no message in range.
+fn decodes(rt: &impl Abort, first: &[u8], g: &Geometry, message: Option<Msg>) {
+    assert_eq!(rt; decode(&padded(first), g), message, "at {first:?}");
 }
 
-/// The first bytes of records, which zeros follow, and the message that each is at the default geometry, or none. The bytes
-/// are the kind, the aggregate, the volume, the file, the block (two, the lower one first), two that have to be zeros, and
+/// The first bytes of records (of 520 bytes each), which zeros follow, and the message that each is at the default geometry, or none. The
+/// bytes are the kind (1 to 14), the aggregate, the volume, the file, the block (two, the lower one first), two that have to be zeros, and
 /// then the data.
 const RECORDS: [(&[u8], Option<Msg>); 9] = [
     (&[1], Some(Msg::MakeVol(0, 0))),
@@ -27,6 +28,7 @@ const RECORDS: [(&[u8], Option<Msg>); 9] = [
 #[test]
 fn records_have_one_spelling(rt: HostRuntime) {
     let g = Geometry::default();
+    // `encode` has to overwrite each 7. `same` asserts that bytes are equal.
     let mut out = [7; 520];
     encode(&Msg::MakeVol(0, 0), &mut out);
     same(&rt, &out, &padded::<520>(&[1]));
@@ -44,7 +46,7 @@ fn records_have_one_spelling(rt: HostRuntime) {
     decodes(&rt, &write, &g, Some(message));
     let message = Msg::SetLabel(0, 0, padded(b"ab"));
     decodes(&rt, &label, &g, Some(message));
-    for (front, message) in RECORDS.iter() {
-        decodes(&rt, front, &g, *message);
+    for (first, message) in RECORDS.iter() {
+        decodes(&rt, first, &g, *message);
     }
 }

@@ -4,6 +4,7 @@ use crate::common::{block_of, padded, same};
 use message::{Refusal, Reply, no_message_line, write_reply};
 use std::process::Abort;
 
+// Asserts that this reply is this line. The longest line has 1,031 bytes; 7 stands for what `write_reply` has to overwrite.
 fn spells(rt: &impl Abort, reply: &Reply, line: &[u8]) {
     let mut out = [7; 1031];
     let size = write_reply(reply, &mut out);
@@ -63,8 +64,8 @@ fn writes_replies(rt: HostRuntime) {
     for (reply, line) in REPLIES.iter() {
         spells(&rt, reply, line.as_bytes());
     }
-    for (front, line) in BLOCKS.iter() {
-        spells(&rt, &Reply::Block(block_of(front)), line.as_bytes());
+    for (first, line) in BLOCKS.iter() {
+        spells(&rt, &Reply::Block(block_of(first)), line.as_bytes());
     }
     spells(&rt, &Reply::Label([0; 32]), b"label 00\n");
     spells(&rt, &Reply::Label(padded(b"ab")), b"label 6162\n");

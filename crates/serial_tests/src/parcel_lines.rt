@@ -8,7 +8,8 @@ use std::alloc::{AllocError, Global};
 use std::process::Abort;
 use std::test::Fail;
 
-// The reply to a message; none if what it needs is out, which never happens here.
+// The reply to a message; none if what it needs is out, which never happens here. `place_of` gives its affinity (not a `Place`), and each
+// job has ticket 0.
 fn serve(tree: &mut Tree, message: &Msg) -> Option<Reply> {
     let g = tree.geometry();
     let message = *message;
@@ -24,7 +25,7 @@ fn serve(tree: &mut Tree, message: &Msg) -> Option<Reply> {
     }
 }
 
-// Appends the reply of a tree to a line to the output.
+// Appends the reply of a tree to a line to the output. The longest reply has 1,031 bytes.
 fn append_reply(
     rt: &impl Abort,
     tree: &mut Tree,
@@ -40,7 +41,7 @@ fn append_reply(
     output.extend_from_slice(&out[..size])
 }
 
-/// A tree answers each row's line with the row's reply. `name` says what the rows show.
+/// Asserts that a tree answers each row's line with the row's reply. `name` says what the rows show.
 pub(crate) fn expect_replies(
     rt: &impl Abort,
     alloc: Global,
@@ -61,6 +62,7 @@ pub(crate) fn expect_replies(
 
 #[test]
 fn each_session_is_answered_as_by_the_serial_server(rt: HostRuntime) -> Result<(), Fail> {
+    // What each shows, the numbers of its geometry, and lines with the replies to them.
     for &(name, numbers, rows) in &SESSIONS {
         let mut tree = Tree::new(rt.alloc(), Geometry::new(numbers)?)?;
         expect_replies(&rt, rt.alloc(), &mut tree, name, rows)?;

@@ -3,6 +3,9 @@
 //! A piece is given by the bytes of it that aren't 0: offset and value. Of a volume's piece, byte 0 is 1 if the volume is
 //! made, byte 1 if it is sealed; from 8 on there is a bitmap of its files, from 16 on its label. A stripe's piece has
 //! entries of 520 bytes: 1, the file, the block (two bytes), four zeros, and the content from 8 on.
+//!
+//! `SMALL` is a geometry of one volume of two files, in two stripes that hold two blocks each: piece 0 is the volume's, 1 and 2 are those
+//! of stripes 0 and 1. `holds` asserts.
 ghost use Rattle.std.specs.Prelude.{◌≡◌, length, IfOk, OnOk};
 ghost use Rattle.serial_tests.specs.Pieces.{IsNewTree, IsSmallTree};
 
@@ -68,7 +71,7 @@ fn read_both(tree: &mut Tree, volume: &[u8], stripe: &[u8]) -> Result<(), BadPie
     read_piece(tree, 1, stripe)
 }
 
-// The tree is written as these bytes of the volume and the first stripe, and as zeros for the second stripe.
+// Asserts that the tree is written as these bytes of the volume and the first stripe, and as zeros for the second stripe.
 fn expect_written(rt: &impl Abort, tree: &Tree, volume: &[u8], stripe: &[u8])
     requires { IsSmallTree tree.now }
 {
@@ -82,9 +85,9 @@ fn expect_written(rt: &impl Abort, tree: &Tree, volume: &[u8], stripe: &[u8])
     holds(rt, of_stripe.iter().all(|byte| *byte == 0));
 }
 
-// A new tree takes in a volume's piece and then a stripe's, with these bytes, exactly if `good`. Then it is written as the
-// same bytes.
-fn expect_good(
+// Asserts that a new tree takes in a volume's piece and then a stripe's, with these bytes, exactly if `good`, and that it is written as the
+// same bytes then.
+fn expect_taken_in(
     rt: &impl Abort,
     alloc: Global,
     volume: &[(usize, u8)],
@@ -131,7 +134,7 @@ const GOOD_AND_BAD: [(&[Row<'static>], bool); 2] = [(&GOOD, true), (&BAD, false)
 fn good_pieces_come_back_and_bad_ones_are_refused(rt: HostRuntime) -> Result<(), Fail> {
     for &(rows, good) in &GOOD_AND_BAD {
         for (volume, stripe) in rows {
-            expect_good(&rt, rt.alloc(), volume, stripe, good)?;
+            expect_taken_in(&rt, rt.alloc(), volume, stripe, good)?;
         }
     }
     Ok(())
@@ -166,7 +169,7 @@ const ANSWERS: [(&str, Row<'static>, &[(&str, &str)]); 3] = [
     ("a sealed volume", (&SEALED, &ONE_BLOCK), &OF_SEALED),
 ];
 
-// A new tree takes in both pieces, and answers each line by its reply.
+// Asserts that a new tree takes in both pieces, and answers each line by its reply.
 fn expect_answers_of(
     rt: &impl Abort,
     alloc: Global,
@@ -190,7 +193,7 @@ fn a_tree_answers_by_its_pieces(rt: HostRuntime) -> Result<(), Fail> {
     Ok(())
 }
 
-// A new tree takes in this volume's piece of an image of version 1 exactly if `good`. Then the label is zeros.
+// Asserts that a new tree takes in this volume's piece of an image of version 1 exactly if `good`, and that the label is zeros then.
 fn expect_version_1(
     rt: &impl Abort,
     alloc: Global,

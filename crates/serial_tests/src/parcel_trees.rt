@@ -1,4 +1,4 @@
-//! Parts of a small tree are lent and restored.
+//! Parts of a small tree (`SMALL`: one volume in two stripes) are lent and restored. `holds` asserts.
 ghost use Rattle.std.specs.Prelude.{[], ◌∷◌};
 ghost use Rattle.affinity.specs.Interval.{IsAffinityOf};
 ghost use Rattle.affinity.specs.Place.{path_of_kind};
@@ -40,8 +40,8 @@ fn lend_stripe(rt: &impl Abort, tree: &mut Tree, block: u16) -> StripeParcel {
     }
 }
 
-// For each row, the parcels at the affinity of its message are lent, and stay out. That is refused exactly if the row says that some are
-// out already.
+// Asserts that for each row, a kind, a block and `out`, the parcels at the affinity of its message are lent, and stay out; but if `out`, it
+// is refused, as some are out already.
 fn expect_each(rt: &impl Abort, tree: &mut Tree, rows: &[(Kind, u16, bool)]) {
     for (kind, block, out) in rows {
         holds(rt, lent(rt, tree, *kind, *block).is_none() == *out);
@@ -70,6 +70,7 @@ fn beside_a_stripe_that_is_out(rt: HostRuntime) -> Result<(), Fail> {
     Ok(())
 }
 
+/// The same, while nothing is out at first: the first row lends the whole tree.
 const ALL_OUT: [(Kind, u16, bool); 3] = [
     (Kind::Summary, 0, false),
     (Kind::Summary, 0, true),

@@ -1,4 +1,7 @@
 //! What messages mean, one after the other: tables of lines, each with the reply to it.
+//!
+//! Geometries: `SMALL` has one volume of two files of four blocks, in two stripes that hold two blocks each; `DEFAULTS` is the program's
+//! own. `expect_session` asserts that a server answers so.
 use crate::common::{DEFAULTS, SMALL};
 use crate::plain_borders::{SMALL_ROWS, WIDE, WIDE_ROWS};
 use crate::plain_rows::{Session, expect_session};

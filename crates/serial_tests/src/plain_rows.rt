@@ -7,7 +7,8 @@ use std::io::{Read, Write};
 use std::process::Abort;
 use std::test::Fail;
 
-/// How a session ends that serves this input at a geometry. Numbers out of range, which no test has, count as `OutOfMemory`.
+/// How a session ends that serves this input at a geometry, given by its eight numbers (as `common::SMALL`). Numbers out of range, which no
+/// test has, count as `OutOfMemory`.
 pub(crate) fn served_into<R: Read + Drop, W: Write>(
     alloc: Global,
     numbers: [u16; 8],
@@ -25,6 +26,7 @@ pub(crate) fn room(alloc: Global) -> Result<Vec<u8>, AllocError> {
     Vec::with_capacity(alloc, 4096)
 }
 
+/// Asserts that a session ended so.
 pub(crate) fn ends(rt: &impl Abort, got: Result<(), PlainFault>, want: Result<(), PlainFault>) {
     assert_eq!(rt; got, want);
 }
@@ -32,7 +34,7 @@ pub(crate) fn ends(rt: &impl Abort, got: Result<(), PlainFault>, want: Result<()
 /// What a session shows, the geometry that it is served at, and lines with the reply to each.
 pub(crate) type Session<'a> = (&'a str, [u16; 8], &'a [(&'a str, &'a str)]);
 
-/// Serves the lines of a session, and looks at the replies.
+/// Serves the lines of a session, and asserts that the replies are those of its rows.
 pub(crate) fn expect_session(
     rt: &impl Abort,
     alloc: Global,

@@ -1,4 +1,7 @@
 //! How a session ends: at the end of its input, at a failed read, at a failed write.
+//!
+//! `ends`, `holds` and `same` are assertions. `room` gives an empty output with room for all that a test writes. `SMALL` is a geometry of
+//! one volume of two files of four blocks.
 use crate::common::{SMALL, holds, same};
 use crate::plain_rows::{ends, room, served_into};
 use plain::PlainFault;
@@ -58,7 +61,7 @@ impl Write for FailingOnce<'_> {
     }
 }
 
-/// Looks at what is written for an input at the small geometry, and at how it ends.
+/// Asserts that this is written for an input at the small geometry, and that its session ends so.
 fn expect<R: Read + Drop>(
     rt: &impl Abort,
     alloc: Global,
@@ -169,7 +172,7 @@ fn after_each_write_that_fails_nothing_more_is_written(rt: HostRuntime) -> Resul
 }
 
 /// Lines that take memory for a volume, for a block and for the number of blocks in its stripe, and others that take none.
-const FIRST_OF_ALL: &[u8] = b"makevol 0 0
+const TAKES_MEMORY: &[u8] = b"makevol 0 0
 setlabel 0 0 6162
 create 0 0 0
 write 0 0 0 0 6162
@@ -177,7 +180,8 @@ seal 0 0
 read 0 0 0 0
 ";
 
-const FIRST_REPLIES: &[u8] = b"done
+/// The replies to them.
+const MEMORY_REPLIES: &[u8] = b"done
 done
 done
 done
@@ -185,12 +189,12 @@ done
 block 6162
 ";
 
-// What was written before memory was refused is the first few replies, whole.
+// Asserts that what was written before memory was refused is the first few replies, whole.
 fn is_beginning(rt: &impl Abort, written: &[u8]) {
     same(
         rt,
         written,
-        first_lines(FIRST_REPLIES, count_lines(written)),
+        first_lines(MEMORY_REPLIES, count_lines(written)),
     );
 }
 
@@ -200,15 +204,15 @@ fn lines_are_answered_at_the_next_try(rt: HostRuntime) -> Result<(), Fail> {
     let alloc = rt.alloc();
     let mut first = room(alloc)?;
     let mut output = room(alloc)?;
-    let end = served_into(alloc, SMALL, FIRST_OF_ALL, &mut first);
+    let end = served_into(alloc, SMALL, TAKES_MEMORY, &mut first);
     if end.is_ok() {
-        same(&rt, first.as_slice(), FIRST_REPLIES);
+        same(&rt, first.as_slice(), MEMORY_REPLIES);
         return Ok(());
     }
     ends(&rt, end, Err(PlainFault::OutOfMemory));
     is_beginning(&rt, first.as_slice());
-    let end = served_into(alloc, SMALL, FIRST_OF_ALL, &mut output);
+    let end = served_into(alloc, SMALL, TAKES_MEMORY, &mut output);
     ends(&rt, end, Ok(()));
-    same(&rt, output.as_slice(), FIRST_REPLIES);
+    same(&rt, output.as_slice(), MEMORY_REPLIES);
     Ok(())
 }

@@ -54,7 +54,8 @@ impl Write for Pipe<'_> {
     }
 }
 
-/// How many bytes a client got in all; an error if it had not got what it should at one of the reads.
+/// How many bytes a client got in all, at the small geometry (`SMALL`, of one volume); the error `Read` if it had not got what it should at
+/// one of the reads.
 fn got_in_time(alloc: Global, reads: &[(usize, &[u8])]) -> Result<usize, PlainFault> {
     let got = Cell::new(0);
     let is_amiss = Cell::new(false);
@@ -132,7 +133,7 @@ fn a_full_buffer_is_written_once(rt: HostRuntime) -> Result<(), Fail> {
         bytes: &bytes,
     };
     let end = served_into(rt.alloc(), SMALL, input.as_slice(), &mut refusing);
-    // 64 KiB have room for three short replies and 63 long ones.
+    // The buffer of replies, of 64 KiB, has room for three short replies and 63 long ones.
     let seen = (end, writes.get(), bytes.get());
     assert_eq!(rt; seen, (Err(PlainFault::Write), 1, 15 + 63 * 1031));
     Ok(())
