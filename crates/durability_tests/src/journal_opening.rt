@@ -246,7 +246,7 @@ impl Trial for Refusal {
     fn run(&self, alloc: Global, device: MemDisk) -> Result<Ended, Wrong> {
         let (found, device) = find(alloc, device, &self.questions)?;
         let progress = Progress {
-            answered: 0,
+            logged: 0,
             attempted: 0,
             is_faultless: found != OpenedDevice::Refuses(OpenFault::Device),
         };

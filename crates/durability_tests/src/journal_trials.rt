@@ -84,11 +84,11 @@ impl Play<'_> {
     }
 }
 
-/// How far a script came, and whether no call of the device failed. Those changes count as `answered` that were logged without a fault, and
-/// as `attempted` these and the ones of the batch that failed.
-fn progress_of(answered: usize, attempted: usize, is_faultless: bool) -> Progress {
+/// How far a script came, and whether no call of the device failed. `logged` changes were logged without a fault; `attempted` are these and
+/// the ones of the batch that failed.
+fn progress_of(logged: usize, attempted: usize, is_faultless: bool) -> Progress {
     Progress {
-        answered,
+        logged,
         attempted,
         is_faultless,
     }
@@ -100,19 +100,19 @@ fn progress_in(
     server: &mut Server<MemDisk>,
     acts: &[Act],
 ) -> Result<Progress, Wrong> {
-    let mut answered = 0usize;
+    let mut logged = 0usize;
     for act in acts {
         let messages = messages_of(alloc, act.changes())?;
-        let attempted = answered.saturating_add(messages.len());
+        let attempted = logged.saturating_add(messages.len());
         match server.act(act, messages.as_slice()) {
-            Ok(()) => answered = attempted,
+            Ok(()) => logged = attempted,
             Err(Halt::Failed) if server.failed() => return Ok(progress_of(
-                answered, attempted, false,
+                logged, attempted, false,
             )),
             Err(_) => return Err(Wrong::Unfit),
         }
     }
-    Ok(progress_of(answered, answered, true))
+    Ok(progress_of(logged, logged, true))
 }
 
 impl Trial for Play<'_> {
@@ -147,7 +147,7 @@ impl Trial for Play<'_> {
             return false;
         };
         for (count, answers) in self.expected_answers.iter().enumerate() {
-            let is_allowed = progress.answered <= count && count <= progress.attempted;
+            let is_allowed = progress.logged <= count && count <= progress.attempted;
             if is_allowed && answers == found {
                 return true;
             }

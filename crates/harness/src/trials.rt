@@ -15,9 +15,8 @@ const MOST_CALLS: u64 = 10_000;
 /// How far a trial came.
 #[derive(Clone, Copy)]
 pub struct Progress {
-    /// How many of its changes were logged by a call that returned `Ok`: whatever a crash leaves has these. The glossary's *answered* is
-    /// another: no reply is meant.
-    pub answered: usize,
+    /// How many of its changes were logged by a call that returned `Ok`: whatever a crash leaves has these.
+    pub logged: usize,
 
     /// How many of its changes a crash may leave: those, and the ones of the call that failed.
     pub attempted: usize,

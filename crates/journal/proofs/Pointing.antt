@@ -19,7 +19,8 @@ use Rattle.oplog.proofs.AfterCrash.{clear_by_area, flip_by_area, image_by_area, 
 use Rattle.oplog.proofs.Ready.{ready_kept}
 use Rattle.meaning.specs.State.{State}
 
-module _ (g : Geometry) (n : ℕ) (x : Option State) (is_area : n < 2) (w0 w1 : Medium) (recovers : RecoversByArea g n n x w0) (clears : CrashesChangeOnly w0 w1 (IsSameButChainAndGates (layout_of g) (other n)))
+module _ (g : Geometry) (n : ℕ) (x : Option State) (is_area : n < 2) (w0 w1 : Medium) (recovers : RecoversByArea g n n x w0)
+    (clears : CrashesChangeOnly w0 w1 (IsSameButChainAndGates (layout_of g) (other n)))
   where
     by_clear : CrashImagesAre w0 w1 (RecoversBy (decoding g) (layout_of g) n n x)
     by_clear = clear_by_area (decoding g) (layout_of g) n x w0 w1 is_area recovers clears

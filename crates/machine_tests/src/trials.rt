@@ -60,34 +60,34 @@ impl Play {
     }
 }
 
-/// How far a run came in which the device failed at its opening. In a `Progress` those changes count as `answered` that a step logged
-/// without a fault, and as `attempted` these and the ones of a log step that failed.
+/// How far a run came in which the device failed at its opening. In a `Progress` the changes that a step logged without a fault are
+/// `logged`, and `attempted` are these and the ones of a log step that failed.
 const UNOPENED: Progress = Progress {
-    answered: 0,
+    logged: 0,
     attempted: 0,
     is_faultless: false,
 };
 
 /// How far a run has come after a step with this outcome. A `Log` step logs one change.
-fn behind(progress: Progress, outcome: &Outcome) -> Progress {
+fn progress_after(progress: Progress, outcome: &Outcome) -> Progress {
     let Progress {
-        answered,
+        logged,
         attempted,
         is_faultless,
     } = progress;
     match outcome {
         Outcome::Logged(1) => Progress {
-            answered: answered.saturating_add(1),
+            logged: logged.saturating_add(1),
             attempted: attempted.saturating_add(1),
             is_faultless,
         },
         Outcome::LogFault(CoreFault::Device) => Progress {
-            answered,
+            logged,
             attempted: attempted.saturating_add(1),
             is_faultless: false,
         },
         Outcome::PointRefused(PointRefusal::Device) => Progress {
-            answered,
+            logged,
             attempted,
             is_faultless: false,
         },
@@ -113,7 +113,7 @@ impl Trial for Play {
                     ..UNOPENED
                 };
                 for step in self.steps.as_slice() {
-                    progress = behind(progress, &one(&mut machine, *step));
+                    progress = progress_after(progress, &one(&mut machine, *step));
                 }
                 let device = machine.into_core().into_disk();
                 Ok(Ended { device, progress })
@@ -133,7 +133,7 @@ impl Trial for Play {
         };
         let expected_answers = self.expected_answers.iter().enumerate();
         let mut allowed = expected_answers.filter(|(count, _)| {
-            progress.answered <= *count && *count <= progress.attempted
+            progress.logged <= *count && *count <= progress.attempted
         });
         allowed.any(|(_, answers)| answers == found)
     }

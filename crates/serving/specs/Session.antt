@@ -62,7 +62,8 @@ machine p = machine_with_jobs p.core p.dispatch_seat.lent
 -- has left. `LosesPartialLine`: of what is unread the first bytes were read and are lost, none of them a newline, and the others remain.
 abbrev pub IsReadEnd : Geometry → CoreView → Option (List ℕ) → Bool → Option (List ℕ) → ReadEnd → Type 0
 IsReadEnd g core unread drained remaining ends_of_reading.EndOfInput = IsAtEnd unread × IsAtEnd remaining
-IsReadEnd g core unread drained remaining ends_of_reading.ReadFailed = (drained ≡ false) × IfSome unread (λ bs. LosesPartialLine bs remaining)
+IsReadEnd g core unread drained remaining ends_of_reading.ReadFailed = (drained ≡ false)
+    × IfSome unread (λ bs. LosesPartialLine bs remaining)
 IsReadEnd g core unread drained remaining ends_of_reading.TicketsExhausted = (core.next ≡ 2 ^ 64 - 1)
     × ((line : List ℕ) × (m : Msg) × IfSome unread (λ bs. (rest : Option (List ℕ)) × GivesLine line bs rest)
     × (message_of line ≡ Some m) × (is_in_range g m ≡ true))
