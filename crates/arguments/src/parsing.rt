@@ -171,7 +171,7 @@ fn outcome_of<'a>(error: clap::Error) -> Result<Request<'a>, ArgumentRefusal>
 }
 
 /// An option that takes a number from `least` to `most`. In clauses `rule_of` is the description of an argument by which `clap` reads words
-/// (without help's texts), and `pos n` is n as an integer. `local`: subcommands of its command don't take the option, too.
+/// (without help's texts), and `pos n` is n as an integer. `local`: subcommands don't inherit the option.
 fn number<'a>(alloc: Global, name: &'a str, help: &'a str, least: u16, most: u16) -> Arg<'a>
     ensures rule { rule_of result ≡ rule_within name.entry.now (pos least) (pos most) }
     ensures local { result.global ≡ false }

@@ -96,7 +96,7 @@ fn read_image<D: Disk>(
     Ok(version)
 }
 
-/// Whether the chain byte of this area's half is 1. `BadChain` exactly where those of both halves are.
+/// Whether the chain byte of this area's half is 1. `BadChain` if those of both halves are.
 fn chain_of<D: Disk>(disk: &mut D, g: &Geometry, area: usize) -> Result<bool, OpenFault>
     requires area { area < 2 }
     requires long_enough { device_size (layout_of g.now) ≤ length (D.medium disk.old).now }
@@ -178,7 +178,7 @@ pub fn load_named<D: Disk>(
     })
 }
 
-/// Runs on the tree the records that are in force with this area as the named one, and gives their number.
+/// Takes this area as the named one, runs the records in force on the tree, and gives their number.
 fn replay_in_force<D: Disk>(
     log: &mut Halves,
     disk: &mut D,

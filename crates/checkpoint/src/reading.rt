@@ -52,7 +52,7 @@ fn is_version(version: u8) -> bool
     version == FIRST_VERSION || version == VERSION
 }
 
-/// Whether an image that begins so has a head: a version and zeros.
+/// Whether these bytes are the head of an image: a version that can be read, and then zeros.
 fn has_head(head: &[u8; IMAGE_HEAD_SIZE]) -> bool
     ensures { result ≡ has_head head.now }
 {

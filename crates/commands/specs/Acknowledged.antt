@@ -15,9 +15,10 @@ use Rattle.commands.specs.Serving.{RecoveredTo}
 use Rattle.commands.specs.declared.faults.Fault.{Fault}
 use Rattle.commands.specs.declared.faults.Fault.TheVariants.{Write, Open}
 
--- The device recovered to a state, and the output has these lines for the first lines of the input. A history has each message whose reply
--- was sent, reads included, with its ticket and that reply. The bytes recover to the state to which the changes of the history lead from
--- the state before, perhaps with more of the messages of the input; and they are not refused. 0 is the first ticket after an opening.
+-- The device recovered to the state `start`, and the output grew by the lines `sent`, for the first lines of the input, `consumed`. A
+-- history has each message whose reply was sent, reads included, with its ticket and that reply. The bytes recover to the state to which
+-- the changes of the history, and perhaps some more messages of the input, lead from `start`; and they are not refused. 0 is the first
+-- ticket after an opening.
 pub record HoldsAcknowledged (old : Medium) (input before written : Option (List ℕ)) (bytes : List ℕ) : Type 0 where
   pub geometry : Geometry
   pub start : State
@@ -32,7 +33,8 @@ pub record HoldsAcknowledged (old : Medium) (input before written : Option (List
   pub header : HasHeader geometry bytes
   pub not_refused : refused geometry bytes ≡ None
 
--- P holds, unless a write failed (then it is unknown what was sent) or the device could not be opened (then nothing was sent).
+-- P holds, unless a write of the output failed (then it is unknown what was sent) or the device could not be opened (then nothing was
+-- sent).
 abbrev pub UnlessWriteFailed : Result (Unit {0}) Fault → Option (List ℕ) → Option (List ℕ) → Type 0 → Type 0
 UnlessWriteFailed (Err Write) before written P = Unit {0}
 UnlessWriteFailed (Err (Open fault)) before written P = written ≡ before

@@ -6,11 +6,12 @@ use Rattle.disk.specs.declared.ghost_device.ByteList.{ByteList, Empty, More'}
 use Rattle.disk.specs.declared.ghost_device.CallList.{CallList, Nothing, After'}
 use Rattle.disk.specs.Device.{Medium, moments, marked, fresh_synced, fresh_unsynced, written, synced, failed}
 
--- a device after a failed write of n bytes of which a read shows nothing
+-- a device after a failed write of n bytes: a read gives what it gave before, but the range counts as unsynced
 abbrev pub failed_write : ℕ → ℕ → Medium → Medium
 failed_write at n m = record { now = m.now; unsynced = marked m.unsynced at n; past = moments m; faults = m.faults + 1 }
 
--- a device after this call, which was given these bytes
+-- a device after this call, which was given these bytes. Of a file that was opened contracts see zeros, whatever it holds: `D.keeps` is
+-- false of it.
 abbrev pub medium_after : Call → List ℕ → Medium → Medium
 medium_after Created bytes m = fresh_synced bytes
 medium_after (Wrote at) bytes m = written at bytes m
@@ -20,8 +21,8 @@ medium_after Failed bytes m = failed m
 medium_after (OpenedSynced size) bytes m = fresh_synced (replicate size 0)
 medium_after (OpenedUnsynced size) bytes m = fresh_unsynced (replicate size 0)
 
--- The bytes of a list that has the last one first, in order. (`More'` is `More` of the Rust type, so `After'` below: the snapshot of the
--- items before is two arguments there, the second of them its value.)
+-- The bytes of a list that has the newest one first, put in order. `More'` and `After'` are `More` and `After` of the Rust types: a
+-- snapshot is two arguments there, the second of them its value.
 abbrev pub bytes_of : ByteList → List ℕ
 bytes_of Empty = []
 bytes_of (More' byte _ before) = bytes_of before ++ byte ∷ []

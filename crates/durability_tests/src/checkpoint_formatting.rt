@@ -166,8 +166,8 @@ fn is_one_of(rt: &impl Abort, bytes: &[u8], old: &[u8], new: &[u8], made: bool) 
     holds(rt, bytes == new || !made && (bytes == old || unformatted));
 }
 
-/// Asserts that where the n-th call fails, `format` reports that exactly if it makes so many calls, and after each kind of crash the device
-/// is one of those of `is_one_of`.
+/// Asserts that where the n-th call fails, `format` reports that exactly if it makes n calls or more, and after each kind of crash the
+/// device is one of those of `is_one_of`.
 fn may_fail(
     rt: &impl Abort,
     alloc: Global,

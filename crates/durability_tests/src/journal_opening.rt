@@ -124,8 +124,9 @@ fn the_sync_comes_first(rt: HostRuntime) -> Result<(), Fail> {
     Ok(())
 }
 
-/// Patches of a formatted device, messages that lead to the state to which it recovers, and the area that is named once it is opened: the
-/// other one, or the same one if a cut was finished first (two flips).
+/// Patches of a formatted device, messages that lead to the state to which it recovers, and the area that is named once it is opened. Area
+/// 0 is named before (by a root byte other than 1, as in the second row); an opening names the other one, or 0 again if it finishes a cut
+/// first.
 const OPENED: [(&[(usize, u8)], &[&str], usize); 11] = [
     (&[], &[], 1),
     (&[(64, 7)], &[], 1),
@@ -209,15 +210,15 @@ fn is_opened(
 }
 
 #[test]
-fn what_a_device_recovers_for_is_opened(rt: HostRuntime) -> Result<(), Fail> {
+fn a_recoverable_device_is_opened(rt: HostRuntime) -> Result<(), Fail> {
     for &(patches, lines, area) in &OPENED {
         is_opened(&rt, rt.alloc(), patches, lines, area)?;
     }
     Ok(())
 }
 
-/// A cut was in progress, and the first record behind it is bad. Then, of the volume's piece in image 1 after the refusal: its made byte,
-/// and the first byte of its bitmap of files.
+/// Patches that leave a cut in progress with a bad first record behind it; and two bytes of the volume's piece in image 1 after the
+/// refusal: its made byte, and the first byte of its bitmap of files.
 const BAD_BEHIND: [(&[(usize, u8)], [u8; 2]); 2] = [
     (&[(128, 1), (2340, 1)], [0, 0]),
     // Image 0 has the volume, and the record of half 0 makes its file 1.
@@ -229,12 +230,12 @@ const BAD_BEHIND: [(&[(usize, u8)], [u8; 2]); 2] = [
 
 /// The opening of such a device.
 #[derive(Drop)]
-struct Refusal {
+struct RefusedOpening {
     questions: Questions,
     patches: &'static [(usize, u8)],
 }
 
-impl Trial for Refusal {
+impl Trial for RefusedOpening {
     fn questions(&self) -> &Questions {
         &self.questions
     }
@@ -258,13 +259,13 @@ impl Trial for Refusal {
     }
 }
 
-/// Asserts: whichever call of an opening fails (`sweep` tries each), the next one refuses the device again. A refusal with no fault leaves
-/// area 1 named, with the state at the cut in its image: `volume` is two bytes of the volume's piece there, the made byte and the first one
-/// of the bitmap of files.
+/// Asserts: whichever call of an opening fails, or stops the device, which is then torn (`sweep` tries each), the next opening refuses the
+/// device again. A refusal with no fault leaves area 1 named, with the state at the cut in its image: `volume` is two bytes of the volume's
+/// piece there, the made byte and the first one of the bitmap of files.
 fn stays_refused(
     rt: &impl Abort,
     alloc: Global,
-    trial: &Refusal,
+    trial: &RefusedOpening,
     volume: [u8; 2],
 ) -> Result<(), Wrong> {
     sweep(alloc, trial)?;
@@ -282,7 +283,7 @@ fn stays_refused(
 fn a_bad_record_behind_a_cut_stays_one(rt: HostRuntime) -> Result<(), Fail> {
     for &(patches, volume) in &BAD_BEHIND {
         let questions = Questions::new(rt.alloc(), &Geometry::new(SMALL)?)?;
-        let trial = Refusal { questions, patches };
+        let trial = RefusedOpening { questions, patches };
         stays_refused(&rt, rt.alloc(), &trial, volume)?;
     }
     Ok(())

@@ -102,7 +102,7 @@ const RECORDS: [([u8; 3], Result<Msg, LogFault>); 8] = [
 ];
 
 #[test]
-fn no_message_that_changes_nothing_is_read(rt: HostRuntime) -> Result<(), Fail> {
+fn only_changes_in_range_are_read(rt: HostRuntime) -> Result<(), Fail> {
     for &(first, wanted) in &RECORDS {
         let mut server = Server::new(rt.alloc(), 4)?;
         holds(&rt, server.writes(196 + 3 * 520, &first));
@@ -144,7 +144,7 @@ fn clearing_keeps_the_records(rt: HostRuntime) -> Result<(), Fail> {
     Ok(())
 }
 
-/// The test passes also if any one request for memory in it is refused.
+/// `tests/run calls` also runs this test with each request for memory refused in turn.
 #[test]
 fn a_refused_log_is_made_at_the_next_try(rt: HostRuntime) -> Result<(), Fail> {
     let g = Geometry::default();

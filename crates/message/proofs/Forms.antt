@@ -1,4 +1,4 @@
--- The forms of messages, a word at a time.
+-- The grammar of each kind of message, word by word: the first word as a number, then the rest by the rule for one number less.
 use Rattle.std.proofs.Common.{◌≡◌, ℕ, List, [], ◌∷◌, Option, Some, None, refl, ap, sym, ◌∙◌}
 use Rattle.std.specs.Option.{option_map}
 use Rattle.std.specs.Prelude.{IfSome}
@@ -13,7 +13,7 @@ use Rattle.message.proofs.Numbers.{number_no_space}
 use Rattle.message.proofs.Blocks.{block_no_space, label_no_space, bytes_block, no_block, label_bytes}
 use Rattle.messages.specs.Grammar.{◌>>=◌, first_number, of_volume, of_file, of_block, of_data, of_label, of_nothing}
 
--- k of the number that the first of several words encodes, and of the words after it
+-- k applied to the number that the first of several words encodes, and to the words after it
 abbrev pub onward : (ℕ → List (List ℕ) → Option Msg) → List (List ℕ) → Option Msg
 onward k ws = first_number ws >>= (λ p. k p.0 p.1)
 
@@ -27,13 +27,13 @@ onward_none k ws e = rw e refl
 abbrev beside : List (List ℕ) → ℕ → Option (ℕ × List (List ℕ))
 beside vs n = Some (n, vs)
 
--- f of an optional number is k of the number and of the words vs behind it
+-- f applied to an optional number is k applied to the number and to the words vs behind it
 live : (o : Option ℕ) (vs : List (List ℕ)) (f : ℕ → Option Msg) (k : ℕ → List (List ℕ) → Option Msg) → ((n : ℕ) → f n ≡ k n vs)
     → (o >>= f) ≡ ((o >>= beside vs) >>= (λ p. k p.0 p.1))
 live None vs f k h = refl
 live (Some n) vs f k h = h n
 
--- no message, where k makes none of the words vs behind the number: they are too few or too many
+-- if k makes no message of the words vs (too few or too many), there is none, whatever the number
 dead : (o : Option ℕ) (vs : List (List ℕ)) (k : ℕ → List (List ℕ) → Option Msg) → ((n : ℕ) → k n vs ≡ None)
     → None ≡ ((o >>= beside vs) >>= (λ p. k p.0 p.1))
 dead None vs k h = refl

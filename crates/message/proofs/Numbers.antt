@@ -15,11 +15,11 @@ use Rattle.std.proofs.lemmas.Fmt.{decimal-digits_value, digits_decimal, digits_v
 use Rattle.messages.specs.Lines.{number_in_word, is_numeral}
 use Rattle.message.proofs.Words.{HasNoSpace}
 
--- decimal digits by their test, and the number that they write
+-- the kit's model of a numeral, for words that pass `all_ascii_digits`
 pub own : IsNumeralModel (λ ds. all_ascii_digits ds ≡ true) (digits_value 10)
 own = numerals_by_value (λ ds. all_ascii_digits ds ≡ true) tells_all_ascii_digits
 
--- a word with what makes it encode a number below 65536
+-- word w encodes a number below 65536; `plain`: it has no leading zero
 pub record IsNumber (w : List ℕ) : Type 0 where
   pub digits : all_ascii_digits w ≡ true
   pub some : 0 < length w

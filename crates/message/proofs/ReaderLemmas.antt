@@ -12,7 +12,7 @@ use Rattle.std.proofs.lemmas.Option.{none-some, same_Some}
 use Rattle.std.specs.Prelude.{◌&&◌}
 use Rattle.std.proofs.Math.Seq.{take-add}
 use Rattle.messages.proofs.FirstLines.{first_line-newline, first_line-other, behind_first_line-newline, behind_first_line-other}
-use Rattle.messages.specs.FirstLine.{first_line, behind_first_line, IsWithinLine, GivesLine, PassesLine, LosesPartialLine, HasWholeFirstLine}
+use Rattle.messages.specs.FirstLine.{first_line, behind_first_line, IsWithinLine, GivesLine, PassesLine, LosesLineStart, HasWholeFirstLine}
 use Rattle.message.specs.Reader.{still_to_come, are_none}
 
 -- ---- the first line of bytes that are read in parts
@@ -123,20 +123,20 @@ behind_first_line-slice xs {i} {k} {j} {n} low high within none there next =
 
 -- ---- what is unread
 
-pub LosesPartialLine-kept : (old new : Option (List ℕ)) → Keeps old new → IfSome old (λ bs. LosesPartialLine bs new)
-LosesPartialLine-kept None new keeps = tt
-LosesPartialLine-kept (Some x) None keeps = absurd keeps
-LosesPartialLine-kept (Some x) (Some y) keeps = record { got = []; rest = x; parts = refl; within_line = All-nil NoNewline; left_is = ap Some keeps }
+pub LosesLineStart-kept : (old new : Option (List ℕ)) → Keeps old new → IfSome old (λ bs. LosesLineStart bs new)
+LosesLineStart-kept None new keeps = tt
+LosesLineStart-kept (Some x) None keeps = absurd keeps
+LosesLineStart-kept (Some x) (Some y) keeps = record { got = []; rest = x; parts = refl; within_line = All-nil NoNewline; left_is = ap Some keeps }
 
 -- if the held bytes have no newline and are dropped, only a front of the first line is lost
-pub LosesPartialLine-buffered : (buffered : List ℕ) (known : Option (List ℕ)) → IsWithinLine buffered → IfSome (prepend_known buffered known) (λ bs. LosesPartialLine bs known)
-LosesPartialLine-buffered buffered None within = tt
-LosesPartialLine-buffered buffered (Some ys) within = record { got = buffered; rest = ys; parts = refl; within_line = within; left_is = refl }
+pub LosesLineStart-buffered : (buffered : List ℕ) (known : Option (List ℕ)) → IsWithinLine buffered → IfSome (prepend_known buffered known) (λ bs. LosesLineStart bs known)
+LosesLineStart-buffered buffered None within = tt
+LosesLineStart-buffered buffered (Some ys) within = record { got = buffered; rest = ys; parts = refl; within_line = within; left_is = refl }
 
-losing_twice : (x : List ℕ) (b c : Option (List ℕ)) → LosesPartialLine x b → IfSome b (λ bs. LosesPartialLine bs c) → LosesPartialLine x c
+losing_twice : (x : List ℕ) (b c : Option (List ℕ)) → LosesLineStart x b → IfSome b (λ bs. LosesLineStart bs c) → LosesLineStart x c
 losing_twice x b c first next =
-    let P : Option (List ℕ) → Type 0 = λ o. IfSome o (λ bs. LosesPartialLine bs c) in
-    let second : LosesPartialLine first.rest c = subst P first.left_is next in
+    let P : Option (List ℕ) → Type 0 = λ o. IfSome o (λ bs. LosesLineStart bs c) in
+    let second : LosesLineStart first.rest c = subst P first.left_is next in
     record {
       got = first.got ++ second.got;
       rest = second.rest;
@@ -145,18 +145,18 @@ losing_twice x b c first next =
       left_is = second.left_is;
     }
 
-pub LosesPartialLine-trans : (a b c : Option (List ℕ)) → IfSome a (λ bs. LosesPartialLine bs b) → IfSome b (λ bs. LosesPartialLine bs c) → IfSome a (λ bs. LosesPartialLine bs c)
-LosesPartialLine-trans None b c first next = tt
-LosesPartialLine-trans (Some x) b c first next = losing_twice x b c first next
+pub LosesLineStart-trans : (a b c : Option (List ℕ)) → IfSome a (λ bs. LosesLineStart bs b) → IfSome b (λ bs. LosesLineStart bs c) → IfSome a (λ bs. LosesLineStart bs c)
+LosesLineStart-trans None b c first next = tt
+LosesLineStart-trans (Some x) b c first next = losing_twice x b c first next
 
-passing_behind : (x : List ℕ) (b c : Option (List ℕ)) → LosesPartialLine x b → IfSome b (λ bs. c ≡ Some (behind_first_line bs)) → c ≡ Some (behind_first_line x)
+passing_behind : (x : List ℕ) (b c : Option (List ℕ)) → LosesLineStart x b → IfSome b (λ bs. c ≡ Some (behind_first_line bs)) → c ≡ Some (behind_first_line x)
 passing_behind x b c first next =
     let P : Option (List ℕ) → Type 0 = λ o. IfSome o (λ bs. c ≡ Some (behind_first_line bs)) in
     let second : c ≡ Some (behind_first_line first.rest) = subst P first.left_is next in
     second ∙ ap Some (sym (ap behind_first_line first.parts ∙ behind_first_line-within first.got first.rest first.within_line))
 
 -- what lies behind the first line is the same after a front of the line was lost
-pub behind_first_line-later : (a b c : Option (List ℕ)) → IfSome a (λ bs. LosesPartialLine bs b) → IfSome b (λ bs. c ≡ Some (behind_first_line bs)) → IfSome a (λ bs. c ≡ Some (behind_first_line bs))
+pub behind_first_line-later : (a b c : Option (List ℕ)) → IfSome a (λ bs. LosesLineStart bs b) → IfSome b (λ bs. c ≡ Some (behind_first_line bs)) → IfSome a (λ bs. c ≡ Some (behind_first_line bs))
 behind_first_line-later None b c first next = tt
 behind_first_line-later (Some x) b c first next = passing_behind x b c first next
 
@@ -219,11 +219,11 @@ NoneFrom-read xs ys i j k same before behind m low high = elim (cases_lt m j) [
 -- ---- steps of a reader of lines: held bytes, and what is to come
 
 -- after a front of the first line was lost, the held bytes are dropped, too
-pub LosesPartialLine-cleared : (a known : Option (List ℕ)) (buffered empty : List ℕ) → IfSome a (λ bs. LosesPartialLine bs (prepend_known buffered known))
-    → IsWithinLine buffered → empty ≡ [] → IfSome a (λ bs. LosesPartialLine bs (prepend_known empty known))
-LosesPartialLine-cleared a known buffered empty lost within none =
+pub LosesLineStart-cleared : (a known : Option (List ℕ)) (buffered empty : List ℕ) → IfSome a (λ bs. LosesLineStart bs (prepend_known buffered known))
+    → IsWithinLine buffered → empty ≡ [] → IfSome a (λ bs. LosesLineStart bs (prepend_known empty known))
+LosesLineStart-cleared a known buffered empty lost within none =
     let gone : prepend_known empty known ≡ known = ap (λ l. prepend_known l known) none ∙ prepend_known-nil known in
-    rw gone (LosesPartialLine-trans a (prepend_known buffered known) known lost (LosesPartialLine-buffered buffered known within))
+    rw gone (LosesLineStart-trans a (prepend_known buffered known) known lost (LosesLineStart-buffered buffered known within))
 
 IsAtEnd-known_end : (ended : Bool) (known : Option (List ℕ)) → ended ≡ true → IsAtEnd (still_to_come ended known)
 IsAtEnd-known_end false known known_end = absurd (false≢true known_end)
@@ -235,7 +235,7 @@ IsWhole-known_end ended buffered known (inl known_end) = inr (IsAtEnd-known_end 
 IsWhole-known_end ended buffered known (inr there) = inl there
 
 -- the first line is passed over, after a front of it was lost
-pub passed : (a known : Option (List ℕ)) (buffered rest : List ℕ) → IfSome a (λ bs. LosesPartialLine bs (prepend_known buffered known)) → IsWhole buffered known
+pub passed : (a known : Option (List ℕ)) (buffered rest : List ℕ) → IfSome a (λ bs. LosesLineStart bs (prepend_known buffered known)) → IsWhole buffered known
     → rest ≡ behind_first_line buffered → IfSome a (λ bs. prepend_known rest known ≡ Some (behind_first_line bs))
 passed a known buffered rest lost whole is =
     rw is (behind_first_line-later a (prepend_known buffered known) (prepend_known (behind_first_line buffered) known) lost (behind_first_line-buffered buffered known whole))
@@ -297,7 +297,7 @@ HasWholeFirstLine-buffered false buffered None (inr found) = tt
 HasWholeFirstLine-buffered false buffered (Some more) (inr found) = inl (contains_front buffered more found)
 HasWholeFirstLine-buffered true buffered (Some more) (inr found) = inl (contains_front buffered [] found)
 
-closed_behind : (bs : List ℕ) (b : Option (List ℕ)) (drained : Bool) → LosesPartialLine bs b → HasWholeFirstLine b drained → Contains bs 10 ⊎ (drained ≡ true)
+closed_behind : (bs : List ℕ) (b : Option (List ℕ)) (drained : Bool) → LosesLineStart bs b → HasWholeFirstLine b drained → Contains bs 10 ⊎ (drained ≡ true)
 closed_behind bs None drained lost closed = absurd (none-some lost.rest lost.left_is)
 closed_behind bs (Some rest) drained lost closed = elim closed [
   | inl found ↦ inl (subst (λ (z : List ℕ). Contains z 10) (sym lost.parts) (contains_behind lost.got lost.rest (subst (λ (z : List ℕ). Contains z 10) (same_Some rest lost.rest lost.left_is) found)))
@@ -305,6 +305,6 @@ closed_behind bs (Some rest) drained lost closed = elim closed [
 ]
 
 -- if the first line of what is left is whole, then so is the first line with the front that was lost
-pub HasWholeFirstLine-behind : (a b : Option (List ℕ)) (drained : Bool) → IfSome a (λ bs. LosesPartialLine bs b) → HasWholeFirstLine b drained → HasWholeFirstLine a drained
+pub HasWholeFirstLine-behind : (a b : Option (List ℕ)) (drained : Bool) → IfSome a (λ bs. LosesLineStart bs b) → HasWholeFirstLine b drained → HasWholeFirstLine a drained
 HasWholeFirstLine-behind None b drained lost closed = tt
 HasWholeFirstLine-behind (Some bs) b drained lost closed = closed_behind bs b drained lost closed

@@ -2,7 +2,7 @@
 use Rattle.std.specs.Prelude.{ℕ, ◌<◌, ◌⊎◌, ◌&&◌, Bool, true, false, List, [], ◌∷◌, length, slice_range, Option, Result, Ok, Err, IsTrue, IfSome, Contains}
 use Rattle.std.specs.Option.{option_map}
 use Rattle.std.specs.Io.KnownBytes.{prepend_known, IsAtEnd}
-use Rattle.messages.specs.FirstLine.{first_line, GivesLine, PassesLine, IsAtEndOf, LosesPartialLine, HasWholeFirstLine}
+use Rattle.messages.specs.FirstLine.{first_line, GivesLine, PassesLine, IsAtEndOf, LosesLineStart, HasWholeFirstLine}
 use Rattle.message.specs.declared.reading.Found.{Found}
 use Rattle.message.specs.declared.reading.Found.TheVariants.{Line, TooLong, End}
 use Rattle.message.specs.declared.reading.ReadFault.{ReadFault}
@@ -64,7 +64,7 @@ abbrev pub Finds : Result Found ReadFault → Option (List ℕ) → List ℕ →
 Finds (Ok Line) old line new = IfSome old (λ bs. GivesLine line bs new)
 Finds (Ok TooLong) old line new = IfSome old (λ bs. PassesLine bs new)
 Finds (Ok End) old line new = IfSome old (λ bs. IsAtEndOf bs new)
-Finds (Err fault) old line new = IfSome old (λ bs. LosesPartialLine bs new)
+Finds (Err fault) old line new = IfSome old (λ bs. LosesLineStart bs new)
 
 -- ---- the end of the input
 

@@ -1,7 +1,7 @@
 //! The lines of an input, one after the other, from a buffer of a fixed length. In clauses `Keeps a b` says that the bytes a, where they
 //! are known, stay as they were, and `Consumes a b bs` that they lose bs at their front; `prepend_known bs a` is bs and then a. `unread` is
-//! what isn't given yet: the bytes that are held, and then, until a read reports the end, what the reader has left. `LosesPartialLine bs
-//! a`: a is what is left of bs after some first bytes, none of them a newline. `KnowsEnd`: once a read has reported the end, the reader has
+//! what isn't given yet: the bytes that are held, and then, until a read reports the end, what the reader has left. `LosesLineStart bs a`:
+//! a is what is left of bs after some first bytes, none of them a newline. `KnowsEnd`: once a read has reported the end, the reader has
 //! nothing left.
 ghost use Rattle.std.specs.Prelude.{◌≡◌, ◌≢◌, ℕ, ◌+◌, ◌-◌, ◌<◌, ◌≤◌, ◌↔◌, ◌⊎◌, [], true, false, length, take, drop, slice_index, IsTrue, IsFalse, IsOk, IsErr, is_err, IfSome, IfOk, OnOk, OnErr, Contains, vec_len};
 ghost use Rattle.std.specs.Io.KnownBytes.{Keeps, Consumes, IsAtEnd, prepend_known};
@@ -245,7 +245,7 @@ pub struct LineReader<R> {
 }
 
 impl<R: Read> LineReader<R> {
-    ghost use Rattle.messages.specs.FirstLine.{first_line, behind_first_line, IsWithinLine, LosesPartialLine, HasWholeFirstLine};
+    ghost use Rattle.messages.specs.FirstLine.{first_line, behind_first_line, IsWithinLine, LosesLineStart, HasWholeFirstLine};
     ghost use Rattle.message.specs.Reader.{buffered_bytes, HoldsEnough, unread, line_of, HoldsLine, has_ended, has_failed, source, Finds, Closes, is_drained, KnowsEnd};
 
     /// A reader of lines over a reader, before its first read. The buffer has 1,101 bytes at least.
@@ -356,7 +356,7 @@ impl<R: Read> LineReader<R> {
         ensures bytes { OnOk result
             (Keeps (unread R.remaining self.old) (unread R.remaining self.new)) }
         ensures lost { OnErr result (IfSome (unread R.remaining self.old)
-            (λ bs. LosesPartialLine bs (unread R.remaining self.new))) }
+            (λ bs. LosesLineStart bs (unread R.remaining self.new))) }
         ensures failed { has_failed self.new ≡ is_err result }
         ensures at_end { KnowsEnd R.remaining self.new }
         ensures more { OnOk result (IsTrue (has_ended self.new)
@@ -383,7 +383,7 @@ impl<R: Read> LineReader<R> {
         ensures bytes { OnOk result
             (Keeps (unread R.remaining self.old) (unread R.remaining self.new)) }
         ensures lost { OnErr result (IfSome (unread R.remaining self.old)
-            (λ bs. LosesPartialLine bs (unread R.remaining self.new))) }
+            (λ bs. LosesLineStart bs (unread R.remaining self.new))) }
         ensures failed { has_failed self.new ≡ is_err result }
         ensures enough { OnOk result (HoldsEnough self.new) }
         ensures at_once { HoldsLine self.old → self.new ≡ self.old }
@@ -404,7 +404,7 @@ impl<R: Read> LineReader<R> {
         requires within_line { IsWithinLine (buffered_bytes self.old.buffered) }
         ensures line { line_of self.new ≡ [] }
         ensures lost { IfSome (unread R.remaining self.old)
-            (λ bs. LosesPartialLine bs (unread R.remaining self.new)) }
+            (λ bs. LosesLineStart bs (unread R.remaining self.new)) }
         ensures failed { has_failed self.new ≡ is_err result }
         ensures whole { OnOk result (IsTrue (has_ended self.new) ⊎ HoldsLine self.new) }
         ensures at_end { KnowsEnd R.remaining self.new }
@@ -430,7 +430,7 @@ impl<R: Read> LineReader<R> {
             (λ bs. unread R.remaining self.new ≡ Some (behind_first_line bs))) }
         ensures closed { OnOk result (HasWholeFirstLine (unread R.remaining self.old) (is_drained self.new)) }
         ensures lost { OnErr result (IfSome (unread R.remaining self.old)
-            (λ bs. LosesPartialLine bs (unread R.remaining self.new))) }
+            (λ bs. LosesLineStart bs (unread R.remaining self.new))) }
         ensures failed { has_failed self.new ≡ is_err result }
         ensures at_once { HoldsLine self.old → source self.new ≡ source self.old }
         ensures ready { HoldsLine self.old → IsOk result }

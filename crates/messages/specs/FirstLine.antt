@@ -34,7 +34,7 @@ pub record IsAtEndOf (bs : List ℕ) (left : Option (List ℕ)) : Type 0 where
   pub left_is : left ≡ Some []
 
 -- A read failed: some bytes at the front were lost, none of them a newline, and the others are left.
-pub record LosesPartialLine (bs : List ℕ) (left : Option (List ℕ)) : Type 0 where
+pub record LosesLineStart (bs : List ℕ) (left : Option (List ℕ)) : Type 0 where
   pub got : List ℕ
   pub rest : List ℕ
   pub parts : bs ≡ got ++ rest

@@ -9,7 +9,7 @@ use Rattle.std.proofs.lemmas.Bool.{true≢false}
 use Rattle.affinity.specs.declared.geometry.Geometry.{Geometry}
 use Rattle.messages.specs.Lines.{lines}
 use Rattle.messages.specs.Grammar.{message_of}
-use Rattle.messages.specs.FirstLine.{GivesLine, PassesLine, HasWholeFirstLine, LosesPartialLine}
+use Rattle.messages.specs.FirstLine.{GivesLine, PassesLine, HasWholeFirstLine, LosesLineStart}
 use Rattle.meaning.specs.State.{State}
 use Rattle.meaning.specs.Output.{answer_line, state_after_line, state_after_lines, output_lines, joined, serial_output, with_newlines, AnswersWholeLines, IsBeginning, WritesOutput}
 use Rattle.meaning.specs.Progress.{HasAnswered}
@@ -50,7 +50,7 @@ ends {g} {start} {input = Some input} {left = Some bs} h all =
 -- a read failed
 pub fails : {g : Geometry} {start : State} {input left : Option (List ℕ)} {ended : Bool} {x : State} {old new : Option (List ℕ)} (now_left : Option (List ℕ))
     → HasAnswered g start input left ended x old new
-    → ended ≡ false → IfSome left (λ bs. LosesPartialLine bs now_left) → WritesOutput input old new (AnswersWholeLines g start now_left)
+    → ended ≡ false → IfSome left (λ bs. LosesLineStart bs now_left) → WritesOutput input old new (AnswersWholeLines g start now_left)
 fails {input = None} now_left h going lost = tt
 fails {input = Some input} {left = None} now_left h going lost = absurd (none-some h.taken.0 h.taken.1)
 fails {g} {start} {input = Some input} {left = Some bs} now_left h going lost =

@@ -1,6 +1,6 @@
-//! A session of the serial server: line after line is answered. In clauses `all_output` is what the writer holds, where that is known, and
-//! then what waits; `unread` is what a reader of lines hasn't given yet: the bytes that it holds, and then, until a read reports the end,
-//! what its source has left.
+//! A session of the serial server: line after line is answered. In clauses `all_output` is what the writer holds (if known),
+//! followed by the replies that wait; `unread` is what a reader of lines hasn't given yet: the bytes that it holds, followed by what its
+//! source has left (nothing once a read has reported the end).
 
 ghost use Rattle.std.specs.Prelude.{◌≡◌, ◌≤◌, ◌++◌, ℕ, List, [], Option, Some, true, false, option_map, IfOk, OnOk, OnErr, IsErrOf, IsFalse, MatchBool, vec_len};
 ghost use Rattle.std.specs.Io.KnownBytes.{Appends, IsAtEnd};

@@ -26,8 +26,8 @@ const EIGHT: Way = Way {
     every: 8,
 };
 
-/// Looks at the device when a message is answered. Between two answers without a sync between them, whose messages were logged together,
-/// one piece of an image is written at most.
+/// Looks at the device when a message is answered. Two answers with no sync between them are of messages logged together: at most one
+/// piece of an image is written between these.
 #[derive(Drop)]
 struct Stepwise<'a> {
     /// What the device has noted, by which its syncs and pieces are counted.
@@ -84,7 +84,7 @@ fn lines(alloc: Global) -> Result<(Vec<u8>, Vec<u8>), AllocError> {
 }
 
 #[test]
-fn one_piece_is_written_behind_each_answer(rt: HostRuntime) -> Result<(), Fail> {
+fn at_most_one_piece_is_written_between_answers(rt: HostRuntime) -> Result<(), Fail> {
     let (lines, answers) = lines(rt.alloc())?;
     let notes = Notes::new();
     let gate = Stepwise {
@@ -217,8 +217,7 @@ impl Gate for AtAnswer<'_> {
     }
 }
 
-/// A writer by which replies have to be prompt: it looks, at each write, how many pieces were written since a message was last answered: it
-/// has to be one at most.
+/// A writer that checks that replies are prompt: at each write, at most one piece may have been written since a message was last answered.
 #[derive(Drop)]
 struct Prompt<'a> {
     output: Vec<u8>,

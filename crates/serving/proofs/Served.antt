@@ -16,7 +16,7 @@ use Rattle.legal_runs.specs.CoreState.{Entry}
 use Rattle.legal_runs.specs.Runs.{arrived}
 use Rattle.messages.proofs.FirstLines.{lines-first}
 use Rattle.messages.specs.Lines.{lines}
-use Rattle.messages.specs.FirstLine.{LosesPartialLine, behind_first_line}
+use Rattle.messages.specs.FirstLine.{LosesLineStart, behind_first_line}
 use Rattle.messages.specs.declared.Reply.{Reply}
 use Rattle.meaning.specs.Order.{by_ticket, messages, serial_replies}
 use Rattle.meaning.specs.Output.{AnswersWholeLines, joined, output_lines, state_after_lines, with_newlines}
@@ -103,7 +103,7 @@ module _ (keeps : Type 0) (start now : MachineView) (idle : IsIdle (core_state_o
       )
 
   pub ends_at_read : {input unread before written : Option (List ℕ)} (remaining : Option (List ℕ)) → ServingProgress keeps start now [] input unread false before written
-      → now.core.failed ≡ false → IfSome unread (λ bs. LosesPartialLine bs remaining) → EndsWith start.core now.core input remaining before written (Err faults.Read)
+      → now.core.failed ≡ false → IfSome unread (λ bs. LosesLineStart bs remaining) → EndsWith start.core now.core input remaining before written (Err faults.Read)
   ends_at_read {input = None} remaining h works lost = (idle_again idle h, works, tt)
   ends_at_read {input = Some input} {unread = None} remaining h works lost = absurd (none-some h.takes.0 h.takes.1)
   ends_at_read {input = Some input} {unread = Some bs} remaining h works lost =

@@ -8,7 +8,7 @@ use Rattle.legal_runs.specs.declared.outcomes.PointRefusal.TheVariants as refusa
 use Rattle.runs.specs.Machine.{MachineView}
 use Rattle.messages.specs.Grammar.{message_of}
 use Rattle.messages.specs.Messages.{is_in_range}
-use Rattle.messages.specs.FirstLine.{GivesLine, LosesPartialLine}
+use Rattle.messages.specs.FirstLine.{GivesLine, LosesLineStart}
 use Rattle.messages.specs.declared.Msg.{Msg}
 use Rattle.meaning.specs.Output.{joined}
 use Rattle.scheduler.specs.CoreView.{CoreView, core_state_of}
@@ -59,11 +59,10 @@ machine p = machine_with_jobs p.core p.dispatch_seat.lent
 -- ---- why no more is read
 
 -- The last argument is why no more is read. `unread` is what wasn't consumed of the input when reading ended, `remaining` what its reader
--- has left. `LosesPartialLine`: of what is unread the first bytes were read and are lost, none of them a newline, and the others remain.
+-- has left. `LosesLineStart`: of what is unread the first bytes were read and are lost, none of them a newline, and the others remain.
 abbrev pub IsReadEnd : Geometry → CoreView → Option (List ℕ) → Bool → Option (List ℕ) → ReadEnd → Type 0
 IsReadEnd g core unread drained remaining ends_of_reading.EndOfInput = IsAtEnd unread × IsAtEnd remaining
-IsReadEnd g core unread drained remaining ends_of_reading.ReadFailed = (drained ≡ false)
-    × IfSome unread (λ bs. LosesPartialLine bs remaining)
+IsReadEnd g core unread drained remaining ends_of_reading.ReadFailed = (drained ≡ false) × IfSome unread (λ bs. LosesLineStart bs remaining)
 IsReadEnd g core unread drained remaining ends_of_reading.TicketsExhausted = (core.next ≡ 2 ^ 64 - 1)
     × ((line : List ℕ) × (m : Msg) × IfSome unread (λ bs. (rest : Option (List ℕ)) × GivesLine line bs rest)
     × (message_of line ≡ Some m) × (is_in_range g m ≡ true))

@@ -15,7 +15,7 @@ ghost use Rattle.legal_runs.specs.declared.outcomes.ArriveRefusal.TheVariants as
 ghost use Rattle.legal_runs.specs.declared.outcomes.Outcome.TheVariants as outcomes;
 ghost use Rattle.messages.specs.Grammar.{message_of};
 ghost use Rattle.messages.specs.Messages.{is_in_range};
-ghost use Rattle.messages.specs.FirstLine.{GivesLine, LosesPartialLine};
+ghost use Rattle.messages.specs.FirstLine.{GivesLine, LosesLineStart};
 ghost use Rattle.messages.specs.declared.Msg.{Msg};
 ghost use Rattle.messages.specs.Replies.{reply_line};
 ghost use Rattle.messages.specs.declared.Reply.{Reply};
@@ -80,8 +80,8 @@ pub fn each_unanswered_message_has_its_line<D: Disk>()
 {}
 
 /// A server in whose core nothing waited or was held at the start has written what the serial server writes, however many messages ran at
-/// once: at the end of the input all of it; where a read failed, the answers to the whole lines that were read (`LosesPartialLine`: what
-/// was read of a further line, without its newline, is lost); where a line found no ticket, the answers to the lines before it; where the
+/// once: at the end of the input all of it; where a read failed, the answers to the whole lines that were read (`LosesLineStart`: what was
+/// read of a further line, without its newline, is lost); where a line found no ticket, the answers to the lines before it; where the
 /// device failed, a prefix of it in whole lines. In the first three cases nothing waits or is held, and the core has committed the state
 /// that the serial server has after the answered lines. One legal run led to all that was written (`run`). `RecoversNow`: whatever a crash
 /// leaves now recovers to the committed state with a prefix of the messages in `doubt`.
@@ -91,7 +91,7 @@ pub fn serving_ends_as_the_serial_server<D: Disk>()
         → now.core.failed ≡ false → IsAtEnd unread → EndsWith start.core now.core input unread before written (Ok tt) }
     ensures read { (start now : MachineView) (input unread remaining before written : Option (List ℕ)) → IsIdle (core_state_of start.core)
         → ServingProgress D.keeps start now [] input unread false before written → now.core.failed ≡ false
-        → IfSome unread (λ bs. LosesPartialLine bs remaining)
+        → IfSome unread (λ bs. LosesLineStart bs remaining)
         → EndsWith start.core now.core input remaining before written (Err faults.Read) }
     ensures exhausted { (start now : MachineView) (input unread remaining : Option (List ℕ)) (drained : Bool)
         (before written : Option (List ℕ)) (line : List ℕ) (m : Msg) → IsIdle (core_state_of start.core)

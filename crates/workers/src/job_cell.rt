@@ -1,4 +1,5 @@
-//! What lies at a place: a job, or the result of one. Job and result have a `Vec` each, so that only the one that is there is moved.
+//! What lies at a place: a job, or the result of one. Job and result have a `Vec` each, so that a move copies only
+//! the one that is there, and not the size of the larger.
 ghost use Rattle.std.specs.Prelude.{◌≡◌, Option, None, Some, IfOk};
 ghost use Rattle.parcel.specs.Run.{JobView};
 ghost use Rattle.parcel.specs.declared.job.Done.{Done as TheDone};
@@ -8,8 +9,8 @@ use parcel::{Done, Job};
 use std::alloc::{AllocError, Global};
 use std::marker::Model;
 
-/// What a cell holds, as clauses see it. No value of it is made at run time: an enum has the size of its larger case, and writing the
-/// smaller case would clear the rest of it.
+/// What a cell holds, as clauses see it. No value of it is made at run time: an enum has the size of its larger case, and the
+/// compilers used clear the rest of it where the smaller case is written.
 pub enum CellContent {
     Offered(Job),
     Delivered(Done),

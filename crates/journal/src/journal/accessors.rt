@@ -1,4 +1,4 @@
-//! What a journal gives without a call of its device, and the device at its end.
+//! What a journal tells without calling its device; and the device, handed out when the journal ends.
 ghost use Rattle.std.specs.Prelude.{◌≡◌, false};
 ghost use Rattle.journal.specs.Journal.{IsRecoverable};
 

@@ -80,7 +80,7 @@ fn block_count(logical: &Logical, g: &Geometry) -> u32
     total
 }
 
-/// How much a volume holds.
+/// How much a volume holds; files and blocks of a part that is out count as none.
 pub(crate) fn volume_totals(volume: &Vol, g: &Geometry) -> Totals
     requires { FitsVolume g.now volume.now }
     ensures { result ≡ totals_of g.now (volume_facts g.now volume.now) }

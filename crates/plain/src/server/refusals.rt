@@ -1,4 +1,4 @@
-//! The first of its checks that a message fails. `meaning` has the checks of each kind; they are made here without a loop over them.
+//! Which of a message's checks fails first. `meaning` has the checks of each kind; they are made here without a loop over them.
 
 ghost use Rattle.std.specs.Prelude.{◌≡◌, ◌||◌, if◌then◌else◌, None, Some, is_some, nat_lt};
 ghost use Rattle.affinity.specs.Geometry.{stripe_of};
@@ -30,7 +30,7 @@ impl Server {
         self.has_block(a, v, f, b) || self.blocks_in(a, v, group_of(g, f, b)) < g.quota
     }
 
-    /// Why a message that needs its volume to be there (a question, `seal`, `unseal`) is refused, if it is.
+    /// Why a message that needs its volume to be there (`list`, `usage`, `label`, `seal`, `unseal`) is refused, if it is.
     fn refusal_unless_made(&self, a: u16, v: u16) -> Option<Refusal>
         ensures { result ≡ (if (server_state self.now).made (a, v) then None else Some Volume) }
     {

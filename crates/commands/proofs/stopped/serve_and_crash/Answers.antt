@@ -1,4 +1,4 @@
--- What serving promises of any device, of the one in memory that is crashed.
+-- What serving promises of any device, applied to the device in memory that is crashed then.
 use Rattle.disk.specs.Memory.{medium_of, memory_of}
 use Rattle.commands.proofs.Kept.{unless_write_failed}
 use Rattle.commands.proofs.Promise.{opened_then}

@@ -1,7 +1,7 @@
 -- Whatever comes next, a line, one too long, the end or a fault, each whole line before it has its answer.
 use Rattle.std.proofs.Common.{refl, sym, ap, ◌∙◌, subst, ℕ, List, Option}
 use Rattle.std.specs.Prelude.{IfSome}
-use Rattle.messages.specs.FirstLine.{LosesPartialLine}
+use Rattle.messages.specs.FirstLine.{LosesLineStart}
 use Rattle.message.specs.Reader.{unread, line_of, source}
 use Rattle.messages.specs.Grammar.{message_of}
 use Rattle.messages.specs.Replies.{no_message}
@@ -41,7 +41,7 @@ returns-in-Ok-TooLong-clause-answered g c = λ start input before h.
 pub returns-in-Err-clause-read : goal.returns-in-Err-clause-read
 returns-in-Err-clause-read g c = λ start input before h _.
     let unread_before = unread g.R.Read.remaining c.args.lines.now in
-    let P : Option (List ℕ) → Type 0 = λ left. IfSome unread_before (λ bs. LosesPartialLine bs left) in
+    let P : Option (List ℕ) → Type 0 = λ left. IfSome unread_before (λ bs. LosesLineStart bs left) in
     fails (g.R.Read.remaining (source c.next_line.new.self))
     (goes_on {newer = all_output (g.W.Write.contents c.send_before_line.new.w) c.send_before_line.new.out} h c.in_ok-send_before_line.ensures.kept)
     (sym c.if-is_drained.ensures.value) (subst P c.in-Err.ensures.lost c.in-Err.ensures.found)

@@ -1,6 +1,6 @@
 -- No newline is held and the input goes on; what is unread has lost no more than the front of its first line.
 use Rattle.std.proofs.Common.{◌≡◌, [], false, IfSome}
-use Rattle.messages.specs.FirstLine.{IsWithinLine, LosesPartialLine}
+use Rattle.messages.specs.FirstLine.{IsWithinLine, LosesLineStart}
 use Rattle.message.specs.Reader.{buffered_bytes, unread, line_of, has_failed}
 use Rattle.message.proofs.reading.LineReader.skip.Given as goal
 
@@ -10,5 +10,5 @@ invariant-loop g l = record {
   not_failed : has_failed l.self ≡ false;
   open_still : l.self.ended ≡ false;
   within_line : IsWithinLine (buffered_bytes l.self.buffered);
-  lost : IfSome (unread g.R.Read.remaining l.initial.self) (λ bs. LosesPartialLine bs (unread g.R.Read.remaining l.self));
+  lost : IfSome (unread g.R.Read.remaining l.initial.self) (λ bs. LosesLineStart bs (unread g.R.Read.remaining l.self));
 }

@@ -3,9 +3,9 @@ use Rattle.std.proofs.Common.{◌≡◌, ◌⊎◌, inl, inr, true, IfSome}
 use Rattle.std.specs.List.{Contains}
 use Rattle.std.specs.Prelude.{◌&&◌}
 use Rattle.std.proofs.KnownBytes.{Keeps-refl}
-use Rattle.messages.specs.FirstLine.{LosesPartialLine, behind_first_line}
+use Rattle.messages.specs.FirstLine.{LosesLineStart, behind_first_line}
 use Rattle.message.specs.Reader.{buffered_bytes, still_to_come, unread, are_none}
-use Rattle.message.proofs.ReaderLemmas.{IsWhole-known_end, passed, LosesPartialLine-kept, HasWholeFirstLine-buffered, HasWholeFirstLine-behind}
+use Rattle.message.proofs.ReaderLemmas.{IsWhole-known_end, passed, LosesLineStart-kept, HasWholeFirstLine-buffered, HasWholeFirstLine-behind}
 use Rattle.message.proofs.reading.LineReader.skip_line.Goals as goal
 use Rattle.message.proofs.reading.LineReader.skip_line.Goals.{then-not-self+then-not-has_newline+in_ok-skip, else-not-self, else-not-self-via-then-not-self+else-not-has_newline, else-not-self-via-else-not-self}
 
@@ -14,9 +14,9 @@ returns-clause-passed g c =
     let before = c.if-not-self.self in
     let a = unread g.R.Read.remaining c.args.self.now in
     let known = still_to_come before.ended (g.R.Read.remaining before.reader) in
-    let lost : IfSome a (λ bs. LosesPartialLine bs (unread g.R.Read.remaining before)) = elim c.if-not-self.branch [
+    let lost : IfSome a (λ bs. LosesLineStart bs (unread g.R.Read.remaining before)) = elim c.if-not-self.branch [
       | then-not-self+then-not-has_newline+in_ok-skip w ↦ rw w.self-is w.skip.ensures.lost
-      | else-not-self w ↦ rw w.self-is (LosesPartialLine-kept a a (Keeps-refl a))
+      | else-not-self w ↦ rw w.self-is (LosesLineStart-kept a a (Keeps-refl a))
     ] in
     let whole : (before.ended ≡ true) ⊎ Contains (buffered_bytes before.buffered) 10 = elim c.if-not-self.branch [
       | then-not-self+then-not-has_newline+in_ok-skip w ↦ rw w.self-is w.in_ok-skip.ensures.whole
@@ -32,9 +32,9 @@ pub returns-clause-closed : goal.returns-clause-closed
 returns-clause-closed g c =
     let before = c.if-not-self.self in
     let a = unread g.R.Read.remaining c.args.self.now in
-    let lost : IfSome a (λ bs. LosesPartialLine bs (unread g.R.Read.remaining before)) = elim c.if-not-self.branch [
+    let lost : IfSome a (λ bs. LosesLineStart bs (unread g.R.Read.remaining before)) = elim c.if-not-self.branch [
       | then-not-self+then-not-has_newline+in_ok-skip w ↦ rw w.self-is w.skip.ensures.lost
-      | else-not-self w ↦ rw w.self-is (LosesPartialLine-kept a a (Keeps-refl a))
+      | else-not-self w ↦ rw w.self-is (LosesLineStart-kept a a (Keeps-refl a))
     ] in
     let whole : (before.ended ≡ true) ⊎ Contains (buffered_bytes before.buffered) 10 = elim c.if-not-self.branch [
       | then-not-self+then-not-has_newline+in_ok-skip w ↦ rw w.self-is w.in_ok-skip.ensures.whole

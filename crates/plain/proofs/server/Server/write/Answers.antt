@@ -1,4 +1,4 @@
--- What was written is the next state, again one in range; without memory the state is as it was.
+-- After the write the server has the next state, again a possible one (`IsState`); without memory the state is as it was.
 use Rattle.std.proofs.Common.{rules, ◌≡◌, Ok, Err, sym, subst, OnOk, OnErr}
 use Rattle.std.specs.declared.result.Result.{Result}
 use Rattle.affinity.specs.declared.geometry.Geometry.{Geometry}

@@ -2,7 +2,7 @@
 use Rattle.std.proofs.Common.{◌≡◌, ◌<◌, ◌+◌, ◌∷◌, [], arith, ℕ, List, Ok, Option, Some, ap, length, map, refl, subst, sym, ◌∙◌}
 use Rattle.std.specs.Prelude.{IfSome}
 use Rattle.std.proofs.lemmas.List.{length-append}
-use Rattle.messages.specs.FirstLine.{GivesLine, LosesPartialLine}
+use Rattle.messages.specs.FirstLine.{GivesLine, LosesLineStart}
 use Rattle.message.specs.Reader.{Closes, Finds, has_ended, is_drained, line_of, source, unread}
 use Rattle.message.specs.declared.reading.Found.{Found}
 use Rattle.serving.specs.Lines.{NoMessage}
@@ -152,7 +152,7 @@ invariant_of-self-in-Err g c =
     let was_unread = unread rest f.line_reader in (
       on_read_end g.D.Disk.keeps _ f.core f.reorder_buffer f.outstanding (unread rest n) (is_drained n) (has_ended n) (rest (source n)) none refl refl (omega (arith, may)) knows
           _ ends_of_reading.ReadFailed u (still g.D.Disk.keeps _ (holds_of g.D.Disk.keeps _ _ u)) refl
-          (going, subst (λ (l : Option (List ℕ)). IfSome was_unread (λ bs. LosesPartialLine bs l)) c.in-Err.ensures.lost c.in-Err.ensures.found),
+          (going, subst (λ (l : Option (List ℕ)). IfSome was_unread (λ bs. LosesLineStart bs l)) c.in-Err.ensures.lost c.in-Err.ensures.found),
       c.self.invariant.1,
     )
 
