@@ -56,7 +56,7 @@ fn is_beginning(rt: &impl Abort, read: &[Msg], n: u64, kind: usize) {
     let count = read.len();
     holds(rt, count <= MESSAGES.len());
     same_messages(rt, read, &MESSAGES[..count.min(MESSAGES.len())]);
-    // The seventh call writes the gates and the eighth syncs them. A fault before the seventh leaves no record. Nine stands for no fault,
+    // The seventh call writes the gates and the eighth syncs them. A fault before the seventh leaves no record. Nine means no fault,
     // as no ninth call is made: then all records are there.
     holds(rt, n > 6 || count == 0);
     holds(rt, n < 9 || count == 3);

@@ -4,7 +4,7 @@ use crate::common::{block_of, padded, same};
 use message::{Refusal, Reply, no_message_line, write_reply};
 use std::process::Abort;
 
-// Asserts that this reply is this line. The longest line has 1,031 bytes; 7 stands for what `write_reply` has to overwrite.
+// Asserts that this reply is this line. The longest line has 1,031 bytes; 7 is a byte that `write_reply` has to overwrite.
 fn spells(rt: &impl Abort, reply: &Reply, line: &[u8]) {
     let mut out = [7; 1031];
     let size = write_reply(reply, &mut out);

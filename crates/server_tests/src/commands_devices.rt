@@ -7,8 +7,8 @@ use std::os::unix::fs::PermissionsExt;
 use std::process;
 use std::test::Fail;
 
-/// Makes a small device in the file whose path `@` stands for: one volume of two files of four blocks, in two stripes that hold two blocks
-/// each, and four records in a half.
+/// Makes a small device in the file whose path takes the place of `@`: one volume of two files of four blocks, in two stripes that hold two
+/// blocks each, and four records in a half.
 pub(crate) const FORMAT: &str =
     "waffd format @ --volumes 1 --stripes 2 --width 1 --files 2 --blocks 4 --quota 2 --half 4";
 

@@ -1,6 +1,6 @@
-//! Calls of the command `serve`, on files of the system. `SERVE` is `waffd serve @`, where `@` stands for the path of the device, and the
-//! device is the small one, `LEN` bytes long, just made (`made_bytes`, `write_made`) with some bytes set. `expect` makes a call, and fails
-//! the test unless it ends with this status, output and standard error (`NOTHING`: empty).
+//! Calls of the command `serve`, on files of the system. `SERVE` is `waffd serve @`, where the device's path takes the place of `@`, and
+//! the device is the small one, `LEN` bytes long, just made (`made_bytes`, `write_made`) with some bytes set. `expect` makes a call, and
+//! fails the test unless it ends with this status, output and standard error (`NOTHING`: empty).
 use crate::commands_calls::{Call, Expected, NOTHING, Streams, System, expect};
 use crate::commands_devices::{
     LEN, MADE as JUST_MADE, Patches, SERVE, expect_shown, made_bytes, new_path, write_made,
@@ -14,7 +14,7 @@ const MADE: &str = "makevol 0 0\ncreate 0 0 0\nwrite 0 0 0 0 6162\nread 0 0 0 0\
 
 const MADE_REPLY: &str = "done\ndone\ndone\nblock 6162\n";
 
-/// What `show` prints of the small device: the area that is named, how many records are in force, and so many volumes, files and blocks.
+/// What `show` prints of the small device: the area that is named, and how many records in force, volumes, files and blocks there are.
 fn shown(alloc: Global, area: u8, records: u8, summary: &str) -> Result<String, AllocError> {
     format!(in alloc;
         "geometry 1 1 2 1 2 4 2 4\narea {area}\nrecords {records}\nsummary {summary}\nimage 2\n"

@@ -1,7 +1,7 @@
 //! A second call of `serve`, on the core that the first one gave back; and one after a call for which memory was refused. The core has four
 //! slots, and is `IsIdle` where no message waits or is held. Of the arguments of `serve` the last three are the workers, after how many
 //! records a checkpoint is due (0: only where the log is full), and a hook that does nothing (`OpenGate`). `leaves` and `writes` fail the
-//! test unless the device has this area named and so many volumes, files and blocks, or what was written is as wanted.
+//! test unless the device has this area named and these numbers of volumes, files and blocks, or what was written is as wanted.
 ghost use Rattle.std.specs.Prelude.{◌≡◌, false, IfOk, IsTrue};
 ghost use Rattle.legal_runs.specs.Laws.{IsIdle};
 ghost use Rattle.scheduler.specs.CoreView.{core_state_of};

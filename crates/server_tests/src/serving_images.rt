@@ -82,8 +82,8 @@ const TWO_CHANGES: &[u8] = b"makevol 0 0\ncreate 0 0 0\n";
 
 const THREE_CHANGES: &[u8] = b"makevol 0 0\ncreate 0 0 0\nwrite 0 0 0 0 61\n";
 
-/// Looks at a device on which lines were served to their end: fails the test unless this area is named, its image has version 2 and so many
-/// volumes, files and blocks, and no record is in force. `Unfit` where the device is refused.
+/// Looks at a device on which lines were served to their end: fails the test unless this area is named, its image has version 2 and these
+/// numbers of volumes, files and blocks, and no record is in force. `Unfit` where the device is refused.
 pub(crate) fn leaves(
     rt: &impl Abort,
     alloc: Global,

@@ -1,6 +1,6 @@
 //! When records are logged, and when checkpoints are made. Here *points* are checkpoints of both kinds, in one call or online. Of the
 //! servers `SMALL` has four records in a half of the log, and `FLAT` eight, and eight stripes of one block. `holds` fails the test unless a
-//! fact holds; `OpenGate` stands for hooks that do nothing.
+//! fact holds; `OpenGate` is hooks that do nothing.
 use crate::serving_noting::Notes;
 use crate::serving_running::{
     ALL_AT_ONCE, End, FLAT, Left, SMALL, Streams, Way, holds, serve_lines, session,
