@@ -1,27 +1,21 @@
 -- The tests of a device, one after the other, and what a device that passes all of them recovers to.
-use Rattle.std.proofs.Common.{◌≡◌, ◌≢◌, ℕ, zero, suc, ◌+◌, ◌<◌, ◌≤◌, Bool, true, false, not, ◌&&◌, ◌==◌, List, [], ◌∷◌, ◌++◌, length, Option, Some, None, is_some, Result, Ok, Err, IfErr, inr, refl, sym, ◌∙◌, ap, subst, arith, length-append}
+use Rattle.std.proofs.Common.{◌≡◌, ◌≢◌, ℕ, zero, suc, ◌+◌, ◌<◌, ◌≤◌, Bool, true, false, not, ◌&&◌, ◌==◌, List, [], ◌∷◌, ◌++◌, length, Option, Some, None, is_some, Result, Ok, Err, IfErr, inr, refl, sym, ◌∙◌, ap, arith, length-append}
 use Rattle.std.specs.Prelude.{if◌then◌else◌, nat_le, nat_lt}
 use Rattle.std.proofs.lemmas.Bool.{and_left, and_right, cond-false, cond-true, le-leb, le-ltb}
 use Rattle.std.proofs.lemmas.Slice.Eq.{bytes_eq-Decides}
 use Rattle.affinity.specs.declared.geometry.Geometry.{Geometry}
 use Rattle.checkpoint.specs.declared.fault.OpenFault.{OpenFault}
 use Rattle.checkpoint.specs.declared.fault.OpenFault.TheVariants.{Device, TooShort, NotFormatted, BadGeometry, OutOfMemory, BadVersion, BadPiece, BadChain, BadRecord}
-use Rattle.checkpoint.specs.declared.inspecting.Shown.{Shown}
-use Rattle.checkpoint.specs.declared.loading.Loaded.{Loaded}
 use Rattle.checkpoint.specs.Header.{HasHeader, header_of, is_header}
 use Rattle.checkpoint.specs.Loading.{IsConsistentFault, IsOfHalf, IsOfHeader, are_both_chained, image_fault, in_force_fault, records_fault}
 use Rattle.checkpoint.specs.Recovery.{apply, recovered_state, decoding}
 use Rattle.checkpoint.specs.Refusals.{HasHeaderAndParts, IsRefused, fault_if, fault_or_later, first_bad_piece, first_bad_record, refused}
-use Rattle.checkpoint.specs.Shown.{IsLoaded, IsShown, ShowsLoaded}
 use Rattle.checkpoint.proofs.Replays.{fault_from}
-use Rattle.image.specs.Image.{has_head, read, version_in}
-use Rattle.messages.specs.declared.Msg.TheVariants.{Summary}
+use Rattle.image.specs.Image.{has_head, read}
 use Rattle.oplog.specs.Front.{chain, front}
 use Rattle.device_map.specs.Layout.{Layout, layout_of, device_size, header_part, image_part, other, part_bytes}
 use Rattle.oplog.specs.Recovery.{in_force, is_laid_out, named_area, run}
 use Rattle.oplog.proofs.Kept.{run-append}
-use Rattle.parcel.specs.Tree.{state_in}
-use Rattle.meaning.specs.Serial.{reply_to}
 use Rattle.meaning.specs.State.{State}
 
 -- ---- tests
@@ -199,32 +193,6 @@ module _ (g : Geometry) (c : List ℕ) (head : HasHeader g c) (long : device_siz
           ap (λ (k : ℕ). if is_laid_out (decoding g) (layout_of g) c then run (decoding g) (read g (part_bytes (layout_of g) (image_part k) c)) (in_force (layout_of g) k c) else None) (sym names)
           ∙ ap (λ (t : Bool). if t then run (decoding g) (read g bytes) (in_force (layout_of g) n c) else None) laid_out
           ∙ ap (λ (o : Option State). run (decoding g) o (in_force (layout_of g) n c)) decoded ∙ ran
-
--- ---- what is reported of it
-
-pub shown : (c : List ℕ) (l : Loaded) (s : Shown) → IsLoaded c l → ShowsLoaded l s → IsShown c s
-shown c l s is told = record {
-  header = subst (λ (g : Geometry). HasHeader g c) (sym told.geometry) is.header;
-  sound = ap (λ (g : Geometry). refused g c) told.geometry ∙ is.sound;
-  area = told.area ∙ is.area ∙ ap (λ (g : Geometry). named_area (layout_of g) c) (sym told.geometry);
-  records = told.records ∙ is.records ∙ sym (λ i. length (in_force (layout_of (told.geometry i)) (told.area i) c));
-  version = told.version ∙ is.version ∙ sym (λ i. version_in (part_bytes (layout_of (told.geometry i)) (image_part (told.area i)) c));
-  state = state_in l.tree;
-  held = ap (λ (g : Geometry). recovered_state g c) told.geometry ∙ is.state;
-  summary = told.summary ∙ ap (λ (g : Geometry). reply_to g (state_in l.tree) Summary) (sym told.geometry);
-}
-
--- what was loaded, by the geometry of the header instead of the tree's, which is the same
-pub loaded : {g : Geometry} {c : List ℕ} {l : Loaded} → l.tree.geometry ≡ g → HasHeader g c → refused g c ≡ None → l.area ≡ named_area (layout_of g) c
-    → l.version ≡ version_in (part_bytes (layout_of g) (image_part l.area) c) → l.records ≡ length (in_force (layout_of g) l.area c) → recovered_state g c ≡ Some (state_in l.tree) → IsLoaded c l
-loaded {c} {l} same head sound area version records state = record {
-  header = subst (λ (h : Geometry). HasHeader h c) (sym same) head;
-  sound = ap (λ (h : Geometry). refused h c) same ∙ sound;
-  area = area ∙ ap (λ (h : Geometry). named_area (layout_of h) c) (sym same);
-  version = version ∙ ap (λ (h : Geometry). version_in (part_bytes (layout_of h) (image_part l.area) c)) (sym same);
-  records = records ∙ ap (λ (h : Geometry). length (in_force (layout_of h) l.area c)) (sym same);
-  state = ap (λ (h : Geometry). recovered_state h c) same ∙ state;
-}
 
 -- ---- of which half a bad record is
 

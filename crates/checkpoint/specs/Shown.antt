@@ -1,7 +1,6 @@
--- Statement for engineers: What is loaded from a device, and what is reported of it.
+-- Statement for engineers: What is reported of a device.
 use Rattle.std.specs.Prelude.{◌≡◌, ℕ, List, Some, None, length}
 use Rattle.checkpoint.specs.declared.inspecting.Shown.{Shown}
-use Rattle.checkpoint.specs.declared.loading.Loaded.{Loaded}
 use Rattle.checkpoint.specs.Header.{HasHeader}
 use Rattle.checkpoint.specs.Recovery.{recovered_state}
 use Rattle.checkpoint.specs.Refusals.{refused}
@@ -9,26 +8,8 @@ use Rattle.image.specs.Image.{version_in}
 use Rattle.messages.specs.declared.Msg.TheVariants.{Summary}
 use Rattle.device_map.specs.Layout.{layout_of, image_part, part_bytes}
 use Rattle.oplog.specs.Recovery.{in_force, named_area}
-use Rattle.parcel.specs.Tree.{state_in}
 use Rattle.meaning.specs.Serial.{reply_to}
 use Rattle.meaning.specs.State.{State}
-
--- All was loaded from a device with these bytes, which isn't refused: the tree has the state that it recovers to.
-pub record IsLoaded (c : List ℕ) (l : Loaded) : Type 0 where
-  pub header : HasHeader l.tree.geometry c
-  pub sound : refused l.tree.geometry c ≡ None
-  pub area : l.area ≡ named_area (layout_of l.tree.geometry) c
-  pub version : l.version ≡ version_in (part_bytes (layout_of l.tree.geometry) (image_part l.area) c)
-  pub records : l.records ≡ length (in_force (layout_of l.tree.geometry) l.area c)
-  pub state : recovered_state l.tree.geometry c ≡ Some (state_in l.tree)
-
--- The report s is of what was loaded.
-pub record ShowsLoaded (l : Loaded) (s : Shown) : Type 0 where
-  pub geometry : s.geometry ≡ l.tree.geometry
-  pub area : s.area ≡ l.area
-  pub records : s.records ≡ l.records
-  pub version : s.version ≡ l.version
-  pub summary : s.summary ≡ reply_to l.tree.geometry (state_in l.tree) Summary
 
 -- This is what a device with these bytes holds: it isn't refused, and recovers to a state of which the summary is reported.
 pub record IsShown (c : List ℕ) (s : Shown) : Type 0 where

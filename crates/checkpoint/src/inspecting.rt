@@ -1,11 +1,11 @@
 //! What a device holds, or why it is refused.
 ghost use Rattle.std.specs.Prelude.{◌≡◌, ◌↔◌, ◌+◌, IfErr, IfOk, MatchResult, length};
+ghost use Rattle.checkpoint.specs.Loading.{IsOpeningCall};
 ghost use Rattle.checkpoint.specs.Refusals.{HasHeaderAndParts, IsRefused};
-ghost use Rattle.checkpoint.specs.Shown.{IsShown, ShowsLoaded};
+ghost use Rattle.checkpoint.specs.Shown.{IsShown};
 ghost use Rattle.disk.specs.Device.{moments};
-ghost use Rattle.parcel.specs.Tree.{IsWholeTree};
 
-use crate::loading::{Loaded, load};
+use crate::loading::{load_named, read_header, replay, take_loading_memory};
 use crate::stepping::step;
 use crate::{OpenError, OpenFault};
 use affinity::Geometry;
@@ -28,27 +28,30 @@ pub struct Shown {
     pub version: u8,
 }
 
-/// Reports what was loaded.
-fn show(loaded: Loaded) -> Shown
-    requires { IsWholeTree loaded.tree }
-    ensures { ShowsLoaded loaded result }
+/// Reports what a device holds, which is only read.
+fn inspect_on<D: Disk>(alloc: Global, disk: &mut D) -> Result<Shown, OpenFault>
+    ensures shown { IfOk result (λ s. D.keeps → IsShown (D.medium disk.old).now s) }
+    ensures refused { IfErr result (λ e. D.keeps → IsRefused (D.medium disk.old).now e) }
+    ensures memory { IfErr result (λ e. e ≡ OpenFault.OutOfMemory → D.keeps → HasHeaderAndParts (D.medium disk.old).now) }
+    ensures untouched { D.keeps → moments (D.medium disk.new) ≡ moments (D.medium disk.old) }
+    ensures call { IsOpeningCall result (D.medium disk.old) (D.medium disk.new) }
 {
-    let Loaded {
-        mut tree,
-        log: _,
-        area,
-        version,
-        records,
-    } = loaded;
-    let geometry = tree.geometry();
+    let geometry = read_header(disk)?;
+    let (mut tree, mut log, mut buffer) = take_loading_memory(alloc, &geometry)?;
+    let named = load_named(disk, &mut tree, &mut log, &mut buffer)?;
+    let more = if named.chained {
+        replay(&mut log, disk, 1 - named.area, &mut tree)?
+    } else {
+        0
+    };
     let summary = step(&mut tree, Msg::Summary);
-    Shown {
+    Ok(Shown {
         geometry,
-        area,
-        records,
+        area: named.area,
+        records: named.records + more,
         summary,
-        version,
-    }
+        version: named.version,
+    })
 }
 
 /// Reports what a device holds, and hands it back. It is only read: what a read gives, and what a crash may leave now or
@@ -74,8 +77,8 @@ pub fn inspect<D: Disk>(alloc: Global, d: D) -> Result<(Shown, D), OpenError<D>>
         (λ e. length (D.medium e.disk).now ≡ length (D.medium d).now) }
 {
     let mut disk = d;
-    match load(alloc, &mut disk) {
-        Ok(loaded) => Ok((show(loaded), disk)),
+    match inspect_on(alloc, &mut disk) {
+        Ok(shown) => Ok((shown, disk)),
         Err(fault) => Err(OpenError { disk, fault }),
     }
 }

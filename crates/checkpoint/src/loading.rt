@@ -5,7 +5,6 @@ ghost use Rattle.checkpoint.specs.Header.{HasHeader};
 ghost use Rattle.checkpoint.specs.Loading.{IsOpeningCall, IsConsistentFault, IsOfHalf, NamedHolds, are_both_chained, image_fault, in_force_fault};
 ghost use Rattle.checkpoint.specs.Recovery.{decoding};
 ghost use Rattle.checkpoint.specs.Refusals.{HasHeaderAndParts, IsRefused, fault_if};
-ghost use Rattle.checkpoint.specs.Shown.{IsLoaded};
 ghost use Rattle.disk.specs.Device.{moments};
 ghost use Rattle.image.specs.Image.{read, version_in};
 ghost use Rattle.oplog.specs.Calls.{IsLongEnough};
@@ -28,21 +27,6 @@ use image::layout::largest_piece;
 use oplog::Halves;
 use parcel::Tree;
 use std::alloc::Global;
-
-/// What was loaded from a device.
-#[derive(Drop)]
-pub(crate) struct Loaded {
-    /// The state that the device recovers to.
-    pub tree: Tree,
-    /// The log, with the named half as the current one and no room.
-    pub log: Halves,
-    /// The area that is named.
-    pub area: usize,
-    /// The version of its image.
-    pub version: u8,
-    /// How many records are in force.
-    pub records: usize,
-}
 
 /// All memory that loading a device of this geometry takes: an empty tree, a log of which nothing is known, and a
 /// buffer for the largest piece of an image (that of a stripe: 520 bytes, the entry of a block, for each block that it can hold).
@@ -155,6 +139,7 @@ pub fn load_named<D: Disk>(
     ensures version { IfOk result (λ n. D.keeps →
         n.version ≡ version_in (part_bytes (layout_of tree.old.geometry) (image_part n.area) (D.medium disk.old).now)) }
     ensures records { IfOk result (λ n. D.keeps → n.records ≡ length (front (layout_of tree.old.geometry) n.area (D.medium disk.old).now)) }
+    ensures few { IfOk result (λ n. n.records ≤ tree.old.geometry.half) }
     ensures log { IfOk result (λ n. log.new ≡ with_half_named n.area (new_log tree.old.geometry)) }
     ensures refused { IfErr result (λ e. D.keeps → IsRefused (D.medium disk.old).now e) }
     ensures half { IfErr result (λ e. D.keeps → IsOfHalf (named_area (layout_of tree.old.geometry) (D.medium disk.old).now) e) }
@@ -175,70 +160,5 @@ pub fn load_named<D: Disk>(
         version,
         records,
         chained,
-    })
-}
-
-/// Takes this area as the named one, runs the records in force on the tree, and gives their number.
-fn replay_in_force<D: Disk>(
-    log: &mut Halves,
-    disk: &mut D,
-    area: usize,
-    chained: bool,
-    tree: &mut Tree,
-) -> Result<usize, OpenFault>
-    requires not_failed { log.old.failed ≡ false }
-    requires area { area < 2 }
-    requires chained { D.keeps → chained ≡ (chain (layout log.old) area (D.medium disk.old).now == 1) }
-    requires long_enough { IsLongEnough log.old (D.medium disk.old) }
-    requires whole { IsWholeTree tree.old }
-    requires geometry { log.old.geometry ≡ tree.old.geometry }
-    ensures count { IfOk result (λ n. D.keeps → n ≡ length (in_force (layout_of tree.old.geometry) area (D.medium disk.old).now)) }
-    ensures done { OnOk result (D.keeps → run (decoding tree.old.geometry) (Some (state_in tree.old))
-        (in_force (layout_of tree.old.geometry) area (D.medium disk.old).now) ≡ Some (state_in tree.new)) }
-    ensures sound { OnOk result (D.keeps → in_force_fault tree.old.geometry (state_in tree.old) area (D.medium disk.old).now ≡ None) }
-    ensures refused { IfErr result (λ e. D.keeps →
-        IsConsistentFault (in_force_fault tree.old.geometry (state_in tree.old) area (D.medium disk.old).now) e) }
-    ensures whole { OnOk result (IsWholeTree tree.new) }
-    ensures geometry { OnOk result (tree.new.geometry ≡ tree.old.geometry) }
-    ensures log { OnOk result (log.new ≡ log.old) }
-    ensures untouched { D.keeps → moments (D.medium disk.new) ≡ moments (D.medium disk.old) }
-    ensures call { IsOpeningCall result (D.medium disk.old) (D.medium disk.new) }
-{
-    let count = replay(log, disk, area, tree)?;
-    if !chained {
-        return Ok(count);
-    }
-    let more = replay(log, disk, 1 - area, tree)?;
-    Ok(count + more)
-}
-
-/// Loads a device. It is refused for the first fault in the order of the checks, and for no other reason; or it fails, or
-/// there is no memory. The device is only read.
-pub(crate) fn load<D: Disk>(alloc: Global, disk: &mut D) -> Result<Loaded, OpenFault>
-    ensures loaded { IfOk result (λ l. D.keeps → IsLoaded (D.medium disk.old).now l) }
-    ensures whole { IfOk result (λ l. IsWholeTree l.tree) }
-    ensures log { IfOk result (λ l. l.log ≡ with_half_named l.area (new_log l.tree.geometry)) }
-    ensures area { IfOk result (λ l. l.area < 2) }
-    ensures parts { IfOk result (λ l.
-        device_size (layout_of l.tree.geometry) ≤ length (D.medium disk.old).now) }
-    ensures refused { IfErr result (λ e. D.keeps → IsRefused (D.medium disk.old).now e) }
-    // `HasHeaderAndParts`: it has the header of a geometry and the length for all its parts, whatever these hold.
-    ensures memory { IfErr result (λ e. e ≡ OutOfMemory → D.keeps → HasHeaderAndParts (D.medium disk.old).now) }
-    ensures untouched { D.keeps → moments (D.medium disk.new) ≡ moments (D.medium disk.old) }
-    ensures call { IsOpeningCall result (D.medium disk.old) (D.medium disk.new) }
-{
-    let g = read_header(disk)?;
-    let (mut tree, mut log, mut buffer) = take_loading_memory(alloc, &g)?;
-    let area = named_area(disk, &g)?;
-    let version = read_image(disk, &mut tree, area, &mut buffer)?;
-    let chained = chain_of(disk, &g, area)?;
-    log.name(area);
-    let records = replay_in_force(&mut log, disk, area, chained, &mut tree)?;
-    Ok(Loaded {
-        tree,
-        log,
-        area,
-        version,
-        records,
     })
 }

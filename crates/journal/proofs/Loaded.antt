@@ -1,17 +1,13 @@
 -- What a device recovers to, once its named area was loaded.
-use Rattle.std.proofs.Common.{◌≡◌, ◌==◌, ◌&&◌, ◌≤◌, ℕ, Bool, true, false, not, List, [], Option, Some, None, is_some, length, refl, sym, ◌∙◌, ap, subst, true≢false}
-use Rattle.std.specs.Prelude.{nat_le}
-use Rattle.std.proofs.lemmas.Bool.{le-leb}
-use Rattle.std.proofs.lemmas.Slice.Eq.{bytes_eq-Decides}
+use Rattle.std.proofs.Common.{◌≡◌, ◌==◌, ◌≤◌, ℕ, Bool, true, false, not, List, [], Option, Some, None, is_some, length, refl, sym, ◌∙◌, ap, subst, true≢false}
 use Rattle.affinity.specs.declared.geometry.Geometry.{Geometry}
-use Rattle.checkpoint.specs.declared.fault.OpenFault.{OpenFault}
-use Rattle.checkpoint.specs.Header.{HasHeader, header_of, is_header}
-use Rattle.checkpoint.specs.Loading.{IsConsistentFault, NamedHolds, records_fault}
+use Rattle.checkpoint.specs.Header.{HasHeader}
+use Rattle.checkpoint.specs.Loading.{NamedHolds}
 use Rattle.checkpoint.specs.Recovery.{recovered_state, decoding}
-use Rattle.checkpoint.specs.Refusals.{IsRefused, refused}
+use Rattle.checkpoint.specs.Refusals.{refused}
 use Rattle.checkpoint.specs.Version.{named_version}
+use Rattle.checkpoint.proofs.Behind.{alone_holds, follows, laid_out}
 use Rattle.checkpoint.proofs.Replays.{same_bytes}
-use Rattle.checkpoint.proofs.Refusing.{alone_ran, alone_sound, both_ran, both_sound, not_refused, other_refused, records_refused, recovers_for}
 use Rattle.disk.specs.Device.{AreBytes, IsSynced, Medium, moments}
 use Rattle.disk.proofs.Leaves.{synced_left}
 use Rattle.image.specs.Image.{image_of, read}
@@ -29,23 +25,11 @@ use Rattle.journal.proofs.Logging.{recoverable_of, sound_along}
 use Rattle.journal.proofs.Saving.{HoldsAlone, opened_sound, pointed_version}
 use Rattle.journal.proofs.Recovering.{holds_now, shut_current}
 use Rattle.oplog.specs.Front.{chain, front}
-use Rattle.device_map.specs.Layout.{layout_of, device_size, header_part, image_size, other, part_bytes}
+use Rattle.device_map.specs.Layout.{layout_of, device_size, image_size, other}
 use Rattle.oplog.specs.Log.{Log, new_log, with_half_named}
-use Rattle.oplog.specs.Recovery.{in_force, is_laid_out, named_area, run, recovers_by_area}
+use Rattle.oplog.specs.Recovery.{in_force, named_area, recovers_by_area}
 use Rattle.parcel.specs.Tree.{IsWholeTree, state_in}
 use Rattle.meaning.specs.State.{State, IsState}
-
--- ---- where the named half has no chain
-
-module _ (g : Geometry) (c : List ℕ) (n : ℕ) (x : State) (is : NamedHolds g c n false x) where
-  shut : (chain (layout_of g) n c == 1) ≡ false
-  shut = sym is.chain
-
-  pub alone_holds : recovered_state g c ≡ Some x
-  alone_holds = recovers_for g c is.header is.long_enough n is.named is.sound is.first is.decoded is.one x (alone_ran g is.first n c x is.ran shut)
-
-  pub alone_fine : refused g c ≡ None
-  alone_fine = not_refused g c is.header is.long_enough n is.named is.sound is.first is.decoded is.one (alone_sound g is.first n c x is.ran shut)
 
 pub alone_recovers : (log : Log) (m : Medium) (x : State) → NamedHolds log.geometry m.now log.named false x → IsSynced m → RecoversByNamedAlone log m
 alone_recovers log m x is synced = record {
@@ -58,29 +42,6 @@ alone_recovers log m x is synced = record {
         is = λ i. recovers_by_area (decoding log.geometry) (layout_of log.geometry) (is.named i) (same i);
       };
 }
-
--- ---- where the named half has a chain
-
-module _ (g : Geometry) (c : List ℕ) (n : ℕ) (x : State) (is : NamedHolds g c n true x) where
-  follows : (chain (layout_of g) n c == 1) ≡ true
-  follows = sym is.chain
-
-  pub laid_out : is_laid_out (decoding g) (layout_of g) c ≡ true
-  laid_out =
-      let is_head : is_header g (part_bytes (layout_of g) header_part c) ≡ true = (bytes_eq-Decides (part_bytes (layout_of g) header_part c) (header_of g)).1 is.header in
-      let whole : nat_le (device_size (layout_of g)) (length c) ≡ true = le-leb (device_size (layout_of g)) (length c) is.long_enough in
-      λ i. is_head i && whole i && not (is.one i)
-
-  pub behind_refused : (e : OpenFault) → IsConsistentFault (records_fault g x (other n) (front (layout_of g) (other n) c)) e → IsRefused c e
-  behind_refused e fault =
-      records_refused g c is.header is.long_enough n is.named is.sound is.first is.decoded is.one e (other_refused g is.first n c x is.ran follows e fault)
-
-  module _ (y : State) (more : run (decoding g) (Some x) (front (layout_of g) (other n) c) ≡ Some y) where
-    pub behind_holds : recovered_state g c ≡ Some y
-    behind_holds = recovers_for g c is.header is.long_enough n is.named is.sound is.first is.decoded is.one y (both_ran g is.first n c x is.ran follows y more)
-
-    pub behind_fine : refused g c ≡ None
-    behind_fine = not_refused g c is.header is.long_enough n is.named is.sound is.first is.decoded is.one (both_sound g is.first n c x is.ran follows y more)
 
 pub unfinished_cut : (log : Log) (m : Medium) (x : State) (bytes : List ℕ) → NamedHolds log.geometry m.now log.named true x → IsSynced m
     → IsState log.geometry x → bytes ≡ image_of 2 log.geometry x → IsCutUnfinished log bytes m

@@ -12,7 +12,8 @@ use Rattle.image.specs.Image.{read}
 use Rattle.journal.specs.Opening.{area_state}
 use Rattle.journal.specs.Steps.{RecoversByNamedAlone}
 use Rattle.journal.proofs.Costs.{no_call}
-use Rattle.journal.proofs.Loaded.{are_loaded, behind_fine, behind_holds, behind_refused}
+use Rattle.checkpoint.proofs.Behind.{behind_fine, behind_holds, behind_refused}
+use Rattle.journal.proofs.Loaded.{are_loaded}
 use Rattle.journal.proofs.Opened.{alone_finished, bad_half, still_synced}
 use Rattle.oplog.specs.Front.{front}
 use Rattle.device_map.specs.Layout.{image_part, layout_of, other, part_bytes}

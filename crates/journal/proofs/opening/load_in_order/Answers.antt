@@ -10,7 +10,8 @@ use Rattle.disk.specs.Moments.{CrashImagesAre}
 use Rattle.journal.specs.Parts.{IsFaultAfterCut, IsRefusedAlike}
 use Rattle.journal.specs.Steps.{RecoversStill}
 use Rattle.journal.proofs.Costs.{finish_is, no_call}
-use Rattle.journal.proofs.Loaded.{are_loaded, alone_fine, alone_holds, alone_recovers, held_after, not_off, not_on}
+use Rattle.checkpoint.proofs.Behind.{alone_fine, alone_holds}
+use Rattle.journal.proofs.Loaded.{are_loaded, alone_recovers, held_after, not_off, not_on}
 use Rattle.journal.proofs.Opened.{alike_after, alike_read, all_unwritten, bad_behind, bad_from, bad_synced, still_after, still_read, still_synced, unread}
 use Rattle.oplog.specs.Beyond.{KeepsBeyond}
 use Rattle.device_map.specs.Layout.{layout_of, other}
