@@ -1,5 +1,5 @@
 //! What a device holds, or why it is refused.
-ghost use Rattle.std.specs.Prelude.{◌≡◌, ◌↔◌, ◌+◌, IfErr, IfOk, MatchResult, length};
+ghost use Rattle.std.specs.Prelude.{◌≡◌, ◌≢◌, ◌+◌, IfErr, IfOk, MatchResult, length};
 ghost use Rattle.checkpoint.specs.Loading.{IsOpeningCall};
 ghost use Rattle.checkpoint.specs.Refusals.{HasHeaderAndParts, IsRefused};
 ghost use Rattle.checkpoint.specs.Shown.{IsShown};
@@ -69,8 +69,8 @@ pub fn inspect<D: Disk>(alloc: Global, d: D) -> Result<(Shown, D), OpenError<D>>
     ensures untouched { D.keeps → MatchResult result
         (λ r. moments (D.medium r.1) ≡ moments (D.medium d))
         (λ e. moments (D.medium e.disk) ≡ moments (D.medium d)) }
-    ensures device { IfErr result (λ e. e.fault ≡ OpenFault.Device
-        ↔ (D.medium e.disk).faults ≡ (D.medium d).faults + 1) }
+    ensures device { IfErr result (λ e. (e.fault ≡ OpenFault.Device → (D.medium e.disk).faults ≡ (D.medium d).faults + 1)
+        × (e.fault ≢ OpenFault.Device → (D.medium e.disk).faults ≡ (D.medium d).faults)) }
     ensures no_fault { IfOk result (λ r. (D.medium r.1).faults ≡ (D.medium d).faults) }
     ensures len { MatchResult result
         (λ r. length (D.medium r.1).now ≡ length (D.medium d).now)

@@ -1,6 +1,6 @@
 -- Statement for operators: What it is to serve a device: what was written at its end, what the device recovers to then, and what a crash
 -- meanwhile leaves.
-use Rattle.std.specs.Prelude.{◌≡◌, ◌≢◌, ◌⊎◌, ◌↔◌, ◌+◌, ◌≤◌, ℕ, List, [], ◌∷◌, length, take, replicate, Option, Some, None, Result, Ok, Err}
+use Rattle.std.specs.Prelude.{◌≡◌, ◌≢◌, ◌⊎◌, ◌+◌, ◌≤◌, ℕ, List, [], ◌∷◌, length, take, replicate, Option, Some, None, Result, Ok, Err}
 use Rattle.std.specs.Io.KnownBytes.{IsAtEnd}
 use Rattle.affinity.specs.declared.geometry.Geometry.{Geometry}
 use Rattle.checkpoint.specs.Header.{HasHeader}
@@ -98,7 +98,7 @@ EndsOnDevice keeps s old new (Err OutOfMemory) input remaining before written = 
     × HasServedNothing keeps old new input remaining before written
 EndsOnDevice keeps s old new (Err (Open fault)) input remaining before written =
     (keeps → IsRefused old.now fault × IsLeftByRefusal old fault new) × (remaining ≡ input) × (written ≡ before)
-    × ((fault ≡ open_faults.Device) ↔ (new.faults ≡ old.faults + 1))
+    × ((fault ≡ open_faults.Device → new.faults ≡ old.faults + 1) × (fault ≢ open_faults.Device → new.faults ≡ old.faults))
 EndsOnDevice keeps s old new (Err _) input remaining before written = ⊥
 
 -- ---- the run that led to it

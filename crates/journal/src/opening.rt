@@ -1,5 +1,5 @@
 //! Opens a journal over a device that a crash may have left.
-ghost use Rattle.std.specs.Prelude.{◌≡◌, ◌≢◌, ◌↔◌, ◌+◌, ◌*◌, ◌<◌, ◌≤◌, true, false, None, Some, length, IfErr, IfOk, MatchResult, OnOk};
+ghost use Rattle.std.specs.Prelude.{◌≡◌, ◌≢◌, ◌+◌, ◌*◌, ◌<◌, ◌≤◌, true, false, None, Some, length, IfErr, IfOk, MatchResult, OnOk};
 ghost use Rattle.affinity.specs.declared.geometry.Geometry.{Geometry};
 ghost use Rattle.checkpoint.specs.declared.fault.OpenFault.TheVariants.{Device, OutOfMemory};
 ghost use Rattle.checkpoint.specs.Header.{HasHeader};
@@ -293,8 +293,8 @@ pub fn open<D: Disk>(alloc: Global, d: D) -> Result<(Journal<D>, Tree), OpenErro
 
     // `HasHeaderAndParts`: it has the header of a geometry and the length for all its parts, whatever these hold.
     ensures memory { IfErr result (λ e. e.fault ≡ OpenFault.OutOfMemory → D.keeps → HasHeaderAndParts (D.medium d).now) }
-    ensures device { IfErr result (λ e. e.fault ≡ OpenFault.Device
-        ↔ (D.medium e.disk).faults ≡ (D.medium d).faults + 1) }
+    ensures device { IfErr result (λ e. (e.fault ≡ OpenFault.Device → (D.medium e.disk).faults ≡ (D.medium d).faults + 1)
+        × (e.fault ≢ OpenFault.Device → (D.medium e.disk).faults ≡ (D.medium d).faults)) }
     ensures no_fault { IfOk result (λ r. r.0.medium.faults ≡ (D.medium d).faults) }
     ensures len { MatchResult result
         (λ r. length r.0.medium.now ≡ length (D.medium d).now)

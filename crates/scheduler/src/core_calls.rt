@@ -1,5 +1,5 @@
 //! The core: the messages that it has taken in, what they run on, and the journal of what was carried out.
-ghost use Rattle.std.specs.Prelude.{cond, nat_lt, ◌≡◌, ◌≢◌, ◌+◌, ◌*◌, ◌≤◌, ◌↔◌, ℕ, true, false, List, Some, None, [], length, OnOk, IfOk, IfErr, MatchResult};
+ghost use Rattle.std.specs.Prelude.{cond, nat_lt, ◌≡◌, ◌≢◌, ◌+◌, ◌*◌, ◌≤◌, ℕ, true, false, List, Some, None, [], length, OnOk, IfOk, IfErr, MatchResult};
 ghost use Rattle.affinity.specs.declared.geometry.Geometry.{Geometry};
 ghost use Rattle.checkpoint.specs.Header.{HasHeader};
 ghost use Rattle.checkpoint.specs.Recovery.{recovered_state};
@@ -152,7 +152,8 @@ impl<D: Disk> Core<D> {
             → IfErr result (λ e. IsShownByBytes e.fault → ⊥) }
         ensures exact { (fault : OpenFault) → D.keeps → IsRefused (D.medium d).now fault → IsShownByBytes fault
             → MatchResult result (λ core. ⊥) (λ e. IsShownByBytes e.fault → e.fault ≡ fault) }
-        ensures device { IfErr result (λ e. e.fault ≡ faults.Device ↔ ((D.medium e.disk).faults ≡ (D.medium d).faults + 1)) }
+        ensures device { IfErr result (λ e. (e.fault ≡ faults.Device → (D.medium e.disk).faults ≡ (D.medium d).faults + 1)
+            × (e.fault ≢ faults.Device → (D.medium e.disk).faults ≡ (D.medium d).faults)) }
         ensures no_fault { IfOk result (λ core. core.medium.faults ≡ (D.medium d).faults) }
         ensures len { MatchResult result
             (λ core. length core.medium.now ≡ length (D.medium d).now)
