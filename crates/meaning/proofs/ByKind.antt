@@ -1,4 +1,4 @@
--- The checks, the refusal and the reply of a message, by its kind and its numbers.
+-- The refusal and the reply of a message, by its kind and its numbers.
 use Rattle.std.proofs.Common.{◌≡◌, ℕ, true, false, Bool, List, [], ◌∷◌, None, Some, refl, ap, ◌∙◌}
 use Rattle.std.specs.Prelude.{not, find, is_some}
 use Rattle.std.specs.List.{AllByRecursion}
@@ -13,23 +13,7 @@ use Rattle.messages.specs.declared.Reply.TheVariants.{Block as shows}
 use Rattle.messages.specs.Messages.{kind, four_numbers}
 use Rattle.meaning.specs.State.{State, IsState}
 use Rattle.meaning.specs.Serial.{checks, passes, refusal, block_reply, reply_and_state, step}
-use Rattle.meaning.specs.ByKind.{checks_by, refusal_by}
-
-pub checks_by_kind : (m : Msg) → checks_by (kind m) ≡ checks m
-checks_by_kind (MakeVol a v) = refl
-checks_by_kind (DropVol a v) = refl
-checks_by_kind (Create a v f) = refl
-checks_by_kind (Delete a v f) = refl
-checks_by_kind (Seal a v) = refl
-checks_by_kind (Unseal a v) = refl
-checks_by_kind (Write a v f b content) = refl
-checks_by_kind (Punch a v f b) = refl
-checks_by_kind (Read a v f b) = refl
-checks_by_kind (ListFiles a v) = refl
-checks_by_kind (Usage a v) = refl
-checks_by_kind Summary = refl
-checks_by_kind (SetLabel a v bytes) = refl
-checks_by_kind (Label a v) = refl
+use Rattle.meaning.specs.ByKind.{refusal_by}
 
 pub refusal_by_kind : (g : Geometry) (x : State) (m : Msg) → refusal_by g x (kind m) (four_numbers m) ≡ refusal g x m
 refusal_by_kind g x (MakeVol a v) = refl
@@ -66,14 +50,14 @@ pub write_passes : {g : Geometry} {x : State} → IsState g x → (a v f b : ℕ
 write_passes {g} {x} s a v f b content unsealed there =
     let block = s.blocks (a, v, f, b) there in
     let file = s.files (a, v, f) block.1 in
-    none_fails (passes g x (Write a v f b content)) (checks (Write a v f b content)) (block_in_range s a v f b there, (file.1, (ap not unsealed, (block.1, (or_left _ _ there, tt)))))
+    none_fails (passes g x (Write a v f b content)) (checks (kind (Write a v f b content))) (block_in_range s a v f b there, (file.1, (ap not unsealed, (block.1, (or_left _ _ there, tt)))))
 
 -- a block that is there has a file and a volume, and its numbers are in range
 pub read_passes : {g : Geometry} {x : State} → IsState g x → (a v f b : ℕ) → is_some (x.blocks (a, v, f, b)) ≡ true → refusal g x (Read a v f b) ≡ None
 read_passes {g} {x} s a v f b there =
     let block = s.blocks (a, v, f, b) there in
     let file = s.files (a, v, f) block.1 in
-    none_fails (passes g x (Read a v f b)) (checks (Read a v f b)) (block_in_range s a v f b there, (file.1, (block.1, tt)))
+    none_fails (passes g x (Read a v f b)) (checks (kind (Read a v f b))) (block_in_range s a v f b there, (file.1, (block.1, tt)))
 
 -- a block that is there answers a read
 pub read_told : {g : Geometry} {x : State} → IsState g x → (a v f b : ℕ) {content : Block} → x.blocks (a, v, f, b) ≡ Some content → step g x (Read a v f b) ≡ (shows content, x)

@@ -13,7 +13,7 @@ use Rattle.messages.specs.declared.Refusal.{Refusal}
 use Rattle.messages.specs.declared.Refusal.TheVariants.{Volume, Sealed, File, Space}
 use Rattle.messages.specs.declared.Reply.{Reply}
 use Rattle.messages.specs.declared.Reply.TheVariants.{Files, Usage, Summary, Label}
-use Rattle.messages.specs.Messages.{path_of}
+use Rattle.messages.specs.Messages.{kind, path_of}
 use Rattle.meaning.specs.State.{State, sum_below, one_if, blocks_in_stripe, sum_over_volumes}
 use Rattle.meaning.specs.Serial.{key, checks, passes, refusal, effect, accepted_reply, reply_and_state, reply_to, next_state, block_reply, no_label}
 use Rattle.meaning.specs.Subtrees.{AgreeOn}
@@ -99,7 +99,7 @@ module _ (g : Geometry) (R : Path → Bool) (x y : State) (h : AgreeOn g R x y) 
         λ i. is_some (h.blocks n r i) || nat_lt (same_group_count n.0 n.1 (stripe_of g n.2 n.3) r i) g.quota
 
   -- each check of a message has the same result in both states
-  same_tests : (m : Msg) → ((q : Path) → are_related (path_of g m) q ≡ true → R q ≡ true) → AllByRecursion (λ test. passes g x m test ≡ passes g y m test) (checks m)
+  same_tests : (m : Msg) → ((q : Path) → are_related (path_of g m) q ≡ true → R q ≡ true) → AllByRecursion (λ test. passes g x m test ≡ passes g y m test) (checks (kind m))
   same_tests (MakeVol a v) c = (refl, (ap not (h.made (a, v) (c _ (marks_related g (MakeVol a v)))), tt))
   same_tests (DropVol a v) c = (refl, (same_volume (DropVol a v) c, (same_sealed (DropVol a v) c, tt)))
   same_tests (Create a v f) c = (refl, (same_volume (Create a v f) c, (same_sealed (Create a v f) c, (ap not (h.files (a, v, f) (c _ (related_in_volume g (Create a v f) (0 ∷ []) refl))), tt))))
@@ -122,7 +122,7 @@ module _ (g : Geometry) (R : Path → Bool) (x y : State) (h : AgreeOn g R x y) 
   same_tests (AskLabel a v) c = (refl, (same_volume (AskLabel a v) c, tt))
 
   same_refusal : (m : Msg) → ((q : Path) → are_related (path_of g m) q ≡ true → R q ≡ true) → refusal g x m ≡ refusal g y m
-  same_refusal m covers = same_find (passes g x m) (passes g y m) (checks m) (same_tests m covers)
+  same_refusal m covers = same_find (passes g x m) (passes g y m) (checks (kind m)) (same_tests m covers)
 
   same_answer : (m : Msg) → ((q : Path) → are_related (path_of g m) q ≡ true → R q ≡ true) → accepted_reply g x m ≡ accepted_reply g y m
   same_answer (Read a v f b) covers = ap block_reply (h.blocks (a, v, f, b) (covers _ (are_related-refl (stripe a v (stripe_of g f b)))))

@@ -12,7 +12,7 @@ use Rattle.messages.specs.declared.Msg.{Msg}
 use Rattle.messages.specs.declared.Msg.TheVariants.{MakeVol, DropVol, Create, Delete, Seal, Unseal, Write, Punch, Read, List as ListFiles, Usage as AskUsage, Summary as AskSummary, SetLabel, Label as AskLabel}
 use Rattle.messages.specs.declared.Refusal.{Refusal}
 use Rattle.messages.specs.declared.Refusal.TheVariants.{Space}
-use Rattle.messages.specs.Messages.{AreSizedBytes, IsBlock, IsMessage}
+use Rattle.messages.specs.Messages.{AreSizedBytes, IsBlock, IsMessage, kind}
 use Rattle.meaning.specs.State.{State, IsState, empty, VolumeKey, FileKey, BlockKey, is_volume, is_file, is_block, is_file_of, is_block_of, is_block_of_file, one_if, blocks_in_stripe}
 use Rattle.meaning.specs.Serial.{checks, passes, refusal, effect, accepted_reply, reply_and_state, next_state, state_after_all, no_label}
 use Rattle.meaning.specs.Laws.{outside}
@@ -173,7 +173,7 @@ delete_kept g x a v f h =
 
 -- ---- each kind
 
-effect_kept : (g : Geometry) (x : State) → IsState g x → (m : Msg) → IsMessage m → AllByRecursion (λ t. passes g x m t ≡ true) (checks m) → IsState g (effect x m)
+effect_kept : (g : Geometry) (x : State) → IsState g x → (m : Msg) → IsMessage m → AllByRecursion (λ t. passes g x m t ≡ true) (checks (kind m)) → IsState g (effect x m)
 effect_kept g x h (MakeVol a v) w p =
     let r = two_below g a v [] p.0 in
     record {
@@ -267,7 +267,7 @@ pub step_kept : (g : Geometry) (x : State) (m : Msg) → IsState g x → IsMessa
 step_kept g x m h w = by (refusal g x m) refl
   where
     by : (r : Option Refusal) → refusal g x m ≡ r → IsState g (reply_and_state r (accepted_reply g x m) (effect x m) x).1
-    by None e = effect_kept g x h m w (passed (passes g x m) (checks m) e)
+    by None e = effect_kept g x h m w (passed (passes g x m) (checks (kind m)) e)
     by (Some why) e = h
 
 pub fold_kept : (g : Geometry) (x : State) (ms : List Msg) → IsState g x → AllByRecursion IsMessage ms → IsState g (state_after_all g x ms)

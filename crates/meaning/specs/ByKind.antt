@@ -1,5 +1,5 @@
--- Inner: The checks of a message by its kind and its four numbers, for a caller that hasn't built the message.
-use Rattle.std.specs.Prelude.{ℕ, Bool, false, not, ◌||◌, nat_lt, List, [], ◌∷◌, find, slice_index, Option, None, Some, is_some}
+-- Inner: The refusal of a message by its kind and its four numbers, for a caller that hasn't built the message.
+use Rattle.std.specs.Prelude.{ℕ, Bool, false, not, ◌||◌, nat_lt, List, find, slice_index, Option, None, Some, is_some}
 use Rattle.affinity.specs.declared.geometry.Geometry.{Geometry}
 use Rattle.affinity.specs.declared.kinds.Kind.{Kind}
 use Rattle.affinity.specs.declared.kinds.Kind.TheVariants as kinds
@@ -9,24 +9,8 @@ use Rattle.messages.specs.declared.Refusal.{Refusal}
 use Rattle.messages.specs.declared.Refusal.TheVariants.{Range, Volume, Exists, Sealed, File, Space}
 use Rattle.messages.specs.declared.Reply.{Reply}
 use Rattle.messages.specs.declared.Reply.TheVariants.{Done, Refused}
+use Rattle.meaning.specs.Serial.{checks}
 use Rattle.meaning.specs.State.{State, blocks_in_stripe}
-
--- the checks that a message of the kind has to pass, in order
-abbrev pub checks_by : Kind → List Refusal
-checks_by kinds.MakeVol = Range ∷ Exists ∷ []
-checks_by kinds.DropVol = Range ∷ Volume ∷ Sealed ∷ []
-checks_by kinds.Create = Range ∷ Volume ∷ Sealed ∷ Exists ∷ []
-checks_by kinds.Delete = Range ∷ Volume ∷ Sealed ∷ File ∷ []
-checks_by kinds.List = Range ∷ Volume ∷ []
-checks_by kinds.Seal = Range ∷ Volume ∷ []
-checks_by kinds.Unseal = Range ∷ Volume ∷ []
-checks_by kinds.Usage = Range ∷ Volume ∷ []
-checks_by kinds.Write = Range ∷ Volume ∷ Sealed ∷ File ∷ Space ∷ []
-checks_by kinds.Punch = Range ∷ Volume ∷ Sealed ∷ File ∷ []
-checks_by kinds.Read = Range ∷ Volume ∷ File ∷ []
-checks_by kinds.Summary = []
-checks_by kinds.SetLabel = Range ∷ Volume ∷ Sealed ∷ []
-checks_by kinds.Label = Range ∷ Volume ∷ []
 
 -- whether what a message of the kind makes is there already
 abbrev pub exists_by : State → Kind → List ℕ → Bool
@@ -46,7 +30,7 @@ passes_by g x k ns Space = is_some (x.blocks (slice_index ns 0, slice_index ns 1
 
 -- why a message of the kind is refused: the first check that fails, if one does
 abbrev pub refusal_by : Geometry → State → Kind → List ℕ → Option Refusal
-refusal_by g x k ns = find (λ test. not (passes_by g x k ns test)) (checks_by k)
+refusal_by g x k ns = find (λ test. not (passes_by g x k ns test)) (checks k)
 
 -- the reply to a message that changes something, by why it is refused, if it is
 abbrev pub done_or_refused : Option Refusal → Reply

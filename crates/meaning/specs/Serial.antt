@@ -2,6 +2,8 @@
 use Rattle.std.specs.Prelude.{ℕ, ◌^◌, Bool, true, false, not, ◌||◌, ◌&&◌, nat_lt, List, [], ◌∷◌, find, replicate, unwrap_or, if◌then◌else◌, Option, Some, None, is_some}
 use Rattle.affinity.specs.declared.geometry.Geometry.{Geometry}
 use Rattle.affinity.specs.Geometry.{stripe_of}
+use Rattle.affinity.specs.declared.kinds.Kind.{Kind}
+use Rattle.affinity.specs.declared.kinds.Kind.TheVariants as kinds
 use Rattle.affinity.specs.Kind.{is_changing}
 use Rattle.messages.specs.declared.Block.{Block}
 use Rattle.messages.specs.declared.Msg.{Msg}
@@ -24,22 +26,22 @@ key_of _ = (0, 0, 0, 0)
 abbrev pub key : Msg → BlockKey
 key m = key_of (four_numbers m)
 
--- the checks that a message has to pass, in order, each named by the refusal that it gives
-abbrev pub checks : Msg → List Refusal
-checks (MakeVol a v) = Range ∷ Exists ∷ []
-checks (DropVol a v) = Range ∷ Volume ∷ Sealed ∷ []
-checks (Create a v f) = Range ∷ Volume ∷ Sealed ∷ Exists ∷ []
-checks (Delete a v f) = Range ∷ Volume ∷ Sealed ∷ File ∷ []
-checks (ListFiles a v) = Range ∷ Volume ∷ []
-checks (Seal a v) = Range ∷ Volume ∷ []
-checks (Unseal a v) = Range ∷ Volume ∷ []
-checks (AskUsage a v) = Range ∷ Volume ∷ []
-checks (Write a v f b content) = Range ∷ Volume ∷ Sealed ∷ File ∷ Space ∷ []
-checks (Punch a v f b) = Range ∷ Volume ∷ Sealed ∷ File ∷ []
-checks (Read a v f b) = Range ∷ Volume ∷ File ∷ []
-checks AskSummary = []
-checks (SetLabel a v bytes) = Range ∷ Volume ∷ Sealed ∷ []
-checks (AskLabel a v) = Range ∷ Volume ∷ []
+-- the checks that a message of the kind has to pass, in order, each named by the refusal that it gives
+abbrev pub checks : Kind → List Refusal
+checks kinds.MakeVol = Range ∷ Exists ∷ []
+checks kinds.DropVol = Range ∷ Volume ∷ Sealed ∷ []
+checks kinds.Create = Range ∷ Volume ∷ Sealed ∷ Exists ∷ []
+checks kinds.Delete = Range ∷ Volume ∷ Sealed ∷ File ∷ []
+checks kinds.List = Range ∷ Volume ∷ []
+checks kinds.Seal = Range ∷ Volume ∷ []
+checks kinds.Unseal = Range ∷ Volume ∷ []
+checks kinds.Usage = Range ∷ Volume ∷ []
+checks kinds.Write = Range ∷ Volume ∷ Sealed ∷ File ∷ Space ∷ []
+checks kinds.Punch = Range ∷ Volume ∷ Sealed ∷ File ∷ []
+checks kinds.Read = Range ∷ Volume ∷ File ∷ []
+checks kinds.Summary = []
+checks kinds.SetLabel = Range ∷ Volume ∷ Sealed ∷ []
+checks kinds.Label = Range ∷ Volume ∷ []
 
 -- whether what the message makes is there already
 abbrev pub exists : State → Msg → Bool
@@ -58,7 +60,7 @@ passes g x m Space = let n = key m in is_some (x.blocks n) || nat_lt (blocks_in_
 
 -- why the message is refused: the first check that fails, if one does
 abbrev pub refusal : Geometry → State → Msg → Option Refusal
-refusal g x m = find (λ test. not (passes g x m test)) (checks m)
+refusal g x m = find (λ test. not (passes g x m test)) (checks (kind m))
 
 -- ---- the step
 

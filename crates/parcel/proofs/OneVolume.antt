@@ -32,6 +32,11 @@ passed g x m given y e same new = record {
   state = new ∙ (λ i. (reply_and_state (sym e i) (accepted_reply g x m) (effect x m) x).1);
 }
 
+-- a check that leaves it to the later ones is passed
+pub let_through : (passes : Bool) (why : Refusal) → guard passes why None ≡ None → passes ≡ true
+let_through true why e = refl
+let_through false why e = cc
+
 -- ---- what the volume has
 
 pub at_volume : (a v : ℕ) (h : VolumeFacts) → facts_if ((a == a) && (v == v)) h ≡ h

@@ -7,7 +7,6 @@ pub mod Tree
 pub mod Run
 pub mod Levels
 pub mod Steps
-pub mod Checks
 pub mod Dropping
 pub mod Totals
 pub mod RunLaws

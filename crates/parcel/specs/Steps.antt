@@ -1,10 +1,11 @@
 -- Inner: A message about one volume: its checks, and its step on what the volume has.
-use Rattle.std.specs.Prelude.{◌≡◌, ℕ, Bool, true, not, if◌then◌else◌, ◌==◌, Option, Some}
+use Rattle.std.specs.Prelude.{◌≡◌, ℕ, Bool, true, not, if◌then◌else◌, ◌==◌, Option, Some, Result, Ok, Err}
 use Rattle.affinity.specs.declared.geometry.Geometry.{Geometry}
 use Rattle.messages.specs.declared.Msg.{Msg}
 use Rattle.messages.specs.declared.Refusal.{Refusal}
 use Rattle.messages.specs.declared.Refusal.TheVariants.{Volume, Sealed}
 use Rattle.messages.specs.declared.Reply.{Reply}
+use Rattle.messages.specs.declared.Reply.TheVariants.{Done, Refused}
 use Rattle.messages.specs.Messages.{is_in_range}
 use Rattle.meaning.specs.State.{State}
 use Rattle.parcel.specs.Run.{IsSerialStep}
@@ -19,6 +20,16 @@ guard passes why later = if not passes then Some why else later
 -- refused where the volume isn't made or is sealed, else as the later checks decide: for a message that changes what a volume has
 abbrev pub guard_open : Bool → Bool → Option Refusal → Option Refusal
 guard_open made sealed later = guard made Volume (guard (not sealed) Sealed later)
+
+-- What a check answers: it refuses, whatever the later checks say, or leaves it to these.
+abbrev pub Decides : (Option Refusal → Option Refusal) → Result (Unit {0}) Refusal → Type 0
+Decides checks (Ok _) = (later : Option Refusal) → checks later ≡ later
+Decides checks (Err why) = (later : Option Refusal) → checks later ≡ Some why
+
+-- the reply to a message that changes something, which was done or refused
+abbrev pub reply_to_change : Result (Unit {0}) Refusal → Reply
+reply_to_change (Ok _) = Done
+reply_to_change (Err why) = Refused why
 
 -- In a state with one volume and nothing else, the message's serial step changes that volume's facts from `old` to `new`, whichever volume
 -- it is.

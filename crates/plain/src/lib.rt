@@ -7,5 +7,5 @@ mod server;
 mod serving;
 
 pub use fault::PlainFault;
-pub use meaning::{checks_of, laws};
+pub use meaning::laws;
 pub use serving::{serve_from, serve_plain};

@@ -7,7 +7,7 @@ use Rattle.affinity.specs.declared.geometry.Geometry.{Geometry}
 use Rattle.legal_runs.proofs.Elements.{in_contained}
 use Rattle.legal_runs.proofs.SerialReplies.{IsIn}
 use Rattle.messages.specs.Grammar.{message_of}
-use Rattle.messages.specs.Messages.{is_in_range}
+use Rattle.messages.specs.Messages.{is_in_range, kind}
 use Rattle.messages.specs.Replies.{reply_line}
 use Rattle.messages.specs.declared.Msg.{Msg}
 use Rattle.messages.specs.declared.Msg.TheVariants.{MakeVol, DropVol, Create, Delete, Seal, Unseal, Write, Punch, Read, List as ListFiles, Usage as AskUsage, Summary as AskSummary, SetLabel, Label as AskLabel}
@@ -29,20 +29,20 @@ module _ (g : Geometry) (x : State) where
   fails_first m rest h = ap (λ (b : Bool). if not b then Some Range else find (λ test. not (passes g x m test)) rest) h
 
   refused : (m : Msg) → is_in_range g m ≡ false → refusal g x m ≡ Some Range
-  refused (MakeVol a v) h = fails_first (MakeVol a v) (drop 1 (checks (MakeVol a v))) h
-  refused (DropVol a v) h = fails_first (DropVol a v) (drop 1 (checks (DropVol a v))) h
-  refused (Create a v f) h = fails_first (Create a v f) (drop 1 (checks (Create a v f))) h
-  refused (Delete a v f) h = fails_first (Delete a v f) (drop 1 (checks (Delete a v f))) h
-  refused (Seal a v) h = fails_first (Seal a v) (drop 1 (checks (Seal a v))) h
-  refused (Unseal a v) h = fails_first (Unseal a v) (drop 1 (checks (Unseal a v))) h
-  refused (Write a v f b content) h = fails_first (Write a v f b content) (drop 1 (checks (Write a v f b content))) h
-  refused (Punch a v f b) h = fails_first (Punch a v f b) (drop 1 (checks (Punch a v f b))) h
-  refused (Read a v f b) h = fails_first (Read a v f b) (drop 1 (checks (Read a v f b))) h
-  refused (ListFiles a v) h = fails_first (ListFiles a v) (drop 1 (checks (ListFiles a v))) h
-  refused (AskUsage a v) h = fails_first (AskUsage a v) (drop 1 (checks (AskUsage a v))) h
+  refused (MakeVol a v) h = fails_first (MakeVol a v) (drop 1 (checks (kind (MakeVol a v)))) h
+  refused (DropVol a v) h = fails_first (DropVol a v) (drop 1 (checks (kind (DropVol a v)))) h
+  refused (Create a v f) h = fails_first (Create a v f) (drop 1 (checks (kind (Create a v f)))) h
+  refused (Delete a v f) h = fails_first (Delete a v f) (drop 1 (checks (kind (Delete a v f)))) h
+  refused (Seal a v) h = fails_first (Seal a v) (drop 1 (checks (kind (Seal a v)))) h
+  refused (Unseal a v) h = fails_first (Unseal a v) (drop 1 (checks (kind (Unseal a v)))) h
+  refused (Write a v f b content) h = fails_first (Write a v f b content) (drop 1 (checks (kind (Write a v f b content)))) h
+  refused (Punch a v f b) h = fails_first (Punch a v f b) (drop 1 (checks (kind (Punch a v f b)))) h
+  refused (Read a v f b) h = fails_first (Read a v f b) (drop 1 (checks (kind (Read a v f b)))) h
+  refused (ListFiles a v) h = fails_first (ListFiles a v) (drop 1 (checks (kind (ListFiles a v)))) h
+  refused (AskUsage a v) h = fails_first (AskUsage a v) (drop 1 (checks (kind (AskUsage a v)))) h
   refused AskSummary h = absurd (true≢false h)
-  refused (SetLabel a v bytes) h = fails_first (SetLabel a v bytes) (drop 1 (checks (SetLabel a v bytes))) h
-  refused (AskLabel a v) h = fails_first (AskLabel a v) (drop 1 (checks (AskLabel a v))) h
+  refused (SetLabel a v bytes) h = fails_first (SetLabel a v bytes) (drop 1 (checks (kind (SetLabel a v bytes)))) h
+  refused (AskLabel a v) h = fails_first (AskLabel a v) (drop 1 (checks (kind (AskLabel a v)))) h
 
   pub out_of_range : (m : Msg) → is_in_range g m ≡ false → step g x m ≡ (Refused Range, x)
   out_of_range m h = ap (λ (why : Option Refusal). reply_and_state why (accepted_reply g x m) (effect x m) x) (refused m h)

@@ -5,20 +5,19 @@ ghost use Rattle.affinity.specs.declared.geometry.Geometry.{Geometry};
 ghost use Rattle.messages.specs.declared.Msg.{Msg};
 ghost use Rattle.messages.specs.Messages.{is_in_range, path_of};
 ghost use Rattle.parcel.specs.Dropping.{Empties};
-ghost use Rattle.meaning.specs.Serial.{checks};
 ghost use Rattle.parcel.specs.Fits.{FitsAggregate, FitsLogical, FitsVolume, IsWholeAggregate, IsWholeChild, IsWholeLogical, IsWholeVolume, IsRunnable};
 ghost use Rattle.parcel.specs.Run.{IsSerialStep};
 ghost use Rattle.parcel.specs.Shown.{blocks_of, child_facts, volume_facts, shown_state};
-ghost use Rattle.parcel.specs.Steps.{at_aggregate};
+ghost use Rattle.parcel.specs.Steps.{at_aggregate, reply_to_change};
 ghost use Rattle.parcel.specs.Totals.{with_made};
 ghost use Rattle.parcel.specs.Volume.{no_facts};
 ghost use Rattle.parcel.specs.declared.parts.Parcels.{Parcels};
 ghost use Rattle.parcel.specs.declared.parts.Standing.{Standing};
 
-use super::refusals::{change_refusal, make_refusal};
+use super::refusals::{guard, guard_open, reply_to_change};
 use crate::{Aggr, Label, Logical, StripeParcel, Vol};
 use affinity::Geometry;
-use messages::{Msg, Reply};
+use messages::{Msg, Refusal, Reply};
 
 // Whether the volume at one index is made, and whether it is sealed.
 fn marks(node: &Option<Vol>) -> (bool, bool)
@@ -94,45 +93,40 @@ fn clear(node: &mut Option<Vol>)
     }
 }
 
-// Makes a volume, or refuses to. Clause `checks` says that the message has the checks of a `makevol`: they are the same for each aggregate,
-// so 0 stands for any. (`at_aggregate g a r` is the state that has r as aggregate a, and nothing else.)
-fn make_volume(aggregate: &mut Aggr, g: &Geometry, message: &Msg, v: u16) -> Reply
-    requires checks { checks message.now ≡ checks (Msg.MakeVol 0 v) }
+// Makes a volume, or refuses to. (`at_aggregate g a r` is the state that has r as aggregate a, and nothing else.)
+fn make_volume(aggregate: &mut Aggr, g: &Geometry, v: u16) -> Result<(), Refusal>
     requires volume { v < g.now.volumes }
     requires fits { FitsAggregate g.now aggregate.old }
     requires whole { IsWholeAggregate aggregate.old }
     ensures step { (a : ℕ) → is_in_range g.now (Msg.MakeVol a v) ≡ true
-        → IsSerialStep g.now (at_aggregate g.now a aggregate.old) (Msg.MakeVol a v) result (at_aggregate g.now a aggregate.new) }
+        → IsSerialStep g.now (at_aggregate g.now a aggregate.old) (Msg.MakeVol a v) (reply_to_change result)
+        (at_aggregate g.now a aggregate.new) }
     ensures fits { FitsAggregate g.now aggregate.new }
     ensures whole { IsWholeAggregate aggregate.new }
 {
     let index = usize::from(v);
     let (made, _) = marks(&aggregate.volumes[index]);
-    if let Some(why) = make_refusal(message, made) {
-        return Reply::Refused(why);
-    }
+    guard(!made, Refusal::Exists)?;
     make(&mut aggregate.volumes[index]);
-    Reply::Done
+    Ok(())
 }
 
-// Removes a volume with all that it has, or refuses to. The message has the checks of a `dropvol`.
-fn drop_volume(aggregate: &mut Aggr, g: &Geometry, message: &Msg, v: u16) -> Reply
-    requires checks { checks message.now ≡ checks (Msg.DropVol 0 v) }
+// Removes a volume with all that it has, or refuses to.
+fn drop_volume(aggregate: &mut Aggr, g: &Geometry, v: u16) -> Result<(), Refusal>
     requires volume { v < g.now.volumes }
     requires fits { FitsAggregate g.now aggregate.old }
     requires whole { IsWholeAggregate aggregate.old }
     ensures step { (a : ℕ) → is_in_range g.now (Msg.DropVol a v) ≡ true
-        → IsSerialStep g.now (at_aggregate g.now a aggregate.old) (Msg.DropVol a v) result (at_aggregate g.now a aggregate.new) }
+        → IsSerialStep g.now (at_aggregate g.now a aggregate.old) (Msg.DropVol a v) (reply_to_change result)
+        (at_aggregate g.now a aggregate.new) }
     ensures fits { FitsAggregate g.now aggregate.new }
     ensures whole { IsWholeAggregate aggregate.new }
 {
     let index = usize::from(v);
     let (made, sealed) = marks(&aggregate.volumes[index]);
-    if let Some(why) = change_refusal(message, made, sealed) {
-        return Reply::Refused(why);
-    }
+    guard_open(made, sealed)?;
     clear(&mut aggregate.volumes[index]);
-    Reply::Done
+    Ok(())
 }
 
 /// Runs a message at an aggregate. It sees nothing of what lies above.
@@ -144,8 +138,8 @@ pub(crate) fn run_at_aggregate(aggregate: &mut Aggr, g: &Geometry, message: &Msg
     ensures runnable { IsRunnable g.now message.now (Parcels.Aggr aggregate.new) }
 {
     match message {
-        Msg::MakeVol(_, v) => make_volume(aggregate, g, message, *v),
-        Msg::DropVol(_, v) => drop_volume(aggregate, g, message, *v),
+        Msg::MakeVol(_, v) => reply_to_change(make_volume(aggregate, g, *v)),
+        Msg::DropVol(_, v) => reply_to_change(drop_volume(aggregate, g, *v)),
         _ => unreachable!(),
     }
 }

@@ -1,47 +1,40 @@
 //! Messages at the label of a volume: they set it and ask for it.
-//! Clauses write `Msg.Label 0 0` for a `label` of any volume: its checks are the same for each.
 
 ghost use Rattle.std.specs.Prelude.{◌≡◌};
 ghost use Rattle.messages.specs.declared.Msg.{Msg};
 ghost use Rattle.messages.specs.Messages.{path_of};
-ghost use Rattle.meaning.specs.Serial.{checks};
 ghost use Rattle.parcel.specs.Fits.{IsRunnable};
 ghost use Rattle.parcel.specs.Run.{IsSerialStep};
 ghost use Rattle.parcel.specs.Shown.{label_facts, shown_state};
-ghost use Rattle.parcel.specs.Steps.{IsVolumeStep};
+ghost use Rattle.parcel.specs.Steps.{IsVolumeStep, reply_to_change};
 ghost use Rattle.parcel.specs.declared.parts.Parcels.{Parcels};
 
-use super::refusals::{change_refusal, volume_refusal};
+use super::refusals::{guard_open, reply_to_change};
 use crate::{Label, Standing};
 use affinity::Geometry;
-use messages::{Msg, Reply};
+use messages::{Msg, Refusal, Reply};
 
 // Sets the label.
 fn set_label(
     label: &mut Label,
     g: &Geometry,
     standing: Standing,
-    message: &Msg,
     bytes: &[u8; 32],
-) -> Reply
-    requires { checks message.now ≡ checks (Msg.SetLabel 0 0 bytes.now) }
-    ensures { IsVolumeStep g.now (λ a v. Msg.SetLabel a v bytes.now) (label_facts standing label.old) result
+) -> Result<(), Refusal>
+    ensures { IsVolumeStep g.now (λ a v. Msg.SetLabel a v bytes.now) (label_facts standing label.old) (reply_to_change result)
         (label_facts standing label.new) }
 {
-    if let Some(why) = change_refusal(message, standing.made, standing.sealed) {
-        return Reply::Refused(why);
-    }
+    guard_open(standing.made, standing.sealed)?;
     label.bytes = Some(*bytes);
-    Reply::Done
+    Ok(())
 }
 
 // The label.
-fn get_label(label: &Label, g: &Geometry, standing: Standing, message: &Msg) -> Reply
-    requires { checks message.now ≡ checks (Msg.Label 0 0) }
+fn get_label(label: &Label, g: &Geometry, standing: Standing) -> Reply
     ensures { IsVolumeStep g.now Msg.Label (label_facts standing label.now) result (label_facts standing label.now) }
 {
-    if let Some(why) = volume_refusal(message, standing.made) {
-        return Reply::Refused(why);
+    if !standing.made {
+        return Reply::Refused(Refusal::Volume);
     }
     Reply::Label(label.bytes.unwrap_or([0; 32]))
 }
@@ -59,8 +52,8 @@ pub(crate) fn run_at_label(
     ensures runnable { IsRunnable g.now message.now (Parcels.Label label.new) }
 {
     match message {
-        Msg::SetLabel(_, _, bytes) => set_label(label, g, standing, message, bytes),
-        Msg::Label(..) => get_label(label, g, standing, message),
+        Msg::SetLabel(_, _, bytes) => reply_to_change(set_label(label, g, standing, bytes)),
+        Msg::Label(..) => get_label(label, g, standing),
         _ => unreachable!(),
     }
 }

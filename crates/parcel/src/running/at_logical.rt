@@ -1,38 +1,33 @@
 //! Messages at a Volume Logical, the files of a volume with its stripes: they make, remove and list files.
-//! Clauses write `Msg.List 0 0` for a `list` of any volume: its checks are the same for each.
 
 ghost use Rattle.std.specs.Prelude.{◌≡◌, ℕ, ◌<◌, slice_index_or, None, vec_len};
 ghost use Rattle.messages.specs.declared.Msg.{Msg};
 ghost use Rattle.messages.specs.Messages.{path_of};
 ghost use Rattle.parcel.specs.Dropping.{DropsFile};
-ghost use Rattle.meaning.specs.Serial.{checks};
 ghost use Rattle.parcel.specs.Fits.{FitsLogical, IsWholeLogical, IsRunnable};
 ghost use Rattle.parcel.specs.Run.{IsSerialStep};
 ghost use Rattle.parcel.specs.Shown.{logical_facts, shown_state};
-ghost use Rattle.parcel.specs.Steps.{IsVolumeStep};
+ghost use Rattle.parcel.specs.Steps.{IsVolumeStep, reply_to_change};
 ghost use Rattle.parcel.specs.declared.parts.Parcels.{Parcels};
 
-use super::refusals::{create_refusal, file_change_refusal, volume_refusal};
+use super::refusals::{guard, guard_file, guard_open, has_file, reply_to_change};
 use crate::{Logical, Standing, StripeParcel};
 use affinity::Geometry;
-use messages::{Msg, Reply};
+use messages::{Msg, Refusal, Reply};
 
 // Makes a file, without blocks.
-fn create(logical: &mut Logical, g: &Geometry, standing: Standing, message: &Msg, f: u16) -> Reply
-    requires checks { checks message.now ≡ checks (Msg.Create 0 0 f) }
+fn create(logical: &mut Logical, g: &Geometry, standing: Standing, f: u16) -> Result<(), Refusal>
     requires file { f < g.now.files }
     requires fits { FitsLogical g.now logical.old }
-    ensures step { IsVolumeStep g.now (λ a v. Msg.Create a v f) (logical_facts g.now standing logical.old) result
-        (logical_facts g.now standing logical.new) }
+    ensures step { IsVolumeStep g.now (λ a v. Msg.Create a v f) (logical_facts g.now standing logical.old)
+        (reply_to_change result) (logical_facts g.now standing logical.new) }
     ensures fits { FitsLogical g.now logical.new }
     ensures stripes { logical.new.stripes ≡ logical.old.stripes }
 {
-    let Standing { made, sealed, .. } = standing;
-    if let Some(why) = create_refusal(message, made, sealed, logical.files, f) {
-        return Reply::Refused(why);
-    }
+    guard_open(standing.made, standing.sealed)?;
+    guard(!has_file(logical.files, f), Refusal::Exists)?;
     logical.files |= 1 << f;
-    Reply::Done
+    Ok(())
 }
 
 // Removes the blocks of a file from a stripe, unless it is checked out.
@@ -56,33 +51,28 @@ fn drop_file(stripes: &mut Vec<Option<StripeParcel>>, f: u16)
 }
 
 // Removes a file and its blocks.
-fn delete(logical: &mut Logical, g: &Geometry, standing: Standing, message: &Msg, f: u16) -> Reply
-    requires checks { checks message.now ≡ checks (Msg.Delete 0 0 f) }
+fn delete(logical: &mut Logical, g: &Geometry, standing: Standing, f: u16) -> Result<(), Refusal>
     requires file { f < g.now.files }
     requires fits { FitsLogical g.now logical.old }
     requires whole { IsWholeLogical logical.old }
-    ensures step { IsVolumeStep g.now (λ a v. Msg.Delete a v f) (logical_facts g.now standing logical.old) result
-        (logical_facts g.now standing logical.new) }
+    ensures step { IsVolumeStep g.now (λ a v. Msg.Delete a v f) (logical_facts g.now standing logical.old)
+        (reply_to_change result) (logical_facts g.now standing logical.new) }
     ensures fits { FitsLogical g.now logical.new }
     ensures whole { IsWholeLogical logical.new }
 {
-    let Standing { made, sealed, .. } = standing;
-    if let Some(why) = file_change_refusal(message, made, sealed, logical.files, f) {
-        return Reply::Refused(why);
-    }
+    guard_file(standing.made, standing.sealed, logical.files, f)?;
     logical.files &= !(1 << f);
     drop_file(&mut logical.stripes, f);
-    Reply::Done
+    Ok(())
 }
 
 // Which files there are.
-fn list(logical: &Logical, g: &Geometry, standing: Standing, message: &Msg) -> Reply
+fn list(logical: &Logical, g: &Geometry, standing: Standing) -> Reply
     requires fits { FitsLogical g.now logical.now }
-    requires checks { checks message.now ≡ checks (Msg.List 0 0) }
     ensures { IsVolumeStep g.now Msg.List (logical_facts g.now standing logical.now) result (logical_facts g.now standing logical.now) }
 {
-    if let Some(why) = volume_refusal(message, standing.made) {
-        return Reply::Refused(why);
+    if !standing.made {
+        return Reply::Refused(Refusal::Volume);
     }
     Reply::Files(logical.files)
 }
@@ -101,9 +91,9 @@ pub(crate) fn run_at_logical(
     ensures runnable { IsRunnable g.now message.now (Parcels.Logical logical.new) }
 {
     match message {
-        Msg::Create(_, _, f) => create(logical, g, standing, message, *f),
-        Msg::Delete(_, _, f) => delete(logical, g, standing, message, *f),
-        Msg::List(..) => list(logical, g, standing, message),
+        Msg::Create(_, _, f) => reply_to_change(create(logical, g, standing, *f)),
+        Msg::Delete(_, _, f) => reply_to_change(delete(logical, g, standing, *f)),
+        Msg::List(..) => list(logical, g, standing),
         _ => unreachable!(),
     }
 }

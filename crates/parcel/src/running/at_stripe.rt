@@ -1,23 +1,21 @@
 //! Messages at a stripe: they write, remove and read blocks.
-//! Clauses write `Msg.Read 0 0 f b` for a `read` in any volume: its checks are the same for each.
 
 ghost use Rattle.std.specs.Prelude.{◌≡◌, ◌<◌, ◌||◌, is_some, length, nat_lt};
 ghost use Rattle.affinity.specs.declared.geometry.Geometry.{Geometry};
 ghost use Rattle.affinity.specs.Geometry.{stripe_of};
 ghost use Rattle.messages.specs.declared.Msg.{Msg};
 ghost use Rattle.messages.specs.Messages.{path_of};
-ghost use Rattle.meaning.specs.Serial.{checks};
 ghost use Rattle.parcel.specs.Fits.{FitsStripe, IsRunnable};
 ghost use Rattle.parcel.specs.Run.{IsSerialStep};
 ghost use Rattle.parcel.specs.Shown.{stripe_facts, shown_state};
-ghost use Rattle.parcel.specs.Steps.{IsVolumeStep};
+ghost use Rattle.parcel.specs.Steps.{IsVolumeStep, reply_to_change};
 ghost use Rattle.stripe.specs.Stripe.{StripeRule, content_at};
 ghost use Rattle.parcel.specs.declared.parts.Parcels.{Parcels};
 
-use super::refusals::{file_change_refusal, read_refusal, write_refusal};
+use super::refusals::{guard, guard_file, has_file, reply_to_change};
 use crate::{Standing, StripeParcel};
 use affinity::Geometry;
-use messages::{Block, Msg, Reply};
+use messages::{Block, Msg, Refusal, Reply};
 
 // Whether a block is there already, or there is room for one more.
 fn has_space(stripe: &StripeParcel, g: &Geometry, f: u16, b: u16) -> bool
@@ -32,61 +30,47 @@ fn write(
     stripe: &mut StripeParcel,
     g: &Geometry,
     standing: Standing,
-    message: &Msg,
     f: u16,
     b: u16,
     content: &Block,
-) -> Reply
-    requires checks { checks message.now ≡ checks (Msg.Write 0 0 f b content.now) }
+) -> Result<(), Refusal>
     requires file { f < g.now.files }
     requires block { b < g.now.blocks }
     requires fits { FitsStripe g.now (stripe_of g.now f b) stripe.old }
-    ensures step { IsVolumeStep g.now (λ a v. Msg.Write a v f b content.now) (stripe_facts standing stripe.old) result
-        (stripe_facts standing stripe.new) }
+    ensures step { IsVolumeStep g.now (λ a v. Msg.Write a v f b content.now) (stripe_facts standing stripe.old)
+        (reply_to_change result) (stripe_facts standing stripe.new) }
     ensures fits { FitsStripe g.now (stripe_of g.now f b) stripe.new }
 {
     let room = has_space(stripe, g, f, b);
-    let Standing {
-        made,
-        sealed,
-        files,
-    } = standing;
-    if let Some(why) = write_refusal(message, made, sealed, files, f, room) {
-        return Reply::Refused(why);
-    }
+    guard_file(standing.made, standing.sealed, standing.files, f)?;
+    guard(room, Refusal::Space)?;
     stripe.set(f, b, content);
-    Reply::Done
+    Ok(())
 }
 
 // Removes a block from a file.
-fn punch(stripe: &mut StripeParcel, standing: Standing, message: &Msg, f: u16, b: u16) -> Reply
+fn punch(stripe: &mut StripeParcel, standing: Standing, f: u16, b: u16) -> Result<(), Refusal>
     requires file { f < 64 }
-    requires checks { checks message.now ≡ checks (Msg.Punch 0 0 f b) }
-    ensures step { (g : Geometry) → IsVolumeStep g (λ a v. Msg.Punch a v f b) (stripe_facts standing stripe.old) result
-        (stripe_facts standing stripe.new) }
+    ensures step { (g : Geometry) → IsVolumeStep g (λ a v. Msg.Punch a v f b) (stripe_facts standing stripe.old)
+        (reply_to_change result) (stripe_facts standing stripe.new) }
     ensures fits { (g : Geometry) → FitsStripe g (stripe_of g f b) stripe.old → FitsStripe g (stripe_of g f b) stripe.new }
 {
-    let Standing {
-        made,
-        sealed,
-        files,
-    } = standing;
-    if let Some(why) = file_change_refusal(message, made, sealed, files, f) {
-        return Reply::Refused(why);
-    }
+    guard_file(standing.made, standing.sealed, standing.files, f)?;
     stripe.clear(f, b);
-    Reply::Done
+    Ok(())
 }
 
 // A block of a file, or a hole where it isn't there.
-fn read(stripe: &StripeParcel, standing: Standing, message: &Msg, f: u16, b: u16) -> Reply
-    requires file { f < 64 }
-    requires checks { checks message.now ≡ checks (Msg.Read 0 0 f b) }
+fn read(stripe: &StripeParcel, standing: Standing, f: u16, b: u16) -> Reply
+    requires { f < 64 }
     ensures { (g : Geometry) → IsVolumeStep g (λ a v. Msg.Read a v f b) (stripe_facts standing stripe.now) result
         (stripe_facts standing stripe.now) }
 {
-    if let Some(why) = read_refusal(message, standing.made, standing.files, f) {
-        return Reply::Refused(why);
+    if !standing.made {
+        return Reply::Refused(Refusal::Volume);
+    }
+    if !has_file(standing.files, f) {
+        return Reply::Refused(Refusal::File);
     }
     match stripe.get(f, b) {
         Some(content) => Reply::Block(*content),
@@ -108,9 +92,11 @@ pub(crate) fn run_at_stripe(
     ensures runnable { IsRunnable g.now message.now (Parcels.Stripe stripe.new) }
 {
     match message {
-        Msg::Write(_, _, f, b, content) => write(stripe, g, standing, message, *f, *b, content),
-        Msg::Punch(_, _, f, b) => punch(stripe, standing, message, *f, *b),
-        Msg::Read(_, _, f, b) => read(stripe, standing, message, *f, *b),
+        Msg::Write(_, _, f, b, content) => {
+            reply_to_change(write(stripe, g, standing, *f, *b, content))
+        }
+        Msg::Punch(_, _, f, b) => reply_to_change(punch(stripe, standing, *f, *b)),
+        Msg::Read(_, _, f, b) => read(stripe, standing, *f, *b),
         _ => unreachable!(),
     }
 }

@@ -1,60 +1,53 @@
 //! Messages at a volume: they seal and unseal it, and ask how much it holds.
-//! Clauses write `Msg.Seal 0 0` for a `seal` of any volume: its checks and its step are the same for each.
 
 ghost use Rattle.std.specs.Prelude.{◌≡◌};
 ghost use Rattle.affinity.specs.declared.geometry.Geometry.{Geometry};
 ghost use Rattle.messages.specs.declared.Msg.{Msg};
 ghost use Rattle.messages.specs.Messages.{path_of};
-ghost use Rattle.meaning.specs.Serial.{checks};
 ghost use Rattle.parcel.specs.Fits.{FitsVolume, IsRunnable};
 ghost use Rattle.parcel.specs.Run.{IsSerialStep};
 ghost use Rattle.parcel.specs.Shown.{volume_facts, shown_state};
-ghost use Rattle.parcel.specs.Steps.{IsVolumeStep};
+ghost use Rattle.parcel.specs.Steps.{IsVolumeStep, reply_to_change};
 ghost use Rattle.parcel.specs.declared.parts.Parcels.{Parcels};
 ghost use Rattle.parcel.specs.declared.parts.Standing.{Standing};
 
-use super::refusals::volume_refusal;
+use super::refusals::{guard, reply_to_change};
 use super::totals::volume_totals;
 use crate::Vol;
 use affinity::Geometry;
-use messages::{Msg, Reply};
+use messages::{Msg, Refusal, Reply};
 
 // Seals the volume, whether it was sealed or not.
-fn seal(volume: &mut Vol, message: &Msg) -> Reply
-    requires { checks message.now ≡ checks (Msg.Seal 0 0) }
-    ensures step { (g : Geometry) → IsVolumeStep g Msg.Seal (volume_facts g volume.old) result (volume_facts g volume.new) }
+fn seal(volume: &mut Vol) -> Result<(), Refusal>
+    ensures step { (g : Geometry) → IsVolumeStep g Msg.Seal (volume_facts g volume.old) (reply_to_change result)
+        (volume_facts g volume.new) }
     ensures logical { volume.new.logical ≡ volume.old.logical }
     ensures label { volume.new.label ≡ volume.old.label }
 {
-    if let Some(why) = volume_refusal(message, volume.made) {
-        return Reply::Refused(why);
-    }
+    guard(volume.made, Refusal::Volume)?;
     volume.sealed = true;
-    Reply::Done
+    Ok(())
 }
 
 // Unseals the volume, whether it was sealed or not.
-fn unseal(volume: &mut Vol, message: &Msg) -> Reply
-    requires { checks message.now ≡ checks (Msg.Unseal 0 0) }
-    ensures step { (g : Geometry) → IsVolumeStep g Msg.Unseal (volume_facts g volume.old) result (volume_facts g volume.new) }
+fn unseal(volume: &mut Vol) -> Result<(), Refusal>
+    ensures step { (g : Geometry) → IsVolumeStep g Msg.Unseal (volume_facts g volume.old) (reply_to_change result)
+        (volume_facts g volume.new) }
     ensures logical { volume.new.logical ≡ volume.old.logical }
     ensures label { volume.new.label ≡ volume.old.label }
 {
-    if let Some(why) = volume_refusal(message, volume.made) {
-        return Reply::Refused(why);
-    }
+    guard(volume.made, Refusal::Volume)?;
     volume.sealed = false;
-    Reply::Done
+    Ok(())
 }
 
 // How much the volume holds, and whether it is sealed.
-fn usage(volume: &Vol, g: &Geometry, message: &Msg) -> Reply
+fn usage(volume: &Vol, g: &Geometry) -> Reply
     requires fits { FitsVolume g.now volume.now }
-    requires checks { checks message.now ≡ checks (Msg.Usage 0 0) }
     ensures { IsVolumeStep g.now Msg.Usage (volume_facts g.now volume.now) result (volume_facts g.now volume.now) }
 {
-    if let Some(why) = volume_refusal(message, volume.made) {
-        return Reply::Refused(why);
+    if !volume.made {
+        return Reply::Refused(Refusal::Volume);
     }
     let totals = volume_totals(volume, g);
     Reply::Usage {
@@ -73,9 +66,9 @@ pub(crate) fn run_at_volume(volume: &mut Vol, g: &Geometry, message: &Msg) -> Re
     ensures runnable { IsRunnable g.now message.now (Parcels.Vol volume.new) }
 {
     match message {
-        Msg::Seal(..) => seal(volume, message),
-        Msg::Unseal(..) => unseal(volume, message),
-        Msg::Usage(..) => usage(volume, g, message),
+        Msg::Seal(..) => reply_to_change(seal(volume)),
+        Msg::Unseal(..) => reply_to_change(unseal(volume)),
+        Msg::Usage(..) => usage(volume, g),
         _ => unreachable!(),
     }
 }

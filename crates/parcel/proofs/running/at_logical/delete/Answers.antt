@@ -1,5 +1,6 @@
 -- The bit of the file goes, and each stripe drops its blocks: the effect of a delete, and all still fits.
-use Rattle.std.proofs.Common.{◌≡◌, ◌<◌, refl, sym, ◌∙◌, length, arith}
+use Rattle.std.proofs.Common.{◌≡◌, ◌<◌, None, refl, ◌∙◌, length, arith}
+use Rattle.std.proofs.lemmas.Result.{err_from_is_err_and}
 use Rattle.affinity.specs.Geometry.{stripe_of}
 use Rattle.affinity.proofs.Placed.{group_below}
 use Rattle.messages.specs.declared.Msg.TheVariants.{Delete}
@@ -8,7 +9,7 @@ use Rattle.parcel.specs.Fits.{FitsStripe}
 use Rattle.parcel.specs.Shown.{logical_facts, blocks_of, has_file}
 use Rattle.parcel.specs.Volume.{one_volume}
 use Rattle.meaning.proofs.FileBits.{few_bits, without_bit, without_bit_has, without_bit_below}
-use Rattle.parcel.proofs.OneVolume.{passed, delete_tests, effect_delete}
+use Rattle.parcel.proofs.OneVolume.{passed, refused, delete_tests, effect_delete}
 use Rattle.parcel.proofs.StripeRows.{pairs_from_places, still_fit, still_whole, fits_without_file, whole_without_file, blocks_without_file}
 use Rattle.parcel.proofs.running.at_logical.delete.Goals as goal
 
@@ -20,10 +21,17 @@ returns-clause-step c =
     let h = logical_facts g c.args.standing c.args.logical.now in
     let most = g.files_range.1 in
     let below : c.args.f < 64 = omega (arith, most, c.requires.file) in
-    λ a v range. passed g (one_volume a v h) (Delete a v c.args.f) _ _ (delete_tests g a v c.args.f h range ∙ sym c.file_change_refusal.ensures ∙ c.in_default.is) refl
+    λ a v range. passed g (one_volume a v h) (Delete a v c.args.f) _ _ (delete_tests g a v c.args.f h range ∙ c.in_ok-guard_file.ensures None) refl
     (effect_delete h a v (has_file (without_bit c.args.logical.now.files c.args.f)) (blocks_of g new.items) c.args.f
     (without_bit_has c.args.logical.now.files c.args.f below (few_bits g.files c.args.logical.now.files c.requires.fits.files most))
     (λ i j. blocks_without_file c.args.f _ _ (c.drop_file.ensures.each (stripe_of g i j) (omega (arith, group_below g i j, c.requires.fits.count, old.ok.0))) i j))
+
+pub returns-in_err-guard_file-clause-step : goal.returns-in_err-guard_file-clause-step
+returns-in_err-guard_file-clause-step c =
+    let g = c.args.g.now in
+    let h = logical_facts g c.args.standing c.args.logical.now in
+    let p = err_from_is_err_and c.from_residual.result c.from_residual.ensures.1 in
+    rw (p.1, p.2) (λ a v range. refused g (one_volume a v h) (Delete a v c.args.f) _ (delete_tests g a v c.args.f h range ∙ c.in_err-guard_file.ensures None))
 
 pub returns-clause-fits : goal.returns-clause-fits
 returns-clause-fits c =

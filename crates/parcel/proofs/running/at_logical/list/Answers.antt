@@ -1,7 +1,8 @@
 -- The bits of the files that the volume has are the reply, for a list that passes its check.
-use Rattle.std.proofs.Common.{◌^◌, refl, ap, sym, ◌∙◌}
+use Rattle.std.proofs.Common.{◌^◌, Bool, None, Some, refl, ap, sym, ◌∙◌}
 use Rattle.std.specs.Prelude.{if◌then◌else◌}
 use Rattle.messages.specs.declared.Msg.TheVariants.{List as ListFiles}
+use Rattle.messages.specs.declared.Refusal.TheVariants.{Volume}
 use Rattle.messages.specs.declared.Reply.TheVariants.{Files}
 use Rattle.meaning.specs.State.{sum_below}
 use Rattle.parcel.specs.Shown.{logical_facts}
@@ -14,5 +15,5 @@ pub returns : goal.returns
 returns c =
     let g = c.args.g.now in
     let h = logical_facts g c.args.standing c.args.logical.now in
-    λ a v range. passed g (one_volume a v h) (ListFiles a v) _ _ (list_tests g a v h range ∙ sym c.volume_refusal.ensures ∙ c.in_default.is)
+    λ a v range. passed g (one_volume a v h) (ListFiles a v) _ _ (list_tests g a v h range ∙ ap (λ (b : Bool). if b then Some Volume else None) c.if-not-standing.false)
     (ap Files (sym (bits_back g.files c.args.logical.now.files c.requires.fits.files)) ∙ (λ i. Files (sum_below g.files (λ f. if (sym (at_volume a v h) i).files f then 2 ^ f else 0)))) refl

@@ -2,10 +2,10 @@
 use Rattle.parcel.proofs.running.at_stripe.run_at_stripe.Goals as goal
 
 pub returns-in-Write-clause-step : goal.returns-in-Write-clause-step
-returns-in-Write-clause-step c = rw c.in-Write.is (c.write.ensures.step c.in-Write.field-0 c.in-Write.field-1 (rw c.in-Write.is at c.requires.range))
+returns-in-Write-clause-step c = rw (c.in-Write.is, c.reply_to_change.ensures) (c.write.ensures.step c.in-Write.field-0 c.in-Write.field-1 (rw c.in-Write.is at c.requires.range))
 
 pub returns-in-Punch-clause-step : goal.returns-in-Punch-clause-step
-returns-in-Punch-clause-step c = rw c.in-Punch.is (c.punch.ensures.step c.args.g.now c.in-Punch.field-0 c.in-Punch.field-1 (rw c.in-Punch.is at c.requires.range))
+returns-in-Punch-clause-step c = rw (c.in-Punch.is, c.reply_to_change-in-Punch.ensures) (c.punch.ensures.step c.args.g.now c.in-Punch.field-0 c.in-Punch.field-1 (rw c.in-Punch.is at c.requires.range))
 
 pub returns-in-Punch-clause-runnable : goal.returns-in-Punch-clause-runnable
 returns-in-Punch-clause-runnable c =

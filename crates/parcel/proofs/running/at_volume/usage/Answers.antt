@@ -1,8 +1,10 @@
 -- The totals of the volume and its seal are the reply, for a usage that passes its check.
-use Rattle.std.proofs.Common.{refl, sym, ◌∙◌}
+use Rattle.std.proofs.Common.{Bool, None, refl, ap, sym, ◌∙◌}
 use Rattle.messages.specs.declared.Msg.TheVariants.{Usage as AskUsage}
+use Rattle.messages.specs.declared.Refusal.TheVariants.{Volume}
 use Rattle.messages.specs.declared.Reply.TheVariants.{Usage}
 use Rattle.parcel.specs.Shown.{volume_facts}
+use Rattle.parcel.specs.Steps.{guard}
 use Rattle.parcel.specs.Totals.{file_total, block_total}
 use Rattle.parcel.specs.Volume.{one_volume}
 use Rattle.parcel.proofs.OneVolume.{at_volume, passed, usage_tests}
@@ -14,6 +16,6 @@ returns c =
     let w = c.args.volume.now in
     let h = volume_facts g w in
     let e = c.volume_totals-totals.ensures in
-    λ a v range. passed g (one_volume a v h) (AskUsage a v) _ _ (usage_tests g a v h range ∙ sym c.volume_refusal.ensures ∙ c.in_default.is)
+    λ a v range. passed g (one_volume a v h) (AskUsage a v) _ _ (usage_tests g a v h range ∙ ap (λ (b : Bool). guard b Volume None) c.if-not-volume.false)
     ((λ i. Usage (e i).files (e i).blocks w.sealed) ∙ (λ i. Usage (file_total g (sym (at_volume a v h) i).files)
     (block_total g (sym (at_volume a v h) i).blocks) (sym (at_volume a v h) i).sealed)) refl
