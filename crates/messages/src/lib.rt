@@ -1,9 +1,13 @@
 //! The language of the server: messages and replies as values, and which line spells which.
 //!
-//! The definitions are in `specs`. No code runs here but what gives the kind of a message and its numbers.
+//! The definitions are in `specs`. No code runs here but what gives the kind of a message and its numbers, and which
+//! files a volume has.
 #![tactic(auto)]
 
+mod files;
 mod kinds;
+
+pub use files::has_file;
 
 /// The content of one block of a file.
 #[derive(Clone, Copy, Debug, PartialEq, Eq)]

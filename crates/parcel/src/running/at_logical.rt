@@ -10,10 +10,10 @@ ghost use Rattle.parcel.specs.Shown.{logical_facts, shown_state};
 ghost use Rattle.parcel.specs.Steps.{IsVolumeStep, reply_to_change};
 ghost use Rattle.parcel.specs.declared.parts.Parcels.{Parcels};
 
-use super::refusals::{guard, guard_file, guard_open, has_file, reply_to_change};
+use super::refusals::{guard, guard_file, guard_open, reply_to_change};
 use crate::{Logical, Standing, StripeParcel};
 use affinity::Geometry;
-use messages::{Msg, Refusal, Reply};
+use messages::{Msg, Refusal, Reply, has_file};
 
 // Makes a file, without blocks.
 fn create(logical: &mut Logical, g: &Geometry, standing: Standing, f: u16) -> Result<(), Refusal>

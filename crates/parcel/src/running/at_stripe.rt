@@ -12,10 +12,10 @@ ghost use Rattle.parcel.specs.Steps.{IsVolumeStep, reply_to_change};
 ghost use Rattle.stripe.specs.Stripe.{StripeRule, content_at};
 ghost use Rattle.parcel.specs.declared.parts.Parcels.{Parcels};
 
-use super::refusals::{guard, guard_file, has_file, reply_to_change};
+use super::refusals::{guard, guard_file, reply_to_change};
 use crate::{Standing, StripeParcel};
 use affinity::Geometry;
-use messages::{Block, Msg, Refusal, Reply};
+use messages::{Block, Msg, Refusal, Reply, has_file};
 
 // Whether a block is there already, or there is room for one more.
 fn has_space(stripe: &StripeParcel, g: &Geometry, f: u16, b: u16) -> bool
@@ -50,7 +50,6 @@ fn write(
 
 // Removes a block from a file.
 fn punch(stripe: &mut StripeParcel, standing: Standing, f: u16, b: u16) -> Result<(), Refusal>
-    requires file { f < 64 }
     ensures step { (g : Geometry) → IsVolumeStep g (λ a v. Msg.Punch a v f b) (stripe_facts standing stripe.old)
         (reply_to_change result) (stripe_facts standing stripe.new) }
     ensures fits { (g : Geometry) → FitsStripe g (stripe_of g f b) stripe.old → FitsStripe g (stripe_of g f b) stripe.new }
@@ -62,7 +61,6 @@ fn punch(stripe: &mut StripeParcel, standing: Standing, f: u16, b: u16) -> Resul
 
 // A block of a file, or a hole where it isn't there.
 fn read(stripe: &StripeParcel, standing: Standing, f: u16, b: u16) -> Reply
-    requires { f < 64 }
     ensures { (g : Geometry) → IsVolumeStep g (λ a v. Msg.Read a v f b) (stripe_facts standing stripe.now) result
         (stripe_facts standing stripe.now) }
 {

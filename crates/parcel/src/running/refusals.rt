@@ -2,21 +2,13 @@
 //! In clauses `guard passes why later` is the refusal `why` where `passes` is false, else `later`; `guard_open made sealed later` checks
 //! that the volume is made and then that it isn't sealed, before `later`.
 
-ghost use Rattle.std.specs.Prelude.{◌≡◌, ◌<◌, not, Option};
+ghost use Rattle.std.specs.Prelude.{◌≡◌, not};
 ghost use Rattle.messages.specs.declared.Refusal.{Refusal};
 ghost use Rattle.messages.specs.declared.Refusal.TheVariants.{File};
 ghost use Rattle.parcel.specs.Shown.{has_file};
 ghost use Rattle.parcel.specs.Steps.{Decides, guard, guard_open, reply_to_change};
 
-use messages::{Refusal, Reply};
-
-/// Whether a volume with these files has a file.
-pub(crate) fn has_file(files: u64, f: u16) -> bool
-    requires { f < 64 }
-    ensures { result ≡ has_file files f }
-{
-    (files >> f) & 1 == 1
-}
+use messages::{Refusal, Reply, has_file};
 
 /// Refuses for this reason, unless the check is passed.
 pub(crate) fn guard(passes: bool, why: Refusal) -> Result<(), Refusal>
@@ -35,7 +27,6 @@ pub(crate) fn guard_open(made: bool, sealed: bool) -> Result<(), Refusal>
 
 /// Refuses what changes a file, unless its volume is made and not sealed, and has the file.
 pub(crate) fn guard_file(made: bool, sealed: bool, files: u64, f: u16) -> Result<(), Refusal>
-    requires { f < 64 }
     ensures { Decides (λ later. guard_open made sealed (guard (has_file files f) File later)) result }
 {
     guard_open(made, sealed)?;

@@ -6,9 +6,9 @@ ghost use Rattle.parcel.specs.Shown.{blocks_of, aggregate_facts, child_facts, ro
 ghost use Rattle.stripe.specs.Stripe.{StripeRule};
 ghost use Rattle.parcel.specs.Totals.{block_total, entry_count, file_total, sum_totals, totals_of};
 
-use super::refusals::has_file;
 use crate::{Aggr, Logical, Root, StripeParcel, Vol};
 use affinity::Geometry;
+use messages::has_file;
 
 /// How many volumes are made, and how many files and blocks they have.
 #[derive(Clone, Copy)]

@@ -1,20 +1,9 @@
 //! What the server has: volumes, files, blocks, and how many blocks a stripe has.
 
 ghost use Rattle.std.specs.Prelude.{◌≡◌, is_some};
-ghost use Rattle.messages.specs.Replies.{has_file};
 ghost use Rattle.plain.specs.Server.{server_state, noted};
 
 use super::Server;
-
-/// Whether there is a file with this number among those whose bits are set.
-pub(super) fn has_file(files: u64, f: u16) -> bool
-    ensures { result ≡ has_file files f }
-{
-    if f >= 64 {
-        return false;
-    }
-    (files >> f) & 1 == 1
-}
 
 impl Server {
     /// Whether a volume is made.

@@ -9,9 +9,8 @@ ghost use Rattle.meaning.specs.ByKind.{refusal_by};
 ghost use Rattle.plain.specs.Server.{server_state, HasRightCounts};
 
 use super::Server;
-use super::lookups::has_file;
 use affinity::{Geometry, Kind, group_of, is_in_range};
-use messages::{Msg, Refusal};
+use messages::{Msg, Refusal, has_file};
 
 /// A refusal where a check fails.
 fn refused_if(fails: bool, why: Refusal) -> Option<Refusal>

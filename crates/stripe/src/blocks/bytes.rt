@@ -2,26 +2,18 @@
 //! after them.
 ghost use Rattle.std.specs.Prelude.{◌≡◌, ◌↔◌, ◌*◌, ◌<◌, ◌==◌, ◌++◌, ◌∷◌, [], IsTrue, IsFalse, get_or, length, take, drop, replicate, slice_index_or};
 ghost use Rattle.std.specs.List.{list_all, AllByRecursion};
-ghost use Rattle.messages.specs.Replies.{has_file};
 ghost use Rattle.stripe.specs.Entries.{entry_bytes, entry_in, entries_in, stripe_bytes, fits_stripe, IsStripePiece};
 ghost use Rattle.stripe.specs.Index.{no_entry, PrecedesBlock, IsNextEntry};
 
 use super::StripeParcel;
 use affinity::{Geometry, group_of};
-use messages::Block;
+use messages::{Block, has_file};
 
 /// How many bytes an entry has.
 const BLOCK_ENTRY_SIZE: usize = 520;
 
 /// How many bytes come before the content of a block in its entry.
 const ENTRY_HEAD: usize = 8;
-
-/// Whether a file is one of those that a number encodes: file f by bit f.
-fn has_file(files: u64, file: u16) -> bool
-    ensures { result ≡ has_file files file }
-{
-    file < 64 && (files >> file) & 1 == 1
-}
 
 /// Whether a block can be in stripe `s` of a volume with these files.
 fn fits_stripe(g: &Geometry, files: u64, s: u16, file: u16, block: u16) -> bool
