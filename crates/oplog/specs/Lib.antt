@@ -3,6 +3,7 @@ pub mod Front
 pub mod Recovery
 pub mod Changes
 pub mod Log
+pub mod Halves
 pub mod Crash
 pub mod Store
 pub mod Changing

@@ -36,23 +36,15 @@ pub struct Halves {
 }
 
 impl Model for Halves {
-    ghost use Rattle.std.specs.Prelude.{◌≡◌, ◌*◌, ◌<◌, ◌≤◌, min, vec_len};
-    ghost use Rattle.device_map.specs.Layout.{records_per_write, record_size};
     ghost use Rattle.oplog.specs.Log.{Log};
 
     ghost Value = { Log };
 
-    ghost view = { λ h. record {
-      geometry = h.geometry;
-      named = h.named;
-      current = h.current;
-      used = h.used;
-      cleared = h.cleared;
-      failed = h.failed;
-    } };
+    ghost use Rattle.oplog.specs.Halves.{log_of, AreHalves};
 
-    ghost invariant = { λ h. (h.named < 2) × (h.current < 2) × (h.used ≤ h.geometry.half)
-        × (vec_len h.buffer ≡ min h.geometry.half records_per_write * record_size) };
+    ghost view = { log_of };
+
+    ghost invariant = { AreHalves };
 }
 
 impl Halves {
