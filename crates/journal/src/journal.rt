@@ -59,28 +59,15 @@ pub struct Journal<D: Disk> {
 }
 
 impl<D: Disk> Model for Journal<D> {
-    ghost use Rattle.std.specs.Prelude.{◌≡◌, ◌≤◌, false, length};
-    ghost use Rattle.image.specs.Pieces.{piece_count};
     ghost use Rattle.journal.specs.Journal.{JournalView};
-    ghost use Rattle.journal.specs.Keeping.{AreCleanBefore, FitsCutState, IsSoundJournal, journal_view_of};
-    ghost use Rattle.oplog.specs.Calls.{IsLongEnough};
-    ghost use Rattle.device_map.specs.Layout.{image_size};
 
     ghost Value = { JournalView };
 
-    ghost view = { λ j. journal_view_of j.halves j.named_dirty.items j.other_dirty.items j.pieces_left j.failed (D.medium j.disk) };
+    ghost use Rattle.journal.specs.Fields.{IsJournal, journal_view};
 
-    // `geometry.half` is how many records a half holds. `FitsCutState` isn't only of a cut: without one, the current half is the named one.
-    ghost invariant = { λ j. IsLongEnough j.halves (D.medium j.disk)
-        × (j.halves.used ≤ j.halves.geometry.half)
-        × (length j.snapshot.items ≡ image_size j.halves.geometry)
-        × (length j.named_dirty.items ≡ piece_count j.halves.geometry)
-        × (length j.other_dirty.items ≡ piece_count j.halves.geometry)
-        × (length j.pending.items ≡ piece_count j.halves.geometry)
-        × (j.failed ≡ false → (j.halves.failed ≡ false) × FitsCutState j.halves j.pending.items j.pieces_left)
-        × (j.failed ≡ false → D.keeps →
-        IsSoundJournal j.halves j.snapshot.items j.named_dirty.items j.other_dirty.items j.pending.items j.pieces_left (D.medium j.disk))
-        × (j.next_pending ≤ length j.pending.items) × AreCleanBefore j.next_pending j.pending.items };
+    ghost view = { journal_view D.medium };
+
+    ghost invariant = { IsJournal D.medium D.keeps };
 }
 
 impl<D: Disk> Journal<D> {

@@ -37,13 +37,13 @@ returns-clause-committed g c = λ k.
     let is_state = subst (λ (x : Geometry). IsState x (state_in c.args.tree.now)) geometry c.requires.whole.state in
     let w0 = g.D.Disk.medium c.self.inside.disk in
     let is : recovered_state c.self.inside.halves.geometry w0.now ≡ Some (state_in c.args.tree.now) = ap committed c.self.view_is ∙ c.requires.state k in
-    let right = snapshot_right no_cut (c.self.invariant.7 fine k) is geometry c.deref.ensures.value c.deref_mut.ensures.value in
+    let right = snapshot_right no_cut (c.self.invariant.sound fine k) is geometry c.deref.ensures.value c.deref_mut.ensures.value in
     let spelled : c.update_snapshot.new.bytes ≡ image_of 2 c.self.inside.halves.geometry (state_in c.args.tree.now) = c.update_snapshot.ensures.image right
     ∙ ap (λ (x : Geometry). image_of 2 x (state_in c.args.tree.now)) geometry in
     let w1 = g.D.Disk.medium c.cut_on.new.disk in
     let begun = c.in_default.ensures.begun k in
     ap (λ (x : Geometry). recovered_state x w1.now) c.cut_on.ensures.geometry
-    ∙ cut_committed no_cut (c.self.invariant.6 fine).1 (c.self.invariant.7 fine k) is is_state spelled (g.met.D.Disk.bytes c.self.inside.disk)
+    ∙ cut_committed no_cut (c.self.invariant.fits_cut_state fine) (c.self.invariant.sound fine k) is is_state spelled (g.met.D.Disk.bytes c.self.inside.disk)
     (g.met.D.Disk.bytes c.cut_on.new.disk) begun ∙ ap committed c.self.view_is
 
 pub returns-clause-recoverable : goal.returns-clause-recoverable
@@ -56,13 +56,13 @@ returns-clause-recoverable g c = λ k.
     (c.update_snapshot.ensures.size ∙ ap length c.deref_mut.ensures.value) (c.update_snapshot.ensures.size ∙ c.deref_mut.ensures.len) in
     let w0 = g.D.Disk.medium c.self.inside.disk in
     let is : recovered_state c.self.inside.halves.geometry w0.now ≡ Some (state_in c.args.tree.now) = ap committed c.self.view_is ∙ c.requires.state k in
-    let right = snapshot_right no_cut (c.self.invariant.7 fine k) is geometry c.deref.ensures.value c.deref_mut.ensures.value in
+    let right = snapshot_right no_cut (c.self.invariant.sound fine k) is geometry c.deref.ensures.value c.deref_mut.ensures.value in
     let spelled : c.update_snapshot.new.bytes ≡ image_of 2 c.self.inside.halves.geometry (state_in c.args.tree.now) = c.update_snapshot.ensures.image right
     ∙ ap (λ (x : Geometry). image_of 2 x (state_in c.args.tree.now)) geometry in
     let begun = c.in_default.ensures.begun k in
     recoverable_of
     (sound_along c.in_default.ensures.log snapshot refl refl refl
-    (cut_sound no_cut (c.self.invariant.6 fine).1 (c.self.invariant.7 fine k) is is_state spelled (g.met.D.Disk.bytes c.self.inside.disk) (g.met.D.Disk.bytes c.cut_on.new.disk)
+    (cut_sound no_cut (c.self.invariant.fits_cut_state fine) (c.self.invariant.sound fine k) is is_state spelled (g.met.D.Disk.bytes c.self.inside.disk) (g.met.D.Disk.bytes c.cut_on.new.disk)
     {others' = whole_items c.swap.new.y.len c.clear_dirty.new.dirty c.swap.new.y.items} (ap (λ v. v.items) c.swap.ensures.x_after) begun))
 
 pub returns-clause-begun : goal.returns-clause-begun
@@ -75,7 +75,7 @@ returns-clause-begun g c =
     (ap length c.clear_dirty.ensures ∙ length-replicate _ false ∙ ap length c.deref_mut-2.ensures.value)
     (ap length c.clear_dirty.ensures ∙ length-replicate _ false ∙ c.deref_mut-2.ensures.len) in
     let long : length c.deref_mut-2.result.now ≡ length c.self.inside.other_dirty.items =
-    ap length c.deref_mut-2.ensures.value ∙ ap (λ v. length v.items) c.swap.ensures.y_after ∙ c.self.invariant.5 ∙ sym c.self.invariant.4 in
+    ap length c.deref_mut-2.ensures.value ∙ ap (λ v. length v.items) c.swap.ensures.y_after ∙ c.self.invariant.pending ∙ sym c.self.invariant.other_dirty in
     let others = put ∙ c.clear_dirty.ensures ∙ ap (λ (n : ℕ). replicate n false) long in
     ap (λ (l : Log). journal_view_of l named (whole_items c.swap.new.y.len c.clear_dirty.new.dirty c.swap.new.y.items) (Some c.count_dirty.result) c.self.inside.failed w1) c.in_default.ensures.log
     ∙ ap (λ (l : List Bool). journal_view_of (cut_log c.self.inside.halves) named l (Some c.count_dirty.result) c.self.inside.failed w1) others
@@ -88,7 +88,7 @@ pub returns-clause-few : goal.returns-clause-few
 returns-clause-few g c =
     let most = count_most c.self.inside.other_dirty.items in
     let count = ap (λ (h : JournalView). count_dirty h.dirty.other) c.self.view_is in
-    let long : length c.self.inside.other_dirty.items ≡ piece_count c.args.self.now.geometry = c.self.invariant.4 ∙ ap (λ (h : JournalView). piece_count h.geometry) c.self.view_is in
+    let long : length c.self.inside.other_dirty.items ≡ piece_count c.args.self.now.geometry = c.self.invariant.other_dirty ∙ ap (λ (h : JournalView). piece_count h.geometry) c.self.view_is in
     omega (arith, most, count, long)
 
 pub returns-clause-records : goal.returns-clause-records
@@ -111,32 +111,33 @@ invariant_of-self-2 g c =
     let same = c.cut_on.ensures.geometry in
     let cleared = whole_put c.swap.new.y.len c.clear_dirty.new.dirty c.swap.new.y.items
     (ap length c.clear_dirty.ensures ∙ length-replicate _ false ∙ ap length c.deref_mut-2.ensures.value)
-    (ap length c.clear_dirty.ensures ∙ length-replicate _ false ∙ c.deref_mut-2.ensures.len) in (
-      omega (arith, c.self.invariant.0, c.cut_on.ensures.call.1, ap (λ (l : Log). device_size (layout l)) log),
-      omega (arith, ap (λ (l : Log). l.used) log),
-      ap length snapshot ∙ c.update_snapshot.ensures.size ∙ ap length c.deref_mut.ensures.value ∙ c.self.invariant.2 ∙ sym (ap image_size same),
-      c.self.invariant.3 ∙ sym (ap piece_count same),
-      ap length cleared ∙ ap length c.clear_dirty.ensures ∙ length-replicate _ false ∙ ap length c.deref_mut-2.ensures.value
-          ∙ ap (λ v. length v.items) c.swap.ensures.y_after ∙ c.self.invariant.5 ∙ sym (ap piece_count same),
-      ap (λ v. length v.items) c.swap.ensures.x_after ∙ c.self.invariant.4 ∙ sym (ap piece_count same),
-      (λ fine.
-          let placed = subst (λ (o : Option ℕ). FitsCutState c.self.inside.halves c.self.inside.pending.items o) no_cut (c.self.invariant.6 fine).1 in (
-            ap (λ (l : Log). l.failed) log ∙ (c.self.invariant.6 fine).0,
-            (ap (λ (l : Log). l.current) log ∙ sym (ap (λ (l : Log). other l.named) log), sym (c.count_dirty.ensures ∙ ap count_dirty c.deref-2.ensures.value)),
-          )),
-      (λ fine k.
+    (ap length c.clear_dirty.ensures ∙ length-replicate _ false ∙ c.deref_mut-2.ensures.len) in
+    record {
+      long_enough = omega (arith, c.self.invariant.long_enough, c.cut_on.ensures.call.1, ap (λ (l : Log). device_size (layout l)) log);
+      used = omega (arith, ap (λ (l : Log). l.used) log);
+      snapshot = ap length snapshot ∙ c.update_snapshot.ensures.size ∙ ap length c.deref_mut.ensures.value ∙ c.self.invariant.snapshot ∙ sym (ap image_size same);
+      named_dirty = c.self.invariant.named_dirty ∙ sym (ap piece_count same);
+      other_dirty = ap length cleared ∙ ap length c.clear_dirty.ensures ∙ length-replicate _ false ∙ ap length c.deref_mut-2.ensures.value
+          ∙ ap (λ v. length v.items) c.swap.ensures.y_after ∙ c.self.invariant.pending ∙ sym (ap piece_count same);
+      pending = ap (λ v. length v.items) c.swap.ensures.x_after ∙ c.self.invariant.other_dirty ∙ sym (ap piece_count same);
+      log_not_failed = λ fine. ap (λ (l : Log). l.failed) log ∙ c.self.invariant.log_not_failed fine;
+      fits_cut_state = λ fine. (
+        ap (λ (l : Log). l.current) log ∙ sym (ap (λ (l : Log). other l.named) log),
+        sym (c.count_dirty.ensures ∙ ap count_dirty c.deref-2.ensures.value),
+      );
+      sound = λ fine k.
           let w0 = g.D.Disk.medium c.self.inside.disk in
           let is : recovered_state c.self.inside.halves.geometry w0.now ≡ Some (state_in c.args.tree.now) = ap committed c.self.view_is ∙ c.requires.state k in
-          let right = snapshot_right no_cut (c.self.invariant.7 fine k) is geometry c.deref.ensures.value c.deref_mut.ensures.value in
+          let right = snapshot_right no_cut (c.self.invariant.sound fine k) is geometry c.deref.ensures.value c.deref_mut.ensures.value in
           let spelled : c.update_snapshot.new.bytes ≡ image_of 2 c.self.inside.halves.geometry (state_in c.args.tree.now) = c.update_snapshot.ensures.image right
           ∙ ap (λ (x : Geometry). image_of 2 x (state_in c.args.tree.now)) geometry in
           let begun = c.in_default.ensures.begun k in
           sound_along c.in_default.ensures.log snapshot refl refl refl
-          (cut_sound no_cut (c.self.invariant.6 fine).1 (c.self.invariant.7 fine k) is is_state spelled (g.met.D.Disk.bytes c.self.inside.disk)
-          (g.met.D.Disk.bytes c.cut_on.new.disk) (ap (λ v. v.items) c.swap.ensures.x_after) begun)),
-      omega arith,
-      (λ i few. absurd (omega (arith, few))),
-    )
+          (cut_sound no_cut (c.self.invariant.fits_cut_state fine) (c.self.invariant.sound fine k) is is_state spelled (g.met.D.Disk.bytes c.self.inside.disk)
+          (g.met.D.Disk.bytes c.cut_on.new.disk) (ap (λ v. v.items) c.swap.ensures.x_after) begun);
+      next_pending = omega arith;
+      clean_before = λ i few. absurd (omega (arith, few));
+    }
 
 pub returns-in-Err-clause-beyond : goal.returns-in-Err-clause-beyond
 returns-in-Err-clause-beyond g c = λ k.

@@ -23,7 +23,8 @@ flip_on-requires-clause-written g c = λ k.
     let fine : c.self.inside.failed ≡ false = ap (λ (h : JournalView). h.failed) c.self.view_is ∙ c.requires.not_failed in
     let none : c.self.inside.pieces_left ≡ Some 0 = ap (λ (h : JournalView). h.pieces_left) c.self.view_is ∙ c.requires.written in
     subst (λ (l : List ℕ). IsCutWritten c.self.inside.halves l (g.D.Disk.medium c.self.inside.disk)) (sym c.deref.ensures.value)
-    (flip_asks none c.self.invariant.0 c.self.invariant.2 c.self.invariant.5 (g.met.D.Disk.bytes c.self.inside.disk) (c.self.invariant.6 fine).1 (c.self.invariant.7 fine k))
+    (flip_asks none c.self.invariant.long_enough c.self.invariant.snapshot c.self.invariant.pending (g.met.D.Disk.bytes c.self.inside.disk) (c.self.invariant.fits_cut_state fine)
+    (c.self.invariant.sound fine k))
 
 pub returns-in-Err-clause-any_moment : goal.returns-in-Err-clause-any_moment
 returns-in-Err-clause-any_moment g c = λ k.
@@ -44,9 +45,9 @@ pub returns-clause-recoverable : goal.returns-clause-recoverable
 returns-clause-recoverable g c = λ k.
     let fine : c.self.inside.failed ≡ false = ap (λ (h : JournalView). h.failed) c.self.view_is ∙ c.requires.not_failed in
     let none : c.self.inside.pieces_left ≡ Some 0 = ap (λ (h : JournalView). h.pieces_left) c.self.view_is ∙ c.requires.written in
-    let sound = c.self.invariant.7 fine k in
-    let placed = (c.self.invariant.6 fine).1 in
-    let written = flip_asks none c.self.invariant.0 c.self.invariant.2 c.self.invariant.5 (g.met.D.Disk.bytes c.self.inside.disk) placed sound in
+    let sound = c.self.invariant.sound fine k in
+    let placed = (c.self.invariant.fits_cut_state fine) in
+    let written = flip_asks none c.self.invariant.long_enough c.self.invariant.snapshot c.self.invariant.pending (g.met.D.Disk.bytes c.self.inside.disk) placed sound in
     recoverable_of
     (sound_along c.in_default.ensures.log refl (ap (λ v. v.items) c.swap.ensures.x_after) (ap (λ v. v.items) c.swap.ensures.y_after) refl
     (flip_sound none (g.met.D.Disk.bytes c.self.inside.disk) (g.met.D.Disk.bytes c.flip_on.new.disk) placed written sound (c.in_default.ensures.flipped k)))
@@ -64,10 +65,10 @@ pub returns-clause-version : goal.returns-clause-version
 returns-clause-version g c = λ k.
     let fine : c.self.inside.failed ≡ false = ap (λ (h : JournalView). h.failed) c.self.view_is ∙ c.requires.not_failed in
     let none : c.self.inside.pieces_left ≡ Some 0 = ap (λ (h : JournalView). h.pieces_left) c.self.view_is ∙ c.requires.written in
-    let sound = c.self.invariant.7 fine k in
-    let placed = (c.self.invariant.6 fine).1 in
+    let sound = c.self.invariant.sound fine k in
+    let placed = (c.self.invariant.fits_cut_state fine) in
     let w1 = g.D.Disk.medium c.flip_on.new.disk in
-    let written = flip_asks none c.self.invariant.0 c.self.invariant.2 c.self.invariant.5 (g.met.D.Disk.bytes c.self.inside.disk) placed sound in
+    let written = flip_asks none c.self.invariant.long_enough c.self.invariant.snapshot c.self.invariant.pending (g.met.D.Disk.bytes c.self.inside.disk) placed sound in
     ap (λ (x : Geometry). named_version x w1.now) c.flip_on.ensures.geometry
     ∙ flip_version none (g.met.D.Disk.bytes c.flip_on.new.disk) written sound (c.in_default.ensures.flipped k)
 
@@ -78,25 +79,27 @@ returns-clause-images g c = λ k.
 pub invariant_of-self-2 : goal.invariant_of-self-2
 invariant_of-self-2 g c =
     let none : c.self.inside.pieces_left ≡ Some 0 = ap (λ (h : JournalView). h.pieces_left) c.self.view_is ∙ c.requires.written in
-    let log = c.in_default.ensures.log in (
-      omega (arith, c.self.invariant.0, c.flip_on.ensures.call.1, ap (λ (l : Log). device_size (layout l)) log),
-      omega (arith, c.self.invariant.1, ap (λ (l : Log). l.used) log, ap (λ (l : Log). l.geometry.half) log),
-      c.self.invariant.2 ∙ sym (ap image_size c.flip_on.ensures.geometry),
-      ap (λ v. length v.items) c.swap.ensures.x_after ∙ c.self.invariant.4 ∙ sym (ap piece_count c.flip_on.ensures.geometry),
-      ap (λ v. length v.items) c.swap.ensures.y_after ∙ c.self.invariant.3 ∙ sym (ap piece_count c.flip_on.ensures.geometry),
-      c.self.invariant.5 ∙ sym (ap piece_count c.flip_on.ensures.geometry),
-      (λ fine.
-          let placed = subst (λ (l : Option ℕ). FitsCutState c.self.inside.halves c.self.inside.pending.items l) none (c.self.invariant.6 fine).1 in
-          (ap (λ (l : Log). l.failed) log ∙ (c.self.invariant.6 fine).0, ap (λ (l : Log). l.current) log ∙ placed.0 ∙ sym (ap (λ (l : Log). l.named) log))),
-      (λ fine k.
-          let sound = c.self.invariant.7 fine k in
-          let placed = (c.self.invariant.6 fine).1 in
-          let written = flip_asks none c.self.invariant.0 c.self.invariant.2 c.self.invariant.5 (g.met.D.Disk.bytes c.self.inside.disk) placed sound in
+    let log = c.in_default.ensures.log in
+    record {
+      long_enough = omega (arith, c.self.invariant.long_enough, c.flip_on.ensures.call.1, ap (λ (l : Log). device_size (layout l)) log);
+      used = omega (arith, c.self.invariant.used, ap (λ (l : Log). l.used) log, ap (λ (l : Log). l.geometry.half) log);
+      snapshot = c.self.invariant.snapshot ∙ sym (ap image_size c.flip_on.ensures.geometry);
+      named_dirty = ap (λ v. length v.items) c.swap.ensures.x_after ∙ c.self.invariant.other_dirty ∙ sym (ap piece_count c.flip_on.ensures.geometry);
+      other_dirty = ap (λ v. length v.items) c.swap.ensures.y_after ∙ c.self.invariant.named_dirty ∙ sym (ap piece_count c.flip_on.ensures.geometry);
+      pending = c.self.invariant.pending ∙ sym (ap piece_count c.flip_on.ensures.geometry);
+      log_not_failed = λ fine. ap (λ (l : Log). l.failed) log ∙ c.self.invariant.log_not_failed fine;
+      fits_cut_state = λ fine.
+          let placed = subst (λ (l : Option ℕ). FitsCutState c.self.inside.halves c.self.inside.pending.items l) none (c.self.invariant.fits_cut_state fine) in
+          ap (λ (l : Log). l.current) log ∙ placed.0 ∙ sym (ap (λ (l : Log). l.named) log);
+      sound = λ fine k.
+          let sound = c.self.invariant.sound fine k in
+          let placed = c.self.invariant.fits_cut_state fine in
+          let written = flip_asks none c.self.invariant.long_enough c.self.invariant.snapshot c.self.invariant.pending (g.met.D.Disk.bytes c.self.inside.disk) placed sound in
           sound_along log refl (ap (λ v. v.items) c.swap.ensures.x_after) (ap (λ v. v.items) c.swap.ensures.y_after) refl
-          (flip_sound none (g.met.D.Disk.bytes c.self.inside.disk) (g.met.D.Disk.bytes c.flip_on.new.disk) placed written sound (c.in_default.ensures.flipped k))),
-      c.self.invariant.8,
-      c.self.invariant.9,
-    )
+          (flip_sound none (g.met.D.Disk.bytes c.self.inside.disk) (g.met.D.Disk.bytes c.flip_on.new.disk) placed written sound (c.in_default.ensures.flipped k));
+      next_pending = c.self.invariant.next_pending;
+      clean_before = c.self.invariant.clean_before;
+    }
 
 pub returns-in-Err-clause-beyond : goal.returns-in-Err-clause-beyond
 returns-in-Err-clause-beyond g c = λ k.

@@ -23,7 +23,7 @@ returns-in-Err-clause-any_moment g c = λ k x is.
     let fine : c.self.inside.failed ≡ false = ap (λ (h : JournalView). h.failed) c.self.view_is ∙ c.requires.not_failed in
     let out = subst (λ (h : JournalView). AreCarriedOut h.geometry x c.args.messages.now) (sym c.self.view_is) (c.requires.carried_out k x is) in
     subst (λ (h : JournalView). CrashImagesAre h.medium (g.D.Disk.medium c.append.new.disk) (RecoversWithPrefix h.geometry x c.args.messages.now)) c.self.view_is
-    (log_moments c.args.messages.now (g.D.Disk.medium c.append.new.disk) (g.met.D.Disk.bytes c.self.inside.disk) (c.self.invariant.7 fine k)
+    (log_moments c.args.messages.now (g.D.Disk.medium c.append.new.disk) (g.met.D.Disk.bytes c.self.inside.disk) (c.self.invariant.sound fine k)
     (c.append.ensures.any_moment k) x (ap committed c.self.view_is ∙ is) out)
 
 pub returns-clause-any_moment : goal.returns-clause-any_moment
@@ -31,7 +31,7 @@ returns-clause-any_moment g c = λ k x is.
     let fine : c.self.inside.failed ≡ false = ap (λ (h : JournalView). h.failed) c.self.view_is ∙ c.requires.not_failed in
     let out = subst (λ (h : JournalView). AreCarriedOut h.geometry x c.args.messages.now) (sym c.self.view_is) (c.requires.carried_out k x is) in
     subst (λ (h : JournalView). CrashImagesAre h.medium (g.D.Disk.medium c.append.new.disk) (RecoversWithPrefix h.geometry x c.args.messages.now)) c.self.view_is
-    (log_moments c.args.messages.now (g.D.Disk.medium c.append.new.disk) (g.met.D.Disk.bytes c.self.inside.disk) (c.self.invariant.7 fine k)
+    (log_moments c.args.messages.now (g.D.Disk.medium c.append.new.disk) (g.met.D.Disk.bytes c.self.inside.disk) (c.self.invariant.sound fine k)
     (c.append.ensures.any_moment k) x (ap committed c.self.view_is ∙ is) out)
 
 pub returns-clause-committed : goal.returns-clause-committed
@@ -43,7 +43,7 @@ returns-clause-committed g c = λ k.
     (λ x. state_after_all h.geometry x c.args.messages.now) (committed h)) c.self.view_is
     (ap (λ (l : Log). recovered_state l.geometry (g.D.Disk.medium c.append.new.disk).now) c.in_default.ensures.log
     ∙ log_told c.args.messages.now (g.met.D.Disk.bytes c.self.inside.disk)
-    (g.met.D.Disk.bytes c.append.new.disk) (c.self.invariant.7 fine k) out (c.in_default.ensures.added k))
+    (g.met.D.Disk.bytes c.append.new.disk) (c.self.invariant.sound fine k) out (c.in_default.ensures.added k))
 
 pub returns-clause-recoverable : goal.returns-clause-recoverable
 returns-clause-recoverable g c = λ k.
@@ -54,7 +54,7 @@ returns-clause-recoverable g c = λ k.
     recoverable_of
     (sound_along c.in_default.ensures.log refl refl refl refl
     (log_kept {named' = c.dirty_touched.new.dirty} {others' = c.dirty_touched-2.new.dirty} c.args.messages.now (g.met.D.Disk.bytes c.self.inside.disk)
-    (g.met.D.Disk.bytes c.append.new.disk) (c.self.invariant.7 fine k) out (c.in_default.ensures.added k) (c.self.invariant.6 fine).1
+    (g.met.D.Disk.bytes c.append.new.disk) (c.self.invariant.sound fine k) out (c.in_default.ensures.added k) (c.self.invariant.fits_cut_state fine)
     (record {
       named = touched_along c.args.messages.now same c.deref_mut.ensures.value refl c.dirty_touched.ensures.touched;
       other = touched_along c.args.messages.now same c.deref_mut-2.ensures.value refl c.dirty_touched-2.ensures.touched;
@@ -65,7 +65,7 @@ returns-clause-records g c = λ k.
     let fine : c.self.inside.failed ≡ false = ap (λ (h : JournalView). h.failed) c.self.view_is ∙ c.requires.not_failed in
     subst (λ (h : JournalView). records_in c.append.new.self.geometry (g.D.Disk.medium c.append.new.disk).now ≡ records h ++ records_of c.args.messages.now) c.self.view_is
     (ap (λ (l : Log). records_in l.geometry (g.D.Disk.medium c.append.new.disk).now) c.in_default.ensures.log
-    ∙ log_records c.args.messages.now (g.D.Disk.medium c.append.new.disk) (g.met.D.Disk.bytes c.self.inside.disk) (c.self.invariant.7 fine k) (c.in_default.ensures.added k))
+    ∙ log_records c.args.messages.now (g.D.Disk.medium c.append.new.disk) (g.met.D.Disk.bytes c.self.inside.disk) (c.self.invariant.sound fine k) (c.in_default.ensures.added k))
 
 pub returns-clause-dirties : goal.returns-clause-dirties
 returns-clause-dirties g c =
@@ -92,9 +92,11 @@ returns-clause-none g c = λ none.
     (c.dirty_touched.ensures.size ∙ ap length c.deref_mut.ensures.value) (c.dirty_touched.ensures.size ∙ c.deref_mut.ensures.len) in
     let second = whole_put c.self.inside.other_dirty.len c.dirty_touched-2.new.dirty c.self.inside.other_dirty.items
     (c.dirty_touched-2.ensures.size ∙ ap length c.deref_mut-2.ensures.value) (c.dirty_touched-2.ensures.size ∙ c.deref_mut-2.ensures.len) in
-    let named = same_dirty c.self.inside.halves.geometry c.args.messages.now _ _ none c.self.invariant.3 (ap length first ∙ c.dirty_touched.ensures.size ∙ ap length c.deref_mut.ensures.value)
+    let named = same_dirty c.self.inside.halves.geometry c.args.messages.now _ _ none c.self.invariant.named_dirty
+    (ap length first ∙ c.dirty_touched.ensures.size ∙ ap length c.deref_mut.ensures.value)
     (touched_along c.args.messages.now same c.deref_mut.ensures.value first c.dirty_touched.ensures.touched) in
-    let others = same_dirty c.self.inside.halves.geometry c.args.messages.now _ _ none c.self.invariant.4 (ap length second ∙ c.dirty_touched-2.ensures.size ∙ ap length c.deref_mut-2.ensures.value)
+    let others = same_dirty c.self.inside.halves.geometry c.args.messages.now _ _ none c.self.invariant.other_dirty
+    (ap length second ∙ c.dirty_touched-2.ensures.size ∙ ap length c.deref_mut-2.ensures.value)
     (touched_along c.args.messages.now same c.deref_mut-2.ensures.value second c.dirty_touched-2.ensures.touched) in
     (λ i. journal_view_of (log i) (named i) (others i) c.self.inside.pieces_left c.self.inside.failed (g.D.Disk.medium (c.append.ensures.none none i)))
     ∙ ap (λ (n : ℕ). journal_view_of (record c.self.inside.halves { used = n }) c.self.inside.named_dirty.items c.self.inside.other_dirty.items
@@ -109,32 +111,32 @@ invariant_of-self-2 g c =
     let first = whole_put c.self.inside.named_dirty.len c.dirty_touched.new.dirty c.self.inside.named_dirty.items
     (c.dirty_touched.ensures.size ∙ ap length c.deref_mut.ensures.value) (c.dirty_touched.ensures.size ∙ c.deref_mut.ensures.len) in
     let second = whole_put c.self.inside.other_dirty.len c.dirty_touched-2.new.dirty c.self.inside.other_dirty.items
-    (c.dirty_touched-2.ensures.size ∙ ap length c.deref_mut-2.ensures.value) (c.dirty_touched-2.ensures.size ∙ c.deref_mut-2.ensures.len) in (
-      omega (arith, c.self.invariant.0, c.append.ensures.call.1, ap (λ (l : Log). device_size (layout l)) log),
-      omega (arith, c.self.invariant.1, ap (λ (l : Log). l.used) log, ap (λ (g : Geometry). g.half) geometry, ap (λ (h : JournalView). h.room) c.self.view_is, c.requires.room),
-      c.self.invariant.2 ∙ sym (ap image_size geometry),
-      ap length first ∙ c.dirty_touched.ensures.size ∙ ap length c.deref_mut.ensures.value ∙ c.self.invariant.3 ∙ sym (ap piece_count geometry),
-      ap length second ∙ c.dirty_touched-2.ensures.size ∙ ap length c.deref_mut-2.ensures.value ∙ c.self.invariant.4 ∙ sym (ap piece_count geometry),
-      c.self.invariant.5 ∙ sym (ap piece_count geometry),
-      (λ fine. (
-        ap (λ (l : Log). l.failed) log ∙ (c.self.invariant.6 fine).0,
-        subst (λ (l : Log). FitsCutState l c.self.inside.pending.items c.self.inside.pieces_left) (sym log)
-            (placed_used c.self.inside.halves (c.self.inside.halves.used + length c.args.messages.now) c.self.inside.pending.items c.self.inside.pieces_left
-            (c.self.invariant.6 fine).1),
-      )),
-      (λ fine k.
+    (c.dirty_touched-2.ensures.size ∙ ap length c.deref_mut-2.ensures.value) (c.dirty_touched-2.ensures.size ∙ c.deref_mut-2.ensures.len) in
+    record {
+      long_enough = omega (arith, c.self.invariant.long_enough, c.append.ensures.call.1, ap (λ (l : Log). device_size (layout l)) log);
+      used = omega (arith, c.self.invariant.used, ap (λ (l : Log). l.used) log, ap (λ (g : Geometry). g.half) geometry, ap (λ (h : JournalView). h.room) c.self.view_is, c.requires.room);
+      snapshot = c.self.invariant.snapshot ∙ sym (ap image_size geometry);
+      named_dirty = ap length first ∙ c.dirty_touched.ensures.size ∙ ap length c.deref_mut.ensures.value ∙ c.self.invariant.named_dirty ∙ sym (ap piece_count geometry);
+      other_dirty = ap length second ∙ c.dirty_touched-2.ensures.size ∙ ap length c.deref_mut-2.ensures.value ∙ c.self.invariant.other_dirty ∙ sym (ap piece_count geometry);
+      pending = c.self.invariant.pending ∙ sym (ap piece_count geometry);
+      log_not_failed = λ fine. ap (λ (l : Log). l.failed) log ∙ c.self.invariant.log_not_failed fine;
+      fits_cut_state = λ fine.
+          subst (λ (l : Log). FitsCutState l c.self.inside.pending.items c.self.inside.pieces_left) (sym log)
+          (placed_used c.self.inside.halves (c.self.inside.halves.used + length c.args.messages.now) c.self.inside.pending.items c.self.inside.pieces_left
+          (c.self.invariant.fits_cut_state fine));
+      sound = λ fine k.
           let out : (x : State) → recovered_state c.self.inside.halves.geometry (g.D.Disk.medium c.self.inside.disk).now ≡ Some x → AreCarriedOut c.self.inside.halves.geometry x c.args.messages.now =
           λ x is. subst (λ (h : JournalView). AreCarriedOut h.geometry x c.args.messages.now) (sym c.self.view_is) (c.requires.carried_out k x (sym (ap committed c.self.view_is) ∙ is)) in
           sound_along log refl refl refl refl
-          (log_kept c.args.messages.now (g.met.D.Disk.bytes c.self.inside.disk) (g.met.D.Disk.bytes c.append.new.disk) (c.self.invariant.7 fine k)
-          out (c.in_default.ensures.added k) (c.self.invariant.6 fine).1
+          (log_kept c.args.messages.now (g.met.D.Disk.bytes c.self.inside.disk) (g.met.D.Disk.bytes c.append.new.disk) (c.self.invariant.sound fine k)
+          out (c.in_default.ensures.added k) (c.self.invariant.fits_cut_state fine)
           (record {
             named = touched_along c.args.messages.now same c.deref_mut.ensures.value first c.dirty_touched.ensures.touched;
             other = touched_along c.args.messages.now same c.deref_mut-2.ensures.value second c.dirty_touched-2.ensures.touched;
-          }))),
-      c.self.invariant.8,
-      c.self.invariant.9,
-    )
+          }));
+      next_pending = c.self.invariant.next_pending;
+      clean_before = c.self.invariant.clean_before;
+    }
 
 pub returns-in-Err-clause-beyond : goal.returns-in-Err-clause-beyond
 returns-in-Err-clause-beyond g c = λ k.

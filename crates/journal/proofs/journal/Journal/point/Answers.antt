@@ -32,10 +32,10 @@ point_on-requires-clause-alone g c = λ k.
     let is_state = subst (λ (x : Geometry). IsState x (state_in c.args.tree.now)) geometry c.requires.whole.state in
     let w0 = g.D.Disk.medium c.self.inside.disk in
     let is : recovered_state c.self.inside.halves.geometry w0.now ≡ Some (state_in c.args.tree.now) = ap committed c.self.view_is ∙ c.requires.state k in
-    let right = snapshot_right no_cut (c.self.invariant.7 fine k) is geometry c.deref.ensures.value c.deref_mut.ensures.value in
+    let right = snapshot_right no_cut (c.self.invariant.sound fine k) is geometry c.deref.ensures.value c.deref_mut.ensures.value in
     let spelled : c.update_snapshot.new.bytes ≡ image_of 2 c.self.inside.halves.geometry (state_in c.args.tree.now) = c.update_snapshot.ensures.image right
     ∙ ap (λ (x : Geometry). image_of 2 x (state_in c.args.tree.now)) geometry in
-    is_alone no_cut (c.self.invariant.6 fine).1 (c.self.invariant.7 fine k) is
+    is_alone no_cut (c.self.invariant.fits_cut_state fine) (c.self.invariant.sound fine k) is
     is_state spelled (g.met.D.Disk.bytes c.self.inside.disk)
 
 pub point_on-requires-clause-image : goal.point_on-requires-clause-image
@@ -48,11 +48,11 @@ point_on-requires-clause-image g c = λ k.
     (c.update_snapshot.ensures.size ∙ ap length c.deref_mut.ensures.value) (c.update_snapshot.ensures.size ∙ c.deref_mut.ensures.len) in
     let w0 = g.D.Disk.medium c.self.inside.disk in
     let is : recovered_state c.self.inside.halves.geometry w0.now ≡ Some (state_in c.args.tree.now) = ap committed c.self.view_is ∙ c.requires.state k in
-    let right = snapshot_right no_cut (c.self.invariant.7 fine k) is geometry c.deref.ensures.value c.deref_mut.ensures.value in
+    let right = snapshot_right no_cut (c.self.invariant.sound fine k) is geometry c.deref.ensures.value c.deref_mut.ensures.value in
     let spelled : c.update_snapshot.new.bytes ≡ image_of 2 c.self.inside.halves.geometry (state_in c.args.tree.now) = c.update_snapshot.ensures.image right
     ∙ ap (λ (x : Geometry). image_of 2 x (state_in c.args.tree.now)) geometry in
     ap (read c.self.inside.halves.geometry) (c.deref-2.ensures.value ∙ snapshot)
-    ∙ reads no_cut (c.self.invariant.6 fine).1 (c.self.invariant.7 fine k) is
+    ∙ reads no_cut (c.self.invariant.fits_cut_state fine) (c.self.invariant.sound fine k) is
     is_state spelled (g.met.D.Disk.bytes c.self.inside.disk)
 
 pub point_on-requires-clause-clean : goal.point_on-requires-clause-clean
@@ -65,14 +65,14 @@ point_on-requires-clause-clean g c = λ k.
     (c.update_snapshot.ensures.size ∙ ap length c.deref_mut.ensures.value) (c.update_snapshot.ensures.size ∙ c.deref_mut.ensures.len) in
     let w0 = g.D.Disk.medium c.self.inside.disk in
     let is : recovered_state c.self.inside.halves.geometry w0.now ≡ Some (state_in c.args.tree.now) = ap committed c.self.view_is ∙ c.requires.state k in
-    let right = snapshot_right no_cut (c.self.invariant.7 fine k) is geometry c.deref.ensures.value c.deref_mut.ensures.value in
+    let right = snapshot_right no_cut (c.self.invariant.sound fine k) is geometry c.deref.ensures.value c.deref_mut.ensures.value in
     let spelled : c.update_snapshot.new.bytes ≡ image_of 2 c.self.inside.halves.geometry (state_in c.args.tree.now) = c.update_snapshot.ensures.image right
     ∙ ap (λ (x : Geometry). image_of 2 x (state_in c.args.tree.now)) geometry in
     subst (λ (l : List ℕ). AgreeOnClean c.self.inside.halves.geometry c.deref-3.result.now
     (image_in c.self.inside.halves.geometry (other c.self.inside.halves.named) w0) l) (sym (c.deref-2.ensures.value ∙ snapshot))
     (subst (λ (l : List Bool). AgreeOnClean c.self.inside.halves.geometry l
     (image_in c.self.inside.halves.geometry (other c.self.inside.halves.named) w0) c.update_snapshot.new.bytes) (sym c.deref-3.ensures.value)
-    (agrees no_cut (c.self.invariant.6 fine).1 (c.self.invariant.7 fine k) is
+    (agrees no_cut (c.self.invariant.fits_cut_state fine) (c.self.invariant.sound fine k) is
     is_state spelled (g.met.D.Disk.bytes c.self.inside.disk)))
 
 pub returns-in-Err-clause-any_moment : goal.returns-in-Err-clause-any_moment
@@ -93,13 +93,13 @@ returns-clause-committed g c = λ k.
     (c.update_snapshot.ensures.size ∙ ap length c.deref_mut.ensures.value) (c.update_snapshot.ensures.size ∙ c.deref_mut.ensures.len) in
     let w0 = g.D.Disk.medium c.self.inside.disk in
     let is : recovered_state c.self.inside.halves.geometry w0.now ≡ Some (state_in c.args.tree.now) = ap committed c.self.view_is ∙ c.requires.state k in
-    let right = snapshot_right no_cut (c.self.invariant.7 fine k) is geometry c.deref.ensures.value c.deref_mut.ensures.value in
+    let right = snapshot_right no_cut (c.self.invariant.sound fine k) is geometry c.deref.ensures.value c.deref_mut.ensures.value in
     let spelled : c.update_snapshot.new.bytes ≡ image_of 2 c.self.inside.halves.geometry (state_in c.args.tree.now) = c.update_snapshot.ensures.image right
     ∙ ap (λ (x : Geometry). image_of 2 x (state_in c.args.tree.now)) geometry in
     let w1 = g.D.Disk.medium c.point_on.new.disk in
     let made = subst (λ (l : List ℕ). IsPointed c.self.inside.halves l w0 w1) (c.deref-2.ensures.value ∙ snapshot) (c.in_default.ensures.pointed k) in
     ap (λ (x : Geometry). recovered_state x w1.now) c.point_on.ensures.geometry
-    ∙ point_committed no_cut (c.self.invariant.6 fine).1 (c.self.invariant.7 fine k) is is_state spelled (g.met.D.Disk.bytes c.self.inside.disk)
+    ∙ point_committed no_cut (c.self.invariant.fits_cut_state fine) (c.self.invariant.sound fine k) is is_state spelled (g.met.D.Disk.bytes c.self.inside.disk)
     (g.met.D.Disk.bytes c.point_on.new.disk) made ∙ ap committed c.self.view_is
 
 pub returns-clause-emptied : goal.returns-clause-emptied
@@ -120,7 +120,7 @@ returns-clause-version g c = λ k.
     (c.update_snapshot.ensures.size ∙ ap length c.deref_mut.ensures.value) (c.update_snapshot.ensures.size ∙ c.deref_mut.ensures.len) in
     let w0 = g.D.Disk.medium c.self.inside.disk in
     let is : recovered_state c.self.inside.halves.geometry w0.now ≡ Some (state_in c.args.tree.now) = ap committed c.self.view_is ∙ c.requires.state k in
-    let right = snapshot_right no_cut (c.self.invariant.7 fine k) is geometry c.deref.ensures.value c.deref_mut.ensures.value in
+    let right = snapshot_right no_cut (c.self.invariant.sound fine k) is geometry c.deref.ensures.value c.deref_mut.ensures.value in
     let spelled : c.update_snapshot.new.bytes ≡ image_of 2 c.self.inside.halves.geometry (state_in c.args.tree.now) = c.update_snapshot.ensures.image right
     ∙ ap (λ (x : Geometry). image_of 2 x (state_in c.args.tree.now)) geometry in
     let w1 = g.D.Disk.medium c.point_on.new.disk in
@@ -139,14 +139,14 @@ returns-clause-recoverable g c = λ k.
     (c.update_snapshot.ensures.size ∙ ap length c.deref_mut.ensures.value) (c.update_snapshot.ensures.size ∙ c.deref_mut.ensures.len) in
     let w0 = g.D.Disk.medium c.self.inside.disk in
     let is : recovered_state c.self.inside.halves.geometry w0.now ≡ Some (state_in c.args.tree.now) = ap committed c.self.view_is ∙ c.requires.state k in
-    let right = snapshot_right no_cut (c.self.invariant.7 fine k) is geometry c.deref.ensures.value c.deref_mut.ensures.value in
+    let right = snapshot_right no_cut (c.self.invariant.sound fine k) is geometry c.deref.ensures.value c.deref_mut.ensures.value in
     let spelled : c.update_snapshot.new.bytes ≡ image_of 2 c.self.inside.halves.geometry (state_in c.args.tree.now) = c.update_snapshot.ensures.image right
     ∙ ap (λ (x : Geometry). image_of 2 x (state_in c.args.tree.now)) geometry in
     let w1 = g.D.Disk.medium c.point_on.new.disk in
     let made = subst (λ (l : List ℕ). IsPointed c.self.inside.halves l w0 w1) (c.deref-2.ensures.value ∙ snapshot) (c.in_default.ensures.pointed k) in
     recoverable_of
     (sound_along c.in_default.ensures.log snapshot refl refl no_cut
-    (point_sound no_cut (c.self.invariant.6 fine).1 (c.self.invariant.7 fine k) is is_state spelled (g.met.D.Disk.bytes c.self.inside.disk)
+    (point_sound no_cut (c.self.invariant.fits_cut_state fine) (c.self.invariant.sound fine k) is is_state spelled (g.met.D.Disk.bytes c.self.inside.disk)
     (g.met.D.Disk.bytes c.point_on.new.disk) {named' = c.swap_and_clear_dirty.new.named.items} (ap (λ v. v.items) c.swap_and_clear_dirty.ensures.kept) made))
 
 pub invariant_of-self-2 : goal.invariant_of-self-2
@@ -158,31 +158,31 @@ invariant_of-self-2 g c =
     let snapshot = whole_put c.self.inside.snapshot.len c.update_snapshot.new.bytes c.self.inside.snapshot.items
     (c.update_snapshot.ensures.size ∙ ap length c.deref_mut.ensures.value) (c.update_snapshot.ensures.size ∙ c.deref_mut.ensures.len) in
     let log = c.in_default.ensures.log in
-    let same = c.point_on.ensures.geometry in (
-      omega (arith, c.self.invariant.0, c.point_on.ensures.call.1, ap (λ (l : Log). device_size (layout l)) log),
-      omega (arith, ap (λ (l : Log). l.used) log),
-      ap length snapshot ∙ c.update_snapshot.ensures.size ∙ ap length c.deref_mut.ensures.value ∙ c.self.invariant.2 ∙ sym (ap image_size same),
-      ap length c.swap_and_clear_dirty.ensures.written ∙ length-replicate _ false ∙ c.self.invariant.4 ∙ sym (ap piece_count same),
-      ap (λ v. length v.items) c.swap_and_clear_dirty.ensures.kept ∙ c.self.invariant.3 ∙ sym (ap piece_count same),
-      c.self.invariant.5 ∙ sym (ap piece_count same),
-      (λ fine. (
-        ap (λ (l : Log). l.failed) log ∙ (c.self.invariant.6 fine).0,
-        subst (λ (o : Option ℕ). FitsCutState c.point_on.new.halves c.self.inside.pending.items o) (sym no_cut) (ap (λ (l : Log). l.current) log ∙ sym (ap (λ (l : Log). l.named) log)),
-      )),
-      (λ fine k.
+    let same = c.point_on.ensures.geometry in
+    record {
+      long_enough = omega (arith, c.self.invariant.long_enough, c.point_on.ensures.call.1, ap (λ (l : Log). device_size (layout l)) log);
+      used = omega (arith, ap (λ (l : Log). l.used) log);
+      snapshot = ap length snapshot ∙ c.update_snapshot.ensures.size ∙ ap length c.deref_mut.ensures.value ∙ c.self.invariant.snapshot ∙ sym (ap image_size same);
+      named_dirty = ap length c.swap_and_clear_dirty.ensures.written ∙ length-replicate _ false ∙ c.self.invariant.other_dirty ∙ sym (ap piece_count same);
+      other_dirty = ap (λ v. length v.items) c.swap_and_clear_dirty.ensures.kept ∙ c.self.invariant.named_dirty ∙ sym (ap piece_count same);
+      pending = c.self.invariant.pending ∙ sym (ap piece_count same);
+      log_not_failed = λ fine. ap (λ (l : Log). l.failed) log ∙ c.self.invariant.log_not_failed fine;
+      fits_cut_state = λ fine.
+          subst (λ (o : Option ℕ). FitsCutState c.point_on.new.halves c.self.inside.pending.items o) (sym no_cut) (ap (λ (l : Log). l.current) log ∙ sym (ap (λ (l : Log). l.named) log));
+      sound = λ fine k.
           let w0 = g.D.Disk.medium c.self.inside.disk in
           let is : recovered_state c.self.inside.halves.geometry w0.now ≡ Some (state_in c.args.tree.now) = ap committed c.self.view_is ∙ c.requires.state k in
-          let right = snapshot_right no_cut (c.self.invariant.7 fine k) is geometry c.deref.ensures.value c.deref_mut.ensures.value in
+          let right = snapshot_right no_cut (c.self.invariant.sound fine k) is geometry c.deref.ensures.value c.deref_mut.ensures.value in
           let spelled : c.update_snapshot.new.bytes ≡ image_of 2 c.self.inside.halves.geometry (state_in c.args.tree.now) = c.update_snapshot.ensures.image right
           ∙ ap (λ (x : Geometry). image_of 2 x (state_in c.args.tree.now)) geometry in
           let w1 = g.D.Disk.medium c.point_on.new.disk in
           let made = subst (λ (l : List ℕ). IsPointed c.self.inside.halves l w0 w1) (c.deref-2.ensures.value ∙ snapshot) (c.in_default.ensures.pointed k) in
           sound_along c.in_default.ensures.log snapshot refl refl no_cut
-          (point_sound no_cut (c.self.invariant.6 fine).1 (c.self.invariant.7 fine k) is is_state spelled (g.met.D.Disk.bytes c.self.inside.disk)
-          (g.met.D.Disk.bytes c.point_on.new.disk) (ap (λ v. v.items) c.swap_and_clear_dirty.ensures.kept) made)),
-      c.self.invariant.8,
-      c.self.invariant.9,
-    )
+          (point_sound no_cut (c.self.invariant.fits_cut_state fine) (c.self.invariant.sound fine k) is is_state spelled (g.met.D.Disk.bytes c.self.inside.disk)
+          (g.met.D.Disk.bytes c.point_on.new.disk) (ap (λ v. v.items) c.swap_and_clear_dirty.ensures.kept) made);
+      next_pending = c.self.invariant.next_pending;
+      clean_before = c.self.invariant.clean_before;
+    }
 
 pub returns-in-Err-clause-beyond : goal.returns-in-Err-clause-beyond
 returns-in-Err-clause-beyond g c = λ k.
@@ -210,12 +210,12 @@ pub returns-in-Err-clause-few : goal.returns-in-Err-clause-few
 returns-in-Err-clause-few g c =
     let most = few_runs c.self.inside.other_dirty.items in
     let count = ap (λ (h : JournalView). point_cost h.dirty.other) c.self.view_is in
-    let long : length c.self.inside.other_dirty.items ≡ piece_count c.args.self.now.geometry = c.self.invariant.4 ∙ ap (λ (h : JournalView). piece_count h.geometry) c.self.view_is in
+    let long : length c.self.inside.other_dirty.items ≡ piece_count c.args.self.now.geometry = c.self.invariant.other_dirty ∙ ap (λ (h : JournalView). piece_count h.geometry) c.self.view_is in
     omega (arith, most, count, long)
 
 pub returns-clause-few : goal.returns-clause-few
 returns-clause-few g c =
     let most = few_runs c.self.inside.other_dirty.items in
     let count = ap (λ (h : JournalView). point_cost h.dirty.other) c.self.view_is in
-    let long : length c.self.inside.other_dirty.items ≡ piece_count c.args.self.now.geometry = c.self.invariant.4 ∙ ap (λ (h : JournalView). piece_count h.geometry) c.self.view_is in
+    let long : length c.self.inside.other_dirty.items ≡ piece_count c.args.self.now.geometry = c.self.invariant.other_dirty ∙ ap (λ (h : JournalView). piece_count h.geometry) c.self.view_is in
     omega (arith, most, count, long)

@@ -7,4 +7,4 @@ use Rattle.journal.proofs.journal.Journal.room.Goals as goal
 pub returns-clause-recoverable : goal.returns-clause-recoverable
 returns-clause-recoverable g c = λ fine k.
     subst (λ (h : JournalView). IsRecoverable h) c.self.view_is
-    (recoverable_of (c.self.invariant.7 (ap (λ (h : JournalView). h.failed) c.self.view_is ∙ fine) k))
+    (recoverable_of (c.self.invariant.sound (ap (λ (h : JournalView). h.failed) c.self.view_is ∙ fine) k))
