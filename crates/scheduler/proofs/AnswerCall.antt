@@ -1,22 +1,20 @@
 -- The call that answers, by what its callees give.
-use Rattle.std.proofs.Common.{◌≡◌, ℕ, zero, suc, ◌<◌, List, [], ◌∷◌, map, length, get_or, Some, refl, ap, sym, subst, ◌∙◌, arith}
-use Rattle.std.specs.Prelude.{unwrap_or}
+use Rattle.std.proofs.Common.{◌≡◌, ℕ, zero, suc, ◌<◌, List, [], ◌∷◌, map, length, get_or, Some, refl, ap, sym, subst, ◌∙◌, arith, ◌≤◌}
+use Rattle.std.specs.Prelude.{unwrap_or, vec_capacity}
 use Rattle.std.specs.List.{concat}
 use Rattle.arena.proofs.ArenaLemmas.{chain-front, chained-listed, front-chained}
 use Rattle.arena.proofs.Counts.{count_of-append}
 use Rattle.arena.specs.Lists.{without}
 use Rattle.arena.specs.ArenaView.{IsPartitioned, ArenaView, after_take, capacity_of, chain_at, front_of, value_at}
-use Rattle.journal.specs.Journal.{JournalView}
 use Rattle.legal_runs.specs.Events.{answer}
 use Rattle.legal_runs.specs.declared.outcomes.Outcome.TheVariants as outcomes
-use Rattle.messages.specs.declared.Msg.{Msg}
-use Rattle.messages.specs.declared.Reply.{Reply}
 use Rattle.messages.specs.declared.Reply.TheVariants.{Done}
-use Rattle.parcel.specs.Tree.{TreeView}
 use Rattle.scheduler.proofs.Answering.{answer_core, answer_front, with_answer}
 use Rattle.scheduler.proofs.Chains.{TakenSlot, slot_taken}
-use Rattle.scheduler.specs.Parts.{IsCore, Parts, parts, core_state_in}
-use Rattle.scheduler.specs.Slots.{HasChains, SlotView, slots_on, no_slot, slot_view_at}
+use Rattle.scheduler.specs.declared.core_calls.Core.TheInside.{Inside}
+use Rattle.scheduler.specs.Fields.{IsSoundCore, parts}
+use Rattle.scheduler.specs.Parts.{IsCore, Parts, core_state_in}
+use Rattle.scheduler.specs.Slots.{SlotView, no_slot, slot_view_at}
 use Rattle.scheduler.specs.declared.slot.Slot.{Slot}
 use Rattle.run_queue.specs.RunQueue.{RunQueueView, without_number}
 
@@ -27,33 +25,31 @@ front_low arena c i partitioned first =
     let all = count_of-append i arena.free (concat arena.chains) in
     partitioned.within i (omega (arith, some, all))
 
-module _ (keeps : Type 0) (arena : ArenaView Slot) (replies : List Reply) (tree : TreeView) (journal : JournalView) (queue : RunQueueView) (batch : List Msg) (next unlogged : ℕ)
-    (opened : TreeView) (since_open : List Msg) (is : HasChains arena)
-    (k : IsCore keeps (parts arena replies tree journal queue batch next unlogged opened since_open)) (slot : ℕ) (first : front_of arena 3 ≡ Some slot)
-    (taken : Slot) (value : value_at arena slot ≡ Some taken) where
+module _ {D : Type 0} {keeps : Type 0} (core : Inside D) (is : IsSoundCore keeps core) (slot : ℕ) (first : front_of core.slots 3 ≡ Some slot)
+    (taken : Slot) (value : value_at core.slots slot ≡ Some taken) where
   abbrev p : Parts
-  p = parts arena replies tree journal queue batch next unlogged opened since_open
+  p = parts core
 
   abbrev x : SlotView
-  x = (slot, taken, get_or replies slot Done)
+  x = (slot, taken, get_or core.replies.items slot Done)
 
   abbrev behind : List SlotView
-  behind = map (slot_view_at arena replies) (without slot (chain_at arena 3))
+  behind = map (slot_view_at core.slots core.replies.items) (without slot (chain_at core.slots 3))
 
   whole : p.phases.logged ≡ x ∷ behind
-  whole = ap (map (slot_view_at arena replies)) (chain-front arena slot 3 is.partitioned first)
-      ∙ (λ i. (slot, unwrap_or (value i) no_slot, get_or replies slot Done) ∷ behind)
+  whole = ap (map (slot_view_at core.slots core.replies.items)) (chain-front core.slots slot 3 is.chains.partitioned first)
+      ∙ (λ i. (slot, unwrap_or (value i) no_slot, get_or core.replies.items slot Done) ∷ behind)
 
-  taken_slot : TakenSlot arena (after_take arena slot) replies 3 behind
-  taken_slot = slot_taken arena replies is 3 x behind whole slot refl
+  taken_slot : TakenSlot core.slots (after_take core.slots slot) core.replies.items 3 behind
+  taken_slot = slot_taken core.slots core.replies.items is.chains 3 x behind whole slot refl
 
   abbrev turned : RunQueueView
-  turned = record queue { held = without_number taken.affinity.number queue.held }
+  turned = record core.queue { held = without_number taken.affinity.number core.queue.held }
 
-  abbrev after : Parts
-  after = parts (after_take arena slot) replies tree journal turned batch next unlogged opened since_open
+  abbrev pub answered : Inside D
+  answered = record core { slots = after_take core.slots slot; queue = turned }
 
-  after_is : after ≡ with_answer p behind (suc p.free) taken.affinity.number
+  after_is : parts answered ≡ with_answer p behind (suc p.free) taken.affinity.number
   after_is = λ i. record (with_answer p behind (suc p.free) taken.affinity.number) {
     phases = record {
       waiting = taken_slot.stays 0 (λ same. omega (arith, same)) i;
@@ -65,22 +61,19 @@ module _ (keeps : Type 0) (arena : ArenaView Slot) (replies : List Reply) (tree 
     capacity = taken_slot.size i;
   }
 
-  pub answer_call_core : IsCore keeps after
-  answer_call_core = subst (IsCore keeps) (sym after_is) (answer_core keeps p k x behind whole (suc p.free) refl)
+  pub answer_call : IsPartitioned (after_take core.slots slot) → IsSoundCore keeps answered
+  answer_call partitioned = record {
+    chains = record { partitioned = partitioned; four = taken_slot.four ∙ is.chains.four };
+    core = subst (IsCore keeps) (sym after_is) (answer_core keeps p is.core x behind whole (suc p.free) refl);
+    batch = subst (λ (n : ℕ). n ≤ vec_capacity core.batch) (sym taken_slot.size) is.batch;
+    replies = is.replies ∙ sym taken_slot.size;
+    ran = is.ran ∙ sym (ap length (taken_slot.stays 2 (λ same. omega (arith, same))));
+  }
 
-  pub answer_call_chains : IsPartitioned (after_take arena slot) → HasChains (after_take arena slot)
-  answer_call_chains partitioned = record { partitioned = partitioned; four = taken_slot.four ∙ is.four }
-
-  pub answer_call_size : capacity_of (after_take arena slot) ≡ capacity_of arena
-  answer_call_size = taken_slot.size
-
-  pub answer_call_ran : length (slots_on (after_take arena slot) replies 2) ≡ length (slots_on arena replies 2)
-  answer_call_ran = ap length (taken_slot.stays 2 (λ same. omega (arith, same)))
-
-  pub answer_call_state : (outcomes.Answered taken.ticket (get_or replies slot Done), core_state_in after) ≡ answer (core_state_in p) (core_state_in p).logged
+  pub answer_call_state : (outcomes.Answered taken.ticket (get_or core.replies.items slot Done), core_state_in (parts answered)) ≡ answer (core_state_in p) (core_state_in p).logged
   answer_call_state =
-      (λ i. (outcomes.Answered taken.ticket (get_or replies slot Done), core_state_in (after_is i)))
-      ∙ ap (answer (core_state_in p)) (sym (answer_front keeps p k x behind whole (suc p.free) refl))
+      (λ i. (outcomes.Answered taken.ticket (get_or core.replies.items slot Done), core_state_in (after_is i)))
+      ∙ ap (answer (core_state_in p)) (sym (answer_front keeps p is.core x behind whole (suc p.free) refl))
 
 -- an item within the list is the same whatever the default is
 pub get_or_any : {X : Type 0} (xs : List X) (i : ℕ) (d e : X) → i < length xs → get_or xs i d ≡ get_or xs i e

@@ -1,13 +1,12 @@
 -- The call that takes a message in, by what its callees give.
-use Rattle.std.proofs.Common.{◌≡◌, ℕ, ◌+◌, ◌-◌, ◌^◌, ◌<◌, true, false, List, [], ◌∷◌, ◌++◌, map, length, get_or, Ok, Err, refl, ap, sym, subst, ◌∙◌, arith, inl, inr}
-use Rattle.std.specs.Prelude.{◌==◌, ◌||◌, if◌then◌else◌, nat_le, not}
+use Rattle.std.proofs.Common.{◌≡◌, ℕ, ◌+◌, ◌-◌, ◌^◌, ◌<◌, true, false, List, [], ◌∷◌, ◌++◌, map, length, get_or, Ok, Err, refl, ap, sym, subst, ◌∙◌, arith, inl, inr, ◌≤◌}
+use Rattle.std.specs.Prelude.{◌==◌, ◌||◌, if◌then◌else◌, nat_le, not, vec_capacity}
 use Rattle.std.specs.List.{AllByRecursion, list_any}
 use Rattle.std.proofs.lemmas.Bool.Decides.{eqb_tells, leb_tells}
 use Rattle.std.proofs.lemmas.List.Folds.{list_any-append}
 use Rattle.arena.proofs.Counts.{count_of-cons_is, count_of-cons_other}
 use Rattle.arena.specs.Lists.{count_of}
 use Rattle.arena.specs.ArenaView.{IsPartitioned, ArenaView, after_move, after_put, capacity_of, chain_at, put_answer, put_into, slot_from}
-use Rattle.journal.specs.Journal.{JournalView}
 use Rattle.legal_runs.proofs.Lists.{all_back}
 use Rattle.legal_runs.specs.Events.{arrive}
 use Rattle.legal_runs.specs.CoreState.{Entry, held}
@@ -17,13 +16,14 @@ use Rattle.messages.specs.Messages.{is_in_range}
 use Rattle.messages.specs.declared.Msg.{Msg}
 use Rattle.messages.specs.declared.Reply.{Reply}
 use Rattle.messages.specs.declared.Reply.TheVariants.{Done}
-use Rattle.parcel.specs.Tree.{TreeView}
 use Rattle.scheduler.proofs.Arriving.{arrival_core, arrival_state, has_slot, with_arrival}
 use Rattle.scheduler.proofs.Choosing.{any_map}
 use Rattle.scheduler.proofs.Counting.{messages_counted}
 use Rattle.scheduler.proofs.Chains.{JoinedSlot, slot_joined}
-use Rattle.scheduler.specs.Parts.{IsCore, IsPlaced, Parts, entry_of, parts, queued_of, core_state_in}
-use Rattle.scheduler.specs.Slots.{HasChains, SlotView, slots_on, slot_view_at}
+use Rattle.scheduler.specs.declared.core_calls.Core.TheInside.{Inside}
+use Rattle.scheduler.specs.Fields.{IsSoundCore, parts}
+use Rattle.scheduler.specs.Parts.{IsCore, IsPlaced, Parts, entry_of, queued_of, core_state_in}
+use Rattle.scheduler.specs.Slots.{SlotView, slots_on, slot_view_at}
 use Rattle.scheduler.specs.declared.slot.Slot.{Slot}
 use Rattle.run_queue.specs.RunQueue.{CameBefore, RunQueueView, has_slot as has_slot_of}
 
@@ -50,79 +50,77 @@ came_before : (ticket : ℕ) (ys : List SlotView) → AllByRecursion (λ e. e.0 
 came_before ticket [] all = tt
 came_before ticket (y ∷ ys) all = (all.0, came_before ticket ys all.1)
 
-module _ (keeps : Type 0) (arena : ArenaView Slot) (replies : List Reply) (tree : TreeView) (journal : JournalView) (queue : RunQueueView) (batch : List Msg) (next unlogged : ℕ)
-    (opened : TreeView) (since_open : List Msg) (is : HasChains arena)
-    (k : IsCore keeps (parts arena replies tree journal queue batch next unlogged opened since_open)) (value : Slot) where
+module _ {D : Type 0} {keeps : Type 0} (core : Inside D) (is : IsSoundCore keeps core) (value : Slot) where
   abbrev p : Parts
-  p = parts arena replies tree journal queue batch next unlogged opened since_open
+  p = parts core
 
   abbrev m : Msg
   m = value.message
 
   -- where the message is refused neither for the device, nor for its numbers, nor for want of tickets
-  tested : journal.failed ≡ false → is_in_range journal.geometry m ≡ true → (next == 2 ^ 64 - 1) ≡ false
-      → arrive journal.geometry (core_state_in p) m ≡ (if nat_le (capacity_of arena) (length (core_state_in p).waiting + length (held (core_state_in p)))
+  tested : core.journal.failed ≡ false → is_in_range core.journal.geometry m ≡ true → (core.next == 2 ^ 64 - 1) ≡ false
+      → arrive core.journal.geometry (core_state_in p) m ≡ (if nat_le (capacity_of core.slots) (length (core_state_in p).waiting + length (held (core_state_in p)))
       then (outcomes.ArriveRefused arrivals.Full, core_state_in p)
-      else (outcomes.Ticket next, record (core_state_in p) { waiting = (core_state_in p).waiting ++ (next, m) ∷ []; next = next + 1 }))
+      else (outcomes.Ticket core.next, record (core_state_in p) { waiting = (core_state_in p).waiting ++ (core.next, m) ∷ []; next = core.next + 1 }))
   tested works range more = λ i.
       if works i then (outcomes.ArriveRefused arrivals.Failed, core_state_in p)
       else if not (range i) then (outcomes.ArriveRefused arrivals.Range, core_state_in p)
       else if more i then (outcomes.ArriveRefused arrivals.Exhausted, core_state_in p)
-      else if nat_le (capacity_of arena) (length (core_state_in p).waiting + length (held (core_state_in p))) then (outcomes.ArriveRefused arrivals.Full, core_state_in p)
-      else (outcomes.Ticket next, record (core_state_in p) { waiting = (core_state_in p).waiting ++ (next, m) ∷ []; next = next + 1 })
+      else if nat_le (capacity_of core.slots) (length (core_state_in p).waiting + length (held (core_state_in p))) then (outcomes.ArriveRefused arrivals.Full, core_state_in p)
+      else (outcomes.Ticket core.next, record (core_state_in p) { waiting = (core_state_in p).waiting ++ (core.next, m) ∷ []; next = core.next + 1 })
 
-  module _ (back : Slot) (full : put_answer arena value ≡ Err back) where
-    pub full_arena : after_put arena value ≡ arena
-    full_arena = ap (λ fs. put_into arena fs value) (none_free arena.free value back full)
+  module _ (back : Slot) (full : put_answer core.slots value ≡ Err back) where
+    pub full_arena : after_put core.slots value ≡ core.slots
+    full_arena = ap (λ fs. put_into core.slots fs value) (none_free core.slots.free value back full)
 
-    pub full_state : journal.failed ≡ false → is_in_range journal.geometry m ≡ true → (next == 2 ^ 64 - 1) ≡ false
-        → (outcomes.ArriveRefused arrivals.Full, core_state_in p) ≡ arrive journal.geometry (core_state_in p) m
+    pub full_state : core.journal.failed ≡ false → is_in_range core.journal.geometry m ≡ true → (core.next == 2 ^ 64 - 1) ≡ false
+        → (outcomes.ArriveRefused arrivals.Full, core_state_in p) ≡ arrive core.journal.geometry (core_state_in p) m
     full_state works range more = sym (tested works range more ∙ (λ i. if filled i then (outcomes.ArriveRefused arrivals.Full, core_state_in p)
-        else (outcomes.Ticket next, record (core_state_in p) { waiting = (core_state_in p).waiting ++ (next, m) ∷ []; next = next + 1 })))
+        else (outcomes.Ticket core.next, record (core_state_in p) { waiting = (core_state_in p).waiting ++ (core.next, m) ∷ []; next = core.next + 1 })))
       where
-        filled : nat_le (capacity_of arena) (length (core_state_in p).waiting + length (held (core_state_in p))) ≡ true
-        filled = elim (leb_tells (capacity_of arena) (length (core_state_in p).waiting + length (held (core_state_in p)))) [
+        filled : nat_le (capacity_of core.slots) (length (core_state_in p).waiting + length (held (core_state_in p))) ≡ true
+        filled = elim (leb_tells (capacity_of core.slots) (length (core_state_in p).waiting + length (held (core_state_in p)))) [
           | inl e ↦ e.0
-          | inr n ↦ absurd (let short = n.1 in let count = messages_counted p in let claimed = k.claimed
-              in let none = ap length (none_free arena.free value back full) in omega (arith, short, count, claimed, none))
+          | inr n ↦ absurd (let short = n.1 in let count = messages_counted p in let claimed = is.core.claimed
+              in let none = ap length (none_free core.slots.free value back full) in omega (arith, short, count, claimed, none))
         ]
 
-  module _ (slot : ℕ) (put : put_answer arena value ≡ Ok slot) where
-    split : (rest : List ℕ) × (arena.free ≡ slot ∷ rest)
-    split = first_free arena.free value slot put
+  module _ (slot : ℕ) (put : put_answer core.slots value ≡ Ok slot) where
+    split : (rest : List ℕ) × (core.slots.free ≡ slot ∷ rest)
+    split = first_free core.slots.free value slot put
 
-    joined_slot : JoinedSlot arena (after_move (after_put arena value) slot 0) replies slot 0 value
-    joined_slot = slot_joined arena replies is slot 0 (omega arith) split.0 value split.1
+    joined_slot : JoinedSlot core.slots (after_move (after_put core.slots value) slot 0) core.replies.items slot 0 value
+    joined_slot = slot_joined core.slots core.replies.items is.chains slot 0 (omega arith) split.0 value split.1
 
-    pub arrive_later : CameBefore next queue.waiting
-    arrive_later = subst (CameBefore next) (sym k.queue_waiting)
-        (came_before next p.phases.waiting (all_back (λ (e : Entry). e.0 < next) (core_state_in p).in_flight (core_state_in p).waiting k.sound.given))
+    pub arrive_later : CameBefore core.next core.queue.waiting
+    arrive_later = subst (CameBefore core.next) (sym is.core.queue_waiting)
+        (came_before core.next p.phases.waiting (all_back (λ (e : Entry). e.0 < core.next) (core_state_in p).in_flight (core_state_in p).waiting is.core.sound.given))
 
-    pub arrive_slot : slot < queue.slots
-    arrive_slot = let low = joined_slot.low in let queue_slots = k.queue_slots in omega (arith, low, queue_slots)
+    pub arrive_slot : slot < core.queue.slots
+    arrive_slot = let low = joined_slot.low in let queue_slots = is.core.queue_slots in omega (arith, low, queue_slots)
 
-    none_there : (c : ℕ) → list_any (λ (y : SlotView). y.0 == slot) (slots_on arena replies c) ≡ false
-    none_there c = not_among arena replies slot (chain_at arena c) (joined_slot.none_had c)
+    none_there : (c : ℕ) → list_any (λ (y : SlotView). y.0 == slot) (slots_on core.slots core.replies.items c) ≡ false
+    none_there c = not_among core.slots core.replies.items slot (chain_at core.slots c) (joined_slot.none_had c)
 
-    pub arrive_new : list_any (has_slot_of slot) (queue.waiting ++ queue.held) ≡ false
+    pub arrive_new : list_any (has_slot_of slot) (core.queue.waiting ++ core.queue.held) ≡ false
     arrive_new =
-        list_any-append (has_slot_of slot) queue.waiting queue.held
-        ∙ (λ i. (ap (list_any (has_slot_of slot)) k.queue_waiting ∙ any_map queued_of (has_slot_of slot) p.phases.waiting ∙ none_there 0) i || k.queue_held (has_slot_of slot) i)
+        list_any-append (has_slot_of slot) core.queue.waiting core.queue.held
+        ∙ (λ i. (ap (list_any (has_slot_of slot)) is.core.queue_waiting ∙ any_map queued_of (has_slot_of slot) p.phases.waiting ∙ none_there 0) i || is.core.queue_held (has_slot_of slot) i)
         ∙ (λ i. none_there 3 i || (none_there 2 i || none_there 1 i))
 
     abbrev x : SlotView
-    x = (slot, value, get_or replies slot Done)
+    x = (slot, value, get_or core.replies.items slot Done)
 
     abbrev turned : RunQueueView
-    turned = record queue { waiting = queue.waiting ++ queued_of x ∷ [] }
+    turned = record core.queue { waiting = core.queue.waiting ++ queued_of x ∷ [] }
 
-    abbrev after : Parts
-    after = parts (after_move (after_put arena value) slot 0) replies tree journal turned batch (next + 1) unlogged opened since_open
+    abbrev pub arrived : Inside D
+    arrived = record core { slots = after_move (after_put core.slots value) slot 0; queue = turned; next = core.next + 1 }
 
     abbrev new_free : ℕ
-    new_free = length (after_move (after_put arena value) slot 0).free
+    new_free = length (after_move (after_put core.slots value) slot 0).free
 
-    after_is : after ≡ with_arrival p x new_free
+    after_is : parts arrived ≡ with_arrival p x new_free
     after_is = λ i. record (with_arrival p x new_free) {
       phases = record {
         waiting = joined_slot.joined i;
@@ -133,28 +131,25 @@ module _ (keeps : Type 0) (arena : ArenaView Slot) (replies : List Reply) (tree 
       capacity = joined_slot.size i;
     }
 
-    module _ (ticket : value.ticket ≡ next) (placed : IsPlaced journal.geometry x) where
-      pub arrive_core : IsCore keeps after
-      arrive_core = subst (IsCore keeps) (sym after_is) (arrival_core keeps p k x new_free ticket placed joined_slot.free)
+    module _ (ticket : value.ticket ≡ core.next) (placed : IsPlaced core.journal.geometry x) where
+      pub arrive_call : IsPartitioned (after_move (after_put core.slots value) slot 0) → IsSoundCore keeps arrived
+      arrive_call partitioned = record {
+        chains = record { partitioned = partitioned; four = joined_slot.four ∙ is.chains.four };
+        core = subst (IsCore keeps) (sym after_is) (arrival_core keeps p is.core x new_free ticket placed joined_slot.free);
+        batch = subst (λ (n : ℕ). n ≤ vec_capacity core.batch) (sym joined_slot.size) is.batch;
+        replies = is.replies ∙ sym joined_slot.size;
+        ran = is.ran ∙ sym (ap length (joined_slot.stays 2 (λ same. omega (arith, same))));
+      }
 
-      pub arrive_state : journal.failed ≡ false → is_in_range journal.geometry m ≡ true → (next == 2 ^ 64 - 1) ≡ false
-          → (outcomes.Ticket next, core_state_in after) ≡ arrive journal.geometry (core_state_in p) m
+      pub arrive_state : core.journal.failed ≡ false → is_in_range core.journal.geometry m ≡ true → (core.next == 2 ^ 64 - 1) ≡ false
+          → (outcomes.Ticket core.next, core_state_in (parts arrived)) ≡ arrive core.journal.geometry (core_state_in p) m
       arrive_state works range more =
-          (λ i. (outcomes.Ticket next, (ap core_state_in after_is ∙ arrival_state keeps p k x new_free ticket placed joined_slot.free) i))
+          (λ i. (outcomes.Ticket core.next, (ap core_state_in after_is ∙ arrival_state keeps p is.core x new_free ticket placed joined_slot.free) i))
           ∙ sym (tested works range more ∙ (λ i. if fits i then (outcomes.ArriveRefused arrivals.Full, core_state_in p)
-          else (outcomes.Ticket next, record (core_state_in p) { waiting = (core_state_in p).waiting ++ (next, m) ∷ []; next = next + 1 })))
+          else (outcomes.Ticket core.next, record (core_state_in p) { waiting = (core_state_in p).waiting ++ (core.next, m) ∷ []; next = core.next + 1 })))
         where
-          fits : nat_le (capacity_of arena) (length (core_state_in p).waiting + length (held (core_state_in p))) ≡ false
-          fits = elim (leb_tells (capacity_of arena) (length (core_state_in p).waiting + length (held (core_state_in p)))) [
-            | inl e ↦ absurd (let some = has_slot keeps p k x new_free ticket placed joined_slot.free in let few = e.1 in omega (arith, some, few))
+          fits : nat_le (capacity_of core.slots) (length (core_state_in p).waiting + length (held (core_state_in p))) ≡ false
+          fits = elim (leb_tells (capacity_of core.slots) (length (core_state_in p).waiting + length (held (core_state_in p)))) [
+            | inl e ↦ absurd (let some = has_slot keeps p is.core x new_free ticket placed joined_slot.free in let few = e.1 in omega (arith, some, few))
             | inr n ↦ n.0
           ]
-
-    pub arrive_chains : IsPartitioned (after_move (after_put arena value) slot 0) → HasChains (after_move (after_put arena value) slot 0)
-    arrive_chains partitioned = record { partitioned = partitioned; four = joined_slot.four ∙ is.four }
-
-    pub arrive_size : capacity_of (after_move (after_put arena value) slot 0) ≡ capacity_of arena
-    arrive_size = joined_slot.size
-
-    pub arrive_ran : length (slots_on (after_move (after_put arena value) slot 0) replies 2) ≡ length (slots_on arena replies 2)
-    arrive_ran = ap length (joined_slot.stays 2 (λ same. omega (arith, same)))

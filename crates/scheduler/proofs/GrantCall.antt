@@ -1,6 +1,6 @@
 -- The call that dispatches a message, by what its callees give.
 use Rattle.std.proofs.Common.{◌≡◌, ℕ, ◌+◌, ◌<◌, ◌≤◌, Bool, true, false, List, [], ◌∷◌, ◌++◌, map, length, get_or, Option, Some, None, refl, ap, sym, subst, ◌∙◌, arith, inl, inr}
-use Rattle.std.specs.Prelude.{◌==◌, cond, is_some, nat_lt, unwrap_or}
+use Rattle.std.specs.Prelude.{◌==◌, cond, is_some, nat_lt, unwrap_or, vec_capacity}
 use Rattle.std.specs.List.{AllByRecursion, Contains}
 use Rattle.std.proofs.lemmas.List.Elements.{Contains-append_right}
 use Rattle.std.proofs.lemmas.Bool.{true≢false}
@@ -12,7 +12,6 @@ use Rattle.arena.proofs.ArenaLemmas.{chained-holds, chained-once}
 use Rattle.arena.proofs.Counts.{count_of-append, count_of-cons_is, count_of-cons_other, count_of-cons_same}
 use Rattle.arena.specs.Lists.{count_of}
 use Rattle.arena.specs.ArenaView.{IsPartitioned, ArenaView, after_move, capacity_of, chain_at, value_at}
-use Rattle.journal.specs.Journal.{JournalView}
 use Rattle.legal_runs.proofs.Lists.{all_back, all_join}
 use Rattle.legal_runs.specs.Eligible.{is_eligible}
 use Rattle.legal_runs.specs.Events.{grant}
@@ -33,8 +32,10 @@ use Rattle.scheduler.proofs.Chains.{MovedSlot, slot_moved}
 use Rattle.scheduler.proofs.Splits.{MapSplit, map_split, count_of-split}
 use Rattle.scheduler.proofs.Trees.{grant_lends, grant_shows}
 use Rattle.scheduler.specs.Calls.{IsGrantOf}
-use Rattle.scheduler.specs.Parts.{IsCore, IsPlaced, Parts, entry_of, parts, queued_of, core_state_in}
-use Rattle.scheduler.specs.Slots.{HasChains, SlotView, slots_on, no_slot, slot_view_at}
+use Rattle.scheduler.specs.declared.core_calls.Core.TheInside.{Inside}
+use Rattle.scheduler.specs.Fields.{IsSoundCore, parts}
+use Rattle.scheduler.specs.Parts.{IsCore, IsPlaced, Parts, entry_of, queued_of, core_state_in}
+use Rattle.scheduler.specs.Slots.{SlotView, no_slot, slot_view_at}
 use Rattle.scheduler.specs.declared.slot.Slot.{Slot}
 use Rattle.run_queue.specs.RunQueue.{HasJoined, RunQueueView, next_queued, without_slot}
 use Rattle.run_queue.specs.declared.queued_message.QueuedMessage.{QueuedMessage}
@@ -52,15 +53,13 @@ pub some_value : (o : Option Slot) → is_some o ≡ true → o ≡ None → ⊥
 some_value None holds none = true≢false (sym holds)
 some_value (Some s) holds none = true≢false (sym holds ∙ ap is_some none)
 
-module _ (keeps : Type 0) (arena : ArenaView Slot) (replies : List Reply) (tree : TreeView) (journal : JournalView) (queue : RunQueueView) (batch : List Msg) (next unlogged : ℕ)
-    (opened : TreeView) (since_open : List Msg) (is : HasChains arena)
-    (k : IsCore keeps (parts arena replies tree journal queue batch next unlogged opened since_open)) (room : Bool) (is_room : room ≡ nat_lt unlogged journal.room)
-    (queued : QueuedMessage) (goes : next_queued room queue.held queue.waiting ≡ Some queued) where
+module _ {D : Type 0} {keeps : Type 0} (core : Inside D) (is : IsSoundCore keeps core) (room : Bool) (is_room : room ≡ nat_lt core.unlogged core.journal.room)
+    (queued : QueuedMessage) (goes : next_queued room core.queue.held core.queue.waiting ≡ Some queued) where
   abbrev p : Parts
-  p = parts arena replies tree journal queue batch next unlogged opened since_open
+  p = parts core
 
-  pub chosen : Chosen (is_eligible journal.geometry (core_state_in p)) p.phases.waiting queued
-  chosen = goes_first keeps p k room is_room queued goes
+  pub chosen : Chosen (is_eligible core.journal.geometry (core_state_in p)) p.phases.waiting queued
+  chosen = goes_first keeps p is.core room is_room queued goes
 
   abbrev x : SlotView
   x = chosen.at
@@ -68,36 +67,39 @@ module _ (keeps : Type 0) (arena : ArenaView Slot) (replies : List Reply) (tree 
   pub number : x.0 ≡ queued.slot
   number = ap (λ (t : QueuedMessage). t.slot) chosen.queued
 
-  split : MapSplit (slot_view_at arena replies) (chain_at arena 0) chosen.before x chosen.behind
-  split = map_split (slot_view_at arena replies) (chain_at arena 0) chosen.before x chosen.behind chosen.whole
+  split : MapSplit (slot_view_at core.slots core.replies.items) (chain_at core.slots 0) chosen.before x chosen.behind
+  split = map_split (slot_view_at core.slots core.replies.items) (chain_at core.slots 0) chosen.before x chosen.behind chosen.whole
 
   at_queued : split.at ≡ queued.slot
   at_queued = ap (λ (y : SlotView). y.0) split.at_is ∙ number
 
-  recovers : 0 < count_of split.at (chain_at arena 0)
+  recovers : 0 < count_of split.at (chain_at core.slots 0)
   recovers = subst (λ xs. 0 < count_of split.at xs) (sym split.whole) (count_of-split split.at split.front split.back)
 
-  pub grant_has_slot : value_at arena queued.slot ≡ None → ⊥
-  grant_has_slot none = some_value (value_at arena queued.slot) (subst (λ n. is_some (value_at arena n) ≡ true) at_queued (chained-holds arena split.at 0 is.partitioned recovers)) none
+  pub grant_has_slot : value_at core.slots queued.slot ≡ None → ⊥
+  grant_has_slot none = some_value (value_at core.slots queued.slot) (subst (λ n. is_some (value_at core.slots n) ≡ true) at_queued
+      (chained-holds core.slots split.at 0 is.chains.partitioned recovers)) none
 
-  pub grant_slot : (slot : Slot) → Some slot ≡ value_at arena queued.slot → x.1 ≡ slot
-  grant_slot slot value = sym (ap (λ (y : SlotView). y.1) split.at_is) ∙ ap (λ n. unwrap_or (value_at arena n) no_slot) at_queued ∙ ap (λ o. unwrap_or o no_slot) (sym value)
+  pub grant_slot : (slot : Slot) → Some slot ≡ value_at core.slots queued.slot → x.1 ≡ slot
+  grant_slot slot value = sym (ap (λ (y : SlotView). y.1) split.at_is) ∙ ap (λ n. unwrap_or (value_at core.slots n) no_slot) at_queued ∙ ap (λ o. unwrap_or o no_slot) (sym value)
 
-  pub granted_slot : MovedSlot arena (after_move arena queued.slot 1) replies replies 0 1 chosen.before x chosen.behind
-  granted_slot = slot_moved arena replies replies is 0 1 (omega arith) (λ same. omega (arith, same)) chosen.before x chosen.behind chosen.whole (λ j other. refl) queued.slot (sym number)
+  pub granted_slot : MovedSlot core.slots (after_move core.slots queued.slot 1) core.replies.items core.replies.items 0 1 chosen.before x chosen.behind
+  granted_slot = slot_moved core.slots core.replies.items core.replies.items is.chains 0 1 (omega arith) (λ same. omega (arith, same)) chosen.before x chosen.behind chosen.whole
+      (λ j other. refl) queued.slot (sym number)
 
-  pub grant_place : IsPlaced journal.geometry x
-  grant_place = (all_back (IsPlaced journal.geometry) chosen.before (x ∷ chosen.behind) (subst (AllByRecursion (IsPlaced journal.geometry)) chosen.whole k.placed.waiting)).0
+  pub grant_place : IsPlaced core.journal.geometry x
+  grant_place = (all_back (IsPlaced core.journal.geometry) chosen.before (x ∷ chosen.behind) (subst (AllByRecursion (IsPlaced core.journal.geometry)) chosen.whole is.core.placed.waiting)).0
 
-  pub grant_affinity : IsAffinity tree.geometry queued.affinity
-  grant_affinity = subst (λ (a : Interval). IsAffinity tree.geometry a) (ap (λ (t : QueuedMessage). t.affinity) chosen.queued)
-      (path_of journal.geometry x.1.message, subst (λ h. IsAffinityOf h (path_of journal.geometry x.1.message) x.1.affinity) (sym k.geometry) grant_place.affinity)
+  pub grant_affinity : IsAffinity core.tree.geometry queued.affinity
+  grant_affinity = subst (λ (a : Interval). IsAffinity core.tree.geometry a) (ap (λ (t : QueuedMessage). t.affinity) chosen.queued)
+      (path_of core.journal.geometry x.1.message, subst (λ h. IsAffinityOf h (path_of core.journal.geometry x.1.message) x.1.affinity) (sym is.core.geometry) grant_place.affinity)
 
-  pub grant_has_room : HasGap journal.geometry (path_of journal.geometry x.1.message) (tree_nodes tree) → ⊥
-  grant_has_room gap = grant_lends journal.geometry (core_state_in p) k.sound (entry_of x, map entry_of (chosen.before ++ chosen.behind)) chosen.picked (tree_nodes tree) k.tree gap
+  pub grant_has_room : HasGap core.journal.geometry (path_of core.journal.geometry x.1.message) (tree_nodes core.tree) → ⊥
+  grant_has_room gap = grant_lends core.journal.geometry (core_state_in p) is.core.sound (entry_of x, map entry_of (chosen.before ++ chosen.behind)) chosen.picked (tree_nodes core.tree)
+      is.core.tree gap
 
   once_there : count_of split.at (split.front ++ split.at ∷ split.back) ≤ 1
-  once_there = subst (λ xs. count_of split.at xs ≤ 1) split.whole (chained-once arena split.at 0 is.partitioned)
+  once_there = subst (λ xs. count_of split.at xs ≤ 1) split.whole (chained-once core.slots split.at 0 is.chains.partitioned)
 
   pub grant_others : AllByRecursion (λ y. (y.0 == x.0) ≡ false) (chosen.before ++ chosen.behind)
   grant_others =
@@ -106,53 +108,47 @@ module _ (keeps : Type 0) (arena : ArenaView Slot) (replies : List Reply) (tree 
       let once = once_there in
       subst (λ n. AllByRecursion (λ (y : SlotView). (y.0 == n) ≡ false) (chosen.before ++ chosen.behind)) (ap (λ (y : SlotView). y.0) split.at_is)
       (all_join (λ (y : SlotView). (y.0 == split.at) ≡ false) chosen.before chosen.behind
-      (subst (AllByRecursion (λ (y : SlotView). (y.0 == split.at) ≡ false)) split.before_is (numbers_off arena replies split.at split.front (omega (arith, once, all, same))))
-      (subst (AllByRecursion (λ (y : SlotView). (y.0 == split.at) ≡ false)) split.behind_is (numbers_off arena replies split.at split.back (omega (arith, once, all, same)))))
+      (subst (AllByRecursion (λ (y : SlotView). (y.0 == split.at) ≡ false)) split.before_is (numbers_off core.slots core.replies.items split.at split.front (omega (arith, once, all, same))))
+      (subst (AllByRecursion (λ (y : SlotView). (y.0 == split.at) ≡ false)) split.behind_is (numbers_off core.slots core.replies.items split.at split.back (omega (arith, once, all, same)))))
 
   -- ---- what holds afterwards
 
-  grant_path : IsAffinityOf tree.geometry (path_of journal.geometry x.1.message) queued.affinity
-  grant_path = subst (λ (a : Interval). IsAffinityOf tree.geometry (path_of journal.geometry x.1.message) a) (ap (λ (t : QueuedMessage). t.affinity) chosen.queued)
-      (subst (λ (h : Geometry). IsAffinityOf h (path_of journal.geometry x.1.message) x.1.affinity) (sym k.geometry) grant_place.affinity)
+  grant_path : IsAffinityOf core.tree.geometry (path_of core.journal.geometry x.1.message) queued.affinity
+  grant_path = subst (λ (a : Interval). IsAffinityOf core.tree.geometry (path_of core.journal.geometry x.1.message) a) (ap (λ (t : QueuedMessage). t.affinity) chosen.queued)
+      (subst (λ (h : Geometry). IsAffinityOf h (path_of core.journal.geometry x.1.message) x.1.affinity) (sym is.core.geometry) grant_place.affinity)
 
-  pub grant_chains : IsPartitioned (after_move arena queued.slot 1) → HasChains (after_move arena queued.slot 1)
-  grant_chains partitioned = record { partitioned = partitioned; four = granted_slot.four ∙ is.four }
-
-  pub grant_size : capacity_of (after_move arena queued.slot 1) ≡ capacity_of arena
+  grant_size : capacity_of (after_move core.slots queued.slot 1) ≡ capacity_of core.slots
   grant_size = ap (λ (vs : List (Option Slot)). length vs) granted_slot.values
 
-  pub grant_ran : length (slots_on (after_move arena queued.slot 1) replies 2) ≡ length (slots_on arena replies 2)
-  grant_ran = ap (λ (ps : List SlotView). length ps) (granted_slot.stays 2 (λ same. omega (arith, same)) (λ same. omega (arith, same)))
+  module _ (slot : Slot) (value : Some slot ≡ value_at core.slots queued.slot) (lent : TreeView) (standing : Standing) (parcels : Parcels)
+      (lends : (q : Path) → IsAffinityOf core.tree.geometry q queued.affinity → LendsAt core.tree.geometry q standing parcels (tree_nodes core.tree) (tree_nodes lent)) where
+    lends_place : LendsAt core.journal.geometry (path_of core.journal.geometry x.1.message) standing parcels (tree_nodes core.tree) (tree_nodes lent)
+    lends_place = subst (λ (h : Geometry). LendsAt h (path_of core.journal.geometry x.1.message) standing parcels (tree_nodes core.tree) (tree_nodes lent)) is.core.geometry
+        (lends (path_of core.journal.geometry x.1.message) grant_path)
 
-  module _ (slot : Slot) (value : Some slot ≡ value_at arena queued.slot) (lent : TreeView) (standing : Standing) (parcels : Parcels)
-      (lends : (q : Path) → IsAffinityOf tree.geometry q queued.affinity → LendsAt tree.geometry q standing parcels (tree_nodes tree) (tree_nodes lent)) where
-    lends_place : LendsAt journal.geometry (path_of journal.geometry x.1.message) standing parcels (tree_nodes tree) (tree_nodes lent)
-    lends_place = subst (λ (h : Geometry). LendsAt h (path_of journal.geometry x.1.message) standing parcels (tree_nodes tree) (tree_nodes lent)) k.geometry
-        (lends (path_of journal.geometry x.1.message) grant_path)
-
-    pub grant_suits : IsRunnable journal.geometry slot.message parcels
-    grant_suits = subst (λ (m : Msg). IsRunnable journal.geometry m parcels) (ap (λ (s : Slot). s.message) (grant_slot slot value))
+    pub grant_suits : IsRunnable core.journal.geometry slot.message parcels
+    grant_suits = subst (λ (m : Msg). IsRunnable core.journal.geometry m parcels) (ap (λ (s : Slot). s.message) (grant_slot slot value))
         (record { range = grant_place.range; fits = lends_place.fits })
 
-    module _ (same_geometry : lent.geometry ≡ tree.geometry) (went : RunQueueView)
-        (waits : went ≡ record queue { waiting = without_slot queued.slot queue.waiting; held = went.held }) (joined : HasJoined queued queue.held went.held)
+    module _ (same_geometry : lent.geometry ≡ core.tree.geometry) (went : RunQueueView)
+        (waits : went ≡ record core.queue { waiting = without_slot queued.slot core.queue.waiting; held = went.held }) (joined : HasJoined queued core.queue.held went.held)
         (more : ℕ) (is_more : more ≡ cond queued.changing 1 0) where
-      abbrev after : Parts
-      after = parts (after_move arena queued.slot 1) replies lent journal went batch next (unlogged + more) opened since_open
+      abbrev pub granted : Inside D
+      granted = record core { slots = after_move core.slots queued.slot 1; tree = lent; queue = went; unlogged = core.unlogged + more }
 
       abbrev found : Entry × List Entry
       found = (entry_of x, map entry_of (chosen.before ++ chosen.behind))
 
-      reply_there : get_or replies x.0 Done ≡ x.2
-      reply_there = ap (λ n. get_or replies n Done) (sym (ap (λ (y : SlotView). y.0) split.at_is)) ∙ ap (λ (y : SlotView). y.2) split.at_is
+      reply_there : get_or core.replies.items x.0 Done ≡ x.2
+      reply_there = ap (λ n. get_or core.replies.items n Done) (sym (ap (λ (y : SlotView). y.0) split.at_is)) ∙ ap (λ (y : SlotView). y.2) split.at_is
 
-      goes_waits : without_slot queued.slot queue.waiting ≡ map queued_of (chosen.before ++ chosen.behind)
-      goes_waits = (λ i. without_slot (sym number i) ((k.queue_waiting ∙ ap (map queued_of) chosen.whole) i)) ∙ waits_without chosen.before x chosen.behind grant_others
+      goes_waits : without_slot queued.slot core.queue.waiting ≡ map queued_of (chosen.before ++ chosen.behind)
+      goes_waits = (λ i. without_slot (sym number i) ((is.core.queue_waiting ∙ ap (map queued_of) chosen.whole) i)) ∙ waits_without chosen.before x chosen.behind grant_others
 
       one_more : more ≡ one_for x
       one_more = is_more ∙ ap (λ (t : QueuedMessage). cond t.changing 1 0) (sym chosen.queued)
 
-      after_is : after ≡ with_grant p (chosen.before ++ chosen.behind) x lent went.held
+      after_is : parts granted ≡ with_grant p (chosen.before ++ chosen.behind) x lent went.held
       after_is = λ i. record (with_grant p (chosen.before ++ chosen.behind) x lent went.held) {
         phases = record {
           waiting = granted_slot.left i;
@@ -162,28 +158,34 @@ module _ (keeps : Type 0) (arena : ArenaView Slot) (replies : List Reply) (tree 
         };
         free = ap (λ (fs : List ℕ). length fs) granted_slot.free i;
         capacity = grant_size i;
-        queue = (waits ∙ (λ j. record queue { waiting = goes_waits j; held = went.held })) i;
-        unlogged = unlogged + one_more i;
+        queue = (waits ∙ (λ j. record core.queue { waiting = goes_waits j; held = went.held })) i;
+        unlogged = core.unlogged + one_more i;
       }
 
-      joined_at : HasJoined (queued_of x) queue.held went.held
-      joined_at = subst (λ (t : QueuedMessage). HasJoined t queue.held went.held) (sym chosen.queued) joined
+      joined_at : HasJoined (queued_of x) core.queue.held went.held
+      joined_at = subst (λ (t : QueuedMessage). HasJoined t core.queue.held went.held) (sym chosen.queued) joined
 
-      pub grant_call_core : IsCore keeps after
-      grant_call_core = subst (IsCore keeps) (sym after_is)
-          (grant_core keeps p k chosen.before x chosen.behind chosen.whole lent went.held chosen.picked joined_at (same_geometry ∙ k.geometry) standing parcels lends_place)
+      pub grant_call : IsPartitioned (after_move core.slots queued.slot 1) → IsSoundCore keeps granted
+      grant_call partitioned = record {
+        chains = record { partitioned = partitioned; four = granted_slot.four ∙ is.chains.four };
+        core = subst (IsCore keeps) (sym after_is)
+            (grant_core keeps p is.core chosen.before x chosen.behind chosen.whole lent went.held chosen.picked joined_at (same_geometry ∙ is.core.geometry) standing parcels lends_place);
+        batch = subst (λ (n : ℕ). n ≤ vec_capacity core.batch) (sym grant_size) is.batch;
+        replies = is.replies ∙ sym grant_size;
+        ran = is.ran ∙ sym (ap (λ (ps : List SlotView). length ps) (granted_slot.stays 2 (λ same. omega (arith, same)) (λ same. omega (arith, same))));
+      }
 
-      grant_call_state : core_state_in after ≡ grant (core_state_in p) found
+      grant_call_state : core_state_in (parts granted) ≡ grant (core_state_in p) found
       grant_call_state = ap core_state_in after_is
-          ∙ grant_state keeps p k chosen.before x chosen.behind chosen.whole lent went.held chosen.picked joined_at (same_geometry ∙ k.geometry) standing parcels lends_place
+          ∙ grant_state keeps p is.core chosen.before x chosen.behind chosen.whole lent went.held chosen.picked joined_at (same_geometry ∙ is.core.geometry) standing parcels lends_place
 
       abbrev job : JobView
-      job = record { geometry = journal.geometry; ticket = slot.ticket; message = slot.message; standing = standing; parcels = parcels }
+      job = record { geometry = core.journal.geometry; ticket = slot.ticket; message = slot.message; standing = standing; parcels = parcels }
 
       job_same : entry_of x ≡ (slot.ticket, slot.message)
       job_same = ap (λ (s : Slot). (s.ticket, s.message)) (grant_slot slot value)
 
-      pub grant_call_is : journal.failed ≡ false → IsGrantOf journal.geometry (core_state_in p) (core_state_in after) job
+      pub grant_call_is : core.journal.failed ≡ false → IsGrantOf core.journal.geometry (core_state_in p) (core_state_in (parts granted)) job
       grant_call_is works = record {
         works = works;
         found = found;
@@ -194,7 +196,7 @@ module _ (keeps : Type 0) (arena : ArenaView Slot) (replies : List Reply) (tree 
           geometry = refl;
           in_flight = subst (λ (w : CoreState). Contains w.in_flight (slot.ticket, slot.message)) (sym grant_call_state)
               (Contains-append_right (core_state_in p).in_flight (entry_of x ∷ []) (slot.ticket, slot.message) (0, omega arith, job_same));
-          lent = subst (λ (m : Msg). Shows journal.geometry (path_of journal.geometry m) standing parcels (core_state_in p).committed) (ap (λ (s : Slot). s.message) (grant_slot slot value))
-              (grant_shows journal.geometry (core_state_in p) k.sound found chosen.picked (tree_nodes tree) k.tree standing parcels (tree_nodes lent) lends_place);
+          lent = subst (λ (m : Msg). Shows core.journal.geometry (path_of core.journal.geometry m) standing parcels (core_state_in p).committed) (ap (λ (s : Slot). s.message) (grant_slot slot value))
+              (grant_shows core.journal.geometry (core_state_in p) is.core.sound found chosen.picked (tree_nodes core.tree) is.core.tree standing parcels (tree_nodes lent) lends_place);
         };
       }

@@ -1,12 +1,15 @@
 -- The call that logs, by what its callees give.
 use Rattle.std.proofs.Common.{◌≡◌, ℕ, ◌+◌, ◌-◌, ◌≤◌, Bool, true, false, List, [], ◌∷◌, ◌++◌, map, length, take, drop, get_or, Option, Some, None, Result, Ok, Err, refl, ap, sym, subst, ◌∙◌, arith}
-use Rattle.std.specs.Prelude.{◌&&◌, cond, is_err, min, nat_lt, not, option_map, slice_index_or, unwrap_or}
+use Rattle.std.specs.Global.{Global}
+use Rattle.std.specs.declared.vec.Vec.{Vec}
+use Rattle.scheduler.specs.History.{HistoryView}
+use Rattle.std.specs.Prelude.{◌&&◌, cond, is_err, min, nat_lt, not, option_map, slice_index_or, unwrap_or, vec_capacity}
 use Rattle.std.proofs.Math.Nat.{min-le_right}
 use Rattle.std.proofs.lemmas.Bool.{ltb-false, true≢false}
 use Rattle.std.proofs.lemmas.List.{drop-map, drop_min, length-drop, length-map, length-take, map-append, take-append-drop, take-map, take_min}
 use Rattle.std.proofs.lemmas.List.Sums.{sum_by-cons}
 use Rattle.std.proofs.lemmas.Option.{same_Some}
-use Rattle.arena.specs.ArenaView.{ArenaView, capacity_of, chain_at, value_at}
+use Rattle.arena.specs.ArenaView.{ArenaView, IsPartitioned, capacity_of, chain_at, value_at}
 use Rattle.checkpoint.specs.Recovery.{recovered_state}
 use Rattle.disk.specs.Device.{IsCrashImage, Medium}
 use Rattle.disk.specs.Moments.{CrashImagesAre, moment_number}
@@ -22,7 +25,7 @@ use Rattle.messages.specs.declared.Reply.TheVariants.{Done}
 use Rattle.oplog.specs.Costs.{Costs}
 use Rattle.oplog.specs.Changing.{AreChangesInRange}
 use Rattle.oplog.specs.declared.fault.LogFault.{LogFault}
-use Rattle.parcel.specs.Tree.{TreeView, state_in}
+use Rattle.parcel.specs.Tree.{state_in}
 use Rattle.meaning.specs.Serial.{state_after_all}
 use Rattle.meaning.specs.State.{State}
 use Rattle.scheduler.proofs.Counting.{changing, changing-append, changing-cons, unlogged_of}
@@ -30,10 +33,11 @@ use Rattle.scheduler.proofs.Chains.{same_slots}
 use Rattle.scheduler.proofs.Logging.{batch_at, batch_carried, batch_fits, batch_changes, doubt_core, log_core, log_throughout, log_state, same_batch, with_doubt, with_log}
 use Rattle.scheduler.specs.CoreView.{CoreView, RecoversThroughout}
 use Rattle.scheduler.specs.Moving.{HasLogged, changing_in, recorded_in}
-use Rattle.scheduler.specs.Parts.{IsCore, Parts, core_view_of, parts, replied_of, core_state_in}
-use Rattle.scheduler.specs.Slots.{HasChains, SlotView, slots_on, no_slot, slot_view_at}
+use Rattle.scheduler.specs.declared.core_calls.Core.TheInside.{Inside}
+use Rattle.scheduler.specs.Fields.{IsSoundCore, parts}
+use Rattle.scheduler.specs.Parts.{IsCore, Parts, core_view_of, replied_of, core_state_in}
+use Rattle.scheduler.specs.Slots.{SlotView, slots_on, no_slot, slot_view_at}
 use Rattle.scheduler.specs.declared.slot.Slot.{Slot}
-use Rattle.run_queue.specs.RunQueue.{RunQueueView}
 
 -- ---- the journal's answer
 
@@ -69,21 +73,19 @@ counted arena replies (y ∷ ys) =
     ∙ ap (λ (m : ℕ). cond (changes (unwrap_or (value_at arena y) no_slot).message) 1 0 + m) (counted arena replies ys)
     ∙ sym (changing-cons (slot_view_at arena replies y) (map (slot_view_at arena replies) ys))
 
-module _ (keeps : Type 0) (arena : ArenaView Slot) (replies : List Reply) (tree : TreeView) (journal : JournalView) (queue : RunQueueView) (batch : List Msg) (next unlogged : ℕ)
-    (opened : TreeView) (since_open : List Msg) (is : HasChains arena)
-    (k : IsCore keeps (parts arena replies tree journal queue batch next unlogged opened since_open)) (works : journal.failed ≡ false)
-    (n count ran : ℕ) (ran_is : ran ≡ length (slots_on arena replies 2)) (count_is : count ≡ min n ran) where
+module _ {D : Type 0} {keeps : Type 0} (core : Inside D) (is : IsSoundCore keeps core) (works : core.journal.failed ≡ false)
+    (n count : ℕ) (count_is : count ≡ min n core.ran) where
   abbrev p : Parts
-  p = parts arena replies tree journal queue batch next unlogged opened since_open
+  p = parts core
 
   abbrev slots : List ℕ
-  slots = chain_at arena 2
+  slots = chain_at core.slots 2
 
   abbrev ran_slots : List SlotView
-  ran_slots = slots_on arena replies 2
+  ran_slots = slots_on core.slots core.replies.items 2
 
   min_is : count ≡ min n (length ran_slots)
-  min_is = count_is ∙ ap (λ (m : ℕ). min n m) ran_is
+  min_is = count_is ∙ ap (λ (m : ℕ). min n m) is.ran
 
   take_is : take count ran_slots ≡ take n ran_slots
   take_is = ap (λ (m : ℕ). take m ran_slots) min_is ∙ take_min n ran_slots
@@ -92,7 +94,7 @@ module _ (keeps : Type 0) (arena : ArenaView Slot) (replies : List Reply) (tree 
   drop_is = ap (λ (m : ℕ). drop m ran_slots) min_is ∙ drop_min n ran_slots
 
   long : length ran_slots ≡ length slots
-  long = length-map slots (slot_view_at arena replies)
+  long = length-map slots (slot_view_at core.slots core.replies.items)
 
   pub log_low : count ≤ length slots
   log_low = let few = min-le_right n (length ran_slots) in let at = long in let same = min_is in omega (arith, few, at, same)
@@ -100,154 +102,175 @@ module _ (keeps : Type 0) (arena : ArenaView Slot) (replies : List Reply) (tree 
   pub log_count : count ≡ length (take n (core_state_in p).ran)
   log_count = min_is ∙ ap (λ (m : ℕ). min n m) (sym (length-map ran_slots replied_of)) ∙ sym (length-take n (map replied_of ran_slots))
 
-  module _ (logged_changes : ℕ) (logged_changes_is : logged_changes ≡ changing_in arena (take count slots)) where
+  module _ (logged_changes : ℕ) (logged_changes_is : logged_changes ≡ changing_in core.slots (take count slots)) where
     logged_changes_same : logged_changes ≡ changing (take n ran_slots)
-    logged_changes_same = logged_changes_is ∙ counted arena replies (take count slots)
-        ∙ ap (λ (l : List SlotView). changing l) (sym (take-map (slot_view_at arena replies) count slots) ∙ take_is)
+    logged_changes_same = logged_changes_is ∙ counted core.slots core.replies.items (take count slots)
+        ∙ ap (λ (l : List SlotView). changing l) (sym (take-map (slot_view_at core.slots core.replies.items) count slots) ∙ take_is)
 
-    unlogged_is : (unlogged - logged_changes) + changing (take n ran_slots) ≡ unlogged
+    unlogged_is : (core.unlogged - logged_changes) + changing (take n ran_slots) ≡ core.unlogged
     unlogged_is =
-        let unlogged_was = k.unlogged_is ∙ unlogged_of p in
+        let unlogged_was = is.core.unlogged_is ∙ unlogged_of p in
         let all = ap (λ (l : List SlotView). changing l) (sym (take-append-drop n ran_slots)) ∙ changing-append (take n ran_slots) (drop n ran_slots) in
         let same = logged_changes_same in
         omega (arith, unlogged_was, all, same)
 
-    pub log_unlogged : logged_changes ≤ unlogged
+    pub log_unlogged : logged_changes ≤ core.unlogged
     log_unlogged =
-        let unlogged_was = k.unlogged_is ∙ unlogged_of p in
+        let unlogged_was = is.core.unlogged_is ∙ unlogged_of p in
         let all = ap (λ (l : List SlotView). changing l) (sym (take-append-drop n ran_slots)) ∙ changing-append (take n ran_slots) (drop n ran_slots) in
         let same = logged_changes_same in
         omega (arith, unlogged_was, all, same)
 
-  module _ (messages : List Msg) (gathered_is : messages ≡ recorded_in arena replies (take count slots)) where
-    messages_are : messages ≡ batch_at p n
-    messages_are = gathered_is ∙ ap (λ (l : List SlotView). recorded (map replied_of l)) (sym (take-map (slot_view_at arena replies) count slots) ∙ take_is)
+  module _ (messages : Vec Msg Global) (gathered_is : messages.items ≡ recorded_in core.slots core.replies.items (take count slots)) where
+    messages_are : messages.items ≡ batch_at p n
+    messages_are = gathered_is ∙ ap (λ (l : List SlotView). recorded (map replied_of l)) (sym (take-map (slot_view_at core.slots core.replies.items) count slots) ∙ take_is)
 
-    module _ (passed : List Msg) (passed_is : passed ≡ messages) where
+    module _ (passed : List Msg) (passed_is : passed ≡ messages.items) where
       passed_at : passed ≡ batch_at p n
       passed_at = passed_is ∙ messages_are
 
       pub log_length : length passed ≡ length (batch_of (core_state_in p) n)
-      log_length = ap (λ (ms : List Msg). length ms) (passed_at ∙ same_batch keeps p k n)
+      log_length = ap (λ (ms : List Msg). length ms) (passed_at ∙ same_batch keeps p is.core n)
 
       none_passed : length (batch_of (core_state_in p) n) ≡ 0 → length passed ≡ 0
       none_passed none = log_length ∙ none
 
-      pub log_fits : length passed ≤ journal.room
-      log_fits = subst (λ (ms : List Msg). length ms ≤ journal.room) (sym passed_at) (batch_fits keeps p k n)
+      pub log_fits : length passed ≤ core.journal.room
+      log_fits = subst (λ (ms : List Msg). length ms ≤ core.journal.room) (sym passed_at) (batch_fits keeps p is.core n)
 
-      pub log_changes : AreChangesInRange journal.geometry passed
-      log_changes = subst (AreChangesInRange journal.geometry) (sym passed_at) (batch_changes keeps p k n)
+      pub log_changes : AreChangesInRange core.journal.geometry passed
+      log_changes = subst (AreChangesInRange core.journal.geometry) (sym passed_at) (batch_changes keeps p is.core n)
 
-      pub log_carried : keeps → (x : State) → committed journal ≡ Some x → AreCarriedOut journal.geometry x passed
+      pub log_carried : keeps → (x : State) → committed core.journal ≡ Some x → AreCarriedOut core.journal.geometry x passed
       log_carried keep x at =
-          subst (λ (y : State). AreCarriedOut journal.geometry y passed) (same_Some (core_state_in p).committed x (sym (k.is_committed keep works) ∙ at))
-          (subst (AreCarriedOut journal.geometry (core_state_in p).committed) (sym passed_at) (batch_carried keeps p k n))
+          subst (λ (y : State). AreCarriedOut core.journal.geometry y passed) (same_Some (core_state_in p).committed x (sym (is.core.is_committed keep works) ∙ at))
+          (subst (AreCarriedOut core.journal.geometry (core_state_in p).committed) (sym passed_at) (batch_carried keeps p is.core n))
 
-      module _ (new : JournalView) (any : keeps → (x : State) → committed journal ≡ Some x → CrashImagesAre journal.medium new.medium (RecoversWithPrefix journal.geometry x passed)) where
-        any_at : keeps → CrashImagesAre journal.medium new.medium (RecoversWithPrefix journal.geometry (core_state_in p).committed (batch_at p n))
-        any_at keep = subst (λ (ms : List Msg). CrashImagesAre journal.medium new.medium (RecoversWithPrefix journal.geometry (core_state_in p).committed ms)) passed_at
-            (any keep (core_state_in p).committed (k.is_committed keep works))
+      module _ (new : JournalView) (any : keeps → (x : State) → committed core.journal ≡ Some x → CrashImagesAre core.journal.medium new.medium
+          (RecoversWithPrefix core.journal.geometry x passed)) where
+        any_at : keeps → CrashImagesAre core.journal.medium new.medium (RecoversWithPrefix core.journal.geometry (core_state_in p).committed (batch_at p n))
+        any_at keep = subst (λ (ms : List Msg). CrashImagesAre core.journal.medium new.medium (RecoversWithPrefix core.journal.geometry (core_state_in p).committed ms)) passed_at
+            (any keep (core_state_in p).committed (is.core.is_committed keep works))
 
         pub log_call_throughout : (now : CoreView) → now.medium ≡ new.medium → keeps → RecoversThroughout (batch_of (core_state_in p) n) (core_view_of p) now
-        log_call_throughout now same keep = log_throughout keeps p k works n unlogged new.dirty new.medium any_at now same keep
+        log_call_throughout now same keep = log_throughout keeps p is.core works n core.unlogged new.dirty new.medium any_at now same keep
 
-        pub log_untouched : (length passed ≡ 0 → new ≡ journal) → touches_device (core_state_in p) (steps.Log n) ≡ false → new.medium ≡ journal.medium
-        log_untouched same quiet = ap (λ (j : JournalView). j.medium) (same (none_passed (none_to_log journal.failed (length (batch_of (core_state_in p) n)) works quiet)))
+        pub log_untouched : (length passed ≡ 0 → new ≡ core.journal) → touches_device (core_state_in p) (steps.Log n) ≡ false → new.medium ≡ core.journal.medium
+        log_untouched same quiet = ap (λ (j : JournalView). j.medium) (same (none_passed (none_to_log core.journal.failed (length (batch_of (core_state_in p) n)) works quiet)))
 
         -- ---- the device failed
 
-        module _ (broken : new ≡ record journal { failed = true; medium = new.medium }) where
-          abbrev doubting : Parts
-          doubting = parts arena replies tree new queue messages next unlogged opened since_open
+        module _ (broken : new ≡ record core.journal { failed = true; medium = new.medium }) where
+          abbrev pub doubting : Inside D
+          doubting = record core { journal = new; batch = messages }
 
-          doubting_is : doubting ≡ with_doubt p n new.medium
+          doubting_is : parts doubting ≡ with_doubt p n new.medium
           doubting_is = λ i. record (with_doubt p n new.medium) { journal = broken i; batch = messages_are i }
 
-          doubt_sound : IsSoundCoreState journal.geometry (core_state_in (with_doubt p n new.medium))
+          doubt_sound : IsSoundCoreState core.journal.geometry (core_state_in (with_doubt p n new.medium))
           doubt_sound = record {
-            apart = k.sound.apart;
-            replied = k.sound.replied;
-            ascending = k.sound.ascending;
-            once = k.sound.once;
-            given = k.sound.given;
-            room = k.sound.room;
-            fits = k.sound.fits;
+            apart = is.core.sound.apart;
+            replied = is.core.sound.replied;
+            ascending = is.core.sound.ascending;
+            once = is.core.sound.once;
+            given = is.core.sound.given;
+            room = is.core.sound.room;
+            fits = is.core.sound.fits;
           }
 
-          pub doubt_call_core : IsCore keeps doubting
-          doubt_call_core = subst (IsCore keeps) (sym doubting_is) (doubt_core keeps p k works n unlogged new.dirty new.medium any_at doubt_sound)
+          pub doubt_call : vec_capacity messages ≡ vec_capacity core.batch → IsSoundCore keeps doubting
+          doubt_call same_capacity = record {
+            chains = is.chains;
+            core = subst (IsCore keeps) (sym doubting_is) (doubt_core keeps p is.core works n core.unlogged new.dirty new.medium any_at doubt_sound);
+            batch = subst (λ (m : ℕ). capacity_of core.slots ≤ m) (sym same_capacity) is.batch;
+            replies = is.replies;
+            ran = is.ran;
+          }
 
-          pub doubt_call_state : core_state_in doubting ≡ record (core_state_in p) { failed = true; doubt = batch_of (core_state_in p) n }
-          doubt_call_state = ap core_state_in doubting_is ∙ (λ i. record (core_state_in p) { failed = true; doubt = same_batch keeps p k n i })
+          pub doubt_call_state : core_state_in (parts doubting) ≡ record (core_state_in p) { failed = true; doubt = batch_of (core_state_in p) n }
+          doubt_call_state = ap core_state_in doubting_is ∙ (λ i. record (core_state_in p) { failed = true; doubt = same_batch keeps p is.core n i })
 
-          pub some_were_passed : (length passed ≡ 0 → new ≡ journal) → length (batch_of (core_state_in p) n) ≡ 0 → ⊥
+          pub some_were_passed : (length passed ≡ 0 → new ≡ core.journal) → length (batch_of (core_state_in p) n) ≡ 0 → ⊥
           some_were_passed same none = true≢false (sym (ap (λ (j : JournalView). j.failed) broken) ∙ ap (λ (j : JournalView). j.failed) (same (none_passed none)) ∙ works)
 
         -- ---- the messages are logged
 
-        module _ (made : new ≡ record journal { room = journal.room - length passed; dirty = new.dirty; medium = new.medium })
-            (settles : keeps → committed new ≡ option_map (λ x. state_after_all journal.geometry x passed) (committed journal)) (recovers : keeps → IsRecoverable new)
-            (moved : ArenaView Slot) (has : HasLogged count arena moved) (logged_changes : ℕ) (logged_changes_is : logged_changes ≡ changing_in arena (take count slots))
-            (first : TreeView) (first_is : first ≡ opened) (after_since : List Msg) (since_is : after_since ≡ since_open ++ messages)
-            (emptied : List Msg) (empty : emptied ≡ []) where
-          abbrev after : Parts
-          after = parts moved replies tree new queue emptied next (unlogged - logged_changes) first after_since
+        module _ (made : new ≡ record core.journal { room = core.journal.room - length passed; dirty = new.dirty; medium = new.medium })
+            (settles : keeps → committed new ≡ option_map (λ x. state_after_all core.journal.geometry x passed) (committed core.journal)) (recovers : keeps → IsRecoverable new)
+            (moved : ArenaView Slot) (has : HasLogged count core.slots moved) (logged_changes : ℕ) (logged_changes_is : logged_changes ≡ changing_in core.slots (take count slots))
+            (history : HistoryView) (history_is : history ≡ record { opened = core.history.opened; since_open = core.history.since_open ++ messages.items })
+            (emptied : Vec Msg Global) (empty : emptied.items ≡ []) where
+          abbrev pub logged : Inside D
+          logged = record core {
+            slots = moved;
+            journal = new;
+            batch = emptied;
+            unlogged = core.unlogged - logged_changes;
+            ran = core.ran - count;
+            history = history;
+          }
 
           abbrev room : ℕ
-          room = journal.room - length (batch_at p n)
+          room = core.journal.room - length (batch_at p n)
 
-          moved_places : (ys : List ℕ) → map (slot_view_at moved replies) ys ≡ map (slot_view_at arena replies) ys
-          moved_places ys = λ z. map (λ i. (i, unwrap_or (slice_index_or (has.values z) i None) no_slot, get_or replies i Done)) ys
+          moved_places : (ys : List ℕ) → map (slot_view_at moved core.replies.items) ys ≡ map (slot_view_at core.slots core.replies.items) ys
+          moved_places ys = λ z. map (λ i. (i, unwrap_or (slice_index_or (has.values z) i None) no_slot, get_or core.replies.items i Done)) ys
 
-          ran_now : slots_on moved replies 2 ≡ drop n ran_slots
-          ran_now = moved_places (chain_at moved 2) ∙ ap (map (slot_view_at arena replies)) has.ran ∙ sym (drop-map (slot_view_at arena replies) count slots) ∙ drop_is
+          ran_now : slots_on moved core.replies.items 2 ≡ drop n ran_slots
+          ran_now = moved_places (chain_at moved 2) ∙ ap (map (slot_view_at core.slots core.replies.items)) has.ran ∙ sym (drop-map (slot_view_at core.slots core.replies.items) count slots) ∙ drop_is
 
-          logged_now : slots_on moved replies 3 ≡ slots_on arena replies 3 ++ take n ran_slots
-          logged_now = moved_places (chain_at moved 3) ∙ ap (map (slot_view_at arena replies)) has.logged
-              ∙ map-append (slot_view_at arena replies) (chain_at arena 3) (take count slots)
-              ∙ ap (λ (l : List SlotView). slots_on arena replies 3 ++ l) (sym (take-map (slot_view_at arena replies) count slots) ∙ take_is)
+          logged_now : slots_on moved core.replies.items 3 ≡ slots_on core.slots core.replies.items 3 ++ take n ran_slots
+          logged_now = moved_places (chain_at moved 3) ∙ ap (map (slot_view_at core.slots core.replies.items)) has.logged
+              ∙ map-append (slot_view_at core.slots core.replies.items) (chain_at core.slots 3) (take count slots)
+              ∙ ap (λ (l : List SlotView). slots_on core.slots core.replies.items 3 ++ l) (sym (take-map (slot_view_at core.slots core.replies.items) count slots) ∙ take_is)
 
-          pub log_size : capacity_of moved ≡ capacity_of arena
+          log_size : capacity_of moved ≡ capacity_of core.slots
           log_size = ap (λ (vs : List (Option Slot)). length vs) has.values
 
-          pub log_ran : ran - count ≡ length (slots_on moved replies 2)
+          log_ran : core.ran - count ≡ length (slots_on moved core.replies.items 2)
           log_ran =
               let now = ap (λ (l : List SlotView). length l) ran_now ∙ length-drop n ran_slots in
-              let were = ran_is in
+              let were = is.ran in
               let same = min_is in
               omega (arith, now, were, same)
 
-          after_is : after ≡ with_log p n (unlogged - logged_changes) room new.dirty new.medium
-          after_is = λ i. record (with_log p n (unlogged - logged_changes) room new.dirty new.medium) {
+          after_is : parts logged ≡ with_log p n (core.unlogged - logged_changes) room new.dirty new.medium
+          after_is = λ i. record (with_log p n (core.unlogged - logged_changes) room new.dirty new.medium) {
             phases = record {
-              waiting = same_slots arena moved replies 0 has.values has.waiting i;
-              in_flight = same_slots arena moved replies 1 has.values has.in_flight i;
+              waiting = same_slots core.slots moved core.replies.items 0 has.values has.waiting i;
+              in_flight = same_slots core.slots moved core.replies.items 1 has.values has.in_flight i;
               ran = ran_now i;
               logged = logged_now i;
             };
             free = ap (λ (fs : List ℕ). length fs) has.free i;
             capacity = log_size i;
-            journal = (made ∙ (λ j. record journal { room = journal.room - length (passed_at j); dirty = new.dirty; medium = new.medium })) i;
+            journal = (made ∙ (λ j. record core.journal { room = core.journal.room - length (passed_at j); dirty = new.dirty; medium = new.medium })) i;
             batch = empty i;
-            opened = first_is i;
-            since_open = (since_is ∙ ap (λ (ms : List Msg). since_open ++ ms) messages_are) i;
+            opened = (history_is i).opened;
+            since_open = (ap (λ (h : HistoryView). h.since_open) history_is ∙ ap (λ (ms : List Msg). core.history.since_open ++ ms) messages_are) i;
           }
 
-          settles_at : keeps → committed (record journal { room = room; dirty = new.dirty; medium = new.medium })
-              ≡ Some (core_state_in (with_log p n (unlogged - logged_changes) room new.dirty new.medium)).committed
+          settles_at : keeps → committed (record core.journal { room = room; dirty = new.dirty; medium = new.medium })
+              ≡ Some (core_state_in (with_log p n (core.unlogged - logged_changes) room new.dirty new.medium)).committed
           settles_at keep =
               sym (ap committed made) ∙ settles keep
-              ∙ ap (option_map (λ x. state_after_all journal.geometry x passed)) (k.is_committed keep works)
-              ∙ ap (λ (ms : List Msg). Some (state_after_all journal.geometry (core_state_in p).committed ms)) passed_at
-              ∙ ap Some (sym (state_after_all-joined journal.geometry (state_in opened) since_open (batch_at p n)))
+              ∙ ap (option_map (λ x. state_after_all core.journal.geometry x passed)) (is.core.is_committed keep works)
+              ∙ ap (λ (ms : List Msg). Some (state_after_all core.journal.geometry (core_state_in p).committed ms)) passed_at
+              ∙ ap Some (sym (state_after_all-joined core.journal.geometry (state_in core.history.opened) core.history.since_open (batch_at p n)))
 
-          recovers_at : keeps → (c : List ℕ) → IsCrashImage new.medium c → recovered_state journal.geometry c ≡ committed (record journal { room = room; dirty = new.dirty; medium = new.medium })
+          recovers_at : keeps → (c : List ℕ) → IsCrashImage new.medium c → recovered_state core.journal.geometry c ≡ committed
+              (record core.journal { room = room; dirty = new.dirty; medium = new.medium })
           recovers_at keep c leaves = ap (λ (j : JournalView). recovered_state j.geometry c) (sym made) ∙ (recovers keep).each c leaves ∙ ap committed made
 
-          pub log_call_core : IsCore keeps after
-          log_call_core = subst (IsCore keeps) (sym after_is) (log_core keeps p k works n (unlogged - logged_changes) new.dirty new.medium
-              (unlogged_is logged_changes logged_changes_is) settles_at recovers_at)
+          pub log_call : IsPartitioned moved → length moved.chains ≡ 4 → vec_capacity emptied ≡ vec_capacity core.batch → IsSoundCore keeps logged
+          log_call partitioned four same_capacity = record {
+            chains = record { partitioned = partitioned; four = four };
+            core = subst (IsCore keeps) (sym after_is) (log_core keeps p is.core works n (core.unlogged - logged_changes) new.dirty new.medium
+                (unlogged_is logged_changes logged_changes_is) settles_at recovers_at);
+            batch = subst (λ (m : ℕ). m ≤ vec_capacity emptied) (sym log_size) (subst (λ (m : ℕ). capacity_of core.slots ≤ m) (sym same_capacity) is.batch);
+            replies = is.replies ∙ sym log_size;
+            ran = log_ran;
+          }
 
-          pub log_call_state : core_state_in after ≡ log journal.geometry (core_state_in p) n
-          log_call_state = ap core_state_in after_is ∙ log_state keeps p k works n (unlogged - logged_changes) new.dirty new.medium
+          pub log_call_state : core_state_in (parts logged) ≡ log core.journal.geometry (core_state_in p) n
+          log_call_state = ap core_state_in after_is ∙ log_state keeps p is.core works n (core.unlogged - logged_changes) new.dirty new.medium

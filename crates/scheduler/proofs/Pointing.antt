@@ -25,6 +25,8 @@ use Rattle.scheduler.proofs.Called.{cut_called, point_called}
 use Rattle.scheduler.proofs.Counting.{held_count}
 use Rattle.scheduler.proofs.Journaling.{called_sound, step_core, step_throughout, with_journal}
 use Rattle.scheduler.specs.CoreView.{RecoversThroughout}
+use Rattle.scheduler.specs.Fields.{IsSoundCore, parts}
+use Rattle.scheduler.specs.declared.core_calls.Core.TheInside.{Inside}
 use Rattle.scheduler.specs.Parts.{IsCore, Parts, entry_of, is_below, core_view_of, reached, core_state_in}
 
 -- ---- where a checkpoint may begin: no message is held, no other one is in progress, the device works
@@ -78,6 +80,11 @@ module _ (keeps : Type 0) (p : Parts) (k : IsCore keeps p) (why : point_refusal 
       ∙ ap (λ (g : Geometry). Some (tree_state g (tree_nodes p.tree))) (sym k.geometry)
 
 -- ---- a step that was made, or at which the device failed
+
+-- the step has changed the journal alone
+pub called_core : {D : Type 0} {keeps : Type 0} {core : Inside D} {new : JournalView} → IsSoundCore keeps core → IsCore keeps (record (parts core) { journal = new })
+    → IsSoundCore keeps (record core { journal = new })
+called_core is made = record { chains = is.chains; core = made; batch = is.batch; replies = is.replies; ran = is.ran }
 
 module _ (keeps : Type 0) (p : Parts) (k : IsCore keeps p) (works : p.journal.failed ≡ false) (new : JournalView)
     (any : keeps → CrashImagesAre p.journal.medium new.medium (λ c. recovered_state p.journal.geometry c ≡ committed p.journal)) where

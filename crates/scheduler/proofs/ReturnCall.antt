@@ -1,6 +1,7 @@
 -- The call that takes back the result of a job, by what its callees give.
-use Rattle.std.proofs.Common.{◌≡◌, ℕ, zero, suc, ◌+◌, ◌<◌, Bool, true, false, List, [], ◌∷◌, ◌++◌, append_assoc, map, length, get_or, slice_set, Option, Some, refl, ap, sym, subst, ◌∙◌, arith, inl, inr}
-use Rattle.std.specs.Prelude.{◌==◌, ◌||◌, ◌&&◌, not}
+use Rattle.std.proofs.Common.{◌≡◌, ℕ, zero, suc, ◌+◌, ◌<◌, Bool, true, false, List, [], ◌∷◌, ◌++◌, append_assoc, map, length, get_or, slice_set, Option, Some, refl, ap, sym, subst, ◌∙◌, arith, inl, inr, ◌≤◌}
+use Rattle.std.specs.Vec.{with_item}
+use Rattle.std.specs.Prelude.{◌==◌, ◌||◌, ◌&&◌, not, vec_capacity}
 use Rattle.std.specs.List.{AllByRecursion, Contains, concat, list_any}
 use Rattle.std.proofs.lemmas.Bool.{and_parts, eq-eqb, true≢false}
 use Rattle.std.proofs.lemmas.Bool.Decides.{eqb_tells}
@@ -12,8 +13,7 @@ use Rattle.affinity.specs.declared.geometry.Geometry.{Geometry}
 use Rattle.arena.proofs.ArenaLemmas.{chained-listed}
 use Rattle.arena.proofs.Counts.{count_of-append}
 use Rattle.arena.specs.Lists.{count_of}
-use Rattle.arena.specs.ArenaView.{IsPartitioned, ArenaView, after_move, capacity_of, chain_at}
-use Rattle.journal.specs.Journal.{JournalView}
+use Rattle.arena.specs.ArenaView.{IsPartitioned, after_move, capacity_of, chain_at}
 use Rattle.legal_runs.proofs.Apart.{apart_turned}
 use Rattle.legal_runs.proofs.Lists.{all_back, all_front, before_first}
 use Rattle.legal_runs.specs.Events.{give_back, find_in_flight}
@@ -36,10 +36,12 @@ use Rattle.scheduler.proofs.Returning.{out_is, return_core, return_state, return
 use Rattle.scheduler.proofs.Splits.{MapSplit, map_split, count_of-split}
 use Rattle.scheduler.proofs.Trees.{back_is_out}
 use Rattle.scheduler.specs.Jobs.{IsResultOf}
-use Rattle.scheduler.specs.Parts.{IsCore, IsPlaced, Parts, entry_of, parts, queued_of, core_state_in}
-use Rattle.scheduler.specs.Slots.{HasChains, SlotView, slots_on, slot_view_at}
+use Rattle.scheduler.specs.declared.core_calls.Core.TheInside.{Inside}
+use Rattle.scheduler.specs.Fields.{IsSoundCore, parts}
+use Rattle.scheduler.specs.Parts.{IsCore, IsPlaced, Parts, entry_of, queued_of, core_state_in}
+use Rattle.scheduler.specs.Slots.{SlotView, slots_on, slot_view_at}
 use Rattle.scheduler.specs.declared.slot.Slot.{Slot}
-use Rattle.run_queue.specs.RunQueue.{RunQueueView, has_number, has_slot, holds_at}
+use Rattle.run_queue.specs.RunQueue.{has_number, has_slot, holds_at}
 
 -- ---- the slot of an entry
 
@@ -182,12 +184,10 @@ module _ (keeps : Type 0) (p : Parts) (k : IsCore keeps p) (before : List SlotVi
 
 -- ---- the call
 
-module _ (keeps : Type 0) (arena : ArenaView Slot) (replies : List Reply) (tree : TreeView) (journal : JournalView) (queue : RunQueueView) (batch : List Msg) (next unlogged : ℕ)
-    (opened : TreeView) (since_open : List Msg) (is : HasChains arena)
-    (k : IsCore keeps (parts arena replies tree journal queue batch next unlogged opened since_open)) (done : Result)
-    (result : IsResultOf journal.geometry (core_state_in (parts arena replies tree journal queue batch next unlogged opened since_open)) done) where
+module _ {D : Type 0} {keeps : Type 0} (core : Inside D) (is : IsSoundCore keeps core) (done : Result)
+    (result : IsResultOf core.journal.geometry (core_state_in (parts core)) done) where
   abbrev p : Parts
-  p = parts arena replies tree journal queue batch next unlogged opened since_open
+  p = parts core
 
   recovers : Recovers (done.ticket, done.message) p.phases.in_flight
   recovers = recovers_in (done.ticket, done.message) p.phases.in_flight result.in_flight
@@ -198,84 +198,75 @@ module _ (keeps : Type 0) (arena : ArenaView Slot) (replies : List Reply) (tree 
   abbrev message_is : x.1.message ≡ done.message
   message_is = ap (λ (e : Entry). e.1) recovers.is
 
-  placed : IsPlaced journal.geometry x
-  placed = returned_is_placed keeps p k recovers.before x recovers.behind recovers.whole
+  placed : IsPlaced core.journal.geometry x
+  placed = returned_is_placed keeps p is.core recovers.before x recovers.behind recovers.whole
 
-  module _ (a : Interval) (at : IsAffinityOf journal.geometry (path_of journal.geometry done.message) a) where
+  module _ (a : Interval) (at : IsAffinityOf core.journal.geometry (path_of core.journal.geometry done.message) a) where
     number_same : a.number ≡ x.1.affinity.number
     number_same = ap (λ (i : Interval). i.number)
-        (at.interval ∙ ap (λ (m : Msg). interval journal.geometry (path_of journal.geometry m)) (sym message_is) ∙ sym placed.affinity.interval)
+        (at.interval ∙ ap (λ (m : Msg). interval core.journal.geometry (path_of core.journal.geometry m)) (sym message_is) ∙ sym placed.affinity.interval)
 
-    pub back_is_held : list_any (has_number a.number) queue.held ≡ true
-    back_is_held = ap (λ (m : ℕ). list_any (has_number m) queue.held) number_same ∙ number_is_held keeps p k recovers.before x recovers.behind recovers.whole
+    pub back_is_held : list_any (has_number a.number) core.queue.held ≡ true
+    back_is_held = ap (λ (m : ℕ). list_any (has_number m) core.queue.held) number_same ∙ number_is_held keeps p is.core recovers.before x recovers.behind recovers.whole
 
-    pub back_fits : (q : Path) → IsAffinityOf tree.geometry q a → IsKindOf q done.parcels → Fits tree.geometry q done.parcels
-    back_fits = subst (λ (h : Geometry). (q : Path) → IsAffinityOf h q a → IsKindOf q done.parcels → Fits h q done.parcels) (sym k.geometry)
+    pub back_fits : (q : Path) → IsAffinityOf core.tree.geometry q a → IsKindOf q done.parcels → Fits core.tree.geometry q done.parcels
+    back_fits = subst (λ (h : Geometry). (q : Path) → IsAffinityOf h q a → IsKindOf q done.parcels → Fits h q done.parcels) (sym is.core.geometry)
         (fits_where_lent at result.runnable)
 
-    at_tree : IsAffinityOf tree.geometry (path_of journal.geometry done.message) a
-    at_tree = subst (λ (h : Geometry). IsAffinityOf h (path_of journal.geometry done.message) a) (sym k.geometry) at
+    at_tree : IsAffinityOf core.tree.geometry (path_of core.journal.geometry done.message) a
+    at_tree = subst (λ (h : Geometry). IsAffinityOf h (path_of core.journal.geometry done.message) a) (sym is.core.geometry) at
 
-    pub back_goes_in : ((q : Path) → IsAffinityOf tree.geometry q a → IsOut q (tree_nodes tree) → IsKindOf q done.parcels → ⊥) → ⊥
-    back_goes_in refused = refused (path_of journal.geometry done.message) at_tree
-        (subst (λ (m : Msg). IsOut (path_of journal.geometry m) (tree_nodes tree)) message_is
-        (back_is_out journal.geometry (core_state_in p) k.sound (map entry_of recovers.before) (entry_of x) (map entry_of recovers.behind)
-        (out_is keeps p k recovers.before x recovers.behind recovers.whole) (tree_nodes tree) k.tree placed.affinity.path))
-        (kind_of journal.geometry (path_of journal.geometry done.message) done.parcels result.runnable.fits)
+    pub back_goes_in : ((q : Path) → IsAffinityOf core.tree.geometry q a → IsOut q (tree_nodes core.tree) → IsKindOf q done.parcels → ⊥) → ⊥
+    back_goes_in refused = refused (path_of core.journal.geometry done.message) at_tree
+        (subst (λ (m : Msg). IsOut (path_of core.journal.geometry m) (tree_nodes core.tree)) message_is
+        (back_is_out core.journal.geometry (core_state_in p) is.core.sound (map entry_of recovers.before) (entry_of x) (map entry_of recovers.behind)
+        (out_is keeps p is.core recovers.before x recovers.behind recovers.whole) (tree_nodes core.tree) is.core.tree placed.affinity.path))
+        (kind_of core.journal.geometry (path_of core.journal.geometry done.message) done.parcels result.runnable.fits)
 
-    module _ (slot : ℕ) (has : list_any (holds_at a.number slot) queue.held ≡ true) where
+    module _ (slot : ℕ) (has : list_any (holds_at a.number slot) core.queue.held ≡ true) where
       slot_is : slot ≡ x.0
-      slot_is = holder_is keeps p k recovers.before x recovers.behind recovers.whole slot (ap (λ (m : ℕ). list_any (holds_at m slot) queue.held) (sym number_same) ∙ has)
+      slot_is = holder_is keeps p is.core recovers.before x recovers.behind recovers.whole slot (ap (λ (m : ℕ). list_any (holds_at m slot) core.queue.held) (sym number_same) ∙ has)
 
-      split : MapSplit (slot_view_at arena replies) (chain_at arena 1) recovers.before x recovers.behind
-      split = map_split (slot_view_at arena replies) (chain_at arena 1) recovers.before x recovers.behind recovers.whole
+      split : MapSplit (slot_view_at core.slots core.replies.items) (chain_at core.slots 1) recovers.before x recovers.behind
+      split = map_split (slot_view_at core.slots core.replies.items) (chain_at core.slots 1) recovers.before x recovers.behind recovers.whole
 
       at_slot : split.at ≡ slot
       at_slot = ap (λ (y : SlotView). y.0) split.at_is ∙ sym slot_is
 
-      pub back_low : slot < capacity_of arena
+      pub back_low : slot < capacity_of core.slots
       back_low =
-          let some = chained-listed arena split.at 1 (subst (λ xs. 0 < count_of split.at xs) (sym split.whole) (count_of-split split.at split.front split.back)) in
-          let all = count_of-append split.at arena.free (concat arena.chains) in
-          subst (λ n. n < capacity_of arena) at_slot (is.partitioned.within split.at (omega (arith, some, all)))
+          let some = chained-listed core.slots split.at 1 (subst (λ xs. 0 < count_of split.at xs) (sym split.whole) (count_of-split split.at split.front split.back)) in
+          let all = count_of-append split.at core.slots.free (concat core.slots.chains) in
+          subst (λ n. n < capacity_of core.slots) at_slot (is.chains.partitioned.within split.at (omega (arith, some, all)))
 
-      module _ (long : length replies ≡ capacity_of arena) (reply : Reply) (reply_is : reply ≡ done.reply) (now : TreeView) (same_geometry : now.geometry ≡ tree.geometry)
-          (puts : (q : Path) → IsAffinityOf tree.geometry q a → RestoresAt tree.geometry q done.parcels (tree_nodes tree) (tree_nodes now)) where
+      module _ (reply : Reply) (reply_is : reply ≡ done.reply) (now : TreeView) (same_geometry : now.geometry ≡ core.tree.geometry)
+          (puts : (q : Path) → IsAffinityOf core.tree.geometry q a → RestoresAt core.tree.geometry q done.parcels (tree_nodes core.tree) (tree_nodes now)) where
         abbrev new_replies : List Reply
-        new_replies = slice_set replies slot reply
+        new_replies = slice_set core.replies.items slot reply
 
         abbrev y : SlotView
         y = (x.0, x.1, done.reply)
 
-        moved_slot : MovedSlot arena (after_move arena slot 2) replies new_replies 1 2 recovers.before x recovers.behind
-        moved_slot = slot_moved arena replies new_replies is 1 2 (omega arith) (λ same. omega (arith, same)) recovers.before x recovers.behind recovers.whole
-            (λ j other. get_or-set_other replies slot j reply Done (λ same. other (same ∙ slot_is))) slot slot_is
+        moved_slot : MovedSlot core.slots (after_move core.slots slot 2) core.replies.items new_replies 1 2 recovers.before x recovers.behind
+        moved_slot = slot_moved core.slots core.replies.items new_replies is.chains 1 2 (omega arith) (λ same. omega (arith, same)) recovers.before x recovers.behind recovers.whole
+            (λ j other. get_or-set_other core.replies.items slot j reply Done (λ same. other (same ∙ slot_is))) slot slot_is
 
-        there : slot < length replies
-        there = subst (λ n. slot < n) (sym long) back_low
+        there : slot < length core.replies.items
+        there = subst (λ n. slot < n) (sym is.replies) back_low
 
         reply_here : get_or new_replies x.0 Done ≡ done.reply
-        reply_here = ap (λ n. get_or new_replies n Done) (sym slot_is) ∙ get_or-set_same replies slot reply Done there ∙ reply_is
+        reply_here = ap (λ n. get_or new_replies n Done) (sym slot_is) ∙ get_or-set_same core.replies.items slot reply Done there ∙ reply_is
 
-        abbrev after : Parts
-        after = parts (after_move arena slot 2) new_replies now journal queue batch next unlogged opened since_open
+        abbrev pub returned : Inside D
+        returned = record core { slots = after_move core.slots slot 2; replies = with_item core.replies slot reply; tree = now; ran = core.ran + 1 }
 
-        joined : slots_on (after_move arena slot 2) new_replies 2 ≡ p.phases.ran ++ y ∷ []
+        joined : slots_on (after_move core.slots slot 2) new_replies 2 ≡ p.phases.ran ++ y ∷ []
         joined = moved_slot.joined ∙ (λ j. p.phases.ran ++ (x.0, x.1, reply_here j) ∷ [])
 
-        pub back_size : capacity_of (after_move arena slot 2) ≡ capacity_of arena
+        back_size : capacity_of (after_move core.slots slot 2) ≡ capacity_of core.slots
         back_size = ap (λ (vs : List (Option Slot)). length vs) moved_slot.values
 
-        pub back_long : length new_replies ≡ capacity_of (after_move arena slot 2)
-        back_long = length-set replies slot reply ∙ long ∙ sym back_size
-
-        pub back_ran : (ran : ℕ) → ran ≡ length (slots_on arena replies 2) → ran + 1 ≡ length (slots_on (after_move arena slot 2) new_replies 2)
-        back_ran ran count = let now_is = ap (λ (ps : List SlotView). length ps) joined ∙ length-append p.phases.ran (y ∷ []) in omega (arith, count, now_is)
-
-        pub back_chains : IsPartitioned (after_move arena slot 2) → HasChains (after_move arena slot 2)
-        back_chains partitioned = record { partitioned = partitioned; four = moved_slot.four ∙ is.four }
-
-        after_is : after ≡ with_return p (recovers.before ++ recovers.behind) y now
+        after_is : parts returned ≡ with_return p (recovers.before ++ recovers.behind) y now
         after_is = λ i. record (with_return p (recovers.before ++ recovers.behind) y now) {
           phases = record {
             waiting = moved_slot.stays 0 (λ same. omega (arith, same)) (λ same. omega (arith, same)) i;
@@ -287,31 +278,40 @@ module _ (keeps : Type 0) (arena : ArenaView Slot) (replies : List Reply) (tree 
           capacity = back_size i;
         }
 
-        put : RestoresAt journal.geometry (path_of journal.geometry x.1.message) done.parcels (tree_nodes tree) (tree_nodes now)
-        put = subst (λ (m : Msg). RestoresAt journal.geometry (path_of journal.geometry m) done.parcels (tree_nodes tree) (tree_nodes now)) (sym message_is)
-            (subst (λ (h : Geometry). RestoresAt h (path_of journal.geometry done.message) done.parcels (tree_nodes tree) (tree_nodes now)) k.geometry
-            (puts (path_of journal.geometry done.message) at_tree))
+        put : RestoresAt core.journal.geometry (path_of core.journal.geometry x.1.message) done.parcels (tree_nodes core.tree) (tree_nodes now)
+        put = subst (λ (m : Msg). RestoresAt core.journal.geometry (path_of core.journal.geometry m) done.parcels (tree_nodes core.tree) (tree_nodes now)) (sym message_is)
+            (subst (λ (h : Geometry). RestoresAt h (path_of core.journal.geometry done.message) done.parcels (tree_nodes core.tree) (tree_nodes now)) is.core.geometry
+            (puts (path_of core.journal.geometry done.message) at_tree))
 
-        fits : Fits journal.geometry (path_of journal.geometry x.1.message) done.parcels
-        fits = subst (λ (m : Msg). Fits journal.geometry (path_of journal.geometry m) done.parcels) (sym message_is) result.runnable.fits
+        fits : Fits core.journal.geometry (path_of core.journal.geometry x.1.message) done.parcels
+        fits = subst (λ (m : Msg). Fits core.journal.geometry (path_of core.journal.geometry m) done.parcels) (sym message_is) result.runnable.fits
 
-        shows : Shows journal.geometry (path_of journal.geometry x.1.message) result.standing done.parcels (next_state journal.geometry (core_state_in p).committed x.1.message)
-        shows = subst (λ (m : Msg). Shows journal.geometry (path_of journal.geometry m) result.standing done.parcels
-            (next_state journal.geometry (core_state_in p).committed m)) (sym message_is) result.shows
+        shows : Shows core.journal.geometry (path_of core.journal.geometry x.1.message) result.standing done.parcels (next_state core.journal.geometry (core_state_in p).committed x.1.message)
+        shows = subst (λ (m : Msg). Shows core.journal.geometry (path_of core.journal.geometry m) result.standing done.parcels
+            (next_state core.journal.geometry (core_state_in p).committed m)) (sym message_is) result.shows
 
-        reply_same : done.reply ≡ reply_to journal.geometry (core_state_in p).committed x.1.message
-        reply_same = result.reply ∙ ap (reply_to journal.geometry (core_state_in p).committed) (sym message_is)
+        reply_same : done.reply ≡ reply_to core.journal.geometry (core_state_in p).committed x.1.message
+        reply_same = result.reply ∙ ap (reply_to core.journal.geometry (core_state_in p).committed) (sym message_is)
 
-        pub back_core : IsCore keeps after
-        back_core = subst (IsCore keeps) (sym after_is)
-            (return_core keeps p k recovers.before x recovers.behind recovers.whole done.reply reply_same now (same_geometry ∙ k.geometry) result.standing done.parcels put fits shows)
+        pub back_call : IsPartitioned (after_move core.slots slot 2) → IsSoundCore keeps returned
+        back_call partitioned = record {
+          chains = record { partitioned = partitioned; four = moved_slot.four ∙ is.chains.four };
+          core = subst (IsCore keeps) (sym after_is)
+              (return_core keeps p is.core recovers.before x recovers.behind recovers.whole done.reply reply_same now (same_geometry ∙ is.core.geometry) result.standing done.parcels put fits shows);
+          batch = subst (λ (n : ℕ). n ≤ vec_capacity core.batch) (sym back_size) is.batch;
+          replies = length-set core.replies.items slot reply ∙ is.replies ∙ sym back_size;
+          ran =
+              let count = is.ran in
+              let more = ap (λ (ps : List SlotView). length ps) joined ∙ length-append p.phases.ran (y ∷ []) in
+              omega (arith, count, more);
+        }
 
         pub back_state : (found : Entry × List Entry) × (find_in_flight (core_state_in p) done.ticket ≡ Some found) × (found.0 ≡ (done.ticket, done.message))
-            × (core_state_in after ≡ give_back journal.geometry (core_state_in p) found)
+            × (core_state_in (parts returned) ≡ give_back core.journal.geometry (core_state_in p) found)
         back_state = (
           (entry_of x, map entry_of (recovers.before ++ recovers.behind)),
-          ap (find_in_flight (core_state_in p)) (sym (ap (λ (e : Entry). e.0) recovers.is)) ∙ returned_is_found keeps p k recovers.before x recovers.behind recovers.whole,
+          ap (find_in_flight (core_state_in p)) (sym (ap (λ (e : Entry). e.0) recovers.is)) ∙ returned_is_found keeps p is.core recovers.before x recovers.behind recovers.whole,
           recovers.is,
           ap core_state_in after_is
-              ∙ return_state keeps p k recovers.before x recovers.behind recovers.whole done.reply reply_same now (same_geometry ∙ k.geometry) result.standing done.parcels put fits shows,
+              ∙ return_state keeps p is.core recovers.before x recovers.behind recovers.whole done.reply reply_same now (same_geometry ∙ is.core.geometry) result.standing done.parcels put fits shows,
         )

@@ -5,5 +5,6 @@ pub mod Calls
 pub mod Opening
 pub mod Slots
 pub mod Parts
+pub mod Fields
 pub mod Moving
 pub mod History

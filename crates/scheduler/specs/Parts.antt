@@ -4,22 +4,19 @@ use Rattle.std.specs.List.{AllByRecursion, list_any}
 use Rattle.affinity.specs.Interval.{IsAffinityOf}
 use Rattle.affinity.specs.Path.{Path, is_prefix}
 use Rattle.affinity.specs.declared.geometry.Geometry.{Geometry}
-use Rattle.arena.specs.ArenaView.{ArenaView, capacity_of}
 use Rattle.journal.specs.Journal.{JournalView, committed}
 use Rattle.legal_runs.specs.Eligible.{changes, unlogged_changes}
 use Rattle.legal_runs.specs.Laws.{IsSoundCoreState}
 use Rattle.legal_runs.specs.CoreState.{Entry, Replied, CoreState, entries}
 use Rattle.messages.specs.Messages.{IsMessage, is_in_range, path_of}
 use Rattle.messages.specs.declared.Msg.{Msg}
-use Rattle.messages.specs.declared.Reply.{Reply}
 use Rattle.parcel.specs.Holding.{TreeHolds}
 use Rattle.parcel.specs.Tree.{TreeView, tree_nodes}
 use Rattle.meaning.specs.Order.{messages}
 use Rattle.meaning.specs.Serial.{state_after_all}
 use Rattle.meaning.specs.State.{State}
 use Rattle.scheduler.specs.CoreView.{CoreView, RecoversNow, core_state_of}
-use Rattle.scheduler.specs.Slots.{Phases, SlotView, phases_of}
-use Rattle.scheduler.specs.declared.slot.Slot.{Slot}
+use Rattle.scheduler.specs.Slots.{Phases, SlotView}
 use Rattle.run_queue.specs.RunQueue.{RunQueueView}
 use Rattle.run_queue.specs.declared.queued_message.QueuedMessage.{QueuedMessage}
 
@@ -57,22 +54,6 @@ pub record Parts : Type 0 where
   -- the tree when the core was opened, and the messages appended to the log since then
   pub opened : TreeView
   pub since_open : List Msg
-
--- the parts of a core with these fields
-abbrev pub parts : ArenaView Slot → List Reply → TreeView → JournalView → RunQueueView → List Msg → ℕ → ℕ → TreeView → List Msg → Parts
-parts arena replies tree journal queue batch next unlogged opened since_open = record {
-  phases = phases_of arena replies;
-  free = length arena.free;
-  capacity = capacity_of arena;
-  tree = tree;
-  journal = journal;
-  queue = queue;
-  batch = batch;
-  next = next;
-  unlogged = unlogged;
-  opened = opened;
-  since_open = since_open;
-}
 
 -- the core that is made of these parts
 abbrev pub core_view_of : Parts → CoreView

@@ -75,23 +75,15 @@ pub struct Core<D: Disk> {
 }
 
 impl<D: Disk> Model for Core<D> {
-    ghost use Rattle.std.specs.Prelude.{◌≡◌, ◌≤◌, length, vec_capacity};
-    ghost use Rattle.arena.specs.ArenaView.{capacity_of};
     ghost use Rattle.scheduler.specs.CoreView.{CoreView};
-    ghost use Rattle.scheduler.specs.Parts.{IsCore, core_view_of, parts};
-    ghost use Rattle.scheduler.specs.Slots.{HasChains, slots_on};
 
     ghost Value = { CoreView };
 
-    ghost view = { λ c. core_view_of
-        (parts c.slots c.replies.items c.tree c.journal c.queue c.batch.items c.next c.unlogged c.history.opened c.history.since_open) };
+    ghost use Rattle.scheduler.specs.Fields.{IsSoundCore, core_view};
 
-    ghost invariant = { λ c. HasChains c.slots
-        × IsCore D.keeps
-        (parts c.slots c.replies.items c.tree c.journal c.queue c.batch.items c.next c.unlogged c.history.opened c.history.since_open)
-        × (capacity_of c.slots ≤ vec_capacity c.batch)
-        × (length c.replies.items ≡ capacity_of c.slots)
-        × (c.ran ≡ length (slots_on c.slots c.replies.items 2)) };
+    ghost view = { core_view };
+
+    ghost invariant = { IsSoundCore D.keeps };
 }
 
 /// 1 where it is so, and else 0.

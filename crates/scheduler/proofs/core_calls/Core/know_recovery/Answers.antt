@@ -4,7 +4,7 @@ use Rattle.scheduler.specs.CoreView.{CoreView, RecoversNow}
 use Rattle.scheduler.proofs.core_calls.Core.know_recovery.Goals as goal
 
 pub returns-clause-no_doubt : goal.returns-clause-no_doubt
-returns-clause-no_doubt g c = subst (λ (o : CoreView). o.failed ≡ false → o.doubt ≡ []) c.self.view_is c.self.invariant.1.no_doubt
+returns-clause-no_doubt g c = subst (λ (o : CoreView). o.failed ≡ false → o.doubt ≡ []) c.self.view_is c.self.invariant.core.no_doubt
 
 pub returns-clause-now : goal.returns-clause-now
-returns-clause-now g c = λ keep. subst RecoversNow c.self.view_is (c.self.invariant.1.recovers keep)
+returns-clause-now g c = λ keep. subst RecoversNow c.self.view_is (c.self.invariant.core.recovers keep)

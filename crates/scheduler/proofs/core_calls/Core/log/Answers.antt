@@ -1,7 +1,7 @@
 -- The changes that ran fit into the log, a crash recovers a prefix of them, and then they are logged.
 use Rattle.std.proofs.Common.{◌≡◌, ℕ, ◌+◌, ◌*◌, ◌-◌, ◌≤◌, List, length, take, true, false, refl, sym, ap, subst, ◌∙◌}
-use Rattle.std.specs.Prelude.{if◌then◌else◌, vec_capacity}
-use Rattle.arena.specs.ArenaView.{capacity_of, chain_at}
+use Rattle.std.specs.Prelude.{if◌then◌else◌}
+use Rattle.arena.specs.ArenaView.{chain_at}
 use Rattle.disk.specs.Moments.{CrashImagesAre, moment_number}
 use Rattle.journal.specs.Journal.{RecoversWithPrefix}
 use Rattle.legal_runs.specs.Events.{batch, log, touches_device}
@@ -13,223 +13,143 @@ use Rattle.oplog.specs.Beyond.{KeepsBeyond}
 use Rattle.oplog.specs.Costs.{batch_count}
 use Rattle.device_map.specs.Layout.{layout_of}
 use Rattle.scheduler.proofs.Journaling.{still_standing}
-use Rattle.scheduler.proofs.LogCall.{broken_from, broken_takes, doubt_call_core, doubt_call_state, log_call_core, log_call_throughout, log_call_state, log_carried, log_count, log_fits, log_unlogged, log_length, log_changes, log_low, log_ran, log_size, log_untouched, made_from, made_takes, none_taken, some_were_passed}
+use Rattle.scheduler.proofs.LogCall.{broken_from, broken_takes, doubt_call, doubt_call_state, log_call, log_call_throughout, log_call_state, log_carried, log_count, log_fits, log_unlogged, log_length, log_changes, log_low, log_untouched, made_from, made_takes, none_taken, some_were_passed}
 use Rattle.scheduler.specs.CoreView.{CoreView, RecoversThroughout, core_state_of}
 use Rattle.scheduler.specs.Moving.{recorded_in}
-use Rattle.scheduler.specs.Parts.{core_view_of, parts, core_state_in}
+use Rattle.scheduler.specs.Fields.{core_view, parts}
+use Rattle.scheduler.specs.Parts.{core_state_in}
 use Rattle.scheduler.proofs.core_calls.Core.log.Goals as goal
 
 pub returns-then-failed-clause-any_moment : goal.returns-then-failed-clause-any_moment
 returns-then-failed-clause-any_moment g c = λ keep.
     subst (λ (o : CoreView). RecoversThroughout (batch (core_state_of o) c.args.n) o o) c.self.view_is
-    (still_standing g.D.Disk.keeps (parts c.self.inside.slots c.self.inside.replies.items c.self.inside.tree c.self.inside.journal
-    c.self.inside.queue c.self.inside.batch.items c.self.inside.next c.self.inside.unlogged c.self.inside.history.opened
-    c.self.inside.history.since_open) c.self.invariant.1 keep (batch (core_state_in
-    (parts c.self.inside.slots c.self.inside.replies.items c.self.inside.tree c.self.inside.journal c.self.inside.queue
-    c.self.inside.batch.items c.self.inside.next c.self.inside.unlogged c.self.inside.history.opened c.self.inside.history.since_open)) c.args.n)
-    (core_view_of (parts c.self.inside.slots c.self.inside.replies.items c.self.inside.tree c.self.inside.journal c.self.inside.queue
-    c.self.inside.batch.items c.self.inside.next c.self.inside.unlogged c.self.inside.history.opened c.self.inside.history.since_open)) refl)
+    (still_standing g.D.Disk.keeps (parts c.self.inside) c.self.invariant.core keep (batch (core_state_of (core_view c.self.inside)) c.args.n) (core_view c.self.inside) refl)
 
 pub log-requires : goal.log-requires
 log-requires g c = record {
   not_failed = (sym c.failed.ensures ∙ c.if-failed.false);
-  room = log_fits g.D.Disk.keeps c.self.inside.slots c.self.inside.replies.items c.self.inside.tree c.self.inside.journal c.self.inside.queue
-      c.self.inside.batch.items c.self.inside.next c.self.inside.unlogged c.self.inside.history.opened c.self.inside.history.since_open c.self.invariant.0
-      c.self.invariant.1 (sym c.failed.ensures ∙ c.if-failed.false) c.args.n c.min-count.result c.self.inside.ran c.self.invariant.4
-      c.min-count.ensures c.collect_recorded-changing_count.new.batch.items (c.collect_recorded-changing_count.ensures.batch
+  room = log_fits c.self.inside c.self.invariant (sym c.failed.ensures ∙ c.if-failed.false) c.args.n c.min-count.result c.min-count.ensures
+      c.collect_recorded-changing_count.new.batch (c.collect_recorded-changing_count.ensures.batch
       ∙ ap (λ (rs : List Reply). recorded_in c.self.inside.slots rs (take c.min-count.result (chain_at c.self.inside.slots 2))) c.deref.ensures.value)
       c.deref-2.result.now c.deref-2.ensures.value;
-  changes = log_changes g.D.Disk.keeps c.self.inside.slots c.self.inside.replies.items c.self.inside.tree c.self.inside.journal c.self.inside.queue
-      c.self.inside.batch.items c.self.inside.next c.self.inside.unlogged c.self.inside.history.opened c.self.inside.history.since_open c.self.invariant.0
-      c.self.invariant.1 (sym c.failed.ensures ∙ c.if-failed.false) c.args.n c.min-count.result c.self.inside.ran c.self.invariant.4
-      c.min-count.ensures c.collect_recorded-changing_count.new.batch.items (c.collect_recorded-changing_count.ensures.batch
+  changes = log_changes c.self.inside c.self.invariant (sym c.failed.ensures ∙ c.if-failed.false) c.args.n c.min-count.result c.min-count.ensures
+      c.collect_recorded-changing_count.new.batch (c.collect_recorded-changing_count.ensures.batch
       ∙ ap (λ (rs : List Reply). recorded_in c.self.inside.slots rs (take c.min-count.result (chain_at c.self.inside.slots 2))) c.deref.ensures.value)
       c.deref-2.result.now c.deref-2.ensures.value;
-  carried_out = log_carried g.D.Disk.keeps c.self.inside.slots c.self.inside.replies.items c.self.inside.tree c.self.inside.journal
-      c.self.inside.queue c.self.inside.batch.items c.self.inside.next c.self.inside.unlogged c.self.inside.history.opened c.self.inside.history.since_open
-      c.self.invariant.0 c.self.invariant.1 (sym c.failed.ensures ∙ c.if-failed.false) c.args.n c.min-count.result c.self.inside.ran
-      c.self.invariant.4 c.min-count.ensures c.collect_recorded-changing_count.new.batch.items
-      (c.collect_recorded-changing_count.ensures.batch ∙ ap (λ (rs : List Reply). recorded_in c.self.inside.slots rs
-      (take c.min-count.result (chain_at c.self.inside.slots 2))) c.deref.ensures.value) c.deref-2.result.now c.deref-2.ensures.value;
+  carried_out = log_carried c.self.inside c.self.invariant (sym c.failed.ensures ∙ c.if-failed.false) c.args.n c.min-count.result c.min-count.ensures
+      c.collect_recorded-changing_count.new.batch (c.collect_recorded-changing_count.ensures.batch
+      ∙ ap (λ (rs : List Reply). recorded_in c.self.inside.slots rs (take c.min-count.result (chain_at c.self.inside.slots 2))) c.deref.ensures.value)
+      c.deref-2.result.now c.deref-2.ensures.value;
 }
 
 pub invariant_of-self : goal.invariant_of-self
-invariant_of-self g c = (
-  c.self.invariant.0,
-  doubt_call_core g.D.Disk.keeps c.self.inside.slots c.self.inside.replies.items c.self.inside.tree c.self.inside.journal c.self.inside.queue
-      c.self.inside.batch.items c.self.inside.next c.self.inside.unlogged c.self.inside.history.opened c.self.inside.history.since_open c.self.invariant.0
-      c.self.invariant.1 (sym c.failed.ensures ∙ c.if-failed.false) c.args.n c.min-count.result c.self.inside.ran c.self.invariant.4
-      c.min-count.ensures c.collect_recorded-changing_count.new.batch.items (c.collect_recorded-changing_count.ensures.batch
-      ∙ ap (λ (rs : List Reply). recorded_in c.self.inside.slots rs (take c.min-count.result (chain_at c.self.inside.slots 2))) c.deref.ensures.value)
-      c.deref-2.result.now c.deref-2.ensures.value c.log.new.self c.log.ensures.any_moment
-      (broken_from c.log.result _ c.self.inside.journal c.log.new.self (sym c.is_err.ensures.value ∙ c.if-is_err.true) c.log.ensures.after),
-  subst (λ (n : ℕ). capacity_of c.self.inside.slots ≤ n) (sym c.collect_recorded-changing_count.ensures.capacity) c.self.invariant.2,
-  c.self.invariant.3,
-  c.self.invariant.4,
-)
+invariant_of-self g c =
+    doubt_call c.self.inside c.self.invariant (sym c.failed.ensures ∙ c.if-failed.false) c.args.n c.min-count.result c.min-count.ensures
+    c.collect_recorded-changing_count.new.batch (c.collect_recorded-changing_count.ensures.batch
+    ∙ ap (λ (rs : List Reply). recorded_in c.self.inside.slots rs (take c.min-count.result (chain_at c.self.inside.slots 2))) c.deref.ensures.value)
+    c.deref-2.result.now c.deref-2.ensures.value c.log.new.self c.log.ensures.any_moment
+    (broken_from c.log.result _ c.self.inside.journal c.log.new.self (sym c.is_err.ensures.value ∙ c.if-is_err.true) c.log.ensures.after)
+    c.collect_recorded-changing_count.ensures.capacity
 
 pub returns-then-is_err-clause-state_after : goal.returns-then-is_err-clause-state_after
 returns-then-is_err-clause-state_after g c =
     subst (λ (o : CoreView). (o.failed ≡ false) × (length (batch (core_state_of o) c.args.n) ≡ 0 → ⊥)
-    × (core_state_in (parts c.self.inside.slots c.self.inside.replies.items c.self.inside.tree c.log.new.self c.self.inside.queue
-    c.collect_recorded-changing_count.new.batch.items c.self.inside.next c.self.inside.unlogged c.self.inside.history.opened
-    c.self.inside.history.since_open) ≡ record (core_state_of o) { failed = true; doubt = batch (core_state_of o) c.args.n })) c.self.view_is (
+    × (core_state_in (parts (record c.self.inside { journal = c.log.new.self; batch = c.collect_recorded-changing_count.new.batch }))
+    ≡ record (core_state_of o) { failed = true; doubt = batch (core_state_of o) c.args.n })) c.self.view_is (
       (sym c.failed.ensures ∙ c.if-failed.false),
-      some_were_passed g.D.Disk.keeps c.self.inside.slots c.self.inside.replies.items c.self.inside.tree c.self.inside.journal c.self.inside.queue
-          c.self.inside.batch.items c.self.inside.next c.self.inside.unlogged c.self.inside.history.opened c.self.inside.history.since_open
-          c.self.invariant.0 c.self.invariant.1 (sym c.failed.ensures ∙ c.if-failed.false) c.args.n c.min-count.result c.self.inside.ran
-          c.self.invariant.4 c.min-count.ensures c.collect_recorded-changing_count.new.batch.items
-          (c.collect_recorded-changing_count.ensures.batch ∙ ap (λ (rs : List Reply). recorded_in c.self.inside.slots rs
-          (take c.min-count.result (chain_at c.self.inside.slots 2))) c.deref.ensures.value) c.deref-2.result.now c.deref-2.ensures.value
-          c.log.new.self c.log.ensures.any_moment (broken_from c.log.result _ c.self.inside.journal c.log.new.self
-          (sym c.is_err.ensures.value ∙ c.if-is_err.true) c.log.ensures.after) c.log.ensures.none,
-      doubt_call_state g.D.Disk.keeps c.self.inside.slots c.self.inside.replies.items c.self.inside.tree c.self.inside.journal c.self.inside.queue
-          c.self.inside.batch.items c.self.inside.next c.self.inside.unlogged c.self.inside.history.opened c.self.inside.history.since_open
-          c.self.invariant.0 c.self.invariant.1 (sym c.failed.ensures ∙ c.if-failed.false) c.args.n c.min-count.result c.self.inside.ran
-          c.self.invariant.4 c.min-count.ensures c.collect_recorded-changing_count.new.batch.items
-          (c.collect_recorded-changing_count.ensures.batch ∙ ap (λ (rs : List Reply). recorded_in c.self.inside.slots rs
-          (take c.min-count.result (chain_at c.self.inside.slots 2))) c.deref.ensures.value) c.deref-2.result.now c.deref-2.ensures.value
-          c.log.new.self c.log.ensures.any_moment (broken_from c.log.result _ c.self.inside.journal c.log.new.self
-          (sym c.is_err.ensures.value ∙ c.if-is_err.true) c.log.ensures.after),
+      some_were_passed c.self.inside c.self.invariant (sym c.failed.ensures ∙ c.if-failed.false) c.args.n c.min-count.result c.min-count.ensures
+          c.collect_recorded-changing_count.new.batch (c.collect_recorded-changing_count.ensures.batch
+          ∙ ap (λ (rs : List Reply). recorded_in c.self.inside.slots rs (take c.min-count.result (chain_at c.self.inside.slots 2))) c.deref.ensures.value)
+          c.deref-2.result.now c.deref-2.ensures.value c.log.new.self c.log.ensures.any_moment
+          (broken_from c.log.result _ c.self.inside.journal c.log.new.self (sym c.is_err.ensures.value ∙ c.if-is_err.true) c.log.ensures.after) c.log.ensures.none,
+      doubt_call_state c.self.inside c.self.invariant (sym c.failed.ensures ∙ c.if-failed.false) c.args.n c.min-count.result c.min-count.ensures
+          c.collect_recorded-changing_count.new.batch (c.collect_recorded-changing_count.ensures.batch
+          ∙ ap (λ (rs : List Reply). recorded_in c.self.inside.slots rs (take c.min-count.result (chain_at c.self.inside.slots 2))) c.deref.ensures.value)
+          c.deref-2.result.now c.deref-2.ensures.value c.log.new.self c.log.ensures.any_moment
+          (broken_from c.log.result _ c.self.inside.journal c.log.new.self (sym c.is_err.ensures.value ∙ c.if-is_err.true) c.log.ensures.after),
     )
 
 pub returns-then-is_err-clause-any_moment : goal.returns-then-is_err-clause-any_moment
 returns-then-is_err-clause-any_moment g c = λ keep.
     subst (λ (o : CoreView). CrashImagesAre o.medium c.log.new.self.medium
     (RecoversWithPrefix o.geometry (core_state_of o).committed (if o.failed then o.doubt else batch (core_state_of o) c.args.n))) c.self.view_is
-    (log_call_throughout g.D.Disk.keeps c.self.inside.slots c.self.inside.replies.items c.self.inside.tree c.self.inside.journal c.self.inside.queue
-    c.self.inside.batch.items c.self.inside.next c.self.inside.unlogged c.self.inside.history.opened c.self.inside.history.since_open
-    c.self.invariant.0 c.self.invariant.1 (sym c.failed.ensures ∙ c.if-failed.false) c.args.n c.min-count.result c.self.inside.ran
-    c.self.invariant.4 c.min-count.ensures c.collect_recorded-changing_count.new.batch.items
-    (c.collect_recorded-changing_count.ensures.batch ∙ ap (λ (rs : List Reply). recorded_in c.self.inside.slots rs
-    (take c.min-count.result (chain_at c.self.inside.slots 2))) c.deref.ensures.value) c.deref-2.result.now c.deref-2.ensures.value
-    c.log.new.self c.log.ensures.any_moment (core_view_of (parts c.self.inside.slots c.self.inside.replies.items c.self.inside.tree c.log.new.self
-    c.self.inside.queue c.collect_recorded-changing_count.new.batch.items c.self.inside.next c.self.inside.unlogged c.self.inside.history.opened
-    c.self.inside.history.since_open)) refl keep)
+    (log_call_throughout c.self.inside c.self.invariant (sym c.failed.ensures ∙ c.if-failed.false) c.args.n c.min-count.result c.min-count.ensures
+    c.collect_recorded-changing_count.new.batch (c.collect_recorded-changing_count.ensures.batch
+    ∙ ap (λ (rs : List Reply). recorded_in c.self.inside.slots rs (take c.min-count.result (chain_at c.self.inside.slots 2))) c.deref.ensures.value)
+    c.deref-2.result.now c.deref-2.ensures.value c.log.new.self c.log.ensures.any_moment
+    (core_view (record c.self.inside { journal = c.log.new.self })) refl keep)
 
 pub returns-then-is_err-clause-untouched : goal.returns-then-is_err-clause-untouched
-returns-then-is_err-clause-untouched g c = subst (λ (o : CoreView). touches_device (core_state_of o) (steps.Log c.args.n) ≡ false
-    → c.log.new.self.medium ≡ o.medium) c.self.view_is (log_untouched g.D.Disk.keeps c.self.inside.slots c.self.inside.replies.items
-    c.self.inside.tree c.self.inside.journal c.self.inside.queue c.self.inside.batch.items c.self.inside.next c.self.inside.unlogged
-    c.self.inside.history.opened c.self.inside.history.since_open c.self.invariant.0 c.self.invariant.1 (sym c.failed.ensures ∙ c.if-failed.false)
-    c.args.n c.min-count.result c.self.inside.ran c.self.invariant.4 c.min-count.ensures c.collect_recorded-changing_count.new.batch.items
-    (c.collect_recorded-changing_count.ensures.batch ∙ ap (λ (rs : List Reply). recorded_in c.self.inside.slots rs
-    (take c.min-count.result (chain_at c.self.inside.slots 2))) c.deref.ensures.value) c.deref-2.result.now c.deref-2.ensures.value c.log.new.self
-    c.log.ensures.any_moment c.log.ensures.none)
+returns-then-is_err-clause-untouched g c =
+    subst (λ (o : CoreView). touches_device (core_state_of o) (steps.Log c.args.n) ≡ false → c.log.new.self.medium ≡ o.medium) c.self.view_is
+    (log_untouched c.self.inside c.self.invariant (sym c.failed.ensures ∙ c.if-failed.false) c.args.n c.min-count.result c.min-count.ensures
+    c.collect_recorded-changing_count.new.batch (c.collect_recorded-changing_count.ensures.batch
+    ∙ ap (λ (rs : List Reply). recorded_in c.self.inside.slots rs (take c.min-count.result (chain_at c.self.inside.slots 2))) c.deref.ensures.value)
+    c.deref-2.result.now c.deref-2.ensures.value c.log.new.self c.log.ensures.any_moment c.log.ensures.none)
 
 pub move_ran-requires : goal.move_ran-requires
 move_ran-requires g c = record {
-  chains = c.self.invariant.0;
-  count = log_low g.D.Disk.keeps c.self.inside.slots c.self.inside.replies.items
-      c.self.inside.tree c.self.inside.journal c.self.inside.queue c.self.inside.batch.items c.self.inside.next c.self.inside.unlogged
-      c.self.inside.history.opened c.self.inside.history.since_open c.self.invariant.0 c.self.invariant.1 (sym c.failed.ensures ∙ c.if-failed.false)
-      c.args.n c.min-count.result c.self.inside.ran c.self.invariant.4 c.min-count.ensures;
+  chains = c.self.invariant.chains;
+  count = log_low c.self.inside c.self.invariant (sym c.failed.ensures ∙ c.if-failed.false) c.args.n c.min-count.result c.min-count.ensures;
 }
 
 pub overflow_sub-self : goal.overflow_sub-self
-overflow_sub-self g c = log_unlogged g.D.Disk.keeps c.self.inside.slots c.self.inside.replies.items c.self.inside.tree c.self.inside.journal
-    c.self.inside.queue c.self.inside.batch.items c.self.inside.next c.self.inside.unlogged c.self.inside.history.opened c.self.inside.history.since_open
-    c.self.invariant.0 c.self.invariant.1 (sym c.failed.ensures ∙ c.if-failed.false) c.args.n c.min-count.result c.self.inside.ran
-    c.self.invariant.4 c.min-count.ensures c.collect_recorded-changing_count.result c.collect_recorded-changing_count.ensures.changing
+overflow_sub-self g c = log_unlogged c.self.inside c.self.invariant (sym c.failed.ensures ∙ c.if-failed.false) c.args.n c.min-count.result c.min-count.ensures
+    c.collect_recorded-changing_count.result c.collect_recorded-changing_count.ensures.changing
 
 pub invariant_of-self-2 : goal.invariant_of-self-2
-invariant_of-self-2 g c = (
-  c.move_ran.ensures.chains,
-  log_call_core g.D.Disk.keeps c.self.inside.slots c.self.inside.replies.items c.self.inside.tree c.self.inside.journal c.self.inside.queue
-      c.self.inside.batch.items c.self.inside.next c.self.inside.unlogged c.self.inside.history.opened c.self.inside.history.since_open c.self.invariant.0
-      c.self.invariant.1 (sym c.failed.ensures ∙ c.if-failed.false) c.args.n c.min-count.result c.self.inside.ran c.self.invariant.4
-      c.min-count.ensures c.collect_recorded-changing_count.new.batch.items (c.collect_recorded-changing_count.ensures.batch
-      ∙ ap (λ (rs : List Reply). recorded_in c.self.inside.slots rs (take c.min-count.result (chain_at c.self.inside.slots 2))) c.deref.ensures.value)
-      c.deref-2.result.now c.deref-2.ensures.value c.log.new.self c.log.ensures.any_moment
-      (made_from c.log.result _ c.self.inside.journal c.log.new.self (sym c.is_err.ensures.value ∙ c.if-is_err.false) c.log.ensures.after)
-      (on_ok c.log.result _ (sym c.is_err.ensures.value ∙ c.if-is_err.false) c.log.ensures.committed)
-      (on_ok c.log.result _ (sym c.is_err.ensures.value ∙ c.if-is_err.false) c.log.ensures.recoverable) c.move_ran.new.slots c.move_ran.ensures
-      c.collect_recorded-changing_count.result c.collect_recorded-changing_count.ensures.changing c.note.new.self.opened (λ i. (c.note.ensures i).opened)
-      c.note.new.self.since_open (λ i. (c.note.ensures i).since_open) c.clear.new.self.items c.clear.ensures.items,
-  subst (λ (n : ℕ). n ≤ vec_capacity c.clear.new.self) (sym (log_size g.D.Disk.keeps c.self.inside.slots c.self.inside.replies.items
-      c.self.inside.tree c.self.inside.journal c.self.inside.queue c.self.inside.batch.items c.self.inside.next c.self.inside.unlogged
-      c.self.inside.history.opened c.self.inside.history.since_open c.self.invariant.0 c.self.invariant.1 (sym c.failed.ensures ∙ c.if-failed.false)
-      c.args.n c.min-count.result c.self.inside.ran c.self.invariant.4 c.min-count.ensures c.collect_recorded-changing_count.new.batch.items
-      (c.collect_recorded-changing_count.ensures.batch ∙ ap (λ (rs : List Reply). recorded_in c.self.inside.slots rs
-      (take c.min-count.result (chain_at c.self.inside.slots 2))) c.deref.ensures.value) c.deref-2.result.now c.deref-2.ensures.value c.log.new.self
-      c.log.ensures.any_moment (made_from c.log.result _ c.self.inside.journal c.log.new.self (sym c.is_err.ensures.value ∙ c.if-is_err.false)
-      c.log.ensures.after) (on_ok c.log.result _ (sym c.is_err.ensures.value ∙ c.if-is_err.false) c.log.ensures.committed)
-      (on_ok c.log.result _ (sym c.is_err.ensures.value ∙ c.if-is_err.false) c.log.ensures.recoverable) c.move_ran.new.slots c.move_ran.ensures
-      c.collect_recorded-changing_count.result c.collect_recorded-changing_count.ensures.changing c.note.new.self.opened (λ i. (c.note.ensures i).opened)
-      c.note.new.self.since_open (λ i. (c.note.ensures i).since_open) c.clear.new.self.items c.clear.ensures.items))
-      (subst (λ (n : ℕ). capacity_of c.self.inside.slots ≤ n) (sym (c.clear.ensures.capacity ∙ c.collect_recorded-changing_count.ensures.capacity)) c.self.invariant.2),
-  c.self.invariant.3 ∙ sym (log_size g.D.Disk.keeps c.self.inside.slots c.self.inside.replies.items c.self.inside.tree c.self.inside.journal
-      c.self.inside.queue c.self.inside.batch.items c.self.inside.next c.self.inside.unlogged c.self.inside.history.opened c.self.inside.history.since_open
-      c.self.invariant.0 c.self.invariant.1 (sym c.failed.ensures ∙ c.if-failed.false) c.args.n c.min-count.result c.self.inside.ran
-      c.self.invariant.4 c.min-count.ensures c.collect_recorded-changing_count.new.batch.items
-      (c.collect_recorded-changing_count.ensures.batch ∙ ap (λ (rs : List Reply). recorded_in c.self.inside.slots rs
-      (take c.min-count.result (chain_at c.self.inside.slots 2))) c.deref.ensures.value) c.deref-2.result.now c.deref-2.ensures.value c.log.new.self
-      c.log.ensures.any_moment (made_from c.log.result _ c.self.inside.journal c.log.new.self (sym c.is_err.ensures.value ∙ c.if-is_err.false)
-      c.log.ensures.after) (on_ok c.log.result _ (sym c.is_err.ensures.value ∙ c.if-is_err.false) c.log.ensures.committed)
-      (on_ok c.log.result _ (sym c.is_err.ensures.value ∙ c.if-is_err.false) c.log.ensures.recoverable) c.move_ran.new.slots c.move_ran.ensures
-      c.collect_recorded-changing_count.result c.collect_recorded-changing_count.ensures.changing c.note.new.self.opened (λ i. (c.note.ensures i).opened)
-      c.note.new.self.since_open (λ i. (c.note.ensures i).since_open) c.clear.new.self.items c.clear.ensures.items),
-  log_ran g.D.Disk.keeps c.self.inside.slots c.self.inside.replies.items c.self.inside.tree c.self.inside.journal c.self.inside.queue
-      c.self.inside.batch.items c.self.inside.next c.self.inside.unlogged c.self.inside.history.opened c.self.inside.history.since_open c.self.invariant.0
-      c.self.invariant.1 (sym c.failed.ensures ∙ c.if-failed.false) c.args.n c.min-count.result c.self.inside.ran c.self.invariant.4
-      c.min-count.ensures c.collect_recorded-changing_count.new.batch.items (c.collect_recorded-changing_count.ensures.batch
-      ∙ ap (λ (rs : List Reply). recorded_in c.self.inside.slots rs (take c.min-count.result (chain_at c.self.inside.slots 2))) c.deref.ensures.value)
-      c.deref-2.result.now c.deref-2.ensures.value c.log.new.self c.log.ensures.any_moment
-      (made_from c.log.result _ c.self.inside.journal c.log.new.self (sym c.is_err.ensures.value ∙ c.if-is_err.false) c.log.ensures.after)
-      (on_ok c.log.result _ (sym c.is_err.ensures.value ∙ c.if-is_err.false) c.log.ensures.committed)
-      (on_ok c.log.result _ (sym c.is_err.ensures.value ∙ c.if-is_err.false) c.log.ensures.recoverable) c.move_ran.new.slots c.move_ran.ensures
-      c.collect_recorded-changing_count.result c.collect_recorded-changing_count.ensures.changing c.note.new.self.opened (λ i. (c.note.ensures i).opened)
-      c.note.new.self.since_open (λ i. (c.note.ensures i).since_open) c.clear.new.self.items c.clear.ensures.items,
-)
+invariant_of-self-2 g c =
+    log_call c.self.inside c.self.invariant (sym c.failed.ensures ∙ c.if-failed.false) c.args.n c.min-count.result c.min-count.ensures
+    c.collect_recorded-changing_count.new.batch (c.collect_recorded-changing_count.ensures.batch
+    ∙ ap (λ (rs : List Reply). recorded_in c.self.inside.slots rs (take c.min-count.result (chain_at c.self.inside.slots 2))) c.deref.ensures.value)
+    c.deref-2.result.now c.deref-2.ensures.value c.log.new.self c.log.ensures.any_moment
+    (made_from c.log.result _ c.self.inside.journal c.log.new.self (sym c.is_err.ensures.value ∙ c.if-is_err.false) c.log.ensures.after)
+    (on_ok c.log.result _ (sym c.is_err.ensures.value ∙ c.if-is_err.false) c.log.ensures.committed)
+    (on_ok c.log.result _ (sym c.is_err.ensures.value ∙ c.if-is_err.false) c.log.ensures.recoverable) c.move_ran.new.slots c.move_ran.ensures
+    c.collect_recorded-changing_count.result c.collect_recorded-changing_count.ensures.changing c.note.new.self c.note.ensures
+    c.clear.new.self c.clear.ensures.items
+    c.move_ran.ensures.chains.partitioned c.move_ran.ensures.chains.four (c.clear.ensures.capacity ∙ c.collect_recorded-changing_count.ensures.capacity)
 
 pub returns-clause-state_after : goal.returns-clause-state_after
 returns-clause-state_after g c =
     subst (λ (o : CoreView). (o.failed ≡ false) × (c.min-count.result ≡ length (take c.args.n o.ran))
-    × (core_state_in (parts c.move_ran.new.slots c.self.inside.replies.items c.self.inside.tree c.log.new.self c.self.inside.queue
-    c.clear.new.self.items c.self.inside.next (c.self.inside.unlogged - c.collect_recorded-changing_count.result) c.note.new.self.opened
-    c.note.new.self.since_open) ≡ log o.geometry (core_state_of o) c.args.n)) c.self.view_is (
+    × (core_state_in (parts (record c.self.inside {
+      slots = c.move_ran.new.slots;
+      journal = c.log.new.self;
+      batch = c.clear.new.self;
+      unlogged = c.self.inside.unlogged - c.collect_recorded-changing_count.result;
+      history = c.note.new.self;
+    })) ≡ log o.geometry (core_state_of o) c.args.n)) c.self.view_is (
       (sym c.failed.ensures ∙ c.if-failed.false),
-      log_count g.D.Disk.keeps c.self.inside.slots c.self.inside.replies.items c.self.inside.tree c.self.inside.journal c.self.inside.queue
-          c.self.inside.batch.items c.self.inside.next c.self.inside.unlogged c.self.inside.history.opened c.self.inside.history.since_open
-          c.self.invariant.0 c.self.invariant.1 (sym c.failed.ensures ∙ c.if-failed.false) c.args.n c.min-count.result c.self.inside.ran
-          c.self.invariant.4 c.min-count.ensures,
-      log_call_state g.D.Disk.keeps c.self.inside.slots c.self.inside.replies.items c.self.inside.tree c.self.inside.journal c.self.inside.queue
-          c.self.inside.batch.items c.self.inside.next c.self.inside.unlogged c.self.inside.history.opened c.self.inside.history.since_open
-          c.self.invariant.0 c.self.invariant.1 (sym c.failed.ensures ∙ c.if-failed.false) c.args.n c.min-count.result c.self.inside.ran
-          c.self.invariant.4 c.min-count.ensures c.collect_recorded-changing_count.new.batch.items
-          (c.collect_recorded-changing_count.ensures.batch ∙ ap (λ (rs : List Reply). recorded_in c.self.inside.slots rs
-          (take c.min-count.result (chain_at c.self.inside.slots 2))) c.deref.ensures.value) c.deref-2.result.now c.deref-2.ensures.value
-          c.log.new.self c.log.ensures.any_moment (made_from c.log.result _ c.self.inside.journal c.log.new.self
-          (sym c.is_err.ensures.value ∙ c.if-is_err.false) c.log.ensures.after)
+      log_count c.self.inside c.self.invariant (sym c.failed.ensures ∙ c.if-failed.false) c.args.n c.min-count.result c.min-count.ensures,
+      log_call_state c.self.inside c.self.invariant (sym c.failed.ensures ∙ c.if-failed.false) c.args.n c.min-count.result c.min-count.ensures
+          c.collect_recorded-changing_count.new.batch (c.collect_recorded-changing_count.ensures.batch
+          ∙ ap (λ (rs : List Reply). recorded_in c.self.inside.slots rs (take c.min-count.result (chain_at c.self.inside.slots 2))) c.deref.ensures.value)
+          c.deref-2.result.now c.deref-2.ensures.value c.log.new.self c.log.ensures.any_moment
+          (made_from c.log.result _ c.self.inside.journal c.log.new.self (sym c.is_err.ensures.value ∙ c.if-is_err.false) c.log.ensures.after)
           (on_ok c.log.result _ (sym c.is_err.ensures.value ∙ c.if-is_err.false) c.log.ensures.committed)
           (on_ok c.log.result _ (sym c.is_err.ensures.value ∙ c.if-is_err.false) c.log.ensures.recoverable) c.move_ran.new.slots c.move_ran.ensures
-          c.collect_recorded-changing_count.result c.collect_recorded-changing_count.ensures.changing c.note.new.self.opened (λ i. (c.note.ensures i).opened)
-          c.note.new.self.since_open (λ i. (c.note.ensures i).since_open) c.clear.new.self.items c.clear.ensures.items,
+          c.collect_recorded-changing_count.result c.collect_recorded-changing_count.ensures.changing c.note.new.self c.note.ensures
+          c.clear.new.self c.clear.ensures.items,
     )
 
 pub returns-clause-any_moment : goal.returns-clause-any_moment
 returns-clause-any_moment g c = λ keep.
     subst (λ (o : CoreView). CrashImagesAre o.medium c.log.new.self.medium
     (RecoversWithPrefix o.geometry (core_state_of o).committed (if o.failed then o.doubt else batch (core_state_of o) c.args.n))) c.self.view_is
-    (log_call_throughout g.D.Disk.keeps c.self.inside.slots c.self.inside.replies.items c.self.inside.tree c.self.inside.journal c.self.inside.queue
-    c.self.inside.batch.items c.self.inside.next c.self.inside.unlogged c.self.inside.history.opened c.self.inside.history.since_open
-    c.self.invariant.0 c.self.invariant.1 (sym c.failed.ensures ∙ c.if-failed.false) c.args.n c.min-count.result c.self.inside.ran
-    c.self.invariant.4 c.min-count.ensures c.collect_recorded-changing_count.new.batch.items
-    (c.collect_recorded-changing_count.ensures.batch ∙ ap (λ (rs : List Reply). recorded_in c.self.inside.slots rs
-    (take c.min-count.result (chain_at c.self.inside.slots 2))) c.deref.ensures.value) c.deref-2.result.now c.deref-2.ensures.value
-    c.log.new.self c.log.ensures.any_moment (core_view_of (parts c.move_ran.new.slots c.self.inside.replies.items c.self.inside.tree c.log.new.self
-    c.self.inside.queue c.clear.new.self.items c.self.inside.next (c.self.inside.unlogged - c.collect_recorded-changing_count.result)
-    c.note.new.self.opened c.note.new.self.since_open)) refl keep)
+    (log_call_throughout c.self.inside c.self.invariant (sym c.failed.ensures ∙ c.if-failed.false) c.args.n c.min-count.result c.min-count.ensures
+    c.collect_recorded-changing_count.new.batch (c.collect_recorded-changing_count.ensures.batch
+    ∙ ap (λ (rs : List Reply). recorded_in c.self.inside.slots rs (take c.min-count.result (chain_at c.self.inside.slots 2))) c.deref.ensures.value)
+    c.deref-2.result.now c.deref-2.ensures.value c.log.new.self c.log.ensures.any_moment
+    (core_view (record c.self.inside { journal = c.log.new.self })) refl keep)
 
 pub returns-clause-untouched : goal.returns-clause-untouched
-returns-clause-untouched g c = subst (λ (o : CoreView). touches_device (core_state_of o) (steps.Log c.args.n) ≡ false → c.log.new.self.medium
-    ≡ o.medium) c.self.view_is (log_untouched g.D.Disk.keeps c.self.inside.slots c.self.inside.replies.items c.self.inside.tree
-    c.self.inside.journal c.self.inside.queue c.self.inside.batch.items c.self.inside.next c.self.inside.unlogged c.self.inside.history.opened
-    c.self.inside.history.since_open c.self.invariant.0 c.self.invariant.1 (sym c.failed.ensures ∙ c.if-failed.false) c.args.n c.min-count.result
-    c.self.inside.ran c.self.invariant.4 c.min-count.ensures c.collect_recorded-changing_count.new.batch.items
-    (c.collect_recorded-changing_count.ensures.batch ∙ ap (λ (rs : List Reply). recorded_in c.self.inside.slots rs
-    (take c.min-count.result (chain_at c.self.inside.slots 2))) c.deref.ensures.value) c.deref-2.result.now c.deref-2.ensures.value c.log.new.self
-    c.log.ensures.any_moment c.log.ensures.none)
+returns-clause-untouched g c =
+    subst (λ (o : CoreView). touches_device (core_state_of o) (steps.Log c.args.n) ≡ false → c.log.new.self.medium ≡ o.medium) c.self.view_is
+    (log_untouched c.self.inside c.self.invariant (sym c.failed.ensures ∙ c.if-failed.false) c.args.n c.min-count.result c.min-count.ensures
+    c.collect_recorded-changing_count.new.batch (c.collect_recorded-changing_count.ensures.batch
+    ∙ ap (λ (rs : List Reply). recorded_in c.self.inside.slots rs (take c.min-count.result (chain_at c.self.inside.slots 2))) c.deref.ensures.value)
+    c.deref-2.result.now c.deref-2.ensures.value c.log.new.self c.log.ensures.any_moment c.log.ensures.none)
 
 pub returns-then-failed-clause-beyond : goal.returns-then-failed-clause-beyond
 returns-then-failed-clause-beyond g c = λ keep. beyond_none (layout_of c.args.self.now.geometry) c.args.self.now.medium
@@ -249,22 +169,18 @@ pub returns-then-is_err-clause-costs : goal.returns-then-is_err-clause-costs
 returns-then-is_err-clause-costs g c = λ keep.
     subst (λ (o : CoreView). moment_number c.log.new.self.medium ≤ moment_number o.medium + 4 * batch_count (length (batch (core_state_of o) c.args.n))) c.self.view_is
     (subst (λ (m : ℕ). moment_number c.log.new.self.medium ≤ moment_number c.self.inside.journal.medium + 4 * batch_count m)
-    (log_length g.D.Disk.keeps c.self.inside.slots c.self.inside.replies.items c.self.inside.tree c.self.inside.journal c.self.inside.queue
-    c.self.inside.batch.items c.self.inside.next c.self.inside.unlogged c.self.inside.history.opened c.self.inside.history.since_open
-    c.self.invariant.0 c.self.invariant.1 (sym c.failed.ensures ∙ c.if-failed.false) c.args.n c.min-count.result c.self.inside.ran
-    c.self.invariant.4 c.min-count.ensures c.collect_recorded-changing_count.new.batch.items
-    (c.collect_recorded-changing_count.ensures.batch ∙ ap (λ (rs : List Reply). recorded_in c.self.inside.slots rs
-    (take c.min-count.result (chain_at c.self.inside.slots 2))) c.deref.ensures.value) c.deref-2.result.now c.deref-2.ensures.value)
+    (log_length c.self.inside c.self.invariant (sym c.failed.ensures ∙ c.if-failed.false) c.args.n c.min-count.result c.min-count.ensures
+    c.collect_recorded-changing_count.new.batch (c.collect_recorded-changing_count.ensures.batch
+    ∙ ap (λ (rs : List Reply). recorded_in c.self.inside.slots rs (take c.min-count.result (chain_at c.self.inside.slots 2))) c.deref.ensures.value)
+    c.deref-2.result.now c.deref-2.ensures.value)
     (broken_takes c.log.result _ _ _ (sym c.is_err.ensures.value ∙ c.if-is_err.true) (c.log.ensures.costs keep)))
 
 pub returns-clause-costs : goal.returns-clause-costs
 returns-clause-costs g c = λ keep.
     subst (λ (o : CoreView). moment_number c.log.new.self.medium ≡ moment_number o.medium + 4 * batch_count (length (batch (core_state_of o) c.args.n))) c.self.view_is
     (subst (λ (m : ℕ). moment_number c.log.new.self.medium ≡ moment_number c.self.inside.journal.medium + 4 * batch_count m)
-    (log_length g.D.Disk.keeps c.self.inside.slots c.self.inside.replies.items c.self.inside.tree c.self.inside.journal c.self.inside.queue
-    c.self.inside.batch.items c.self.inside.next c.self.inside.unlogged c.self.inside.history.opened c.self.inside.history.since_open
-    c.self.invariant.0 c.self.invariant.1 (sym c.failed.ensures ∙ c.if-failed.false) c.args.n c.min-count.result c.self.inside.ran
-    c.self.invariant.4 c.min-count.ensures c.collect_recorded-changing_count.new.batch.items
-    (c.collect_recorded-changing_count.ensures.batch ∙ ap (λ (rs : List Reply). recorded_in c.self.inside.slots rs
-    (take c.min-count.result (chain_at c.self.inside.slots 2))) c.deref.ensures.value) c.deref-2.result.now c.deref-2.ensures.value)
+    (log_length c.self.inside c.self.invariant (sym c.failed.ensures ∙ c.if-failed.false) c.args.n c.min-count.result c.min-count.ensures
+    c.collect_recorded-changing_count.new.batch (c.collect_recorded-changing_count.ensures.batch
+    ∙ ap (λ (rs : List Reply). recorded_in c.self.inside.slots rs (take c.min-count.result (chain_at c.self.inside.slots 2))) c.deref.ensures.value)
+    c.deref-2.result.now c.deref-2.ensures.value)
     (made_takes c.log.result _ _ _ (sym c.is_err.ensures.value ∙ c.if-is_err.false) (c.log.ensures.costs keep)))

@@ -1,6 +1,5 @@
 -- Where there is no memory for the core, the device wasn't called; and an opened core keeps what a core keeps.
-use Rattle.std.proofs.Common.{◌≡◌, ◌∙◌, ◌≤◌, ℕ, Some, refl, inl, sym, ap, subst, arith}
-use Rattle.std.specs.Prelude.{vec_capacity}
+use Rattle.std.proofs.Common.{◌≡◌, ◌∙◌, Some, refl, inl, ap, arith}
 use Rattle.std.proofs.lemmas.Result.{err_from_is_err_and}
 use Rattle.affinity.specs.declared.geometry.Geometry.{Geometry}
 use Rattle.disk.proofs.Moments.{started}
@@ -9,7 +8,7 @@ use Rattle.journal.specs.Journal.{IsRecoverable, committed}
 use Rattle.oplog.proofs.Beyond.{beyond_none}
 use Rattle.device_map.specs.Layout.{layout_of}
 use Rattle.parcel.specs.Tree.{state_in}
-use Rattle.scheduler.proofs.Opened.{opened_chains, opened_parts, opened_ran, opened_size}
+use Rattle.scheduler.proofs.Opened.{opened_sound}
 use Rattle.scheduler.proofs.Refusals.{one_fault, opened_or_refused, recovers_or_refused}
 use Rattle.run_queue.specs.RunQueue.{RunQueueView, queue_at_start}
 use Rattle.scheduler.proofs.core_calls.Core.open.Goals as goal
@@ -25,25 +24,12 @@ returns-in_default-clause-unwritten g c = λ k.
 
 pub invariant_of-result : goal.invariant_of-result
 invariant_of-result g c =
-    let keeps = g.D.Disk.keeps in
-    let memory = c.in-Ok.memory in
-    let replies = memory.replies.items in
-    let tree = c.in_ok-journal.tree in
-    let journal = c.in_ok-journal.journal in
-    let same = c.in_ok-journal.ensures.tree.0 in
-    let whole = c.in_ok-journal.ensures.tree.1 in
-    let holds : keeps → (committed journal ≡ Some (state_in tree)) × IsRecoverable journal = λ k. let o = c.in_ok-journal.ensures.opened k in (o.is, o.recoverable) in
-    let arena = c.in-Ok.ensures.arena in
+    let holds : g.D.Disk.keeps → (committed c.in_ok-journal.journal ≡ Some (state_in c.in_ok-journal.tree)) × IsRecoverable c.in_ok-journal.journal =
+    λ k. let o = c.in_ok-journal.ensures.opened k in (o.is, o.recoverable) in
     let queue = c.set_geometry.ensures ∙ ap (λ (q : RunQueueView). queue_at_start c.geometry.result q.slots) c.in-Ok.ensures.queue
     ∙ ap (λ (h : Geometry). queue_at_start h c.args.slots) c.geometry.ensures in
-    let size = opened_size keeps c.args.slots replies tree journal same whole holds memory.slots arena in (
-      opened_chains keeps c.args.slots replies tree journal same whole holds memory.slots arena c.in-Ok.ensures.partitioned,
-      opened_parts keeps c.args.slots replies tree journal same whole holds memory.slots arena c.set_geometry.new.self memory.batch.items
-          c.begun.result.opened c.begun.result.since_open queue c.in-Ok.ensures.batch c.begun.ensures.0 c.begun.ensures.1,
-      subst (λ (n : ℕ). n ≤ vec_capacity memory.batch) (sym size) c.in-Ok.ensures.room,
-      c.in-Ok.ensures.replies ∙ sym size,
-      opened_ran keeps c.args.slots replies tree journal same whole holds memory.slots arena,
-    )
+    opened_sound _ c.args.slots c.in_ok-journal.ensures.tree.0 c.in_ok-journal.ensures.tree.1 holds c.in-Ok.ensures.arena c.in-Ok.ensures.partitioned
+    queue c.in-Ok.ensures.batch c.in-Ok.ensures.room c.in-Ok.ensures.replies (refl, refl, refl) c.begun.ensures
 
 pub returns-in_err-journal-clause-opens : goal.returns-in_err-journal-clause-opens
 returns-in_err-journal-clause-opens g c =

@@ -7,47 +7,32 @@ use Rattle.oplog.proofs.Beyond.{beyond_none}
 use Rattle.oplog.specs.Beyond.{KeepsBeyond}
 use Rattle.device_map.specs.Layout.{layout_of}
 use Rattle.scheduler.proofs.Journaling.{still_standing}
-use Rattle.scheduler.proofs.Pointing.{piece_core, step_moment}
+use Rattle.scheduler.proofs.Pointing.{called_core, piece_core, step_moment}
 use Rattle.scheduler.specs.CoreView.{CoreView, RecoversThroughout, core_state_of}
-use Rattle.scheduler.specs.Parts.{core_view_of, parts}
+use Rattle.scheduler.specs.Fields.{core_view, parts}
 use Rattle.scheduler.proofs.core_calls.Core.piece.Goals as goal
 
 pub returns-then-failed-clause-any_moment : goal.returns-then-failed-clause-any_moment
 returns-then-failed-clause-any_moment g c = λ keep.
     subst (λ (o : CoreView). RecoversThroughout [] o o) c.self.view_is
-    (still_standing g.D.Disk.keeps (parts c.self.inside.slots c.self.inside.replies.items c.self.inside.tree c.self.inside.journal
-    c.self.inside.queue c.self.inside.batch.items c.self.inside.next c.self.inside.unlogged c.self.inside.history.opened
-    c.self.inside.history.since_open) c.self.invariant.1 keep [] (core_view_of
-    (parts c.self.inside.slots c.self.inside.replies.items c.self.inside.tree c.self.inside.journal c.self.inside.queue
-    c.self.inside.batch.items c.self.inside.next c.self.inside.unlogged c.self.inside.history.opened c.self.inside.history.since_open)) refl)
+    (still_standing g.D.Disk.keeps (parts c.self.inside) c.self.invariant.core keep [] (core_view c.self.inside) refl)
 
 pub returns-in_default-clause-any_moment : goal.returns-in_default-clause-any_moment
 returns-in_default-clause-any_moment g c = λ keep.
     subst (λ (o : CoreView). RecoversThroughout [] o o) c.self.view_is
-    (still_standing g.D.Disk.keeps (parts c.self.inside.slots c.self.inside.replies.items c.self.inside.tree c.self.inside.journal
-    c.self.inside.queue c.self.inside.batch.items c.self.inside.next c.self.inside.unlogged c.self.inside.history.opened
-    c.self.inside.history.since_open) c.self.invariant.1 keep [] (core_view_of
-    (parts c.self.inside.slots c.self.inside.replies.items c.self.inside.tree c.self.inside.journal c.self.inside.queue
-    c.self.inside.batch.items c.self.inside.next c.self.inside.unlogged c.self.inside.history.opened c.self.inside.history.since_open)) refl)
+    (still_standing g.D.Disk.keeps (parts c.self.inside) c.self.invariant.core keep [] (core_view c.self.inside) refl)
 
 pub invariant_of-self : goal.invariant_of-self
-invariant_of-self g c = (
-  c.self.invariant.0,
-  piece_core g.D.Disk.keeps (parts c.self.inside.slots c.self.inside.replies.items c.self.inside.tree c.self.inside.journal c.self.inside.queue
-      c.self.inside.batch.items c.self.inside.next c.self.inside.unlogged c.self.inside.history.opened c.self.inside.history.since_open) c.self.invariant.1
-      c.piece.new.self c.piece.ensures.any_moment c.piece.result (sym c.failed.ensures ∙ c.if-failed.false) c.piece.ensures.committed
-      c.piece.ensures.after,
-  c.self.invariant.2,
-  c.self.invariant.3,
-  c.self.invariant.4,
-)
+invariant_of-self g c =
+    called_core c.self.invariant
+    (piece_core g.D.Disk.keeps (parts c.self.inside) c.self.invariant.core c.piece.new.self c.piece.ensures.any_moment c.piece.result (sym c.failed.ensures ∙ c.if-failed.false)
+    c.piece.ensures.committed
+    c.piece.ensures.after)
 
 pub returns-clause-any_moment : goal.returns-clause-any_moment
 returns-clause-any_moment g c = λ keep.
     subst (λ (o : CoreView). CrashImagesAre o.medium c.piece.new.self.medium (RecoversWithPrefix o.geometry (core_state_of o).committed (if o.failed then o.doubt else []))) c.self.view_is
-    (step_moment g.D.Disk.keeps (parts c.self.inside.slots c.self.inside.replies.items c.self.inside.tree c.self.inside.journal c.self.inside.queue
-    c.self.inside.batch.items c.self.inside.next c.self.inside.unlogged c.self.inside.history.opened c.self.inside.history.since_open)
-    c.self.invariant.1 (sym c.failed.ensures ∙ c.if-failed.false) c.piece.new.self c.piece.ensures.any_moment keep)
+    (step_moment g.D.Disk.keeps (parts c.self.inside) c.self.invariant.core (sym c.failed.ensures ∙ c.if-failed.false) c.piece.new.self c.piece.ensures.any_moment keep)
 
 pub returns-then-failed-clause-beyond : goal.returns-then-failed-clause-beyond
 returns-then-failed-clause-beyond g c = λ keep. beyond_none (layout_of c.args.self.now.geometry) c.args.self.now.medium
