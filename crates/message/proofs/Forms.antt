@@ -1,16 +1,12 @@
 -- The grammar of each kind of message, word by word: the first word as a number, then the rest by the rule for one number less.
 use Rattle.std.proofs.Common.{◌≡◌, ℕ, List, [], ◌∷◌, Option, Some, None, refl, ap, sym, ◌∙◌}
 use Rattle.std.specs.Option.{option_map}
-use Rattle.std.specs.Prelude.{IfSome}
 use Rattle.messages.specs.declared.Block.{Block}
 use Rattle.messages.specs.declared.Msg.{Msg}
-use Rattle.messages.specs.declared.Msg.TheVariants.{SetLabel}
-use Rattle.messages.specs.Messages.{kind}
-use Rattle.affinity.specs.declared.kinds.Kind.TheVariants as kinds
-use Rattle.messages.specs.Lines.{words, number_in_word, block_in_word, label_in_word, bytes_in_word}
+use Rattle.messages.specs.Lines.{words, number_in_word, block_in_word, label_in_word}
 use Rattle.message.proofs.Words.{only, only-words, words_some}
 use Rattle.message.proofs.Numbers.{number_no_space}
-use Rattle.message.proofs.Blocks.{block_no_space, label_no_space, bytes_block, no_block, label_bytes}
+use Rattle.message.proofs.Blocks.{block_no_space, label_no_space}
 use Rattle.messages.specs.Grammar.{◌>>=◌, first_number, of_volume, of_file, of_block, of_data, of_label, of_nothing}
 
 -- k applied to the number that the first of several words encodes, and to the words after it
@@ -141,20 +137,6 @@ of_label-onward make (a ∷ v ∷ []) = dead (number_in_word a) (v ∷ []) (λ n
 of_label-onward make (a ∷ v ∷ d ∷ []) = live (number_in_word a) (v ∷ d ∷ []) _ (λ n. label_from_volume (make n)) (λ n. refl)
 of_label-onward make (a ∷ v ∷ d ∷ w ∷ ws) = dead (number_in_word a) (v ∷ d ∷ w ∷ ws) (λ n. label_from_volume (make n)) (λ n. refl)
 
--- if P holds of what f makes of each value, it holds of what f makes of an optional one
-made_of : {A : Type 0} (P : Msg → Type 0) (o : Option A) (f : A → Option Msg) → ((x : A) → IfSome (f x) P) → IfSome (o >>= f) P
-made_of P (Some x) f each = each x
-made_of P None f each = tt
-
--- the message that the words after `setlabel` make, if any, is a `setlabel`
-pub label_sets : (ws : List (List ℕ)) → IfSome (of_label SetLabel ws) (λ m. kind m ≡ kinds.SetLabel)
-label_sets [] = tt
-label_sets (a ∷ []) = tt
-label_sets (a ∷ v ∷ []) = tt
-label_sets (a ∷ v ∷ d ∷ []) =
-    made_of _ (number_in_word a) _ (λ aggregate. made_of _ (number_in_word v) _ (λ volume. made_of _ (label_in_word d) _ (λ bytes. refl)))
-label_sets (a ∷ v ∷ d ∷ w ∷ ws) = tt
-
 -- ---- no words
 
 pub nothing_behind : (m : Msg) (line : List ℕ) → of_nothing m (words line) ≡ None
@@ -192,14 +174,6 @@ only-label line = only-words label_in_word line (label_no_space line)
 pub of_digits-told : (make : Block → Msg) (line : List ℕ) → of_digits make (words line) ≡ option_map make (block_in_word line)
 of_digits-told make line = rw (only-block line) (elim (block_in_word line) as (λ o. (o >>= (λ content. Some (make content))) ≡ option_map make o) [ None ↦ refl | Some content ↦ refl ])
 
-pub of_digits-read : (make : Block → Msg) (line bytes : List ℕ) → Some bytes ≡ bytes_in_word 512 line → of_digits make (words line) ≡ Some (make (record { 0 = bytes }))
-of_digits-read make line bytes h = let e = only-block line ∙ bytes_block line (record { 0 = bytes }) (sym h) in rw e refl
-
-pub of_digits-none : (make : Block → Msg) (line : List ℕ) → None ≡ bytes_in_word 512 line → of_digits make (words line) ≡ None
-of_digits-none make line h = let e = only-block line ∙ no_block line (sym h) in rw e refl
-
-pub of_label_digits-read : (make : List ℕ → Msg) (line bytes : List ℕ) → Some bytes ≡ bytes_in_word 32 line → of_label_digits make (words line) ≡ Some (make bytes)
-of_label_digits-read make line bytes h = let e = only-label line ∙ label_bytes line ∙ sym h in rw e refl
-
-pub of_label_digits-none : (make : List ℕ → Msg) (line : List ℕ) → None ≡ bytes_in_word 32 line → of_label_digits make (words line) ≡ None
-of_label_digits-none make line h = let e = only-label line ∙ label_bytes line ∙ sym h in rw e refl
+-- the last step of a `setlabel`: the rest of its line as the digits of a label
+pub of_label_digits-told : (make : List ℕ → Msg) (line : List ℕ) → of_label_digits make (words line) ≡ option_map make (label_in_word line)
+of_label_digits-told make line = rw (only-label line) (elim (label_in_word line) as (λ o. (o >>= (λ bytes. Some (make bytes))) ≡ option_map make o) [ None ↦ refl | Some bytes ↦ refl ])

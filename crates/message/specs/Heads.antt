@@ -1,11 +1,11 @@
--- Statement for engineers: The head of a message: its kind and its numbers, and its data not decoded; of a `setlabel` the kind alone.
-use Rattle.std.specs.Prelude.{◌≡◌, ℕ, Bool, true, false, List, [], slice_index, Option, Some, None, option_map, IfSome}
+-- Statement for engineers: The head of a message: its kind and its numbers, and its data not decoded.
+use Rattle.std.specs.Prelude.{◌≡◌, ℕ, Bool, true, false, List, [], slice_index, Option, Some, None, option_map}
 use Rattle.affinity.specs.declared.kinds.Kind.{Kind}
 use Rattle.affinity.specs.declared.kinds.Kind.TheVariants as kinds
 use Rattle.messages.specs.declared.Block.{Block}
 use Rattle.messages.specs.declared.Msg.{Msg}
-use Rattle.messages.specs.declared.Msg.TheVariants.{Write}
-use Rattle.messages.specs.Lines.{block_in_word}
+use Rattle.messages.specs.declared.Msg.TheVariants.{Write, SetLabel}
+use Rattle.messages.specs.Lines.{block_in_word, label_in_word}
 use Rattle.message.specs.declared.heads.Head.{Head}
 use Rattle.message.specs.declared.heads.Head.TheVariants.{NoMessage, WithoutData, Writes, SetsLabel}
 use Rattle.messages.specs.Messages.{kind, four_numbers}
@@ -25,6 +25,10 @@ message_without_data k ns = assembled k (slice_index ns 0) (slice_index ns 1) (s
 abbrev pub writing : List ℕ → Block → Msg
 writing ns content = Write (slice_index ns 0) (slice_index ns 1) (slice_index ns 2) (slice_index ns 3) content
 
+-- the `setlabel` of four numbers, of which it has two, and a label
+abbrev pub labeling : List ℕ → List ℕ → Msg
+labeling ns bytes = SetLabel (slice_index ns 0) (slice_index ns 1) bytes
+
 -- The message is the one of this kind and these numbers, with 0 for each number that it doesn't have.
 pub record IsWithoutData (k : Kind) (ns : List ℕ) (m : Option Msg) : Type 0 where
   pub message_is : m ≡ Some (message_without_data k ns)
@@ -32,9 +36,9 @@ pub record IsWithoutData (k : Kind) (ns : List ℕ) (m : Option Msg) : Type 0 wh
   pub numbers_are : four_numbers (message_without_data k ns) ≡ ns
   pub without_data : has_data k ≡ false
 
--- What a head tells of the message that a line spells, if it spells one. `SetsLabel`: if there is a message, it is a `setlabel`.
+-- What a head tells of the message that a line spells, if it spells one.
 abbrev pub IsHead : Head → Option Msg → Type 0
 IsHead NoMessage m = m ≡ None
 IsHead (WithoutData k ns) m = IsWithoutData k ns m
 IsHead (Writes ns digits) m = m ≡ option_map (writing ns) (block_in_word digits.now)
-IsHead SetsLabel m = IfSome m (λ m. kind m ≡ kinds.SetLabel)
+IsHead (SetsLabel ns digits) m = m ≡ option_map (labeling ns) (label_in_word digits.now)

@@ -1,22 +1,23 @@
-//! The head of a line: the kind and the numbers of its message, the data not decoded. Of a line that begins as a `setlabel` it has only
-//! that. In functions that work behind the keyword the argument `line` is the rest of the line.
+//! The head of a line: the kind and the numbers of its message, the data not decoded; and the message of a head. In functions that work
+//! behind the keyword the argument `line` is the rest of the line.
 
-ghost use Rattle.std.specs.Prelude.{◌≡◌, ℕ, [], ◌∷◌, slice_index, option_map, IfSome, MatchOption, Some, None};
+ghost use Rattle.std.specs.Prelude.{◌≡◌, ◌↔◌, ℕ, [], ◌∷◌, false, slice_index, option_map, Option, IfSome, MatchOption, Some, None};
 ghost use Rattle.messages.specs.declared.Msg.{Msg};
-ghost use Rattle.messages.specs.declared.Msg.TheVariants.{Write as write};
-ghost use Rattle.messages.specs.Lines.{words, block_in_word, bytes_in_word};
-ghost use Rattle.messages.specs.Grammar.{message_of, of_kind, of_volume, of_file, of_block, of_data};
+ghost use Rattle.messages.specs.declared.Msg.TheVariants.{Write as write, SetLabel as set_label};
+ghost use Rattle.messages.specs.Lines.{words, block_in_word, bytes_in_word, label_in_word};
+ghost use Rattle.messages.specs.Grammar.{message_of, Spells, of_kind, of_volume, of_file, of_block, of_data, of_label};
 ghost use Rattle.messages.specs.Messages.{filled};
-ghost use Rattle.message.specs.Heads.{IsHead, writing};
+ghost use Rattle.message.specs.Heads.{IsHead, has_data, message_without_data, writing, labeling};
 ghost use Rattle.message.specs.declared.heads.Head.TheVariants.{NoMessage, WithoutData};
 
 use crate::LONGEST_LINE;
 use crate::decoding::decode_to_slice;
 use crate::parsing::{
-    block_numbers, file_numbers, kind_named, number_before_space, split_keyword, volume_numbers,
+    block_numbers, bytes_in_word, file_numbers, kind_named, number_before_space, split_keyword,
+    volume_numbers,
 };
 use affinity::Kind;
-use messages::Block;
+use messages::{Block, Msg};
 
 /// What a line is, its data not decoded. It is a few bytes, where a `Msg` has 512 for a block.
 #[derive(Clone, Copy)]
@@ -28,8 +29,61 @@ pub enum Head<'a> {
     WithoutData(Kind, [u16; 4]),
     /// The line is a `write` with these numbers, if these bytes are the digits of a block.
     Writes([u16; 4], &'a [u8]),
-    /// The line begins as a `setlabel` and is no other message: `parse_line` finds whether it is one.
-    SetsLabel,
+    /// The line is a `setlabel` with the first two of these numbers, if these bytes are the digits of a label. The others are 0: so the
+    /// numbers and the digits of each head lie in the same place, and a head is made without a copy.
+    SetsLabel([u16; 4], &'a [u8]),
+}
+
+/// The message that a line spells, the line given without its newline; `None` where it spells none.
+pub fn parse_line(line: &[u8]) -> Option<Msg>
+    ensures value { result ≡ message_of line.now }
+    ensures exact { (m : Msg) → (result ≡ Some m) ↔ Spells line.now m }
+{
+    head_of_line(line).message()
+}
+
+impl Head<'_> {
+    /// The message of the line with this head, its data decoded; `None` where the line is no message.
+    pub fn message(self) -> Option<Msg>
+        requires { (m : Option Msg) × IsHead self m }
+        ensures { (m : Option Msg) → IsHead self.entry m → result ≡ m }
+    {
+        match self {
+            Head::NoMessage => None,
+            Head::WithoutData(kind, numbers) => Some(message_without_data(kind, numbers)),
+            Head::Writes(numbers, digits) => {
+                let [a, v, f, b] = numbers;
+                Some(Msg::Write(a, v, f, b, Block(bytes_in_word(digits)?)))
+            }
+            Head::SetsLabel(numbers, digits) => {
+                let [a, v, _, _] = numbers;
+                Some(Msg::SetLabel(a, v, decode_label(digits)?))
+            }
+        }
+    }
+}
+
+/// The message of a kind without data and its numbers. It is built in place: no 512-byte block is copied.
+fn message_without_data(kind: Kind, numbers: [u16; 4]) -> Msg
+    requires { has_data kind ≡ false }
+    ensures { result ≡ message_without_data kind numbers }
+{
+    let [a, v, f, b] = numbers;
+    match kind {
+        Kind::MakeVol => Msg::MakeVol(a, v),
+        Kind::DropVol => Msg::DropVol(a, v),
+        Kind::Create => Msg::Create(a, v, f),
+        Kind::Delete => Msg::Delete(a, v, f),
+        Kind::Seal => Msg::Seal(a, v),
+        Kind::Unseal => Msg::Unseal(a, v),
+        Kind::Punch => Msg::Punch(a, v, f, b),
+        Kind::Read => Msg::Read(a, v, f, b),
+        Kind::List => Msg::List(a, v),
+        Kind::Usage => Msg::Usage(a, v),
+        Kind::Summary => Msg::Summary,
+        Kind::Label => Msg::Label(a, v),
+        Kind::Write | Kind::SetLabel => unreachable!(),
+    }
 }
 
 /// The head of the message that a line spells, the line given without its newline.
@@ -78,7 +132,7 @@ fn head_of_kind(kind: Kind, line: &[u8]) -> Head<'_>
         Kind::List => head_without_data(Kind::List, volume_arguments(line)),
         Kind::Usage => head_without_data(Kind::Usage, volume_arguments(line)),
         Kind::Summary => Head::NoMessage,
-        Kind::SetLabel => Head::SetsLabel,
+        Kind::SetLabel => head_of_label(line),
         Kind::Label => head_without_data(Kind::Label, volume_arguments(line)),
     }
 }
@@ -149,6 +203,36 @@ fn write_parts(line: &[u8]) -> Option<([u16; 4], &[u8])>
     let (file, behind) = number_before_space(behind)?;
     let (block, behind) = number_before_space(behind)?;
     Some(([aggregate, volume, file, block], behind))
+}
+
+/// The head of a `setlabel`.
+fn head_of_label(line: &[u8]) -> Head<'_>
+    ensures { IsHead result (of_label set_label (words line.now)) }
+{
+    match label_parts(line) {
+        Some(parts) => {
+            let numbers = parts.0;
+            Head::SetsLabel(numbers, parts.1)
+        }
+        None => Head::NoMessage,
+    }
+}
+
+/// The numbers of a `setlabel`, and what is in the place of its digits.
+fn label_parts(line: &[u8]) -> Option<([u16; 4], &[u8])>
+    ensures { MatchOption result (of_label set_label (words line.now) ≡ None)
+        (λ p. of_label set_label (words line.now) ≡ option_map (labeling p.0) (label_in_word p.1.now)) }
+{
+    let (aggregate, behind) = number_before_space(line)?;
+    let (volume, digits) = number_before_space(behind)?;
+    Some(([aggregate, volume, 0, 0], digits))
+}
+
+/// The label that digits encode.
+pub fn decode_label(digits: &[u8]) -> Option<[u8; 32]>
+    ensures { result ≡ label_in_word digits.now }
+{
+    bytes_in_word(digits)
 }
 
 /// Decodes digits into a buffer of one block, and fills the rest with zeros.

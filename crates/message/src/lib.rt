@@ -11,16 +11,15 @@ mod records;
 mod reply_buffer;
 mod sizes;
 
-pub use heads::{Head, decode_block, head_of_line};
+pub use heads::{Head, decode_block, decode_label, head_of_line, parse_line};
 // A reader that is lent to a `LineReader`; its type parameter, a `Loan`, says which one it is.
 pub use lent_reader::{LentReader, Loan};
 pub use messages::{Block, Msg, Refusal, Reply};
-pub use parsing::parse_line;
 pub use printing::{no_message_line, write_reply};
 pub use reading::{Found, LineReader, ReadFault};
 pub use records::{decode, encode};
 pub use reply_buffer::{REPLY_BUFFER_SIZE, ReplyBuffer, WriteFault};
-pub use sizes::{know_block, know_message};
+pub use sizes::{know_block, know_label, know_message};
 
 /// How many bytes a line of the input may have, its newline not counted. A longer one is no message.
 pub const LONGEST_LINE: usize = 1100;

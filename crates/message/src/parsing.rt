@@ -1,4 +1,5 @@
-//! The message that a line spells. In functions that work behind the keyword the argument `line` is the rest of the line.
+//! What the words of a line encode: its keyword, its numbers, its digits. In functions that work behind the keyword the argument `line` is
+//! the rest of the line.
 
 ghost use Rattle.std.specs.Prelude.{◌≡◌, ◌≢◌, ℕ, ◌<◌, ◌≤◌, ◌∷◌, [], true, ◌↔◌, length, slice_index, IsTrue, IfSome, MatchOption, option_map};
 ghost use Rattle.std.specs.Str.{all_ascii_digits};
@@ -14,23 +15,6 @@ use messages::{Block, Msg};
 
 /// How many bytes the longest keyword has.
 const LONGEST_KEYWORD: usize = 8;
-
-/// The message that a line spells, the line given without its newline; `None` where it spells none.
-pub fn parse_line(line: &[u8]) -> Option<Msg>
-    ensures value { result ≡ message_of line.now }
-    ensures exact { (m : Msg) → (result ≡ Some m) ↔ Spells line.now m }
-{
-    if line.len() > LONGEST_LINE {
-        return None;
-    }
-    match split_keyword(line) {
-        Some((word, arguments)) => of_kind(kind_named(word)?, arguments),
-        None => match kind_named(line)? {
-            Kind::Summary => Some(Msg::Summary),
-            _ => None,
-        },
-    }
-}
 
 /// Splits a line at its first space: what is before it, and what is after it. `None` if there is no space among the first nine
 /// bytes. No keyword is longer than eight, so the rest of the line need not be searched.
@@ -132,28 +116,6 @@ fn kind_of_seven(word: &[u8; 7]) -> Option<Kind>
     }
 }
 
-/// The message of a kind and what comes after its keyword and a space.
-fn of_kind(kind: Kind, line: &[u8]) -> Option<Msg>
-    ensures { result ≡ of_kind kind (words line.now) }
-{
-    match kind {
-        Kind::MakeVol => volume_numbers(line).map(|(a, v)| Msg::MakeVol(a, v)),
-        Kind::DropVol => volume_numbers(line).map(|(a, v)| Msg::DropVol(a, v)),
-        Kind::Create => file_numbers(line).map(|(a, v, f)| Msg::Create(a, v, f)),
-        Kind::Delete => file_numbers(line).map(|(a, v, f)| Msg::Delete(a, v, f)),
-        Kind::Seal => volume_numbers(line).map(|(a, v)| Msg::Seal(a, v)),
-        Kind::Unseal => volume_numbers(line).map(|(a, v)| Msg::Unseal(a, v)),
-        Kind::Write => write_message(line),
-        Kind::Punch => block_numbers(line).map(|(a, v, f, b)| Msg::Punch(a, v, f, b)),
-        Kind::Read => block_numbers(line).map(|(a, v, f, b)| Msg::Read(a, v, f, b)),
-        Kind::List => volume_numbers(line).map(|(a, v)| Msg::List(a, v)),
-        Kind::Usage => volume_numbers(line).map(|(a, v)| Msg::Usage(a, v)),
-        Kind::Summary => None,
-        Kind::SetLabel => label_message(line),
-        Kind::Label => volume_numbers(line).map(|(a, v)| Msg::Label(a, v)),
-    }
-}
-
 /// The numbers of an aggregate and a volume.
 pub(crate) fn volume_numbers(line: &[u8]) -> Option<(u16, u16)>
     ensures { (make : ℕ → ℕ → Msg) → of_volume make (words line.now) ≡ option_map (λ p. make p.0 p.1) result }
@@ -178,32 +140,6 @@ pub(crate) fn block_numbers(line: &[u8]) -> Option<(u16, u16, u16, u16)>
     let (aggregate, behind) = number_before_space(line)?;
     let (volume, file, block) = file_numbers(behind)?;
     Some((aggregate, volume, file, block))
-}
-
-/// The message of what comes after `write`.
-fn write_message(line: &[u8]) -> Option<Msg>
-    ensures { result ≡ of_data write (words line.now) }
-{
-    let (aggregate, behind) = number_before_space(line)?;
-    let (volume, behind) = number_before_space(behind)?;
-    let (file, behind) = number_before_space(behind)?;
-    let (block, behind) = number_before_space(behind)?;
-    Some(Msg::Write(
-        aggregate,
-        volume,
-        file,
-        block,
-        Block(bytes_in_word(behind)?),
-    ))
-}
-
-/// The message of what comes after `setlabel`.
-fn label_message(line: &[u8]) -> Option<Msg>
-    ensures { result ≡ of_label set_label (words line.now) }
-{
-    let (aggregate, behind) = number_before_space(line)?;
-    let (volume, behind) = number_before_space(behind)?;
-    Some(Msg::SetLabel(aggregate, volume, bytes_in_word(behind)?))
 }
 
 /// If a line begins with one digit and a space, which is the usual case: the number, and what comes
@@ -304,7 +240,7 @@ fn number(word: &[u8]) -> Option<u16>
 }
 
 /// The bytes that a word encodes in hexadecimal digits, and zeros after them.
-fn bytes_in_word<const N: usize>(digits: &[u8]) -> Option<[u8; N]>
+pub(crate) fn bytes_in_word<const N: usize>(digits: &[u8]) -> Option<[u8; N]>
     ensures { result ≡ bytes_in_word N digits.now }
 {
     let size = digits.len() / 2;

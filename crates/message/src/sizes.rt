@@ -12,8 +12,8 @@ pub fn know_block(content: &Block)
     let _size = bytes.len();
 }
 
-/// A label has 32 bytes.
-fn know_label(label: &[u8; 32])
+/// Does nothing: it lets a proof know that a label has 32 bytes.
+pub fn know_label(label: &[u8; 32])
     ensures { AreSizedBytes 32 label.now }
 {
     let bytes = label.as_slice();

@@ -7,8 +7,8 @@ ghost use Rattle.std.specs.Io.KnownBytes.{Appends, IsAtEnd};
 ghost use Rattle.messages.specs.Grammar.{message_of};
 ghost use Rattle.message.specs.Reader.{unread, is_drained, source, KnowsEnd};
 ghost use Rattle.message.specs.Waiting.{FitsReply, all_output};
-ghost use Rattle.messages.specs.Lines.{block_in_word};
-ghost use Rattle.message.specs.Heads.{IsWithoutData, message_without_data, writing};
+ghost use Rattle.messages.specs.Lines.{block_in_word, label_in_word};
+ghost use Rattle.message.specs.Heads.{IsWithoutData, labeling, message_without_data, writing};
 ghost use Rattle.affinity.specs.Kind.{is_changing};
 ghost use Rattle.meaning.specs.ByKind.{done_or_refused};
 ghost use Rattle.meaning.specs.State.{State, empty};
@@ -22,42 +22,13 @@ use crate::PlainFault;
 use crate::server::Server;
 use affinity::{Geometry, Kind, changing};
 use message::{
-    Found, Head, LentReader, LineReader, Loan, ReplyBuffer, WriteFault, decode_block, head_of_line,
-    parse_line,
+    Found, Head, LentReader, LineReader, Loan, ReplyBuffer, WriteFault, decode_block, decode_label,
+    head_of_line,
 };
-use messages::{Block, Msg, Refusal, Reply};
+use messages::{Block, Refusal, Reply};
 use std::alloc::{AllocError, Global};
 use std::io::{Read, Write};
 use std::marker::PhantomData;
-
-/// Answers one message.
-fn answer_message(
-    g: &Geometry,
-    m: &Msg,
-    server: &mut Server,
-    out: &mut ReplyBuffer,
-) -> Result<(), AllocError>
-    requires sound { IsConsistent g.now server.old }
-    requires room { FitsReply out.old }
-    ensures sound { IsConsistent g.now server.new }
-    ensures state { OnOk result (server_state server.new
-        ≡ next_state g.now (server_state server.old) m.now) }
-    ensures added { OnOk result (out.new ≡ out.old
-        ++ reply_line (reply_to g.now (server_state server.old) m.now)) }
-    ensures out_of_memory { OnErr result (out.new ≡ out.old) }
-{
-    if let Some(content) = server.block_shown(g, m) {
-        out.add_block(content);
-        return Ok(());
-    }
-    match &server.answer(g, m) {
-        Ok(reply) => {
-            out.add_reply(reply);
-            Ok(())
-        }
-        Err(_) => Err(AllocError),
-    }
-}
 
 /// Answers a message that changes something and has no data.
 fn answer_change(
@@ -178,29 +149,30 @@ fn answer_write(
     Ok(())
 }
 
-/// Answers a line by the message that it spells, whatever that is.
+/// Answers a line that begins as a `setlabel` with these numbers. `digits` is the rest of the line: if it encodes no label, the line is no
+/// message.
 #[inline(never)]
-fn answer_spelled(
+fn answer_set_label(
     g: &Geometry,
-    line: &[u8],
+    numbers: [u16; 4],
+    digits: &[u8],
     server: &mut Server,
     out: &mut ReplyBuffer,
-) -> Result<(), AllocError>
+)
     requires sound { IsConsistent g.now server.old }
     requires room { FitsReply out.old }
     ensures sound { IsConsistent g.now server.new }
-    ensures state { OnOk result (server_state server.new
-        ≡ state_after_line g.now (server_state server.old) (message_of line.now)) }
-    ensures added { OnOk result (out.new ≡ out.old
-        ++ answer_line g.now (server_state server.old) (message_of line.now)) }
-    ensures out_of_memory { OnErr result (out.new ≡ out.old) }
+    ensures state { server_state server.new ≡ state_after_line g.now
+        (server_state server.old) (option_map (labeling numbers) (label_in_word digits.now)) }
+    ensures added { out.new ≡ out.old ++ answer_line g.now (server_state server.old)
+        (option_map (labeling numbers) (label_in_word digits.now)) }
 {
-    match &parse_line(line) {
-        Some(m) => answer_message(g, m, server, out),
-        None => {
-            out.add_no_message();
-            Ok(())
+    match &decode_label(digits) {
+        Some(label) => {
+            let why = server.put_label(g, numbers, label);
+            add_outcome(why, out);
         }
+        None => out.add_no_message(),
     }
 }
 
@@ -253,7 +225,10 @@ fn answer_line(
         }
         Head::WithoutData(kind, numbers) => answer_without_data(g, kind, numbers, server, out),
         Head::Writes(numbers, digits) => answer_write(g, numbers, digits, server, out),
-        Head::SetsLabel => answer_spelled(g, line, server, out),
+        Head::SetsLabel(numbers, digits) => {
+            answer_set_label(g, numbers, digits, server, out);
+            Ok(())
+        }
     }
 }
 

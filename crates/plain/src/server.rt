@@ -2,7 +2,7 @@
 
 ghost use Rattle.std.specs.Prelude.{◌≡◌, true, Some, IfOk, OnOk, OnErr};
 ghost use Rattle.affinity.specs.Kind.{is_changing};
-ghost use Rattle.message.specs.Heads.{IsWithoutData, message_without_data, writing};
+ghost use Rattle.message.specs.Heads.{IsWithoutData, labeling, message_without_data, writing};
 ghost use Rattle.meaning.specs.ByKind.{done_or_refused};
 ghost use Rattle.affinity.specs.declared.geometry.Geometry.{Geometry};
 ghost use Rattle.meaning.specs.State.{empty};
@@ -10,8 +10,8 @@ ghost use Rattle.meaning.specs.Serial.{reply_to, next_state};
 ghost use Rattle.plain.specs.Server.{server_state, IsConsistent};
 
 use affinity::{Geometry, Kind, is_in_range};
-use message::{know_block, know_message};
-use messages::{Block, Msg, Refusal, Reply};
+use message::{know_block, know_label};
+use messages::{Block, Msg, Refusal};
 use std::alloc::{AllocError, Global};
 use std::collections::BTreeMap;
 
@@ -58,23 +58,6 @@ impl Server {
             blocks: BTreeMap::new(alloc),
             used: BTreeMap::new(alloc),
         }
-    }
-
-    /// Carries out one message and gives its reply. Where there is no memory, nothing changes.
-    pub(crate) fn answer(&mut self, g: &Geometry, m: &Msg) -> Result<Reply, AllocError>
-        requires sound { IsConsistent g.now self.old }
-        ensures reply { IfOk result (λ reply. reply ≡ reply_to g.now (server_state self.old) m.now) }
-        ensures state { OnOk result (server_state self.new ≡ next_state g.now (server_state self.old) m.now) }
-        ensures unchanged { OnErr result (server_state self.new ≡ server_state self.old) }
-        ensures sound { IsConsistent g.now self.new }
-    {
-        if let Some(why) = self.refusal(g, m) {
-            return Ok(Reply::Refused(why));
-        }
-        know_message(m);
-        let reply = self.reply(g, m);
-        self.apply(g, m)?;
-        Ok(reply)
     }
 
     /// Carries out a message that changes something and has no data, by its kind and its numbers,
@@ -127,5 +110,29 @@ impl Server {
         }
         know_block(content);
         self.put_block(g, a, v, f, b, content)
+    }
+
+    /// Sets the label of a volume, and gives why that is refused, if it is.
+    pub(crate) fn put_label(
+        &mut self,
+        g: &Geometry,
+        numbers: [u16; 4],
+        label: &[u8; 32],
+    ) -> Option<Refusal>
+        requires sound { IsConsistent g.now self.old }
+        ensures reply { reply_to g.now (server_state self.old) (labeling numbers label.now) ≡ done_or_refused result }
+        ensures state { server_state self.new ≡ next_state g.now (server_state self.old) (labeling numbers label.now) }
+        ensures sound { IsConsistent g.now self.new }
+    {
+        let [a, v, _, _] = numbers;
+        if !is_in_range(g, Kind::SetLabel, numbers) {
+            return Some(Refusal::Range);
+        }
+        if let Some(why) = self.refusal_unless_open(a, v) {
+            return Some(why);
+        }
+        know_label(label);
+        self.set_label(a, v, label);
+        None
     }
 }

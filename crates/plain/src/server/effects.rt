@@ -9,7 +9,6 @@ ghost use Rattle.plain.specs.Server.{server_state, HasRightCounts, IsConsistent}
 
 use super::{Server, Volume};
 use affinity::{Geometry, Kind};
-use messages::Msg;
 use std::alloc::AllocError;
 
 impl Server {
@@ -74,32 +73,7 @@ impl Server {
         }
     }
 
-    /// Carries out a message that passes its checks.
-    pub(super) fn apply(&mut self, g: &Geometry, m: &Msg) -> Result<(), AllocError>
-        requires passed { refusal g.now (server_state self.old) m.now ≡ None }
-        requires sound { IsConsistent g.now self.old }
-        ensures state { OnOk result (server_state self.new ≡ effect (server_state self.old) m.now) }
-        ensures unchanged { OnErr result (server_state self.new ≡ server_state self.old) }
-        ensures counted { HasRightCounts g.now self.new }
-    {
-        match m {
-            Msg::MakeVol(a, v) => self.insert_volume(*a, *v)?,
-            Msg::DropVol(a, v) => self.remove_volume(g, *a, *v),
-            Msg::Create(a, v, f) => self.insert_file(*a, *v, *f),
-            Msg::Delete(a, v, f) => self.remove_file(g, *a, *v, *f),
-            Msg::Seal(a, v) => self.seal_volume(*a, *v),
-            Msg::Unseal(a, v) => self.unseal_volume(*a, *v),
-            Msg::Write(a, v, f, b, content) => {
-                let _ = self.put_block(g, *a, *v, *f, *b, content)?;
-            }
-            Msg::Punch(a, v, f, b) => self.remove_block(g, *a, *v, *f, *b),
-            Msg::SetLabel(a, v, bytes) => self.set_label(*a, *v, bytes),
-            Msg::Read(..) | Msg::List(..) | Msg::Usage(..) | Msg::Summary | Msg::Label(..) => {}
-        }
-        Ok(())
-    }
-
-    /// The same for a message without data, by its kind and its numbers.
+    /// Carries out a message without data that passes its checks, by its kind and its numbers.
     pub(super) fn apply_by(
         &mut self,
         g: &Geometry,

@@ -1,7 +1,7 @@
-//! What the server has: volumes, files, blocks, and how many blocks a stripe has.
+//! Which volumes the server has, and which of them are sealed.
 
-ghost use Rattle.std.specs.Prelude.{◌≡◌, is_some};
-ghost use Rattle.plain.specs.Server.{server_state, noted};
+ghost use Rattle.std.specs.Prelude.{◌≡◌};
+ghost use Rattle.plain.specs.Server.{server_state};
 
 use super::Server;
 
@@ -20,23 +20,6 @@ impl Server {
         match self.volumes.get(&(a, v)) {
             Some(volume) => volume.sealed,
             None => false,
-        }
-    }
-
-    /// Whether there is a block.
-    pub(super) fn has_block(&self, a: u16, v: u16, f: u16, b: u16) -> bool
-        ensures { result ≡ is_some ((server_state self.now).blocks (a, v, f, b)) }
-    {
-        self.blocks.contains_key(&(a, v, f, b))
-    }
-
-    /// How many blocks a stripe of a volume has.
-    pub(super) fn blocks_in(&self, a: u16, v: u16, s: u16) -> u16
-        ensures { result ≡ noted self.now (a, v, s) }
-    {
-        match self.used.get(&(a, v, s)) {
-            Some(count) => *count,
-            None => 0,
         }
     }
 }

@@ -1,16 +1,14 @@
 //! Which of a message's checks fails first. `meaning` has the checks of each kind; they are made here without a loop over them.
 
-ghost use Rattle.std.specs.Prelude.{◌≡◌, ◌||◌, if◌then◌else◌, None, Some, is_some, nat_lt};
-ghost use Rattle.affinity.specs.Geometry.{stripe_of};
+ghost use Rattle.std.specs.Prelude.{◌≡◌, if◌then◌else◌, None, Some, false};
+ghost use Rattle.message.specs.Heads.{has_data};
 ghost use Rattle.messages.specs.declared.Refusal.TheVariants.{Exists, File, Sealed, Volume};
-ghost use Rattle.meaning.specs.State.{blocks_in_stripe};
-ghost use Rattle.meaning.specs.Serial.{refusal};
 ghost use Rattle.meaning.specs.ByKind.{refusal_by};
-ghost use Rattle.plain.specs.Server.{server_state, HasRightCounts};
+ghost use Rattle.plain.specs.Server.{server_state};
 
 use super::Server;
-use affinity::{Geometry, Kind, group_of, is_in_range};
-use messages::{Msg, Refusal, has_file};
+use affinity::{Geometry, Kind, is_in_range};
+use messages::{Refusal, has_file};
 
 /// A refusal where a check fails.
 fn refused_if(fails: bool, why: Refusal) -> Option<Refusal>
@@ -20,15 +18,6 @@ fn refused_if(fails: bool, why: Refusal) -> Option<Refusal>
 }
 
 impl Server {
-    /// Whether a block is there already, or its stripe has fewer blocks than its quota.
-    fn has_space(&self, g: &Geometry, a: u16, v: u16, f: u16, b: u16) -> bool
-        requires counted { HasRightCounts g.now self.now }
-        ensures { result ≡ (is_some ((server_state self.now).blocks (a, v, f, b))
-            || nat_lt (blocks_in_stripe g.now (server_state self.now) a v (stripe_of g.now f b)) g.now.quota) }
-    {
-        self.has_block(a, v, f, b) || self.blocks_in(a, v, group_of(g, f, b)) < g.quota
-    }
-
     /// Why a message that needs its volume to be there (`list`, `usage`, `label`, `seal`, `unseal`) is refused, if it is.
     fn refusal_unless_made(&self, a: u16, v: u16) -> Option<Refusal>
         ensures { result ≡ (if (server_state self.now).made (a, v) then None else Some Volume) }
@@ -37,7 +26,7 @@ impl Server {
     }
 
     /// Why a message that needs its volume to be there and not sealed is refused, if it is.
-    fn refusal_unless_open(&self, a: u16, v: u16) -> Option<Refusal>
+    pub(super) fn refusal_unless_open(&self, a: u16, v: u16) -> Option<Refusal>
         ensures { result ≡ (if (server_state self.now).made (a, v)
             then (if (server_state self.now).sealed (a, v) then Some Sealed else None) else Some Volume) }
     {
@@ -84,38 +73,27 @@ impl Server {
         }
     }
 
-    /// The first check that a message of a kind, with these numbers, fails.
+    /// The first check that a message of a kind without data, with these numbers, fails.
     pub(crate) fn refusal_by(&self, g: &Geometry, kind: Kind, numbers: [u16; 4]) -> Option<Refusal>
-        requires counted { HasRightCounts g.now self.now }
+        requires { has_data kind ≡ false }
         ensures { result ≡ refusal_by g.now (server_state self.now) kind numbers }
     {
-        let [a, v, f, b] = numbers;
+        let [a, v, f, _] = numbers;
         if !is_in_range(g, kind, numbers) {
             return Some(Refusal::Range);
         }
         match kind {
             Kind::Summary => None,
             Kind::MakeVol => refused_if(self.has_volume(a, v), Refusal::Exists),
-            Kind::DropVol | Kind::SetLabel => self.refusal_unless_open(a, v),
+            Kind::DropVol => self.refusal_unless_open(a, v),
             Kind::Create => self.refusal_to_create(a, v, f),
             Kind::Delete => self.refusal_to_change_file(a, v, f),
             Kind::Punch => self.refusal_to_change_file(a, v, f),
-            Kind::Write => match self.refusal_to_change_file(a, v, f) {
-                Some(why) => Some(why),
-                None => refused_if(!self.has_space(g, a, v, f, b), Refusal::Space),
-            },
             Kind::Read => self.refusal_to_read(a, v, f),
             Kind::Seal | Kind::Unseal => self.refusal_unless_made(a, v),
             Kind::List | Kind::Usage => self.refusal_unless_made(a, v),
             Kind::Label => self.refusal_unless_made(a, v),
+            Kind::Write | Kind::SetLabel => unreachable!(),
         }
-    }
-
-    /// The first check that a message fails.
-    pub(super) fn refusal(&self, g: &Geometry, m: &Msg) -> Option<Refusal>
-        requires counted { HasRightCounts g.now self.now }
-        ensures { result ≡ refusal g.now (server_state self.now) m.now }
-    {
-        self.refusal_by(g, m.kind(), m.numbers())
     }
 }

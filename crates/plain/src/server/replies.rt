@@ -1,18 +1,18 @@
 //! The reply to a message that passes its checks.
 
-ghost use Rattle.std.specs.Prelude.{◌≡◌, None, false, IfNone, IfSome};
+ghost use Rattle.std.specs.Prelude.{◌≡◌, false, IfNone, IfSome};
 ghost use Rattle.affinity.specs.declared.geometry.Geometry.{Geometry};
 ghost use Rattle.messages.specs.declared.Msg.{Msg};
 ghost use Rattle.messages.specs.declared.Reply.TheVariants.{Block as shows, Hole};
 ghost use Rattle.affinity.specs.Kind.{is_changing};
 ghost use Rattle.affinity.specs.declared.kinds.Kind.TheVariants as kinds;
 ghost use Rattle.message.specs.Heads.{message_without_data};
-ghost use Rattle.meaning.specs.Serial.{refusal, accepted_reply, step};
+ghost use Rattle.meaning.specs.Serial.{accepted_reply, step};
 ghost use Rattle.plain.specs.Server.{server_state, IsConsistent};
 
 use super::Server;
 use affinity::{Geometry, Kind};
-use messages::{Block, Msg, Reply};
+use messages::{Block, Reply};
 
 impl Server {
     /// What a read of a block gives.
@@ -22,22 +22,6 @@ impl Server {
         match self.blocks.get(&(a, v, f, b)) {
             Some(content) => Reply::Block(*content),
             None => Reply::Hole,
-        }
-    }
-
-    /// The block that answers a read, by reference, so that it isn't copied. It is `None` where there
-    /// is no block, or where a block isn't the reply: then `answer` gives the reply.
-    pub(crate) fn block_shown(&self, g: &Geometry, m: &Msg) -> Option<&Block>
-        requires sound { IsConsistent g.now self.now }
-        ensures { IfSome result (λ content.
-            step g.now (server_state self.now) m.now ≡ (shows content.now, server_state self.now)) }
-    {
-        match m {
-            Msg::Read(a, v, f, b) => match self.refusal(g, m) {
-                None => self.blocks.get(&(*a, *v, *f, *b)),
-                Some(_) => None,
-            },
-            _ => None,
         }
     }
 
@@ -51,31 +35,7 @@ impl Server {
         }
     }
 
-    /// The reply to a message that passes its checks.
-    pub(super) fn reply(&self, g: &Geometry, m: &Msg) -> Reply
-        requires passed { refusal g.now (server_state self.now) m.now ≡ None }
-        requires sound { IsConsistent g.now self.now }
-        ensures { result ≡ accepted_reply g.now (server_state self.now) m.now }
-    {
-        match m {
-            Msg::Read(a, v, f, b) => self.read_block(*a, *v, *f, *b),
-            Msg::List(a, v) => self.list_files(g, *a, *v),
-            Msg::Usage(a, v) => self.usage_of(g, *a, *v),
-            Msg::Summary => self.summary_of(g),
-            Msg::Label(a, v) => self.label_of(*a, *v),
-            Msg::MakeVol(..)
-            | Msg::DropVol(..)
-            | Msg::Create(..)
-            | Msg::Delete(..)
-            | Msg::Seal(..)
-            | Msg::Unseal(..)
-            | Msg::Write(..)
-            | Msg::Punch(..)
-            | Msg::SetLabel(..) => Reply::Done,
-        }
-    }
-
-    /// The same for a message that changes nothing, by its kind and its numbers.
+    /// The reply to a message that changes nothing and passes its checks, by its kind and its numbers.
     pub(crate) fn reply_by(&self, g: &Geometry, kind: Kind, numbers: [u16; 4]) -> Reply
         requires asks { is_changing kind ≡ false }
         requires sound { IsConsistent g.now self.now }
