@@ -1,2 +1,3 @@
 -- Definitions of the maps that the serial server keeps.
+pub mod Places
 pub mod Server

@@ -18,10 +18,13 @@ use std::collections::BTreeMap;
 mod blocks;
 mod effects;
 mod lookups;
+mod places;
 mod refusals;
 mod removals;
 mod replies;
 mod totals;
+
+use places::Place;
 
 /// What a volume has besides its blocks.
 #[derive(Clone, Copy)]
@@ -39,8 +42,8 @@ pub(crate) struct Server {
     /// The volumes that exist.
     volumes: BTreeMap<(u16, u16), Volume>,
 
-    /// The blocks, by aggregate, volume, file and block.
-    blocks: BTreeMap<(u16, u16, u16, u16), Block>,
+    /// The blocks, by their places.
+    blocks: BTreeMap<Place, Block>,
 
     /// How many blocks each stripe of a volume has, so that no write has to count them. A stripe
     /// without an entry has none.

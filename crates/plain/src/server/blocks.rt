@@ -7,6 +7,7 @@ ghost use Rattle.meaning.specs.Serial.{passes, effect};
 ghost use Rattle.plain.specs.Server.{server_state, HasRightCounts};
 
 use super::Server;
+use super::places::Place;
 use affinity::{Geometry, group_of};
 use messages::{Block, Msg, Refusal};
 use std::alloc::AllocError;
@@ -34,7 +35,7 @@ impl Server {
         ensures unchanged { OnErr result (server_state self.new ≡ server_state self.old) }
         ensures counted { HasRightCounts g.now self.new }
     {
-        if let Some(place) = self.blocks.get_mut(&(a, v, f, b)) {
+        if let Some(place) = self.blocks.get_mut(&Place { b, f, v, a }) {
             *place = *content;
             return Ok(None);
         }
@@ -42,7 +43,7 @@ impl Server {
         if *count >= g.quota {
             return Ok(Some(Refusal::Space));
         }
-        self.blocks.insert((a, v, f, b), *content)?;
+        self.blocks.insert(Place { b, f, v, a }, *content)?;
         *count += 1;
         Ok(None)
     }

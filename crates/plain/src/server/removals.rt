@@ -10,6 +10,7 @@ ghost use Rattle.plain.specs.Server.{StripeKey, is_stripe, server_state, noted, 
 ghost use Rattle.meaning.specs.Removals.{without_blocks};
 
 use super::Server;
+use super::places::Place;
 use affinity::{Geometry, group_of};
 
 impl Server {
@@ -33,7 +34,7 @@ impl Server {
         ensures len { btree_map_len self.new.blocks + one_if (is_some ((server_state self.old).blocks (a, v, f, b)))
             ≡ btree_map_len self.old.blocks }
     {
-        if self.blocks.remove(&(a, v, f, b)).is_some() {
+        if self.blocks.remove(&Place { b, f, v, a }).is_some() {
             self.note_one_less(a, v, group_of(g, f, b));
         }
     }
@@ -44,8 +45,8 @@ impl Server {
         ensures none { IfNone result ((k : BlockKey) → is_block_of_file a v f k ≡ true
             → is_some ((server_state self.now).blocks k) ≡ false) }
     {
-        let (key, _) = self.blocks.range((a, v, f, 0)..).next()?;
-        let (of_a, of_v, of_f, b) = *key;
+        let (key, _) = self.blocks.range(Place { b: 0, f, v, a }..).next()?;
+        let (of_a, of_v, of_f, b) = key.numbers();
         if of_a == a && of_v == v && of_f == f {
             Some(b)
         } else {
@@ -84,8 +85,8 @@ impl Server {
         ensures none { IfNone result ((k : BlockKey) → is_block_of a v k ≡ true
             → is_some ((server_state self.now).blocks k) ≡ false) }
     {
-        let (key, _) = self.blocks.range((a, v, 0, 0)..).next()?;
-        let (of_a, of_v, f, b) = *key;
+        let (key, _) = self.blocks.range(Place { b: 0, f: 0, v, a }..).next()?;
+        let (of_a, of_v, f, b) = key.numbers();
         if of_a == a && of_v == v {
             Some((f, b))
         } else {

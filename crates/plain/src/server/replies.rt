@@ -11,6 +11,7 @@ ghost use Rattle.meaning.specs.Serial.{accepted_reply, step};
 ghost use Rattle.plain.specs.Server.{server_state, IsConsistent};
 
 use super::Server;
+use super::places::Place;
 use affinity::{Geometry, Kind};
 use messages::{Block, Reply};
 
@@ -19,7 +20,7 @@ impl Server {
     pub(super) fn read_block(&self, a: u16, v: u16, f: u16, b: u16) -> Reply
         ensures { (g : Geometry) → result ≡ accepted_reply g (server_state self.now) (Msg.Read a v f b) }
     {
-        match self.blocks.get(&(a, v, f, b)) {
+        match self.blocks.get(&Place { b, f, v, a }) {
             Some(content) => Reply::Block(*content),
             None => Reply::Hole,
         }
@@ -64,7 +65,7 @@ impl Server {
     {
         let [a, v, f, b] = numbers;
         match kind {
-            Kind::Read => self.blocks.get(&(a, v, f, b)),
+            Kind::Read => self.blocks.get(&Place { b, f, v, a }),
             _ => None,
         }
     }

@@ -1,0 +1,96 @@
+//! The place of a block, by which the server's map of blocks is ordered. It is compared as one number: a search of the map compares some
+//! twenty of them.
+
+ghost use Rattle.std.specs.Prelude.{◌≡◌, ◌+◌, ◌*◌, refl};
+ghost use Rattle.std.specs.Cmp.{eq_by_cmp_equiv, partial_equiv_from_equiv, partial_order_from_total};
+ghost use Rattle.std.specs.Ordering.{as_partial_cmp, eq_by_cmp};
+ghost use Rattle.meaning.specs.KeyOrders.{block_order};
+ghost use Rattle.plain.specs.Places.{block_order_total, IsPlace};
+
+use std::cmp::Ordering;
+use std::marker::Model;
+
+/// The place of a block: its aggregate, volume, file and number. The number lies first, so that the compiler reads the four as one.
+#[derive(Drop, Clone, Copy)]
+pub(super) struct Place {
+    pub(super) b: u16,
+    pub(super) f: u16,
+    pub(super) v: u16,
+    pub(super) a: u16,
+}
+
+impl Model for Place {
+    ghost use Rattle.meaning.specs.State.{BlockKey};
+
+    ghost Value = { BlockKey };
+
+    ghost view = { λ place. (place.a, place.v, place.f, place.b) };
+
+    ghost inverse = { λ k. record { a = k.0; v = k.1; f = k.2; b = k.3 } };
+}
+
+impl Place {
+    /// The four numbers, from the aggregate on.
+    pub(super) fn numbers(&self) -> (u16, u16, u16, u16)
+        ensures { result ≡ self.now }
+    {
+        (self.a, self.v, self.f, self.b)
+    }
+
+    /// The four as one number, ordered as they are.
+    #[inline(always)]
+    fn number(&self) -> u64
+        ensures value { result ≡ ((self.now.0 * 65536 + self.now.1) * 65536 + self.now.2) * 65536 + self.now.3 }
+        ensures place { IsPlace self.now }
+    {
+        ((u64::from(self.a) * 65536 + u64::from(self.v)) * 65536 + u64::from(self.f)) * 65536
+            + u64::from(self.b)
+    }
+}
+
+impl PartialEq for Place {
+    ghost eq = { eq_by_cmp block_order };
+
+    ghost laws = { partial_equiv_from_equiv (eq_by_cmp_equiv block_order_total) };
+
+    fn eq(&self, other: &Place) -> bool {
+        self.number() == other.number()
+    }
+}
+
+impl Eq for Place {
+    ghost laws = { eq_by_cmp_equiv block_order_total };
+}
+
+impl PartialOrd for Place {
+    ghost partial_cmp = { as_partial_cmp block_order };
+
+    ghost laws = { partial_order_from_total block_order_total };
+
+    fn partial_cmp(&self, other: &Place) -> Option<Ordering> {
+        Some(self.cmp(other))
+    }
+}
+
+impl Ord for Place {
+    ghost cmp = { block_order };
+
+    ghost total = { block_order_total };
+
+    ghost matches_partial_cmp = { λ x y. refl };
+
+    ghost matches_eq = { λ x y. refl };
+
+    #[inline(always)]
+    fn cmp(&self, other: &Place) -> Ordering {
+        let number = self.number();
+        let others = other.number();
+        if number > others {
+            Ordering::Greater
+        } else if number == others {
+            Ordering::Equal
+        } else {
+            Ordering::Less
+        }
+    }
+}
