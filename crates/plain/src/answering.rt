@@ -121,12 +121,13 @@ fn add_whole_reply(
 }
 
 /// Answers a line that begins as a `write` with these numbers. `digits` is the rest of the line: if it
-/// encodes no block, the line is no message.
+/// encodes no block, the line is no message. The block is decoded into `content`, whose bytes are unspecified before and afterwards.
 #[inline(never)]
 fn answer_write(
     g: &Geometry,
     numbers: [u16; 4],
     digits: &[u8],
+    content: &mut Block,
     server: &mut Server,
     out: &mut ReplyBuffer,
 ) -> Result<(), AllocError>
@@ -139,12 +140,11 @@ fn answer_write(
         (option_map (writing numbers) (block_in_word digits.now))) }
     ensures out_of_memory { OnErr result (out.new ≡ out.old) }
 {
-    let mut content = Block([0; 512]);
-    if decode_block(digits, &mut content).is_none() {
+    if decode_block(digits, content).is_none() {
         out.add_no_message();
         return Ok(());
     }
-    let why = server.write(g, numbers, &content)?;
+    let why = server.write(g, numbers, content)?;
     add_outcome(why, out);
     Ok(())
 }
@@ -202,10 +202,11 @@ fn answer_without_data(
     }
 }
 
-/// Answers one line.
+/// Answers one line. The block of a `write` is decoded into `content`.
 fn answer_line(
     g: &Geometry,
     line: &[u8],
+    content: &mut Block,
     server: &mut Server,
     out: &mut ReplyBuffer,
 ) -> Result<(), AllocError>
@@ -224,7 +225,7 @@ fn answer_line(
             Ok(())
         }
         Head::WithoutData(kind, numbers) => answer_without_data(g, kind, numbers, server, out),
-        Head::Writes(numbers, digits) => answer_write(g, numbers, digits, server, out),
+        Head::Writes(numbers, digits) => answer_write(g, numbers, digits, content, server, out),
         Head::SetsLabel(numbers, digits) => {
             answer_set_label(g, numbers, digits, server, out);
             Ok(())
@@ -250,6 +251,7 @@ fn send_before_line<R: Read, W: Write>(
 fn answer_next<R: Read + Drop, W: Write>(
     g: &Geometry,
     lines: &mut LineReader<R>,
+    content: &mut Block,
     server: &mut Server,
     out: &mut ReplyBuffer,
     w: &mut W,
@@ -284,7 +286,7 @@ fn answer_next<R: Read + Drop, W: Write>(
     }
     send_before_line(lines, out, w)?;
     match lines.next_line() {
-        Ok(Found::Line) => match answer_line(g, lines.line(), server, out) {
+        Ok(Found::Line) => match answer_line(g, lines.line(), content, server, out) {
             Ok(()) => Ok(true),
             Err(_) => Err(PlainFault::OutOfMemory),
         },
@@ -320,8 +322,10 @@ fn answer_all<R: Read + Drop, W: Write>(
         (all_output (W.contents w.old) out.old) (all_output (W.contents w.new) out.new)
         (IsBeginning g.now (server_state server.old)) }
 {
+    // The one block into which each line's digits are decoded: to make one for each line takes a twentieth of a short line's instructions.
+    let mut content = Block([0; 512]);
     for _ in 0..u64::MAX {
-        if !answer_next(g, lines, server, out, w)? {
+        if !answer_next(g, lines, &mut content, server, out, w)? {
             return Ok(());
         }
     }
