@@ -1,5 +1,5 @@
 -- From what a service on a device has done follows the state from which a restart goes on.
-use Rattle.std.proofs.Common.{◌≡◌, ℕ, List, [], ◌++◌, Option, Some, None, ap, sym, ◌∙◌, subst, inl, inr, ⊎_elim, arith}
+use Rattle.std.proofs.Common.{◌≡◌, ◌⊎◌, ℕ, List, [], ◌++◌, Option, Some, None, ap, refl, sym, ◌∙◌, subst, inl, inr, ⊎_elim, arith}
 use Rattle.std.specs.Prelude.{Result, Ok, Err, OnOk}
 use Rattle.std.specs.Io.KnownBytes.{Appends}
 use Rattle.std.proofs.KnownBytes.{Appends-nil}
@@ -7,9 +7,12 @@ use Rattle.affinity.specs.declared.geometry.Geometry.{Geometry}
 use Rattle.checkpoint.proofs.NotRefused.{is_not_refused, has_header}
 use Rattle.checkpoint.proofs.OneGeometry.{one_geometry}
 use Rattle.checkpoint.specs.Recovery.{recovered_state}
-use Rattle.disk.proofs.Leaves.{synced_left}
+use Rattle.checkpoint.specs.Refusals.{IsRefused}
+use Rattle.checkpoint.specs.declared.fault.OpenFault.{OpenFault}
+use Rattle.checkpoint.specs.declared.fault.OpenFault.TheVariants as opening
+use Rattle.disk.proofs.Leaves.{itself, synced_left}
 use Rattle.disk.proofs.Moments.{counts_now}
-use Rattle.disk.specs.Device.{IsSynced, IsCrashImage, Medium}
+use Rattle.disk.specs.Device.{AreBytes, IsSynced, IsCrashImage, Medium}
 use Rattle.disk.specs.Memory.{Memory}
 use Rattle.disk.specs.Moments.{left_since, moment_number}
 use Rattle.disk.specs.declared.torn.Torn.{Torn}
@@ -21,6 +24,8 @@ use Rattle.runs.specs.DeviceEvents.{events_of}
 use Rattle.meaning.specs.Output.{WritesOutput, serial_output}
 use Rattle.meaning.specs.Serial.{state_after_all}
 use Rattle.meaning.specs.State.{State, empty}
+use Rattle.scheduler.proofs.Refusals.{recovers_or_refused}
+use Rattle.scheduler.specs.Opening.{IsShownByBytes}
 use Rattle.serving.proofs.Recovering.{none_written, bytes_recover}
 use Rattle.serving.proofs.Logged.{holds_all}
 use Rattle.serving.specs.Ends.{committed_in}
@@ -144,16 +149,30 @@ module _ (g : Geometry) {x : State} (old : Medium) (recovers : recovered_state g
       written_so input before written _ _
       (λ bytes out served. served.output ∙ (λ i. serial_output (own.0 i) (own.1 i) bytes)) h.1.3
 
-module _ (g : Geometry) (old new : Medium) (made : recovered_state g old.now ≡ Some empty) (c : List ℕ) (leaves : IsCrashImage new c) where
-  left_so : (input before written : Option (List ℕ)) → HoldsRecovered old input before written c → BytesRecover g empty input before written c
+-- Of the end of a service: the device could not be opened; or P holds, which holds unless it could not.
+opened_or : {P : Type 0} (end : Result (Unit {0}) Fault) → IfOpened end P → ((fault : OpenFault) × (end ≡ Err (ends.Open fault))) ⊎ P
+opened_or (Err (ends.Open fault)) h = inl (fault, refl)
+opened_or (Ok done) h = inr h
+opened_or (Err ends.Read) h = inr h
+opened_or (Err ends.Write) h = inr h
+opened_or (Err ends.GeometryOutOfRange) h = inr h
+opened_or (Err ends.OutOfMemory) h = inr h
+opened_or (Err ends.Device) h = inr h
+opened_or (Err ends.NoWorkers) h = inr h
+opened_or (Err ends.NoTicketLeft) h = inr h
+opened_or (Err (ends.Format fault)) h = inr h
+
+-- One run, on a device that is synced and recovers to state x, and what a crash leaves of it then.
+module _ (g : Geometry) (old new : Medium) {x : State} (made : recovered_state g old.now ≡ Some x) (synced : IsSynced old) (c : List ℕ) (leaves : IsCrashImage new c) where
+  left_so : (input before written : Option (List ℕ)) → HoldsRecovered old input before written c → BytesRecover g x input before written c
   left_so input before written h =
       let own = opened_so made h.recovered_before in
-      subst (λ (k : Geometry). BytesRecover k empty input before written c) own.0
+      subst (λ (k : Geometry). BytesRecover k x input before written c) own.0
       (subst (λ (y : State). BytesRecover h.geometry y input before written c) own.1 h.recovered)
 
-  -- A crash while the device is opened leaves what recovers to the same state, the empty one.
-  crashed_so : IsSynced old → OpeningCrashImages old new → recovered_state g c ≡ Some empty
-  crashed_so synced h = ⊎_elim (λ (was : IsCrashImage old c). ap (recovered_state g) (synced_left old c synced was) ∙ made) (λ (k : RecoversAsBefore old.now c). k.same g empty made)
+  -- A crash while the device is opened leaves what recovers to the same state.
+  crashed_so : OpeningCrashImages old new → recovered_state g c ≡ Some x
+  crashed_so h = ⊎_elim (λ (was : IsCrashImage old c). ap (recovered_state g) (synced_left old c synced was) ∙ made) (λ (k : RecoversAsBefore old.now c). k.same g x made)
       (⊎_elim
       (λ (same : new ≡ h.synced).
       inl (h.first.each c (counts_now h.synced (moment_number old) c h.first.later (subst (λ (m : Medium). IsCrashImage m c) same leaves))))
@@ -163,47 +182,77 @@ module _ (g : Geometry) (old new : Medium) (made : recovered_state g old.now ≡
       (counts_now new (moment_number old) c (let a = h.first.later in let b = past.later.later in omega (arith, a, b)) leaves))) h.rest)
 
   -- where the device could not be opened
-  left_unopened : (input before written : Option (List ℕ)) → IsSynced old → OpeningCrashImages old new → written ≡ before → BytesRecover g empty input before written c
-  left_unopened input before written synced opening unwritten =
-      record { now = empty; holds_now = crashed_so synced opening; recovers = silent input }
+  left_unopened : (input before written : Option (List ℕ)) → OpeningCrashImages old new → written ≡ before → BytesRecover g x input before written c
+  left_unopened input before written opening unwritten =
+      record { now = x; holds_now = crashed_so opening; recovers = silent input }
     where
-      silent : (input : Option (List ℕ)) → WritesOutput input before written (RecoversTo g empty empty)
+      silent : (input : Option (List ℕ)) → WritesOutput input before written (RecoversTo g x x)
       silent None = tt
       silent (Some bytes) =
-          ([], subst (λ (w : Option (List ℕ)). Appends before w []) (sym unwritten) (Appends-nil before), none_written g empty bytes)
+          ([], subst (λ (w : Option (List ℕ)). Appends before w []) (sym unwritten) (Appends-nil before), none_written g x bytes)
 
-  module _ (s : ServeOptions) (input left before written : Option (List ℕ)) where
-    left_served : (end : Result (Unit {0}) Fault) → (ended : Result (Unit {0}) ServeFault) × (end ≡ command_result ended) × HasServedBy (Unit {0}) s old new ended input left before written
-        → BytesRecover g empty input (known_unless_write_failed end before) written c
-    left_served end h = left_so input (known_unless_write_failed end before) written
-        (subst (λ (e : Result (Unit {0}) Fault). HoldsRecovered old input (known_unless_write_failed e before) written c) (sym h.1)
-        (recovered_at h.0 h.2 tt c leaves))
+  module _ (s : ServeOptions) (end : Result (Unit {0}) Fault) (input left before written : Option (List ℕ)) where
+    left_at : EndsOnDevice (Unit {0}) s old new end input left before written → CrashesSafely (Unit {0}) s old new end input left before written
+        → IfOpened end (HoldsRecovered old input (known_unless_write_failed end before) written c)
+        → BytesRecover g x input (known_unless_write_failed end before) written c
+    left_at e safe recovers = ⊎_elim
+        (λ (why : (fault : OpenFault) × (end ≡ Err (ends.Open fault))).
+        subst (λ (r : Result (Unit {0}) Fault). BytesRecover g x input (known_unless_write_failed r before) written c) (sym why.1)
+        (left_unopened input before written
+        (subst (λ (r : Result (Unit {0}) Fault). CrashesSafely (Unit {0}) s old new r input left before written) why.1 safe tt)
+        (subst (λ (r : Result (Unit {0}) Fault). EndsOnDevice (Unit {0}) s old new r input left before written) why.1 e).2))
+        (λ (h : HoldsRecovered old input (known_unless_write_failed end before) written c). left_so input (known_unless_write_failed end before) written h)
+        (opened_or end recovers)
 
-    left_at : (end : Result (Unit {0}) Fault) → IsSynced old → CrashesSafely (Unit {0}) s old new end input left before written
-        → EndsOnDevice (Unit {0}) s old new end input left before written → BytesRecover g empty input (known_unless_write_failed end before) written c
-    left_at (Err (ends.Open fault)) synced h e = left_unopened input before written synced (h tt) e.2
-    left_at (Ok done) synced h e = left_served (Ok done) h
-    left_at (Err ends.Read) synced h e = left_served (Err ends.Read) h
-    left_at (Err ends.Write) synced h e = left_served (Err ends.Write) h
-    left_at (Err ends.GeometryOutOfRange) synced h e = left_served (Err ends.GeometryOutOfRange) h
-    left_at (Err ends.OutOfMemory) synced h e = left_served (Err ends.OutOfMemory) h
-    left_at (Err ends.Device) synced h e = left_served (Err ends.Device) h
-    left_at (Err ends.NoWorkers) synced h e = left_served (Err ends.NoWorkers) h
-    left_at (Err ends.NoTicketLeft) synced h e = left_served (Err ends.NoTicketLeft) h
-    left_at (Err (ends.Format fault)) synced h e = left_served (Err (ends.Format fault)) h
+module _ (g : Geometry) (s : ServeOptions) (old new : Medium) (end : Result (Unit {0}) Fault) (input left before written : Option (List ℕ)) where
+  -- A device that recovers to a state is opened, unless it fails or memory is wanting.
+  opens_so : {x : State} → AreBytes old.now → recovered_state g old.now ≡ Some x → EndsOnDevice (Unit {0}) s old new end input left before written
+      → (fault : OpenFault) → end ≡ Err (ends.Open fault) → (fault ≡ opening.Device) ⊎ (fault ≡ opening.OutOfMemory)
+  opens_so {x} bytes recovers h fault is =
+      not_shown fault (recovers_or_refused old.now g x fault bytes recovers)
+      ((subst (λ (e : Result (Unit {0}) Fault). EndsOnDevice (Unit {0}) s old new e input left before written) is h).0 tt).0
+    where
+      not_shown : (fault : OpenFault) → (IsShownByBytes fault → IsRefused old.now fault → ⊥) → IsRefused old.now fault → (fault ≡ opening.Device) ⊎ (fault ≡ opening.OutOfMemory)
+      not_shown opening.Device none is = inl refl
+      not_shown opening.OutOfMemory none is = inr refl
+      not_shown opening.TooShort none is = absurd (none tt is)
+      not_shown opening.NotFormatted none is = absurd (none tt is)
+      not_shown opening.BadGeometry none is = absurd (none tt is)
+      not_shown opening.BadVersion none is = absurd (none tt is)
+      not_shown (opening.BadPiece n) none is = absurd (none tt is)
+      not_shown opening.BadChain none is = absurd (none tt is)
+      not_shown (opening.BadRecord h i) none is = absurd (none tt is)
 
--- A device that was just made was served until it was crashed, and then served again: what the two runs wrote is as `IsRestart` says.
-pub restart : {g : Geometry} {s : ServeOptions} {began : Medium} {torn : Torn} {crashed : Memory} (last : Medium)
-    {first second : Result (Unit {0}) Fault} {input left before written next_input : Option (List ℕ)} (next_left : Option (List ℕ))
-    {next_before next_written : Option (List ℕ)} → recovered_state g began.now ≡ Some empty → IsSynced began
-    → HasServedUntilCrash s began torn crashed first input left before written
-    → EndsOnDevice (Unit {0}) s crashed.medium last second next_input next_left next_before next_written
-    → IsRestart g first second input before written next_input next_before next_written
-restart {g} {s} {began} {crashed} last {first} {second} next_left made synced h ends =
-    let one = left_at g began h.ended.medium made crashed.medium.now h.leaves s _ _ _ _ first synced h.crash_safe h.ends in
-    record {
-      now = one.now;
-      recovers = one.recovers;
-      all_answered = serves_so g began made s _ first _ _ _ _ h.ends;
-      next = serves_so g crashed.medium one.holds_now s last second _ next_left _ _ ends;
-    }
+-- A device that was just made was served until it was crashed, and then served again.
+module _ (g : Geometry) {s : ServeOptions} {began : Medium} {torn : Torn} {crashed : Memory} {first : Result (Unit {0}) Fault}
+    {input left before written : Option (List ℕ)} (made : recovered_state g began.now ≡ Some empty) (synced : IsSynced began)
+    (h : HasServedUntilCrash s began torn crashed first input left before written)
+    (held : IfOpened first (HoldsRecovered began input (known_unless_write_failed first before) written crashed.medium.now)) where
+  one : BytesRecover g empty input (known_unless_write_failed first before) written crashed.medium.now
+  one = left_at g began h.ended.medium made synced crashed.medium.now h.leaves s first input left before written h.ends h.crash_safe held
+
+  module _ (last : Medium) (second : Result (Unit {0}) Fault) (next_input next_left next_before next_written : Option (List ℕ))
+      (e : EndsOnDevice (Unit {0}) s crashed.medium last second next_input next_left next_before next_written) where
+    -- What the two runs wrote is as `IsRestart` says.
+    pub restart : AreBytes last.now → CrashesSafely (Unit {0}) s crashed.medium last second next_input next_left next_before next_written
+        → LeavesRecovered (Unit {0}) crashed.medium last second next_input next_before next_written
+        → IsRestart g first second input before written next_input next_before next_written
+    restart bytes safe recovers =
+        let leaves = itself last.now last.unsynced bytes in
+        let synced : IsSynced crashed.medium = subst (λ (m : Memory). IsSynced m.medium) (sym h.crash) refl in
+        let next = left_at g crashed.medium last one.holds_now synced last.now leaves s second next_input next_left next_before next_written e safe
+        (opened_then second (λ k. k tt last.now leaves) recovers) in
+        record {
+          now = one.now;
+          later = next.now;
+          recovers = one.recovers;
+          all_answered = serves_so g began made s h.ended.medium first input left before written h.ends;
+          next = next.recovers;
+          next_all_answered = serves_so g crashed.medium one.holds_now s last second next_input next_left next_before next_written e;
+        }
+
+    -- Either run opened its device, unless that failed or memory was wanting.
+    pub opens : AreBytes began.now → (fault : OpenFault) → (first ≡ Err (ends.Open fault)) ⊎ (second ≡ Err (ends.Open fault))
+        → (fault ≡ opening.Device) ⊎ (fault ≡ opening.OutOfMemory)
+    opens bytes fault = ⊎_elim (opens_so g s began h.ended.medium first input left before written bytes made h.ends fault)
+        (opens_so g s crashed.medium last second next_input next_left next_before next_written h.leaves.bytes one.holds_now e fault)

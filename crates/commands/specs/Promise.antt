@@ -15,15 +15,19 @@ known_unless_write_failed (Err Write) before = None
 known_unless_write_failed _ before = before
 
 -- A server ran from the empty state on one input and ended, and its device crashed. A second server ran on what the crash left, with
--- another input.
+-- another input. However it ends, what it wrote is the serial server's output for the first lines of that, from the state that the crash
+-- left.
 pub record IsRestart (g : Geometry) (first second : Result (Unit {0}) Fault)
     (input before after next_input next_before next_after : Option (List ℕ)) : Type 0 where
   -- the state that the crash left
   pub now : State
+  -- the one that the second server left
+  pub later : State
   pub recovers : WritesOutput input (known_unless_write_failed first before) after (RecoversTo g empty now)
-  -- if the first server ended without a fault, all of its input was answered
+  -- if a server ended without a fault, all of its input was answered
   pub all_answered : OnOk first (WritesOutput input before after (λ bytes out. out ≡ serial_output g empty bytes))
-  pub next : OnOk second (WritesOutput next_input next_before next_after (λ bytes out. out ≡ serial_output g now bytes))
+  pub next : WritesOutput next_input (known_unless_write_failed second next_before) next_after (RecoversTo g now later)
+  pub next_all_answered : OnOk second (WritesOutput next_input next_before next_after (λ bytes out. out ≡ serial_output g now bytes))
 
 -- ---- the same of the bytes of a device
 

@@ -1,6 +1,8 @@
 //! The promise of a service over a crash, in bytes alone: what went into two incarnations of a device, and what came out.
-ghost use Rattle.std.specs.Prelude.{◌≡◌, ◌≢◌, ◌<◌, IfOk, IfErr};
+ghost use Rattle.std.specs.Prelude.{◌≡◌, ◌≢◌, ◌<◌, ◌⊎◌, Err, IfOk, IfErr};
 ghost use Rattle.checkpoint.specs.Recovery.{recovered_state};
+ghost use Rattle.checkpoint.specs.declared.fault.OpenFault.{OpenFault};
+ghost use Rattle.checkpoint.specs.declared.fault.OpenFault.TheVariants as opening;
 ghost use Rattle.commands.specs.Promise.{IsRestart};
 ghost use Rattle.commands.specs.declared.faults.Fault.TheVariants as faults;
 ghost use Rattle.disk.specs.Device.{IsSynced};
@@ -53,6 +55,9 @@ pub fn serve_again<T: Threads + Wait + Sync, R: Read, W: Write, S: Read, V: Writ
     requires bytes { HasPattern torn }
     ensures restart { IfOk result (λ ends. IsRestart geometry ends.0 ends.1 (R.remaining r.old) (W.contents w.old) (W.contents w.new)
         (S.remaining next_r.old) (V.contents next_w.old) (V.contents next_w.new)) }
+    // Each of them opened its device, unless that failed or memory was wanting.
+    ensures opens { IfOk result (λ ends. (fault : OpenFault) → (ends.0 ≡ Err (faults.Open fault)) ⊎ (ends.1 ≡ Err (faults.Open fault))
+        → (fault ≡ opening.Device) ⊎ (fault ≡ opening.OutOfMemory)) }
     ensures unread { IfErr result (λ _. (R.remaining r.new ≡ R.remaining r.old) × (S.remaining next_r.new ≡ S.remaining next_r.old)) }
     ensures unwritten { IfErr result (λ _. (W.contents w.new ≡ W.contents w.old) × (V.contents next_w.new ≡ V.contents next_w.old)) }
     ensures streams { IfErr result (λ fault. (fault ≢ faults.Read) × (fault ≢ faults.Write)) }

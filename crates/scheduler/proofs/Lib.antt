@@ -1,5 +1,6 @@
--- ---- for the crates above: the calls of a core as events, and that jobs stay what they are
+-- ---- for the crates above: the calls of a core as events, that jobs stay what they are, and which devices are refused
 pub mod Called
+pub mod Refusals
 pub mod Staying
 -- ---- this crate's own
 mod Examples
@@ -25,4 +26,3 @@ mod Shifting
 mod Gathering
 mod LogCall
 mod Opened
-mod Refusals
