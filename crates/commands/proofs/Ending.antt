@@ -16,7 +16,7 @@ use Rattle.commands.specs.declared.serve_options.ServeOptions.{ServeOptions}
 use Rattle.commands.proofs.Services.{service_same}
 use Rattle.disk.specs.declared.fault.FileFault.TheVariants as file
 use Rattle.commands.specs.Calls.{Ends, ExitsFormat, ExitsHelp, ExitsPlain, ExitsRefused, ExitsServe, ExitsShow, status_at, status_of_refusal}
-use Rattle.commands.specs.Services.{AsksServe, with_at_most_64_workers}
+use Rattle.commands.specs.Services.{AsksServe, within_limits}
 use Rattle.commands.specs.Faults.{status_of}
 use Rattle.arguments.proofs.Asking.{no_mistake, two_names}
 use Rattle.arguments.proofs.Options.{in_range}
@@ -130,5 +130,5 @@ served_on arguments (Plain h) end given asks ends = absurd (given.1.2 asks.1)
 served_on arguments (Format there h) end given asks ends = let same : codes "format" ≡ codes "serve" = two_names _ _ (command_of arguments) given.1 asks.1 in cc
 served_on arguments (Show there) end given asks ends = let same : codes "show" ≡ codes "serve" = two_names _ _ (command_of arguments) given.1 asks.1 in cc
 served_on arguments (Serve there t) {s} end {input} {left} {old} {new} given asks ends =
-    (end, refl, subst (λ u. EndsInFile u end input left old new) (service_same ends.0 s (ends.1 ∙ ap with_at_most_64_workers given.3 ∙ sym asks.3)) ends.2)
+    (end, refl, subst (λ u. EndsInFile u end input left old new) (service_same ends.0 s (ends.1 ∙ ap within_limits given.3 ∙ sym asks.3)) ends.2)
 served_on arguments (Help text) end given asks ends = absurd (subst (IsAmong (kind_of text)) asks.0 given.0)

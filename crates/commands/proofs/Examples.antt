@@ -6,7 +6,7 @@ use Rattle.checkpoint.specs.declared.inspecting.Shown.{Shown}
 use Rattle.messages.specs.declared.Reply.TheVariants.{Summary}
 use Rattle.device_map.specs.Layout.{image_size}
 use Rattle.commands.specs.Lines.{formatted_line, shown_lines}
-use Rattle.commands.specs.Services.{AsksServe, with_at_most_64_workers}
+use Rattle.commands.specs.Services.{AsksServe, within_limits}
 use Rattle.arguments.proofs.Examples as given
 
 small_is_formatted : formatted_line small ≡ codes "formatted 8840" ++ 10 ∷ []
@@ -22,13 +22,13 @@ unfolding digits
 small_is_shown = refl
 
 -- the program's own name is any text
-asks_serve : (program : List ℕ) → AsksServe (program ∷ codes "serve" ∷ codes "d" ∷ []) (codes "d") (record { workers = 2; slots = 16; every = 0; few = lit≤ tt })
+asks_serve : (program : List ℕ) → AsksServe (program ∷ codes "serve" ∷ codes "d" ∷ []) (codes "d") (record { workers = 2; slots = 16; every = 0; few = lit≤ tt; some = lit≤ tt; most = lit≤ tt })
 asks_serve program =
     let asks = given.asks_serve program in
-    (asks.0, asks.1, asks.2, ap with_at_most_64_workers asks.3)
+    (asks.0, asks.1, asks.2, ap within_limits asks.3)
 
 asks_serve_with_numbers : (program : List ℕ) → AsksServe (program ∷ codes "serve" ∷ codes "--workers=4" ∷ codes "d" ∷ codes "--every" ∷ codes "9" ∷ []) (codes "d")
-    (record { workers = 4; slots = 16; every = 9; few = lit≤ tt })
+    (record { workers = 4; slots = 16; every = 9; few = lit≤ tt; some = lit≤ tt; most = lit≤ tt })
 asks_serve_with_numbers program =
     let asks = given.asks_serve_with_numbers program in
-    (asks.0, asks.1, asks.2, ap with_at_most_64_workers asks.3)
+    (asks.0, asks.1, asks.2, ap within_limits asks.3)

@@ -7,14 +7,17 @@ use Rattle.commands.specs.declared.serve_options.ServeOptions.{ServeOptions}
 abbrev Numbers : Type 0
 Numbers = ℕ × ℕ × ℕ
 
-abbrev made_of : (n : Numbers) → n.0 ≤ 64 → ServeOptions
-made_of n few = record { workers = n.0; slots = n.1; every = n.2; few = few }
+abbrev Bounds : Numbers → Type 0
+Bounds n = (n.0 ≤ 64) × (1 ≤ n.1) × (n.1 ≤ 1024)
 
-same_bound : (n : Numbers) (a b : n.0 ≤ 64) → a ≡ b
-same_bound n = hlevel (le_prop)
+abbrev made_of : (n : Numbers) → Bounds n → ServeOptions
+made_of n b = record { workers = n.0; slots = n.1; every = n.2; few = b.0; some = b.1; most = b.2 }
 
-made_of-same : (n m : Numbers) → n ≡ m → (a : n.0 ≤ 64) (b : m.0 ≤ 64) → made_of n a ≡ made_of m b
-made_of-same n m e a = subst (λ (m : Numbers). (b : m.0 ≤ 64) → made_of n a ≡ made_of m b) e (λ b. ap (made_of n) (same_bound n a b))
+same_bounds : (n : Numbers) (a b : Bounds n) → a ≡ b
+same_bounds n = hlevel (le_prop)
+
+made_of-same : (n m : Numbers) → n ≡ m → (a : Bounds n) (b : Bounds m) → made_of n a ≡ made_of m b
+made_of-same n m e a = subst (λ (m : Numbers). (b : Bounds m) → made_of n a ≡ made_of m b) e (λ b. ap (made_of n) (same_bounds n a b))
 
 -- the three numbers of a list
 numbers_in : List ℕ → Numbers
@@ -23,4 +26,4 @@ numbers_in _ = (0, 0, 0)
 
 pub service_same : (s t : ServeOptions) → options_in_order s ≡ options_in_order t → s ≡ t
 unfolding numbers_in
-service_same s t e = made_of-same (s.workers, s.slots, s.every) (t.workers, t.slots, t.every) (ap numbers_in e) s.few t.few
+service_same s t e = made_of-same (s.workers, s.slots, s.every) (t.workers, t.slots, t.every) (ap numbers_in e) (s.few, s.some, s.most) (t.few, t.some, t.most)

@@ -7,7 +7,7 @@ use Rattle.commands.specs.Serving.{EndsInFile, options_in_order}
 use Rattle.commands.specs.declared.faults.Fault.{Fault}
 use Rattle.commands.specs.declared.faults.Fault.TheVariants.{Write, GeometryOutOfRange, OutOfMemory}
 use Rattle.commands.specs.declared.serve_options.ServeOptions.{ServeOptions}
-use Rattle.commands.specs.Services.{with_at_most_64_workers}
+use Rattle.commands.specs.Services.{within_limits}
 use Rattle.arguments.specs.Arguments.{service_numbers}
 use Rattle.arguments.specs.declared.parsing.Request.{Request}
 use Rattle.arguments.specs.declared.parsing.Request.TheVariants.{Help, Plain, Format, Show, Serve}
@@ -24,7 +24,7 @@ Ends (Plain g) end input remaining old new = EndsInMemory g end input remaining 
 Ends (Format path g) end input remaining old new = (remaining ≡ input) × EndsFormatting g end old new
 Ends (Show path) end input remaining old new = (remaining ≡ input) × EndsShowing end old new
 Ends (Serve path given) end input remaining old new = (s : ServeOptions)
-    × (options_in_order s ≡ with_at_most_64_workers (service_numbers given)) × EndsInFile s end input remaining old new
+    × (options_in_order s ≡ within_limits (service_numbers given)) × EndsInFile s end input remaining old new
 
 -- the exit status at this end
 abbrev pub status_at : Result (Unit {0}) Fault → ℕ

@@ -1,17 +1,17 @@
 -- Statement for engineers: The service that arguments ask for.
-use Rattle.std.specs.Prelude.{◌≡◌, ℕ, List, [], ◌∷◌, codes, min}
+use Rattle.std.specs.Prelude.{◌≡◌, ℕ, List, [], ◌∷◌, codes, max, min}
 use Rattle.clap.specs.Words.{Text}
 use Rattle.commands.specs.Serving.{options_in_order}
 use Rattle.commands.specs.declared.serve_options.ServeOptions.{ServeOptions}
 use Rattle.arguments.specs.Arguments.{IsNamed, command_of, device_at, findings, service_at}
 
--- the numbers of a server's options, from those that the arguments give: the first, the number of workers, is at most 64, whatever they say
-abbrev pub with_at_most_64_workers : List ℕ → List ℕ
-with_at_most_64_workers [] = []
-with_at_most_64_workers (workers ∷ others) = min workers 64 ∷ others
+-- the numbers of a server's options, from those that the arguments give: at most 64 workers and 1 to 1024 slots, whatever they say
+abbrev pub within_limits : List ℕ → List ℕ
+within_limits (workers ∷ slots ∷ others) = min workers 64 ∷ max (min slots 1024) 1 ∷ others
+within_limits others = others
 
 -- The arguments ask for service with the device in the file of this path. `findings`: a call for help or the version, or mistakes.
 abbrev pub AsksServe : List Text → Text → ServeOptions → Type 0
 AsksServe arguments path s =
     (findings arguments ≡ []) × IsNamed (codes "serve") (command_of arguments) × (path ≡ device_at (command_of arguments))
-    × (options_in_order s ≡ with_at_most_64_workers (service_at (command_of arguments)))
+    × (options_in_order s ≡ within_limits (service_at (command_of arguments)))

@@ -2,7 +2,7 @@
 ghost use Rattle.std.specs.Prelude.{◌≡◌, ◌⊎◌, ℕ, List, [], ◌∷◌, codes, map, string_bytes};
 ghost use Rattle.affinity.specs.Geometry.{default_geometry};
 ghost use Rattle.commands.specs.Calls.{Ends, ExitsFormat, ExitsHelp, ExitsPlain, ExitsRefused, ExitsServe, ExitsShow, status_of_refusal};
-ghost use Rattle.commands.specs.Services.{AsksServe, with_at_most_64_workers};
+ghost use Rattle.commands.specs.Services.{AsksServe, within_limits};
 ghost use Rattle.arguments.specs.Arguments.{AsksFormat, AsksHelp, RunsNoCommand, AsksPlain, AsksShow, AsksVersion, AreRefused, service_numbers};
 ghost use Rattle.affinity.specs.declared.geometry.Geometry.{Geometry};
 ghost use Rattle.commands.specs.Serving.{options_in_order};
@@ -23,10 +23,10 @@ use std::rt::Files;
 use std::sync::Wait;
 use std::thread::Threads;
 
-/// The options of `serve` with these numbers: workers, but 64 at most; slots, i.e. lines that may be outstanding; and after how many
-/// records a checkpoint is due.
+/// The options of `serve` with these numbers: workers, but 64 at most; slots, i.e. lines that may be outstanding, 1 to 1024; and after how
+/// many records a checkpoint is due.
 fn service_of(numbers: ServiceNumbers) -> ServeOptions
-    ensures { options_in_order result ≡ with_at_most_64_workers (service_numbers numbers) }
+    ensures { options_in_order result ≡ within_limits (service_numbers numbers) }
 {
     ServeOptions::new(numbers.workers, numbers.slots, numbers.every)
 }

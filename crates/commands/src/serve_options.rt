@@ -4,33 +4,37 @@ ghost use Rattle.std.specs.Prelude.{◌≤◌};
 /// How many workers a server has at most.
 const MOST_WORKERS: u16 = 64;
 
+const MOST_SLOTS: u16 = 1024;
+
 /// The options of a server on a device.
 #[derive(Clone, Copy, Debug)]
 pub struct ServeOptions {
     /// Threads that run messages, 0 to 64. With none of them nothing is served.
     pub workers: u16,
 
-    /// How many lines may be outstanding: read, and the reply not sent. At least 1: with 0 no line is read and serving never ends. No
-    /// contract excludes it; the command line does.
+    /// How many lines may be outstanding: read, and the reply not sent. 1 to 1024.
     pub slots: u16,
 
     /// How many records are logged before a checkpoint is made. With 0 a checkpoint is made only where the log has no room, and at the end
     /// of the input.
     pub every: u16,
     pub ghost few: { workers ≤ 64 },
+    pub ghost some: { 1 ≤ slots },
+    pub ghost most: { slots ≤ 1024 },
 }
 
 impl ServeOptions {
-    ghost use Rattle.std.specs.Prelude.{◌≡◌, ◌∷◌, [], min};
+    ghost use Rattle.std.specs.Prelude.{◌≡◌, ◌∷◌, []};
     ghost use Rattle.commands.specs.Serving.{options_in_order};
+    ghost use Rattle.commands.specs.Services.{within_limits};
 
-    /// These options, with at most 64 workers.
+    /// These options, with at most 64 workers and 1 to 1024 slots.
     pub fn new(workers: u16, slots: u16, every: u16) -> ServeOptions
-        ensures { options_in_order result ≡ min workers 64 ∷ slots ∷ every ∷ [] }
+        ensures { options_in_order result ≡ within_limits (workers ∷ slots ∷ every ∷ []) }
     {
         ServeOptions {
             workers: workers.min(MOST_WORKERS),
-            slots,
+            slots: slots.min(MOST_SLOTS).max(1),
             every,
         }
     }

@@ -41,14 +41,14 @@ pub(crate) fn holds(rt: &impl Abort, fact: bool) {
     assert!(rt; fact);
 }
 
-/// A machine with these numbers of slots and hands on this device; where it is refused, the device and why.
+/// A machine with these numbers of slots (1 to 1024) and hands on this device; where it is refused, the device and why.
 pub(crate) fn open_machine(
     alloc: Global,
     device: MemDisk,
     slots: usize,
     hands: usize,
 ) -> Result<Machine<MemDisk>, (MemDisk, OpenFault)> {
-    let core = match Core::open(alloc, device, slots) {
+    let core = match Core::open(alloc, device, slots.min(1024).max(1)) {
         Ok(core) => core,
         Err(e) => return Err((e.disk, e.fault)),
     };

@@ -27,6 +27,7 @@ pub(crate) struct CoreMemory {
 /// Memory for `slots` messages, with none in it. The device's geometry isn't known yet: the run queue begins with the default
 /// geometry (`default_geometry` in clauses), which `set_geometry` replaces, and has room for any. `AllocError` where there is no memory.
 pub(crate) fn take_memory(alloc: Global, slots: usize) -> Result<CoreMemory, AllocError>
+    requires few { slots ≤ 1024 }
     ensures arena { IfOk result (λ m. m.slots ≡ empty_arena slots 4) }
     ensures partitioned { IfOk result (λ m. IsPartitioned m.slots) }
     ensures replies { IfOk result (λ m. length m.replies.items ≡ slots) }
@@ -34,9 +35,6 @@ pub(crate) fn take_memory(alloc: Global, slots: usize) -> Result<CoreMemory, All
     ensures batch { IfOk result (λ m. m.batch.items ≡ []) }
     ensures room { IfOk result (λ m. slots ≤ vec_capacity m.batch) }
 {
-    if slots >= usize::MAX - CHAINS {
-        return Err(AllocError);
-    }
     Ok(CoreMemory {
         slots: Arena::with_capacity(alloc, slots, CHAINS)?,
         replies: vec![in alloc; Reply::Done; slots]?,

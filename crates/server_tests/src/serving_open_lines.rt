@@ -25,8 +25,8 @@ fn reads(alloc: Global) -> Result<Vec<u8>, AllocError> {
     Ok(lines)
 }
 
-/// Serves these lines to a writer whose n-th call fails. Returns how many were read by then, which is the ticket that the core gives next,
-/// and how many of their answers were written and flushed. `Unfit` where the server ended by no write fault.
+/// Serves these lines, with 1 to 1024 slots, to a writer whose n-th call fails. Returns how many were read by then, which is the ticket
+/// that the core gives next, and how many of their answers were written and flushed. `Unfit` where the server ended by no write fault.
 fn stopped_at<T: Threads + Wait + Sync>(
     rt: &T,
     alloc: Global,
@@ -44,7 +44,7 @@ fn stopped_at<T: Threads + Wait + Sync>(
         notes: &notes,
     };
     let device: MemDisk = device_with(alloc, SMALL, &[])?;
-    let Ok(core) = Core::open(alloc, device, slots) else {
+    let Ok(core) = Core::open(alloc, device, slots.min(1024).max(1)) else {
         return Err(Wrong::OutOfMemory);
     };
     // With two workers, without checkpoints by a count of records, and with hooks that do nothing.

@@ -97,7 +97,7 @@ fn fault_end<D: Disk>(core: &mut Core<D>, fault: ServeFault) -> End {
     End::Fault(fault)
 }
 
-/// Opens a device and serves on it, with at most 64 workers.
+/// Opens a device and serves on it, with at most 64 workers and 1 to 1024 slots.
 pub(crate) fn serve_on<T: Threads + Wait + Sync, R: Read, W: Write, D: Disk + Drop, G: Gate + Sync>(
     rt: &T,
     alloc: Global,
@@ -107,7 +107,7 @@ pub(crate) fn serve_on<T: Threads + Wait + Sync, R: Read, W: Write, D: Disk + Dr
     w: &mut W,
     gate: &G,
 ) -> Ended<D> {
-    let core = match Core::open(alloc, device, way.slots) {
+    let core = match Core::open(alloc, device, way.slots.min(1024).max(1)) {
         Ok(core) => core,
         Err(e) => {
             return Ended {
