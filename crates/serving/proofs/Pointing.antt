@@ -1,6 +1,6 @@
 -- Steps of a checkpoint: what is left of it, and that they fail only where the device does.
 use Rattle.std.proofs.Common.{◌≡◌, ◌≢◌, ℕ, ◌-◌, true, false, List, [], length, Option, Some, None, Result, Ok, Err, refl, ap, sym, subst, ◌∙◌}
-use Rattle.std.specs.Prelude.{Bool, if◌then◌else◌, is_some, nat_lt, MatchResult, OnErr, OnOk}
+use Rattle.std.specs.Prelude.{Bool, if◌then◌else◌, is_some, nat_lt, IfOk, MatchBool, MatchResult, OnErr, OnOk}
 use Rattle.std.proofs.lemmas.Bool.{true≢false}
 use Rattle.std.proofs.lemmas.Option.{none-some}
 use Rattle.legal_runs.specs.Events.{pieces_after, point_refusal}
@@ -8,7 +8,6 @@ use Rattle.legal_runs.specs.CoreState.{Entry, CoreState, held}
 use Rattle.legal_runs.specs.declared.outcomes.PointRefusal.{PointRefusal}
 use Rattle.legal_runs.specs.declared.outcomes.PointRefusal.TheVariants as points
 use Rattle.scheduler.specs.Calls.{IsPieceStep, IsCheckpointStep}
-use Rattle.serving.specs.Session.{BeginsOrWaits}
 use Rattle.serving.specs.declared.session.Halted.{Halted}
 
 -- ---- why a step is refused
@@ -86,21 +85,21 @@ module _ (old : CoreState) (pieces_left : old.pieces_left ≡ None) (new : CoreS
   none_waits none_held true e = true≢false (sym (ap is_held e))
   none_waits none_held false e = none-some points.Held (none_rests none_held ∙ e)
 
-  -- A session that halts at the result of `cut` does so because the device has failed. If it doesn't halt and no message is held, the
-  -- checkpoint has begun (`begins`).
-  pub halts : {same : Type 0} (output_works : Type 0) (cut : Result (Unit {0}) PointRefusal) (result : Result (Unit {0}) Halted)
-      → IsCheckpointStep old new (point_refusal old) made cut → BeginsOrWaits cut result → same → MatchResult result (λ _. same) (λ _. output_works → new.failed ≡ true)
-  halts output_works cut (Ok x) h b s = s
-  halts output_works (Ok x) (Err y) h b s = absurd b
-  halts output_works (Err why) (Err y) h b s = λ _. begins_or_fails why b h
+  -- A session that halts at a refusal of `cut` does so because the device has failed. If it doesn't halt, nothing has changed, and a
+  -- message is held (`waits`).
+  pub halts : {same : Type 0} (output_works : Type 0) (why : PointRefusal) (result : Result Bool Halted) → IsCheckpointStep old new (point_refusal old) made (Err why)
+      → MatchResult result (λ it. (it ≡ false) × (why ≡ points.Held)) (λ _. why ≢ points.Held) → same → MatchResult result (λ _. same) (λ _. output_works → new.failed ≡ true)
+  halts output_works why (Ok it) h w s = s
+  halts output_works why (Err y) h w s = λ _. begins_or_fails why w h
 
-  pub begins : {begun : Type 0} → (made → begun) → (cut : Result (Unit {0}) PointRefusal) (result : Result (Unit {0}) Halted)
-      → IsCheckpointStep old new (point_refusal old) made cut → BeginsOrWaits cut result → OnOk result (held new ≡ [] → begun)
-  begins so cut (Err y) h b = tt
-  begins so (Ok x) (Ok y) h b = λ _. so h.1
-  begins so (Err why) (Ok y) h b = λ none_held.
-      let k = subst (λ (r : PointRefusal). IsCheckpointStep old new (point_refusal old) made (Err r)) b h in
-      absurd (none_waits (ap held (sym k.1) ∙ none_held) old.failed k.0)
+  pub waits : (begun : Type 0) (why : PointRefusal) (result : Result Bool Halted) → IsCheckpointStep old new (point_refusal old) made (Err why)
+      → MatchResult result (λ it. (it ≡ false) × (why ≡ points.Held)) (λ _. why ≢ points.Held)
+      → IfOk result (λ it. MatchBool it begun ((new.pieces_left ≡ None) × (held new ≢ [])))
+  waits begun why (Ok it) h w =
+      let k = subst (λ (r : PointRefusal). IsCheckpointStep old new (point_refusal old) made (Err r)) w.1 h in
+      subst (λ (b : Bool). MatchBool b begun ((new.pieces_left ≡ None) × (held new ≢ []))) (sym w.0)
+      (ap (λ (w : CoreState). w.pieces_left) k.1 ∙ pieces_left, λ none_held. none_waits (ap held (sym k.1) ∙ none_held) old.failed k.0)
+  waits begun why (Err y) h w = tt
 
 -- ---- a point at once
 

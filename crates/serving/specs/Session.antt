@@ -1,10 +1,8 @@
 -- Inner: The state of a session, its invariant since its start, and how a call moves it.
-use Rattle.std.specs.Prelude.{◌≡◌, ◌≢◌, ◌+◌, ◌≤◌, ◌-◌, ◌^◌, ℕ, Bool, true, false, List, [], ◌++◌, length, map, Option, Some, None, IfSome, IsTrue, MatchResult, OnErr, Result, Ok, Err}
+use Rattle.std.specs.Prelude.{◌≡◌, ◌+◌, ◌≤◌, ◌-◌, ◌^◌, ℕ, Bool, true, false, List, [], ◌++◌, length, map, Option, Some, None, IfSome, IsTrue, MatchResult, Result, Ok, Err}
 use Rattle.std.specs.Io.KnownBytes.{IsAtEnd}
 use Rattle.affinity.specs.declared.geometry.Geometry.{Geometry}
 use Rattle.legal_runs.specs.Laws.{IsIdle}
-use Rattle.legal_runs.specs.declared.outcomes.PointRefusal.{PointRefusal}
-use Rattle.legal_runs.specs.declared.outcomes.PointRefusal.TheVariants as refusals
 use Rattle.runs.specs.Machine.{MachineView}
 use Rattle.messages.specs.Grammar.{message_of}
 use Rattle.messages.specs.Messages.{is_in_range}
@@ -141,12 +139,6 @@ HasHalted p = p.output_failed ≡ false → p.core.failed ≡ true
 abbrev pub IsSessionStep : {A : Type 0} → SessionView → SessionView → Result A Halted → Type 0
 IsSessionStep old new result = (new.read_end ≡ old.read_end)
     × MatchResult result (λ _. new.output_failed ≡ old.output_failed) (λ _. HasHalted new)
-
--- What a session makes of the result of `cut`. At `Ok`, or if only a held message was in the way, it doesn't halt; at any other refusal it
--- does.
-abbrev pub BeginsOrWaits : Result (Unit {0}) PointRefusal → Result (Unit {0}) Halted → Type 0
-BeginsOrWaits (Ok _) result = OnErr result ⊥
-BeginsOrWaits (Err why) result = MatchResult result (λ _. why ≡ refusals.Held) (λ _. why ≢ refusals.Held)
 
 -- how many steps a checkpoint takes to its end, by how many of its pieces are left
 abbrev pub steps_left : Option ℕ → ℕ

@@ -1,9 +1,10 @@
 //! Checkpoints of a session: when one is due, how it begins, and how it is carried to its end step by step.
 
-ghost use Rattle.std.specs.Prelude.{◌≡◌, ◌+◌, ℕ, false, [], None, Some, IfOk, MatchBool, OnOk};
+ghost use Rattle.std.specs.Prelude.{◌≡◌, ◌≢◌, ◌+◌, ℕ, [], None, Some, IfOk, IsTrue, MatchBool, MatchResult, false};
+ghost use Rattle.legal_runs.specs.declared.outcomes.PointRefusal.TheVariants.{Held};
 ghost use Rattle.legal_runs.specs.CoreState.{held};
 ghost use Rattle.scheduler.specs.CoreView.{core_state_of};
-ghost use Rattle.serving.specs.Session.{BeginsOrWaits, IsSessionStep, steps_left};
+ghost use Rattle.serving.specs.Session.{IsSessionStep, steps_left};
 
 use crate::output::ReplySink;
 use crate::session::{Halted, Session};
@@ -37,26 +38,26 @@ impl CheckpointTrigger {
         }
     }
 
-    /// Takes the result of the core's `cut`. `Ok`: a checkpoint has begun, and the count starts anew. `Held`: none can begin while a
-    /// message is in progress, and the loop goes on. Any other error halts: as no checkpoint was in progress, the device has
-    /// failed.
-    fn note_cut(&mut self, cut: Result<(), PointRefusal>) -> Result<(), Halted>
-        ensures { BeginsOrWaits cut result }
-    {
-        match cut {
-            Ok(()) => {
-                self.logged_since = 0;
-                Ok(())
-            }
-            Err(PointRefusal::Held) => Ok(()),
-            Err(_) => Err(Halted),
-        }
+    /// A checkpoint has begun: the count starts anew.
+    fn restart(&mut self) {
+        self.logged_since = 0;
     }
 
     /// Whether a checkpoint is due by the record count. None is due while one is in progress (`pieces_left` is its number of unwritten
     /// pieces; `None` if none is).
     pub(crate) fn is_due(&self, pieces_left: Option<usize>) -> bool {
         pieces_left.is_none() && self.every != 0 && self.logged_since >= self.every
+    }
+}
+
+/// What a session makes of a refused cut, where no checkpoint was in progress. `Held`: none can begin while a message is in progress, and
+/// the loop goes on. Otherwise the device has failed.
+fn wait_or_halt(why: PointRefusal) -> Result<bool, Halted>
+    ensures { MatchResult result (λ it. (it ≡ false) × (why ≡ Held)) (λ _. why ≢ Held) }
+{
+    match why {
+        PointRefusal::Held => Ok(false),
+        _ => Err(Halted),
     }
 }
 
@@ -69,7 +70,7 @@ impl<'c, R: Read, D: Disk, L: ReplySink<D>> Session<'c, R, D, L> {
             × (self.new.core.logged ≡ self.old.core.logged) }
         ensures step { IfOk result
             (λ moved. MatchBool moved (steps_left self.new.core.pieces_left + 1 ≡ steps_left self.old.core.pieces_left)
-            (self.new.core.pieces_left ≡ None)) }
+            ((self.new.core.pieces_left ≡ None) × (self.old.core.pieces_left ≡ None))) }
     {
         let Some(pieces_left) = self.core.pieces_left() else {
             return Ok(false);
@@ -86,27 +87,33 @@ impl<'c, R: Read, D: Disk, L: ReplySink<D>> Session<'c, R, D, L> {
         }
     }
 
-    /// Begins a checkpoint if no message is held, else does nothing. No checkpoint may be in progress.
-    pub(crate) fn begin_checkpoint(&mut self) -> Result<(), Halted>
+    /// Begins a checkpoint if no message is held, else does nothing. Returns whether one has begun. No checkpoint may be in progress.
+    pub(crate) fn begin_checkpoint(&mut self) -> Result<bool, Halted>
         requires none { self.old.core.pieces_left ≡ None }
         ensures session_step { IsSessionStep self.old self.new result }
-        ensures begun { OnOk result (held (core_state_of self.new.core) ≡ [] → (n : ℕ) × (self.new.core.pieces_left ≡ Some n)) }
+        ensures begun { IfOk result (λ it. MatchBool it ((n : ℕ) × (self.new.core.pieces_left ≡ Some n))
+            ((self.new.core.pieces_left ≡ None) × (held (core_state_of self.new.core) ≢ []))) }
     {
-        let cut = self.core.cut();
-        self.trigger.note_cut(cut)
+        match self.core.cut() {
+            Ok(()) => {
+                self.trigger.restart();
+                Ok(true)
+            }
+            Err(why) => wait_or_halt(why),
+        }
     }
 
     /// Called where no job is in flight and no message may be dispatched or read. It takes one step of the checkpoint in progress; if there
-    /// is none, it begins one where it is due or a message lacks only room in the log. Returns whether there was either to do.
+    /// is none, it begins one where it is due or a message lacks only room in the log. Returns whether it did either.
     pub(crate) fn advance_or_begin_checkpoint(&mut self, lacks_room: bool) -> Result<bool, Halted>
         ensures session_step { IsSessionStep self.old self.new result }
+        ensures moved { IfOk result (λ it. IsTrue it → steps_left self.new.core.pieces_left ≢ steps_left self.old.core.pieces_left) }
     {
         if self.advance_checkpoint()? {
             return Ok(true);
         }
         if lacks_room || self.trigger.is_due(self.core.pieces_left()) {
-            self.begin_checkpoint()?;
-            return Ok(true);
+            return self.begin_checkpoint();
         }
         Ok(false)
     }
