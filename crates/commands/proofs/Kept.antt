@@ -9,9 +9,10 @@ use Rattle.runs.specs.Machine.{machine_of}
 use Rattle.runs.specs.DeviceEvents.{events_of}
 use Rattle.meaning.specs.Serial.{state_after_all}
 use Rattle.serving.proofs.Logged.{holds_all, written_are_kept}
-use Rattle.serving.specs.Ends.{HasServed, committed_in}
-use Rattle.serving.specs.Lines.{Line, admitted, answer_text, ticketed}
+use Rattle.serving.specs.Ends.{committed_in}
+use Rattle.serving.specs.Lines.{admitted, answer_text, ticketed}
 use Rattle.serving.specs.Logged.{AreInHistory, RecoversToHistory}
+use Rattle.serving.specs.Serve.{known_before}
 use Rattle.serving.specs.declared.server.ServeFault.{ServeFault}
 use Rattle.serving.specs.declared.server.ServeFault.TheVariants as faults
 use Rattle.commands.proofs.OnDevice.{is_idle}
@@ -24,9 +25,10 @@ use Rattle.commands.specs.declared.serve_options.ServeOptions.{ServeOptions}
 
 module _ {keeps : Type 0} {s : ServeOptions} {old new : Medium} {end : Result (Unit {0}) ServeFault} {input left before written : Option (List ℕ)}
     (h : HasServedBy keeps s old new end input left before written) where
-  held : {unsent : List Line} → HasServed keeps (machine_at_start s h.start) h.now unsent input before written → keeps → (c : List ℕ) → IsCrashImage new c
-      → HoldsAcknowledged old input before written c
-  held {unsent} served keep c leaves =
+  -- where a write failed, of an output of which nothing is known
+  pub held : keeps → (c : List ℕ) → IsCrashImage new c → HoldsAcknowledged old input (known_before end before) written c
+  held keep c leaves =
+      let served = h.served.run.served in
       let g = h.start.geometry in
       let x = committed_in h.start in
       let log = logged_messages (machine_of (machine_at_start s h.start)) (events_of served.device_events) in
@@ -46,7 +48,7 @@ module _ {keeps : Type 0} {s : ServeOptions} {old new : Medium} {end : Result (U
         output = served.output;
         history = log;
         kept = subst (λ (t : ℕ). AreInHistory g log t served.consumed (map answer_text served.sent_lines)) h.fresh.next
-            (written_are_kept keeps (machine_at_start s h.start) h.now unsent input before written idle served);
+            (written_are_kept keeps (machine_at_start s h.start) h.now h.served.run.unsent input (known_before end before) written idle served);
         holds = on_device;
         header = has_header g c state leaves.bytes on_device.recovers;
         not_refused = is_not_refused g c state leaves.bytes on_device.recovers;
@@ -55,13 +57,13 @@ module _ {keeps : Type 0} {s : ServeOptions} {old new : Medium} {end : Result (U
 -- what was sent is kept, whatever the end
 pub keeps_acknowledged : {keeps : Type 0} {s : ServeOptions} {old new : Medium} (end : Result (Unit {0}) ServeFault) {input left before written : Option (List ℕ)}
     → HasServedBy keeps s old new end input left before written → KeepsAcknowledged keeps old new (command_result end) input before written
-keeps_acknowledged (Ok _) h = held h h.served.run.served
-keeps_acknowledged (Err faults.Device) h = held h h.served.run.1
+keeps_acknowledged (Ok _) h = held h
+keeps_acknowledged (Err faults.Device) h = held h
 keeps_acknowledged (Err faults.Write) h = tt
-keeps_acknowledged (Err faults.Read) h = held h h.served.run
-keeps_acknowledged (Err faults.Exhausted) h = held h h.served.run
-keeps_acknowledged (Err faults.NoWorkers) h = held h h.served.run
-keeps_acknowledged (Err faults.OutOfMemory) h = held h h.served.run
+keeps_acknowledged (Err faults.Read) h = held h
+keeps_acknowledged (Err faults.Exhausted) h = held h
+keeps_acknowledged (Err faults.NoWorkers) h = held h
+keeps_acknowledged (Err faults.OutOfMemory) h = held h
 
 -- if P implies Q, then `UnlessWriteFailed` of P implies that of Q, at each end
 pub unless_write_failed : {P Q : Type 0} (end : Result (Unit {0}) Fault) (before written : Option (List ℕ)) → (P → Q) → UnlessWriteFailed end before written P → UnlessWriteFailed end before written Q

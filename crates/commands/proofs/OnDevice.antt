@@ -18,7 +18,7 @@ use Rattle.serving.specs.Serve.{HasEmptyLog, ServePromise}
 use Rattle.serving.specs.declared.server.ServeFault.{ServeFault}
 use Rattle.serving.specs.declared.server.ServeFault.TheVariants as faults
 use Rattle.commands.specs.Faults.{command_result}
-use Rattle.commands.specs.Serving.{EndsOnDevice, CrashesSafely, HasNoRecords, HasServedBy, HasServedNothing, IsIncarnation, RecoversDurably, RecoveredTo, ServedDevice, machine_at_start, legal_run_of}
+use Rattle.commands.specs.Serving.{EndsOnDevice, CrashesSafely, HasNoRecords, HasServedBy, HasServedNothing, IsIncarnation, RecoversDurably, RecoveredTo, ServedDevice, machine_at_start}
 use Rattle.commands.specs.declared.serve_options.ServeOptions.{ServeOptions}
 
 -- no message is in a core that was just opened
@@ -55,7 +55,7 @@ module _ (keeps : Type 0) (s : ServeOptions) (old : Medium) (start now : CoreVie
     served = served;
     leaves = leaves;
     given_back = refl;
-    incarnation = let behind = legal_run_of keeps (machine_at_start s start) now input before written end served.run in is_incarnation fresh header recovered_before behind.0 behind.1 behind.2;
+    incarnation = is_incarnation fresh header recovered_before served.run.served.consumed served.run.served.device_events served.run.served.run;
   }
 
 -- a service as `HasServedBy` describes it crashes safely, whatever its end
@@ -129,8 +129,8 @@ ends_on_device {new} (Ok _) h no_doubt bytes =
         h.served.ends.3,
       ),
     )
-ends_on_device (Err faults.Read) h no_doubt bytes = (h.served.no_workers, (went h no_doubt bytes h.served.run.run.geometry h.served.ends.1, h.served.ends.2))
-ends_on_device (Err faults.Exhausted) h no_doubt bytes = (h.served.no_workers, (went h no_doubt bytes h.served.run.run.geometry h.served.ends.1, h.served.ends.3))
+ends_on_device (Err faults.Read) h no_doubt bytes = (h.served.no_workers, (went h no_doubt bytes h.served.run.served.run.geometry h.served.ends.1, h.served.ends.2))
+ends_on_device (Err faults.Exhausted) h no_doubt bytes = (h.served.no_workers, (went h no_doubt bytes h.served.run.served.run.geometry h.served.ends.1, h.served.ends.3))
 ends_on_device (Err faults.Device) h no_doubt bytes =
     (h.served.no_workers, (h.start.geometry, committed_in h.start, recovered_to h no_doubt bytes, h.served.ends.2))
 ends_on_device (Err faults.Write) h no_doubt bytes = (h.served.no_workers, (h.start.geometry, committed_in h.start, recovered_to h no_doubt bytes))

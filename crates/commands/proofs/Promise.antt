@@ -1,10 +1,9 @@
 -- From what a service on a device has done follows the state from which a restart goes on.
-use Rattle.std.proofs.Common.{◌≡◌, ◌⊎◌, ℕ, List, [], ◌++◌, Option, Some, None, ap, refl, sym, ◌∙◌, subst, inl, inr, ⊎_elim, arith}
+use Rattle.std.proofs.Common.{◌≡◌, ◌⊎◌, ℕ, List, [], Option, Some, None, ap, refl, sym, ◌∙◌, subst, inl, inr, ⊎_elim, arith}
 use Rattle.std.specs.Prelude.{Result, Ok, Err, OnOk}
 use Rattle.std.specs.Io.KnownBytes.{Appends}
 use Rattle.std.proofs.KnownBytes.{Appends-nil}
 use Rattle.affinity.specs.declared.geometry.Geometry.{Geometry}
-use Rattle.checkpoint.proofs.NotRefused.{is_not_refused, has_header}
 use Rattle.checkpoint.proofs.OneGeometry.{one_geometry}
 use Rattle.checkpoint.specs.Recovery.{recovered_state}
 use Rattle.checkpoint.specs.Refusals.{IsRefused}
@@ -17,74 +16,35 @@ use Rattle.disk.specs.Memory.{Memory}
 use Rattle.disk.specs.Moments.{left_since, moment_number}
 use Rattle.disk.specs.declared.torn.Torn.{Torn}
 use Rattle.journal.specs.Opening.{IsPastSync, OpeningCrashImages, RecoversAsBefore}
-use Rattle.legal_runs.specs.Events.{recorded}
-use Rattle.legal_runs.specs.Runs.{logged_messages}
-use Rattle.runs.specs.Machine.{machine_of}
-use Rattle.runs.specs.DeviceEvents.{events_of}
 use Rattle.meaning.specs.Output.{WritesOutput, serial_output}
-use Rattle.meaning.specs.Serial.{state_after_all}
 use Rattle.meaning.specs.State.{State, empty}
 use Rattle.scheduler.proofs.Refusals.{recovers_or_refused}
 use Rattle.scheduler.specs.Opening.{IsShownByBytes}
 use Rattle.serving.proofs.Recovering.{none_written, bytes_recover}
-use Rattle.serving.proofs.Logged.{holds_all}
-use Rattle.serving.specs.Ends.{committed_in}
-use Rattle.serving.specs.Lines.{admitted, ticketed}
 use Rattle.serving.specs.Restart.{RecoversTo, BytesRecover}
-use Rattle.serving.specs.Logged.{RecoversToHistory}
 use Rattle.serving.specs.declared.server.ServeFault.{ServeFault}
 use Rattle.serving.specs.declared.server.ServeFault.TheVariants as faults
-use Rattle.commands.proofs.Kept.{keeps_acknowledged}
-use Rattle.commands.proofs.OnDevice.{is_idle}
+use Rattle.commands.proofs.Kept.{held}
 use Rattle.commands.specs.Faults.{command_result}
 use Rattle.commands.specs.Acknowledged.{HoldsAcknowledged}
 use Rattle.commands.specs.Promise.{IsRestart, HoldsRecovered, LeavesRecovered, IfOpened, known_unless_write_failed}
-use Rattle.commands.specs.Serving.{EndsOnDevice, CrashesSafely, HasServedBy, HasServedUntilCrash, RecoveredTo, machine_at_start}
+use Rattle.commands.specs.Serving.{EndsOnDevice, CrashesSafely, HasServedBy, HasServedUntilCrash, RecoveredTo}
 use Rattle.commands.specs.declared.faults.Fault.{Fault}
 use Rattle.commands.specs.declared.faults.Fault.TheVariants as ends
 use Rattle.commands.specs.declared.serve_options.ServeOptions.{ServeOptions}
 
 -- ---- whatever a crash leaves at the end of a service
 
--- Where a write failed, no line counts as written.
-write_failed : {keeps : Type 0} {s : ServeOptions} {old new : Medium} {input left before written : Option (List ℕ)}
-    → HasServedBy keeps s old new (Err faults.Write) input left before written → keeps → (c : List ℕ) → IsCrashImage new c
-    → HoldsAcknowledged old input None written c
-write_failed {keeps} {s} {input} h keep c leaves =
-    let g = h.start.geometry in
-    let x = committed_in h.start in
-    let consumed = h.served.run.0 in
-    let log = logged_messages (machine_of (machine_at_start s h.start)) (events_of h.served.run.1) in
-    let on_device : RecoversToHistory g x (ticketed 0 (admitted g consumed)) log c =
-    subst (λ (t : ℕ). RecoversToHistory g x (ticketed t (admitted g consumed)) log c) h.fresh.next
-    (holds_all keeps (machine_at_start s h.start) h.now input consumed h.served.run.1 (is_idle s.slots h.start h.fresh) h.fresh.no_doubt h.served.run.2 keep c
-    (subst (λ (m : Medium). IsCrashImage m c) h.given_back leaves)) in
-    let state = state_after_all g x (recorded (log ++ on_device.more)) in
-    record {
-      geometry = g;
-      start = x;
-      recovered_before = record { header = λ _. h.header keep; recovered_before = λ _. h.recovered_before keep };
-      consumed = consumed;
-      first = h.served.run.2.first;
-      sent = [];
-      output = tt;
-      history = log;
-      kept = tt;
-      holds = on_device;
-      header = has_header g c state leaves.bytes on_device.recovers;
-      not_refused = is_not_refused g c state leaves.bytes on_device.recovers;
-    }
-
 held_at : {keeps : Type 0} {s : ServeOptions} {old new : Medium} (end : Result (Unit {0}) ServeFault) {input left before written : Option (List ℕ)}
     → HasServedBy keeps s old new end input left before written → keeps → (c : List ℕ) → IsCrashImage new c
     → HoldsAcknowledged old input (known_unless_write_failed (command_result end) before) written c
-held_at (Ok _) h = keeps_acknowledged (Ok tt) h
-held_at (Err faults.Device) h = keeps_acknowledged (Err faults.Device) h
-held_at (Err faults.Write) h = write_failed h
-held_at (Err faults.Read) h = keeps_acknowledged (Err faults.Read) h
-held_at (Err faults.Exhausted) h = keeps_acknowledged (Err faults.Exhausted) h
-held_at (Err faults.NoWorkers) h = keeps_acknowledged (Err faults.NoWorkers) h
-held_at (Err faults.OutOfMemory) h = keeps_acknowledged (Err faults.OutOfMemory) h
+held_at (Ok _) h = held h
+held_at (Err faults.Device) h = held h
+held_at (Err faults.Write) h = held h
+held_at (Err faults.Read) h = held h
+held_at (Err faults.Exhausted) h = held h
+held_at (Err faults.NoWorkers) h = held h
+held_at (Err faults.OutOfMemory) h = held h
 
 -- A device that holds all that was sent recovers to the state from which a restart goes on.
 pub recovered : {old : Medium} {input before written : Option (List ℕ)} {c : List ℕ} → HoldsAcknowledged old input before written c → HoldsRecovered old input before written c

@@ -24,11 +24,10 @@ use Rattle.oplog.specs.Recovery.{in_force, named_area}
 use Rattle.meaning.specs.Output.{IsBeginning, WritesOutput}
 use Rattle.meaning.specs.State.{State}
 use Rattle.scheduler.specs.CoreView.{IsJustOpened, CoreView, RecoversNow}
-use Rattle.serving.specs.Ends.{AreServed, HasRunLines, ServesLinesBefore, ServesWholeLines, committed_in}
+use Rattle.serving.specs.Ends.{AreServed, ServesLinesBefore, ServesWholeLines, committed_in}
 use Rattle.serving.specs.Runs.{machine_with_jobs}
-use Rattle.serving.specs.Serve.{HasRunWith, ServePromise}
+use Rattle.serving.specs.Serve.{ServePromise}
 use Rattle.serving.specs.declared.server.ServeFault.{ServeFault}
-use Rattle.serving.specs.declared.server.ServeFault.TheVariants as serve_faults
 use Rattle.commands.specs.Faults.{command_result, fault_of_file}
 use Rattle.commands.specs.declared.faults.Fault.{Fault}
 use Rattle.commands.specs.declared.faults.Fault.TheVariants.{Read, Write, OutOfMemory, Device, NoWorkers, NoTicketLeft, Open}
@@ -107,19 +106,6 @@ EndsOnDevice keeps s old new (Err _) input remaining before written = ⊥
 abbrev pub machine_at_start : ServeOptions → CoreView → MachineView
 machine_at_start s start = machine_with_jobs start (replicate s.workers None)
 
--- the run that led to what was served, whatever the end: the lines that were taken, and the events, each with the device as it left it
-abbrev pub legal_run_of : (keeps : Type 0) (start : MachineView) (now : CoreView) (input before written : Option (List ℕ))
-    (end : Result (Unit {0}) ServeFault)
-    → HasRunWith keeps start now input before written end
-    → (consumed : List (List ℕ)) × (device_events : List DeviceEvent) × HasRunLines keeps start now input consumed device_events
-legal_run_of keeps start now input before written (Ok _) h = (h.served.consumed, h.served.device_events, h.served.run)
-legal_run_of keeps start now input before written (Err serve_faults.Device) h = (h.1.consumed, h.1.device_events, h.1.run)
-legal_run_of keeps start now input before written (Err serve_faults.Write) h = h
-legal_run_of keeps start now input before written (Err serve_faults.Read) h = (h.consumed, h.device_events, h.run)
-legal_run_of keeps start now input before written (Err serve_faults.Exhausted) h = (h.consumed, h.device_events, h.run)
-legal_run_of keeps start now input before written (Err serve_faults.NoWorkers) h = (h.consumed, h.device_events, h.run)
-legal_run_of keeps start now input before written (Err serve_faults.OutOfMemory) h = (h.consumed, h.device_events, h.run)
-
 -- For every k, the service with this run is an incarnation of the device, in the sense of the law of incarnations in `runs`: the device
 -- was opened, the run was made, and the crash came at any moment since event number k ended.
 abbrev pub IsIncarnation : ServeOptions → CoreView → Medium → Medium → List DeviceEvent → Type 0
@@ -145,8 +131,7 @@ pub record HasServedBy (keeps : Type 0) (s : ServeOptions) (old new : Medium) (e
   -- whatever a crash leaves now recovers to the committed state with a prefix of the messages in `doubt`
   pub leaves : keeps → RecoversNow now
   pub given_back : new ≡ now.medium
-  pub incarnation : keeps → let run = legal_run_of keeps (machine_at_start s start) now input before written end served.run
-      in IsIncarnation s start old new run.1
+  pub incarnation : keeps → IsIncarnation s start old new served.run.served.device_events
 
 -- `HasServedBy` holds; or the device could not be opened. A crash during the opening leaves what a crash before it might have left or,
 -- from the opening's first sync on, bytes that recover to the same state as the device did, or are refused for the same fault.

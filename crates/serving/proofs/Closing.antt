@@ -1,5 +1,5 @@
 -- A session that reads no more, and what it promises in the end.
-use Rattle.std.proofs.Common.{arith, ◌≡◌, ◌≢◌, ℕ, zero, suc, Bool, true, false, List, [], Option, Some, None, refl, ap, sym, ◌∙◌, subst, length, map, replicate, append-nil}
+use Rattle.std.proofs.Common.{arith, ◌≡◌, ◌≢◌, ℕ, zero, suc, Bool, true, false, List, [], Option, Some, None, refl, ap, sym, ◌∙◌, subst, length, length-append, map, replicate, append-nil}
 use Rattle.std.specs.Prelude.{Result, Ok, Err, IfOk, IfSome, MatchResult, OnErr, OnOk, ◌&&◌}
 use Rattle.message.specs.Waiting.{all_output}
 use Rattle.std.proofs.lemmas.Bool.{true≢false}
@@ -112,16 +112,22 @@ module _ {keeps : Type 0} {s : Start} {p : SessionView} (u : SessionInvariant ke
     device_ends : p.core.failed ≡ true → p.output_failed ≡ false → p.reply_buffer ≡ [] → can_retire p.reorder_buffer.lines ≡ false
         → PromisesAll keeps start p.core s.input p.remaining s.before p.sent (Err faults.Device)
     device_ends failed output_works flushed last =
-        let g = written (progress_at_end keeps s p p.read_end u.reads).2 refl output_works flushed in
+        let h = (progress_at_end keeps s p p.read_end u.reads).2 in
+        let g = written h refl output_works flushed in
         record {
-          run = λ no_doubt recovers. runs_to_device u.idle no_doubt recovers g last;
+          run = λ no_doubt recovers. runs_to_device u.idle no_doubt recovers g last
+              (let a = h.counted in let b = h.bounded in let c = u.fits in omega (arith, a, b, c));
           ends = ends_at_device keeps start now u.idle g failed (wound_up g);
         }
 
     write_ends : (p.core.failed ≡ false → p.core.ran ≡ []) → PromisesAll keeps start p.core s.input p.remaining s.before p.sent (Err faults.Write)
     write_ends ran =
-        let progress = (progress_at_end keeps s p p.read_end u.reads).2.progress in
-        record { run = λ no_doubt recovers. runs_to_write u.idle no_doubt recovers p.sent progress; ends = (wound_up progress, ran) }
+        let h = (progress_at_end keeps s p p.read_end u.reads).2 in
+        record {
+          run = λ no_doubt recovers. runs_to_write u.idle no_doubt recovers s.before p.sent h.progress
+              (let n = length-append h.waiting p.reorder_buffer.lines in let a = h.counted in let b = h.bounded in let c = u.fits in omega (arith, n, a, b, c));
+          ends = (wound_up h.progress, ran);
+        }
 
   stopped : {read_end : ReadEnd} → p.read_end ≡ Some read_end → HasEndedReading keeps s p read_end
   stopped is = subst (λ (o : Option _). ReadsOrHasEnded keeps s p o) is u.reads

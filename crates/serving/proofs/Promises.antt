@@ -1,5 +1,5 @@
 -- What a server that has come so far promises of its whole call: the run that led to its output.
-use Rattle.std.proofs.Common.{◌≡◌, ℕ, Bool, false, List, [], ◌++◌, Option, Some, None, ap, sym, ◌∙◌, append-nil, replicate}
+use Rattle.std.proofs.Common.{◌≡◌, ◌≤◌, ℕ, Bool, false, List, [], ◌++◌, length, Option, Some, None, ap, refl, sym, ◌∙◌, append-nil, replicate, arith}
 use Rattle.std.specs.Prelude.{Ok, Err}
 use Rattle.std.specs.Io.KnownBytes.{IsAtEnd}
 use Rattle.std.proofs.lemmas.Option.{none-some, same_Some}
@@ -34,26 +34,31 @@ module _ {keeps : Type 0} {start now : MachineView} (idle : IsIdle (core_state_o
       → HasRunWith keeps start now.core input before written (Ok tt)
   unfolding has_served
   runs_whole h at_end = record {
+    unsent = [];
     served = has_served keeps start now idle no_doubt recovers h;
-    all = all_taken input unread ended h.consumed h.takes at_end;
+    are_unsent = (refl, all_taken input unread ended h.consumed h.takes at_end);
+    few = omega arith;
   }
 
   pub runs_to_read : ServingProgress keeps start now [] input unread ended before written
       → HasRunWith keeps start now.core input before written (Err faults.Read)
-  runs_to_read h = has_served keeps start now idle no_doubt recovers h
+  runs_to_read h = record { unsent = []; served = has_served keeps start now idle no_doubt recovers h; are_unsent = refl; few = omega arith }
 
   pub runs_to_last_ticket : ServingProgress keeps start now [] input unread ended before written
       → HasRunWith keeps start now.core input before written (Err faults.Exhausted)
-  runs_to_last_ticket h = has_served keeps start now idle no_doubt recovers h
+  runs_to_last_ticket h = record { unsent = []; served = has_served keeps start now idle no_doubt recovers h; are_unsent = refl; few = omega arith }
 
   pub runs_to_device : {unsent : List Line} → ServingProgress keeps start now unsent input unread ended before written → can_retire unsent ≡ false
-      → HasRunWith keeps start now.core input before written (Err faults.Device)
-  runs_to_device {unsent} h last = (unsent, has_served keeps start now idle no_doubt recovers h, last)
+      → length unsent ≤ start.core.slots → HasRunWith keeps start now.core input before written (Err faults.Device)
+  runs_to_device {unsent} h last few = record { unsent = unsent; served = has_served keeps start now idle no_doubt recovers h; are_unsent = last; few = few }
 
-  -- where a write failed: whatever was written since
-  pub runs_to_write : {unsent : List Line} (torn : Option (List ℕ)) → ServingProgress keeps start now unsent input unread ended before written
-      → HasRunWith keeps start now.core input before torn (Err faults.Write)
-  runs_to_write torn h = let s = has_served keeps start now idle no_doubt recovers h in (s.consumed, s.device_events, s.run)
+  -- where a write failed: whatever was written before and since
+  pub runs_to_write : {unsent : List Line} (was torn : Option (List ℕ)) → ServingProgress keeps start now unsent input unread ended before written
+      → length unsent ≤ start.core.slots → HasRunWith keeps start now.core input was torn (Err faults.Write)
+  runs_to_write {unsent} was torn h few =
+      let unknown : ServingProgress keeps start now unsent input unread ended None torn =
+      record { consumed = h.consumed; sent_lines = h.sent_lines; takes = h.takes; serving = h.serving; output = tt } in
+      record { unsent = unsent; served = has_served keeps start now idle no_doubt recovers unknown; are_unsent = tt; few = few }
 
 -- ---- a server that was refused
 
@@ -65,7 +70,7 @@ module _ (keeps : Type 0) (core : CoreView) (places : ℕ) (idle : IsIdle (core_
       has_served keeps start start idle no_doubt recovers (starts keeps start input before)
 
   pub no_workers_ran : HasRunWith keeps (machine_with_jobs core (replicate places None)) core input before before (Err faults.NoWorkers)
-  no_workers_ran = not_run
+  no_workers_ran = record { unsent = []; served = not_run; are_unsent = refl; few = omega arith }
 
   pub no_memory_ran : HasRunWith keeps (machine_with_jobs core (replicate places None)) core input before before (Err faults.OutOfMemory)
-  no_memory_ran = not_run
+  no_memory_ran = record { unsent = []; served = not_run; are_unsent = refl; few = omega arith }

@@ -1,12 +1,11 @@
 -- Statement for operators: What a call of `serve` promises, by its result.
-use Rattle.std.specs.Prelude.{◌≡◌, ◌≢◌, ℕ, false, List, [], Option, Some, None, Result, Ok, Err, OnOk, replicate}
+use Rattle.std.specs.Prelude.{◌≡◌, ◌≢◌, ◌≤◌, ℕ, false, List, [], length, Option, Some, None, Result, Ok, Err, OnOk, replicate}
 use Rattle.runs.specs.Machine.{MachineView}
-use Rattle.runs.specs.DeviceEvents.{DeviceEvent}
 use Rattle.messages.specs.Lines.{lines}
 use Rattle.device_map.specs.Layout.{layout_of}
 use Rattle.oplog.specs.Recovery.{in_force, named_area}
 use Rattle.scheduler.specs.CoreView.{CoreView}
-use Rattle.serving.specs.Ends.{EndsWith, HasRunLines, HasServed}
+use Rattle.serving.specs.Ends.{EndsWith, HasServed}
 use Rattle.serving.specs.Lines.{Line}
 use Rattle.serving.specs.Runs.{machine_with_jobs}
 use Rattle.reorder_buffer.specs.ReorderBuffer.{can_retire}
@@ -19,22 +18,26 @@ abbrev pub AreAll : Option (List ℕ) → List (List ℕ) → Type 0
 AreAll None consumed = Unit {0}
 AreAll (Some input) consumed = lines input ≡ consumed
 
--- A run led to what was written, and each line of the input is answered in the output.
-pub record HasServedAll (keeps : Type 0) (start : MachineView) (new : CoreView) (input before written : Option (List ℕ)) : Type 0 where
-  pub served : HasServed keeps start new [] input before written
-  pub all : AreAll input served.consumed
+-- what the output held before, or `None` where the output failed: then it is unknown what was written
+abbrev pub known_before : Result (Unit {0}) ServeFault → Option (List ℕ) → Option (List ℕ)
+known_before (Err faults.Write) before = None
+known_before _ before = before
 
--- A run led to what was written, and each line that was consumed is answered in the output. Where the device failed, this is so up to the
--- first line without a reply: that line and those after it have no answer in the output. Where the output failed it is unknown what was
--- written; `device_events` are the events of the run, each with the device after it.
-abbrev pub HasRunWith : Type 0 → MachineView → CoreView → Option (List ℕ) → Option (List ℕ) → Option (List ℕ)
-    → Result (Unit {0}) ServeFault → Type 0
-HasRunWith keeps start new input before written (Ok _) = HasServedAll keeps start new input before written
-HasRunWith keeps start new input before written (Err faults.Device) =
-    (unsent : List Line) × HasServed keeps start new unsent input before written × (can_retire unsent ≡ false)
-HasRunWith keeps start new input before written (Err faults.Write) =
-    (consumed : List (List ℕ)) × (device_events : List DeviceEvent) × HasRunLines keeps start new input consumed device_events
-HasRunWith keeps start new input before written (Err _) = HasServed keeps start new [] input before written
+-- Which of the lines that were consumed have no reply in the output. At `Ok` none, and they are all of the input. Where the device failed,
+-- those from the first line without a reply on. Where the output failed, it is unknown which. At any other end none.
+abbrev pub AreUnsent : Result (Unit {0}) ServeFault → Option (List ℕ) → List (List ℕ) → List Line → Type 0
+AreUnsent (Ok _) input consumed unsent = (unsent ≡ []) × AreAll input consumed
+AreUnsent (Err faults.Device) input consumed unsent = can_retire unsent ≡ false
+AreUnsent (Err faults.Write) input consumed unsent = Unit {0}
+AreUnsent (Err _) input consumed unsent = unsent ≡ []
+
+-- A run led to what was written. No more lines are without a reply in the output than the core has slots.
+pub record HasRunWith (keeps : Type 0) (start : MachineView) (new : CoreView) (input before written : Option (List ℕ))
+    (end : Result (Unit {0}) ServeFault) : Type 0 where
+  pub unsent : List Line
+  pub served : HasServed keeps start new unsent input (known_before end before) written
+  pub are_unsent : AreUnsent end input served.consumed unsent
+  pub few : length unsent ≤ start.core.slots
 
 -- The call ends with `NoWorkers` exactly where there are no workers.
 abbrev pub FailsWithoutWorkers : ℕ → Result (Unit {0}) ServeFault → Type 0
