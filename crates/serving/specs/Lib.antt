@@ -10,4 +10,5 @@ pub mod Ends
 pub mod Serve
 pub mod Output
 pub mod Session
+pub mod Fields
 pub mod Restart

@@ -77,39 +77,13 @@ pub(crate) struct Session<'c, R: Read, D: Disk, L: ReplySink<D>> {
 }
 
 impl<'c, R: Read, D: Disk, L: ReplySink<D>> Model for Session<'c, R, D, L> {
-    ghost use Rattle.std.specs.Prelude.{◌≡◌, Option};
-    ghost use Rattle.message.specs.Reader.{has_ended, is_drained, source, unread};
-    ghost use Rattle.serving.specs.Session.{SessionInvariantFrom, SessionView};
+    ghost use Rattle.serving.specs.Session.{SessionView};
 
     ghost Value = { SessionView };
 
-    ghost view = { λ s. record {
-      core = s.core;
-      dispatch_seat = s.dispatch_seat;
-      reorder_buffer = s.reorder_buffer;
-      reply_buffer = s.reply_buffer;
-      sent = L.sent s.sink;
-      outstanding = s.outstanding;
-      output_failed = s.output_failed;
-      read_end = s.read_end;
-      unread = unread R.remaining s.line_reader;
-      drained = is_drained s.line_reader;
-      ended = has_ended s.line_reader;
-      remaining = R.remaining (source s.line_reader);
-    } };
+    ghost use Rattle.serving.specs.Fields.{IsSession, session_view};
 
-    ghost invariant = { λ s. SessionInvariantFrom D.keeps L.start (record {
-      core = s.core;
-      dispatch_seat = s.dispatch_seat;
-      reorder_buffer = s.reorder_buffer;
-      reply_buffer = s.reply_buffer;
-      sent = L.sent s.sink;
-      outstanding = s.outstanding;
-      output_failed = s.output_failed;
-      read_end = s.read_end;
-      unread = unread R.remaining s.line_reader;
-      drained = is_drained s.line_reader;
-      ended = has_ended s.line_reader;
-      remaining = R.remaining (source s.line_reader);
-    }) × (s.dispatch_seat.bench ≡ s.bench.now) };
+    ghost view = { session_view R.remaining L.sent };
+
+    ghost invariant = { IsSession R.remaining L.sent D.keeps L.start };
 }

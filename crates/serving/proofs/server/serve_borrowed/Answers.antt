@@ -13,17 +13,18 @@ use Rattle.serving.proofs.server.serve_borrowed.Goals as goal
 pub invariant_of-session : goal.invariant_of-session
 invariant_of-session g c =
     let memory = c.args.memory in
-    let line_reader = c.new.ensures in (
-      first_at g.D.Disk.keeps _ c.requires.can_begin (record {
+    let line_reader = c.new.ensures in
+    record {
+      run = first_at g.D.Disk.keeps _ c.requires.can_begin (record {
         none_waits = memory.none_waits;
         all = line_reader.unread;
         none_read = not_drained _ _ line_reader.open;
         not_ended = line_reader.open;
         slots = ap (λ (b : _). b.slots) memory.at_bench.0;
         none_lent = memory.none_lent;
-      }),
-      memory.at_bench.0,
-    )
+      });
+      bench = memory.at_bench.0;
+    }
 
 pub returns : goal.returns
 returns g c =
@@ -40,7 +41,7 @@ returns g c =
     let ends = ends_or_declines now (g.D.Disk.keeps → HasEmptyLog now.core) _ c.with_workers-ended.result gives.gives _ gives.not_begun end refl in
     let all = subst (λ (b : Option (List ℕ)). PromisesAll g.D.Disk.keeps (start_machine s) last.core s.input b s.before (g.L.ReplySink.sent last.sink) end)
     (sym (ap (λ (l : _). g.R.Read.remaining l.reader.now) c.into_inner-reader.ensures))
-    (promises_from (begun c.requires.can_begin.is c.session.invariant.0) c.session.view_is
+    (promises_from (begun c.requires.can_begin.is c.session.invariant.run) c.session.view_is
     (record { core = refl; input = ap (λ (l : _). g.R.Read.remaining l.reader.now) c.new.ensures.source; before = refl }) end ends) in
     record {
       same = c.into_inner-reader.result.same ∙ sym c.requires.reader;

@@ -10,6 +10,6 @@ pub returns-in-Ok : goal.returns-in-Ok
 returns-in-Ok g c =
     let now = c.serve_lines.new.self in
     let done = c.in-Ok.ensures.served in
-    let under_way = subst (SessionInvariantFrom g.D.Disk.keeps g.L.ReplySink.start) c.self.view_is c.self.invariant.0 in
+    let under_way = subst (SessionInvariantFrom g.D.Disk.keeps g.L.ReplySink.start) c.self.view_is c.self.invariant.run in
     let reported = subst (λ (p : SessionView). IfSome p.read_end (λ (why : ReadEnd). c.reported_for.result ≡ end_of why)) c.self.view_is c.reported_for.ensures in
     ends_finished g.D.Disk.keeps _ now under_way done.0 done.1 c.reported_for.result reported

@@ -17,10 +17,11 @@ invariant_of-self g c =
     let new = c.answer-first.new.self in
     let so = is_answered_so g.D.Disk.keeps old new c.answer-first.result
     (answer_step g.D.Disk.keeps old new c.know_recovery.ensures.no_doubt c.know_recovery.ensures.now c.answer-first.ensures.geometry c.answer-first.ensures.untouched
-    c.answer-first.result c.answer-first.ensures.state_after) _ (holds_of g.D.Disk.keeps _ _ c.self.invariant.0) in (
-      on_machine g.D.Disk.keeps _ _ c.self.invariant.0 _ _ (none_answered g.D.Disk.keeps _ _ c.answer-first.result c.in_default.not-Some so) refl refl,
-      c.self.invariant.1,
-    )
+    c.answer-first.result c.answer-first.ensures.state_after) _ (holds_of g.D.Disk.keeps _ _ c.self.invariant.run) in
+    record {
+      run = on_machine g.D.Disk.keeps _ _ c.self.invariant.run _ _ (none_answered g.D.Disk.keeps _ _ c.answer-first.result c.in_default.not-Some so) refl refl;
+      bench = c.self.invariant.bench;
+    }
 
 pub invariant_of-self-2 : goal.invariant_of-self-2
 invariant_of-self-2 g c =
@@ -28,12 +29,13 @@ invariant_of-self-2 g c =
     let new = c.answer-first.new.self in
     let so = is_answered_so g.D.Disk.keeps old new c.answer-first.result
     (answer_step g.D.Disk.keeps old new c.know_recovery.ensures.no_doubt c.know_recovery.ensures.now c.answer-first.ensures.geometry c.answer-first.ensures.untouched
-    c.answer-first.result c.answer-first.ensures.state_after) _ (holds_of g.D.Disk.keeps _ _ c.self.invariant.0) in (
-      on_answer g.D.Disk.keeps _ _ c.self.invariant.0 _ _ _ _
+    c.answer-first.result c.answer-first.ensures.state_after) _ (holds_of g.D.Disk.keeps _ _ c.self.invariant.run) in
+    record {
+      run = on_answer g.D.Disk.keeps _ _ c.self.invariant.run _ _ _ _
           (subst (λ (o : Option (ℕ × Reply)). IsAnswered g.D.Disk.keeps (machine_with_jobs old c.self.inside.dispatch_seat.lent) (machine_with_jobs new c.self.inside.dispatch_seat.lent) o)
-          c.in-Some.is so) c.answer.ensures.lines c.answer.ensures.slots,
-      c.self.invariant.1,
-    )
+          c.in-Some.is so) c.answer.ensures.lines c.answer.ensures.slots;
+      bench = c.self.invariant.bench;
+    }
 
 pub returns-in_default-clause-as_before : goal.returns-in_default-clause-as_before
 returns-in_default-clause-as_before g c = (ap (λ (p : SessionView). p.read_end) c.self.view_is, ap (λ (p : SessionView). p.output_failed) c.self.view_is)

@@ -14,7 +14,7 @@ pub offer_granted-requires-clause-place : goal.offer_granted-requires-clause-pla
 offer_granted-requires-clause-place g c =
     let old = c.self.inside in
     let first = ap (λ (p : SessionView). position is_none p.dispatch_seat.lent) c.self.view_is ∙ c.requires.first in
-    subst (λ (n : ℕ). c.args.k < n) (places_of g.D.Disk.keeps _ _ c.self.invariant.0 ∙ ap (λ (b : TableId). b.slots) c.self.invariant.1)
+    subst (λ (n : ℕ). c.args.k < n) (places_of g.D.Disk.keeps _ _ c.self.invariant.run ∙ ap (λ (b : TableId). b.slots) c.self.invariant.bench)
     (position-Some is_none old.dispatch_seat.lent c.args.k None first).0
 
 pub offer_granted-requires-clause-first : goal.offer_granted-requires-clause-first
@@ -27,10 +27,11 @@ invariant_of-self g c =
     let granted = c.grant-granted.ensures in
     let first = ap (λ (p : SessionView). position is_none p.dispatch_seat.lent) c.self.view_is ∙ c.requires.first in
     let quiet = sends g.D.Disk.keeps old.core c.grant-granted.new.self lent c.know_recovery.ensures.no_doubt c.know_recovery.ensures.now granted.geometry
-    granted.untouched (holds_of g.D.Disk.keeps _ _ c.self.invariant.0) c.args.k first _ _ _ granted.state_after c.offer_granted.ensures.lends in (
-      on_machine g.D.Disk.keeps _ _ c.self.invariant.0 _ _ quiet c.offer_granted.ensures.bench (as_many c.args.k lent _ _ _ c.offer_granted.ensures.lends),
-      c.offer_granted.ensures.bench ∙ c.self.invariant.1,
-    )
+    granted.untouched (holds_of g.D.Disk.keeps _ _ c.self.invariant.run) c.args.k first _ _ _ granted.state_after c.offer_granted.ensures.lends in
+    record {
+      run = on_machine g.D.Disk.keeps _ _ c.self.invariant.run _ _ quiet c.offer_granted.ensures.bench (as_many c.args.k lent _ _ _ c.offer_granted.ensures.lends);
+      bench = c.offer_granted.ensures.bench ∙ c.self.invariant.bench;
+    }
 
 pub returns-clause-dispatches : goal.returns-clause-dispatches
 returns-clause-dispatches g c =

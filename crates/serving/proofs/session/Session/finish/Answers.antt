@@ -16,13 +16,13 @@ invariant_of-self g c =
     let new = c.point.new.self in
     let quiet = point_is_quiet g.D.Disk.keeps old new c.point.ensures.geometry c.point.ensures.any_moment c.point.result
     (point_called old.geometry (core_state_of old) (core_state_of new) c.point.result c.point.ensures.state_after) c.point.ensures.counts in
-    (on_machine g.D.Disk.keeps _ _ c.self-2.invariant.0 _ _ (quiet _ (holds_of g.D.Disk.keeps _ _ c.self-2.invariant.0)) refl refl, c.self-2.invariant.1)
+    record { run = on_machine g.D.Disk.keeps _ _ c.self-2.invariant.run _ _ (quiet _ (holds_of g.D.Disk.keeps _ _ c.self-2.invariant.run)) refl refl; bench = c.self-2.invariant.bench }
 
 pub returns-in-EndOfInput-clause-session_step : goal.returns-in-EndOfInput-clause-session_step
 returns-in-EndOfInput-clause-session_step g c =
     let sent = c.in_ok-flush_replies.ensures in
     let all_retired = ap (λ (r : ReorderBufferView). r.lines) sent.same.1 ∙ c.requires.all_retired in
-    let idle = idle_of g.D.Disk.keeps _ _ c.self-2.invariant.0 (ap (λ (p : SessionView). p.reorder_buffer.lines) c.self-2.view_is ∙ all_retired) in
+    let idle = idle_of g.D.Disk.keeps _ _ c.self-2.invariant.run (ap (λ (p : SessionView). p.reorder_buffer.lines) c.self-2.view_is ∙ all_retired) in
     let pieces_left = ap (λ (p : SessionView). p.core.pieces_left) c.self-2.view_is ∙ ap (λ (k : CoreView). k.pieces_left) sent.same.0 ∙ c.requires.none in
     let output_failed = ap (λ (p : SessionView). p.output_failed) c.self-2.view_is ∙ sent.session_step.1 in (
       ap (λ (p : SessionView). p.read_end) c.self-2.view_is ∙ sent.session_step.0,

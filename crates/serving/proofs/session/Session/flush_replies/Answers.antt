@@ -11,14 +11,14 @@ send-requires g c =
     record {
       may = subst (λ (bytes : List ℕ). MaySend g.D.Disk.keeps g.L.ReplySink.start (g.L.ReplySink.sent s.sink) s.core bytes)
           (sym c.waiting.ensures)
-          (may_send g.D.Disk.keeps _ _ c.self.invariant.0 c.if-self.false c.know_recovery.ensures.no_doubt c.know_recovery.ensures.now);
+          (may_send g.D.Disk.keeps _ _ c.self.invariant.run c.if-self.false c.know_recovery.ensures.no_doubt c.know_recovery.ensures.now);
     }
 
 pub invariant_of-self : goal.invariant_of-self
 invariant_of-self g c =
     let sent = subst (λ (bytes : List ℕ). Appends (g.L.ReplySink.sent c.self.inside.sink) (g.L.ReplySink.sent c.send.new.self) bytes)
     c.waiting.ensures c.in-Ok.ensures.sent in
-    (on_send g.D.Disk.keeps _ _ c.self.invariant.0 _ _ _ c.clear.ensures sent c.len-self-inside.ensures.len, c.self.invariant.1)
+    record { run = on_send g.D.Disk.keeps _ _ c.self.invariant.run _ _ _ c.clear.ensures sent c.len-self-inside.ensures.len; bench = c.self.invariant.bench }
 
 pub invariant_of-self-in-Err : goal.invariant_of-self-in-Err
-invariant_of-self-in-Err g c = (on_break g.D.Disk.keeps _ _ c.self.invariant.0 _, c.self.invariant.1)
+invariant_of-self-in-Err g c = record { run = on_break g.D.Disk.keeps _ _ c.self.invariant.run _; bench = c.self.invariant.bench }

@@ -7,7 +7,7 @@ use Rattle.serving.proofs.session.Session.retire_first.Goals as goal
 pub invariant_of-self : goal.invariant_of-self
 invariant_of-self g c =
     let retired = c.retire_front-retired.ensures in
-    (on_retire_front g.D.Disk.keeps _ _ c.self.invariant.0 _ _ _ retired.next retired.retired retired.lines retired.slots, c.self.invariant.1)
+    record { run = on_retire_front g.D.Disk.keeps _ _ c.self.invariant.run _ _ _ retired.next retired.retired retired.lines retired.slots; bench = c.self.invariant.bench }
 
 pub returns-clause-session_step : goal.returns-clause-session_step
 returns-clause-session_step g c =

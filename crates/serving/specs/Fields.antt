@@ -1,0 +1,28 @@
+-- Inner: The fields of a session as contracts see them, and what it keeps true of them between calls.
+use Rattle.std.specs.Prelude.{◌≡◌, ℕ, List, Option}
+use Rattle.message.specs.Reader.{has_ended, is_drained, source, unread}
+use Rattle.serving.specs.Output.{Start}
+use Rattle.serving.specs.Session.{SessionInvariantFrom, SessionView}
+use Rattle.serving.specs.declared.session.Session.TheInside.{Inside}
+
+module _ {R D L : Type 0} (remaining : R → Option (List ℕ)) (sent : L → Option (List ℕ)) where
+  abbrev pub session_view : Inside R D L → SessionView
+  session_view s = record {
+    core = s.core;
+    dispatch_seat = s.dispatch_seat;
+    reorder_buffer = s.reorder_buffer;
+    reply_buffer = s.reply_buffer;
+    sent = sent s.sink;
+    outstanding = s.outstanding;
+    output_failed = s.output_failed;
+    read_end = s.read_end;
+    unread = unread remaining s.line_reader;
+    drained = is_drained s.line_reader;
+    ended = has_ended s.line_reader;
+    remaining = remaining (source s.line_reader);
+  }
+
+  -- `keeps`: the device keeps its bytes. `start`: where the call began.
+  pub record IsSession (keeps : Type 0) (start : Option Start) (s : Inside R D L) : Type 0 where
+    pub run : SessionInvariantFrom keeps start (session_view s)
+    pub bench : s.dispatch_seat.bench ≡ s.bench.now
