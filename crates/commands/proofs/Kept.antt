@@ -1,5 +1,5 @@
 -- What was sent is kept: from the run behind it, and what the core promises of its device at the end.
-use Rattle.std.proofs.Common.{ℕ, List, ◌++◌, map, Option, subst}
+use Rattle.std.proofs.Common.{ℕ, ◌+◌, ◌≤◌, List, ◌++◌, length, map, Option, subst}
 use Rattle.std.specs.Prelude.{Result, Ok, Err}
 use Rattle.checkpoint.proofs.NotRefused.{is_not_refused, has_header}
 use Rattle.disk.specs.Device.{IsCrashImage, Medium}
@@ -8,7 +8,7 @@ use Rattle.legal_runs.specs.Runs.{logged_messages}
 use Rattle.runs.specs.Machine.{machine_of}
 use Rattle.runs.specs.DeviceEvents.{events_of}
 use Rattle.meaning.specs.Serial.{state_after_all}
-use Rattle.serving.proofs.Logged.{holds_all, written_are_kept}
+use Rattle.serving.proofs.Logged.{few_answered, holds_all, written_are_kept}
 use Rattle.serving.specs.Ends.{committed_in}
 use Rattle.serving.specs.Lines.{admitted, answer_text, ticketed}
 use Rattle.serving.specs.Logged.{AreInHistory, RecoversToHistory}
@@ -26,7 +26,7 @@ use Rattle.commands.specs.declared.serve_options.ServeOptions.{ServeOptions}
 module _ {keeps : Type 0} {s : ServeOptions} {old new : Medium} {end : Result (Unit {0}) ServeFault} {input left before written : Option (List ℕ)}
     (h : HasServedBy keeps s old new end input left before written) where
   -- where a write failed, of an output of which nothing is known
-  pub held : keeps → (c : List ℕ) → IsCrashImage new c → HoldsAcknowledged old input (known_before end before) written c
+  pub held : keeps → (c : List ℕ) → IsCrashImage new c → HoldsAcknowledged s.slots old input (known_before end before) written c
   held keep c leaves =
       let served = h.served.run.served in
       let g = h.start.geometry in
@@ -46,6 +46,8 @@ module _ {keeps : Type 0} {s : ServeOptions} {old new : Medium} {end : Result (U
         first = served.run.first;
         sent = map answer_text served.sent_lines;
         output = served.output;
+        few = subst (λ (n : ℕ). length served.consumed ≤ length (map answer_text served.sent_lines) + n) h.fresh.slots_are
+            (few_answered keeps (machine_at_start s h.start) h.now h.served.run.unsent input (known_before end before) written idle served);
         history = log;
         kept = subst (λ (t : ℕ). AreInHistory g log t served.consumed (map answer_text served.sent_lines)) h.fresh.next
             (written_are_kept keeps (machine_at_start s h.start) h.now h.served.run.unsent input (known_before end before) written idle served);
@@ -56,7 +58,7 @@ module _ {keeps : Type 0} {s : ServeOptions} {old new : Medium} {end : Result (U
 
 -- what was sent is kept, whatever the end
 pub keeps_acknowledged : {keeps : Type 0} {s : ServeOptions} {old new : Medium} (end : Result (Unit {0}) ServeFault) {input left before written : Option (List ℕ)}
-    → HasServedBy keeps s old new end input left before written → KeepsAcknowledged keeps old new (command_result end) input before written
+    → HasServedBy keeps s old new end input left before written → KeepsAcknowledged keeps s.slots old new (command_result end) input before written
 keeps_acknowledged (Ok _) h = held h
 keeps_acknowledged (Err faults.Device) h = held h
 keeps_acknowledged (Err faults.Write) h = tt

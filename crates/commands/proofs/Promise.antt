@@ -37,7 +37,7 @@ use Rattle.commands.specs.declared.serve_options.ServeOptions.{ServeOptions}
 
 held_at : {keeps : Type 0} {s : ServeOptions} {old new : Medium} (end : Result (Unit {0}) ServeFault) {input left before written : Option (List ℕ)}
     → HasServedBy keeps s old new end input left before written → keeps → (c : List ℕ) → IsCrashImage new c
-    → HoldsAcknowledged old input (known_unless_write_failed (command_result end) before) written c
+    → HoldsAcknowledged s.slots old input (known_unless_write_failed (command_result end) before) written c
 held_at (Ok _) h = held h
 held_at (Err faults.Device) h = held h
 held_at (Err faults.Write) h = held h
@@ -47,21 +47,22 @@ held_at (Err faults.NoWorkers) h = held h
 held_at (Err faults.OutOfMemory) h = held h
 
 -- A device that holds all that was sent recovers to the state from which a restart goes on.
-pub recovered : {old : Medium} {input before written : Option (List ℕ)} {c : List ℕ} → HoldsAcknowledged old input before written c → HoldsRecovered old input before written c
-recovered {input} {before} {written} {c} h = record {
+pub recovered : {slots : ℕ} {old : Medium} {input before written : Option (List ℕ)} {c : List ℕ} → HoldsAcknowledged slots old input before written c
+    → HoldsRecovered slots old input before written c
+recovered {slots} {input} {before} {written} {c} h = record {
   geometry = h.geometry;
   start = h.start;
   recovered_before = h.recovered_before;
-  recovered = bytes_recover 0 h.consumed h.sent h.first h.output h.kept h.holds;
+  recovered = bytes_recover 0 h.consumed h.sent h.first h.output h.few h.kept h.holds;
 }
 
 recovered_at : {keeps : Type 0} {s : ServeOptions} {old new : Medium} (end : Result (Unit {0}) ServeFault) {input left before written : Option (List ℕ)}
     → HasServedBy keeps s old new end input left before written → keeps → (c : List ℕ) → IsCrashImage new c
-    → HoldsRecovered old input (known_unless_write_failed (command_result end) before) written c
+    → HoldsRecovered s.slots old input (known_unless_write_failed (command_result end) before) written c
 recovered_at end h keep c leaves = recovered (held_at end h keep c leaves)
 
 pub leaves_recovered : {keeps : Type 0} {s : ServeOptions} {old new : Medium} (end : Result (Unit {0}) ServeFault) {input left before written : Option (List ℕ)}
-    → HasServedBy keeps s old new end input left before written → LeavesRecovered keeps old new (command_result end) input before written
+    → HasServedBy keeps s old new end input left before written → LeavesRecovered keeps s.slots old new (command_result end) input before written
 leaves_recovered (Ok _) h = recovered_at (Ok tt) h
 leaves_recovered (Err faults.Device) h = recovered_at (Err faults.Device) h
 leaves_recovered (Err faults.Write) h = recovered_at (Err faults.Write) h
@@ -123,12 +124,12 @@ opened_or (Err ends.NoTicketLeft) h = inr h
 opened_or (Err (ends.Format fault)) h = inr h
 
 -- One run, on a device that is synced and recovers to state x, and what a crash leaves of it then.
-module _ (g : Geometry) (old new : Medium) {x : State} (made : recovered_state g old.now ≡ Some x) (synced : IsSynced old) (c : List ℕ) (leaves : IsCrashImage new c) where
-  left_so : (input before written : Option (List ℕ)) → HoldsRecovered old input before written c → BytesRecover g x input before written c
+module _ (g : Geometry) (slots : ℕ) (old new : Medium) {x : State} (made : recovered_state g old.now ≡ Some x) (synced : IsSynced old) (c : List ℕ) (leaves : IsCrashImage new c) where
+  left_so : (input before written : Option (List ℕ)) → HoldsRecovered slots old input before written c → BytesRecover g slots x input before written c
   left_so input before written h =
       let own = opened_so made h.recovered_before in
-      subst (λ (k : Geometry). BytesRecover k x input before written c) own.0
-      (subst (λ (y : State). BytesRecover h.geometry y input before written c) own.1 h.recovered)
+      subst (λ (k : Geometry). BytesRecover k slots x input before written c) own.0
+      (subst (λ (y : State). BytesRecover h.geometry slots y input before written c) own.1 h.recovered)
 
   -- A crash while the device is opened leaves what recovers to the same state.
   crashed_so : OpeningCrashImages old new → recovered_state g c ≡ Some x
@@ -142,26 +143,26 @@ module _ (g : Geometry) (old new : Medium) {x : State} (made : recovered_state g
       (counts_now new (moment_number old) c (let a = h.first.later in let b = past.later.later in omega (arith, a, b)) leaves))) h.rest)
 
   -- where the device could not be opened
-  left_unopened : (input before written : Option (List ℕ)) → OpeningCrashImages old new → written ≡ before → BytesRecover g x input before written c
+  left_unopened : (input before written : Option (List ℕ)) → OpeningCrashImages old new → written ≡ before → BytesRecover g slots x input before written c
   left_unopened input before written opening unwritten =
       record { now = x; holds_now = crashed_so opening; recovers = silent input }
     where
-      silent : (input : Option (List ℕ)) → WritesOutput input before written (RecoversTo g x x)
+      silent : (input : Option (List ℕ)) → WritesOutput input before written (RecoversTo g slots x x)
       silent None = tt
       silent (Some bytes) =
-          ([], subst (λ (w : Option (List ℕ)). Appends before w []) (sym unwritten) (Appends-nil before), none_written g x bytes)
+          ([], subst (λ (w : Option (List ℕ)). Appends before w []) (sym unwritten) (Appends-nil before), none_written g slots x bytes)
 
   module _ (s : ServeOptions) (end : Result (Unit {0}) Fault) (input left before written : Option (List ℕ)) where
     left_at : EndsOnDevice (Unit {0}) s old new end input left before written → CrashesSafely (Unit {0}) s old new end input left before written
-        → IfOpened end (HoldsRecovered old input (known_unless_write_failed end before) written c)
-        → BytesRecover g x input (known_unless_write_failed end before) written c
+        → IfOpened end (HoldsRecovered slots old input (known_unless_write_failed end before) written c)
+        → BytesRecover g slots x input (known_unless_write_failed end before) written c
     left_at e safe recovers = ⊎_elim
         (λ (why : (fault : OpenFault) × (end ≡ Err (ends.Open fault))).
-        subst (λ (r : Result (Unit {0}) Fault). BytesRecover g x input (known_unless_write_failed r before) written c) (sym why.1)
+        subst (λ (r : Result (Unit {0}) Fault). BytesRecover g slots x input (known_unless_write_failed r before) written c) (sym why.1)
         (left_unopened input before written
         (subst (λ (r : Result (Unit {0}) Fault). CrashesSafely (Unit {0}) s old new r input left before written) why.1 safe tt)
         (subst (λ (r : Result (Unit {0}) Fault). EndsOnDevice (Unit {0}) s old new r input left before written) why.1 e).2))
-        (λ (h : HoldsRecovered old input (known_unless_write_failed end before) written c). left_so input (known_unless_write_failed end before) written h)
+        (λ (h : HoldsRecovered slots old input (known_unless_write_failed end before) written c). left_so input (known_unless_write_failed end before) written h)
         (opened_or end recovers)
 
 module _ (g : Geometry) (s : ServeOptions) (old new : Medium) (end : Result (Unit {0}) Fault) (input left before written : Option (List ℕ)) where
@@ -187,20 +188,20 @@ module _ (g : Geometry) (s : ServeOptions) (old new : Medium) (end : Result (Uni
 module _ (g : Geometry) {s : ServeOptions} {began : Medium} {torn : Torn} {crashed : Memory} {first : Result (Unit {0}) Fault}
     {input left before written : Option (List ℕ)} (made : recovered_state g began.now ≡ Some empty) (synced : IsSynced began)
     (h : HasServedUntilCrash s began torn crashed first input left before written)
-    (held : IfOpened first (HoldsRecovered began input (known_unless_write_failed first before) written crashed.medium.now)) where
-  one : BytesRecover g empty input (known_unless_write_failed first before) written crashed.medium.now
-  one = left_at g began h.ended.medium made synced crashed.medium.now h.leaves s first input left before written h.ends h.crash_safe held
+    (held : IfOpened first (HoldsRecovered s.slots began input (known_unless_write_failed first before) written crashed.medium.now)) where
+  one : BytesRecover g s.slots empty input (known_unless_write_failed first before) written crashed.medium.now
+  one = left_at g s.slots began h.ended.medium made synced crashed.medium.now h.leaves s first input left before written h.ends h.crash_safe held
 
   module _ (last : Medium) (second : Result (Unit {0}) Fault) (next_input next_left next_before next_written : Option (List ℕ))
       (e : EndsOnDevice (Unit {0}) s crashed.medium last second next_input next_left next_before next_written) where
     -- What the two runs wrote is as `IsRestart` says.
     pub restart : AreBytes last.now → CrashesSafely (Unit {0}) s crashed.medium last second next_input next_left next_before next_written
-        → LeavesRecovered (Unit {0}) crashed.medium last second next_input next_before next_written
-        → IsRestart g first second input before written next_input next_before next_written
+        → LeavesRecovered (Unit {0}) s.slots crashed.medium last second next_input next_before next_written
+        → IsRestart g s.slots first second input before written next_input next_before next_written
     restart bytes safe recovers =
         let leaves = itself last.now last.unsynced bytes in
         let synced : IsSynced crashed.medium = subst (λ (m : Memory). IsSynced m.medium) (sym h.crash) refl in
-        let next = left_at g crashed.medium last one.holds_now synced last.now leaves s second next_input next_left next_before next_written e safe
+        let next = left_at g s.slots crashed.medium last one.holds_now synced last.now leaves s second next_input next_left next_before next_written e safe
         (opened_then second (λ k. k tt last.now leaves) recovers) in
         record {
           now = one.now;

@@ -1,5 +1,5 @@
 -- Statement for operators: What was sent is kept: the promise of a service on a device, in words of its lines and of what a crash leaves.
-use Rattle.std.specs.Prelude.{◌≡◌, ℕ, List, Option, None, Result, Err}
+use Rattle.std.specs.Prelude.{◌≡◌, ◌+◌, ◌≤◌, ℕ, List, length, Option, None, Result, Err}
 use Rattle.std.specs.Io.KnownBytes.{Appends}
 use Rattle.affinity.specs.declared.geometry.Geometry.{Geometry}
 use Rattle.checkpoint.specs.Header.{HasHeader}
@@ -15,11 +15,11 @@ use Rattle.commands.specs.Serving.{RecoveredTo}
 use Rattle.commands.specs.declared.faults.Fault.{Fault}
 use Rattle.commands.specs.declared.faults.Fault.TheVariants.{Write, Open}
 
--- The device recovered to the state `start`, and the output grew by the lines `sent`, for the first lines of the input, `consumed`. A
--- history has each message whose reply was sent, reads included, with its ticket and that reply. The bytes recover to the state to which
--- the changes of the history, and perhaps some more messages of the input, lead from `start`; and they are not refused. 0 is the first
--- ticket after an opening.
-pub record HoldsAcknowledged (old : Medium) (input before written : Option (List ℕ)) (bytes : List ℕ) : Type 0 where
+-- The device recovered to the state `start`, and the output grew by the lines `sent`, for the first lines of the input, `consumed`: no more
+-- of these lack a line than there are slots. A history has each message whose reply was sent, reads included, with its ticket and that
+-- reply. The bytes recover to the state to which the changes of the history, and perhaps some more messages of the input, lead from
+-- `start`; and they are not refused. 0 is the first ticket after an opening.
+pub record HoldsAcknowledged (slots : ℕ) (old : Medium) (input before written : Option (List ℕ)) (bytes : List ℕ) : Type 0 where
   pub geometry : Geometry
   pub start : State
   pub recovered_before : RecoveredTo (Unit {0}) old geometry start
@@ -27,6 +27,7 @@ pub record HoldsAcknowledged (old : Medium) (input before written : Option (List
   pub first : AreFirst input consumed
   pub sent : List (List ℕ)
   pub output : Appends before written (joined sent)
+  pub few : length consumed ≤ length sent + slots
   pub history : List Replied
   pub kept : AreInHistory geometry history 0 consumed sent
   pub holds : RecoversToHistory geometry start (ticketed 0 (admitted geometry consumed)) history bytes
@@ -41,7 +42,7 @@ UnlessWriteFailed (Err (Open fault)) before written P = written ≡ before
 UnlessWriteFailed _ before written P = P
 
 -- Whatever a crash leaves at the end of a service holds what was sent, with the exceptions of `UnlessWriteFailed`.
-abbrev pub KeepsAcknowledged : Type 0 → Medium → Medium → Result (Unit {0}) Fault → Option (List ℕ) → Option (List ℕ)
+abbrev pub KeepsAcknowledged : Type 0 → ℕ → Medium → Medium → Result (Unit {0}) Fault → Option (List ℕ) → Option (List ℕ)
     → Option (List ℕ) → Type 0
-KeepsAcknowledged keeps old new end input before written =
-    UnlessWriteFailed end before written (keeps → (c : List ℕ) → IsCrashImage new c → HoldsAcknowledged old input before written c)
+KeepsAcknowledged keeps slots old new end input before written =
+    UnlessWriteFailed end before written (keeps → (c : List ℕ) → IsCrashImage new c → HoldsAcknowledged slots old input before written c)

@@ -53,8 +53,8 @@ pub fn serve_again<T: Threads + Wait + Sync, R: Read, W: Write, S: Read, V: Writ
     requires call { 0 < n }
     // The pattern of a `Torn::Mixed`, which is put over the unsynced bytes, has at least one byte.
     requires bytes { HasPattern torn }
-    ensures restart { IfOk result (λ ends. IsRestart geometry ends.0 ends.1 (R.remaining r.old) (W.contents w.old) (W.contents w.new)
-        (S.remaining next_r.old) (V.contents next_w.old) (V.contents next_w.new)) }
+    ensures restart { IfOk result (λ ends. IsRestart geometry service.slots ends.0 ends.1 (R.remaining r.old) (W.contents w.old)
+        (W.contents w.new) (S.remaining next_r.old) (V.contents next_w.old) (V.contents next_w.new)) }
     // Each of them opened its device, unless that failed or memory was wanting.
     ensures opens { IfOk result (λ ends. (fault : OpenFault) → (ends.0 ≡ Err (faults.Open fault)) ⊎ (ends.1 ≡ Err (faults.Open fault))
         → (fault ≡ opening.Device) ⊎ (fault ≡ opening.OutOfMemory)) }

@@ -68,9 +68,9 @@ pub fn serve_on<T: Threads + Wait + Sync, R: Read, W: Write, D: Disk + Drop>(
         (W.contents w.old) (W.contents w.new) }
     ensures crash_safe { CrashesSafely D.keeps service (D.medium disk) (D.medium result.0) result.1 (R.remaining r.old) (R.remaining r.new)
         (W.contents w.old) (W.contents w.new) }
-    ensures kept { KeepsAcknowledged D.keeps (D.medium disk) (D.medium result.0) result.1 (R.remaining r.old)
+    ensures kept { KeepsAcknowledged D.keeps service.slots (D.medium disk) (D.medium result.0) result.1 (R.remaining r.old)
         (W.contents w.old) (W.contents w.new) }
-    ensures recovers { LeavesRecovered D.keeps (D.medium disk) (D.medium result.0) result.1 (R.remaining r.old)
+    ensures recovers { LeavesRecovered D.keeps service.slots (D.medium disk) (D.medium result.0) result.1 (R.remaining r.old)
         (W.contents w.old) (W.contents w.new) }
 {
     let core = match Core::open(alloc, disk, usize::from(service.slots)) {

@@ -32,9 +32,9 @@ fn serve_and_crash<T: Threads + Wait + Sync, R: Read, W: Write>(
     requires bytes { HasPattern torn }
     ensures crashed { HasServedUntilCrash service (medium_of disk) torn (memory_of result.0) result.1 (R.remaining r.old)
         (R.remaining r.new) (W.contents w.old) (W.contents w.new) }
-    ensures kept { UnlessWriteFailed result.1 (W.contents w.old) (W.contents w.new)
-        (HoldsAcknowledged (medium_of disk) (R.remaining r.old) (W.contents w.old) (W.contents w.new) (medium_of result.0).now) }
-    ensures recovers { IfOpened result.1 (HoldsRecovered (medium_of disk) (R.remaining r.old)
+    ensures kept { UnlessWriteFailed result.1 (W.contents w.old) (W.contents w.new) (HoldsAcknowledged service.slots (medium_of disk)
+        (R.remaining r.old) (W.contents w.old) (W.contents w.new) (medium_of result.0).now) }
+    ensures recovers { IfOpened result.1 (HoldsRecovered service.slots (medium_of disk) (R.remaining r.old)
         (known_unless_write_failed result.1 (W.contents w.old)) (W.contents w.new) (medium_of result.0).now) }
 {
     let (disk, end) = serve_on(rt, alloc, disk, service, r, w);
@@ -58,9 +58,9 @@ pub fn serve_stopped<T: Threads + Wait + Sync, R: Read, W: Write>(
     requires bytes { HasPattern torn }
     ensures crashed { HasServedUntilCrash service (medium_of disk) torn (memory_of result.0) result.1 (R.remaining r.old)
         (R.remaining r.new) (W.contents w.old) (W.contents w.new) }
-    ensures kept { UnlessWriteFailed result.1 (W.contents w.old) (W.contents w.new)
-        (HoldsAcknowledged (medium_of disk) (R.remaining r.old) (W.contents w.old) (W.contents w.new) (medium_of result.0).now) }
-    ensures recovers { IfOpened result.1 (HoldsRecovered (medium_of disk) (R.remaining r.old)
+    ensures kept { UnlessWriteFailed result.1 (W.contents w.old) (W.contents w.new) (HoldsAcknowledged service.slots (medium_of disk)
+        (R.remaining r.old) (W.contents w.old) (W.contents w.new) (medium_of result.0).now) }
+    ensures recovers { IfOpened result.1 (HoldsRecovered service.slots (medium_of disk) (R.remaining r.old)
         (known_unless_write_failed result.1 (W.contents w.old)) (W.contents w.new) (medium_of result.0).now) }
 {
     let mut disk = disk;

@@ -1,5 +1,6 @@
 -- What may be sent is held by whatever a crash leaves of the device.
-use Rattle.std.proofs.Common.{◌≡◌, ℕ, true, List, ◌++◌, Option, sym, subst, map, append_assoc}
+use Rattle.std.proofs.Common.{◌≡◌, ℕ, true, List, ◌++◌, Option, sym, subst, map, append_assoc, arith}
+use Rattle.std.proofs.lemmas.List.{length-append}
 use Rattle.std.proofs.KnownBytes.{Appends-trans}
 use Rattle.std.specs.Io.KnownBytes.{Appends}
 use Rattle.checkpoint.proofs.NotRefused.{is_not_refused, has_header}
@@ -16,7 +17,7 @@ use Rattle.serving.specs.Ends.{HasServed, committed_in}
 use Rattle.serving.specs.Lines.{AreKnown, Line, has_answer, answer_text}
 use Rattle.serving.specs.Output.{HoldsSent, MaySendFrom, Start, start_machine}
 use Rattle.serving.proofs.Advancing.{texts_both}
-use Rattle.serving.proofs.Logged.{holds_all, written_are_kept}
+use Rattle.serving.proofs.Logged.{few_answered, holds_all, written_are_kept}
 
 module _ {keeps : Type 0} {s : Start} {sent later : Option (List ℕ)} {now : CoreView} {bytes : List ℕ} (m : MaySendFrom keeps s sent now bytes)
     (appends : Appends sent later bytes) where
@@ -32,6 +33,7 @@ module _ {keeps : Type 0} {s : Start} {sent later : Option (List ℕ)} {now : Co
         known = subst (λ (l : List Line). AreKnown s.core.geometry (answered (events_of h.device_events)) s.core.next h.consumed l)
             (sym (append_assoc h.sent_lines m.next m.rest)) h.known;
         have_answers = all_join (λ line. has_answer line ≡ true) h.sent_lines m.next h.have_answers m.have_answers;
+        few = let n = length-append m.next m.rest in let a = h.few in omega (arith, n, a);
         output = subst (λ (z : List ℕ). Appends s.before later z) (sym (texts_both h.sent_lines m.next))
             (Appends-trans s.before sent later (joined (map answer_text h.sent_lines)) (joined (map answer_text m.next)) h.output
             (subst (λ (z : List ℕ). Appends sent later z) m.bytes_are appends));
@@ -49,6 +51,7 @@ module _ {keeps : Type 0} {s : Start} {sent later : Option (List ℕ)} {now : Co
         first = h.run.first;
         lines = map answer_text h.sent_lines;
         output = h.output;
+        few = few_answered keeps (start_machine s) now m.rest s.input s.before later m.idle h;
         history = log;
         kept = written_are_kept keeps (start_machine s) now m.rest s.input s.before later m.idle h;
         holds = held;

@@ -301,6 +301,7 @@ module _ (keeps : Type 0) where
         next = h.waiting;
         rest = p.reorder_buffer.lines;
         served = has_served keeps (start_machine s) (machine p) u.idle none recovers
+            (let n = length-append h.waiting p.reorder_buffer.lines in let a = h.counted in let b = h.bounded in let c = u.fits in omega (arith, n, a, b, c))
             (subst (λ (b : Bool). ServingProgress keeps (start_machine s) (machine p) (h.waiting ++ p.reorder_buffer.lines) s.input k.0 k.1 (known_unless b s.before)
             (known_unless b p.sent)) output_works h.progress);
         have_answers = h.have_answers;

@@ -1,10 +1,10 @@
 -- What was sent is on the device: what a crash after event k leaves holds all that was logged by then, and each line that was written for
 -- a message with a ticket is of a message that was logged.
-use Rattle.std.proofs.Common.{◌≡◌, ℕ, zero, suc, ◌≤◌, Bool, true, List, [], ◌∷◌, ◌++◌, Option, Some, None, refl, ap, sym, ◌∙◌, subst, length, take, drop, map, inl, inr, ⊎_elim, append_assoc, arith}
+use Rattle.std.proofs.Common.{◌≡◌, ℕ, zero, suc, ◌+◌, ◌≤◌, Bool, true, List, [], ◌∷◌, ◌++◌, Option, Some, None, refl, ap, sym, ◌∙◌, subst, length, take, drop, map, inl, inr, ⊎_elim, append_assoc, arith}
 use Rattle.std.specs.Prelude.{if◌then◌else◌}
 use Rattle.std.specs.List.{AllByRecursion, Contains}
 use Rattle.std.proofs.lemmas.Bool.{true≢false}
-use Rattle.std.proofs.lemmas.List.{length-map, take_all}
+use Rattle.std.proofs.lemmas.List.{length-append, length-map, take_all}
 use Rattle.affinity.specs.declared.geometry.Geometry.{Geometry}
 use Rattle.disk.proofs.Moments.{counts_now}
 use Rattle.disk.specs.Device.{IsCrashImage, Medium}
@@ -30,6 +30,7 @@ use Rattle.scheduler.specs.CoreView.{CoreView, core_state_of}
 use Rattle.serving.specs.Ends.{HasRunLines, HasServed, committed_in}
 use Rattle.serving.specs.Lines.{Completed, AreKnown, IsKnown, Line, NoMessage, OutOfRange, Pending, admitted, admitted_in, has_answer, next_ticket, answer_text, ticketed}
 use Rattle.serving.specs.Logged.{AreInHistory, RecoversToHistory, IsInHistory}
+use Rattle.serving.proofs.Serial.{as_many}
 use Rattle.serving.proofs.Tickets.{ticketed-append}
 
 -- ---- what a crash leaves
@@ -157,6 +158,15 @@ module _ (keeps : Type 0) (start : MachineView) (new : CoreView) (unsent : List 
       (subst (λ (l : List Replied). IsIn (ticket, m, reply) l) (sym (logged_begins g w events h.run.legal idle))
       (in_left (ticket, m, reply) (answered_messages w events) (end_state w events).core.logged
       (subst (λ (m' : Msg). IsIn (ticket, m', reply) (answered_messages w events)) same one.1)))
+
+  -- No more consumed lines have no answer than there are slots.
+  pub few_answered : length h.consumed ≤ length (map answer_text h.sent_lines) + start.core.slots
+  few_answered =
+      let all = as_many start.core.geometry (answered (events_of h.device_events)) start.core.next h.consumed (h.sent_lines ++ unsent) h.known in
+      let both = length-append h.sent_lines unsent in
+      let same = length-map h.sent_lines answer_text in
+      let few = h.few in
+      omega (arith, all, both, same, few)
 
   -- Each line that was written is in the history of what the run logged (`AreInHistory`).
   pub written_are_kept : AreInHistory start.core.geometry run_log start.core.next h.consumed (map answer_text h.sent_lines)

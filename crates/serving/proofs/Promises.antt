@@ -35,22 +35,21 @@ module _ {keeps : Type 0} {start now : MachineView} (idle : IsIdle (core_state_o
   unfolding has_served
   runs_whole h at_end = record {
     unsent = [];
-    served = has_served keeps start now idle no_doubt recovers h;
+    served = has_served keeps start now idle no_doubt recovers (omega arith) h;
     are_unsent = (refl, all_taken input unread ended h.consumed h.takes at_end);
-    few = omega arith;
   }
 
   pub runs_to_read : ServingProgress keeps start now [] input unread ended before written
       → HasRunWith keeps start now.core input before written (Err faults.Read)
-  runs_to_read h = record { unsent = []; served = has_served keeps start now idle no_doubt recovers h; are_unsent = refl; few = omega arith }
+  runs_to_read h = record { unsent = []; served = has_served keeps start now idle no_doubt recovers (omega arith) h; are_unsent = refl }
 
   pub runs_to_last_ticket : ServingProgress keeps start now [] input unread ended before written
       → HasRunWith keeps start now.core input before written (Err faults.Exhausted)
-  runs_to_last_ticket h = record { unsent = []; served = has_served keeps start now idle no_doubt recovers h; are_unsent = refl; few = omega arith }
+  runs_to_last_ticket h = record { unsent = []; served = has_served keeps start now idle no_doubt recovers (omega arith) h; are_unsent = refl }
 
   pub runs_to_device : {unsent : List Line} → ServingProgress keeps start now unsent input unread ended before written → can_retire unsent ≡ false
       → length unsent ≤ start.core.slots → HasRunWith keeps start now.core input before written (Err faults.Device)
-  runs_to_device {unsent} h last few = record { unsent = unsent; served = has_served keeps start now idle no_doubt recovers h; are_unsent = last; few = few }
+  runs_to_device {unsent} h last few = record { unsent = unsent; served = has_served keeps start now idle no_doubt recovers few h; are_unsent = last }
 
   -- where a write failed: whatever was written before and since
   pub runs_to_write : {unsent : List Line} (was torn : Option (List ℕ)) → ServingProgress keeps start now unsent input unread ended before written
@@ -58,7 +57,7 @@ module _ {keeps : Type 0} {start now : MachineView} (idle : IsIdle (core_state_o
   runs_to_write {unsent} was torn h few =
       let unknown : ServingProgress keeps start now unsent input unread ended None torn =
       record { consumed = h.consumed; sent_lines = h.sent_lines; takes = h.takes; serving = h.serving; output = tt } in
-      record { unsent = unsent; served = has_served keeps start now idle no_doubt recovers unknown; are_unsent = tt; few = few }
+      record { unsent = unsent; served = has_served keeps start now idle no_doubt recovers few unknown; are_unsent = tt }
 
 -- ---- a server that was refused
 
@@ -67,10 +66,10 @@ module _ (keeps : Type 0) (core : CoreView) (places : ℕ) (idle : IsIdle (core_
   not_run : HasServed keeps (machine_with_jobs core (replicate places None)) core [] input before before
   not_run =
       let start = machine_with_jobs core (replicate places None) in
-      has_served keeps start start idle no_doubt recovers (starts keeps start input before)
+      has_served keeps start start idle no_doubt recovers (omega arith) (starts keeps start input before)
 
   pub no_workers_ran : HasRunWith keeps (machine_with_jobs core (replicate places None)) core input before before (Err faults.NoWorkers)
-  no_workers_ran = record { unsent = []; served = not_run; are_unsent = refl; few = omega arith }
+  no_workers_ran = record { unsent = []; served = not_run; are_unsent = refl }
 
   pub no_memory_ran : HasRunWith keeps (machine_with_jobs core (replicate places None)) core input before before (Err faults.OutOfMemory)
-  no_memory_ran = record { unsent = []; served = not_run; are_unsent = refl; few = omega arith }
+  no_memory_ran = record { unsent = []; served = not_run; are_unsent = refl }

@@ -1,5 +1,5 @@
 -- What a device holds of a service, in words of lines: those that were acknowledged, and a part of the lines after them.
-use Rattle.std.proofs.Common.{◌≡◌, ◌⊎◌, ℕ, ◌+◌, ◌<◌, ◌≤◌, Bool, true, false, List, [], ◌∷◌, ◌++◌, Option, Some, None, refl, ap, sym, ◌∙◌, subst, inl, inr, ⊎_elim, arith, append_assoc}
+use Rattle.std.proofs.Common.{◌≡◌, ◌⊎◌, ℕ, zero, suc, ◌+◌, ◌<◌, ◌≤◌, Bool, true, false, List, [], ◌∷◌, ◌++◌, Option, Some, None, refl, ap, sym, ◌∙◌, subst, length, length-append, take, inl, inr, ⊎_elim, arith, append_assoc}
 use Rattle.std.specs.Prelude.{◌&&◌, if◌then◌else◌}
 use Rattle.std.specs.Io.KnownBytes.{Appends}
 use Rattle.std.specs.List.{AllByRecursion, Contains}
@@ -323,19 +323,25 @@ none_there : (g : Geometry) (ls : List (List ℕ)) → IsClosedPart g [] ls
 none_there g [] = refl
 none_there g (line ∷ ls) = inr (tt, none_there g ls)
 
-longer : (g : Geometry) (part ls rest : List (List ℕ)) → IsClosedPart g part ls → IsClosedPart g part (ls ++ rest)
-longer g part [] rest h = subst (λ p. IsClosedPart g p rest) (sym h) (none_there g rest)
-longer g part (line ∷ ls) rest h = ⊎_elim
-    (λ (k : (fewer : List (List ℕ)) × (part ≡ line ∷ fewer) × IsClosedPart g fewer ls). inl (k.0, k.1, longer g k.0 ls rest k.2))
+-- A closed part of no more than n lines is one of the first n of these and more.
+within : (g : Geometry) (n : ℕ) (part ls rest : List (List ℕ)) → length ls ≤ n → IsClosedPart g part ls → IsClosedPart g part (take n (ls ++ rest))
+within g n part [] rest le h = subst (λ p. IsClosedPart g p (take n rest)) (sym h) (none_there g (take n rest))
+within g zero part (line ∷ ls) rest le h = absurd (omega (arith, le))
+within g (suc n) part (line ∷ ls) rest le h = ⊎_elim
+    (λ (k : (fewer : List (List ℕ)) × (part ≡ line ∷ fewer) × IsClosedPart g fewer ls). inl (k.0, k.1, within g n k.0 ls rest (omega (arith, le)) k.2))
     (λ (k : AllByRecursion (λ other. are_related_lines g (message_of line) (message_of other) ≡ false) part × IsClosedPart g part ls).
-    inr (k.0, longer g part ls rest k.1)) h
+    inr (k.0, within g n part ls rest (omega (arith, le)) k.1)) h
+
+one_each : (g : Geometry) (x : State) (ls : List (List ℕ)) → length (output_lines g x ls) ≡ length ls
+one_each g x [] = refl
+one_each g x (line ∷ ls) = ap suc (one_each g (state_after_line g x (message_of line)) ls)
 
 -- Where the first lines of an input were consumed, and a log has the replies that were written for the first of these, the log leads to a
 -- state from which a restart may go on.
-recovers_to : {g : Geometry} {x : State} {input : List ℕ} {log : List Replied} {bytes : List ℕ} (n : ℕ) (consumed written : List (List ℕ))
-    → AreFirst (Some input) consumed → AreInHistory g log n consumed written → (h : RecoversToHistory g x (ticketed n (admitted g consumed)) log bytes)
-    → RecoversTo g x (state_after_all g x (recorded (log ++ h.more))) input (joined written)
-recovers_to {g} {x} {log} n consumed written first kept h =
+recovers_to : {g : Geometry} {slots : ℕ} {x : State} {input : List ℕ} {log : List Replied} {bytes : List ℕ} (n : ℕ) (consumed written : List (List ℕ))
+    → AreFirst (Some input) consumed → length consumed ≤ length written + slots → AreInHistory g log n consumed written → (h : RecoversToHistory g x (ticketed n (admitted g consumed)) log bytes)
+    → RecoversTo g slots x (state_after_all g x (recorded (log ++ h.more))) input (joined written)
+recovers_to {g} {slots} {x} {log} n consumed written first few kept h =
     let whole = log ++ h.more in
     let sorted = sorted_log g x (ticketed n (admitted g consumed)) whole (ascending n (admitted g consumed)) h.serial in
     let a = answers_first g log x n consumed written (by_ticket (entries whole)) sorted.no_gap
@@ -346,33 +352,36 @@ recovers_to {g} {x} {log} n consumed written first kept h =
       first = first.1 ∙ ap (λ l. l ++ first.0) a.parts ∙ append_assoc a.first a.others first.0;
       answers = ap joined a.answers;
       part = a.part;
-      closed = longer g a.part a.others first.0 a.closed;
+      closed = within g slots a.part a.others first.0
+          (let all = ap length a.parts ∙ length-append a.first a.others in let each = ap length a.answers ∙ one_each g x a.first in omega (arith, all, each, few))
+          a.closed;
       state = sorted.state ∙ a.state;
     }
 
 -- The same of the bytes of a device that recover to that state.
-pub bytes_recover : {g : Geometry} {x : State} {input before written : Option (List ℕ)} {log : List Replied} {bytes : List ℕ} (n : ℕ)
-    (consumed answers : List (List ℕ)) → AreFirst input consumed → Appends before written (joined answers) → AreInHistory g log n consumed answers
-    → RecoversToHistory g x (ticketed n (admitted g consumed)) log bytes → BytesRecover g x input before written bytes
-bytes_recover {g} {x} {input} {before} {written} {log} n consumed answers first output kept h = record {
+pub bytes_recover : {g : Geometry} {slots : ℕ} {x : State} {input before written : Option (List ℕ)} {log : List Replied} {bytes : List ℕ} (n : ℕ)
+    (consumed answers : List (List ℕ)) → AreFirst input consumed → Appends before written (joined answers)
+    → length consumed ≤ length answers + slots → AreInHistory g log n consumed answers
+    → RecoversToHistory g x (ticketed n (admitted g consumed)) log bytes → BytesRecover g slots x input before written bytes
+bytes_recover {g} {slots} {x} {input} {before} {written} {log} n consumed answers first output few kept h = record {
   now = state_after_all g x (recorded (log ++ h.more));
   holds_now = h.recovers;
   recovers = so input first;
 }
   where
     so : (input : Option (List ℕ)) → AreFirst input consumed
-        → WritesOutput input before written (RecoversTo g x (state_after_all g x (recorded (log ++ h.more))))
+        → WritesOutput input before written (RecoversTo g slots x (state_after_all g x (recorded (log ++ h.more))))
     so None first = tt
-    so (Some all) first = (joined answers, output, recovers_to n consumed answers first kept h)
+    so (Some all) first = (joined answers, output, recovers_to n consumed answers first few kept h)
 
 -- where nothing was written, the state may be that of the start, with no line of the input in it
-pub none_written : (g : Geometry) (x : State) (input : List ℕ) → RecoversTo g x x input []
-none_written g x input = record {
+pub none_written : (g : Geometry) (slots : ℕ) (x : State) (input : List ℕ) → RecoversTo g slots x x input []
+none_written g slots x input = record {
   acknowledged = [];
   unacknowledged = lines input;
   first = refl;
   answers = refl;
   part = [];
-  closed = none_there g (lines input);
+  closed = none_there g (take slots (lines input));
   state = refl;
 }

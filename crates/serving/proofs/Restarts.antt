@@ -1,6 +1,6 @@
 -- Worked examples: which lines are related, which part of some lines may be there, and which states a restart may go on from.
 use Rattle.std.proofs.Common.{◌≡◌, ℕ, Bool, List, [], ◌∷◌, ◌++◌, true, false, refl, sym, ◌∙◌, ap, inl, inr, ⊎_elim, arith}
-use Rattle.std.specs.Prelude.{codes, get_or}
+use Rattle.std.specs.Prelude.{codes, get_or, length, take}
 use Rattle.std.proofs.lemmas.Bool.{true≢false}
 use Rattle.affinity.specs.Geometry.{small}
 use Rattle.messages.specs.Grammar.{kind_named, message_of}
@@ -92,6 +92,14 @@ not_out_of_order h = ⊎_elim
     (λ k. let same = ap first_byte k.1 in absurd (omega (arith, same)))
     (λ k. true≢false k.0.0) h
 
+-- A server with one slot has no second line of those without an answer.
+no_more_than_the_slots : IsClosedPart small (make ∷ create ∷ []) (take 1 (make ∷ create ∷ [])) → ⊥
+no_more_than_the_slots h =
+    let many = λ (ls : List (List ℕ)). length ls in
+    ⊎_elim
+    (λ k. let two : length (make ∷ create ∷ []) ≡ 1 = ap many k.1 ∙ ap (λ (ls : List (List ℕ)). length (make ∷ ls)) k.2 in absurd (omega (arith, two)))
+    (λ k. let two : length (make ∷ create ∷ []) ≡ 0 = ap many k.1 in absurd (omega (arith, two))) h
+
 -- ---- where a restart goes on
 
 abbrev input : List ℕ
@@ -104,7 +112,7 @@ they_are_two_lines : lines input ≡ make ∷ create ∷ []
 they_are_two_lines = refl
 
 -- No line was acknowledged, and the state is that after both.
-more_may_be_there : RecoversTo small empty (after (make ∷ create ∷ [])) input []
+more_may_be_there : RecoversTo small 2 empty (after (make ∷ create ∷ [])) input []
 more_may_be_there = record {
   acknowledged = [];
   unacknowledged = make ∷ create ∷ [];
@@ -116,7 +124,7 @@ more_may_be_there = record {
 }
 
 -- The first line was acknowledged, and the state is that after it alone.
-what_was_acknowledged_is_there : RecoversTo small empty (after (make ∷ [])) input (codes "done\n")
+what_was_acknowledged_is_there : RecoversTo small 2 empty (after (make ∷ [])) input (codes "done\n")
 unfolding message_of kind_named number_in_word
 what_was_acknowledged_is_there = record {
   acknowledged = make ∷ [];
@@ -133,7 +141,7 @@ too_many : (a b c : List ℕ) (ls : List (List ℕ)) → a ∷ [] ≡ b ∷ c �
 too_many a b c ls same = cc
 
 it_is_there : (first unacknowledged part : List (List ℕ)) → make ∷ [] ≡ first ++ unacknowledged → codes "done\n" ≡ joined (output_lines small empty first)
-    → IsClosedPart small part unacknowledged → empty ≡ after (first ++ part) → ⊥
+    → IsClosedPart small part (take 2 unacknowledged) → empty ≡ after (first ++ part) → ⊥
 unfolding message_of kind_named number_in_word
 it_is_there [] unacknowledged part is answers closed state = cc
 it_is_there (line ∷ []) [] part is answers closed state =
@@ -143,5 +151,5 @@ it_is_there (line ∷ []) [] part is answers closed state =
 it_is_there (line ∷ []) (b ∷ unacknowledged) part is answers closed state = too_many make line b unacknowledged is
 it_is_there (line ∷ k ∷ ls) unacknowledged part is answers closed state = too_many make line k (ls ++ unacknowledged) is
 
-what_was_acknowledged_is_not_missing : RecoversTo small empty empty (codes "makevol 0 0\n") (codes "done\n") → ⊥
+what_was_acknowledged_is_not_missing : RecoversTo small 2 empty empty (codes "makevol 0 0\n") (codes "done\n") → ⊥
 what_was_acknowledged_is_not_missing h = it_is_there h.acknowledged h.unacknowledged h.part h.first h.answers h.closed h.state

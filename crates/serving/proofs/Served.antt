@@ -1,5 +1,5 @@
 -- What a server has written when it ends, compared with the serial server.
-use Rattle.std.proofs.Common.{◌≡◌, ◌≢◌, ℕ, ◌<◌, Bool, true, false, List, [], ◌∷◌, ◌++◌, Option, Some, None, ap, sym, ◌∙◌, subst, length, map, take, inr, ⊎_elim, append_assoc, append-nil, arith}
+use Rattle.std.proofs.Common.{◌≡◌, ◌≢◌, ℕ, ◌<◌, ◌≤◌, Bool, true, false, List, [], ◌∷◌, ◌++◌, Option, Some, None, ap, sym, ◌∙◌, subst, length, map, take, inr, ⊎_elim, append_assoc, append-nil, arith}
 use Rattle.std.specs.Prelude.{IfSome, Ok, Err}
 use Rattle.std.specs.Io.KnownBytes.{IsAtEnd}
 use Rattle.std.proofs.lemmas.Bool.{true≢false}
@@ -172,9 +172,9 @@ module _ (keeps : Type 0) (start now : MachineView) (idle : IsIdle (core_state_o
   first_taken (Some input) unread ended consumed t = (lines t.0, t.2.to_come)
 
   unfoldable pub has_served : {unsent : List Line} {input unread : Option (List ℕ)} {ended : Bool} {before written : Option (List ℕ)}
-      → (now.core.failed ≡ false → now.core.doubt ≡ []) → (keeps → RecoversNow now.core)
+      → (now.core.failed ≡ false → now.core.doubt ≡ []) → (keeps → RecoversNow now.core) → length unsent ≤ start.core.slots
       → ServingProgress keeps start now unsent input unread ended before written → HasServed keeps start now.core unsent input before written
-  has_served {unsent} {input} {unread} {ended} none recovers h =
+  has_served {unsent} {input} {unread} {ended} none recovers few h =
       let p = h.serving.segment in
       record {
         consumed = h.consumed;
@@ -196,4 +196,5 @@ module _ (keeps : Type 0) (start now : MachineView) (idle : IsIdle (core_state_o
         known = subst (λ (l : List (ℕ × Reply)). AreKnown g l start.core.next h.consumed (h.sent_lines ++ unsent)) (sym p.reply_pairs_are) h.serving.known;
         have_answers = h.serving.answered;
         output = h.output;
+        few = few;
       }

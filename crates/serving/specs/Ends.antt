@@ -74,8 +74,8 @@ pub record HasRunLines (keeps : Type 0) (start : MachineView) (new : CoreView)
       → RecoversForRun start.core.geometry (machine_of start) (events_of device_events) k c
 
 -- A legal run (`HasRunLines`) led to the output: each reply there is to a line that is no message or is out of range, or to a message that
--- the run answered. `unsent` are the lines that were read and have no reply in the output. `known`: each consumed line is as its `Line`
--- says, with its ticket, and with the reply that the run gave it, if the run gave one.
+-- the run answered. `unsent` are the lines that were read and have no reply in the output, never more than the core has slots. `known`:
+-- each consumed line is as its `Line` says, with its ticket, and with the reply that the run gave it, if the run gave one.
 pub record HasServed (keeps : Type 0) (start : MachineView) (new : CoreView) (unsent : List Line)
     (input before written : Option (List ℕ)) : Type 0 where
   pub consumed : List (List ℕ)
@@ -85,6 +85,7 @@ pub record HasServed (keeps : Type 0) (start : MachineView) (new : CoreView) (un
   pub known : AreKnown start.core.geometry (answered (events_of device_events)) start.core.next consumed (sent_lines ++ unsent)
   pub have_answers : AllByRecursion (λ line. has_answer line ≡ true) sent_lines
   pub output : Appends before written (joined (map answer_text sent_lines))
+  pub few : length unsent ≤ start.core.slots
 
 -- ---- what each result promises of the core before and after, of the input and what remains of it, and of what was written
 

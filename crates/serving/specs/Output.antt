@@ -1,5 +1,5 @@
 -- Statement for engineers: What a server may send, and when.
-use Rattle.std.specs.Prelude.{◌≡◌, ◌⊎◌, ℕ, List, [], ◌++◌, map, replicate, Option, Some, None}
+use Rattle.std.specs.Prelude.{◌≡◌, ◌⊎◌, ◌+◌, ◌≤◌, ℕ, List, [], ◌++◌, length, map, replicate, Option, Some, None}
 use Rattle.std.specs.Io.KnownBytes.{Appends}
 use Rattle.std.specs.List.{AllByRecursion}
 use Rattle.checkpoint.specs.Header.{HasHeader}
@@ -28,14 +28,16 @@ pub record Start : Type 0 where
 abbrev pub start_machine : Start → MachineView
 start_machine s = machine_with_jobs s.core (replicate s.places None)
 
--- A device of these bytes holds what was sent since the start: a line for each of the first lines of the input. Each message among these
--- lines that took a ticket is in a history, with the reply that was sent. The bytes recover to the state to which the changes of that
--- history lead from the one at the start, perhaps with more of the messages that arrived; and they are not refused.
+-- A device of these bytes holds what was sent since the start: a line for each of the first lines of the input, and no more of the lines
+-- that were consumed lack one than the core has slots. Each message with a ticket among the lines that were answered is in a history, with
+-- the reply that was sent. The bytes recover to the state to which the changes of that history lead from the one at the start, perhaps
+-- with more of the messages that arrived; and they are not refused.
 pub record HoldsSent (s : Start) (sent : Option (List ℕ)) (bytes : List ℕ) : Type 0 where
   pub consumed : List (List ℕ)
   pub first : AreFirst s.input consumed
   pub lines : List (List ℕ)
   pub output : Appends s.before sent (joined lines)
+  pub few : length consumed ≤ length lines + s.core.slots
   pub history : List Replied
   pub kept : AreInHistory s.core.geometry history s.core.next consumed lines
   pub holds : RecoversToHistory s.core.geometry (committed_in s.core) (ticketed s.core.next (admitted s.core.geometry consumed)) history

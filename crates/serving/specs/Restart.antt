@@ -1,5 +1,5 @@
 -- Statement for clients: The state that a restart after a crash recovers, in terms of lines: those acknowledged, and which of the others.
-use Rattle.std.specs.Prelude.{◌≡◌, ◌⊎◌, ℕ, Bool, false, ◌&&◌, List, [], ◌∷◌, ◌++◌, Option, Some}
+use Rattle.std.specs.Prelude.{◌≡◌, ◌⊎◌, ℕ, Bool, false, ◌&&◌, List, [], ◌∷◌, ◌++◌, take, Option, Some}
 use Rattle.std.specs.List.{AllByRecursion}
 use Rattle.affinity.specs.Path.{are_related}
 use Rattle.affinity.specs.declared.geometry.Geometry.{Geometry}
@@ -23,19 +23,19 @@ IsClosedPart g part (line ∷ ls) = ((rest : List (List ℕ)) × (part ≡ line 
     ⊎ (AllByRecursion (λ other. are_related_lines g (message_of line) (message_of other) ≡ false) part × IsClosedPart g part ls)
 
 -- The first lines of the input were acknowledged, each by the serial server's answer. The state is the one after these lines and then a
--- part of the lines after them (`IsClosedPart`).
-pub record RecoversTo (g : Geometry) (start now : State) (input written : List ℕ) : Type 0 where
+-- part (`IsClosedPart`) of the lines after them: of no more than there are slots, as no later line was read.
+pub record RecoversTo (g : Geometry) (slots : ℕ) (start now : State) (input written : List ℕ) : Type 0 where
   pub acknowledged : List (List ℕ)
   pub unacknowledged : List (List ℕ)
   pub first : lines input ≡ acknowledged ++ unacknowledged
   pub answers : written ≡ joined (output_lines g start acknowledged)
   pub part : List (List ℕ)
-  pub closed : IsClosedPart g part unacknowledged
+  pub closed : IsClosedPart g part (take slots unacknowledged)
   pub state : now ≡ state_after_lines g start (acknowledged ++ part)
 
 -- These bytes recover to a state. Where the input is known, `RecoversTo` holds of that state, for a server that began in `start`, and of
 -- what was added to the output: `before` and `after` are what it held before and after the run.
-pub record BytesRecover (g : Geometry) (start : State) (input before after : Option (List ℕ)) (bytes : List ℕ) : Type 0 where
+pub record BytesRecover (g : Geometry) (slots : ℕ) (start : State) (input before after : Option (List ℕ)) (bytes : List ℕ) : Type 0 where
   pub now : State
   pub holds_now : recovered_state g bytes ≡ Some now
-  pub recovers : WritesOutput input before after (RecoversTo g start now)
+  pub recovers : WritesOutput input before after (RecoversTo g slots start now)

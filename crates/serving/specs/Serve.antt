@@ -1,5 +1,5 @@
 -- Statement for operators: What a call of `serve` promises, by its result.
-use Rattle.std.specs.Prelude.{◌≡◌, ◌≢◌, ◌≤◌, ℕ, false, List, [], length, Option, Some, None, Result, Ok, Err, OnOk, replicate}
+use Rattle.std.specs.Prelude.{◌≡◌, ◌≢◌, ℕ, false, List, [], Option, Some, None, Result, Ok, Err, OnOk, replicate}
 use Rattle.runs.specs.Machine.{MachineView}
 use Rattle.messages.specs.Lines.{lines}
 use Rattle.device_map.specs.Layout.{layout_of}
@@ -31,13 +31,12 @@ AreUnsent (Err faults.Device) input consumed unsent = can_retire unsent ≡ fals
 AreUnsent (Err faults.Write) input consumed unsent = Unit {0}
 AreUnsent (Err _) input consumed unsent = unsent ≡ []
 
--- A run led to what was written. No more lines are without a reply in the output than the core has slots.
+-- A run led to what was written.
 pub record HasRunWith (keeps : Type 0) (start : MachineView) (new : CoreView) (input before written : Option (List ℕ))
     (end : Result (Unit {0}) ServeFault) : Type 0 where
   pub unsent : List Line
   pub served : HasServed keeps start new unsent input (known_before end before) written
   pub are_unsent : AreUnsent end input served.consumed unsent
-  pub few : length unsent ≤ start.core.slots
 
 -- The call ends with `NoWorkers` exactly where there are no workers.
 abbrev pub FailsWithoutWorkers : ℕ → Result (Unit {0}) ServeFault → Type 0

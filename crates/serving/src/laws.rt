@@ -105,7 +105,8 @@ pub fn serving_ends_as_the_serial_server<D: Disk>()
     ensures run { (start now : MachineView) (unsent : List Line) (input unread : Option (List ℕ)) (drained : Bool)
         (before written : Option (List ℕ)) → IsIdle (core_state_of start.core)
         → ServingProgress D.keeps start now unsent input unread drained before written → (now.core.failed ≡ false → now.core.doubt ≡ [])
-        → (D.keeps → RecoversNow now.core) → HasServed D.keeps start now.core unsent input before written }
+        → (D.keeps → RecoversNow now.core) → length unsent ≤ start.core.slots
+        → HasServed D.keeps start now.core unsent input before written }
 {}
 
 /// Where `doubt` was empty in the beginning, the device holds what was answered. Each line that was written for a message with a ticket is
@@ -139,11 +140,12 @@ pub fn what_may_be_sent_is_on_the_device<D: Disk>()
 {}
 
 /// What may be sent is recovered: once it is sent, whatever a crash leaves of the device, as it was then, recovers to a state with each
-/// line that was sent, and with some of the lines after them: where one is left out, so is each later one related to it.
+/// line that was sent, and with some of the lines after them, of no more than there are slots: where one is left out, so is each later one
+/// related to it.
 pub fn what_may_be_sent_is_recovered<D: Disk>()
     ensures { (s : Start) (sent later : Option (List ℕ)) (now : CoreView) (bytes : List ℕ) → MaySend D.keeps (Some s) sent now bytes
         → D.keeps → Appends sent later bytes → (c : List ℕ) → IsCrashImage now.medium c
-        → BytesRecover s.core.geometry (committed_in s.core) s.input s.before later c }
+        → BytesRecover s.core.geometry s.core.slots (committed_in s.core) s.input s.before later c }
 {}
 
 /// Nothing may be sent too early: as long as each message that has arrived is still in the core, waiting or held, no call may send a reply

@@ -47,6 +47,6 @@ returns g c =
       ends = given_back (λ m r. EndsOnDevice keeps service old m r input left before written)
           (ends_on_device end by c.know_recovery.ensures.no_doubt bytes);
       crash_safe = given_back (λ m r. CrashesSafely keeps service old m r input left before written) (crashes_safely end by);
-      kept = given_back (λ m r. KeepsAcknowledged keeps old m r input before written) (keeps_acknowledged end by);
-      recovers = given_back (λ m r. LeavesRecovered keeps old m r input before written) (leaves_recovered end by);
+      kept = given_back (λ m r. KeepsAcknowledged keeps service.slots old m r input before written) (keeps_acknowledged end by);
+      recovers = given_back (λ m r. LeavesRecovered keeps service.slots old m r input before written) (leaves_recovered end by);
     }

@@ -19,9 +19,9 @@ returns g c =
     record {
       crashed = subst (λ (m : Medium). HasServedUntilCrash c.args.service m c.args.torn (memory_of left) end input rest before written)
           same c.serve_and_crash.ensures.crashed;
-      kept = subst (λ (m : Medium). UnlessWriteFailed end before written (HoldsAcknowledged m input before written (medium_of left).now))
+      kept = subst (λ (m : Medium). UnlessWriteFailed end before written (HoldsAcknowledged c.args.service.slots m input before written (medium_of left).now))
           same c.serve_and_crash.ensures.kept;
-      recovers = subst (λ (m : Medium). IfOpened end (HoldsRecovered m input (known_unless_write_failed end before) written (medium_of left).now))
+      recovers = subst (λ (m : Medium). IfOpened end (HoldsRecovered c.args.service.slots m input (known_unless_write_failed end before) written (medium_of left).now))
           same c.serve_and_crash.ensures.recovers;
     }
 

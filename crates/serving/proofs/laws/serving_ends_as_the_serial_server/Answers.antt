@@ -20,5 +20,5 @@ returns-clause-device g c start now unsent input unread ended before written idl
     ends_at_device g.D.Disk.keeps start now idle h failed wound_up
 
 pub returns-clause-run : goal.returns-clause-run
-returns-clause-run g c start now unsent input unread ended before written idle h no_doubt recovers =
-    has_served g.D.Disk.keeps start now idle no_doubt recovers h
+returns-clause-run g c start now unsent input unread ended before written idle h no_doubt recovers few =
+    has_served g.D.Disk.keeps start now idle no_doubt recovers few h

@@ -6,4 +6,4 @@ use Rattle.serving.proofs.laws.what_may_be_sent_is_recovered.Goals as goal
 pub returns : goal.returns
 returns g c s told later now bytes may kept appends left leaves =
     let h = holds_sent may appends kept left leaves in
-    bytes_recover s.core.next h.consumed h.lines h.first h.output h.kept h.holds
+    bytes_recover s.core.next h.consumed h.lines h.first h.output h.few h.kept h.holds
