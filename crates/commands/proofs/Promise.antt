@@ -1,5 +1,5 @@
 -- From what a service on a device has done follows the state from which a restart goes on.
-use Rattle.std.proofs.Common.{◌≡◌, ◌⊎◌, ℕ, List, [], Option, Some, None, ap, refl, sym, ◌∙◌, subst, inl, inr, ⊎_elim, arith}
+use Rattle.std.proofs.Common.{◌≡◌, ◌⊎◌, ℕ, List, [], ◌∷◌, Option, Some, None, ap, refl, sym, ◌∙◌, subst, inl, inr, ⊎_elim, arith}
 use Rattle.std.specs.Prelude.{Result, Ok, Err, OnOk}
 use Rattle.std.specs.Io.KnownBytes.{Appends}
 use Rattle.std.proofs.KnownBytes.{Appends-nil}
@@ -9,15 +9,13 @@ use Rattle.checkpoint.specs.Recovery.{recovered_state}
 use Rattle.checkpoint.specs.Refusals.{IsRefused}
 use Rattle.checkpoint.specs.declared.fault.OpenFault.{OpenFault}
 use Rattle.checkpoint.specs.declared.fault.OpenFault.TheVariants as opening
-use Rattle.disk.proofs.Leaves.{itself, synced_left}
+use Rattle.disk.proofs.Leaves.{synced_left}
 use Rattle.disk.proofs.Moments.{counts_now}
 use Rattle.disk.specs.Device.{AreBytes, IsSynced, IsCrashImage, Medium}
-use Rattle.disk.specs.Memory.{Memory}
 use Rattle.disk.specs.Moments.{left_since, moment_number}
-use Rattle.disk.specs.declared.torn.Torn.{Torn}
 use Rattle.journal.specs.Opening.{IsPastSync, OpeningCrashImages, RecoversAsBefore}
 use Rattle.meaning.specs.Output.{WritesOutput, serial_output}
-use Rattle.meaning.specs.State.{State, empty}
+use Rattle.meaning.specs.State.{State}
 use Rattle.scheduler.proofs.Refusals.{recovers_or_refused}
 use Rattle.scheduler.specs.Opening.{IsShownByBytes}
 use Rattle.serving.proofs.Recovering.{none_written, bytes_recover}
@@ -27,8 +25,9 @@ use Rattle.serving.specs.declared.server.ServeFault.TheVariants as faults
 use Rattle.commands.proofs.Kept.{held}
 use Rattle.commands.specs.Faults.{command_result}
 use Rattle.commands.specs.Acknowledged.{HoldsAcknowledged}
-use Rattle.commands.specs.Promise.{IsRestart, HoldsRecovered, LeavesRecovered, IfOpened, known_unless_write_failed}
-use Rattle.commands.specs.Serving.{EndsOnDevice, CrashesSafely, HasServedBy, HasServedUntilCrash, RecoveredTo}
+use Rattle.commands.specs.Promise.{HasRunFrom, HoldsRecovered, HoldsState, LeavesRecovered, LeavesRun, IfOpened, known_unless_write_failed}
+use Rattle.commands.specs.Restarts.{CrashedRun, FollowCrashes, HaveRunFrom}
+use Rattle.commands.specs.Serving.{EndsOnDevice, CrashesSafely, HasServedBy, RecoveredTo}
 use Rattle.commands.specs.declared.faults.Fault.{Fault}
 use Rattle.commands.specs.declared.faults.Fault.TheVariants as ends
 use Rattle.commands.specs.declared.serve_options.ServeOptions.{ServeOptions}
@@ -90,10 +89,10 @@ some_same : {x y : State} → ◌≡◌ {A = Option State} (Some x) (Some y) →
 some_same e = cc
 
 -- A device that recovers to this state was opened with this geometry, and from this state.
-opened_so : {g h : Geometry} {x y : State} {old : Medium} → recovered_state g old.now ≡ Some x → RecoveredTo (Unit {0}) old h y → (h ≡ g) × (y ≡ x)
-opened_so {g} {h} {x} {old} recovers recovered_before =
-    let same : h ≡ g = one_geometry h g old.now (recovered_before.header tt) x recovers in
-    (same, some_same (sym (recovered_before.recovered_before tt) ∙ ap (λ (k : Geometry). recovered_state k old.now) same ∙ recovers))
+opened_so : {keeps : Type 0} (keep : keeps) {g h : Geometry} {x y : State} {old : Medium} → recovered_state g old.now ≡ Some x → RecoveredTo keeps old h y → (h ≡ g) × (y ≡ x)
+opened_so keep {g} {h} {x} {old} recovers recovered_before =
+    let same : h ≡ g = one_geometry h g old.now (recovered_before.header keep) x recovers in
+    (same, some_same (sym (recovered_before.recovered_before keep) ∙ ap (λ (k : Geometry). recovered_state k old.now) same ∙ recovers))
 
 written_so : (input before written : Option (List ℕ)) (P Q : List ℕ → List ℕ → Type 0) → ((bytes out : List ℕ) → P bytes out → Q bytes out)
     → WritesOutput input before written P → WritesOutput input before written Q
@@ -101,12 +100,12 @@ written_so None before written P Q f h = tt
 written_so (Some bytes) before written P Q f h = (h.0, h.1, f bytes h.0 h.2)
 
 -- A service that ends without fault has answered all of its input.
-module _ (g : Geometry) {x : State} (old : Medium) (recovers : recovered_state g old.now ≡ Some x) where
+module _ {keeps : Type 0} (keep : keeps) (g : Geometry) {x : State} (old : Medium) (recovers : recovered_state g old.now ≡ Some x) where
   serves_so : (s : ServeOptions) (new : Medium) (end : Result (Unit {0}) Fault) (input left before written : Option (List ℕ))
-      → EndsOnDevice (Unit {0}) s old new end input left before written → OnOk end (WritesOutput input before written (λ bytes out. out ≡ serial_output g x bytes))
+      → EndsOnDevice keeps s old new end input left before written → OnOk end (WritesOutput input before written (λ bytes out. out ≡ serial_output g x bytes))
   serves_so s new (Err fault) input left before written h = tt
   serves_so s new (Ok done) input left before written h =
-      let own = opened_so recovers h.1.0.before in
+      let own = opened_so keep recovers h.1.0.before in
       written_so input before written _ _
       (λ bytes out served. served.output ∙ (λ i. serial_output (own.0 i) (own.1 i) bytes)) h.1.3
 
@@ -124,10 +123,11 @@ opened_or (Err ends.NoTicketLeft) h = inr h
 opened_or (Err (ends.Format fault)) h = inr h
 
 -- One run, on a device that is synced and recovers to state x, and what a crash leaves of it then.
-module _ (g : Geometry) (slots : ℕ) (old new : Medium) {x : State} (made : recovered_state g old.now ≡ Some x) (synced : IsSynced old) (c : List ℕ) (leaves : IsCrashImage new c) where
+module _ {keeps : Type 0} (keep : keeps) (g : Geometry) (slots : ℕ) (old new : Medium) {x : State}
+    (made : recovered_state g old.now ≡ Some x) (synced : IsSynced old) (c : List ℕ) (leaves : IsCrashImage new c) where
   left_so : (input before written : Option (List ℕ)) → HoldsRecovered slots old input before written c → BytesRecover g slots x input before written c
   left_so input before written h =
-      let own = opened_so made h.recovered_before in
+      let own = opened_so tt made h.recovered_before in
       subst (λ (k : Geometry). BytesRecover k slots x input before written c) own.0
       (subst (λ (y : State). BytesRecover h.geometry slots y input before written c) own.1 h.recovered)
 
@@ -153,21 +153,28 @@ module _ (g : Geometry) (slots : ℕ) (old new : Medium) {x : State} (made : rec
           ([], subst (λ (w : Option (List ℕ)). Appends before w []) (sym unwritten) (Appends-nil before), none_written g slots x bytes)
 
   module _ (s : ServeOptions) (end : Result (Unit {0}) Fault) (input left before written : Option (List ℕ)) where
-    left_at : EndsOnDevice (Unit {0}) s old new end input left before written → CrashesSafely (Unit {0}) s old new end input left before written
+    left_at : EndsOnDevice keeps s old new end input left before written → CrashesSafely keeps s old new end input left before written
         → IfOpened end (HoldsRecovered slots old input (known_unless_write_failed end before) written c)
         → BytesRecover g slots x input (known_unless_write_failed end before) written c
     left_at e safe recovers = ⊎_elim
         (λ (why : (fault : OpenFault) × (end ≡ Err (ends.Open fault))).
         subst (λ (r : Result (Unit {0}) Fault). BytesRecover g slots x input (known_unless_write_failed r before) written c) (sym why.1)
         (left_unopened input before written
-        (subst (λ (r : Result (Unit {0}) Fault). CrashesSafely (Unit {0}) s old new r input left before written) why.1 safe tt)
-        (subst (λ (r : Result (Unit {0}) Fault). EndsOnDevice (Unit {0}) s old new r input left before written) why.1 e).2))
+        (subst (λ (r : Result (Unit {0}) Fault). CrashesSafely keeps s old new r input left before written) why.1 safe keep)
+        (subst (λ (r : Result (Unit {0}) Fault). EndsOnDevice keeps s old new r input left before written) why.1 e).2))
         (λ (h : HoldsRecovered slots old input (known_unless_write_failed end before) written c). left_so input (known_unless_write_failed end before) written h)
         (opened_or end recovers)
 
+    run_so : EndsOnDevice keeps s old new end input left before written → CrashesSafely keeps s old new end input left before written
+        → IfOpened end (HoldsRecovered slots old input (known_unless_write_failed end before) written c)
+        → HasRunFrom g slots x end input before written (λ now. recovered_state g c ≡ Some now)
+    run_so e safe recovers =
+        let h = left_at e safe recovers in
+        record { now = h.now; recovers = h.recovers; all_answered = serves_so keep g old made s new end input left before written e; goes_on = h.holds_now }
+
 module _ (g : Geometry) (s : ServeOptions) (old new : Medium) (end : Result (Unit {0}) Fault) (input left before written : Option (List ℕ)) where
   -- A device that recovers to a state is opened, unless it fails or memory is wanting.
-  opens_so : {x : State} → AreBytes old.now → recovered_state g old.now ≡ Some x → EndsOnDevice (Unit {0}) s old new end input left before written
+  pub opens_so : {x : State} → AreBytes old.now → recovered_state g old.now ≡ Some x → EndsOnDevice (Unit {0}) s old new end input left before written
       → (fault : OpenFault) → end ≡ Err (ends.Open fault) → (fault ≡ opening.Device) ⊎ (fault ≡ opening.OutOfMemory)
   opens_so {x} bytes recovers h fault is =
       not_shown fault (recovers_or_refused old.now g x fault bytes recovers)
@@ -184,36 +191,21 @@ module _ (g : Geometry) (s : ServeOptions) (old new : Medium) (end : Result (Uni
       not_shown opening.BadChain none is = absurd (none tt is)
       not_shown (opening.BadRecord h i) none is = absurd (none tt is)
 
--- A device that was just made was served until it was crashed, and then served again.
-module _ (g : Geometry) {s : ServeOptions} {began : Medium} {torn : Torn} {crashed : Memory} {first : Result (Unit {0}) Fault}
-    {input left before written : Option (List ℕ)} (made : recovered_state g began.now ≡ Some empty) (synced : IsSynced began)
-    (h : HasServedUntilCrash s began torn crashed first input left before written)
-    (held : IfOpened first (HoldsRecovered s.slots began input (known_unless_write_failed first before) written crashed.medium.now)) where
-  one : BytesRecover g s.slots empty input (known_unless_write_failed first before) written crashed.medium.now
-  one = left_at g s.slots began h.ended.medium made synced crashed.medium.now h.leaves s first input left before written h.ends h.crash_safe held
+module _ {keeps : Type 0} (s : ServeOptions) (old new : Medium) (end : Result (Unit {0}) Fault) (input left before written : Option (List ℕ)) where
+  -- The service ran from the state that the device held.
+  pub leaves_run : EndsOnDevice keeps s old new end input left before written → CrashesSafely keeps s old new end input left before written
+      → LeavesRecovered keeps s.slots old new end input before written → LeavesRun keeps s.slots old new end input before written
+  leaves_run e safe recovers keep g x is c leaves =
+      run_so keep g s.slots old new is.0 is.1 c leaves s end input left before written e safe (opened_then end (λ k. k keep c leaves) recovers)
 
-  module _ (last : Medium) (second : Result (Unit {0}) Fault) (next_input next_left next_before next_written : Option (List ℕ))
-      (e : EndsOnDevice (Unit {0}) s crashed.medium last second next_input next_left next_before next_written) where
-    -- What the two runs wrote is as `IsRestart` says.
-    pub restart : AreBytes last.now → CrashesSafely (Unit {0}) s crashed.medium last second next_input next_left next_before next_written
-        → LeavesRecovered (Unit {0}) s.slots crashed.medium last second next_input next_before next_written
-        → IsRestart g s.slots first second input before written next_input next_before next_written
-    restart bytes safe recovers =
-        let leaves = itself last.now last.unsynced bytes in
-        let synced : IsSynced crashed.medium = subst (λ (m : Memory). IsSynced m.medium) (sym h.crash) refl in
-        let next = left_at g s.slots crashed.medium last one.holds_now synced last.now leaves s second next_input next_left next_before next_written e safe
-        (opened_then second (λ k. k tt last.now leaves) recovers) in
-        record {
-          now = one.now;
-          later = next.now;
-          recovers = one.recovers;
-          all_answered = serves_so g began made s h.ended.medium first input left before written h.ends;
-          next = next.recovers;
-          next_all_answered = serves_so g crashed.medium one.holds_now s last second next_input next_left next_before next_written e;
-        }
+-- What follows a run may be put in other words.
+pub then_so : {g : Geometry} {slots : ℕ} {start : State} {end : Result (Unit {0}) Fault} {input before after : Option (List ℕ)} {P Q : State → Type 0}
+    → ((now : State) → P now → Q now) → HasRunFrom g slots start end input before after P → HasRunFrom g slots start end input before after Q
+then_so f h = record { now = h.now; recovers = h.recovers; all_answered = h.all_answered; goes_on = f h.now h.goes_on }
 
-    -- Either run opened its device, unless that failed or memory was wanting.
-    pub opens : AreBytes began.now → (fault : OpenFault) → (first ≡ Err (ends.Open fault)) ⊎ (second ≡ Err (ends.Open fault))
-        → (fault ≡ opening.Device) ⊎ (fault ≡ opening.OutOfMemory)
-    opens bytes fault = ⊎_elim (opens_so g s began h.ended.medium first input left before written bytes made h.ends fault)
-        (opens_so g s crashed.medium last second next_input next_left next_before next_written h.leaves.bytes one.holds_now e fault)
+-- Each of the servers ran from the state that the crash before had left.
+pub all_go_on : (g : Geometry) (start : State) (device : Medium) (runs : List CrashedRun) → HoldsState g device start → FollowCrashes device runs
+    → HaveRunFrom g start runs
+all_go_on g start device [] is follow = tt
+all_go_on g start device (run ∷ runs) is follow =
+    then_so (λ now left. all_go_on g now run.crashed runs (left, follow.2) follow.3) (follow.0 tt g start is run.crashed.now follow.1)

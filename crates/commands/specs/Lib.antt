@@ -5,5 +5,6 @@ pub mod Ends
 pub mod Serving
 pub mod Acknowledged
 pub mod Promise
+pub mod Restarts
 pub mod Services
 pub mod Calls

@@ -1,9 +1,10 @@
 -- Statement for clients: What a service promises its client over a crash: bytes in, bytes out.
-use Rattle.std.specs.Prelude.{◌≡◌, ℕ, List, Option, None, Result, Err, OnOk}
+use Rattle.std.specs.Prelude.{◌≡◌, ℕ, List, Option, Some, None, Result, Err, OnOk}
 use Rattle.affinity.specs.declared.geometry.Geometry.{Geometry}
-use Rattle.disk.specs.Device.{IsCrashImage, Medium}
+use Rattle.checkpoint.specs.Recovery.{recovered_state}
+use Rattle.disk.specs.Device.{IsCrashImage, IsSynced, Medium}
 use Rattle.meaning.specs.Output.{WritesOutput, serial_output}
-use Rattle.meaning.specs.State.{State, empty}
+use Rattle.meaning.specs.State.{State}
 use Rattle.serving.specs.Restart.{RecoversTo, BytesRecover}
 use Rattle.commands.specs.Serving.{RecoveredTo}
 use Rattle.commands.specs.declared.faults.Fault.{Fault}
@@ -14,20 +15,17 @@ abbrev pub known_unless_write_failed : Result (Unit {0}) Fault → Option (List 
 known_unless_write_failed (Err Write) before = None
 known_unless_write_failed _ before = before
 
--- A server ran from the empty state on one input and ended, and its device crashed. A second server ran on what the crash left, with
--- another input. However it ends, what it wrote is the serial server's output for the first lines of that, from the state that the crash
--- left.
-pub record IsRestart (g : Geometry) (slots : ℕ) (first second : Result (Unit {0}) Fault)
-    (input before after next_input next_before next_after : Option (List ℕ)) : Type 0 where
+-- A server ran from the state `start` on one input and came to this end, and a crash left another state, of which `next` is true. What it
+-- wrote is the serial server's output for the first lines of its input, however it ended. `next` may be that another server ran so from
+-- that state, on what the crash left, and a further one after it: one record in the other for each.
+pub record HasRunFrom (g : Geometry) (slots : ℕ) (start : State) (end : Result (Unit {0}) Fault)
+    (input before after : Option (List ℕ)) (next : State → Type 0) : Type 0 where
   -- the state that the crash left
   pub now : State
-  -- the one that the second server left
-  pub later : State
-  pub recovers : WritesOutput input (known_unless_write_failed first before) after (RecoversTo g slots empty now)
-  -- if a server ended without a fault, all of its input was answered
-  pub all_answered : OnOk first (WritesOutput input before after (λ bytes out. out ≡ serial_output g empty bytes))
-  pub next : WritesOutput next_input (known_unless_write_failed second next_before) next_after (RecoversTo g slots now later)
-  pub next_all_answered : OnOk second (WritesOutput next_input next_before next_after (λ bytes out. out ≡ serial_output g now bytes))
+  pub recovers : WritesOutput input (known_unless_write_failed end before) after (RecoversTo g slots start now)
+  -- if the server ended without a fault, all of its input was answered
+  pub all_answered : OnOk end (WritesOutput input before after (λ bytes out. out ≡ serial_output g start bytes))
+  pub goes_on : next now
 
 -- ---- the same of the bytes of a device
 
@@ -49,3 +47,14 @@ abbrev pub LeavesRecovered : Type 0 → ℕ → Medium → Medium → Result (Un
     → Option (List ℕ) → Type 0
 LeavesRecovered keeps slots old new end input before after = IfOpened end
     (keeps → (c : List ℕ) → IsCrashImage new c → HoldsRecovered slots old input (known_unless_write_failed end before) after c)
+
+-- ---- a run on a device
+
+-- The device recovers to this state, and all of it is synced.
+abbrev pub HoldsState : Geometry → Medium → State → Type 0
+HoldsState g m x = (recovered_state g m.now ≡ Some x) × IsSynced m
+
+-- From the state that the device held a server ran so, to the state to which the bytes recover that a crash leaves, whichever these are.
+abbrev pub LeavesRun : Type 0 → ℕ → Medium → Medium → Result (Unit {0}) Fault → Option (List ℕ) → Option (List ℕ) → Option (List ℕ) → Type 0
+LeavesRun keeps slots old new end input before after = keeps → (g : Geometry) (start : State) → HoldsState g old start
+    → (c : List ℕ) → IsCrashImage new c → HasRunFrom g slots start end input before after (λ now. recovered_state g c ≡ Some now)

@@ -1,14 +1,16 @@
 //! The promise of a service over a crash, in bytes alone: what went into two incarnations of a device, and what came out.
-ghost use Rattle.std.specs.Prelude.{◌≡◌, ◌≢◌, ◌<◌, ◌⊎◌, Err, IfOk, IfErr};
+ghost use Rattle.std.specs.Prelude.{◌≡◌, ◌≢◌, ◌<◌, ◌⊎◌, Err, IfOk, IfErr, List};
+ghost use Rattle.affinity.specs.declared.geometry.Geometry.{Geometry};
 ghost use Rattle.checkpoint.specs.Recovery.{recovered_state};
 ghost use Rattle.checkpoint.specs.declared.fault.OpenFault.{OpenFault};
 ghost use Rattle.checkpoint.specs.declared.fault.OpenFault.TheVariants as opening;
-ghost use Rattle.commands.specs.Promise.{IsRestart};
+ghost use Rattle.commands.specs.Promise.{HasRunFrom, HoldsState};
+ghost use Rattle.commands.specs.Restarts.{CrashedRun, FollowCrashes, HaveRunFrom};
 ghost use Rattle.commands.specs.declared.faults.Fault.TheVariants as faults;
-ghost use Rattle.disk.specs.Device.{IsSynced};
+ghost use Rattle.disk.specs.Device.{IsSynced, Medium};
 ghost use Rattle.disk.specs.Memory.{medium_of};
 ghost use Rattle.disk.specs.Torn.{HasPattern};
-ghost use Rattle.meaning.specs.State.{empty};
+ghost use Rattle.meaning.specs.State.{State, empty};
 
 use crate::faults::Fault;
 use crate::serve::serve_on;
@@ -53,8 +55,9 @@ pub fn serve_again<T: Threads + Wait + Sync, R: Read, W: Write, S: Read, V: Writ
     requires call { 0 < n }
     // The pattern of a `Torn::Mixed`, which is put over the unsynced bytes, has at least one byte.
     requires bytes { HasPattern torn }
-    ensures restart { IfOk result (λ ends. IsRestart geometry service.slots ends.0 ends.1 (R.remaining r.old) (W.contents w.old)
-        (W.contents w.new) (S.remaining next_r.old) (V.contents next_w.old) (V.contents next_w.new)) }
+    ensures restart { IfOk result (λ ends. HasRunFrom geometry service.slots empty ends.0 (R.remaining r.old) (W.contents w.old)
+        (W.contents w.new) (λ now. HasRunFrom geometry service.slots now ends.1 (S.remaining next_r.old) (V.contents next_w.old)
+        (V.contents next_w.new) (λ later. Unit {0}))) }
     // Each of them opened its device, unless that failed or memory was wanting.
     ensures opens { IfOk result (λ ends. (fault : OpenFault) → (ends.0 ≡ Err (faults.Open fault)) ⊎ (ends.1 ≡ Err (faults.Open fault))
         → (fault ≡ opening.Device) ⊎ (fault ≡ opening.OutOfMemory)) }
@@ -67,3 +70,10 @@ pub fn serve_again<T: Threads + Wait + Sync, R: Read, W: Write, S: Read, V: Writ
     let (_disk, second) = serve_on(rt, alloc, disk, service, next_r, next_w);
     Ok((first, second))
 }
+
+/// Any number of servers: if each runs on what a crash of the one before left of the device, then each runs from the state that this crash
+/// left, and that is as `HasRunFrom` says of the one before. It does nothing; its contract is the law.
+pub fn servers_go_on_over_crashes()
+    ensures { (g : Geometry) (start : State) (device : Medium) (runs : List CrashedRun) → HoldsState g device start
+        → FollowCrashes device runs → HaveRunFrom g start runs }
+{}

@@ -5,7 +5,7 @@ ghost use Rattle.scheduler.specs.CoreView.{core_state_of};
 ghost use Rattle.serving.specs.Serve.{ServePromise};
 ghost use Rattle.commands.specs.Faults.{command_result};
 ghost use Rattle.commands.specs.Acknowledged.{KeepsAcknowledged};
-ghost use Rattle.commands.specs.Promise.{LeavesRecovered};
+ghost use Rattle.commands.specs.Promise.{LeavesRecovered, LeavesRun};
 ghost use Rattle.commands.specs.Serving.{EndsInFile, EndsOnDevice, CrashesSafely};
 
 use crate::faults::Fault;
@@ -72,6 +72,8 @@ pub fn serve_on<T: Threads + Wait + Sync, R: Read, W: Write, D: Disk + Drop>(
         (W.contents w.old) (W.contents w.new) }
     ensures recovers { LeavesRecovered D.keeps service.slots (D.medium disk) (D.medium result.0) result.1 (R.remaining r.old)
         (W.contents w.old) (W.contents w.new) }
+    ensures goes_on { LeavesRun D.keeps service.slots (D.medium disk) (D.medium result.0) result.1 (R.remaining r.old) (W.contents w.old)
+        (W.contents w.new) }
 {
     let core = match Core::open(alloc, disk, usize::from(service.slots)) {
         Ok(core) => core,

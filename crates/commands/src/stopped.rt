@@ -1,10 +1,12 @@
 //! The promise of a service, with the crash point as a variable: a device in memory that stops at any call, and then crashes.
 ghost use Rattle.std.specs.Prelude.{◌≡◌, ◌<◌};
+ghost use Rattle.affinity.specs.declared.geometry.Geometry.{Geometry};
 ghost use Rattle.disk.specs.Memory.{medium_of, memory_of};
 ghost use Rattle.disk.specs.Torn.{HasPattern};
 ghost use Rattle.disk.specs.declared.injected_fault.InjectedFault.TheVariants.{StopAt};
+ghost use Rattle.meaning.specs.State.{State};
 ghost use Rattle.commands.specs.Acknowledged.{HoldsAcknowledged, UnlessWriteFailed};
-ghost use Rattle.commands.specs.Promise.{HoldsRecovered, IfOpened, known_unless_write_failed};
+ghost use Rattle.commands.specs.Promise.{HasRunFrom, HoldsRecovered, HoldsState, IfOpened, known_unless_write_failed};
 ghost use Rattle.commands.specs.Serving.{HasServedUntilCrash};
 
 use crate::faults::Fault;
@@ -36,6 +38,8 @@ fn serve_and_crash<T: Threads + Wait + Sync, R: Read, W: Write>(
         (R.remaining r.old) (W.contents w.old) (W.contents w.new) (medium_of result.0).now) }
     ensures recovers { IfOpened result.1 (HoldsRecovered service.slots (medium_of disk) (R.remaining r.old)
         (known_unless_write_failed result.1 (W.contents w.old)) (W.contents w.new) (medium_of result.0).now) }
+    ensures goes_on { (g : Geometry) (start : State) → HoldsState g (medium_of disk) start → HasRunFrom g service.slots start result.1
+        (R.remaining r.old) (W.contents w.old) (W.contents w.new) (HoldsState g (medium_of result.0)) }
 {
     let (disk, end) = serve_on(rt, alloc, disk, service, r, w);
     (disk.crash(torn), end)
@@ -62,6 +66,8 @@ pub fn serve_stopped<T: Threads + Wait + Sync, R: Read, W: Write>(
         (R.remaining r.old) (W.contents w.old) (W.contents w.new) (medium_of result.0).now) }
     ensures recovers { IfOpened result.1 (HoldsRecovered service.slots (medium_of disk) (R.remaining r.old)
         (known_unless_write_failed result.1 (W.contents w.old)) (W.contents w.new) (medium_of result.0).now) }
+    ensures goes_on { (g : Geometry) (start : State) → HoldsState g (medium_of disk) start → HasRunFrom g service.slots start result.1
+        (R.remaining r.old) (W.contents w.old) (W.contents w.new) (HoldsState g (medium_of result.0)) }
 {
     let mut disk = disk;
     disk.stop_at(n);

@@ -5,11 +5,11 @@ use Rattle.disk.specs.Device.{AreBytes, Medium}
 use Rattle.scheduler.specs.CoreView.{IsJustOpened}
 use Rattle.commands.specs.Faults.{command_result}
 use Rattle.commands.specs.Acknowledged.{KeepsAcknowledged}
-use Rattle.commands.specs.Promise.{LeavesRecovered}
+use Rattle.commands.specs.Promise.{LeavesRecovered, LeavesRun}
 use Rattle.commands.specs.Serving.{EndsOnDevice, CrashesSafely}
 use Rattle.commands.specs.declared.faults.Fault.{Fault}
 use Rattle.commands.proofs.Kept.{keeps_acknowledged}
-use Rattle.commands.proofs.Promise.{leaves_recovered}
+use Rattle.commands.proofs.Promise.{leaves_recovered, leaves_run}
 use Rattle.commands.proofs.OnDevice.{ends_on_device, crashes_safely, has_served_by}
 use Rattle.commands.proofs.serve.serve_on.Goals as goal
 
@@ -22,6 +22,18 @@ returns-in-Err-clause-ends g c =
     let before = g.W.Write.contents c.args.w.now in
     subst (λ (f : Fault). EndsOnDevice keeps c.args.service old new (Err f) input input before before) (sym c.from-in-Err.ensures)
     ((λ k. (c.in-Err.ensures.refused k, c.in-Err.ensures.unwritten k)), refl, refl, c.in-Err.ensures.device)
+
+pub returns-in-Err-clause-goes_on : goal.returns-in-Err-clause-goes_on
+returns-in-Err-clause-goes_on g c =
+    let keeps = g.D.Disk.keeps in
+    let service = c.args.service in
+    let old = g.D.Disk.medium c.args.disk in
+    let new = g.D.Disk.medium c.in-Err.error.disk in
+    let input = g.R.Read.remaining c.args.r.now in
+    let before = g.W.Write.contents c.args.w.now in
+    let refused = c.in-Err.ensures in
+    subst (λ (f : Fault). LeavesRun keeps service.slots old new (Err f) input before before) (sym c.from-in-Err.ensures)
+    (leaves_run service old new _ input input before before ((λ k. (refused.refused k, refused.unwritten k)), refl, refl, refused.device) refused.any_moment tt)
 
 pub returns : goal.returns
 returns g c =
@@ -49,4 +61,7 @@ returns g c =
       crash_safe = given_back (λ m r. CrashesSafely keeps service old m r input left before written) (crashes_safely end by);
       kept = given_back (λ m r. KeepsAcknowledged keeps service.slots old m r input before written) (keeps_acknowledged end by);
       recovers = given_back (λ m r. LeavesRecovered keeps service.slots old m r input before written) (leaves_recovered end by);
+      goes_on = given_back (λ m r. LeavesRun keeps service.slots old m r input before written)
+          (leaves_run service old now.medium (command_result end) input left before written (ends_on_device end by c.know_recovery.ensures.no_doubt bytes)
+          (crashes_safely end by) (leaves_recovered end by));
     }

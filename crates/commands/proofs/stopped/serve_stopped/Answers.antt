@@ -1,9 +1,9 @@
 -- The injected fault that is set is no part of the medium.
-use Rattle.std.proofs.Common.{◌≡◌, ap, subst}
+use Rattle.std.proofs.Common.{◌≡◌, ap, subst, sym}
 use Rattle.disk.specs.Device.{Medium}
 use Rattle.disk.specs.Memory.{Memory, medium_of, memory_of}
 use Rattle.commands.specs.Acknowledged.{HoldsAcknowledged, UnlessWriteFailed}
-use Rattle.commands.specs.Promise.{HoldsRecovered, IfOpened, known_unless_write_failed}
+use Rattle.commands.specs.Promise.{HoldsRecovered, HoldsState, IfOpened, known_unless_write_failed}
 use Rattle.commands.specs.Serving.{HasServedUntilCrash}
 use Rattle.commands.proofs.stopped.serve_stopped.Goals as goal
 
@@ -23,6 +23,7 @@ returns g c =
           same c.serve_and_crash.ensures.kept;
       recovers = subst (λ (m : Medium). IfOpened end (HoldsRecovered c.args.service.slots m input (known_unless_write_failed end before) written (medium_of left).now))
           same c.serve_and_crash.ensures.recovers;
+      goes_on = λ k start held. c.serve_and_crash.ensures.goes_on k start (subst (λ (m : Medium). HoldsState k m start) (sym same) held);
     }
 
 pub serve_and_crash-requires-clause-stops : goal.serve_and_crash-requires-clause-stops
