@@ -12,12 +12,13 @@ use Rattle.serving.proofs.Logged.{few_answered, holds_all, written_are_kept}
 use Rattle.serving.specs.Ends.{committed_in}
 use Rattle.serving.specs.Lines.{admitted, answer_text, ticketed}
 use Rattle.serving.specs.Logged.{AreInHistory, RecoversToHistory}
-use Rattle.serving.specs.Serve.{known_before}
+use Rattle.serving.specs.Serve.{IsWrittenAtEnd}
 use Rattle.serving.specs.declared.server.ServeFault.{ServeFault}
 use Rattle.serving.specs.declared.server.ServeFault.TheVariants as faults
 use Rattle.commands.proofs.OnDevice.{is_idle}
 use Rattle.commands.specs.Faults.{command_result}
-use Rattle.commands.specs.Acknowledged.{HoldsAcknowledged, KeepsAcknowledged, UnlessWriteFailed}
+use Rattle.commands.specs.Acknowledged.{HoldsAcknowledged, KeepsAcknowledged, UnlessRefused}
+use Rattle.commands.specs.Promise.{IsWritten}
 use Rattle.commands.specs.Serving.{HasServedBy, machine_at_start}
 use Rattle.commands.specs.declared.faults.Fault.{Fault}
 use Rattle.commands.specs.declared.faults.Fault.TheVariants as ends
@@ -25,8 +26,8 @@ use Rattle.commands.specs.declared.serve_options.ServeOptions.{ServeOptions}
 
 module _ {keeps : Type 0} {s : ServeOptions} {old new : Medium} {end : Result (Unit {0}) ServeFault} {input left before written : Option (List ℕ)}
     (h : HasServedBy keeps s old new end input left before written) where
-  -- where a write failed, of an output of which nothing is known
-  pub held : keeps → (c : List ℕ) → IsCrashImage new c → HoldsAcknowledged s.slots old input (known_before end before) written c
+  -- of all that was to be written
+  pub held : keeps → (c : List ℕ) → IsCrashImage new c → HoldsAcknowledged s.slots old input before h.served.run.all c
   held keep c leaves =
       let served = h.served.run.served in
       let g = h.start.geometry in
@@ -47,35 +48,49 @@ module _ {keeps : Type 0} {s : ServeOptions} {old new : Medium} {end : Result (U
         sent = map answer_text served.sent_lines;
         output = served.output;
         few = subst (λ (n : ℕ). length served.consumed ≤ length (map answer_text served.sent_lines) + n) h.fresh.slots_are
-            (few_answered keeps (machine_at_start s h.start) h.now h.served.run.unsent input (known_before end before) written idle served);
+            (few_answered keeps (machine_at_start s h.start) h.now h.served.run.unsent input before h.served.run.all idle served);
         history = log;
         kept = subst (λ (t : ℕ). AreInHistory g log t served.consumed (map answer_text served.sent_lines)) h.fresh.next
-            (written_are_kept keeps (machine_at_start s h.start) h.now h.served.run.unsent input (known_before end before) written idle served);
+            (written_are_kept keeps (machine_at_start s h.start) h.now h.served.run.unsent input before h.served.run.all idle served);
         holds = on_device;
         header = has_header g c state leaves.bytes on_device.recovers;
         not_refused = is_not_refused g c state leaves.bytes on_device.recovers;
       }
 
+-- what was written, in words of a command
+pub written_at : (end : Result (Unit {0}) ServeFault) (before written all : Option (List ℕ)) → IsWrittenAtEnd end before written all → IsWritten (command_result end) before written all
+written_at (Ok _) before written all h = h
+written_at (Err faults.Device) before written all h = h
+written_at (Err faults.Write) before written all h = h
+written_at (Err faults.Read) before written all h = h
+written_at (Err faults.Exhausted) before written all h = h
+written_at (Err faults.NoWorkers) before written all h = h
+written_at (Err faults.OutOfMemory) before written all h = h
+
 -- what was sent is kept, whatever the end
 pub keeps_acknowledged : {keeps : Type 0} {s : ServeOptions} {old new : Medium} (end : Result (Unit {0}) ServeFault) {input left before written : Option (List ℕ)}
     → HasServedBy keeps s old new end input left before written → KeepsAcknowledged keeps s.slots old new (command_result end) input before written
-keeps_acknowledged (Ok _) h = held h
-keeps_acknowledged (Err faults.Device) h = held h
-keeps_acknowledged (Err faults.Write) h = tt
-keeps_acknowledged (Err faults.Read) h = held h
-keeps_acknowledged (Err faults.Exhausted) h = held h
-keeps_acknowledged (Err faults.NoWorkers) h = held h
-keeps_acknowledged (Err faults.OutOfMemory) h = held h
+keeps_acknowledged end {before} {written} h =
+    unless_refused end before written (h.served.run.all, written_at end before written h.served.run.all h.served.run.written_is, held h)
+  where
+    unless_refused : {P : Type 0} (end : Result (Unit {0}) ServeFault) (before written : Option (List ℕ)) → P → UnlessRefused (command_result end) before written P
+    unless_refused (Ok _) before written k = k
+    unless_refused (Err faults.Device) before written k = k
+    unless_refused (Err faults.Write) before written k = k
+    unless_refused (Err faults.Read) before written k = k
+    unless_refused (Err faults.Exhausted) before written k = k
+    unless_refused (Err faults.NoWorkers) before written k = k
+    unless_refused (Err faults.OutOfMemory) before written k = k
 
--- if P implies Q, then `UnlessWriteFailed` of P implies that of Q, at each end
-pub unless_write_failed : {P Q : Type 0} (end : Result (Unit {0}) Fault) (before written : Option (List ℕ)) → (P → Q) → UnlessWriteFailed end before written P → UnlessWriteFailed end before written Q
-unless_write_failed (Err ends.Write) before written f k = tt
-unless_write_failed (Err (ends.Open fault)) before written f k = k
-unless_write_failed (Ok _) before written f k = f k
-unless_write_failed (Err ends.Read) before written f k = f k
-unless_write_failed (Err ends.GeometryOutOfRange) before written f k = f k
-unless_write_failed (Err ends.OutOfMemory) before written f k = f k
-unless_write_failed (Err ends.Device) before written f k = f k
-unless_write_failed (Err ends.NoWorkers) before written f k = f k
-unless_write_failed (Err ends.NoTicketLeft) before written f k = f k
-unless_write_failed (Err (ends.Format fault)) before written f k = f k
+-- if P implies Q, then P, unless the device was refused, implies Q, unless it was
+pub kept_then : {P Q : Type 0} (end : Result (Unit {0}) Fault) (before written : Option (List ℕ)) → (P → Q) → UnlessRefused end before written P → UnlessRefused end before written Q
+kept_then (Err (ends.Open fault)) before written f k = k
+kept_then (Ok _) before written f k = f k
+kept_then (Err ends.Read) before written f k = f k
+kept_then (Err ends.Write) before written f k = f k
+kept_then (Err ends.GeometryOutOfRange) before written f k = f k
+kept_then (Err ends.OutOfMemory) before written f k = f k
+kept_then (Err ends.Device) before written f k = f k
+kept_then (Err ends.NoWorkers) before written f k = f k
+kept_then (Err ends.NoTicketLeft) before written f k = f k
+kept_then (Err (ends.Format fault)) before written f k = f k

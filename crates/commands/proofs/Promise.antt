@@ -22,10 +22,10 @@ use Rattle.serving.proofs.Recovering.{none_written, bytes_recover}
 use Rattle.serving.specs.Restart.{RecoversTo, BytesRecover}
 use Rattle.serving.specs.declared.server.ServeFault.{ServeFault}
 use Rattle.serving.specs.declared.server.ServeFault.TheVariants as faults
-use Rattle.commands.proofs.Kept.{held}
+use Rattle.commands.proofs.Kept.{held, written_at}
 use Rattle.commands.specs.Faults.{command_result}
 use Rattle.commands.specs.Acknowledged.{HoldsAcknowledged}
-use Rattle.commands.specs.Promise.{HasRunFrom, HoldsRecovered, HoldsState, LeavesRecovered, LeavesRun, IfOpened, known_unless_write_failed}
+use Rattle.commands.specs.Promise.{HasRunFrom, HoldsRecovered, HoldsState, LeavesRecovered, LeavesRun, IfOpened, IsWritten}
 use Rattle.commands.specs.Restarts.{CrashedRun, FollowCrashes, HaveRunFrom}
 use Rattle.commands.specs.Serving.{EndsOnDevice, CrashesSafely, HasServedBy, RecoveredTo}
 use Rattle.commands.specs.declared.faults.Fault.{Fault}
@@ -33,17 +33,6 @@ use Rattle.commands.specs.declared.faults.Fault.TheVariants as ends
 use Rattle.commands.specs.declared.serve_options.ServeOptions.{ServeOptions}
 
 -- ---- whatever a crash leaves at the end of a service
-
-held_at : {keeps : Type 0} {s : ServeOptions} {old new : Medium} (end : Result (Unit {0}) ServeFault) {input left before written : Option (List ℕ)}
-    → HasServedBy keeps s old new end input left before written → keeps → (c : List ℕ) → IsCrashImage new c
-    → HoldsAcknowledged s.slots old input (known_unless_write_failed (command_result end) before) written c
-held_at (Ok _) h = held h
-held_at (Err faults.Device) h = held h
-held_at (Err faults.Write) h = held h
-held_at (Err faults.Read) h = held h
-held_at (Err faults.Exhausted) h = held h
-held_at (Err faults.NoWorkers) h = held h
-held_at (Err faults.OutOfMemory) h = held h
 
 -- A device that holds all that was sent recovers to the state from which a restart goes on.
 pub recovered : {slots : ℕ} {old : Medium} {input before written : Option (List ℕ)} {c : List ℕ} → HoldsAcknowledged slots old input before written c
@@ -55,20 +44,21 @@ recovered {slots} {input} {before} {written} {c} h = record {
   recovered = bytes_recover 0 h.consumed h.sent h.first h.output h.few h.kept h.holds;
 }
 
-recovered_at : {keeps : Type 0} {s : ServeOptions} {old new : Medium} (end : Result (Unit {0}) ServeFault) {input left before written : Option (List ℕ)}
-    → HasServedBy keeps s old new end input left before written → keeps → (c : List ℕ) → IsCrashImage new c
-    → HoldsRecovered s.slots old input (known_unless_write_failed (command_result end) before) written c
-recovered_at end h keep c leaves = recovered (held_at end h keep c leaves)
+-- where the device was opened
+unless_refused : {P : Type 0} (end : Result (Unit {0}) ServeFault) → P → IfOpened (command_result end) P
+unless_refused (Ok _) h = h
+unless_refused (Err faults.Device) h = h
+unless_refused (Err faults.Write) h = h
+unless_refused (Err faults.Read) h = h
+unless_refused (Err faults.Exhausted) h = h
+unless_refused (Err faults.NoWorkers) h = h
+unless_refused (Err faults.OutOfMemory) h = h
 
 pub leaves_recovered : {keeps : Type 0} {s : ServeOptions} {old new : Medium} (end : Result (Unit {0}) ServeFault) {input left before written : Option (List ℕ)}
     → HasServedBy keeps s old new end input left before written → LeavesRecovered keeps s.slots old new (command_result end) input before written
-leaves_recovered (Ok _) h = recovered_at (Ok tt) h
-leaves_recovered (Err faults.Device) h = recovered_at (Err faults.Device) h
-leaves_recovered (Err faults.Write) h = recovered_at (Err faults.Write) h
-leaves_recovered (Err faults.Read) h = recovered_at (Err faults.Read) h
-leaves_recovered (Err faults.Exhausted) h = recovered_at (Err faults.Exhausted) h
-leaves_recovered (Err faults.NoWorkers) h = recovered_at (Err faults.NoWorkers) h
-leaves_recovered (Err faults.OutOfMemory) h = recovered_at (Err faults.OutOfMemory) h
+leaves_recovered {keeps} {s} {old} {new} end {input} {left} {before} {written} h =
+    unless_refused end
+    (h.served.run.all, written_at end before written h.served.run.all h.served.run.written_is, λ keep c leaves. recovered (held h keep c leaves))
 
 -- if P implies Q, then P, unless the device could not be opened, implies Q, unless it could not
 pub opened_then : {P Q : Type 0} (end : Result (Unit {0}) Fault) → (P → Q) → IfOpened end P → IfOpened end Q
@@ -154,23 +144,33 @@ module _ {keeps : Type 0} (keep : keeps) (g : Geometry) (slots : ℕ) (old new :
 
   module _ (s : ServeOptions) (end : Result (Unit {0}) Fault) (input left before written : Option (List ℕ)) where
     left_at : EndsOnDevice keeps s old new end input left before written → CrashesSafely keeps s old new end input left before written
-        → IfOpened end (HoldsRecovered slots old input (known_unless_write_failed end before) written c)
-        → BytesRecover g slots x input (known_unless_write_failed end before) written c
+        → IfOpened end ((all : Option (List ℕ)) × IsWritten end before written all × HoldsRecovered slots old input before all c)
+        → (all : Option (List ℕ)) × IsWritten end before written all × BytesRecover g slots x input before all c
     left_at e safe recovers = ⊎_elim
-        (λ (why : (fault : OpenFault) × (end ≡ Err (ends.Open fault))).
-        subst (λ (r : Result (Unit {0}) Fault). BytesRecover g slots x input (known_unless_write_failed r before) written c) (sym why.1)
-        (left_unopened input before written
-        (subst (λ (r : Result (Unit {0}) Fault). CrashesSafely keeps s old new r input left before written) why.1 safe keep)
-        (subst (λ (r : Result (Unit {0}) Fault). EndsOnDevice keeps s old new r input left before written) why.1 e).2))
-        (λ (h : HoldsRecovered slots old input (known_unless_write_failed end before) written c). left_so input (known_unless_write_failed end before) written h)
+        (λ (why : (fault : OpenFault) × (end ≡ Err (ends.Open fault))). (
+          written,
+          subst (λ (r : Result (Unit {0}) Fault). IsWritten r before written written) (sym why.1) refl,
+          left_unopened input before written
+              (subst (λ (r : Result (Unit {0}) Fault). CrashesSafely keeps s old new r input left before written) why.1 safe keep)
+              (subst (λ (r : Result (Unit {0}) Fault). EndsOnDevice keeps s old new r input left before written) why.1 e).2,
+        ))
+        (λ (h : (all : Option (List ℕ)) × IsWritten end before written all × HoldsRecovered slots old input before all c).
+        (h.0, h.1, left_so input before h.0 h.2))
         (opened_or end recovers)
 
     run_so : EndsOnDevice keeps s old new end input left before written → CrashesSafely keeps s old new end input left before written
-        → IfOpened end (HoldsRecovered slots old input (known_unless_write_failed end before) written c)
+        → IfOpened end ((all : Option (List ℕ)) × IsWritten end before written all × HoldsRecovered slots old input before all c)
         → HasRunFrom g slots x end input before written (λ now. recovered_state g c ≡ Some now)
     run_so e safe recovers =
         let h = left_at e safe recovers in
-        record { now = h.now; recovers = h.recovers; all_answered = serves_so keep g old made s new end input left before written e; goes_on = h.holds_now }
+        record {
+          now = h.2.now;
+          all = h.0;
+          written = h.1;
+          recovers = h.2.recovers;
+          all_answered = serves_so keep g old made s new end input left before written e;
+          goes_on = h.2.holds_now;
+        }
 
 module _ (g : Geometry) (s : ServeOptions) (old new : Medium) (end : Result (Unit {0}) Fault) (input left before written : Option (List ℕ)) where
   -- A device that recovers to a state is opened, unless it fails or memory is wanting.
@@ -196,12 +196,12 @@ module _ {keeps : Type 0} (s : ServeOptions) (old new : Medium) (end : Result (U
   pub leaves_run : EndsOnDevice keeps s old new end input left before written → CrashesSafely keeps s old new end input left before written
       → LeavesRecovered keeps s.slots old new end input before written → LeavesRun keeps s.slots old new end input before written
   leaves_run e safe recovers keep g x is c leaves =
-      run_so keep g s.slots old new is.0 is.1 c leaves s end input left before written e safe (opened_then end (λ k. k keep c leaves) recovers)
+      run_so keep g s.slots old new is.0 is.1 c leaves s end input left before written e safe (opened_then end (λ k. (k.0, k.1, k.2 keep c leaves)) recovers)
 
 -- What follows a run may be put in other words.
 pub then_so : {g : Geometry} {slots : ℕ} {start : State} {end : Result (Unit {0}) Fault} {input before after : Option (List ℕ)} {P Q : State → Type 0}
     → ((now : State) → P now → Q now) → HasRunFrom g slots start end input before after P → HasRunFrom g slots start end input before after Q
-then_so f h = record { now = h.now; recovers = h.recovers; all_answered = h.all_answered; goes_on = f h.now h.goes_on }
+then_so f h = record { now = h.now; all = h.all; written = h.written; recovers = h.recovers; all_answered = h.all_answered; goes_on = f h.now h.goes_on }
 
 -- Each of the servers ran from the state that the crash before had left.
 pub all_go_on : (g : Geometry) (start : State) (device : Medium) (runs : List CrashedRun) → HoldsState g device start → FollowCrashes device runs

@@ -1,5 +1,6 @@
 -- Statement for clients: What a service promises its client over a crash: bytes in, bytes out.
-use Rattle.std.specs.Prelude.{◌≡◌, ℕ, List, Option, Some, None, Result, Err, OnOk}
+use Rattle.std.specs.Prelude.{◌≡◌, ℕ, List, ◌++◌, Option, Some, Result, Err, OnOk}
+use Rattle.std.specs.Io.KnownBytes.{Appends}
 use Rattle.affinity.specs.declared.geometry.Geometry.{Geometry}
 use Rattle.checkpoint.specs.Recovery.{recovered_state}
 use Rattle.disk.specs.Device.{IsCrashImage, IsSynced, Medium}
@@ -10,10 +11,10 @@ use Rattle.commands.specs.Serving.{RecoveredTo}
 use Rattle.commands.specs.declared.faults.Fault.{Fault}
 use Rattle.commands.specs.declared.faults.Fault.TheVariants.{Write, Open}
 
--- what the output held before, or `None` where a write failed: then nothing is known of what was written
-abbrev pub known_unless_write_failed : Result (Unit {0}) Fault → Option (List ℕ) → Option (List ℕ)
-known_unless_write_failed (Err Write) before = None
-known_unless_write_failed _ before = before
+-- `all` is what the output holds; where a write failed, what it would hold with all that was to be written: it holds a beginning of that.
+abbrev pub IsWritten : Result (Unit {0}) Fault → Option (List ℕ) → Option (List ℕ) → Option (List ℕ) → Type 0
+IsWritten (Err Write) before after all = (out : List ℕ) × (rest : List ℕ) × Appends before after out × Appends before all (out ++ rest)
+IsWritten _ before after all = after ≡ all
 
 -- A server ran from the state `start` on one input and came to this end, and a crash left another state, of which `next` is true. What it
 -- wrote is the serial server's output for the first lines of its input, however it ended. `next` may be that another server ran so from
@@ -22,7 +23,9 @@ pub record HasRunFrom (g : Geometry) (slots : ℕ) (start : State) (end : Result
     (input before after : Option (List ℕ)) (next : State → Type 0) : Type 0 where
   -- the state that the crash left
   pub now : State
-  pub recovers : WritesOutput input (known_unless_write_failed end before) after (RecoversTo g slots start now)
+  pub all : Option (List ℕ)
+  pub written : IsWritten end before after all
+  pub recovers : WritesOutput input before all (RecoversTo g slots start now)
   -- if the server ended without a fault, all of its input was answered
   pub all_answered : OnOk end (WritesOutput input before after (λ bytes out. out ≡ serial_output g start bytes))
   pub goes_on : next now
@@ -46,7 +49,8 @@ IfOpened _ P = P
 abbrev pub LeavesRecovered : Type 0 → ℕ → Medium → Medium → Result (Unit {0}) Fault → Option (List ℕ) → Option (List ℕ)
     → Option (List ℕ) → Type 0
 LeavesRecovered keeps slots old new end input before after = IfOpened end
-    (keeps → (c : List ℕ) → IsCrashImage new c → HoldsRecovered slots old input (known_unless_write_failed end before) after c)
+    ((all : Option (List ℕ)) × IsWritten end before after all
+    × (keeps → (c : List ℕ) → IsCrashImage new c → HoldsRecovered slots old input before all c))
 
 -- ---- a run on a device
 

@@ -1,12 +1,12 @@
 //! The promise of a service, with the crash point as a variable: a device in memory that stops at any call, and then crashes.
-ghost use Rattle.std.specs.Prelude.{◌≡◌, ◌<◌};
+ghost use Rattle.std.specs.Prelude.{◌≡◌, ◌<◌, ℕ, List, Option};
 ghost use Rattle.affinity.specs.declared.geometry.Geometry.{Geometry};
 ghost use Rattle.disk.specs.Memory.{medium_of, memory_of};
 ghost use Rattle.disk.specs.Torn.{HasPattern};
 ghost use Rattle.disk.specs.declared.injected_fault.InjectedFault.TheVariants.{StopAt};
 ghost use Rattle.meaning.specs.State.{State};
-ghost use Rattle.commands.specs.Acknowledged.{HoldsAcknowledged, UnlessWriteFailed};
-ghost use Rattle.commands.specs.Promise.{HasRunFrom, HoldsRecovered, HoldsState, IfOpened, known_unless_write_failed};
+ghost use Rattle.commands.specs.Acknowledged.{HoldsAcknowledged, UnlessRefused};
+ghost use Rattle.commands.specs.Promise.{HasRunFrom, HoldsRecovered, HoldsState, IfOpened, IsWritten};
 ghost use Rattle.commands.specs.Serving.{HasServedUntilCrash};
 
 use crate::faults::Fault;
@@ -34,10 +34,11 @@ fn serve_and_crash<T: Threads + Wait + Sync, R: Read, W: Write>(
     requires bytes { HasPattern torn }
     ensures crashed { HasServedUntilCrash service (medium_of disk) torn (memory_of result.0) result.1 (R.remaining r.old)
         (R.remaining r.new) (W.contents w.old) (W.contents w.new) }
-    ensures kept { UnlessWriteFailed result.1 (W.contents w.old) (W.contents w.new) (HoldsAcknowledged service.slots (medium_of disk)
-        (R.remaining r.old) (W.contents w.old) (W.contents w.new) (medium_of result.0).now) }
-    ensures recovers { IfOpened result.1 (HoldsRecovered service.slots (medium_of disk) (R.remaining r.old)
-        (known_unless_write_failed result.1 (W.contents w.old)) (W.contents w.new) (medium_of result.0).now) }
+    ensures kept { UnlessRefused result.1 (W.contents w.old) (W.contents w.new) ((all : Option (List ℕ))
+        × IsWritten result.1 (W.contents w.old) (W.contents w.new) all
+        × HoldsAcknowledged service.slots (medium_of disk) (R.remaining r.old) (W.contents w.old) all (medium_of result.0).now) }
+    ensures recovers { IfOpened result.1 ((all : Option (List ℕ)) × IsWritten result.1 (W.contents w.old) (W.contents w.new) all
+        × HoldsRecovered service.slots (medium_of disk) (R.remaining r.old) (W.contents w.old) all (medium_of result.0).now) }
     ensures goes_on { (g : Geometry) (start : State) → HoldsState g (medium_of disk) start → HasRunFrom g service.slots start result.1
         (R.remaining r.old) (W.contents w.old) (W.contents w.new) (HoldsState g (medium_of result.0)) }
 {
@@ -46,8 +47,8 @@ fn serve_and_crash<T: Threads + Wait + Sync, R: Read, W: Write>(
 }
 
 /// Answers the lines of `r` on `w` with a device that stops at its n-th call, whichever that is, and then crashes the device. The service
-/// ended as `serve_on` says. What the crash leaves, however it tears what was not synced, holds each change whose reply was written, unless
-/// a write of the output failed. A `Torn::Mixed` puts its pattern, again and again, over the unsynced bytes; the pattern isn't empty.
+/// ended as `serve_on` says. What the crash leaves, however it tears what was not synced, holds each change whose reply was written, if
+/// only in part. A `Torn::Mixed` puts its pattern, again and again, over the unsynced bytes; the pattern isn't empty.
 pub fn serve_stopped<T: Threads + Wait + Sync, R: Read, W: Write>(
     rt: &T,
     alloc: Global,
@@ -62,10 +63,11 @@ pub fn serve_stopped<T: Threads + Wait + Sync, R: Read, W: Write>(
     requires bytes { HasPattern torn }
     ensures crashed { HasServedUntilCrash service (medium_of disk) torn (memory_of result.0) result.1 (R.remaining r.old)
         (R.remaining r.new) (W.contents w.old) (W.contents w.new) }
-    ensures kept { UnlessWriteFailed result.1 (W.contents w.old) (W.contents w.new) (HoldsAcknowledged service.slots (medium_of disk)
-        (R.remaining r.old) (W.contents w.old) (W.contents w.new) (medium_of result.0).now) }
-    ensures recovers { IfOpened result.1 (HoldsRecovered service.slots (medium_of disk) (R.remaining r.old)
-        (known_unless_write_failed result.1 (W.contents w.old)) (W.contents w.new) (medium_of result.0).now) }
+    ensures kept { UnlessRefused result.1 (W.contents w.old) (W.contents w.new) ((all : Option (List ℕ))
+        × IsWritten result.1 (W.contents w.old) (W.contents w.new) all
+        × HoldsAcknowledged service.slots (medium_of disk) (R.remaining r.old) (W.contents w.old) all (medium_of result.0).now) }
+    ensures recovers { IfOpened result.1 ((all : Option (List ℕ)) × IsWritten result.1 (W.contents w.old) (W.contents w.new) all
+        × HoldsRecovered service.slots (medium_of disk) (R.remaining r.old) (W.contents w.old) all (medium_of result.0).now) }
     ensures goes_on { (g : Geometry) (start : State) → HoldsState g (medium_of disk) start → HasRunFrom g service.slots start result.1
         (R.remaining r.old) (W.contents w.old) (W.contents w.new) (HoldsState g (medium_of result.0)) }
 {

@@ -1,6 +1,8 @@
 -- A session that reads no more, and what it promises in the end.
-use Rattle.std.proofs.Common.{arith, ◌≡◌, ◌≢◌, ℕ, zero, suc, Bool, true, false, List, [], Option, Some, None, refl, ap, sym, ◌∙◌, subst, length, length-append, map, replicate, append-nil}
+use Rattle.std.proofs.Common.{arith, ◌≡◌, ◌≢◌, ℕ, zero, suc, Bool, true, false, List, [], ◌++◌, Option, Some, None, refl, ap, sym, ◌∙◌, subst, length, map, replicate, append-nil, append_assoc}
 use Rattle.std.specs.Prelude.{Result, Ok, Err, IfOk, IfSome, MatchResult, OnErr, OnOk, ◌&&◌}
+use Rattle.std.specs.Io.KnownBytes.{Appends}
+use Rattle.std.proofs.KnownBytes.{Appends-trans}
 use Rattle.message.specs.Waiting.{all_output}
 use Rattle.std.proofs.lemmas.Bool.{true≢false}
 use Rattle.std.proofs.lemmas.List.{length-replicate}
@@ -15,11 +17,12 @@ use Rattle.scheduler.specs.CoreView.{CoreView, RecoversNow, core_state_of}
 use Rattle.serving.specs.Ends.{EndsWith, IsQuiesced}
 use Rattle.serving.specs.Progress.{ServingProgress}
 use Rattle.serving.specs.Lending.{NoneInFlight}
-use Rattle.serving.specs.Lines.{Line}
+use Rattle.serving.specs.Lines.{Line, answer_text}
+use Rattle.meaning.specs.Output.{joined}
 use Rattle.reorder_buffer.specs.ReorderBuffer.{ReorderBufferView, can_retire}
-use Rattle.serving.specs.Serve.{HasEmptyLog, HasRunWith, HadWorkers, FailsWithoutWorkers, ServePromise}
+use Rattle.serving.specs.Serve.{HasEmptyLog, HasRunWith, IsWrittenAtEnd, HadWorkers, FailsWithoutWorkers, ServePromise}
 use Rattle.serving.specs.Runs.{HandsHaveJobs, lent_hand, machine_with_jobs}
-use Rattle.serving.specs.Session.{EndsBy, EndsOrDeclines, HasFinished, SessionProgress, HasHalted, HasEndedReading, CanBegin, IsServed, SessionInvariant, SessionInvariantFrom, SessionView, ReadsOrHasEnded, machine, known_unless, end_of, reported}
+use Rattle.serving.specs.Session.{EndsBy, EndsOrDeclines, HasFinished, SessionProgress, HasHalted, HasEndedReading, CanBegin, IsServed, SessionInvariant, SessionInvariantFrom, SessionView, ReadsOrHasEnded, machine, IsSent, end_of, reported}
 use Rattle.serving.specs.Output.{Start, start_machine}
 use Rattle.serving.specs.declared.session.Halted.{Halted}
 use Rattle.serving.specs.declared.session.ReadEnd.{ReadEnd}
@@ -30,13 +33,30 @@ use Rattle.workers.specs.Seats.{DispatchSeatView}
 use Rattle.serving.proofs.Promises.{no_memory_ran, runs_to_device, runs_to_last_ticket, runs_to_read, runs_to_write, runs_whole}
 use Rattle.serving.proofs.Starting.{holds_at_start, starts}
 use Rattle.serving.proofs.Served.{ends_at_device, ends_at_read, ends_exhausted, ends_whole}
-use Rattle.serving.proofs.Invariant.{begins_at, progress_at_end, to_reorder_buffer}
+use Rattle.serving.proofs.Invariant.{all_sent, begins_at, progress_at_end, to_reorder_buffer}
 
 -- ---- what it promises
 
 so_far_none : (contents : Option (List ℕ)) → all_output contents [] ≡ contents
 so_far_none None = refl
 so_far_none (Some bytes) = ap (λ (l : List ℕ). Some l) (append-nil bytes)
+
+all_appended : (whole : Option (List ℕ)) (bytes : List ℕ) → Appends whole (all_output whole bytes) bytes
+all_appended None bytes = tt
+all_appended (Some sent) bytes = refl
+
+-- After what was sent whole, the answers that wait were sent in part: that is a beginning of both.
+written_begins : (b : Bool) (before whole sent : Option (List ℕ)) (waiting text : List ℕ) → Appends before whole text → IsSent b waiting whole sent
+    → IsWrittenAtEnd (Err faults.Write) before sent (all_output whole waiting)
+written_begins true before whole sent waiting text grown h = (
+  text ++ h.0,
+  h.1,
+  Appends-trans before whole sent text h.0 grown h.3,
+  subst (λ (l : List ℕ). Appends before (all_output whole waiting) l) (ap (λ (l : List ℕ). text ++ l) h.2 ∙ sym (append_assoc text h.0 h.1))
+      (Appends-trans before whole (all_output whole waiting) text waiting grown (all_appended whole waiting)),
+)
+written_begins false before whole sent waiting text grown h =
+    (text, waiting, subst (λ (w : Option (List ℕ)). Appends before w text) (sym h) grown, Appends-trans before whole (all_output whole waiting) text waiting grown (all_appended whole waiting))
 
 -- What a server promises at its end: of the run that led there (given what `know_recovery` ensures of the core), and of that end.
 pub record PromisesAll (keeps : Type 0) (start : MachineView) (new : CoreView) (input remaining before written : Option (List ℕ))
@@ -60,11 +80,10 @@ module _ {keeps : Type 0} {s : Start} {p : SessionView} (u : SessionInvariant ke
   written : {unsent : List Line} {unread : Option (List ℕ)} {drained : Bool} → SessionProgress keeps s p unread drained → p.reorder_buffer.lines ≡ unsent → p.output_failed ≡ false
       → p.reply_buffer ≡ [] → ServingProgress keeps start now unsent s.input unread drained s.before p.sent
   written {unsent} {unread} {drained} h is output_works flushed =
-      subst (λ (w : Option (List ℕ)). ServingProgress keeps start now unsent s.input unread drained s.before w) (so_far_none p.sent)
-      (subst (λ (o : List ℕ). ServingProgress keeps start now unsent s.input unread drained s.before (all_output p.sent o)) flushed
-      (subst (λ (b : Bool). ServingProgress keeps start now unsent s.input unread drained (known_unless b s.before) (known_unless b (all_output p.sent p.reply_buffer))) output_works
-      (subst (λ (l : List Line). ServingProgress keeps start now l s.input unread drained (known_unless p.output_failed s.before) (known_unless p.output_failed (all_output p.sent p.reply_buffer)))
-      is (to_reorder_buffer h))))
+      subst (λ (w : Option (List ℕ)). ServingProgress keeps start now unsent s.input unread drained s.before w)
+      (so_far_none h.whole ∙ sym (all_sent p.output_failed p.reply_buffer h.whole p.sent output_works h.output))
+      (subst (λ (o : List ℕ). ServingProgress keeps start now unsent s.input unread drained s.before (all_output h.whole o)) flushed
+      (subst (λ (l : List Line). ServingProgress keeps start now l s.input unread drained s.before (all_output h.whole p.reply_buffer)) is (to_reorder_buffer h)))
 
   module _ (k : IsServed p) where
     all_lines_answered : {unread : Option (List ℕ)} {drained : Bool} → SessionProgress keeps s p unread drained → ServingProgress keeps start now [] s.input unread drained s.before p.sent
@@ -124,8 +143,9 @@ module _ {keeps : Type 0} {s : Start} {p : SessionView} (u : SessionInvariant ke
     write_ends ran =
         let h = (progress_at_end keeps s p p.read_end u.reads).2 in
         record {
-          run = λ no_doubt recovers. runs_to_write u.idle no_doubt recovers s.before p.sent h.progress
-              (let n = length-append h.waiting p.reorder_buffer.lines in let a = h.counted in let b = h.bounded in let c = u.fits in omega (arith, n, a, b, c));
+          run = λ no_doubt recovers. runs_to_write u.idle no_doubt recovers (to_reorder_buffer h)
+              (written_begins p.output_failed s.before h.whole p.sent p.reply_buffer (joined (map answer_text h.progress.sent_lines)) h.progress.output h.output)
+              (let a = h.counted in let b = h.bounded in let c = u.fits in omega (arith, a, b, c));
           ends = (wound_up h.progress, ran);
         }
 
@@ -329,6 +349,8 @@ first_at keeps {o} {core} {dispatch_seat} {reorder_buffer} {unread} {input} {sen
         reply_buffer_is = unused.none_waits;
         counted = omega (arith, ap length r.none);
         bounded = omega arith;
+        whole = sent;
+        output = refl;
         progress = subst (λ (l : List (Option JobView)). ServingProgress keeps start (machine_with_jobs core l) reorder_buffer.lines input unread drained sent sent) (sym unused.none_lent)
             (subst (λ (l : List Line). ServingProgress keeps start start l input unread drained sent sent) (sym r.none)
             (subst (λ (d : Bool). ServingProgress keeps start start [] input unread d sent sent) (sym unused.none_read)

@@ -22,12 +22,12 @@ use Rattle.serving.specs.Lines.{HaveAnswers, Completed, Line, NoMessage, OutOfRa
 use Rattle.serving.specs.Reads.{IsTaken}
 use Rattle.reorder_buffer.specs.ReorderBuffer.{AreConsecutive, ReorderBufferView, can_retire, retired_text, with_tickets}
 use Rattle.serving.specs.Runs.{HandsHaveJobs, IsInternal, RunsBetween, machine_with_jobs}
-use Rattle.serving.specs.Session.{SessionProgress, IsReadEnd, SessionInvariant, SessionInvariantFrom, SessionView, ReadsOrHasEnded, machine, known_unless}
-use Rattle.serving.specs.Output.{MaySend, Start, start_machine}
+use Rattle.serving.specs.Session.{SessionProgress, IsReadEnd, SessionInvariant, SessionInvariantFrom, SessionView, ReadsOrHasEnded, machine, IsSent}
+use Rattle.serving.specs.Output.{AppendsBeginning, MaySend, Start, start_machine}
 use Rattle.serving.specs.declared.session.ReadEnd.{ReadEnd}
 use Rattle.serving.specs.declared.session.ReadEnd.TheVariants as ends_of_reading
 use Rattle.workers.specs.Seats.{DispatchSeatView}
-use Rattle.serving.proofs.Advancing.{Sends, forgets, sends_on, texts_both}
+use Rattle.serving.proofs.Advancing.{Sends, sends_on, texts_both}
 use Rattle.serving.proofs.Answering.{answered_goes_on}
 use Rattle.serving.proofs.Following.{next_follows}
 use Rattle.serving.proofs.Inside.{idle_again}
@@ -39,10 +39,22 @@ use Rattle.serving.proofs.Tickets.{quiet_ticket}
 
 -- ---- lines that are sent, completed or retired
 
--- lines are sent, as far as the output is known: nothing is known of it once it has failed
-sends_unless : {lines rest : List Line} {old now : Option (List ℕ)} (b : Bool) → Sends lines rest old now → Sends lines rest (known_unless b old) (known_unless b now)
-sends_unless true sends = record { sent_lines = sends.sent_lines; were = sends.were; have_answers = sends.have_answers; output = tt }
-sends_unless false sends = sends
+-- Where a further answer waits, what was sent is as before.
+sent_on : (b : Bool) (reply_buffer bytes more : List ℕ) (whole sent : Option (List ℕ)) → bytes ≡ reply_buffer ++ more → IsSent b reply_buffer whole sent
+    → IsSent b bytes whole sent
+sent_on true reply_buffer bytes more whole sent added h =
+    (h.0, h.1 ++ more, added ∙ ap (λ (l : List ℕ). l ++ more) h.2 ∙ append_assoc h.0 h.1 more, h.3)
+sent_on false reply_buffer bytes more whole sent added h = h
+
+-- where no send has failed, all that was sent is whole
+pub all_sent : (b : Bool) (reply_buffer : List ℕ) (whole sent : Option (List ℕ)) → b ≡ false → IsSent b reply_buffer whole sent → sent ≡ whole
+all_sent true reply_buffer whole sent works h = absurd (true≢false works)
+all_sent false reply_buffer whole sent works h = h
+
+-- where no send has failed
+sent_so : (b : Bool) (reply_buffer : List ℕ) (sent : Option (List ℕ)) → b ≡ false → IsSent b reply_buffer sent sent
+sent_so true reply_buffer sent works = absurd (true≢false works)
+sent_so false reply_buffer sent works = refl
 
 -- With the answers that wait written after what was sent, their lines are sent.
 sends_waiting : (waiting lines : List Line) (reply_buffer : List ℕ) (sent : Option (List ℕ)) → HaveAnswers waiting → reply_buffer ≡ joined (map answer_text waiting)
@@ -77,10 +89,10 @@ fronts [] rest is next = absurd (true≢false (sym next))
 fronts (line ∷ lines) rest is next = record { line = line; were = ap (λ (l : List Line). line ∷ l) (sym is); answered = next; retires = refl }
 
 -- With the answers that wait taken as written, the lines that are not sent are those of the reorder buffer.
-pub to_reorder_buffer : {keeps : Type 0} {s : Start} {p : SessionView} {unread : Option (List ℕ)} {drained : Bool} → SessionProgress keeps s p unread drained
-    → ServingProgress keeps (start_machine s) (machine p) p.reorder_buffer.lines s.input unread drained (known_unless p.output_failed s.before)
-    (known_unless p.output_failed (all_output p.sent p.reply_buffer))
-to_reorder_buffer {p} h = sends_on (sends_unless p.output_failed (sends_waiting h.waiting p.reorder_buffer.lines p.reply_buffer p.sent h.have_answers h.reply_buffer_is)) h.progress
+pub to_reorder_buffer : {keeps : Type 0} {s : Start} {p : SessionView} {unread : Option (List ℕ)} {drained : Bool} (h : SessionProgress keeps s p unread drained)
+    → ServingProgress keeps (start_machine s) (machine p) p.reorder_buffer.lines s.input unread drained s.before
+    (all_output h.whole p.reply_buffer)
+to_reorder_buffer {p} h = sends_on (sends_waiting h.waiting p.reorder_buffer.lines p.reply_buffer h.whole h.have_answers h.reply_buffer_is) h.progress
 
 module _ (keeps : Type 0) where
   module _ (s : Start) (p : SessionView) where
@@ -130,8 +142,8 @@ module _ (keeps : Type 0) where
   idle_of None p u none = absurd u
   idle_of (Some s) p u none =
       let k = progress_at_end s p p.read_end u.reads in
-      idle_again u.idle (subst (λ (l : List Line). ServingProgress keeps (start_machine s) (machine p) l s.input k.0 k.1 (known_unless p.output_failed s.before)
-      (known_unless p.output_failed (all_output p.sent p.reply_buffer))) none (to_reorder_buffer k.2))
+      idle_again u.idle (subst (λ (l : List Line). ServingProgress keeps (start_machine s) (machine p) l s.input k.0 k.1 s.before
+      (all_output k.2.whole p.reply_buffer)) none (to_reorder_buffer k.2))
 
   -- ---- steps
 
@@ -165,6 +177,8 @@ module _ (keeps : Type 0) where
                 reply_buffer_is = h.reply_buffer_is;
                 counted = h.counted;
                 bounded = h.bounded;
+                whole = h.whole;
+                output = h.output;
                 progress = quiet_goes_on k.segment h.progress;
               }) p.read_end u.reads;
         })
@@ -190,8 +204,9 @@ module _ (keeps : Type 0) where
                 reply_buffer_is = h.reply_buffer_is;
                 counted = let counted = h.counted in omega (arith, counted, ap length is, length-map p.reorder_buffer.lines (complete_one ticket reply));
                 bounded = let bounded = h.bounded in omega (arith, bounded, slots);
-                progress = subst (λ (l : List Line). ServingProgress keeps (start_machine s) (machine q) l s.input unread drained (known_unless p.output_failed s.before)
-                    (known_unless p.output_failed p.sent))
+                whole = h.whole;
+                output = h.output;
+                progress = subst (λ (l : List Line). ServingProgress keeps (start_machine s) (machine q) l s.input unread drained s.before h.whole)
                     (are_left ticket reply h.waiting p.reorder_buffer.lines h.have_answers ∙ ap (λ (l : List Line). h.waiting ++ l) (sym is))
                     (answered_goes_on k.1 h.progress);
               }) p.read_end u.reads;
@@ -220,8 +235,9 @@ module _ (keeps : Type 0) where
                     ∙ ap (λ (l : List ℕ). joined (map answer_text h.waiting) ++ l) (f.retires ∙ sym (append-nil (answer_text f.line))) ∙ sym (texts_both h.waiting one);
                 counted = let counted = h.counted in omega (arith, counted, ap length f.were, length-append h.waiting one);
                 bounded = let bounded = h.bounded in omega (arith, bounded, slots);
-                progress = subst (λ (l : List Line). ServingProgress keeps (start_machine s) (machine p) l s.input unread drained (known_unless p.output_failed s.before)
-                    (known_unless p.output_failed p.sent))
+                whole = h.whole;
+                output = sent_on p.output_failed p.reply_buffer bytes _ h.whole p.sent added h.output;
+                progress = subst (λ (l : List Line). ServingProgress keeps (start_machine s) (machine p) l s.input unread drained s.before h.whole)
                     (ap (λ (l : List Line). h.waiting ++ l) f.were ∙ sym (append_assoc h.waiting one buffer.lines)) h.progress;
               }) p.read_end u.reads;
         })
@@ -237,9 +253,9 @@ module _ (keeps : Type 0) where
         (subst (λ (l : List ℕ). SessionInvariantFrom keeps o (record p { reply_buffer = l })) (sym added) u)
 
     -- All answers that wait are sent.
-    pub on_send : (reply_buffer : List ℕ) (sent : Option (List ℕ)) (n : ℕ) → reply_buffer ≡ [] → Appends p.sent sent p.reply_buffer → n ≡ length p.reorder_buffer.lines
+    pub on_send : (reply_buffer : List ℕ) (sent : Option (List ℕ)) (n : ℕ) → p.output_failed ≡ false → reply_buffer ≡ [] → Appends p.sent sent p.reply_buffer → n ≡ length p.reorder_buffer.lines
         → SessionInvariantFrom keeps o (record p { reply_buffer = reply_buffer; sent = sent; outstanding = n })
-    on_send reply_buffer sent n none appends are =
+    on_send reply_buffer sent n works none appends are =
         let q : SessionView = record p { reply_buffer = reply_buffer; sent = sent; outstanding = n } in
         goes_to q (λ s u. record {
           idle = u.idle;
@@ -257,18 +273,21 @@ module _ (keeps : Type 0) where
                 bounded = let counted = h.counted in
                     let bounded = h.bounded in
                     omega (arith, are, counted, bounded);
-                progress = sends_on (sends_unless p.output_failed (record {
+                whole = sent;
+                output = sent_so p.output_failed reply_buffer sent works;
+                progress = sends_on (record {
                   sent_lines = h.waiting;
                   were = refl;
                   have_answers = h.have_answers;
-                  output = subst (λ (l : List ℕ). Appends p.sent sent l) h.reply_buffer_is appends;
-                })) h.progress;
+                  output = subst (λ (w : Option (List ℕ)). Appends w sent (joined (map answer_text h.waiting))) (all_sent p.output_failed p.reply_buffer h.whole p.sent works h.output)
+                      (subst (λ (l : List ℕ). Appends p.sent sent l) h.reply_buffer_is appends);
+                }) h.progress;
               }) p.read_end u.reads;
         })
 
-    -- The answers could not be sent: the output has failed.
-    pub on_break : (sent : Option (List ℕ)) → SessionInvariantFrom keeps o (record p { sent = sent; output_failed = true })
-    on_break sent =
+    -- The answers could not be sent, but for a beginning of them: the output has failed.
+    pub on_break : (sent : Option (List ℕ)) → p.output_failed ≡ false → AppendsBeginning p.sent sent p.reply_buffer → SessionInvariantFrom keeps o (record p { sent = sent; output_failed = true })
+    on_break sent works begins =
         let q : SessionView = record p { sent = sent; output_failed = true } in
         goes_to q (λ s u. record {
           idle = u.idle;
@@ -284,7 +303,9 @@ module _ (keeps : Type 0) where
                 reply_buffer_is = h.reply_buffer_is;
                 counted = h.counted;
                 bounded = h.bounded;
-                progress = forgets h.progress;
+                whole = h.whole;
+                output = subst (λ (w : Option (List ℕ)). AppendsBeginning w sent p.reply_buffer) (all_sent p.output_failed p.reply_buffer h.whole p.sent works h.output) begins;
+                progress = h.progress;
               }) p.read_end u.reads;
         })
 
@@ -302,8 +323,8 @@ module _ (keeps : Type 0) where
         rest = p.reorder_buffer.lines;
         served = has_served keeps (start_machine s) (machine p) u.idle none recovers
             (let n = length-append h.waiting p.reorder_buffer.lines in let a = h.counted in let b = h.bounded in let c = u.fits in omega (arith, n, a, b, c))
-            (subst (λ (b : Bool). ServingProgress keeps (start_machine s) (machine p) (h.waiting ++ p.reorder_buffer.lines) s.input k.0 k.1 (known_unless b s.before)
-            (known_unless b p.sent)) output_works h.progress);
+            (subst (λ (w : Option (List ℕ)). ServingProgress keeps (start_machine s) (machine p) (h.waiting ++ p.reorder_buffer.lines) s.input k.0 k.1 s.before w)
+            (sym (all_sent p.output_failed p.reply_buffer h.whole p.sent output_works h.output)) h.progress);
         have_answers = h.have_answers;
         bytes_are = h.reply_buffer_is;
       }
@@ -347,14 +368,15 @@ module _ (keeps : Type 0) where
       on_line None line u t found = absurd u
       on_line (Some s) line u t found =
           let h = reading s p none u in
-          let sent = known_unless p.output_failed p.sent in
           reads_next s u t.holds (record {
             waiting = h.waiting;
             have_answers = h.have_answers;
             reply_buffer_is = h.reply_buffer_is;
             counted = counted_next h.waiting h.counted;
             bounded = bounded_next;
-            progress = subst (λ (l : List Line). ServingProgress keeps (start_machine s) (machine next) l s.input unread drained (known_unless p.output_failed s.before) sent)
+            whole = h.whole;
+            output = h.output;
+            progress = subst (λ (l : List Line). ServingProgress keeps (start_machine s) (machine next) l s.input unread drained s.before h.whole)
                 (at_end h.waiting)
                 (line_goes_on u.idle going closes line t found h.progress);
           })
@@ -365,14 +387,15 @@ module _ (keeps : Type 0) where
       on_long_line None u t found = absurd u
       on_long_line (Some s) u t found =
           let h = reading s p none u in
-          let sent = known_unless p.output_failed p.sent in
           reads_next s u t.holds (record {
             waiting = h.waiting;
             have_answers = h.have_answers;
             reply_buffer_is = h.reply_buffer_is;
             counted = counted_next h.waiting h.counted;
             bounded = bounded_next;
-            progress = subst (λ (l : List Line). ServingProgress keeps (start_machine s) (machine next) l s.input unread drained (known_unless p.output_failed s.before) sent)
+            whole = h.whole;
+            output = h.output;
+            progress = subst (λ (l : List Line). ServingProgress keeps (start_machine s) (machine next) l s.input unread drained s.before h.whole)
                 (at_end h.waiting)
                 (long_line_goes_on u.idle going closes t found h.progress);
           })
@@ -383,7 +406,6 @@ module _ (keeps : Type 0) where
     on_read_end None read_end u k same why = absurd u
     on_read_end (Some s) read_end u k same why =
         let h = reading s p none u in
-        let sent = known_unless p.output_failed p.sent in
         record {
           idle = u.idle;
           none_in_doubt = u.none_in_doubt;
@@ -400,7 +422,9 @@ module _ (keeps : Type 0) where
               reply_buffer_is = h.reply_buffer_is;
               counted = counted_next h.waiting h.counted;
               bounded = bounded_next;
-              progress = subst (λ (l : List Line). ServingProgress keeps (start_machine s) (machine next) l s.input p.unread p.drained (known_unless p.output_failed s.before) sent)
+              whole = h.whole;
+              output = h.output;
+              progress = subst (λ (l : List Line). ServingProgress keeps (start_machine s) (machine next) l s.input p.unread p.drained s.before h.whole)
                   (ap (λ (l : List Line). h.waiting ++ l) (sym same)) (quiet_goes_on k.segment h.progress);
             };
             why = subst (λ (y : Geometry). IsReadEnd y core p.unread p.drained remaining read_end) h.progress.serving.segment.geometry why;

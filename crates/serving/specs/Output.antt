@@ -28,6 +28,10 @@ pub record Start : Type 0 where
 abbrev pub start_machine : Start → MachineView
 start_machine s = machine_with_jobs s.core (replicate s.places None)
 
+-- known bytes grow by a beginning of these
+abbrev pub AppendsBeginning : Option (List ℕ) → Option (List ℕ) → List ℕ → Type 0
+AppendsBeginning old new bytes = (begun : List ℕ) × (rest : List ℕ) × (bytes ≡ begun ++ rest) × Appends old new begun
+
 -- A device of these bytes holds what was sent since the start: a line for each of the first lines of the input, and no more of the lines
 -- that were consumed lack one than the core has slots. Each message with a ticket among the lines that were answered is in a history, with
 -- the reply that was sent. The bytes recover to the state to which the changes of that history lead from the one at the start, perhaps

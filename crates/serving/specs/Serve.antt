@@ -1,5 +1,6 @@
 -- Statement for operators: What a call of `serve` promises, by its result.
-use Rattle.std.specs.Prelude.{◌≡◌, ◌≢◌, ℕ, false, List, [], Option, Some, None, Result, Ok, Err, OnOk, replicate}
+use Rattle.std.specs.Prelude.{◌≡◌, ◌≢◌, ℕ, false, List, [], ◌++◌, Option, Some, None, Result, Ok, Err, OnOk, replicate}
+use Rattle.std.specs.Io.KnownBytes.{Appends}
 use Rattle.runs.specs.Machine.{MachineView}
 use Rattle.messages.specs.Lines.{lines}
 use Rattle.device_map.specs.Layout.{layout_of}
@@ -18,24 +19,27 @@ abbrev pub AreAll : Option (List ℕ) → List (List ℕ) → Type 0
 AreAll None consumed = Unit {0}
 AreAll (Some input) consumed = lines input ≡ consumed
 
--- what the output held before, or `None` where the output failed: then it is unknown what was written
-abbrev pub known_before : Result (Unit {0}) ServeFault → Option (List ℕ) → Option (List ℕ)
-known_before (Err faults.Write) before = None
-known_before _ before = before
+-- `all` is what the output holds; where it failed, what it would hold with all that was to be written: it holds a beginning of that.
+abbrev pub IsWrittenAtEnd : Result (Unit {0}) ServeFault → Option (List ℕ) → Option (List ℕ) → Option (List ℕ) → Type 0
+IsWrittenAtEnd (Err faults.Write) before written all =
+    (out : List ℕ) × (rest : List ℕ) × Appends before written out × Appends before all (out ++ rest)
+IsWrittenAtEnd _ before written all = written ≡ all
 
 -- Which of the lines that were consumed have no reply in the output. At `Ok` none, and they are all of the input. Where the device failed,
--- those from the first line without a reply on. Where the output failed, it is unknown which. At any other end none.
+-- those from the first line without a reply on. Where the output failed, it is left open which. At any other end none.
 abbrev pub AreUnsent : Result (Unit {0}) ServeFault → Option (List ℕ) → List (List ℕ) → List Line → Type 0
 AreUnsent (Ok _) input consumed unsent = (unsent ≡ []) × AreAll input consumed
 AreUnsent (Err faults.Device) input consumed unsent = can_retire unsent ≡ false
 AreUnsent (Err faults.Write) input consumed unsent = Unit {0}
 AreUnsent (Err _) input consumed unsent = unsent ≡ []
 
--- A run led to what was written.
+-- A run led to what was written (`IsWrittenAtEnd`).
 pub record HasRunWith (keeps : Type 0) (start : MachineView) (new : CoreView) (input before written : Option (List ℕ))
     (end : Result (Unit {0}) ServeFault) : Type 0 where
   pub unsent : List Line
-  pub served : HasServed keeps start new unsent input (known_before end before) written
+  pub all : Option (List ℕ)
+  pub written_is : IsWrittenAtEnd end before written all
+  pub served : HasServed keeps start new unsent input before all
   pub are_unsent : AreUnsent end input served.consumed unsent
 
 -- The call ends with `NoWorkers` exactly where there are no workers.

@@ -16,7 +16,7 @@ use Rattle.serving.specs.Lines.{HaveAnswers, Line, answer_text}
 use Rattle.reorder_buffer.specs.ReorderBuffer.{ReorderBufferView, can_retire}
 use Rattle.serving.specs.Runs.{HandsHaveJobs, machine_with_jobs}
 use Rattle.serving.specs.Serve.{HasEmptyLog}
-use Rattle.serving.specs.Output.{Start, start_machine}
+use Rattle.serving.specs.Output.{AppendsBeginning, Start, start_machine}
 use Rattle.serving.specs.declared.session.Halted.{Halted}
 use Rattle.serving.specs.declared.session.ReadEnd.{ReadEnd}
 use Rattle.serving.specs.declared.session.ReadEnd.TheVariants as ends_of_reading
@@ -68,10 +68,10 @@ IsReadEnd g core unread drained remaining ends_of_reading.DeviceFailed = core.fa
 
 -- ---- the session invariant
 
--- what is known of the output: nothing once it has failed
-abbrev pub known_unless : Bool → Option (List ℕ) → Option (List ℕ)
-known_unless true known = None
-known_unless false known = known
+-- `whole` is what was sent before a send failed, else all that was sent. Of the answers that wait the failed send has sent a beginning.
+abbrev pub IsSent : Bool → List ℕ → Option (List ℕ) → Option (List ℕ) → Type 0
+IsSent true reply_buffer whole sent = AppendsBeginning whole sent reply_buffer
+IsSent false reply_buffer whole sent = sent ≡ whole
 
 -- From the start of the call of `serve` a legal run has led to this session, and `unread` is what is left of the input. The answers that
 -- wait are those to the next lines in order, `waiting`; after these lines come those of the reorder buffer.
@@ -82,8 +82,10 @@ pub record SessionProgress (keeps : Type 0) (s : Start) (p : SessionView) (unrea
   -- Outstanding are the lines whose answers wait and those of the reorder buffer. There are never more of them than slots.
   pub counted : p.outstanding ≡ length waiting + length p.reorder_buffer.lines
   pub bounded : p.outstanding ≤ p.reorder_buffer.slots
+  pub whole : Option (List ℕ)
+  pub output : IsSent p.output_failed p.reply_buffer whole p.sent
   pub progress : ServingProgress keeps (start_machine s) (machine p) (waiting ++ p.reorder_buffer.lines) s.input unread drained
-      (known_unless p.output_failed s.before) (known_unless p.output_failed p.sent)
+      s.before whole
 
 -- A legal run has led to this session, and no more is read, for this reason.
 pub record HasEndedReading (keeps : Type 0) (s : Start) (p : SessionView) (read_end : ReadEnd) : Type 0 where

@@ -16,9 +16,9 @@ use std::io::Read;
 /// Where a server sends its lines. The condition of `send` is proved wherever `send` is called, even in a function that never returns: what
 /// is sent was answered before, and whatever a crash leaves of the device then holds it.
 pub trait ReplySink<D: Disk> {
-    ghost use Rattle.std.specs.Prelude.{List, ℕ, Option, OnOk};
+    ghost use Rattle.std.specs.Prelude.{List, ℕ, Option, OnErr, OnOk};
     ghost use Rattle.std.specs.Io.KnownBytes.{Appends};
-    ghost use Rattle.serving.specs.Output.{MaySend, Start};
+    ghost use Rattle.serving.specs.Output.{AppendsBeginning, MaySend, Start};
 
     /// What the `serve` call whose lines are sent began with (its core, places, input and output); `None` before that call.
     ghost start: { Option Start };
@@ -31,10 +31,11 @@ pub trait ReplySink<D: Disk> {
     ///
     /// # Errors
     ///
-    /// `WriteFault` where they could not be sent. What was sent of them is unknown then.
+    /// `WriteFault` where they could not be sent. Some beginning of them was sent then, perhaps none of them or all.
     fn send(&mut self, lines: &[u8], core: &Core<D>) -> Result<(), WriteFault>
         requires may { MaySend D.keeps start (sent self.old) core.now lines.now }
-        ensures sent { OnOk result (Appends (sent self.old) (sent self.new) lines.now) };
+        ensures sent { OnOk result (Appends (sent self.old) (sent self.new) lines.now) }
+        ensures begun { OnErr result (AppendsBeginning (sent self.old) (sent self.new) lines.now) };
 }
 
 // In clauses `read_end` is why no more is read. `IsSessionStep` says that it stays; at `Ok` so does `output_failed`, and at `Err` the

@@ -1,8 +1,10 @@
 //! The whole call of a server: its memory, its workers and its end.
 
-ghost use Rattle.std.specs.Prelude.{◌≡◌, ◌≢◌, ◌≤◌, All, false, [], None, IfOk, Some, replicate, vec_len};
+ghost use Rattle.std.specs.Prelude.{◌≡◌, ◌≢◌, ◌≤◌, All, false, [], None, IfOk, OnErr, OnOk, Some, replicate, vec_len};
 ghost use Rattle.legal_runs.specs.Laws.{IsIdle};
 ghost use Rattle.scheduler.specs.CoreView.{RecoversNow, core_state_of};
+ghost use Rattle.std.specs.Io.KnownBytes.{Appends};
+ghost use Rattle.serving.specs.Output.{AppendsBeginning};
 ghost use Rattle.serving.specs.Serve.{ServePromise, handed_back};
 ghost use Rattle.serving.specs.Session.{CanBegin, reported};
 
@@ -14,7 +16,7 @@ use message::{LentReader, LineReader, Loan, ReplyBuffer, WriteFault};
 use reorder_buffer::ReorderBuffer;
 use scheduler::Core;
 use std::alloc::{AllocError, Global};
-use std::io::{Read, Write};
+use std::io::{ErrorKind, Read, Write};
 use std::marker::{Brand, PhantomData};
 use std::sync::Wait;
 use std::thread::Threads;
@@ -31,7 +33,7 @@ pub enum ServeFault {
     NoWorkers,
     /// The input could not be read. The whole lines that were read before are answered.
     Read,
-    /// The output could not be written. What was written of it is unknown.
+    /// The output could not be written. Some beginning of what was to be written of it was.
     Write,
     /// The device failed. Only whole lines were written, and a message with a ticket was logged before its reply was written.
     Device,
@@ -254,16 +256,40 @@ struct Output<'w, W, B: Beginning> {
     ghost same: { w.ghost_name ≡ B.name },
 }
 
+// Writes bytes and flushes them. At a fault some beginning of them was written: `write_all` doesn't say so, its calls of `write` do.
+fn write_in_order<W: Write>(w: &mut W, bytes: &[u8]) -> Result<(), WriteFault>
+    ensures written { OnOk result (Appends (W.contents w.old) (W.contents w.new) bytes.now) }
+    ensures begun { OnErr result (AppendsBeginning (W.contents w.old) (W.contents w.new) bytes.now) }
+{
+    let mut rest = bytes;
+    for _ in 0..u64::MAX {
+        if rest.is_empty() {
+            return if w.flush().is_ok() {
+                Ok(())
+            } else {
+                Err(WriteFault)
+            };
+        }
+        match w.write(rest) {
+            Ok(0) => return Err(WriteFault),
+            Ok(n) => rest = &rest[n..],
+            Err(e) => {
+                if e.kind() != ErrorKind::Interrupted {
+                    return Err(WriteFault);
+                }
+            }
+        }
+    }
+    Err(WriteFault)
+}
+
 impl<'w, D: Disk, W: Write, B: Beginning> ReplySink<D> for Output<'w, W, B> {
     ghost start = { B.start };
 
     ghost sent = { λ o. W.contents o.w.now };
 
     fn send(&mut self, lines: &[u8], _core: &Core<D>) -> Result<(), WriteFault> {
-        if self.w.write_all(lines).is_err() || self.w.flush().is_err() {
-            return Err(WriteFault);
-        }
-        Ok(())
+        write_in_order(self.w, lines)
     }
 }
 

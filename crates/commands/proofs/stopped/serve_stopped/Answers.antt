@@ -1,9 +1,9 @@
 -- The injected fault that is set is no part of the medium.
-use Rattle.std.proofs.Common.{◌≡◌, ap, subst, sym}
+use Rattle.std.proofs.Common.{◌≡◌, ℕ, List, Option, ap, subst, sym}
 use Rattle.disk.specs.Device.{Medium}
 use Rattle.disk.specs.Memory.{Memory, medium_of, memory_of}
-use Rattle.commands.specs.Acknowledged.{HoldsAcknowledged, UnlessWriteFailed}
-use Rattle.commands.specs.Promise.{HoldsRecovered, HoldsState, IfOpened, known_unless_write_failed}
+use Rattle.commands.specs.Acknowledged.{HoldsAcknowledged, UnlessRefused}
+use Rattle.commands.specs.Promise.{HoldsRecovered, HoldsState, IfOpened, IsWritten}
 use Rattle.commands.specs.Serving.{HasServedUntilCrash}
 use Rattle.commands.proofs.stopped.serve_stopped.Goals as goal
 
@@ -19,9 +19,10 @@ returns g c =
     record {
       crashed = subst (λ (m : Medium). HasServedUntilCrash c.args.service m c.args.torn (memory_of left) end input rest before written)
           same c.serve_and_crash.ensures.crashed;
-      kept = subst (λ (m : Medium). UnlessWriteFailed end before written (HoldsAcknowledged c.args.service.slots m input before written (medium_of left).now))
+      kept = subst (λ (m : Medium). UnlessRefused end before written
+          ((all : Option (List ℕ)) × IsWritten end before written all × HoldsAcknowledged c.args.service.slots m input before all (medium_of left).now))
           same c.serve_and_crash.ensures.kept;
-      recovers = subst (λ (m : Medium). IfOpened end (HoldsRecovered c.args.service.slots m input (known_unless_write_failed end before) written (medium_of left).now))
+      recovers = subst (λ (m : Medium). IfOpened end ((all : Option (List ℕ)) × IsWritten end before written all × HoldsRecovered c.args.service.slots m input before all (medium_of left).now))
           same c.serve_and_crash.ensures.recovers;
       goes_on = λ k start held. c.serve_and_crash.ensures.goes_on k start (subst (λ (m : Medium). HoldsState k m start) (sym same) held);
     }
