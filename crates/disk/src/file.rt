@@ -9,6 +9,7 @@ use crate::backed::FileBacked;
 use crate::host::HostFile;
 use std::fs::{File, OpenOptions};
 use std::io;
+use std::path::Path;
 use std::rt::Files;
 
 impl From<io::Error> for FileFault {
@@ -24,12 +25,24 @@ impl From<io::Error> for FileFault {
     }
 }
 
+/// Syncs the folder of this file, so that a crash leaves the file's name. One that may not be read can't be synced, and is passed over.
+fn sync_folder<R: Files<File = File>>(rt: &R, path: &str) -> io::Result<()> {
+    let folder = match Path::new(path).parent() {
+        Some(parent) if !parent.as_os_str().is_empty() => parent.as_os_str(),
+        _ => ".",
+    };
+    match File::open(rt, folder) {
+        Err(error) if error.kind() == io::ErrorKind::PermissionDenied => Ok(()),
+        opened => opened?.sync_all(),
+    }
+}
+
 /// A file as a device. No contract states that it keeps its bytes. If it does, a read gives what was written, and what was
 /// synced is there after a crash.
 pub type FileDisk = FileBacked<HostFile<File>>;
 
 impl FileBacked<HostFile<File>> {
-    /// Makes the file anew, of `len` zeros, replacing one that is there. `OutOfMemory` where the
+    /// Makes the file anew, of `len` zeros, replacing one that is there, and syncs it and its folder. `OutOfMemory` where the
     /// system has no memory for it, and `Device` where it refuses for anything else.
     pub fn create<R: Files<File = File>>(
         rt: &R,
@@ -46,6 +59,7 @@ impl FileBacked<HostFile<File>> {
             .open(rt, path)?;
         file.set_len(len)?;
         file.sync_all()?;
+        sync_folder(rt, path)?;
         Ok(FileBacked::new(HostFile::opened_synced(file, len)))
     }
 
