@@ -1,4 +1,4 @@
--- Inner: What an `Arena` is once a `&mut` into it, which a call returned, ends (the library's `Lends`, not `Arena::lend`).
+-- Statement for engineers: What an `Arena` is once a returned `&mut` into it ends (the library's `Lends`, not `Arena::lend`).
 use Rattle.std.specs.Prelude.{ℕ, Option}
 use Rattle.std.specs.Borrow.{Lends, LendsIf, Fml, RattleType, MutBor}
 use Rattle.arena.specs.ArenaView.{ArenaView, with_value}

@@ -1,4 +1,4 @@
--- Inner: What the calls of a device make of its ghost device (the list of its calls, which is there for contracts alone).
+-- Statement for engineers: What the calls of a device make of its ghost device (the list of its calls, which is there for contracts alone).
 use Rattle.std.specs.Prelude.{ℕ, ◌+◌, List, [], ◌∷◌, ◌++◌, length, replicate}
 use Rattle.disk.specs.declared.ghost_device.Call.{Call}
 use Rattle.disk.specs.declared.ghost_device.Call.TheVariants.{Created, Wrote, FailedWrite, Synced, Failed, OpenedSynced, OpenedUnsynced}

@@ -1,4 +1,4 @@
--- Inner: Injected faults, by which a test lets a device in memory fail.
+-- Statement for engineers: Injected faults, by which a test lets a device in memory fail.
 use Rattle.std.specs.Prelude.{◌-◌, if◌then◌else◌, Bool, false, nat_le}
 use Rattle.disk.specs.declared.injected_fault.InjectedFault.{InjectedFault}
 use Rattle.disk.specs.declared.injected_fault.InjectedFault.TheVariants.{Off, FailAt, StopAt}
