@@ -15,7 +15,7 @@ use crate::reading::read;
 use device_map::{IMAGE_HEAD_SIZE, image_at};
 use disk::Disk;
 use image::layout::{piece_count, piece_size};
-use parcel::{Tree, read_piece, read_version_1_piece};
+use parcel::{Tree, read_piece, read_piece_1};
 
 /// Decodes these bytes into the tree, as piece `n` of an image of this version. `BadPiece` exactly where encoding piece `n` of the
 /// resulting state gives other bytes. Part 0 of a volume is the volume's own piece, the others are its stripes', which come after it: so
@@ -36,7 +36,7 @@ fn take_piece(tree: &mut Tree, version: u8, n: usize, piece: &[u8]) -> Result<()
     ensures geometry { tree.new.geometry ≡ tree.old.geometry }
 {
     let taken = if version == 1 {
-        read_version_1_piece(tree, n, piece)
+        read_piece_1(tree, n, piece)
     } else {
         read_piece(tree, n, piece)
     };

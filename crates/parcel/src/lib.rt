@@ -12,7 +12,7 @@ mod tree;
 pub use image::touched;
 pub use job::{Done, Job};
 pub use parts::{Aggr, Label, Logical, Parcels, Root, Standing, Vol};
-pub use pieces::{BadPiece, read_piece, read_version_1_piece, write_piece};
+pub use pieces::{BadPiece, read_piece, read_piece_1, write_piece};
 pub use running::run;
 pub use stripe::StripeParcel;
 pub use tree::Tree;

@@ -121,7 +121,7 @@ pub fn read_piece(t: &mut Tree, n: usize, bytes: &[u8]) -> Result<(), BadPiece>
 
 /// As `read_piece`, for an image of version 1, which has zeros instead of labels: each volume that is
 /// made gets a label of zeros.
-pub fn read_version_1_piece(t: &mut Tree, n: usize, bytes: &[u8]) -> Result<(), BadPiece>
+pub fn read_piece_1(t: &mut Tree, n: usize, bytes: &[u8]) -> Result<(), BadPiece>
     requires whole { IsWholeTree t.old }
     requires piece { n < piece_count t.old.geometry }
     requires size { length bytes.now ≡ piece_size t.old.geometry n }

@@ -12,7 +12,7 @@ ghost use Rattle.serial_tests.specs.Pieces.{IsNewTree, IsSmallTree};
 use crate::common::{SMALL, holds};
 use crate::parcel_lines::expect_replies;
 use affinity::Geometry;
-use parcel::{BadPiece, Tree, read_piece, read_version_1_piece, write_piece};
+use parcel::{BadPiece, Tree, read_piece, read_piece_1, write_piece};
 use std::alloc::Global;
 use std::process::Abort;
 use std::test::Fail;
@@ -219,7 +219,7 @@ fn read_version_1_volume(tree: &mut Tree, volume: &[u8]) -> Result<(), BadPiece>
     requires new { IsNewTree tree.old }
     requires volume { length volume.now ≡ 64 }
 {
-    read_version_1_piece(tree, 0, volume)
+    read_piece_1(tree, 0, volume)
 }
 
 #[test]
