@@ -3,19 +3,10 @@ use Rattle.std.proofs.Common.{◌≡◌, ℕ, ◌+◌, ◌-◌, ◌<◌, List, l
 use Rattle.std.proofs.lemmas.List.{get_or_default}
 use Rattle.std.proofs.lemmas.Bool.Decides.{leb_tells}
 use Rattle.arena.specs.Lists.{first_of}
-use Rattle.arena.specs.Linked.{Linked, list_at, ring, rings, IsLinked, IsWellLinked}
+use Rattle.arena.specs.Linked.{Linked, list_at, ring, rings, stored, IsLinked, KeepLists, IsWellLinked}
 use Rattle.arena.proofs.Ways.{walk-inside, count_of-no_slot, table-at, length-table}
 use Rattle.arena.proofs.Alone.{count_of-table}
 use Rattle.arena.proofs.Behind.{slot_or_none, first_of-ring}
-
--- the two arrays are as long as each other, and link lists (`IsLinked`)
-abbrev pub IsStored : ℕ → List ℕ → List ℕ → Type 0
-IsStored slots next previous =
-    (length previous ≡ length next) × IsLinked slots (length next) (λ x. slice_index next x) (λ x. slice_index previous x)
-
--- the lists, as a contract sees them
-abbrev pub stored : ℕ → List ℕ → Linked
-stored slots next = record { slots = slots; lists = rings (λ x. slice_index next x) slots (length next) }
 
 -- another array of the same length that links the same lists
 pub stored-same : (slots : ℕ) (next next' : List ℕ) (lists : List (List ℕ)) → length next' ≡ length next
@@ -36,43 +27,43 @@ IsWellLinked-linked slots nodes next previous linked = record {
   ];
 }
 
-pub end-below : (slots : ℕ) (next previous : List ℕ) (list : ℕ) → IsStored slots next previous → list < length (stored slots next).lists → slots + list < length next
+pub end-below : (slots : ℕ) (next previous : List ℕ) (list : ℕ) → KeepLists slots next previous → list < length (stored slots next).lists → slots + list < length next
 end-below slots next previous list ok within =
-    omega (arith, length-table (ring (λ x. slice_index next x) slots) slots (length next - slots), ok.1.slots_fit)
+    omega (arith, length-table (ring (λ x. slice_index next x) slots) slots (length next - slots), ok.linked.slots_fit)
 
 -- the sentinel of a list, as contracts see the list, lies within the arrays
-pub end-there : (slots : ℕ) (next previous : List ℕ) (links : Linked) (list : ℕ) → stored slots next ≡ links → IsStored slots next previous → list < length links.lists → slots + list < length next
+pub end-there : (slots : ℕ) (next previous : List ℕ) (links : Linked) (list : ℕ) → stored slots next ≡ links → KeepLists slots next previous → list < length links.lists → slots + list < length next
 end-there slots next previous links list view ok within = end-below slots next previous list ok (rw (← view) at within)
 
 pub list-below : (slots : ℕ) (next : List ℕ) (list : ℕ) → list < length (stored slots next).lists → list < length next - slots
 list-below slots next list within = omega (arith, length-table (ring (λ x. slice_index next x) slots) slots (length next - slots))
 
-pub first-stored : (slots : ℕ) (next previous : List ℕ) (list : ℕ) → IsStored slots next previous → list < length (stored slots next).lists
+pub first-stored : (slots : ℕ) (next previous : List ℕ) (list : ℕ) → KeepLists slots next previous → list < length (stored slots next).lists
     → first_of (list_at (stored slots next) list) ≡ slot_or_none slots (slice_index next (slots + list))
 first-stored slots next previous list ok within =
     ap first_of (table-at (ring (λ x. slice_index next x) slots) slots (length next - slots) list (list-below slots next list within))
-    ∙ first_of-ring slots (length next) (λ x. slice_index next x) (λ x. slice_index previous x) ok.1 (slots + list) (omega arith)
+    ∙ first_of-ring slots (length next) (λ x. slice_index next x) (λ x. slice_index previous x) ok.linked (slots + list) (omega arith)
     (end-below slots next previous list ok within)
 
 -- what the code reads from an array
 pub read : (row : List ℕ) (node x : ℕ) → node < length row → x ≡ get_or row node x → x ≡ slice_index row node
 read row node x below got = got ∙ get_or_default row node x 0 below
 
-pub slot-below : (slots : ℕ) (next previous : List ℕ) (slot : ℕ) → IsStored slots next previous → slot < slots → slot < length next
-slot-below slots next previous slot ok within = omega (arith, ok.1.slots_fit)
+pub slot-below : (slots : ℕ) (next previous : List ℕ) (slot : ℕ) → KeepLists slots next previous → slot < slots → slot < length next
+slot-below slots next previous slot ok within = omega (arith, ok.linked.slots_fit)
 
-pub read_next : (slots : ℕ) (next previous : List ℕ) (slot x : ℕ) → IsStored slots next previous → slot < slots → x ≡ get_or next slot x → x ≡ slice_index next slot
+pub read_next : (slots : ℕ) (next previous : List ℕ) (slot x : ℕ) → KeepLists slots next previous → slot < slots → x ≡ get_or next slot x → x ≡ slice_index next slot
 read_next slots next previous slot x ok within got = read next slot x (slot-below slots next previous slot ok within) got
 
-pub read_previous : (slots : ℕ) (next previous : List ℕ) (slot x : ℕ) → IsStored slots next previous → slot < slots → x ≡ get_or previous slot x → x ≡ slice_index previous slot
+pub read_previous : (slots : ℕ) (next previous : List ℕ) (slot x : ℕ) → KeepLists slots next previous → slot < slots → x ≡ get_or previous slot x → x ≡ slice_index previous slot
 read_previous slots next previous slot x ok within got =
-    read previous slot x (omega (arith, slot-below slots next previous slot ok within, ok.0)) got
+    read previous slot x (omega (arith, slot-below slots next previous slot ok within, ok.as_long)) got
 
-pub read_end : (slots : ℕ) (next previous : List ℕ) (list x : ℕ) → IsStored slots next previous → list < length (stored slots next).lists
+pub read_end : (slots : ℕ) (next previous : List ℕ) (list x : ℕ) → KeepLists slots next previous → list < length (stored slots next).lists
     → x ≡ get_or next (slots + list) x → x ≡ slice_index next (slots + list)
 read_end slots next previous list x ok within got = read next (slots + list) x (end-below slots next previous list ok within) got
 
-pub read_end_back : (slots : ℕ) (next previous : List ℕ) (list x : ℕ) → IsStored slots next previous → list < length (stored slots next).lists
+pub read_end_back : (slots : ℕ) (next previous : List ℕ) (list x : ℕ) → KeepLists slots next previous → list < length (stored slots next).lists
     → x ≡ get_or previous (slots + list) x → x ≡ slice_index previous (slots + list)
 read_end_back slots next previous list x ok within got =
-    read previous (slots + list) x (omega (arith, end-below slots next previous list ok within, ok.0)) got
+    read previous (slots + list) x (omega (arith, end-below slots next previous list ok within, ok.as_long)) got

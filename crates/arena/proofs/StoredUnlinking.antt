@@ -2,11 +2,11 @@
 use Rattle.std.proofs.Common.{◌≡◌, ℕ, ◌<◌, List, map, length, sym, ap, subst, ◌∙◌, arith, slice_index, slice_set}
 use Rattle.std.proofs.lemmas.List.{length-set, get_or-set_same, get_or-set_other}
 use Rattle.arena.specs.Lists.{without}
-use Rattle.arena.specs.Linked.{IsLinked}
+use Rattle.arena.specs.Linked.{IsLinked, KeepLists, stored}
 use Rattle.arena.proofs.Unlinking.{IsUnlinked, rings-unlinked, IsLinked-unlinked}
-use Rattle.arena.proofs.Stored.{IsStored, stored, stored-same}
+use Rattle.arena.proofs.Stored.{stored-same}
 
-module _ (slots slot before after : ℕ) (next previous : List ℕ) (ok : IsStored slots next previous) (within : slot < slots)
+module _ (slots slot before after : ℕ) (next previous : List ℕ) (ok : KeepLists slots next previous) (within : slot < slots)
     (before_is : before ≡ slice_index previous slot) (after_is : after ≡ slice_index next slot) where
   abbrev pub next_row : List ℕ
   next_row = slice_set (slice_set next before after) slot slot
@@ -15,13 +15,13 @@ module _ (slots slot before after : ℕ) (next previous : List ℕ) (ok : IsStor
   previous_row = slice_set (slice_set previous after before) slot slot
 
   slot_below : slot < length next
-  slot_below = omega (arith, ok.1.slots_fit)
+  slot_below = omega (arith, ok.linked.slots_fit)
 
   before_below : before < length next
-  before_below = rw before_is (ok.1.previous_below slot slot_below)
+  before_below = rw before_is (ok.linked.previous_below slot slot_below)
 
   after_below : after < length next
-  after_below = rw after_is (ok.1.next_below slot slot_below)
+  after_below = rw after_is (ok.linked.next_below slot slot_below)
 
   long_next : length next_row ≡ length next
   long_next = length-set (slice_set next before after) slot slot ∙ length-set next before after
@@ -32,7 +32,7 @@ module _ (slots slot before after : ℕ) (next previous : List ℕ) (ok : IsStor
   unlinked : IsUnlinked slot (λ x. slice_index next x) (λ x. slice_index previous x) (λ x. slice_index next_row x) (λ x. slice_index previous_row x)
   unlinked = record {
     alone_next = get_or-set_same (slice_set next before after) slot slot 0 (omega (arith, length-set next before after, slot_below));
-    alone_previous = get_or-set_same (slice_set previous after before) slot slot 0 (omega (arith, length-set previous after before, slot_below, ok.0));
+    alone_previous = get_or-set_same (slice_set previous after before) slot slot 0 (omega (arith, length-set previous after before, slot_below, ok.as_long));
     tied_next = λ apart.
         ap (λ x. slice_index next_row x) (sym before_is)
         ∙ get_or-set_other (slice_set next before after) slot before slot 0 (λ same. apart (sym before_is ∙ same))
@@ -40,7 +40,7 @@ module _ (slots slot before after : ℕ) (next previous : List ℕ) (ok : IsStor
     tied_previous = λ apart.
         ap (λ x. slice_index previous_row x) (sym after_is)
         ∙ get_or-set_other (slice_set previous after before) slot after slot 0 (λ same. apart (sym after_is ∙ same))
-        ∙ get_or-set_same previous after before 0 (omega (arith, after_below, ok.0)) ∙ before_is;
+        ∙ get_or-set_same previous after before 0 (omega (arith, after_below, ok.as_long)) ∙ before_is;
     rest_next = λ a other away.
         get_or-set_other (slice_set next before after) slot a slot 0 other
         ∙ get_or-set_other next before a after 0 (λ same. away (same ∙ before_is));
@@ -51,15 +51,15 @@ module _ (slots slot before after : ℕ) (next previous : List ℕ) (ok : IsStor
 
   linked : IsLinked slots (length next) (λ x. slice_index next_row x) (λ x. slice_index previous_row x)
   linked = IsLinked-unlinked slots (length next) slot (λ x. slice_index next x) (λ x. slice_index previous x)
-      (λ x. slice_index next_row x) (λ x. slice_index previous_row x) ok.1 within unlinked
+      (λ x. slice_index next_row x) (λ x. slice_index previous_row x) ok.linked within unlinked
 
-  pub IsStored-unlinked : IsStored slots (slice_set (slice_set next before after) slot slot) (slice_set (slice_set previous after before) slot slot)
-  IsStored-unlinked = (
-    long_previous ∙ ok.0 ∙ sym long_next,
-    (let P : ℕ → Type 0 = λ n. IsLinked slots n (λ x. slice_index next_row x) (λ x. slice_index previous_row x) in subst P (sym long_next) linked),
-  )
+  pub KeepLists-unlinked : KeepLists slots (slice_set (slice_set next before after) slot slot) (slice_set (slice_set previous after before) slot slot)
+  KeepLists-unlinked = record {
+    as_long = long_previous ∙ ok.as_long ∙ sym long_next;
+    linked = let P : ℕ → Type 0 = λ n. IsLinked slots n (λ x. slice_index next_row x) (λ x. slice_index previous_row x) in subst P (sym long_next) linked;
+  }
 
   pub lists-unlinked : (stored slots (slice_set (slice_set next before after) slot slot)).lists ≡ map (without slot) (stored slots next).lists
   lists-unlinked = stored-same slots next next_row (map (without slot) (stored slots next).lists) long_next
       (rings-unlinked slots (length next) slot (λ x. slice_index next x) (λ x. slice_index previous x)
-      (λ x. slice_index next_row x) (λ x. slice_index previous_row x) ok.1 within unlinked)
+      (λ x. slice_index next_row x) (λ x. slice_index previous_row x) ok.linked within unlinked)

@@ -3,4 +3,5 @@ pub mod Lists
 pub mod ArenaView
 pub mod Lends
 pub mod Linked
+pub mod Links
 pub mod Invariant

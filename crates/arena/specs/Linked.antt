@@ -1,5 +1,5 @@
 -- Inner: How two arrays of numbers (each node's next and previous node) keep lists of slots.
-use Rattle.std.specs.Prelude.{◌≡◌, ◌≢◌, ℕ, zero, suc, ◌+◌, ◌-◌, ◌<◌, ◌≤◌, List, [], ◌∷◌, nat_lt, nat_le, ◌==◌, if◌then◌else◌, slice_index_or}
+use Rattle.std.specs.Prelude.{◌≡◌, ◌≢◌, ℕ, zero, suc, ◌+◌, ◌-◌, ◌<◌, ◌≤◌, List, [], ◌∷◌, length, nat_lt, nat_le, ◌==◌, if◌then◌else◌, slice_index, slice_index_or}
 use Rattle.std.specs.List.{concat}
 use Rattle.arena.specs.Lists.{count_of}
 
@@ -60,3 +60,12 @@ pub record IsLinked (slots nodes : ℕ) (next previous : ℕ → ℕ) : Type 0 w
   pub once : (i : ℕ) → count_of i (concat (rings next slots nodes)) ≤ 1
   -- a slot that is on no list is its own neighbor
   pub placed : (a : ℕ) → a < slots → next a ≢ a → 0 < count_of a (concat (rings next slots nodes))
+
+-- the lists that an array of next nodes keeps
+abbrev pub stored : ℕ → List ℕ → Linked
+stored slots next = record { slots = slots; lists = rings (λ x. slice_index next x) slots (length next) }
+
+-- Arrays of next and previous nodes that keep lists.
+pub record KeepLists (slots : ℕ) (next previous : List ℕ) : Type 0 where
+  pub as_long : length previous ≡ length next
+  pub linked : IsLinked slots (length next) (λ x. slice_index next x) (λ x. slice_index previous x)

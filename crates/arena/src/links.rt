@@ -20,18 +20,15 @@ pub(crate) struct Links {
 }
 
 impl Model for Links {
-    ghost use Rattle.std.specs.Prelude.{◌≡◌, length, slice_index};
-    ghost use Rattle.arena.specs.Linked.{Linked, rings, IsLinked};
+    ghost use Rattle.arena.specs.Linked.{Linked};
 
     ghost Value = { Linked };
 
-    ghost view = { λ a. record {
-      slots = a.slots;
-      lists = rings (λ x. slice_index a.next.items x) a.slots (length a.next.items);
-    } };
+    ghost use Rattle.arena.specs.Links.{links_of, AreLinks};
 
-    ghost invariant = { λ a. (length a.previous.items ≡ length a.next.items)
-        × IsLinked a.slots (length a.next.items) (λ x. slice_index a.next.items x) (λ x. slice_index a.previous.items x) };
+    ghost view = { links_of };
+
+    ghost invariant = { AreLinks };
 }
 
 // The node after a node in new `Links`.

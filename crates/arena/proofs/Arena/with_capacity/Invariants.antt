@@ -3,4 +3,4 @@ use Rattle.std.proofs.Common.{◌≡◌, ◌≤◌, replicate, None, vec_capacit
 use Rattle.arena.proofs.Arena.with_capacity.Given as goal
 
 abbrev pub invariant-loop : goal.invariant-loop
-invariant-loop g l = (l.values.items ≡ replicate l.counter None) × (l.slots ≤ vec_capacity l.values)
+invariant-loop g l = record { empty : l.values.items ≡ replicate l.counter None; room : l.slots ≤ vec_capacity l.values }

@@ -1,10 +1,10 @@
--- The four writes are those of `IsStored-appended`.
+-- The four writes are those of `KeepLists-appended`.
 use Rattle.std.proofs.Common.{◌≡◌, ◌+◌, ◌<◌, ℕ, List, ap, arith, length}
 use Rattle.std.specs.List.{concat}
 use Rattle.arena.specs.Lists.{count_of}
-use Rattle.arena.specs.Linked.{Linked}
-use Rattle.arena.proofs.Stored.{stored, read_end_back, end-below, end-there, IsWellLinked-linked}
-use Rattle.arena.proofs.StoredAppending.{IsStored-appended, lists-appended}
+use Rattle.arena.specs.Linked.{Linked, stored}
+use Rattle.arena.proofs.Stored.{read_end_back, end-below, end-there, IsWellLinked-linked}
+use Rattle.arena.proofs.StoredAppending.{KeepLists-appended, lists-appended}
 use Rattle.arena.proofs.links.Links.append.Goals as goal
 
 pub overflow_add-end : goal.overflow_add-end
@@ -20,7 +20,7 @@ index_mut-requires c =
     let list_within : c.args.list < length (stored c.self.inside.slots c.self.inside.next.items).lists = rw (← c.self.view_is) at c.requires.list_is_there in
     let end_below = end-below _ _ _ _ c.self.invariant list_within in
     let before_is = read_end_back _ _ _ _ _ c.self.invariant list_within c.index-before.ensures in
-    omega (arith, c.self.invariant.1.previous_below (c.self.inside.slots + c.args.list) end_below)
+    omega (arith, c.self.invariant.linked.previous_below (c.self.inside.slots + c.args.list) end_below)
 
 pub index_mut-requires-4 : goal.index_mut-requires-4
 index_mut-requires-4 c =
@@ -31,7 +31,7 @@ invariant_of-self c =
     let within : c.args.slot < c.self.inside.slots = rw (← c.self.view_is) at c.requires.slot_is_there in
     let list_within : c.args.list < length (stored c.self.inside.slots c.self.inside.next.items).lists = rw (← c.self.view_is) at c.requires.list_is_there in
     let nowhere : count_of c.args.slot (concat (stored c.self.inside.slots c.self.inside.next.items).lists) ≡ 0 = rw (← c.self.view_is) at c.requires.alone in
-    IsStored-appended c.self.inside.slots c.args.slot c.args.list c.index-before.result.now c.self.inside.next.items c.self.inside.previous.items
+    KeepLists-appended c.self.inside.slots c.args.slot c.args.list c.index-before.result.now c.self.inside.next.items c.self.inside.previous.items
     c.self.invariant within list_within nowhere (read_end_back _ _ _ _ _ c.self.invariant list_within c.index-before.ensures)
 
 pub returns-clause-lists : goal.returns-clause-lists
@@ -44,4 +44,4 @@ returns-clause-lists c =
     c.self.invariant within list_within nowhere (read_end_back _ _ _ _ _ c.self.invariant list_within c.index-before.ensures)))
 
 pub returns-clause-sound : goal.returns-clause-sound
-returns-clause-sound c = IsWellLinked-linked c.self.inside.slots _ _ _ ((invariant_of-self c).1)
+returns-clause-sound c = IsWellLinked-linked c.self.inside.slots _ _ _ (invariant_of-self c).linked

@@ -1,6 +1,7 @@
 -- The first slot of a list is the node behind its end, where that is a slot.
 use Rattle.std.proofs.Common.{◌<◌, ap, sym, ◌∙◌, arith, length}
-use Rattle.arena.proofs.Stored.{stored, read_end, end-there, first-stored}
+use Rattle.arena.specs.Linked.{stored}
+use Rattle.arena.proofs.Stored.{read_end, end-there, first-stored}
 use Rattle.arena.proofs.Behind.{slot_or_none, slot_or_none-slot, slot_or_none-end}
 use Rattle.arena.proofs.links.Links.first.Goals as goal
 

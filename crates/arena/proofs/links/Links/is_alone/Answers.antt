@@ -9,6 +9,6 @@ returns c =
     let within : c.args.slot < c.self.inside.slots = rw (← c.self.view_is) at c.requires in
     let found = read_next _ _ _ _ _ c.self.invariant within c.index.ensures in
     rw (← c.self.view_is) (
-      (λ same. count_of-alone _ _ _ _ _ c.self.invariant.1 within (sym found ∙ eqb-true _ _ same)),
-      (λ none. eq-eqb _ _ (found ∙ alone-from_times _ _ _ _ c.self.invariant.1 _ within none)),
+      (λ same. count_of-alone _ _ _ _ _ c.self.invariant.linked within (sym found ∙ eqb-true _ _ same)),
+      (λ none. eq-eqb _ _ (found ∙ alone-from_times _ _ _ _ c.self.invariant.linked _ within none)),
     )

@@ -14,4 +14,4 @@ returns-clause-count c =
     ))
 
 pub returns-clause-sound : goal.returns-clause-sound
-returns-clause-sound c = rw (← c.self.view_is) (IsWellLinked-linked _ _ _ _ c.self.invariant.1)
+returns-clause-sound c = rw (← c.self.view_is) (IsWellLinked-linked _ _ _ _ c.self.invariant.linked)

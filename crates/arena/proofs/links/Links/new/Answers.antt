@@ -7,12 +7,12 @@ use Rattle.arena.proofs.links.Links.new.Goals as goal
 
 pub invariant_of-result : goal.invariant_of-result
 invariant_of-result c =
-    let rows = c.loop-node.invariant in (
-      omega arith,
-      IsLinked-start c.args.slots (length c.loop-node.next.items) (λ x. slice_index c.loop-node.next.items x)
+    let rows = c.loop-node.invariant in record {
+      as_long = omega arith;
+      linked = IsLinked-start c.args.slots (length c.loop-node.next.items) (λ x. slice_index c.loop-node.next.items x)
           (λ x. slice_index c.loop-node.previous.items x) (omega arith)
-          (λ a below. rows.next_is a (omega arith)) (λ a below. rows.previous_is a (omega arith)) c.args.others (omega arith),
-    )
+          (λ a below. rows.next_is a (omega arith)) (λ a below. rows.previous_is a (omega arith)) c.args.others (omega arith);
+    }
 
 pub returns-clause-lists : goal.returns-clause-lists
 returns-clause-lists c =
@@ -23,4 +23,4 @@ returns-clause-lists c =
     (λ a below. rows.next_is a (omega arith)) (λ a below. rows.previous_is a (omega arith)) c.args.others (omega arith))
 
 pub returns-clause-sound : goal.returns-clause-sound
-returns-clause-sound c = IsWellLinked-linked _ _ _ _ ((invariant_of-result c).1)
+returns-clause-sound c = IsWellLinked-linked _ _ _ _ (invariant_of-result c).linked

@@ -1,10 +1,10 @@
--- The four writes are those of `IsStored-prepended`.
+-- The four writes are those of `KeepLists-prepended`.
 use Rattle.std.proofs.Common.{◌≡◌, ◌+◌, ◌<◌, ℕ, List, ap, arith, length}
 use Rattle.std.specs.List.{concat}
 use Rattle.arena.specs.Lists.{count_of}
-use Rattle.arena.specs.Linked.{Linked}
-use Rattle.arena.proofs.Stored.{stored, read_end, end-below, end-there, IsWellLinked-linked}
-use Rattle.arena.proofs.StoredPrepending.{IsStored-prepended, lists-prepended}
+use Rattle.arena.specs.Linked.{Linked, stored}
+use Rattle.arena.proofs.Stored.{read_end, end-below, end-there, IsWellLinked-linked}
+use Rattle.arena.proofs.StoredPrepending.{KeepLists-prepended, lists-prepended}
 use Rattle.arena.proofs.links.Links.prepend.Goals as goal
 
 pub overflow_add-end : goal.overflow_add-end
@@ -24,14 +24,14 @@ index_mut-requires-4 c =
     let list_within : c.args.list < length (stored c.self.inside.slots c.self.inside.next.items).lists = rw (← c.self.view_is) at c.requires.list_is_there in
     let end_below = end-below _ _ _ _ c.self.invariant list_within in
     let after_is = read_end _ _ _ _ _ c.self.invariant list_within c.index-after.ensures in
-    omega (arith, c.self.invariant.1.next_below (c.self.inside.slots + c.args.list) end_below)
+    omega (arith, c.self.invariant.linked.next_below (c.self.inside.slots + c.args.list) end_below)
 
 pub invariant_of-self : goal.invariant_of-self
 invariant_of-self c =
     let within : c.args.slot < c.self.inside.slots = rw (← c.self.view_is) at c.requires.slot_is_there in
     let list_within : c.args.list < length (stored c.self.inside.slots c.self.inside.next.items).lists = rw (← c.self.view_is) at c.requires.list_is_there in
     let nowhere : count_of c.args.slot (concat (stored c.self.inside.slots c.self.inside.next.items).lists) ≡ 0 = rw (← c.self.view_is) at c.requires.alone in
-    IsStored-prepended c.self.inside.slots c.args.slot c.args.list c.index-after.result.now c.self.inside.next.items c.self.inside.previous.items
+    KeepLists-prepended c.self.inside.slots c.args.slot c.args.list c.index-after.result.now c.self.inside.next.items c.self.inside.previous.items
     c.self.invariant within list_within nowhere (read_end _ _ _ _ _ c.self.invariant list_within c.index-after.ensures)
 
 pub returns-clause-lists : goal.returns-clause-lists
@@ -44,4 +44,4 @@ returns-clause-lists c =
     c.self.invariant within list_within nowhere (read_end _ _ _ _ _ c.self.invariant list_within c.index-after.ensures)))
 
 pub returns-clause-sound : goal.returns-clause-sound
-returns-clause-sound c = IsWellLinked-linked c.self.inside.slots _ _ _ ((invariant_of-self c).1)
+returns-clause-sound c = IsWellLinked-linked c.self.inside.slots _ _ _ (invariant_of-self c).linked
