@@ -27,16 +27,16 @@ pub(crate) struct ReadyTable {
 }
 
 impl Model for ReadyTable {
-    ghost use Rattle.std.specs.Prelude.{◌≡◌, ◌+◌, ◌/◌, ◌≤◌, List, Option, length, map};
-    ghost use Rattle.run_queue.specs.ReadyTable.{AreLowerBounds, rank_of};
+    ghost use Rattle.std.specs.Prelude.{List, Option};
     ghost use Rattle.run_queue.specs.declared.queued_message.QueuedMessage.{QueuedMessage};
 
     ghost Value = { List (Option QueuedMessage) };
 
-    ghost view = { λ m. m.ready.items };
+    ghost use Rattle.run_queue.specs.Fields.{ready_of, IsReadyTable};
 
-    ghost invariant = { λ m. (m.ranks.items ≡ map rank_of m.ready.items) × AreLowerBounds m.ready.items m.least.items
-        × (length m.ready.items ≤ 65536) × (length m.least.items ≡ length m.ready.items / 16 + 1) };
+    ghost view = { ready_of };
+
+    ghost invariant = { IsReadyTable };
 }
 
 impl ReadyTable {

@@ -5,6 +5,7 @@ use Rattle.run_queue.specs.ReadyTable.{earliest_from, ready_in}
 use Rattle.run_queue.proofs.candidates.best_in.Given as goal
 
 abbrev pub invariant-loop-number : goal.invariant-loop-number
-invariant-loop-number l =
-    (ready_in l.ready_table l.found ≡ earliest_from (has_room l.log_has_room) l.ready_table (16 * l.chunk) (l.number - 16 * l.chunk) (ready_in l.ready_table l.best))
-    × (16 * l.chunk ≤ l.number)
+invariant-loop-number l = record {
+  best : ready_in l.ready_table l.found ≡ earliest_from (has_room l.log_has_room) l.ready_table (16 * l.chunk) (l.number - 16 * l.chunk) (ready_in l.ready_table l.best);
+  from : 16 * l.chunk ≤ l.number;
+}

@@ -4,9 +4,9 @@ use Rattle.run_queue.proofs.HeldMessages.{start-stand, start-view}
 use Rattle.run_queue.proofs.holders.Holders.new.Goals as goal
 
 pub invariant_of-result : goal.invariant_of-result
-invariant_of-result c = rw c.loop.invariant.0 (start-stand c.loop.counter 0)
+invariant_of-result c = rw c.loop.invariant.none (start-stand c.loop.counter 0)
 
 pub returns : goal.returns
 returns c =
     let all : c.loop.counter ≡ c.args.numbers = omega arith in
-    rw (c.loop.invariant.0, all) (start-view c.args.numbers)
+    rw (c.loop.invariant.none, all) (start-view c.args.numbers)

@@ -3,4 +3,4 @@ use Rattle.std.proofs.Common.{◌≡◌, ◌≤◌, replicate, None, vec_capacit
 use Rattle.run_queue.proofs.holders.Holders.new.Given as goal
 
 abbrev pub invariant-loop : goal.invariant-loop
-invariant-loop l = (l.entries.items ≡ replicate l.counter None) × (l.numbers ≤ vec_capacity l.entries)
+invariant-loop l = record { none : l.entries.items ≡ replicate l.counter None; room : l.numbers ≤ vec_capacity l.entries }

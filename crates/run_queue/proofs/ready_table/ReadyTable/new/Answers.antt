@@ -14,17 +14,18 @@ all_none : (n m : ℕ) → n ≡ m → replicate {A = Option QueuedMessage} n No
 all_none n m same = ap (λ k. replicate {A = Option QueuedMessage} k None) same
 
 pub returns : goal.returns
-returns c = c.loop.invariant.0 ∙ all_none c.loop.counter c.args.numbers (omega arith)
+returns c = c.loop.invariant.none ∙ all_none c.loop.counter c.args.numbers (omega arith)
 
 pub invariant_of-result : goal.invariant_of-result
 invariant_of-result c =
-    let none : c.loop.ready.items ≡ replicate c.args.numbers None = c.loop.invariant.0 ∙ all_none c.loop.counter c.args.numbers (omega arith) in
+    let none : c.loop.ready.items ≡ replicate c.args.numbers None = c.loop.invariant.none ∙ all_none c.loop.counter c.args.numbers (omega arith) in
     let many : length c.loop.ready.items ≡ c.args.numbers = ap (λ (ready_table : List (Option QueuedMessage)). length ready_table) none ∙ length-replicate c.args.numbers None in
     let least : c.in_ok-least.least.items ≡ replicate (c.args.numbers / 16 + 1) 18446744073709551615
-    = c.in_ok-least.ensures.items_if_clones_equal (λ y same. same) in (
-      c.in_ok-ranks.ensures.items_if_clones_equal (λ y same. same) ∙ no_ranks c.args.numbers ∙ ap (λ (ready_table : List (Option QueuedMessage)). map rank_of ready_table) (sym none),
-      subst (λ (ready_table : List (Option QueuedMessage)). AreLowerBounds ready_table c.in_ok-least.least.items) (sym none)
-          (subst (λ (ls : List ℕ). AreLowerBounds (replicate c.args.numbers None) ls) (sym least) (none-least c.args.numbers (c.args.numbers / 16 + 1))),
-      omega (arith, many, c.requires),
-      ap (λ (ls : List ℕ). length ls) least ∙ length-replicate (c.args.numbers / 16 + 1) 18446744073709551615 ∙ ap (λ n. n / 16 + 1) (sym many),
-    )
+    = c.in_ok-least.ensures.items_if_clones_equal (λ y same. same) in record {
+      ranked = c.in_ok-ranks.ensures.items_if_clones_equal (λ y same. same) ∙ no_ranks c.args.numbers
+          ∙ ap (λ (ready_table : List (Option QueuedMessage)). map rank_of ready_table) (sym none);
+      bounds = subst (λ (ready_table : List (Option QueuedMessage)). AreLowerBounds ready_table c.in_ok-least.least.items) (sym none)
+          (subst (λ (ls : List ℕ). AreLowerBounds (replicate c.args.numbers None) ls) (sym least) (none-least c.args.numbers (c.args.numbers / 16 + 1)));
+      few = omega (arith, many, c.requires);
+      chunks = ap (λ (ls : List ℕ). length ls) least ∙ length-replicate (c.args.numbers / 16 + 1) 18446744073709551615 ∙ ap (λ n. n / 16 + 1) (sym many);
+    }

@@ -23,25 +23,25 @@ invariant_of-self c =
     let least = c.self.inside.least.items in
     let n = c.args.number in
     let o = c.args.ready in
-    let are = ranks_set ready_table c.self.inside.ranks.items n c.rank_of-rank.result o c.self.invariant.0 c.rank_of-rank.ensures in
+    let are = ranks_set ready_table c.self.inside.ranks.items n c.rank_of-rank.result o c.self.invariant.ranked c.rank_of-rank.ensures in
     let many = length-set ready_table n o in
-    let chunks = length-set least (n / 16) c.least_from.result in
-    let few = c.self.invariant.2 in
-    let all = c.self.invariant.3 in
+    let long = length-set least (n / 16) c.least_from.result in
+    let few = c.self.invariant.few in
+    let all = c.self.invariant.chunks in
     let within = subst (λ (now : List (Option QueuedMessage)). n < length now) (sym c.self.view_is) c.requires in
     let under = mul-div-le n 16 in
-    let over : length ready_table < 16 * (length ready_table / 16 + 1) = lt-mul-div-succ (length ready_table) (omega arith) in (
-      are,
-      least-found ready_table least n c.least_from.result o c.self.invariant.1 (omega (arith, within, under, over, all)) (λ i below.
+    let over : length ready_table < 16 * (length ready_table / 16 + 1) = lt-mul-div-succ (length ready_table) (omega arith) in record {
+      ranked = are;
+      bounds = least-found ready_table least n c.least_from.result o c.self.invariant.bounds (omega (arith, within, under, over, all)) (λ i below.
           let low = c.least_from.ensures i below in
           let turned : n / 16 * 16 + i ≡ 16 * (n / 16) + i = omega arith in
           let rank = ap (λ (rs : List ℕ). get_or rs (n / 16 * 16 + i) 18446744073709551615) c.deref.ensures.value
           ∙ ap (λ k. get_or (slice_set c.self.inside.ranks.items n c.rank_of-rank.result) k 18446744073709551615) turned
           ∙ rank-at (slice_set ready_table n o) _ (16 * (n / 16) + i) are in
-          omega (arith, low, rank)),
-      omega (arith, many, few),
-      chunks ∙ all ∙ ap (λ k. k / 16 + 1) (sym many),
-    )
+          omega (arith, low, rank));
+      few = omega (arith, many, few);
+      chunks = long ∙ all ∙ ap (λ k. k / 16 + 1) (sym many);
+    }
 
 pub invariant_of-self-else-rank-was : goal.invariant_of-self-else-rank-was
 invariant_of-self-else-rank-was c =
@@ -49,12 +49,12 @@ invariant_of-self-else-rank-was c =
     let n = c.args.number in
     let o = c.args.ready in
     let many = length-set ready_table n o in
-    let few = c.self.invariant.2 in
+    let few = c.self.invariant.few in
     let within = subst (λ (now : List (Option QueuedMessage)). n < length now) (sym c.self.view_is) c.requires in
     let was = c.rank-was.ensures in
-    let before = ap (λ (now : List (Option QueuedMessage)). rank_of (ready_in now n)) c.self.view_is in (
-      ranks_set ready_table c.self.inside.ranks.items n c.rank_of-rank.result o c.self.invariant.0 c.rank_of-rank.ensures,
-      least-kept ready_table c.self.inside.least.items n o within c.self.invariant.1 (sym c.rank_of-rank.ensures ∙ c.if-rank-was.false ∙ was ∙ sym before),
-      omega (arith, many, few),
-      c.self.invariant.3 ∙ ap (λ k. k / 16 + 1) (sym many),
-    )
+    let before = ap (λ (now : List (Option QueuedMessage)). rank_of (ready_in now n)) c.self.view_is in record {
+      ranked = ranks_set ready_table c.self.inside.ranks.items n c.rank_of-rank.result o c.self.invariant.ranked c.rank_of-rank.ensures;
+      bounds = least-kept ready_table c.self.inside.least.items n o within c.self.invariant.bounds (sym c.rank_of-rank.ensures ∙ c.if-rank-was.false ∙ was ∙ sym before);
+      few = omega (arith, many, few);
+      chunks = c.self.invariant.chunks ∙ ap (λ k. k / 16 + 1) (sym many);
+    }
