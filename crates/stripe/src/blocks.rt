@@ -1,8 +1,8 @@
 //! A stripe: an array of buffers, and an index of which block lies in which of them.
-ghost use Rattle.std.specs.Prelude.{◌≡◌, ◌<◌, ◌≤◌, ◌&&◌, ◌||◌, ◌==◌, true, is_some, length, nat_lt, [], Some, None, IfOk, MatchResult, option_copied, if◌then◌else◌, insert, vec_capacity};
+ghost use Rattle.std.specs.Prelude.{◌≡◌, ◌<◌, ◌≤◌, ◌&&◌, ◌||◌, ◌==◌, true, is_some, length, nat_lt, [], Some, None, IfOk, MatchResult, option_copied, if◌then◌else◌, insert};
 ghost use Rattle.std.specs.List.{remove_range};
-ghost use Rattle.stripe.specs.Stripe.{StripePart, StripeRule, HoldsContent, content_at};
-ghost use Rattle.stripe.specs.Index.{entries_of, IsStored, IsSplit, IsAt, IsGap, rewritten};
+ghost use Rattle.stripe.specs.Stripe.{StripeRule, HoldsContent, content_at};
+ghost use Rattle.stripe.specs.Index.{IsSplit, IsAt, IsGap, rewritten};
 
 use arena::Arena;
 use messages::Block;
@@ -25,11 +25,15 @@ struct IndexEntry {
 }
 
 impl Model for StripeParcel {
+    ghost use Rattle.stripe.specs.Stripe.{StripePart};
+
     ghost Value = { StripePart };
 
-    ghost view = { λ s. record { quota = length s.blocks.values; entries = entries_of s.blocks.values s.index.items } };
+    ghost use Rattle.stripe.specs.Fields.{stripe_part, IsStripe};
 
-    ghost invariant = { λ s. IsStored s.blocks s.index.items × (length s.blocks.values ≤ vec_capacity s.index) };
+    ghost view = { stripe_part };
+
+    ghost invariant = { IsStripe };
 }
 
 impl StripeParcel {

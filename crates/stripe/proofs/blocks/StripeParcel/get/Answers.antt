@@ -9,7 +9,7 @@ use Rattle.stripe.proofs.blocks.StripeParcel.get.Goals as goal
 pub returns-in-Ok-clause-content : goal.returns-in-Ok-clause-content
 returns-in-Ok-clause-content c =
     c.get.ensures.value ∙ ap (value_at c.self.inside.blocks) c.from.ensures
-    ∙ found-value c.self.invariant.0 (ap (λ (s : StripePart). s.entries) c.self.view_is) c.in-Ok.ensures.found c.index.ensures
+    ∙ found-value c.self.invariant.stored (ap (λ (s : StripePart). s.entries) c.self.view_is) c.in-Ok.ensures.found c.index.ensures
 
 pub returns-in-Err-clause-content : goal.returns-in-Err-clause-content
 returns-in-Err-clause-content c =

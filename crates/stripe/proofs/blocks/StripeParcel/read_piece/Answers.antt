@@ -23,16 +23,16 @@ returns-then-bytes-at-ne1-clause-good c is =
     let at : ℕ = c.loop-n.n * 520 in
     let few : c.loop-n.n < c.args.g.now.quota = subst (λ (k : ℕ). c.loop-n.n < k) c.from-n-end.ensures c.loop-n-test.true in
     let zeros = zeros_by_test (drop at bytes) (sym (ap (λ (l : List ℕ). list_all (λ byte. byte == 0) l) (all_left bytes at)) ∙ sym c.are_zeros.ensures ∙ is) in
-    let done = zeros_behind c.args.g.now c.args.files c.args.s bytes c.requires.size c.loop-n.n few c.loop-n.self.entries c.loop-n.invariant.2
+    let done = zeros_behind c.args.g.now c.args.files c.args.s bytes c.requires.size c.loop-n.n few c.loop-n.self.entries c.loop-n.invariant.read
     (λ marked. c.if-bytes-at-ne1.true (sym (first_left bytes at) ∙ marked)) zeros in
-    (done.0, λ i. record { quota = c.loop-n.invariant.0 i; entries = done.1 i })
+    (done.0, λ i. record { quota = c.loop-n.invariant.quota i; entries = done.1 i })
 
 pub returns-then-bytes-at-ne1-clause-bad : goal.returns-then-bytes-at-ne1-clause-bad
 returns-then-bytes-at-ne1-clause-bad c off is =
     let bytes : List ℕ = c.args.bytes.now in
     let at : ℕ = c.loop-n.n * 520 in
     let few : c.loop-n.n < c.args.g.now.quota = subst (λ (k : ℕ). c.loop-n.n < k) c.from-n-end.ensures c.loop-n-test.true in
-    let zeros = are_zeros c.args.g.now c.args.files c.args.s bytes c.requires.size c.loop-n.n few c.loop-n.self.entries c.loop-n.invariant.2
+    let zeros = are_zeros c.args.g.now c.args.files c.args.s bytes c.requires.size c.loop-n.n few c.loop-n.self.entries c.loop-n.invariant.read
     (λ marked. c.if-bytes-at-ne1.true (sym (first_left bytes at) ∙ marked)) is in
     let on : c.are_zeros.result ≡ true = c.are_zeros.ensures ∙ ap (λ (l : List ℕ). list_all (λ byte. byte == 0) l) (all_left bytes at) ∙ test_of_zeros (drop at bytes) zeros in
     true≢false (sym on ∙ off)
@@ -46,7 +46,7 @@ returns-then-not-push-clause-bad c off is =
     let bytes : List ℕ = c.args.bytes.now in
     let at : ℕ = c.loop-n.n * 520 in
     let few : c.loop-n.n < c.args.g.now.quota = subst (λ (k : ℕ). c.loop-n.n < k) c.from-n-end.ensures c.loop-n-test.true in
-    let next = is_next c.args.g.now c.args.files c.args.s bytes c.requires.size c.loop-n.n few c.loop-n.self.entries c.loop-n.invariant.2 (first_left bytes at ∙ c.if-bytes-at-ne1.false) is in
+    let next = is_next c.args.g.now c.args.files c.args.s bytes c.requires.size c.loop-n.n few c.loop-n.self.entries c.loop-n.invariant.read (first_left bytes at ∙ c.if-bytes-at-ne1.false) is in
     (c.push.ensures.refused c.if-not-push.true).1 (subst (IsNextEntry c.args.g.now c.args.files c.args.s c.loop-n.self.entries) (sym (one_row bytes at)) next)
 
 pub loop-n-preserved : goal.loop-n-preserved
@@ -59,10 +59,10 @@ loop-n-preserved c =
     let entries_are : c.push.new.self.entries ≡ c.loop-n.self.entries ++ e ∷ [] =
     ap (λ (p : StripePart). p.entries) pushed.1 ∙ ap (λ (row : List ℕ). c.loop-n.self.entries ++ entry_in row ∷ []) (one_row bytes at) in
     let next = subst (IsNextEntry c.args.g.now c.args.files c.args.s c.loop-n.self.entries) (one_row bytes at) pushed.0 in
-    let read = next_read c.args.g.now c.args.files c.args.s bytes c.requires.size c.loop-n.n few c.loop-n.self.entries c.loop-n.invariant.2 (first_left bytes at ∙ c.if-bytes-at-ne1.false) next in
-    let more : suc c.loop-n.n ≡ c.loop-n.n + 1 = omega arith in (
-      ap (λ (p : StripePart). p.quota) pushed.1 ∙ c.loop-n.invariant.0,
-      ap length entries_are ∙ length-append c.loop-n.self.entries (e ∷ []) ∙ ap (λ (k : ℕ). k + 1) c.loop-n.invariant.1,
-      subst (λ (k : ℕ). HasRead c.args.g.now c.args.files c.args.s bytes c.push.new.self.entries k) more
-          (subst (λ (es : List BlockEntry). HasRead c.args.g.now c.args.files c.args.s bytes es (suc c.loop-n.n)) (sym entries_are) read),
-    )
+    let read = next_read c.args.g.now c.args.files c.args.s bytes c.requires.size c.loop-n.n few c.loop-n.self.entries c.loop-n.invariant.read (first_left bytes at ∙ c.if-bytes-at-ne1.false) next in
+    let more : suc c.loop-n.n ≡ c.loop-n.n + 1 = omega arith in record {
+      quota = ap (λ (p : StripePart). p.quota) pushed.1 ∙ c.loop-n.invariant.quota;
+      count = ap length entries_are ∙ length-append c.loop-n.self.entries (e ∷ []) ∙ ap (λ (k : ℕ). k + 1) c.loop-n.invariant.count;
+      read = subst (λ (k : ℕ). HasRead c.args.g.now c.args.files c.args.s bytes c.push.new.self.entries k) more
+          (subst (λ (es : List BlockEntry). HasRead c.args.g.now c.args.files c.args.s bytes es (suc c.loop-n.n)) (sym entries_are) read);
+    }

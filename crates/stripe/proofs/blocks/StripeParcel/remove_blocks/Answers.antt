@@ -5,12 +5,12 @@ use Rattle.stripe.proofs.IndexLemmas.{IsTaken, run_of, taken-none, taken-next, e
 use Rattle.stripe.proofs.blocks.StripeParcel.remove_blocks.Goals as goal
 
 pub loop-index_entry-init : goal.loop-index_entry-init
-loop-index_entry-init c = taken-none c.self.inside.blocks _ c.self.invariant.0.partitioned
+loop-index_entry-init c = taken-none c.self.inside.blocks _ c.self.invariant.stored.partitioned
 
 pub loop-index_entry-preserved : goal.loop-index_entry-preserved
 loop-index_entry-preserved c =
     rw (c.take.ensures.arena, c.from.ensures, c.deref.ensures.value)
-    (taken-next c.args.from c.args.end (record { file = 0; block = 0; slot = 0 }) c.self.invariant.0 c.requires.order
+    (taken-next c.args.from c.args.end (record { file = 0; block = 0; slot = 0 }) c.self.invariant.stored c.requires.order
     (rw c.deref.ensures.value at c.loop-index_entry.invariant)
     (rw c.deref.ensures.value at c.loop-index_entry-test.true)
     (rw (c.take.ensures.arena, c.from.ensures, c.deref.ensures.value) at c.take.ensures.partitioned))
@@ -26,11 +26,12 @@ invariant_of-self c =
     let count : c.loop-index_entry.index_entry-index ≡ c.args.end - c.args.from = omega arith in
     let taken : IsTaken c.self.inside.blocks c.loop-index_entry.self-inside.1.0 (run_of c.self.inside.index.items c.args.from c.args.end) (c.args.end - c.args.from) =
     rw (c.deref.ensures.value, count) at c.loop-index_entry.invariant in
-    rw (c.drop-drain.ensures.items, c.drain.ensures.kept) (
-      stored-cut c.self.inside.blocks c.loop-index_entry.self-inside.1.0 c.self.inside.index.items c.args.from (c.args.end - c.args.from) c.args.end c.self.invariant.0
-          (omega arith) within taken,
-      rw (c.drop-drain.ensures.capacity ∙ c.drain.ensures.capacity, taken.long) c.self.invariant.1,
-    )
+    record {
+      stored = rw (c.drop-drain.ensures.items, c.drain.ensures.kept)
+          (stored-cut c.self.inside.blocks c.loop-index_entry.self-inside.1.0 c.self.inside.index.items c.args.from (c.args.end - c.args.from) c.args.end
+          c.self.invariant.stored (omega arith) within taken);
+      room = rw (c.drop-drain.ensures.capacity ∙ c.drain.ensures.capacity, taken.long) c.self.invariant.room;
+    }
 
 pub returns : goal.returns
 returns c =
@@ -45,5 +46,5 @@ returns c =
     rw (c.deref.ensures.value, count) at c.loop-index_entry.invariant in
     rw (← c.self.view_is, c.drop-drain.ensures.items, c.drain.ensures.kept)
     (part_same _ _ _ _ taken.long
-    (entries-cut c.self.inside.blocks c.loop-index_entry.self-inside.1.0 c.self.inside.index.items c.args.from (c.args.end - c.args.from) c.args.end c.self.invariant.0
+    (entries-cut c.self.inside.blocks c.loop-index_entry.self-inside.1.0 c.self.inside.index.items c.args.from (c.args.end - c.args.from) c.args.end c.self.invariant.stored
     (omega arith) within taken))

@@ -11,7 +11,7 @@ unreachable-requires c =
     let same = ap (λ (s : StripePart). s.entries) c.self.view_is in
     let within : c.args.n < length c.self.inside.index.items =
     (let full = rw (← same) at c.requires in let long = length-entries c.self.inside.blocks.values c.self.inside.index.items in omega arith) in
-    let held = held-content c.self.inside.blocks c.self.inside.index.items c.args.n c.index.result.now c.self.invariant.0 within c.index.ensures in
+    let held = held-content c.self.inside.blocks c.self.inside.index.items c.args.n c.index.result.now c.self.invariant.stored within c.index.ensures in
     let empty = c.in-None.ensures.value in
     let slot = ap (value_at c.self.inside.blocks) c.from-slot.ensures in
     cc
@@ -21,10 +21,10 @@ invariant_of-self c =
     let same = ap (λ (s : StripePart). s.entries) c.self.view_is in
     let within : c.args.n < length c.self.inside.index.items =
     (let full = rw (← same) at c.requires in let long = length-entries c.self.inside.blocks.values c.self.inside.index.items in omega arith) in
-    rw c.from-slot.ensures (
-      stored-written c.self.inside.blocks c.self.inside.index.items c.args.n c.index.result.now c.args.content.now c.self.invariant.0 within c.index.ensures,
-      rw (length-set c.self.inside.blocks.values c.index.result.now.slot (Some c.args.content.now)) c.self.invariant.1,
-    )
+    rw c.from-slot.ensures (record {
+      stored = stored-written c.self.inside.blocks c.self.inside.index.items c.args.n c.index.result.now c.args.content.now c.self.invariant.stored within c.index.ensures;
+      room = rw (length-set c.self.inside.blocks.values c.index.result.now.slot (Some c.args.content.now)) c.self.invariant.room;
+    })
 
 pub returns : goal.returns
 returns c =
@@ -33,5 +33,5 @@ returns c =
     (let full = rw (← same) at c.requires in let long = length-entries c.self.inside.blocks.values c.self.inside.index.items in omega arith) in
     rw (← c.self.view_is, c.from-slot.ensures)
     (part_same _ _ _ _ (length-set c.self.inside.blocks.values c.index.result.now.slot (Some c.args.content.now))
-    (entries-written c.self.inside.blocks.values c.self.inside.index.items c.args.n c.args.content.now c.self.invariant.0.once within c.index.ensures
-    (slot-within c.self.inside.blocks c.self.inside.index.items c.args.n c.index.result.now c.self.invariant.0 within c.index.ensures)))
+    (entries-written c.self.inside.blocks.values c.self.inside.index.items c.args.n c.args.content.now c.self.invariant.stored.once within c.index.ensures
+    (slot-within c.self.inside.blocks c.self.inside.index.items c.args.n c.index.result.now c.self.invariant.stored within c.index.ensures)))

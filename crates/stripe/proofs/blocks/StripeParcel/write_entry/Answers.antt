@@ -10,7 +10,7 @@ unreachable-requires c =
     let same = ap (λ (s : StripePart). s.entries) c.self.view_is in
     let within : c.args.n < length c.self.inside.index.items =
     (let full = rw (← same) at c.requires.n in let long = length-entries c.self.inside.blocks.values c.self.inside.index.items in omega arith) in
-    let held = held-content c.self.inside.blocks c.self.inside.index.items c.args.n c.index-index_entry.result.now c.self.invariant.0 within c.index-index_entry.ensures in
+    let held = held-content c.self.inside.blocks c.self.inside.index.items c.args.n c.index-index_entry.result.now c.self.invariant.stored within c.index-index_entry.ensures in
     let empty = c.in-None.ensures.value in
     let slot = ap (value_at c.self.inside.blocks) c.from.ensures in
     cc
