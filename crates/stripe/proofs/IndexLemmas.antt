@@ -10,8 +10,8 @@ use Rattle.std.proofs.lemmas.List.{length-replicate, length-set, take-map, drop-
 use Rattle.arena.proofs.Counts.{length-numbers, count_of-append, count_of-cons_same, count_of-cons_is, count_of-cons_other}
 use Rattle.arena.specs.ArenaView.{ArenaView, value_at, holds_value, IsPartitioned, with_value, slot_from, put_answer, put_into, after_put, after_take, empty_arena}
 use Rattle.stripe.specs.declared.blocks.IndexEntry.{IndexEntry}
-use Rattle.stripe.specs.Stripe.{BlockEntry, StripePart, content_at, ComesBefore, IsAscending}
-use Rattle.stripe.specs.Index.{no_block, entry_at, entries_of, slots_of, IsStored, no_entry, PrecedesBlock, IsSplit, IsAt, IsGap, rewritten}
+use Rattle.stripe.specs.Stripe.{BlockEntry, StripePart, content_at, ComesBefore, IsAscending, PrecedesBlock}
+use Rattle.stripe.specs.Index.{no_block, entry_at, entries_of, slots_of, IsStored, no_entry, IsSplit, IsAt, IsGap, rewritten}
 use Rattle.stripe.proofs.EntryLemmas.{before-before, content-at, ascending-rewritten, ascending-inserted, ascending-removed}
 
 -- ---- the search

@@ -7,7 +7,7 @@ use Rattle.arena.specs.ArenaView.{ArenaView, capacity_of, holds_value, IsPartiti
 use Rattle.stripe.specs.declared.blocks.IndexEntry.{IndexEntry}
 use Rattle.affinity.specs.declared.geometry.Geometry.{Geometry}
 use Rattle.stripe.specs.Entries.{entry_bytes, entry_in, fits_stripe}
-use Rattle.stripe.specs.Stripe.{BlockEntry, ComesBefore, IsAscending}
+use Rattle.stripe.specs.Stripe.{BlockEntry, PrecedesBlock, ComesBefore, IsAscending}
 
 -- what is looked up where a slot is empty: no real block has no bytes
 abbrev pub no_block : Block
@@ -37,10 +37,6 @@ pub record IsStored (arena : ArenaView Block) (index : List IndexEntry) : Type 0
   pub hold : (i : ℕ) → 0 < count_of i (slots_of index) → IsTrue (holds_value arena i)
   pub free : length arena.free + length index ≡ capacity_of arena
   pub small : capacity_of arena ≤ 64
-
--- block j of file i comes before block b of file f
-abbrev pub PrecedesBlock : ℕ → ℕ → ℕ → ℕ → Type 0
-PrecedesBlock i j f b = (i < f) ⊎ ((i ≡ f) × (j < b))
 
 -- n blocks come before block b of file f: the first n
 pub record IsSplit (es : List BlockEntry) (f b n : ℕ) : Type 0 where

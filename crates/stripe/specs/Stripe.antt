@@ -19,9 +19,13 @@ abbrev pub content_at : List BlockEntry → ℕ → ℕ → Option Block
 content_at [] f b = None
 content_at (e ∷ es) f b = if (f == e.file) && (b == e.block) then Some e.content else content_at es f b
 
--- entry d comes before entry e: d has the lower file, or the same file and the lower block
+-- block j of file i comes before block b of file f
+abbrev pub PrecedesBlock : ℕ → ℕ → ℕ → ℕ → Type 0
+PrecedesBlock i j f b = (i < f) ⊎ ((i ≡ f) × (j < b))
+
+-- entry d comes before entry e
 abbrev pub ComesBefore : BlockEntry → BlockEntry → Type 0
-ComesBefore d e = (d.file < e.file) ⊎ ((d.file ≡ e.file) × (d.block < e.block))
+ComesBefore d e = PrecedesBlock d.file d.block e.file e.block
 
 -- each entry comes before those after it, so no block is there twice
 abbrev pub IsAscending : List BlockEntry → Type 0

@@ -3,7 +3,8 @@ use Rattle.std.proofs.Common.{◌≡◌, ◌∙◌, subst, sym, arith, length}
 use Rattle.std.specs.List.{AllByRecursion}
 use Rattle.std.proofs.lemmas.Bool.{eqb-true, eq-eqb}
 use Rattle.std.proofs.lemmas.List.{take_all}
-use Rattle.stripe.specs.Index.{PrecedesBlock, IsSplit}
+use Rattle.stripe.specs.Stripe.{PrecedesBlock}
+use Rattle.stripe.specs.Index.{IsSplit}
 use Rattle.stripe.proofs.EntryReading.{all_split}
 use Rattle.stripe.proofs.blocks.StripeParcel.ends_before.Goals as goal
 

@@ -4,8 +4,7 @@ use Rattle.std.specs.List.{AllByRecursion, insert}
 use Rattle.std.proofs.lemmas.List.{get_or-drop, length-drop, take_all}
 use Rattle.std.proofs.lemmas.List.Edits.{insert_end}
 use Rattle.stripe.specs.Entries.{entry_in, fits_stripe}
-use Rattle.stripe.specs.Index.{PrecedesBlock}
-use Rattle.stripe.specs.Stripe.{BlockEntry}
+use Rattle.stripe.specs.Stripe.{BlockEntry, PrecedesBlock}
 use Rattle.stripe.proofs.EntryReading.{row_spelled}
 use Rattle.stripe.proofs.blocks.StripeParcel.push.Goals as goal
 
