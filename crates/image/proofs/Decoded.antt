@@ -9,6 +9,7 @@ use Rattle.affinity.specs.Geometry.{stripe_of}
 use Rattle.affinity.specs.declared.geometry.Geometry.{Geometry}
 use Rattle.affinity.proofs.Placed.{group_below}
 use Rattle.byteorder.specs.Endian.{little_bytes, little_number}
+use Rattle.device_map.specs.Layout.{slice}
 use Rattle.messages.specs.Messages.{IsBlock, AreSizedBytes}
 use Rattle.messages.specs.Replies.{has_file}
 use Rattle.messages.specs.declared.Block.{Block}
@@ -17,7 +18,7 @@ use Rattle.meaning.specs.State.{State, VolumeKey, FileKey, BlockKey, IsState, bl
 use Rattle.stripe.specs.Entries.{entry_bytes, entries_in}
 use Rattle.stripe.specs.Stripe.{BlockEntry, content_at}
 use Rattle.stripe.proofs.EntryBytes.{entries_again}
-use Rattle.image.specs.Pieces.{piece_count, pieces_of_volume, piece_size, piece_of, decoded_by, has_volume, volume_piece_number, stripe_piece_number, volume_piece, stripe_piece, part_piece, piece_part_size, stripe_entries, entry_if, is_made_in, is_sealed_in, has_file_in, label_in, block_in, bytes_at}
+use Rattle.image.specs.Pieces.{piece_count, pieces_of_volume, piece_size, piece_of, decoded_by, has_volume, volume_piece_number, stripe_piece_number, volume_piece, stripe_piece, part_piece, piece_part_size, stripe_entries, entry_if, is_made_in, is_sealed_in, has_file_in, label_in, block_in}
 use Rattle.image.proofs.Counted.{entries_are_blocks, entries_few, content_is, content_of, few_of_stripe}
 use Rattle.image.proofs.Cuts.{is_piece, piece_there}
 use Rattle.image.proofs.Numbers.{size_there}
@@ -38,7 +39,7 @@ if_is P false o is = tt
 pub label_is : (version : ℕ) (bytes : List ℕ) → AreSizedBytes 64 bytes → IfSome (label_in version bytes) (AreSizedBytes 32)
 label_is version bytes are = by (is_made_in bytes) (version == 2)
   where
-    by : (made told : Bool) → IfSome (if made then Some (if told then bytes_at 16 32 bytes else no_label) else None) (AreSizedBytes 32)
+    by : (made told : Bool) → IfSome (if made then Some (if told then slice bytes 16 32 else no_label) else None) (AreSizedBytes 32)
     by true true = (
       omega (arith, are.0, length-drop 16 bytes, length-take 32 (drop 16 bytes)),
       all-take (λ b. b < 256) 32 (drop 16 bytes) (all-drop (λ b. b < 256) 16 bytes are.1),
@@ -148,9 +149,9 @@ module _ (version : ℕ) (g : Geometry) (pieces : ℕ → List ℕ) (sized : (n 
   files_in_range k there =
       let x : State = decoded_by version g pieces in
       let parts = and_parts (has_volume g (k.0, k.1)) (has_file_in (pieces (volume_piece_number g k.0 k.1)) k.2) there in
-      let number : bytes_at 8 8 (pieces (volume_piece_number g k.0 k.1))
+      let number : slice (pieces (volume_piece_number g k.0 k.1)) 8 8
       ≡ little_bytes 8 (if x.made (k.0, k.1) then file_bits g x k.0 k.1 else 0) =
-      ap (λ (l : List ℕ). bytes_at 8 8 l) (volume_spelled (k.0, k.1) parts.0) ∙ number_decoded g x k.0 k.1 version in
+      ap (λ (l : List ℕ). slice l 8 8) (volume_spelled (k.0, k.1) parts.0) ∙ number_decoded g x k.0 k.1 version in
       by (x.made (k.0, k.1)) refl (sym (ap (λ (l : List ℕ). has_file (little_number 8 l) k.2) number) ∙ parts.1)
     where
       by : (t : Bool) → (decoded_by version g pieces).made (k.0, k.1) ≡ t → has_file (little_number 8 (little_bytes 8 (if t then file_bits g (decoded_by version g pieces) k.0 k.1 else 0))) k.2 ≡ true
@@ -206,8 +207,7 @@ module _ (version : ℕ) (g : Geometry) (pieces : ℕ → List ℕ) (sized : (n 
   labels_of_made k = by (has_volume g k) (is_made_in (pieces (volume_piece_number g k.0 k.1)))
     where
       by : (t made : Bool) → is_some (if t then
-          (if made then Some (if version == 2 then bytes_at 16 32
-          (pieces (volume_piece_number g k.0 k.1)) else no_label) else None) else None) ≡ (t && made)
+          (if made then Some (if version == 2 then slice (pieces (volume_piece_number g k.0 k.1)) 16 32 else no_label) else None) else None) ≡ (t && made)
       by true true = refl
       by true false = refl
       by false made = refl

@@ -10,6 +10,7 @@ use Rattle.std.proofs.lemmas.Slice.Eq.{bytes_eq-Decides}
 use Rattle.affinity.specs.Geometry.{stripe_of}
 use Rattle.affinity.specs.declared.geometry.Geometry.{Geometry}
 use Rattle.byteorder.specs.Endian.{little_bytes, little_number}
+use Rattle.device_map.specs.Layout.{slice}
 use Rattle.messages.specs.Messages.{AreSizedBytes}
 use Rattle.messages.specs.Replies.{has_file}
 use Rattle.messages.specs.declared.Block.{Block}
@@ -18,7 +19,7 @@ use Rattle.meaning.specs.State.{State, VolumeKey, FileKey, BlockKey, IsState, on
 use Rattle.stripe.specs.Entries.{entry_bytes, entries_in}
 use Rattle.stripe.specs.Stripe.{BlockEntry, content_at}
 use Rattle.stripe.proofs.EntryBytes.{entries_again}
-use Rattle.image.specs.Pieces.{has_volume, volume_piece_number, volume_piece, stripe_entries, entry_if, joined_below, label_bytes, label_in, bytes_at}
+use Rattle.image.specs.Pieces.{has_volume, volume_piece_number, volume_piece, stripe_entries, entry_if, joined_below, label_bytes, label_in}
 use Rattle.image.specs.Image.{image_of, decoded_state, read, is_image, is_version, version_in, piece_in}
 use Rattle.image.proofs.Cuts.{volume_again, stripe_again}
 use Rattle.meaning.proofs.FileNumber.{number_small, bits_there}
@@ -156,18 +157,18 @@ module _ (g : Geometry) (x : State) (a v : ℕ) where
       by true false = refl
       by false u = refl
 
-  pub number_decoded : (version : ℕ) → bytes_at 8 8 (volume_piece version g x a v) ≡ little_bytes 8 (if x.made (a, v) then file_bits g x a v else 0)
+  pub number_decoded : (version : ℕ) → slice (volume_piece version g x a v) 8 8 ≡ little_bytes 8 (if x.made (a, v) then file_bits g x a v else 0)
   number_decoded version = by (x.made (a, v))
     where
-      by : (t : Bool) → bytes_at 8 8 (if t then 1 ∷ one_if (x.sealed (a, v)) ∷ [] ++ replicate 6 0 ++ little_bytes 8 (file_bits g x a v)
-          ++ label_bytes version (x.labels (a, v)) ++ replicate 16 0 else replicate 64 0) ≡ little_bytes 8 (if t then file_bits g x a v else 0)
+      by : (t : Bool) → slice (if t then 1 ∷ one_if (x.sealed (a, v)) ∷ [] ++ replicate 6 0 ++ little_bytes 8 (file_bits g x a v)
+          ++ label_bytes version (x.labels (a, v)) ++ replicate 16 0 else replicate 64 0) 8 8 ≡ little_bytes 8 (if t then file_bits g x a v else 0)
       by true = refl
       by false = refl
 
-  label_there : (label : List ℕ) → length label ≡ 32 → x.made (a, v) ≡ true → x.labels (a, v) ≡ Some label → bytes_at 16 32 (volume_piece 2 g x a v) ≡ label
+  label_there : (label : List ℕ) → length label ≡ 32 → x.made (a, v) ≡ true → x.labels (a, v) ≡ Some label → slice (volume_piece 2 g x a v) 16 32 ≡ label
   label_there label long made has =
-      ap (λ (t : Bool). bytes_at 16 32 (if t then 1 ∷ one_if (x.sealed (a, v)) ∷ [] ++ replicate 6 0 ++ little_bytes 8 (file_bits g x a v)
-      ++ label_bytes 2 (x.labels (a, v)) ++ replicate 16 0 else replicate 64 0)) made
+      ap (λ (t : Bool). slice (if t then 1 ∷ one_if (x.sealed (a, v)) ∷ [] ++ replicate 6 0 ++ little_bytes 8 (file_bits g x a v)
+      ++ label_bytes 2 (x.labels (a, v)) ++ replicate 16 0 else replicate 64 0) 16 32) made
       ∙ ap (λ (o : Option (List ℕ)). take 32 (label_bytes 2 o ++ replicate 16 0)) has
       ∙ take_at label (replicate 16 0) 32 long
 
@@ -201,7 +202,7 @@ module _ (g : Geometry) (x : State) (is : IsState g x) where
       let n : ℕ = if x.made (k.0, k.1) then file_bits g x k.0 k.1 else 0 in
       and_there (has_volume g (k.0, k.1)) _ (x.files k)
       (λ there.
-      ap (λ (l : List ℕ). has_file (little_number 8 (bytes_at 8 8 l)) k.2) (volume_decoded (k.0, k.1) there)
+      ap (λ (l : List ℕ). has_file (little_number 8 (slice l 8 8)) k.2) (volume_decoded (k.0, k.1) there)
       ∙ ap (λ (l : List ℕ). has_file (little_number 8 l) k.2) (number_decoded g x k.0 k.1 2)
       ∙ bits (x.made (k.0, k.1)) refl)
       (λ e. has (k.0, k.1) (is.files k e).1)
@@ -235,11 +236,11 @@ module _ (g : Geometry) (x : State) (is : IsState g x) where
       if_there (has_volume g k) _ (x.labels k)
       (λ there.
       ap (label_in 2) (volume_decoded k there)
-      ∙ ap (λ (t : Bool). if t then Some (bytes_at 16 32 (volume_piece 2 g x k.0 k.1)) else None) (made_decoded g x k.0 k.1 2)
+      ∙ ap (λ (t : Bool). if t then Some (slice (volume_piece 2 g x k.0 k.1) 16 32) else None) (made_decoded g x k.0 k.1 2)
       ∙ by (x.made k) (x.labels k) refl refl)
       (λ some. has k (sym (is.labels k) ∙ some))
     where
-      by : (t : Bool) (o : Option (List ℕ)) → x.made k ≡ t → x.labels k ≡ o → (if t then Some (bytes_at 16 32 (volume_piece 2 g x k.0 k.1)) else None) ≡ o
+      by : (t : Bool) (o : Option (List ℕ)) → x.made k ≡ t → x.labels k ≡ o → (if t then Some (slice (volume_piece 2 g x k.0 k.1) 16 32) else None) ≡ o
       by true None made has_none = absurd (true≢false (sym (sym (ap (λ (o : Option (List ℕ)). is_some o) has_none) ∙ is.labels k ∙ made)))
       by true (Some label) made has_one =
           let long : length label ≡ 32 = (subst (λ (o : Option (List ℕ)). IfSome o (AreSizedBytes 32)) has_one (is.label_content k)).0 in

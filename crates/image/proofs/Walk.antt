@@ -8,10 +8,11 @@ use Rattle.std.proofs.lemmas.Slice.Eq.{bytes_eq-Decides}
 use Rattle.affinity.specs.Geometry.{stripe_of}
 use Rattle.affinity.specs.declared.geometry.Geometry.{Geometry}
 use Rattle.affinity.proofs.Placed.{group_below}
+use Rattle.device_map.specs.Layout.{slice}
 use Rattle.messages.specs.Messages.{AreSizedBytes}
 use Rattle.messages.specs.declared.Block.{Block}
 use Rattle.meaning.specs.State.{State, VolumeKey, IsState, sum_below}
-use Rattle.image.specs.Pieces.{pieces_of_volume, piece_count, piece_at, piece_size, piece_of, aggregate_of, volume_of, part_of, volume_piece_number, has_volume, is_made_in, is_sealed_in, has_file_in, label_in, block_in, bytes_at, decoded_by, stripe_piece_number}
+use Rattle.image.specs.Pieces.{pieces_of_volume, piece_count, piece_at, piece_size, piece_of, aggregate_of, volume_of, part_of, volume_piece_number, has_volume, is_made_in, is_sealed_in, has_file_in, label_in, block_in, decoded_by, stripe_piece_number}
 use Rattle.image.specs.Image.{image_head, image_of, read, is_image, is_version, has_head, version_in, piece_in, decoded_state, decoded_before, is_good, AreGood}
 use Rattle.image.proofs.Agreeing.{piece_same, zero_piece}
 use Rattle.image.proofs.Cuts.{is_piece, piece_again}
@@ -135,8 +136,8 @@ module _ (g : Geometry) (bytes : List ℕ) where
       → read g bytes ≡ Some (decoded_before (version_in bytes) g bytes (piece_count g))
   good_is_read are head good =
       let version : ℕ = version_in bytes in
-      let parts = and_parts (is_version version) (bytes_eq (bytes_at 0 64 bytes) (image_head version)) head in
-      let begins = (bytes_eq-Decides (bytes_at 0 64 bytes) (image_head version)).0 parts.1 in
+      let parts = and_parts (is_version version) (bytes_eq (slice bytes 0 64) (image_head version)) head in
+      let begins = (bytes_eq-Decides (slice bytes 0 64) (image_head version)).0 parts.1 in
       let spelled : bytes ≡ image_of version g (decoded_state version g bytes) =
       by_pieces version g (decoded_state version g bytes) bytes begins are.0 (λ i below. good_is_spelled i (good i below)) in
       let is : is_image g bytes ≡ true = and_from _ _ parts.0
@@ -155,8 +156,8 @@ module _ (g : Geometry) (bytes : List ℕ) where
           let parts = and_parts (is_version version) (bytes_eq bytes (image_of version g (decoded_state version g bytes))) on in
           let spelled : bytes ≡ image_of version g (decoded_state version g bytes) =
           (bytes_eq-Decides bytes (image_of version g (decoded_state version g bytes))).0 parts.1 in
-          let begins : bytes_at 0 64 bytes ≡ image_head version = ap (λ (l : List ℕ). bytes_at 0 64 l) spelled in (
-            and_from _ _ parts.0 ((bytes_eq-Decides (bytes_at 0 64 bytes) (image_head version)).1 begins),
+          let begins : slice bytes 0 64 ≡ image_head version = ap (λ (l : List ℕ). slice l 0 64) spelled in (
+            and_from _ _ parts.0 ((bytes_eq-Decides (slice bytes 0 64) (image_head version)).1 begins),
             λ n below.
                 (bytes_eq-Decides (piece_in g bytes n) (piece_of version g (decoded_state version g bytes) n)).1
                 (ap (λ (l : List ℕ). piece_in g l n) spelled

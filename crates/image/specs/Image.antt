@@ -3,9 +3,9 @@
 use Rattle.std.specs.Prelude.{◌≡◌, ℕ, zero, suc, ◌<◌, Bool, true, ◌&&◌, ◌||◌, ◌==◌, if◌then◌else◌, List, ◌∷◌, ◌++◌, get_or, replicate, Option, Some, None}
 use Rattle.std.specs.Str.{bytes_eq}
 use Rattle.affinity.specs.declared.geometry.Geometry.{Geometry}
-use Rattle.device_map.specs.Layout.{image_head_size}
+use Rattle.device_map.specs.Layout.{image_head_size, slice}
 use Rattle.meaning.specs.State.{State, empty}
-use Rattle.image.specs.Pieces.{piece_count, piece_at, piece_size, piece_of, joined_below, bytes_at, decoded_by, with_piece}
+use Rattle.image.specs.Pieces.{piece_count, piece_at, piece_size, piece_of, joined_below, decoded_by, with_piece}
 
 -- ---- writing
 
@@ -25,7 +25,7 @@ version_in bytes = get_or bytes 0 0
 
 -- the bytes of piece n
 abbrev pub piece_in : Geometry → List ℕ → ℕ → List ℕ
-piece_in g bytes n = bytes_at (piece_at g n) (piece_size g n) bytes
+piece_in g bytes n = slice bytes (piece_at g n) (piece_size g n)
 
 -- what the bytes of an image decode to
 abbrev pub decoded_state : ℕ → Geometry → List ℕ → State
@@ -50,7 +50,7 @@ is_good g bytes n = let version = version_in bytes in bytes_eq (piece_in g bytes
 
 -- The head is a version and zeros.
 abbrev pub has_head : List ℕ → Bool
-has_head bytes = let version = version_in bytes in is_version version && bytes_eq (bytes_at 0 image_head_size bytes) (image_head version)
+has_head bytes = let version = version_in bytes in is_version version && bytes_eq (slice bytes 0 image_head_size) (image_head version)
 
 -- ---- piece by piece
 

@@ -5,7 +5,7 @@ use Rattle.affinity.specs.declared.geometry.Geometry.{Geometry}
 use Rattle.byteorder.specs.Endian.{little_bytes, little_number}
 use Rattle.messages.specs.Replies.{has_file}
 use Rattle.messages.specs.declared.Block.{Block}
-use Rattle.device_map.specs.Layout.{entry_size, image_head_size, volume_piece_size}
+use Rattle.device_map.specs.Layout.{entry_size, image_head_size, volume_piece_size, slice}
 use Rattle.stripe.specs.Stripe.{BlockEntry, content_at}
 use Rattle.meaning.specs.Serial.{file_bits, no_label}
 use Rattle.meaning.specs.State.{State, VolumeKey, is_volume, is_file_of, is_block_of, sum_below, one_if}
@@ -93,10 +93,6 @@ piece_of version g x n = part_piece version g x (aggregate_of g n) (volume_of g 
 
 -- ---- what bytes decode to, whether or not they are the encoding of that
 
--- n bytes from position `at` on
-abbrev pub bytes_at : ℕ → ℕ → List ℕ → List ℕ
-bytes_at at n bytes = take n (drop at bytes)
-
 -- whether there is this volume in a server of this geometry
 abbrev pub has_volume : Geometry → VolumeKey → Bool
 has_volume g k = nat_lt k.0 g.aggregates && nat_lt k.1 g.volumes
@@ -109,10 +105,10 @@ abbrev pub is_sealed_in : List ℕ → Bool
 is_sealed_in bytes = get_or bytes 1 0 == 1
 
 abbrev pub has_file_in : List ℕ → ℕ → Bool
-has_file_in bytes f = has_file (little_number 8 (bytes_at 8 8 bytes)) f
+has_file_in bytes f = has_file (little_number 8 (slice bytes 8 8)) f
 
 abbrev pub label_in : ℕ → List ℕ → Option (List ℕ)
-label_in version bytes = if is_made_in bytes then Some (if version == 2 then bytes_at 16 32 bytes else no_label) else None
+label_in version bytes = if is_made_in bytes then Some (if version == 2 then slice bytes 16 32 else no_label) else None
 
 -- the block that the bytes of a stripe's piece decode to
 abbrev pub block_in : Geometry → List ℕ → ℕ → ℕ → Option Block

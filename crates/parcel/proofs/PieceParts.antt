@@ -7,11 +7,12 @@ use Rattle.affinity.specs.Geometry.{stripe_of}
 use Rattle.affinity.specs.Path.{Path}
 use Rattle.affinity.specs.declared.geometry.Geometry.{Geometry}
 use Rattle.byteorder.specs.Endian.{little_number}
+use Rattle.device_map.specs.Layout.{slice}
 use Rattle.messages.specs.Messages.{AreSizedBytes}
 use Rattle.messages.specs.Replies.{has_file}
 use Rattle.stripe.specs.Entries.{IsStripePiece}
 use Rattle.stripe.specs.Stripe.{StripePart}
-use Rattle.image.specs.Pieces.{block_in, bytes_at, piece_count, aggregate_of, volume_of as volume_number}
+use Rattle.image.specs.Pieces.{block_in, piece_count, aggregate_of, volume_of as volume_number}
 use Rattle.image.proofs.Numbers.{in_aggregates, in_volumes}
 use Rattle.parcel.specs.Fits.{FitsLogical, FitsVolume, FitsAggregate, FitsRoot, IsWholeChild, IsWholeLogical, IsWholeVolume, IsWholeAggregate, IsWholeRoot}
 use Rattle.parcel.specs.Levels.{volume_below, volume_of_tree, is_whole_root}
@@ -45,9 +46,9 @@ volume_is_read {version} {g} {bytes} {good} {old} {new} fits whole is taken kept
   facts = λ on. ap (volume_facts g) (taken on) ∙ facts_decoded version g bytes (is.0 on) old whole;
 }
   where
-    files_fit : (o : Option Logical) → IfSome o (FitsLogical g) → IfSome (with_files (little_number 8 (bytes_at 8 8 bytes) % 2 ^ g.files) o) (FitsLogical g)
+    files_fit : (o : Option Logical) → IfSome o (FitsLogical g) → IfSome (with_files (little_number 8 (slice bytes 8 8) % 2 ^ g.files) o) (FitsLogical g)
     files_fit None h = tt
-    files_fit (Some l) h = record { files = mod-lt (little_number 8 (bytes_at 8 8 bytes)) (pow_pos g.files); count = h.count; stripes = h.stripes }
+    files_fit (Some l) h = record { files = mod-lt (little_number 8 (slice bytes 8 8)) (pow_pos g.files); count = h.count; stripes = h.stripes }
 
     still_whole : (n : ℕ) (o : Option Logical) → IsWholeChild IsWholeLogical o → IsWholeChild IsWholeLogical (with_files n o)
     still_whole n None h = h
@@ -58,7 +59,7 @@ volume_is_read {version} {g} {bytes} {good} {old} {new} fits whole is taken kept
     by_fits false off = subst (FitsVolume g) (sym (kept off)) fits
 
     by_whole : (t : Bool) → good ≡ t → IsWholeVolume new
-    by_whole true on = subst IsWholeVolume (sym (taken on)) (still_whole (little_number 8 (bytes_at 8 8 bytes) % 2 ^ g.files) old.logical whole.0, tt)
+    by_whole true on = subst IsWholeVolume (sym (taken on)) (still_whole (little_number 8 (slice bytes 8 8) % 2 ^ g.files) old.logical whole.0, tt)
     by_whole false off = subst IsWholeVolume (sym (kept off)) whole
 
 -- ---- the piece of a stripe

@@ -7,12 +7,13 @@ use Rattle.std.proofs.lemmas.Nat.Bits.{bit_at_above}
 use Rattle.std.proofs.Math.Nat.{pow-le-pow_right}
 use Rattle.affinity.specs.declared.geometry.Geometry.{Geometry}
 use Rattle.byteorder.specs.Endian.{little_bytes, little_number}
+use Rattle.device_map.specs.Layout.{slice}
 use Rattle.messages.specs.Messages.{AreSizedBytes}
 use Rattle.messages.specs.Replies.{has_file}
 use Rattle.messages.specs.declared.Block.{Block}
 use Rattle.meaning.specs.Serial.{file_bits, no_label}
 use Rattle.meaning.specs.State.{State, VolumeKey, FileKey, BlockKey, IsState, is_volume, sum_below, one_if}
-use Rattle.image.specs.Pieces.{volume_piece, label_bytes, bytes_at, is_made_in, is_sealed_in, has_file_in, label_in as decoded_label_in, with_volume_piece}
+use Rattle.image.specs.Pieces.{volume_piece, label_bytes, is_made_in, is_sealed_in, has_file_in, label_in as decoded_label_in, with_volume_piece}
 use Rattle.parcel.specs.Fits.{FitsLogical, FitsVolume, IsWholeChild, IsWholeLogical, IsWholeVolume}
 use Rattle.parcel.specs.Nodes.{child_nodes, logical_nodes, node_files}
 use Rattle.parcel.specs.Pieces.{HasFacts, spelled, decoded_label, decoded_piece, volume_piece_of, volume_with, with_files, facts_with}
@@ -60,13 +61,13 @@ volume_decoded version g x a v bytes =
     volume_spelled version g (with_volume_piece version x a v bytes) (a, v) {p = decoded_piece version g bytes}
     (ap (λ (t : Bool). if t then is_made_in bytes else x.made (a, v)) (here a v))
     (ap (λ (t : Bool). if t then is_sealed_in bytes else x.sealed (a, v)) (here a v))
-    ((λ i. sum_below g.files (λ f. if (if here a v i then has_file_in bytes f else x.files (a, v, f)) then 2 ^ f else 0)) ∙ sum_bits g.files (little_number 8 (bytes_at 8 8 bytes)))
+    ((λ i. sum_below g.files (λ f. if (if here a v i then has_file_in bytes f else x.files (a, v, f)) then 2 ^ f else 0)) ∙ sum_bits g.files (little_number 8 (slice bytes 8 8)))
     (λ on.
     ap (λ (t : Bool). label_bytes version (if t then decoded_label_in version bytes else x.labels (a, v))) (here a v)
-    ∙ ap (λ (t : Bool). label_bytes version (if t then Some (if version == 2 then bytes_at 16 32 bytes else no_label) else None)) on
+    ∙ ap (λ (t : Bool). label_bytes version (if t then Some (if version == 2 then slice bytes 16 32 else no_label) else None)) on
     ∙ by (version == 2))
   where
-    by : (t : Bool) → (if t then unwrap_or (Some (if t then bytes_at 16 32 bytes else no_label)) no_label else no_label) ≡ (if t then bytes_at 16 32 bytes else no_label)
+    by : (t : Bool) → (if t then unwrap_or (Some (if t then slice bytes 16 32 else no_label)) no_label else no_label) ≡ (if t then slice bytes 16 32 else no_label)
     by true = refl
     by false = refl
 
@@ -74,7 +75,7 @@ volume_decoded version g x a v bytes =
 
 module _ (version : ℕ) (g : Geometry) (bytes : List ℕ) (good : bytes ≡ spelled (decoded_piece version g bytes)) where
   abbrev number : ℕ
-  number = little_number 8 (bytes_at 8 8 bytes)
+  number = little_number 8 (slice bytes 8 8)
 
   small : number % 2 ^ g.files < 2 ^ g.files
   small = mod-lt number (pow_pos g.files)
@@ -97,11 +98,11 @@ module _ (version : ℕ) (g : Geometry) (bytes : List ℕ) (good : bytes ≡ spe
       by : (t : Bool) → is_made_in bytes ≡ t → number % 2 ^ g.files ≡ number
       by true on =
           sym (eight_again (number % 2 ^ g.files) fits_eight)
-          ∙ sym (ap (λ (l : List ℕ). little_number 8 (bytes_at 8 8 l))
+          ∙ sym (ap (λ (l : List ℕ). little_number 8 (slice l 8 8))
           (good ∙ ap (λ (t : Bool). if t then 1 ∷ one_if (is_sealed_in bytes) ∷ [] ++ replicate 6 0 ++ little_bytes 8 (number % 2 ^ g.files)
           ++ decoded_label version bytes ++ replicate 16 0 else replicate 64 0) on))
       by false off =
-          let none : number ≡ 0 = ap (λ (l : List ℕ). little_number 8 (bytes_at 8 8 l)) (not_made off) in
+          let none : number ≡ 0 = ap (λ (l : List ℕ). little_number 8 (slice l 8 8)) (not_made off) in
           let least = pow_pos g.files in
           ap (λ (n : ℕ). n % 2 ^ g.files) none ∙ zero_left (2 ^ g.files) least ∙ sym none
         where
@@ -196,7 +197,7 @@ module _ (version : ℕ) (g : Geometry) (bytes : List ℕ) (good : bytes ≡ spe
     labels_made : (k : VolumeKey) → is_some (taken.labels k) ≡ taken.made k
     labels_made k = by (is_volume a v k) (is_made_in bytes)
       where
-        by : (t made : Bool) → is_some (if t then (if made then Some (if version == 2 then bytes_at 16 32 bytes else no_label) else None) else x.labels k) ≡ (if t then made else x.made k)
+        by : (t made : Bool) → is_some (if t then (if made then Some (if version == 2 then slice bytes 16 32 else no_label) else None) else x.labels k) ≡ (if t then made else x.made k)
         by true true = refl
         by true false = refl
         by false made = is.labels k

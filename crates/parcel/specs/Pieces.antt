@@ -6,9 +6,10 @@ use Rattle.affinity.specs.declared.geometry.Geometry.{Geometry}
 use Rattle.byteorder.specs.Endian.{little_bytes, little_number}
 use Rattle.stripe.specs.Entries.{IsStripePiece}
 use Rattle.stripe.specs.Stripe.{StripePart}
+use Rattle.device_map.specs.Layout.{slice}
 use Rattle.meaning.specs.State.{State, IsState, one_if}
 use Rattle.meaning.specs.Serial.{no_label}
-use Rattle.image.specs.Pieces.{is_made_in, is_sealed_in, has_file_in, label_in as decoded_label_in, block_in, bytes_at, part_piece, with_part}
+use Rattle.image.specs.Pieces.{is_made_in, is_sealed_in, has_file_in, label_in as decoded_label_in, block_in, part_piece, with_part}
 use Rattle.parcel.specs.Fits.{FitsStripe, FitsVolume, IsWholeChild, IsWholeVolume}
 use Rattle.parcel.specs.Nodes.{Nodes, volume_nodes, node_files, PutsBack}
 use Rattle.parcel.specs.Shown.{blocks_in, volume_facts, shown_label}
@@ -26,14 +27,14 @@ spelled p =
 
 -- the label that bytes decode to: before version 2 there is none, and zeros are given for it
 abbrev pub decoded_label : ℕ → List ℕ → List ℕ
-decoded_label version bytes = if version == 2 then bytes_at 16 32 bytes else no_label
+decoded_label version bytes = if version == 2 then slice bytes 16 32 else no_label
 
 -- what bytes decode to as a volume's piece; bits of files that the geometry doesn't have are dropped
 abbrev pub decoded_piece : ℕ → Geometry → List ℕ → VolumePiece
 decoded_piece version g bytes = record {
   made = is_made_in bytes;
   sealed = is_sealed_in bytes;
-  files = little_number 8 (bytes_at 8 8 bytes) % 2 ^ g.files;
+  files = little_number 8 (slice bytes 8 8) % 2 ^ g.files;
   label = decoded_label version bytes;
 }
 

@@ -8,10 +8,8 @@ ghost use Rattle.stripe.specs.Stripe.{PrecedesBlock};
 
 use super::StripeParcel;
 use affinity::{Geometry, group_of};
+use device_map::BLOCK_ENTRY_SIZE;
 use messages::{Block, has_file};
-
-/// How many bytes an entry has.
-const BLOCK_ENTRY_SIZE: usize = 520;
 
 /// How many bytes come before the content of a block in its entry.
 const ENTRY_HEAD: usize = 8;
