@@ -12,9 +12,8 @@ use Rattle.disk.specs.Moments.{CrashImagesAre}
 use Rattle.disk.proofs.Leaves.{synced_left}
 use Rattle.disk.proofs.Moments.{then, weaker}
 use Rattle.disk.proofs.Overlays.{item-overlaid, length-overlaid, overlaid_outside}
-use Rattle.oplog.specs.Changes.{CrashesChangeOnly}
+use Rattle.disk.specs.Store.{CrashesChangeOnly, Stored}
 use Rattle.device_map.specs.Layout.{device_size, layout_of}
-use Rattle.oplog.specs.Store.{Stored}
 use Rattle.meaning.specs.State.{empty}
 
 module _ (g : Geometry) (w0 w1 : Medium) (bytes : List ℕ) (are : bytes ≡ drop 1 (header_of g)) (whole : device_size (layout_of g) ≤ length w0.now)

@@ -10,8 +10,7 @@ use Rattle.disk.proofs.Leaves.{synced_left, itself}
 use Rattle.disk.proofs.Moments.{started, then, weaker}
 use Rattle.disk.proofs.Outside.{same_item}
 use Rattle.disk.proofs.Overlays.{item-overlaid, length-overlaid}
-use Rattle.oplog.specs.Changes.{CrashesChangeOnly}
-use Rattle.oplog.specs.Store.{Stored}
+use Rattle.disk.specs.Store.{CrashesChangeOnly, Stored}
 
 -- lists that differ at most in their first item, and have the same first item, are equal
 pub same_first : (xs ys : List ℕ) → SameOutside 0 1 xs ys → get_or ys 0 0 ≡ get_or xs 0 0 → ys ≡ xs

@@ -10,7 +10,7 @@ ghost use Rattle.checkpoint.specs.Version.{named_version};
 ghost use Rattle.disk.specs.Device.{IsDeviceCall, IsSynced, IsCrashImage, SameOutside, overlaid};
 ghost use Rattle.disk.specs.Moments.{CrashImagesAre};
 ghost use Rattle.oplog.specs.Beyond.{KeepsBeyond};
-ghost use Rattle.oplog.specs.Changes.{CrashesChangeOnly};
+ghost use Rattle.disk.specs.Store.{CrashesChangeOnly};
 ghost use Rattle.device_map.specs.Layout.{Layout, device_size, layout_of};
 ghost use Rattle.meaning.specs.State.{empty};
 
@@ -20,9 +20,9 @@ use affinity::Geometry;
 use device_map::{
     CHAIN_ZONE_SIZE, ROOT_ZONE_AT, ROOT_ZONE_SIZE, device_len, half_at, image_at, image_size,
 };
+use disk::store::{store, write};
 use disk::{Disk, DiskFault};
 use image::layout::VERSION;
-use oplog::store::{store, write};
 use std::alloc::{AllocError, Global};
 
 /// How many zeros are written at a time, at most.

@@ -4,6 +4,7 @@ pub mod Calls
 mod Crashes
 pub mod Leaves
 pub mod Moments
+pub mod OneWrite
 pub mod Outside
 pub mod Overlays
 mod Examples

@@ -7,4 +7,5 @@ pub mod Moments
 pub mod RealFile
 pub mod GhostDevice
 pub mod Span
+pub mod Store
 pub mod Torn

@@ -16,6 +16,7 @@ mod injected_fault;
 mod memory;
 mod ranges;
 mod span;
+pub mod store;
 mod torn;
 
 pub use backed::FileBacked;

@@ -5,10 +5,10 @@ ghost use Rattle.oplog.specs.Calls.{IsLongEnough, IsReadyFor};
 ghost use Rattle.oplog.specs.Changing.{AreChangesInRange, IsChangeInRange};
 
 use affinity::{Geometry, changing, place_of};
+use device_map::device_len;
 use disk::{Disk, MemDisk};
 use harness::torn;
 use message::Msg;
-use oplog::layout::device_len;
 use oplog::{Halves, LogFault};
 use std::alloc::{AllocError, Global};
 use std::process::Abort;

@@ -1,7 +1,7 @@
 //! Where the parts of devices lie.
 use crate::common::SMALL;
 use affinity::Geometry;
-use oplog::layout::{device_len, half_at, half_size, image_at, image_size};
+use device_map::{device_len, half_at, half_size, image_at, image_size};
 use std::process::Abort;
 use std::test::Fail;
 

@@ -14,7 +14,7 @@ use Rattle.journal.specs.declared.opening.Parts.{Parts}
 use Rattle.journal.specs.Costs.{count_runs, finish_cost, opening_cost, runs_after}
 use Rattle.journal.specs.Extents.{AreAllDirty}
 use Rattle.journal.proofs.Places.{some_piece}
-use Rattle.oplog.specs.Costs.{Costs}
+use Rattle.disk.specs.Store.{Costs}
 use Rattle.oplog.specs.Front.{chain}
 use Rattle.device_map.specs.Layout.{layout_of}
 use Rattle.oplog.specs.Recovery.{named_area}

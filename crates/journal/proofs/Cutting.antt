@@ -16,7 +16,8 @@ use Rattle.journal.specs.Journal.{records_in}
 use Rattle.journal.proofs.Forced.{forced_alone, forced_both}
 use Rattle.journal.proofs.Pointing.{clear_moments, clear_recovers}
 use Rattle.journal.proofs.Recovering.{as_other, both_of, chain_other, half_same, holds_by, laid_by, ready_none, shut_current, shut_force}
-use Rattle.oplog.specs.Changes.{CrashesChangeOnly, Chained, Cleared, Flipped, IsReady, IsSameButChain, IsSameButChainAndGates, IsSameButRoot}
+use Rattle.disk.specs.Store.{CrashesChangeOnly}
+use Rattle.oplog.specs.Changes.{Chained, Cleared, Flipped, IsReady, IsSameButChain, IsSameButChainAndGates, IsSameButRoot}
 use Rattle.oplog.specs.Crash.{RecoversBy, RecoversEitherWay}
 use Rattle.oplog.specs.Front.{chain, front}
 use Rattle.device_map.specs.Layout.{layout_of, device_size, part_bytes, half_part, image_part, root_part, other}

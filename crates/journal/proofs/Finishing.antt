@@ -10,7 +10,8 @@ use Rattle.image.specs.Image.{read}
 use Rattle.journal.specs.Steps.{IsCutFinished, IsCutUnfinished, RecoversByArea, run_on}
 use Rattle.journal.specs.Extents.{Imaged, image_in}
 use Rattle.journal.proofs.Recovering.{as_other, both_of, chain_other, half_same, holds_by, holds_moments, shut_current, shut_force}
-use Rattle.oplog.specs.Changes.{CrashesChangeOnly, Flipped, IsSameBut, IsSameButRoot}
+use Rattle.disk.specs.Store.{CrashesChangeOnly}
+use Rattle.oplog.specs.Changes.{Flipped, IsSameBut, IsSameButRoot}
 use Rattle.oplog.specs.Crash.{RecoversBy, RecoversEitherWay}
 use Rattle.oplog.specs.Front.{chain, front}
 use Rattle.device_map.specs.Layout.{layout_of, device_size, half_part, header_part, image_part, other}

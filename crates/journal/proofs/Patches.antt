@@ -11,7 +11,8 @@ use Rattle.image.specs.Pieces.{piece_count}
 use Rattle.journal.specs.Extents.{AgreeOnClean, Imaged, IsPatchedAt, image_in, extent_at, extent_size}
 use Rattle.journal.proofs.Places.{extent_inside, extent_next, extent_rises}
 use Rattle.journal.proofs.Runs.{part_begun, part_then}
-use Rattle.oplog.specs.Changes.{CrashesChangeOnly, IsSameBut}
+use Rattle.disk.specs.Store.{CrashesChangeOnly}
+use Rattle.oplog.specs.Changes.{IsSameBut}
 use Rattle.device_map.specs.Layout.{slice, layout_of, image_part, image_size, part_at, part_size, device_size}
 use Rattle.oplog.proofs.Slices.{same_but_both, same_but_none, image_sized, part_inside}
 

@@ -20,7 +20,8 @@ use Rattle.journal.proofs.Forced.{forced_kept}
 use Rattle.journal.proofs.Logging.{half_below}
 use Rattle.journal.proofs.Rows.{count_cleared}
 use Rattle.journal.proofs.Recovering.{half_same, holds_moments, holds_now}
-use Rattle.oplog.specs.Changes.{CrashesChangeOnly, IsReady, IsSameBut}
+use Rattle.disk.specs.Store.{CrashesChangeOnly}
+use Rattle.oplog.specs.Changes.{IsReady, IsSameBut}
 use Rattle.oplog.specs.Crash.{RecoversBy}
 use Rattle.oplog.specs.Recovery.{named_area}
 use Rattle.device_map.specs.Layout.{layout_of, half_part, image_part, other}

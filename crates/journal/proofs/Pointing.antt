@@ -10,7 +10,8 @@ use Rattle.image.specs.Image.{read}
 use Rattle.journal.specs.Steps.{RecoversByArea}
 use Rattle.journal.specs.Extents.{AgreeOnClean, Imaged, image_in}
 use Rattle.journal.proofs.Recovering.{as_other, both_of, half_same, holds_by, holds_moments, laid_by, not_one, ready_none, run_none, shut_current, shut_force}
-use Rattle.oplog.specs.Changes.{CrashesChangeOnly, Cleared, Flipped, IsReady, IsSameBut, IsSameButChainAndGates, IsSameButRoot}
+use Rattle.disk.specs.Store.{CrashesChangeOnly}
+use Rattle.oplog.specs.Changes.{Cleared, Flipped, IsReady, IsSameBut, IsSameButChainAndGates, IsSameButRoot}
 use Rattle.oplog.specs.Crash.{RecoversBy, RecoversEitherWay}
 use Rattle.oplog.specs.Front.{chain, front}
 use Rattle.device_map.specs.Layout.{layout_of, device_size, part_bytes, half_part, image_part, other}

@@ -5,9 +5,9 @@ use Rattle.affinity.specs.declared.geometry.Geometry.{Geometry}
 use Rattle.disk.specs.Device.{Medium, SameOutside, overlaid}
 use Rattle.disk.proofs.Moments.{leaves_now, started, then, weaker}
 use Rattle.journal.specs.Extents.{image_in}
-use Rattle.oplog.specs.Changes.{CrashesChangeOnly, IsReady, IsSameBut}
+use Rattle.disk.specs.Store.{CrashesChangeOnly, TouchesOnly}
+use Rattle.oplog.specs.Changes.{IsReady, IsSameBut}
 use Rattle.device_map.specs.Layout.{Layout, slice, layout_of, part_bytes, part_at, image_part, device_size, image_size}
-use Rattle.oplog.specs.Store.{TouchesOnly}
 use Rattle.oplog.proofs.Ready.{ready_beside}
 use Rattle.oplog.proofs.Slices.{LiesIn, same_but, same_but_both, same_but_none, image_sized, part_overlaid}
 

@@ -13,7 +13,8 @@ use Rattle.disk.proofs.Moments.{then, weaker}
 use Rattle.image.specs.Image.{read}
 use Rattle.journal.specs.Parts.{IsRefusedAlike}
 use Rattle.journal.specs.Extents.{Imaged}
-use Rattle.oplog.specs.Changes.{CrashesChangeOnly, IsSameBut, IsSameButRoot}
+use Rattle.disk.specs.Store.{CrashesChangeOnly}
+use Rattle.oplog.specs.Changes.{IsSameBut, IsSameButRoot}
 use Rattle.oplog.specs.Front.{chain, chain_in, front, front_in}
 use Rattle.device_map.specs.Layout.{device_size, half_part, header_part, image_part, layout_of, other, part_bytes, root_part}
 use Rattle.oplog.specs.Recovery.{named_area, run}

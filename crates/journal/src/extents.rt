@@ -4,15 +4,15 @@ ghost use Rattle.disk.specs.Device.{IsDeviceCall, Syncs, overlaid};
 ghost use Rattle.image.specs.Pieces.{piece_count, piece_size};
 ghost use Rattle.journal.specs.Costs.{count_runs};
 ghost use Rattle.journal.specs.Extents.{AgreeOnClean, Imaged, IsPatchedAt, image_in, extent_size};
-ghost use Rattle.oplog.specs.Changes.{CrashesChangeOnly, IsReady, IsSameBut};
-ghost use Rattle.oplog.specs.Costs.{Costs};
+ghost use Rattle.disk.specs.Store.{CrashesChangeOnly, Costs};
+ghost use Rattle.oplog.specs.Changes.{IsReady, IsSameBut};
 ghost use Rattle.device_map.specs.Layout.{slice, layout_of, device_size, image_part, image_size};
 
 use affinity::Geometry;
 use device_map::{IMAGE_HEAD_SIZE, image_at};
+use disk::store::write;
 use disk::{Disk, DiskFault};
 use image::layout::piece_size;
-use oplog::store::write;
 
 /// How many bytes extent `n` of an image has. (`most`: a head, 64 bytes, and the largest piece of any geometry, 64 entries of 520.)
 fn extent_size(g: &Geometry, n: usize) -> usize

@@ -14,7 +14,7 @@ ghost use Rattle.journal.specs.Opening.{IsOpened, IsLeftByRefusal, OpeningCrashI
 ghost use Rattle.journal.specs.Parts.{AreLoaded, AreUnloaded, IsFaultAfterCut, IsMade, IsMadeOf, IsRefusedAlike, KeepsBuffers};
 ghost use Rattle.journal.specs.Steps.{RecoversByNamedAlone, IsCutFinished, IsPointed, RecoversStill, finished_log, pointed_log};
 ghost use Rattle.oplog.specs.Beyond.{KeepsBeyond};
-ghost use Rattle.oplog.specs.Costs.{Costs};
+ghost use Rattle.disk.specs.Store.{Costs};
 ghost use Rattle.device_map.specs.Layout.{Layout, device_size, layout_of, other};
 ghost use Rattle.oplog.specs.Log.{IsLogCall, IsNotBadRecord};
 ghost use Rattle.parcel.specs.Tree.{IsWholeTree, state_in};

@@ -11,7 +11,7 @@ ghost use Rattle.journal.specs.Steps.{RecoversByNamedAlone, IsCutBegun, IsCutFin
 ghost use Rattle.journal.specs.Extents.{AgreeOnClean, AreAllDirty, image_in};
 ghost use Rattle.oplog.specs.Beyond.{KeepsBeyond};
 ghost use Rattle.oplog.specs.Calls.{IsLongEnough};
-ghost use Rattle.oplog.specs.Costs.{Costs};
+ghost use Rattle.disk.specs.Store.{Costs};
 ghost use Rattle.device_map.specs.Layout.{image_size, layout_of, other};
 ghost use Rattle.oplog.specs.Log.{IsLogCall, IsNotBadRecord};
 ghost use Rattle.meaning.specs.State.{State};

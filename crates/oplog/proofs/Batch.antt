@@ -8,8 +8,8 @@ use Rattle.disk.proofs.Leaves.{itself, synced_left, synced_range, range_kept}
 use Rattle.disk.proofs.Overlays.{overlaid_outside, range-overlaid, length-overlaid}
 use Rattle.device_map.specs.Layout.{Layout, slice, part_bytes, part_at, part_size, half_part, half_size, device_size}
 use Rattle.oplog.specs.Front.{gates_in, count_open}
-use Rattle.oplog.specs.Changes.{IsSameBut, HasAppended, After, HasAppendedPrefix, IsReady, HasAppendedAll}
-use Rattle.oplog.specs.Store.{Stored}
+use Rattle.oplog.specs.Changes.{IsSameBut, HasAppended, HasAppendedPrefix, IsReady, HasAppendedAll}
+use Rattle.disk.specs.Store.{After, Stored}
 use Rattle.oplog.proofs.Slices.{within, slice_slice, same_but, same_but_both, half_sized, half_inside}
 use Rattle.oplog.proofs.RecordRows.{AreRows, length-concat}
 use Rattle.oplog.proofs.InHalf.{HasMoreIn, body_at, bodies_written, gates_torn, gates_written, now_used, now_shut}

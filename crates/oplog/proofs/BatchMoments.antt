@@ -5,8 +5,8 @@ use Rattle.disk.specs.Device.{AreBytes, Medium, SameOutside}
 use Rattle.disk.specs.Moments.{CrashImagesAre}
 use Rattle.disk.proofs.Moments.{weaker, then}
 use Rattle.device_map.specs.Layout.{Layout, part_at, half_part, device_size}
-use Rattle.oplog.specs.Changes.{After, HasAppendedPrefix, IsReady, HasAppendedAll}
-use Rattle.oplog.specs.Store.{Stored}
+use Rattle.disk.specs.Store.{After, Stored}
+use Rattle.oplog.specs.Changes.{HasAppendedPrefix, IsReady, HasAppendedAll}
 use Rattle.oplog.proofs.RecordRows.{AreRows}
 use Rattle.oplog.proofs.InHalf.{body_at}
 use Rattle.oplog.proofs.Batch.{first, second, third}

@@ -1,7 +1,7 @@
 -- How many batches of up to 64 records there are: `done` of `all` records are written, and the next batch goes up to record `end`.
 use Rattle.std.proofs.Common.{◌≡◌, ◌≤◌, ◌<◌, ℕ, ◌+◌, ◌%◌, arith}
 use Rattle.std.specs.Prelude.{min}
-use Rattle.oplog.specs.Costs.{batch_count}
+use Rattle.oplog.specs.Log.{batch_count}
 
 -- the next batch adds one to the count
 pub one_batch : (done end all : ℕ) → done < all → done % 64 ≡ 0 → end ≡ min all (done + 64) → batch_count end ≡ batch_count done + 1

@@ -1,12 +1,11 @@
 -- ---- For the layer above. The laws of AfterCrash and what keeps what a device recovers to (Kept); a half that is ready
--- ---- (Ready, Batches); parts of a device, written and read (Slices, OneWrite, Reading); records as rows (RecordRows),
+-- ---- (Ready, Batches); parts of a device, written and read (Slices, Reading); records as rows (RecordRows),
 -- ---- and which are bad (BadRecords); a call that is known not to have failed (Answered).
 pub mod AfterCrash
 pub mod Kept
 pub mod Ready
 pub mod Batches
 pub mod Slices
-pub mod OneWrite
 pub mod Reading
 pub mod RecordRows
 pub mod BadRecords

@@ -9,8 +9,8 @@ use Rattle.disk.proofs.Outside.{same_drop}
 use Rattle.disk.proofs.Overlays.{overlaid_outside, range-overlaid, length-overlaid, item-overlaid}
 use Rattle.device_map.specs.Layout.{Layout, slice, part_bytes, part_at, part_size, half_part, root_part, device_size}
 use Rattle.oplog.specs.Front.{count_open, gates}
-use Rattle.oplog.specs.Changes.{IsSameButChainAndGates, IsSameButChain, IsSameButRoot, After, Cleared, Chained, Flipped}
-use Rattle.oplog.specs.Store.{Stored}
+use Rattle.oplog.specs.Changes.{IsSameButChainAndGates, IsSameButChain, IsSameButRoot, Cleared, Chained, Flipped}
+use Rattle.disk.specs.Store.{After, Stored}
 use Rattle.oplog.proofs.Slices.{LiesIn, within, same_but, half_sized, half_inside}
 use Rattle.oplog.proofs.Gates.{open_none}
 

@@ -8,7 +8,7 @@ use Rattle.device_map.specs.Layout.{Layout, layout_of, part_at, part_size, half_
 use Rattle.oplog.specs.Front.{count_open, gates_in}
 use Rattle.oplog.specs.Changes.{IsSameBut, IsReady, Cleared, Chained, Flipped}
 use Rattle.oplog.specs.Log.{Log, chained, flipped}
-use Rattle.oplog.specs.Store.{TouchesOnly}
+use Rattle.disk.specs.Store.{TouchesOnly}
 use Rattle.oplog.proofs.Slices.{LiesIn, half_sized, half_inside, other_part}
 
 pub ready_kept : {g : Layout} {h k p : ℕ} {w w' : Medium} → h < 2 → half_part h ≢ p → device_size g ≤ length w'.now → IsReady g h k w

@@ -7,7 +7,8 @@ use Rattle.oplog.specs.declared.fault.LogFault.{LogFault}
 use Rattle.oplog.specs.declared.half.Half.{Half}
 use Rattle.device_map.specs.Layout.{layout_of, device_size, other}
 use Rattle.oplog.specs.Front.{front, record_at}
-use Rattle.oplog.specs.Changes.{CrashesChangeOnly, HasAppendedPrefix, HasAppendedAll, IsReady, IsSameButChainAndGates, IsSameButChain, IsSameButRoot, Cleared, Chained, Flipped}
+use Rattle.disk.specs.Store.{CrashesChangeOnly}
+use Rattle.oplog.specs.Changes.{HasAppendedPrefix, HasAppendedAll, IsReady, IsSameButChainAndGates, IsSameButChain, IsSameButRoot, Cleared, Chained, Flipped}
 use Rattle.oplog.specs.Changing.{records_of}
 use Rattle.oplog.specs.Log.{Log, layout, IsOfRecord}
 

@@ -1,7 +1,7 @@
 -- Statement for engineers: How the calls of a log change the bytes of a device, and what a crash leaves while they do.
 use Rattle.std.specs.Prelude.{◌≡◌, ◌≢◌, ◌≤◌, ℕ, ◌+◌, false, List, ◌++◌, length, take, drop, replicate}
 use Rattle.disk.specs.Device.{Medium, IsCrashImage, IsSynced}
-use Rattle.disk.specs.Moments.{CrashImagesAre}
+use Rattle.disk.specs.Store.{After}
 use Rattle.device_map.specs.Layout.{Layout, slice, root_part, half_part, part_bytes, part_at, part_size, device_size, chain_zone_size}
 use Rattle.oplog.specs.Recovery.{named_area}
 use Rattle.oplog.specs.Front.{chain, gates, front, count_open, IsShutBehind}
@@ -38,16 +38,6 @@ pub record IsSameButRoot (l : Layout) (old c : List ℕ) : Type 0 where
   pub beside : drop 1 (part_bytes l root_part c) ≡ drop 1 (part_bytes l root_part old)
 
 -- ---- what a crash leaves
-
--- The bytes c are what a crash of the device `before` might have left (`old`), changed in this way.
-pub record After (before : Medium) (Change : List ℕ → List ℕ → Type 0) (c : List ℕ) : Type 0 where
-  pub old : List ℕ
-  pub left : IsCrashImage before old
-  pub change : Change old c
-
--- A crash at any moment from `old` to `new` leaves what a crash of `old` might have left, changed in this way.
-abbrev pub CrashesChangeOnly : Medium → Medium → (List ℕ → List ℕ → Type 0) → Type 0
-CrashesChangeOnly old new Change = CrashImagesAre old new (After old Change)
 
 -- The bytes c are what a crash of the device `before` might have left, with a prefix of these records added to half h.
 pub record HasAppendedPrefix (l : Layout) (h : ℕ) (more : List (List ℕ)) (before : Medium) (c : List ℕ) : Type 0 where

@@ -8,7 +8,8 @@ use Rattle.disk.specs.Moments.{CrashImagesAre}
 use Rattle.device_map.specs.Layout.{Layout, image_part, other}
 use Rattle.oplog.specs.Front.{chain, front}
 use Rattle.oplog.specs.Recovery.{Decoding, named_area, current_of, recovers_by_area, run}
-use Rattle.oplog.specs.Changes.{After, HasAppendedPrefix, HasAppendedAll, IsSameBut, IsSameButChainAndGates, IsSameButChain, IsSameButRoot, Chained, Flipped}
+use Rattle.disk.specs.Store.{After}
+use Rattle.oplog.specs.Changes.{HasAppendedPrefix, HasAppendedAll, IsSameBut, IsSameButChainAndGates, IsSameButChain, IsSameButRoot, Chained, Flipped}
 
 module _ {S : Type 0} (decoding : Decoding S) where
   -- These bytes recover to x by area n, which they name, with half h as their current one. If h is n, the front of half n

@@ -5,8 +5,6 @@ pub mod Changes
 pub mod Log
 pub mod Halves
 pub mod Crash
-pub mod Store
 pub mod Changing
 pub mod Calls
-pub mod Costs
 pub mod Beyond

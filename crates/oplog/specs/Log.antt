@@ -1,13 +1,17 @@
 -- Statement for engineers: A log as contracts see it, and what its calls make of it and answer.
-use Rattle.std.specs.Prelude.{◌≡◌, ℕ, ◌+◌, Bool, true, false, ◌&&◌, ◌==◌, if◌then◌else◌, List, length, Result, Ok, Err}
+use Rattle.std.specs.Prelude.{◌≡◌, ℕ, ◌+◌, ◌-◌, ◌/◌, Bool, true, false, ◌&&◌, ◌==◌, if◌then◌else◌, List, length, Result, Ok, Err}
 use Rattle.affinity.specs.declared.geometry.Geometry.{Geometry}
 use Rattle.disk.specs.Device.{Medium}
 use Rattle.messages.specs.declared.Msg.{Msg}
 use Rattle.message.specs.Records.{record_of}
 use Rattle.oplog.specs.declared.fault.LogFault.{LogFault}
 use Rattle.oplog.specs.declared.fault.LogFault.TheVariants.{Device, BadRecord}
-use Rattle.device_map.specs.Layout.{Layout, layout_of, other}
+use Rattle.device_map.specs.Layout.{Layout, layout_of, other, records_per_write}
 use Rattle.oplog.specs.Changing.{IsNoChangeRecord}
+
+-- how many batches of up to 64 records (`records_per_write`) n records make
+abbrev pub batch_count : ℕ → ℕ
+batch_count n = (n + (records_per_write - 1)) / records_per_write
 
 pub record Log : Type 0 where
   pub geometry : Geometry

@@ -1,19 +1,24 @@
 //! One half of a log: where its parts lie, and how records are added to it.
 ghost use Rattle.std.specs.Prelude.{◌≡◌, ◌+◌, ◌*◌, ◌<◌, ◌≤◌, length, IfOk, OnOk, IsErrOf, min, replicate, vec_len};
 ghost use Rattle.disk.specs.Device.{IsDeviceCall, SameOutside, moments};
-ghost use Rattle.oplog.specs.Changes.{CrashesChangeOnly};
-ghost use Rattle.oplog.specs.Costs.{Costs, batch_count};
+ghost use Rattle.disk.specs.Store.{CrashesChangeOnly, Costs, Stored};
+ghost use Rattle.oplog.specs.Log.{batch_count};
 ghost use Rattle.oplog.specs.Front.{front, count_open};
 ghost use Rattle.device_map.specs.Layout.{layout_of, part_at, half_part};
 ghost use Rattle.oplog.specs.Changing.{AreChangesInRange};
-ghost use Rattle.oplog.specs.Store.{Stored};
 
-use crate::layout::{CHAIN_ZONE_SIZE, MOST_RECORDS, RECORD_SIZE, RECORDS_PER_WRITE, half_at};
 use crate::staging::stage;
-use crate::store::store;
 use affinity::Geometry;
+use device_map::{CHAIN_ZONE_SIZE, RECORD_SIZE, half_at};
+use disk::store::store;
 use disk::{Disk, DiskFault};
 use messages::Msg;
+
+/// How many records are written at a time, at most.
+pub(crate) const RECORDS_PER_WRITE: usize = 64;
+
+/// How many records a half can hold, at most.
+pub(crate) const MOST_RECORDS: usize = 1024;
 
 const OPEN_GATES: [u8; RECORDS_PER_WRITE] = [1; RECORDS_PER_WRITE];
 

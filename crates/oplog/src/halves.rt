@@ -6,11 +6,11 @@ ghost use Rattle.message.specs.Records.{record_of};
 ghost use Rattle.oplog.specs.Changing.{AreChangesInRange, IsChangeInRange, IsNoChangeRecord};
 
 use crate::LogFault;
-use crate::half::Half;
-use crate::layout::{MOST_RECORDS, RECORD_SIZE, RECORDS_PER_WRITE, ROOT_ZONE_AT};
-use crate::store::store;
+use crate::half::{Half, MOST_RECORDS, RECORDS_PER_WRITE};
 use affinity::{Geometry, changing};
+use device_map::{RECORD_SIZE, ROOT_ZONE_AT};
 use disk::Disk;
+use disk::store::store;
 use message::decode;
 use messages::Msg;
 use std::alloc::{AllocError, Global};
@@ -48,8 +48,8 @@ impl Model for Halves {
 }
 
 impl Halves {
-    ghost use Rattle.oplog.specs.Log.{new_log, with_half_named, flipped, chained, log_after, IsLogCall, IsNotBadRecord, NamesRecord};
-    ghost use Rattle.oplog.specs.Costs.{Costs, batch_count};
+    ghost use Rattle.oplog.specs.Log.{new_log, with_half_named, flipped, chained, log_after, IsLogCall, IsNotBadRecord, NamesRecord, batch_count};
+    ghost use Rattle.disk.specs.Store.{Costs};
     ghost use Rattle.oplog.specs.Calls.{IsLongEnough, IsReadyFor, Grows, HasAdded, Clears, HasCleared, Chains, HasChained, Flips, HasFlipped, HasFront, IsOfRecordAt};
 
     /// The log of a device that wasn't read yet: until `name`, half 0 counts as named and current, without room.

@@ -4,17 +4,14 @@
 //!
 //! `Halves` appends records to the current half. A crash at any moment of an append leaves the front of this half as it was, with a prefix
 //! of the new records after it.
-//! `layout` gives the layout of such a device, `store` writes a range of bytes, with a sync or without, and `laws` state what a crash
-//! leaves.
+//! `laws` state what a crash leaves.
 #![tactic(auto)]
 
 mod fault;
 mod half;
 mod halves;
 pub mod laws;
-pub mod layout;
 mod staging;
-pub mod store;
 
 pub use fault::LogFault;
 pub use halves::Halves;

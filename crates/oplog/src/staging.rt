@@ -4,7 +4,7 @@ ghost use Rattle.std.specs.List.{concat, All, AllByRecursion};
 ghost use Rattle.message.specs.Records.{record_of, FitsRecord};
 ghost use Rattle.oplog.specs.Changing.{records_of};
 
-use crate::layout::RECORD_SIZE;
+use device_map::RECORD_SIZE;
 use message::encode;
 use messages::Msg;
 

@@ -22,7 +22,7 @@ use Rattle.legal_runs.specs.declared.outcomes.Step.TheVariants as steps
 use Rattle.messages.specs.declared.Msg.{Msg}
 use Rattle.messages.specs.declared.Reply.{Reply}
 use Rattle.messages.specs.declared.Reply.TheVariants.{Done}
-use Rattle.oplog.specs.Costs.{Costs}
+use Rattle.disk.specs.Store.{Costs}
 use Rattle.oplog.specs.Changing.{AreChangesInRange}
 use Rattle.oplog.specs.declared.fault.LogFault.{LogFault}
 use Rattle.parcel.specs.Tree.{state_in}

@@ -10,7 +10,8 @@ use Rattle.journal.proofs.Finishing.{finish_image_moments, finish_moments, finis
 use Rattle.journal.proofs.StillRefused.{finish_alike, image_alike}
 use Rattle.oplog.proofs.Answered.{on_ok}
 use Rattle.oplog.proofs.Beyond.{beyond, beyond_then}
-use Rattle.oplog.specs.Changes.{CrashesChangeOnly, IsSameBut, IsSameButRoot}
+use Rattle.disk.specs.Store.{CrashesChangeOnly}
+use Rattle.oplog.specs.Changes.{IsSameBut, IsSameButRoot}
 use Rattle.device_map.specs.Layout.{layout_of, image_part, other}
 use Rattle.journal.proofs.steps.finish_on.Goals as goal
 

@@ -8,7 +8,8 @@ use Rattle.journal.proofs.Pointing.{clear_moments, flip_moments, image_moments, 
 use Rattle.oplog.proofs.Answered.{on_ok}
 use Rattle.oplog.proofs.Beyond.{beyond, beyond_then}
 use Rattle.oplog.specs.Calls.{Flips, HasFlipped}
-use Rattle.oplog.specs.Changes.{CrashesChangeOnly, IsSameBut, IsSameButChainAndGates, IsSameButRoot}
+use Rattle.disk.specs.Store.{CrashesChangeOnly}
+use Rattle.oplog.specs.Changes.{IsSameBut, IsSameButChainAndGates, IsSameButRoot}
 use Rattle.device_map.specs.Layout.{layout_of, image_part, other}
 use Rattle.oplog.specs.Log.{Log}
 use Rattle.journal.proofs.steps.point_on.Goals as goal

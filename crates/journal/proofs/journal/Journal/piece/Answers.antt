@@ -14,7 +14,8 @@ use Rattle.journal.proofs.Logging.{recoverable_of}
 use Rattle.journal.proofs.Rows.{clear_set}
 use Rattle.journal.proofs.Piecing.{piece_counted, piece_left, piece_moments, piece_records, none_due, patches_one, piece_same, piece_some, piece_sound, pieced_along, some_left}
 use Rattle.oplog.specs.Beyond.{KeepsBeyond}
-use Rattle.oplog.specs.Changes.{CrashesChangeOnly, IsSameBut}
+use Rattle.disk.specs.Store.{CrashesChangeOnly}
+use Rattle.oplog.specs.Changes.{IsSameBut}
 use Rattle.oplog.proofs.Beyond.{beyond, beyond_none}
 use Rattle.device_map.specs.Layout.{layout_of, image_part, other}
 use Rattle.oplog.proofs.Answered.{on_ok}

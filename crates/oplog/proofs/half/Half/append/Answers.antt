@@ -2,7 +2,7 @@
 use Rattle.std.proofs.Common.{◌≡◌, ◌∙◌, ℕ, ◌+◌, ◌-◌, ◌*◌, ap, length, take, subst, arith, refl}
 use Rattle.std.proofs.lemmas.Result.{err_from_is_err_and}
 use Rattle.disk.specs.Moments.{moment_number}
-use Rattle.oplog.specs.Costs.{batch_count}
+use Rattle.oplog.specs.Log.{batch_count}
 use Rattle.oplog.proofs.Costs.{batch_left, one_batch, whole_batch}
 use Rattle.std.proofs.lemmas.Grind.{common_steps}
 use Rattle.device_map.specs.Layout.{layout_of}

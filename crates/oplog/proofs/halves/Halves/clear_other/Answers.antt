@@ -3,7 +3,7 @@ use Rattle.std.proofs.Common.{◌+◌, ℕ, replicate, refl, sym, ◌∙◌, sub
 use Rattle.std.proofs.lemmas.List.{length-replicate}
 use Rattle.disk.specs.Device.{SameOutside}
 use Rattle.oplog.specs.Calls.{IsLongEnough, Clears, HasCleared}
-use Rattle.oplog.specs.Changes.{CrashesChangeOnly}
+use Rattle.disk.specs.Store.{CrashesChangeOnly}
 use Rattle.device_map.specs.Layout.{layout_of, half_part, other, part_at}
 use Rattle.oplog.specs.Log.{Log}
 use Rattle.oplog.proofs.Answered.{on_ok}

@@ -8,8 +8,7 @@ use Rattle.disk.proofs.Calls.{after_write}
 use Rattle.disk.proofs.Moments.{started}
 use Rattle.disk.proofs.Outside.{same_all}
 use Rattle.disk.proofs.Overlays.{overlaid_outside, marked_outside}
-use Rattle.oplog.specs.Changes.{After}
-use Rattle.oplog.specs.Store.{TouchesOnly}
+use Rattle.disk.specs.Store.{After, TouchesOnly}
 
 module _ (w0 w1 : Medium) (at : ℕ) (bytes : List ℕ) where
   pub written : (r : Result (Unit {0}) DiskFault) → at + length bytes ≤ length w0.now → AreBytes w0.now → Writes at bytes r w0 w1

@@ -2,11 +2,9 @@
 //! `TouchesOnly` which bytes and unsynced flags differ after it.
 ghost use Rattle.std.specs.Prelude.{◌≡◌, ◌+◌, ◌≤◌, length, OnOk, IsErrOf};
 ghost use Rattle.disk.specs.Device.{SameOutside, IsDeviceCall, overlaid};
-ghost use Rattle.oplog.specs.Changes.{CrashesChangeOnly};
-ghost use Rattle.oplog.specs.Costs.{Costs};
-ghost use Rattle.oplog.specs.Store.{Stored, TouchesOnly};
+ghost use Rattle.disk.specs.Store.{Costs, CrashesChangeOnly, Stored, TouchesOnly};
 
-use disk::{Disk, DiskFault};
+use crate::{Disk, DiskFault};
 
 /// Writes these bytes from the byte `at` on. Until a sync succeeds, a crash may leave any bytes there.
 /// Returns `Device` exactly if the device failed; then what a read gives there is unspecified.
