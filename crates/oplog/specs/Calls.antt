@@ -1,16 +1,15 @@
 -- Statement for engineers: What the calls of a log ask of its device and do to it, in the words of contracts.
-use Rattle.std.specs.Prelude.{◌≡◌, ◌≤◌, ℕ, List, length, Result}
+use Rattle.std.specs.Prelude.{◌≡◌, ◌≤◌, ℕ, List, length}
 use Rattle.disk.specs.Device.{Medium}
 use Rattle.disk.specs.Moments.{CrashImagesAre}
 use Rattle.messages.specs.declared.Msg.{Msg}
-use Rattle.oplog.specs.declared.fault.LogFault.{LogFault}
 use Rattle.oplog.specs.declared.half.Half.{Half}
 use Rattle.device_map.specs.Layout.{layout_of, device_size, other}
-use Rattle.oplog.specs.Front.{front, record_at}
+use Rattle.oplog.specs.Front.{front}
 use Rattle.disk.specs.Store.{CrashesChangeOnly}
-use Rattle.oplog.specs.Changes.{HasAppendedPrefix, HasAppendedAll, IsReady, IsSameButChainAndGates, IsSameButChain, IsSameButRoot, Cleared, Chained, Flipped}
+use Rattle.oplog.specs.Changes.{HasAppendedPrefix, HasAppendedAll, IsReady, IsSameButChainAndGates, IsSameButChain, IsSameButRoot}
 use Rattle.oplog.specs.Changing.{records_of}
-use Rattle.oplog.specs.Log.{Log, layout, IsOfRecord}
+use Rattle.oplog.specs.Log.{Log, layout}
 
 -- ---- what they ask
 
@@ -36,35 +35,19 @@ HasAdded log messages old new = HasAppendedAll (layout log) log.current log.used
 abbrev pub Clears : Log → Medium → Medium → Type 0
 Clears log old new = CrashesChangeOnly old new (IsSameButChainAndGates (layout log) (other log.named))
 
--- The half that isn't named is cleared, and nothing is unsynced.
-abbrev pub HasCleared : Log → Medium → Medium → Type 0
-HasCleared log old new = Cleared (layout log) (other log.named) old new
-
 -- Only the chain byte of the named half changes.
 abbrev pub Chains : Log → Medium → Medium → Type 0
 Chains log old new = CrashesChangeOnly old new (IsSameButChain (layout log) log.named)
 
--- The chain byte of the named half is 1, and nothing is unsynced.
-abbrev pub HasChained : Log → Medium → Medium → Type 0
-HasChained log old new = Chained (layout log) log.named old new
-
 -- Only the byte that names an area changes.
 abbrev pub Flips : Log → Medium → Medium → Type 0
 Flips log old new = CrashesChangeOnly old new (IsSameButRoot (layout log))
-
--- The other area is named, and nothing is unsynced.
-abbrev pub HasFlipped : Log → Medium → Medium → Type 0
-HasFlipped log old new = Flipped (layout log) (other log.named) old new
 
 -- ---- what they read
 
 -- The front of half h has n records.
 abbrev pub HasFront : Log → ℕ → ℕ → Medium → Type 0
 HasFront log h n m = n ≡ length (front (layout log) h m.now)
-
--- the answer to a call for record i of half h
-abbrev pub IsOfRecordAt : Log → ℕ → ℕ → Medium → Result Msg LogFault → Type 0
-IsOfRecordAt log h i m result = IsOfRecord log.geometry (record_at (layout log) h i m.now) result
 
 -- ---- what calls of one half ask and do
 

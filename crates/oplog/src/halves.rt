@@ -48,9 +48,12 @@ impl Model for Halves {
 }
 
 impl Halves {
-    ghost use Rattle.oplog.specs.Log.{new_log, with_half_named, flipped, chained, log_after, IsLogCall, IsNotBadRecord, NamesRecord, batch_count};
+    ghost use Rattle.oplog.specs.Log.{layout, IsOfRecord, new_log, with_half_named, flipped, chained, log_after, IsLogCall, IsNotBadRecord, NamesRecord, batch_count};
     ghost use Rattle.disk.specs.Store.{Costs};
-    ghost use Rattle.oplog.specs.Calls.{IsLongEnough, IsReadyFor, Grows, HasAdded, Clears, HasCleared, Chains, HasChained, Flips, HasFlipped, HasFront, IsOfRecordAt};
+    ghost use Rattle.device_map.specs.Layout.{other};
+    ghost use Rattle.oplog.specs.Changes.{Cleared, Chained, Flipped};
+    ghost use Rattle.oplog.specs.Front.{record_at};
+    ghost use Rattle.oplog.specs.Calls.{IsLongEnough, IsReadyFor, Grows, HasAdded, Clears, Chains, Flips, HasFront};
 
     /// The log of a device that wasn't read yet: until `name`, half 0 counts as named and current, without room.
     /// `AllocError` where there is no memory.
@@ -165,7 +168,7 @@ impl Halves {
         requires current_is_named { self.old.current ≡ self.old.named }
         requires long_enough { IsLongEnough self.old (D.medium disk.old) }
         ensures any_moment { D.keeps → Clears self.old (D.medium disk.old) (D.medium disk.new) }
-        ensures cleared { OnOk result (D.keeps → HasCleared self.old (D.medium disk.old) (D.medium disk.new)) }
+        ensures cleared { OnOk result (D.keeps → Cleared (layout self.old) (other self.old.named) (D.medium disk.old) (D.medium disk.new)) }
         ensures costs { D.keeps → Costs result 2 (D.medium disk.old) (D.medium disk.new) }
         ensures log { self.new ≡ log_after result self.old (record self.old { cleared = true }) }
         ensures no_bad_record { IsNotBadRecord result }
@@ -192,7 +195,7 @@ impl Halves {
         requires cleared { self.old.cleared ≡ true }
         requires long_enough { IsLongEnough self.old (D.medium disk.old) }
         ensures any_moment { D.keeps → Chains self.old (D.medium disk.old) (D.medium disk.new) }
-        ensures chained { OnOk result (D.keeps → HasChained self.old (D.medium disk.old) (D.medium disk.new)) }
+        ensures chained { OnOk result (D.keeps → Chained (layout self.old) self.old.named (D.medium disk.old) (D.medium disk.new)) }
         ensures costs { D.keeps → Costs result 2 (D.medium disk.old) (D.medium disk.new) }
         ensures log { self.new ≡ log_after result self.old (chained self.old) }
         ensures no_bad_record { IsNotBadRecord result }
@@ -219,7 +222,7 @@ impl Halves {
         requires not_failed { self.old.failed ≡ false }
         requires long_enough { IsLongEnough self.old (D.medium disk.old) }
         ensures any_moment { D.keeps → Flips self.old (D.medium disk.old) (D.medium disk.new) }
-        ensures flipped { OnOk result (D.keeps → HasFlipped self.old (D.medium disk.old) (D.medium disk.new)) }
+        ensures flipped { OnOk result (D.keeps → Flipped (layout self.old) (other self.old.named) (D.medium disk.old) (D.medium disk.new)) }
         ensures costs { D.keeps → Costs result 2 (D.medium disk.old) (D.medium disk.new) }
         ensures log { self.new ≡ log_after result self.old (flipped self.old) }
         ensures no_bad_record { IsNotBadRecord result }
@@ -276,7 +279,7 @@ impl Halves {
         requires half { half < 2 }
         requires i { i < self.old.geometry.half }
         requires long_enough { IsLongEnough self.old (D.medium disk.old) }
-        ensures record { D.keeps → IsOfRecordAt self.old half i (D.medium disk.old) result }
+        ensures record { D.keeps → IsOfRecord self.old.geometry (record_at (layout self.old) half i (D.medium disk.old).now) result }
         ensures change { IfOk result (λ m. IsMessage m × IsChangeInRange self.old.geometry m) }
         ensures names_record { NamesRecord half i result }
         ensures untouched { D.keeps → moments (D.medium disk.new) ≡ moments (D.medium disk.old) }

@@ -4,10 +4,10 @@ use Rattle.std.proofs.lemmas.Result.{err_from_is_err_and}
 use Rattle.journal.proofs.Cutting.{begun_forced, begun_images, begun_none, begun_ready, begun_recovers, chain_moments, named_below}
 use Rattle.journal.proofs.Pointing.{clear_moments}
 use Rattle.oplog.proofs.Beyond.{beyond, beyond_then}
-use Rattle.oplog.specs.Calls.{Chains, HasChained}
-use Rattle.oplog.specs.Changes.{IsSameButChain, IsSameButChainAndGates}
+use Rattle.oplog.specs.Calls.{Chains}
+use Rattle.oplog.specs.Changes.{IsSameButChain, IsSameButChainAndGates, Chained}
 use Rattle.device_map.specs.Layout.{layout_of, other}
-use Rattle.oplog.specs.Log.{Log}
+use Rattle.oplog.specs.Log.{Log, layout}
 use Rattle.journal.proofs.steps.cut_on.Goals as goal
 
 pub returns-in_err-clear_other-clause-any_moment : goal.returns-in_err-clear_other-clause-any_moment
@@ -44,7 +44,7 @@ returns-clause-begun g c = λ k.
     let clears = c.clear_other.ensures.any_moment k in
     let cleared = c.in_ok-clear_other.ensures.cleared k in
     let chains = subst (λ (log : Log). Chains log w1 w2) c.in_ok-clear_other.ensures.log (c.open_chain.ensures.any_moment k) in
-    let chained = subst (λ (log : Log). HasChained log w1 w2) c.in_ok-clear_other.ensures.log (c.in_ok-open_chain.ensures.chained k) in
+    let chained = subst (λ (log : Log). Chained (layout log) log.named w1 w2) c.in_ok-clear_other.ensures.log (c.in_ok-open_chain.ensures.chained k) in
     let are = g.met.D.Disk.bytes c.clear_other.new.disk in
     record {
       at = record {

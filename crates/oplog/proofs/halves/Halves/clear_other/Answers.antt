@@ -2,10 +2,11 @@
 use Rattle.std.proofs.Common.{◌+◌, ℕ, replicate, refl, sym, ◌∙◌, subst, arith}
 use Rattle.std.proofs.lemmas.List.{length-replicate}
 use Rattle.disk.specs.Device.{SameOutside}
-use Rattle.oplog.specs.Calls.{IsLongEnough, Clears, HasCleared}
+use Rattle.oplog.specs.Changes.{Cleared}
+use Rattle.oplog.specs.Calls.{IsLongEnough, Clears}
 use Rattle.disk.specs.Store.{CrashesChangeOnly}
 use Rattle.device_map.specs.Layout.{layout_of, half_part, other, part_at}
-use Rattle.oplog.specs.Log.{Log}
+use Rattle.oplog.specs.Log.{Log, layout}
 use Rattle.oplog.proofs.Answered.{on_ok}
 use Rattle.oplog.proofs.OneStore.{clear_moments, cleared}
 use Rattle.oplog.proofs.halves.Halves.clear_other.Goals as goal
@@ -39,6 +40,6 @@ returns-clause-cleared g c = λ k.
     let l = layout_of c.self.inside.geometry in
     let h = other c.self.inside.named in
     let whole = subst (λ (log : Log). IsLongEnough log w0) (sym c.self.view_is) c.requires.long_enough in
-    subst (λ (log : Log). HasCleared log w0 w1) c.self.view_is
+    subst (λ (log : Log). Cleared (layout log) (other log.named) w0 w1) c.self.view_is
     (cleared l h (part_at l (half_part h)) (replicate (64 + l.capacity) 0) (omega arith) refl refl _ _ whole
     (on_ok c.clear.result _ (sym c.is_err.ensures.value ∙ c.if-is_err.false) c.clear.ensures.cleared k))
