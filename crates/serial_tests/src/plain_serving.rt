@@ -11,20 +11,25 @@ use std::io::{ErrorKind, Read, Write};
 use std::process::Abort;
 use std::test::Fail;
 
-/// Gives one byte a read, and fails where the bytes end.
+/// Gives one byte a read. The read behind the first part fails, that one alone: a session that reads on meets the rest.
 #[derive(Drop)]
-struct Failing<'a>(&'a [u8]);
+struct Failing<'a> {
+    given: &'a [u8],
+    rest: &'a [u8],
+    why: ErrorKind,
+}
 
 impl<'a> Read for Failing<'a> {
     fn read(&mut self, buf: &mut [u8]) -> io::Result<usize> {
-        let Some((first, others)) = self.0.split_first() else {
-            return Err(io::Error::from(ErrorKind::Other));
+        let Some((first, others)) = self.given.split_first() else {
+            self.given = self.rest;
+            return Err(io::Error::from(self.why));
         };
         let Some(place) = buf.first_mut() else {
             return Ok(0);
         };
         *place = *first;
-        self.0 = others;
+        self.given = others;
         Ok(1)
     }
 }
@@ -109,15 +114,27 @@ fn count_lines(bytes: &[u8]) -> usize {
     bytes.iter().filter(|byte| **byte == b'\n').count()
 }
 
+// Asserts that a session whose read fails so, behind this many bytes, ends there, and has answered the whole lines.
+fn expect_read_fault(
+    rt: &impl Abort,
+    alloc: Global,
+    place: usize,
+    why: ErrorKind,
+) -> Result<(), AllocError> {
+    let (given, rest) = LINES.split_at(place.min(LINES.len()));
+    let replies = first_lines(REPLIES, count_lines(given));
+    let input = Failing { given, rest, why };
+    expect(rt, alloc, input, Err(PlainFault::Read), replies)
+}
+
 #[test]
 fn whole_lines_are_answered_before_a_read_that_fails_at_each_place(
     rt: HostRuntime,
 ) -> Result<(), Fail> {
     for place in 0..=LINES.len() {
-        let given = &LINES[..place];
-        let replies = first_lines(REPLIES, count_lines(given));
-        let fault = Err(PlainFault::Read);
-        expect(&rt, rt.alloc(), Failing(given), fault, replies)?;
+        expect_read_fault(&rt, rt.alloc(), place, ErrorKind::Other)?;
+        // A read that was interrupted isn't made again.
+        expect_read_fault(&rt, rt.alloc(), place, ErrorKind::Interrupted)?;
     }
     expect(&rt, rt.alloc(), LINES, Ok(()), REPLIES)?;
     Ok(())
@@ -171,31 +188,51 @@ fn after_each_write_that_fails_nothing_more_is_written(rt: HostRuntime) -> Resul
     Ok(())
 }
 
-/// Lines that take memory for a volume, for a block and for the number of blocks in its stripe, and others that take none.
-const TAKES_MEMORY: &[u8] = b"makevol 0 0
+/// Pairs of lines. The second ones take memory for a volume, for a block and for the number of blocks in its stripe, the first ones none.
+const TAKES_MEMORY: &[u8] = b"summary
+makevol 0 0
 setlabel 0 0 6162
 create 0 0 0
+list 0 0
 write 0 0 0 0 6162
 seal 0 0
 read 0 0 0 0
 ";
 
 /// The replies to them.
-const MEMORY_REPLIES: &[u8] = b"done
+const MEMORY_REPLIES: &[u8] = b"summary 0 0 0
 done
 done
+done
+files 0
 done
 done
 block 6162
 ";
 
-// Asserts that what was written before memory was refused is the first few replies, whole.
-fn is_beginning(rt: &impl Abort, written: &[u8]) {
-    same(
-        rt,
-        written,
-        first_lines(MEMORY_REPLIES, count_lines(written)),
-    );
+/// Gives two lines a read, and counts the pairs.
+#[derive(Drop)]
+struct Pairs<'a> {
+    lines: &'a [u8],
+    given: &'a mut usize,
+}
+
+impl<'a> Read for Pairs<'a> {
+    fn read(&mut self, buf: &mut [u8]) -> io::Result<usize> {
+        let mut pair = first_lines(self.lines, 2);
+        let size = pair.read(buf)?;
+        if size > 0 {
+            *self.given = self.given.saturating_add(1);
+        }
+        self.lines = self.lines.get(size..).unwrap_or_default();
+        Ok(size)
+    }
+}
+
+// The replies that are written where memory was refused after this many pairs were given: to the first line of the last pair, too, which
+// is answered and not yet written where the second one finds no memory.
+fn replies_of_pairs(given: usize) -> &'static [u8] {
+    first_lines(MEMORY_REPLIES, given.saturating_mul(2).saturating_sub(1))
 }
 
 /// The test passes also if any one request for memory in it is refused.
@@ -204,13 +241,18 @@ fn lines_are_answered_at_the_next_try(rt: HostRuntime) -> Result<(), Fail> {
     let alloc = rt.alloc();
     let mut first = room(alloc)?;
     let mut output = room(alloc)?;
-    let end = served_into(alloc, SMALL, TAKES_MEMORY, &mut first);
+    let mut given = 0;
+    let pairs = Pairs {
+        lines: TAKES_MEMORY,
+        given: &mut given,
+    };
+    let end = served_into(alloc, SMALL, pairs, &mut first);
     if end.is_ok() {
         same(&rt, first.as_slice(), MEMORY_REPLIES);
         return Ok(());
     }
     ends(&rt, end, Err(PlainFault::OutOfMemory));
-    is_beginning(&rt, first.as_slice());
+    same(&rt, first.as_slice(), replies_of_pairs(given));
     let end = served_into(alloc, SMALL, TAKES_MEMORY, &mut output);
     ends(&rt, end, Ok(()));
     same(&rt, output.as_slice(), MEMORY_REPLIES);
