@@ -4,6 +4,7 @@ use checkpoint::inspect;
 use disk::MemDisk;
 use harness::{Act, Counts, Halt, NEW, OLD, Server, Wrong, device_with, messages_of, torn};
 use message::{Msg, Reply};
+use oplog::LogFault;
 use std::alloc::Global;
 use std::process::Abort;
 use std::test::Fail;
@@ -136,22 +137,38 @@ fn calls_of_opening(alloc: Global) -> Result<u64, Wrong> {
     }
 }
 
-/// Logs these messages by one `log`, on a device that stops at the n-th device call of that. Gives whether it succeeded, and the device.
-fn logged_until(alloc: Global, messages: &[Msg], n: u64) -> Result<(bool, MemDisk), Wrong> {
-    let mut device = device_with(alloc, LONG, &[])?;
-    device.stop_at(calls_of_opening(alloc)?.saturating_add(n.max(1)));
+/// Logs these messages by one `log`. Gives whether that succeeded, and the device; the only fault may be `LogFault::Device`.
+fn logged_on(alloc: Global, device: MemDisk, messages: &[Msg]) -> Result<(bool, MemDisk), Wrong> {
     let Ok(mut server) = Server::open(alloc, device) else {
         return Err(Wrong::Unfit);
     };
     let logged = server.log(messages);
-    // The server took the call (else it gives `Halt::Unfit`), and it failed exactly if the journal has failed.
-    let is_reported = logged != Err(Halt::Unfit) && logged.is_err() == server.failed();
+    let is_reported = logged == Ok(()) || logged == Err(Halt::Failed(LogFault::Device));
+    // It failed exactly if the journal has failed.
+    let is_noted = logged.is_err() == server.failed();
     let (device, _) = server.into_device();
-    if is_reported {
+    if is_reported && is_noted {
         Ok((logged.is_ok(), device))
     } else {
         Err(Wrong::Unfit)
     }
+}
+
+/// The same on a device that stops at the n-th device call of that `log`.
+fn logged_until(alloc: Global, messages: &[Msg], n: u64) -> Result<(bool, MemDisk), Wrong> {
+    let mut device = device_with(alloc, LONG, &[])?;
+    device.stop_at(calls_of_opening(alloc)?.saturating_add(n.max(1)));
+    logged_on(alloc, device, messages)
+}
+
+#[test]
+fn a_batch_is_four_calls(rt: HostRuntime) -> Result<(), Fail> {
+    let messages = messages_of(rt.alloc(), &["makevol 0 0", "seal 0 0", "unseal 0 0"])?;
+    for (stop, is_logged) in [(4, false), (5, true)] {
+        let (was_logged, _) = logged_until(rt.alloc(), messages.as_slice(), stop)?;
+        holds(&rt, was_logged == is_logged);
+    }
+    Ok(())
 }
 
 /// Asserts that where the device stops at the n-th device call of one `log` of `count` messages, `records` of them are in force after a
@@ -194,6 +211,12 @@ const LEFT: [(u64, usize, usize); 8] = [
 
 #[test]
 fn a_long_log_is_two_batches(rt: HostRuntime) -> Result<(), Fail> {
+    let many = seals(rt.alloc(), 70)?;
+    let device = device_with(rt.alloc(), LONG, &[])?;
+    let (is_logged, device) = logged_on(rt.alloc(), device, many.as_slice())?;
+    holds(&rt, is_logged);
+    let calls = calls_of_opening(rt.alloc())?;
+    equals(&rt, device.calls(), calls.saturating_add(8));
     for &(n, old, new) in &LEFT {
         leaves(&rt, rt.alloc(), 70, n, OLD, old)?;
         leaves(&rt, rt.alloc(), 70, n, NEW, new)?;

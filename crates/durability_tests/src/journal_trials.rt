@@ -6,6 +6,7 @@ use harness::{
     Act, Ended, Halt, OpenedDevice, Progress, Questions, Server, Trial, Wrong, device_with,
     expected, messages_of,
 };
+use oplog::LogFault;
 use std::alloc::Global;
 
 /// One volume of one file of four blocks, each in a stripe of its own, and eight records in a half. In order: aggregates, volumes, stripes,
@@ -106,7 +107,7 @@ fn progress_in(
         let attempted = logged.saturating_add(messages.len());
         match server.act(act, messages.as_slice()) {
             Ok(()) => logged = attempted,
-            Err(Halt::Failed) if server.failed() => return Ok(progress_of(
+            Err(Halt::Failed(LogFault::Device)) if server.failed() => return Ok(progress_of(
                 logged, attempted, false,
             )),
             Err(_) => return Err(Wrong::Unfit),

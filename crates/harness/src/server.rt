@@ -64,15 +64,15 @@ pub enum Halt {
     /// isn't, or has pieces left, or the device failed before.
     Unfit,
 
-    /// The device failed.
-    Failed,
+    /// The call of the journal answered this.
+    Failed(LogFault),
 }
 
 /// Turns a result of the journal into one of this server.
 fn halted<T>(answer: Result<T, LogFault>) -> Result<T, Halt> {
     match answer {
         Ok(value) => Ok(value),
-        Err(_) => Err(Halt::Failed),
+        Err(fault) => Err(Halt::Failed(fault)),
     }
 }
 
