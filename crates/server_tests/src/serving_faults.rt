@@ -359,8 +359,15 @@ const THREE: &[u8] = b"makevol 0 0\ncreate 0 0 0\nwrite 0 0 0 0 61\n";
 
 const TWO_DONE: &[u8] = b"done\ndone\n";
 
+/// Whether half 1 is named, and a record was logged in half 0 since a cut began: the root byte, the chain byte of half 1 and the first gate
+/// of half 0 are 1.
+fn is_chained_to_half_0(bytes: &[u8]) -> bool {
+    [64, 2276, 192].iter().all(|at| bytes.get(*at) == Some(&1))
+}
+
 /// Serves three changes with one worker and a checkpoint (a cut) after each, on a device that stops at its n-th call. Returns whether that
-/// call was made, and whether it ended the session after two replies were written, during a cut since whose beginning a record was logged.
+/// call was made, and whether it ended the session after two replies were written, during a cut into area 0 since whose beginning a record
+/// was logged.
 fn stops_in_a_cut<T: Threads + Wait + Sync>(
     rt: &T,
     alloc: Global,
@@ -384,7 +391,7 @@ fn stops_in_a_cut<T: Threads + Wait + Sync>(
         end,
         output,
     } = left;
-    let is_in_a_cut = end == End::Fault(ServeFault::Device) && is_chained(device.bytes());
+    let is_in_a_cut = end == End::Fault(ServeFault::Device) && is_chained_to_half_0(device.bytes());
     let has_sent_two = output.as_slice().starts_with(TWO_DONE);
     Ok((device.calls() >= n, is_in_a_cut && has_sent_two))
 }
