@@ -308,6 +308,9 @@ done
     ),
     (
         b"makevol 0 0
+create 0 0 0
+write 0 0 0 0 6162
+read 0 0 0 0
 label 0 0
 setlabel 0 0 6162
 label 0 0
@@ -318,6 +321,9 @@ unseal 0 0
 dropvol 0 0
 ",
         "done
+done
+done
+block 6162
 label 00
 done
 label 6162
