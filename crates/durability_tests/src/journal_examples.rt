@@ -207,6 +207,12 @@ fn leaves_pieces(
     is_done && server.pieces_left() == pieces_left && (!is_idle || server.counts() == before)
 }
 
+/// Whether both images have the same bytes. They lie at 4424 and 6632, and have 2208 bytes each.
+fn has_equal_images(device: &MemDisk) -> bool {
+    let first = device.bytes().get(4424..6632);
+    first.is_some() && first == device.bytes().get(6632..8840)
+}
+
 #[test]
 fn pieces_that_changed_are_left(rt: HostRuntime) -> Result<(), Fail> {
     let alloc = rt.alloc();
@@ -219,7 +225,10 @@ fn pieces_that_changed_are_left(rt: HostRuntime) -> Result<(), Fail> {
     let (device, _) = server.into_device();
     let (shown, device) = shown_of(alloc, device.crash(torn(alloc, OLD)?))?;
     is_shown(&rt, &shown, 0, 0, [1, 1, 1]);
+    // No piece is dirty in either image, so each has the bytes of the state; those of image 1 are written anew by the next opening.
+    holds(&rt, has_equal_images(&device));
     let lines = ["makevol 0 0", "create 0 0 0", "write 0 0 0 0 61"];
-    is_found(&rt, alloc, SMALL, device, &lines)?;
+    let device = is_found(&rt, alloc, SMALL, device, &lines)?;
+    holds(&rt, has_equal_images(&device));
     Ok(())
 }
