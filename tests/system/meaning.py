@@ -1,4 +1,4 @@
-"""What messages do to a state, as docs/semantics.md says, and which states a server that was killed may leave.
+"""What messages do to a state, as docs/protocol.md says, and which states a server that was killed may leave.
 
 A state is a table of pieces: `(a, v)` is None or the volume's seal, files and label, `(a, v, s)` has the blocks of a
 stripe. No piece is changed in its place. Data is digits to the last byte that isn't zero.
