@@ -12,10 +12,9 @@ import threading
 import time
 from urllib.parse import quote
 
-import program
-from restarts import GREATEST
+from program import PATIENCE, PROGRAM, TOP, Case, put_bytes, run
 from meaning import options_of
-from program import PATIENCE, TOP, check, put_bytes, run
+from servers import GREATEST
 
 TOOLS = {"nbdkit with its plugin for Python": ["nbdkit", "python", "--dump-plugin"],
          "fio with its engine for NBD": ["fio", "--enghelp=nbd"]}
@@ -47,7 +46,7 @@ class Disk:
         self.device, self.socket = os.path.join(folder, "device"), os.path.join(folder, "socket")
         self.waffd, self.pid = os.path.join(folder, "waffd"), os.path.join(folder, "pid")
         with open(self.waffd, "w", encoding="utf-8") as file:
-            file.write(STARTING.format(pid=self.pid, program=os.path.abspath(program.PROGRAM)))
+            file.write(STARTING.format(pid=self.pid, program=os.path.abspath(PROGRAM)))
         os.chmod(self.waffd, 0o755)
         end = run(["format", self.device, *options_of(GREATEST)])
         if end[0] != 0:
@@ -163,86 +162,6 @@ def sectors_of(disk):
     return [data[at:at + SECTOR] for at in range(0, DISK_SIZE, SECTOR)]
 
 
-# ---- fio
-
-
-def try_fio(disk):
-    check("fio fills the disk and verifies it", disk.fio("--rw=randwrite", "--bs=4k"))
-    client = Client(disk)
-    disk.kill()
-    client.wait_for_end()
-    for name, kind in (("read", READ), ("write", WRITE), ("trim", TRIM), ("flush", FLUSH)):
-        count = 0 if kind == FLUSH else SECTOR
-        error = client.ask(kind, 0, count, bytes(count) if kind == WRITE else b"")[0]
-        check(f"the server is killed, and a {name} is answered with EIO", None if error == EIO else f"error {error}")
-    client.close()
-    check("fio connects anew, and all is there", disk.fio("--rw=randwrite", "--bs=4k", "--verify_only"))
-    disk.kill()
-    status = disk.stop()
-    check("the server is killed, and nbdkit ends", None if status == 0 else f"status {status}")
-    disk.start()
-    check("nbdkit starts again, and all is there", disk.fio("--rw=randwrite", "--bs=4k", "--verify_only"))
-    check("fio by four connections, with requests of many sizes",
-          disk.fio("--rw=randwrite", "--bsrange=512-64k", "--numjobs=4", "--size=2M", "--offset_increment=2M"))
-
-
-def try_fio_cut(disk):
-    """What fio wrote before the kill it can't distinguish from what it was to write. But each sector is a whole one of its own."""
-    check("fio fills the disk by sectors", disk.fio("--rw=randwrite", "--bs=512"))
-    killing = threading.Timer(FIO_RUNS, disk.kill)
-    killing.start()
-    began = time.monotonic()
-    problem = disk.fio("--rw=randwrite", "--bs=512", "--do_verify=0", f"--rate=,{DISK_SIZE // 4}")
-    killing.join()
-    took = time.monotonic() - began - FIO_RUNS
-    is_told = problem is not None and "Input/output error" in problem and took < PATIENCE
-    check("the server is killed while fio writes, and fio ends with EIO", None if is_told else f"{took:.0f} s, {problem}")
-    check("fio finds each sector whole, and at its place", disk.fio("--rw=read", "--bs=512"))
-
-
-# ---- what is refused
-
-
-def try_refused(disk):
-    other, sealed, zeros, none = (os.path.join(disk.folder, name) for name in ("other", "sealed", "zeros", "none"))
-    run(["format", other])
-    run(["format", sealed, *options_of(GREATEST)])
-    run(["serve", sealed], b"makevol 3 7\nseal 3 7\n")
-    put_bytes(zeros, bytes(1000))
-    rows = (("that is served", disk.device, "is served already"), ("of another geometry", other, "geometry"),
-            ("with a sealed volume", sealed, "create 3 7 0 was answered: error sealed"),
-            ("that isn't formatted", zeros, "not formatted"), ("that isn't there", none, "can't be opened"))
-    for name, device, text in rows:
-        words = ["nbdkit", "--foreground", "--unix", "-", *disk.plugin_of(device)]
-        try:
-            end = subprocess.run(words, capture_output=True, text=True, timeout=PATIENCE, check=False)
-            problem = None if end.returncode == 1 and text in end.stderr else f"status {end.returncode}, {end.stderr[-200:]!r}"
-        except subprocess.TimeoutExpired:
-            problem = "it is served"
-        check(f"a device {name} is refused", problem)
-
-
-# ---- sectors that are trimmed, and requests of other sizes
-
-
-def try_requests(disk):
-    client = Client(disk)
-    whole = b"x" * (4 * SECTOR)
-    for name, kind in (("trim", TRIM), ("zero", ZERO)):
-        errors = [client.ask(WRITE, 0, len(whole), whole)[0], client.ask(kind, SECTOR, 2 * SECTOR)[0]]
-        found = client.ask(READ, 0, len(whole))
-        wanted = whole[:SECTOR] + bytes(2 * SECTOR) + whole[:SECTOR]
-        is_right = errors == [0, 0] and found == (0, wanted)
-        check(f"{name} leaves zeros, there alone", None if is_right else f"{errors} {found!r:.80}")
-    for offset, count in ((0, 100), (100, SECTOR)):
-        errors = [client.ask(READ, offset, count)[0], client.ask(WRITE, offset, count, bytes(count))[0],
-                  client.ask(TRIM, offset, count)[0], client.ask(ZERO, offset, count)[0]]
-        check(f"{count} bytes at {offset} are refused", None if set(errors) == {EINVAL} else f"errors {errors}")
-    error, found = client.ask(READ, 0, DISK_SIZE)
-    check("the whole disk in one request", None if not error and len(found) == DISK_SIZE else f"error {error}")
-    client.close()
-
-
 # ---- kills with requests in flight
 
 
@@ -300,49 +219,106 @@ class Load:
         self.client.close()
         return errors
 
-    def problem(self):
-        """The sectors that hold neither what they have to nor what they may, or None."""
+    def wrong(self):
+        """The sectors that hold neither what they have to nor what they may."""
         found = sectors_of(self.disk)
         wrong = [at for at, data in enumerate(found) if data not in (self.certain[at], self.open.get(at))]
         self.certain = found
-        return f"{len(wrong)} sectors, {wrong[:5]}, hold something else" if wrong else None
-
-
-def try_kills(disk):
-    load = Load(disk)
-    errors, problem = 0, None
-    for number in range(KILLS):
-        try:
-            errors += load.run_until_killed()
-            problem = load.problem()
-        except (OSError, RuntimeError) as error:
-            problem = repr(error)
-        if problem is not None:
-            problem = f"kill {number}: {problem}"
-            break
-    check(f"{KILLS} kills with {DEPTH} requests in flight, {errors} of them answered with EIO", problem)
+        return wrong
 
 
 # ---- all of it
 
 
-def is_installed(words):
-    return shutil.which(words[0]) is not None and subprocess.run(words, capture_output=True, check=False).returncode == 0
+class BlockDevice(Case):
+    """Needs nbdkit with its plugin for Python, and fio with its engine for NBD."""
 
+    def setUp(self):
+        super().setUp()
+        missing = [name for name, words in TOOLS.items()
+                   if shutil.which(words[0]) is None or subprocess.run(words, capture_output=True, check=False).returncode]
+        self.assertFalse(missing, f"it needs {' and '.join(missing)}")
+        self.disk = Disk(self.folder)
+        self.disk.start()
 
-def try_all(folder):
-    missing = [name for name, words in TOOLS.items() if not is_installed(words)]
-    if missing:
-        check("examples/block_device is tried", f"it needs {' and '.join(missing)}")
-        return
-    disk = Disk(folder)
-    disk.start()
-    for part in (try_fio, try_fio_cut, try_requests, try_kills, try_refused):
-        try:
-            part(disk)
-        except (OSError, RuntimeError, subprocess.TimeoutExpired) as error:
-            check(f"{part.__name__} comes to its end", repr(error))
-    status = disk.stop()
-    check("nbdkit ends in order", None if status == 0 else f"status {status}")
-    shown = run(["show", disk.device])[1].decode().splitlines()[2:3]
-    check("and so does the server, which leaves no record", None if shown == ["records 0"] else f"{shown}")
+    def tearDown(self):
+        with self.subTest("nbdkit ends in order"):
+            self.assertEqual(self.disk.stop(), 0)
+        with self.subTest("and so does the server, which leaves no record"):
+            self.assertEqual(run(["show", self.disk.device])[1].decode().splitlines()[2:3], ["records 0"])
+
+    def fio(self, name, *options):
+        with self.subTest(name):
+            self.assertIsNone(self.disk.fio(*options))
+
+    def test_fio(self):
+        disk = self.disk
+        self.fio("fio fills the disk and verifies it", "--rw=randwrite", "--bs=4k")
+        client = Client(disk)
+        disk.kill()
+        client.wait_for_end()
+        for name, kind in (("read", READ), ("write", WRITE), ("trim", TRIM), ("flush", FLUSH)):
+            count = 0 if kind == FLUSH else SECTOR
+            with self.subTest(f"the server is killed, and a {name} is answered with EIO"):
+                self.assertEqual(client.ask(kind, 0, count, bytes(count) if kind == WRITE else b"")[0], EIO)
+        client.close()
+        self.fio("fio connects anew, and all is there", "--rw=randwrite", "--bs=4k", "--verify_only")
+        disk.kill()
+        with self.subTest("the server is killed, and nbdkit ends"):
+            self.assertEqual(disk.stop(), 0)
+        disk.start()
+        self.fio("nbdkit starts again, and all is there", "--rw=randwrite", "--bs=4k", "--verify_only")
+        self.fio("fio by four connections, with requests of many sizes",
+                 "--rw=randwrite", "--bsrange=512-64k", "--numjobs=4", "--size=2M", "--offset_increment=2M")
+
+    def test_fio_cut(self):
+        """What fio wrote before the kill it can't distinguish from what it was to write. But each sector is a whole one of its own."""
+        self.fio("fio fills the disk by sectors", "--rw=randwrite", "--bs=512")
+        killing = threading.Timer(FIO_RUNS, self.disk.kill)
+        killing.start()
+        began = time.monotonic()
+        problem = self.disk.fio("--rw=randwrite", "--bs=512", "--do_verify=0", f"--rate=,{DISK_SIZE // 4}")
+        killing.join()
+        with self.subTest("the server is killed while fio writes, and fio ends with EIO"):
+            self.assertIn("Input/output error", problem or "")
+            self.assertLess(time.monotonic() - began - FIO_RUNS, PATIENCE)
+        self.fio("fio finds each sector whole, and at its place", "--rw=read", "--bs=512")
+
+    def test_requests(self):
+        client, whole = Client(self.disk), b"x" * (4 * SECTOR)
+        for name, kind in (("trim", TRIM), ("zero", ZERO)):
+            with self.subTest(f"{name} leaves zeros, there alone"):
+                errors = [client.ask(WRITE, 0, len(whole), whole)[0], client.ask(kind, SECTOR, 2 * SECTOR)[0]]
+                self.assertEqual(errors, [0, 0])
+                self.assertEqual(client.ask(READ, 0, len(whole)), (0, whole[:SECTOR] + bytes(2 * SECTOR) + whole[:SECTOR]))
+        for offset, count in ((0, 100), (100, SECTOR)):
+            with self.subTest(f"{count} bytes at {offset} are refused"):
+                asked = ((READ, b""), (WRITE, bytes(count)), (TRIM, b""), (ZERO, b""))
+                self.assertEqual({client.ask(kind, offset, count, data)[0] for kind, data in asked}, {EINVAL})
+        with self.subTest("the whole disk in one request"):
+            error, found = client.ask(READ, 0, DISK_SIZE)
+            self.assertEqual((error, len(found)), (0, DISK_SIZE))
+        client.close()
+
+    def test_kills(self):
+        load, errors = Load(self.disk), 0
+        with self.subTest(f"{KILLS} kills with {DEPTH} requests in flight"):
+            for number in range(KILLS):
+                errors += load.run_until_killed()
+                self.assertEqual(load.wrong(), [], f"kill {number}: sectors that hold something else")
+            print(f"       {errors} requests were answered with EIO")
+
+    def test_refused(self):
+        other, sealed, zeros, none = map(self.at, ("other", "sealed", "zeros", "none"))
+        run(["format", other])
+        run(["format", sealed, *options_of(GREATEST)])
+        run(["serve", sealed], b"makevol 3 7\nseal 3 7\n")
+        put_bytes(zeros, bytes(1000))
+        rows = (("that is served", self.disk.device, "is served already"), ("of another geometry", other, "geometry"),
+                ("with a sealed volume", sealed, "create 3 7 0 was answered: error sealed"),
+                ("that isn't formatted", zeros, "not formatted"), ("that isn't there", none, "can't be opened"))
+        for name, device, text in rows:
+            with self.subTest(f"a device {name} is refused"):
+                words = ["nbdkit", "--foreground", "--unix", "-", *self.disk.plugin_of(device)]
+                end = subprocess.run(words, capture_output=True, text=True, timeout=PATIENCE, check=False)
+                self.assertTrue(end.returncode == 1 and text in end.stderr, f"status {end.returncode}, {end.stderr[-200:]!r}")

@@ -1,37 +1,23 @@
-"""The program that is tried: how it is run, and how it has to end."""
+"""The program that is tried, how it is run, and how it has to end. A check is a subtest, or a test without any."""
 import os
 import struct
 import subprocess
+import tempfile
+import unittest
 
 TOP = os.path.dirname(os.path.dirname(os.path.dirname(os.path.realpath(__file__))))
 PROGRAM = os.environ.get("PROGRAM", os.path.join(TOP, "crates", "waffd", "out", "waffd"))
 PATIENCE = 10  # seconds to wait for a reply or an end
 LONGEST_RUN = 600  # seconds that a run may take
+MOST_TURNS = 10000  # of calls or requests that fail
 
-READ_FAULT = b"waffd: read fault\n"
-WRITE_FAULT = b"waffd: write fault\n"
-DEVICE_FAULT = b"waffd: device fault\n"
-NO_MEMORY = b"waffd: out of memory\n"
+READ_FAULT, WRITE_FAULT = b"waffd: read fault\n", b"waffd: write fault\n"
+DEVICE_FAULT, NO_MEMORY = b"waffd: device fault\n", b"waffd: out of memory\n"
 
-passed = 0
-failures = 0
-
-
-def check(name, problem):
-    """Prints a check. `problem` is None where it passed."""
-    global passed, failures
-    if problem is not None:
-        failures += 1
-    else:
-        passed += 1
-    print(f"{'ok    ' if problem is None else 'FAILED'} {name}{'' if problem is None else ': ' + problem}", flush=True)
-
-
-def check_each(name, count, least, problem):
-    """Prints a check of so many calls or requests, each tried once: fewer than these can't be all that there are."""
-    if problem is None and count < least:
-        problem = f"there have to be {least} at least"
-    check(name, problem)
+MADE = b"makevol 0 0\ncreate 0 0 0\nwrite 0 0 0 0 6162\nread 0 0 0 0\n"
+REPLIES = b"done\ndone\ndone\nblock 6162\n"
+EACH_KIND = (b"makevol 0 0\ncreate 0 0 0\ncreate 0 0 1\nwrite 0 0 0 0 6162\nlist 0 0\nusage 0 0\nsummary\n"
+             b"setlabel 0 0 6162\nlabel 0 0\nseal 0 0\nunseal 0 0\npunch 0 0 0 0\nread 0 0 0 0\ndelete 0 0 1\ndropvol 0 0\n")
 
 
 def run(words, given=b"", env=None, closed=(), stdin=None, stdout=None):
@@ -42,13 +28,8 @@ def run(words, given=b"", env=None, closed=(), stdin=None, stdout=None):
             os.close(number)
 
     child = subprocess.Popen(
-        [PROGRAM, *words],
-        stdin=subprocess.PIPE if stdin is None else stdin,
-        stdout=subprocess.PIPE if stdout is None else stdout,
-        stderr=subprocess.PIPE,
-        env=dict(os.environ, **(env or {})),
-        preexec_fn=before if closed else None,
-    )
+        [PROGRAM, *words], stdin=subprocess.PIPE if stdin is None else stdin, stdout=subprocess.PIPE if stdout is None else stdout,
+        stderr=subprocess.PIPE, env=dict(os.environ, **(env or {})), preexec_fn=before if closed else None)
     try:
         output, faults = child.communicate(given if stdin is None else None, timeout=LONGEST_RUN)
     except subprocess.TimeoutExpired:
@@ -56,16 +37,6 @@ def run(words, given=b"", env=None, closed=(), stdin=None, stdout=None):
         child.communicate()
         return None, b"", b"no end"
     return child.returncode, output or b"", faults
-
-
-def problem_of(end, status, output=None, faults=None):
-    """What differs from what is wanted, or None. A wanted text may be a test."""
-    for name, found, wanted in (("status", end[0], status), ("output", end[1], output), ("faults", end[2], faults)):
-        if wanted is None:
-            continue
-        if not (wanted(found) if callable(wanted) else found == wanted):
-            return f"{name} {found!r:.200}, all: {end[0]} {end[1][-80:]!r} {end[2][-120:]!r}"
-    return None
 
 
 def is_beginning(found, whole):
@@ -83,18 +54,8 @@ def put_bytes(path, data):
         file.write(data)
 
 
-def same_bytes(path, data):
-    """The problem where the file has other bytes."""
-    return None if bytes_of(path) == data else "other bytes"
-
-
-def counts_in(path):
-    """The numbers of calls that stop.c has counted."""
-    return struct.unpack("4q", bytes_of(path))
-
-
 class Between:
-    """Runs the program with a library of a C file of this folder between it and the C library."""
+    """Runs the program with a library of a C file of tests/inject between it and the C library."""
 
     def __init__(self, folder, source):
         self.library = os.path.join(folder, source + ".so")
@@ -118,3 +79,51 @@ class Between:
         self.happened()
         end = run(words, given, self.env(**{turn: number}), **streams)
         return end if self.happened() else None
+
+    def counts(self, path, words, given=b"", **streams):
+        """How a run ended, and how many calls of the device, of these those that change it, reads and writes it made."""
+        end = run(words, given, self.env(COUNTS=path), **streams)
+        return end, struct.unpack("4q", bytes_of(path))
+
+
+class Case(unittest.TestCase):
+    def setUp(self):
+        folder = tempfile.TemporaryDirectory()
+        self.addCleanup(folder.cleanup)
+        self.folder = folder.name
+
+    def at(self, name):
+        return os.path.join(self.folder, name)
+
+    def between(self, source):
+        return Between(self.folder, source)
+
+    def has_ended(self, end, status, output=None, faults=None):
+        """Asserts that a run ended so. A wanted text may be a test."""
+        for what, found, wanted in zip(("status", "output", "faults"), end, (status, output, faults)):
+            if wanted is not None and not (wanted(found) if callable(wanted) else found == wanted):
+                self.fail(f"{what} {found!r:.200}, all: {end[0]} {end[1][-80:]!r} {end[2][-120:]!r}")
+
+    def ends(self, name, end, *wanted):
+        with self.subTest(name):
+            self.has_ended(end, *wanted)
+
+    def holds(self, name, path, data):
+        """A check that a file has these bytes."""
+        with self.subTest(name):
+            self.assertTrue(bytes_of(path) == data, "other bytes")
+
+    def each(self, name, least, attempt):
+        """A check of calls or requests that fail in turn: `attempt` is given 1, 2 and so on, until it is False as there is no such call.
+        Fewer than `least` can't be all that there are. How many there were."""
+        number = 0
+        with self.subTest(name):
+            try:
+                while attempt(number + 1):
+                    number += 1
+                    self.assertLess(number, MOST_TURNS, "too many")
+            except AssertionError as error:
+                raise AssertionError(f"number {number + 1}: {error}") from None
+            self.assertGreaterEqual(number, least, "so many there have to be")
+            print(f"       {number} of them:")
+        return number

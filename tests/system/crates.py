@@ -1,0 +1,197 @@
+"""The crates' own tests where memory or threads are refused, or beside busy threads."""
+import contextlib
+import functools
+import os
+import re
+import signal
+import struct
+import subprocess
+import sys
+
+from program import MOST_TURNS, TOP, Case, bytes_of
+
+FAILED_TEST = (101, -signal.SIGABRT)  # by an error that it answered, or by an assertion
+LONGEST_TEST = 60  # seconds
+# Without memory a session writes what it has answered. Where the writer of the one test with such numbers refuses that too, nothing else is
+# reported than the last of these.
+MEMORY_WORDS = ("AllocError", "OutOfMemory", "out of memory", "AllocFailed", "left: (Err(Write), 1, ")
+
+
+def reason(told):
+    """Why rt failed: the first lines that report an error or a function without a proof, else the end of its output."""
+    lines = [line for line in told.splitlines() if re.search(r"\berror\b|no proof|not proved|FAILED", line)]
+    return "\n".join(lines[:5]) or told[-1000:]
+
+
+@functools.lru_cache(maxsize=None)
+def tests_of(folder):
+    """The program of a crate of tests and their names. TESTS=built takes the one that `rt ci` has built, where there is one."""
+    path = os.path.join(TOP, "crates", folder)
+    program = os.path.join(path, "out", folder + "_tests")
+    if os.environ.get("TESTS") != "built" or not os.access(program, os.X_OK):
+        built = subprocess.run(["rt", "test"], cwd=path, stdout=subprocess.PIPE, stderr=subprocess.STDOUT, text=True, check=False)
+        if built.returncode != 0:
+            raise AssertionError(f"tests of {folder}: {reason(built.stdout)}")
+    lines = subprocess.run([program, "--list"], capture_output=True, text=True, check=True).stdout.splitlines()
+    return program, [line[: -len(": test")] for line in lines if line.endswith(": test")]
+
+
+class Refused(Case):
+    """Tests to which requests are refused."""
+
+    def setUp(self):
+        super().setUp()
+        self.refusing = self.between("refuse.c")
+
+    def named(self, folder, name):
+        program, tests = tests_of(folder)
+        found = [test for test in tests if test.endswith("::" + name)]
+        self.assertTrue(found, f"{folder} has no test {name}")
+        return program, found[0]
+
+    def met(self, program, test, turn, has_to_pass):
+        """How many requests of this kind the test makes, each refused in turn: it passes, or fails for want of memory. Of tests that have to
+        pass only those count that do."""
+        count = 0
+        for number in range(1, MOST_TURNS):
+            self.refusing.happened()
+            env = {**os.environ, **self.refusing.env(**{turn: number})}
+            end = subprocess.run([program, test], env=env, capture_output=True, text=True, timeout=LONGEST_TEST, check=False)
+            if not self.refusing.happened():
+                return count
+            is_for_want = end.returncode in FAILED_TEST and any(word in end.stderr for word in MEMORY_WORDS)
+            if end.returncode and not is_for_want:
+                self.fail(f"{test}, request {number}: status {end.returncode}, {end.stderr.strip()[-300:]}")
+            count += not (has_to_pass and end.returncode)
+        self.fail("too many requests")
+
+
+# ---- calls that are made again where their memory was refused
+
+# Tests that make a call again to which memory was refused, by their crates, and how many requests of the call there have to be at
+# least, for memory and for threads: counted by hand in the sources, but of `serve`, of which this is less. Any other request that is
+# refused fails such a test, so where it passes the call was refused.
+MADE_AGAIN = {
+    "serial_tests": {"lines_are_answered_at_the_next_try": (5, 0), "beside_a_stripe_that_is_out": (11, 0)},
+    "parts_tests": {
+        "three_slots_and_two_chains": (3, 0),
+        "a_device_in_memory_is_made_at_the_next_try": (8, 0),
+        "a_run_queue_is_made_at_the_next_try": (7, 0),
+        "a_bench_is_opened_at_the_next_try": (9, 0),
+    },
+    "durability_tests": {
+        "a_refused_log_is_made_at_the_next_try": (1, 0),
+        "a_device_is_made_at_the_next_try": (1, 0),
+        "a_device_is_inspected_at_the_next_try": (13, 0),
+        "a_device_is_opened_at_the_next_try": (17, 0),
+    },
+    "machine_tests": {
+        "a_core_takes_its_own_memory_before_it_calls_the_device": (12, 0),
+        "a_core_is_opened_at_the_next_try": (29, 0),
+        "a_machine_is_made_at_the_next_try": (1, 0),
+    },
+    "server_tests": {"lines_are_served_at_the_next_try": (10, 3)},
+}
+# Tests that print on standard output between which lines they may ask for no memory, by their crates.
+ASK_FOR_NONE = {
+    "machine_tests": ("a_full_log_and_its_point_take_no_memory", "two_writes_side_by_side_take_no_memory", "a_cut_takes_no_memory"),
+}
+
+
+class Calls(Refused):
+    """Each request for memory of a call is refused in turn, in a test that makes the call again on what was given back: of `serve`, and there each
+    thread too, nothing was read or written at the refusal; of the opening of a device, by a core and by a journal, of `format` and of `inspect`
+    the device has its bytes, and a core's own memory comes before its first call of the device; of the serial server whole lines were
+    written; a machine; a bench; and the parts below them. The second call does what it has to. Requests are counted too where worked lists of
+    steps may make none behind the opening."""
+
+    def test_calls_are_made_again(self):
+        for folder, wanted in MADE_AGAIN.items():
+            for name, least_of in wanted.items():
+                for turn, least in zip(("REFUSE_ONE", "REFUSE_THREAD"), least_of):
+                    if least:
+                        with self.subTest(f"{folder}, {name}: {turn}, {least} at least"):
+                            self.assertGreaterEqual(self.met(*self.named(folder, name), turn, True), least)
+
+    def test_no_request(self):
+        for folder, name in ((folder, name) for folder, wanted in ASK_FOR_NONE.items() for name in wanted):
+            with self.subTest(f"{folder}, {name}: no request for memory"):
+                env = {**os.environ, **self.refusing.env(COUNTED=self.at("counted"))}
+                end = subprocess.run(self.named(folder, name), env=env, capture_output=True, text=True, timeout=LONGEST_TEST, check=False)
+                self.assertEqual(end.returncode, 0, end.stderr[-300:])
+                before, between_them = struct.unpack("2q", bytes_of(self.at("counted")))
+                self.assertGreater(before, 0)
+                self.assertEqual(between_them, 0, f"behind {before}")
+
+
+# ---- the tests of crates whose calls take memory
+
+# Where their tests are, and what the names of those begin with.
+TAKE_MEMORY = {
+    "plain": ("serial_tests", "plain_"), "parcel": ("serial_tests", "parcel_"), "arena": ("parts_tests", "arena_"), "disk": ("parts_tests", "disk_"),
+    "workers": ("parts_tests", "workers_"), "oplog": ("durability_tests", "oplog_"), "journal": ("durability_tests", "journal_"),
+    "machine": ("machine_tests", ""),
+}
+STARTS_THREADS = "a_bench_with_no_job_starts_and_ends"
+# Where a crate has such a test it alone is tried, since the others make too many requests: so do those beside the opening of a device and
+# beside worked lists of steps, which take memory only before their first step.
+ALONE = (STARTS_THREADS, "a_device_is_opened_at_the_next_try", "steps_come_out_so")
+# What is refused, and how many requests of that kind the tests that are tried have to make at least.
+TURNS = {"REFUSE_ONE": 1, "REFUSE_FROM": 1, "REFUSE_THREAD": 3}
+
+
+class Crates(Refused):
+    """As memory, for each test of the crates with calls that take memory: it passes, or reports that there was no memory. Of a bench each thread
+    is refused too, and it has to end. CRATES="NAME.." tries those crates alone."""
+
+    def test_crates(self):
+        for name in os.environ.get("CRATES", "").split() or TAKE_MEMORY:
+            folder, begin = TAKE_MEMORY[name]
+            program, tests = tests_of(folder)
+            tests = [test for test in tests if test.startswith(begin)]
+            tried = [test for test in tests if test.endswith(ALONE)] or tests
+            for turn, least in TURNS.items():
+                if turn != "REFUSE_THREAD" or any(test.endswith(STARTS_THREADS) for test in tried):
+                    with self.subTest(f"tests of {name}, {turn}"):
+                        self.assertGreaterEqual(sum(self.met(program, test, turn, False) for test in tried), least)
+
+
+# ---- threads that meet, each held up at any of its steps
+
+MEETINGS = (("parts_tests", "workers_"), ("server_tests", "serving_overlap::"))  # the tests of each crate whose names begin so
+BUSY_A_PROCESSOR = 4
+PROCESSORS = 2  # on which threads meet: so a thread is held up there as on any number
+ROUNDS = 20  # of the two tests that make many
+
+
+@contextlib.contextmanager
+def busy_threads(count, seconds):
+    """So many threads that do nothing but run, for no longer than this."""
+    spin = f"import time\nend = time.monotonic() + {seconds}\nwhile time.monotonic() < end: pass"
+    threads = [subprocess.Popen([sys.executable, "-c", spin]) for _ in range(count)]
+    try:
+        yield
+    finally:
+        for thread in threads:
+            thread.kill()
+            thread.wait()
+
+
+class Loaded(Case):
+    """The tests in which threads meet, on two processors beside eight busy threads, so that a thread is held up at any of its steps: a wake-up
+    that is lost there shows as a test that doesn't end within a minute. The two long ones make 20 rounds."""
+
+    def test_meetings(self):
+        before = os.sched_getaffinity(0)
+        built = [(folder, begin, *tests_of(folder)) for folder, begin in MEETINGS]
+        os.sched_setaffinity(0, sorted(before)[:PROCESSORS])
+        self.addCleanup(os.sched_setaffinity, 0, before)
+        for folder, begin, program, tests in built:
+            meeting = [test for test in tests if test.startswith(begin)]
+            self.assertTrue(meeting, f"no name of a test of {folder} begins with {begin}")
+            with busy_threads(BUSY_A_PROCESSOR * min(PROCESSORS, len(before)), LONGEST_TEST * len(meeting)):
+                for test in meeting:
+                    with self.subTest(f"{folder}, {test} beside busy threads"):
+                        env = dict(os.environ, BENCH_ROUNDS=str(ROUNDS))
+                        end = subprocess.run([program, test], env=env, capture_output=True, text=True, timeout=LONGEST_TEST, check=False)
+                        self.assertEqual(end.returncode, 0, end.stderr.strip()[-300:])

@@ -1,0 +1,90 @@
+"""What a device's file holds after each refusal of `serve`, after `serve` and after the next one; each call of the device fails in turn, alone
+and with all behind it, and the next run has all that was acknowledged."""
+from program import DEVICE_FAULT, EACH_KIND, MADE, READ_FAULT, REPLIES, Case, bytes_of, is_beginning, put_bytes
+from servers import CHAIN_0, CHAIN_1, GATE_0, GATE_1, IMAGE_0, IMAGE_1, RECORD_0, ROOT, SMALL, Device, File, text_of, with_bytes
+
+LEAST_CALLS = 50  # of the device, while some thirty changes are logged
+# What is set in a device that was just formatted, and how it is reported.
+DAMAGED = (
+    ("not formatted", (0, 0)), ("not formatted", (1, 0)), ("bad geometry", (8, 5)), ("bad geometry", (24, 1)),
+    ("bad version", (IMAGE_0, 0)), ("bad version", (IMAGE_0, 3)), ("bad version", (IMAGE_0 + 1, 1)), ("bad version", (ROOT, 1)),
+    ("bad piece 0", (4488, 2)), ("bad piece 1", (4552, 1)), ("bad piece 2", (5592, 2)), ("bad record 0 0", (GATE_0, 1)),
+    ("bad record 0 0", (GATE_0, 1), (RECORD_0, 9)), ("bad record 0 0", (GATE_0, 1), (RECORD_0, 2)),
+    ("bad record 0 1", (GATE_0, 1), (RECORD_0, 1), (193, 1), (716, 1)), ("bad chain", (CHAIN_0, 1), (CHAIN_1, 1)))
+
+
+class Damage(Case):
+    def refuses(self, name, file, data, text):
+        """Checks that `serve` refuses a device of these bytes, and leaves them."""
+        put_bytes(file.path, data)
+        self.ends(f"serve of a device {name}: {text}", file.serve(MADE), 1, b"", f"waffd: {text}\n".encode())
+
+    def test_damage(self):
+        file = File(self.folder)
+        rows = [(f"where {changes} are set", with_bytes(file.formatted, *changes), text) for text, *changes in DAMAGED]
+        rows += [(f"of {length} bytes", file.formatted[:length], "device too short") for length in (0, 127, 8839)]
+        for name, data, text in rows:
+            self.refuses(name, file, data, text)
+            self.holds("and the file stays", file.path, data)
+
+    def test_a_bad_record_behind_a_cut(self):
+        """The checkpoint that was cut short is finished before the record of the other half is looked at."""
+        file = File(self.folder)
+        finished = with_bytes(file.opened, (CHAIN_0, 1), (GATE_1, 1))
+        for name, data in (("with a bad record behind a cut", with_bytes(file.formatted, (CHAIN_0, 1), (GATE_1, 1))), ("refused before", finished)):
+            self.refuses(name, file, data, "bad record 1 0")
+            self.holds("and that checkpoint is finished", file.path, finished)
+
+
+class Files(Case):
+    def shows(self, name, file, area, records, summary):
+        with self.subTest(name):
+            self.assertEqual(file.shown(), [f"area {area}", f"records {records}", f"summary {summary}"])
+
+    def test_no_input(self):
+        file = File(self.folder)
+        self.ends("serve on no input", file.serve(), 0, b"", b"")
+        self.holds("leaves two points of the empty state", file.path, with_bytes(file.formatted, (IMAGE_1, 2)))
+        file.format()
+        self.ends("serve without workers", file.serve(MADE, "--workers", "0"), 2, b"", b"waffd: no workers\n")
+        self.holds("leaves an opened device", file.path, file.opened)
+
+    def test_changes(self):
+        file, three = File(self.folder), b"".join(MADE.splitlines(keepends=True)[:3])
+        for every, area in ((0, 0), (2, 1)):
+            file.format()
+            self.ends(f"three changes, every {every}", file.serve(three, "--every", str(every)), 0, b"done\ndone\ndone\n", b"")
+            self.shows("are in the last point", file, area, 0, "1 1 1")
+            self.ends("and in the next run", file.serve(b"read 0 0 0 0\nsummary\n"), 0, b"block 6162\nsummary 1 1 1\n", b"")
+
+    def test_a_failed_read(self):
+        file = File(self.folder)
+        end = self.between("refuse.c").run("FAIL_READ", 2, ["serve", file.path], MADE + b"dropvol")
+        self.ends("serve where the second read fails", end, 1, REPLIES, READ_FAULT)
+        self.shows("leaves the changes in the log", file, 1, 3, "1 1 1")
+        self.ends("and in the next run", file.serve(b"read 0 0 0 0\n"), 0, b"block 6162\n", b"")
+
+    def test_a_longer_file(self):
+        file = File(self.folder)
+        put_bytes(file.path, file.formatted + b"more" * 1000)
+        self.ends("serve on a longer file", file.serve(MADE), 0, REPLIES, b"")
+        with self.subTest("leaves what is behind"):
+            self.assertEqual(bytes_of(file.path)[8840:], b"more" * 1000)
+
+
+class DeviceFaults(Case):
+    def test_each_call(self):
+        """Each call of the device fails in turn, alone or with all behind it."""
+        lines, between = (EACH_KIND * 3).decode().splitlines(), self.between("stop.c")
+        for turn in ("FAIL_CALL", "FAIL_CALLS_FROM"):
+            for slots, every in ((1, 2), (16, 0)):
+                def attempt(number):
+                    device = Device(self.folder, (SMALL, 2, slots, every))
+                    end = between.run(turn, number, device.words(), text_of(lines))
+                    if end is None:
+                        return False
+                    self.has_ended(end, 1, lambda output: is_beginning(output, output), DEVICE_FAULT)
+                    device.judge(lines, end[1], False)
+                    return True
+
+                self.each(f"{turn}: {slots} slots, every {every}", LEAST_CALLS, attempt)

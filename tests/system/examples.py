@@ -1,0 +1,123 @@
+"""The commands that the pages show as examples print what the page has.
+
+An example is an indented block whose first line begins with `$ `. Each line of it that does is a command. The commands of a page are run in
+order in one empty folder, where `./waffd` is the program. Below a command is what it prints, line by line; what is behind two blanks is a
+remark. Below `plain` and `serve` are lines with their replies: each reply below its line, or, where the first line has something beside it,
+all replies beside their lines. A line is sent when the reply before it has come, and at last the input ends. Where the last line is
+`Killed`, the process is killed instead. A command of NOT_RUN isn't run. An indented block whose first line begins with `import ` is a
+program in Python, which has to end well and print nothing.
+"""
+import contextlib
+import glob
+import os
+import re
+import select
+import shlex
+import signal
+import subprocess
+import sys
+import tempfile
+import textwrap
+import time
+
+from program import PATIENCE, PROGRAM, TOP, Case
+
+INDENT, PROMPT = "    ", "    $ "
+RUN = "./waffd"
+# The commands that aren't run, and why.
+NOT_RUN = {
+    "rt": "it proves, which takes from seconds to an hour; rt ci does it",
+    "./build": "it proves all crates",
+    "./try": "it compiles all of it, in a minute or two",
+    "./check": "it makes these checks",
+    "tests/run": "it makes these checks",
+}
+CONVERSE = ("plain", "serve")
+KILLED = "Killed"
+BESIDE = re.compile(r" {2,}")
+PYTHON = re.compile(r"^\n((?: {4}import .*\n)(?: {4}.*\n|\n)*)", re.M)
+
+
+def examples(text):
+    """The commands of a page: the number of the line, the command, and the lines below it, each as its columns."""
+    found, inside, is_behind_blank = [], False, True
+    for number, line in enumerate(text.splitlines(), 1):
+        if line.startswith(PROMPT) and (inside or is_behind_blank):
+            inside = True
+            found.append((number, BESIDE.split(line[len(PROMPT):])[0], []))
+        elif line.strip() and not line.startswith(INDENT):
+            inside = False
+        elif line.strip() and inside:
+            found[-1][2].append(BESIDE.split(line.strip()))
+        is_behind_blank = not line.strip()
+    return found
+
+
+def programs(text):
+    """The programs in Python of a page: the number of the first line, and the program."""
+    return [(text.count("\n", 0, found.start(1)) + 1, textwrap.dedent(found[1])) for found in PYTHON.finditer(text)]
+
+
+def read_line(source):
+    """A line without its end, or what came of it until the output ended or patience did."""
+    found, end = b"", time.monotonic() + PATIENCE
+    while not found.endswith(b"\n") and time.monotonic() < end:
+        if select.select([source], [], [], 0.1)[0]:
+            byte = os.read(source.fileno(), 1)
+            if not byte:
+                break
+            found += byte
+    return found.decode(errors="replace").rstrip("\n")
+
+
+def pairs_of(rows):
+    """Lines with their replies: side by side, or below each other."""
+    if rows and len(rows[0]) > 1:
+        return [tuple((row + [""])[:2]) for row in rows]
+    cells = [row[0] for row in rows]
+    return list(zip(cells[::2], cells[1::2] + [""]))
+
+
+class Examples(Case):
+    def converse(self, child, rows):
+        """Sends each line and waits for its reply. The status with which the process has to end."""
+        is_killed = bool(rows) and rows[-1][0] == KILLED
+        for line, reply in pairs_of(rows[:-1] if is_killed else rows):
+            with contextlib.suppress(BrokenPipeError):  # it has ended, so nothing is read below
+                child.stdin.write(line.encode() + b"\n")
+            self.assertEqual(read_line(child.stdout), reply, f"the reply to {line!r}")
+        if is_killed:
+            child.kill()
+        return -signal.SIGKILL if is_killed else 0
+
+    def runs(self, words, rows, folder):
+        child = subprocess.Popen(words, cwd=folder, bufsize=0, stdin=subprocess.PIPE, stdout=subprocess.PIPE, stderr=subprocess.STDOUT)
+        try:
+            answers = words[1:2] and words[1] in CONVERSE
+            status = self.converse(child, rows) if answers else 0
+            printed = child.communicate(timeout=PATIENCE)[0].decode(errors="replace").splitlines()
+            self.assertEqual(printed, [] if answers else [row[0] for row in rows])
+            self.assertEqual(child.returncode, status)
+        finally:
+            child.kill()
+            child.wait()
+
+    def test_pages(self):
+        count = 0
+        for path in (f"{TOP}/README.md", f"{TOP}/CONTRIBUTING.md", *sorted(glob.glob(f"{TOP}/docs/*.md"))):
+            with open(path, encoding="utf-8") as page, tempfile.TemporaryDirectory() as folder:
+                os.symlink(os.path.abspath(PROGRAM), os.path.join(folder, "waffd"))
+                text = page.read()
+                for number, source in programs(text):
+                    with self.subTest(f"{os.path.relpath(path, TOP)}:{number}: a program in Python"):
+                        self.runs(["./waffd", "format", "d"], [["formatted 1332608"]], folder)
+                        self.runs([sys.executable, "-c", source], [], folder)
+                        os.unlink(os.path.join(folder, "d"))
+                for number, command, rows in examples(text):
+                    words = shlex.split(command)
+                    if words[0] not in NOT_RUN:
+                        count += 1
+                        with self.subTest(f"{os.path.relpath(path, TOP)}:{number}: {command}"):
+                            self.assertEqual(words[0], RUN, "nothing here runs it")
+                            self.runs(words, rows, folder)
+        self.assertTrue(count, "no command was run")

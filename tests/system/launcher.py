@@ -1,0 +1,94 @@
+"""./waffd and ./try. The first is tried in a tree of its own, where ./build and the program only print that they were called.
+
+- Where there is no program, it is built and run; where it can't be built, nothing is run, and the status is 4.
+- A program that is as new as its sources is run, with the words and the status of the call, also through a link.
+- Where a source is newer, nothing is built or run, ./build is named on the standard error, and the status is 4. Tests are no sources.
+- A program that ./build didn't make is built anew, or is too old as well.
+"""
+import os
+import shutil
+import subprocess
+import tempfile
+
+from program import TOP, Case
+
+NOT_RUN = 4
+BUILD = """#!/bin/sh
+echo built >&2
+[ ! -f "${0%/*}/wrong" ] || exit 1
+cd "${0%/*}/crates/waffd" && mkdir -p out && touch -d @2000 out/built && cp ../../program out/waffd && touch -d @3000 out/waffd
+"""
+PROGRAM = "#!/bin/sh\necho \"ran $*\"\nexit 7\n"
+BUILT = b"waffd: all of it is proved first; meanwhile ./try runs it unproved, in a minute or two\nbuilt\n"
+OLD = b"waffd: a source is newer than the program, which is not run: ./build proves and builds it anew\n"
+RAN = (7, b"ran serve d --every 2\n")
+
+
+class Launcher(Case):
+    def setUp(self):
+        """Two crates and their tests, all of whose sources are of the time 1000."""
+        super().setUp()
+        for crate in ("disk", "parts_tests", "waffd"):
+            self.put(f"crates/{crate}/src/lib.rt", "")
+            self.touch(f"crates/{crate}/src", 1000)
+        self.put("crates.txt", "")
+        self.put("build", BUILD, 0o755)
+        self.put("program", PROGRAM, 0o755)
+        shutil.copy(os.path.join(TOP, "waffd"), self.folder)
+
+    def put(self, path, text, mode=0o644):
+        os.makedirs(os.path.dirname(self.at(path)), exist_ok=True)
+        with open(self.at(path), "w", encoding="utf-8") as file:
+            file.write(text)
+        os.chmod(self.at(path), mode)
+        self.touch(path, 1000)
+
+    def touch(self, path, seconds):
+        os.utime(self.at(path), (seconds, seconds))
+
+    def calls(self, name, status, output, faults, script="./waffd", cwd=None):
+        end = subprocess.run([script, "serve", "d", "--every", "2"], cwd=cwd or self.folder, capture_output=True, check=False)
+        self.ends(name, (end.returncode, end.stdout, end.stderr), status, output, faults)
+
+    def test_launcher(self):
+        self.put("wrong", "")
+        self.calls("there is no program, and none can be built", NOT_RUN, b"", BUILT)
+        os.unlink(self.at("wrong"))
+        self.calls("there is no program", *RAN, BUILT)
+        self.calls("the program is there", *RAN, b"")
+        with tempfile.TemporaryDirectory() as elsewhere:
+            os.symlink(self.at("waffd"), os.path.join(elsewhere, "by_link"))
+            self.calls("it is called by a link", *RAN, b"", "./by_link", elsewhere)
+        self.touch("crates/parts_tests/src/lib.rt", 4000)
+        self.calls("a test is newer", *RAN, b"")
+        for path in ("crates/disk/src/lib.rt", "crates/disk/src", "crates.txt"):
+            self.touch(path, 2500)  # behind the begin of the build, and before its end
+            self.calls(f"{path} is newer", NOT_RUN, b"", OLD)
+            self.touch(path, 1000)
+        os.unlink(self.at("crates/waffd/out/built"))
+        self.touch("crates/disk/src/lib.rt", 4000)
+        self.calls("a source is newer than a program without a stamp", NOT_RUN, b"", OLD)
+        self.touch("crates/disk/src/lib.rt", 1000)
+        self.calls("a program without a stamp is built anew", *RAN, BUILT)
+        self.calls("and is there then", *RAN, b"")
+
+
+# What ./try is given, and what it gives to `rt try`, where @ is the folder of the call.
+TRIED = (("plain --files 2", "plain --files 2"), ("format d --half 8", "format @/d --half 8"), ("format --half 8 d", "format --half 8 @/d"),
+         ("serve --workers=2 d --slots 3", "serve --workers=2 @/d --slots 3"), ("show /d", "show /d"), ("serve --help", "serve --help"), ("", ""))
+
+
+class Try(Case):
+    def test_arguments(self):
+        """./try says that nothing is proved, and runs `rt try` in the folder of the program, with the whole path of a device."""
+        for path, text in (("rt", '#!/bin/sh\necho "$*"\npwd\n'), ("crates/waffd/x", "")):
+            os.makedirs(os.path.dirname(self.at(path)), exist_ok=True)
+            with open(self.at(path), "w", encoding="utf-8") as file:
+                file.write(text)
+        os.chmod(self.at("rt"), 0o755)
+        shutil.copy(os.path.join(TOP, "try"), self.folder)
+        env = dict(os.environ, PATH=f"{self.folder}:{os.environ['PATH']}")
+        for given, wanted in TRIED:
+            end = subprocess.run([self.at("try"), *given.split()], cwd="/tmp", env=env, capture_output=True, text=True, check=False)
+            wanted = f"try --seconds 3600 -- {wanted.replace('@', '/tmp')}".strip() + f"\n{os.path.realpath(self.at('crates/waffd'))}\n"
+            self.ends(f"./try {given}", (end.returncode, end.stdout, end.stderr), 0, wanted, lambda text: "nothing of this program is proved" in text)

@@ -1,0 +1,267 @@
+"""The program as a process: exit statuses, streams that are closed, full or of the wrong kind, terminals and
+pipes, one read or write that fails; that a reply comes before the next line is sent, and how many calls of the system piped input takes."""
+import os
+import pty
+import re
+import select
+import shutil
+import subprocess
+import time
+
+from program import (DEVICE_FAULT, MADE, PATIENCE, PROGRAM, READ_FAULT, REPLIES, WRITE_FAULT, Case, bytes_of, is_beginning, put_bytes, run)
+from examples import Examples
+from servers import COMMON, SMALL, Device, File, text_of
+
+HELP = ("--help", "-h", "help", "plain --help", "help plain", "serve --help", "serve -h", "help serve")
+GEOMETRY = b"waffd: geometry out of range\n"
+WRONG_WORDS = ("", "flat", "help flat", "--plain", "plain x", "plain --files", "plain --files two", "plain --files 65536")
+WRONG_OPTIONS = ("", "DEVICE other", "DEVICE --what", "DEVICE --workers", "DEVICE --workers x", "DEVICE --workers 65", "DEVICE --workers=-1",
+                 "DEVICE --slots 0", "DEVICE --slots 1025", "DEVICE --every 1025", "DEVICE --workers 2 --workers 2", "DEVICE --files 2")
+OPTIONS = ("DEVICE", "--workers 1 DEVICE", "DEVICE --workers=64 --slots=1024 --every=1024", "DEVICE --slots 1 --every 1",
+           "--every 0 DEVICE --workers 8")
+
+
+def is_version(text):
+    """The version, and what `rt version` prints of the kit, without the letter of its revision, and of the logic."""
+    kit = subprocess.run(["rt", "version"], capture_output=True, check=True).stdout.strip()
+    kit = re.sub(rb"[a-z]* logic ", b", logic ", kit)
+    return re.fullmatch(rb"waffd \S+ \(proved with " + re.escape(kit) + rb"\)\n", text) is not None
+
+
+def is_of_clap(text):
+    return bool(text) and not text.startswith(b"waffd: ")
+
+
+class Statuses(Case):
+    def test_help(self):
+        for text in HELP:
+            usage = b"Usage: waffd serve" if "serve" in text else b"Usage: waffd"
+            self.ends("help: " + text, run(text.split(), MADE), 0, lambda output: usage in output, b"")
+        for word in ("--version", "-V"):
+            self.ends(f"version: {word}", run([word], MADE), 0, is_version, b"")
+
+    def test_plain(self):
+        self.ends("plain answers and ends with 0", run(["plain"], MADE), 0, REPLIES, b"")
+        self.ends("plain on no input", run(["plain"]), 0, b"", b"")
+        for text in WRONG_WORDS:
+            self.ends("wrong words: " + (text or "none"), run(text.split(), MADE), 2, b"", is_of_clap)
+        self.ends("words that are not UTF-8", run([b"plain", b"\xff"], MADE), 2, b"", lambda text: b"invalid UTF-8" in text)
+        for number in ("0", "65"):
+            self.ends(f"--files {number}", run(["plain", "--files", number], MADE), 2, b"", GEOMETRY)
+
+    def test_serve(self):
+        file = File(self.folder)
+        for text in WRONG_OPTIONS:
+            self.ends("wrong words: serve " + text, run(["serve", *text.replace("DEVICE", file.path).split()], MADE), 2, b"", is_of_clap)
+            self.holds("and the file stays", file.path, file.formatted)
+        for text in OPTIONS:
+            file.format()
+            self.ends("serve " + text, run(["serve", *text.replace("DEVICE", file.path).split()], MADE), 0, REPLIES, b"")
+        for path in (self.at("none"), self.at("none/device"), self.folder, "/dev/null", "/dev/full", "/dev/tty"):
+            self.ends(f"serve {path}", run(["serve", path], MADE), 1, b"", DEVICE_FAULT)
+        with self.subTest("and no file is made"):
+            self.assertFalse(os.path.exists(self.at("none")))
+
+    def test_a_busy_file(self):
+        """A file that the system doesn't let be written, since a program runs from it."""
+        path = self.at("runs")
+        shutil.copy("/bin/sleep", path)
+        child = subprocess.Popen([path, "60"])
+        time.sleep(0.2)
+        self.ends("serve of a file that is busy", run(["serve", path], MADE), 1, b"", DEVICE_FAULT)
+        self.ends("show of it, which only reads", run(["show", path]), 1, b"", b"waffd: not formatted\n")
+        child.kill()
+        child.wait()
+        self.ends("serve of a file that is no device", run(["serve", path], MADE), 1, b"", b"waffd: not formatted\n")
+
+
+class Streams(Case):
+    def opened(self, path, mode):
+        file = open(path, mode)
+        self.addCleanup(file.close)
+        return file
+
+    def streams(self):
+        """What is wrong with streams: how a run that answers lines ends then, and the streams."""
+        ours, theirs = os.pipe()
+        os.close(ours)
+        self.addCleanup(os.close, theirs)
+        return (("standard input closed", (1, b"", READ_FAULT), {"closed": [0]}), ("standard output closed", (1, b"", WRITE_FAULT), {"closed": [1]}),
+                ("standard error closed", (0, REPLIES, b""), {"closed": [2]}), ("output and error closed", (1, b"", b""), {"closed": [1, 2]}),
+                ("all closed", (1, b"", b""), {"closed": [0, 1, 2]}),
+                ("standard input for writing alone", (1, b"", READ_FAULT), {"stdin": self.opened("/dev/null", "wb")}),
+                ("standard output for reading alone", (1, None, WRITE_FAULT), {"stdout": self.opened("/dev/null", "rb")}),
+                ("to a full device", (1, None, WRITE_FAULT), {"stdout": self.opened("/dev/full", "wb")}),
+                ("to a pipe that nobody reads", (1, None, WRITE_FAULT), {"stdout": theirs}))
+
+    def test_plain(self):
+        for name, wanted, streams in self.streams():
+            self.ends(f"plain, {name}", run(["plain"], MADE, **streams), *wanted)
+        self.ends("standard error closed, wrong words", run(["flat"], closed=[2]), 2, b"", b"")
+        for word in ("--help", "--version"):
+            self.ends(f"{word} with the output closed", run([word], closed=[1]), 1, b"", WRITE_FAULT)
+        self.ends("--help to a full device", run(["--help"], stdout=self.opened("/dev/full", "wb")), 1, None, WRITE_FAULT)
+
+    def test_serve(self):
+        file = File(self.folder)
+        for name, wanted, streams in (*self.streams(), ("output closed and no input", (0, b"", b""), {"closed": [1], "given": b""})):
+            file.format()
+            self.ends(f"serve, {name}", file.serve(**{"given": MADE, **streams}), *wanted)
+            self.ends("and the next run goes on", file.serve(b"summary\n"), 0, lambda text: text.startswith(b"summary "), b"")
+
+    def test_numbers(self):
+        """With a stream closed its number is taken, by something that can't be written, before a file is opened."""
+        for closed in ([1], [2], [1, 2]):
+            ours, theirs = os.pipe()
+            child = subprocess.Popen([PROGRAM, "plain"], stdin=ours, stdout=subprocess.DEVNULL, stderr=subprocess.DEVNULL,
+                                     preexec_fn=lambda: [os.close(number) for number in closed])
+            os.close(ours)
+            time.sleep(0.3)  # it waits for input now
+            with self.subTest(f"the number of a closed stream is taken: {closed}"):
+                for number in closed:
+                    flags = int(bytes_of(f"/proc/{child.pid}/fdinfo/{number}").split(b"flags:")[1].split()[0], 8)
+                    self.assertEqual(flags & os.O_ACCMODE, os.O_RDONLY)
+            os.close(theirs)
+            child.wait(PATIENCE)
+
+    def test_devices(self):
+        """A device's file never takes the number of a stream that is closed, so no text is printed into it."""
+        made, path, told = self.at("made"), self.at("device"), b"formatted 1332608\n"
+        self.ends("format tells the length", run(["format", made]), 0, told, b"")
+        with self.subTest("the file has that length"):
+            self.assertEqual(os.path.getsize(made), 1332608)
+        whole = bytes_of(made)
+        for closed in ([1], [2], [0, 1, 2]):
+            end = run(["format", path], closed=closed)
+            self.ends(f"format with {closed} closed", end, int(1 in closed), b"" if 1 in closed else told, b"" if 2 in closed else WRITE_FAULT)
+            self.holds("and the device has no text in it", path, whole)
+            os.unlink(path)
+        self.ends("show of no file with 2 closed", run(["show", self.at("none")], closed=[2]), 1, b"", b"")
+        self.ends("show with 1 closed", run(["show", made], closed=[1]), 1, b"", WRITE_FAULT)
+        self.holds("and the device stays", made, whole)
+
+
+# Lines that a client sends at once, with their replies.
+CONVERSATION = ((b"makevol 0 0\n", b"done\n"), (b"create 0 0 0\nsummary\n", b"done\nsummary 1 1 0\n"),
+                (b"what\n", b"error line\n"), (b"read 0 0 0 0\n", b"hole\n"), (b"write 0 0 0 0 61\n", b"done\n"),
+                (b"write 0 0 0 1 62\nwrite 0 0 0 2 63\nread 0 0 0 1\n", b"done\ndone\nblock 62\n"),
+                (b"punch 0 0 0 0\n", b"done\n"), (b"sum", b""), (b"mary\n", b"summary 1 1 2\n"))
+
+
+def read_reply(source, length):
+    """So many bytes, or what came until patience ended."""
+    found, end = b"", time.monotonic() + PATIENCE
+    while len(found) < length and time.monotonic() < end:
+        if select.select([source], [], [], 0.1)[0]:
+            piece = os.read(source, length - len(found))
+            if not piece:
+                break
+            found += piece
+    return found
+
+
+class Conversations(Case):
+    """A client that waits for each reply."""
+
+    def converse(self, child, name, to, source, end):
+        with self.subTest("a reply comes before the next line is sent: " + name):
+            for line, reply in CONVERSATION:
+                os.write(to, line)
+                self.assertEqual(read_reply(source, len(reply)), reply, f"after {line!r}")
+        end()
+        with self.subTest("and the end of the input ends it, once"):
+            self.assertEqual(child.wait(PATIENCE), 0)
+
+    def by_pipes(self, words):
+        with subprocess.Popen([PROGRAM, *words], stdin=subprocess.PIPE, stdout=subprocess.PIPE) as child:
+            name = "by pipes, " + " ".join(words[:1] + words[2:])
+            self.converse(child, name, child.stdin.fileno(), child.stdout.fileno(), child.stdin.close)
+
+    def at_a_terminal(self, words):
+        ours, theirs = pty.openpty()
+        os.system(f"stty -F {os.ttyname(theirs)} -echo -onlcr")
+        child = subprocess.Popen([PROGRAM, *words], stdin=theirs, stdout=theirs, start_new_session=True)
+        self.converse(child, f"at a terminal, {words[0]}", ours, ours, lambda: os.write(ours, b"\x04"))
+        os.close(ours)
+        os.close(theirs)
+
+    def test_plain(self):
+        self.by_pipes(["plain"])
+        self.at_a_terminal(["plain"])
+
+    def test_serve(self):
+        file = File(self.folder)
+        for options in ("--slots 1", "", "--workers 8 --slots 64 --every 2"):
+            file.format()
+            self.by_pipes(["serve", file.path, *options.split()])
+        file.format()
+        self.at_a_terminal(["serve", file.path])
+
+
+class SingleFaults(Case):
+    """One read of the input, or one write of the output, fails."""
+
+    def test_plain(self):
+        # Replies of 200 KiB, more than one write takes, which differ from place to place.
+        blocks = b"".join(b"write 0 0 0 %d %s\nread 0 0 0 %d\n" % (i % 64, b"%04x" % i * 200, i % 64) for i in range(1, 400))
+        long, between = b"makevol 0 0\ncreate 0 0 0\n" + blocks, self.between("refuse.c")
+        status, whole, _ = run(["plain"], long)
+        with self.subTest("a long input"):
+            self.assertTrue(status == 0 and len(whole) > 200000)
+
+        def fails(turn, words, given, *wanted):
+            def attempt(number):
+                end = between.run(turn, number, words, given)
+                return end is not None and self.has_ended(end, *wanted) is None
+            return attempt
+
+        self.each("plain, a read fails", 2, fails("FAIL_READ", ["plain"], long, 1, lambda output: is_beginning(output, whole), READ_FAULT))
+        self.each("plain, a write fails, and none follows", 2, fails("FAIL_WRITE", ["plain"], long, 1, whole.startswith, WRITE_FAULT))
+        self.each("help, a write fails", 1, fails("FAIL_WRITE", ["--help"], b"", 1, None, WRITE_FAULT))
+
+    def test_serve(self):
+        changes = ["makevol 0 0", "create 0 0 0"] + [f"write 0 0 0 {i % 4} {i:04x}{'5a' * 200}" for i in range(1, 400)]
+        lines = [line for i, change in enumerate(changes) for line in (change, f"read 0 0 0 {i % 4}")]
+        between = self.between("refuse.c")
+        for turn, told in (("FAIL_READ", READ_FAULT), ("FAIL_WRITE", WRITE_FAULT)):
+            def attempt(number):
+                device = Device(self.folder, (SMALL, 2, 64, 0))
+                end = between.run(turn, number, device.words(), text_of(lines))
+                if end is None:
+                    return False
+                self.has_ended(end, 1, None, told)
+                device.judge(lines, end[1], False)
+                return True
+
+            self.each(f"serve, {turn}", 2, attempt)
+
+
+COUNTED_LINES = 100000
+LINES_A_CALL = 4  # at least, of reads of the input and of writes of the output
+
+
+class Calls(Case):
+    def test_piped_input(self):
+        """How many calls of the system piped input takes. What is answered is written before a wait for the workers, so how many writes there
+        are is the scheduler's; so is how often threads wait for one another, which is only printed."""
+        between, volumes = self.between("stop.c"), range(COMMON.volumes)
+        made = [line for v in volumes for line in (f"makevol 0 {v}", f"create 0 {v} 0")]
+        for kind, data in (("read", ""), ("write", " 6162")):
+            lines = [f"{kind} 0 {i % len(volumes)} 0 {i // len(volumes) % COMMON.blocks}{data}" for i in range(COUNTED_LINES)]
+            put_bytes(self.at("lines"), text_of(made + lines))
+            device = Device(self.folder, (COMMON, 2, 256, 0))
+            with open(self.at("lines"), "rb") as given:
+                end, (calls, _, reads, writes) = between.counts(self.at("counts"), device.words(), stdin=given)
+            with self.subTest(f"{COUNTED_LINES} {kind} lines take {reads} reads, {writes} writes, {calls} calls of the device"):
+                self.has_ended(end, 0, None, b"")
+                self.assertLessEqual((reads + writes) * LINES_A_CALL, COUNTED_LINES)
+            if shutil.which("strace"):
+                self.tell_all_calls(device, kind)
+
+    def tell_all_calls(self, device, kind):
+        with open(self.at("lines"), "rb") as given:
+            words = ["strace", "-f", "-c", "-o", self.at("strace"), PROGRAM, *device.words()]
+            subprocess.run(words, stdin=given, stdout=subprocess.DEVNULL, check=False)
+        found = re.findall(r"(\d+)(?: +\d+)? +(\w+)$", bytes_of(self.at("strace")).decode(), re.M) if os.path.exists(self.at("strace")) else []
+        often = sorted(((int(count), name) for count, name in found if name != "total"), reverse=True)[:5]
+        print(f"       all calls of the system for {kind} lines: " + ", ".join(f"{name} {count}" for count, name in often))

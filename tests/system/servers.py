@@ -1,0 +1,140 @@
+"""Devices in files, and the state to which each recovers; random lines."""
+import os
+import random
+import shutil
+
+from program import bytes_of, put_bytes, run
+from meaning import FIELDS, Geometry, Search, empty_state, lines_that_make, lines_that_read, options_of, state_of_replies
+
+SMALL = Geometry(1, 1, 2, 1, 2, 4, 2, 4)
+WIDE = Geometry(2, 2, 2, 1, 2, 4, 2, 8)
+NARROW = Geometry(1, 1, 1, 64, 1, 4, 1, 4)
+COMMON = Geometry(1, 4, 4, 4, 16, 64, 64, 256)
+GREATEST = Geometry(4, 8, 8, 64, 64, 256, 64, 1024)
+
+# Places of the small device: the root zone, the two images, and the chain byte, the first gate and the first record of each half.
+ROOT, IMAGE_0, IMAGE_1 = 64, 4424, 6632
+CHAIN_0, GATE_0, RECORD_0 = 128, 192, 196
+CHAIN_1, GATE_1 = 2276, 2340
+
+
+def text_of(lines):
+    return "".join(line + "\n" for line in lines).encode()
+
+
+def replies_of(end, what):
+    """The lines that a run printed which had to end well."""
+    if end[0] != 0 or end[2]:
+        raise AssertionError(f"{what}: {end[0]} {end[2]!r:.200}")
+    return end[1].decode().splitlines()
+
+
+def plain(g, lines):
+    """What the serial server answers."""
+    return replies_of(run(["plain", *options_of(g)], text_of(lines)), "plain")
+
+
+def with_bytes(data, *changes):
+    data = bytearray(data)
+    for at, byte in changes:
+        data[at] = byte
+    return bytes(data)
+
+
+class File:
+    """The file of a small device, as it was formatted and as the opening of a server leaves it."""
+
+    def __init__(self, folder):
+        self.path = os.path.join(folder, "served")
+        if replies_of(run(["format", self.path, *options_of(SMALL)]), "format") != ["formatted 8840"]:
+            raise AssertionError("format told another length")
+        self.formatted = bytes_of(self.path)
+        self.opened = with_bytes(self.formatted, (ROOT, 1), (IMAGE_1, 2))
+
+    def serve(self, given=b"", *options, **streams):
+        return run(["serve", self.path, *options], given, **streams)
+
+    def format(self):
+        put_bytes(self.path, self.formatted)
+
+    def shown(self):
+        """What `show` prints, but for the geometry and the version."""
+        return run(["show", self.path])[1].decode().splitlines()[1:4]
+
+
+class Device:
+    """A device in a file and the state to which it recovers, as far as the replies report it."""
+
+    def __init__(self, folder, server):
+        self.g, self.workers, self.slots, self.every = server
+        self.path = os.path.join(folder, "device")
+        self.copy = os.path.join(folder, "copy")
+        replies_of(run(["format", self.path, *options_of(self.g)]), "format")
+        self.state = empty_state(self.g)
+
+    def __str__(self):
+        return f"{tuple(self.g)}, {self.workers} workers, {self.slots} slots, every {self.every}"
+
+    def words(self, path=None):
+        return ["serve", path or self.path, "--workers", str(self.workers), "--slots", str(self.slots), "--every", str(self.every)]
+
+    def read_state(self):
+        """The replies of the next run to the lines that read all, on a copy: so this file stays as it was left."""
+        shutil.copyfile(self.path, self.copy)
+        return replies_of(run(self.words(self.copy), text_of(lines_that_read(self.g))), "the next run")
+
+    def judge(self, lines, output, whole):
+        """Asserts that what came out for these lines, and what the next run answers, may be."""
+        made = lines_that_make(self.g, self.state)
+        wanted = text_of(plain(self.g, made + lines)[len(made):])
+        if not wanted.startswith(output) or (whole and output != wanted):
+            raise AssertionError(f"it answered other than the serial server, in the first {len(output)} bytes")
+        answered = len(lines) if whole else output.count(b"\n") + (not output.endswith(b"\n") and output != b"")
+        told = self.read_state()
+        left = state_of_replies(self.g, told)
+        logged = Search(self.g, self.state, lines, answered, left).find()
+        if logged is None:
+            raise AssertionError(f"of {answered} lines that were answered a change is missing, or what is there none has made")
+        if plain(self.g, made + logged + lines_that_read(self.g))[len(made + logged):] != told:
+            raise AssertionError("the serial server has another state")
+        self.state = left
+
+
+# ---- random lines
+
+WEIGHTS = {"write": 48, "punch": 8, "read": 10, "create": 9, "delete": 2, "seal": 2, "unseal": 4, "makevol": 5, "dropvol": 1,
+           "list": 2, "usage": 2, "summary": 1, "setlabel": 5, "label": 3}
+NO_MESSAGES = ("", "what", "READ 0 0 0 0", "read 0 0 0", "summary 0", " summary", "write 0 0 0 0 6", "read 00 0 0 0",
+               "read 0 0 0 65536", "a" * 1101, "write 0 0 0 0 " + "61" * 513)
+KINDS, SHARES = zip(*WEIGHTS.items())
+MOST = (2, 3, 3, 12)  # aggregates, volumes of each, files and blocks: so random messages meet
+
+
+class Drawing:
+    """Draws lines. No two writes have the same data, so each change that was lost is seen."""
+
+    def __init__(self, seed, g):
+        self.random, self.g, self.count = random.Random(seed), g, 0
+
+    def below(self, limit, most):
+        if self.random.randrange(200) == 0:
+            return limit  # out of range
+        return self.random.randrange(min(limit, most))
+
+    def data(self, most):
+        self.count += 1
+        digits = "%08x" % self.count
+        padded = self.random.randrange(8) == 0
+        return digits + "5a" * self.random.randrange(most - 3) if padded else digits
+
+    def line(self):
+        if self.random.randrange(50) == 0:
+            return self.random.choice(NO_MESSAGES)
+        kind = self.random.choices(KINDS, SHARES)[0]
+        limits = (self.g.aggregates, self.g.volumes, self.g.files, self.g.blocks)[:FIELDS[kind]]
+        numbers = [self.below(limit, most) for limit, most in zip(limits, MOST)]
+        data = [self.data(512)] if kind == "write" else [self.data(32)] if kind == "setlabel" else []
+        return " ".join([kind, *map(str, numbers), *data])
+
+    def lines(self, count):
+        return [self.line() for _ in range(count)]
