@@ -11,9 +11,9 @@ loop-is_dirty-preserved c =
       | then-is_dirty w ↦
           let dirty_at : get_or c.args.dirty.now c.loop-is_dirty.is_dirty-index false ≡ true = grind (arith, common_steps) in
           let more = count_after true c.args.dirty.now c.loop-is_dirty.is_dirty-index (omega arith) dirty_at in
-          (omega (arith, more, w.count-is, c.loop-is_dirty.invariant.0), omega (arith, w.count-is, c.loop-is_dirty.invariant.1))
+          record { count = omega (arith, more, w.count-is, c.loop-is_dirty.invariant.count); most = omega (arith, w.count-is, c.loop-is_dirty.invariant.most) }
       | else-is_dirty w ↦
           let clean : get_or c.args.dirty.now c.loop-is_dirty.is_dirty-index false ≡ false = grind (arith, common_steps) in
           let more = count_after false c.args.dirty.now c.loop-is_dirty.is_dirty-index (omega arith) clean in
-          (omega (arith, more, w.count-is, c.loop-is_dirty.invariant.0), omega (arith, w.count-is, c.loop-is_dirty.invariant.1))
+          record { count = omega (arith, more, w.count-is, c.loop-is_dirty.invariant.count); most = omega (arith, w.count-is, c.loop-is_dirty.invariant.most) }
     ]

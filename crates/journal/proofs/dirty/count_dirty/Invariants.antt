@@ -4,4 +4,4 @@ use Rattle.journal.specs.DirtyPieces.{count_dirty}
 use Rattle.journal.proofs.dirty.count_dirty.Given as goal
 
 abbrev pub invariant-loop-is_dirty : goal.invariant-loop-is_dirty
-invariant-loop-is_dirty l = (l.count ≡ count_dirty (take l.is_dirty-index l.dirty)) × (l.count ≤ l.is_dirty-index)
+invariant-loop-is_dirty l = record { count : l.count ≡ count_dirty (take l.is_dirty-index l.dirty); most : l.count ≤ l.is_dirty-index }

@@ -30,7 +30,7 @@ overflow_add-total c =
     let fits : IfSome c.index.result.now (FitsStripe g s) = fits_in_place (FitsStripe g) row.items c.requires.stripes s c.index.result.now at in
     let few = few_entries g s c.index.result.now c.entry_count-total.ensures.kept fits in
     let most = g.stripes_range.1 in
-    omega (arith, few, c.loop-s.invariant.1, c.entry_count-total.ensures.count, c.requires.count)
+    omega (arith, few, c.loop-s.invariant.most, c.entry_count-total.ensures.count, c.requires.count)
 
 pub loop-s-preserved : goal.loop-s-preserved
 loop-s-preserved c =
@@ -43,13 +43,16 @@ loop-s-preserved c =
     let few = few_entries g s c.index.result.now c.entry_count-total.ensures.kept fits in
     let here = count_at g row.items s c.index.result.now at c.entry_count-total.ensures.kept fits in
     let step = sum_step s (blocks_in_stripe g (holding (blocks_of g row.items)) 0 0) in
-    (omega (arith, step, here, c.loop-s.invariant.0, c.entry_count-total.ensures.count), omega (arith, few, c.loop-s.invariant.1, c.entry_count-total.ensures.count))
+    record {
+      total = omega (arith, step, here, c.loop-s.invariant.total, c.entry_count-total.ensures.count);
+      most = omega (arith, few, c.loop-s.invariant.most, c.entry_count-total.ensures.count);
+    }
 
 pub returns : goal.returns
 returns c =
     let g = c.args.g.now in
     let row = c.args.logical.now.stripes in
     let last : c.loop-s.s ≡ g.stripes = omega (arith, c.loop-s-test.false, c.len-s-end.ensures, row.ok.0, c.requires.count) in
-    c.loop-s.invariant.0
+    c.loop-s.invariant.total
     ∙ ap (λ n. sum_below n (blocks_in_stripe g (holding (blocks_of g row.items)) 0 0)) last
     ∙ sym (block_count-by_stripe g (holding (blocks_of g row.items)) 0 0)

@@ -6,4 +6,7 @@ use Rattle.parcel.proofs.StripeTotals.{holding}
 use Rattle.parcel.proofs.running.totals.block_count.Given as goal
 
 abbrev pub invariant-loop-s : goal.invariant-loop-s
-invariant-loop-s l = (l.total ≡ sum_below l.s (blocks_in_stripe l.g (holding (blocks_of l.g l.logical.stripes.items)) 0 0)) × (l.total ≤ l.s * 64)
+invariant-loop-s l = record {
+  total : l.total ≡ sum_below l.s (blocks_in_stripe l.g (holding (blocks_of l.g l.logical.stripes.items)) 0 0);
+  most : l.total ≤ l.s * 64;
+}
