@@ -14,7 +14,7 @@ ghost use Rattle.meaning.specs.ByKind.{done_or_refused};
 ghost use Rattle.meaning.specs.State.{State, empty};
 ghost use Rattle.plain.specs.Server.{server_state, IsConsistent};
 ghost use Rattle.messages.specs.Replies.{reply_line};
-ghost use Rattle.meaning.specs.Serial.{accepted_reply, reply_to, next_state};
+ghost use Rattle.meaning.specs.Serial.{reply_to, next_state};
 ghost use Rattle.meaning.specs.Progress.{HasAnswered};
 ghost use Rattle.meaning.specs.Output.{serial_output, answer_line, state_after_line, AnswersWholeLines, IsBeginning, WritesOutput};
 
@@ -97,27 +97,10 @@ fn answer_question(
         Kind::Read => out.add_reply(&Reply::Hole),
         Kind::List => out.add_reply(&server.list_files(g, a, v)),
         Kind::Usage => out.add_reply(&server.usage_of(g, a, v)),
-        _ => add_whole_reply(g, kind, numbers, server, out),
+        Kind::Summary => out.add_reply(&server.summary_of(g)),
+        Kind::Label => out.add_reply(&server.label_of(a, v)),
+        _ => unreachable!(),
     }
-}
-
-/// Adds the reply to a message that changes nothing and passes its checks. It is a function of its
-/// own, so that only this path takes the stack of a whole `Reply`, which has room for a block.
-#[inline(never)]
-fn add_whole_reply(
-    g: &Geometry,
-    kind: Kind,
-    numbers: [u16; 4],
-    server: &Server,
-    out: &mut ReplyBuffer,
-)
-    requires asks { is_changing kind ≡ false }
-    requires sound { IsConsistent g.now server.now }
-    requires room { FitsReply out.old }
-    ensures { out.new ≡ out.old
-        ++ reply_line (accepted_reply g.now (server_state server.now) (message_without_data kind numbers)) }
-{
-    out.add_reply(&server.reply_by(g, kind, numbers));
 }
 
 /// Answers a line that begins as a `write` with these numbers. `digits` is the rest of the line: if it

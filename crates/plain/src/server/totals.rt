@@ -74,7 +74,7 @@ impl Server {
     }
 
     /// How much all volumes hold, and how many they are.
-    pub(super) fn summary_of(&self, g: &Geometry) -> Reply
+    pub(crate) fn summary_of(&self, g: &Geometry) -> Reply
         requires sound { IsConsistent g.now self.now }
         ensures { result ≡ accepted_reply g.now (server_state self.now) Msg.Summary }
     {
