@@ -1,6 +1,6 @@
 //! The reorder buffer of the lines that were read and not retired yet (taken out, with the answer put into the reply buffer), oldest first.
 
-ghost use Rattle.std.specs.Prelude.{◌≡◌, ◌<◌, ◌≤◌, ◌+◌, ◌↔◌, ◌++◌, ◌∷◌, [], IfOk, IsTrue, MatchBool, MatchOption, ℕ, drop, length, map, take};
+ghost use Rattle.std.specs.Prelude.{◌≡◌, ◌<◌, ◌≤◌, ◌+◌, ◌++◌, ◌∷◌, [], IfOk, MatchBool, MatchOption, ℕ, drop, length, map, take};
 ghost use Rattle.std.specs.VecDeque.{deque_len};
 ghost use Rattle.message.specs.Waiting.{FitsReply};
 ghost use Rattle.reorder_buffer.specs.ReorderBuffer.{Line, complete_one, HaveTicketsFrom, AreConsecutive, AreUnaffected, HasTicket, can_retire, retired_text, answer_text, with_tickets};
@@ -149,13 +149,6 @@ impl ReorderBuffer {
         ensures { result ≡ self.now.slots }
     {
         self.slots
-    }
-
-    /// Whether there is room for a further line.
-    pub fn has_room(&self) -> bool
-        ensures { IsTrue result ↔ (length self.now.lines < self.now.slots) }
-    {
-        self.kinds.len() < self.slots
     }
 
     /// The oldest line.
