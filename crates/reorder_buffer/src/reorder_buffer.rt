@@ -60,16 +60,15 @@ impl Drop for ReorderBuffer {
 }
 
 impl Model for ReorderBuffer {
-    ghost use Rattle.std.specs.Prelude.{◌≡◌, ◌≤◌, ℕ, length};
-    ghost use Rattle.std.specs.VecDeque.{deque_capacity};
-    ghost use Rattle.reorder_buffer.specs.ReorderBuffer.{AreConsecutive, ReorderBufferView, ticketed_among, lines_of};
+    ghost use Rattle.reorder_buffer.specs.ReorderBuffer.{ReorderBufferView};
 
     ghost Value = { ReorderBufferView };
 
-    ghost view = { λ r. record { lines = lines_of r.kinds.items r.ticketed.items; slots = r.slots } };
+    ghost use Rattle.reorder_buffer.specs.Fields.{buffer_view, IsReorderBuffer};
 
-    ghost invariant = { λ r. (r.slots ≤ deque_capacity r.kinds) × (r.slots ≤ deque_capacity r.ticketed) × (length r.kinds.items ≤ r.slots)
-        × (ticketed_among r.kinds.items ≡ length r.ticketed.items) × AreConsecutive r.ticketed.items };
+    ghost view = { buffer_view };
+
+    ghost invariant = { IsReorderBuffer };
 }
 
 /// Stores the reply to the message with this ticket in a line, if that is the message's line and pending.

@@ -22,14 +22,14 @@ invariant_of-self c =
     let i = c.loop-k.invariant in
     let was = c.self.invariant in
     let fewer = ap (λ (l : List LineKind). length l) i.kinds in
-    let same = ap (λ (l : List LineKind). ticketed_among l) i.kinds in (
-      omega (arith, was.0, i.kinds_capacity, i.slots),
-      omega (arith, was.1, i.ticketed_capacity, i.slots),
-      omega (arith, was.2, fewer, i.slots),
-      same ∙ was.3 ∙ sym i.many,
-      subst (λ (l : List Line). AreConsecutive l) (sym i.ticketed)
-          (looked_in_order c.args.ticket c.args.reply c.loop-k.k c.self.inside.ticketed.items was.4),
-    )
+    let same = ap (λ (l : List LineKind). ticketed_among l) i.kinds in record {
+      room = omega (arith, was.room, i.kinds_capacity, i.slots);
+      room_beside = omega (arith, was.room_beside, i.ticketed_capacity, i.slots);
+      most = omega (arith, was.most, fewer, i.slots);
+      among = same ∙ was.among ∙ sym i.many;
+      consecutive = subst (λ (l : List Line). AreConsecutive l) (sym i.ticketed)
+          (looked_in_order c.args.ticket c.args.reply c.loop-k.k c.self.inside.ticketed.items was.consecutive);
+    }
 
 pub loop-k-preserved : goal.loop-k-preserved
 loop-k-preserved c =
