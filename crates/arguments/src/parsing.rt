@@ -18,7 +18,7 @@ const VERSION: &str = "0.1.0 (proved with rattle-kit-13, logic dac8208d650f15bf)
 // What help prints of the commands.
 const PLAIN: &str = "Answers the messages on standard input, one line each, from an empty state on";
 
-const FORMAT: &str = "Makes a device of an empty state in a file, instead of a file that is there";
+const FORMAT: &str = "Makes an empty device in a file. What a file that is there holds is lost";
 
 const SERVE: &str =
     "Answers the messages on standard input, one line each, with the device in a file";
@@ -73,7 +73,7 @@ const NUMBERS: [NumberOption<'static>; 8] = [
     ),
     (
         "half",
-        "Records in each half of the log, 4 to 1024 [default: 256]",
+        "Records in each half of the log of a device, 4 to 1024 [default: 256]",
         0,
         u16::MAX,
     ),
@@ -232,7 +232,9 @@ fn bare<'a>(alloc: Global) -> Command<'a>
     ensures { app_of result ≡ bare }
 {
     Command::new(alloc, "waffd")
-        .about("A server for messages about files of 512-byte blocks")
+        .about(
+            "A server for messages about files of 512-byte blocks: docs/protocol.md has the messages",
+        )
         .version(VERSION)
         .subcommand_required(true)
         .arg_required_else_help(true)

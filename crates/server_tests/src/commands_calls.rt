@@ -256,7 +256,7 @@ const OPTIONS: &str = "
       --files <N>       Files of each volume, 1 to 64 [default: 16]
       --blocks <N>      Blocks of each file, 1 to 256 [default: 64]
       --quota <N>       Blocks that a stripe can hold, 1 to 64 [default: 64]
-      --half <N>        Records in each half of the log, 4 to 1024 [default: 256]
+      --half <N>        Records in each half of the log of a device, 4 to 1024 [default: 256]
 ";
 
 /// The options of `serve`, as help prints them.
@@ -284,10 +284,10 @@ const HELP: [(&str, &str); 24] = [
     ("waffd -V", ", logic "),
     (
         "waffd --help",
-        "A server for messages about files of 512-byte blocks\n",
+        "A server for messages about files of 512-byte blocks: docs/protocol.md has the messages\n",
     ),
     ("waffd --help", "  plain   Answers the messages"),
-    ("waffd --help", "  format  Makes a device"),
+    ("waffd --help", "  format  Makes an empty device"),
     ("waffd --help", "  serve   Answers the messages"),
     ("waffd --help", "  show    Tells what the device"),
     ("waffd format -h", "  <DEVICE>  The file of the device"),
