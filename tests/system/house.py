@@ -22,7 +22,6 @@ SCRIPTS = {
     "docs/pictures/draw --check": "each picture fits what it shows",
     "tests/lint/effort": "the table of what each crate took has its counts",
     "tests/lint/chain": "the longest chain of crates, which bounds a first build, is within its budget",
-    "tests/lint/effort": "the table of effort has the counts of the sources",
     "benchmark/figures --check": "the pages' figures of speed are those of benchmark/figures.json",
     "tests/lint/version": "the version names the kit, the logic and the newest changes",
 }
