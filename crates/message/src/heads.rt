@@ -1,12 +1,11 @@
 //! The head of a line: the kind and the numbers of its message, the data not decoded; and the message of a head. In functions that work
 //! behind the keyword the argument `line` is the rest of the line.
 
-ghost use Rattle.std.specs.Prelude.{◌≡◌, ◌↔◌, ℕ, [], ◌∷◌, false, slice_index, option_map, Option, IfSome, MatchOption, Some, None};
+ghost use Rattle.std.specs.Prelude.{◌≡◌, ◌↔◌, [], false, option_map, Option, MatchOption, Some, None};
 ghost use Rattle.messages.specs.declared.Msg.{Msg};
 ghost use Rattle.messages.specs.declared.Msg.TheVariants.{Write as write, SetLabel as set_label};
 ghost use Rattle.messages.specs.Lines.{words, block_in_word, bytes_in_word, label_in_word};
-ghost use Rattle.messages.specs.Grammar.{message_of, Spells, of_kind, of_volume, of_file, of_block, of_data, of_label};
-ghost use Rattle.messages.specs.Messages.{filled};
+ghost use Rattle.messages.specs.Grammar.{message_of, Spells, of_kind, of_data, of_label};
 ghost use Rattle.message.specs.Heads.{IsHead, has_data, message_without_data, writing, labeling};
 ghost use Rattle.message.specs.declared.heads.Head.TheVariants.{NoMessage, WithoutData};
 
@@ -120,20 +119,20 @@ fn head_of_kind(kind: Kind, line: &[u8]) -> Head<'_>
     ensures { IsHead result (of_kind kind (words line.now)) }
 {
     match kind {
-        Kind::MakeVol => head_without_data(Kind::MakeVol, volume_arguments(line)),
-        Kind::DropVol => head_without_data(Kind::DropVol, volume_arguments(line)),
-        Kind::Create => head_without_data(Kind::Create, file_arguments(line)),
-        Kind::Delete => head_without_data(Kind::Delete, file_arguments(line)),
-        Kind::Seal => head_without_data(Kind::Seal, volume_arguments(line)),
-        Kind::Unseal => head_without_data(Kind::Unseal, volume_arguments(line)),
+        Kind::MakeVol => head_without_data(Kind::MakeVol, volume_numbers(line)),
+        Kind::DropVol => head_without_data(Kind::DropVol, volume_numbers(line)),
+        Kind::Create => head_without_data(Kind::Create, file_numbers(line)),
+        Kind::Delete => head_without_data(Kind::Delete, file_numbers(line)),
+        Kind::Seal => head_without_data(Kind::Seal, volume_numbers(line)),
+        Kind::Unseal => head_without_data(Kind::Unseal, volume_numbers(line)),
         Kind::Write => head_of_write(line),
-        Kind::Punch => head_without_data(Kind::Punch, block_arguments(line)),
-        Kind::Read => head_without_data(Kind::Read, block_arguments(line)),
-        Kind::List => head_without_data(Kind::List, volume_arguments(line)),
-        Kind::Usage => head_without_data(Kind::Usage, volume_arguments(line)),
+        Kind::Punch => head_without_data(Kind::Punch, block_numbers(line)),
+        Kind::Read => head_without_data(Kind::Read, block_numbers(line)),
+        Kind::List => head_without_data(Kind::List, volume_numbers(line)),
+        Kind::Usage => head_without_data(Kind::Usage, volume_numbers(line)),
         Kind::Summary => Head::NoMessage,
         Kind::SetLabel => head_of_label(line),
-        Kind::Label => head_without_data(Kind::Label, volume_arguments(line)),
+        Kind::Label => head_without_data(Kind::Label, volume_numbers(line)),
     }
 }
 
@@ -145,39 +144,6 @@ fn head_without_data(kind: Kind, numbers: Option<[u16; 4]>) -> Head<'static>
         Some(numbers) => Head::WithoutData(kind, numbers),
         None => Head::NoMessage,
     }
-}
-
-/// The numbers of an aggregate and a volume, and zeros.
-fn volume_arguments(line: &[u8]) -> Option<[u16; 4]>
-    ensures value { (make : ℕ → ℕ → Msg) → of_volume make (words line.now)
-        ≡ option_map (λ ns. make (slice_index ns 0) (slice_index ns 1)) result }
-    ensures zeros { IfSome result (λ ns. filled (slice_index ns 0 ∷ slice_index ns 1 ∷ []) ≡ ns) }
-{
-    let (aggregate, volume) = volume_numbers(line)?;
-    Some([aggregate, volume, 0, 0])
-}
-
-/// The numbers of an aggregate, a volume and a file, and a zero.
-fn file_arguments(line: &[u8]) -> Option<[u16; 4]>
-    ensures value { (make : ℕ → ℕ → ℕ → Msg) → of_file make (words line.now)
-        ≡ option_map (λ ns. make (slice_index ns 0) (slice_index ns 1) (slice_index ns 2)) result }
-    ensures zeros { IfSome result (λ ns.
-        filled (slice_index ns 0 ∷ slice_index ns 1 ∷ slice_index ns 2 ∷ []) ≡ ns) }
-{
-    let (aggregate, volume, file) = file_numbers(line)?;
-    Some([aggregate, volume, file, 0])
-}
-
-/// The numbers of an aggregate, a volume, a file and a block.
-fn block_arguments(line: &[u8]) -> Option<[u16; 4]>
-    ensures value { (make : ℕ → ℕ → ℕ → ℕ → Msg) → of_block make (words line.now)
-        ≡ option_map (λ ns. make (slice_index ns 0) (slice_index ns 1) (slice_index ns 2)
-        (slice_index ns 3)) result }
-    ensures zeros { IfSome result (λ ns. filled (slice_index ns 0 ∷ slice_index ns 1
-        ∷ slice_index ns 2 ∷ slice_index ns 3 ∷ []) ≡ ns) }
-{
-    let (aggregate, volume, file, block) = block_numbers(line)?;
-    Some([aggregate, volume, file, block])
 }
 
 /// The head of a `write`.

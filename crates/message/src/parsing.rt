@@ -5,9 +5,9 @@ ghost use Rattle.std.specs.Prelude.{◌≡◌, ◌≢◌, ℕ, ◌<◌, ◌≤�
 ghost use Rattle.std.specs.Str.{all_ascii_digits};
 ghost use Rattle.std.specs.Str.Parse.{digits_value};
 ghost use Rattle.messages.specs.declared.Msg.{Msg};
-ghost use Rattle.messages.specs.declared.Msg.TheVariants.{Write as write, SetLabel as set_label};
 ghost use Rattle.messages.specs.Lines.{words, number_in_word, bytes_in_word};
-ghost use Rattle.messages.specs.Grammar.{message_of, Spells, first_number, of_kind, of_volume, of_file, of_block, of_data, of_label, kind_named};
+ghost use Rattle.messages.specs.Grammar.{first_number, of_volume, of_file, of_block, kind_named};
+ghost use Rattle.messages.specs.Messages.{filled};
 
 use crate::LONGEST_LINE;
 use affinity::Kind;
@@ -116,30 +116,36 @@ fn kind_of_seven(word: &[u8; 7]) -> Option<Kind>
     }
 }
 
-/// The numbers of an aggregate and a volume.
-pub(crate) fn volume_numbers(line: &[u8]) -> Option<(u16, u16)>
-    ensures { (make : ℕ → ℕ → Msg) → of_volume make (words line.now) ≡ option_map (λ p. make p.0 p.1) result }
+/// The numbers of an aggregate and a volume, and zeros.
+pub(crate) fn volume_numbers(line: &[u8]) -> Option<[u16; 4]>
+    ensures value { (make : ℕ → ℕ → Msg) → of_volume make (words line.now)
+        ≡ option_map (λ ns. make (slice_index ns 0) (slice_index ns 1)) result }
+    ensures zeros { IfSome result (λ ns. filled (slice_index ns 0 ∷ slice_index ns 1 ∷ []) ≡ ns) }
 {
     let (aggregate, behind) = number_before_space(line)?;
-    Some((aggregate, number(behind)?))
+    Some([aggregate, number(behind)?, 0, 0])
 }
 
-/// The numbers of an aggregate, a volume and a file.
-pub(crate) fn file_numbers(line: &[u8]) -> Option<(u16, u16, u16)>
-    ensures { (make : ℕ → ℕ → ℕ → Msg) → of_file make (words line.now) ≡ option_map (λ p. make p.0 p.1 p.2) result }
+/// The numbers of an aggregate, a volume and a file, and a zero.
+pub(crate) fn file_numbers(line: &[u8]) -> Option<[u16; 4]>
+    ensures value { (make : ℕ → ℕ → ℕ → Msg) → of_file make (words line.now)
+        ≡ option_map (λ ns. make (slice_index ns 0) (slice_index ns 1) (slice_index ns 2)) result }
+    ensures zeros { IfSome result (λ ns. filled (slice_index ns 0 ∷ slice_index ns 1 ∷ slice_index ns 2 ∷ []) ≡ ns) }
 {
     let (aggregate, behind) = number_before_space(line)?;
-    let (volume, file) = volume_numbers(behind)?;
-    Some((aggregate, volume, file))
+    let [volume, file, _, _] = volume_numbers(behind)?;
+    Some([aggregate, volume, file, 0])
 }
 
 /// The numbers of an aggregate, a volume, a file and a block.
-pub(crate) fn block_numbers(line: &[u8]) -> Option<(u16, u16, u16, u16)>
-    ensures { (make : ℕ → ℕ → ℕ → ℕ → Msg) → of_block make (words line.now) ≡ option_map (λ p. make p.0 p.1 p.2 p.3) result }
+pub(crate) fn block_numbers(line: &[u8]) -> Option<[u16; 4]>
+    ensures value { (make : ℕ → ℕ → ℕ → ℕ → Msg) → of_block make (words line.now)
+        ≡ option_map (λ ns. make (slice_index ns 0) (slice_index ns 1) (slice_index ns 2) (slice_index ns 3)) result }
+    ensures zeros { IfSome result (λ ns. filled (slice_index ns 0 ∷ slice_index ns 1 ∷ slice_index ns 2 ∷ slice_index ns 3 ∷ []) ≡ ns) }
 {
     let (aggregate, behind) = number_before_space(line)?;
-    let (volume, file, block) = file_numbers(behind)?;
-    Some((aggregate, volume, file, block))
+    let [volume, file, block, _] = file_numbers(behind)?;
+    Some([aggregate, volume, file, block])
 }
 
 /// If a line begins with one digit and a space, which is the usual case: the number, and what comes
