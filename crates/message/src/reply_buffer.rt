@@ -65,23 +65,12 @@ fn write_to_front(reply: &Reply, room: &mut [u8]) -> usize
 
 /// Writes the line of a reply over the bytes from `at` on, and gives where it ends.
 #[inline(always)]
-fn put_reply_at(reply: &Reply, bytes: &mut [u8], at: usize) -> usize
+fn put_reply(reply: &Reply, bytes: &mut [u8], at: usize) -> usize
     requires { at + LONGEST_REPLY ≤ length bytes.old }
     ensures line { take result bytes.new ≡ take at bytes.old ++ reply_line reply.now }
     ensures bound { result ≤ at + LONGEST_REPLY }
 {
     at + write_to_front(reply, &mut bytes[at..at + LONGEST_REPLY])
-}
-
-/// The same, in a vector.
-#[inline(always)]
-fn put_reply(reply: &Reply, bytes: &mut Vec<u8>, at: usize) -> usize
-    requires { at + LONGEST_REPLY ≤ vec_len bytes.old }
-    ensures line { take result bytes.new.items ≡ take at bytes.old.items ++ reply_line reply.now }
-    ensures bound { result ≤ at + LONGEST_REPLY }
-    ensures len { vec_len bytes.new ≡ vec_len bytes.old }
-{
-    put_reply_at(reply, bytes.as_mut_slice(), at)
 }
 
 /// Writes the line of a block to the front of `room`, and gives its length.
@@ -97,23 +86,12 @@ fn write_block_to_front(content: &Block, room: &mut [u8]) -> usize
 }
 
 /// Writes the line of a block over the bytes from `at` on, and gives where it ends.
-fn put_block_at(content: &Block, bytes: &mut [u8], at: usize) -> usize
+fn put_block(content: &Block, bytes: &mut [u8], at: usize) -> usize
     requires { at + LONGEST_REPLY ≤ length bytes.old }
     ensures line { take result bytes.new ≡ take at bytes.old ++ reply_line (block_reply content.now) }
     ensures bound { result ≤ at + LONGEST_REPLY }
 {
     at + write_block_to_front(content, &mut bytes[at..at + LONGEST_REPLY])
-}
-
-/// The same, in a vector.
-fn put_block(content: &Block, bytes: &mut Vec<u8>, at: usize) -> usize
-    requires { at + LONGEST_REPLY ≤ vec_len bytes.old }
-    ensures line { take result bytes.new.items
-        ≡ take at bytes.old.items ++ reply_line (block_reply content.now) }
-    ensures bound { result ≤ at + LONGEST_REPLY }
-    ensures len { vec_len bytes.new ≡ vec_len bytes.old }
-{
-    put_block_at(content, bytes.as_mut_slice(), at)
 }
 
 /// The lines of replies that wait to be written, in order. A contract sees the bytes that wait.

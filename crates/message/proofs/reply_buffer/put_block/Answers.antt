@@ -1,7 +1,7 @@
 -- A block's line that is written into the part from `at` on follows what was there before `at`.
 use Rattle.std.proofs.Common.{◌++◌, take, ap, ◌∙◌, arith}
 use Rattle.message.proofs.WrittenParts.{take-put_mid}
-use Rattle.message.proofs.reply_buffer.put_block_at.Goals as goal
+use Rattle.message.proofs.reply_buffer.put_block.Goals as goal
 
 pub returns-clause-line : goal.returns-clause-line
 returns-clause-line c =
