@@ -17,3 +17,4 @@ pub use bench::Bench;
 pub use dispatcher_task::{DispatcherTask, know_returned};
 pub use gate::{Gate, OpenGate};
 pub use seats::{DispatchSeat, WorkSeat};
+pub use words::MOST_PLACES;
