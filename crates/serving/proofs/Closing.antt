@@ -20,7 +20,7 @@ use Rattle.serving.specs.Lending.{NoneInFlight}
 use Rattle.serving.specs.Lines.{Line, answer_text}
 use Rattle.meaning.specs.Output.{joined}
 use Rattle.reorder_buffer.specs.ReorderBuffer.{ReorderBufferView, can_retire}
-use Rattle.serving.specs.Serve.{HasEmptyLog, HasRunWith, IsWrittenAtEnd, HadWorkers, FailsWithoutWorkers, ServePromise}
+use Rattle.serving.specs.Serve.{HasEmptyLog, HasRunWith, IsWrittenAtEnd, FailsWithoutWorkers, ServePromise}
 use Rattle.serving.specs.Runs.{HandsHaveJobs, lent_hand, machine_with_jobs}
 use Rattle.serving.specs.Session.{EndsBy, EndsOrDeclines, HasFinished, SessionProgress, HasHalted, HasEndedReading, CanBegin, IsServed, SessionInvariant, SessionInvariantFrom, SessionView, ReadsOrHasEnded, machine, IsSent, end_of, reported}
 use Rattle.serving.specs.Output.{Start, start_machine}
@@ -266,25 +266,15 @@ module _ (p : SessionView) (P F : Type 0) (r : Result (Result (Unit {0}) ServeFa
   pub emptied_at_end : (result : Result (Unit {0}) ServeFault) → result ≡ reported r → OnOk result P
   emptied_at_end result is = subst (λ (q : Result (Unit {0}) ServeFault). OnOk q P) (sym is) (emptied_so P F r (both r gives).1)
 
--- What ends a session is never `NoWorkers`.
-pub has_workers : (old p : SessionView) (result : Result (Unit {0}) ServeFault) → EndsOrDeclines old p result → HadWorkers result
-has_workers old p (Ok tt) e = tt
-has_workers old p (Err faults.OutOfMemory) e = tt
-has_workers old p (Err faults.Read) e = tt
-has_workers old p (Err faults.Exhausted) e = tt
-has_workers old p (Err faults.Device) e = tt
-has_workers old p (Err faults.Write) e = tt
-has_workers old p (Err faults.NoWorkers) e = absurd e
-
--- Where there are workers, each result but `NoWorkers` is as `FailsWithoutWorkers` says.
-pub refuses_none : (workers : ℕ) → workers ≢ 0 → (result : Result (Unit {0}) ServeFault) → HadWorkers result → FailsWithoutWorkers workers result
-refuses_none workers some (Ok tt) h = some
-refuses_none workers some (Err faults.NoWorkers) h = absurd h
-refuses_none workers some (Err faults.Read) h = some
-refuses_none workers some (Err faults.Write) h = some
-refuses_none workers some (Err faults.Device) h = some
-refuses_none workers some (Err faults.OutOfMemory) h = some
-refuses_none workers some (Err faults.Exhausted) h = some
+-- Where there are workers, what ends a session is never `NoWorkers`.
+pub refuses_none : (workers : ℕ) → workers ≢ 0 → (old p : SessionView) (result : Result (Unit {0}) ServeFault) → EndsOrDeclines old p result → FailsWithoutWorkers workers result
+refuses_none workers some old p (Ok tt) e = some
+refuses_none workers some old p (Err faults.OutOfMemory) e = some
+refuses_none workers some old p (Err faults.Read) e = some
+refuses_none workers some old p (Err faults.Exhausted) e = some
+refuses_none workers some old p (Err faults.Device) e = some
+refuses_none workers some old p (Err faults.Write) e = some
+refuses_none workers some old p (Err faults.NoWorkers) e = absurd e
 
 -- `ServePromise` stays true for an equal number of workers and an equal rest of the input.
 pub serves_as : {keeps : Type 0} {core : CoreView} {back : CoreView × Result (Unit {0}) ServeFault} {input before written remaining rest : Option (List ℕ)}

@@ -47,11 +47,6 @@ abbrev pub FailsWithoutWorkers : ℕ → Result (Unit {0}) ServeFault → Type 0
 FailsWithoutWorkers workers (Err faults.NoWorkers) = workers ≡ 0
 FailsWithoutWorkers workers _ = workers ≢ 0
 
--- The call didn't end with `NoWorkers`.
-abbrev pub HadWorkers : Result (Unit {0}) ServeFault → Type 0
-HadWorkers (Err faults.NoWorkers) = ⊥
-HadWorkers _ = Unit {0}
-
 -- no record of the log is in force
 abbrev pub HasEmptyLog : CoreView → Type 0
 HasEmptyLog c = in_force (layout_of c.geometry) (named_area (layout_of c.geometry) c.medium.now) c.medium.now ≡ []

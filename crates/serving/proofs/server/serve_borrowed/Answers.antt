@@ -6,7 +6,7 @@ use Rattle.serving.specs.Serve.{HasEmptyLog, ServePromise}
 use Rattle.serving.specs.Session.{SessionView, reported}
 use Rattle.serving.specs.Output.{Start, start_machine}
 use Rattle.serving.specs.declared.server.ServeFault.{ServeFault}
-use Rattle.serving.proofs.Closing.{PromisesAll, emptied_at_end, ends_or_declines, first_at, has_workers, not_drained, promises_from, refuses_none}
+use Rattle.serving.proofs.Closing.{PromisesAll, emptied_at_end, ends_or_declines, first_at, not_drained, promises_from, refuses_none}
 use Rattle.serving.proofs.Invariant.{begun}
 use Rattle.serving.proofs.server.serve_borrowed.Goals as goal
 
@@ -50,7 +50,7 @@ returns g c =
           (g.L.ReplySink.sent last.sink)) (sym c.hand_back.ensures.ended) (record {
             run = all.run c.hand_back.ensures.no_doubt c.hand_back.ensures.recovers;
             ends = all.ends;
-            no_workers = refuses_none c.args.memory.bench.slots c.requires.workers end (has_workers _ _ end ends);
+            no_workers = refuses_none c.args.memory.bench.slots c.requires.workers _ _ end ends;
             emptied = subst (λ (k : CoreView). OnOk end (g.D.Disk.keeps → HasEmptyLog k)) (sym (ap (λ (p : SessionView). p.core) c.session.view_is))
                 (emptied_at_end now (g.D.Disk.keeps → HasEmptyLog now.core) _ c.with_workers-ended.result gives.gives _ refl);
           });
