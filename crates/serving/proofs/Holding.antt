@@ -1,23 +1,38 @@
 -- What may be sent is held by whatever a crash leaves of the device.
-use Rattle.std.proofs.Common.{◌≡◌, ℕ, true, List, ◌++◌, Option, sym, subst, map, append_assoc, arith}
-use Rattle.std.proofs.lemmas.List.{length-append}
+use Rattle.std.proofs.Common.{◌≡◌, ℕ, ◌+◌, true, List, [], ◌∷◌, ◌++◌, Option, ap, sym, ◌∙◌, subst, length, map, take, append_assoc, arith}
+use Rattle.std.proofs.lemmas.List.{length-append, take-append-le, take-map, take_all}
 use Rattle.std.proofs.KnownBytes.{Appends-trans}
 use Rattle.std.specs.Io.KnownBytes.{Appends}
 use Rattle.checkpoint.proofs.NotRefused.{is_not_refused, has_header}
-use Rattle.disk.specs.Device.{IsCrashImage}
-use Rattle.legal_runs.specs.Events.{recorded}
+use Rattle.affinity.specs.declared.geometry.Geometry.{Geometry}
+use Rattle.disk.specs.Device.{IsCrashImage, Medium}
+use Rattle.disk.specs.Moments.{left_since, moment_number}
+use Rattle.legal_runs.specs.CoreState.{Replied}
+use Rattle.legal_runs.specs.Events.{Event, recorded}
 use Rattle.legal_runs.proofs.Lists.{all_join}
 use Rattle.legal_runs.specs.Runs.{answered, logged_messages}
 use Rattle.runs.specs.Machine.{machine_of}
-use Rattle.runs.specs.DeviceEvents.{events_of}
+use Rattle.runs.specs.DeviceEvents.{DeviceEvent, device_after, events_of}
+use Rattle.messages.specs.Grammar.{message_of}
 use Rattle.meaning.specs.Output.{joined}
 use Rattle.meaning.specs.Serial.{state_after_all}
 use Rattle.scheduler.specs.CoreView.{CoreView}
-use Rattle.serving.specs.Ends.{HasServed, committed_in}
-use Rattle.serving.specs.Lines.{AreKnown, Line, has_answer, answer_text}
+use Rattle.serving.specs.Ends.{HasRunLines, HasServed, committed_in}
+use Rattle.serving.specs.Lines.{AreKnown, Line, admitted, admitted_in, has_answer, answer_text, next_ticket, ticketed}
+use Rattle.serving.specs.Logged.{AreInHistory, RecoversToHistory}
 use Rattle.serving.specs.Output.{HoldsSent, MaySendFrom, Start, start_machine}
+use Rattle.serving.specs.Restart.{BytesRecover}
 use Rattle.serving.proofs.Advancing.{texts_both}
-use Rattle.serving.proofs.Logged.{few_answered, holds_all, written_are_kept}
+use Rattle.serving.proofs.Logged.{few_answered, holds_all, holds_logged, written_are_kept}
+use Rattle.serving.proofs.Recovering.{bytes_recover}
+
+-- The output for the first lines stays so when more lines are read.
+still_in_history : (g : Geometry) (history : List Replied) (n : ℕ) (consumed more lines : List (List ℕ)) → AreInHistory g history n consumed lines
+    → AreInHistory g history n (consumed ++ more) lines
+still_in_history g history n consumed more [] k = tt
+still_in_history g history n [] more (line ∷ lines) k = absurd k
+still_in_history g history n (l ∷ ls) more (line ∷ lines) k =
+    (k.0, still_in_history g history (next_ticket n (admitted_in g (message_of l))) ls more lines k.1)
 
 module _ {keeps : Type 0} {s : Start} {sent later : Option (List ℕ)} {now : CoreView} {bytes : List ℕ} (m : MaySendFrom keeps s sent now bytes)
     (appends : Appends sent later bytes) where
@@ -58,3 +73,32 @@ module _ {keeps : Type 0} {s : Start} {sent later : Option (List ℕ)} {now : Co
         header = has_header g c state leaves.bytes held.recovers;
         not_refused = is_not_refused g c state leaves.bytes held.recovers;
       }
+
+  -- ---- the same after more events, with more lines read
+
+  module _ (lines_since : List (List ℕ)) (events_since : List DeviceEvent) (last : CoreView)
+      (run : HasRunLines keeps (start_machine s) last s.input (m.served.consumed ++ lines_since) (m.served.device_events ++ events_since)) where
+    pub recovers_since : keeps → (c : List ℕ) → left_since last.medium (moment_number now.medium) c
+        → BytesRecover s.core.geometry (s.core.slots + length lines_since) (committed_in s.core) s.input s.before later c
+    unfolding served_after_sending
+    recovers_since kept c left =
+        let h = served_after_sending in
+        let g = s.core.geometry in
+        let w = machine_of (start_machine s) in
+        let before = m.served.device_events in
+        let events = before ++ events_since in
+        let n = length before in
+        let many = length-append before events_since in
+        let first : take n events ≡ before = take-append-le n before events_since (omega arith) ∙ take_all n before (omega arith) in
+        let at_send : device_after s.core.medium (take n events) ≡ now.medium = ap (λ (es : List DeviceEvent). device_after s.core.medium es) first ∙ h.run.device in
+        let log = logged_messages w (events_of before) in
+        let first_events : take n (events_of events) ≡ events_of before = take-map (λ (e : DeviceEvent). e.event) n events ∙ ap events_of first in
+        let held : RecoversToHistory g (committed_in s.core) (ticketed s.core.next (admitted g (m.served.consumed ++ lines_since))) log c =
+        subst (λ (es : List Event). RecoversToHistory g (committed_in s.core) (ticketed s.core.next (admitted g (m.served.consumed ++ lines_since))) (logged_messages w es) c) first_events
+        (holds_logged keeps (start_machine s) last s.input (m.served.consumed ++ lines_since) events m.idle m.none_in_doubt run kept n c (omega (arith, many))
+        (subst (λ (d : Medium). left_since last.medium (moment_number d) c) (sym at_send) left)) in
+        let few = few_answered keeps (start_machine s) now m.rest s.input s.before later m.idle h in
+        let read = length-append m.served.consumed lines_since in
+        bytes_recover s.core.next (m.served.consumed ++ lines_since) (map answer_text h.sent_lines) run.first h.output (omega (arith, few, read))
+        (still_in_history g log s.core.next m.served.consumed lines_since (map answer_text h.sent_lines)
+        (written_are_kept keeps (start_machine s) now m.rest s.input s.before later m.idle h)) held
