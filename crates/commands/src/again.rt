@@ -28,13 +28,32 @@ use std::thread::Threads;
 fn formatted_in_memory(alloc: Global, geometry: Geometry) -> Result<MemDisk, Fault>
     ensures recovers { IfOk result (λ d. recovered_state geometry (medium_of d).now ≡ Some empty) }
     ensures synced { IfOk result (λ d. IsSynced (medium_of d)) }
-    ensures streams { IfErr result (λ fault. (fault ≢ faults.Read) × (fault ≢ faults.Write)) }
+    ensures not_of_streams { IfErr result (λ fault. (fault ≢ faults.Read) × (fault ≢ faults.Write)) }
 {
     let disk = MemDisk::new(alloc, device_len(&geometry))?;
     match format(alloc, disk, geometry) {
         Ok(disk) => Ok(disk),
         Err(error) => Err(Fault::from(error.fault)),
     }
+}
+
+/// Answers the lines of `r` on `w` with what a crash left of a device. How that ended is reported: the service itself is `serve_on`.
+fn serve_next<T: Threads + Wait + Sync, R: Read, W: Write>(
+    rt: &T,
+    alloc: Global,
+    disk: MemDisk,
+    service: ServeOptions,
+    r: &mut R,
+    w: &mut W,
+) -> Result<(), Fault>
+    ensures run { (g : Geometry) (start : State) → HoldsState g (medium_of disk) start → HasRunFrom g service.slots start result
+        (R.remaining r.old) (W.contents w.old) (W.contents w.new) (λ now. Unit {0}) }
+    ensures opens { (g : Geometry) (start : State) → HoldsState g (medium_of disk) start → (fault : OpenFault)
+        → result ≡ Err (faults.Open fault) → (fault ≡ opening.Device) ⊎ (fault ≡ opening.OutOfMemory) }
+{
+    let (_disk, end) = serve_on(rt, alloc, disk, service, r, w);
+    end?;
+    Ok(())
 }
 
 /// Makes a device in memory, and answers the lines of `r` on `w` with it until the device's n-th call, for any n. The device stops there,
@@ -63,11 +82,11 @@ pub fn serve_again<T: Threads + Wait + Sync, R: Read, W: Write, S: Read, V: Writ
         → (fault ≡ opening.Device) ⊎ (fault ≡ opening.OutOfMemory)) }
     ensures unread { IfErr result (λ _. (R.remaining r.new ≡ R.remaining r.old) × (S.remaining next_r.new ≡ S.remaining next_r.old)) }
     ensures unwritten { IfErr result (λ _. (W.contents w.new ≡ W.contents w.old) × (V.contents next_w.new ≡ V.contents next_w.old)) }
-    ensures streams { IfErr result (λ fault. (fault ≢ faults.Read) × (fault ≢ faults.Write)) }
+    ensures not_of_streams { IfErr result (λ fault. (fault ≢ faults.Read) × (fault ≢ faults.Write)) }
 {
     let disk = formatted_in_memory(alloc, geometry)?;
     let (disk, first) = serve_stopped(rt, alloc, disk, n, torn, service, r, w);
-    let (_disk, second) = serve_on(rt, alloc, disk, service, next_r, next_w);
+    let second = serve_next(rt, alloc, disk, service, next_r, next_w);
     Ok((first, second))
 }
 
