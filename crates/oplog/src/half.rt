@@ -1,5 +1,5 @@
 //! One half of a log: where its parts lie, and how records are added to it.
-ghost use Rattle.std.specs.Prelude.{◌≡◌, ◌+◌, ◌*◌, ◌<◌, ◌≤◌, length, IfOk, OnOk, IsErrOf, min, replicate, vec_len};
+ghost use Rattle.std.specs.Prelude.{◌≡◌, ◌+◌, ◌*◌, ◌<◌, ◌≤◌, length, IfOk, OnOk, IsErrOf, min, replicate};
 ghost use Rattle.disk.specs.Device.{IsDeviceCall, SameOutside, moments};
 ghost use Rattle.disk.specs.Store.{CrashesChangeOnly, Costs, Stored};
 ghost use Rattle.oplog.specs.Log.{batch_count};
@@ -124,25 +124,24 @@ impl Half {
         disk: &mut D,
         used: usize,
         messages: &[Msg],
-        buffer: &mut Vec<u8>,
+        buffer: &mut [u8],
     ) -> Result<(), DiskFault>
         requires changes { AreChangesInRange self.geometry messages.now }
         requires batch { length messages.now ≤ 64 }
         requires room { used + length messages.now ≤ self.geometry.half }
-        requires buffer { length messages.now * 520 ≤ vec_len buffer.old }
+        requires buffer { length messages.now * 520 ≤ length buffer.old }
         requires long_enough { IsLongEnoughForHalf self (D.medium disk.old) }
         // The front has `used` records, all gates behind it are 0, and nothing in this half is unsynced.
         requires ready { D.keeps → IsHalfReady self used (D.medium disk.old) }
         ensures any_moment { D.keeps → HalfGrows self messages.now (D.medium disk.old) (D.medium disk.new) }
         ensures added { OnOk result (D.keeps → HalfHasAdded self used messages.now (D.medium disk.old) (D.medium disk.new)) }
         ensures costs { D.keeps → Costs result 4 (D.medium disk.old) (D.medium disk.new) }
-        ensures buffer { vec_len buffer.new ≡ vec_len buffer.old }
         ensures inside { IsErrOf result DiskFault.OutOfRange → ⊥ }
         ensures call { IsDeviceCall result (D.medium disk.old) (D.medium disk.new) }
     {
         let size = messages.len() * RECORD_SIZE;
         stage(messages, buffer);
-        store(disk, self.record_at(used), &buffer.as_slice()[..size])?;
+        store(disk, self.record_at(used), &buffer[..size])?;
         self.open_gates(disk, used, messages.len())
     }
 
@@ -152,11 +151,11 @@ impl Half {
         disk: &mut D,
         used: usize,
         messages: &[Msg],
-        buffer: &mut Vec<u8>,
+        buffer: &mut [u8],
     ) -> Result<(), DiskFault>
         requires changes { AreChangesInRange self.geometry messages.now }
         requires room { used + length messages.now ≤ self.geometry.half }
-        requires buffer { min self.geometry.half 64 * 520 ≤ vec_len buffer.old }
+        requires buffer { min self.geometry.half 64 * 520 ≤ length buffer.old }
         requires long_enough { IsLongEnoughForHalf self (D.medium disk.old) }
         // The front has `used` records, all gates behind it are 0, and nothing in this half is unsynced.
         requires ready { D.keeps → IsHalfReady self used (D.medium disk.old) }
@@ -164,7 +163,6 @@ impl Half {
         ensures added { OnOk result (D.keeps → HalfHasAdded self used messages.now (D.medium disk.old) (D.medium disk.new)) }
         ensures none { length messages.now ≡ 0 → disk.new ≡ disk.old }
         ensures costs { D.keeps → Costs result (4 * batch_count (length messages.now)) (D.medium disk.old) (D.medium disk.new) }
-        ensures buffer { vec_len buffer.new ≡ vec_len buffer.old }
         ensures inside { IsErrOf result DiskFault.OutOfRange → ⊥ }
         ensures call { IsDeviceCall result (D.medium disk.old) (D.medium disk.new) }
     {

@@ -1,5 +1,5 @@
 //! Messages as bytes, before they are written.
-ghost use Rattle.std.specs.Prelude.{◌≡◌, ◌*◌, ◌≤◌, length, take, vec_len};
+ghost use Rattle.std.specs.Prelude.{◌≡◌, ◌*◌, ◌≤◌, length, take};
 ghost use Rattle.std.specs.List.{concat, All, AllByRecursion};
 ghost use Rattle.message.specs.Records.{record_of, FitsRecord};
 ghost use Rattle.oplog.specs.Changing.{records_of};
@@ -22,7 +22,7 @@ fn put_record(m: &Msg, place: &mut [u8])
 }
 
 /// Puts the records of these messages in a row at the start of `out`.
-fn put_records(messages: &[Msg], out: &mut [u8])
+pub(crate) fn stage(messages: &[Msg], out: &mut [u8])
     requires fit { All FitsRecord messages.now }
     requires room { length messages.now * 520 ≤ length out.old }
     ensures staged { take (length messages.now * 520) out.new ≡ concat (records_of messages.now) }
@@ -32,15 +32,4 @@ fn put_records(messages: &[Msg], out: &mut [u8])
         let at = i * RECORD_SIZE;
         put_record(m, &mut out[at..at + RECORD_SIZE]);
     }
-}
-
-/// Puts the records of these messages in a row at the start of the buffer.
-pub(crate) fn stage(messages: &[Msg], buffer: &mut Vec<u8>)
-    requires fit { All FitsRecord messages.now }
-    requires room { length messages.now * 520 ≤ vec_len buffer.old }
-    ensures staged { take (length messages.now * 520) buffer.new.items ≡ concat (records_of messages.now) }
-    ensures sizes { AllByRecursion (λ r. length r ≡ 520) (records_of messages.now) }
-    ensures len { vec_len buffer.new ≡ vec_len buffer.old }
-{
-    put_records(messages, buffer);
 }

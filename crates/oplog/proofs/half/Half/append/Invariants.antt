@@ -1,5 +1,5 @@
 -- The batches so far are in the front, at four writes and syncs each; and what decreases is the number of messages left.
-use Rattle.std.proofs.Common.{◌≡◌, ◌<◌, ◌≤◌, ◌+◌, ◌-◌, ◌*◌, ◌%◌, length, take, vec_len}
+use Rattle.std.proofs.Common.{◌≡◌, ◌<◌, ◌≤◌, ◌+◌, ◌-◌, ◌*◌, ◌%◌, length, take}
 use Rattle.disk.specs.Moments.{moment_number}
 use Rattle.oplog.specs.Log.{batch_count}
 use Rattle.device_map.specs.Layout.{layout_of}
@@ -11,7 +11,7 @@ abbrev pub invariant-loop-done : goal.invariant-loop-done
 invariant-loop-done g l = record {
   inside : l.done ≤ length l.messages;
   none : length l.messages ≡ 0 → l.disk ≡ l.initial.disk;
-  buffer : vec_len l.buffer ≡ vec_len l.initial.buffer;
+  buffer : length l.buffer ≡ length l.initial.buffer;
   len : length (g.D.Disk.medium l.disk).now ≡ length (g.D.Disk.medium l.initial.disk).now;
   faults : (g.D.Disk.medium l.disk).faults ≡ (g.D.Disk.medium l.initial.disk).faults;
   whole : l.done < length l.messages → l.done % 64 ≡ 0;

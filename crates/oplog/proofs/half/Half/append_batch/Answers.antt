@@ -1,5 +1,5 @@
 -- Records are synced before their gates open, so a crash leaves the front with the first m of the batch.
-use Rattle.std.proofs.Common.{◌*◌, ℕ, List, length, take, get_or, sym, ◌∙◌, ap, arith}
+use Rattle.std.proofs.Common.{get_or, sym, arith}
 use Rattle.std.proofs.lemmas.List.{length-map}
 use Rattle.std.proofs.lemmas.Result.{on_ok_weaker}
 use Rattle.message.specs.Records.{record_of}
@@ -16,16 +16,14 @@ pub returns-in_err-store-clause-any_moment : goal.returns-in_err-store-clause-an
 returns-in_err-store-clause-any_moment g c = λ k.
     bodies_moments (layout_of c.args.self.geometry) c.args.self.number c.args.used (records_of c.args.messages.now) c.args.self.number_range c.stage.ensures.sizes
     (omega (arith, length-map c.args.messages.now record_of)) _ _ c.requires.long_enough (g.met.D.Disk.bytes c.args.disk.now) (c.requires.ready k) _ _
-    (omega (arith, c.record_at.ensures)) (ap (λ (l : List ℕ). take (length c.args.messages.now * 520) l) c.as_slice.ensures.value
-    ∙ c.stage.ensures.staged)
+    (omega (arith, c.record_at.ensures)) c.stage.ensures.staged
     (c.store.ensures.any_moment k)
 
 pub returns-clause-any_moment : goal.returns-clause-any_moment
 returns-clause-any_moment g c = λ k.
     gates_moments (layout_of c.args.self.geometry) c.args.self.number c.args.used (records_of c.args.messages.now) c.args.self.number_range c.stage.ensures.sizes
     (omega (arith, length-map c.args.messages.now record_of)) _ _ c.requires.long_enough (g.met.D.Disk.bytes c.args.disk.now) (c.requires.ready k) _ _
-    (omega (arith, c.record_at.ensures)) (ap (λ (l : List ℕ). take (length c.args.messages.now * 520) l) c.as_slice.ensures.value
-    ∙ c.stage.ensures.staged)
+    (omega (arith, c.record_at.ensures)) c.stage.ensures.staged
     (c.in_ok-store.ensures.stored k) _ _ (sym (length-map c.args.messages.now record_of)) (c.in_ok-store.ensures.any_moment k) (c.open_gates.ensures.any_moment k)
 
 pub returns-clause-added : goal.returns-clause-added
@@ -34,7 +32,6 @@ returns-clause-added g c =
     (λ opened k.
     batch_added (layout_of c.args.self.geometry) c.args.self.number c.args.used (records_of c.args.messages.now) c.args.self.number_range c.stage.ensures.sizes
     (omega (arith, length-map c.args.messages.now record_of)) _ _ c.requires.long_enough (g.met.D.Disk.bytes c.args.disk.now) (c.requires.ready k) _ _
-    (omega (arith, c.record_at.ensures)) (ap (λ (l : List ℕ). take (length c.args.messages.now * 520) l) c.as_slice.ensures.value
-    ∙ c.stage.ensures.staged)
+    (omega (arith, c.record_at.ensures)) c.stage.ensures.staged
     (c.in_ok-store.ensures.stored k) _ _ (sym (length-map c.args.messages.now record_of)) (opened k))
     c.open_gates.ensures.opened

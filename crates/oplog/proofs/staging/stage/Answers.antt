@@ -2,7 +2,7 @@
 use Rattle.std.proofs.Common.{arith}
 use Rattle.std.proofs.lemmas.Grind.{common_steps}
 use Rattle.oplog.proofs.Staged.{staged_more, sized_more}
-use Rattle.oplog.proofs.staging.put_records.Goals as goal
+use Rattle.oplog.proofs.staging.stage.Goals as goal
 
 pub loop-i-preserved : goal.loop-i-preserved
 loop-i-preserved c = record {

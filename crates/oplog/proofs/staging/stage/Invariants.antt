@@ -3,7 +3,7 @@ use Rattle.std.proofs.Common.{◌≡◌, ◌*◌, ◌≤◌, length, take}
 use Rattle.std.specs.List.{concat}
 use Rattle.oplog.specs.Changing.{records_of}
 use Rattle.oplog.proofs.RecordRows.{AreRows}
-use Rattle.oplog.proofs.staging.put_records.Given as goal
+use Rattle.oplog.proofs.staging.stage.Given as goal
 
 abbrev pub invariant-loop-i : goal.invariant-loop-i
 invariant-loop-i l = record {
