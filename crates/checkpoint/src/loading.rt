@@ -1,17 +1,15 @@
 //! A device, loaded: its named image is read into a tree, and the records in force are run on it.
-ghost use Rattle.std.specs.Prelude.{◌≡◌, ◌≢◌, ◌+◌, ◌*◌, ◌<◌, ◌≤◌, ◌==◌, false, None, Some, length, IfErr, IfOk, OnOk};
+ghost use Rattle.std.specs.Prelude.{◌≡◌, ◌≢◌, ◌*◌, ◌<◌, ◌≤◌, ◌==◌, false, None, Some, length, IfErr, IfOk, OnOk};
 ghost use Rattle.checkpoint.specs.declared.fault.OpenFault.TheVariants.{BadChain, OutOfMemory};
 ghost use Rattle.checkpoint.specs.Header.{HasHeader};
-ghost use Rattle.checkpoint.specs.Loading.{IsOpeningCall, IsConsistentFault, IsOfHalf, NamedHolds, are_both_chained, image_fault, in_force_fault};
-ghost use Rattle.checkpoint.specs.Recovery.{decoding};
-ghost use Rattle.checkpoint.specs.Refusals.{HasHeaderAndParts, IsRefused, fault_if};
+ghost use Rattle.checkpoint.specs.Loading.{IsOpeningCall, IsConsistentFault, IsOfHalf, NamedHolds, are_both_chained, image_fault};
+ghost use Rattle.checkpoint.specs.Refusals.{IsRefused, fault_if};
 ghost use Rattle.disk.specs.Device.{moments};
 ghost use Rattle.image.specs.Image.{read, version_in};
-ghost use Rattle.oplog.specs.Calls.{IsLongEnough};
 ghost use Rattle.oplog.specs.Front.{chain, front};
 ghost use Rattle.device_map.specs.Layout.{device_size, image_part, layout_of, part_bytes};
-ghost use Rattle.oplog.specs.Log.{layout, new_log, with_half_named};
-ghost use Rattle.oplog.specs.Recovery.{in_force, named_area, run};
+ghost use Rattle.oplog.specs.Log.{new_log, with_half_named};
+ghost use Rattle.oplog.specs.Recovery.{named_area};
 ghost use Rattle.parcel.specs.Tree.{IsWholeTree, state_in};
 ghost use Rattle.meaning.specs.State.{empty};
 

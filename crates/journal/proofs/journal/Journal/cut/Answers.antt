@@ -1,5 +1,5 @@
 -- A snapshot of the committed state is made, the log goes on in the other half, and the other image's dirty pieces are left to write.
-use Rattle.std.proofs.Common.{◌≡◌, ◌-◌, Bool, false, Option, Some, None, ℕ, List, length, replicate, refl, sym, ◌∙◌, ap, subst, arith}
+use Rattle.std.proofs.Common.{◌≡◌, ◌-◌, Bool, false, Some, None, ℕ, List, length, replicate, refl, sym, ◌∙◌, ap, subst, arith}
 use Rattle.std.proofs.lemmas.List.{length-replicate}
 use Rattle.affinity.specs.declared.geometry.Geometry.{Geometry}
 use Rattle.checkpoint.specs.Recovery.{recovered_state}
@@ -8,7 +8,7 @@ use Rattle.image.specs.Image.{image_of}
 use Rattle.image.specs.Pieces.{piece_count}
 use Rattle.journal.specs.Journal.{JournalView, records, records_in, committed}
 use Rattle.journal.specs.Images.{KeepsImages}
-use Rattle.journal.specs.Keeping.{FitsCutState, journal_view_of}
+use Rattle.journal.specs.Keeping.{journal_view_of}
 use Rattle.journal.specs.DirtyPieces.{all_clean, count_dirty, cut_dirty}
 use Rattle.journal.specs.Steps.{cut_log}
 use Rattle.journal.proofs.Logging.{recoverable_of, sound_along}
