@@ -107,16 +107,16 @@ def of_others(figures):
            "written, five syncs.")
     every, runs = {"part": "every", "geometry": "default"}, [f"every {n}" for n in EVERY]
     shown = {what: listed([number(figures.median(every, run, what)) for run in runs]) for what in ("lines/s", "records", "ms")}
-    yield (f"- `--every` {listed([str(n) for n in EVERY])} (writes, default geometry, 16 slots): {shown['lines/s']} lines/s; after a hard "
-           f"stop {shown['records']} records in force, and {shown['ms']} ms to the next first reply.")
+    yield (f"- `--every` {listed([str(n) for n in EVERY])} (writes, default geometry, 16 slots): {shown['lines/s']} lines/s; after a kill "
+           f"{shown['records']} records to replay, and {shown['ms']} ms to the next first reply.")
     lines = [f"{mix} {number(figures.median({'part': 'plain', 'mix': mix}, 'waffd', 'cpu us'))} "
              f"({figures.ratio({'part': 'plain', 'mix': mix}, 'serial', 'waffd', 'cpu us'):.2f})" for mix in PLAIN]
-    yield ("- `plain`, on mixes of its own (`benchmark/lines.rs`; metadata: no block data; churn: writes among deletes), processor time a line "
-           f"in microseconds (its speed in multiples of that of `benchmark/serial.rs`): {listed(lines)}.")
+    yield ("- `plain`, processor time a line in microseconds (its speed in multiples of `benchmark/serial.rs`, on the mixes of "
+           f"`benchmark/lines.rs`): {listed(lines)}.")
     trips = [f"{number(figures.median({'part': 'bench', 'workers': n}, 'waffd', 'us'))} "
              f"({figures.ratio({'part': 'bench', 'workers': n}, 'waffd', 'mutex', 'us'):.2f})" for n in WORKERS]
-    yield (f"- A job's round trip through the bench with {listed([str(n) for n in WORKERS])} workers, microseconds by the clock (times "
-           f"that of a mutex, `benchmark/handoff/plain.rs`): {listed(trips)}.")
+    yield (f"- A job's round trip through the bench with {listed([str(n) for n in WORKERS])} workers, microseconds (times that of a "
+           f"mutex): {listed(trips)}.")
 
 
 def of_missed(figures):
