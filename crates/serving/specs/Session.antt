@@ -133,6 +133,10 @@ pub record CanBegin (start : Option Start) (core : CoreView) (places : ℕ) (inp
 abbrev pub KeepsReadEndAndOutputFailed : SessionView → SessionView → Type 0
 KeepsReadEndAndOutputFailed old new = (new.read_end ≡ old.read_end) × (new.output_failed ≡ old.output_failed)
 
+-- Nothing was read: as much of the input is unread as before, and its reader has as much left.
+abbrev pub HasReadNothing : SessionView → SessionView → Type 0
+HasReadNothing old new = (new.unread ≡ old.unread) × (new.remaining ≡ old.remaining)
+
 -- The output has failed, or else the device.
 abbrev pub HasHalted : SessionView → Type 0
 HasHalted p = p.output_failed ≡ false → p.core.failed ≡ true

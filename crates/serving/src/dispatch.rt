@@ -4,7 +4,7 @@
 ghost use Rattle.std.specs.Prelude.{◌≡◌, ◌<◌, ◌≤◌, ◌-◌, ◌↔◌, IsTrue, OnErr, OnOk, Some, [], None, false, is_none, length, position, true};
 ghost use Rattle.scheduler.specs.CoreView.{core_state_of};
 ghost use Rattle.serving.specs.Lending.{DispatchesTo, IsEndOfDispatch, NoneInFlight, OffersGranted};
-ghost use Rattle.serving.specs.Session.{KeepsReadEndAndOutputFailed, IsSessionStep};
+ghost use Rattle.serving.specs.Session.{HasReadNothing, KeepsReadEndAndOutputFailed, IsSessionStep};
 
 use crate::gated_runtime::GatedRuntime;
 use crate::output::ReplySink;
@@ -169,6 +169,7 @@ impl<'c, R: Read, D: Disk, L: ReplySink<D>> Session<'c, R, D, L> {
     fn collect_one(&mut self, k: usize) -> Option<bool>
         requires place { k < length self.old.dispatch_seat.lent }
         ensures as_before { KeepsReadEndAndOutputFailed self.old self.new }
+        ensures unread { HasReadNothing self.old self.new }
         ensures places { length self.new.dispatch_seat.lent ≡ length self.old.dispatch_seat.lent }
         ensures failed { self.new.core.failed ≡ self.old.core.failed }
     {
@@ -184,6 +185,7 @@ impl<'c, R: Read, D: Disk, L: ReplySink<D>> Session<'c, R, D, L> {
     /// Polls each place once, and collects the results that were delivered, until the batch is full. Returns whether there was a result.
     fn collect_delivered(&mut self, batch: &mut Batch) -> bool
         ensures as_before { KeepsReadEndAndOutputFailed self.old self.new }
+        ensures unread { HasReadNothing self.old self.new }
         ensures failed { self.new.core.failed ≡ self.old.core.failed }
         ensures budget { batch.new.budget ≤ batch.old.budget }
         ensures less { IsTrue result → batch.new.budget < batch.old.budget }
@@ -203,6 +205,7 @@ impl<'c, R: Read, D: Disk, L: ReplySink<D>> Session<'c, R, D, L> {
     /// Waits for the jobs in flight, and collects their results. Then no job is in flight.
     pub(crate) fn drain_workers<W: GatedRuntime>(&mut self, rt: &W)
         ensures as_before { KeepsReadEndAndOutputFailed self.old self.new }
+        ensures unread { HasReadNothing self.old self.new }
         ensures failed { self.new.core.failed ≡ self.old.core.failed }
         ensures none_in_flight { NoneInFlight self.new.dispatch_seat.lent }
     {
@@ -243,6 +246,7 @@ impl<'c, R: Read, D: Disk, L: ReplySink<D>> Session<'c, R, D, L> {
         ensures session_step { IsSessionStep self.old self.new result }
         ensures same { (self.new.reorder_buffer ≡ self.old.reorder_buffer) × (self.new.reply_buffer ≡ self.old.reply_buffer)
             × (self.new.dispatch_seat ≡ self.old.dispatch_seat) }
+        ensures unread { HasReadNothing self.old self.new }
         ensures pieces_left { self.new.core.pieces_left ≡ self.old.core.pieces_left }
         ensures works { OnOk result ((self.old.core.failed ≡ false) × (self.new.core.failed ≡ false)) }
         ensures logged { OnOk result (self.new.core.ran ≡ []) }

@@ -4,7 +4,7 @@
 
 ghost use Rattle.std.specs.Prelude.{◌≡◌, Err, IfSome, MatchResult, None, OnOk, Some, [], false};
 ghost use Rattle.serving.specs.Serve.{HasEmptyLog};
-ghost use Rattle.serving.specs.Session.{EndsBy, HasFinished, HasHalted, IsSessionStep, end_of};
+ghost use Rattle.serving.specs.Session.{EndsBy, HasFinished, HasHalted, HasReadNothing, IsSessionStep, end_of};
 ghost use Rattle.serving.specs.declared.session.ReadEnd.{ReadEnd};
 ghost use Rattle.serving.specs.declared.session.ReadEnd.TheVariants as ends_of_reading;
 
@@ -32,10 +32,11 @@ fn reported_for(read_end: Option<ReadEnd>) -> Result<(), ServeFault>
 impl<'c, R: Read, D: Disk, L: ReplySink<D>> Session<'c, R, D, L> {
     /// Ends where something has failed: jobs in flight are waited for and their results collected. What ran is logged, unless the
     /// device has failed; all that is logged is answered; and the lines next in order are still written, unless the output has
-    /// failed. Gives why the server ends.
+    /// failed. No more is read. Gives why the server ends.
     fn end_early<W: GatedRuntime>(&mut self, rt: &W) -> ServeFault
         requires halted { HasHalted self.old }
-        ensures { EndsBy self.new (Err result) }
+        ensures ends { EndsBy self.new (Err result) }
+        ensures unread { HasReadNothing self.old self.new }
     {
         self.drain_workers(rt);
         // A device that has failed logs nothing. If it fails only here, the output has failed before, and `Write` is reported all the same.

@@ -4,7 +4,7 @@ ghost use Rattle.std.specs.Prelude.{◌≡◌, ◌+◌, [], false, length, true,
 ghost use Rattle.message.specs.Waiting.{FitsReply};
 ghost use Rattle.scheduler.specs.CoreView.{core_state_of};
 ghost use Rattle.reorder_buffer.specs.ReorderBuffer.{can_retire};
-ghost use Rattle.serving.specs.Session.{KeepsReadEndAndOutputFailed, IsSessionStep};
+ghost use Rattle.serving.specs.Session.{HasReadNothing, KeepsReadEndAndOutputFailed, IsSessionStep};
 
 use crate::gated_runtime::GatedRuntime;
 use crate::session::{Halted, Session};
@@ -45,6 +45,7 @@ impl<'c, R: Read, D: Disk, L: ReplySink<D>> Session<'c, R, D, L> {
     /// whether there was one. A change that was carried out is counted towards the next checkpoint, by a count that saturates.
     pub(crate) fn answer_first<W: GatedRuntime>(&mut self, rt: &W) -> bool
         ensures as_before { KeepsReadEndAndOutputFailed self.old self.new }
+        ensures unread { HasReadNothing self.old self.new }
         ensures dispatch_seat { self.new.dispatch_seat ≡ self.old.dispatch_seat }
         ensures state_after { core_state_of self.new.core ≡ record (core_state_of self.old.core) { logged = self.new.core.logged } }
         ensures fewer { IsTrue result → length self.new.core.logged + 1 ≡ length self.old.core.logged }
@@ -64,6 +65,7 @@ impl<'c, R: Read, D: Disk, L: ReplySink<D>> Session<'c, R, D, L> {
     /// Sends the answers in the reply buffer. `Halted` if that fails, or if an earlier send had failed: then nothing is sent.
     pub(crate) fn flush_replies(&mut self) -> Result<(), Halted>
         ensures session_step { IsSessionStep self.old self.new result }
+        ensures unread { HasReadNothing self.old self.new }
         ensures same { (self.new.core ≡ self.old.core) × (self.new.reorder_buffer ≡ self.old.reorder_buffer)
             × (self.new.dispatch_seat ≡ self.old.dispatch_seat) }
         ensures none_waits { OnOk result (self.new.reply_buffer ≡ []) }
@@ -92,6 +94,7 @@ impl<'c, R: Read, D: Disk, L: ReplySink<D>> Session<'c, R, D, L> {
     /// Sends the answers in the reply buffer if there is no room after them for the longest one.
     fn flush_if_full(&mut self) -> Result<(), Halted>
         ensures session_step { IsSessionStep self.old self.new result }
+        ensures unread { HasReadNothing self.old self.new }
         ensures same { (self.new.core ≡ self.old.core) × (self.new.reorder_buffer ≡ self.old.reorder_buffer)
             × (self.new.dispatch_seat ≡ self.old.dispatch_seat) }
         ensures room { OnOk result (FitsReply self.new.reply_buffer) }
@@ -107,6 +110,7 @@ impl<'c, R: Read, D: Disk, L: ReplySink<D>> Session<'c, R, D, L> {
     /// did.
     fn retire_first(&mut self) -> Result<bool, Halted>
         ensures session_step { IsSessionStep self.old self.new result }
+        ensures unread { HasReadNothing self.old self.new }
         ensures same { (self.new.core ≡ self.old.core) × (self.new.dispatch_seat ≡ self.old.dispatch_seat) }
         ensures fewer { IfOk result (λ it. IsTrue it → length self.new.reorder_buffer.lines + 1 ≡ length self.old.reorder_buffer.lines) }
         ensures last { IfOk result (λ it. IsFalse it → can_retire self.new.reorder_buffer.lines ≡ false) }
@@ -119,6 +123,7 @@ impl<'c, R: Read, D: Disk, L: ReplySink<D>> Session<'c, R, D, L> {
     /// Retires the lines at the front of the reorder buffer, up to the first whose answer isn't known yet.
     pub(crate) fn retire_ready(&mut self) -> Result<(), Halted>
         ensures session_step { IsSessionStep self.old self.new result }
+        ensures unread { HasReadNothing self.old self.new }
         ensures same { (self.new.core ≡ self.old.core) × (self.new.dispatch_seat ≡ self.old.dispatch_seat) }
         ensures last { OnOk result (can_retire self.new.reorder_buffer.lines ≡ false) }
     {
@@ -129,6 +134,7 @@ impl<'c, R: Read, D: Disk, L: ReplySink<D>> Session<'c, R, D, L> {
     /// Answers all messages that are logged, and sends the lines that are next in order.
     pub(crate) fn answer_and_flush<W: GatedRuntime>(&mut self, rt: &W) -> Result<(), Halted>
         ensures session_step { IsSessionStep self.old self.new result }
+        ensures unread { HasReadNothing self.old self.new }
         ensures dispatch_seat { self.new.dispatch_seat ≡ self.old.dispatch_seat }
         ensures state_after { core_state_of self.new.core ≡ record (core_state_of self.old.core) { logged = [] } }
         ensures none_waits { OnOk result (self.new.reply_buffer ≡ []) }

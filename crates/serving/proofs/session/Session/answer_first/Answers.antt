@@ -40,6 +40,9 @@ invariant_of-self-2 g c =
 pub returns-in_default-clause-as_before : goal.returns-in_default-clause-as_before
 returns-in_default-clause-as_before g c = (ap (λ (p : SessionView). p.read_end) c.self.view_is, ap (λ (p : SessionView). p.output_failed) c.self.view_is)
 
+pub returns-in_default-clause-unread : goal.returns-in_default-clause-unread
+returns-in_default-clause-unread g c = (ap (λ (p : SessionView). p.unread) c.self.view_is, ap (λ (p : SessionView). p.remaining) c.self.view_is)
+
 pub returns-in_default-clause-state_after : goal.returns-in_default-clause-state_after
 returns-in_default-clause-state_after g c =
     let old = c.self.inside.core in
@@ -56,6 +59,9 @@ returns-in_default-clause-none g c is =
 
 pub returns-clause-as_before : goal.returns-clause-as_before
 returns-clause-as_before g c = (ap (λ (p : SessionView). p.read_end) c.self.view_is, ap (λ (p : SessionView). p.output_failed) c.self.view_is)
+
+pub returns-clause-unread : goal.returns-clause-unread
+returns-clause-unread g c = (ap (λ (p : SessionView). p.unread) c.self.view_is, ap (λ (p : SessionView). p.remaining) c.self.view_is)
 
 pub returns-clause-state_after : goal.returns-clause-state_after
 returns-clause-state_after g c =

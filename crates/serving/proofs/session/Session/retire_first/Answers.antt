@@ -14,6 +14,11 @@ returns-clause-session_step g c =
     let sent = c.in_ok-flush_if_full.ensures.session_step in
     (ap (λ (p : SessionView). p.read_end) c.self.view_is ∙ sent.0, ap (λ (p : SessionView). p.output_failed) c.self.view_is ∙ sent.1)
 
+pub returns-clause-unread : goal.returns-clause-unread
+returns-clause-unread g c =
+    let sent = c.in_ok-flush_if_full.ensures.unread in
+    (ap (λ (p : SessionView). p.unread) c.self.view_is ∙ sent.0, ap (λ (p : SessionView). p.remaining) c.self.view_is ∙ sent.1)
+
 pub returns-clause-same : goal.returns-clause-same
 returns-clause-same g c =
     let sent = c.in_ok-flush_if_full.ensures.same in
