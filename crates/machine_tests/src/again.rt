@@ -1,6 +1,6 @@
 //! Calls that take memory. `tests/run calls` runs each test once for each allocation, which it refuses. If the call under test made it, the
-//! call fails, is made again and succeeds; if the test's setup made it, the test ends with an error. `MADE_AGAIN` in `tests/run` has the
-//! least number of allocations of each call, counted by hand: raise it where you add one.
+//! call fails, is made again and succeeds; if the test's setup made it, the test ends with an error. `MADE_AGAIN` in
+//! `tests/system/crates.py` has the least number of allocations of each call, counted by hand: raise it where you add one.
 //!
 //! `SMALL` is a geometry of one volume and four records in a half. `goes_so` makes the steps of rows and asserts their outcomes; `holds`
 //! asserts, too. The last number of `Core::open` is that of slots.
