@@ -8,19 +8,19 @@ use Rattle.workers.proofs.Turning.{slot_taken}
 use Rattle.workers.proofs.bench.take_slots.Goals as goal
 
 pub take_slot-requires-clause-untaken : goal.take_slot-requires-clause-untaken
-take_slot-requires-clause-untaken c = let n = c.args.places in let k = c.loop-k.k in let up = c.loop-k.invariant.1 in let more = c.loop-k-test.true in let e : k ≡ k - 1 + 1 = omega arith in (
+take_slot-requires-clause-untaken c = let n = c.args.places in let k = c.loop-k.k in let up = c.loop-k.invariant.most in let more = c.loop-k-test.true in let e : k ≡ k - 1 + 1 = omega arith in (
   replicate n None,
   empty_slots k (replicate (n - k) None),
-  c.loop-k.invariant.2
+  c.loop-k.invariant.seat
       ∙ ap (λ j. (Dispatcher j (replicate n None), empty_slots k (replicate (n - k) None))) e,
   get_or-replicate n (k - 1) None None (omega arith),
 )
 
 pub loop-k-preserved : goal.loop-k-preserved
-loop-k-preserved c = let n = c.args.places in let k = c.loop-k.k in let up = c.loop-k.invariant.1 in let more = c.loop-k-test.true in
-    let e : k ≡ k - 1 + 1 = omega arith in let f : n - (k - 1) ≡ n - k + 1 = omega arith in (
-      c.take_slot.ensures.bench ∙ c.loop-k.invariant.0,
-      omega arith,
-      c.take_slot.ensures.take_slot ∙ (ap (λ (m : SeatState). (Dispatcher (k - 1) (lent_of m.0), (k - 1, None) ∷ m.1)) c.loop-k.invariant.2
-          ∙ λ i. (Dispatcher (k - 1) (replicate n None), slot_taken (k - 1) k (n - k) (n - (k - 1)) e f i)),
-    )
+loop-k-preserved c = let n = c.args.places in let k = c.loop-k.k in let up = c.loop-k.invariant.most in let more = c.loop-k-test.true in
+    let e : k ≡ k - 1 + 1 = omega arith in let f : n - (k - 1) ≡ n - k + 1 = omega arith in record {
+      table = c.take_slot.ensures.bench ∙ c.loop-k.invariant.table;
+      most = omega arith;
+      seat = c.take_slot.ensures.take_slot ∙ (ap (λ (m : SeatState). (Dispatcher (k - 1) (lent_of m.0), (k - 1, None) ∷ m.1)) c.loop-k.invariant.seat
+          ∙ λ i. (Dispatcher (k - 1) (replicate n None), slot_taken (k - 1) k (n - k) (n - (k - 1)) e f i));
+    }
