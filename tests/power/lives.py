@@ -11,7 +11,7 @@ from layout import image_at, recovered
 from machine import MODES, Dead, Guest, Log, private_copy
 from meaning import Search, empty_state, lines_that_make, lines_that_read, options_of, state_of_replies
 from program import put_bytes, run
-from restarts import COMMON, NARROW, SMALL, WIDE, Drawing, plain, replies_of, text_of
+from servers import COMMON, NARROW, SMALL, WIDE, Drawing, plain, replies_of, text_of
 
 LIVES, IMAGES, KEPT = 4, 40, 2  # of a chain: its lives, the images of each, and of how many violations an image is kept
 COUNTS = ("lives", "images", "cuts with acknowledged changes", "byte checks", "violations", "torn disks not mounted", "guests that died")
@@ -109,7 +109,7 @@ class Chain:
             while self.base and self.counts["lives"] < LIVES and time.monotonic() < self.end:
                 self.cut(self.live())
                 self.tell(told(self.counts))
-        except (Dead, OSError, ValueError, RuntimeError) as dead:
+        except (Dead, OSError, ValueError, AssertionError) as dead:
             self.tell(f"{dead!r} {self.life and self.life.words}", "guests that died")
         if self.guest:
             self.guest.qemu.kill()
@@ -139,10 +139,9 @@ class Chain:
         guest.disk, guest.log, guest.hold = private_copy(self.base), log, chance.choice((0, 0.3, 0.6))
         pace, noisy, reports = chance.choice((1, 10, 500)), chance.random() < 0.3, chance.random() < 0.5
         guest.ask(f"echo {pace} | tee /proc/sys/vm/dirty_writeback_centisecs >/proc/sys/vm/dirty_expire_centisecs; did true")
-        if problem := guest.mount(self.setup.module):
-            raise Dead(f"it mounts no more: {problem}")
         self.path = self.path or chance.choice(("/mnt/d", "/mnt/d", "/mnt/sub/d"))
-        before = self.file()
+        if problem := guest.mount(self.setup.module) or self.found.problem(0, before := self.file()):
+            raise Dead(f"it isn't as it was found: {problem}")
         guest.ask(f"mkdir -p {os.path.dirname(self.path)}; {'noise >/dev/null 2>&1 & echo $! >/tmp/noise; ' * noisy}did true")
         self.life = Life(self.path, self.found, f"noise {noisy}, reports {reports}, hold {guest.hold}, write-back {pace}")
         self.counts["lives"] += 1
@@ -151,7 +150,7 @@ class Chain:
         guest.ask("kill -9 $(cat /tmp/noise); " * noisy + ("did umount /mnt" if chance.random() < 0.5 else "did true"))
         guest.wait(lambda: not guest.held)
         guest.log, guest.hold = Log(""), 0
-        guest.ask("did umount /mnt")  # where it still is
+        guest.ask("while grep -q ' /mnt ' /proc/mounts; do umount /mnt || usleep 1000; done; did true")
         return log
 
     def run_programs(self, env):
@@ -197,7 +196,8 @@ class Chain:
         phase.heard, output = log.heard["output"][begin:], bytes(guest.heard["output"])
         was_killed = status == KILLED and kill_at != NEVER
         if word != "exit" or not (wanted.startswith(output) if was_killed else status == 0 and output == wanted):
-            self.tell_problem(f"it ends with {word} {status} {said[:200]!r} and has put out {output[-200:]!r}")
+            at = len(os.path.commonprefix([wanted, output]))
+            self.tell_problem(f"it ends with {word} {status} {said[:200]!r}, and puts out {output[at:][:99]!r} for {wanted[at:][:99]!r} at {at}")
 
     def cut(self, log):
         """Makes images of the disk after cuts of its power, and judges each. The next life goes on from one of them, if there is one."""
@@ -231,7 +231,7 @@ class Chain:
                 shown, read_lines = replies_of(run(["show", path]), "show"), text_of(lines_that_read(found[0]))
                 is_same = state_of_replies(found[0], replies_of(run(["serve", path], read_lines), "serve")) == found[1]
                 problem = None if is_same and f"records {found[2]}" in shown else "the program finds another state"
-        except RuntimeError as error:  # the program refuses it, or there are too many ways to look at
+        except AssertionError as error:  # the program refuses it, or there are too many ways to look at
             problem = str(error)
         self.seen.add(data)
         if problem:
