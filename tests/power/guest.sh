@@ -22,7 +22,8 @@ get() { # FILE
 }
 
 run() { # NAME=VALUE .. WORD ..: its end is told as `exit`, with its standard error
-    rm -f /tmp/program
+    rm -f /tmp/program /input
+    mkfifo /input # a new one, so that nothing is left in it that a killed program has not read
     exec 4>&- 6<>/input
     exec 4>/input 7</input 6>&-
     {
@@ -50,7 +51,6 @@ noise() { # changes other files until it is killed
 mount -t proc proc /proc
 mount -t devtmpfs dev /dev
 while read -r module; do insmod "$module"; done </modules
-mkfifo /input
 until [ -e /dev/vport*p3 ]; do usleep 10000; done
 exec 3<>"$(echo /dev/vport*p1)" 5>"$(echo /dev/vport*p2)" 9>"$(echo /dev/vport*p3)"
 did true
