@@ -14,7 +14,6 @@ MAIN = "waffd 2"  # the default number of workers
 MOST_SHOWN = 256  # slots
 LOGGED = 521  # bytes of a change in the log: its record and its gate
 BUSY = 0.5  # a load from which times mean little
-QUICK = "**Of a short run, which shows the form of the figures and says little:** "
 PART = re.compile(r"(<!-- figures: (\w+) -->\n)(.*?)^(( *)<!-- end of figures -->)", re.S | re.M)
 
 
@@ -45,7 +44,7 @@ def of_run(figures):
     told, disk = figures.told, figures.values({"part": "disk"}, "disk", "us")
     day = date.fromisoformat(told["date"])
     machine, lines = told["machine"], told["lines"]
-    text = (f"{day.day} {day:%B %Y}, commit `{told['commit'][:10]}`{told['commit'][40:]}, `{told['version']}`; {machine['processors']} "
+    text = (f"{day.day} {day:%B %Y}, commit `{told['commit'][:10]}`, `{told['version']}`; {machine['processors']} "
             f"processors ({machine['model']}), {machine['kernel']}. Medians of {told['repeat']} rounds; {lines:,} lines, of reads "
             f"{lines * MORE_READS:,}, with 1 slot a tenth. The disk takes {number(median(disk))} microseconds ({span(disk)}) to write and "
             "sync a record.")
@@ -54,8 +53,6 @@ def of_run(figures):
     text += f" Speeds of the rounds: ±{median(spreads):.0f} percent as a rule, ±{spreads[-1]:.0f} at most."
     if told["load"] > BUSY:
         text += f" **The machine did other work** (load {told['load']})."
-    if told["is_quick"]:
-        text = QUICK + text
     return [text]
 
 
@@ -143,8 +140,7 @@ def of_speed(figures):
     syncs = [figures.median(row, program, "syncs") for row in rows for program in OF_WAFFD]
     batch, twice = (span([round(figures.ratio(row, other, MAIN, "lines/s"), 1) for row in rows]) for other in ("batch", "twice"))
     sync = figures.median({"part": "disk"}, "disk", "us")
-    quick = QUICK * figures.told["is_quick"]
-    return [f"{quick}With 64 or 256 slots, {span([round(speed, -3) for speed in speeds])} writes of full blocks a second, and "
+    return [f"With 64 or 256 slots, {span([round(speed, -3) for speed in speeds])} writes of full blocks a second, and "
             f"{span(syncs)} syncs for 1,000 of them; writing and syncing a record takes {number(sync)} microseconds. An ordinary unproved Rust server is {batch} "
             f"times as fast as `waffd` with 2 workers; {twice} times, if it locks and syncs as `waffd` does."]
 

@@ -68,11 +68,8 @@ class Programs:
         return path
 
     def handoff(self):
-        """The program of round trips through the bench: HANDOFF=FILE, else the one that `rt` proves and builds."""
-        folder = os.path.join(TOP, "crates", "handoff")
-        if "HANDOFF" in os.environ:
-            return os.environ["HANDOFF"]
-        path = self.at("handoff")
+        """The program of round trips through the bench, which `rt` proves and builds."""
+        folder, path = os.path.join(TOP, "crates", "handoff"), self.at("handoff")
         if not os.path.exists(path):
             done(["rt", "run", "--", "1", "1"], cwd=folder)
             shutil.copy(os.path.join(folder, "out", "handoff"), path)
