@@ -25,7 +25,7 @@ use Rattle.serving.specs.declared.server.ServeFault.TheVariants as faults
 use Rattle.commands.proofs.Kept.{held, written_at}
 use Rattle.commands.specs.Faults.{command_result}
 use Rattle.commands.specs.Acknowledged.{HoldsAcknowledged}
-use Rattle.commands.specs.Promise.{HasRunFrom, HoldsRecovered, HoldsState, LeavesRecovered, LeavesRun, IfOpened, IsWritten}
+use Rattle.commands.specs.Promise.{HasRunFrom, HoldsRecovered, HoldsState, LeavesRecovered, LeavesRun, IfOpened, IsWritten, OpensUnlessFailed}
 use Rattle.commands.specs.Restarts.{CrashedRun, FollowCrashes, HaveRunFrom}
 use Rattle.commands.specs.Serving.{EndsOnDevice, CrashesSafely, HasServedBy, RecoveredTo}
 use Rattle.commands.specs.declared.faults.Fault.{Fault}
@@ -172,13 +172,13 @@ module _ {keeps : Type 0} (keep : keeps) (g : Geometry) (slots : ℕ) (old new :
           goes_on = h.2.holds_now;
         }
 
-module _ (g : Geometry) (s : ServeOptions) (old new : Medium) (end : Result (Unit {0}) Fault) (input left before written : Option (List ℕ)) where
+module _ {keeps : Type 0} (keep : keeps) (g : Geometry) (s : ServeOptions) (old new : Medium) (end : Result (Unit {0}) Fault) (input left before written : Option (List ℕ)) where
   -- A device that recovers to a state is opened, unless it fails or memory is wanting.
-  pub opens_so : {x : State} → AreBytes old.now → recovered_state g old.now ≡ Some x → EndsOnDevice (Unit {0}) s old new end input left before written
-      → (fault : OpenFault) → end ≡ Err (ends.Open fault) → (fault ≡ opening.Device) ⊎ (fault ≡ opening.OutOfMemory)
+  pub opens_so : {x : State} → AreBytes old.now → recovered_state g old.now ≡ Some x → EndsOnDevice keeps s old new end input left before written
+      → OpensUnlessFailed end
   opens_so {x} bytes recovers h fault is =
       not_shown fault (recovers_or_refused old.now g x fault bytes recovers)
-      ((subst (λ (e : Result (Unit {0}) Fault). EndsOnDevice (Unit {0}) s old new e input left before written) is h).0 tt).0
+      ((subst (λ (e : Result (Unit {0}) Fault). EndsOnDevice keeps s old new e input left before written) is h).0 keep).0
     where
       not_shown : (fault : OpenFault) → (IsShownByBytes fault → IsRefused old.now fault → ⊥) → IsRefused old.now fault → (fault ≡ opening.Device) ⊎ (fault ≡ opening.OutOfMemory)
       not_shown opening.Device none is = inl refl
@@ -193,10 +193,13 @@ module _ (g : Geometry) (s : ServeOptions) (old new : Medium) (end : Result (Uni
 
 module _ {keeps : Type 0} (s : ServeOptions) (old new : Medium) (end : Result (Unit {0}) Fault) (input left before written : Option (List ℕ)) where
   -- The service ran from the state that the device held.
-  pub leaves_run : EndsOnDevice keeps s old new end input left before written → CrashesSafely keeps s old new end input left before written
+  pub leaves_run : AreBytes old.now → EndsOnDevice keeps s old new end input left before written → CrashesSafely keeps s old new end input left before written
       → LeavesRecovered keeps s.slots old new end input before written → LeavesRun keeps s.slots old new end input before written
-  leaves_run e safe recovers keep g x is c leaves =
-      run_so keep g s.slots old new is.0 is.1 c leaves s end input left before written e safe (opened_then end (λ k. (k.0, k.1, k.2 keep c leaves)) recovers)
+  leaves_run bytes e safe recovers keep g x is = (
+    opens_so keep g s old new end input left before written bytes is.0 e,
+    λ c leaves.
+        run_so keep g s.slots old new is.0 is.1 c leaves s end input left before written e safe (opened_then end (λ k. (k.0, k.1, k.2 keep c leaves)) recovers),
+  )
 
 -- What follows a run may be put in other words.
 pub then_so : {g : Geometry} {slots : ℕ} {start : State} {end : Result (Unit {0}) Fault} {input before after : Option (List ℕ)} {P Q : State → Type 0}
@@ -209,9 +212,10 @@ pub ends_so : {g : Geometry} {slots : ℕ} {start : State} {end r : Result (Unit
 ends_so {g} {slots} {start} {input} {before} {after} is h =
     subst (λ (e : Result (Unit {0}) Fault). HasRunFrom g slots start e input before after (λ now. Unit {0})) is (then_so (λ now next. tt) h)
 
--- Each of the servers ran from the state that the crash before had left.
+-- Each of the servers opened its device, and ran from the state that the crash before had left.
 pub all_go_on : (g : Geometry) (start : State) (device : Medium) (runs : List CrashedRun) → HoldsState g device start → FollowCrashes device runs
     → HaveRunFrom g start runs
 all_go_on g start device [] is follow = tt
 all_go_on g start device (run ∷ runs) is follow =
-    then_so (λ now left. all_go_on g now run.crashed runs (left, follow.2) follow.3) (follow.0 tt g start is run.crashed.now follow.1)
+    let h = follow.0 tt g start is in
+    (h.0, then_so (λ now left. all_go_on g now run.crashed runs (left, follow.2) follow.3) (h.1 run.crashed.now follow.1))

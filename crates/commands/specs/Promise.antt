@@ -1,8 +1,10 @@
 -- Statement for clients: What a service promises its client over a crash: bytes in, bytes out.
-use Rattle.std.specs.Prelude.{◌≡◌, ℕ, List, ◌++◌, Option, Some, Result, Err, OnOk}
+use Rattle.std.specs.Prelude.{◌≡◌, ◌⊎◌, ℕ, List, ◌++◌, Option, Some, Result, Err, OnOk}
 use Rattle.std.specs.Io.KnownBytes.{Appends}
 use Rattle.affinity.specs.declared.geometry.Geometry.{Geometry}
 use Rattle.checkpoint.specs.Recovery.{recovered_state}
+use Rattle.checkpoint.specs.declared.fault.OpenFault.{OpenFault}
+use Rattle.checkpoint.specs.declared.fault.OpenFault.TheVariants as opening
 use Rattle.disk.specs.Device.{IsCrashImage, IsSynced, Medium}
 use Rattle.meaning.specs.Output.{WritesOutput, serial_output}
 use Rattle.meaning.specs.State.{State}
@@ -58,7 +60,13 @@ LeavesRecovered keeps slots old new end input before after = IfOpened end
 abbrev pub HoldsState : Geometry → Medium → State → Type 0
 HoldsState g m x = (recovered_state g m.now ≡ Some x) × IsSynced m
 
--- From the state that the device held a server ran so, to the state to which the bytes recover that a crash leaves, whichever these are.
+-- A server with this end opened its device, unless that failed or memory was wanting.
+abbrev pub OpensUnlessFailed : Result (Unit {0}) Fault → Type 0
+OpensUnlessFailed end = (fault : OpenFault) → end ≡ Err (Open fault) → (fault ≡ opening.Device) ⊎ (fault ≡ opening.OutOfMemory)
+
+-- If the device held a state, a server opened it, unless that failed or memory was wanting. From that state it ran so, to the state to
+-- which the bytes recover that a crash leaves, whichever these are.
 abbrev pub LeavesRun : Type 0 → ℕ → Medium → Medium → Result (Unit {0}) Fault → Option (List ℕ) → Option (List ℕ) → Option (List ℕ) → Type 0
 LeavesRun keeps slots old new end input before after = keeps → (g : Geometry) (start : State) → HoldsState g old start
-    → (c : List ℕ) → IsCrashImage new c → HasRunFrom g slots start end input before after (λ now. recovered_state g c ≡ Some now)
+    → OpensUnlessFailed end
+    × ((c : List ℕ) → IsCrashImage new c → HasRunFrom g slots start end input before after (λ now. recovered_state g c ≡ Some now))

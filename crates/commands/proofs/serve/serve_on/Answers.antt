@@ -33,7 +33,7 @@ returns-in-Err-clause-goes_on g c =
     let before = g.W.Write.contents c.args.w.now in
     let refused = c.in-Err.ensures in
     subst (λ (f : Fault). LeavesRun keeps service.slots old new (Err f) input before before) (sym c.from-in-Err.ensures)
-    (leaves_run service old new _ input input before before ((λ k. (refused.refused k, refused.unwritten k)), refl, refl, refused.device) refused.any_moment tt)
+    (leaves_run service old new _ input input before before (g.met.D.Disk.bytes c.args.disk) ((λ k. (refused.refused k, refused.unwritten k)), refl, refl, refused.device) refused.any_moment tt)
 
 pub returns : goal.returns
 returns g c =
@@ -62,6 +62,6 @@ returns g c =
       kept = given_back (λ m r. KeepsAcknowledged keeps service.slots old m r input before written) (keeps_acknowledged end by);
       recovers = given_back (λ m r. LeavesRecovered keeps service.slots old m r input before written) (leaves_recovered end by);
       goes_on = given_back (λ m r. LeavesRun keeps service.slots old m r input before written)
-          (leaves_run service old now.medium (command_result end) input left before written (ends_on_device end by c.know_recovery.ensures.no_doubt bytes)
-          (crashes_safely end by) (leaves_recovered end by));
+          (leaves_run service old now.medium (command_result end) input left before written (g.met.D.Disk.bytes c.args.disk)
+          (ends_on_device end by c.know_recovery.ensures.no_doubt bytes) (crashes_safely end by) (leaves_recovered end by));
     }

@@ -22,5 +22,5 @@ returns g c =
       kept = kept_then end before written (λ k. (k.0, k.1, k.2 tt (medium_of c.crash.result).now c.crash.ensures.may)) c.serve_on-disk.ensures.kept;
       recovers = opened_then end (λ k. (k.0, k.1, k.2 tt (medium_of c.crash.result).now c.crash.ensures.may)) c.serve_on-disk.ensures.recovers;
       goes_on = λ k start held. then_so (λ now is. (is, subst (λ (m : Memory). IsSynced m.medium) (sym c.crash.ensures.after) refl))
-          (c.serve_on-disk.ensures.goes_on tt k start held (medium_of c.crash.result).now c.crash.ensures.may);
+          ((c.serve_on-disk.ensures.goes_on tt k start held).1 (medium_of c.crash.result).now c.crash.ensures.may);
     }
