@@ -1,6 +1,6 @@
 """Measures the rows of the file of figures. The programs of a row take turns, so that what else the machine does meets all of them."""
-import contextlib
 import os
+import shutil
 import subprocess
 import time
 from statistics import median
@@ -124,7 +124,7 @@ class Measuring:
         starts = self.start(geometry)
         lines = self.lines_of(mix, slots)
         self.programs.write_input([self.programs.at("lines"), mix, str(lines), geometry])
-        changes = self.programs.count_input(b"write")
+        changes = self.programs.count_lines("input", b"write")
         return values_in_turns(self.repeat, {
             program: lambda program=program: self.net(self.run(geometry, program, slots, row["output"]), starts[program], lines, changes)
             for program in programs_of(row)})
@@ -163,15 +163,12 @@ class Measuring:
 
     def stop_hard(self, words):
         """Kills a server once it has answered all lines of an input that doesn't end."""
-        output = self.programs.stream("output")
-        with open(output, "wb") as sink, open(self.programs.stream("input"), "rb") as source:
-            child = subprocess.Popen(words, stdin=subprocess.PIPE, stdout=sink)
+        with open(self.programs.stream("output"), "wb") as sink, open(self.programs.stream("input"), "rb") as source:
+            child = subprocess.Popen(words, stdin=subprocess.PIPE, stdout=sink, bufsize=0)
             try:
-                while block := source.read(1 << 20):
-                    child.stdin.write(block)
-                child.stdin.flush()
-                wanted, until = self.programs.count_input(), time.monotonic() + LONGEST_RUN
-                while self.count_lines(output) < wanted:
+                shutil.copyfileobj(source, child.stdin)
+                wanted, until = self.programs.count_lines("input"), time.monotonic() + LONGEST_RUN
+                while self.programs.count_lines("output") < wanted:
                     if child.poll() is not None or time.monotonic() > until:
                         raise Failed(f"{' '.join(words)} has not answered all lines")
                     time.sleep(0.01)
@@ -180,13 +177,7 @@ class Measuring:
             finally:
                 child.kill()
                 child.wait()
-                with contextlib.suppress(BrokenPipeError):
-                    child.stdin.close()
-
-    @staticmethod
-    def count_lines(path):
-        with open(path, "rb") as file:
-            return file.read().count(b"\n")
+                child.stdin.close()
 
     # ---- the serial server, and the bench
 
@@ -198,7 +189,7 @@ class Measuring:
 
     def measure_plain(self, row):
         self.programs.write_input([self.programs.at("plain_lines"), row["mix"], str(self.lines * MORE_READS)])
-        lines = self.programs.count_input()
+        lines = self.programs.count_lines("input")
         return values_in_turns(self.repeat, {"serial": lambda: self.alone([self.programs.at("serial")], lines),
                                              "waffd": lambda: self.alone([PROGRAM, "plain"], lines)})
 

@@ -83,10 +83,10 @@ class Programs:
             raise Failed(f"{' '.join(words)} ended with status {end.returncode}")
         self.has_expected = False
 
-    def count_input(self, start=b""):
-        """How many lines of the input begin so."""
-        with open(self.stream("input"), "rb") as file:
-            return sum(line.startswith(start) for line in file)
+    def count_lines(self, stream, start=b""):
+        """How many whole lines of a stream begin so."""
+        with open(self.stream(stream), "rb") as file:
+            return sum(line.startswith(start) and line.endswith(b"\n") for line in file)
 
     def copied(self, name):
         """A fresh copy of a device or a log, of which nothing waits to be written."""
