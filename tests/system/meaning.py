@@ -34,35 +34,26 @@ def group(g, file, block):
 
 
 def empty_state(g):
-    state = {}
-    for a, v in itertools.product(range(g.aggregates), range(g.volumes)):
-        state[a, v] = None
-        for s in range(g.stripes):
-            state[a, v, s] = {}
-    return state
+    volumes = list(itertools.product(range(g.aggregates), range(g.volumes)))
+    return {**dict.fromkeys(volumes), **{(a, v, s): {} for a, v in volumes for s in range(g.stripes)}}
 
 
 def cut(data):
     """Digits to the last byte that isn't zero, and at least one byte."""
-    data = data.lower()
-    while len(data) > 2 and data.endswith("00"):
-        data = data[:-2]
-    return data
+    return re.sub("(?<=.)(00)+$", "", data.lower())
 
 
 def message_of(line):
     """The words of a line that is a message, else None."""
-    words = line.split(" ")
-    if len(line) > LONGEST_LINE or words[0] not in FIELDS:
+    kind, *words = line.split(" ")
+    if len(line) > LONGEST_LINE or kind not in FIELDS or len(words) != FIELDS[kind] + (kind in MOST_DIGITS):
         return None
-    count = FIELDS[words[0]]
-    has_data = words[0] in MOST_DIGITS
-    numbers = words[1:1 + count]
-    if len(words) != 1 + count + has_data or not all(n.isdigit() and n == str(int(n)) and int(n) < 65536 for n in numbers):
+    numbers, data = words[:FIELDS[kind]], words[FIELDS[kind]:]
+    if not all(re.fullmatch("0|[1-9][0-9]*", number) and int(number) < 65536 for number in numbers):
         return None
-    if has_data and not (re.fullmatch("([0-9A-Fa-f]{2})+", words[-1]) and len(words[-1]) <= MOST_DIGITS[words[0]]):
+    if not all(re.fullmatch("([0-9A-Fa-f]{2})+", digits) and len(digits) <= MOST_DIGITS[kind] for digits in data):
         return None
-    return (words[0], [int(n) for n in numbers], cut(words[-1]) if has_data else None)
+    return kind, list(map(int, numbers)), cut(data[0]) if data else None
 
 
 def in_range(g, message):
