@@ -243,7 +243,7 @@ LINES_A_CALL = 4  # at least, of reads of the input and of writes of the output
 class Calls(Case):
     def test_piped_input(self):
         """How many calls of the system piped input takes. What is answered is written before a wait for the workers, so how many writes there
-        are is the scheduler's; so is how often threads wait for one another, which is only printed."""
+        are is the scheduler's."""
         between, volumes = self.between("stop.c"), range(COMMON.volumes)
         made = [line for v in volumes for line in (f"makevol 0 {v}", f"create 0 {v} 0")]
         for kind, data in (("read", ""), ("write", " 6162")):
@@ -255,13 +255,3 @@ class Calls(Case):
             with self.subTest(f"{COUNTED_LINES} {kind} lines take {reads} reads, {writes} writes, {calls} calls of the device"):
                 self.has_ended(end, 0, None, b"")
                 self.assertLessEqual((reads + writes) * LINES_A_CALL, COUNTED_LINES)
-            if shutil.which("strace"):
-                self.tell_all_calls(device, kind)
-
-    def tell_all_calls(self, device, kind):
-        with open(self.at("lines"), "rb") as given:
-            words = ["strace", "-f", "-c", "-o", self.at("strace"), PROGRAM, *device.words()]
-            subprocess.run(words, stdin=given, stdout=subprocess.DEVNULL, check=False)
-        found = re.findall(r"(\d+)(?: +\d+)? +(\w+)$", bytes_of(self.at("strace")).decode(), re.M) if os.path.exists(self.at("strace")) else []
-        often = sorted(((int(count), name) for count, name in found if name != "total"), reverse=True)[:5]
-        print(f"       all calls of the system for {kind} lines: " + ", ".join(f"{name} {count}" for count, name in often))
