@@ -11,16 +11,14 @@ import contextlib
 import glob
 import os
 import re
-import select
 import shlex
 import signal
 import subprocess
 import sys
 import tempfile
 import textwrap
-import time
 
-from program import PATIENCE, PROGRAM, TOP, Case
+from program import PATIENCE, PROGRAM, TOP, Case, read_until
 
 INDENT, PROMPT = "    ", "    $ "
 RUN = "./waffd"
@@ -58,18 +56,6 @@ def programs(text):
     return [(text.count("\n", 0, found.start(1)) + 1, textwrap.dedent(found[1])) for found in PYTHON.finditer(text)]
 
 
-def read_line(source):
-    """A line without its end, or what came of it until the output ended or patience did."""
-    found, end = b"", time.monotonic() + PATIENCE
-    while not found.endswith(b"\n") and time.monotonic() < end:
-        if select.select([source], [], [], 0.1)[0]:
-            byte = os.read(source.fileno(), 1)
-            if not byte:
-                break
-            found += byte
-    return found.decode(errors="replace").rstrip("\n")
-
-
 def pairs_of(rows):
     """Lines with their replies: side by side, or below each other."""
     if rows and len(rows[0]) > 1:
@@ -85,7 +71,8 @@ class Examples(Case):
         for line, reply in pairs_of(rows[:-1] if is_killed else rows):
             with contextlib.suppress(BrokenPipeError):  # it has ended, so nothing is read below
                 child.stdin.write(line.encode() + b"\n")
-            self.assertEqual(read_line(child.stdout), reply, f"the reply to {line!r}")
+            found = read_until(child.stdout, lambda found: found.endswith(b"\n"))
+            self.assertEqual(found.decode(errors="replace").rstrip("\n"), reply, f"the reply to {line!r}")
         if is_killed:
             child.kill()
         return -signal.SIGKILL if is_killed else 0

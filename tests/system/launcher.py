@@ -31,16 +31,12 @@ class Launcher(Case):
         for crate in ("disk", "parts_tests", "waffd"):
             self.put(f"crates/{crate}/src/lib.rt", "")
             self.touch(f"crates/{crate}/src", 1000)
-        self.put("crates.txt", "")
-        self.put("build", BUILD, 0o755)
-        self.put("program", PROGRAM, 0o755)
+        for path, text in (("crates.txt", ""), ("build", BUILD), ("program", PROGRAM)):
+            self.put(path, text)
         shutil.copy(os.path.join(TOP, "waffd"), self.folder)
 
-    def put(self, path, text, mode=0o644):
-        os.makedirs(os.path.dirname(self.at(path)), exist_ok=True)
-        with open(self.at(path), "w", encoding="utf-8") as file:
-            file.write(text)
-        os.chmod(self.at(path), mode)
+    def put(self, path, text):
+        self.put_script(path, text)
         self.touch(path, 1000)
 
     def touch(self, path, seconds):
@@ -81,11 +77,8 @@ TRIED = (("plain --files 2", "plain --files 2"), ("format d --half 8", "format @
 class Try(Case):
     def test_arguments(self):
         """./try says that nothing is proved, and runs `rt try` in the folder of the program, with the whole path of a device."""
-        for path, text in (("rt", '#!/bin/sh\necho "$*"\npwd\n'), ("crates/waffd/x", "")):
-            os.makedirs(os.path.dirname(self.at(path)), exist_ok=True)
-            with open(self.at(path), "w", encoding="utf-8") as file:
-                file.write(text)
-        os.chmod(self.at("rt"), 0o755)
+        self.put_script("rt", '#!/bin/sh\necho "$*"\npwd\n')
+        os.makedirs(self.at("crates/waffd"))
         shutil.copy(os.path.join(TOP, "try"), self.folder)
         env = dict(os.environ, PATH=f"{self.folder}:{os.environ['PATH']}")
         for given, wanted in TRIED:

@@ -3,12 +3,11 @@ pipes, one read or write that fails; that a reply comes before the next line is 
 import os
 import pty
 import re
-import select
 import shutil
 import subprocess
 import time
 
-from program import (DEVICE_FAULT, MADE, PATIENCE, PROGRAM, READ_FAULT, REPLIES, WRITE_FAULT, Case, bytes_of, is_beginning, put_bytes, run)
+from program import DEVICE_FAULT, MADE, PATIENCE, PROGRAM, READ_FAULT, REPLIES, WRITE_FAULT, Case, bytes_of, is_beginning, put_bytes, read_until, run
 from examples import Examples
 from servers import COMMON, SMALL, Device, File, text_of
 
@@ -148,18 +147,6 @@ CONVERSATION = ((b"makevol 0 0\n", b"done\n"), (b"create 0 0 0\nsummary\n", b"do
                 (b"punch 0 0 0 0\n", b"done\n"), (b"sum", b""), (b"mary\n", b"summary 1 1 2\n"))
 
 
-def read_reply(source, length):
-    """So many bytes, or what came until patience ended."""
-    found, end = b"", time.monotonic() + PATIENCE
-    while len(found) < length and time.monotonic() < end:
-        if select.select([source], [], [], 0.1)[0]:
-            piece = os.read(source, length - len(found))
-            if not piece:
-                break
-            found += piece
-    return found
-
-
 class Conversations(Case):
     """A client that waits for each reply."""
 
@@ -167,7 +154,7 @@ class Conversations(Case):
         with self.subTest("a reply comes before the next line is sent: " + name):
             for line, reply in CONVERSATION:
                 os.write(to, line)
-                self.assertEqual(read_reply(source, len(reply)), reply, f"after {line!r}")
+                self.assertEqual(read_until(source, lambda found: len(found) >= len(reply)), reply, f"after {line!r}")
         end()
         with self.subTest("and the end of the input ends it, once"):
             self.assertEqual(child.wait(PATIENCE), 0)

@@ -1,8 +1,10 @@
 """The program that is tried, how it is run, and how it has to end. A check is a subtest, or a test without any."""
 import os
+import select
 import struct
 import subprocess
 import tempfile
+import time
 import unittest
 
 TOP = os.path.dirname(os.path.dirname(os.path.dirname(os.path.realpath(__file__))))
@@ -27,16 +29,24 @@ def run(words, given=b"", env=None, closed=(), stdin=None, stdout=None):
         for number in closed:
             os.close(number)
 
-    child = subprocess.Popen(
-        [PROGRAM, *words], stdin=subprocess.PIPE if stdin is None else stdin, stdout=subprocess.PIPE if stdout is None else stdout,
-        stderr=subprocess.PIPE, env=dict(os.environ, **(env or {})), preexec_fn=before if closed else None)
+    source = {"input": given} if stdin is None else {"stdin": stdin}
     try:
-        output, faults = child.communicate(given if stdin is None else None, timeout=LONGEST_RUN)
+        end = subprocess.run([PROGRAM, *words], **source, stdout=subprocess.PIPE if stdout is None else stdout, stderr=subprocess.PIPE, check=False,
+                             timeout=LONGEST_RUN, env=dict(os.environ, **(env or {})), preexec_fn=before if closed else None)
     except subprocess.TimeoutExpired:
-        child.kill()
-        child.communicate()
         return None, b"", b"no end"
-    return child.returncode, output or b"", faults
+    return end.returncode, end.stdout or b"", end.stderr
+
+
+def read_until(source, is_enough, size=1, patience=PATIENCE):
+    """What comes, so many bytes at a time, until it is enough, there is no more, or patience ended."""
+    found, end = b"", time.monotonic() + patience
+    while not is_enough(found) and select.select([source], [], [], max(0, end - time.monotonic()))[0]:
+        piece = os.read(source if isinstance(source, int) else source.fileno(), size)
+        if not piece:
+            break
+        found += piece
+    return found
 
 
 def is_beginning(found, whole):
@@ -94,6 +104,12 @@ class Case(unittest.TestCase):
 
     def at(self, name):
         return os.path.join(self.folder, name)
+
+    def put_script(self, path, text):
+        """A script of this text, in a folder that is made for it."""
+        os.makedirs(os.path.dirname(self.at(path)), exist_ok=True)
+        put_bytes(self.at(path), text.encode())
+        os.chmod(self.at(path), 0o755)
 
     def between(self, source):
         return Between(self.folder, source)

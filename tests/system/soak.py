@@ -6,12 +6,11 @@ replies before the next one. As many servers run at once as there are processors
 import concurrent.futures
 import os
 import random
-import select
 import subprocess
 import tempfile
 import time
 
-from program import PROGRAM, Case
+from program import PROGRAM, Case, read_until
 
 BURSTS, LIFE = 2000, 20  # of one server, in seconds
 PATIENCE = 60  # seconds for a burst's replies, and for the end
@@ -25,19 +24,6 @@ def lines_of(draw, count):
     some = [draw.choice(kinds) % (draw.randrange(4), draw.randrange(2), draw.randrange(16)) for _ in range(count)]
     return "".join(draw.choice(("summary\n", "what\n", f"makevol 0 {draw.randrange(4)}\n", f"create 0 {draw.randrange(4)} 0\n"))
                    if draw.randrange(10) == 0 else line for line in some).encode()
-
-
-def wait_replies(stream, count):
-    """Whether so many reply lines come in time."""
-    end, output = time.monotonic() + PATIENCE, b""
-    while output.count(b"\n") < count:
-        if not select.select([stream], [], [], max(0, end - time.monotonic()))[0]:
-            return False
-        piece = os.read(stream.fileno(), 1 << 16)
-        if not piece:
-            return False
-        output += piece
-    return output.count(b"\n") == count
 
 
 def live(seed, until):
@@ -54,7 +40,8 @@ def live(seed, until):
             while bursts < BURSTS and time.monotonic() < end:
                 count = draw.randint(1, 20)
                 child.stdin.write(lines_of(draw, count))
-                if not wait_replies(child.stdout, count):
+                replies = read_until(child.stdout, lambda found: found.count(b"\n") >= count, 1 << 16, PATIENCE)
+                if replies.count(b"\n") != count:
                     return bursts, lines, f"seed {seed}, {' '.join(words)}: burst {bursts + 1} of {count} lines isn't answered"
                 bursts, lines = bursts + 1, lines + count
                 time.sleep(draw.choice(PAUSES))
