@@ -9,6 +9,13 @@ import unittest
 from program import PATIENCE, PROGRAM, READ_FAULT, Case, run
 
 LINE, DONE = b"makevol 0 0\n", b"done\n"
+ENDING = (signal.SIGTERM, signal.SIGINT, signal.SIGHUP, signal.SIGKILL)
+
+
+def take_signals():
+    """A signal that is ignored here, as SIGINT is in the background, isn't by the server."""
+    for number in ENDING[:-1]:
+        signal.signal(number, signal.SIG_DFL)
 
 
 class Operating(Case):
@@ -19,7 +26,7 @@ class Operating(Case):
 
     def serve(self, *before, **streams):
         pipes = {"stdin": subprocess.PIPE, "stdout": subprocess.PIPE, "stderr": subprocess.PIPE}
-        server = subprocess.Popen([*before, PROGRAM, "serve", self.device], bufsize=0, **{**pipes, **streams})
+        server = subprocess.Popen([*before, PROGRAM, "serve", self.device], bufsize=0, **{"preexec_fn": take_signals, **pipes, **streams})
         self.addCleanup(server.kill)
         return server
 
@@ -35,7 +42,7 @@ class Operating(Case):
 
     def test_signals(self):
         """a signal ends a server at once, and what was answered is in the log; the end of the input leaves no record"""
-        for number in (signal.SIGTERM, signal.SIGINT, signal.SIGHUP, signal.SIGKILL):
+        for number in ENDING:
             with self.subTest(f"a server is ended by {number.name}, and what was answered is in the log"):
                 run(["format", self.device])
                 server = self.serve()
