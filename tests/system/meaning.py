@@ -34,8 +34,12 @@ def group(g, file, block):
 
 
 def empty_state(g):
-    volumes = list(itertools.product(range(g.aggregates), range(g.volumes)))
-    return {**dict.fromkeys(volumes), **{(a, v, s): {} for a, v in volumes for s in range(g.stripes)}}
+    """Nothing, in the order of the pieces of an image: a volume, and its stripes behind it."""
+    state = {}
+    for a, v in itertools.product(range(g.aggregates), range(g.volumes)):
+        state[a, v] = None
+        state.update({(a, v, s): {} for s in range(g.stripes)})
+    return state
 
 
 def cut(data):
