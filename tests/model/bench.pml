@@ -1,7 +1,7 @@
 /* The bench (crates/workers) as a SPIN model: how the dispatcher and the workers hand jobs over, wait and are woken.
  *
  * One transition is one atomic step of the code on a word of the table, or one futex call; what a thread does with its own variables is merged
- * into the step before or after. W1.., D1.. are the steps of a worker and of the dispatcher; steps.txt says where each stands in the sources.
+ * into the step before or after. worker_1, dispatcher_1 and so on name the steps; steps.txt says where each stands in the sources.
  * Each step is sequentially consistent, as those of the table are. tests/model/search runs it. Choose by -D:
  *   W workers (1..3), P places (1..3)
  *   EXACT      counters that never wrap, kept as "equal or not" bits (exact)
@@ -253,19 +253,19 @@ top:
 #ifdef BUG_WAITFRESH
     :: atomic { MAYWAIT -> D_SEE; goto announce }
 #else
-    :: atomic { MAYWAIT && D_EQ -> goto announce }                                                      /* D11 equal */
-    :: atomic { MAYWAIT && !D_EQ -> D_SEE; WAITED; goto top }                                           /* D11 changed */
+    :: atomic { MAYWAIT && D_EQ -> goto announce }                                                      /* dispatcher_11 equal */
+    :: atomic { MAYWAIT && !D_EQ -> D_SEE; WAITED; goto top }                                           /* dispatcher_11 changed */
 #endif
     /* Bench::stop */
 #ifdef BUG_STOPLATE
     :: atomic { MAYSTOP -> dst = D_STOPPING; O_INC; goto stopsignal }
 #else
-    :: atomic { MAYSTOP -> dst = D_STOPPING; STOP = 1; goto stopsignal }                                /* D8 */
+    :: atomic { MAYSTOP -> dst = D_STOPPING; STOP = 1; goto stopsignal }                                /* dispatcher_8 */
 #endif
     fi;
 
 oput:
-    atomic {                                                                                            /* D1 */
+    atomic {                                                                                            /* dispatcher_1 */
         assert(place[k] == EMPTY && own[k] == 1);
         dst = D_OFFERING; place[k] = OFFERED; own[k] = 0; lent[k] = 1; TAKEJOB;
 #ifdef GENERAL
@@ -273,7 +273,7 @@ oput:
 #endif
     };
 #ifndef BUG_SIGFIRST
-    atomic { O_INC };                                                                                   /* D2 */
+    atomic { O_INC };                                                                                   /* dispatcher_2 */
 #endif
 #ifdef BUG_OLDCOUNT
     if
@@ -281,23 +281,23 @@ oput:
     :: !none
     fi;
 #else
-    if                                                                                                  /* D3 */
+    if                                                                                                  /* dispatcher_3 */
     :: atomic { SLEEPERS == 0 -> k = 0; dst = D_ACTIVE; goto top }
     :: SLEEPERS != 0
     fi;
 #endif
-    if                                                                                                  /* D4 */
+    if                                                                                                  /* dispatcher_4 */
     :: atomic { SPINNERS != 0 -> k = 0; dst = D_ACTIVE; goto top }
     :: SPINNERS == 0
     fi;
-    atomic { WAKE_ONE_O; k = 0; dst = D_ACTIVE; goto top };                                             /* D5 */
+    atomic { WAKE_ONE_O; k = 0; dst = D_ACTIVE; goto top };                                             /* dispatcher_5 */
 
 poll:
-    if                                                                                                  /* D6 */
+    if                                                                                                  /* dispatcher_6 */
     :: lent[k] && place[k] == DELIVERED
     :: atomic { !lent[k] || place[k] != DELIVERED -> NOT_THERE }
     fi;
-    if                                                                                                  /* D7 */
+    if                                                                                                  /* dispatcher_7 */
     :: atomic { place[k] == DELIVERED ->
             assert(own[k] == 0);
             place[k] = EMPTY; own[k] = 1; lent[k] = 0; COLLECTED }
@@ -307,16 +307,16 @@ poll:
 announce:
 #ifndef BUG_NOANNOUNCE
 #ifndef BUG_ANNOUNCELATE
-    atomic { D_ANNOUNCE };                                                                              /* D12 */
+    atomic { D_ANNOUNCE };                                                                              /* dispatcher_12 */
 #endif
 #endif
 look:
-    if                                                                                                  /* D13 */
+    if                                                                                                  /* dispatcher_13 */
     :: atomic { dst != D_PARKED && !D_EQ -> D_SEE; WAITED; goto top }
 #ifndef BUG_ANNOUNCELATE
     :: dst != D_PARKED && D_EQ
     fi;
-    if                                                                                                  /* D14 */
+    if                                                                                                  /* dispatcher_14 */
     :: atomic { D_LOWEQ -> dst = D_PARKED; goto asleep }
     :: atomic { !D_LOWEQ -> goto look }
     fi;
@@ -338,13 +338,13 @@ stopsignal:
     atomic { STOP = 1 };
 #else
 #ifndef BUG_STOPNOSIG
-    atomic { O_INC };                                                                                   /* D9 */
+    atomic { O_INC };                                                                                   /* dispatcher_9 */
 #endif
 #endif
 #ifdef BUG_STOPONE
     atomic { WAKE_ONE_O; dst = D_STOPPED };
 #else
-    atomic { WAKE_ALL_O; dst = D_STOPPED };                                                             /* D10 */
+    atomic { WAKE_ALL_O; dst = D_STOPPED };                                                             /* dispatcher_10 */
 #endif
     atomic { ALLENDED -> assert(SLEEPERS == 0 && SPINNERS == 0) }       /* the end of the scope: all threads have ended */
 }
@@ -401,9 +401,9 @@ loop:
     atomic { O_READ(me); round = R_IDLE };
 #else
 #ifndef BUG_SEENLATE
-    atomic { O_READ(me) };                                                                              /* W1 */
+    atomic { O_READ(me) };                                                                              /* worker_1 */
 #endif
-    if                                                                                                  /* W2 */
+    if                                                                                                  /* worker_2 */
     :: atomic { STOP -> O_FORGET(me); last = 0;
 #ifdef BUG_SPINLATE
             if :: owe -> owe = 0; SPINNERS-- :: else -> skip fi;
@@ -414,14 +414,14 @@ loop:
 #endif
 
 scan:
-    if                                                                                                  /* W3 */
+    if                                                                                                  /* worker_3 */
     :: atomic { place[k] != OFFERED -> NEXT }
     :: place[k] == OFFERED
     fi;
 #ifdef BUG_CLAIMSTORE
     atomic { assert(own[k] == 0); place[k] = CLAIMED; own[k] = 2 + me; O_FORGET(me); FIRST_OTHER };
 #else
-    if                                                                                                  /* W4 */
+    if                                                                                                  /* worker_4 */
     :: atomic { place[k] == OFFERED ->
             assert(own[k] == 0);
             place[k] = CLAIMED; own[k] = 2 + me; O_FORGET(me); FIRST_OTHER }
@@ -431,7 +431,7 @@ scan:
     /* wake_another */
 #ifndef BUG_NOANOTHER
 another:
-    if                                                                                                  /* W5 */
+    if                                                                                                  /* worker_5 */
     :: atomic { place[o] != OFFERED ->
 #ifdef BUG_NEXTONLY
             o = P;
@@ -441,15 +441,15 @@ another:
             if :: o == P -> o = 0; st[me] = HELD; goto held :: else -> goto another fi }
     :: atomic { place[o] == OFFERED -> o = 0 }
     fi;
-    if                                                                                                  /* W6 */
+    if                                                                                                  /* worker_6 */
     :: atomic { SLEEPERS == 0 -> st[me] = HELD; goto held }
     :: SLEEPERS != 0
     fi;
-    if                                                                                                  /* W7 */
+    if                                                                                                  /* worker_7 */
     :: atomic { SPINNERS != 0 -> st[me] = HELD; goto held }
     :: SPINNERS == 0
     fi;
-    atomic { WAKE_ONE_O; st[me] = HELD };                                                               /* W8 */
+    atomic { WAKE_ONE_O; st[me] = HELD };                                                               /* worker_8 */
 #endif
 held:
     /* the job runs; then deliver, signal_delivery */
@@ -457,28 +457,28 @@ held:
     atomic { st[me] = SIGNAL; D_SIGNAL(me) };
     atomic { assert(place[k] == CLAIMED && own[k] == 2 + me); place[k] = DELIVERED; own[k] = 0 };
 #else
-    atomic {                                                                                            /* W9 */
+    atomic {                                                                                            /* worker_9 */
         assert(place[k] == CLAIMED && own[k] == 2 + me);
         st[me] = SIGNAL; place[k] = DELIVERED; own[k] = 0 };
 #ifdef BUG_DOLDSLEPT
     atomic { old = SLEPT_AT };
 #endif
-    atomic { D_SIGNAL(me) };                                                                            /* W10 */
+    atomic { D_SIGNAL(me) };                                                                            /* worker_10 */
 #endif
 #ifdef BUG_DOLDSLEPT
 #undef D_FOUND
 #define D_FOUND(i) (old == found[i])
 #endif
-    if                                                                                                  /* W11 */
+    if                                                                                                  /* worker_11 */
     :: atomic { D_FOUND(me) -> D_FORGET(me); round = R_WOKE }
     :: atomic { !D_FOUND(me) -> D_FORGET(me); round = R_SERVED; st[me] = ACTIVE; NEXT }
     fi;
-    atomic { WAKE_ONE_D; st[me] = ACTIVE; NEXT };                                                       /* W12 */
+    atomic { WAKE_ONE_D; st[me] = ACTIVE; NEXT };                                                       /* worker_12 */
 spinin:
     /* spin_then_sleep */
-    atomic { SPINNERS++ };                                                                              /* W13 */
+    atomic { SPINNERS++ };                                                                              /* worker_13 */
 spin:
-    if                                                                                                  /* W14 */
+    if                                                                                                  /* worker_14 */
     :: atomic { !O_EQ(me) ->
 #ifdef BUG_SPINLATE
             O_FORGET(me); owe = 1; goto loop
@@ -492,7 +492,7 @@ spin:
 #ifdef BUG_SPINFRESH
     atomic { SPINNERS--; O_READ(me) };
 #else
-    atomic { assert(SPINNERS > 0); SPINNERS-- };                                                        /* W15 unsignaled */
+    atomic { assert(SPINNERS > 0); SPINNERS-- };                                                        /* worker_15 unsignaled */
 #endif
 sleep:
     /* sleep */
@@ -511,20 +511,20 @@ sleep:
     atomic { SLEEPERS++ };
     atomic { st[me] = PARKED; goto parked };
 #else
-    atomic { SLEEPERS++ };                                                                              /* W16 */
+    atomic { SLEEPERS++ };                                                                              /* worker_16 */
 #ifndef BUG_NOLOOK
-    if                                                                                                  /* W17 */
+    if                                                                                                  /* worker_17 */
     :: atomic { !O_EQ(me) -> goto countout }
     :: O_EQ(me)
     fi;
 #endif
 #endif
 #endif
-    if                                                                                                  /* W18 */
+    if                                                                                                  /* worker_18 */
     :: atomic { O_LOWEQ(me) -> st[me] = PARKED; goto parked }
     :: atomic { !O_LOWEQ(me) -> goto countout }
     fi;
-parked:                                                                                                 /* W19: woken */
+parked:                                                                                                 /* worker_19: woken */
 #ifdef SPURIOUS
     if
     :: atomic { st[me] == PARKED -> st[me] = ACTIVE; goto countout }
@@ -532,7 +532,7 @@ parked:                                                                         
     fi;
 #endif
 countout:
-    atomic { st[me] != PARKED ->                                                                        /* W20 */
+    atomic { st[me] != PARKED ->                                                                        /* worker_20 */
 #ifdef BUG_STOREZERO
         SLEEPERS = 0;
 #else
@@ -541,7 +541,7 @@ countout:
         O_FORGET(me); goto loop };
 #ifndef BUG_SPINLATE
 signaled:
-    atomic { assert(SPINNERS > 0); SPINNERS--; O_FORGET(me); goto loop };                               /* W15 signaled */
+    atomic { assert(SPINNERS > 0); SPINNERS--; O_FORGET(me); goto loop };                               /* worker_15 signaled */
 #endif
 ended:
     skip
