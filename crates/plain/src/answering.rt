@@ -2,7 +2,7 @@
 //! followed by the replies that wait; `unread` is what a reader of lines hasn't given yet: the bytes that it holds, followed by what its
 //! source has left (nothing once a read has reported the end).
 
-ghost use Rattle.std.specs.Prelude.{◌≡◌, ◌≤◌, ◌++◌, ℕ, List, [], Option, Some, true, false, option_map, IfOk, OnOk, OnErr, IsErrOf, IsFalse, MatchBool, vec_len};
+ghost use Rattle.std.specs.Prelude.{◌≡◌, ◌≤◌, ◌++◌, ℕ, List, [], Option, Some, true, false, option_map, IfOk, OnOk, OnErr, IsErrOf, IsFalse, MatchBool, unwrap_or, vec_len};
 ghost use Rattle.std.specs.Io.KnownBytes.{Appends, IsAtEnd};
 ghost use Rattle.messages.specs.Grammar.{message_of};
 ghost use Rattle.message.specs.Reader.{unread, is_drained, source, KnowsEnd};
@@ -14,7 +14,9 @@ ghost use Rattle.meaning.specs.ByKind.{done_or_refused};
 ghost use Rattle.meaning.specs.State.{State, empty};
 ghost use Rattle.plain.specs.Server.{server_state, IsConsistent};
 ghost use Rattle.messages.specs.Replies.{reply_line};
-ghost use Rattle.meaning.specs.Serial.{reply_to, next_state};
+ghost use Rattle.messages.specs.declared.Msg.{Msg};
+ghost use Rattle.messages.specs.declared.Reply.TheVariants.{Label as shows_label};
+ghost use Rattle.meaning.specs.Serial.{accepted_reply, no_label, reply_to, next_state};
 ghost use Rattle.meaning.specs.Progress.{HasAnswered};
 ghost use Rattle.meaning.specs.Output.{serial_output, answer_line, state_after_line, AnswersWholeLines, IsBeginning, WritesOutput};
 
@@ -66,6 +68,25 @@ fn add_outcome(why: Option<Refusal>, out: &mut ReplyBuffer)
     }
 }
 
+/// Answers a `summary`. Not inlined, nor is `add_label`: a whole reply on the stack of each question costs a tenth of its instructions.
+#[inline(never)]
+fn add_summary(g: &Geometry, server: &Server, out: &mut ReplyBuffer)
+    requires sound { IsConsistent g.now server.now }
+    requires room { FitsReply out.old }
+    ensures { out.new ≡ out.old ++ reply_line (accepted_reply g.now (server_state server.now) Msg.Summary) }
+{
+    out.add_reply(&server.summary_of(g));
+}
+
+/// Adds the label of a volume.
+#[inline(never)]
+fn add_label(a: u16, v: u16, server: &Server, out: &mut ReplyBuffer)
+    requires room { FitsReply out.old }
+    ensures { out.new ≡ out.old ++ reply_line (shows_label (unwrap_or ((server_state server.now).labels (a, v)) no_label)) }
+{
+    out.add_reply(&server.label_of(a, v));
+}
+
 /// Answers a message that changes nothing.
 #[inline(never)]
 fn answer_question(
@@ -97,8 +118,8 @@ fn answer_question(
         Kind::Read => out.add_reply(&Reply::Hole),
         Kind::List => out.add_reply(&server.list_files(g, a, v)),
         Kind::Usage => out.add_reply(&server.usage_of(g, a, v)),
-        Kind::Summary => out.add_reply(&server.summary_of(g)),
-        Kind::Label => out.add_reply(&server.label_of(a, v)),
+        Kind::Summary => add_summary(g, server, out),
+        Kind::Label => add_label(a, v, server, out),
         _ => unreachable!(),
     }
 }
