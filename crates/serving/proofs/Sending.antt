@@ -1,5 +1,5 @@
 -- What is dispatched to the bench: the eligible message with the least ticket, to the first place where nothing is lent.
-use Rattle.std.proofs.Common.{◌≡◌, ℕ, ◌+◌, Bool, true, false, List, [], ◌∷◌, Option, Some, None, refl, ap, sym, ◌∙◌, subst, length, map, set}
+use Rattle.std.proofs.Common.{◌≡◌, ℕ, ◌+◌, Bool, true, false, List, [], ◌∷◌, Option, Some, None, Result, Ok, Err, refl, ap, sym, ◌∙◌, subst, length, map, set}
 use Rattle.std.specs.Prelude.{MatchOption, if◌then◌else◌, is_none, nat_lt, not, position}
 use Rattle.std.specs.List.{position_or_len}
 use Rattle.std.proofs.lemmas.List.{length-map}
@@ -19,13 +19,12 @@ use Rattle.runs.specs.declared.hands.HandContent.{HandContent}
 use Rattle.runs.specs.declared.hands.HandContent.TheVariants as has
 use Rattle.messages.specs.declared.Reply.{Reply}
 use Rattle.parcel.specs.Run.{JobView}
-use Rattle.scheduler.specs.Calls.{IsGrantOf, IsGranted, IsNoGrant}
+use Rattle.scheduler.specs.Calls.{IsGrantOf, IsNoGrant}
 use Rattle.scheduler.specs.CoreView.{CoreView, RecoversNow, core_state_of}
-use Rattle.scheduler.specs.declared.granted.Granted.{Granted}
-use Rattle.scheduler.specs.declared.granted.Granted.TheVariants as granted
-use Rattle.serving.specs.Lending.{DispatchesTo, OffersGranted}
+use Rattle.serving.specs.Lending.{DispatchesTo, IsBlocked}
 use Rattle.serving.specs.Runs.{HandsHaveJobs, IsInternal, RunsBetween, lent_hand, machine_with_jobs}
-use Rattle.serving.specs.declared.dispatch.Dispatched.{Dispatched}
+use Rattle.serving.specs.declared.dispatch.Blocked.{Blocked}
+use Rattle.serving.specs.declared.dispatch.Blocked.TheVariants as blocked
 use Rattle.serving.proofs.Returning.{hands-set, set-length}
 use Rattle.serving.proofs.Segments.{step_passes}
 use Rattle.workers.specs.Rule.{lent_at}
@@ -99,27 +98,19 @@ module _ (keeps : Type 0) (old new : CoreView) (lent : List (Option JobView)) (n
   none_goes_any_more failed still = quiet hands outcomes.Failed refl (still_holds keeps old new hands none recovers geometry same h still)
       (failed_step keeps old new hands none recovers geometry same k least failed still)
 
-  -- Whatever the grant gives: a job, which is lent then, or none.
-  pub sends : (r : Granted) (after : List (Option JobView)) (what : Dispatched) → IsGranted old.geometry (core_state_of old) (core_state_of new) r
-      → OffersGranted k lent r after what → IsInternal keeps (machine_with_jobs old lent) (machine_with_jobs new after)
-  sends (granted.Job job) after what g l = subst (λ (x : List (Option JobView)). IsInternal keeps (machine_with_jobs old lent) (machine_with_jobs new x)) (sym l.1) (goes_out job g)
-  sends granted.NoneEligible after what g l =
-      subst (λ (x : List (Option JobView)). IsInternal keeps (machine_with_jobs old lent) (machine_with_jobs new x)) (sym l.1) (none_goes outcomes.NoneEligible refl g)
-  sends granted.NoRoom after what g l =
-      subst (λ (x : List (Option JobView)). IsInternal keeps (machine_with_jobs old lent) (machine_with_jobs new x)) (sym l.1) (none_goes outcomes.NoRoom refl g)
-  sends granted.Failed after what g l =
-      subst (λ (x : List (Option JobView)). IsInternal keeps (machine_with_jobs old lent) (machine_with_jobs new x)) (sym l.1) (none_goes_any_more g.0 g.1)
+  stays : (why : Blocked) → IsBlocked old.geometry (core_state_of old) (core_state_of new) lent why → IsInternal keeps (machine_with_jobs old lent) (machine_with_jobs new lent)
+  stays blocked.NoPlace none = cc (sym first ∙ none.0)
+  stays blocked.NoneEligible none = none_goes outcomes.NoneEligible refl none
+  stays blocked.NoRoom none = none_goes outcomes.NoRoom refl none
+  stays blocked.Failed none = none_goes_any_more none.0 none.1
 
--- what is lent then, and what is reported of it
-module _ (k : ℕ) (lent after : List (Option JobView)) (what : Dispatched) where
-  pub as_many : (r : Granted) → OffersGranted k lent r after what → length after ≡ length lent
-  as_many (granted.Job job) l = ap (λ (x : List (Option JobView)). length x) l.1 ∙ set-length lent k (Some job)
-  as_many granted.NoneEligible l = ap (λ (x : List (Option JobView)). length x) l.1
-  as_many granted.NoRoom l = ap (λ (x : List (Option JobView)). length x) l.1
-  as_many granted.Failed l = ap (λ (x : List (Option JobView)). length x) l.1
+  -- Whether a job is lent then or none.
+  pub sends : (after : List (Option JobView)) (what : Result (Unit {0}) Blocked)
+      → DispatchesTo old.geometry k (core_state_of old) lent (core_state_of new) after what → IsInternal keeps (machine_with_jobs old lent) (machine_with_jobs new after)
+  sends after (Ok _) d = subst (λ (x : List (Option JobView)). IsInternal keeps (machine_with_jobs old lent) (machine_with_jobs new x)) (sym d.2) (goes_out d.0 d.1)
+  sends after (Err why) d = subst (λ (x : List (Option JobView)). IsInternal keeps (machine_with_jobs old lent) (machine_with_jobs new x)) (sym d.1) (stays why d.0)
 
-  pub goes_to : (g : Geometry) (old new : CoreState) (r : Granted) → IsGranted g old new r → OffersGranted k lent r after what → DispatchesTo g k old lent new after what
-  goes_to g old new (granted.Job job) is l = subst (DispatchesTo g k old lent new after) (sym l.0) (job, is, l.1)
-  goes_to g old new granted.NoneEligible is l = subst (DispatchesTo g k old lent new after) (sym l.0) (is, l.1)
-  goes_to g old new granted.NoRoom is l = subst (DispatchesTo g k old lent new after) (sym l.0) (is, l.1)
-  goes_to g old new granted.Failed is l = subst (DispatchesTo g k old lent new after) (sym l.0) (is.0, is.1, l.1)
+pub as_many : (g : Geometry) (k : ℕ) (old new : CoreState) (lent after : List (Option JobView)) (what : Result (Unit {0}) Blocked) → DispatchesTo g k old lent new after what
+    → length after ≡ length lent
+as_many g k old new lent after (Ok _) d = ap (λ (x : List (Option JobView)). length x) d.2 ∙ set-length lent k (Some d.0)
+as_many g k old new lent after (Err why) d = ap (λ (x : List (Option JobView)). length x) d.1

@@ -2,8 +2,11 @@
 //! checkpoint in progress after each answer. Where nothing else can be done, it waits for a result, or advances or begins a checkpoint.
 
 ghost use Rattle.std.specs.Prelude.{◌≡◌, ◌<◌, ◌≤◌, ◌-◌, ◌↔◌, IsTrue, OnErr, OnOk, Some, [], None, false, is_none, length, position, true};
+ghost use Rattle.affinity.specs.declared.geometry.Geometry.{Geometry};
+ghost use Rattle.legal_runs.specs.CoreState.{CoreState};
+ghost use Rattle.scheduler.specs.Calls.{IsGranted};
 ghost use Rattle.scheduler.specs.CoreView.{core_state_of};
-ghost use Rattle.serving.specs.Lending.{DispatchesTo, IsEndOfDispatch, NoneInFlight, OffersGranted};
+ghost use Rattle.serving.specs.Lending.{DispatchesTo, IsBlocked, NoneInFlight};
 ghost use Rattle.serving.specs.Session.{HasReadNothing, KeepsReadEndAndOutputFailed, IsSessionStep};
 
 use crate::gated_runtime::GatedRuntime;
@@ -29,25 +32,21 @@ const MAX_POLLS: usize = 16384;
 /// The thread yields the processor once in this many polls.
 const POLLS_PER_YIELD: usize = 32;
 
-/// What was collected in one iteration, and whether messages lacked only room in the log to be dispatched. `budget` falls with each
-/// message, so collecting ends; no contract says that it begins at `BATCH`.
+/// What was collected in one iteration. `budget` falls with each message, so collecting ends; no contract says that it begins at `BATCH`.
 #[derive(Clone, Copy)]
 struct Batch {
     /// How many more messages may be collected before what ran is logged.
     budget: usize,
     /// Whether one of the collected messages changed something, so that it has to be written to the log.
     changed: bool,
-    /// Whether the last dispatch ended because no message was eligible, and some message lacked only room in the log.
-    lacks_room: bool,
 }
 
 impl Batch {
     /// A batch in which nothing was collected yet.
-    fn new(lacks_room: bool) -> Batch {
+    fn new() -> Batch {
         Batch {
             budget: BATCH,
             changed: false,
-            lacks_room,
         }
     }
 
@@ -78,42 +77,43 @@ impl Batch {
     }
 }
 
-/// What came of dispatching a message.
+/// Why no further message is dispatched.
 #[derive(Clone, Copy)]
-enum Dispatched {
-    /// The message is dispatched, and its job is offered to the workers. As the end of dispatching: no place is free.
-    Job,
+enum Blocked {
+    /// No place is free.
+    NoPlace,
     /// No message is eligible, and none lacks only room in the log.
     NoneEligible,
     /// No message is eligible, and some message lacks only room in the log.
     NoRoom,
-    /// Nothing is dispatched, since the device has failed.
+    /// The device has failed.
     Failed,
 }
 
-/// If a job was granted (dispatched by the core), offers it to the workers at place k of the bench, the first free place. Returns what came
-/// of the grant. Inlined, so that the job isn't moved once more.
+/// If a job was granted (dispatched by the core), offers it to the workers at place k of the bench, the first free place. Inlined, so that
+/// the job isn't moved once more.
 #[inline(always)]
 fn offer_granted(
     bench: &Bench,
     dispatch_seat: &mut DispatchSeat,
     k: usize,
     granted: Granted,
-) -> Dispatched
+) -> Result<(), Blocked>
     requires bench { dispatch_seat.old.bench ≡ bench.now }
     requires place { k < bench.now.slots }
     requires first { position is_none dispatch_seat.old.lent ≡ Some k }
     ensures bench { dispatch_seat.new.bench ≡ dispatch_seat.old.bench }
-    ensures lends { OffersGranted k dispatch_seat.old.lent granted dispatch_seat.new.lent result }
+    ensures dispatches { (g : Geometry) (old new : CoreState) → IsGranted g old new granted
+        → DispatchesTo g k old dispatch_seat.old.lent new dispatch_seat.new.lent result }
 {
     match granted {
         Granted::Job(job) => match bench.offer(dispatch_seat, k, job) {
-            Ok(()) => Dispatched::Job,
+            Ok(()) => Ok(()),
             Err(_) => unreachable!(),
         },
-        Granted::NoneEligible => Dispatched::NoneEligible,
-        Granted::NoRoom => Dispatched::NoRoom,
-        Granted::Failed => Dispatched::Failed,
+        Granted::NoneEligible => Err(Blocked::NoneEligible),
+        Granted::NoRoom => Err(Blocked::NoRoom),
+        Granted::Failed => Err(Blocked::Failed),
     }
 }
 
@@ -128,7 +128,7 @@ fn pause(polls: usize) {
 
 impl<'c, R: Read, D: Disk, L: ReplySink<D>> Session<'c, R, D, L> {
     /// Dispatches the eligible message with the least ticket, if there is one, to place k, the first free one.
-    fn dispatch_to(&mut self, k: usize) -> Dispatched
+    fn dispatch_to(&mut self, k: usize) -> Result<(), Blocked>
         requires first { position is_none self.old.dispatch_seat.lent ≡ Some k }
         ensures as_before { KeepsReadEndAndOutputFailed self.old self.new }
         ensures geometry { self.new.core.geometry ≡ self.old.core.geometry }
@@ -140,19 +140,18 @@ impl<'c, R: Read, D: Disk, L: ReplySink<D>> Session<'c, R, D, L> {
         offer_granted(self.bench, &mut self.dispatch_seat, k, granted)
     }
 
-    /// Dispatches eligible messages, the one with the least ticket first, until no place is free or no further one can be dispatched.
-    /// Returns why it ended: `Dispatched::Job` means that no place is free.
-    fn dispatch_all(&mut self) -> Dispatched
+    /// Dispatches eligible messages, the one with the least ticket first, as long as it can. Returns why it ended.
+    fn dispatch_all(&mut self) -> Blocked
         ensures as_before { KeepsReadEndAndOutputFailed self.old self.new }
-        ensures ended { IsEndOfDispatch self.new.core.geometry (core_state_of self.new.core) self.new.dispatch_seat.lent result }
+        ensures ended { IsBlocked self.new.core.geometry (core_state_of self.new.core) (core_state_of self.new.core)
+            self.new.dispatch_seat.lent result }
     {
         while let Some(k) = self.dispatch_seat.first_free() {
-            match self.dispatch_to(k) {
-                Dispatched::Job => {}
-                why => return why,
+            if let Err(why) = self.dispatch_to(k) {
+                return why;
             }
         }
-        Dispatched::Job
+        Blocked::NoPlace
     }
 
     /// Dispatches messages, unless a checkpoint is due by the record count. Returns whether it ended because no message was eligible and
@@ -162,7 +161,7 @@ impl<'c, R: Read, D: Disk, L: ReplySink<D>> Session<'c, R, D, L> {
         ensures as_before { KeepsReadEndAndOutputFailed self.old self.new }
     {
         !self.trigger.is_due(self.core.pieces_left())
-            && matches!(self.dispatch_all(), Dispatched::NoRoom)
+            && matches!(self.dispatch_all(), Blocked::NoRoom)
     }
 
     /// Collects the result of the job at place k, if it was delivered. Returns whether the job changed something; `None` without a result.
@@ -210,7 +209,7 @@ impl<'c, R: Read, D: Disk, L: ReplySink<D>> Session<'c, R, D, L> {
         ensures none_in_flight { NoneInFlight self.new.dispatch_seat.lent }
     {
         for _ in rt.forever() {
-            let mut batch = Batch::new(false);
+            let mut batch = Batch::new();
             self.collect_delivered(&mut batch);
             let is_lent = self.dispatch_seat.any_lent();
             if !is_lent {
@@ -222,22 +221,23 @@ impl<'c, R: Read, D: Disk, L: ReplySink<D>> Session<'c, R, D, L> {
 
     /// Dispatches messages and collects results, until the batch is ready to log (`is_ready_to_log`), no job is in flight any more, or
     /// `MAX_POLLS` polls in succession found no result. After a poll that found some, it dispatches more messages. It never blocks.
-    fn dispatch_and_collect(&mut self) -> Batch
+    /// Returns what was collected, and whether the last dispatch lacked room in the log (`dispatch_ready`).
+    fn dispatch_and_collect(&mut self) -> (Batch, bool)
         ensures as_before { KeepsReadEndAndOutputFailed self.old self.new }
     {
-        let lacks_room = self.dispatch_ready();
-        let mut batch = Batch::new(lacks_room);
+        let mut lacks_room = self.dispatch_ready();
+        let mut batch = Batch::new();
         let mut polls = 0;
         while polls < MAX_POLLS && !batch.is_ready_to_log() && self.dispatch_seat.any_lent() {
             if self.collect_delivered(&mut batch) {
-                batch.lacks_room = self.dispatch_ready();
+                lacks_room = self.dispatch_ready();
                 polls = 0;
             } else {
                 polls += 1;
                 pause(polls);
             }
         }
-        batch
+        (batch, lacks_room)
     }
 
     /// Logs all that ran, by one call of `log`, and returns how many messages these were, reads included. Where nothing ran, it only
@@ -319,11 +319,11 @@ impl<'c, R: Read, D: Disk, L: ReplySink<D>> Session<'c, R, D, L> {
     ) -> Result<Activity, Halted>
         ensures session_step { IsSessionStep self.old self.new result }
     {
-        let batch = self.dispatch_and_collect();
+        let (batch, lacks_room) = self.dispatch_and_collect();
         self.log_and_reply(rt)?;
         if (matches!(read, Activity::Busy) || batch.has_results()) && !self.has_caught_up() {
             return Ok(Activity::Busy);
         }
-        self.flush_then_wait(rt, batch.lacks_room)
+        self.flush_then_wait(rt, lacks_room)
     }
 }

@@ -6,7 +6,7 @@ use Rattle.atomic_table.specs.Seated.{TableId}
 use Rattle.scheduler.specs.CoreView.{core_state_of}
 use Rattle.serving.specs.Lending.{DispatchesTo}
 use Rattle.serving.specs.Session.{SessionView}
-use Rattle.serving.proofs.Sending.{as_many, goes_to, sends}
+use Rattle.serving.proofs.Sending.{as_many, sends}
 use Rattle.serving.proofs.Invariant.{holds_of, on_machine, places_of}
 use Rattle.serving.proofs.session.Session.dispatch_to.Goals as goal
 
@@ -26,10 +26,11 @@ invariant_of-self g c =
     let lent = old.dispatch_seat.lent in
     let granted = c.grant-granted.ensures in
     let first = ap (λ (p : SessionView). position is_none p.dispatch_seat.lent) c.self.view_is ∙ c.requires.first in
+    let went = c.offer_granted.ensures.dispatches _ _ _ granted.state_after in
     let quiet = sends g.D.Disk.keeps old.core c.grant-granted.new.self lent c.know_recovery.ensures.no_doubt c.know_recovery.ensures.now granted.geometry
-    granted.untouched (holds_of g.D.Disk.keeps _ _ c.self.invariant.run) c.args.k first _ _ _ granted.state_after c.offer_granted.ensures.lends in
+    granted.untouched (holds_of g.D.Disk.keeps _ _ c.self.invariant.run) c.args.k first _ _ went in
     record {
-      run = on_machine g.D.Disk.keeps _ _ c.self.invariant.run _ _ quiet c.offer_granted.ensures.bench (as_many c.args.k lent _ _ _ c.offer_granted.ensures.lends);
+      run = on_machine g.D.Disk.keeps _ _ c.self.invariant.run _ _ quiet c.offer_granted.ensures.bench (as_many _ c.args.k _ _ lent _ _ went);
       bench = c.offer_granted.ensures.bench ∙ c.self.invariant.bench;
     }
 
@@ -37,4 +38,4 @@ pub returns-clause-dispatches : goal.returns-clause-dispatches
 returns-clause-dispatches g c =
     let new = c.grant-granted.new.self in
     subst (λ (p : SessionView). DispatchesTo p.core.geometry c.args.k (core_state_of p.core) p.dispatch_seat.lent (core_state_of new) c.offer_granted.new.dispatch_seat.lent c.offer_granted.result)
-    c.self.view_is (goes_to c.args.k _ _ _ _ _ (core_state_of new) _ c.grant-granted.ensures.state_after c.offer_granted.ensures.lends)
+    c.self.view_is (c.offer_granted.ensures.dispatches _ _ _ c.grant-granted.ensures.state_after)
