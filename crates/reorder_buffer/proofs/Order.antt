@@ -1,18 +1,14 @@
--- Lines whose tickets go up by one: each has its place, and an answer leaves the others as they are. And lines that are looked at one
--- after the other, and answered where they are those of a ticket.
-use Rattle.std.proofs.Common.{◌≡◌, ℕ, ◌+◌, ◌<◌, ◌≤◌, Bool, true, false, zero, suc, List, [], ◌∷◌, ◌⊎◌, inl, inr, if◌then◌else◌, ◌==◌, drop, take, length, map, set, get_or, refl, ap, sym, ◌∙◌, subst, arith}
+-- Lines whose tickets go up by one: each has its place, and an answer leaves the others as they are.
+use Rattle.std.proofs.Common.{◌≡◌, ℕ, ◌+◌, ◌<◌, ◌≤◌, Bool, true, false, zero, suc, List, [], ◌∷◌, ◌⊎◌, inl, inr, if◌then◌else◌, ◌==◌, length, map, set, get_or, refl, ap, sym, ◌∙◌, subst, arith}
 use Rattle.std.proofs.lemmas.Bool.{ne_eqb}
 use Rattle.messages.specs.declared.Reply.{Reply}
-use Rattle.reorder_buffer.specs.ReorderBuffer.{Completed, Line, NoMessage, OutOfRange, Pending, complete_one, HaveTicketsFrom, AreConsecutive, HasTicket}
+use Rattle.reorder_buffer.specs.ReorderBuffer.{Completed, Line, NoMessage, OutOfRange, Pending, complete_one, HaveTicketsFrom, HasTicket}
 
 -- a line that is pending or completed is that of a message with some ticket
 pub ticket_in : (line : Line) → ((ticket : ℕ) × (line ≡ Pending ticket)) ⊎ ((ticket : ℕ) × (reply : Reply) × (line ≡ Completed ticket reply))
     → (ticket : ℕ) × HasTicket ticket line
 ticket_in line (inl (ticket, is)) = (ticket, subst (λ (l : Line). HasTicket ticket l) (sym is) refl)
 ticket_in line (inr (ticket, reply, is)) = (ticket, subst (λ (l : Line). HasTicket ticket l) (sym is) refl)
-
-one_more : (k : ℕ) → suc k ≡ k + 1
-one_more k = omega arith
 
 module _ (ticket : ℕ) (reply : Reply) where
   -- ---- what an answer leaves
@@ -45,58 +41,16 @@ module _ (ticket : ℕ) (reply : Reply) where
   smaller_left n (line ∷ ticketed) le from =
       both_left line ticketed (left n line from.0 (λ e. omega (arith, e, le))) (smaller_left (n + 1) ticketed (omega (arith, le)) from.1)
 
-  -- lines stay that are before index i, where the line of the ticket is
-  pub before_left : (n i : ℕ) (ticketed : List Line) → n + i ≡ ticket → HaveTicketsFrom n ticketed → Left (take i ticketed)
-  before_left n zero ticketed is from = refl
-  before_left n (suc i) [] is from = refl
-  before_left n (suc i) (line ∷ ticketed) is from =
-      both_left line (take i ticketed) (left n line from.0 (λ e. omega (arith, e, is)))
-      (before_left (n + 1) i ticketed (omega (arith, is)) from.1)
-
-  -- lines stay that are behind index i
-  behind : (n i : ℕ) (ticketed : List Line) → n + i ≡ ticket → HaveTicketsFrom n ticketed → Left (drop (suc i) ticketed)
-  behind n i [] is from = refl
-  behind n zero (line ∷ ticketed) is from = greater_left (n + 1) ticketed (omega (arith, is)) from.1
-  behind n (suc i) (line ∷ ticketed) is from = behind (n + 1) i ticketed (omega (arith, is)) from.1
-
-  pub behind_left : (n i : ℕ) (ticketed : List Line) → n + i ≡ ticket → HaveTicketsFrom n ticketed → Left (drop (i + 1) ticketed)
-  behind_left n i ticketed is from =
-      subst (λ (k : ℕ). Left (drop k ticketed)) (one_more i) (behind n i ticketed is from)
-
-  -- ---- lines that are looked at
-
-  -- the lines once the first ones, so many, were looked at and answered
-  abbrev pub looked : ℕ → List Line → List Line
-  looked zero lines = lines
-  looked (suc k) [] = []
-  looked (suc k) (line ∷ lines) = complete_one ticket reply line ∷ looked k lines
-
-  -- the loop may begin at line k if the answer leaves those before it as they are
-  pub looked_first : (k : ℕ) (lines : List Line) → Left (take k lines) → lines ≡ looked k lines
-  looked_first zero lines same = refl
-  looked_first (suc k) [] same = refl
-  looked_first (suc k) (line ∷ lines) same =
-      ap (λ (l : List Line). get_or l 0 line ∷ lines) (sym same) ∙ ap (λ (l : List Line). complete_one ticket reply line ∷ l)
-      (looked_first k lines (ap (λ (l : List Line). drop 1 l) same))
-
-  -- the loop may end before line k if the answer leaves the lines from there on as they are
-  pub looked_last : (k : ℕ) (lines : List Line) → Left (drop k lines) → looked k lines ≡ map (complete_one ticket reply) lines
-  looked_last zero lines same = sym same
-  looked_last (suc k) [] same = refl
-  looked_last (suc k) (line ∷ lines) same = ap (λ (l : List Line). complete_one ticket reply line ∷ l) (looked_last k lines same)
-
-  then_next : (k : ℕ) (lines : List Line) (d : Line) → k < length lines
-      → set (looked k lines) k (complete_one ticket reply (get_or (looked k lines) k d)) ≡ looked (suc k) lines
-  then_next zero [] d within = absurd (omega (arith, within))
-  then_next (suc k) [] d within = absurd (omega (arith, within))
-  then_next zero (line ∷ lines) d within = refl
-  then_next (suc k) (line ∷ lines) d within = ap (λ l. complete_one ticket reply line ∷ l) (then_next k lines d (omega (arith, within)))
-
-  -- the next line is looked at
-  pub looks_at : (k : ℕ) (lines : List Line) (line : Line) → k < length lines → line ≡ get_or (looked k lines) k line
-      → set (looked k lines) k (complete_one ticket reply line) ≡ looked (k + 1) lines
-  looks_at k lines line within is =
-      ap (λ l. set (looked k lines) k (complete_one ticket reply l)) is ∙ then_next k lines line within ∙ ap (λ n. looked n lines) (one_more k)
+  -- only the line at index i changes, where the line of the ticket is
+  pub changes_one : (n i : ℕ) (ticketed : List Line) (line : Line) → n + i ≡ ticket → i < length ticketed → HaveTicketsFrom n ticketed → line ≡ get_or ticketed i line
+      → map (complete_one ticket reply) ticketed ≡ set ticketed i (complete_one ticket reply line)
+  changes_one n i [] line is within from there = absurd (omega (arith, within))
+  changes_one n zero (first ∷ ticketed) line is within from there =
+      ap (λ (l : List Line). complete_one ticket reply first ∷ l) (greater_left (n + 1) ticketed (omega (arith, is)) from.1)
+      ∙ ap (λ (l : Line). complete_one ticket reply l ∷ ticketed) (sym there)
+  changes_one n (suc i) (first ∷ ticketed) line is within from there =
+      ap (λ (l : Line). l ∷ map (complete_one ticket reply) ticketed) (left n first from.0 (λ e. omega (arith, e, is)))
+      ∙ ap (λ (l : List Line). first ∷ l) (changes_one (n + 1) i ticketed line (omega (arith, is)) (omega (arith, within)) from.1 there)
 
   -- ---- lines that stay in order
 
@@ -109,10 +63,6 @@ module _ (ticket : ℕ) (reply : Reply) where
     | false ↦ of
   ]
 
-  from_looked : (k n : ℕ) (lines : List Line) → HaveTicketsFrom n lines → HaveTicketsFrom n (looked k lines)
-  from_looked zero n lines from = from
-  from_looked (suc k) n [] from = from
-  from_looked (suc k) n (line ∷ lines) from = (of_answered n line from.0, from_looked k (n + 1) lines from.1)
-
-  pub looked_in_order : (k : ℕ) (lines : List Line) → AreConsecutive lines → AreConsecutive (looked k lines)
-  looked_in_order k lines order = (order.0, from_looked k order.0 lines order.1)
+  pub answered_in_order : (n : ℕ) (lines : List Line) → HaveTicketsFrom n lines → HaveTicketsFrom n (map (complete_one ticket reply) lines)
+  answered_in_order n [] from = from
+  answered_in_order n (line ∷ lines) from = (of_answered n line from.0, answered_in_order (n + 1) lines from.1)

@@ -1,6 +1,6 @@
 -- Statement for operators: What is known of each line that was read and not retired yet; the reorder buffer, how it is kept, and what is
 -- retired.
-use Rattle.std.specs.Prelude.{◌≡◌, ℕ, ◌+◌, ◌==◌, Bool, true, false, List, [], ◌∷◌, if◌then◌else◌, map}
+use Rattle.std.specs.Prelude.{◌≡◌, ◌<◌, ℕ, ◌+◌, ◌==◌, Bool, true, false, List, [], ◌∷◌, Option, Some, None, get_or, if◌then◌else◌, length, map, set}
 use Rattle.std.specs.List.{AllByRecursion}
 use Rattle.messages.specs.Replies.{reply_line, no_message}
 use Rattle.messages.specs.declared.Reply.{Reply}
@@ -92,6 +92,8 @@ with_tickets (Pending ticket ∷ rest) = Pending ticket ∷ with_tickets rest
 with_tickets (Completed ticket reply ∷ rest) = Completed ticket reply ∷ with_tickets rest
 with_tickets (_ ∷ rest) = with_tickets rest
 
--- A reply to the message with this ticket leaves these lines as they are.
-abbrev pub AreUnaffected : ℕ → List Line → Type 0
-AreUnaffected ticket lines = (reply : Reply) → map (complete_one ticket reply) lines ≡ lines
+-- A reply to the message with this ticket changes none of these lines but the one at this index, if there is one.
+abbrev pub IsAnsweredAt : ℕ → Option ℕ → List Line → Type 0
+IsAnsweredAt ticket None lines = (reply : Reply) → map (complete_one ticket reply) lines ≡ lines
+IsAnsweredAt ticket (Some k) lines = (k < length lines) × ((reply : Reply) (line : Line) → line ≡ get_or lines k line
+    → map (complete_one ticket reply) lines ≡ set lines k (complete_one ticket reply line))

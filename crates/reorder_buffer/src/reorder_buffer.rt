@@ -1,16 +1,14 @@
 //! The reorder buffer of the lines that were read and not retired yet (taken out, with the answer put into the reply buffer), oldest first.
 
-ghost use Rattle.std.specs.Prelude.{◌≡◌, ◌<◌, ◌≤◌, ◌+◌, ◌++◌, ◌∷◌, [], IfOk, MatchBool, MatchOption, ℕ, drop, length, map, take};
-ghost use Rattle.std.specs.VecDeque.{deque_len};
+ghost use Rattle.std.specs.Prelude.{◌≡◌, ◌<◌, ◌≤◌, ◌+◌, ◌++◌, ◌∷◌, [], IfOk, MatchBool, MatchOption, ℕ, drop, length, map};
 ghost use Rattle.message.specs.Waiting.{FitsReply};
-ghost use Rattle.reorder_buffer.specs.ReorderBuffer.{Line, complete_one, HaveTicketsFrom, AreConsecutive, AreUnaffected, HasTicket, can_retire, retired_text, answer_text, with_tickets};
+ghost use Rattle.reorder_buffer.specs.ReorderBuffer.{Line, complete_one, HaveTicketsFrom, AreConsecutive, HasTicket, IsAnsweredAt, can_retire, retired_text, answer_text, with_tickets};
 
 use message::ReplyBuffer;
 use messages::{Refusal, Reply};
 use std::alloc::{AllocError, Global};
 use std::collections::VecDeque;
 use std::marker::Model;
-use std::ops::Range;
 
 /// What is known of a line that was read.
 #[derive(Clone, Copy)]
@@ -92,21 +90,17 @@ fn first_ticket(ticketed: &VecDeque<Line>) -> Option<u64>
     }
 }
 
-/// The index of the line that a reply to this ticket can change, as a range: an empty one where there is none.
-fn index_range_of(ticketed: &VecDeque<Line>, ticket: u64) -> Range<usize>
+/// The index of the line with this ticket, if it is there.
+fn index_of(ticketed: &VecDeque<Line>, ticket: u64) -> Option<usize>
     requires { AreConsecutive ticketed.now.items }
-    ensures within { (result.start ≤ result.end) × (result.end ≤ deque_len ticketed.now) }
-    ensures before { AreUnaffected ticket (take result.start ticketed.now.items) }
-    ensures behind { AreUnaffected ticket (drop result.end ticketed.now.items) }
+    ensures { IsAnsweredAt ticket result ticketed.now.items }
 {
-    let Some(first) = first_ticket(ticketed) else {
-        return 0..0;
-    };
-    if ticket < first || ticket - first >= ticketed.len() as u64 {
-        return 0..0;
+    let index = ticket.checked_sub(first_ticket(ticketed)?)?;
+    if index < ticketed.len() as u64 {
+        Some(index as usize)
+    } else {
+        None
     }
-    let index = (ticket - first) as usize;
-    index..index + 1
 }
 
 /// Appends the answer to this line to the reply buffer, unless the line is pending.
@@ -205,8 +199,7 @@ impl ReorderBuffer {
         ensures lines { self.new.lines ≡ map (complete_one ticket reply) self.old.lines }
         ensures slots { self.new.slots ≡ self.old.slots }
     {
-        let range = index_range_of(&self.ticketed, ticket);
-        for k in range.start..range.end {
+        if let Some(k) = index_of(&self.ticketed, ticket) {
             complete_line(&mut self.ticketed[k], ticket, &reply);
         }
     }
