@@ -1,4 +1,11 @@
 //! The whole call of a server: its memory, its workers and its end.
+//!
+//! The reader and the writer are borrowed, and whoever lent them is to know what is left of the one and what the other holds. A call that
+//! is given a struct with such a borrow could put another reader or writer into it. So the type of the struct has a parameter (`N: Loan`,
+//! `B: Beginning`) that names the loan, and the struct keeps `ghost_name`, by which proofs know a borrow, equal to that name. It differs
+//! from call to call, so no type can have it: the call that lends passes the library's type `Brand`, whose ghost members the proof of the
+//! caller chooses (`proofs/server/serve/Invariants.antt`, `serve_to/Invariants.antt`); the callee is proved for any. An `impl .. for Brand`
+//! has to give some values all the same. They are stand-ins: with the start `None` nothing could be served.
 
 ghost use Rattle.std.specs.Prelude.{◌≡◌, ◌≢◌, ◌≤◌, All, false, [], None, IfOk, OnErr, OnOk, Some, replicate, vec_len};
 ghost use Rattle.legal_runs.specs.Laws.{IsIdle};
@@ -108,8 +115,7 @@ fn hand_back<D: Disk>(
     Err(ServeError { core, fault })
 }
 
-// Serves the lines of a reader that is borrowed, and hands back the reader and the sink, too. `N` names the loan of the reader (see
-// `message::LentReader`): a caller passes `Brand`, and the caller's proof chooses the name.
+// Serves the lines of a reader that is borrowed, and hands back the reader and the sink, too.
 fn serve_borrowed<
     'a,
     'c,
@@ -238,8 +244,7 @@ trait Beginning {
     ghost name: { GName };
 }
 
-// For the one call in `serve`: its proof (`proofs/server/serve/Invariants.antt`) chooses the start and the loan, and the values here are
-// stand-ins.
+// For the one call in `serve`, whose proof chooses the start and the loan.
 impl Beginning for Brand {
     ghost use Rattle.std.specs.Prelude.{None};
 
@@ -248,8 +253,7 @@ impl Beginning for Brand {
     ghost name = { 0 };
 }
 
-// A writer that is borrowed, to which lines are sent. The type `Output` names the loan, so that no other writer can be put in the place of
-// this one.
+// A writer that is borrowed, to which lines are sent.
 struct Output<'w, W, B: Beginning> {
     w: &'w mut W,
     of: PhantomData<B>,
