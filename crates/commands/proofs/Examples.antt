@@ -1,12 +1,21 @@
--- What is printed of the small device, and which service the arguments of examples ask for.
-use Rattle.std.proofs.Common.{◌≡◌, ◌++◌, ℕ, List, [], ◌∷◌, codes, ap, lit≤, refl}
+-- What is printed of the small device, which service the arguments of examples ask for, and what is promised to a client that hangs up.
+use Rattle.std.proofs.Common.{◌≡◌, ◌++◌, ℕ, Bool, true, List, [], ◌∷◌, Option, Some, None, Err, inl, inr, codes, ap, arith, drop, length, lit≤, refl, subst, sym, take, ◌∙◌}
+use Rattle.std.proofs.lemmas.Bool.{true≢false}
+use Rattle.std.specs.Io.KnownBytes.{Appends}
 use Rattle.std.specs.Fmt.{digits}
 use Rattle.affinity.specs.Geometry.{small}
 use Rattle.checkpoint.specs.declared.inspecting.Shown.{Shown}
+use Rattle.messages.specs.Grammar.{kind_named, message_of}
+use Rattle.messages.specs.Lines.{number_in_word}
 use Rattle.messages.specs.declared.Reply.TheVariants.{Summary}
+use Rattle.meaning.specs.Output.{joined, output_lines, state_after_lines}
+use Rattle.meaning.specs.State.{State, empty}
 use Rattle.device_map.specs.Layout.{image_size}
 use Rattle.commands.specs.Lines.{formatted_line, shown_lines}
+use Rattle.commands.specs.Promise.{HasRunFrom}
 use Rattle.commands.specs.Services.{AsksServe, within_limits}
+use Rattle.commands.specs.declared.faults.Fault.TheVariants.{Write}
+use Rattle.serving.specs.Restart.{IsClosedPart}
 use Rattle.arguments.proofs.Examples as given
 
 small_is_formatted : formatted_line small ≡ codes "formatted 8840" ++ 10 ∷ []
@@ -32,3 +41,73 @@ asks_serve_with_numbers : (program : List ℕ) → AsksServe (program ∷ codes 
 asks_serve_with_numbers program =
     let asks = given.asks_serve_with_numbers program in
     (asks.0, asks.1, asks.2, ap within_limits asks.3)
+
+-- ---- a client that hangs up: it has read the first answer and a part of the second, and the write of that failed
+
+abbrev makes : List ℕ
+makes = codes "makevol 0 0"
+
+abbrev asks : List ℕ
+asks = codes "summary"
+
+-- whether the volume is there after these lines
+abbrev makes_it : List (List ℕ) → Bool
+makes_it ls = (state_after_lines small empty ls).made (0, 0)
+
+-- the server wrote so much, and a crash then left a state of which `next` is true
+abbrev HangsUp : (State → Type 0) → Type 0
+HangsUp next = HasRunFrom small 1 empty (Err Write) (Some (codes "makevol 0 0\nsummary\n")) (Some []) (Some (codes "done\nsum")) next
+
+the_volume_is_there : HangsUp (λ now. now.made (0, 0) ≡ true)
+unfolding message_of kind_named number_in_word digits
+the_volume_is_there = record {
+  now = state_after_lines small empty (makes ∷ []);
+  all = Some (codes "done\nsummary 1 0 0\n");
+  written = (codes "done\nsum", codes "mary 1 0 0\n", refl, refl);
+  recovers = (
+    codes "done\nsummary 1 0 0\n",
+    refl,
+    record {
+      acknowledged = makes ∷ asks ∷ [];
+      unacknowledged = [];
+      first = refl;
+      answers = refl;
+      part = [];
+      closed = refl;
+      state = refl;
+    },
+  );
+  all_answered = tt;
+  goes_on = refl;
+}
+
+in_part : (part : List (List ℕ)) → IsClosedPart small part (asks ∷ []) → makes_it (makes ∷ part) ≡ true
+unfolding message_of kind_named number_in_word
+in_part part (inl (rest, is, none)) = subst (λ (p : List (List ℕ)). makes_it (makes ∷ p) ≡ true) (sym (is ∙ ap (λ (r : List (List ℕ)). asks ∷ r) none)) refl
+in_part part (inr (apart, none)) = subst (λ (p : List (List ℕ)). makes_it (makes ∷ p) ≡ true) (sym none) refl
+
+-- It is there after the lines whose answers begin so, whatever part of the others comes after them.
+is_made : (acknowledged others part : List (List ℕ)) (rest : List ℕ) → makes ∷ asks ∷ [] ≡ acknowledged ++ others → IsClosedPart small part (take 1 others)
+    → codes "done\nsum" ++ rest ≡ joined (output_lines small empty acknowledged) → makes_it (acknowledged ++ part) ≡ true
+unfolding message_of kind_named number_in_word
+is_made [] others part rest first closed answers = absurd (omega (arith, ap (λ (bs : List ℕ). length bs) answers))
+is_made (l ∷ []) others part rest first closed answers =
+    subst (λ (ls : List (List ℕ)). makes_it (ls ++ part) ≡ true) (ap (λ (ls : List (List ℕ)). take 1 ls) first)
+    (in_part part (subst (λ (ls : List (List ℕ)). IsClosedPart small part (take 1 ls)) (sym (ap (λ (ls : List (List ℕ)). drop 1 ls) first)) closed))
+is_made (l ∷ m ∷ []) [] part rest first closed answers =
+    subst (λ (ls : List (List ℕ)). makes_it ls ≡ true) (first ∙ ap (λ (p : List (List ℕ)). l ∷ m ∷ p) (sym closed)) refl
+is_made (l ∷ m ∷ []) (o ∷ others) part rest first closed answers = absurd (omega (arith, ap (λ (ls : List (List ℕ)). length ls) first))
+is_made (l ∷ m ∷ n ∷ ls) others part rest first closed answers = absurd (omega (arith, ap (λ (ls : List (List ℕ)). length ls) first))
+
+begins_so : (all : Option (List ℕ)) (out rest bytes : List ℕ) → codes "done\nsum" ≡ out → Appends (Some []) all (out ++ rest) → Appends (Some []) all bytes
+    → codes "done\nsum" ++ rest ≡ bytes
+begins_so None out rest bytes is whole told = absurd whole
+begins_so (Some all) out rest bytes is whole told = ap (λ (o : List ℕ). o ++ rest) is ∙ sym whole ∙ told
+
+-- The acknowledged volume is not lost.
+it_is_not_lost : HangsUp (λ now. now ≡ empty) → ⊥
+it_is_not_lost h =
+    let r = h.recovers.2 in
+    let begins = begins_so h.all h.written.0 h.written.1 h.recovers.0 h.written.2 h.written.3 h.recovers.1 in
+    true≢false (sym (is_made r.acknowledged r.unacknowledged r.part h.written.1 r.first r.closed (begins ∙ r.answers))
+    ∙ ap (λ (x : State). x.made (0, 0)) (sym r.state ∙ h.goes_on))
