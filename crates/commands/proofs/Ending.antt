@@ -10,6 +10,7 @@ use Rattle.affinity.proofs.Numbers.{geometry_same}
 use Rattle.clap.specs.Words.{IsAmong, Text, kind_of}
 use Rattle.meaning.specs.Output.{WritesOutput, IsBeginning}
 use Rattle.meaning.specs.State.{empty}
+use Rattle.serving.specs.Ends.{Exchange, exchange}
 use Rattle.commands.specs.Ends.{EndsFormatting, EndsInMemory}
 use Rattle.commands.specs.Serving.{EndsInFile}
 use Rattle.commands.specs.declared.serve_options.ServeOptions.{ServeOptions}
@@ -35,15 +36,15 @@ refused_by (refusal.Words error) = inl refl
 refused_by refusal.OutOfMemory = inr refl
 refused_by refusal.GeometryOutOfRange = inl refl
 
-pub helped : (arguments : List Text) (request : Request) (end : Result (Unit {0}) Fault) {input left : Option (List ℕ)} (old new : Option (List ℕ))
-    → RunsNoCommand arguments → Asks arguments request → Ends request end input left old new → ExitsHelp (status_at end) × (left ≡ input)
-helped arguments (Plain g) end old new no_service asks ends = absurd (no_service asks.0)
-helped arguments (Format path g) end old new no_service asks ends = absurd (no_service asks.0)
-helped arguments (Show path) end old new no_service asks ends = absurd (no_service asks.0)
-helped arguments (Serve path s) end old new no_service asks ends = absurd (no_service asks.0)
-helped arguments (Help text) (Ok _) old new no_service asks ends = (inl refl, ends)
-helped arguments (Help text) (Err Write) old new no_service asks ends = (inr (inl refl), ends)
-helped arguments (Help text) (Err fault) old new no_service asks ends = absurd ends
+pub helped : (arguments : List Text) (request : Request) (end : Result (Unit {0}) Fault) (x : Exchange)
+    → RunsNoCommand arguments → Asks arguments request → Ends request end x → ExitsHelp (status_at end) × (x.remaining ≡ x.input)
+helped arguments (Plain g) end x no_service asks ends = absurd (no_service asks.0)
+helped arguments (Format path g) end x no_service asks ends = absurd (no_service asks.0)
+helped arguments (Show path) end x no_service asks ends = absurd (no_service asks.0)
+helped arguments (Serve path s) end x no_service asks ends = absurd (no_service asks.0)
+helped arguments (Help text) (Ok _) x no_service asks ends = (inl refl, ends)
+helped arguments (Help text) (Err Write) x no_service asks ends = (inr (inl refl), ends)
+helped arguments (Help text) (Err fault) x no_service asks ends = absurd ends
 
 -- ---- no fault has status 0
 
@@ -72,7 +73,7 @@ nothing_written g None old = tt
 nothing_written g (Some bytes) old = ([], Appends-nil old, (0, refl))
 
 pub served_nothing : (arguments : List Text) {g : Geometry} (why : ArgumentRefusal) {input old : Option (List ℕ)} → AsksPlain arguments g → IsReason arguments why
-    → ExitsPlain g (status_of_refusal why) input input old old
+    → ExitsPlain g (status_of_refusal why) (exchange input input old old)
 served_nothing arguments {g} refusal.OutOfMemory {input} {old} asks reason = (Err OutOfMemory, refl, nothing_written g input old)
 served_nothing arguments {g} refusal.GeometryOutOfRange asks reason = absurd (reason.3 (subst AreInRange asks.2 (in_range g)))
 served_nothing arguments (refusal.Words error) asks reason = absurd (no_mistake arguments error asks.0 reason)
@@ -90,7 +91,7 @@ shown_nothing arguments refusal.GeometryOutOfRange asks reason = absurd (reason.
 shown_nothing arguments (refusal.Words error) asks reason = absurd (no_mistake arguments error asks.0 reason)
 
 pub served_on_nothing : (arguments : List Text) {path : List ℕ} {s : ServeOptions} (why : ArgumentRefusal) {input old : Option (List ℕ)} → AsksServe arguments path s
-    → IsReason arguments why → ExitsServe s (status_of_refusal why) input input old old
+    → IsReason arguments why → ExitsServe s (status_of_refusal why) (exchange input input old old)
 served_on_nothing arguments refusal.OutOfMemory asks reason =
     (Err OutOfMemory, refl, inl (record { why = file.OutOfMemory; ends = refl; unread = refl; unwritten = refl }))
 served_on_nothing arguments refusal.GeometryOutOfRange asks reason = absurd (reason.2 asks.1)
@@ -98,37 +99,37 @@ served_on_nothing arguments (refusal.Words error) asks reason = absurd (no_mista
 
 -- ---- what the arguments ask for is done
 
-pub served : (arguments : List Text) (request : Request) {g : Geometry} (end : Result (Unit {0}) Fault) {input left old new : Option (List ℕ)} → Asks arguments request
-    → AsksPlain arguments g → Ends request end input left old new → ExitsPlain g (status_at end) input left old new
-served arguments (Plain h) {g} end {input} {left} {old} {new} given asks ends =
-    (end, refl, subst (λ k. EndsInMemory k end input left old new) (geometry_same h g (given.2 ∙ sym asks.2)) ends)
+pub served : (arguments : List Text) (request : Request) {g : Geometry} (end : Result (Unit {0}) Fault) {x : Exchange} → Asks arguments request
+    → AsksPlain arguments g → Ends request end x → ExitsPlain g (status_at end) x
+served arguments (Plain h) {g} end {x} given asks ends =
+    (end, refl, subst (λ k. EndsInMemory k end x) (geometry_same h g (given.2 ∙ sym asks.2)) ends)
 served arguments (Format path h) end given asks ends = absurd (asks.1.0 given.1)
 served arguments (Show path) end given asks ends = absurd (asks.1.1 given.1)
 served arguments (Serve path s) end given asks ends = absurd (asks.1.2 given.1)
 served arguments (Help text) end given asks ends = absurd (subst (IsAmong (kind_of text)) asks.0 given.0)
 
-pub formatted : (arguments : List Text) (request : Request) {path : List ℕ} (g : Geometry) (end : Result (Unit {0}) Fault) {input left old new : Option (List ℕ)}
-    → Asks arguments request → AsksFormat arguments path g → Ends request end input left old new → ExitsFormat g (status_at end) old new × (left ≡ input)
+pub formatted : (arguments : List Text) (request : Request) {path : List ℕ} (g : Geometry) (end : Result (Unit {0}) Fault) {x : Exchange}
+    → Asks arguments request → AsksFormat arguments path g → Ends request end x → ExitsFormat g (status_at end) x.before x.written × (x.remaining ≡ x.input)
 formatted arguments (Plain h) g end given asks ends = absurd (given.1.0 asks.1)
-formatted arguments (Format there h) g end {old} {new} given asks ends =
-    ((end, refl, subst (λ k. EndsFormatting k end old new) (geometry_same h g (given.3 ∙ sym asks.3)) ends.1), ends.0)
+formatted arguments (Format there h) g end {x} given asks ends =
+    ((end, refl, subst (λ k. EndsFormatting k end x.before x.written) (geometry_same h g (given.3 ∙ sym asks.3)) ends.1), ends.0)
 formatted arguments (Show there) g end given asks ends = let same : codes "format" ≡ codes "show" = two_names _ _ (command_of arguments) asks.1 given.1 in cc
 formatted arguments (Serve there s) g end given asks ends = let same : codes "format" ≡ codes "serve" = two_names _ _ (command_of arguments) asks.1 given.1 in cc
 formatted arguments (Help text) g end given asks ends = absurd (subst (IsAmong (kind_of text)) asks.0 given.0)
 
-pub shown : (arguments : List Text) (request : Request) {path : List ℕ} (end : Result (Unit {0}) Fault) {input left old new : Option (List ℕ)} → Asks arguments request
-    → AsksShow arguments path → Ends request end input left old new → ExitsShow (status_at end) old new × (left ≡ input)
+pub shown : (arguments : List Text) (request : Request) {path : List ℕ} (end : Result (Unit {0}) Fault) {x : Exchange} → Asks arguments request
+    → AsksShow arguments path → Ends request end x → ExitsShow (status_at end) x.before x.written × (x.remaining ≡ x.input)
 shown arguments (Plain h) end given asks ends = absurd (given.1.1 asks.1)
 shown arguments (Format there h) end given asks ends = let same : codes "format" ≡ codes "show" = two_names _ _ (command_of arguments) given.1 asks.1 in cc
 shown arguments (Show there) end given asks ends = ((end, refl, ends.1), ends.0)
 shown arguments (Serve there s) end given asks ends = let same : codes "show" ≡ codes "serve" = two_names _ _ (command_of arguments) asks.1 given.1 in cc
 shown arguments (Help text) end given asks ends = absurd (subst (IsAmong (kind_of text)) asks.0 given.0)
 
-pub served_on : (arguments : List Text) (request : Request) {path : List ℕ} {s : ServeOptions} (end : Result (Unit {0}) Fault) {input left old new : Option (List ℕ)}
-    → Asks arguments request → AsksServe arguments path s → Ends request end input left old new → ExitsServe s (status_at end) input left old new
+pub served_on : (arguments : List Text) (request : Request) {path : List ℕ} {s : ServeOptions} (end : Result (Unit {0}) Fault) {x : Exchange}
+    → Asks arguments request → AsksServe arguments path s → Ends request end x → ExitsServe s (status_at end) x
 served_on arguments (Plain h) end given asks ends = absurd (given.1.2 asks.1)
 served_on arguments (Format there h) end given asks ends = let same : codes "format" ≡ codes "serve" = two_names _ _ (command_of arguments) given.1 asks.1 in cc
 served_on arguments (Show there) end given asks ends = let same : codes "show" ≡ codes "serve" = two_names _ _ (command_of arguments) given.1 asks.1 in cc
-served_on arguments (Serve there t) {s} end {input} {left} {old} {new} given asks ends =
-    (end, refl, subst (λ u. EndsInFile u end input left old new) (service_same ends.0 s (ends.1 ∙ ap within_limits given.3 ∙ sym asks.3)) ends.2)
+served_on arguments (Serve there t) {s} end {x} given asks ends =
+    (end, refl, subst (λ u. EndsInFile u end x) (service_same ends.0 s (ends.1 ∙ ap within_limits given.3 ∙ sym asks.3)) ends.2)
 served_on arguments (Help text) end given asks ends = absurd (subst (IsAmong (kind_of text)) asks.0 given.0)

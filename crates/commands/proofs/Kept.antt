@@ -9,7 +9,7 @@ use Rattle.runs.specs.Machine.{machine_of}
 use Rattle.runs.specs.DeviceEvents.{events_of}
 use Rattle.meaning.specs.Serial.{state_after_all}
 use Rattle.serving.proofs.Logged.{few_answered, holds_all, written_are_kept}
-use Rattle.serving.specs.Ends.{committed_in}
+use Rattle.serving.specs.Ends.{Exchange, committed_in}
 use Rattle.serving.specs.Lines.{admitted, answer_text, ticketed}
 use Rattle.serving.specs.Logged.{AreInHistory, RecoversToHistory}
 use Rattle.serving.specs.Serve.{IsWrittenAtEnd}
@@ -24,10 +24,10 @@ use Rattle.commands.specs.declared.faults.Fault.{Fault}
 use Rattle.commands.specs.declared.faults.Fault.TheVariants as ends
 use Rattle.commands.specs.declared.serve_options.ServeOptions.{ServeOptions}
 
-module _ {keeps : Type 0} {s : ServeOptions} {old new : Medium} {end : Result (Unit {0}) ServeFault} {input left before written : Option (List ℕ)}
-    (h : HasServedBy keeps s old new end input left before written) where
+module _ {keeps : Type 0} {s : ServeOptions} {old new : Medium} {end : Result (Unit {0}) ServeFault} {streams : Exchange}
+    (h : HasServedBy keeps s old new end streams) where
   -- of all that was to be written
-  pub held : keeps → (c : List ℕ) → IsCrashImage new c → HoldsAcknowledged s.slots old input before h.served.run.all c
+  pub held : keeps → (c : List ℕ) → IsCrashImage new c → HoldsAcknowledged s.slots old streams.input streams.before h.served.run.all c
   held keep c leaves =
       let served = h.served.run.served in
       let g = h.start.geometry in
@@ -36,7 +36,7 @@ module _ {keeps : Type 0} {s : ServeOptions} {old new : Medium} {end : Result (U
       let idle = is_idle s.slots h.start h.fresh in
       let on_device : RecoversToHistory g x (ticketed 0 (admitted g served.consumed)) log c =
       subst (λ (t : ℕ). RecoversToHistory g x (ticketed t (admitted g served.consumed)) log c) h.fresh.next
-      (holds_all keeps (machine_at_start s h.start) h.now input served.consumed served.device_events idle h.fresh.no_doubt served.run keep c
+      (holds_all keeps (machine_at_start s h.start) h.now streams.input served.consumed served.device_events idle h.fresh.no_doubt served.run keep c
       (subst (λ (m : Medium). IsCrashImage m c) h.given_back leaves)) in
       let state = state_after_all g x (recorded (log ++ on_device.more)) in
       record {
@@ -48,10 +48,10 @@ module _ {keeps : Type 0} {s : ServeOptions} {old new : Medium} {end : Result (U
         sent = map answer_text served.sent_lines;
         output = served.output;
         few = subst (λ (n : ℕ). length served.consumed ≤ length (map answer_text served.sent_lines) + n) h.fresh.slots_are
-            (few_answered keeps (machine_at_start s h.start) h.now h.served.run.unsent input before h.served.run.all idle served);
+            (few_answered keeps (machine_at_start s h.start) h.now h.served.run.unsent streams.input streams.before h.served.run.all idle served);
         history = log;
         kept = subst (λ (t : ℕ). AreInHistory g log t served.consumed (map answer_text served.sent_lines)) h.fresh.next
-            (written_are_kept keeps (machine_at_start s h.start) h.now h.served.run.unsent input before h.served.run.all idle served);
+            (written_are_kept keeps (machine_at_start s h.start) h.now h.served.run.unsent streams.input streams.before h.served.run.all idle served);
         holds = on_device;
         header = has_header g c state leaves.bytes on_device.recovers;
         not_refused = is_not_refused g c state leaves.bytes on_device.recovers;
@@ -68,10 +68,10 @@ written_at (Err faults.NoWorkers) before written all h = h
 written_at (Err faults.OutOfMemory) before written all h = h
 
 -- what was sent is kept, whatever the end
-pub keeps_acknowledged : {keeps : Type 0} {s : ServeOptions} {old new : Medium} (end : Result (Unit {0}) ServeFault) {input left before written : Option (List ℕ)}
-    → HasServedBy keeps s old new end input left before written → KeepsAcknowledged keeps s.slots old new (command_result end) input before written
-keeps_acknowledged end {before} {written} h =
-    unless_refused end before written (h.served.run.all, written_at end before written h.served.run.all h.served.run.written_is, held h)
+pub keeps_acknowledged : {keeps : Type 0} {s : ServeOptions} {old new : Medium} (end : Result (Unit {0}) ServeFault) {streams : Exchange}
+    → HasServedBy keeps s old new end streams → KeepsAcknowledged keeps s.slots old new (command_result end) streams.input streams.before streams.written
+keeps_acknowledged end {streams} h =
+    unless_refused end streams.before streams.written (h.served.run.all, written_at end streams.before streams.written h.served.run.all h.served.run.written_is, held h)
   where
     unless_refused : {P : Type 0} (end : Result (Unit {0}) ServeFault) (before written : Option (List ℕ)) → P → UnlessRefused (command_result end) before written P
     unless_refused (Ok _) before written k = k

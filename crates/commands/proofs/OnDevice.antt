@@ -1,5 +1,5 @@
 -- What a service on a device has done, from what its server promises.
-use Rattle.std.proofs.Common.{◌≡◌, ◌∙◌, ℕ, List, [], Option, Some, false, refl, sym, ap, subst, take, arith}
+use Rattle.std.proofs.Common.{◌≡◌, ◌∙◌, ℕ, List, [], Some, false, refl, sym, ap, subst, take, arith}
 use Rattle.std.specs.Prelude.{Result, Ok, Err}
 use Rattle.std.proofs.lemmas.List.{take_all}
 use Rattle.affinity.specs.declared.geometry.Geometry.{Geometry}
@@ -13,12 +13,12 @@ use Rattle.runs.specs.DeviceEvents.{DeviceEvent}
 use Rattle.meaning.specs.Serial.{state_after_all}
 use Rattle.messages.specs.declared.Msg.{Msg}
 use Rattle.scheduler.specs.CoreView.{IsJustOpened, CoreView, RecoversNow, core_state_of}
-use Rattle.serving.specs.Ends.{HasRunLines, committed_in}
+use Rattle.serving.specs.Ends.{Exchange, HasRunLines, committed_in}
 use Rattle.serving.specs.Serve.{HasEmptyLog, ServePromise}
 use Rattle.serving.specs.declared.server.ServeFault.{ServeFault}
 use Rattle.serving.specs.declared.server.ServeFault.TheVariants as faults
 use Rattle.commands.specs.Faults.{command_result}
-use Rattle.commands.specs.Serving.{EndsOnDevice, CrashesSafely, HasNoRecords, HasServedBy, HasServedNothing, IsIncarnation, RecoversDurably, RecoveredTo, ServedDevice, machine_at_start}
+use Rattle.commands.specs.Serving.{EndsOnDevice, CrashesSafely, HasServedBy, HasServedNothing, IsIncarnation, RecoversDurably, RecoveredTo, ServedDevice, machine_at_start}
 use Rattle.commands.specs.declared.serve_options.ServeOptions.{ServeOptions}
 
 -- no message is in a core that was just opened
@@ -28,10 +28,9 @@ is_idle slots c just = record { none_waits = just.none_waits; none_held = rw (ju
 -- ---- the run
 
 -- from what is known of the core before and after: the service is an incarnation of its device
-module _ (keeps : Type 0) (s : ServeOptions) (old : Medium) (start now : CoreView) (end : Result (Unit {0}) ServeFault)
-    (input left before written : Option (List ℕ)) where
+module _ (keeps : Type 0) (s : ServeOptions) (old : Medium) (start now : CoreView) (end : Result (Unit {0}) ServeFault) (x : Exchange) where
   pub is_incarnation : IsJustOpened s.slots start → (keeps → HasHeader start.geometry old.now) → (keeps → recovered_state start.geometry old.now ≡ Some (committed_in start))
-      → (consumed : List (List ℕ)) (device_events : List DeviceEvent) → HasRunLines keeps (machine_at_start s start) now input consumed device_events → keeps
+      → (consumed : List (List ℕ)) (device_events : List DeviceEvent) → HasRunLines keeps (machine_at_start s start) now x.input consumed device_events → keeps
       → IsIncarnation s start old now.medium device_events
   is_incarnation fresh header recovered_before consumed device_events run keep = λ k within. record {
     header = header keep;
@@ -43,8 +42,8 @@ module _ (keeps : Type 0) (s : ServeOptions) (old : Medium) (start now : CoreVie
 
   abbrev pub has_served_by : IsJustOpened s.slots start → (keeps → HasHeader start.geometry old.now)
       → (keeps → recovered_state start.geometry old.now ≡ Some (committed_in start)) → (keeps → OpeningCrashImages old start.medium)
-      → ServePromise keeps s.workers start (now, end) input left before written
-      → (keeps → RecoversNow now) → HasServedBy keeps s old now.medium end input left before written
+      → ServePromise keeps s.workers start (now, end) x
+      → (keeps → RecoversNow now) → HasServedBy keeps s old now.medium end x
   has_served_by fresh header recovered_before opening served leaves = record {
     start = start;
     now = now;
@@ -59,8 +58,8 @@ module _ (keeps : Type 0) (s : ServeOptions) (old : Medium) (start now : CoreVie
   }
 
 -- a service as `HasServedBy` describes it crashes safely, whatever its end
-pub crashes_safely : {keeps : Type 0} {s : ServeOptions} {old new : Medium} (end : Result (Unit {0}) ServeFault) {input left before written : Option (List ℕ)}
-    → HasServedBy keeps s old new end input left before written → CrashesSafely keeps s old new (command_result end) input left before written
+pub crashes_safely : {keeps : Type 0} {s : ServeOptions} {old new : Medium} (end : Result (Unit {0}) ServeFault) {x : Exchange}
+    → HasServedBy keeps s old new end x → CrashesSafely keeps s old new (command_result end) x
 crashes_safely (Ok _) h = (Ok tt, refl, h)
 crashes_safely (Err faults.NoWorkers) h = (Err faults.NoWorkers, refl, h)
 crashes_safely (Err faults.Read) h = (Err faults.Read, refl, h)
@@ -87,11 +86,11 @@ recovers_for keeps now none leaves bytes = record {
 -- ---- each end, in the words of the serial server
 
 -- no record of the log is in force on the device that is given back, if none is on the core's
-no_records : (now : CoreView) (g : Geometry) (new : Medium) → now.geometry ≡ g → new ≡ now.medium → HasEmptyLog now → HasNoRecords g new
+no_records : (now : CoreView) (g : Geometry) (new : Medium) → now.geometry ≡ g → new ≡ now.medium → HasEmptyLog now.geometry now.medium → HasEmptyLog g new
 no_records now g new same back none = rw (back, ← same) none
 
-module _ {keeps : Type 0} {s : ServeOptions} {old new : Medium} {end : Result (Unit {0}) ServeFault} {input left before written : Option (List ℕ)}
-    (h : HasServedBy keeps s old new end input left before written) (no_doubt : h.now.failed ≡ false → h.now.doubt ≡ [])
+module _ {keeps : Type 0} {s : ServeOptions} {old new : Medium} {end : Result (Unit {0}) ServeFault} {x : Exchange}
+    (h : HasServedBy keeps s old new end x) (no_doubt : h.now.failed ≡ false → h.now.doubt ≡ [])
     (bytes : AreBytes new.now) where
   abbrev recovered_to : RecoveredTo keeps old h.start.geometry (committed_in h.start)
   recovered_to = record { header = h.header; recovered_before = h.recovered_before }
@@ -111,14 +110,14 @@ module _ {keeps : Type 0} {s : ServeOptions} {old new : Medium} {end : Result (U
     after = recovers_so same works;
   }
 
-  served_nothing : h.now ≡ h.start → left ≡ input → written ≡ before → HasServedNothing keeps old new input left before written
+  served_nothing : h.now ≡ h.start → x.remaining ≡ x.input → x.written ≡ x.before → HasServedNothing keeps old new x
   served_nothing same unread unwritten =
       (went (ap (λ (c : CoreView). c.geometry) same) (ap (λ (c : CoreView). c.failed) same ∙ h.fresh.works), ap committed_in same, unread, unwritten)
 
 -- what a service promises at each of its ends
-pub ends_on_device : {keeps : Type 0} {s : ServeOptions} {old new : Medium} (end : Result (Unit {0}) ServeFault) {input left before written : Option (List ℕ)}
-    → (h : HasServedBy keeps s old new end input left before written) → (h.now.failed ≡ false → h.now.doubt ≡ []) → AreBytes new.now
-    → EndsOnDevice keeps s old new (command_result end) input left before written
+pub ends_on_device : {keeps : Type 0} {s : ServeOptions} {old new : Medium} (end : Result (Unit {0}) ServeFault) {x : Exchange}
+    → (h : HasServedBy keeps s old new end x) → (h.now.failed ≡ false → h.now.doubt ≡ []) → AreBytes new.now
+    → EndsOnDevice keeps s old new (command_result end) x
 ends_on_device {new} (Ok _) h no_doubt bytes =
     let same = h.served.run.served.run.geometry in (
       h.served.no_workers,

@@ -23,6 +23,7 @@ use Rattle.serving.specs.Restart.{RecoversTo, BytesRecover}
 use Rattle.serving.specs.declared.server.ServeFault.{ServeFault}
 use Rattle.serving.specs.declared.server.ServeFault.TheVariants as faults
 use Rattle.commands.proofs.Kept.{held, written_at}
+use Rattle.serving.specs.Ends.{Exchange}
 use Rattle.commands.specs.Faults.{command_result}
 use Rattle.commands.specs.Acknowledged.{HoldsAcknowledged}
 use Rattle.commands.specs.Promise.{HasRunFrom, HoldsRecovered, HoldsState, LeavesRecovered, LeavesRun, IfOpened, IsWritten, OpensUnlessFailed}
@@ -54,11 +55,11 @@ unless_refused (Err faults.Exhausted) h = h
 unless_refused (Err faults.NoWorkers) h = h
 unless_refused (Err faults.OutOfMemory) h = h
 
-pub leaves_recovered : {keeps : Type 0} {s : ServeOptions} {old new : Medium} (end : Result (Unit {0}) ServeFault) {input left before written : Option (List ℕ)}
-    → HasServedBy keeps s old new end input left before written → LeavesRecovered keeps s.slots old new (command_result end) input before written
-leaves_recovered {keeps} {s} {old} {new} end {input} {left} {before} {written} h =
+pub leaves_recovered : {keeps : Type 0} {s : ServeOptions} {old new : Medium} (end : Result (Unit {0}) ServeFault) {streams : Exchange}
+    → HasServedBy keeps s old new end streams → LeavesRecovered keeps s.slots old new (command_result end) streams.input streams.before streams.written
+leaves_recovered {keeps} {s} {old} {new} end {streams} h =
     unless_refused end
-    (h.served.run.all, written_at end before written h.served.run.all h.served.run.written_is, λ keep c leaves. recovered (held h keep c leaves))
+    (h.served.run.all, written_at end streams.before streams.written h.served.run.all h.served.run.written_is, λ keep c leaves. recovered (held h keep c leaves))
 
 -- if P implies Q, then P, unless the device could not be opened, implies Q, unless it could not
 pub opened_then : {P Q : Type 0} (end : Result (Unit {0}) Fault) → (P → Q) → IfOpened end P → IfOpened end Q
@@ -91,12 +92,12 @@ written_so (Some bytes) before written P Q f h = (h.0, h.1, f bytes h.0 h.2)
 
 -- A service that ends without fault has answered all of its input.
 module _ {keeps : Type 0} (keep : keeps) (g : Geometry) {x : State} (old : Medium) (recovers : recovered_state g old.now ≡ Some x) where
-  serves_so : (s : ServeOptions) (new : Medium) (end : Result (Unit {0}) Fault) (input left before written : Option (List ℕ))
-      → EndsOnDevice keeps s old new end input left before written → OnOk end (WritesOutput input before written (λ bytes out. out ≡ serial_output g x bytes))
-  serves_so s new (Err fault) input left before written h = tt
-  serves_so s new (Ok done) input left before written h =
+  serves_so : (s : ServeOptions) (new : Medium) (end : Result (Unit {0}) Fault) (streams : Exchange) → EndsOnDevice keeps s old new end streams
+      → OnOk end (WritesOutput streams.input streams.before streams.written (λ bytes out. out ≡ serial_output g x bytes))
+  serves_so s new (Err fault) streams h = tt
+  serves_so s new (Ok done) streams h =
       let own = opened_so keep recovers h.1.0.before in
-      written_so input before written _ _
+      written_so streams.input streams.before streams.written _ _
       (λ bytes out served. served.output ∙ (λ i. serial_output (own.0 i) (own.1 i) bytes)) h.1.3
 
 -- Of the end of a service: the device could not be opened; or P holds, which holds unless it could not.
@@ -142,25 +143,25 @@ module _ {keeps : Type 0} (keep : keeps) (g : Geometry) (slots : ℕ) (old new :
       silent (Some bytes) =
           ([], subst (λ (w : Option (List ℕ)). Appends before w []) (sym unwritten) (Appends-nil before), none_written g slots x bytes)
 
-  module _ (s : ServeOptions) (end : Result (Unit {0}) Fault) (input left before written : Option (List ℕ)) where
-    left_at : EndsOnDevice keeps s old new end input left before written → CrashesSafely keeps s old new end input left before written
-        → IfOpened end ((all : Option (List ℕ)) × IsWritten end before written all × HoldsRecovered slots old input before all c)
-        → (all : Option (List ℕ)) × IsWritten end before written all × BytesRecover g slots x input before all c
+  module _ (s : ServeOptions) (end : Result (Unit {0}) Fault) (streams : Exchange) where
+    left_at : EndsOnDevice keeps s old new end streams → CrashesSafely keeps s old new end streams
+        → IfOpened end ((all : Option (List ℕ)) × IsWritten end streams.before streams.written all × HoldsRecovered slots old streams.input streams.before all c)
+        → (all : Option (List ℕ)) × IsWritten end streams.before streams.written all × BytesRecover g slots x streams.input streams.before all c
     left_at e safe recovers = ⊎_elim
         (λ (why : (fault : OpenFault) × (end ≡ Err (ends.Open fault))). (
-          written,
-          subst (λ (r : Result (Unit {0}) Fault). IsWritten r before written written) (sym why.1) refl,
-          left_unopened input before written
-              (subst (λ (r : Result (Unit {0}) Fault). CrashesSafely keeps s old new r input left before written) why.1 safe keep)
-              (subst (λ (r : Result (Unit {0}) Fault). EndsOnDevice keeps s old new r input left before written) why.1 e).2,
+          streams.written,
+          subst (λ (r : Result (Unit {0}) Fault). IsWritten r streams.before streams.written streams.written) (sym why.1) refl,
+          left_unopened streams.input streams.before streams.written
+              (subst (λ (r : Result (Unit {0}) Fault). CrashesSafely keeps s old new r streams) why.1 safe keep)
+              (subst (λ (r : Result (Unit {0}) Fault). EndsOnDevice keeps s old new r streams) why.1 e).2,
         ))
-        (λ (h : (all : Option (List ℕ)) × IsWritten end before written all × HoldsRecovered slots old input before all c).
-        (h.0, h.1, left_so input before h.0 h.2))
+        (λ (h : (all : Option (List ℕ)) × IsWritten end streams.before streams.written all × HoldsRecovered slots old streams.input streams.before all c).
+        (h.0, h.1, left_so streams.input streams.before h.0 h.2))
         (opened_or end recovers)
 
-    run_so : EndsOnDevice keeps s old new end input left before written → CrashesSafely keeps s old new end input left before written
-        → IfOpened end ((all : Option (List ℕ)) × IsWritten end before written all × HoldsRecovered slots old input before all c)
-        → HasRunFrom g slots x end input before written (λ now. recovered_state g c ≡ Some now)
+    run_so : EndsOnDevice keeps s old new end streams → CrashesSafely keeps s old new end streams
+        → IfOpened end ((all : Option (List ℕ)) × IsWritten end streams.before streams.written all × HoldsRecovered slots old streams.input streams.before all c)
+        → HasRunFrom g slots x end streams.input streams.before streams.written (λ now. recovered_state g c ≡ Some now)
     run_so e safe recovers =
         let h = left_at e safe recovers in
         record {
@@ -168,17 +169,16 @@ module _ {keeps : Type 0} (keep : keeps) (g : Geometry) (slots : ℕ) (old new :
           all = h.0;
           written = h.1;
           recovers = h.2.recovers;
-          all_answered = serves_so keep g old made s new end input left before written e;
+          all_answered = serves_so keep g old made s new end streams e;
           goes_on = h.2.holds_now;
         }
 
-module _ {keeps : Type 0} (keep : keeps) (g : Geometry) (s : ServeOptions) (old new : Medium) (end : Result (Unit {0}) Fault) (input left before written : Option (List ℕ)) where
+module _ {keeps : Type 0} (keep : keeps) (g : Geometry) (s : ServeOptions) (old new : Medium) (end : Result (Unit {0}) Fault) (streams : Exchange) where
   -- A device that recovers to a state is opened, unless it fails or memory is wanting.
-  pub opens_so : {x : State} → AreBytes old.now → recovered_state g old.now ≡ Some x → EndsOnDevice keeps s old new end input left before written
-      → OpensUnlessFailed end
+  pub opens_so : {x : State} → AreBytes old.now → recovered_state g old.now ≡ Some x → EndsOnDevice keeps s old new end streams → OpensUnlessFailed end
   opens_so {x} bytes recovers h fault is =
       not_shown fault (recovers_or_refused old.now g x fault bytes recovers)
-      ((subst (λ (e : Result (Unit {0}) Fault). EndsOnDevice keeps s old new e input left before written) is h).0 keep).0
+      ((subst (λ (e : Result (Unit {0}) Fault). EndsOnDevice keeps s old new e streams) is h).0 keep).0
     where
       not_shown : (fault : OpenFault) → (IsShownByBytes fault → IsRefused old.now fault → ⊥) → IsRefused old.now fault → (fault ≡ opening.Device) ⊎ (fault ≡ opening.OutOfMemory)
       not_shown opening.Device none is = inl refl
@@ -191,14 +191,14 @@ module _ {keeps : Type 0} (keep : keeps) (g : Geometry) (s : ServeOptions) (old 
       not_shown opening.BadChain none is = absurd (none tt is)
       not_shown (opening.BadRecord h i) none is = absurd (none tt is)
 
-module _ {keeps : Type 0} (s : ServeOptions) (old new : Medium) (end : Result (Unit {0}) Fault) (input left before written : Option (List ℕ)) where
+module _ {keeps : Type 0} (s : ServeOptions) (old new : Medium) (end : Result (Unit {0}) Fault) (streams : Exchange) where
   -- The service ran from the state that the device held.
-  pub leaves_run : AreBytes old.now → EndsOnDevice keeps s old new end input left before written → CrashesSafely keeps s old new end input left before written
-      → LeavesRecovered keeps s.slots old new end input before written → LeavesRun keeps s.slots old new end input before written
+  pub leaves_run : AreBytes old.now → EndsOnDevice keeps s old new end streams → CrashesSafely keeps s old new end streams
+      → LeavesRecovered keeps s.slots old new end streams.input streams.before streams.written
+      → LeavesRun keeps s.slots old new end streams.input streams.before streams.written
   leaves_run bytes e safe recovers keep g x is = (
-    opens_so keep g s old new end input left before written bytes is.0 e,
-    λ c leaves.
-        run_so keep g s.slots old new is.0 is.1 c leaves s end input left before written e safe (opened_then end (λ k. (k.0, k.1, k.2 keep c leaves)) recovers),
+    opens_so keep g s old new end streams bytes is.0 e,
+    λ c leaves. run_so keep g s.slots old new is.0 is.1 c leaves s end streams e safe (opened_then end (λ k. (k.0, k.1, k.2 keep c leaves)) recovers),
   )
 
 -- What follows a run may be put in other words.

@@ -1,6 +1,7 @@
 -- Statement for engineers: How a call ends, and with which status.
 use Rattle.std.specs.Prelude.{◌≡◌, ◌⊎◌, ℕ, List, Option, Result, Ok, Err}
 use Rattle.affinity.specs.declared.geometry.Geometry.{Geometry}
+use Rattle.serving.specs.Ends.{Exchange}
 use Rattle.commands.specs.Ends.{EndsFormatting, EndsInMemory, EndsShowing}
 use Rattle.commands.specs.Faults.{status_of}
 use Rattle.commands.specs.Serving.{EndsInFile, options_in_order}
@@ -14,17 +15,16 @@ use Rattle.arguments.specs.declared.parsing.Request.TheVariants.{Help, Plain, Fo
 use Rattle.arguments.specs.declared.parsing.ArgumentRefusal.{ArgumentRefusal}
 use Rattle.arguments.specs.declared.parsing.ArgumentRefusal.TheVariants as refusal
 
--- How the command of a request ends: `input` and `remaining` are what the reader had before and after, `old` and `new` what the
--- output had. Help and the version read nothing; their text, and whether it was written, is unknown. The server has the options given.
-abbrev pub Ends : Request → Result (Unit {0}) Fault → Option (List ℕ) → Option (List ℕ) → Option (List ℕ) → Option (List ℕ) → Type 0
-Ends (Help text) (Ok _) input remaining old new = remaining ≡ input
-Ends (Help text) (Err Write) input remaining old new = remaining ≡ input
-Ends (Help text) (Err _) input remaining old new = ⊥
-Ends (Plain g) end input remaining old new = EndsInMemory g end input remaining old new
-Ends (Format path g) end input remaining old new = (remaining ≡ input) × EndsFormatting g end old new
-Ends (Show path) end input remaining old new = (remaining ≡ input) × EndsShowing end old new
-Ends (Serve path given) end input remaining old new = (s : ServeOptions)
-    × (options_in_order s ≡ within_limits (service_numbers given)) × EndsInFile s end input remaining old new
+-- How the command of a request ends. Help and the version read nothing; their text, and whether it was written, is unknown. The server
+-- has the options given.
+abbrev pub Ends : Request → Result (Unit {0}) Fault → Exchange → Type 0
+Ends (Help text) (Ok _) x = x.remaining ≡ x.input
+Ends (Help text) (Err Write) x = x.remaining ≡ x.input
+Ends (Help text) (Err _) x = ⊥
+Ends (Plain g) end x = EndsInMemory g end x
+Ends (Format path g) end x = (x.remaining ≡ x.input) × EndsFormatting g end x.before x.written
+Ends (Show path) end x = (x.remaining ≡ x.input) × EndsShowing end x.before x.written
+Ends (Serve path given) end x = (s : ServeOptions) × (options_in_order s ≡ within_limits (service_numbers given)) × EndsInFile s end x
 
 -- the exit status at this end
 abbrev pub status_at : Result (Unit {0}) Fault → ℕ
@@ -38,9 +38,8 @@ status_of_refusal refusal.OutOfMemory = status_of OutOfMemory
 status_of_refusal refusal.GeometryOutOfRange = status_of GeometryOutOfRange
 
 -- The serial server (`plain`) came to an end that has this status.
-abbrev pub ExitsPlain : Geometry → ℕ → Option (List ℕ) → Option (List ℕ) → Option (List ℕ) → Option (List ℕ) → Type 0
-ExitsPlain g status input remaining old new =
-    (end : Result (Unit {0}) Fault) × (status ≡ status_at end) × EndsInMemory g end input remaining old new
+abbrev pub ExitsPlain : Geometry → ℕ → Exchange → Type 0
+ExitsPlain g status x = (end : Result (Unit {0}) Fault) × (status ≡ status_at end) × EndsInMemory g end x
 
 -- The making of a device came to an end that has this status.
 abbrev pub ExitsFormat : Geometry → ℕ → Option (List ℕ) → Option (List ℕ) → Type 0
@@ -51,9 +50,8 @@ abbrev pub ExitsShow : ℕ → Option (List ℕ) → Option (List ℕ) → Type 
 ExitsShow status old new = (end : Result (Unit {0}) Fault) × (status ≡ status_at end) × EndsShowing end old new
 
 -- The service with a device came to an end that has this status.
-abbrev pub ExitsServe : ServeOptions → ℕ → Option (List ℕ) → Option (List ℕ) → Option (List ℕ) → Option (List ℕ) → Type 0
-ExitsServe s status input remaining old new =
-    (end : Result (Unit {0}) Fault) × (status ≡ status_at end) × EndsInFile s end input remaining old new
+abbrev pub ExitsServe : ServeOptions → ℕ → Exchange → Type 0
+ExitsServe s status x = (end : Result (Unit {0}) Fault) × (status ≡ status_at end) × EndsInFile s end x
 
 -- Help or the version was printed, or could not be written, or there was no memory.
 abbrev pub ExitsHelp : ℕ → Type 0

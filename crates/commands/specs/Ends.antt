@@ -8,6 +8,7 @@ use Rattle.checkpoint.specs.declared.inspecting.Shown.{Shown}
 use Rattle.checkpoint.specs.Refusals.{IsRefused}
 use Rattle.checkpoint.specs.Shown.{IsShown}
 use Rattle.checkpoint.specs.declared.fault.FormatFault.TheVariants as formatting
+use Rattle.serving.specs.Ends.{Exchange}
 use Rattle.commands.specs.Lines.{formatted_line, shown_lines}
 use Rattle.commands.specs.declared.faults.Fault.{Fault}
 use Rattle.commands.specs.declared.faults.Fault.TheVariants.{Read, Write, OutOfMemory, Device, Format, Open}
@@ -15,14 +16,13 @@ use Rattle.commands.specs.declared.faults.Fault.TheVariants.{Read, Write, OutOfM
 -- What the serial server has written at this end, and what remains of the input. No fault: its whole output for the input, of which nothing
 -- remains. A failed read: the answers to all whole lines that were taken. No memory: the first lines of that output. After a failed write
 -- it is unknown what was written.
-abbrev pub EndsInMemory : Geometry → Result (Unit {0}) Fault → Option (List ℕ) → Option (List ℕ) → Option (List ℕ) → Option (List ℕ)
-    → Type 0
-EndsInMemory g (Ok _) input remaining old new =
-    WritesOutput input old new (λ read written. written ≡ serial_output g empty read) × IsAtEnd remaining
-EndsInMemory g (Err Read) input remaining old new = WritesOutput input old new (AnswersWholeLines g empty remaining)
-EndsInMemory g (Err Write) input remaining old new = Unit {0}
-EndsInMemory g (Err OutOfMemory) input remaining old new = WritesOutput input old new (IsBeginning g empty)
-EndsInMemory g (Err _) input remaining old new = ⊥
+abbrev pub EndsInMemory : Geometry → Result (Unit {0}) Fault → Exchange → Type 0
+EndsInMemory g (Ok _) x =
+    WritesOutput x.input x.before x.written (λ read written. written ≡ serial_output g empty read) × IsAtEnd x.remaining
+EndsInMemory g (Err Read) x = WritesOutput x.input x.before x.written (AnswersWholeLines g empty x.remaining)
+EndsInMemory g (Err Write) x = Unit {0}
+EndsInMemory g (Err OutOfMemory) x = WritesOutput x.input x.before x.written (IsBeginning g empty)
+EndsInMemory g (Err _) x = ⊥
 
 -- A device was made and its length printed, or it was not made and nothing was printed. After a failed write it is unknown what was
 -- printed. What the file holds is unknown.

@@ -1,6 +1,6 @@
 -- Statement for operators: What it is to serve a device: what was written at its end, what the device recovers to then, and what a crash
 -- meanwhile leaves.
-use Rattle.std.specs.Prelude.{◌≡◌, ◌≢◌, ◌⊎◌, ◌+◌, ◌≤◌, ℕ, List, [], ◌∷◌, length, take, replicate, Option, Some, None, Result, Ok, Err}
+use Rattle.std.specs.Prelude.{◌≡◌, ◌≢◌, ◌⊎◌, ◌+◌, ◌≤◌, ℕ, List, [], ◌∷◌, length, take, replicate, Some, None, Result, Ok, Err}
 use Rattle.std.specs.Io.KnownBytes.{IsAtEnd}
 use Rattle.affinity.specs.declared.geometry.Geometry.{Geometry}
 use Rattle.checkpoint.specs.Header.{HasHeader}
@@ -19,14 +19,12 @@ use Rattle.runs.specs.Incarnations.{IsRunIncarnation}
 use Rattle.runs.specs.Machine.{MachineView, machine_of}
 use Rattle.runs.specs.DeviceEvents.{DeviceEvent, device_after, events_of}
 use Rattle.messages.specs.Lines.{lines}
-use Rattle.device_map.specs.Layout.{layout_of}
-use Rattle.oplog.specs.Recovery.{in_force, named_area}
 use Rattle.meaning.specs.Output.{IsBeginning, WritesOutput}
 use Rattle.meaning.specs.State.{State}
 use Rattle.scheduler.specs.CoreView.{IsJustOpened, CoreView, RecoversNow}
-use Rattle.serving.specs.Ends.{AreServed, ServesLinesBefore, ServesWholeLines, committed_in}
+use Rattle.serving.specs.Ends.{AreServed, Exchange, ServesLinesBefore, ServesWholeLines, committed_in}
 use Rattle.serving.specs.Runs.{machine_with_jobs}
-use Rattle.serving.specs.Serve.{ServePromise}
+use Rattle.serving.specs.Serve.{HasEmptyLog, ServePromise}
 use Rattle.serving.specs.declared.server.ServeFault.{ServeFault}
 use Rattle.commands.specs.Faults.{command_result, fault_of_file}
 use Rattle.commands.specs.declared.faults.Fault.{Fault}
@@ -57,16 +55,11 @@ pub record ServedDevice (keeps : Type 0) (old new : Medium) : Type 0 where
   pub before : RecoveredTo keeps old geometry start
   pub after : RecoversDurably keeps new geometry end
 
--- No record of the log is in force.
-abbrev pub HasNoRecords : Geometry → Medium → Type 0
-HasNoRecords g m = in_force (layout_of g) (named_area (layout_of g) m.now) m.now ≡ []
-
 -- ---- how a service ends
 
 -- Nothing was served: no input was read and no output written. The device was opened, and recovers to the same state as before.
-abbrev pub HasServedNothing : Type 0 → Medium → Medium → Option (List ℕ) → Option (List ℕ) → Option (List ℕ) → Option (List ℕ) → Type 0
-HasServedNothing keeps old new input remaining before written = (w : ServedDevice keeps old new) × (w.end ≡ w.start) × (remaining ≡ input)
-    × (written ≡ before)
+abbrev pub HasServedNothing : Type 0 → Medium → Medium → Exchange → Type 0
+HasServedNothing keeps old new x = (w : ServedDevice keeps old new) × (w.end ≡ w.start) × (x.remaining ≡ x.input) × (x.written ≡ x.before)
 
 -- What each end promises.
 -- No fault: the input has ended, and the output is that of the serial server for all of it, from the state to which the device
@@ -77,28 +70,22 @@ HasServedNothing keeps old new input remaining before written = (w : ServedDevic
 -- No workers, or no memory: nothing was served. A device that can't be opened: no input was read and no output written. The fault is one
 -- that its bytes show, or want of memory, or `Device`: the last exactly if the device failed. `IsLeftByRefusal`: nothing was written to
 -- it, unless it failed, or the bad record is in the half that was not named: then the opening has finished an interrupted cut before.
-abbrev pub EndsOnDevice : Type 0 → ServeOptions → Medium → Medium → Result (Unit {0}) Fault
-    → Option (List ℕ) → Option (List ℕ) → Option (List ℕ) → Option (List ℕ) → Type 0
-EndsOnDevice keeps s old new (Ok _) input remaining before written = (s.workers ≢ 0)
-    × ((w : ServedDevice keeps old new) × (keeps → HasNoRecords w.geometry new)
-    × IsAtEnd remaining × WritesOutput input before written (λ bytes out. AreServed w.geometry w.start w.end (lines bytes) out))
-EndsOnDevice keeps s old new (Err Read) input remaining before written = (s.workers ≢ 0) × ((w : ServedDevice keeps old new)
-    × WritesOutput input before written (ServesWholeLines w.geometry w.start w.end remaining))
-EndsOnDevice keeps s old new (Err NoTicketLeft) input remaining before written = (s.workers ≢ 0) × ((w : ServedDevice keeps old new)
-    × WritesOutput input before written (ServesLinesBefore w.geometry w.start w.end))
-EndsOnDevice keeps s old new (Err Device) input remaining before written = (s.workers ≢ 0)
-    × ((g : Geometry) × (start : State) × RecoveredTo keeps old g start
-    × WritesOutput input before written (IsBeginning g start))
-EndsOnDevice keeps s old new (Err Write) input remaining before written = (s.workers ≢ 0)
-    × ((g : Geometry) × (start : State) × RecoveredTo keeps old g start)
-EndsOnDevice keeps s old new (Err NoWorkers) input remaining before written = (s.workers ≡ 0)
-    × HasServedNothing keeps old new input remaining before written
-EndsOnDevice keeps s old new (Err OutOfMemory) input remaining before written = (s.workers ≢ 0)
-    × HasServedNothing keeps old new input remaining before written
-EndsOnDevice keeps s old new (Err (Open fault)) input remaining before written =
-    (keeps → IsRefused old.now fault × IsLeftByRefusal old fault new) × (remaining ≡ input) × (written ≡ before)
+abbrev pub EndsOnDevice : Type 0 → ServeOptions → Medium → Medium → Result (Unit {0}) Fault → Exchange → Type 0
+EndsOnDevice keeps s old new (Ok _) x = (s.workers ≢ 0) × ((w : ServedDevice keeps old new) × (keeps → HasEmptyLog w.geometry new)
+    × IsAtEnd x.remaining × WritesOutput x.input x.before x.written (λ bytes out. AreServed w.geometry w.start w.end (lines bytes) out))
+EndsOnDevice keeps s old new (Err Read) x = (s.workers ≢ 0) × ((w : ServedDevice keeps old new)
+    × WritesOutput x.input x.before x.written (ServesWholeLines w.geometry w.start w.end x.remaining))
+EndsOnDevice keeps s old new (Err NoTicketLeft) x = (s.workers ≢ 0) × ((w : ServedDevice keeps old new)
+    × WritesOutput x.input x.before x.written (ServesLinesBefore w.geometry w.start w.end))
+EndsOnDevice keeps s old new (Err Device) x = (s.workers ≢ 0) × ((g : Geometry) × (start : State) × RecoveredTo keeps old g start
+    × WritesOutput x.input x.before x.written (IsBeginning g start))
+EndsOnDevice keeps s old new (Err Write) x = (s.workers ≢ 0) × ((g : Geometry) × (start : State) × RecoveredTo keeps old g start)
+EndsOnDevice keeps s old new (Err NoWorkers) x = (s.workers ≡ 0) × HasServedNothing keeps old new x
+EndsOnDevice keeps s old new (Err OutOfMemory) x = (s.workers ≢ 0) × HasServedNothing keeps old new x
+EndsOnDevice keeps s old new (Err (Open fault)) x =
+    (keeps → IsRefused old.now fault × IsLeftByRefusal old fault new) × (x.remaining ≡ x.input) × (x.written ≡ x.before)
     × ((fault ≡ open_faults.Device → new.faults ≡ old.faults + 1) × (fault ≢ open_faults.Device → new.faults ≡ old.faults))
-EndsOnDevice keeps s old new (Err _) input remaining before written = ⊥
+EndsOnDevice keeps s old new (Err _) x = ⊥
 
 -- ---- the run that led to it
 
@@ -119,15 +106,15 @@ IsIncarnation s start old new device_events = (k : ℕ) → k ≤ length device_
 
 -- The device was opened, with no message in its core. Then the server ran and came to this end. A legal run led to what was written, and a
 -- crash meanwhile leaves what a crash of that run may leave.
-pub record HasServedBy (keeps : Type 0) (s : ServeOptions) (old new : Medium) (end : Result (Unit {0}) ServeFault)
-    (input remaining before written : Option (List ℕ)) : Type 0 where
+pub record HasServedBy (keeps : Type 0) (s : ServeOptions) (old new : Medium) (end : Result (Unit {0}) ServeFault) (x : Exchange)
+    : Type 0 where
   pub start : CoreView
   pub now : CoreView
   pub fresh : IsJustOpened s.slots start
   pub header : keeps → HasHeader start.geometry old.now
   pub recovered_before : keeps → recovered_state start.geometry old.now ≡ Some (committed_in start)
   pub opening : keeps → OpeningCrashImages old start.medium
-  pub served : ServePromise keeps s.workers start (now, end) input remaining before written
+  pub served : ServePromise keeps s.workers start (now, end) x
   -- whatever a crash leaves now recovers to the committed state with a prefix of the messages in `doubt`
   pub leaves : keeps → RecoversNow now
   pub given_back : new ≡ now.medium
@@ -135,43 +122,39 @@ pub record HasServedBy (keeps : Type 0) (s : ServeOptions) (old new : Medium) (e
 
 -- `HasServedBy` holds; or the device could not be opened. A crash during the opening leaves what a crash before it might have left or,
 -- from the opening's first sync on, bytes that recover to the same state as the device did, or are refused for the same fault.
-abbrev pub CrashesSafely : Type 0 → ServeOptions → Medium → Medium → Result (Unit {0}) Fault → Option (List ℕ) → Option (List ℕ)
-    → Option (List ℕ) → Option (List ℕ) → Type 0
-CrashesSafely keeps s old new (Err (Open fault)) input remaining before written = keeps → OpeningCrashImages old new
-CrashesSafely keeps s old new end input remaining before written =
-    (ended : Result (Unit {0}) ServeFault) × (end ≡ command_result ended) × HasServedBy keeps s old new ended input remaining before written
+abbrev pub CrashesSafely : Type 0 → ServeOptions → Medium → Medium → Result (Unit {0}) Fault → Exchange → Type 0
+CrashesSafely keeps s old new (Err (Open fault)) x = keeps → OpeningCrashImages old new
+CrashesSafely keeps s old new end x =
+    (ended : Result (Unit {0}) ServeFault) × (end ≡ command_result ended) × HasServedBy keeps s old new ended x
 
 -- ---- a device in memory that is crashed
 
 -- The service ran on a device in memory, which it left as `ended`, and came to this end. `crashed` is what a crash that tears as `torn`
 -- makes of that device.
 pub record HasServedUntilCrash (s : ServeOptions) (old : Medium) (torn : Torn) (crashed : Memory) (end : Result (Unit {0}) Fault)
-    (input remaining before written : Option (List ℕ)) : Type 0 where
+    (x : Exchange) : Type 0 where
   pub ended : Memory
-  pub ends : EndsOnDevice (Unit {0}) s old ended.medium end input remaining before written
-  pub crash_safe : CrashesSafely (Unit {0}) s old ended.medium end input remaining before written
+  pub ends : EndsOnDevice (Unit {0}) s old ended.medium end x
+  pub crash_safe : CrashesSafely (Unit {0}) s old ended.medium end x
   pub crash : crashed ≡ after_crash torn ended
   pub leaves : IsCrashImage ended.medium crashed.medium.now
 
 -- ---- a device in a file
 
 -- The file could not be opened, or there was no memory for that or for the arguments: no input was read and no output written.
-pub record HasNotBegun (end : Result (Unit {0}) Fault) (input remaining before written : Option (List ℕ)) : Type 0 where
+pub record HasNotBegun (end : Result (Unit {0}) Fault) (x : Exchange) : Type 0 where
   pub why : FileFault
   pub ends : end ≡ Err (fault_of_file why)
-  pub unread : remaining ≡ input
-  pub unwritten : written ≡ before
+  pub unread : x.remaining ≡ x.input
+  pub unwritten : x.written ≡ x.before
 
 -- If files keep their bytes as a device does, the service ran on some device: contracts don't know the bytes of a file.
-pub record HasServedFile (s : ServeOptions) (end : Result (Unit {0}) Fault)
-    (input remaining before written : Option (List ℕ)) : Type 0 where
+pub record HasServedFile (s : ServeOptions) (end : Result (Unit {0}) Fault) (x : Exchange) : Type 0 where
   pub old : Medium
   pub new : Medium
-  pub ends : EndsOnDevice FileKeeps s old new end input remaining before written
-  pub crash_safe : CrashesSafely FileKeeps s old new end input remaining before written
+  pub ends : EndsOnDevice FileKeeps s old new end x
+  pub crash_safe : CrashesSafely FileKeeps s old new end x
 
 -- How a service on the device in a file ends: it did not begin, or it ran on some device.
-abbrev pub EndsInFile : ServeOptions → Result (Unit {0}) Fault
-    → Option (List ℕ) → Option (List ℕ) → Option (List ℕ) → Option (List ℕ) → Type 0
-EndsInFile s end input remaining before written =
-    HasNotBegun end input remaining before written ⊎ HasServedFile s end input remaining before written
+abbrev pub EndsInFile : ServeOptions → Result (Unit {0}) Fault → Exchange → Type 0
+EndsInFile s end x = HasNotBegun end x ⊎ HasServedFile s end x

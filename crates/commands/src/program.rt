@@ -1,6 +1,7 @@
 //! The program, with its input, output and error output as a reader and two writers.
 ghost use Rattle.std.specs.Prelude.{◌≡◌, ◌⊎◌, ℕ, List, [], ◌∷◌, codes, map, string_bytes};
 ghost use Rattle.affinity.specs.Geometry.{default_geometry};
+ghost use Rattle.serving.specs.Ends.{exchange};
 ghost use Rattle.commands.specs.Calls.{Ends, ExitsFormat, ExitsHelp, ExitsPlain, ExitsRefused, ExitsServe, ExitsShow, status_of_refusal};
 ghost use Rattle.commands.specs.Services.{AsksServe, within_limits};
 ghost use Rattle.arguments.specs.Arguments.{AsksFormat, AsksHelp, RunsNoCommand, AsksPlain, AsksShow, AsksVersion, AreRefused, service_numbers};
@@ -39,8 +40,8 @@ pub fn run<T: Files<File = File> + Threads + Wait + Sync, R: Read, W: Write>(
     r: &mut R,
     w: &mut W,
 ) -> Result<(), Fault>
-    ensures { Ends request.entry result (R.remaining r.old) (R.remaining r.new)
-        (W.contents w.old) (W.contents w.new) }
+    ensures { Ends request.entry result
+        (exchange (R.remaining r.old) (R.remaining r.new) (W.contents w.old) (W.contents w.new)) }
 {
     match request {
         Request::Help(text) => {
@@ -81,11 +82,11 @@ pub fn command<T: Files<File = File> + Threads + Wait + Sync, R: Read, W: Write,
     e: &mut E,
 ) -> u8
     ensures served_plain { (g : Geometry) → AsksPlain (map string_bytes arguments.now) g
-        → ExitsPlain g result (R.remaining r.old) (R.remaining r.new)
-        (W.contents w.old) (W.contents w.new) }
+        → ExitsPlain g result
+        (exchange (R.remaining r.old) (R.remaining r.new) (W.contents w.old) (W.contents w.new)) }
     ensures plain { (program : List ℕ) → map string_bytes arguments.now ≡ program ∷ codes "plain" ∷ []
-        → ExitsPlain default_geometry result (R.remaining r.old) (R.remaining r.new)
-        (W.contents w.old) (W.contents w.new) }
+        → ExitsPlain default_geometry result
+        (exchange (R.remaining r.old) (R.remaining r.new) (W.contents w.old) (W.contents w.new)) }
     ensures formatted { (path : List ℕ) → (g : Geometry) → AsksFormat (map string_bytes arguments.now) path g
         → ExitsFormat g result (W.contents w.old) (W.contents w.new)
         × (R.remaining r.new ≡ R.remaining r.old) }
@@ -93,8 +94,8 @@ pub fn command<T: Files<File = File> + Threads + Wait + Sync, R: Read, W: Write,
         → ExitsShow result (W.contents w.old) (W.contents w.new)
         × (R.remaining r.new ≡ R.remaining r.old) }
     ensures served { (path : List ℕ) → (s : ServeOptions) → AsksServe (map string_bytes arguments.now) path s
-        → ExitsServe s result (R.remaining r.old) (R.remaining r.new)
-        (W.contents w.old) (W.contents w.new) }
+        → ExitsServe s result
+        (exchange (R.remaining r.old) (R.remaining r.new) (W.contents w.old) (W.contents w.new)) }
     ensures help { AsksHelp (map string_bytes arguments.now)
         → ExitsHelp result × (R.remaining r.new ≡ R.remaining r.old) }
     ensures version { AsksVersion (map string_bytes arguments.now)

@@ -1,4 +1,5 @@
 //! `waffd plain`: the serial server, without a device.
+ghost use Rattle.serving.specs.Ends.{exchange};
 ghost use Rattle.commands.specs.Ends.{EndsInMemory};
 
 use crate::faults::Fault;
@@ -14,8 +15,8 @@ pub fn answer_input<R: Read, W: Write>(
     r: &mut R,
     w: &mut W,
 ) -> Result<(), Fault>
-    ensures { EndsInMemory geometry.now result (R.remaining r.old) (R.remaining r.new)
-        (W.contents w.old) (W.contents w.new) }
+    ensures { EndsInMemory geometry.now result
+        (exchange (R.remaining r.old) (R.remaining r.new) (W.contents w.old) (W.contents w.new)) }
 {
     Ok(serve_from(alloc, geometry, r, w)?)
 }

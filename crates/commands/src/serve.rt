@@ -2,6 +2,7 @@
 ghost use Rattle.std.specs.Prelude.{◌≡◌, false};
 ghost use Rattle.legal_runs.specs.Laws.{IsIdle};
 ghost use Rattle.scheduler.specs.CoreView.{core_state_of};
+ghost use Rattle.serving.specs.Ends.{exchange};
 ghost use Rattle.serving.specs.Serve.{ServePromise};
 ghost use Rattle.commands.specs.Faults.{command_result};
 ghost use Rattle.commands.specs.Acknowledged.{KeepsAcknowledged};
@@ -42,8 +43,8 @@ fn serve_core<T: Threads + Wait + Sync, R: Read, W: Write, D: Disk + Drop>(
 ) -> (Core<D>, Result<(), ServeFault>)
     requires idle { IsIdle (core_state_of core) }
     requires works { core.failed ≡ false }
-    ensures { ServePromise D.keeps service.workers core result (R.remaining r.old) (R.remaining r.new) (W.contents w.old)
-        (W.contents w.new) }
+    ensures { ServePromise D.keeps service.workers core result
+        (exchange (R.remaining r.old) (R.remaining r.new) (W.contents w.old) (W.contents w.new)) }
 {
     let workers = usize::from(service.workers);
     let every = u64::from(service.every);
@@ -64,10 +65,10 @@ pub fn serve_on<T: Threads + Wait + Sync, R: Read, W: Write, D: Disk + Drop>(
     r: &mut R,
     w: &mut W,
 ) -> (D, Result<(), Fault>)
-    ensures ends { EndsOnDevice D.keeps service (D.medium disk) (D.medium result.0) result.1 (R.remaining r.old) (R.remaining r.new)
-        (W.contents w.old) (W.contents w.new) }
-    ensures crash_safe { CrashesSafely D.keeps service (D.medium disk) (D.medium result.0) result.1 (R.remaining r.old) (R.remaining r.new)
-        (W.contents w.old) (W.contents w.new) }
+    ensures ends { EndsOnDevice D.keeps service (D.medium disk) (D.medium result.0) result.1
+        (exchange (R.remaining r.old) (R.remaining r.new) (W.contents w.old) (W.contents w.new)) }
+    ensures crash_safe { CrashesSafely D.keeps service (D.medium disk) (D.medium result.0) result.1
+        (exchange (R.remaining r.old) (R.remaining r.new) (W.contents w.old) (W.contents w.new)) }
     ensures kept { KeepsAcknowledged D.keeps service.slots (D.medium disk) (D.medium result.0) result.1 (R.remaining r.old)
         (W.contents w.old) (W.contents w.new) }
     ensures recovers { LeavesRecovered D.keeps service.slots (D.medium disk) (D.medium result.0) result.1 (R.remaining r.old)
@@ -94,7 +95,7 @@ pub fn serve_device<T: Files<File = File> + Threads + Wait + Sync, R: Read, W: W
     r: &mut R,
     w: &mut W,
 ) -> Result<(), Fault>
-    ensures { EndsInFile service result (R.remaining r.old) (R.remaining r.new) (W.contents w.old) (W.contents w.new) }
+    ensures { EndsInFile service result (exchange (R.remaining r.old) (R.remaining r.new) (W.contents w.old) (W.contents w.new)) }
 {
     let disk = FileDisk::open(rt, path)?;
     let (_disk, end) = serve_on(rt, alloc, disk, service, r, w);

@@ -5,6 +5,7 @@ ghost use Rattle.disk.specs.Memory.{medium_of, memory_of};
 ghost use Rattle.disk.specs.Torn.{HasPattern};
 ghost use Rattle.disk.specs.declared.injected_fault.InjectedFault.TheVariants.{StopAt};
 ghost use Rattle.meaning.specs.State.{State};
+ghost use Rattle.serving.specs.Ends.{exchange};
 ghost use Rattle.commands.specs.Acknowledged.{HoldsAcknowledged, UnlessRefused};
 ghost use Rattle.commands.specs.Promise.{HasRunFrom, HoldsRecovered, HoldsState, IfOpened, IsWritten};
 ghost use Rattle.commands.specs.Serving.{HasServedUntilCrash};
@@ -32,8 +33,8 @@ fn serve_and_crash<T: Threads + Wait + Sync, R: Read, W: Write>(
 ) -> (MemDisk, Result<(), Fault>)
     requires stops { (memory_of disk).injected_fault ≡ StopAt _n }
     requires bytes { HasPattern torn }
-    ensures crashed { HasServedUntilCrash service (medium_of disk) torn (memory_of result.0) result.1 (R.remaining r.old)
-        (R.remaining r.new) (W.contents w.old) (W.contents w.new) }
+    ensures crashed { HasServedUntilCrash service (medium_of disk) torn (memory_of result.0) result.1
+        (exchange (R.remaining r.old) (R.remaining r.new) (W.contents w.old) (W.contents w.new)) }
     ensures kept { UnlessRefused result.1 (W.contents w.old) (W.contents w.new) ((all : Option (List ℕ))
         × IsWritten result.1 (W.contents w.old) (W.contents w.new) all
         × HoldsAcknowledged service.slots (medium_of disk) (R.remaining r.old) (W.contents w.old) all (medium_of result.0).now) }
@@ -61,8 +62,8 @@ pub fn serve_stopped<T: Threads + Wait + Sync, R: Read, W: Write>(
 ) -> (MemDisk, Result<(), Fault>)
     requires call { 0 < n }
     requires bytes { HasPattern torn }
-    ensures crashed { HasServedUntilCrash service (medium_of disk) torn (memory_of result.0) result.1 (R.remaining r.old)
-        (R.remaining r.new) (W.contents w.old) (W.contents w.new) }
+    ensures crashed { HasServedUntilCrash service (medium_of disk) torn (memory_of result.0) result.1
+        (exchange (R.remaining r.old) (R.remaining r.new) (W.contents w.old) (W.contents w.new)) }
     ensures kept { UnlessRefused result.1 (W.contents w.old) (W.contents w.new) ((all : Option (List ℕ))
         × IsWritten result.1 (W.contents w.old) (W.contents w.new) all
         × HoldsAcknowledged service.slots (medium_of disk) (R.remaining r.old) (W.contents w.old) all (medium_of result.0).now) }

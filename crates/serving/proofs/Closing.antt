@@ -14,7 +14,7 @@ use Rattle.runs.specs.Machine.{MachineView, hand_of as hand_in, machine_of}
 use Rattle.runs.specs.DeviceEvents.{events_of}
 use Rattle.parcel.specs.Run.{JobView}
 use Rattle.scheduler.specs.CoreView.{CoreView, RecoversNow, core_state_of}
-use Rattle.serving.specs.Ends.{EndsWith, IsQuiesced}
+use Rattle.serving.specs.Ends.{EndsWith, Exchange, IsQuiesced, exchange}
 use Rattle.serving.specs.Progress.{ServingProgress}
 use Rattle.serving.specs.Lending.{NoneInFlight}
 use Rattle.serving.specs.Lines.{Line, answer_text}
@@ -59,10 +59,9 @@ written_begins false before whole sent waiting text grown h =
     (text, waiting, subst (λ (w : Option (List ℕ)). Appends before w text) (sym h) grown, Appends-trans before whole (all_output whole waiting) text waiting grown (all_appended whole waiting))
 
 -- What a server promises at its end: of the run that led there (given what `know_recovery` ensures of the core), and of that end.
-pub record PromisesAll (keeps : Type 0) (start : MachineView) (new : CoreView) (input remaining before written : Option (List ℕ))
-    (result : Result (Unit {0}) ServeFault) : Type 0 where
-  pub run : (new.failed ≡ false → new.doubt ≡ []) → (keeps → RecoversNow new) → HasRunWith keeps start new input before written result
-  pub ends : EndsWith start.core new input remaining before written result
+pub record PromisesAll (keeps : Type 0) (start : MachineView) (new : CoreView) (x : Exchange) (result : Result (Unit {0}) ServeFault) : Type 0 where
+  pub run : (new.failed ≡ false → new.doubt ≡ []) → (keeps → RecoversNow new) → HasRunWith keeps start new x.input x.before x.written result
+  pub ends : EndsWith start.core new x result
 
 -- no hand has a job where nothing is lent at any place
 all_empty : (n : ℕ) → full_hands (map hand_in (map lent_hand (replicate n None))) ≡ 0
@@ -89,13 +88,13 @@ module _ {keeps : Type 0} {s : Start} {p : SessionView} (u : SessionInvariant ke
     all_lines_answered : {unread : Option (List ℕ)} {drained : Bool} → SessionProgress keeps s p unread drained → ServingProgress keeps start now [] s.input unread drained s.before p.sent
     all_lines_answered h = written h k.all_retired k.output_works k.flushed
 
-    at_end : HasEndedReading keeps s p ends_of_reading.EndOfInput → PromisesAll keeps start p.core s.input p.remaining s.before p.sent (Ok tt)
+    at_end : HasEndedReading keeps s p ends_of_reading.EndOfInput → PromisesAll keeps start p.core (exchange s.input p.remaining s.before p.sent) (Ok tt)
     at_end h =
         let g = all_lines_answered h.progress_at_end in
         let e = ends_whole keeps start now u.idle g k.works h.why.0 in
         record { run = λ no_doubt recovers. runs_whole u.idle no_doubt recovers g h.why.0; ends = (e.0, e.1, h.why.1, e.3) }
 
-    at_fault : HasEndedReading keeps s p ends_of_reading.ReadFailed → PromisesAll keeps start p.core s.input p.remaining s.before p.sent (Err faults.Read)
+    at_fault : HasEndedReading keeps s p ends_of_reading.ReadFailed → PromisesAll keeps start p.core (exchange s.input p.remaining s.before p.sent) (Err faults.Read)
     at_fault h =
         let g = all_lines_answered h.progress_at_end in
         record {
@@ -104,7 +103,7 @@ module _ {keeps : Type 0} {s : Start} {p : SessionView} (u : SessionInvariant ke
               (subst (λ (b : Bool). ServingProgress keeps start now [] s.input h.unread b s.before p.sent) h.why.0 g) k.works h.why.1;
         }
 
-    exhausted : HasEndedReading keeps s p ends_of_reading.TicketsExhausted → PromisesAll keeps start p.core s.input p.remaining s.before p.sent (Err faults.Exhausted)
+    exhausted : HasEndedReading keeps s p ends_of_reading.TicketsExhausted → PromisesAll keeps start p.core (exchange s.input p.remaining s.before p.sent) (Err faults.Exhausted)
     exhausted h =
         let g = all_lines_answered h.progress_at_end in
         record {
@@ -129,7 +128,7 @@ module _ {keeps : Type 0} {s : Start} {p : SessionView} (u : SessionInvariant ke
         }
 
     device_ends : p.core.failed ≡ true → p.output_failed ≡ false → p.reply_buffer ≡ [] → can_retire p.reorder_buffer.lines ≡ false
-        → PromisesAll keeps start p.core s.input p.remaining s.before p.sent (Err faults.Device)
+        → PromisesAll keeps start p.core (exchange s.input p.remaining s.before p.sent) (Err faults.Device)
     device_ends failed output_works flushed last =
         let h = (progress_at_end keeps s p p.read_end u.reads).2 in
         let g = written h refl output_works flushed in
@@ -139,7 +138,7 @@ module _ {keeps : Type 0} {s : Start} {p : SessionView} (u : SessionInvariant ke
           ends = ends_at_device keeps start now u.idle g failed (wound_up g);
         }
 
-    write_ends : (p.core.failed ≡ false → p.core.ran ≡ []) → PromisesAll keeps start p.core s.input p.remaining s.before p.sent (Err faults.Write)
+    write_ends : (p.core.failed ≡ false → p.core.ran ≡ []) → PromisesAll keeps start p.core (exchange s.input p.remaining s.before p.sent) (Err faults.Write)
     write_ends ran =
         let h = (progress_at_end keeps s p p.read_end u.reads).2 in
         record {
@@ -154,7 +153,7 @@ module _ {keeps : Type 0} {s : Start} {p : SessionView} (u : SessionInvariant ke
 
   -- A session that has ended with this result promises what a server does.
   pub promises_by : (result : Result (Unit {0}) ServeFault) → EndsBy p result
-      → PromisesAll keeps start p.core s.input p.remaining s.before p.sent result
+      → PromisesAll keeps start p.core (exchange s.input p.remaining s.before p.sent) result
   promises_by (Ok tt) e = at_end e.0 (stopped e.1)
   promises_by (Err faults.Read) e = at_fault e.0 (stopped e.1)
   promises_by (Err faults.Exhausted) e = exhausted e.0 (stopped e.1)
@@ -171,10 +170,10 @@ pub record IsAtStart (s : Start) (p : SessionView) : Type 0 where
 
 -- A session that is as at its start promises what a server does that had no memory.
 declined : {keeps : Type 0} {s : Start} {p : SessionView} → IsIdle (core_state_of s.core) → IsAtStart s p
-    → PromisesAll keeps (start_machine s) p.core s.input p.remaining s.before p.sent (Err faults.OutOfMemory)
+    → PromisesAll keeps (start_machine s) p.core (exchange s.input p.remaining s.before p.sent) (Err faults.OutOfMemory)
 declined {keeps} {s} {p} idle at =
     let Promised : CoreView → Option (List ℕ) → Option (List ℕ) → Type 0 =
-    λ c b w. PromisesAll keeps (start_machine s) c s.input b s.before w (Err faults.OutOfMemory) in
+    λ c b w. PromisesAll keeps (start_machine s) c (exchange s.input b s.before w) (Err faults.OutOfMemory) in
     subst (λ (c : CoreView). Promised c p.remaining p.sent) (sym at.core)
     (subst (λ (b : Option (List ℕ)). Promised s.core b p.sent) (sym at.input)
     (subst (λ (w : Option (List ℕ)). Promised s.core s.input w) (sym at.before) (record {
@@ -184,7 +183,7 @@ declined {keeps} {s} {p} idle at =
 
 -- A session promises what a server does if it has ended, or is as at its start.
 promises_or_declines : {keeps : Type 0} {s : Start} {old p : SessionView} → SessionInvariant keeps s p → IsAtStart s old → (result : Result (Unit {0}) ServeFault)
-    → EndsOrDeclines old p result → PromisesAll keeps (start_machine s) p.core s.input p.remaining s.before p.sent result
+    → EndsOrDeclines old p result → PromisesAll keeps (start_machine s) p.core (exchange s.input p.remaining s.before p.sent) result
 promises_or_declines u at (Ok tt) e = promises_by u (Ok tt) e
 promises_or_declines {s} u at (Err faults.OutOfMemory) e = declined u.idle (subst (IsAtStart s) (sym e) at)
 promises_or_declines u at (Err faults.Read) e = promises_by u (Err faults.Read) e
@@ -196,7 +195,7 @@ promises_or_declines u at (Err faults.NoWorkers) e = absurd e
 -- The same, with what is known of the session's end given for `now`, which equals it.
 pub promises_from : {keeps : Type 0} {s : Start} {old p now : SessionView} → SessionInvariant keeps s p → p ≡ now → IsAtStart s old
     → (result : Result (Unit {0}) ServeFault) → EndsOrDeclines old now result
-    → PromisesAll keeps (start_machine s) p.core s.input p.remaining s.before p.sent result
+    → PromisesAll keeps (start_machine s) p.core (exchange s.input p.remaining s.before p.sent) result
 promises_from {old} u is at result e = promises_or_declines u at result (subst (λ (p : SessionView). EndsOrDeclines old p result) (sym is) e)
 
 -- Where each line that was read is answered and nothing has failed, the session ends with what is reported for its `read_end`.
@@ -218,7 +217,7 @@ empties_for ends_of_reading.DeviceFailed P emptied = tt
 module _ (keeps : Type 0) (p : SessionView) (same : Type 0) where
   pub finished : {read_end : ReadEnd} (r : Result (Unit {0}) Halted) → p.read_end ≡ Some read_end
       → OnOk r ((p.reorder_buffer.lines ≡ []) × (p.reply_buffer ≡ []) × (p.output_failed ≡ false)) → OnOk r (p.core.failed ≡ false)
-      → OnOk r (read_end ≡ ends_of_reading.EndOfInput → keeps → HasEmptyLog p.core) → MatchResult r (λ _. same) (λ _. HasHalted p)
+      → OnOk r (read_end ≡ ends_of_reading.EndOfInput → keeps → HasEmptyLog p.core.geometry p.core.medium) → MatchResult r (λ _. same) (λ _. HasHalted p)
       → MatchResult r (λ _. (x : ReadEnd) × HasFinished keeps p x) (λ _. HasHalted p)
   finished {read_end} (Ok x) is all works emptied moves =
       (read_end, record { is = is; served = record { all_retired = all.0; flushed = all.1; works = works; output_works = all.2 }; emptied = emptied })
@@ -230,11 +229,11 @@ so_if o x P is h = subst (λ (o : Option _). IfSome o P) is h
 -- A session that has answered every line returns the result for the reason why it stopped reading (`read_end`).
 pub ends_finished : (keeps : Type 0) (o : Option Start) (p : SessionView) → SessionInvariantFrom keeps o p → (read_end : ReadEnd) → HasFinished keeps p read_end
     → (result : Result (Unit {0}) ServeFault) → IfSome p.read_end (λ why. result ≡ end_of why)
-    → EndsBy p result × OnOk result (keeps → HasEmptyLog p.core)
+    → EndsBy p result × OnOk result (keeps → HasEmptyLog p.core.geometry p.core.medium)
 ends_finished keeps o p u read_end f result reported =
     let is = so_if p.read_end read_end (λ (why : ReadEnd). result ≡ end_of why) f.is reported in
-    subst (λ (r : Result (Unit {0}) ServeFault). EndsBy p r × OnOk r (keeps → HasEmptyLog p.core)) (sym is)
-    (ended_for keeps o p u f.served read_end f.is, empties_for read_end (keeps → HasEmptyLog p.core) f.emptied)
+    subst (λ (r : Result (Unit {0}) ServeFault). EndsBy p r × OnOk r (keeps → HasEmptyLog p.core.geometry p.core.medium)) (sym is)
+    (ended_for keeps o p u f.served read_end f.is, empties_for read_end (keeps → HasEmptyLog p.core.geometry p.core.medium) f.emptied)
 
 -- With all workers started, a session ends with what is reported (`EndsBy`); if one could not be started, the session is as it was.
 reported_so : (old p : SessionView) (F : Type 0) (r : Result (Result (Unit {0}) ServeFault) F) → IfOk r (λ end. EndsBy p end) → OnErr r (p ≡ old)
@@ -278,10 +277,11 @@ refuses_none workers some old p (Err faults.NoWorkers) e = absurd e
 
 -- `ServePromise` stays true for an equal number of workers and an equal rest of the input.
 pub serves_as : {keeps : Type 0} {core : CoreView} {back : CoreView × Result (Unit {0}) ServeFault} {input before written remaining rest : Option (List ℕ)}
-    {places workers : ℕ} → places ≡ workers → remaining ≡ rest → ServePromise keeps places core back input remaining before written → ServePromise keeps workers core back input rest before written
+    {places workers : ℕ} → places ≡ workers → remaining ≡ rest → ServePromise keeps places core back (exchange input remaining before written)
+    → ServePromise keeps workers core back (exchange input rest before written)
 serves_as {keeps} {core} {back} {input} {before} {written} {rest} {places} as_many same h =
-    subst (λ (n : ℕ). ServePromise keeps n core back input rest before written) as_many
-    (subst (λ (l : Option (List ℕ)). ServePromise keeps places core back input l before written) same h)
+    subst (λ (n : ℕ). ServePromise keeps n core back (exchange input rest before written)) as_many
+    (subst (λ (l : Option (List ℕ)). ServePromise keeps places core back (exchange input l before written)) same h)
 
 -- ---- where it begins
 

@@ -24,7 +24,7 @@ use Rattle.meaning.specs.Progress.{AreTaken, TakesLines}
 use Rattle.meaning.specs.Serial.{state_after_all}
 use Rattle.meaning.specs.State.{State}
 use Rattle.scheduler.specs.CoreView.{RecoversNow, core_state_of}
-use Rattle.serving.specs.Ends.{AreFirst, AreServed, EndsWith, HasServed, IsQuiesced, committed_in}
+use Rattle.serving.specs.Ends.{AreFirst, AreServed, EndsWith, HasServed, IsQuiesced, committed_in, exchange}
 use Rattle.serving.specs.Progress.{ServingProgress, IsServing}
 use Rattle.serving.specs.Session.{IsReadEnd}
 use Rattle.serving.specs.Lines.{AreKnown, Line, admitted, next_ticket, answer_text, ticketed}
@@ -84,7 +84,7 @@ module _ (keeps : Type 0) (start now : MachineView) (idle : IsIdle (core_state_o
   -- ---- the ends
 
   pub ends_whole : {input unread : Option (List ℕ)} {ended : Bool} {before written : Option (List ℕ)} → ServingProgress keeps start now [] input unread ended before written
-      → now.core.failed ≡ false → IsAtEnd unread → EndsWith start.core now.core input unread before written (Ok tt)
+      → now.core.failed ≡ false → IsAtEnd unread → EndsWith start.core now.core (exchange input unread before written) (Ok tt)
   ends_whole {input = None} h works at_end = (idle_again idle h, works, at_end, tt)
   ends_whole {input = Some input} {unread = None} h works at_end = absurd (none-some h.takes.0 h.takes.1)
   ends_whole {input = Some input} {unread = Some bs} h works at_end =
@@ -103,7 +103,7 @@ module _ (keeps : Type 0) (start now : MachineView) (idle : IsIdle (core_state_o
       )
 
   pub ends_at_read : {input unread before written : Option (List ℕ)} (remaining : Option (List ℕ)) → ServingProgress keeps start now [] input unread false before written
-      → now.core.failed ≡ false → IfSome unread (λ bs. LosesLineStart bs remaining) → EndsWith start.core now.core input remaining before written (Err faults.Read)
+      → now.core.failed ≡ false → IfSome unread (λ bs. LosesLineStart bs remaining) → EndsWith start.core now.core (exchange input remaining before written) (Err faults.Read)
   ends_at_read {input = None} remaining h works lost = (idle_again idle h, works, tt)
   ends_at_read {input = Some input} {unread = None} remaining h works lost = absurd (none-some h.takes.0 h.takes.1)
   ends_at_read {input = Some input} {unread = Some bs} remaining h works lost =
@@ -128,7 +128,7 @@ module _ (keeps : Type 0) (start now : MachineView) (idle : IsIdle (core_state_o
 
   pub ends_exhausted : {input unread before written : Option (List ℕ)} {ended : Bool} (remaining : Option (List ℕ))
       → ServingProgress keeps start now [] input unread ended before written → now.core.failed ≡ false
-      → IsReadEnd g now.core unread ended remaining ends_of_reading.TicketsExhausted → EndsWith start.core now.core input remaining before written (Err faults.Exhausted)
+      → IsReadEnd g now.core unread ended remaining ends_of_reading.TicketsExhausted → EndsWith start.core now.core (exchange input remaining before written) (Err faults.Exhausted)
   ends_exhausted {input = None} remaining h works why = (idle_again idle h, works, why.0, tt)
   ends_exhausted {input = Some input} {unread = None} remaining h works why = absurd (none-some h.takes.0 h.takes.1)
   ends_exhausted {input = Some input} {unread = Some bs} remaining h works why =
@@ -160,7 +160,7 @@ module _ (keeps : Type 0) (start now : MachineView) (idle : IsIdle (core_state_o
 
   pub ends_at_device : {unsent : List Line} {input unread : Option (List ℕ)} {ended : Bool} {before written : Option (List ℕ)}
       → ServingProgress keeps start now unsent input unread ended before written → now.core.failed ≡ true → IsQuiesced now.core
-      → EndsWith start.core now.core input unread before written (Err faults.Device)
+      → EndsWith start.core now.core (exchange input unread before written) (Err faults.Device)
   ends_at_device {input = None} h failed wound_up = (failed, wound_up, tt)
   ends_at_device {input = Some input} h failed wound_up =
       let all = begins h.serving (lines h.takes.0)

@@ -89,6 +89,16 @@ pub record HasServed (keeps : Type 0) (start : MachineView) (new : CoreView) (un
 
 -- ---- what each result promises of the core before and after, of the input and what remains of it, and of what was written
 
+-- what a call read and wrote: its input and what remains of it, and what the output held before and after
+pub record Exchange : Type 0 where
+  pub input : Option (List ℕ)
+  pub remaining : Option (List ℕ)
+  pub before : Option (List ℕ)
+  pub written : Option (List ℕ)
+
+abbrev pub exchange : Option (List ℕ) → Option (List ℕ) → Option (List ℕ) → Option (List ℕ) → Exchange
+exchange input remaining before written = record { input = input; remaining = remaining; before = before; written = written }
+
 -- the state that a core has committed
 abbrev pub committed_in : CoreView → State
 committed_in core = (core_state_of core).committed
@@ -101,17 +111,15 @@ pub record IsQuiesced (core : CoreView) : Type 0 where
 -- At `Ok`, `Read` and `Exhausted` (no ticket left) each line that was read is answered, nothing waits or is held, and the device works.
 -- Where the device or the output has failed, the core is quiesced; and where the output alone has, each message that ran is logged.
 -- Without workers or memory nothing has changed, been read or been written.
-abbrev pub EndsWith : CoreView → CoreView → Option (List ℕ) → Option (List ℕ) → Option (List ℕ)
-    → Option (List ℕ) → Result (Unit {0}) ServeFault → Type 0
-EndsWith old new input remaining before written (Ok _) = IsIdle (core_state_of new) × (new.failed ≡ false) × IsAtEnd remaining
-    × WritesOutput input before written (λ bytes w. AreServed old.geometry (committed_in old) (committed_in new) (lines bytes) w)
-EndsWith old new input remaining before written (Err faults.Read) = IsIdle (core_state_of new) × (new.failed ≡ false)
-    × WritesOutput input before written (ServesWholeLines old.geometry (committed_in old) (committed_in new) remaining)
-EndsWith old new input remaining before written (Err faults.Exhausted) = IsIdle (core_state_of new) × (new.failed ≡ false)
-    × (new.next ≡ 2 ^ 64 - 1)
-    × WritesOutput input before written (ServesLinesBefore old.geometry (committed_in old) (committed_in new))
-EndsWith old new input remaining before written (Err faults.Device) = (new.failed ≡ true) × IsQuiesced new
-    × WritesOutput input before written (IsBeginning old.geometry (committed_in old))
-EndsWith old new input remaining before written (Err faults.Write) = IsQuiesced new × (new.failed ≡ false → new.ran ≡ [])
-EndsWith old new input remaining before written (Err faults.NoWorkers) = (new ≡ old) × (remaining ≡ input) × (written ≡ before)
-EndsWith old new input remaining before written (Err faults.OutOfMemory) = (new ≡ old) × (remaining ≡ input) × (written ≡ before)
+abbrev pub EndsWith : CoreView → CoreView → Exchange → Result (Unit {0}) ServeFault → Type 0
+EndsWith old new x (Ok _) = IsIdle (core_state_of new) × (new.failed ≡ false) × IsAtEnd x.remaining
+    × WritesOutput x.input x.before x.written (λ bytes w. AreServed old.geometry (committed_in old) (committed_in new) (lines bytes) w)
+EndsWith old new x (Err faults.Read) = IsIdle (core_state_of new) × (new.failed ≡ false)
+    × WritesOutput x.input x.before x.written (ServesWholeLines old.geometry (committed_in old) (committed_in new) x.remaining)
+EndsWith old new x (Err faults.Exhausted) = IsIdle (core_state_of new) × (new.failed ≡ false) × (new.next ≡ 2 ^ 64 - 1)
+    × WritesOutput x.input x.before x.written (ServesLinesBefore old.geometry (committed_in old) (committed_in new))
+EndsWith old new x (Err faults.Device) = (new.failed ≡ true) × IsQuiesced new
+    × WritesOutput x.input x.before x.written (IsBeginning old.geometry (committed_in old))
+EndsWith old new x (Err faults.Write) = IsQuiesced new × (new.failed ≡ false → new.ran ≡ [])
+EndsWith old new x (Err faults.NoWorkers) = (new ≡ old) × (x.remaining ≡ x.input) × (x.written ≡ x.before)
+EndsWith old new x (Err faults.OutOfMemory) = (new ≡ old) × (x.remaining ≡ x.input) × (x.written ≡ x.before)

@@ -1,12 +1,14 @@
 -- Statement for operators: What a call of `serve` promises, by its result.
 use Rattle.std.specs.Prelude.{◌≡◌, ◌≢◌, ℕ, false, List, [], ◌++◌, Option, Some, None, Result, Ok, Err, OnOk, replicate}
 use Rattle.std.specs.Io.KnownBytes.{Appends}
+use Rattle.affinity.specs.declared.geometry.Geometry.{Geometry}
+use Rattle.disk.specs.Device.{Medium}
 use Rattle.runs.specs.Machine.{MachineView}
 use Rattle.messages.specs.Lines.{lines}
 use Rattle.device_map.specs.Layout.{layout_of}
 use Rattle.oplog.specs.Recovery.{in_force, named_area}
 use Rattle.scheduler.specs.CoreView.{CoreView}
-use Rattle.serving.specs.Ends.{EndsWith, HasServed}
+use Rattle.serving.specs.Ends.{EndsWith, Exchange, HasServed}
 use Rattle.serving.specs.Lines.{Line}
 use Rattle.serving.specs.Runs.{machine_with_jobs}
 use Rattle.reorder_buffer.specs.ReorderBuffer.{can_retire}
@@ -48,8 +50,8 @@ FailsWithoutWorkers workers (Err faults.NoWorkers) = workers ≡ 0
 FailsWithoutWorkers workers _ = workers ≢ 0
 
 -- no record of the log is in force
-abbrev pub HasEmptyLog : CoreView → Type 0
-HasEmptyLog c = in_force (layout_of c.geometry) (named_area (layout_of c.geometry) c.medium.now) c.medium.now ≡ []
+abbrev pub HasEmptyLog : Geometry → Medium → Type 0
+HasEmptyLog g m = in_force (layout_of g) (named_area (layout_of g) m.now) m.now ≡ []
 
 -- what a call of a server hands back: its core, and how it ended
 abbrev pub handed_back : {D : Type 0} → Result CoreView (ServeError D) → CoreView × Result (Unit {0}) ServeFault
@@ -58,11 +60,11 @@ handed_back (Err e) = (e.core, Err e.fault)
 
 -- What a call of `serve` promises, from the core that it was given to what it hands back.
 pub record ServePromise (keeps : Type 0) (workers : ℕ) (old : CoreView) (back : CoreView × Result (Unit {0}) ServeFault)
-    (input remaining before written : Option (List ℕ)) : Type 0 where
+    (x : Exchange) : Type 0 where
   -- a run led to what was written, from the given core with an empty hand for each worker
-  pub run : HasRunWith keeps (machine_with_jobs old (replicate workers None)) back.0 input before written back.1
+  pub run : HasRunWith keeps (machine_with_jobs old (replicate workers None)) back.0 x.input x.before x.written back.1
   -- core, input and output are as `EndsWith` says for this result
-  pub ends : EndsWith old back.0 input remaining before written back.1
+  pub ends : EndsWith old back.0 x back.1
   pub no_workers : FailsWithoutWorkers workers back.1
   -- at the end of the input no record is in force
-  pub emptied : OnOk back.1 (keeps → HasEmptyLog back.0)
+  pub emptied : OnOk back.1 (keeps → HasEmptyLog back.0.geometry back.0.medium)

@@ -165,7 +165,7 @@ pub record IsServed (p : SessionView) : Type 0 where
 pub record HasFinished (keeps : Type 0) (p : SessionView) (read_end : ReadEnd) : Type 0 where
   pub is : p.read_end ≡ Some read_end
   pub served : IsServed p
-  pub emptied : read_end ≡ ends_of_reading.EndOfInput → keeps → HasEmptyLog p.core
+  pub emptied : read_end ≡ ends_of_reading.EndOfInput → keeps → HasEmptyLog p.core.geometry p.core.medium
 
 -- what the server reports where no more was read for this reason, and each line that was read is answered
 abbrev pub end_of : ReadEnd → Result (Unit {0}) ServeFault

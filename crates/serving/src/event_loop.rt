@@ -67,7 +67,8 @@ impl<'c, R: Read, D: Disk, L: ReplySink<D>> Session<'c, R, D, L> {
         ensures session_step { IsSessionStep self.old self.new result }
         ensures all { OnOk result ((self.new.reorder_buffer.lines ≡ []) × (self.new.reply_buffer ≡ []) × (self.new.output_failed ≡ false)) }
         ensures works { OnOk result (self.new.core.failed ≡ false) }
-        ensures emptied { OnOk result (read_end ≡ ends_of_reading.EndOfInput → D.keeps → HasEmptyLog self.new.core) }
+        ensures emptied { OnOk result (read_end ≡ ends_of_reading.EndOfInput → D.keeps
+            → HasEmptyLog self.new.core.geometry self.new.core.medium) }
     {
         if self.core.failed() {
             return Err(Halted);
@@ -105,7 +106,7 @@ impl<'c, R: Read, D: Disk, L: ReplySink<D>> DispatcherTask<Result<(), ServeFault
 
     ghost can_begin = { λ s. s.output_failed ≡ false };
 
-    ghost gives = { λ old new end. EndsBy new end × OnOk end (D.keeps → HasEmptyLog new.core) };
+    ghost gives = { λ old new end. EndsBy new end × OnOk end (D.keeps → HasEmptyLog new.core.geometry new.core.medium) };
 
     /// Serves line after line until the input ends, with a checkpoint where one is due, and one at the end of the input. When it returns,
     /// the answers are written up to the first line that has none, unless the output failed. If several things fail in one call, an output

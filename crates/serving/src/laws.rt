@@ -25,7 +25,7 @@ ghost use Rattle.meaning.specs.Output.{output_lines, state_after_lines};
 ghost use Rattle.meaning.specs.Serial.{state_after_all};
 ghost use Rattle.meaning.specs.State.{State};
 ghost use Rattle.scheduler.specs.CoreView.{CoreView, RecoversNow, core_state_of};
-ghost use Rattle.serving.specs.Ends.{EndsWith, HasRunLines, HasServed, IsQuiesced, committed_in};
+ghost use Rattle.serving.specs.Ends.{EndsWith, exchange, HasRunLines, HasServed, IsQuiesced, committed_in};
 ghost use Rattle.serving.specs.Progress.{ServingProgress};
 ghost use Rattle.serving.specs.Restart.{BytesRecover};
 ghost use Rattle.serving.specs.Logged.{AreInHistory, RecoversToHistory};
@@ -88,20 +88,20 @@ pub fn each_unanswered_message_has_its_line<D: Disk>()
 pub fn serving_ends_as_the_serial_server<D: Disk>()
     ensures end_of_input { (start now : MachineView) (input unread : Option (List ℕ)) (drained : Bool) (before written : Option (List ℕ))
         → IsIdle (core_state_of start.core) → ServingProgress D.keeps start now [] input unread drained before written
-        → now.core.failed ≡ false → IsAtEnd unread → EndsWith start.core now.core input unread before written (Ok tt) }
+        → now.core.failed ≡ false → IsAtEnd unread → EndsWith start.core now.core (exchange input unread before written) (Ok tt) }
     ensures read { (start now : MachineView) (input unread remaining before written : Option (List ℕ)) → IsIdle (core_state_of start.core)
         → ServingProgress D.keeps start now [] input unread false before written → now.core.failed ≡ false
         → IfSome unread (λ bs. LosesLineStart bs remaining)
-        → EndsWith start.core now.core input remaining before written (Err faults.Read) }
+        → EndsWith start.core now.core (exchange input remaining before written) (Err faults.Read) }
     ensures exhausted { (start now : MachineView) (input unread remaining : Option (List ℕ)) (drained : Bool)
         (before written : Option (List ℕ)) (line : List ℕ) (m : Msg) → IsIdle (core_state_of start.core)
         → ServingProgress D.keeps start now [] input unread drained before written → now.core.failed ≡ false → now.core.next ≡ 2 ^ 64 - 1
         → IfSome unread (λ bs. GivesLine line bs remaining) → message_of line ≡ Some m → is_in_range start.core.geometry m ≡ true
-        → EndsWith start.core now.core input remaining before written (Err faults.Exhausted) }
+        → EndsWith start.core now.core (exchange input remaining before written) (Err faults.Exhausted) }
     ensures device { (start now : MachineView) (unsent : List Line) (input unread : Option (List ℕ)) (drained : Bool)
         (before written : Option (List ℕ)) → IsIdle (core_state_of start.core)
         → ServingProgress D.keeps start now unsent input unread drained before written → now.core.failed ≡ true → IsQuiesced now.core
-        → EndsWith start.core now.core input unread before written (Err faults.Device) }
+        → EndsWith start.core now.core (exchange input unread before written) (Err faults.Device) }
     ensures run { (start now : MachineView) (unsent : List Line) (input unread : Option (List ℕ)) (drained : Bool)
         (before written : Option (List ℕ)) → IsIdle (core_state_of start.core)
         → ServingProgress D.keeps start now unsent input unread drained before written → (now.core.failed ≡ false → now.core.doubt ≡ [])

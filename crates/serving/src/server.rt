@@ -11,6 +11,7 @@ ghost use Rattle.std.specs.Prelude.{◌≡◌, ◌≢◌, ◌≤◌, All, false,
 ghost use Rattle.legal_runs.specs.Laws.{IsIdle};
 ghost use Rattle.scheduler.specs.CoreView.{RecoversNow, core_state_of};
 ghost use Rattle.std.specs.Io.KnownBytes.{Appends};
+ghost use Rattle.serving.specs.Ends.{exchange};
 ghost use Rattle.serving.specs.Output.{AppendsBeginning};
 ghost use Rattle.serving.specs.Serve.{ServePromise, handed_back};
 ghost use Rattle.serving.specs.Session.{CanBegin, reported};
@@ -138,8 +139,8 @@ fn serve_borrowed<
     requires can_begin { CanBegin L.start core memory.bench.slots (R.remaining reader.now) (L.sent sink) memory.reorder_buffer }
     requires workers { memory.bench.slots ≢ 0 }
     ensures same { result.1.ghost_name ≡ reader.entry.ghost_name }
-    ensures serves { ServePromise D.keeps memory.bench.slots core (handed_back result.0) (R.remaining reader.entry.now)
-        (R.remaining result.1.now) (L.sent sink) (L.sent result.2) }
+    ensures serves { ServePromise D.keeps memory.bench.slots core (handed_back result.0)
+        (exchange (R.remaining reader.entry.now) (R.remaining result.1.now) (L.sent sink) (L.sent result.2)) }
 {
     let Preallocated {
         input,
@@ -204,8 +205,8 @@ pub fn serve_to<T: Threads + Wait + Sync, R: Read, L: ReplySink<D>, D: Disk + Dr
     requires idle { IsIdle (core_state_of core) }
     requires works { core.failed ≡ false }
     requires few { workers ≤ 64 }
-    ensures { ServePromise D.keeps workers core (handed_back result.0) (R.remaining r.old) (R.remaining r.new) (L.sent sink)
-        (L.sent result.1) }
+    ensures { ServePromise D.keeps workers core (handed_back result.0)
+        (exchange (R.remaining r.old) (R.remaining r.new) (L.sent sink) (L.sent result.1)) }
 {
     core.know_recovery();
     if workers == 0 {
@@ -334,8 +335,8 @@ fn serve_writer<
     requires works { core.failed ≡ false }
     requires few { setting.workers ≤ 64 }
     ensures same { result.1.ghost_name ≡ w.entry.ghost_name }
-    ensures serves { ServePromise D.keeps setting.entry.workers core (handed_back result.0) (R.remaining r.old) (R.remaining r.new)
-        (W.contents w.entry.now) (W.contents result.1.now) }
+    ensures serves { ServePromise D.keeps setting.entry.workers core (handed_back result.0)
+        (exchange (R.remaining r.old) (R.remaining r.new) (W.contents w.entry.now) (W.contents result.1.now)) }
 {
     let Setting {
         rt,
@@ -372,8 +373,8 @@ pub fn serve<T: Threads + Wait + Sync, R: Read, W: Write, D: Disk + Drop, G: Gat
     requires idle { IsIdle (core_state_of core) }
     requires works { core.failed ≡ false }
     requires few { workers ≤ 64 }
-    ensures { ServePromise D.keeps workers core (handed_back result) (R.remaining r.old) (R.remaining r.new) (W.contents w.old)
-        (W.contents w.new) }
+    ensures { ServePromise D.keeps workers core (handed_back result)
+        (exchange (R.remaining r.old) (R.remaining r.new) (W.contents w.old) (W.contents w.new)) }
 {
     let setting = Setting {
         rt,

@@ -12,5 +12,5 @@ pub returns-clause-opens : goal.returns-clause-opens
 returns-clause-opens g c =
     let run = c.serve_stopped-disk.ensures.goes_on c.args.geometry _ (c.in_ok-disk.ensures.recovers, c.in_ok-disk.ensures.synced) in
     λ fault. ⊎_elim
-    (opens_so tt c.args.geometry c.args.service _ _ _ _ _ _ _ c.in_ok-disk.disk.are_bytes c.in_ok-disk.ensures.recovers c.serve_stopped-disk.ensures.crashed.ends fault)
+    (opens_so tt c.args.geometry c.args.service _ _ _ _ c.in_ok-disk.disk.are_bytes c.in_ok-disk.ensures.recovers c.serve_stopped-disk.ensures.crashed.ends fault)
     (c.serve_next-second.ensures.opens c.args.geometry _ run.goes_on fault)

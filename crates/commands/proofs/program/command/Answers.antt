@@ -75,11 +75,11 @@ returns-in-Err-clause-unserved g c = λ no_service. rw c.report_refusal.ensures 
 
 pub returns-in-Ok-run-clause-unserved : goal.returns-in-Ok-run-clause-unserved
 returns-in-Ok-run-clause-unserved g c = λ no_service.
-    inl (helped (map string_bytes c.args.arguments.now) c.in-Ok.request (Ok c.in-Ok-run.field-0) _ _ no_service c.in-Ok.ensures.ok c.in-Ok-run.ensures)
+    inl (helped (map string_bytes c.args.arguments.now) c.in-Ok.request (Ok c.in-Ok-run.field-0) _ no_service c.in-Ok.ensures.ok c.in-Ok-run.ensures)
 
 pub returns-in-Err-run-clause-unserved : goal.returns-in-Err-run-clause-unserved
 returns-in-Err-run-clause-unserved g c = λ no_service.
-    rw c.report.ensures (inl (helped (map string_bytes c.args.arguments.now) c.in-Ok.request (Err c.in-Err-run.fault) _ _ no_service c.in-Ok.ensures.ok c.in-Err-run.ensures))
+    rw c.report.ensures (inl (helped (map string_bytes c.args.arguments.now) c.in-Ok.request (Err c.in-Err-run.fault) _ no_service c.in-Ok.ensures.ok c.in-Err-run.ensures))
 
 -- the word `plain` alone asks for the default geometry
 

@@ -3,6 +3,7 @@ use Rattle.std.proofs.Common.{ℕ, refl, sym, subst}
 use Rattle.std.specs.Prelude.{Result, Err}
 use Rattle.disk.specs.Device.{AreBytes, Medium}
 use Rattle.scheduler.specs.CoreView.{IsJustOpened}
+use Rattle.serving.specs.Ends.{exchange}
 use Rattle.commands.specs.Faults.{command_result}
 use Rattle.commands.specs.Acknowledged.{KeepsAcknowledged}
 use Rattle.commands.specs.Promise.{LeavesRecovered, LeavesRun}
@@ -20,7 +21,7 @@ returns-in-Err-clause-ends g c =
     let new = g.D.Disk.medium c.in-Err.error.disk in
     let input = g.R.Read.remaining c.args.r.now in
     let before = g.W.Write.contents c.args.w.now in
-    subst (λ (f : Fault). EndsOnDevice keeps c.args.service old new (Err f) input input before before) (sym c.from-in-Err.ensures)
+    subst (λ (f : Fault). EndsOnDevice keeps c.args.service old new (Err f) (exchange input input before before)) (sym c.from-in-Err.ensures)
     ((λ k. (c.in-Err.ensures.refused k, c.in-Err.ensures.unwritten k)), refl, refl, c.in-Err.ensures.device)
 
 pub returns-in-Err-clause-goes_on : goal.returns-in-Err-clause-goes_on
@@ -33,7 +34,8 @@ returns-in-Err-clause-goes_on g c =
     let before = g.W.Write.contents c.args.w.now in
     let refused = c.in-Err.ensures in
     subst (λ (f : Fault). LeavesRun keeps service.slots old new (Err f) input before before) (sym c.from-in-Err.ensures)
-    (leaves_run service old new _ input input before before (g.met.D.Disk.bytes c.args.disk) ((λ k. (refused.refused k, refused.unwritten k)), refl, refl, refused.device) refused.any_moment tt)
+    (leaves_run service old new _ (exchange input input before before) (g.met.D.Disk.bytes c.args.disk)
+    ((λ k. (refused.refused k, refused.unwritten k)), refl, refl, refused.device) refused.any_moment tt)
 
 pub returns : goal.returns
 returns g c =
@@ -43,12 +45,10 @@ returns g c =
     let start = c.in-Ok.core in
     let now = c.serve_core-core.result.0 in
     let end = c.serve_core-core.result.1 in
-    let input = g.R.Read.remaining c.args.r.now in
-    let left = g.R.Read.remaining c.serve_core-core.new.r in
-    let before = g.W.Write.contents c.args.w.now in
-    let written = g.W.Write.contents c.serve_core-core.new.w in
+    let streams = exchange (g.R.Read.remaining c.args.r.now) (g.R.Read.remaining c.serve_core-core.new.r) (g.W.Write.contents c.args.w.now)
+    (g.W.Write.contents c.serve_core-core.new.w) in
     let fresh = subst (λ (n : ℕ). IsJustOpened n start) c.from.ensures c.in-Ok.ensures.opened in
-    let by = has_served_by keeps service old start now end input left before written fresh c.in-Ok.ensures.header c.in-Ok.ensures.recovered_before
+    let by = has_served_by keeps service old start now end streams fresh c.in-Ok.ensures.header c.in-Ok.ensures.recovered_before
     c.in-Ok.ensures.any_moment c.serve_core-core.ensures c.know_recovery.ensures.now in
     let bytes = subst (λ (m : Medium). AreBytes m.now) c.into_disk.ensures (g.met.D.Disk.bytes c.into_disk.result) in
     let given_back : (P : Medium → Result (Unit {0}) Fault → Type 0) → P now.medium (command_result end)
@@ -56,12 +56,12 @@ returns g c =
     λ P h. subst (λ (m : Medium). P m c.command_result.result) (sym c.into_disk.ensures)
     (subst (λ (r : Result (Unit {0}) Fault). P now.medium r) (sym c.command_result.ensures) h) in
     record {
-      ends = given_back (λ m r. EndsOnDevice keeps service old m r input left before written)
+      ends = given_back (λ m r. EndsOnDevice keeps service old m r streams)
           (ends_on_device end by c.know_recovery.ensures.no_doubt bytes);
-      crash_safe = given_back (λ m r. CrashesSafely keeps service old m r input left before written) (crashes_safely end by);
-      kept = given_back (λ m r. KeepsAcknowledged keeps service.slots old m r input before written) (keeps_acknowledged end by);
-      recovers = given_back (λ m r. LeavesRecovered keeps service.slots old m r input before written) (leaves_recovered end by);
-      goes_on = given_back (λ m r. LeavesRun keeps service.slots old m r input before written)
-          (leaves_run service old now.medium (command_result end) input left before written (g.met.D.Disk.bytes c.args.disk)
+      crash_safe = given_back (λ m r. CrashesSafely keeps service old m r streams) (crashes_safely end by);
+      kept = given_back (λ m r. KeepsAcknowledged keeps service.slots old m r streams.input streams.before streams.written) (keeps_acknowledged end by);
+      recovers = given_back (λ m r. LeavesRecovered keeps service.slots old m r streams.input streams.before streams.written) (leaves_recovered end by);
+      goes_on = given_back (λ m r. LeavesRun keeps service.slots old m r streams.input streams.before streams.written)
+          (leaves_run service old now.medium (command_result end) streams (g.met.D.Disk.bytes c.args.disk)
           (ends_on_device end by c.know_recovery.ensures.no_doubt bytes) (crashes_safely end by) (leaves_recovered end by));
     }

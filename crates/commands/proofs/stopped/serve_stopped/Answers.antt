@@ -2,6 +2,7 @@
 use Rattle.std.proofs.Common.{◌≡◌, ℕ, List, Option, ap, subst, sym}
 use Rattle.disk.specs.Device.{Medium}
 use Rattle.disk.specs.Memory.{Memory, medium_of, memory_of}
+use Rattle.serving.specs.Ends.{exchange}
 use Rattle.commands.specs.Acknowledged.{HoldsAcknowledged, UnlessRefused}
 use Rattle.commands.specs.Promise.{HoldsRecovered, HoldsState, IfOpened, IsWritten}
 use Rattle.commands.specs.Serving.{HasServedUntilCrash}
@@ -17,7 +18,7 @@ returns g c =
     let written = g.W.Write.contents c.serve_and_crash.new.w in
     let same : medium_of c.stop_at.new.self ≡ medium_of c.args.disk = ap (λ (m : Memory). m.medium) c.stop_at.ensures in
     record {
-      crashed = subst (λ (m : Medium). HasServedUntilCrash c.args.service m c.args.torn (memory_of left) end input rest before written)
+      crashed = subst (λ (m : Medium). HasServedUntilCrash c.args.service m c.args.torn (memory_of left) end (exchange input rest before written))
           same c.serve_and_crash.ensures.crashed;
       kept = subst (λ (m : Medium). UnlessRefused end before written
           ((all : Option (List ℕ)) × IsWritten end before written all × HoldsAcknowledged c.args.service.slots m input before all (medium_of left).now))
