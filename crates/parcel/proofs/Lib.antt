@@ -6,6 +6,7 @@ pub mod Holding
 pub mod ChildRows
 pub mod Whole
 pub mod Levels
+pub mod VolumeWritten
 pub mod Shows
 pub mod Lending
 pub mod Leaving

@@ -92,7 +92,7 @@ stripe_is_read {g} {s} {bytes} {old} {l} was whole fits now_whole files piece bl
 -- ---- the volume, where the tree has it
 
 module _ (g : Geometry) where
-  pub tree_whole : (o : Option Root) → IfSome o (FitsRoot g) → IsIn g [] (child_nodes root_nodes o) → IsWholeChild IsWholeRoot o
+  tree_whole : (o : Option Root) → IfSome o (FitsRoot g) → IsIn g [] (child_nodes root_nodes o) → IsWholeChild IsWholeRoot o
   tree_whole o fits all = by (is_whole_root o) refl
     where
       by : (t : Bool) → is_whole_root o ≡ t → IsWholeChild IsWholeRoot o

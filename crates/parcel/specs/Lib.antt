@@ -6,6 +6,7 @@ pub mod Nodes
 pub mod Tree
 pub mod Run
 pub mod Levels
+pub mod Lends
 pub mod Steps
 pub mod Dropping
 pub mod Totals

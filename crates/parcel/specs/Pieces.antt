@@ -1,7 +1,6 @@
 -- Inner: The pieces of one volume of the tree, and what the volume has once one of them was read.
 use Rattle.std.specs.Prelude.{◌≡◌, ◌↔◌, ℕ, Bool, zero, suc, ◌==◌, ◌%◌, ◌^◌, if◌then◌else◌, List, [], ◌∷◌, ◌++◌, replicate, unwrap_or, Option, Some, None, IfSome, IsTrue}
 use Rattle.affinity.specs.Geometry.{stripe_of}
-use Rattle.affinity.specs.Path.{Path}
 use Rattle.affinity.specs.declared.geometry.Geometry.{Geometry}
 use Rattle.byteorder.specs.Endian.{little_bytes, little_number}
 use Rattle.stripe.specs.Entries.{IsStripePiece}
@@ -11,7 +10,7 @@ use Rattle.meaning.specs.State.{State, IsState, one_if}
 use Rattle.meaning.specs.Serial.{no_label}
 use Rattle.image.specs.Pieces.{is_made_in, is_sealed_in, has_file_in, label_in as decoded_label_in, block_in, part_piece, with_part}
 use Rattle.parcel.specs.Fits.{FitsStripe, FitsVolume, IsWholeChild, IsWholeVolume}
-use Rattle.parcel.specs.Nodes.{Nodes, volume_nodes, node_files, PutsBack}
+use Rattle.parcel.specs.Nodes.{volume_nodes, node_files}
 use Rattle.parcel.specs.Shown.{blocks_in, volume_facts, shown_label}
 use Rattle.parcel.specs.Volume.{VolumeFacts}
 use Rattle.parcel.specs.declared.parts.Logical.{Logical}
@@ -88,15 +87,6 @@ pub record IsPieceOfVolumeRead (version : ℕ) (g : Geometry) (part : ℕ) (byte
   pub spelled : (x : State) (a v : ℕ) → IsState g x → HasFacts x a v (volume_facts g old)
       → IsTrue good ↔ (bytes ≡ part_piece version g (with_part version g x a v part bytes) a v part)
   pub facts : IsTrue good → volume_facts g new ≡ facts_with version g (volume_facts g old) part bytes
-
--- The bytes were read into the volume found at path p: the nodes there are those of the volume as it is now, and the rest stays.
-pub record IsRead (version : ℕ) (g : Geometry) (part : ℕ) (bytes : List ℕ) (good : Bool) (p : Path) (found : Option Vol)
-    (old new : Nodes) : Type 0 where
-  pub was : Vol
-  pub now : Vol
-  pub there : found ≡ Some was
-  pub read : IsPieceOfVolumeRead version g part bytes good was now
-  pub nodes : PutsBack p (volume_nodes now) old new
 
 -- The bytes were read as the piece of stripe s of a volume with these files.
 pub record IsStripeRead (g : Geometry) (files s : ℕ) (bytes : List ℕ) (good : Bool) (new : Option StripePart) : Type 0 where

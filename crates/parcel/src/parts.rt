@@ -9,7 +9,7 @@ mod whole;
 
 use crate::StripeParcel;
 pub(crate) use putting::put_at;
-pub(crate) use standings::{files_of, standing_at, volume_at};
+pub(crate) use standings::{files_of, standing_at, volume_at, volume_mut};
 pub(crate) use starting::new_root;
 pub(crate) use taking::take_at;
 

@@ -1,22 +1,19 @@
 //! The pieces of an image: what the tree holds, written as the bytes of its pieces and taken in from
 //! them, one at a time, without allocating.
-ghost use Rattle.std.specs.Prelude.{◌≡◌, ◌↔◌, ◌<◌, ◌≤◌, ℕ, length, [], ◌∷◌, None, IfSome, IsOk, OnOk};
+ghost use Rattle.std.specs.Prelude.{◌≡◌, ◌↔◌, ◌<◌, ◌≤◌, ℕ, length, None, IsOk, OnOk};
 ghost use Rattle.image.specs.Pieces.{aggregate_of, volume_of, part_of, part_piece, piece_part_size};
 ghost use Rattle.image.specs.Pieces.{piece_count, piece_of, piece_size, with_piece};
 ghost use Rattle.meaning.specs.State.{State, IsState};
-ghost use Rattle.parcel.specs.Fits.{FitsAggregate, FitsRoot, FitsVolume};
-ghost use Rattle.parcel.specs.Fits.{IsWholeAggregate, IsWholeChild, IsWholeRoot, IsWholeVolume};
-ghost use Rattle.parcel.specs.Pieces.{HasFacts, IsPieceOfVolumeRead, IsRead};
-ghost use Rattle.parcel.specs.Levels.{volume_below, volume_of_tree};
-ghost use Rattle.parcel.specs.Nodes.{aggregate_nodes, child_nodes, root_nodes, volume_nodes};
+ghost use Rattle.parcel.specs.Fits.{FitsVolume, IsWholeVolume};
+ghost use Rattle.parcel.specs.Pieces.{HasFacts, IsPieceOfVolumeRead};
 ghost use Rattle.parcel.specs.Shown.{volume_facts};
 ghost use Rattle.parcel.specs.Tree.{IsWholeTree, state_in};
 
 mod stripes;
 mod volumes;
 
-use crate::parts::volume_at;
-use crate::{Aggr, Root, Tree, Vol};
+use crate::parts::{volume_at, volume_mut};
+use crate::{Tree, Vol};
 use affinity::Geometry;
 use image::layout::{FIRST_VERSION, VERSION};
 use std::error::Error;
@@ -153,92 +150,13 @@ fn read_piece_of_version(t: &mut Tree, version: u8, n: usize, bytes: &[u8]) -> R
 {
     let g = t.geometry;
     let place = place_of_piece(&g, n);
-    if !read_in_root(&mut t.root, &g, place, version, bytes) {
-        return Err(BadPiece);
-    }
-    Ok(())
-}
-
-// Takes in bytes as a piece of what lies in the tree, and returns whether they are good. (`child_nodes root_nodes t` are the nodes of the
-// tree by their paths, `volume_of_tree t a v` is its volume v of aggregate a.)
-fn read_in_root(
-    tree: &mut Option<Root>,
-    g: &Geometry,
-    place: PiecePlace,
-    version: u8,
-    bytes: &[u8],
-) -> bool
-    requires fits { IfSome tree.old (FitsRoot g.now) }
-    requires whole { IsWholeChild IsWholeRoot tree.old }
-    requires aggregate { place.aggregate < g.now.aggregates }
-    requires volume { place.volume < g.now.volumes }
-    requires part { place.part ≤ g.now.stripes }
-    requires size { length bytes.now ≡ piece_part_size g.now place.part }
-    ensures fits { IfSome tree.new (FitsRoot g.now) }
-    ensures read { IsRead version g.now place.part bytes.now result
-        (place.aggregate ∷ place.volume ∷ []) (volume_of_tree tree.old place.aggregate place.volume)
-        (child_nodes root_nodes tree.old) (child_nodes root_nodes tree.new) }
-{
-    match tree {
-        Some(root) => read_in_aggregate(
-            &mut root.aggregates[place.aggregate],
-            g,
-            place,
-            version,
-            bytes,
-        ),
-        None => unreachable!(),
-    }
-}
-
-// Takes in bytes as a piece of what lies in an aggregate.
-fn read_in_aggregate(
-    at: &mut Option<Aggr>,
-    g: &Geometry,
-    place: PiecePlace,
-    version: u8,
-    bytes: &[u8],
-) -> bool
-    requires fits { IfSome at.old (FitsAggregate g.now) }
-    requires whole { IsWholeChild IsWholeAggregate at.old }
-    requires volume { place.volume < g.now.volumes }
-    requires part { place.part ≤ g.now.stripes }
-    requires size { length bytes.now ≡ piece_part_size g.now place.part }
-    ensures fits { IfSome at.new (FitsAggregate g.now) }
-    ensures read { IsRead version g.now place.part bytes.now result
-        (place.volume ∷ []) (volume_below at.old place.volume)
-        (child_nodes aggregate_nodes at.old) (child_nodes aggregate_nodes at.new) }
-{
-    match at {
-        Some(aggregate) => read_in_volume(
-            &mut aggregate.volumes[place.volume],
-            g,
-            place.part,
-            version,
-            bytes,
-        ),
-        None => unreachable!(),
-    }
-}
-
-// Takes in bytes as a piece of what lies in a volume.
-fn read_in_volume(
-    at: &mut Option<Vol>,
-    g: &Geometry,
-    part: usize,
-    version: u8,
-    bytes: &[u8],
-) -> bool
-    requires fits { IfSome at.old (FitsVolume g.now) }
-    requires whole { IsWholeChild IsWholeVolume at.old }
-    requires part { part ≤ g.now.stripes }
-    requires size { length bytes.now ≡ piece_part_size g.now part }
-    ensures fits { IfSome at.new (FitsVolume g.now) }
-    ensures read { IsRead version g.now part bytes.now result
-        [] at.old (child_nodes volume_nodes at.old) (child_nodes volume_nodes at.new) }
-{
-    match at {
-        Some(volume) => read_part(volume, g, part, version, bytes),
+    match volume_mut(&mut t.root, place.aggregate, place.volume) {
+        Some(volume) => {
+            if !read_part(volume, &g, place.part, version, bytes) {
+                return Err(BadPiece);
+            }
+            Ok(())
+        }
         None => unreachable!(),
     }
 }

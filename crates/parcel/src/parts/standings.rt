@@ -1,7 +1,10 @@
 //! What a message sees of the nodes above its place.
-ghost use Rattle.std.specs.Prelude.{◌≡◌, [], ◌∷◌, option_copied};
+ghost use Rattle.std.specs.Prelude.{◌≡◌, [], ◌∷◌, None, option_copied, slice_index_or};
+ghost use Rattle.std.specs.Borrow.{sem};
+ghost use Rattle.std.specs.Option.{option_copied_mut};
 ghost use Rattle.affinity.specs.Path.{volume, logical};
 ghost use Rattle.affinity.specs.Place.{path};
+ghost use Rattle.parcel.specs.Lends.{lends_child, lends_volume};
 ghost use Rattle.parcel.specs.Levels.{volume_of_tree};
 ghost use Rattle.parcel.specs.Nodes.{child_nodes, root_nodes, volume_nodes, node_made, node_sealed, node_files};
 ghost use Rattle.parcel.specs.Tree.{standing_at};
@@ -68,4 +71,21 @@ pub(crate) fn volume_at(root: &Option<Root>, a: usize, v: usize) -> Option<&Vol>
         .volumes
         .get(v)?
         .as_ref()
+}
+
+/// The same for writing.
+pub(crate) fn volume_mut(root: &mut Option<Root>, a: usize, v: usize) -> Option<&mut Vol>
+    ensures* writes_back { sem 𝓛 (lends_volume root.entry a v result) }
+    ensures value { option_copied_mut result ≡ volume_of_tree root.old a v }
+{
+    let aggregate = child_mut(&mut root.as_mut()?.aggregates, a)?;
+    child_mut(&mut aggregate.volumes, v)
+}
+
+// A child of a row, where it is in.
+fn child_mut<T>(row: &mut Vec<Option<T>>, i: usize) -> Option<&mut T>
+    ensures* writes_back { sem 𝓛 (lends_child T.row row.entry i result) }
+    ensures value { option_copied_mut result ≡ slice_index_or row.old.items i None }
+{
+    row.get_mut(i)?.as_mut()
 }

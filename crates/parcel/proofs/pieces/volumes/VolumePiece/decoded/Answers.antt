@@ -1,5 +1,5 @@
 -- The bits of files that the geometry doesn't have are masked out.
-use Rattle.std.proofs.Common.{◌≡◌, ℕ, ◌%◌, ◌^◌, ◌-◌, bit_and, ◌∙◌, ap}
+use Rattle.std.proofs.Common.{◌≡◌, bit_and, ◌∙◌}
 use Rattle.std.proofs.lemmas.Nat.{and_mask}
 use Rattle.parcel.specs.Pieces.{decoded_piece}
 use Rattle.parcel.proofs.pieces.volumes.VolumePiece.decoded.Goals as goal
