@@ -124,6 +124,15 @@ impl Halves {
         self.failed
     }
 
+    /// Notes that the device has failed, in a call of this log or in another one.
+    pub fn fail(&mut self) -> LogFault
+        ensures fault { result ≡ LogFault.Device }
+        ensures log { self.new ≡ record self.old { failed = true } }
+    {
+        self.failed = true;
+        LogFault::Device
+    }
+
     /// Appends these messages to the current half, in order: their records, a sync, their gates, a sync, for up to 64
     /// of them at a time. With no message the device isn't touched.
     pub fn append<D: Disk>(&mut self, disk: &mut D, messages: &[Msg]) -> Result<(), LogFault>
@@ -146,16 +155,13 @@ impl Halves {
         ensures no_bad_record { IsNotBadRecord result }
         ensures call { IsLogCall result (D.medium disk.old) (D.medium disk.new) }
     {
-        let half = Half {
-            geometry: self.geometry,
-            number: self.current,
-        };
+        let (geometry, number) = (self.geometry, self.current);
+        let half = Half { geometry, number };
         if half
             .append(disk, self.used, messages, &mut self.buffer)
             .is_err()
         {
-            self.failed = true;
-            return Err(LogFault::Device);
+            return Err(self.fail());
         }
         self.used += messages.len();
         Ok(())
@@ -174,13 +180,10 @@ impl Halves {
         ensures no_bad_record { IsNotBadRecord result }
         ensures call { IsLogCall result (D.medium disk.old) (D.medium disk.new) }
     {
-        let half = Half {
-            geometry: self.geometry,
-            number: 1 - self.named,
-        };
+        let (geometry, number) = (self.geometry, 1 - self.named);
+        let half = Half { geometry, number };
         if half.clear(disk).is_err() {
-            self.failed = true;
-            return Err(LogFault::Device);
+            return Err(self.fail());
         }
         self.cleared = true;
         Ok(())
@@ -201,13 +204,10 @@ impl Halves {
         ensures no_bad_record { IsNotBadRecord result }
         ensures call { IsLogCall result (D.medium disk.old) (D.medium disk.new) }
     {
-        let half = Half {
-            geometry: self.geometry,
-            number: self.named,
-        };
+        let (geometry, number) = (self.geometry, self.named);
+        let half = Half { geometry, number };
         if store(disk, half.start(), &[1]).is_err() {
-            self.failed = true;
-            return Err(LogFault::Device);
+            return Err(self.fail());
         }
         self.current = 1 - self.named;
         self.used = 0;
@@ -230,8 +230,7 @@ impl Halves {
     {
         let other = 1 - self.named;
         if store(disk, ROOT_ZONE_AT, &[other as u8]).is_err() {
-            self.failed = true;
-            return Err(LogFault::Device);
+            return Err(self.fail());
         }
         if self.current == self.named {
             self.current = other;
@@ -258,17 +257,12 @@ impl Halves {
         ensures no_bad_record { IsNotBadRecord result }
         ensures call { IsLogCall result (D.medium disk.old) (D.medium disk.new) }
     {
-        let half = Half {
-            geometry: self.geometry,
-            number: half,
-        };
+        let (geometry, number) = (self.geometry, half);
+        let half = Half { geometry, number };
         let mut gates = [0; MOST_RECORDS];
         match half.front(disk, &mut gates[..half.capacity()]) {
             Ok(count) => Ok(count),
-            Err(_) => {
-                self.failed = true;
-                Err(LogFault::Device)
-            }
+            Err(_) => Err(self.fail()),
         }
     }
 
@@ -286,14 +280,11 @@ impl Halves {
         ensures log { self.new ≡ log_after result self.old self.old }
         ensures call { IsLogCall result (D.medium disk.old) (D.medium disk.new) }
     {
-        let log_half = Half {
-            geometry: self.geometry,
-            number: half,
-        };
+        let (geometry, number) = (self.geometry, half);
+        let log_half = Half { geometry, number };
         let mut bytes = [0; RECORD_SIZE];
         if disk.read_at(log_half.record_at(i), &mut bytes).is_err() {
-            self.failed = true;
-            return Err(LogFault::Device);
+            return Err(self.fail());
         }
         match change_in_record(&self.geometry, &bytes) {
             Some(m) => Ok(m),
