@@ -12,7 +12,6 @@ use Rattle.disk.proofs.Moments.{started, then, weaker}
 use Rattle.image.specs.Image.{read}
 use Rattle.journal.specs.Steps.{RecoversByArea, run_on}
 use Rattle.journal.specs.Extents.{image_in}
-use Rattle.journal.specs.Journal.{records_in}
 use Rattle.journal.proofs.Forced.{forced_alone, forced_both}
 use Rattle.journal.proofs.Pointing.{clear_moments, clear_recovers}
 use Rattle.journal.proofs.Recovering.{as_other, both_of, chain_other, half_same, holds_by, laid_by, ready_none, shut_current, shut_force}
@@ -21,7 +20,7 @@ use Rattle.oplog.specs.Changes.{Chained, Cleared, Flipped, IsReady, IsSameButCha
 use Rattle.oplog.specs.Crash.{RecoversBy, RecoversEitherWay}
 use Rattle.oplog.specs.Front.{chain, front}
 use Rattle.device_map.specs.Layout.{layout_of, device_size, part_bytes, half_part, image_part, root_part, other}
-use Rattle.oplog.specs.Recovery.{in_force, recovers_by_area}
+use Rattle.oplog.specs.Recovery.{in_force, recovers_by_area, records_in}
 use Rattle.oplog.proofs.AfterCrash.{chain_by_area, chained_by_area, flip_by_area, torn_root_recovers}
 use Rattle.oplog.proofs.Kept.{front_beside, named_area-below}
 use Rattle.oplog.proofs.Ready.{ready_kept}

@@ -5,13 +5,12 @@ use Rattle.affinity.specs.declared.geometry.Geometry.{Geometry}
 use Rattle.checkpoint.specs.Recovery.{decoding}
 use Rattle.disk.specs.Device.{IsSynced, IsCrashImage, Medium}
 use Rattle.disk.proofs.Leaves.{synced_left}
-use Rattle.journal.specs.Journal.{records_in}
 use Rattle.journal.proofs.Recovering.{open_by, shut_by, shut_force}
 use Rattle.oplog.specs.Changes.{HasAppended, IsReady, IsSameBut}
 use Rattle.oplog.specs.Crash.{RecoversBy}
 use Rattle.oplog.specs.Front.{chain, front, gates, count_open}
 use Rattle.device_map.specs.Layout.{Layout, half_part, layout_of, other, part_bytes, root_part}
-use Rattle.oplog.specs.Recovery.{in_force, named_area}
+use Rattle.oplog.specs.Recovery.{in_force, named_area, records_in}
 use Rattle.oplog.proofs.AfterCrash.{named_kept}
 use Rattle.oplog.proofs.Kept.{grown_force, named_area-below, same_forced, same_named}
 use Rattle.oplog.proofs.RecordRows.{length-rows}

@@ -27,7 +27,7 @@ use Rattle.journal.proofs.Recovering.{holds_now, shut_current}
 use Rattle.oplog.specs.Front.{chain, front}
 use Rattle.device_map.specs.Layout.{layout_of, device_size, image_size, other}
 use Rattle.oplog.specs.Log.{Log, new_log, with_half_named}
-use Rattle.oplog.specs.Recovery.{in_force, named_area, recovers_by_area}
+use Rattle.oplog.specs.Recovery.{named_area, records_in, recovers_by_area}
 use Rattle.parcel.specs.Tree.{IsWholeTree, state_in}
 use Rattle.meaning.specs.State.{State, IsState}
 
@@ -136,7 +136,7 @@ made {p} {q} {r} {w3} taken same room loaded room' tree log long =
 -- ---- in the words of contracts
 
 pub opened : (p : Parts) (old m : Medium) (j : JournalView) → IsMade p m → IsMadeOf old.now p m → IsWholeTree p.tree → j
-    ≡ journal_view_of p.halves p.named_dirty.items p.other_dirty.items None false m → IsOpened old j (state_in p.tree)
+    ≡ journal_view_of p.halves p.named_dirty.items p.other_dirty.items None m → IsOpened old j (state_in p.tree)
 opened p old m j made is whole same =
     subst (λ (h : JournalView). IsOpened old h (state_in p.tree)) (sym same)
     (record {
@@ -169,6 +169,6 @@ made_of {p} {log} {w2} {w3} are before is_log geometry spelled all alone made =
       was = before.was;
       is = ap (λ (g : Geometry). recovered_state g w3.now) same ∙ holds_now log.geometry (other log.named) (other log.named) (recovered_state log.geometry w2.now) w3 are made.at.recovers ∙ alone.is;
       version = ap (λ (g : Geometry). named_version g w3.now) same ∙ pointed_version log p.snapshot.items w2 w3 (state_in p.tree) are spelled' made;
-      emptied = subst (λ (g : Geometry). in_force (layout_of g) (named_area (layout_of g) w3.now) w3.now ≡ []) (sym same) made.emptied;
+      emptied = subst (λ (g : Geometry). records_in g w3.now ≡ []) (sym same) made.emptied;
       sound = sound_along is_log refl refl refl refl (opened_sound alone spelled' all are made);
     }

@@ -14,7 +14,7 @@ use Rattle.image.specs.Touched.{may_change}
 use Rattle.image.proofs.Untouched.{piece_stays}
 use Rattle.meaning.proofs.Kept.{step_kept}
 use Rattle.std.specs.List.{AllByRecursion}
-use Rattle.journal.specs.Journal.{AreCarriedOut, RecoversWithPrefix, IsRecoverable, records_in}
+use Rattle.journal.specs.Journal.{AreCarriedOut, RecoversWithPrefix, IsRecoverable}
 use Rattle.journal.specs.Keeping.{IsCutIfRunning, IsUpToDate, FitsCutState, IsSoundJournal, image_after_cut, journal_view_of}
 use Rattle.journal.specs.DirtyPieces.{AreBothTouched, DirtiesTouched}
 use Rattle.journal.specs.Steps.{RecoversByArea, run_on}
@@ -32,7 +32,7 @@ use Rattle.oplog.specs.Front.{chain, front}
 use Rattle.device_map.specs.Layout.{layout_of, image_part, other}
 use Rattle.oplog.specs.Log.{Log}
 use Rattle.oplog.specs.Changing.{records_of}
-use Rattle.oplog.specs.Recovery.{run}
+use Rattle.oplog.specs.Recovery.{run, records_in}
 use Rattle.oplog.proofs.AfterCrash.{append_recovers, all_by_area}
 use Rattle.oplog.proofs.Kept.{run-append}
 use Rattle.meaning.specs.Serial.{state_after_all, is_recorded, next_state, reply_to}
@@ -94,8 +94,8 @@ fresh_more {g} {x} ms old new bytes is_state out touched fresh y is n few clean 
     fresh x refl n few kept.0 ∙ sym (all_stay g x ms n is_state out kept.1) ∙ ap (λ (o : Option State). extent_of g (unwrap_or o x) n) is
 
 -- the journal's facts, in the words of contracts
-pub recoverable_of : {log : Log} {snapshot : List ℕ} {named others pending a b : List Bool} {pieces_left : Option ℕ} {failed : Bool} {m : Medium}
-    → IsSoundJournal log snapshot named others pending pieces_left m → IsRecoverable (journal_view_of log a b pieces_left failed m)
+pub recoverable_of : {log : Log} {snapshot : List ℕ} {named others pending a b : List Bool} {pieces_left : Option ℕ} {m : Medium}
+    → IsSoundJournal log snapshot named others pending pieces_left m → IsRecoverable (journal_view_of log a b pieces_left m)
 recoverable_of {log} {m} sound = record {
   some = sound.some;
   each = λ c gone. holds_by log.geometry log.named log.current (recovered_state log.geometry m.now) c (sound.recovers c gone);

@@ -14,7 +14,6 @@ use Rattle.journal.specs.Keeping.{IsUpToDate, FitsCutState, IsSoundJournal}
 use Rattle.journal.specs.DirtyPieces.{count_dirty}
 use Rattle.journal.specs.Steps.{RecoversByArea, run_on}
 use Rattle.journal.specs.Extents.{IsPatchedAt, image_in, extent_in}
-use Rattle.journal.specs.Journal.{records_in}
 use Rattle.journal.proofs.Cutting.{named_below}
 use Rattle.journal.proofs.Forced.{forced_kept}
 use Rattle.journal.proofs.Logging.{half_below}
@@ -23,7 +22,7 @@ use Rattle.journal.proofs.Recovering.{half_same, holds_moments, holds_now}
 use Rattle.disk.specs.Store.{CrashesChangeOnly}
 use Rattle.oplog.specs.Changes.{IsReady, IsSameBut}
 use Rattle.oplog.specs.Crash.{RecoversBy}
-use Rattle.oplog.specs.Recovery.{named_area}
+use Rattle.oplog.specs.Recovery.{named_area, records_in}
 use Rattle.device_map.specs.Layout.{layout_of, half_part, image_part, other}
 use Rattle.oplog.specs.Log.{Log}
 use Rattle.oplog.proofs.AfterCrash.{image_by_area}

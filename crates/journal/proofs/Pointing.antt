@@ -15,7 +15,7 @@ use Rattle.oplog.specs.Changes.{Cleared, Flipped, IsReady, IsSameBut, IsSameButC
 use Rattle.oplog.specs.Crash.{RecoversBy, RecoversEitherWay}
 use Rattle.oplog.specs.Front.{chain, front}
 use Rattle.device_map.specs.Layout.{layout_of, device_size, part_bytes, half_part, image_part, other}
-use Rattle.oplog.specs.Recovery.{in_force, named_area, recovers_by_area}
+use Rattle.oplog.specs.Recovery.{in_force, records_in, recovers_by_area}
 use Rattle.oplog.proofs.AfterCrash.{clear_by_area, flip_by_area, image_by_area, torn_root_recovers}
 use Rattle.oplog.proofs.Ready.{ready_kept}
 use Rattle.meaning.specs.State.{State}
@@ -95,7 +95,7 @@ module _ (g : Geometry) (n : ℕ) (x : Option State) (is_area : n < 2) (w0 w1 : 
           half_still : (front (layout_of g) (other n) w3.now ≡ front (layout_of g) (other n) w2.now) × (chain (layout_of g) (other n) w3.now ≡ chain (layout_of g) (other n) w2.now)
           half_still = half_same (layout_of g) (other n) w2.now w3.now (flipped.same.same.others (half_part (other n)) (λ is. omega (arith, is)))
 
-          pub now_emptied : in_force (layout_of g) (named_area (layout_of g) w3.now) w3.now ≡ []
+          pub now_emptied : records_in g w3.now ≡ []
           now_emptied =
               ap (λ (k : ℕ). in_force (layout_of g) k w3.now) flipped.named
               ∙ shut_force (layout_of g) (other n) w3.now (not_one _ (half_still.1 ∙ half_kept.1 ∙ cleared.chain))

@@ -83,9 +83,10 @@ module _ (g : Geometry) (xs ys : List ℕ) (agree : (n : ℕ) → n < piece_coun
 abbrev pub whole_items : {X : Type 0} → ℕ → List X → List X → List X
 whole_items len new old = take len (new ++ drop (length new) old)
 
-pub whole_put : {X : Type 0} (len : ℕ) (new old : List X) → length new ≡ length old → length new ≡ len → take len (new ++ drop (length new) old) ≡ new
-whole_put len new old size size' =
-    ap (λ l. take len (new ++ l)) (drop_all (length new) old (omega (arith, size))) ∙ ap (take len) (append-nil new) ∙ take_all len new (omega (arith, size'))
+pub whole_put : {X : Type 0} {len : ℕ} {middle old : List X} (new : List X) → length new ≡ length middle → middle ≡ old → length middle ≡ len
+    → take len (new ++ drop (length new) old) ≡ new
+whole_put {len = len} {old = old} new size is long =
+    ap (λ l. take len (new ++ l)) (drop_all (length new) old (omega (arith, size ∙ ap length is))) ∙ ap (take len) (append-nil new) ∙ take_all len new (omega (arith, size ∙ long))
 
 -- ---- flags of what messages touch
 

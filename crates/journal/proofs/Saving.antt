@@ -1,5 +1,5 @@
 -- What a point and the beginning of a cut ask of a journal, and what the journal keeps after them.
-use Rattle.std.proofs.Common.{◌≡◌, ◌<◌, ℕ, zero, suc, Bool, true, List, ◌++◌, length, Option, Some, None, is_some, get_or, unwrap_or, refl, sym, ◌∙◌, ap, subst, arith, true≢false}
+use Rattle.std.proofs.Common.{◌≡◌, ◌<◌, ℕ, zero, suc, Bool, true, false, List, ◌++◌, length, Option, Some, None, is_some, get_or, unwrap_or, refl, sym, ◌∙◌, ap, subst, arith, true≢false}
 use Rattle.std.proofs.lemmas.List.{take_at}
 use Rattle.std.proofs.Math.Seq.{take-add}
 use Rattle.affinity.specs.declared.geometry.Geometry.{Geometry}
@@ -12,7 +12,10 @@ use Rattle.image.specs.Pieces.{joined_below, piece_count, piece_of, piece_size}
 use Rattle.image.proofs.Cuts.{piece_again}
 use Rattle.image.proofs.Measures.{state_is_measured}
 use Rattle.image.proofs.Reading.{read_again}
+use Rattle.journal.specs.Fields.{IsJournal, journal_view}
+use Rattle.journal.specs.Journal.{JournalView, committed}
 use Rattle.journal.specs.Keeping.{IsUpToDate, FitsCutState, IsSoundJournal}
+use Rattle.journal.specs.declared.journal.Journal.TheInside.{Inside}
 use Rattle.journal.specs.Steps.{RecoversByNamedAlone, IsCutBegun, IsPointed, RecoversByArea, cut_log, pointed_log, run_on}
 use Rattle.journal.specs.Extents.{AgreeOnClean, AreAllDirty, AreCleanExtentsOf, image_in, extent_in, extent_of}
 use Rattle.journal.proofs.Cutting.{named_below}
@@ -20,6 +23,7 @@ use Rattle.journal.proofs.Forced.{forced_synced}
 use Rattle.journal.proofs.Recovering.{holds_now, run_none}
 use Rattle.device_map.specs.Layout.{other}
 use Rattle.oplog.specs.Log.{Log}
+use Rattle.parcel.specs.Tree.{TreeView, state_in}
 use Rattle.meaning.specs.State.{State, IsState}
 
 -- ---- the image of a state
@@ -57,29 +61,57 @@ snapshot_right {log} {named} {y} {dirty} {bytes} alone sound is same same' same'
     subst (λ (h : Geometry). AreCleanExtentsOf h y dirty bytes) (sym same) (subst (λ (row : List Bool). AreCleanExtentsOf log.geometry y row bytes) (sym same')
     (subst (λ (l : List ℕ). AreCleanExtentsOf log.geometry y named l) (sym same'') (sound.snapshot_up_to_date alone y is)))
 
-module _ {log : Log} {snapshot snapshot' : List ℕ} {named others pending : List Bool} {pieces_left : Option ℕ} {w0 : Medium} {y : State} (alone : pieces_left ≡ None)
-    (placed' : FitsCutState log pending pieces_left) (sound' : IsSoundJournal log snapshot named others pending pieces_left w0)
-    (is : recovered_state log.geometry w0.now ≡ Some y) (is_state : IsState log.geometry y) (spelled : snapshot' ≡ image_of 2 log.geometry y) (are : AreBytes w0.now) where
+-- What `point` and `cut` ask of a journal and of the tree.
+pub record AsksToSave (self : JournalView) (tree : TreeView) : Type 0 where
+  pub not_failed : self.failed ≡ false
+  pub no_cut : self.pieces_left ≡ None
+  pub geometry : tree.geometry ≡ self.geometry
+  pub state : IsState tree.geometry (state_in tree)
+  pub committed : committed self ≡ Some (state_in tree)
+
+-- What they find: no cut is in progress, the device recovers to y, and `snapshot'` is the image of y.
+pub record Saves (log : Log) (snapshot snapshot' : List ℕ) (named others pending : List Bool) (w0 : Medium) (y : State) : Type 0 where
   pub current_is_named : log.current ≡ log.named
-  current_is_named = subst (λ (l : Option ℕ). FitsCutState log pending l) alone placed'
+  pub sound : IsSoundJournal log snapshot named others pending None w0
+  pub is : recovered_state log.geometry w0.now ≡ Some y
+  pub is_state : IsState log.geometry y
+  pub spelled : snapshot' ≡ image_of 2 log.geometry y
+  pub are : AreBytes w0.now
 
-  sound : IsSoundJournal log snapshot named others pending None w0
-  sound = subst (λ (l : Option ℕ). IsSoundJournal log snapshot named others pending l w0) alone sound'
+pub saves : {D : Type 0} {medium : D → Medium} {keeps : Type 0} {j : Inside D} {self : JournalView} {tree : TreeView} {dirty : List Bool} {old new : List ℕ}
+    → IsJournal medium keeps j → journal_view medium j ≡ self → keeps → AsksToSave self tree → AreBytes (medium j.disk).now → dirty ≡ j.named_dirty.items → old ≡ j.snapshot.items
+    → (AreCleanExtentsOf tree.geometry (state_in tree) dirty old → new ≡ image_of 2 tree.geometry (state_in tree))
+    → Saves j.halves j.snapshot.items new j.named_dirty.items j.other_dirty.items j.pending.items (medium j.disk) (state_in tree)
+saves {medium = medium} {j = j} {tree = tree} kept view keeps asks are same same' image =
+    let fine : j.halves.failed ≡ false = ap (λ (h : JournalView). h.failed) view ∙ asks.not_failed in
+    let no_cut : j.pieces_left ≡ None = ap (λ (h : JournalView). h.pieces_left) view ∙ asks.no_cut in
+    let geometry : tree.geometry ≡ j.halves.geometry = asks.geometry ∙ sym (ap (λ (h : JournalView). h.geometry) view) in
+    let is : recovered_state j.halves.geometry (medium j.disk).now ≡ Some (state_in tree) = ap committed view ∙ asks.committed in
+    let sound = kept.sound fine keeps in
+    record {
+      current_is_named = subst (λ (l : Option ℕ). FitsCutState j.halves j.pending.items l) no_cut (kept.fits_cut_state fine);
+      sound = subst (λ (l : Option ℕ). IsSoundJournal j.halves j.snapshot.items j.named_dirty.items j.other_dirty.items j.pending.items l (medium j.disk)) no_cut sound;
+      is = is;
+      is_state = subst (λ (g : Geometry). IsState g (state_in tree)) geometry asks.state;
+      spelled = image (snapshot_right no_cut sound is geometry same same') ∙ ap (λ (g : Geometry). image_of 2 g (state_in tree)) geometry;
+      are = are;
+    }
 
+module _ {log : Log} {snapshot snapshot' : List ℕ} {named others pending : List Bool} {w0 : Medium} {y : State} (f : Saves log snapshot snapshot' named others pending w0 y) where
   is_area : log.named < 2
-  is_area = named_below log.geometry log.named log.current (recovered_state log.geometry w0.now) w0 are sound.recovers
+  is_area = named_below log.geometry log.named log.current (recovered_state log.geometry w0.now) w0 f.are f.sound.recovers
 
   pub is_alone : RecoversByNamedAlone log w0
   is_alone = record {
-    some = sound.some;
-    recovers = subst (λ (h : ℕ). RecoversByArea log.geometry log.named h (recovered_state log.geometry w0.now) w0) current_is_named sound.recovers;
+    some = f.sound.some;
+    recovers = subst (λ (h : ℕ). RecoversByArea log.geometry log.named h (recovered_state log.geometry w0.now) w0) f.current_is_named f.sound.recovers;
   }
 
   pub reads : read log.geometry snapshot' ≡ recovered_state log.geometry w0.now
-  reads = snapshot_reads log.geometry (recovered_state log.geometry w0.now) y snapshot' is is_state spelled
+  reads = snapshot_reads log.geometry (recovered_state log.geometry w0.now) y snapshot' f.is f.is_state f.spelled
 
   pub agrees : AgreeOnClean log.geometry others (image_in log.geometry (other log.named) w0) snapshot'
-  agrees = snapshot_agrees log.geometry (recovered_state log.geometry w0.now) y snapshot' is is_state spelled others (image_in log.geometry (other log.named) w0) sound.other_up_to_date
+  agrees = snapshot_agrees log.geometry (recovered_state log.geometry w0.now) y snapshot' f.is f.is_state f.spelled others (image_in log.geometry (other log.named) w0) f.sound.other_up_to_date
 
   module _ {w1 : Medium} (are' : AreBytes w1.now) where
     pub point_committed : IsPointed log snapshot' w0 w1 → recovered_state log.geometry w1.now ≡ recovered_state log.geometry w0.now
@@ -90,24 +122,24 @@ module _ {log : Log} {snapshot snapshot' : List ℕ} {named others pending : Lis
         let same = point_committed made in
         let back : other (other log.named) ≡ log.named = omega (arith, is_area) in
         record {
-          some = ap is_some same ∙ sound.some;
+          some = ap is_some same ∙ f.sound.some;
           recovers = subst (λ (o : Option State). RecoversByArea log.geometry (other log.named) (other log.named) o w1) (sym same) made.at.recovers;
           ready = made.at.ready;
           same_records = forced_synced log.geometry w1 made.at.synced;
           count = λ none. ap length made.emptied;
-          state = λ x is'. sound.state x (sym same ∙ is');
+          state = λ x is'. f.sound.state x (sym same ∙ is');
           named_up_to_date =
               subst (λ (o : Option State). IsUpToDate log.geometry o named' (image_in log.geometry (other log.named) w1)) (sym same)
               (subst (λ (l : List ℕ). IsUpToDate log.geometry (recovered_state log.geometry w0.now) named' l) (sym made.is)
-              (snapshot_up_to_date log.geometry (recovered_state log.geometry w0.now) y snapshot' is is_state spelled named'));
+              (snapshot_up_to_date log.geometry (recovered_state log.geometry w0.now) y snapshot' f.is f.is_state f.spelled named'));
           snapshot_up_to_date = λ none.
               subst (λ (o : Option State). IsUpToDate log.geometry o named' snapshot') (sym same)
-              (snapshot_up_to_date log.geometry (recovered_state log.geometry w0.now) y snapshot' is is_state spelled named');
+              (snapshot_up_to_date log.geometry (recovered_state log.geometry w0.now) y snapshot' f.is f.is_state f.spelled named');
           other_up_to_date =
               subst (λ (o : Option State). IsUpToDate log.geometry o others' (image_in log.geometry (other (other log.named)) w1)) (sym same)
               (subst (λ (n : ℕ). IsUpToDate log.geometry (recovered_state log.geometry w0.now) others' (image_in log.geometry n w1)) (sym back)
               (subst (λ (l : List ℕ). IsUpToDate log.geometry (recovered_state log.geometry w0.now) others' l) (sym made.kept)
-              (subst (λ (row : List Bool). IsUpToDate log.geometry (recovered_state log.geometry w0.now) row (image_in log.geometry log.named w0)) (sym same_dirty) sound.named_up_to_date)));
+              (subst (λ (row : List Bool). IsUpToDate log.geometry (recovered_state log.geometry w0.now) row (image_in log.geometry log.named w0)) (sym same_dirty) f.sound.named_up_to_date)));
           by_cut = tt;
         }
 
@@ -118,24 +150,24 @@ module _ {log : Log} {snapshot snapshot' : List ℕ} {named others pending : Lis
     cut_sound {others'} same_dirty begun =
         let same = cut_committed begun in
         record {
-          some = ap is_some same ∙ sound.some;
+          some = ap is_some same ∙ f.sound.some;
           recovers = subst (λ (o : Option State). RecoversByArea log.geometry log.named (other log.named) o w1) (sym same) begun.at.recovers;
           ready = begun.at.ready;
           same_records = forced_synced log.geometry w1 begun.at.synced;
           count = λ none. absurd (true≢false (ap is_some none));
-          state = λ x is'. sound.state x (sym same ∙ is');
+          state = λ x is'. f.sound.state x (sym same ∙ is');
           named_up_to_date =
               subst (λ (o : Option State). IsUpToDate log.geometry o named (image_in log.geometry log.named w1)) (sym same)
-              (subst (λ (l : List ℕ). IsUpToDate log.geometry (recovered_state log.geometry w0.now) named l) (sym (begun.images log.named is_area)) sound.named_up_to_date);
+              (subst (λ (l : List ℕ). IsUpToDate log.geometry (recovered_state log.geometry w0.now) named l) (sym (begun.images log.named is_area)) f.sound.named_up_to_date);
           snapshot_up_to_date = λ none. absurd (true≢false (ap is_some none));
           other_up_to_date = subst (λ (o : Option State). IsUpToDate log.geometry o others' snapshot') (sym same)
-              (snapshot_up_to_date log.geometry (recovered_state log.geometry w0.now) y snapshot' is is_state spelled others');
+              (snapshot_up_to_date log.geometry (recovered_state log.geometry w0.now) y snapshot' f.is f.is_state f.spelled others');
           by_cut = record {
             behind = ap (λ (rs : List (List ℕ)). run_on log.geometry (read log.geometry snapshot') rs) begun.none ∙ run_none log.geometry (read log.geometry snapshot') ∙ reads ∙ sym same;
             written =
                 subst (λ (row : List Bool). AgreeOnClean log.geometry row (image_in log.geometry (other log.named) w1) snapshot') (sym same_dirty)
                 (subst (λ (l : List ℕ). AgreeOnClean log.geometry others l snapshot') (sym (begun.images (other log.named) (omega arith))) agrees);
-            version = ap version_in spelled;
+            version = ap version_in f.spelled;
           };
         }
 

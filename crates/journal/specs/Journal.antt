@@ -6,9 +6,8 @@ use Rattle.disk.specs.Device.{Medium, IsCrashImage}
 use Rattle.journal.specs.DirtyPieces.{DirtyPieces}
 use Rattle.messages.specs.declared.Msg.{Msg}
 use Rattle.messages.specs.Messages.{IsMessage}
-use Rattle.device_map.specs.Layout.{layout_of}
 use Rattle.oplog.specs.Changing.{IsChangeInRange}
-use Rattle.oplog.specs.Recovery.{in_force, named_area}
+use Rattle.oplog.specs.Recovery.{records_in}
 use Rattle.meaning.specs.Serial.{state_after_all, is_recorded, next_state, reply_to}
 use Rattle.meaning.specs.State.{State}
 
@@ -27,10 +26,6 @@ pub record JournalView : Type 0 where
 -- what the device recovers to
 abbrev pub committed : JournalView → Option State
 committed j = recovered_state j.geometry j.medium.now
-
--- the records in force on a device with these bytes
-abbrev pub records_in : Geometry → List ℕ → List (List ℕ)
-records_in g c = in_force (layout_of g) (named_area (layout_of g) c) c
 
 -- the records in force on the device of a journal
 abbrev pub records : JournalView → List (List ℕ)

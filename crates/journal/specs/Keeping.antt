@@ -4,7 +4,7 @@ use Rattle.affinity.specs.declared.geometry.Geometry.{Geometry}
 use Rattle.checkpoint.specs.Recovery.{recovered_state}
 use Rattle.disk.specs.Device.{IsCrashImage, Medium}
 use Rattle.image.specs.Image.{read, version_in}
-use Rattle.journal.specs.Journal.{JournalView, records_in}
+use Rattle.journal.specs.Journal.{JournalView}
 use Rattle.journal.specs.DirtyPieces.{count_dirty}
 use Rattle.journal.specs.Steps.{RecoversByArea, run_on}
 use Rattle.journal.specs.Extents.{AgreeOnClean, AreCleanExtentsOf, image_in}
@@ -12,6 +12,7 @@ use Rattle.oplog.specs.Calls.{IsReadyFor}
 use Rattle.oplog.specs.Front.{front}
 use Rattle.device_map.specs.Layout.{layout_of, other}
 use Rattle.oplog.specs.Log.{Log}
+use Rattle.oplog.specs.Recovery.{records_in}
 use Rattle.meaning.specs.State.{State, IsState}
 
 -- ---- dirty flags
@@ -67,12 +68,12 @@ pub record IsSoundJournal (log : Log) (snapshot : List ℕ) (named others pendin
   pub other_up_to_date : IsUpToDate log.geometry (recovered_state log.geometry m.now) others (image_after_cut log snapshot pieces_left m)
   pub by_cut : IsCutIfRunning log snapshot pending pieces_left m
 
-abbrev pub journal_view_of : Log → List Bool → List Bool → Option ℕ → Bool → Medium → JournalView
-journal_view_of log named others pieces_left failed m = record {
+abbrev pub journal_view_of : Log → List Bool → List Bool → Option ℕ → Medium → JournalView
+journal_view_of log named others pieces_left m = record {
   geometry = log.geometry;
   room = log.geometry.half - log.used;
   pieces_left = pieces_left;
   dirty = record { named = named; other = others };
-  failed = failed;
+  failed = log.failed;
   medium = m;
 }

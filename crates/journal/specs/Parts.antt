@@ -15,9 +15,9 @@ use Rattle.journal.specs.DirtyPieces.{DirtyPieces, opened_dirty}
 use Rattle.journal.specs.Opening.{IsBadAfterCut}
 use Rattle.journal.specs.Extents.{AreAllDirty}
 use Rattle.oplog.specs.Calls.{IsLongEnough}
-use Rattle.device_map.specs.Layout.{image_size, layout_of}
+use Rattle.device_map.specs.Layout.{image_size}
 use Rattle.oplog.specs.Log.{new_log}
-use Rattle.oplog.specs.Recovery.{in_force, named_area}
+use Rattle.oplog.specs.Recovery.{records_in}
 use Rattle.parcel.specs.Tree.{IsWholeTree, state_in}
 use Rattle.meaning.specs.State.{empty}
 
@@ -90,5 +90,5 @@ pub record IsMadeOf (c : List ℕ) (p : Parts) (m : Medium) : Type 0 where
   pub was : recovered_state p.tree.geometry c ≡ Some (state_in p.tree)
   pub is : recovered_state p.halves.geometry m.now ≡ Some (state_in p.tree)
   pub version : named_version p.halves.geometry m.now ≡ 2
-  pub emptied : in_force (layout_of p.halves.geometry) (named_area (layout_of p.halves.geometry) m.now) m.now ≡ []
+  pub emptied : records_in p.halves.geometry m.now ≡ []
   pub sound : IsSoundJournal p.halves p.snapshot.items p.named_dirty.items p.other_dirty.items p.pending.items None m

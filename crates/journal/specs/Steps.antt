@@ -5,14 +5,13 @@ use Rattle.checkpoint.specs.Recovery.{recovered_state, decoding}
 use Rattle.disk.specs.Device.{Medium, IsSynced}
 use Rattle.disk.specs.Moments.{CrashImagesAre}
 use Rattle.image.specs.Image.{read}
-use Rattle.journal.specs.Journal.{records_in}
 use Rattle.journal.specs.Extents.{image_in}
 use Rattle.oplog.specs.Changes.{IsReady}
 use Rattle.oplog.specs.Crash.{CrashRecovers}
 use Rattle.oplog.specs.Front.{chain, front}
 use Rattle.device_map.specs.Layout.{layout_of, other}
 use Rattle.oplog.specs.Log.{Log}
-use Rattle.oplog.specs.Recovery.{is_laid_out, named_area, run}
+use Rattle.oplog.specs.Recovery.{is_laid_out, named_area, run, records_in}
 use Rattle.meaning.specs.State.{State}
 
 -- A crash at any moment from `old` to `new` leaves a device that recovers to the same as `old`.

@@ -55,7 +55,6 @@ pub struct Journal<D: Disk> {
 
     /// How many are pending, while a cut is in progress.
     pieces_left: Option<usize>,
-    failed: bool,
 }
 
 impl<D: Disk> Model for Journal<D> {
@@ -94,7 +93,7 @@ impl<D: Disk> Journal<D> {
         requires pending { length pending.items ≡ piece_count halves.geometry }
         requires sound { D.keeps →
             IsSoundJournal halves snapshot.items named_dirty.items other_dirty.items pending.items None (D.medium disk) }
-        ensures { result ≡ journal_view_of halves named_dirty.items other_dirty.items None false (D.medium disk) }
+        ensures { result ≡ journal_view_of halves named_dirty.items other_dirty.items None (D.medium disk) }
     {
         Journal {
             disk,
@@ -105,7 +104,6 @@ impl<D: Disk> Journal<D> {
             pending,
             next_pending: 0,
             pieces_left: None,
-            failed: false,
         }
     }
 
@@ -134,10 +132,7 @@ impl<D: Disk> Journal<D> {
         ensures no_bad_record { IsNotBadRecord result }
         ensures counts { CountsLogFault result self.old.medium.faults self.new.medium.faults }
     {
-        if let Err(fault) = self.halves.append(&mut self.disk, messages) {
-            self.failed = true;
-            return Err(fault);
-        }
+        self.halves.append(&mut self.disk, messages)?;
         let g = self.halves.geometry();
         dirty_touched(&g, messages, &mut self.named_dirty);
         dirty_touched(&g, messages, &mut self.other_dirty);
@@ -173,15 +168,12 @@ impl<D: Disk> Journal<D> {
         ensures counts { CountsLogFault result self.old.medium.faults self.new.medium.faults }
     {
         update_snapshot(tree, &self.named_dirty, &mut self.snapshot);
-        if let Err(fault) = point_on(
+        point_on(
             &mut self.halves,
             &mut self.disk,
             &self.snapshot,
             &self.other_dirty,
-        ) {
-            self.failed = true;
-            return Err(fault);
-        }
+        )?;
         // No piece of the image that was just written is dirty.
         swap_and_clear_dirty(&mut self.named_dirty, &mut self.other_dirty);
         Ok(())
@@ -215,10 +207,7 @@ impl<D: Disk> Journal<D> {
         ensures counts { CountsLogFault result self.old.medium.faults self.new.medium.faults }
     {
         update_snapshot(tree, &self.named_dirty, &mut self.snapshot); // later messages don't change it
-        if let Err(fault) = cut_on(&mut self.halves, &mut self.disk) {
-            self.failed = true;
-            return Err(fault);
-        }
+        cut_on(&mut self.halves, &mut self.disk)?;
         mem::swap(&mut self.pending, &mut self.other_dirty);
         clear_dirty(&mut self.other_dirty);
         self.next_pending = 0;
@@ -258,8 +247,7 @@ impl<D: Disk> Journal<D> {
         let area = 1 - self.halves.named();
         // Extent n is piece n, the first one with the head before it.
         if write_extent(&mut self.disk, &g, area, &self.snapshot, n).is_err() {
-            self.failed = true;
-            return Err(LogFault::Device);
+            return Err(self.halves.fail());
         }
         self.pending[n] = false;
         self.next_pending = n + 1;
@@ -291,10 +279,7 @@ impl<D: Disk> Journal<D> {
         ensures no_bad_record { IsNotBadRecord result }
         ensures counts { CountsLogFault result self.old.medium.faults self.new.medium.faults }
     {
-        if let Err(fault) = flip_on(&mut self.halves, &mut self.disk, &self.snapshot) {
-            self.failed = true;
-            return Err(fault);
-        }
+        flip_on(&mut self.halves, &mut self.disk, &self.snapshot)?;
         mem::swap(&mut self.named_dirty, &mut self.other_dirty);
         self.pieces_left = None;
         Ok(())

@@ -44,6 +44,7 @@ pub(crate) fn point_on<D: Disk>(
     ensures log { OnOk result (halves.new ≡ pointed_log halves.old) }
     ensures geometry { halves.new.geometry ≡ halves.old.geometry }
     ensures used { OnErr result (halves.new.used ≡ halves.old.used) }
+    ensures failed { OnErr result (halves.new.failed ≡ true) }
     ensures no_bad_record { IsNotBadRecord result }
     ensures call { IsLogCall result (D.medium disk.old) (D.medium disk.new) }
 {
@@ -51,7 +52,7 @@ pub(crate) fn point_on<D: Disk>(
     let area = 1 - halves.named();
     halves.clear_other(disk)?;
     if write_image(disk, &g, area, bytes, dirty).is_err() {
-        return Err(LogFault::Device);
+        return Err(halves.fail());
     }
     halves.flip_root(disk)?;
     Ok(())
@@ -70,6 +71,7 @@ pub(crate) fn cut_on<D: Disk>(halves: &mut Halves, disk: &mut D) -> Result<(), L
     ensures log { OnOk result (halves.new ≡ cut_log halves.old) }
     ensures geometry { halves.new.geometry ≡ halves.old.geometry }
     ensures used { OnErr result (halves.new.used ≡ halves.old.used) }
+    ensures failed { OnErr result (halves.new.failed ≡ true) }
     ensures no_bad_record { IsNotBadRecord result }
     ensures call { IsLogCall result (D.medium disk.old) (D.medium disk.new) }
 {
@@ -95,11 +97,12 @@ pub(crate) fn flip_on<D: Disk>(
     ensures log { OnOk result (halves.new ≡ flipped_log halves.old) }
     ensures geometry { halves.new.geometry ≡ halves.old.geometry }
     ensures used { OnErr result (halves.new.used ≡ halves.old.used) }
+    ensures failed { OnErr result (halves.new.failed ≡ true) }
     ensures no_bad_record { IsNotBadRecord result }
     ensures call { IsLogCall result (D.medium disk.old) (D.medium disk.new) }
 {
     if sync_image(disk).is_err() {
-        return Err(LogFault::Device);
+        return Err(halves.fail());
     }
     halves.flip_root(disk)?;
     Ok(())
@@ -135,7 +138,7 @@ pub(crate) fn finish_on<D: Disk>(
     let g = halves.geometry();
     let second = 1 - halves.named();
     if write_image(disk, &g, second, bytes, dirty).is_err() {
-        return Err(LogFault::Device);
+        return Err(halves.fail());
     }
     halves.flip_root(disk)?;
     Ok(())

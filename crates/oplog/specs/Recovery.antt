@@ -1,6 +1,7 @@
 -- Statement for operators: What a device recovers to: the state of an image with the records in force run on it.
 use Rattle.std.specs.Prelude.{ℕ, Bool, not, ◌&&◌, ◌==◌, nat_le, if◌then◌else◌, List, [], ◌∷◌, ◌++◌, length, get_or, Option, Some, None}
-use Rattle.device_map.specs.Layout.{Layout, part_bytes, device_size, header_part, root_part, image_part, other}
+use Rattle.affinity.specs.declared.geometry.Geometry.{Geometry}
+use Rattle.device_map.specs.Layout.{Layout, layout_of, part_bytes, device_size, header_part, root_part, image_part, other}
 use Rattle.oplog.specs.Front.{chain, front}
 
 -- the area that the root zone names: image and half of that number
@@ -22,6 +23,10 @@ in_force l n c = if chain l n c == 1 then front l n c ++ front l (other n) c els
 -- the half whose front is the last one in force
 abbrev pub current : Layout → List ℕ → ℕ
 current l c = current_of l (named_area l c) c
+
+-- the records in force on a device of this geometry
+abbrev pub records_in : Geometry → List ℕ → List (List ℕ)
+records_in g c = in_force (layout_of g) (named_area (layout_of g) c) c
 
 -- What the layer above defines: the state that an image's bytes hold, what becomes of a state by the record with these
 -- bytes, and whether bytes are a header. `read` is none where the bytes are no image,

@@ -18,7 +18,7 @@ ghost use Rattle.oplog.specs.Beyond.{KeepsBeyond};
 ghost use Rattle.disk.specs.Store.{Costs};
 ghost use Rattle.oplog.specs.Log.{batch_count};
 ghost use Rattle.device_map.specs.Layout.{layout_of};
-ghost use Rattle.oplog.specs.Recovery.{in_force, named_area};
+ghost use Rattle.oplog.specs.Recovery.{records_in};
 ghost use Rattle.meaning.specs.State.{State};
 ghost use Rattle.scheduler.specs.Calls.{CountsFailure, IsGranted, IsLogStep, IsPieceStep, IsCheckpointStep, answer_outcome, arrive_outcome, log_device_failed, checkpoint_device_failed};
 ghost use Rattle.arena.specs.ArenaView.{chain_at};
@@ -115,8 +115,7 @@ impl<D: Disk> Core<D> {
         ensures header { IfOk result (λ core. D.keeps → HasHeader core.geometry (D.medium d).now) }
         ensures recovered_before { IfOk result (λ core. D.keeps →
             recovered_state core.geometry (D.medium d).now ≡ Some (core_state_of core).committed) }
-        ensures emptied { IfOk result (λ core. D.keeps → in_force (layout_of core.geometry)
-            (named_area (layout_of core.geometry) core.medium.now) core.medium.now ≡ []) }
+        ensures emptied { IfOk result (λ core. D.keeps → records_in core.geometry core.medium.now ≡ []) }
 
         // Until the first sync of the call is over, a crash leaves what a crash just before the call could have left. After it, what a
         // crash leaves recovers to the state to which the device recovered before the call, or is refused for the fault that it had.
@@ -353,8 +352,7 @@ impl<D: Disk> Core<D> {
         // A crash at any moment of the call leaves what was committed; where the device had failed before, with a prefix of `doubt`.
         ensures any_moment { D.keeps → RecoversThroughout [] self.old self.new }
         ensures beyond { D.keeps → KeepsBeyond (layout_of self.old.geometry) self.old.medium self.new.medium }
-        ensures emptied { OnOk result (D.keeps → in_force (layout_of self.new.geometry)
-            (named_area (layout_of self.new.geometry) self.new.medium.now) self.new.medium.now ≡ []) }
+        ensures emptied { OnOk result (D.keeps → records_in self.new.geometry self.new.medium.now ≡ []) }
         ensures costs { D.keeps → moment_number self.new.medium ≤ moment_number self.old.medium + longest_point self.old.geometry }
         ensures untouched { touches_device (core_state_of self.old) steps.Point ≡ false → self.new.medium ≡ self.old.medium }
     {
@@ -463,7 +461,7 @@ impl<D: Disk> Core<D> {
         ensures no_doubt { self.now.failed ≡ false → self.now.doubt ≡ [] }
         ensures now { D.keeps → RecoversNow self.now }
     {
-        let _next = self.next;
+        let _next = self.next; // what a core keeps true is known where a field is read
     }
 
     /// The device.

@@ -33,7 +33,7 @@ impl<D: Disk> Journal<D> {
     pub fn failed(&self) -> bool
         ensures { result ≡ self.now.failed }
     {
-        self.failed
+        self.halves.failed()
     }
 
     /// The device.

@@ -1,5 +1,5 @@
 -- All pieces are dirty, so the snapshot is the image of the whole state, and is written in one run.
-use Rattle.std.proofs.Common.{Bool, List, length, sym, ◌∙◌, ap, subst, arith, true≢false}
+use Rattle.std.proofs.Common.{Bool, List, sym, ◌∙◌, ap, subst, arith, true≢false}
 use Rattle.std.proofs.lemmas.Result.{err_from_is_err_and}
 use Rattle.affinity.specs.declared.geometry.Geometry.{Geometry}
 use Rattle.image.specs.Image.{image_of, read}
@@ -20,8 +20,7 @@ point_on-requires-clause-image g c = λ k.
     let geometry = p.halves.geometry in
     let all = subst (λ (l : List Bool). AreAllDirty geometry l) (sym c.deref.ensures.value) c.requires.loaded.all in
     let right = all_right p.tree.geometry geometry x c.deref.result.now c.deref_mut.result.now c.requires.loaded.geometry all in
-    let snapshot = whole_put p.snapshot.len c.update_snapshot.new.bytes p.snapshot.items (c.update_snapshot.ensures.size ∙ ap length c.deref_mut.ensures.value)
-    (c.update_snapshot.ensures.size ∙ c.deref_mut.ensures.len) in
+    let snapshot = whole_put c.update_snapshot.new.bytes c.update_snapshot.ensures.size c.deref_mut.ensures.value c.deref_mut.ensures.len in
     let spelled = c.deref-2.ensures.value ∙ snapshot ∙ c.update_snapshot.ensures.image right ∙ ap (λ (h : Geometry). image_of 2 h x) c.requires.loaded.geometry in
     ap (read geometry) spelled ∙ read_again geometry x (subst (λ (h : Geometry). IsState h x) c.requires.loaded.geometry c.requires.loaded.tree.state)
     ∙ sym (c.requires.recovers k)

@@ -21,8 +21,7 @@ finish_on-requires-clause-unfinished g c = λ k.
     let x = state_in p.tree in
     let all = subst (λ (l : List Bool). AreAllDirty p.halves.geometry l) (sym c.deref.ensures.value) c.requires.loaded.all in
     let right = all_right p.tree.geometry p.halves.geometry x c.deref.result.now c.deref_mut.result.now c.requires.loaded.geometry all in
-    let snapshot = whole_put p.snapshot.len c.update_snapshot.new.bytes p.snapshot.items (c.update_snapshot.ensures.size ∙ ap length c.deref_mut.ensures.value)
-    (c.update_snapshot.ensures.size ∙ c.deref_mut.ensures.len) in
+    let snapshot = whole_put c.update_snapshot.new.bytes c.update_snapshot.ensures.size c.deref_mut.ensures.value c.deref_mut.ensures.len in
     unfinished_cut p.halves (g.D.Disk.medium c.args.disk.now) x c.deref-2.result.now (c.requires.recovers k) (c.requires.synced k)
     (subst (λ (h : Geometry). IsState h x) c.requires.loaded.geometry c.requires.loaded.tree.state)
     (c.deref-2.ensures.value ∙ snapshot ∙ c.update_snapshot.ensures.image right ∙ ap (λ (h : Geometry). image_of 2 h x) c.requires.loaded.geometry)
@@ -34,16 +33,14 @@ returns-clause-alike g c = λ k.
     let is_state = subst (λ (h : Geometry). IsState h x) c.requires.loaded.geometry c.requires.loaded.tree.state in
     let all = subst (λ (l : List Bool). AreAllDirty p.halves.geometry l) (sym c.deref.ensures.value) c.requires.loaded.all in
     let right = all_right p.tree.geometry p.halves.geometry x c.deref.result.now c.deref_mut.result.now c.requires.loaded.geometry all in
-    let snapshot = whole_put p.snapshot.len c.update_snapshot.new.bytes p.snapshot.items (c.update_snapshot.ensures.size ∙ ap length c.deref_mut.ensures.value)
-    (c.update_snapshot.ensures.size ∙ c.deref_mut.ensures.len) in
+    let snapshot = whole_put c.update_snapshot.new.bytes c.update_snapshot.ensures.size c.deref_mut.ensures.value c.deref_mut.ensures.len in
     let spelled = c.deref-2.ensures.value ∙ snapshot ∙ c.update_snapshot.ensures.image right ∙ ap (λ (h : Geometry). image_of 2 h x) c.requires.loaded.geometry in
     c.finish_on.ensures.alike k x (ap (read p.halves.geometry) spelled ∙ read_again p.halves.geometry x is_state) (c.requires.recovers k)
 
 pub returns-clause-room : goal.returns-clause-room
 returns-clause-room g c =
     let p = c.args.parts.now in
-    let snapshot = whole_put p.snapshot.len c.update_snapshot.new.bytes p.snapshot.items (c.update_snapshot.ensures.size ∙ ap length c.deref_mut.ensures.value)
-    (c.update_snapshot.ensures.size ∙ c.deref_mut.ensures.len) in
+    let snapshot = whole_put c.update_snapshot.new.bytes c.update_snapshot.ensures.size c.deref_mut.ensures.value c.deref_mut.ensures.len in
     record {
       snapshot = ap length snapshot ∙ c.update_snapshot.ensures.size ∙ ap length c.deref_mut.ensures.value;
       named_dirty = refl;

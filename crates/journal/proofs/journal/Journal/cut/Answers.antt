@@ -1,28 +1,26 @@
 -- A snapshot of the committed state is made, the log goes on in the other half, and the other image's dirty pieces are left to write.
-use Rattle.std.proofs.Common.{◌≡◌, ◌-◌, Bool, false, Some, None, ℕ, List, length, replicate, refl, sym, ◌∙◌, ap, subst, arith}
+use Rattle.std.proofs.Common.{◌≡◌, ◌-◌, Bool, false, Some, ℕ, List, length, replicate, refl, sym, ◌∙◌, ap, subst, arith}
 use Rattle.std.proofs.lemmas.List.{length-replicate}
 use Rattle.affinity.specs.declared.geometry.Geometry.{Geometry}
 use Rattle.checkpoint.specs.Recovery.{recovered_state}
 use Rattle.disk.specs.Moments.{CrashImagesAre}
-use Rattle.image.specs.Image.{image_of}
 use Rattle.image.specs.Pieces.{piece_count}
-use Rattle.journal.specs.Journal.{JournalView, records, records_in, committed}
+use Rattle.journal.specs.Journal.{JournalView, records, committed}
 use Rattle.journal.specs.Images.{KeepsImages}
 use Rattle.journal.specs.Keeping.{journal_view_of}
 use Rattle.journal.specs.DirtyPieces.{all_clean, count_dirty, cut_dirty}
 use Rattle.journal.specs.Steps.{cut_log}
 use Rattle.journal.proofs.Logging.{recoverable_of, sound_along}
 use Rattle.journal.proofs.Rows.{count_most, whole_items, whole_put}
-use Rattle.journal.proofs.Saving.{snapshot_right, cut_committed, cut_sound}
+use Rattle.journal.proofs.Saving.{cut_committed, cut_sound, saves}
 use Rattle.oplog.specs.Beyond.{KeepsBeyond}
 use Rattle.device_map.specs.Layout.{device_size, image_size, other, layout_of}
 use Rattle.oplog.specs.Log.{Log, layout}
-use Rattle.parcel.specs.Tree.{state_in}
-use Rattle.meaning.specs.State.{IsState}
+use Rattle.oplog.specs.Recovery.{records_in}
 use Rattle.journal.proofs.journal.Journal.cut.Goals as goal
 
-pub returns-in-Err-clause-any_moment : goal.returns-in-Err-clause-any_moment
-returns-in-Err-clause-any_moment g c = λ k.
+pub returns-in_err-cut_on-clause-any_moment : goal.returns-in_err-cut_on-clause-any_moment
+returns-in_err-cut_on-clause-any_moment g c = λ k.
     subst (λ (h : JournalView). CrashImagesAre h.medium (g.D.Disk.medium c.cut_on.new.disk) (λ c'. recovered_state h.geometry c' ≡ committed h)) c.self.view_is (c.cut_on.ensures.any_moment k)
 
 pub returns-clause-any_moment : goal.returns-clause-any_moment
@@ -31,38 +29,24 @@ returns-clause-any_moment g c = λ k.
 
 pub returns-clause-committed : goal.returns-clause-committed
 returns-clause-committed g c = λ k.
-    let fine : c.self.inside.failed ≡ false = ap (λ (h : JournalView). h.failed) c.self.view_is ∙ c.requires.not_failed in
-    let no_cut : c.self.inside.pieces_left ≡ None = ap (λ (h : JournalView). h.pieces_left) c.self.view_is ∙ c.requires.no_cut in
-    let geometry : c.args.tree.now.geometry ≡ c.self.inside.halves.geometry = c.requires.geometry ∙ sym (ap (λ (h : JournalView). h.geometry) c.self.view_is) in
-    let is_state = subst (λ (x : Geometry). IsState x (state_in c.args.tree.now)) geometry c.requires.whole.state in
-    let w0 = g.D.Disk.medium c.self.inside.disk in
-    let is : recovered_state c.self.inside.halves.geometry w0.now ≡ Some (state_in c.args.tree.now) = ap committed c.self.view_is ∙ c.requires.state k in
-    let right = snapshot_right no_cut (c.self.invariant.sound fine k) is geometry c.deref.ensures.value c.deref_mut.ensures.value in
-    let spelled : c.update_snapshot.new.bytes ≡ image_of 2 c.self.inside.halves.geometry (state_in c.args.tree.now) = c.update_snapshot.ensures.image right
-    ∙ ap (λ (x : Geometry). image_of 2 x (state_in c.args.tree.now)) geometry in
+    let f = saves {self = c.args.self.now} {tree = c.args.tree.now} c.self.invariant c.self.view_is k
+    (record { not_failed = c.requires.not_failed; no_cut = c.requires.no_cut; geometry = c.requires.geometry; state = c.requires.whole.state; committed = c.requires.state k })
+    (g.met.D.Disk.bytes c.self.inside.disk) c.deref.ensures.value c.deref_mut.ensures.value c.update_snapshot.ensures.image in
     let w1 = g.D.Disk.medium c.cut_on.new.disk in
-    let begun = c.in_default.ensures.begun k in
+    let begun = c.in_ok-cut_on.ensures.begun k in
     ap (λ (x : Geometry). recovered_state x w1.now) c.cut_on.ensures.geometry
-    ∙ cut_committed no_cut (c.self.invariant.fits_cut_state fine) (c.self.invariant.sound fine k) is is_state spelled (g.met.D.Disk.bytes c.self.inside.disk)
-    (g.met.D.Disk.bytes c.cut_on.new.disk) begun ∙ ap committed c.self.view_is
+    ∙ cut_committed f (g.met.D.Disk.bytes c.cut_on.new.disk) begun ∙ ap committed c.self.view_is
 
 pub returns-clause-recoverable : goal.returns-clause-recoverable
 returns-clause-recoverable g c = λ k.
-    let fine : c.self.inside.failed ≡ false = ap (λ (h : JournalView). h.failed) c.self.view_is ∙ c.requires.not_failed in
-    let no_cut : c.self.inside.pieces_left ≡ None = ap (λ (h : JournalView). h.pieces_left) c.self.view_is ∙ c.requires.no_cut in
-    let geometry : c.args.tree.now.geometry ≡ c.self.inside.halves.geometry = c.requires.geometry ∙ sym (ap (λ (h : JournalView). h.geometry) c.self.view_is) in
-    let is_state = subst (λ (x : Geometry). IsState x (state_in c.args.tree.now)) geometry c.requires.whole.state in
-    let snapshot = whole_put c.self.inside.snapshot.len c.update_snapshot.new.bytes c.self.inside.snapshot.items
-    (c.update_snapshot.ensures.size ∙ ap length c.deref_mut.ensures.value) (c.update_snapshot.ensures.size ∙ c.deref_mut.ensures.len) in
-    let w0 = g.D.Disk.medium c.self.inside.disk in
-    let is : recovered_state c.self.inside.halves.geometry w0.now ≡ Some (state_in c.args.tree.now) = ap committed c.self.view_is ∙ c.requires.state k in
-    let right = snapshot_right no_cut (c.self.invariant.sound fine k) is geometry c.deref.ensures.value c.deref_mut.ensures.value in
-    let spelled : c.update_snapshot.new.bytes ≡ image_of 2 c.self.inside.halves.geometry (state_in c.args.tree.now) = c.update_snapshot.ensures.image right
-    ∙ ap (λ (x : Geometry). image_of 2 x (state_in c.args.tree.now)) geometry in
-    let begun = c.in_default.ensures.begun k in
+    let snapshot = whole_put c.update_snapshot.new.bytes c.update_snapshot.ensures.size c.deref_mut.ensures.value c.deref_mut.ensures.len in
+    let f = saves {self = c.args.self.now} {tree = c.args.tree.now} c.self.invariant c.self.view_is k
+    (record { not_failed = c.requires.not_failed; no_cut = c.requires.no_cut; geometry = c.requires.geometry; state = c.requires.whole.state; committed = c.requires.state k })
+    (g.met.D.Disk.bytes c.self.inside.disk) c.deref.ensures.value c.deref_mut.ensures.value c.update_snapshot.ensures.image in
+    let begun = c.in_ok-cut_on.ensures.begun k in
     recoverable_of
-    (sound_along c.in_default.ensures.log snapshot refl refl refl
-    (cut_sound no_cut (c.self.invariant.fits_cut_state fine) (c.self.invariant.sound fine k) is is_state spelled (g.met.D.Disk.bytes c.self.inside.disk) (g.met.D.Disk.bytes c.cut_on.new.disk)
+    (sound_along c.in_ok-cut_on.ensures.log snapshot refl refl refl
+    (cut_sound f (g.met.D.Disk.bytes c.cut_on.new.disk)
     {others' = whole_items c.swap.new.y.len c.clear_dirty.new.dirty c.swap.new.y.items} (ap (λ v. v.items) c.swap.ensures.x_after) begun))
 
 pub returns-clause-begun : goal.returns-clause-begun
@@ -71,17 +55,15 @@ returns-clause-begun g c =
     let count = c.count_dirty.ensures ∙ ap count_dirty c.deref-2.ensures.value ∙ ap (λ v. count_dirty v.items) c.swap.ensures.x_after in
     let all : c.self.inside.halves.geometry.half - 0 ≡ c.self.inside.halves.geometry.half = omega arith in
     let named = c.self.inside.named_dirty.items in
-    let put = whole_put c.swap.new.y.len c.clear_dirty.new.dirty c.swap.new.y.items
-    (ap length c.clear_dirty.ensures ∙ length-replicate _ false ∙ ap length c.deref_mut-2.ensures.value)
-    (ap length c.clear_dirty.ensures ∙ length-replicate _ false ∙ c.deref_mut-2.ensures.len) in
+    let put = whole_put c.clear_dirty.new.dirty (ap length c.clear_dirty.ensures ∙ length-replicate _ false) c.deref_mut-2.ensures.value c.deref_mut-2.ensures.len in
     let long : length c.deref_mut-2.result.now ≡ length c.self.inside.other_dirty.items =
     ap length c.deref_mut-2.ensures.value ∙ ap (λ v. length v.items) c.swap.ensures.y_after ∙ c.self.invariant.pending ∙ sym c.self.invariant.other_dirty in
     let others = put ∙ c.clear_dirty.ensures ∙ ap (λ (n : ℕ). replicate n false) long in
-    ap (λ (l : Log). journal_view_of l named (whole_items c.swap.new.y.len c.clear_dirty.new.dirty c.swap.new.y.items) (Some c.count_dirty.result) c.self.inside.failed w1) c.in_default.ensures.log
-    ∙ ap (λ (l : List Bool). journal_view_of (cut_log c.self.inside.halves) named l (Some c.count_dirty.result) c.self.inside.failed w1) others
-    ∙ ap (λ (n : ℕ). journal_view_of (cut_log c.self.inside.halves) named (all_clean c.self.inside.other_dirty.items) (Some n) c.self.inside.failed w1) count
+    ap (λ (l : Log). journal_view_of l named (whole_items c.swap.new.y.len c.clear_dirty.new.dirty c.swap.new.y.items) (Some c.count_dirty.result) w1) c.in_ok-cut_on.ensures.log
+    ∙ ap (λ (l : List Bool). journal_view_of (cut_log c.self.inside.halves) named l (Some c.count_dirty.result) w1) others
+    ∙ ap (λ (n : ℕ). journal_view_of (cut_log c.self.inside.halves) named (all_clean c.self.inside.other_dirty.items) (Some n) w1) count
     ∙ ap (λ (n : ℕ). record (journal_view_of (cut_log c.self.inside.halves) named (all_clean c.self.inside.other_dirty.items)
-    (Some (count_dirty c.self.inside.other_dirty.items)) c.self.inside.failed w1) { room = n }) all
+    (Some (count_dirty c.self.inside.other_dirty.items)) w1) { room = n }) all
     ∙ ap (λ (h : JournalView). record h { room = h.geometry.half; pieces_left = Some (count_dirty h.dirty.other); dirty = cut_dirty h.dirty; medium = w1 }) c.self.view_is
 
 pub returns-clause-few : goal.returns-clause-few
@@ -93,25 +75,18 @@ returns-clause-few g c =
 
 pub returns-clause-records : goal.returns-clause-records
 returns-clause-records g c = λ k.
-    ap (λ (x : Geometry). records_in x (g.D.Disk.medium c.cut_on.new.disk).now) c.cut_on.ensures.geometry ∙ (c.in_default.ensures.begun k).same_records ∙ ap records c.self.view_is
+    ap (λ (x : Geometry). records_in x (g.D.Disk.medium c.cut_on.new.disk).now) c.cut_on.ensures.geometry ∙ (c.in_ok-cut_on.ensures.begun k).same_records ∙ ap records c.self.view_is
 
 pub returns-clause-images : goal.returns-clause-images
 returns-clause-images g c = λ k.
-    subst (λ (h : JournalView). KeepsImages h.geometry h.medium.now (g.D.Disk.medium c.cut_on.new.disk).now) c.self.view_is (c.in_default.ensures.begun k).images
+    subst (λ (h : JournalView). KeepsImages h.geometry h.medium.now (g.D.Disk.medium c.cut_on.new.disk).now) c.self.view_is (c.in_ok-cut_on.ensures.begun k).images
 
 pub invariant_of-self-2 : goal.invariant_of-self-2
 invariant_of-self-2 g c =
-    let fine : c.self.inside.failed ≡ false = ap (λ (h : JournalView). h.failed) c.self.view_is ∙ c.requires.not_failed in
-    let no_cut : c.self.inside.pieces_left ≡ None = ap (λ (h : JournalView). h.pieces_left) c.self.view_is ∙ c.requires.no_cut in
-    let geometry : c.args.tree.now.geometry ≡ c.self.inside.halves.geometry = c.requires.geometry ∙ sym (ap (λ (h : JournalView). h.geometry) c.self.view_is) in
-    let is_state = subst (λ (x : Geometry). IsState x (state_in c.args.tree.now)) geometry c.requires.whole.state in
-    let snapshot = whole_put c.self.inside.snapshot.len c.update_snapshot.new.bytes c.self.inside.snapshot.items
-    (c.update_snapshot.ensures.size ∙ ap length c.deref_mut.ensures.value) (c.update_snapshot.ensures.size ∙ c.deref_mut.ensures.len) in
-    let log = c.in_default.ensures.log in
+    let snapshot = whole_put c.update_snapshot.new.bytes c.update_snapshot.ensures.size c.deref_mut.ensures.value c.deref_mut.ensures.len in
+    let log = c.in_ok-cut_on.ensures.log in
     let same = c.cut_on.ensures.geometry in
-    let cleared = whole_put c.swap.new.y.len c.clear_dirty.new.dirty c.swap.new.y.items
-    (ap length c.clear_dirty.ensures ∙ length-replicate _ false ∙ ap length c.deref_mut-2.ensures.value)
-    (ap length c.clear_dirty.ensures ∙ length-replicate _ false ∙ c.deref_mut-2.ensures.len) in
+    let cleared = whole_put c.clear_dirty.new.dirty (ap length c.clear_dirty.ensures ∙ length-replicate _ false) c.deref_mut-2.ensures.value c.deref_mut-2.ensures.len in
     record {
       long_enough = omega (arith, c.self.invariant.long_enough, c.cut_on.ensures.call.1, ap (λ (l : Log). device_size (layout l)) log);
       used = omega (arith, ap (λ (l : Log). l.used) log);
@@ -120,27 +95,23 @@ invariant_of-self-2 g c =
       other_dirty = ap length cleared ∙ ap length c.clear_dirty.ensures ∙ length-replicate _ false ∙ ap length c.deref_mut-2.ensures.value
           ∙ ap (λ v. length v.items) c.swap.ensures.y_after ∙ c.self.invariant.pending ∙ sym (ap piece_count same);
       pending = ap (λ v. length v.items) c.swap.ensures.x_after ∙ c.self.invariant.other_dirty ∙ sym (ap piece_count same);
-      log_not_failed = λ fine. ap (λ (l : Log). l.failed) log ∙ c.self.invariant.log_not_failed fine;
-      fits_cut_state = λ fine. (
+      fits_cut_state = λ _. (
         ap (λ (l : Log). l.current) log ∙ sym (ap (λ (l : Log). other l.named) log),
         sym (c.count_dirty.ensures ∙ ap count_dirty c.deref-2.ensures.value),
       );
-      sound = λ fine k.
-          let w0 = g.D.Disk.medium c.self.inside.disk in
-          let is : recovered_state c.self.inside.halves.geometry w0.now ≡ Some (state_in c.args.tree.now) = ap committed c.self.view_is ∙ c.requires.state k in
-          let right = snapshot_right no_cut (c.self.invariant.sound fine k) is geometry c.deref.ensures.value c.deref_mut.ensures.value in
-          let spelled : c.update_snapshot.new.bytes ≡ image_of 2 c.self.inside.halves.geometry (state_in c.args.tree.now) = c.update_snapshot.ensures.image right
-          ∙ ap (λ (x : Geometry). image_of 2 x (state_in c.args.tree.now)) geometry in
-          let begun = c.in_default.ensures.begun k in
-          sound_along c.in_default.ensures.log snapshot refl refl refl
-          (cut_sound no_cut (c.self.invariant.fits_cut_state fine) (c.self.invariant.sound fine k) is is_state spelled (g.met.D.Disk.bytes c.self.inside.disk)
-          (g.met.D.Disk.bytes c.cut_on.new.disk) (ap (λ v. v.items) c.swap.ensures.x_after) begun);
+      sound = λ _ k.
+          let f = saves {self = c.args.self.now} {tree = c.args.tree.now} c.self.invariant c.self.view_is k
+          (record { not_failed = c.requires.not_failed; no_cut = c.requires.no_cut; geometry = c.requires.geometry; state = c.requires.whole.state; committed = c.requires.state k })
+          (g.met.D.Disk.bytes c.self.inside.disk) c.deref.ensures.value c.deref_mut.ensures.value c.update_snapshot.ensures.image in
+          let begun = c.in_ok-cut_on.ensures.begun k in
+          sound_along c.in_ok-cut_on.ensures.log snapshot refl refl refl
+          (cut_sound f (g.met.D.Disk.bytes c.cut_on.new.disk) (ap (λ v. v.items) c.swap.ensures.x_after) begun);
       next_pending = omega arith;
       clean_before = λ i few. absurd (omega (arith, few));
     }
 
-pub returns-in-Err-clause-beyond : goal.returns-in-Err-clause-beyond
-returns-in-Err-clause-beyond g c = λ k.
+pub returns-in_err-cut_on-clause-beyond : goal.returns-in_err-cut_on-clause-beyond
+returns-in_err-cut_on-clause-beyond g c = λ k.
     subst (λ (h : JournalView). KeepsBeyond (layout_of h.geometry) h.medium (g.D.Disk.medium c.cut_on.new.disk)) c.self.view_is (c.cut_on.ensures.beyond k)
 
 pub returns-clause-beyond : goal.returns-clause-beyond

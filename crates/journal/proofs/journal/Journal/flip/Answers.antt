@@ -1,9 +1,10 @@
 -- What a crash leaves names the old area or the new one, and the device recovers to the committed state by either.
 use Rattle.std.proofs.Common.{◌≡◌, false, Option, Some, ℕ, List, ◌++◌, length, refl, sym, ◌∙◌, ap, subst, arith}
+use Rattle.std.proofs.lemmas.Result.{err_from_is_err_and}
 use Rattle.affinity.specs.declared.geometry.Geometry.{Geometry}
 use Rattle.checkpoint.specs.Recovery.{recovered_state}
-use Rattle.disk.specs.Moments.{CrashImagesAre}
-use Rattle.journal.specs.Journal.{JournalView, records, records_in, committed}
+use Rattle.disk.specs.Moments.{CrashImagesAre, moment_number}
+use Rattle.journal.specs.Journal.{JournalView, records, committed}
 use Rattle.journal.specs.Images.{KeepsImages}
 use Rattle.journal.specs.Keeping.{FitsCutState}
 use Rattle.journal.specs.Steps.{IsCutWritten}
@@ -16,18 +17,19 @@ use Rattle.oplog.specs.Front.{front}
 use Rattle.oplog.specs.Beyond.{KeepsBeyond}
 use Rattle.device_map.specs.Layout.{device_size, image_size, layout_of}
 use Rattle.oplog.specs.Log.{Log, layout}
+use Rattle.oplog.specs.Recovery.{records_in}
 use Rattle.journal.proofs.journal.Journal.flip.Goals as goal
 
 pub flip_on-requires-clause-written : goal.flip_on-requires-clause-written
 flip_on-requires-clause-written g c = λ k.
-    let fine : c.self.inside.failed ≡ false = ap (λ (h : JournalView). h.failed) c.self.view_is ∙ c.requires.not_failed in
+    let fine : c.self.inside.halves.failed ≡ false = ap (λ (h : JournalView). h.failed) c.self.view_is ∙ c.requires.not_failed in
     let none : c.self.inside.pieces_left ≡ Some 0 = ap (λ (h : JournalView). h.pieces_left) c.self.view_is ∙ c.requires.written in
     subst (λ (l : List ℕ). IsCutWritten c.self.inside.halves l (g.D.Disk.medium c.self.inside.disk)) (sym c.deref.ensures.value)
     (flip_asks none c.self.invariant.long_enough c.self.invariant.snapshot c.self.invariant.pending (g.met.D.Disk.bytes c.self.inside.disk) (c.self.invariant.fits_cut_state fine)
     (c.self.invariant.sound fine k))
 
-pub returns-in-Err-clause-any_moment : goal.returns-in-Err-clause-any_moment
-returns-in-Err-clause-any_moment g c = λ k.
+pub returns-in_err-flip_on-clause-any_moment : goal.returns-in_err-flip_on-clause-any_moment
+returns-in_err-flip_on-clause-any_moment g c = λ k.
     subst (λ (h : JournalView). CrashImagesAre h.medium (g.D.Disk.medium c.flip_on.new.disk) (λ c'. recovered_state h.geometry c' ≡ committed h)) c.self.view_is (c.flip_on.ensures.any_moment k)
 
 pub returns-clause-any_moment : goal.returns-clause-any_moment
@@ -39,47 +41,48 @@ returns-clause-committed g c = λ k.
     subst (λ (h : JournalView). recovered_state c.flip_on.new.halves.geometry (g.D.Disk.medium c.flip_on.new.disk).now ≡ committed h) c.self.view_is
     (ap (λ (x : _). recovered_state x (g.D.Disk.medium c.flip_on.new.disk).now) c.flip_on.ensures.geometry
     ∙ holds_now c.self.inside.halves.geometry _ _ (recovered_state c.self.inside.halves.geometry (g.D.Disk.medium c.self.inside.disk).now)
-    (g.D.Disk.medium c.flip_on.new.disk) (g.met.D.Disk.bytes c.flip_on.new.disk) (c.in_default.ensures.flipped k).at.recovers)
+    (g.D.Disk.medium c.flip_on.new.disk) (g.met.D.Disk.bytes c.flip_on.new.disk) (c.in_ok-flip_on.ensures.flipped k).at.recovers)
 
 pub returns-clause-recoverable : goal.returns-clause-recoverable
 returns-clause-recoverable g c = λ k.
-    let fine : c.self.inside.failed ≡ false = ap (λ (h : JournalView). h.failed) c.self.view_is ∙ c.requires.not_failed in
+    let fine : c.self.inside.halves.failed ≡ false = ap (λ (h : JournalView). h.failed) c.self.view_is ∙ c.requires.not_failed in
     let none : c.self.inside.pieces_left ≡ Some 0 = ap (λ (h : JournalView). h.pieces_left) c.self.view_is ∙ c.requires.written in
     let sound = c.self.invariant.sound fine k in
     let placed = (c.self.invariant.fits_cut_state fine) in
     let written = flip_asks none c.self.invariant.long_enough c.self.invariant.snapshot c.self.invariant.pending (g.met.D.Disk.bytes c.self.inside.disk) placed sound in
     recoverable_of
-    (sound_along c.in_default.ensures.log refl (ap (λ v. v.items) c.swap.ensures.x_after) (ap (λ v. v.items) c.swap.ensures.y_after) refl
-    (flip_sound none (g.met.D.Disk.bytes c.self.inside.disk) (g.met.D.Disk.bytes c.flip_on.new.disk) placed written sound (c.in_default.ensures.flipped k)))
+    (sound_along c.in_ok-flip_on.ensures.log refl (ap (λ v. v.items) c.swap.ensures.x_after) (ap (λ v. v.items) c.swap.ensures.y_after) refl
+    (flip_sound none (g.met.D.Disk.bytes c.self.inside.disk) (g.met.D.Disk.bytes c.flip_on.new.disk) placed written sound (c.in_ok-flip_on.ensures.flipped k)))
 
 pub returns-clause-records : goal.returns-clause-records
 returns-clause-records g c = λ k.
     let w0 = g.D.Disk.medium c.self.inside.disk in
     let w1 = g.D.Disk.medium c.flip_on.new.disk in
-    let flipped = c.in_default.ensures.flipped k in
+    let flipped = c.in_ok-flip_on.ensures.flipped k in
     let first = front (layout_of c.self.inside.halves.geometry) c.self.inside.halves.named w0.now in
     subst (λ (h : JournalView). (rs : List (List ℕ)) × (records h ≡ rs ++ records_in c.flip_on.new.halves.geometry w1.now)) c.self.view_is
     (first, flipped.before ∙ ap (λ (x : Geometry). first ++ records_in x w1.now) (sym c.flip_on.ensures.geometry))
 
 pub returns-clause-version : goal.returns-clause-version
 returns-clause-version g c = λ k.
-    let fine : c.self.inside.failed ≡ false = ap (λ (h : JournalView). h.failed) c.self.view_is ∙ c.requires.not_failed in
+    let fine : c.self.inside.halves.failed ≡ false = ap (λ (h : JournalView). h.failed) c.self.view_is ∙ c.requires.not_failed in
     let none : c.self.inside.pieces_left ≡ Some 0 = ap (λ (h : JournalView). h.pieces_left) c.self.view_is ∙ c.requires.written in
     let sound = c.self.invariant.sound fine k in
     let placed = (c.self.invariant.fits_cut_state fine) in
     let w1 = g.D.Disk.medium c.flip_on.new.disk in
     let written = flip_asks none c.self.invariant.long_enough c.self.invariant.snapshot c.self.invariant.pending (g.met.D.Disk.bytes c.self.inside.disk) placed sound in
     ap (λ (x : Geometry). named_version x w1.now) c.flip_on.ensures.geometry
-    ∙ flip_version none (g.met.D.Disk.bytes c.flip_on.new.disk) written sound (c.in_default.ensures.flipped k)
+    ∙ flip_version none (g.met.D.Disk.bytes c.flip_on.new.disk) written sound (c.in_ok-flip_on.ensures.flipped k)
 
 pub returns-clause-images : goal.returns-clause-images
 returns-clause-images g c = λ k.
-    subst (λ (h : JournalView). KeepsImages h.geometry h.medium.now (g.D.Disk.medium c.flip_on.new.disk).now) c.self.view_is (c.in_default.ensures.flipped k).images
+    subst (λ (h : JournalView). KeepsImages h.geometry h.medium.now (g.D.Disk.medium c.flip_on.new.disk).now) c.self.view_is (c.in_ok-flip_on.ensures.flipped k).images
 
 pub invariant_of-self-2 : goal.invariant_of-self-2
 invariant_of-self-2 g c =
+    let fine : c.self.inside.halves.failed ≡ false = ap (λ (h : JournalView). h.failed) c.self.view_is ∙ c.requires.not_failed in
     let none : c.self.inside.pieces_left ≡ Some 0 = ap (λ (h : JournalView). h.pieces_left) c.self.view_is ∙ c.requires.written in
-    let log = c.in_default.ensures.log in
+    let log = c.in_ok-flip_on.ensures.log in
     record {
       long_enough = omega (arith, c.self.invariant.long_enough, c.flip_on.ensures.call.1, ap (λ (l : Log). device_size (layout l)) log);
       used = omega (arith, c.self.invariant.used, ap (λ (l : Log). l.used) log, ap (λ (l : Log). l.geometry.half) log);
@@ -87,24 +90,31 @@ invariant_of-self-2 g c =
       named_dirty = ap (λ v. length v.items) c.swap.ensures.x_after ∙ c.self.invariant.other_dirty ∙ sym (ap piece_count c.flip_on.ensures.geometry);
       other_dirty = ap (λ v. length v.items) c.swap.ensures.y_after ∙ c.self.invariant.named_dirty ∙ sym (ap piece_count c.flip_on.ensures.geometry);
       pending = c.self.invariant.pending ∙ sym (ap piece_count c.flip_on.ensures.geometry);
-      log_not_failed = λ fine. ap (λ (l : Log). l.failed) log ∙ c.self.invariant.log_not_failed fine;
-      fits_cut_state = λ fine.
+      fits_cut_state = λ _.
           let placed = subst (λ (l : Option ℕ). FitsCutState c.self.inside.halves c.self.inside.pending.items l) none (c.self.invariant.fits_cut_state fine) in
           ap (λ (l : Log). l.current) log ∙ placed.0 ∙ sym (ap (λ (l : Log). l.named) log);
-      sound = λ fine k.
+      sound = λ _ k.
           let sound = c.self.invariant.sound fine k in
           let placed = c.self.invariant.fits_cut_state fine in
           let written = flip_asks none c.self.invariant.long_enough c.self.invariant.snapshot c.self.invariant.pending (g.met.D.Disk.bytes c.self.inside.disk) placed sound in
           sound_along log refl (ap (λ v. v.items) c.swap.ensures.x_after) (ap (λ v. v.items) c.swap.ensures.y_after) refl
-          (flip_sound none (g.met.D.Disk.bytes c.self.inside.disk) (g.met.D.Disk.bytes c.flip_on.new.disk) placed written sound (c.in_default.ensures.flipped k));
+          (flip_sound none (g.met.D.Disk.bytes c.self.inside.disk) (g.met.D.Disk.bytes c.flip_on.new.disk) placed written sound (c.in_ok-flip_on.ensures.flipped k));
       next_pending = c.self.invariant.next_pending;
       clean_before = c.self.invariant.clean_before;
     }
 
-pub returns-in-Err-clause-beyond : goal.returns-in-Err-clause-beyond
-returns-in-Err-clause-beyond g c = λ k.
+pub returns-in_err-flip_on-clause-beyond : goal.returns-in_err-flip_on-clause-beyond
+returns-in_err-flip_on-clause-beyond g c = λ k.
     subst (λ (h : JournalView). KeepsBeyond (layout_of h.geometry) h.medium (g.D.Disk.medium c.flip_on.new.disk)) c.self.view_is (c.flip_on.ensures.beyond k)
 
 pub returns-clause-beyond : goal.returns-clause-beyond
 returns-clause-beyond g c = λ k.
     subst (λ (h : JournalView). KeepsBeyond (layout_of h.geometry) h.medium (g.D.Disk.medium c.flip_on.new.disk)) c.self.view_is (c.flip_on.ensures.beyond k)
+
+pub returns-in_err-flip_on-clause-costs : goal.returns-in_err-flip_on-clause-costs
+returns-in_err-flip_on-clause-costs g c =
+    let p = err_from_is_err_and c.from_residual.result c.from_residual.ensures.1 in
+    rw p.1
+    (λ k.
+    let start = ap (λ (h : JournalView). moment_number h.medium) c.self.view_is in
+    omega (arith, start, c.in_err-flip_on.ensures.costs k))

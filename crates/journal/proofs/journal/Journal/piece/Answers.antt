@@ -23,20 +23,20 @@ use Rattle.journal.proofs.journal.Journal.piece.Goals as goal
 
 pub returns-in_default-clause-recoverable : goal.returns-in_default-clause-recoverable
 returns-in_default-clause-recoverable g c = λ k.
-    let fine : c.self.inside.failed ≡ false = ap (λ (h : JournalView). h.failed) c.self.view_is ∙ c.requires.not_failed in
+    let fine : c.self.inside.halves.failed ≡ false = ap (λ (h : JournalView). h.failed) c.self.view_is ∙ c.requires.not_failed in
     subst (λ (h : JournalView). IsRecoverable h) c.self.view_is
     (recoverable_of (c.self.invariant.sound fine k))
 
 pub returns-in_default-clause-any_moment : goal.returns-in_default-clause-any_moment
 returns-in_default-clause-any_moment g c = λ k.
-    let fine : c.self.inside.failed ≡ false = ap (λ (h : JournalView). h.failed) c.self.view_is ∙ c.requires.not_failed in
+    let fine : c.self.inside.halves.failed ≡ false = ap (λ (h : JournalView). h.failed) c.self.view_is ∙ c.requires.not_failed in
     let still : IsRecoverable c.args.self.now = subst (λ (h : JournalView). IsRecoverable h) c.self.view_is
     (recoverable_of (c.self.invariant.sound fine k)) in
     started c.args.self.now.medium _ still.each
 
 pub returns-then-is_err-clause-any_moment : goal.returns-then-is_err-clause-any_moment
 returns-then-is_err-clause-any_moment g c = λ k.
-    let fine : c.self.inside.failed ≡ false = ap (λ (h : JournalView). h.failed) c.self.view_is ∙ c.requires.not_failed in
+    let fine : c.self.inside.halves.failed ≡ false = ap (λ (h : JournalView). h.failed) c.self.view_is ∙ c.requires.not_failed in
     let w0 = g.D.Disk.medium c.self.inside.disk in
     let w1 = g.D.Disk.medium c.write_extent.new.disk in
     let moments = subst (λ (n : ℕ). CrashesChangeOnly w0 w1 (IsSameBut (layout_of c.self.inside.halves.geometry) (image_part (other n)))) c.named-area.ensures.named
@@ -46,21 +46,21 @@ returns-then-is_err-clause-any_moment g c = λ k.
 
 pub returns-then-is_err-clause-none : goal.returns-then-is_err-clause-none
 returns-then-is_err-clause-none g c = λ none.
-    let fine : c.self.inside.failed ≡ false = ap (λ (h : JournalView). h.failed) c.self.view_is ∙ c.requires.not_failed in
+    let fine : c.self.inside.halves.failed ≡ false = ap (λ (h : JournalView). h.failed) c.self.view_is ∙ c.requires.not_failed in
     let dirty_at = subst (λ (l : List Bool). get_or l c.in-Some.n false ≡ true) c.deref.ensures.value c.in-Some.ensures.dirty_at in
     absurd (piece_some c.self.inside.halves c.self.inside.pending.items c.self.inside.pieces_left c.in-Some.n (c.self.invariant.fits_cut_state fine) dirty_at
     (ap (λ (h : JournalView). h.pieces_left) c.self.view_is ∙ none))
 
 pub returns-clause-none : goal.returns-clause-none
 returns-clause-none g c = λ none.
-    let fine : c.self.inside.failed ≡ false = ap (λ (h : JournalView). h.failed) c.self.view_is ∙ c.requires.not_failed in
+    let fine : c.self.inside.halves.failed ≡ false = ap (λ (h : JournalView). h.failed) c.self.view_is ∙ c.requires.not_failed in
     let dirty_at = subst (λ (l : List Bool). get_or l c.in-Some.n false ≡ true) c.deref.ensures.value c.in-Some.ensures.dirty_at in
     absurd (piece_some c.self.inside.halves c.self.inside.pending.items c.self.inside.pieces_left c.in-Some.n (c.self.invariant.fits_cut_state fine) dirty_at
     (ap (λ (h : JournalView). h.pieces_left) c.self.view_is ∙ none))
 
 pub returns-clause-any_moment : goal.returns-clause-any_moment
 returns-clause-any_moment g c = λ k.
-    let fine : c.self.inside.failed ≡ false = ap (λ (h : JournalView). h.failed) c.self.view_is ∙ c.requires.not_failed in
+    let fine : c.self.inside.halves.failed ≡ false = ap (λ (h : JournalView). h.failed) c.self.view_is ∙ c.requires.not_failed in
     let w0 = g.D.Disk.medium c.self.inside.disk in
     let w1 = g.D.Disk.medium c.write_extent.new.disk in
     let moments = subst (λ (n : ℕ). CrashesChangeOnly w0 w1 (IsSameBut (layout_of c.self.inside.halves.geometry) (image_part (other n)))) c.named-area.ensures.named
@@ -70,7 +70,7 @@ returns-clause-any_moment g c = λ k.
 
 pub returns-clause-committed : goal.returns-clause-committed
 returns-clause-committed g c = λ k.
-    let fine : c.self.inside.failed ≡ false = ap (λ (h : JournalView). h.failed) c.self.view_is ∙ c.requires.not_failed in
+    let fine : c.self.inside.halves.failed ≡ false = ap (λ (h : JournalView). h.failed) c.self.view_is ∙ c.requires.not_failed in
     let w0 = g.D.Disk.medium c.self.inside.disk in
     let w1 = g.D.Disk.medium c.write_extent.new.disk in
     let moments = subst (λ (n : ℕ). CrashesChangeOnly w0 w1 (IsSameBut (layout_of c.self.inside.halves.geometry) (image_part (other n)))) c.named-area.ensures.named
@@ -79,7 +79,7 @@ returns-clause-committed g c = λ k.
 
 pub returns-clause-recoverable : goal.returns-clause-recoverable
 returns-clause-recoverable g c = λ k.
-    let fine : c.self.inside.failed ≡ false = ap (λ (h : JournalView). h.failed) c.self.view_is ∙ c.requires.not_failed in
+    let fine : c.self.inside.halves.failed ≡ false = ap (λ (h : JournalView). h.failed) c.self.view_is ∙ c.requires.not_failed in
     let w1 = g.D.Disk.medium c.write_extent.new.disk in
     let few = subst (λ (l : List Bool). c.in-Some.n < length l) c.deref.ensures.value c.in-Some.ensures.inside in
     let pieces_left = some_left c.self.inside.pieces_left (ap (λ (h : JournalView). is_some h.pieces_left) c.self.view_is ∙ c.requires.running) in
@@ -92,7 +92,7 @@ returns-clause-recoverable g c = λ k.
 
 pub returns-clause-pieces_left : goal.returns-clause-pieces_left
 returns-clause-pieces_left g c =
-    let fine : c.self.inside.failed ≡ false = ap (λ (h : JournalView). h.failed) c.self.view_is ∙ c.requires.not_failed in
+    let fine : c.self.inside.halves.failed ≡ false = ap (λ (h : JournalView). h.failed) c.self.view_is ∙ c.requires.not_failed in
     let dirty_at = subst (λ (l : List Bool). get_or l c.in-Some.n false ≡ true) c.deref.ensures.value c.in-Some.ensures.dirty_at in
     let running = ap (λ (h : JournalView). is_some h.pieces_left) c.self.view_is ∙ c.requires.running in
     sym (ap (λ (h : JournalView). option_map (λ (l : ℕ). l - 1) h.pieces_left) c.self.view_is)
@@ -102,7 +102,7 @@ returns-clause-pieces_left g c =
 
 pub returns-clause-after : goal.returns-clause-after
 returns-clause-after g c =
-    let fine : c.self.inside.failed ≡ false = ap (λ (h : JournalView). h.failed) c.self.view_is ∙ c.requires.not_failed in
+    let fine : c.self.inside.halves.failed ≡ false = ap (λ (h : JournalView). h.failed) c.self.view_is ∙ c.requires.not_failed in
     let dirty_at = subst (λ (l : List Bool). get_or l c.in-Some.n false ≡ true) c.deref.ensures.value c.in-Some.ensures.dirty_at in
     let running = ap (λ (h : JournalView). is_some h.pieces_left) c.self.view_is ∙ c.requires.running in
     let pieces_left = piece_left c.self.inside.halves c.self.inside.pending.items c.self.inside.pieces_left c.in-Some.n running (c.self.invariant.fits_cut_state fine) dirty_at
@@ -114,7 +114,7 @@ returns-clause-after g c =
 
 pub returns-clause-records : goal.returns-clause-records
 returns-clause-records g c = λ k.
-    let fine : c.self.inside.failed ≡ false = ap (λ (h : JournalView). h.failed) c.self.view_is ∙ c.requires.not_failed in
+    let fine : c.self.inside.halves.failed ≡ false = ap (λ (h : JournalView). h.failed) c.self.view_is ∙ c.requires.not_failed in
     let w0 = g.D.Disk.medium c.self.inside.disk in
     let w1 = g.D.Disk.medium c.write_extent.new.disk in
     let moments = subst (λ (n : ℕ). CrashesChangeOnly w0 w1 (IsSameBut (layout_of c.self.inside.halves.geometry) (image_part (other n)))) c.named-area.ensures.named
@@ -123,7 +123,7 @@ returns-clause-records g c = λ k.
 
 pub returns-in_default-clause-one : goal.returns-in_default-clause-one
 returns-in_default-clause-one g c = λ some.
-    let fine : c.self.inside.failed ≡ false = ap (λ (h : JournalView). h.failed) c.self.view_is ∙ c.requires.not_failed in
+    let fine : c.self.inside.halves.failed ≡ false = ap (λ (h : JournalView). h.failed) c.self.view_is ∙ c.requires.not_failed in
     let none : count_dirty c.self.inside.pending.items ≡ 0 = sym (ap count_dirty c.deref.ensures.value) ∙ c.in_default.ensures.none refl in
     absurd (some (sym (ap (λ (h : JournalView). h.pieces_left) c.self.view_is)
     ∙ none_due c.self.inside.halves c.self.inside.pending.items c.self.inside.pieces_left (ap (λ (h : JournalView). is_some h.pieces_left) c.self.view_is ∙ c.requires.running)
@@ -131,7 +131,7 @@ returns-in_default-clause-one g c = λ some.
 
 pub returns-in_default-clause-costs : goal.returns-in_default-clause-costs
 returns-in_default-clause-costs g c = λ some.
-    let fine : c.self.inside.failed ≡ false = ap (λ (h : JournalView). h.failed) c.self.view_is ∙ c.requires.not_failed in
+    let fine : c.self.inside.halves.failed ≡ false = ap (λ (h : JournalView). h.failed) c.self.view_is ∙ c.requires.not_failed in
     let none : count_dirty c.self.inside.pending.items ≡ 0 = sym (ap count_dirty c.deref.ensures.value) ∙ c.in_default.ensures.none refl in
     absurd (some (sym (ap (λ (h : JournalView). h.pieces_left) c.self.view_is)
     ∙ none_due c.self.inside.halves c.self.inside.pending.items c.self.inside.pieces_left (ap (λ (h : JournalView). is_some h.pieces_left) c.self.view_is ∙ c.requires.running)
@@ -139,7 +139,7 @@ returns-in_default-clause-costs g c = λ some.
 
 pub returns-clause-one : goal.returns-clause-one
 returns-clause-one g c = λ some k.
-    let fine : c.self.inside.failed ≡ false = ap (λ (h : JournalView). h.failed) c.self.view_is ∙ c.requires.not_failed in
+    let fine : c.self.inside.halves.failed ≡ false = ap (λ (h : JournalView). h.failed) c.self.view_is ∙ c.requires.not_failed in
     let w0 = g.D.Disk.medium c.self.inside.disk in
     let w1 = g.D.Disk.medium c.write_extent.new.disk in
     let written = on_ok c.write_extent.result _ (sym c.is_err.ensures.value ∙ c.if-is_err.false) c.write_extent.ensures.written k in
@@ -151,6 +151,7 @@ returns-clause-one g c = λ some k.
 
 pub invariant_of-self-2 : goal.invariant_of-self-2
 invariant_of-self-2 g c =
+    let fine : c.self.inside.halves.failed ≡ false = ap (λ (h : JournalView). h.failed) c.self.view_is ∙ c.requires.not_failed in
     let few = subst (λ (l : List Bool). c.in-Some.n < length l) c.deref.ensures.value c.in-Some.ensures.inside in
     let dirty_at = subst (λ (l : List Bool). get_or l c.in-Some.n false ≡ true) c.deref.ensures.value c.in-Some.ensures.dirty_at in
     record {
@@ -160,8 +161,7 @@ invariant_of-self-2 g c =
       named_dirty = c.self.invariant.named_dirty;
       other_dirty = c.self.invariant.other_dirty;
       pending = length-set c.self.inside.pending.items c.in-Some.n false ∙ c.self.invariant.pending;
-      log_not_failed = c.self.invariant.log_not_failed;
-      fits_cut_state = λ fine.
+      fits_cut_state = λ _.
           let pieces_left = some_left c.self.inside.pieces_left (ap (λ (h : JournalView). is_some h.pieces_left) c.self.view_is ∙ c.requires.running) in
           let placed = subst (λ (l : Option ℕ). FitsCutState c.self.inside.halves c.self.inside.pending.items l) pieces_left.1 (c.self.invariant.fits_cut_state fine) in (
             placed.0,
@@ -169,7 +169,7 @@ invariant_of-self-2 g c =
                 (ap (λ (h : JournalView). is_some h.pieces_left) c.self.view_is ∙ c.requires.running)
                 (c.self.invariant.fits_cut_state fine) dirty_at (c.saturating_sub-pieces_left.ensures ∙ ap (λ (n : ℕ). n - 1) c.unwrap_or.ensures)),
           );
-      sound = λ fine k.
+      sound = λ _ k.
           let w1 = g.D.Disk.medium c.write_extent.new.disk in
           let pieces_left = some_left c.self.inside.pieces_left (ap (λ (h : JournalView). is_some h.pieces_left) c.self.view_is ∙ c.requires.running) in
           let written = on_ok c.write_extent.result _ (sym c.is_err.ensures.value ∙ c.if-is_err.false) c.write_extent.ensures.written k in

@@ -1,10 +1,11 @@
 -- The snapshot is the image of the committed state, and the clean pieces are on the device: what a crash leaves recovers to it.
-use Rattle.std.proofs.Common.{◌≡◌, false, Option, Some, None, ℕ, Bool, List, length, refl, sym, ◌∙◌, ap, subst, arith}
+use Rattle.std.proofs.Common.{◌≡◌, false, Option, None, ℕ, Bool, List, length, refl, sym, ◌∙◌, ap, subst, arith}
 use Rattle.std.proofs.lemmas.List.{length-replicate}
+use Rattle.std.proofs.lemmas.Result.{err_from_is_err_and}
 use Rattle.affinity.specs.declared.geometry.Geometry.{Geometry}
 use Rattle.checkpoint.specs.Recovery.{recovered_state}
 use Rattle.disk.specs.Moments.{CrashImagesAre, moment_number}
-use Rattle.image.specs.Image.{image_of, read}
+use Rattle.image.specs.Image.{read}
 use Rattle.image.specs.Pieces.{piece_count}
 use Rattle.journal.specs.Costs.{point_cost}
 use Rattle.journal.specs.Journal.{JournalView, committed}
@@ -15,68 +16,44 @@ use Rattle.journal.proofs.Costs.{few_runs}
 use Rattle.journal.proofs.Logging.{recoverable_of, sound_along}
 use Rattle.journal.proofs.Rows.{whole_put}
 use Rattle.checkpoint.specs.Version.{named_version}
-use Rattle.journal.proofs.Saving.{snapshot_right, agrees, is_alone, point_committed, point_sound, pointed_version, reads}
+use Rattle.journal.proofs.Saving.{agrees, is_alone, point_committed, point_sound, pointed_version, reads, saves}
 use Rattle.oplog.specs.Beyond.{KeepsBeyond}
 use Rattle.device_map.specs.Layout.{layout_of, device_size, image_size, other}
 use Rattle.oplog.specs.Log.{Log, layout}
-use Rattle.oplog.specs.Recovery.{in_force, named_area}
+use Rattle.oplog.specs.Recovery.{records_in}
 use Rattle.parcel.specs.Tree.{state_in}
-use Rattle.meaning.specs.State.{IsState}
 use Rattle.journal.proofs.journal.Journal.point.Goals as goal
 
 pub point_on-requires-clause-alone : goal.point_on-requires-clause-alone
 point_on-requires-clause-alone g c = λ k.
-    let fine : c.self.inside.failed ≡ false = ap (λ (h : JournalView). h.failed) c.self.view_is ∙ c.requires.not_failed in
-    let no_cut : c.self.inside.pieces_left ≡ None = ap (λ (h : JournalView). h.pieces_left) c.self.view_is ∙ c.requires.no_cut in
-    let geometry : c.args.tree.now.geometry ≡ c.self.inside.halves.geometry = c.requires.geometry ∙ sym (ap (λ (h : JournalView). h.geometry) c.self.view_is) in
-    let is_state = subst (λ (x : Geometry). IsState x (state_in c.args.tree.now)) geometry c.requires.whole.state in
-    let w0 = g.D.Disk.medium c.self.inside.disk in
-    let is : recovered_state c.self.inside.halves.geometry w0.now ≡ Some (state_in c.args.tree.now) = ap committed c.self.view_is ∙ c.requires.state k in
-    let right = snapshot_right no_cut (c.self.invariant.sound fine k) is geometry c.deref.ensures.value c.deref_mut.ensures.value in
-    let spelled : c.update_snapshot.new.bytes ≡ image_of 2 c.self.inside.halves.geometry (state_in c.args.tree.now) = c.update_snapshot.ensures.image right
-    ∙ ap (λ (x : Geometry). image_of 2 x (state_in c.args.tree.now)) geometry in
-    is_alone no_cut (c.self.invariant.fits_cut_state fine) (c.self.invariant.sound fine k) is
-    is_state spelled (g.met.D.Disk.bytes c.self.inside.disk)
+    let f = saves {self = c.args.self.now} {tree = c.args.tree.now} c.self.invariant c.self.view_is k
+    (record { not_failed = c.requires.not_failed; no_cut = c.requires.no_cut; geometry = c.requires.geometry; state = c.requires.whole.state; committed = c.requires.state k })
+    (g.met.D.Disk.bytes c.self.inside.disk) c.deref.ensures.value c.deref_mut.ensures.value c.update_snapshot.ensures.image in
+    is_alone f
 
 pub point_on-requires-clause-image : goal.point_on-requires-clause-image
 point_on-requires-clause-image g c = λ k.
-    let fine : c.self.inside.failed ≡ false = ap (λ (h : JournalView). h.failed) c.self.view_is ∙ c.requires.not_failed in
-    let no_cut : c.self.inside.pieces_left ≡ None = ap (λ (h : JournalView). h.pieces_left) c.self.view_is ∙ c.requires.no_cut in
-    let geometry : c.args.tree.now.geometry ≡ c.self.inside.halves.geometry = c.requires.geometry ∙ sym (ap (λ (h : JournalView). h.geometry) c.self.view_is) in
-    let is_state = subst (λ (x : Geometry). IsState x (state_in c.args.tree.now)) geometry c.requires.whole.state in
-    let snapshot = whole_put c.self.inside.snapshot.len c.update_snapshot.new.bytes c.self.inside.snapshot.items
-    (c.update_snapshot.ensures.size ∙ ap length c.deref_mut.ensures.value) (c.update_snapshot.ensures.size ∙ c.deref_mut.ensures.len) in
-    let w0 = g.D.Disk.medium c.self.inside.disk in
-    let is : recovered_state c.self.inside.halves.geometry w0.now ≡ Some (state_in c.args.tree.now) = ap committed c.self.view_is ∙ c.requires.state k in
-    let right = snapshot_right no_cut (c.self.invariant.sound fine k) is geometry c.deref.ensures.value c.deref_mut.ensures.value in
-    let spelled : c.update_snapshot.new.bytes ≡ image_of 2 c.self.inside.halves.geometry (state_in c.args.tree.now) = c.update_snapshot.ensures.image right
-    ∙ ap (λ (x : Geometry). image_of 2 x (state_in c.args.tree.now)) geometry in
-    ap (read c.self.inside.halves.geometry) (c.deref-2.ensures.value ∙ snapshot)
-    ∙ reads no_cut (c.self.invariant.fits_cut_state fine) (c.self.invariant.sound fine k) is
-    is_state spelled (g.met.D.Disk.bytes c.self.inside.disk)
+    let snapshot = whole_put c.update_snapshot.new.bytes c.update_snapshot.ensures.size c.deref_mut.ensures.value c.deref_mut.ensures.len in
+    let f = saves {self = c.args.self.now} {tree = c.args.tree.now} c.self.invariant c.self.view_is k
+    (record { not_failed = c.requires.not_failed; no_cut = c.requires.no_cut; geometry = c.requires.geometry; state = c.requires.whole.state; committed = c.requires.state k })
+    (g.met.D.Disk.bytes c.self.inside.disk) c.deref.ensures.value c.deref_mut.ensures.value c.update_snapshot.ensures.image in
+    ap (read c.self.inside.halves.geometry) (c.deref-2.ensures.value ∙ snapshot) ∙ reads f
 
 pub point_on-requires-clause-clean : goal.point_on-requires-clause-clean
 point_on-requires-clause-clean g c = λ k.
-    let fine : c.self.inside.failed ≡ false = ap (λ (h : JournalView). h.failed) c.self.view_is ∙ c.requires.not_failed in
-    let no_cut : c.self.inside.pieces_left ≡ None = ap (λ (h : JournalView). h.pieces_left) c.self.view_is ∙ c.requires.no_cut in
-    let geometry : c.args.tree.now.geometry ≡ c.self.inside.halves.geometry = c.requires.geometry ∙ sym (ap (λ (h : JournalView). h.geometry) c.self.view_is) in
-    let is_state = subst (λ (x : Geometry). IsState x (state_in c.args.tree.now)) geometry c.requires.whole.state in
-    let snapshot = whole_put c.self.inside.snapshot.len c.update_snapshot.new.bytes c.self.inside.snapshot.items
-    (c.update_snapshot.ensures.size ∙ ap length c.deref_mut.ensures.value) (c.update_snapshot.ensures.size ∙ c.deref_mut.ensures.len) in
+    let snapshot = whole_put c.update_snapshot.new.bytes c.update_snapshot.ensures.size c.deref_mut.ensures.value c.deref_mut.ensures.len in
     let w0 = g.D.Disk.medium c.self.inside.disk in
-    let is : recovered_state c.self.inside.halves.geometry w0.now ≡ Some (state_in c.args.tree.now) = ap committed c.self.view_is ∙ c.requires.state k in
-    let right = snapshot_right no_cut (c.self.invariant.sound fine k) is geometry c.deref.ensures.value c.deref_mut.ensures.value in
-    let spelled : c.update_snapshot.new.bytes ≡ image_of 2 c.self.inside.halves.geometry (state_in c.args.tree.now) = c.update_snapshot.ensures.image right
-    ∙ ap (λ (x : Geometry). image_of 2 x (state_in c.args.tree.now)) geometry in
+    let f = saves {self = c.args.self.now} {tree = c.args.tree.now} c.self.invariant c.self.view_is k
+    (record { not_failed = c.requires.not_failed; no_cut = c.requires.no_cut; geometry = c.requires.geometry; state = c.requires.whole.state; committed = c.requires.state k })
+    (g.met.D.Disk.bytes c.self.inside.disk) c.deref.ensures.value c.deref_mut.ensures.value c.update_snapshot.ensures.image in
     subst (λ (l : List ℕ). AgreeOnClean c.self.inside.halves.geometry c.deref-3.result.now
     (image_in c.self.inside.halves.geometry (other c.self.inside.halves.named) w0) l) (sym (c.deref-2.ensures.value ∙ snapshot))
     (subst (λ (l : List Bool). AgreeOnClean c.self.inside.halves.geometry l
     (image_in c.self.inside.halves.geometry (other c.self.inside.halves.named) w0) c.update_snapshot.new.bytes) (sym c.deref-3.ensures.value)
-    (agrees no_cut (c.self.invariant.fits_cut_state fine) (c.self.invariant.sound fine k) is
-    is_state spelled (g.met.D.Disk.bytes c.self.inside.disk)))
+    (agrees f))
 
-pub returns-in-Err-clause-any_moment : goal.returns-in-Err-clause-any_moment
-returns-in-Err-clause-any_moment g c = λ k.
+pub returns-in_err-point_on-clause-any_moment : goal.returns-in_err-point_on-clause-any_moment
+returns-in_err-point_on-clause-any_moment g c = λ k.
     subst (λ (h : JournalView). CrashImagesAre h.medium (g.D.Disk.medium c.point_on.new.disk) (λ c'. recovered_state h.geometry c' ≡ committed h)) c.self.view_is (c.point_on.ensures.any_moment k)
 
 pub returns-clause-any_moment : goal.returns-clause-any_moment
@@ -85,79 +62,56 @@ returns-clause-any_moment g c = λ k.
 
 pub returns-clause-committed : goal.returns-clause-committed
 returns-clause-committed g c = λ k.
-    let fine : c.self.inside.failed ≡ false = ap (λ (h : JournalView). h.failed) c.self.view_is ∙ c.requires.not_failed in
-    let no_cut : c.self.inside.pieces_left ≡ None = ap (λ (h : JournalView). h.pieces_left) c.self.view_is ∙ c.requires.no_cut in
-    let geometry : c.args.tree.now.geometry ≡ c.self.inside.halves.geometry = c.requires.geometry ∙ sym (ap (λ (h : JournalView). h.geometry) c.self.view_is) in
-    let is_state = subst (λ (x : Geometry). IsState x (state_in c.args.tree.now)) geometry c.requires.whole.state in
-    let snapshot = whole_put c.self.inside.snapshot.len c.update_snapshot.new.bytes c.self.inside.snapshot.items
-    (c.update_snapshot.ensures.size ∙ ap length c.deref_mut.ensures.value) (c.update_snapshot.ensures.size ∙ c.deref_mut.ensures.len) in
+    let snapshot = whole_put c.update_snapshot.new.bytes c.update_snapshot.ensures.size c.deref_mut.ensures.value c.deref_mut.ensures.len in
     let w0 = g.D.Disk.medium c.self.inside.disk in
-    let is : recovered_state c.self.inside.halves.geometry w0.now ≡ Some (state_in c.args.tree.now) = ap committed c.self.view_is ∙ c.requires.state k in
-    let right = snapshot_right no_cut (c.self.invariant.sound fine k) is geometry c.deref.ensures.value c.deref_mut.ensures.value in
-    let spelled : c.update_snapshot.new.bytes ≡ image_of 2 c.self.inside.halves.geometry (state_in c.args.tree.now) = c.update_snapshot.ensures.image right
-    ∙ ap (λ (x : Geometry). image_of 2 x (state_in c.args.tree.now)) geometry in
+    let f = saves {self = c.args.self.now} {tree = c.args.tree.now} c.self.invariant c.self.view_is k
+    (record { not_failed = c.requires.not_failed; no_cut = c.requires.no_cut; geometry = c.requires.geometry; state = c.requires.whole.state; committed = c.requires.state k })
+    (g.met.D.Disk.bytes c.self.inside.disk) c.deref.ensures.value c.deref_mut.ensures.value c.update_snapshot.ensures.image in
     let w1 = g.D.Disk.medium c.point_on.new.disk in
-    let made = subst (λ (l : List ℕ). IsPointed c.self.inside.halves l w0 w1) (c.deref-2.ensures.value ∙ snapshot) (c.in_default.ensures.pointed k) in
+    let made = subst (λ (l : List ℕ). IsPointed c.self.inside.halves l w0 w1) (c.deref-2.ensures.value ∙ snapshot) (c.in_ok-point_on.ensures.pointed k) in
     ap (λ (x : Geometry). recovered_state x w1.now) c.point_on.ensures.geometry
-    ∙ point_committed no_cut (c.self.invariant.fits_cut_state fine) (c.self.invariant.sound fine k) is is_state spelled (g.met.D.Disk.bytes c.self.inside.disk)
-    (g.met.D.Disk.bytes c.point_on.new.disk) made ∙ ap committed c.self.view_is
+    ∙ point_committed f (g.met.D.Disk.bytes c.point_on.new.disk) made ∙ ap committed c.self.view_is
 
 pub returns-clause-emptied : goal.returns-clause-emptied
 returns-clause-emptied g c = λ k.
-    let snapshot = whole_put c.self.inside.snapshot.len c.update_snapshot.new.bytes c.self.inside.snapshot.items
-    (c.update_snapshot.ensures.size ∙ ap length c.deref_mut.ensures.value) (c.update_snapshot.ensures.size ∙ c.deref_mut.ensures.len) in
+    let snapshot = whole_put c.update_snapshot.new.bytes c.update_snapshot.ensures.size c.deref_mut.ensures.value c.deref_mut.ensures.len in
     let w0 = g.D.Disk.medium c.self.inside.disk in
     let w1 = g.D.Disk.medium c.point_on.new.disk in
-    let made = subst (λ (l : List ℕ). IsPointed c.self.inside.halves l w0 w1) (c.deref-2.ensures.value ∙ snapshot) (c.in_default.ensures.pointed k) in
-    ap (λ (x : Geometry). in_force (layout_of x) (named_area (layout_of x) w1.now) w1.now) c.point_on.ensures.geometry ∙ made.emptied
+    let made = subst (λ (l : List ℕ). IsPointed c.self.inside.halves l w0 w1) (c.deref-2.ensures.value ∙ snapshot) (c.in_ok-point_on.ensures.pointed k) in
+    ap (λ (x : Geometry). records_in x w1.now) c.point_on.ensures.geometry ∙ made.emptied
 
 pub returns-clause-version : goal.returns-clause-version
 returns-clause-version g c = λ k.
-    let fine : c.self.inside.failed ≡ false = ap (λ (h : JournalView). h.failed) c.self.view_is ∙ c.requires.not_failed in
-    let no_cut : c.self.inside.pieces_left ≡ None = ap (λ (h : JournalView). h.pieces_left) c.self.view_is ∙ c.requires.no_cut in
-    let geometry : c.args.tree.now.geometry ≡ c.self.inside.halves.geometry = c.requires.geometry ∙ sym (ap (λ (h : JournalView). h.geometry) c.self.view_is) in
-    let snapshot = whole_put c.self.inside.snapshot.len c.update_snapshot.new.bytes c.self.inside.snapshot.items
-    (c.update_snapshot.ensures.size ∙ ap length c.deref_mut.ensures.value) (c.update_snapshot.ensures.size ∙ c.deref_mut.ensures.len) in
+    let snapshot = whole_put c.update_snapshot.new.bytes c.update_snapshot.ensures.size c.deref_mut.ensures.value c.deref_mut.ensures.len in
     let w0 = g.D.Disk.medium c.self.inside.disk in
-    let is : recovered_state c.self.inside.halves.geometry w0.now ≡ Some (state_in c.args.tree.now) = ap committed c.self.view_is ∙ c.requires.state k in
-    let right = snapshot_right no_cut (c.self.invariant.sound fine k) is geometry c.deref.ensures.value c.deref_mut.ensures.value in
-    let spelled : c.update_snapshot.new.bytes ≡ image_of 2 c.self.inside.halves.geometry (state_in c.args.tree.now) = c.update_snapshot.ensures.image right
-    ∙ ap (λ (x : Geometry). image_of 2 x (state_in c.args.tree.now)) geometry in
+    let f = saves {self = c.args.self.now} {tree = c.args.tree.now} c.self.invariant c.self.view_is k
+    (record { not_failed = c.requires.not_failed; no_cut = c.requires.no_cut; geometry = c.requires.geometry; state = c.requires.whole.state; committed = c.requires.state k })
+    (g.met.D.Disk.bytes c.self.inside.disk) c.deref.ensures.value c.deref_mut.ensures.value c.update_snapshot.ensures.image in
     let w1 = g.D.Disk.medium c.point_on.new.disk in
-    let made = subst (λ (l : List ℕ). IsPointed c.self.inside.halves l w0 w1) (c.deref-2.ensures.value ∙ snapshot) (c.in_default.ensures.pointed k) in
+    let made = subst (λ (l : List ℕ). IsPointed c.self.inside.halves l w0 w1) (c.deref-2.ensures.value ∙ snapshot) (c.in_ok-point_on.ensures.pointed k) in
     ap (λ (x : Geometry). named_version x w1.now) c.point_on.ensures.geometry
-    ∙ pointed_version c.self.inside.halves c.update_snapshot.new.bytes w0 w1 (state_in c.args.tree.now) (g.met.D.Disk.bytes c.point_on.new.disk) spelled
+    ∙ pointed_version c.self.inside.halves c.update_snapshot.new.bytes w0 w1 (state_in c.args.tree.now) (g.met.D.Disk.bytes c.point_on.new.disk) f.spelled
     made
 
 pub returns-clause-recoverable : goal.returns-clause-recoverable
 returns-clause-recoverable g c = λ k.
-    let fine : c.self.inside.failed ≡ false = ap (λ (h : JournalView). h.failed) c.self.view_is ∙ c.requires.not_failed in
     let no_cut : c.self.inside.pieces_left ≡ None = ap (λ (h : JournalView). h.pieces_left) c.self.view_is ∙ c.requires.no_cut in
-    let geometry : c.args.tree.now.geometry ≡ c.self.inside.halves.geometry = c.requires.geometry ∙ sym (ap (λ (h : JournalView). h.geometry) c.self.view_is) in
-    let is_state = subst (λ (x : Geometry). IsState x (state_in c.args.tree.now)) geometry c.requires.whole.state in
-    let snapshot = whole_put c.self.inside.snapshot.len c.update_snapshot.new.bytes c.self.inside.snapshot.items
-    (c.update_snapshot.ensures.size ∙ ap length c.deref_mut.ensures.value) (c.update_snapshot.ensures.size ∙ c.deref_mut.ensures.len) in
+    let snapshot = whole_put c.update_snapshot.new.bytes c.update_snapshot.ensures.size c.deref_mut.ensures.value c.deref_mut.ensures.len in
     let w0 = g.D.Disk.medium c.self.inside.disk in
-    let is : recovered_state c.self.inside.halves.geometry w0.now ≡ Some (state_in c.args.tree.now) = ap committed c.self.view_is ∙ c.requires.state k in
-    let right = snapshot_right no_cut (c.self.invariant.sound fine k) is geometry c.deref.ensures.value c.deref_mut.ensures.value in
-    let spelled : c.update_snapshot.new.bytes ≡ image_of 2 c.self.inside.halves.geometry (state_in c.args.tree.now) = c.update_snapshot.ensures.image right
-    ∙ ap (λ (x : Geometry). image_of 2 x (state_in c.args.tree.now)) geometry in
+    let f = saves {self = c.args.self.now} {tree = c.args.tree.now} c.self.invariant c.self.view_is k
+    (record { not_failed = c.requires.not_failed; no_cut = c.requires.no_cut; geometry = c.requires.geometry; state = c.requires.whole.state; committed = c.requires.state k })
+    (g.met.D.Disk.bytes c.self.inside.disk) c.deref.ensures.value c.deref_mut.ensures.value c.update_snapshot.ensures.image in
     let w1 = g.D.Disk.medium c.point_on.new.disk in
-    let made = subst (λ (l : List ℕ). IsPointed c.self.inside.halves l w0 w1) (c.deref-2.ensures.value ∙ snapshot) (c.in_default.ensures.pointed k) in
+    let made = subst (λ (l : List ℕ). IsPointed c.self.inside.halves l w0 w1) (c.deref-2.ensures.value ∙ snapshot) (c.in_ok-point_on.ensures.pointed k) in
     recoverable_of
-    (sound_along c.in_default.ensures.log snapshot refl refl no_cut
-    (point_sound no_cut (c.self.invariant.fits_cut_state fine) (c.self.invariant.sound fine k) is is_state spelled (g.met.D.Disk.bytes c.self.inside.disk)
-    (g.met.D.Disk.bytes c.point_on.new.disk) {named' = c.swap_and_clear_dirty.new.named.items} (ap (λ v. v.items) c.swap_and_clear_dirty.ensures.kept) made))
+    (sound_along c.in_ok-point_on.ensures.log snapshot refl refl no_cut
+    (point_sound f (g.met.D.Disk.bytes c.point_on.new.disk) {named' = c.swap_and_clear_dirty.new.named.items} (ap (λ v. v.items) c.swap_and_clear_dirty.ensures.kept) made))
 
 pub invariant_of-self-2 : goal.invariant_of-self-2
 invariant_of-self-2 g c =
-    let fine : c.self.inside.failed ≡ false = ap (λ (h : JournalView). h.failed) c.self.view_is ∙ c.requires.not_failed in
     let no_cut : c.self.inside.pieces_left ≡ None = ap (λ (h : JournalView). h.pieces_left) c.self.view_is ∙ c.requires.no_cut in
-    let geometry : c.args.tree.now.geometry ≡ c.self.inside.halves.geometry = c.requires.geometry ∙ sym (ap (λ (h : JournalView). h.geometry) c.self.view_is) in
-    let is_state = subst (λ (x : Geometry). IsState x (state_in c.args.tree.now)) geometry c.requires.whole.state in
-    let snapshot = whole_put c.self.inside.snapshot.len c.update_snapshot.new.bytes c.self.inside.snapshot.items
-    (c.update_snapshot.ensures.size ∙ ap length c.deref_mut.ensures.value) (c.update_snapshot.ensures.size ∙ c.deref_mut.ensures.len) in
-    let log = c.in_default.ensures.log in
+    let snapshot = whole_put c.update_snapshot.new.bytes c.update_snapshot.ensures.size c.deref_mut.ensures.value c.deref_mut.ensures.len in
+    let log = c.in_ok-point_on.ensures.log in
     let same = c.point_on.ensures.geometry in
     record {
       long_enough = omega (arith, c.self.invariant.long_enough, c.point_on.ensures.call.1, ap (λ (l : Log). device_size (layout l)) log);
@@ -166,48 +120,47 @@ invariant_of-self-2 g c =
       named_dirty = ap length c.swap_and_clear_dirty.ensures.written ∙ length-replicate _ false ∙ c.self.invariant.other_dirty ∙ sym (ap piece_count same);
       other_dirty = ap (λ v. length v.items) c.swap_and_clear_dirty.ensures.kept ∙ c.self.invariant.named_dirty ∙ sym (ap piece_count same);
       pending = c.self.invariant.pending ∙ sym (ap piece_count same);
-      log_not_failed = λ fine. ap (λ (l : Log). l.failed) log ∙ c.self.invariant.log_not_failed fine;
-      fits_cut_state = λ fine.
+      fits_cut_state = λ _.
           subst (λ (o : Option ℕ). FitsCutState c.point_on.new.halves c.self.inside.pending.items o) (sym no_cut) (ap (λ (l : Log). l.current) log ∙ sym (ap (λ (l : Log). l.named) log));
-      sound = λ fine k.
+      sound = λ _ k.
           let w0 = g.D.Disk.medium c.self.inside.disk in
-          let is : recovered_state c.self.inside.halves.geometry w0.now ≡ Some (state_in c.args.tree.now) = ap committed c.self.view_is ∙ c.requires.state k in
-          let right = snapshot_right no_cut (c.self.invariant.sound fine k) is geometry c.deref.ensures.value c.deref_mut.ensures.value in
-          let spelled : c.update_snapshot.new.bytes ≡ image_of 2 c.self.inside.halves.geometry (state_in c.args.tree.now) = c.update_snapshot.ensures.image right
-          ∙ ap (λ (x : Geometry). image_of 2 x (state_in c.args.tree.now)) geometry in
+          let f = saves {self = c.args.self.now} {tree = c.args.tree.now} c.self.invariant c.self.view_is k
+          (record { not_failed = c.requires.not_failed; no_cut = c.requires.no_cut; geometry = c.requires.geometry; state = c.requires.whole.state; committed = c.requires.state k })
+          (g.met.D.Disk.bytes c.self.inside.disk) c.deref.ensures.value c.deref_mut.ensures.value c.update_snapshot.ensures.image in
           let w1 = g.D.Disk.medium c.point_on.new.disk in
-          let made = subst (λ (l : List ℕ). IsPointed c.self.inside.halves l w0 w1) (c.deref-2.ensures.value ∙ snapshot) (c.in_default.ensures.pointed k) in
-          sound_along c.in_default.ensures.log snapshot refl refl no_cut
-          (point_sound no_cut (c.self.invariant.fits_cut_state fine) (c.self.invariant.sound fine k) is is_state spelled (g.met.D.Disk.bytes c.self.inside.disk)
-          (g.met.D.Disk.bytes c.point_on.new.disk) (ap (λ v. v.items) c.swap_and_clear_dirty.ensures.kept) made);
+          let made = subst (λ (l : List ℕ). IsPointed c.self.inside.halves l w0 w1) (c.deref-2.ensures.value ∙ snapshot) (c.in_ok-point_on.ensures.pointed k) in
+          sound_along c.in_ok-point_on.ensures.log snapshot refl refl no_cut
+          (point_sound f (g.met.D.Disk.bytes c.point_on.new.disk) (ap (λ v. v.items) c.swap_and_clear_dirty.ensures.kept) made);
       next_pending = c.self.invariant.next_pending;
       clean_before = c.self.invariant.clean_before;
     }
 
-pub returns-in-Err-clause-beyond : goal.returns-in-Err-clause-beyond
-returns-in-Err-clause-beyond g c = λ k.
+pub returns-in_err-point_on-clause-beyond : goal.returns-in_err-point_on-clause-beyond
+returns-in_err-point_on-clause-beyond g c = λ k.
     subst (λ (h : JournalView). KeepsBeyond (layout_of h.geometry) h.medium (g.D.Disk.medium c.point_on.new.disk)) c.self.view_is (c.point_on.ensures.beyond k)
 
 pub returns-clause-beyond : goal.returns-clause-beyond
 returns-clause-beyond g c = λ k.
     subst (λ (h : JournalView). KeepsBeyond (layout_of h.geometry) h.medium (g.D.Disk.medium c.point_on.new.disk)) c.self.view_is (c.point_on.ensures.beyond k)
 
-pub returns-in-Err-clause-costs : goal.returns-in-Err-clause-costs
-returns-in-Err-clause-costs g c = λ k.
+pub returns-in_err-point_on-clause-costs : goal.returns-in_err-point_on-clause-costs
+returns-in_err-point_on-clause-costs g c =
+    let p = err_from_is_err_and c.from_residual.result c.from_residual.ensures.1 in
+    rw p.1
+    (λ k.
     let dirty = ap point_cost c.deref-3.ensures.value ∙ ap (λ (h : JournalView). point_cost h.dirty.other) c.self.view_is in
     let start = ap (λ (h : JournalView). moment_number h.medium) c.self.view_is in
-    let takes = c.in-Err.ensures.costs k in
-    omega (arith, dirty, start, takes)
+    omega (arith, dirty, start, c.in_err-point_on.ensures.costs k))
 
 pub returns-clause-costs : goal.returns-clause-costs
 returns-clause-costs g c = λ k.
     let dirty = ap point_cost c.deref-3.ensures.value ∙ ap (λ (h : JournalView). point_cost h.dirty.other) c.self.view_is in
     let start = ap (λ (h : JournalView). moment_number h.medium) c.self.view_is in
-    let takes = c.in_default.ensures.costs k in
+    let takes = c.in_ok-point_on.ensures.costs k in
     omega (arith, dirty, start, takes)
 
-pub returns-in-Err-clause-few : goal.returns-in-Err-clause-few
-returns-in-Err-clause-few g c =
+pub returns-in_err-point_on-clause-few : goal.returns-in_err-point_on-clause-few
+returns-in_err-point_on-clause-few g c =
     let most = few_runs c.self.inside.other_dirty.items in
     let count = ap (λ (h : JournalView). point_cost h.dirty.other) c.self.view_is in
     let long : length c.self.inside.other_dirty.items ≡ piece_count c.args.self.now.geometry = c.self.invariant.other_dirty ∙ ap (λ (h : JournalView). piece_count h.geometry) c.self.view_is in
