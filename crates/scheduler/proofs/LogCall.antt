@@ -121,9 +121,10 @@ module _ {D : Type 0} {keeps : Type 0} (core : Inside D) (is : IsSoundCore keeps
         let same = logged_changes_same in
         omega (arith, unlogged_was, all, same)
 
-  module _ (messages : Vec Msg Global) (gathered_is : messages.items ≡ recorded_in core.slots core.replies.items (take count slots)) where
+  module _ (messages : Vec Msg Global) {replies : List Reply} (gathered_is : messages.items ≡ recorded_in core.slots replies (take count slots)) (replies_are : replies ≡ core.replies.items) where
     messages_are : messages.items ≡ batch_at p n
-    messages_are = gathered_is ∙ ap (λ (l : List SlotView). recorded (map replied_of l)) (sym (take-map (slot_view_at core.slots core.replies.items) count slots) ∙ take_is)
+    messages_are = gathered_is ∙ ap (λ (rs : List Reply). recorded_in core.slots rs (take count slots)) replies_are
+        ∙ ap (λ (l : List SlotView). recorded (map replied_of l)) (sym (take-map (slot_view_at core.slots core.replies.items) count slots) ∙ take_is)
 
     module _ (passed : List Msg) (passed_is : passed ≡ messages.items) where
       passed_at : passed ≡ batch_at p n

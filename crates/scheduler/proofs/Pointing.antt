@@ -24,7 +24,7 @@ use Rattle.meaning.specs.State.{IsState}
 use Rattle.scheduler.proofs.Called.{cut_called, point_called}
 use Rattle.scheduler.proofs.Counting.{held_count}
 use Rattle.scheduler.proofs.Journaling.{called_sound, step_core, step_throughout, with_journal}
-use Rattle.scheduler.specs.CoreView.{RecoversThroughout}
+use Rattle.scheduler.specs.CoreView.{CoreView, RecoversThroughout, core_state_of}
 use Rattle.scheduler.specs.Fields.{IsSoundCore, parts}
 use Rattle.scheduler.specs.declared.core_calls.Core.TheInside.{Inside}
 use Rattle.scheduler.specs.Parts.{IsCore, Parts, entry_of, is_below, core_view_of, reached, core_state_in}
@@ -38,6 +38,10 @@ past false why o e = (refl, e)
 no_items : {X : Type 0} (xs : List X) → length xs ≡ 0 → xs ≡ []
 no_items [] e = refl
 no_items (x ∷ xs) e = absurd (omega (arith, e))
+
+-- the answer of `Core::point_refusal`, about the parts of the core
+pub not_refused : {inside now : CoreView} {why : Option PointRefusal} → inside ≡ now → why ≡ point_refusal (core_state_of now) → why ≡ None → point_refusal (core_state_of inside) ≡ None
+not_refused view answer none = ap (λ (o : CoreView). point_refusal (core_state_of o)) view ∙ sym answer ∙ none
 
 module _ (keeps : Type 0) (p : Parts) (k : IsCore keeps p) (why : point_refusal (core_state_in p) ≡ None) where
   pub point_works : p.journal.failed ≡ false

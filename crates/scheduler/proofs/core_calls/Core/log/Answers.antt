@@ -1,12 +1,10 @@
 -- The changes that ran fit into the log, a crash recovers a prefix of them, and then they are logged.
 use Rattle.std.proofs.Common.{◌≡◌, ℕ, ◌+◌, ◌*◌, ◌-◌, ◌≤◌, List, length, take, true, false, refl, sym, ap, subst, ◌∙◌}
 use Rattle.std.specs.Prelude.{if◌then◌else◌}
-use Rattle.arena.specs.ArenaView.{chain_at}
 use Rattle.disk.specs.Moments.{CrashImagesAre, moment_number}
 use Rattle.journal.specs.Journal.{RecoversWithPrefix}
 use Rattle.legal_runs.specs.Events.{batch, log, touches_device}
 use Rattle.legal_runs.specs.declared.outcomes.Step.TheVariants as steps
-use Rattle.messages.specs.declared.Reply.{Reply}
 use Rattle.oplog.proofs.Answered.{on_ok}
 use Rattle.oplog.proofs.Beyond.{beyond_none}
 use Rattle.oplog.specs.Beyond.{KeepsBeyond}
@@ -15,7 +13,6 @@ use Rattle.device_map.specs.Layout.{layout_of}
 use Rattle.scheduler.proofs.Journaling.{still_standing}
 use Rattle.scheduler.proofs.LogCall.{broken_from, broken_takes, doubt_call, doubt_call_state, log_call, log_call_throughout, log_call_state, log_carried, log_count, log_fits, log_unlogged, log_length, log_changes, log_low, log_untouched, made_from, made_takes, none_taken, some_were_passed}
 use Rattle.scheduler.specs.CoreView.{CoreView, RecoversThroughout, core_state_of}
-use Rattle.scheduler.specs.Moving.{recorded_in}
 use Rattle.scheduler.specs.Fields.{core_view, parts}
 use Rattle.scheduler.specs.Parts.{core_state_in}
 use Rattle.scheduler.proofs.core_calls.Core.log.Goals as goal
@@ -29,24 +26,17 @@ pub log-requires : goal.log-requires
 log-requires g c = record {
   not_failed = (sym c.failed.ensures ∙ c.if-failed.false);
   room = log_fits c.self.inside c.self.invariant (sym c.failed.ensures ∙ c.if-failed.false) c.args.n c.min-count.result c.min-count.ensures
-      c.collect_recorded-changing_count.new.batch (c.collect_recorded-changing_count.ensures.batch
-      ∙ ap (λ (rs : List Reply). recorded_in c.self.inside.slots rs (take c.min-count.result (chain_at c.self.inside.slots 2))) c.deref.ensures.value)
-      c.deref-2.result.now c.deref-2.ensures.value;
+      c.collect_recorded-changing_count.new.batch c.collect_recorded-changing_count.ensures.batch c.deref.ensures.value c.deref-2.result.now c.deref-2.ensures.value;
   changes = log_changes c.self.inside c.self.invariant (sym c.failed.ensures ∙ c.if-failed.false) c.args.n c.min-count.result c.min-count.ensures
-      c.collect_recorded-changing_count.new.batch (c.collect_recorded-changing_count.ensures.batch
-      ∙ ap (λ (rs : List Reply). recorded_in c.self.inside.slots rs (take c.min-count.result (chain_at c.self.inside.slots 2))) c.deref.ensures.value)
-      c.deref-2.result.now c.deref-2.ensures.value;
+      c.collect_recorded-changing_count.new.batch c.collect_recorded-changing_count.ensures.batch c.deref.ensures.value c.deref-2.result.now c.deref-2.ensures.value;
   carried_out = log_carried c.self.inside c.self.invariant (sym c.failed.ensures ∙ c.if-failed.false) c.args.n c.min-count.result c.min-count.ensures
-      c.collect_recorded-changing_count.new.batch (c.collect_recorded-changing_count.ensures.batch
-      ∙ ap (λ (rs : List Reply). recorded_in c.self.inside.slots rs (take c.min-count.result (chain_at c.self.inside.slots 2))) c.deref.ensures.value)
-      c.deref-2.result.now c.deref-2.ensures.value;
+      c.collect_recorded-changing_count.new.batch c.collect_recorded-changing_count.ensures.batch c.deref.ensures.value c.deref-2.result.now c.deref-2.ensures.value;
 }
 
 pub invariant_of-self : goal.invariant_of-self
 invariant_of-self g c =
     doubt_call c.self.inside c.self.invariant (sym c.failed.ensures ∙ c.if-failed.false) c.args.n c.min-count.result c.min-count.ensures
-    c.collect_recorded-changing_count.new.batch (c.collect_recorded-changing_count.ensures.batch
-    ∙ ap (λ (rs : List Reply). recorded_in c.self.inside.slots rs (take c.min-count.result (chain_at c.self.inside.slots 2))) c.deref.ensures.value)
+    c.collect_recorded-changing_count.new.batch c.collect_recorded-changing_count.ensures.batch c.deref.ensures.value
     c.deref-2.result.now c.deref-2.ensures.value c.log.new.self c.log.ensures.any_moment
     (broken_from c.log.result _ c.self.inside.journal c.log.new.self (sym c.is_err.ensures.value ∙ c.if-is_err.true) c.log.ensures.after)
     c.collect_recorded-changing_count.ensures.capacity
@@ -58,13 +48,11 @@ returns-then-is_err-clause-state_after g c =
     ≡ record (core_state_of o) { failed = true; doubt = batch (core_state_of o) c.args.n })) c.self.view_is (
       (sym c.failed.ensures ∙ c.if-failed.false),
       some_were_passed c.self.inside c.self.invariant (sym c.failed.ensures ∙ c.if-failed.false) c.args.n c.min-count.result c.min-count.ensures
-          c.collect_recorded-changing_count.new.batch (c.collect_recorded-changing_count.ensures.batch
-          ∙ ap (λ (rs : List Reply). recorded_in c.self.inside.slots rs (take c.min-count.result (chain_at c.self.inside.slots 2))) c.deref.ensures.value)
+          c.collect_recorded-changing_count.new.batch c.collect_recorded-changing_count.ensures.batch c.deref.ensures.value
           c.deref-2.result.now c.deref-2.ensures.value c.log.new.self c.log.ensures.any_moment
           (broken_from c.log.result _ c.self.inside.journal c.log.new.self (sym c.is_err.ensures.value ∙ c.if-is_err.true) c.log.ensures.after) c.log.ensures.none,
       doubt_call_state c.self.inside c.self.invariant (sym c.failed.ensures ∙ c.if-failed.false) c.args.n c.min-count.result c.min-count.ensures
-          c.collect_recorded-changing_count.new.batch (c.collect_recorded-changing_count.ensures.batch
-          ∙ ap (λ (rs : List Reply). recorded_in c.self.inside.slots rs (take c.min-count.result (chain_at c.self.inside.slots 2))) c.deref.ensures.value)
+          c.collect_recorded-changing_count.new.batch c.collect_recorded-changing_count.ensures.batch c.deref.ensures.value
           c.deref-2.result.now c.deref-2.ensures.value c.log.new.self c.log.ensures.any_moment
           (broken_from c.log.result _ c.self.inside.journal c.log.new.self (sym c.is_err.ensures.value ∙ c.if-is_err.true) c.log.ensures.after),
     )
@@ -74,8 +62,7 @@ returns-then-is_err-clause-any_moment g c = λ keep.
     subst (λ (o : CoreView). CrashImagesAre o.medium c.log.new.self.medium
     (RecoversWithPrefix o.geometry (core_state_of o).committed (if o.failed then o.doubt else batch (core_state_of o) c.args.n))) c.self.view_is
     (log_call_throughout c.self.inside c.self.invariant (sym c.failed.ensures ∙ c.if-failed.false) c.args.n c.min-count.result c.min-count.ensures
-    c.collect_recorded-changing_count.new.batch (c.collect_recorded-changing_count.ensures.batch
-    ∙ ap (λ (rs : List Reply). recorded_in c.self.inside.slots rs (take c.min-count.result (chain_at c.self.inside.slots 2))) c.deref.ensures.value)
+    c.collect_recorded-changing_count.new.batch c.collect_recorded-changing_count.ensures.batch c.deref.ensures.value
     c.deref-2.result.now c.deref-2.ensures.value c.log.new.self c.log.ensures.any_moment
     (core_view (record c.self.inside { journal = c.log.new.self })) refl keep)
 
@@ -83,8 +70,7 @@ pub returns-then-is_err-clause-untouched : goal.returns-then-is_err-clause-untou
 returns-then-is_err-clause-untouched g c =
     subst (λ (o : CoreView). touches_device (core_state_of o) (steps.Log c.args.n) ≡ false → c.log.new.self.medium ≡ o.medium) c.self.view_is
     (log_untouched c.self.inside c.self.invariant (sym c.failed.ensures ∙ c.if-failed.false) c.args.n c.min-count.result c.min-count.ensures
-    c.collect_recorded-changing_count.new.batch (c.collect_recorded-changing_count.ensures.batch
-    ∙ ap (λ (rs : List Reply). recorded_in c.self.inside.slots rs (take c.min-count.result (chain_at c.self.inside.slots 2))) c.deref.ensures.value)
+    c.collect_recorded-changing_count.new.batch c.collect_recorded-changing_count.ensures.batch c.deref.ensures.value
     c.deref-2.result.now c.deref-2.ensures.value c.log.new.self c.log.ensures.any_moment c.log.ensures.none)
 
 pub move_ran-requires : goal.move_ran-requires
@@ -100,8 +86,7 @@ overflow_sub-self g c = log_unlogged c.self.inside c.self.invariant (sym c.faile
 pub invariant_of-self-2 : goal.invariant_of-self-2
 invariant_of-self-2 g c =
     log_call c.self.inside c.self.invariant (sym c.failed.ensures ∙ c.if-failed.false) c.args.n c.min-count.result c.min-count.ensures
-    c.collect_recorded-changing_count.new.batch (c.collect_recorded-changing_count.ensures.batch
-    ∙ ap (λ (rs : List Reply). recorded_in c.self.inside.slots rs (take c.min-count.result (chain_at c.self.inside.slots 2))) c.deref.ensures.value)
+    c.collect_recorded-changing_count.new.batch c.collect_recorded-changing_count.ensures.batch c.deref.ensures.value
     c.deref-2.result.now c.deref-2.ensures.value c.log.new.self c.log.ensures.any_moment
     (made_from c.log.result _ c.self.inside.journal c.log.new.self (sym c.is_err.ensures.value ∙ c.if-is_err.false) c.log.ensures.after)
     (on_ok c.log.result _ (sym c.is_err.ensures.value ∙ c.if-is_err.false) c.log.ensures.committed)
@@ -123,8 +108,7 @@ returns-clause-state_after g c =
       (sym c.failed.ensures ∙ c.if-failed.false),
       log_count c.self.inside c.self.invariant (sym c.failed.ensures ∙ c.if-failed.false) c.args.n c.min-count.result c.min-count.ensures,
       log_call_state c.self.inside c.self.invariant (sym c.failed.ensures ∙ c.if-failed.false) c.args.n c.min-count.result c.min-count.ensures
-          c.collect_recorded-changing_count.new.batch (c.collect_recorded-changing_count.ensures.batch
-          ∙ ap (λ (rs : List Reply). recorded_in c.self.inside.slots rs (take c.min-count.result (chain_at c.self.inside.slots 2))) c.deref.ensures.value)
+          c.collect_recorded-changing_count.new.batch c.collect_recorded-changing_count.ensures.batch c.deref.ensures.value
           c.deref-2.result.now c.deref-2.ensures.value c.log.new.self c.log.ensures.any_moment
           (made_from c.log.result _ c.self.inside.journal c.log.new.self (sym c.is_err.ensures.value ∙ c.if-is_err.false) c.log.ensures.after)
           (on_ok c.log.result _ (sym c.is_err.ensures.value ∙ c.if-is_err.false) c.log.ensures.committed)
@@ -138,8 +122,7 @@ returns-clause-any_moment g c = λ keep.
     subst (λ (o : CoreView). CrashImagesAre o.medium c.log.new.self.medium
     (RecoversWithPrefix o.geometry (core_state_of o).committed (if o.failed then o.doubt else batch (core_state_of o) c.args.n))) c.self.view_is
     (log_call_throughout c.self.inside c.self.invariant (sym c.failed.ensures ∙ c.if-failed.false) c.args.n c.min-count.result c.min-count.ensures
-    c.collect_recorded-changing_count.new.batch (c.collect_recorded-changing_count.ensures.batch
-    ∙ ap (λ (rs : List Reply). recorded_in c.self.inside.slots rs (take c.min-count.result (chain_at c.self.inside.slots 2))) c.deref.ensures.value)
+    c.collect_recorded-changing_count.new.batch c.collect_recorded-changing_count.ensures.batch c.deref.ensures.value
     c.deref-2.result.now c.deref-2.ensures.value c.log.new.self c.log.ensures.any_moment
     (core_view (record c.self.inside { journal = c.log.new.self })) refl keep)
 
@@ -147,8 +130,7 @@ pub returns-clause-untouched : goal.returns-clause-untouched
 returns-clause-untouched g c =
     subst (λ (o : CoreView). touches_device (core_state_of o) (steps.Log c.args.n) ≡ false → c.log.new.self.medium ≡ o.medium) c.self.view_is
     (log_untouched c.self.inside c.self.invariant (sym c.failed.ensures ∙ c.if-failed.false) c.args.n c.min-count.result c.min-count.ensures
-    c.collect_recorded-changing_count.new.batch (c.collect_recorded-changing_count.ensures.batch
-    ∙ ap (λ (rs : List Reply). recorded_in c.self.inside.slots rs (take c.min-count.result (chain_at c.self.inside.slots 2))) c.deref.ensures.value)
+    c.collect_recorded-changing_count.new.batch c.collect_recorded-changing_count.ensures.batch c.deref.ensures.value
     c.deref-2.result.now c.deref-2.ensures.value c.log.new.self c.log.ensures.any_moment c.log.ensures.none)
 
 pub returns-then-failed-clause-beyond : goal.returns-then-failed-clause-beyond
@@ -170,9 +152,7 @@ returns-then-is_err-clause-costs g c = λ keep.
     subst (λ (o : CoreView). moment_number c.log.new.self.medium ≤ moment_number o.medium + 4 * batch_count (length (batch (core_state_of o) c.args.n))) c.self.view_is
     (subst (λ (m : ℕ). moment_number c.log.new.self.medium ≤ moment_number c.self.inside.journal.medium + 4 * batch_count m)
     (log_length c.self.inside c.self.invariant (sym c.failed.ensures ∙ c.if-failed.false) c.args.n c.min-count.result c.min-count.ensures
-    c.collect_recorded-changing_count.new.batch (c.collect_recorded-changing_count.ensures.batch
-    ∙ ap (λ (rs : List Reply). recorded_in c.self.inside.slots rs (take c.min-count.result (chain_at c.self.inside.slots 2))) c.deref.ensures.value)
-    c.deref-2.result.now c.deref-2.ensures.value)
+    c.collect_recorded-changing_count.new.batch c.collect_recorded-changing_count.ensures.batch c.deref.ensures.value c.deref-2.result.now c.deref-2.ensures.value)
     (broken_takes c.log.result _ _ _ (sym c.is_err.ensures.value ∙ c.if-is_err.true) (c.log.ensures.costs keep)))
 
 pub returns-clause-costs : goal.returns-clause-costs
@@ -180,7 +160,5 @@ returns-clause-costs g c = λ keep.
     subst (λ (o : CoreView). moment_number c.log.new.self.medium ≡ moment_number o.medium + 4 * batch_count (length (batch (core_state_of o) c.args.n))) c.self.view_is
     (subst (λ (m : ℕ). moment_number c.log.new.self.medium ≡ moment_number c.self.inside.journal.medium + 4 * batch_count m)
     (log_length c.self.inside c.self.invariant (sym c.failed.ensures ∙ c.if-failed.false) c.args.n c.min-count.result c.min-count.ensures
-    c.collect_recorded-changing_count.new.batch (c.collect_recorded-changing_count.ensures.batch
-    ∙ ap (λ (rs : List Reply). recorded_in c.self.inside.slots rs (take c.min-count.result (chain_at c.self.inside.slots 2))) c.deref.ensures.value)
-    c.deref-2.result.now c.deref-2.ensures.value)
+    c.collect_recorded-changing_count.new.batch c.collect_recorded-changing_count.ensures.batch c.deref.ensures.value c.deref-2.result.now c.deref-2.ensures.value)
     (made_takes c.log.result _ _ _ (sym c.is_err.ensures.value ∙ c.if-is_err.false) (c.log.ensures.costs keep)))

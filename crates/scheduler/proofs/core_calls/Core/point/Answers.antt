@@ -10,7 +10,7 @@ use Rattle.oplog.specs.Beyond.{KeepsBeyond}
 use Rattle.device_map.specs.Layout.{layout_of}
 use Rattle.scheduler.proofs.Journaling.{still_standing}
 use Rattle.scheduler.proofs.LogCall.{broken_takes, made_takes, none_taken}
-use Rattle.scheduler.proofs.Pointing.{called_core, point_core, point_state, point_whole, point_works, step_moment}
+use Rattle.scheduler.proofs.Pointing.{called_core, not_refused, point_core, point_state, point_whole, point_works, step_moment}
 use Rattle.scheduler.specs.CoreView.{CoreView, RecoversThroughout, core_state_of}
 use Rattle.scheduler.specs.Fields.{core_view, parts}
 use Rattle.scheduler.proofs.core_calls.Core.point.Goals as goal
@@ -21,40 +21,34 @@ returns-in-Some-clause-any_moment g c = λ keep.
     (still_standing g.D.Disk.keeps (parts c.self.inside) c.self.invariant.core keep [] (core_view c.self.inside) refl)
 
 pub point-requires-clause-whole : goal.point-requires-clause-whole
-point-requires-clause-whole g c = point_whole g.D.Disk.keeps (parts c.self.inside) c.self.invariant.core (ap (λ (o : CoreView). point_refusal (core_state_of o)) c.self.view_is
-    ∙ sym c.point_refusal.ensures ∙ c.in_default.is)
+point-requires-clause-whole g c = point_whole g.D.Disk.keeps (parts c.self.inside) c.self.invariant.core (not_refused c.self.view_is c.point_refusal.ensures c.in_default.is)
 
 pub point-requires-clause-state : goal.point-requires-clause-state
-point-requires-clause-state g c = point_state g.D.Disk.keeps (parts c.self.inside) c.self.invariant.core (ap (λ (o : CoreView). point_refusal (core_state_of o)) c.self.view_is
-    ∙ sym c.point_refusal.ensures ∙ c.in_default.is)
+point-requires-clause-state g c = point_state g.D.Disk.keeps (parts c.self.inside) c.self.invariant.core (not_refused c.self.view_is c.point_refusal.ensures c.in_default.is)
 
 pub invariant_of-self : goal.invariant_of-self
 invariant_of-self g c =
     called_core c.self.invariant
     (point_core g.D.Disk.keeps (parts c.self.inside) c.self.invariant.core c.point.new.self c.point.ensures.any_moment c.point.result
-    (ap (λ (o : CoreView). point_refusal (core_state_of o)) c.self.view_is
-    ∙ sym c.point_refusal.ensures ∙ c.in_default.is) c.point.ensures.committed c.point.ensures.after)
+    (not_refused c.self.view_is c.point_refusal.ensures c.in_default.is) c.point.ensures.committed c.point.ensures.after)
 
 pub returns-then-is_err-clause-any_moment : goal.returns-then-is_err-clause-any_moment
 returns-then-is_err-clause-any_moment g c = λ keep.
     subst (λ (o : CoreView). CrashImagesAre o.medium c.point.new.self.medium (RecoversWithPrefix o.geometry (core_state_of o).committed (if o.failed then o.doubt else []))) c.self.view_is
     (step_moment g.D.Disk.keeps (parts c.self.inside) c.self.invariant.core (point_works g.D.Disk.keeps (parts c.self.inside) c.self.invariant.core
-    (ap (λ (o : CoreView). point_refusal (core_state_of o)) c.self.view_is
-    ∙ sym c.point_refusal.ensures ∙ c.in_default.is)) c.point.new.self c.point.ensures.any_moment keep)
+    (not_refused c.self.view_is c.point_refusal.ensures c.in_default.is)) c.point.new.self c.point.ensures.any_moment keep)
 
 pub invariant_of-self-2 : goal.invariant_of-self-2
 invariant_of-self-2 g c =
     called_core c.self.invariant
     (point_core g.D.Disk.keeps (parts c.self.inside) c.self.invariant.core c.point.new.self c.point.ensures.any_moment c.point.result
-    (ap (λ (o : CoreView). point_refusal (core_state_of o)) c.self.view_is
-    ∙ sym c.point_refusal.ensures ∙ c.in_default.is) c.point.ensures.committed c.point.ensures.after)
+    (not_refused c.self.view_is c.point_refusal.ensures c.in_default.is) c.point.ensures.committed c.point.ensures.after)
 
 pub returns-clause-any_moment : goal.returns-clause-any_moment
 returns-clause-any_moment g c = λ keep.
     subst (λ (o : CoreView). CrashImagesAre o.medium c.point.new.self.medium (RecoversWithPrefix o.geometry (core_state_of o).committed (if o.failed then o.doubt else []))) c.self.view_is
     (step_moment g.D.Disk.keeps (parts c.self.inside) c.self.invariant.core (point_works g.D.Disk.keeps (parts c.self.inside) c.self.invariant.core
-    (ap (λ (o : CoreView). point_refusal (core_state_of o)) c.self.view_is
-    ∙ sym c.point_refusal.ensures ∙ c.in_default.is)) c.point.new.self c.point.ensures.any_moment keep)
+    (not_refused c.self.view_is c.point_refusal.ensures c.in_default.is)) c.point.new.self c.point.ensures.any_moment keep)
 
 pub returns-in-Some-clause-beyond : goal.returns-in-Some-clause-beyond
 returns-in-Some-clause-beyond g c = λ keep. beyond_none (layout_of c.args.self.now.geometry) c.args.self.now.medium
