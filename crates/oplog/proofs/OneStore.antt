@@ -19,32 +19,31 @@ changed : (w0 w1 : Medium) (at : ℕ) (bytes : List ℕ) → Stored at bytes w0 
 changed w0 w1 at bytes stored = subst (λ (l : List ℕ). SameOutside at (length bytes) w0.now l) (sym stored.now) (overlaid_outside w0.now at bytes)
 
 -- ---- zeros over what lies before the records of half h
-module _ (g : Layout) (h at : ℕ) (bytes : List ℕ) (is_half : h < 2) (place : at ≡ part_at g (half_part h)) (are : bytes ≡ replicate (64 + g.capacity) 0) where
-  few : length bytes ≡ 64 + g.capacity
-  few = ap length are ∙ length-replicate (64 + g.capacity) 0
-
-  gates_alone : (old c : List ℕ) → SameOutside at (length bytes) old c → IsSameButChainAndGates g h old c
+module _ (g : Layout) (h : ℕ) (is_half : h < 2) where
+  gates_alone : (old c : List ℕ) → SameOutside (part_at g (half_part h)) (64 + g.capacity) old c → IsSameButChainAndGates g h old c
   gates_alone old c same =
-      let lies : LiesIn g (half_part h) 0 (length bytes) at = omega (arith, place, few, half_sized g h is_half) in
-      let same' = subst (λ (a : ℕ). SameOutside a (length bytes) old c) lies.place same in
+      let lies : LiesIn g (half_part h) 0 (64 + g.capacity) (part_at g (half_part h)) = omega (arith, half_sized g h is_half) in
+      let same' = subst (λ (a : ℕ). SameOutside a (64 + g.capacity) old c) lies.place same in
       record {
         same = same_but lies same;
-        records = same_drop 0 (length bytes) (part_bytes g (half_part h) old) (part_bytes g (half_part h) c)
-            (within (part_at g (half_part h)) (part_size g (half_part h)) 0 (length bytes) old c lies.inside same') (64 + g.capacity) (omega (arith, few));
+        records = same_drop 0 (64 + g.capacity) (part_bytes g (half_part h) old) (part_bytes g (half_part h) c)
+            (within (part_at g (half_part h)) (part_size g (half_part h)) 0 (64 + g.capacity) old c lies.inside same') (64 + g.capacity) (omega arith);
       }
 
-  pub clear_moments : (w0 w1 : Medium) → CrashImagesAre w0 w1 (After w0 (SameOutside {X = ℕ} at (length bytes))) → CrashImagesAre w0 w1 (After w0 (IsSameButChainAndGates g h))
+  pub clear_moments : (w0 w1 : Medium) → CrashImagesAre w0 w1 (After w0 (SameOutside {X = ℕ} (part_at g (half_part h)) (64 + g.capacity)))
+      → CrashImagesAre w0 w1 (After w0 (IsSameButChainAndGates g h))
   clear_moments w0 w1 moments = weaker w0 w1 _ _ moments (λ c after. record { old = after.old; left = after.left; change = gates_alone after.old c after.change })
 
-  module _ (w0 w1 : Medium) (fits : device_size g ≤ length w0.now) (stored : Stored at bytes w0 w1) where
+  module _ (w0 w1 : Medium) (fits : device_size g ≤ length w0.now) (stored : Stored (part_at g (half_part h)) (replicate (64 + g.capacity) 0) w0 w1) where
+    few : length (replicate {A = ℕ} (64 + g.capacity) 0) ≡ 64 + g.capacity
+    few = length-replicate (64 + g.capacity) 0
+
     zeros : take (64 + g.capacity) (part_bytes g (half_part h) w1.now) ≡ replicate (64 + g.capacity) 0
     zeros =
         take-take (64 + g.capacity) (part_size g (half_part h)) (drop (part_at g (half_part h)) w1.now) (omega (arith, half_sized g h is_half))
-        ∙ ap (λ (a : ℕ). slice w1.now a (64 + g.capacity)) (sym place)
-        ∙ ap (λ (n : ℕ). slice w1.now at n) (sym few)
-        ∙ ap (λ (l : List ℕ). slice l at (length bytes)) stored.now
-        ∙ range-overlaid w0.now at bytes (omega (arith, place, few, fits, half_inside g h is_half))
-        ∙ are
+        ∙ ap (λ (n : ℕ). slice w1.now (part_at g (half_part h)) n) (sym few)
+        ∙ ap (λ (l : List ℕ). slice l (part_at g (half_part h)) (length (replicate {A = ℕ} (64 + g.capacity) 0))) stored.now
+        ∙ range-overlaid w0.now (part_at g (half_part h)) (replicate (64 + g.capacity) 0) (omega (arith, few, fits, half_inside g h is_half))
 
     shut : gates g h w1.now ≡ replicate g.capacity 0
     shut =
@@ -52,11 +51,11 @@ module _ (g : Layout) (h at : ℕ) (bytes : List ℕ) (is_half : h < 2) (place :
         sym (drop-take 64 g.capacity (part_bytes g (half_part h) w1.now)) ∙ ap (λ (l : List ℕ). drop 64 l) zeros ∙ drop-replicate 64 (64 + g.capacity) 0 ∙ ap (λ (n : ℕ). replicate n 0) count
 
     long : length w1.now ≡ length w0.now
-    long = ap length stored.now ∙ length-overlaid w0.now at bytes
+    long = ap length stored.now ∙ length-overlaid w0.now (part_at g (half_part h)) (replicate (64 + g.capacity) 0)
 
     pub cleared : Cleared g h w0 w1
     cleared = record {
-      same = gates_alone w0.now w1.now (changed w0 w1 at bytes stored);
+      same = gates_alone w0.now w1.now (subst (λ (n : ℕ). SameOutside (part_at g (half_part h)) n w0.now w1.now) few (changed w0 w1 _ _ stored));
       zeros = zeros;
       chain = sym (get_or-take (64 + g.capacity) (part_bytes g (half_part h) w1.now) 0 0 (omega arith)) ∙ ap (λ (l : List ℕ). get_or l 0 0) zeros
           ∙ get_or-replicate (64 + g.capacity) 0 0 0 (omega arith);
