@@ -14,7 +14,8 @@ use Rattle.meaning.specs.Serial.{state_after_all}
 use Rattle.messages.specs.declared.Msg.{Msg}
 use Rattle.scheduler.specs.CoreView.{IsJustOpened, CoreView, RecoversNow, core_state_of}
 use Rattle.serving.specs.Ends.{Exchange, HasRunLines, committed_in}
-use Rattle.serving.specs.Serve.{HasEmptyLog, ServePromise}
+use Rattle.oplog.specs.Recovery.{records_in}
+use Rattle.serving.specs.Serve.{ServePromise}
 use Rattle.serving.specs.declared.server.ServeFault.{ServeFault}
 use Rattle.serving.specs.declared.server.ServeFault.TheVariants as faults
 use Rattle.commands.specs.Faults.{command_result}
@@ -86,7 +87,7 @@ recovers_for keeps now none leaves bytes = record {
 -- ---- each end, in the words of the serial server
 
 -- no record of the log is in force on the device that is given back, if none is on the core's
-no_records : (now : CoreView) (g : Geometry) (new : Medium) → now.geometry ≡ g → new ≡ now.medium → HasEmptyLog now.geometry now.medium → HasEmptyLog g new
+no_records : (now : CoreView) (g : Geometry) (new : Medium) → now.geometry ≡ g → new ≡ now.medium → records_in now.geometry now.medium.now ≡ [] → records_in g new.now ≡ []
 no_records now g new same back none = rw (back, ← same) none
 
 module _ {keeps : Type 0} {s : ServeOptions} {old new : Medium} {end : Result (Unit {0}) ServeFault} {x : Exchange}

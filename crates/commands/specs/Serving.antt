@@ -24,7 +24,8 @@ use Rattle.meaning.specs.State.{State}
 use Rattle.scheduler.specs.CoreView.{IsJustOpened, CoreView, RecoversNow}
 use Rattle.serving.specs.Ends.{AreServed, Exchange, ServesLinesBefore, ServesWholeLines, committed_in}
 use Rattle.serving.specs.Runs.{machine_with_jobs}
-use Rattle.serving.specs.Serve.{HasEmptyLog, ServePromise}
+use Rattle.oplog.specs.Recovery.{records_in}
+use Rattle.serving.specs.Serve.{ServePromise}
 use Rattle.serving.specs.declared.server.ServeFault.{ServeFault}
 use Rattle.commands.specs.Faults.{command_result, fault_of_file}
 use Rattle.commands.specs.declared.faults.Fault.{Fault}
@@ -71,7 +72,7 @@ HasServedNothing keeps old new x = (w : ServedDevice keeps old new) × (w.end �
 -- that its bytes show, or want of memory, or `Device`: the last exactly if the device failed. `IsLeftByRefusal`: nothing was written to
 -- it, unless it failed, or the bad record is in the half that was not named: then the opening has finished an interrupted cut before.
 abbrev pub EndsOnDevice : Type 0 → ServeOptions → Medium → Medium → Result (Unit {0}) Fault → Exchange → Type 0
-EndsOnDevice keeps s old new (Ok _) x = (s.workers ≢ 0) × ((w : ServedDevice keeps old new) × (keeps → HasEmptyLog w.geometry new)
+EndsOnDevice keeps s old new (Ok _) x = (s.workers ≢ 0) × ((w : ServedDevice keeps old new) × (keeps → records_in w.geometry new.now ≡ [])
     × IsAtEnd x.remaining × WritesOutput x.input x.before x.written (λ bytes out. AreServed w.geometry w.start w.end (lines bytes) out))
 EndsOnDevice keeps s old new (Err Read) x = (s.workers ≢ 0) × ((w : ServedDevice keeps old new)
     × WritesOutput x.input x.before x.written (ServesWholeLines w.geometry w.start w.end x.remaining))

@@ -20,7 +20,8 @@ use Rattle.serving.specs.Lending.{NoneInFlight}
 use Rattle.serving.specs.Lines.{Line, answer_text}
 use Rattle.meaning.specs.Output.{joined}
 use Rattle.reorder_buffer.specs.ReorderBuffer.{ReorderBufferView, can_retire}
-use Rattle.serving.specs.Serve.{HasEmptyLog, HasRunWith, IsWrittenAtEnd, FailsWithoutWorkers, ServePromise}
+use Rattle.oplog.specs.Recovery.{records_in}
+use Rattle.serving.specs.Serve.{HasRunWith, IsWrittenAtEnd, FailsWithoutWorkers, ServePromise}
 use Rattle.serving.specs.Runs.{HandsHaveJobs, lent_hand, machine_with_jobs}
 use Rattle.serving.specs.Session.{EndsBy, EndsOrDeclines, HasFinished, SessionProgress, HasHalted, HasEndedReading, CanBegin, IsServed, SessionInvariant, SessionInvariantFrom, SessionView, ReadsOrHasEnded, machine, IsSent, end_of, reported}
 use Rattle.serving.specs.Output.{Start, start_machine}
@@ -217,7 +218,7 @@ empties_for ends_of_reading.DeviceFailed P emptied = tt
 module _ (keeps : Type 0) (p : SessionView) (same : Type 0) where
   pub finished : {read_end : ReadEnd} (r : Result (Unit {0}) Halted) → p.read_end ≡ Some read_end
       → OnOk r ((p.reorder_buffer.lines ≡ []) × (p.reply_buffer ≡ []) × (p.output_failed ≡ false)) → OnOk r (p.core.failed ≡ false)
-      → OnOk r (read_end ≡ ends_of_reading.EndOfInput → keeps → HasEmptyLog p.core.geometry p.core.medium) → MatchResult r (λ _. same) (λ _. HasHalted p)
+      → OnOk r (read_end ≡ ends_of_reading.EndOfInput → keeps → records_in p.core.geometry p.core.medium.now ≡ []) → MatchResult r (λ _. same) (λ _. HasHalted p)
       → MatchResult r (λ _. (x : ReadEnd) × HasFinished keeps p x) (λ _. HasHalted p)
   finished {read_end} (Ok x) is all works emptied moves =
       (read_end, record { is = is; served = record { all_retired = all.0; flushed = all.1; works = works; output_works = all.2 }; emptied = emptied })
@@ -229,11 +230,11 @@ so_if o x P is h = subst (λ (o : Option _). IfSome o P) is h
 -- A session that has answered every line returns the result for the reason why it stopped reading (`read_end`).
 pub ends_finished : (keeps : Type 0) (o : Option Start) (p : SessionView) → SessionInvariantFrom keeps o p → (read_end : ReadEnd) → HasFinished keeps p read_end
     → (result : Result (Unit {0}) ServeFault) → IfSome p.read_end (λ why. result ≡ end_of why)
-    → EndsBy p result × OnOk result (keeps → HasEmptyLog p.core.geometry p.core.medium)
+    → EndsBy p result × OnOk result (keeps → records_in p.core.geometry p.core.medium.now ≡ [])
 ends_finished keeps o p u read_end f result reported =
     let is = so_if p.read_end read_end (λ (why : ReadEnd). result ≡ end_of why) f.is reported in
-    subst (λ (r : Result (Unit {0}) ServeFault). EndsBy p r × OnOk r (keeps → HasEmptyLog p.core.geometry p.core.medium)) (sym is)
-    (ended_for keeps o p u f.served read_end f.is, empties_for read_end (keeps → HasEmptyLog p.core.geometry p.core.medium) f.emptied)
+    subst (λ (r : Result (Unit {0}) ServeFault). EndsBy p r × OnOk r (keeps → records_in p.core.geometry p.core.medium.now ≡ [])) (sym is)
+    (ended_for keeps o p u f.served read_end f.is, empties_for read_end (keeps → records_in p.core.geometry p.core.medium.now ≡ []) f.emptied)
 
 -- With all workers started, a session ends with what is reported (`EndsBy`); if one could not be started, the session is as it was.
 reported_so : (old p : SessionView) (F : Type 0) (r : Result (Result (Unit {0}) ServeFault) F) → IfOk r (λ end. EndsBy p end) → OnErr r (p ≡ old)

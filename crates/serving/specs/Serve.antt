@@ -2,11 +2,9 @@
 use Rattle.std.specs.Prelude.{◌≡◌, ◌≢◌, ℕ, false, List, [], ◌++◌, Option, Some, None, Result, Ok, Err, OnOk, replicate}
 use Rattle.std.specs.Io.KnownBytes.{Appends}
 use Rattle.affinity.specs.declared.geometry.Geometry.{Geometry}
-use Rattle.disk.specs.Device.{Medium}
 use Rattle.runs.specs.Machine.{MachineView}
 use Rattle.messages.specs.Lines.{lines}
-use Rattle.device_map.specs.Layout.{layout_of}
-use Rattle.oplog.specs.Recovery.{in_force, named_area}
+use Rattle.oplog.specs.Recovery.{records_in}
 use Rattle.scheduler.specs.CoreView.{CoreView}
 use Rattle.serving.specs.Ends.{EndsWith, Exchange, HasServed}
 use Rattle.serving.specs.Lines.{Line}
@@ -49,10 +47,6 @@ abbrev pub FailsWithoutWorkers : ℕ → Result (Unit {0}) ServeFault → Type 0
 FailsWithoutWorkers workers (Err faults.NoWorkers) = workers ≡ 0
 FailsWithoutWorkers workers _ = workers ≢ 0
 
--- no record of the log is in force
-abbrev pub HasEmptyLog : Geometry → Medium → Type 0
-HasEmptyLog g m = in_force (layout_of g) (named_area (layout_of g) m.now) m.now ≡ []
-
 -- what a call of a server hands back: its core, and how it ended
 abbrev pub handed_back : {D : Type 0} → Result CoreView (ServeError D) → CoreView × Result (Unit {0}) ServeFault
 handed_back (Ok core) = (core, Ok tt)
@@ -67,4 +61,4 @@ pub record ServePromise (keeps : Type 0) (workers : ℕ) (old : CoreView) (back 
   pub ends : EndsWith old back.0 x back.1
   pub no_workers : FailsWithoutWorkers workers back.1
   -- at the end of the input no record is in force
-  pub emptied : OnOk back.1 (keeps → HasEmptyLog back.0.geometry back.0.medium)
+  pub emptied : OnOk back.1 (keeps → records_in back.0.geometry back.0.medium.now ≡ [])

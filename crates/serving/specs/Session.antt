@@ -15,7 +15,7 @@ use Rattle.serving.specs.Lending.{NoneInFlight}
 use Rattle.serving.specs.Lines.{HaveAnswers, Line, answer_text}
 use Rattle.reorder_buffer.specs.ReorderBuffer.{ReorderBufferView, can_retire}
 use Rattle.serving.specs.Runs.{HandsHaveJobs, machine_with_jobs}
-use Rattle.serving.specs.Serve.{HasEmptyLog}
+use Rattle.oplog.specs.Recovery.{records_in}
 use Rattle.serving.specs.Output.{AppendsBeginning, Start, start_machine}
 use Rattle.serving.specs.declared.session.Halted.{Halted}
 use Rattle.serving.specs.declared.session.ReadEnd.{ReadEnd}
@@ -165,7 +165,7 @@ pub record IsServed (p : SessionView) : Type 0 where
 pub record HasFinished (keeps : Type 0) (p : SessionView) (read_end : ReadEnd) : Type 0 where
   pub is : p.read_end ≡ Some read_end
   pub served : IsServed p
-  pub emptied : read_end ≡ ends_of_reading.EndOfInput → keeps → HasEmptyLog p.core.geometry p.core.medium
+  pub emptied : read_end ≡ ends_of_reading.EndOfInput → keeps → records_in p.core.geometry p.core.medium.now ≡ []
 
 -- what the server reports where no more was read for this reason, and each line that was read is answered
 abbrev pub end_of : ReadEnd → Result (Unit {0}) ServeFault

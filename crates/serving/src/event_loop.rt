@@ -3,7 +3,7 @@
 //! are sent if the output works.
 
 ghost use Rattle.std.specs.Prelude.{◌≡◌, Err, IfSome, MatchResult, None, OnOk, Some, [], false};
-ghost use Rattle.serving.specs.Serve.{HasEmptyLog};
+ghost use Rattle.oplog.specs.Recovery.{records_in};
 ghost use Rattle.serving.specs.Session.{EndsBy, HasFinished, HasHalted, HasReadNothing, IsSessionStep, end_of};
 ghost use Rattle.serving.specs.declared.session.ReadEnd.{ReadEnd};
 ghost use Rattle.serving.specs.declared.session.ReadEnd.TheVariants as ends_of_reading;
@@ -68,7 +68,7 @@ impl<'c, R: Read, D: Disk, L: ReplySink<D>> Session<'c, R, D, L> {
         ensures all { OnOk result ((self.new.reorder_buffer.lines ≡ []) × (self.new.reply_buffer ≡ []) × (self.new.output_failed ≡ false)) }
         ensures works { OnOk result (self.new.core.failed ≡ false) }
         ensures emptied { OnOk result (read_end ≡ ends_of_reading.EndOfInput → D.keeps
-            → HasEmptyLog self.new.core.geometry self.new.core.medium) }
+            → records_in self.new.core.geometry self.new.core.medium.now ≡ []) }
     {
         if self.core.failed() {
             return Err(Halted);
@@ -100,13 +100,13 @@ impl<'c, R: Read, D: Disk, L: ReplySink<D>> Session<'c, R, D, L> {
 
 impl<'c, R: Read, D: Disk, L: ReplySink<D>> DispatcherTask<Result<(), ServeFault>>
     for Session<'c, R, D, L> {
-    ghost use Rattle.std.specs.Prelude.{◌≡◌, OnOk, false};
-    ghost use Rattle.serving.specs.Serve.{HasEmptyLog};
+    ghost use Rattle.std.specs.Prelude.{◌≡◌, [], OnOk, false};
+    ghost use Rattle.oplog.specs.Recovery.{records_in};
     ghost use Rattle.serving.specs.Session.{EndsBy};
 
     ghost can_begin = { λ s. s.output_failed ≡ false };
 
-    ghost gives = { λ old new end. EndsBy new end × OnOk end (D.keeps → HasEmptyLog new.core.geometry new.core.medium) };
+    ghost gives = { λ old new end. EndsBy new end × OnOk end (D.keeps → records_in new.core.geometry new.core.medium.now ≡ []) };
 
     /// Serves line after line until the input ends, with a checkpoint where one is due, and one at the end of the input. When it returns,
     /// the answers are written up to the first line that has none, unless the output failed. If several things fail in one call, an output

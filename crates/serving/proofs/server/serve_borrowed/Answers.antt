@@ -1,9 +1,10 @@
 -- The session's invariant where it begins; and what the call promises, given what `know_recovery` ensures of the core at the end.
-use Rattle.std.proofs.Common.{List, Option, ap, refl, sym, subst, ℕ, ◌∙◌}
+use Rattle.std.proofs.Common.{◌≡◌, List, [], Option, ap, refl, sym, subst, ℕ, ◌∙◌}
 use Rattle.std.specs.Prelude.{OnOk, Result}
 use Rattle.scheduler.specs.CoreView.{CoreView}
 use Rattle.serving.specs.Ends.{exchange}
-use Rattle.serving.specs.Serve.{HasEmptyLog, ServePromise}
+use Rattle.oplog.specs.Recovery.{records_in}
+use Rattle.serving.specs.Serve.{ServePromise}
 use Rattle.serving.specs.Session.{SessionView, reported}
 use Rattle.serving.specs.Output.{Start, start_machine}
 use Rattle.serving.specs.declared.server.ServeFault.{ServeFault}
@@ -39,7 +40,7 @@ returns g c =
     let last = c.session.inside in
     let gives = c.with_workers-ended.ensures in
     let end = reported c.with_workers-ended.result in
-    let ends = ends_or_declines now (g.D.Disk.keeps → HasEmptyLog now.core.geometry now.core.medium) _ c.with_workers-ended.result gives.gives _ gives.not_begun end refl in
+    let ends = ends_or_declines now (g.D.Disk.keeps → records_in now.core.geometry now.core.medium.now ≡ []) _ c.with_workers-ended.result gives.gives _ gives.not_begun end refl in
     let all = subst (λ (b : Option (List ℕ)). PromisesAll g.D.Disk.keeps (start_machine s) last.core (exchange s.input b s.before (g.L.ReplySink.sent last.sink)) end)
     (sym (ap (λ (l : _). g.R.Read.remaining l.reader.now) c.into_inner-reader.ensures))
     (promises_from (begun c.requires.can_begin.is c.session.invariant.run) c.session.view_is
@@ -52,7 +53,7 @@ returns g c =
             run = all.run c.hand_back.ensures.no_doubt c.hand_back.ensures.recovers;
             ends = all.ends;
             no_workers = refuses_none c.args.memory.bench.slots c.requires.workers _ _ end ends;
-            emptied = subst (λ (k : CoreView). OnOk end (g.D.Disk.keeps → HasEmptyLog k.geometry k.medium)) (sym (ap (λ (p : SessionView). p.core) c.session.view_is))
-                (emptied_at_end now (g.D.Disk.keeps → HasEmptyLog now.core.geometry now.core.medium) _ c.with_workers-ended.result gives.gives _ refl);
+            emptied = subst (λ (k : CoreView). OnOk end (g.D.Disk.keeps → records_in k.geometry k.medium.now ≡ [])) (sym (ap (λ (p : SessionView). p.core) c.session.view_is))
+                (emptied_at_end now (g.D.Disk.keeps → records_in now.core.geometry now.core.medium.now ≡ []) _ c.with_workers-ended.result gives.gives _ refl);
           });
     }
