@@ -1,34 +1,17 @@
 """Measures the rows of the file of figures. The programs of a row take turns, so that what else the machine does meets all of them."""
+import collections
 import os
 import shutil
 import subprocess
 import time
 from statistics import median
 
-from figures_file import DIGITS, EVERY, FEWER_ALONE, MORE_READS, OF_WAFFD, ORDINARY, programs_of
-from programs import GREATEST, LONGEST_RUN, OPTIONS, PROGRAM, Failed, done
+from figures_file import DIGITS, FEWER_ALONE, MORE_READS, OF_WAFFD, ORDINARY, programs_of
+from programs import GREATEST, LONGEST_RUN, PROGRAM, Failed, done
 
 SYNCS = 500  # of a round, for the time of one
 RECORD = 520  # bytes of a record of the log
 LEAST_SYNC = 5  # microseconds; a sync of less reaches no disk
-
-
-def values_in_turns(repeat, runs):
-    """The values of all rounds, by program. In each round all run, and another one first than in the last."""
-    found = {program: {} for program in runs}
-    programs = list(runs)
-    for turn in range(repeat):
-        first = turn % len(programs)
-        for program in programs[first:] + programs[:first]:
-            for what, value in runs[program]().items():
-                found[program].setdefault(what, []).append(value)
-    return found
-
-
-def kept(found):
-    """These values with the digits that are kept."""
-    return {program: {what: [round(value, DIGITS[what]) if DIGITS[what] else round(value) for value in values]
-                      for what, values in of_program.items()} for program, of_program in found.items()}
 
 
 class Measuring:
@@ -43,7 +26,7 @@ class Measuring:
             self.programs.build("serial.rs", "serial")
         elif row["part"] == "bench":
             self.programs.build("handoff/plain.rs", "mutex")
-            done([self.programs.handoff(), "1", "1"])
+            self.programs.build_handoff()
         elif row["part"] != "disk":
             self.programs.build("serve/lines.rs", "lines")
             for geometry, numbers in (("default", {}), ("greatest", GREATEST)):
@@ -52,12 +35,25 @@ class Measuring:
 
     def measure(self, row):
         """The values of each program of a row."""
-        return kept(getattr(self, "measure_" + row["part"])(row))
+        part, *of_row = row.values()
+        found = self.in_turns(programs_of(row), getattr(self, "of_" + part)(*of_row))
+        return {program: {what: [round(value, DIGITS[what]) for value in values] for what, values in of_program.items()}
+                for program, of_program in found.items()}
+
+    def in_turns(self, programs, run):
+        """The values of all rounds, by program, as `run` gives them. In each round all run, and another one first than in the last."""
+        found = {program: collections.defaultdict(list) for program in programs}
+        for turn in range(self.repeat):
+            first = turn % len(programs)
+            for program in programs[first:] + programs[:first]:
+                for what, value in run(program).items():
+                    found[program][what].append(value)
+        return found
 
     # ---- the disk
 
-    def measure_disk(self, row):
-        return values_in_turns(self.repeat, {"disk": self.sync_time})
+    def of_disk(self):
+        return lambda _: {"us": self.sync_time()}
 
     def sync_time(self):
         """The median of the times that a record takes to be written and synced, into a file that has its room."""
@@ -72,7 +68,7 @@ class Measuring:
                 times.append((time.perf_counter_ns() - begun) / 1000)
         if median(times) < LEAST_SYNC:
             raise Failed("a sync costs nothing in the folder for temporary files: TMPDIR has to name one on a disk")
-        return {"us": median(times)}
+        return median(times)
 
     # ---- served lines
 
@@ -80,13 +76,13 @@ class Measuring:
         """The device and the log of a geometry, with all that the lines use."""
         device, log = self.programs.at(f"{geometry}.device"), self.programs.at(f"{geometry}.log")
         server = self.programs.at(f"server.{geometry}")
-        done([PROGRAM, "format", device, *(OPTIONS if geometry == "greatest" else [])])
+        options = [word for name, number in GREATEST.items() for word in (f"--{name}", str(number))]
+        done([PROGRAM, "format", device, *(options if geometry == "greatest" else [])])
         self.programs.write_input([self.programs.at("lines"), "fill", "0", geometry])
         size = os.path.getsize(self.programs.stream("input")) + self.lines * 1200 + 1000000
         done([server, "make", log, str(size)])
-        for words in ([PROGRAM, "serve", device, "--workers", "4", "--slots", "64"], [server, "batch", log, "1024"]):
-            self.programs.counted(words)
-            self.programs.expect(words)
+        self.programs.counted([PROGRAM, "serve", device, "--workers", "4", "--slots", "64"])
+        self.programs.counted([server, "batch", log, "1024"])
 
     def run(self, geometry, program, slots, output="file"):
         """One run of a program on the input, with a fresh device or log."""
@@ -96,38 +92,31 @@ class Measuring:
             words = [PROGRAM, "serve", path, "--workers", workers, "--slots", str(slots)]
         else:
             words = [self.programs.at(f"server.{geometry}"), kind, path, str(slots)]
-        counts = self.programs.counted(words, output)
-        self.programs.expect(words)
-        return counts
+        return self.programs.counted(words, output)
 
     def start(self, geometry):
         """What each program asks for to answer one line, and the floor of an opening: all rounds. Measured once for a geometry."""
+        def run(program):
+            if program != "floor":
+                return self.run(geometry, program, 16)
+            return {"first": int(done([self.programs.at(f"server.{geometry}"), "floor", self.programs.copied(f"{geometry}.device")]))}
+
         if geometry not in self.starts:
             self.prepare(geometry)
             self.programs.write_input(["echo", "summary"])
-            runs = {program: lambda program=program: self.run(geometry, program, 16) for program in (*ORDINARY, *OF_WAFFD)}
-            runs["floor"] = lambda: {"us": int(done([self.programs.at(f"server.{geometry}"), "floor",
-                                                     self.programs.copied(f"{geometry}.device")]))}
-            self.starts[geometry] = values_in_turns(self.repeat, runs)
+            self.starts[geometry] = self.in_turns((*ORDINARY, *OF_WAFFD, "floor"), run)
         return self.starts[geometry]
 
-    def measure_opening(self, row):
-        found = self.start(row["geometry"])
-        return {program: {"ms": [value / 1000 for value in found[program]["us" if program == "floor" else "first"]]}
-                for program in programs_of(row)}
+    def of_opening(self, geometry):
+        firsts = {program: iter(found["first"]) for program, found in self.start(geometry).items()}
+        return lambda program: {"ms": next(firsts[program]) / 1000}
 
-    def lines_of(self, mix, slots):
-        return self.lines * (MORE_READS if mix == "read" else 1) // (FEWER_ALONE if slots == 1 else 1)
-
-    def measure_serve(self, row):
-        geometry, mix, slots = row["geometry"], row["mix"], row["slots"]
+    def of_serve(self, geometry, mix, slots, output):
         starts = self.start(geometry)
-        lines = self.lines_of(mix, slots)
+        lines = self.lines * (MORE_READS if mix == "read" else 1) // (FEWER_ALONE if slots == 1 else 1)
         self.programs.write_input([self.programs.at("lines"), mix, str(lines), geometry])
         changes = self.programs.count_lines("input", b"write")
-        return values_in_turns(self.repeat, {
-            program: lambda program=program: self.net(self.run(geometry, program, slots, row["output"]), starts[program], lines, changes)
-            for program in programs_of(row)})
+        return lambda program: self.net(self.run(geometry, program, slots, output), starts[program], lines, changes)
 
     @staticmethod
     def net(counts, start, lines, changes):
@@ -143,28 +132,28 @@ class Measuring:
 
     # ---- checkpoints by the number of records
 
-    def measure_every(self, row):
-        starts = self.start(row["geometry"])["waffd 2"]
-        runs = {f"every {every}": lambda every=every: self.run_every(row["geometry"], every, starts) for every in EVERY}
-        return values_in_turns(self.repeat, runs)
+    def of_every(self, geometry):
+        start = self.start(geometry)["waffd 2"]
 
-    def run_every(self, geometry, every, starts):
-        """Writes with 16 slots and 2 workers; and the records in force after a hard stop, with the time to the next first reply."""
-        words = ["--workers", "2", "--slots", "16", "--every", str(every)]
-        self.programs.write_input([self.programs.at("lines"), "write", str(self.lines), geometry])
-        counts = self.programs.counted([PROGRAM, "serve", self.programs.copied(f"{geometry}.device"), *words])
-        found = self.net(counts, starts, self.lines, self.lines)
-        path = self.programs.copied(f"{geometry}.device")
-        self.stop_hard([PROGRAM, "serve", path, *words])
-        records = next(line.split()[1] for line in done([PROGRAM, "show", path]).splitlines() if line.startswith("records "))
-        self.programs.write_input(["echo", "summary"])
-        first = self.programs.counted([PROGRAM, "serve", path, "--workers", "2"])["first"]
-        return {**{what: found[what] for what in ("lines/s", "syncs", "bytes")}, "records": int(records), "ms": first / 1000}
+        def run(program):
+            """Writes with 16 slots and 2 workers; and the records in force after a hard stop, with the time to the next first reply."""
+            words = ["--workers", "2", "--slots", "16", "--every", program.split()[1]]
+            self.programs.write_input([self.programs.at("lines"), "write", str(self.lines), geometry])
+            counts = self.programs.counted([PROGRAM, "serve", self.programs.copied(f"{geometry}.device"), *words])
+            found = self.net(counts, start, self.lines, self.lines)
+            path = self.programs.copied(f"{geometry}.device")
+            self.stop_hard([PROGRAM, "serve", path, *words])
+            records = next(line.split()[1] for line in done([PROGRAM, "show", path]).splitlines() if line.startswith("records "))
+            self.programs.write_input(["echo", "summary"])
+            first = self.programs.counted([PROGRAM, "serve", path, "--workers", "2"])["first"]
+            return {**{what: found[what] for what in ("lines/s", "syncs", "bytes")}, "records": int(records), "ms": first / 1000}
+
+        return run
 
     def stop_hard(self, words):
         """Kills a server once it has answered all lines of an input that doesn't end."""
-        with open(self.programs.stream("output"), "wb") as sink, open(self.programs.stream("input"), "rb") as source:
-            child = subprocess.Popen(words, stdin=subprocess.PIPE, stdout=sink, bufsize=0)
+        with open(self.programs.stream("output"), "wb") as sink, open(self.programs.stream("input"), "rb") as source, \
+                subprocess.Popen(words, stdin=subprocess.PIPE, stdout=sink, bufsize=0) as child:
             try:
                 shutil.copyfileobj(source, child.stdin)
                 wanted, until = self.programs.count_lines("input"), time.monotonic() + LONGEST_RUN
@@ -172,30 +161,25 @@ class Measuring:
                     if child.poll() is not None or time.monotonic() > until:
                         raise Failed(f"{' '.join(words)} has not answered all lines")
                     time.sleep(0.01)
-            except BrokenPipeError:
-                raise Failed(f"{' '.join(words)} has not read all lines") from None
             finally:
                 child.kill()
-                child.wait()
-                child.stdin.close()
 
     # ---- the serial server, and the bench
 
-    def alone(self, words, number):
-        """Microseconds of a line or a round trip of a program that has no device."""
-        counts = self.programs.counted(words)
-        self.programs.expect(words)
-        return {"us": counts["wall"] / number, "cpu us": counts["cpu"] / number}
+    def alone(self, commands, number):
+        """Microseconds of a line or a round trip of programs that have no device."""
+        def run(program):
+            counts = self.programs.counted(commands[program])
+            return {"us": counts["wall"] / number, "cpu us": counts["cpu"] / number}
 
-    def measure_plain(self, row):
-        self.programs.write_input([self.programs.at("plain_lines"), row["mix"], str(self.lines * MORE_READS)])
-        lines = self.programs.count_lines("input")
-        return values_in_turns(self.repeat, {"serial": lambda: self.alone([self.programs.at("serial")], lines),
-                                             "waffd": lambda: self.alone([PROGRAM, "plain"], lines)})
+        return run
 
-    def measure_bench(self, row):
-        trips = self.lines * 3
+    def of_plain(self, mix):
+        self.programs.write_input([self.programs.at("plain_lines"), mix, str(self.lines * MORE_READS)])
+        return self.alone({"serial": [self.programs.at("serial")], "waffd": [PROGRAM, "plain"]}, self.programs.count_lines("input"))
+
+    def of_bench(self, workers):
         self.programs.write_input(["true"])
-        words = [str(row["workers"]), str(trips)]
-        runs = {"mutex": [self.programs.at("mutex"), *words], "waffd": [self.programs.handoff(), *words]}
-        return values_in_turns(self.repeat, {name: lambda command=command: self.alone(command, trips) for name, command in runs.items()})
+        trips = self.lines * 3
+        return self.alone({program: [self.programs.at(name), str(workers), str(trips)]
+                           for program, name in (("mutex", "mutex"), ("waffd", "handoff"))}, trips)
