@@ -9,6 +9,7 @@ import collections
 import contextlib
 import errno
 import fcntl
+import io
 import os
 import queue
 import subprocess
@@ -48,12 +49,8 @@ def place_of(sector):
 
 
 def lines_that_make_files():
-    lines = []
-    for aggregate in range(AGGREGATES):
-        for volume in range(VOLUMES):
-            lines.append(f"makevol {aggregate} {volume}")
-            lines += [f"create {aggregate} {volume} {file}" for file in FILES]
-    return lines
+    return [line for aggregate in range(AGGREGATES) for volume in range(VOLUMES)
+            for line in (f"makevol {aggregate} {volume}", *(f"create {aggregate} {volume} {file}" for file in FILES))]
 
 
 def digits_of(data):
@@ -96,7 +93,7 @@ class Server:
     to the oldest request that isn't answered."""
 
     def __init__(self, program, device):
-        self._child = started(program, device)
+        self._child = waffd(subprocess.Popen, program, "serve", device, "--slots", "1024")
         self._fault = None
         self._lock = threading.Lock()  # a request is outstanding, its lines are to be written, and there is no fault: at once
         self._open_requests = collections.deque()  # in the order of their lines
@@ -150,19 +147,15 @@ class Server:
         try:
             for line in self._child.stdout:
                 if line.endswith(b"\n"):  # the beginning of a line, which a killed server may leave, is no reply
-                    self._take(line[:-1].decode())
+                    request = self._open_requests[0]
+                    request.replies.append(line[:-1].decode())
+                    if request.is_answered():
+                        self._open_requests.popleft().is_over.set()
         except Exception:
             self._child.kill()  # it isn't a server
             raise
         finally:
             self._end()
-
-    def _take(self, reply):
-        request = self._open_requests[0]
-        request.replies.append(reply)
-        if request.is_answered():
-            self._open_requests.popleft()
-            request.is_over.set()
 
     def _end(self):
         """Reports to all who wait, and all who will ask, why there is no reply."""
@@ -175,46 +168,19 @@ class Server:
         self._to_write.put(None)
 
 
-def started(program, device):
-    """The process. It keeps the lock of the device as long as it runs, also where nbdkit has ended before it. It isn't in
-    nbdkit's session, so that an interrupt at the terminal goes to nbdkit alone, which then ends it in order."""
-    lock = locked(device)
+def waffd(start, program, command, device, *options):
+    """A process of the program, by subprocess.run or Popen. A second server of one device would destroy it, so its file is locked. The
+    process keeps the lock as long as it runs, also where nbdkit has ended before it. It isn't in nbdkit's session, so that an interrupt at
+    the terminal goes to nbdkit alone, which then ends it in order."""
     try:
-        return subprocess.Popen([program, "serve", device, "--slots", "1024"], stdin=subprocess.PIPE, stdout=subprocess.PIPE,
-                                stderr=subprocess.PIPE, pass_fds=(lock,), start_new_session=True)
-    except OSError as error:
-        raise ServerFault(f"{program} can't be run: {error.strerror}") from error
-    finally:
-        os.close(lock)
-
-
-def locked(device):
-    """The number of the opened file. A second server of one device would destroy it, so its file is locked."""
-    try:
-        number = os.open(device, os.O_RDWR)
-    except OSError as error:
-        raise ServerFault(f"{device} can't be opened: {error.strerror}") from error
-    try:
-        fcntl.flock(number, fcntl.LOCK_EX | fcntl.LOCK_NB)
-    except OSError as error:
-        os.close(number)
+        with io.open(device, "r+b", buffering=0) as file:
+            fcntl.flock(file, fcntl.LOCK_EX | fcntl.LOCK_NB)
+            return start([program, command, device, *options], stdin=subprocess.PIPE, stdout=subprocess.PIPE, stderr=subprocess.PIPE,
+                         pass_fds=(file.fileno(),), start_new_session=True)
+    except BlockingIOError as error:
         raise ServerFault(f"{device} is served already") from error
-    return number
-
-
-def check_device(program, device):
-    """Whether the file is a device of the geometry that is wanted, before any client comes."""
-    lock = locked(device)
-    try:
-        shown = subprocess.run([program, "show", device], stdout=subprocess.PIPE, stderr=subprocess.PIPE, check=False)
     except OSError as error:
-        raise ServerFault(f"{program} can't be run: {error.strerror}") from error
-    finally:
-        os.close(lock)
-    if shown.returncode != 0:
-        raise ServerFault(shown.stderr.decode(errors="replace").strip())
-    if shown.stdout.decode().splitlines()[:1] != [GEOMETRY]:
-        raise ServerFault(f"{device} has not the geometry of this disk; the README tells how it is formatted")
+        raise ServerFault(f"{error.filename} can't be {'opened' if error.filename == device else 'run'}: {error.strerror}") from error
 
 
 # ---- what nbdkit calls
@@ -243,7 +209,12 @@ def thread_model():
 
 
 def get_ready():
-    check_device(words["waffd"], words["device"])
+    """Whether the file is a device of the geometry that is wanted, before any client comes."""
+    shown = waffd(subprocess.run, words["waffd"], "show", words["device"])
+    if shown.returncode != 0:
+        raise ServerFault(shown.stderr.decode(errors="replace").strip())
+    if shown.stdout.decode().splitlines()[:1] != [GEOMETRY]:
+        raise ServerFault(f"{words['device']} has not the geometry of this disk; the README tells how it is formatted")
 
 
 def after_fork():
@@ -255,22 +226,18 @@ def cleanup():
         server.stop()
 
 
-def new_server():
-    new = Server(words["waffd"], words["device"])
-    try:
-        new.change(lines_that_make_files(), also_fine=("error exists",))
-    except ServerFault:
-        new.stop()
-        raise
-    return new
-
-
 def running_server():
     """The server. Where none was started yet, or the last one has ended, a new one is started."""
     global server
     with starting:
         if server is None or server.has_ended():
-            server = new_server()
+            new = Server(words["waffd"], words["device"])
+            try:
+                new.change(lines_that_make_files(), also_fine=("error exists",))
+            except ServerFault:
+                new.stop()
+                raise
+            server = new
         return server
 
 

@@ -12,7 +12,7 @@ import threading
 import time
 from urllib.parse import quote
 
-from program import PATIENCE, PROGRAM, TOP, Case, put_bytes, run
+from program import PATIENCE, PROGRAM, TOP, Case, bytes_of, put_bytes, run
 from meaning import options_of
 from servers import GREATEST
 
@@ -38,63 +38,14 @@ exec "{program}" "$@"
 """
 
 
-class Disk:
-    """A device in a file, and nbdkit with the plugin, which serves it at a socket."""
-
-    def __init__(self, folder):
-        self.folder = folder
-        self.device, self.socket = os.path.join(folder, "device"), os.path.join(folder, "socket")
-        self.waffd, self.pid = os.path.join(folder, "waffd"), os.path.join(folder, "pid")
-        with open(self.waffd, "w", encoding="utf-8") as file:
-            file.write(STARTING.format(pid=self.pid, program=os.path.abspath(PROGRAM)))
-        os.chmod(self.waffd, 0o755)
-        end = run(["format", self.device, *options_of(GREATEST)])
-        if end[0] != 0:
-            raise RuntimeError(f"format: {end}")
-
-    def start(self):
-        if os.path.exists(self.socket):
-            os.unlink(self.socket)  # nbdkit leaves it
-        words = ["nbdkit", "--exit-with-parent", "--unix", self.socket, *self.plugin_of(self.device)]
-        with open(os.path.join(self.folder, "faults"), "ab") as faults:
-            self.nbdkit = subprocess.Popen(words, stdin=subprocess.DEVNULL, stdout=faults, stderr=faults)
-        Client(self).close()  # it is ready
-
-    def plugin_of(self, device):
-        return ["python", PLUGIN, f"device={device}", f"waffd={self.waffd}"]
-
-    def stop(self):
-        """Ends nbdkit in order, and with it the server."""
-        self.nbdkit.terminate()
-        try:
-            return self.nbdkit.wait(PATIENCE)
-        except subprocess.TimeoutExpired:
-            self.nbdkit.kill()
-            return None
-
-    def kill(self):
-        """Kills the server, and leaves nbdkit alone."""
-        with open(self.pid, encoding="utf-8") as file:
-            os.kill(int(file.read()), signal.SIGKILL)
-
-    def fio(self, *options):
-        """What is wrong with a run of fio, or None."""
-        words = ["fio", "--name=disk", "--ioengine=nbd", f"--uri=nbd+unix:///?socket={quote(self.socket)}",
-                 f"--size={DISK_SIZE}", "--iodepth=16", "--verify=crc32c", *options]
-        try:
-            end = subprocess.run(words, cwd=self.folder, capture_output=True, text=True, timeout=LONGEST_FIO, check=False)
-        except subprocess.TimeoutExpired:
-            return "no end"
-        return None if end.returncode == 0 else f"status {end.returncode}, {(end.stderr + end.stdout)[:300]!r}"
-
-
 class Client:
     """A connection by NBD. Requests are sent, and answers taken, in any order."""
 
-    def __init__(self, disk):
+    def __init__(self, path):
         self.socket = socket.socket(socket.AF_UNIX)
         self.socket.settimeout(PATIENCE)
-        self.connect(disk.socket)
+        self.connect(path)
+        self.stream = self.socket.makefile("rb")
         self.sent = 0
         self.counts = {}  # of bytes that the answer to each read brings
         self.take(18)  # NBDMAGIC, IHAVEOPT, flags
@@ -105,21 +56,15 @@ class Client:
 
     def connect(self, path):
         end = time.monotonic() + PATIENCE
-        while True:
-            try:
-                return self.socket.connect(path)
-            except OSError:
-                if time.monotonic() > end:
-                    raise
-                time.sleep(0.05)
+        while self.socket.connect_ex(path):
+            if time.monotonic() > end:
+                raise RuntimeError("nbdkit doesn't listen")
+            time.sleep(0.05)
 
     def take(self, count):
-        data = b""
-        while len(data) < count:
-            piece = self.socket.recv(count - len(data))
-            if not piece:
-                raise ConnectionError("nbdkit has closed the connection")
-            data += piece
+        data = self.stream.read(count)
+        if len(data) < count:
+            raise ConnectionError("nbdkit has closed the connection")
         return data
 
     def send(self, kind, offset=0, count=0, data=b"", flags=0):
@@ -145,21 +90,18 @@ class Client:
         while self.ask(READ, 0, SECTOR)[0] != EIO:
             pass
 
+    def sectors(self):
+        """What each sector holds. No more is asked behind it."""
+        answers = [self.ask(READ, at, DISK_SIZE // 16) for at in range(0, DISK_SIZE, DISK_SIZE // 16)]
+        if any(error for error, _ in answers):
+            raise RuntimeError(f"reads were answered with errors {[error for error, _ in answers]}")
+        self.close()
+        data = b"".join(piece for _, piece in answers)
+        return [data[at:at + SECTOR] for at in range(0, DISK_SIZE, SECTOR)]
+
     def close(self):
+        self.stream.close()
         self.socket.close()
-
-
-def sectors_of(disk):
-    """What each sector holds."""
-    client = Client(disk)
-    data = b""
-    while len(data) < DISK_SIZE:
-        error, piece = client.ask(READ, len(data), DISK_SIZE // 16)
-        if error:
-            raise RuntimeError(f"a read at {len(data)} was answered with error {error}")
-        data += piece
-    client.close()
-    return [data[at:at + SECTOR] for at in range(0, DISK_SIZE, SECTOR)]
 
 
 # ---- kills with requests in flight
@@ -168,15 +110,8 @@ def sectors_of(disk):
 class Load:
     """Writes, trims and zeros of no sector that another one in flight has, and what each sector may hold by them."""
 
-    def __init__(self, disk):
-        self.disk, self.random = disk, random.Random(1)
-        self.certain = sectors_of(disk)
-        self.count = 0
-
-    def connect(self):
-        self.client = Client(self.disk)
-        self.in_flight = {}  # the first sector and the sectors' bytes, by the number of the request
-        self.open = {}  # the bytes that a sector was asked to hold, where that isn't answered
+    def __init__(self, certain):
+        self.random, self.certain, self.count = random.Random(1), certain, 0
 
     def send(self):
         count = self.random.randrange(1, LONGEST + 1)
@@ -191,6 +126,10 @@ class Load:
                                   self.random.randrange(2))
         self.in_flight[number] = first, data
 
+    def fill(self):
+        while len(self.in_flight) < DEPTH:
+            self.send()
+
     def take(self):
         """Takes an answer. Where it reports that all was done, the sectors hold what was asked."""
         number, error, _ = self.client.answer()
@@ -203,25 +142,21 @@ class Load:
                 del self.open[at]
         return error
 
-    def run_until_killed(self):
+    def run_until_killed(self, client, kill):
         """Requests until the server is killed. How many got an error."""
-        self.connect()
+        self.client = client
+        self.in_flight = {}  # the first sector and the sectors' bytes, by the number of the request
+        self.open = {}  # the bytes that a sector was asked to hold, where that isn't answered
         for _ in range(self.random.randrange(MOST_ANSWERS)):
-            while len(self.in_flight) < DEPTH:
-                self.send()
+            self.fill()
             if self.take():
                 raise RuntimeError("an error before the server was killed")
-        while len(self.in_flight) < DEPTH:
-            self.send()
-        self.disk.kill()
-        errors = sum(self.take() != 0 for _ in range(len(self.in_flight)))
-        self.client.wait_for_end()
-        self.client.close()
-        return errors
+        self.fill()
+        kill()
+        return sum(self.take() != 0 for _ in range(len(self.in_flight)))
 
-    def wrong(self):
+    def wrong(self, found):
         """The sectors that hold neither what they have to nor what they may."""
-        found = sectors_of(self.disk)
         wrong = [at for at, data in enumerate(found) if data not in (self.certain[at], self.open.get(at))]
         self.certain = found
         return wrong
@@ -231,31 +166,59 @@ class Load:
 
 
 class BlockDevice(Case):
-    """Needs nbdkit with its plugin for Python, and fio with its engine for NBD."""
+    """Needs nbdkit with its plugin for Python, and fio with its engine for NBD. A device in a file, and nbdkit with the plugin, which serves
+    it at a socket."""
 
     def setUp(self):
         super().setUp()
         missing = [name for name, words in TOOLS.items()
                    if shutil.which(words[0]) is None or subprocess.run(words, capture_output=True, check=False).returncode]
         self.assertFalse(missing, f"it needs {' and '.join(missing)}")
-        self.disk = Disk(self.folder)
-        self.disk.start()
+        self.device, self.socket, self.pid = map(self.at, ("device", "socket", "pid"))
+        self.put_script("waffd", STARTING.format(pid=self.pid, program=os.path.abspath(PROGRAM)))
+        self.has_ended(run(["format", self.device, *options_of(GREATEST)]), 0)
+        self.start()
+
+    def start(self):
+        if os.path.exists(self.socket):
+            os.unlink(self.socket)  # nbdkit leaves it
+        words = ["nbdkit", "--exit-with-parent", "--unix", self.socket, *self.plugin_of(self.device)]
+        self.nbdkit = subprocess.Popen(words, stdin=subprocess.DEVNULL, stdout=subprocess.DEVNULL, stderr=subprocess.DEVNULL)
+        self.addCleanup(self.nbdkit.kill)
+        Client(self.socket).close()  # it is ready
+
+    def plugin_of(self, device):
+        return ["python", PLUGIN, f"device={device}", f"waffd={self.at('waffd')}"]
+
+    def stop(self):
+        """Ends nbdkit in order, and with it the server."""
+        self.nbdkit.terminate()
+        self.assertEqual(self.nbdkit.wait(PATIENCE), 0)
+
+    def kill(self):
+        """Kills the server, and leaves nbdkit alone."""
+        os.kill(int(bytes_of(self.pid)), signal.SIGKILL)
 
     def tearDown(self):
         with self.subTest("nbdkit ends in order"):
-            self.assertEqual(self.disk.stop(), 0)
+            self.stop()
         with self.subTest("and so does the server, which leaves no record"):
-            self.assertEqual(run(["show", self.disk.device])[1].decode().splitlines()[2:3], ["records 0"])
+            self.assertEqual(run(["show", self.device])[1].decode().splitlines()[2:3], ["records 0"])
+
+    def run_fio(self, *options):
+        words = ["fio", "--name=disk", "--ioengine=nbd", f"--uri=nbd+unix:///?socket={quote(self.socket)}",
+                 f"--size={DISK_SIZE}", "--iodepth=16", "--verify=crc32c", *options]
+        return subprocess.run(words, cwd=self.folder, capture_output=True, text=True, timeout=LONGEST_FIO, check=False)
 
     def fio(self, name, *options):
         with self.subTest(name):
-            self.assertIsNone(self.disk.fio(*options))
+            end = self.run_fio(*options)
+            self.assertEqual(end.returncode, 0, (end.stderr + end.stdout)[:300])
 
     def test_fio(self):
-        disk = self.disk
         self.fio("fio fills the disk and verifies it", "--rw=randwrite", "--bs=4k")
-        client = Client(disk)
-        disk.kill()
+        client = Client(self.socket)
+        self.kill()
         client.wait_for_end()
         for name, kind in (("read", READ), ("write", WRITE), ("trim", TRIM), ("flush", FLUSH)):
             count = 0 if kind == FLUSH else SECTOR
@@ -263,10 +226,10 @@ class BlockDevice(Case):
                 self.assertEqual(client.ask(kind, 0, count, bytes(count) if kind == WRITE else b"")[0], EIO)
         client.close()
         self.fio("fio connects anew, and all is there", "--rw=randwrite", "--bs=4k", "--verify_only")
-        disk.kill()
+        self.kill()
         with self.subTest("the server is killed, and nbdkit ends"):
-            self.assertEqual(disk.stop(), 0)
-        disk.start()
+            self.stop()
+        self.start()
         self.fio("nbdkit starts again, and all is there", "--rw=randwrite", "--bs=4k", "--verify_only")
         self.fio("fio by four connections, with requests of many sizes",
                  "--rw=randwrite", "--bsrange=512-64k", "--numjobs=4", "--size=2M", "--offset_increment=2M")
@@ -274,18 +237,19 @@ class BlockDevice(Case):
     def test_fio_cut(self):
         """What fio wrote before the kill it can't distinguish from what it was to write. But each sector is a whole one of its own."""
         self.fio("fio fills the disk by sectors", "--rw=randwrite", "--bs=512")
-        killing = threading.Timer(FIO_RUNS, self.disk.kill)
+        killing = threading.Timer(FIO_RUNS, self.kill)
         killing.start()
         began = time.monotonic()
-        problem = self.disk.fio("--rw=randwrite", "--bs=512", "--do_verify=0", f"--rate=,{DISK_SIZE // 4}")
+        end = self.run_fio("--rw=randwrite", "--bs=512", "--do_verify=0", f"--rate=,{DISK_SIZE // 4}")
         killing.join()
         with self.subTest("the server is killed while fio writes, and fio ends with EIO"):
-            self.assertIn("Input/output error", problem or "")
+            self.assertNotEqual(end.returncode, 0)
+            self.assertIn("Input/output error", end.stderr + end.stdout)
             self.assertLess(time.monotonic() - began - FIO_RUNS, PATIENCE)
         self.fio("fio finds each sector whole, and at its place", "--rw=read", "--bs=512")
 
     def test_requests(self):
-        client, whole = Client(self.disk), b"x" * (4 * SECTOR)
+        client, whole = Client(self.socket), b"x" * (4 * SECTOR)
         for name, kind in (("trim", TRIM), ("zero", ZERO)):
             with self.subTest(f"{name} leaves zeros, there alone"):
                 errors = [client.ask(WRITE, 0, len(whole), whole)[0], client.ask(kind, SECTOR, 2 * SECTOR)[0]]
@@ -301,11 +265,14 @@ class BlockDevice(Case):
         client.close()
 
     def test_kills(self):
-        load, errors = Load(self.disk), 0
+        load, errors = Load(Client(self.socket).sectors()), 0
         with self.subTest(f"{KILLS} kills with {DEPTH} requests in flight"):
             for number in range(KILLS):
-                errors += load.run_until_killed()
-                self.assertEqual(load.wrong(), [], f"kill {number}: sectors that hold something else")
+                client = Client(self.socket)
+                errors += load.run_until_killed(client, self.kill)
+                client.wait_for_end()
+                client.close()
+                self.assertEqual(load.wrong(Client(self.socket).sectors()), [], f"kill {number}: sectors that hold something else")
             print(f"       {errors} requests were answered with EIO")
 
     def test_refused(self):
@@ -314,11 +281,11 @@ class BlockDevice(Case):
         run(["format", sealed, *options_of(GREATEST)])
         run(["serve", sealed], b"makevol 3 7\nseal 3 7\n")
         put_bytes(zeros, bytes(1000))
-        rows = (("that is served", self.disk.device, "is served already"), ("of another geometry", other, "geometry"),
+        rows = (("that is served", self.device, "is served already"), ("of another geometry", other, "geometry"),
                 ("with a sealed volume", sealed, "create 3 7 0 was answered: error sealed"),
                 ("that isn't formatted", zeros, "not formatted"), ("that isn't there", none, "can't be opened"))
         for name, device, text in rows:
             with self.subTest(f"a device {name} is refused"):
-                words = ["nbdkit", "--foreground", "--unix", "-", *self.disk.plugin_of(device)]
+                words = ["nbdkit", "--foreground", "--unix", "-", *self.plugin_of(device)]
                 end = subprocess.run(words, capture_output=True, text=True, timeout=PATIENCE, check=False)
                 self.assertTrue(end.returncode == 1 and text in end.stderr, f"status {end.returncode}, {end.stderr[-200:]!r}")
