@@ -1,8 +1,8 @@
 """The crates' own tests where memory or threads are refused, or beside busy threads."""
-import contextlib
 import functools
 import os
 import re
+import resource
 import signal
 import struct
 import subprocess
@@ -36,6 +36,11 @@ def tests_of(folder):
     return program, [line[: -len(": test")] for line in lines if line.endswith(": test")]
 
 
+def ended(program, test, **env):
+    """How a test ended, alone."""
+    return subprocess.run([program, test], env={**os.environ, **env}, capture_output=True, text=True, timeout=LONGEST_TEST, check=False)
+
+
 class Refused(Case):
     """Tests to which requests are refused."""
 
@@ -54,9 +59,7 @@ class Refused(Case):
         pass only those count that do."""
         count = 0
         for number in range(1, MOST_TURNS):
-            self.refusing.happened()
-            env = {**os.environ, **self.refusing.env(**{turn: number})}
-            end = subprocess.run([program, test], env=env, capture_output=True, text=True, timeout=LONGEST_TEST, check=False)
+            end = ended(program, test, **self.refusing.env(**{turn: number}))
             if not self.refusing.happened():
                 return count
             is_for_want = end.returncode in FAILED_TEST and any(word in end.stderr for word in MEMORY_WORDS)
@@ -116,8 +119,7 @@ class Calls(Refused):
     def test_no_request(self):
         for folder, name in ((folder, name) for folder, wanted in ASK_FOR_NONE.items() for name in wanted):
             with self.subTest(f"{folder}, {name}: no request for memory"):
-                env = {**os.environ, **self.refusing.env(COUNTED=self.at("counted"))}
-                end = subprocess.run(self.named(folder, name), env=env, capture_output=True, text=True, timeout=LONGEST_TEST, check=False)
+                end = ended(*self.named(folder, name), **self.refusing.env(COUNTED=self.at("counted")))
                 self.assertEqual(end.returncode, 0, end.stderr[-300:])
                 before, between_them = struct.unpack("2q", bytes_of(self.at("counted")))
                 self.assertGreater(before, 0)
@@ -164,34 +166,27 @@ PROCESSORS = 2  # on which threads meet: so a thread is held up there as on any 
 ROUNDS = 20  # of the two tests that make many
 
 
-@contextlib.contextmanager
-def busy_threads(count, seconds):
-    """So many threads that do nothing but run, for no longer than this."""
-    spin = f"import time\nend = time.monotonic() + {seconds}\nwhile time.monotonic() < end: pass"
-    threads = [subprocess.Popen([sys.executable, "-c", spin]) for _ in range(count)]
-    try:
-        yield
-    finally:
-        for thread in threads:
-            thread.kill()
-            thread.wait()
-
-
 class Loaded(Case):
     """The tests in which threads meet, on two processors beside eight busy threads, so that a thread is held up at any of its steps: a wake-up
     that is lost there shows as a test that doesn't end within a minute. The two long ones make 20 rounds."""
 
+    def busy(self, count, seconds):
+        """Starts so many threads that do nothing but run, for no longer than this of a processor."""
+        for _ in range(count):
+            thread = subprocess.Popen([sys.executable, "-c", "while True: pass"],
+                                      preexec_fn=lambda: resource.setrlimit(resource.RLIMIT_CPU, (seconds, seconds)))
+            self.addCleanup(thread.wait)
+            self.addCleanup(thread.kill)
+
     def test_meetings(self):
         before = os.sched_getaffinity(0)
-        built = [(folder, begin, *tests_of(folder)) for folder, begin in MEETINGS]
+        built = [(folder, *tests_of(folder), begin) for folder, begin in MEETINGS]
         os.sched_setaffinity(0, sorted(before)[:PROCESSORS])
         self.addCleanup(os.sched_setaffinity, 0, before)
-        for folder, begin, program, tests in built:
-            meeting = [test for test in tests if test.startswith(begin)]
-            self.assertTrue(meeting, f"no name of a test of {folder} begins with {begin}")
-            with busy_threads(BUSY_A_PROCESSOR * min(PROCESSORS, len(before)), LONGEST_TEST * len(meeting)):
-                for test in meeting:
-                    with self.subTest(f"{folder}, {test} beside busy threads"):
-                        env = dict(os.environ, BENCH_ROUNDS=str(ROUNDS))
-                        end = subprocess.run([program, test], env=env, capture_output=True, text=True, timeout=LONGEST_TEST, check=False)
-                        self.assertEqual(end.returncode, 0, end.stderr.strip()[-300:])
+        meeting = [(folder, program, test) for folder, program, tests, begin in built for test in tests if test.startswith(begin)]
+        self.assertEqual({folder for folder, *_ in meeting}, {folder for folder, *_ in built}, "crates with a test of such a name")
+        self.busy(BUSY_A_PROCESSOR * min(PROCESSORS, len(before)), LONGEST_TEST * len(meeting))
+        for folder, program, test in meeting:
+            with self.subTest(f"{folder}, {test} beside busy threads"):
+                end = ended(program, test, BENCH_ROUNDS=str(ROUNDS))
+                self.assertEqual(end.returncode, 0, end.stderr.strip()[-300:])

@@ -212,70 +212,55 @@ class Search:
 
     def __init__(self, g, start, lines, answered, left):
         self.g, self.lines, self.answered, self.left = g, lines, answered, left
-        self.state = dict(start)
-        self.logged = []  # the places of the lines in the log
-        self.undone = []  # what was there before, of each piece that was set
-        self.waiting = []  # the places in the tree where a message isn't in the log
-        self.turns = []  # where another way may be tried
+        # The ways that are left to try: the next line, the state, the lines in the log as a chain from the last one
+        # back, and the places in the tree where a message isn't in the log.
+        self.ways = [(0, start, (), frozenset())]
 
-    def set_pieces(self, at, pieces):
-        self.undone.append([(key, self.state[key]) for key in pieces])
-        self.logged.append(at)
-        self.state.update(pieces)
-
-    def is_as_left(self, keys):
-        return all(self.state[key] == self.left[key] for key in keys)
-
-    def go_back(self):
-        """To the last line that was taken for one not in the log: now it is."""
-        at, logged, waiting = self.turns.pop()
-        while len(self.logged) > logged:
-            self.logged.pop()
-            self.state.update(self.undone.pop())
-        del self.waiting[waiting:]
-        self.set_pieces(at, changes_of(self.g, self.state, self.lines[at])[1])
-        return at + 1
-
-    def walk(self, at):
-        """Goes on from this line. Whether it came to the state that was left."""
-        while at < len(self.lines) and () not in self.waiting:
-            message, pieces = changes_of(self.g, self.state, self.lines[at])
+    def walk(self, begin, state, logged, waiting):
+        """Goes on from this line. What is in the log then, or None where that doesn't lead to the state that was left."""
+        for at in range(begin, len(self.lines)):
+            if () in waiting:
+                break
+            message, pieces = changes_of(self.g, state, self.lines[at])
             if message is None:
-                at += 1
                 continue
             path = place(self.g, message)
-            waits = any(related(path, other) for other in self.waiting)
-            if waits and at < self.answered:
-                return False
-            if waits:
-                self.waiting.append(path)
-            elif pieces and at >= self.answered and self.may_be_missing(path):
-                self.turns.append((at, len(self.logged), len(self.waiting)))
-                self.waiting.append(path)
+            if any(related(path, other) for other in waiting):
+                if at < self.answered:
+                    return None
+                waiting |= {path}
             elif pieces:
-                self.set_pieces(at, pieces)
-            at += 1
-        return self.state == self.left
+                with_it = {**state, **pieces}, (self.lines[at], logged)
+                if at >= self.answered and self.may_be_missing(state, path):
+                    self.ways.append((at + 1, *with_it, waiting))
+                    waiting |= {path}
+                else:
+                    state, logged = with_it
+        return logged if state == self.left else None
 
-    def may_be_missing(self, path):
+    def may_be_missing(self, state, path):
         """Whether what messages at this place and below may set is as it was left. The volume's piece has more than
         the files, and more than the label."""
         if len(path) != 3:
-            return self.is_as_left(pieces_below(self.g, path))
-        now, left = self.state[path[:2]], self.left[path[:2]]
+            return all(state[key] == self.left[key] for key in pieces_below(self.g, path))
+        now, left = state[path[:2]], self.left[path[:2]]
         if left is None:
             return False
         if path[2] == 1:
             return now.label == left.label
-        return now.files == left.files and self.is_as_left(path[:2] + (s,) for s in range(self.g.stripes))
+        stripes = [path[:2] + (s,) for s in range(self.g.stripes)]
+        return now.files == left.files and all(state[key] == self.left[key] for key in stripes)
 
     def find(self):
         """The lines in the log, or None where there is no way."""
-        found = self.walk(0)
         for _ in range(MOST_WAYS):
-            if found:
-                return [self.lines[at] for at in self.logged]
-            if not self.turns:
+            if not self.ways:
                 return None
-            found = self.walk(self.go_back())
+            logged = self.walk(*self.ways.pop())
+            if logged is not None:
+                lines = []
+                while logged:
+                    line, logged = logged
+                    lines.append(line)
+                return lines[::-1]
         raise RuntimeError("too many ways to look at")

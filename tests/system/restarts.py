@@ -1,10 +1,11 @@
 """Restarts on a device: `serve` is killed in one run, and the next run has to have each change that was acknowledged; and long random inputs,
 beside the serial server."""
+import contextlib
 import os
 import random
-import select
 import shutil
 import subprocess
+import threading
 import time
 
 from program import PROGRAM, Case, run
@@ -22,57 +23,38 @@ AS_WRITTEN = (1,)  # a number of stop.c's list: all that was written stays
 TORN = tuple(range(11))
 
 
-class KilledRun:
-    """One run of `serve` for a client that sends some lines, takes some replies, and rests now and then."""
+def run_slowly(words, lines, seed, env, seconds):
+    """One run of `serve` for a client that sends some lines, takes some replies, and rests now and then, killed where it hasn't ended after so
+    long: its status, standard output and standard error."""
+    output = b""
+    with subprocess.Popen([PROGRAM, *words], stdin=subprocess.PIPE, stdout=subprocess.PIPE, stderr=subprocess.PIPE, bufsize=0,
+                          env=dict(os.environ, **(env or {}))) as child:
+        def in_pieces(*sizes):
+            chance = random.Random(f"{seed} {sizes}")
+            while True:
+                yield chance.choice(sizes)
+                time.sleep(chance.random() * 0.004 if chance.randrange(4) == 0 else 0)
 
-    def __init__(self, words, lines, seed, env=None):
-        self.random = random.Random(seed)
-        self.to_send = text_of(lines)
-        self.output = b""
-        self.child = subprocess.Popen([PROGRAM, *words], stdin=subprocess.PIPE, stdout=subprocess.PIPE, stderr=subprocess.PIPE,
-                                      env=dict(os.environ, **(env or {})))
-        os.set_blocking(self.child.stdin.fileno(), False)
-        self.sent = 0
+        def send():
+            rest = text_of(lines)
+            with contextlib.suppress(BrokenPipeError), child.stdin:
+                for size in in_pieces(1, 20, 200, 2000, 20000):
+                    rest = rest[child.stdin.write(rest[:size]):]
+                    if not rest:
+                        break
 
-    def send(self):
-        size = self.random.choice((1, 20, 200, 2000, 20000))
-        try:
-            self.sent += os.write(self.child.stdin.fileno(), self.to_send[self.sent:self.sent + size])
-        except BlockingIOError:
-            pass
-        except BrokenPipeError:
-            return False
-        return self.sent < len(self.to_send)
-
-    def take(self):
-        piece = os.read(self.child.stdout.fileno(), self.random.choice((1, 100, 5000, 65536)))
-        self.output += piece
-        return bool(piece)
-
-    def step(self):
-        """Sends or takes something, or rests. Whether more may come."""
-        sends = [] if self.child.stdin.closed else [self.child.stdin]
-        takes, sends, _ = select.select([self.child.stdout], sends, [], 0.05)
-        if self.random.randrange(4) == 0:
-            time.sleep(self.random.random() * 0.004)
-        if sends and not self.send():
-            self.child.stdin.close()
-        return not takes or self.take()
-
-    def run_for(self, seconds):
-        """Until it ends, or is killed after so long. Then the replies that are still on their way are taken too."""
-        end, alive = time.monotonic() + seconds, True
-        while alive and time.monotonic() < end:
-            alive = self.step()
-        if alive:
-            self.child.kill()
-        if not self.child.stdin.closed:
-            self.child.stdin.close()
-        self.output += self.child.stdout.read()
-        faults = self.child.stderr.read()
-        self.child.stdout.close()
-        self.child.stderr.close()
-        return self.child.wait(), faults
+        killing, sending = threading.Timer(seconds, child.kill), threading.Thread(target=send)
+        killing.start()
+        sending.start()
+        for size in in_pieces(1, 100, 5000, 65536):
+            piece = child.stdout.read(size)
+            output += piece
+            if not piece:
+                break
+        status, faults = child.wait(), child.stderr.read()
+        killing.cancel()
+        sending.join()
+    return status, output, faults
 
 
 class Kills(Case):
@@ -89,11 +71,10 @@ class Kills(Case):
             for number in range(1, max(RUNS_A_KILL * count, 100) + 1):
                 lines = drawing.lines(drawing.random.choice((20, 400, 4000)))
                 env, seconds = stop(device, drawing.random, lines)
-                served = KilledRun(device.words(), lines, number, env)
-                status, faults = served.run_for(seconds)
+                status, output, faults = run_slowly(device.words(), lines, number, env, seconds)
                 try:
                     self.assertTrue(status in (0, -9) and not faults, f"status {status}, {faults!r:.200}")
-                    device.judge(lines, served.output, status == 0)
+                    device.judge(lines, output, status == 0)
                 except AssertionError as error:
                     shutil.copyfile(device.path, "/tmp/waffd_device_with_a_problem")
                     raise AssertionError(f"run {number}: {error}") from None
