@@ -79,12 +79,11 @@ class DeviceFaults(Case):
         for turn in ("FAIL_CALL", "FAIL_CALLS_FROM"):
             for slots, every in ((1, 2), (16, 0)):
                 def attempt(number):
-                    device = Device(self.folder, (SMALL, 2, slots, every))
-                    end = between.run(turn, number, device.words(), text_of(lines))
-                    if end is None:
-                        return False
-                    self.has_ended(end, 1, lambda output: is_beginning(output, output), DEVICE_FAULT)
-                    device.judge(lines, end[1], False)
-                    return True
+                    self.device = Device(self.folder, (SMALL, 2, slots, every))
+                    return between.run(turn, number, self.device.words(), text_of(lines))
 
-                self.each(f"{turn}: {slots} slots, every {every}", LEAST_CALLS, attempt)
+                def judge(end):
+                    self.has_ended(end, 1, lambda output: is_beginning(output, output), DEVICE_FAULT)
+                    self.device.judge(lines, end[1], False)
+
+                self.each(f"{turn}: {slots} slots, every {every}", LEAST_CALLS, attempt, judge)

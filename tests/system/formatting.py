@@ -55,7 +55,7 @@ class Formatting(Case):
                         os.unlink(self.at("faulty"))
                     if over:
                         run(words)
-                    end = between.run(turn, number, words)
-                    return end is not None and self.has_ended(end, 1, b"", DEVICE_FAULT) is None
+                    return between.run(turn, number, words)
 
-                self.each(f"{turn}: format {'over a device' if over else 'of a new file'}", LEAST_CALLS, attempt)
+                self.each(f"{turn}: format {'over a device' if over else 'of a new file'}", LEAST_CALLS, attempt,
+                          lambda end: self.has_ended(end, 1, b"", DEVICE_FAULT))

@@ -21,18 +21,18 @@ class Memory(Case):
             arguments = words.replace("DEVICE", self.at("device")).split()
             good = run(arguments, given)
             for turn in ("REFUSE_ONE", "REFUSE_FROM"):
-                def attempt(number):
-                    end = between.run(turn, number, arguments, given)
-                    if end is None or end == good and MAY_END_WELL[turn]:
-                        return end is not None
-                    self.has_ended(end, 3, lambda output: is_beginning(output, good[1]) if given else not output, NO_MEMORY)
-                    return True
+                def judge(end):
+                    if end != good or not MAY_END_WELL[turn]:
+                        self.has_ended(end, 3, lambda output: is_beginning(output, good[1]) if given else not output, NO_MEMORY)
 
-                self.each(f"{turn}: {words or 'no words'}, {len(given)} bytes", 1, attempt)
+                self.each(f"{turn}: {words or 'no words'}, {len(given)} bytes", 1,
+                          lambda number: between.run(turn, number, arguments, given), judge)
 
     def test_serve(self):
         file, between = File(self.folder), self.between("refuse.c")
         put_bytes(self.at("given"), EACH_KIND)
+        given = open(self.at("given"), "rb", buffering=0)
+        self.addCleanup(given.close)
         for options, threads in (("--workers 1 --slots 1", 1), ("", 2), ("--workers 64 --slots 1024 --every 2", 64)):
             words = ["serve", file.path, *options.split()]
             file.format()
@@ -40,16 +40,16 @@ class Memory(Case):
             for turn in MAY_END_WELL:
                 def attempt(number):
                     file.format()
-                    with open(self.at("given"), "rb") as given:
-                        end = between.run(turn, number, words, stdin=given)
-                        at = os.lseek(given.fileno(), 0, os.SEEK_CUR)
-                    if end is None or end == good and MAY_END_WELL[turn]:
-                        return end is not None
-                    self.has_ended(end, 3, b"", NO_MEMORY)
-                    self.assertEqual(at, 0, "it has read so many bytes")
-                    self.assertIn(bytes_of(file.path), (file.formatted, file.opened), "the device has other bytes")
-                    return True
+                    given.seek(0)
+                    return between.run(turn, number, words, stdin=given)
 
-                count = self.each(f"{turn}, nothing is read: serve {options}", LEAST_REQUESTS if turn != "REFUSE_THREAD" else threads, attempt)
+                def judge(end):
+                    if end != good or not MAY_END_WELL[turn]:
+                        self.has_ended(end, 3, b"", NO_MEMORY)
+                        self.assertEqual(os.lseek(given.fileno(), 0, os.SEEK_CUR), 0, "it has read so many bytes")
+                        self.assertIn(bytes_of(file.path), (file.formatted, file.opened), "the device has other bytes")
+
+                least = LEAST_REQUESTS if turn != "REFUSE_THREAD" else threads
+                count = self.each(f"{turn}, nothing is read: serve {options}", least, attempt, judge)
                 if turn == "REFUSE_THREAD":
                     self.assertEqual(count, threads)

@@ -196,15 +196,11 @@ class SingleFaults(Case):
         with self.subTest("a long input"):
             self.assertTrue(status == 0 and len(whole) > 200000)
 
-        def fails(turn, words, given, *wanted):
-            def attempt(number):
-                end = between.run(turn, number, words, given)
-                return end is not None and self.has_ended(end, *wanted) is None
-            return attempt
-
-        self.each("plain, a read fails", 2, fails("FAIL_READ", ["plain"], long, 1, lambda output: is_beginning(output, whole), READ_FAULT))
-        self.each("plain, a write fails, and none follows", 2, fails("FAIL_WRITE", ["plain"], long, 1, whole.startswith, WRITE_FAULT))
-        self.each("help, a write fails", 1, fails("FAIL_WRITE", ["--help"], b"", 1, None, WRITE_FAULT))
+        for name, least, turn, word, output, told in (
+                ("plain, a read fails", 2, "FAIL_READ", "plain", lambda output: is_beginning(output, whole), READ_FAULT),
+                ("plain, a write fails, and none follows", 2, "FAIL_WRITE", "plain", whole.startswith, WRITE_FAULT),
+                ("help, a write fails", 1, "FAIL_WRITE", "--help", None, WRITE_FAULT)):
+            self.each(name, least, lambda number: between.run(turn, number, [word], long), lambda end: self.has_ended(end, 1, output, told))
 
     def test_serve(self):
         changes = ["makevol 0 0", "create 0 0 0"] + [f"write 0 0 0 {i % 4} {i:04x}{'5a' * 200}" for i in range(1, 400)]
@@ -212,15 +208,14 @@ class SingleFaults(Case):
         between = self.between("refuse.c")
         for turn, told in (("FAIL_READ", READ_FAULT), ("FAIL_WRITE", WRITE_FAULT)):
             def attempt(number):
-                device = Device(self.folder, (SMALL, 2, 64, 0))
-                end = between.run(turn, number, device.words(), text_of(lines))
-                if end is None:
-                    return False
-                self.has_ended(end, 1, None, told)
-                device.judge(lines, end[1], False)
-                return True
+                self.device = Device(self.folder, (SMALL, 2, 64, 0))
+                return between.run(turn, number, self.device.words(), text_of(lines))
 
-            self.each(f"serve, {turn}", 2, attempt)
+            def judge(end):
+                self.has_ended(end, 1, None, told)
+                self.device.judge(lines, end[1], False)
+
+            self.each(f"serve, {turn}", 2, attempt, judge)
 
 
 COUNTED_LINES = 100000

@@ -129,17 +129,18 @@ class Case(unittest.TestCase):
         with self.subTest(name):
             self.assertTrue(bytes_of(path) == data, "other bytes")
 
-    def each(self, name, least, attempt):
-        """A check of calls or requests that fail in turn: `attempt` is given 1, 2 and so on, until it is False as there is no such call.
-        Fewer than `least` can't be all that there are. How many there were."""
+    def each(self, name, least, attempt, judge):
+        """A check of calls or requests that fail in turn: `attempt` is given 1, 2 and so on, until there is no such call, so no end. `judge` is
+        given each end. Fewer than `least` can't be all that there are. How many there were."""
         number = 0
         with self.subTest(name):
-            try:
-                while attempt(number + 1):
-                    number += 1
-                    self.assertLess(number, MOST_TURNS, "too many")
-            except AssertionError as error:
-                raise AssertionError(f"number {number + 1}: {error}") from None
+            while (end := attempt(number + 1)) is not None:
+                number += 1
+                self.assertLess(number, MOST_TURNS, "too many")
+                try:
+                    judge(end)
+                except AssertionError as error:
+                    raise AssertionError(f"number {number}: {error}") from None
             self.assertGreaterEqual(number, least, "so many there have to be")
             print(f"       {number} of them:")
         return number
