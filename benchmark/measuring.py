@@ -7,31 +7,30 @@ import time
 from statistics import median
 
 from figures_file import DIGITS, FEWER_ALONE, MORE_READS, OF_WAFFD, ORDINARY, programs_of
-from programs import GREATEST, LONGEST_RUN, PROGRAM, Failed, done
+from programs import GREATEST, LONGEST_RUN, PROGRAM, Failed, Programs, done
 
 SYNCS = 500  # of a round, for the time of one
 RECORD = 520  # bytes of a record of the log
 LEAST_SYNC = 5  # microseconds; a sync of less reaches no disk
 
 
-class Measuring:
-    def __init__(self, programs, repeat, lines):
-        self.programs, self.repeat, self.lines = programs, repeat, lines
-        self.starts = {}
+class Measuring(Programs):
+    def __init__(self, repeat, lines, *folders):
+        super().__init__(*folders)
+        self.repeat, self.lines, self.starts = repeat, lines, {}
 
-    def build(self, row):
+    def build_for(self, row):
         """Builds what a row needs, before any row is measured."""
         if row["part"] == "plain":
-            self.programs.build("lines.rs", "plain_lines")
-            self.programs.build("serial.rs", "serial")
+            self.build("lines.rs", "plain_lines")
+            self.build("serial.rs", "serial")
         elif row["part"] == "bench":
-            self.programs.build("handoff/plain.rs", "mutex")
-            self.programs.build_handoff()
+            self.build("handoff/plain.rs", "mutex")
+            self.build_handoff()
         elif row["part"] != "disk":
-            self.programs.build("serve/lines.rs", "lines")
-            for geometry, numbers in (("default", {}), ("greatest", GREATEST)):
-                env = {name.upper(): str(number) for name, number in numbers.items()}
-                self.programs.build("serve/server.rs", f"server.{geometry}", env)
+            self.build("serve/lines.rs", "lines")
+            self.build("serve/server.rs", "server.default")
+            self.build("serve/server.rs", "server.greatest", {name.upper(): str(number) for name, number in GREATEST.items()})
 
     def measure(self, row):
         """The values of each program of a row."""
@@ -58,7 +57,7 @@ class Measuring:
     def sync_time(self):
         """The median of the times that a record takes to be written and synced, into a file that has its room."""
         times = []
-        with open(self.programs.at("synced"), "w+b", buffering=0) as file:
+        with open(self.at("synced"), "w+b", buffering=0) as file:
             file.write(bytes(RECORD * SYNCS))
             os.fsync(file.fileno())
             for n in range(SYNCS):
@@ -74,36 +73,36 @@ class Measuring:
 
     def prepare(self, geometry):
         """The device and the log of a geometry, with all that the lines use."""
-        device, log = self.programs.at(f"{geometry}.device"), self.programs.at(f"{geometry}.log")
-        server = self.programs.at(f"server.{geometry}")
+        device, log = self.at(f"{geometry}.device"), self.at(f"{geometry}.log")
+        server = self.at(f"server.{geometry}")
         options = [word for name, number in GREATEST.items() for word in (f"--{name}", str(number))]
         done([PROGRAM, "format", device, *(options if geometry == "greatest" else [])])
-        self.programs.write_input([self.programs.at("lines"), "fill", "0", geometry])
-        size = os.path.getsize(self.programs.stream("input")) + self.lines * 1200 + 1000000
+        self.write_input([self.at("lines"), "fill", "0", geometry])
+        size = os.path.getsize(self.stream("input")) + self.lines * 1200 + 1000000
         done([server, "make", log, str(size)])
-        self.programs.counted([PROGRAM, "serve", device, "--workers", "4", "--slots", "64"])
-        self.programs.counted([server, "batch", log, "1024"])
+        self.counted([PROGRAM, "serve", device, "--workers", "4", "--slots", "64"])
+        self.counted([server, "batch", log, "1024"])
 
     def run(self, geometry, program, slots, output="file"):
         """One run of a program on the input, with a fresh device or log."""
         kind, _, workers = program.partition(" ")
-        path = self.programs.copied(f"{geometry}.{'device' if workers else 'log'}")
+        path = self.copied(f"{geometry}.{'device' if workers else 'log'}")
         if workers:
             words = [PROGRAM, "serve", path, "--workers", workers, "--slots", str(slots)]
         else:
-            words = [self.programs.at(f"server.{geometry}"), kind, path, str(slots)]
-        return self.programs.counted(words, output)
+            words = [self.at(f"server.{geometry}"), kind, path, str(slots)]
+        return self.counted(words, output)
 
     def start(self, geometry):
         """What each program asks for to answer one line, and the floor of an opening: all rounds. Measured once for a geometry."""
         def run(program):
             if program != "floor":
                 return self.run(geometry, program, 16)
-            return {"first": int(done([self.programs.at(f"server.{geometry}"), "floor", self.programs.copied(f"{geometry}.device")]))}
+            return {"first": int(done([self.at(f"server.{geometry}"), "floor", self.copied(f"{geometry}.device")]))}
 
         if geometry not in self.starts:
             self.prepare(geometry)
-            self.programs.write_input(["echo", "summary"])
+            self.write_input(["echo", "summary"])
             self.starts[geometry] = self.in_turns((*ORDINARY, *OF_WAFFD, "floor"), run)
         return self.starts[geometry]
 
@@ -114,8 +113,8 @@ class Measuring:
     def of_serve(self, geometry, mix, slots, output):
         starts = self.start(geometry)
         lines = self.lines * (MORE_READS if mix == "read" else 1) // (FEWER_ALONE if slots == 1 else 1)
-        self.programs.write_input([self.programs.at("lines"), mix, str(lines), geometry])
-        changes = self.programs.count_lines("input", b"write")
+        self.write_input([self.at("lines"), mix, str(lines), geometry])
+        changes = self.count_lines("input", b"write")
         return lambda program: self.net(self.run(geometry, program, slots, output), starts[program], lines, changes)
 
     @staticmethod
@@ -138,26 +137,26 @@ class Measuring:
         def run(program):
             """Writes with 16 slots and 2 workers; and the records in force after a hard stop, with the time to the next first reply."""
             words = ["--workers", "2", "--slots", "16", "--every", program.split()[1]]
-            self.programs.write_input([self.programs.at("lines"), "write", str(self.lines), geometry])
-            counts = self.programs.counted([PROGRAM, "serve", self.programs.copied(f"{geometry}.device"), *words])
+            self.write_input([self.at("lines"), "write", str(self.lines), geometry])
+            counts = self.counted([PROGRAM, "serve", self.copied(f"{geometry}.device"), *words])
             found = self.net(counts, start, self.lines, self.lines)
-            path = self.programs.copied(f"{geometry}.device")
+            path = self.copied(f"{geometry}.device")
             self.stop_hard([PROGRAM, "serve", path, *words])
             records = next(line.split()[1] for line in done([PROGRAM, "show", path]).splitlines() if line.startswith("records "))
-            self.programs.write_input(["echo", "summary"])
-            first = self.programs.counted([PROGRAM, "serve", path, "--workers", "2"])["first"]
+            self.write_input(["echo", "summary"])
+            first = self.counted([PROGRAM, "serve", path, "--workers", "2"])["first"]
             return {**{what: found[what] for what in ("lines/s", "syncs", "bytes")}, "records": int(records), "ms": first / 1000}
 
         return run
 
     def stop_hard(self, words):
         """Kills a server once it has answered all lines of an input that doesn't end."""
-        with open(self.programs.stream("output"), "wb") as sink, open(self.programs.stream("input"), "rb") as source, \
+        with open(self.stream("output"), "wb") as sink, open(self.stream("input"), "rb") as source, \
                 subprocess.Popen(words, stdin=subprocess.PIPE, stdout=sink, bufsize=0) as child:
             try:
                 shutil.copyfileobj(source, child.stdin)
-                wanted, until = self.programs.count_lines("input"), time.monotonic() + LONGEST_RUN
-                while self.programs.count_lines("output") < wanted:
+                wanted, until = self.count_lines("input"), time.monotonic() + LONGEST_RUN
+                while self.count_lines("output") < wanted:
                     if child.poll() is not None or time.monotonic() > until:
                         raise Failed(f"{' '.join(words)} has not answered all lines")
                     time.sleep(0.01)
@@ -169,17 +168,17 @@ class Measuring:
     def alone(self, commands, number):
         """Microseconds of a line or a round trip of programs that have no device."""
         def run(program):
-            counts = self.programs.counted(commands[program])
+            counts = self.counted(commands[program])
             return {"us": counts["wall"] / number, "cpu us": counts["cpu"] / number}
 
         return run
 
     def of_plain(self, mix):
-        self.programs.write_input([self.programs.at("plain_lines"), mix, str(self.lines * MORE_READS)])
-        return self.alone({"serial": [self.programs.at("serial")], "waffd": [PROGRAM, "plain"]}, self.programs.count_lines("input"))
+        self.write_input([self.at("plain_lines"), mix, str(self.lines * MORE_READS)])
+        return self.alone({"serial": [self.at("serial")], "waffd": [PROGRAM, "plain"]}, self.count_lines("input"))
 
     def of_bench(self, workers):
-        self.programs.write_input(["true"])
+        self.write_input(["true"])
         trips = self.lines * 3
-        return self.alone({program: [self.programs.at(name), str(workers), str(trips)]
+        return self.alone({program: [self.at(name), str(workers), str(trips)]
                            for program, name in (("mutex", "mutex"), ("waffd", "handoff"))}, trips)

@@ -76,18 +76,6 @@ class ServerFault(Exception):
     """The server could not be started, it ended, or it refused what it should have done."""
 
 
-class Request:
-    """Lines that were asked together, and the replies that came so far."""
-
-    def __init__(self, count):
-        self.count = count
-        self.replies = []
-        self.is_over = threading.Event()  # each line is answered, or none will be any more
-
-    def is_answered(self):
-        return len(self.replies) == self.count
-
-
 class Server:
     """One run of `waffd serve`. Any number of threads may ask at once. Lines are answered in their order, so a reply belongs
     to the oldest request that isn't answered."""
@@ -96,7 +84,7 @@ class Server:
         self._child = waffd(subprocess.Popen, program, "serve", device, "--slots", "1024")
         self._fault = None
         self._lock = threading.Lock()  # a request is outstanding, its lines are to be written, and there is no fault: at once
-        self._open_requests = collections.deque()  # in the order of their lines
+        self._open_requests = collections.deque()  # in the order of their lines: how many, the replies that came so far, and an event
         self._to_write = queue.SimpleQueue()  # texts of whole lines; None is the end of the input
         self._threads = [threading.Thread(target=work, daemon=True) for work in (self._write_lines, self._read_replies)]
         for thread in self._threads:
@@ -105,16 +93,15 @@ class Server:
     def ask(self, lines):
         """Sends the lines in one piece, and returns their replies once all have come. Where the server ends before that,
         or has ended, it reports that by a fault: nobody waits for a reply that can't come."""
-        request = Request(len(lines))
-        text = "".join(line + "\n" for line in lines).encode()
+        replies, is_over = [], threading.Event()  # each line is answered, or none will be any more
         with self._lock:
             self.check()
-            self._open_requests.append(request)
-            self._to_write.put(text)
-        request.is_over.wait()
-        if not request.is_answered():
+            self._open_requests.append((len(lines), replies, is_over))
+            self._to_write.put("".join(line + "\n" for line in lines).encode())
+        is_over.wait()
+        if len(replies) < len(lines):
             self.check()
-        return request.replies
+        return replies
 
     def change(self, lines, also_fine=()):
         """Sends lines that change something. Once this returns, all of them are in the server's log on the device."""
@@ -147,10 +134,11 @@ class Server:
         try:
             for line in self._child.stdout:
                 if line.endswith(b"\n"):  # the beginning of a line, which a killed server may leave, is no reply
-                    request = self._open_requests[0]
-                    request.replies.append(line[:-1].decode())
-                    if request.is_answered():
-                        self._open_requests.popleft().is_over.set()
+                    count, replies, is_over = self._open_requests[0]
+                    replies.append(line[:-1].decode())
+                    if len(replies) == count:
+                        self._open_requests.popleft()
+                        is_over.set()
         except Exception:
             self._child.kill()  # it isn't a server
             raise
@@ -163,8 +151,8 @@ class Server:
         faults = self._child.stderr.read().decode(errors="replace").strip()
         with self._lock:
             self._fault = f"waffd has ended with status {status}{': ' if faults else ''}{faults}"
-        for request in self._open_requests:
-            request.is_over.set()
+        for _, _, is_over in self._open_requests:
+            is_over.set()
         self._to_write.put(None)
 
 

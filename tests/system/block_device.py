@@ -107,32 +107,29 @@ class Client:
 # ---- kills with requests in flight
 
 
-class Load:
-    """Writes, trims and zeros of no sector that another one in flight has, and what each sector may hold by them."""
+class Load(Client):
+    """Writes, trims and zeros of no sector that another one in flight has, until the server is killed, and what each sector may hold by them."""
 
-    def __init__(self, certain):
-        self.random, self.certain, self.count = random.Random(1), certain, 0
-
-    def send(self):
-        count = self.random.randrange(1, LONGEST + 1)
-        first = self.random.randrange(SECTORS - count + 1)
-        if any(sector in self.open for sector in range(first, first + count)):
-            return
-        kind = self.random.choice((WRITE, WRITE, WRITE, TRIM, ZERO))
-        self.count += 1
-        data = [b"%8d%8d" % (self.count, at) * 32 if kind == WRITE else bytes(SECTOR) for at in range(count)]
-        self.open.update(zip(range(first, first + count), data))
-        number = self.client.send(kind, first * SECTOR, count * SECTOR, b"".join(data) if kind == WRITE else b"",
-                                  self.random.randrange(2))
-        self.in_flight[number] = first, data
+    def __init__(self, path, certain, chance):
+        super().__init__(path)
+        self.certain, self.chance = certain, chance
+        self.in_flight = {}  # the first sector and the sectors' bytes, by the number of the request
+        self.open = {}  # the bytes that a sector was asked to hold, where that isn't answered
 
     def fill(self):
         while len(self.in_flight) < DEPTH:
-            self.send()
+            count = self.chance.randrange(1, LONGEST + 1)
+            first = self.chance.randrange(SECTORS - count + 1)
+            if not any(sector in self.open for sector in range(first, first + count)):
+                kind, draw = self.chance.choice((WRITE, WRITE, WRITE, TRIM, ZERO)), self.chance.randrange(10**8)
+                data = [b"%8d%8d" % (draw, at) * 32 if kind == WRITE else bytes(SECTOR) for at in range(count)]
+                self.open.update(zip(range(first, first + count), data))
+                number = self.send(kind, first * SECTOR, count * SECTOR, b"".join(data) if kind == WRITE else b"", self.chance.randrange(2))
+                self.in_flight[number] = first, data
 
-    def take(self):
+    def take_one(self):
         """Takes an answer. Where it reports that all was done, the sectors hold what was asked."""
-        number, error, _ = self.client.answer()
+        number, error, _ = self.answer()
         first, data = self.in_flight.pop(number)
         if error not in (0, EIO):
             raise RuntimeError(f"error {error}")
@@ -142,24 +139,18 @@ class Load:
                 del self.open[at]
         return error
 
-    def run_until_killed(self, client, kill):
-        """Requests until the server is killed. How many got an error."""
-        self.client = client
-        self.in_flight = {}  # the first sector and the sectors' bytes, by the number of the request
-        self.open = {}  # the bytes that a sector was asked to hold, where that isn't answered
-        for _ in range(self.random.randrange(MOST_ANSWERS)):
+    def run_until_killed(self, kill):
+        """How many requests got an error."""
+        for _ in range(self.chance.randrange(MOST_ANSWERS)):
             self.fill()
-            if self.take():
+            if self.take_one():
                 raise RuntimeError("an error before the server was killed")
         self.fill()
         kill()
-        return sum(self.take() != 0 for _ in range(len(self.in_flight)))
-
-    def wrong(self, found):
-        """The sectors that hold neither what they have to nor what they may."""
-        wrong = [at for at, data in enumerate(found) if data not in (self.certain[at], self.open.get(at))]
-        self.certain = found
-        return wrong
+        errors = sum(self.take_one() != 0 for _ in range(len(self.in_flight)))
+        self.wait_for_end()
+        self.close()
+        return errors
 
 
 # ---- all of it
@@ -265,14 +256,14 @@ class BlockDevice(Case):
         client.close()
 
     def test_kills(self):
-        load, errors = Load(Client(self.socket).sectors()), 0
+        chance, found, errors = random.Random(1), Client(self.socket).sectors(), 0
         with self.subTest(f"{KILLS} kills with {DEPTH} requests in flight"):
             for number in range(KILLS):
-                client = Client(self.socket)
-                errors += load.run_until_killed(client, self.kill)
-                client.wait_for_end()
-                client.close()
-                self.assertEqual(load.wrong(Client(self.socket).sectors()), [], f"kill {number}: sectors that hold something else")
+                load = Load(self.socket, found, chance)
+                errors += load.run_until_killed(self.kill)
+                found = Client(self.socket).sectors()
+                wrong = [at for at, data in enumerate(found) if data not in (load.certain[at], load.open.get(at))]
+                self.assertEqual(wrong, [], f"kill {number}: sectors that hold neither what they have to nor what they may")
             print(f"       {errors} requests were answered with EIO")
 
     def test_refused(self):

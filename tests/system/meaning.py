@@ -12,10 +12,6 @@ Volume = collections.namedtuple("Volume", "sealed files label")
 
 FIELDS = {"makevol": 2, "dropvol": 2, "create": 3, "delete": 3, "seal": 2, "unseal": 2, "write": 4, "punch": 4,
           "read": 4, "list": 2, "usage": 2, "summary": 0, "setlabel": 2, "label": 2}
-AT_AGGREGATE = ("makevol", "dropvol")
-AT_FILES = ("create", "delete", "list")
-AT_VOLUME = ("seal", "unseal", "usage")
-AT_LABEL = ("setlabel", "label")
 NO_VOLUME_IS_FINE = ("makevol", "summary")
 MAY_BE_SEALED = ("makevol", "seal", "unseal", "read", "list", "usage", "summary", "label")
 WANT_THE_FILE = ("delete", "write", "punch", "read")
@@ -68,17 +64,15 @@ def in_range(g, message):
 def place(g, message):
     """The path of the affinity at which it works."""
     kind, n, _ = message
-    if kind == "summary":
-        return ()
-    if kind in AT_AGGREGATE:
+    if kind in ("makevol", "dropvol"):
         return (n[0],)
-    if kind in AT_VOLUME:
-        return (n[0], n[1])
-    if kind in AT_FILES:
+    if kind in ("create", "delete", "list"):
         return (n[0], n[1], 0)
-    if kind in AT_LABEL:
+    if kind in ("setlabel", "label"):
         return (n[0], n[1], 1)
-    return (n[0], n[1], 0, group(g, n[2], n[3]))
+    if kind in ("write", "punch", "read"):
+        return (n[0], n[1], 0, group(g, n[2], n[3]))
+    return tuple(n)  # the server, or a volume
 
 
 def related(one, other):
@@ -191,21 +185,6 @@ def lines_that_make(g, state):
 # ---- which states a server that was killed may leave
 
 
-def pieces_below(g, path):
-    """The pieces that messages at this place, or below it, may set."""
-    spans = [range(g.aggregates), range(g.volumes)]
-    for at, number in enumerate(path[:2]):
-        spans[at] = (number,)
-    stripes = range(g.stripes) if len(path) < 4 else (path[3],)
-    found = []
-    for a, v in itertools.product(*spans):
-        if len(path) < 4:
-            found.append((a, v))
-        if path[2:3] != (1,):
-            found += [(a, v, s) for s in stripes]
-    return found
-
-
 class Search:
     """Looks for a way to this state: each answered line was done, and of the others those that are in the log. A
     message waits until the related ones before it are in the log; so where one isn't, none related to it is."""
@@ -241,15 +220,16 @@ class Search:
     def may_be_missing(self, state, path):
         """Whether what messages at this place and below may set is as it was left. The volume's piece has more than
         the files, and more than the label."""
-        if len(path) != 3:
-            return all(state[key] == self.left[key] for key in pieces_below(self.g, path))
-        now, left = state[path[:2]], self.left[path[:2]]
-        if left is None:
-            return False
-        if path[2] == 1:
-            return now.label == left.label
-        stripes = [path[:2] + (s,) for s in range(self.g.stripes)]
-        return now.files == left.files and all(state[key] == self.left[key] for key in stripes)
+        if len(path) == 3:
+            now, left = state[path[:2]], self.left[path[:2]]
+            if left is None or path[2] == 1:
+                return left is not None and now.label == left.label
+            if now.files != left.files:
+                return False
+        below = [key for key in state if key[:2][:len(path)] == path[:2] and len(key) >= len(path)]
+        if len(path) == 4:
+            below = [path[:2] + path[3:]]
+        return all(state[key] == self.left[key] for key in below)
 
     def find(self):
         """The lines in the log, or None where there is no way."""

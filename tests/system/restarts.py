@@ -17,6 +17,7 @@ SERVERS = ((SMALL, 1, 1, 0), (SMALL, 2, 16, 0), (SMALL, 2, 2, 1), (WIDE, 4, 16, 
            (NARROW, 2, 4, 2), (COMMON, 2, 16, 0), (COMMON, 4, 256, 100), (COMMON, 64, 1024, 0))
 # Runs that are killed, over all servers: a quarter at a random moment, a quarter in a call of the device, and half with torn writes.
 KILLS = int(os.environ.get("KILLS", 800))
+A_QUARTER = max(1, KILLS // (4 * len(SERVERS)))  # on each
 RUNS_A_KILL = 10  # at most, and a hundred where few are to be killed
 LONGEST_RUN = 60
 AS_WRITTEN = (1,)  # a number of stop.c's list: all that was written stays
@@ -85,7 +86,7 @@ class Kills(Case):
 
     def test_at_a_random_moment(self):
         for server in SERVERS:
-            self.restarts("killed at a random moment", server, KILLS // (4 * len(SERVERS)),
+            self.restarts("killed at a random moment", server, A_QUARTER,
                           lambda device, chance, lines: (None, chance.choice((0.005, 0.02, 0.1, 0.3)) * chance.random()))
 
     def in_a_call(self, name, count, tears):
@@ -102,10 +103,10 @@ class Kills(Case):
             self.restarts(name, server, count, stop)
 
     def test_in_a_call(self):
-        self.in_a_call("killed in a call of the device", KILLS // (4 * len(SERVERS)), AS_WRITTEN)
+        self.in_a_call("killed in a call of the device", A_QUARTER, AS_WRITTEN)
 
     def test_with_torn_writes(self):
-        self.in_a_call("killed so, with torn writes", KILLS // (2 * len(SERVERS)), TORN)
+        self.in_a_call("killed so, with torn writes", 2 * A_QUARTER, TORN)
 
 
 LINES = int(os.environ.get("LINES", 1000000))  # over all of these servers, whose last number is the share of each
