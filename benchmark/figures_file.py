@@ -27,37 +27,33 @@ class Missing(Exception):
 
 
 def served(geometry, mix, slots, output="file"):
-    return {"part": "serve", "geometry": geometry, "mix": mix, "slots": slots, "output": output}
+    return f"serve {geometry} {mix} {slots} {output}"
 
 
 def wanted():
-    """The rows of a whole run, each by what it is of."""
-    yield {"part": "disk"}
+    """The rows of a whole run: words, of which the first is the part, and the others what the row is of."""
+    yield "disk"
     for geometry in GEOMETRIES:
-        yield {"part": "opening", "geometry": geometry}
+        yield f"opening {geometry}"
         yield from (served(geometry, *of, output) for output, rows in (("file", SERVED), ("pipe", PIPED)) for of in rows)
-    yield {"part": "every", "geometry": "default"}
-    yield from ({"part": "plain", "mix": mix} for mix in PLAIN)
-    yield from ({"part": "bench", "workers": workers} for workers in WORKERS)
+    yield "every default"
+    yield from (f"plain {mix}" for mix in PLAIN)
+    yield from (f"bench {workers}" for workers in WORKERS)
 
 
 def programs_of(row):
     """The programs that take turns in a row."""
-    if row.get("output") == "pipe":
+    if row.endswith(" pipe"):
         return "waffd 2", "batch", "twice"
     return {"disk": ("disk",), "opening": (*OF_WAFFD, "floor"), "serve": (*ORDINARY, *OF_WAFFD),
-            "every": tuple(f"every {every}" for every in EVERY), "plain": ("serial", "waffd"), "bench": ("mutex", "waffd")}[row["part"]]
-
-
-def words_of(row):
-    return " ".join(str(value) for name, value in row.items() if name != "programs")
+            "every": tuple(f"every {every}" for every in EVERY), "plain": ("serial", "waffd"), "bench": ("mutex", "waffd")}[row.split()[0]]
 
 
 class Figures:
     """What the file has: of the run, and each row with the values of its programs."""
 
     def __init__(self, told):
-        self.told, self.rows = told, {words_of(row): row["programs"] for row in told["rows"]}
+        self.told, self.rows = told, told["rows"]
 
     @staticmethod
     def read():
@@ -66,9 +62,9 @@ class Figures:
     def values(self, row, program, what):
         """The values of all rounds."""
         try:
-            return self.rows[words_of(row)][program][what]
+            return self.rows[row][program][what]
         except KeyError:
-            raise Missing(f"there is no {what} of {program} in the row {words_of(row)}") from None
+            raise Missing(f"there is no {what} of {program} in the row {row}") from None
 
     def median(self, row, program, what):
         return median(self.values(row, program, what))
@@ -81,10 +77,10 @@ class Figures:
         """What is missing of a whole run."""
         for row in wanted():
             for program in programs_of(row):
-                found = self.rows.get(words_of(row), {}).get(program, {})
+                found = self.rows.get(row, {}).get(program, {})
                 if {len(values) for values in found.values()} != {self.told["repeat"]}:
-                    yield f"{program} has no values, or not as many as there were rounds, in the row {words_of(row)}"
+                    yield f"{program} has no values, or not as many as there were rounds, in the row {row}"
 
     def text(self):
         """The text of the file: a line for each row, and for each program of it."""
-        return re.sub(r' (\{"part"|"[^"]+": \{)', r"\n \1", json.dumps(self.told)) + "\n"
+        return re.sub(r' ("[^"]+": \{)', r"\n \1", json.dumps(self.told)) + "\n"

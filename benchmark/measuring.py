@@ -21,20 +21,21 @@ class Measuring(Programs):
 
     def build_for(self, row):
         """Builds what a row needs, before any row is measured."""
-        if row["part"] == "plain":
+        self.build("serve/counts.c", "counts.so", "cc", "-O2", "-shared", "-fPIC")
+        if row.startswith("plain"):
             self.build("lines.rs", "plain_lines")
             self.build("serial.rs", "serial")
-        elif row["part"] == "bench":
+        elif row.startswith("bench"):
             self.build("handoff/plain.rs", "mutex")
             self.build_handoff()
-        elif row["part"] != "disk":
+        elif row != "disk":
             self.build("serve/lines.rs", "lines")
             self.build("serve/server.rs", "server.default")
-            self.build("serve/server.rs", "server.greatest", {name.upper(): str(number) for name, number in GREATEST.items()})
+            self.build("serve/server.rs", "server.greatest", **{name.upper(): str(number) for name, number in GREATEST.items()})
 
     def measure(self, row):
         """The values of each program of a row."""
-        part, *of_row = row.values()
+        part, *of_row = row.split()
         found = self.in_turns(programs_of(row), getattr(self, "of_" + part)(*of_row))
         return {program: {what: [round(value, DIGITS[what]) for value in values] for what, values in of_program.items()}
                 for program, of_program in found.items()}
@@ -88,16 +89,16 @@ class Measuring(Programs):
         kind, _, workers = program.partition(" ")
         path = self.copied(f"{geometry}.{'device' if workers else 'log'}")
         if workers:
-            words = [PROGRAM, "serve", path, "--workers", workers, "--slots", str(slots)]
+            words = [PROGRAM, "serve", path, "--workers", workers, "--slots", slots]
         else:
-            words = [self.at(f"server.{geometry}"), kind, path, str(slots)]
+            words = [self.at(f"server.{geometry}"), kind, path, slots]
         return self.counted(words, output)
 
     def start(self, geometry):
         """What each program asks for to answer one line, and the floor of an opening: all rounds. Measured once for a geometry."""
         def run(program):
             if program != "floor":
-                return self.run(geometry, program, 16)
+                return self.run(geometry, program, "16")
             return {"first": int(done([self.at(f"server.{geometry}"), "floor", self.copied(f"{geometry}.device")]))}
 
         if geometry not in self.starts:
@@ -112,7 +113,7 @@ class Measuring(Programs):
 
     def of_serve(self, geometry, mix, slots, output):
         starts = self.start(geometry)
-        lines = self.lines * (MORE_READS if mix == "read" else 1) // (FEWER_ALONE if slots == 1 else 1)
+        lines = self.lines * (MORE_READS if mix == "read" else 1) // (FEWER_ALONE if slots == "1" else 1)
         self.write_input([self.at("lines"), mix, str(lines), geometry])
         changes = self.count_lines("input", b"write")
         return lambda program: self.net(self.run(geometry, program, slots, output), starts[program], lines, changes)
@@ -180,5 +181,5 @@ class Measuring(Programs):
     def of_bench(self, workers):
         self.write_input(["true"])
         trips = self.lines * 3
-        return self.alone({program: [self.at(name), str(workers), str(trips)]
+        return self.alone({program: [self.at(name), workers, str(trips)]
                            for program, name in (("mutex", "mutex"), ("waffd", "handoff"))}, trips)

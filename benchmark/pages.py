@@ -41,7 +41,7 @@ def spread(values):
 
 def of_run(figures):
     """When, where and how the run was made."""
-    told, disk = figures.told, figures.values({"part": "disk"}, "disk", "us")
+    told, disk = figures.told, figures.values("disk", "disk", "us")
     day = date.fromisoformat(told["date"])
     machine, lines = told["machine"], told["lines"]
     spreads = sorted(spread(figures.values(served(geometry, *of), program, "lines/s"))
@@ -83,16 +83,16 @@ def of_others(figures):
     def with_ratio(row, what, one, other):
         return f"{number(figures.median(row, 'waffd', what))} ({figures.ratio(row, one, other, what):.2f})"
 
-    openings = [{"part": "opening", "geometry": geometry} for geometry in GEOMETRIES]
+    openings = [f"opening {geometry}" for geometry in GEOMETRIES]
     floors = listed([number(figures.ratio(row, MAIN, "floor", "ms")) for row in openings])
     sizes = [figures.median(served(geometry, "write", 64), MAIN, "bytes") for geometry in GEOMETRIES]
     parts = listed([f"{number((size - LOGGED) / size * 100)} percent of {size:,.0f}" for size in sizes])
     peaks = [span([figures.median(served(geometry, *of), program, "peak MB") for of in SERVED for program in OF_WAFFD])
              for geometry in GEOMETRIES]
-    rates, records, firsts = (listed([number(figures.median({"part": "every", "geometry": "default"}, f"every {n}", what)) for n in EVERY])
+    rates, records, firsts = (listed([number(figures.median("every default", f"every {n}", what)) for n in EVERY])
                               for what in ("lines/s", "records", "ms"))
-    lines = [f"{mix} " + with_ratio({"part": "plain", "mix": mix}, "cpu us", "serial", "waffd") for mix in PLAIN]
-    trips = [with_ratio({"part": "bench", "workers": n}, "us", "waffd", "mutex") for n in WORKERS]
+    lines = [f"{mix} " + with_ratio(f"plain {mix}", "cpu us", "serial", "waffd") for mix in PLAIN]
+    trips = [with_ratio(f"bench {n}", "us", "waffd", "mutex") for n in WORKERS]
     yield f"- Checkpoints write {parts} bytes a change, with 64 slots; the log takes {LOGGED}."
     yield f"- Peak of memory: {listed(peaks)} MB."
     yield (f"- First reply: after {listed([number(figures.median(row, MAIN, 'ms')) for row in openings])} ms, {floors} times the floor of an "
@@ -125,7 +125,7 @@ def of_speed(figures):
     rows = [served(geometry, "write", slots) for geometry in GEOMETRIES for slots in (64, 256)]
     speeds, syncs = ([figures.median(row, program, what) for row in rows for program in OF_WAFFD] for what in ("lines/s", "syncs"))
     batch, twice = (span([round(figures.ratio(row, other, MAIN, "lines/s"), 1) for row in rows]) for other in ("batch", "twice"))
-    sync = figures.median({"part": "disk"}, "disk", "us")
+    sync = figures.median("disk", "disk", "us")
     yield (f"With 64 or 256 slots, {span([round(speed, -3) for speed in speeds])} writes of full blocks a second, and "
            f"{span(syncs)} syncs for 1,000 of them; writing and syncing a record takes {number(sync)} microseconds. An ordinary unproved Rust "
            f"server is {batch} times as fast as `waffd` with 2 workers; {twice} times, if it locks and syncs as `waffd` does.")

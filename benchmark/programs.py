@@ -62,10 +62,11 @@ class Programs:
     def stream(self, name):
         return os.path.join(self.streams, name)
 
-    def build(self, source, name, env=None):
-        """Builds a Rust program of this folder, once."""
+    def build(self, source, name, *compiler, **env):
+        """Builds a program of this folder, once."""
         if not os.path.exists(self.at(name)):
-            done(["rustc", "--edition", "2021", "-O", "-o", self.at(name), os.path.join(HERE, source)], env=dict(os.environ, **(env or {})))
+            compiler = compiler or ("rustc", "--edition", "2021", "-O")
+            done([*compiler, "-o", self.at(name), os.path.join(HERE, source)], env={**os.environ, **env})
 
     def build_handoff(self):
         """The program of round trips through the bench, which `rt` proves and builds."""
@@ -97,10 +98,8 @@ class Programs:
     def counted(self, words, output="file"):
         """Runs a program on the input, into a file, also through a pipe: what it asked for. Refuses an output that differs from that of the
         first run on this input."""
-        library, counts = self.at("counts.so"), self.at("counts")
-        if not os.path.exists(library):
-            done(["cc", "-O2", "-shared", "-fPIC", "-o", library, os.path.join(HERE, "serve", "counts.c")])
-        env = dict(os.environ, LD_PRELOAD=library, COUNTS=counts)
+        counts = self.at("counts")
+        env = dict(os.environ, LD_PRELOAD=self.at("counts.so"), COUNTS=counts)
         with contextlib.ExitStack() as files:
             source, sink = (files.enter_context(open(self.stream(name), mode)) for name, mode in (("input", "rb"), ("output", "wb")))
             if output == "pipe":

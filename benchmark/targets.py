@@ -30,7 +30,7 @@ def of_serving(figures, geometry):
         return lambda row, program: figures.ratio(row, *((program, other) if what == "lines/s" else (other, program)), what)
 
     def floors(_, program):
-        return figures.ratio({"part": "opening", "geometry": geometry}, program, "floor", "ms")
+        return figures.ratio(f"opening {geometry}", program, "floor", "ms")
 
     def growth(row, program):
         return median("cpu us")(served(geometry, "read", 1024), program) / median("cpu us")(row, program)
@@ -54,8 +54,8 @@ def targets(figures):
     for geometry in GEOMETRIES:
         yield from of_serving(figures, geometry)
     for mix in PLAIN:
-        ratio = figures.ratio({"part": "plain", "mix": mix}, "serial", "waffd", "cpu us")
+        ratio = figures.ratio(f"plain {mix}", "serial", "waffd", "cpu us")
         yield f"`plain` against `serial.rs`, {mix}", "≥", PARTS[mix], [(ratio, "")]
     for what, how in (("us", BY["lines/s"]), ("cpu us", BY["cpu us"])):
         yield f"round trip of the bench against a mutex's, {how}", "≤", 1, [
-            (figures.ratio({"part": "bench", "workers": workers}, "waffd", "mutex", what), workers_of(f"waffd {workers}")) for workers in WORKERS]
+            (figures.ratio(f"bench {workers}", "waffd", "mutex", what), workers_of(f"waffd {workers}")) for workers in WORKERS]
