@@ -174,8 +174,7 @@ class BlockDevice(Case):
         if os.path.exists(self.socket):
             os.unlink(self.socket)  # nbdkit leaves it
         words = ["nbdkit", "--exit-with-parent", "--unix", self.socket, *self.plugin_of(self.device)]
-        self.nbdkit = subprocess.Popen(words, stdin=subprocess.DEVNULL, stdout=subprocess.DEVNULL, stderr=subprocess.DEVNULL)
-        self.addCleanup(self.nbdkit.kill)
+        self.nbdkit = self.started(words, stdin=subprocess.DEVNULL, stdout=subprocess.DEVNULL, stderr=subprocess.DEVNULL)
         Client(self.socket).close()  # it is ready
 
     def plugin_of(self, device):

@@ -1,7 +1,6 @@
 """The crates' own tests where memory or threads are refused, or beside busy threads."""
 import functools
 import os
-import re
 import resource
 import signal
 import struct
@@ -17,12 +16,6 @@ LONGEST_TEST = 60  # seconds
 MEMORY_WORDS = ("AllocError", "OutOfMemory", "out of memory", "AllocFailed", "left: (Err(Write), 1, ")
 
 
-def reason(told):
-    """Why rt failed: the first lines that report an error or a function without a proof, else the end of its output."""
-    lines = [line for line in told.splitlines() if re.search(r"\berror\b|no proof|not proved|FAILED", line)]
-    return "\n".join(lines[:5]) or told[-1000:]
-
-
 @functools.lru_cache(maxsize=None)
 def tests_of(folder):
     """The program of a crate of tests and their names. TESTS=built takes the one that `rt ci` has built, where there is one."""
@@ -31,7 +24,7 @@ def tests_of(folder):
     if os.environ.get("TESTS") != "built" or not os.access(program, os.X_OK):
         built = subprocess.run(["rt", "test"], cwd=path, stdout=subprocess.PIPE, stderr=subprocess.STDOUT, text=True, check=False)
         if built.returncode != 0:
-            raise AssertionError(f"tests of {folder}: {reason(built.stdout)}")
+            raise AssertionError(f"tests of {folder}: {built.stdout[-1000:]}")
     lines = subprocess.run([program, "--list"], capture_output=True, text=True, check=True).stdout.splitlines()
     return program, [line[: -len(": test")] for line in lines if line.endswith(": test")]
 
@@ -170,14 +163,6 @@ class Loaded(Case):
     """The tests in which threads meet, on two processors beside eight busy threads, so that a thread is held up at any of its steps: a wake-up
     that is lost there shows as a test that doesn't end within a minute. The two long ones make 20 rounds."""
 
-    def busy(self, count, seconds):
-        """Starts so many threads that do nothing but run, for no longer than this of a processor."""
-        for _ in range(count):
-            thread = subprocess.Popen([sys.executable, "-c", "while True: pass"],
-                                      preexec_fn=lambda: resource.setrlimit(resource.RLIMIT_CPU, (seconds, seconds)))
-            self.addCleanup(thread.wait)
-            self.addCleanup(thread.kill)
-
     def test_meetings(self):
         before = os.sched_getaffinity(0)
         built = [(folder, *tests_of(folder), begin) for folder, begin in MEETINGS]
@@ -185,7 +170,9 @@ class Loaded(Case):
         self.addCleanup(os.sched_setaffinity, 0, before)
         meeting = [(folder, program, test) for folder, program, tests, begin in built for test in tests if test.startswith(begin)]
         self.assertEqual({folder for folder, *_ in meeting}, {folder for folder, *_ in built}, "crates with a test of such a name")
-        self.busy(BUSY_A_PROCESSOR * min(PROCESSORS, len(before)), LONGEST_TEST * len(meeting))
+        most = LONGEST_TEST * len(meeting)  # seconds that a busy thread may take
+        for _ in range(BUSY_A_PROCESSOR * min(PROCESSORS, len(before))):
+            self.started([sys.executable, "-c", "while True: pass"], preexec_fn=lambda: resource.setrlimit(resource.RLIMIT_CPU, (most, most)))
         for folder, program, test in meeting:
             with self.subTest(f"{folder}, {test} beside busy threads"):
                 end = ended(program, test, BENCH_ROUNDS=str(ROUNDS))

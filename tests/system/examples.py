@@ -78,16 +78,12 @@ class Examples(Case):
         return -signal.SIGKILL if is_killed else 0
 
     def runs(self, words, rows, folder):
-        child = subprocess.Popen(words, cwd=folder, bufsize=0, stdin=subprocess.PIPE, stdout=subprocess.PIPE, stderr=subprocess.STDOUT)
-        try:
-            answers = words[1:2] and words[1] in CONVERSE
-            status = self.converse(child, rows) if answers else 0
-            printed = child.communicate(timeout=PATIENCE)[0].decode(errors="replace").splitlines()
-            self.assertEqual(printed, [] if answers else [row[0] for row in rows])
-            self.assertEqual(child.returncode, status)
-        finally:
-            child.kill()
-            child.wait()
+        child = self.started(words, cwd=folder, bufsize=0, stdin=subprocess.PIPE, stdout=subprocess.PIPE, stderr=subprocess.STDOUT)
+        answers = words[1:2] and words[1] in CONVERSE
+        status = self.converse(child, rows) if answers else 0
+        printed = child.communicate(timeout=PATIENCE)[0].decode(errors="replace").splitlines()
+        self.assertEqual(printed, [] if answers else [row[0] for row in rows])
+        self.assertEqual(child.returncode, status)
 
     def test_pages(self):
         count = 0

@@ -7,10 +7,11 @@ as the pages say, so is the longest chain of crates; the table of what each crat
 pages' figures of speed are those of one run; the version names the kit and the logic.
 """
 import os
+import shutil
 import subprocess
+import unittest
 
 from program import TOP, Case
-from launcher import Launcher, Try
 
 SCRIPTS = {
     "tests/lint/words": "each public word of the definitions has one meaning",
@@ -33,3 +34,10 @@ class Scripts(Case):
             with self.subTest(fact):
                 end = subprocess.run([os.path.join(TOP, words.split()[0]), *words.split()[1:]], capture_output=True, text=True, check=False)
                 self.assertEqual(end.returncode, 0, end.stdout + end.stderr)
+
+
+class Model(Case):
+    @unittest.skipUnless(shutil.which("spin") and shutil.which("gcc"), "spin or gcc isn't installed")
+    def test_searches(self):
+        """each search of tests/model ends as it has to: no deadlock, no place with two owners, no lost wake-up, and each planted bug is found"""
+        self.assertEqual(subprocess.run([os.path.join(TOP, "tests", "model", "search")], check=False).returncode, 0)

@@ -26,9 +26,7 @@ class Operating(Case):
 
     def serve(self, *before, **streams):
         pipes = {"stdin": subprocess.PIPE, "stdout": subprocess.PIPE, "stderr": subprocess.PIPE}
-        server = subprocess.Popen([*before, PROGRAM, "serve", self.device], bufsize=0, **{"preexec_fn": take_signals, **pipes, **streams})
-        self.addCleanup(server.kill)
-        return server
+        return self.started([*before, PROGRAM, "serve", self.device], bufsize=0, **{"preexec_fn": take_signals, **pipes, **streams})
 
     def replies(self, server, line, reply):
         server.stdin.write(line)

@@ -65,7 +65,7 @@ class Statuses(Case):
         """A file that the system doesn't let be written, since a program runs from it."""
         path = self.at("runs")
         shutil.copy("/bin/sleep", path)
-        child = subprocess.Popen([path, "60"])
+        child = self.started([path, "60"])
         time.sleep(0.2)
         self.ends("serve of a file that is busy", run(["serve", path], MADE), 1, b"", DEVICE_FAULT)
         self.ends("show of it, which only reads", run(["show", path]), 1, b"", b"waffd: not formatted\n")
@@ -112,8 +112,8 @@ class Streams(Case):
         """With a stream closed its number is taken, by something that can't be written, before a file is opened."""
         for closed in ([1], [2], [1, 2]):
             ours, theirs = os.pipe()
-            child = subprocess.Popen([PROGRAM, "plain"], stdin=ours, stdout=subprocess.DEVNULL, stderr=subprocess.DEVNULL,
-                                     preexec_fn=lambda: [os.close(number) for number in closed])
+            child = self.started([PROGRAM, "plain"], stdin=ours, stdout=subprocess.DEVNULL, stderr=subprocess.DEVNULL,
+                                 preexec_fn=lambda: [os.close(number) for number in closed])
             os.close(ours)
             time.sleep(0.3)  # it waits for input now
             with self.subTest(f"the number of a closed stream is taken: {closed}"):
@@ -160,14 +160,14 @@ class Conversations(Case):
             self.assertEqual(child.wait(PATIENCE), 0)
 
     def by_pipes(self, words):
-        with subprocess.Popen([PROGRAM, *words], stdin=subprocess.PIPE, stdout=subprocess.PIPE) as child:
-            name = "by pipes, " + " ".join(words[:1] + words[2:])
-            self.converse(child, name, child.stdin.fileno(), child.stdout.fileno(), child.stdin.close)
+        child = self.started([PROGRAM, *words], stdin=subprocess.PIPE, stdout=subprocess.PIPE)
+        name = "by pipes, " + " ".join(words[:1] + words[2:])
+        self.converse(child, name, child.stdin.fileno(), child.stdout.fileno(), child.stdin.close)
 
     def at_a_terminal(self, words):
         ours, theirs = pty.openpty()
         os.system(f"stty -F {os.ttyname(theirs)} -echo -onlcr")
-        child = subprocess.Popen([PROGRAM, *words], stdin=theirs, stdout=theirs, start_new_session=True)
+        child = self.started([PROGRAM, *words], stdin=theirs, stdout=theirs, start_new_session=True)
         self.converse(child, f"at a terminal, {words[0]}", ours, ours, lambda: os.write(ours, b"\x04"))
         os.close(ours)
         os.close(theirs)

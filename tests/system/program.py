@@ -111,6 +111,13 @@ class Case(unittest.TestCase):
         put_bytes(self.at(path), text.encode())
         os.chmod(self.at(path), 0o755)
 
+    def started(self, words, **how):
+        """A process that doesn't outlive the test."""
+        child = subprocess.Popen(words, **how)
+        self.addCleanup(child.wait)
+        self.addCleanup(child.kill)
+        return child
+
     def between(self, source):
         return Between(self.folder, source)
 
