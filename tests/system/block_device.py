@@ -1,12 +1,11 @@
-"""The disk of examples/block_device: fio fills and verifies it, the server is killed, and fio verifies it again. A client of
-its own then writes with many requests in flight while the server is killed, and looks at each sector afterwards: what was
-answered is there, and what was not has the old or the new bytes. None of them is left without an answer."""
+"""The disk of examples/block_device: fio fills and verifies it, the server is killed, and fio verifies it again. A client of its own then
+writes with many requests in flight while the server is killed, and looks at each sector afterwards: what was answered is there, and what was
+not has the old or the new bytes. None of them is left without an answer."""
+import errno
 import os
 import random
 import shutil
 import signal
-import socket
-import struct
 import subprocess
 import threading
 import time
@@ -16,14 +15,15 @@ from program import PATIENCE, PROGRAM, TOP, Case, bytes_of, put_bytes, run
 from meaning import options_of
 from servers import GREATEST
 
-TOOLS = {"nbdkit with its plugin for Python": ["nbdkit", "python", "--dump-plugin"],
-         "fio with its engine for NBD": ["fio", "--enghelp=nbd"]}
+try:
+    import nbd
+except ImportError:
+    nbd = None
+
+TOOLS = {"nbdkit with its plugin for Python": ["nbdkit", "python", "--dump-plugin"], "fio with its engine for NBD": ["fio", "--enghelp=nbd"]}
 PLUGIN = os.path.join(TOP, "examples", "block_device", "plugin.py")
 SECTOR, SECTORS = 512, 16384
 DISK_SIZE = SECTOR * SECTORS
-READ, WRITE, FLUSH, TRIM, ZERO = 0, 1, 3, 4, 6  # requests of NBD
-EIO, EINVAL = 5, 22
-
 LONGEST_FIO = 120  # seconds that fio may take
 FIO_RUNS = 1.5  # seconds from its start to the kill; it writes for four
 KILLS = 40
@@ -39,69 +39,56 @@ exec "{program}" "$@"
 
 
 class Client:
-    """A connection by NBD. Requests are sent, and answers taken, in any order."""
+    """A connection by libnbd, which also sends what nbdkit has to refuse. Requests are sent, and answers taken, in any order."""
 
     def __init__(self, path):
-        self.socket = socket.socket(socket.AF_UNIX)
-        self.socket.settimeout(PATIENCE)
-        self.connect(path)
-        self.stream = self.socket.makefile("rb")
-        self.sent = 0
-        self.counts = {}  # of bytes that the answer to each read brings
-        self.take(18)  # NBDMAGIC, IHAVEOPT, flags
-        self.socket.sendall(struct.pack(">I8sII", 3, b"IHAVEOPT", 1, 0))  # the export without a name
-        size = struct.unpack(">QH", self.take(10))[0]
-        if size != DISK_SIZE:
-            raise RuntimeError(f"the disk has {size} bytes")
+        self.nbd = nbd.NBD()
+        self.nbd.set_strict_mode(0)
+        self.nbd.connect_unix(path)
+        if self.nbd.get_size() != DISK_SIZE:
+            raise RuntimeError(f"the disk has {self.nbd.get_size()} bytes")
 
-    def connect(self, path):
-        end = time.monotonic() + PATIENCE
-        while self.socket.connect_ex(path):
-            if time.monotonic() > end:
-                raise RuntimeError("nbdkit doesn't listen")
-            time.sleep(0.05)
+    def wait(self):
+        if self.nbd.poll(1000 * PATIENCE) == 0:
+            raise TimeoutError("no answer")
 
-    def take(self, count):
-        data = self.stream.read(count)
-        if len(data) < count:
-            raise ConnectionError("nbdkit has closed the connection")
-        return data
+    def answer(self, number):
+        """The error with which a request is answered, or 0."""
+        try:
+            while not self.nbd.aio_command_completed(number):
+                self.wait()
+        except nbd.Error as error:
+            return error.errnum
+        return 0
 
-    def send(self, kind, offset=0, count=0, data=b"", flags=0):
-        """Sends a request, and returns the number by which its answer is known."""
-        self.sent += 1
-        if kind == READ:
-            self.counts[self.sent] = count
-        self.socket.sendall(struct.pack(">IHHQQI", 0x25609513, flags, kind, self.sent, offset, count) + data)
-        return self.sent
+    def send(self, kind, offset, count, data=b"", flags=0):
+        """Sends a request, and returns the number by which its answer is known, and what has to be kept until then."""
+        if kind not in ("read", "write"):
+            return getattr(self.nbd, f"aio_{kind}")(*((count, offset) if kind != "flush" else ()), flags=flags), None
+        buffer = nbd.Buffer.from_bytearray(bytearray(data)) if kind == "write" else nbd.Buffer(count)
+        return getattr(self.nbd, f"aio_p{kind}")(buffer, offset, flags=flags), buffer
 
-    def answer(self):
-        """The number of the request that is answered next, its error or 0, and what was read."""
-        _, error, number = struct.unpack(">IIQ", self.take(16))
-        count = self.counts.pop(number, 0)
-        return number, error, b"" if error else self.take(count)
-
-    def ask(self, kind, offset=0, count=0, data=b""):
-        self.send(kind, offset, count, data)
-        return self.answer()[1:]
+    def ask(self, kind, offset=0, count=SECTOR, data=b""):
+        """The error of a request, or 0, and what it has read."""
+        number, buffer = self.send(kind, offset, count, data or bytes(count))
+        error = self.answer(number)
+        return error, b"" if error or kind != "read" else bytes(buffer.to_bytearray())
 
     def wait_for_end(self):
         """Until nbdkit reports that the server, which was killed, has ended. A read may be answered before."""
-        while self.ask(READ, 0, SECTOR)[0] != EIO:
+        while self.ask("read")[0] != errno.EIO:
             pass
 
     def sectors(self):
         """What each sector holds. No more is asked behind it."""
-        answers = [self.ask(READ, at, DISK_SIZE // 16) for at in range(0, DISK_SIZE, DISK_SIZE // 16)]
-        if any(error for error, _ in answers):
-            raise RuntimeError(f"reads were answered with errors {[error for error, _ in answers]}")
+        error, data = self.ask("read", 0, DISK_SIZE)
+        if error:
+            raise RuntimeError(f"a read of the whole disk was answered with error {error}")
         self.close()
-        data = b"".join(piece for _, piece in answers)
         return [data[at:at + SECTOR] for at in range(0, DISK_SIZE, SECTOR)]
 
     def close(self):
-        self.stream.close()
-        self.socket.close()
+        self.nbd.shutdown()
 
 
 # ---- kills with requests in flight
@@ -113,7 +100,7 @@ class Load(Client):
     def __init__(self, path, certain, chance):
         super().__init__(path)
         self.certain, self.chance = certain, chance
-        self.in_flight = {}  # the first sector and the sectors' bytes, by the number of the request
+        self.in_flight = {}  # the first sector, the sectors' bytes, and what has to be kept, by the number of the request
         self.open = {}  # the bytes that a sector was asked to hold, where that isn't answered
 
     def fill(self):
@@ -121,33 +108,33 @@ class Load(Client):
             count = self.chance.randrange(1, LONGEST + 1)
             first = self.chance.randrange(SECTORS - count + 1)
             if not any(sector in self.open for sector in range(first, first + count)):
-                kind, draw = self.chance.choice((WRITE, WRITE, WRITE, TRIM, ZERO)), self.chance.randrange(10**8)
-                data = [b"%8d%8d" % (draw, at) * 32 if kind == WRITE else bytes(SECTOR) for at in range(count)]
+                kind, draw = self.chance.choice(("write", "write", "write", "trim", "zero")), self.chance.randrange(10**8)
+                data = [b"%8d%8d" % (draw, at) * 32 if kind == "write" else bytes(SECTOR) for at in range(count)]
                 self.open.update(zip(range(first, first + count), data))
-                number = self.send(kind, first * SECTOR, count * SECTOR, b"".join(data) if kind == WRITE else b"", self.chance.randrange(2))
-                self.in_flight[number] = first, data
+                number, kept = self.send(kind, first * SECTOR, count * SECTOR, b"".join(data), self.chance.choice((0, nbd.CMD_FLAG_FUA)))
+                self.in_flight[number] = first, data, kept
 
-    def take_one(self):
+    def take(self):
         """Takes an answer. Where it reports that all was done, the sectors hold what was asked."""
-        number, error, _ = self.answer()
-        first, data = self.in_flight.pop(number)
-        if error not in (0, EIO):
+        while not (number := self.nbd.aio_peek_command_completed()):
+            self.wait()
+        error, (first, data, _) = self.answer(number), self.in_flight.pop(number)
+        if error not in (0, errno.EIO):
             raise RuntimeError(f"error {error}")
-        if not error:
-            for at, sector in enumerate(data, first):
-                self.certain[at] = sector
-                del self.open[at]
+        for at, sector in enumerate(data if not error else (), first):
+            self.certain[at] = sector
+            del self.open[at]
         return error
 
     def run_until_killed(self, kill):
         """How many requests got an error."""
         for _ in range(self.chance.randrange(MOST_ANSWERS)):
             self.fill()
-            if self.take_one():
+            if self.take():
                 raise RuntimeError("an error before the server was killed")
         self.fill()
         kill()
-        errors = sum(self.take_one() != 0 for _ in range(len(self.in_flight)))
+        errors = sum(self.take() != 0 for _ in range(len(self.in_flight)))
         self.wait_for_end()
         self.close()
         return errors
@@ -157,25 +144,27 @@ class Load(Client):
 
 
 class BlockDevice(Case):
-    """Needs nbdkit with its plugin for Python, and fio with its engine for NBD. A device in a file, and nbdkit with the plugin, which serves
-    it at a socket."""
+    """Needs nbdkit with its plugin for Python, fio with its engine for NBD, and libnbd for Python. A device in a file, and nbdkit with the
+    plugin, which serves it at a socket."""
 
     def setUp(self):
         super().setUp()
         missing = [name for name, words in TOOLS.items()
                    if shutil.which(words[0]) is None or subprocess.run(words, capture_output=True, check=False).returncode]
-        self.assertFalse(missing, f"it needs {' and '.join(missing)}")
+        self.assertFalse(missing + ["libnbd for Python"] * (nbd is None), "it needs these")
         self.device, self.socket, self.pid = map(self.at, ("device", "socket", "pid"))
         self.put_script("waffd", STARTING.format(pid=self.pid, program=os.path.abspath(PROGRAM)))
         self.has_ended(run(["format", self.device, *options_of(GREATEST)]), 0)
         self.start()
 
     def start(self):
-        if os.path.exists(self.socket):
-            os.unlink(self.socket)  # nbdkit leaves it
-        words = ["nbdkit", "--exit-with-parent", "--unix", self.socket, *self.plugin_of(self.device)]
+        for path in filter(os.path.exists, (self.socket, self.at("ready"))):
+            os.unlink(path)  # nbdkit leaves it
+        words = ["nbdkit", "--exit-with-parent", "--pidfile", self.at("ready"), "--unix", self.socket, *self.plugin_of(self.device)]
         self.nbdkit = self.started(words, stdin=subprocess.DEVNULL, stdout=subprocess.DEVNULL, stderr=subprocess.DEVNULL)
-        Client(self.socket).close()  # it is ready
+        end = time.monotonic() + PATIENCE
+        while not os.path.exists(self.at("ready")) and time.monotonic() < end:
+            time.sleep(0.05)
 
     def plugin_of(self, device):
         return ["python", PLUGIN, f"device={device}", f"waffd={self.at('waffd')}"]
@@ -210,10 +199,9 @@ class BlockDevice(Case):
         client = Client(self.socket)
         self.kill()
         client.wait_for_end()
-        for name, kind in (("read", READ), ("write", WRITE), ("trim", TRIM), ("flush", FLUSH)):
-            count = 0 if kind == FLUSH else SECTOR
-            with self.subTest(f"the server is killed, and a {name} is answered with EIO"):
-                self.assertEqual(client.ask(kind, 0, count, bytes(count) if kind == WRITE else b"")[0], EIO)
+        for kind in ("read", "write", "trim", "flush"):
+            with self.subTest(f"the server is killed, and a {kind} is answered with EIO"):
+                self.assertEqual(client.ask(kind)[0], errno.EIO)
         client.close()
         self.fio("fio connects anew, and all is there", "--rw=randwrite", "--bs=4k", "--verify_only")
         self.kill()
@@ -240,17 +228,16 @@ class BlockDevice(Case):
 
     def test_requests(self):
         client, whole = Client(self.socket), b"x" * (4 * SECTOR)
-        for name, kind in (("trim", TRIM), ("zero", ZERO)):
-            with self.subTest(f"{name} leaves zeros, there alone"):
-                errors = [client.ask(WRITE, 0, len(whole), whole)[0], client.ask(kind, SECTOR, 2 * SECTOR)[0]]
+        for kind in ("trim", "zero"):
+            with self.subTest(f"{kind} leaves zeros, there alone"):
+                errors = [client.ask("write", 0, len(whole), whole)[0], client.ask(kind, SECTOR, 2 * SECTOR)[0]]
                 self.assertEqual(errors, [0, 0])
-                self.assertEqual(client.ask(READ, 0, len(whole)), (0, whole[:SECTOR] + bytes(2 * SECTOR) + whole[:SECTOR]))
+                self.assertEqual(client.ask("read", 0, len(whole)), (0, whole[:SECTOR] + bytes(2 * SECTOR) + whole[:SECTOR]))
         for offset, count in ((0, 100), (100, SECTOR)):
             with self.subTest(f"{count} bytes at {offset} are refused"):
-                asked = ((READ, b""), (WRITE, bytes(count)), (TRIM, b""), (ZERO, b""))
-                self.assertEqual({client.ask(kind, offset, count, data)[0] for kind, data in asked}, {EINVAL})
+                self.assertEqual({client.ask(kind, offset, count)[0] for kind in ("read", "write", "trim", "zero")}, {errno.EINVAL})
         with self.subTest("the whole disk in one request"):
-            error, found = client.ask(READ, 0, DISK_SIZE)
+            error, found = client.ask("read", 0, DISK_SIZE)
             self.assertEqual((error, len(found)), (0, DISK_SIZE))
         client.close()
 
