@@ -19,20 +19,6 @@ class Measuring(Programs):
         super().__init__(*folders)
         self.repeat, self.lines, self.starts = repeat, lines, {}
 
-    def build_for(self, row):
-        """Builds what a row needs, before any row is measured."""
-        self.build("serve/counts.c", "counts.so", "cc", "-O2", "-shared", "-fPIC")
-        if row.startswith("plain"):
-            self.build("lines.rs", "plain_lines")
-            self.build("serial.rs", "serial")
-        elif row.startswith("bench"):
-            self.build("handoff/plain.rs", "mutex")
-            self.build_handoff()
-        elif row != "disk":
-            self.build("serve/lines.rs", "lines")
-            self.build("serve/server.rs", "server.default")
-            self.build("serve/server.rs", "server.greatest", **{name.upper(): str(number) for name, number in GREATEST.items()})
-
     def measure(self, row):
         """The values of each program of a row."""
         part, *of_row = row.split()
@@ -75,10 +61,10 @@ class Measuring(Programs):
     def prepare(self, geometry):
         """The device and the log of a geometry, with all that the lines use."""
         device, log = self.at(f"{geometry}.device"), self.at(f"{geometry}.log")
-        server = self.at(f"server.{geometry}")
-        options = [word for name, number in GREATEST.items() for word in (f"--{name}", str(number))]
-        done([PROGRAM, "format", device, *(options if geometry == "greatest" else [])])
-        self.write_input([self.at("lines"), "fill", "0", geometry])
+        numbers = GREATEST if geometry == "greatest" else {}
+        server = self.build("serve/server.rs", f"server.{geometry}", **{name.upper(): str(number) for name, number in numbers.items()})
+        done([PROGRAM, "format", device, *(f"--{name}={number}" for name, number in numbers.items())])
+        self.write_input([self.build("serve/lines.rs", "lines"), "fill", "0", geometry])
         size = os.path.getsize(self.stream("input")) + self.lines * 1200 + 1000000
         done([server, "make", log, str(size)])
         self.counted([PROGRAM, "serve", device, "--workers", "4", "--slots", "64"])
@@ -175,11 +161,11 @@ class Measuring(Programs):
         return run
 
     def of_plain(self, mix):
-        self.write_input([self.at("plain_lines"), mix, str(self.lines * MORE_READS)])
-        return self.alone({"serial": [self.at("serial")], "waffd": [PROGRAM, "plain"]}, self.count_lines("input"))
+        self.write_input([self.build("lines.rs", "plain_lines"), mix, str(self.lines * MORE_READS)])
+        return self.alone({"serial": [self.build("serial.rs", "serial")], "waffd": [PROGRAM, "plain"]}, self.count_lines("input"))
 
     def of_bench(self, workers):
         self.write_input(["true"])
         trips = self.lines * 3
-        return self.alone({program: [self.at(name), workers, str(trips)]
-                           for program, name in (("mutex", "mutex"), ("waffd", "handoff"))}, trips)
+        return self.alone({program: [path, workers, str(trips)] for program, path in (
+            ("mutex", self.build("handoff/plain.rs", "mutex")), ("waffd", self.build_handoff()))}, trips)

@@ -67,6 +67,7 @@ class Programs:
         if not os.path.exists(self.at(name)):
             compiler = compiler or ("rustc", "--edition", "2021", "-O")
             done([*compiler, "-o", self.at(name), os.path.join(HERE, source)], env={**os.environ, **env})
+        return self.at(name)
 
     def build_handoff(self):
         """The program of round trips through the bench, which `rt` proves and builds."""
@@ -74,6 +75,7 @@ class Programs:
         if not os.path.exists(self.at("handoff")):
             done(["rt", "run", "--", "1", "1"], cwd=folder)
             shutil.copy(os.path.join(folder, "out", "handoff"), self.at("handoff"))
+        return self.at("handoff")
 
     def write_input(self, words):
         """The lines that a program prints become the next runs' input; their outputs have to be the same."""
@@ -99,7 +101,8 @@ class Programs:
         """Runs a program on the input, into a file, also through a pipe: what it asked for. Refuses an output that differs from that of the
         first run on this input."""
         counts = self.at("counts")
-        env = dict(os.environ, LD_PRELOAD=self.at("counts.so"), COUNTS=counts)
+        library = self.build("serve/counts.c", "counts.so", "cc", "-O2", "-shared", "-fPIC")
+        env = dict(os.environ, LD_PRELOAD=library, COUNTS=counts)
         with contextlib.ExitStack() as files:
             source, sink = (files.enter_context(open(self.stream(name), mode)) for name, mode in (("input", "rb"), ("output", "wb")))
             if output == "pipe":
