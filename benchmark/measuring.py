@@ -36,8 +36,6 @@ class Measuring(Programs):
                     found[program][what].append(value)
         return found
 
-    # ---- the disk
-
     def of_disk(self):
         return lambda _: {"us": self.sync_time()}
 
@@ -55,8 +53,6 @@ class Measuring(Programs):
         if median(times) < LEAST_SYNC:
             raise Failed("a sync costs nothing in the folder for temporary files: TMPDIR has to name one on a disk")
         return median(times)
-
-    # ---- served lines
 
     def prepare(self, geometry):
         """The device and the log of a geometry, with all that the lines use."""
@@ -116,8 +112,6 @@ class Measuring(Programs):
             found["bytes"] = (counts["written"] - median(start["written"])) / changes
         return found
 
-    # ---- checkpoints by the number of records
-
     def of_every(self, geometry):
         start = self.start(geometry)["waffd 2"]
 
@@ -149,8 +143,6 @@ class Measuring(Programs):
                     time.sleep(0.01)
             finally:
                 child.kill()
-
-    # ---- the serial server, and the bench
 
     def alone(self, commands, number):
         """Microseconds of a line or a round trip of programs that have no device."""

@@ -36,9 +36,6 @@ def spread(values):
     return (max(values) - min(values)) / median(values) * 50
 
 
-# ---- the parts
-
-
 def of_run(figures):
     """When, where and how the run was made."""
     told, disk = figures.told, figures.values("disk", "disk", "us")
@@ -132,9 +129,6 @@ def of_speed(figures):
 
 
 PAGES = {"docs/speed.md": {"run": of_run, "table": of_table, "others": of_others, "missed": of_missed}, "README.md": {"speed": of_speed}}
-
-
-# ---- the pages
 
 
 def wrapped(lines, indent):

@@ -91,9 +91,6 @@ class Client:
         self.nbd.shutdown()
 
 
-# ---- kills with requests in flight
-
-
 class Load(Client):
     """Writes, trims and zeros of no sector that another one in flight has, until the server is killed, and what each sector may hold by them."""
 
@@ -138,9 +135,6 @@ class Load(Client):
         self.wait_for_end()
         self.close()
         return errors
-
-
-# ---- all of it
 
 
 class BlockDevice(Case):

@@ -62,8 +62,6 @@ class Refused(Case):
         self.fail("too many requests")
 
 
-# ---- calls that are made again where their memory was refused
-
 # Tests that make a call again to which memory was refused, by their crates, and how many requests of the call there have to be at
 # least, for memory and for threads: counted by hand in the sources, but of `serve`, of which this is less. Any other request that is
 # refused fails such a test, so where it passes the call was refused.
@@ -119,8 +117,6 @@ class Calls(Refused):
                 self.assertEqual(between_them, 0, f"behind {before}")
 
 
-# ---- the tests of crates whose calls take memory
-
 # Where their tests are, and what the names of those begin with.
 TAKE_MEMORY = {
     "plain": ("serial_tests", "plain_"), "parcel": ("serial_tests", "parcel_"), "arena": ("parts_tests", "arena_"), "disk": ("parts_tests", "disk_"),
@@ -150,8 +146,6 @@ class Crates(Refused):
                     with self.subTest(f"tests of {name}, {turn}"):
                         self.assertGreaterEqual(sum(self.met(program, test, turn, False) for test in tried), least)
 
-
-# ---- threads that meet, each held up at any of its steps
 
 MEETINGS = (("parts_tests", "workers_"), ("server_tests", "serving_overlap::"))  # the tests of each crate whose names begin so
 BUSY_A_PROCESSOR = 4

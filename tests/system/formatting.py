@@ -2,21 +2,15 @@
 import os
 import re
 import shutil
-import subprocess
 import unittest
 
 from meaning import options_of
-from program import DEVICE_FAULT, PROGRAM, Case, bytes_of, run
+from program import DEVICE_FAULT, Case, bytes_of, run
 from servers import SMALL
 
 TOLD = b"formatted 8840\n"
 LEAST_CALLS = 13  # the syncs of the new file and of its folder, one more and a read, then six writes and three syncs
 NOBODY = 65534
-
-
-def ended(words, **how):
-    end = subprocess.run(words, capture_output=True, check=False, **how)
-    return end.returncode, end.stdout, end.stderr
 
 
 class Formatting(Case):
@@ -26,8 +20,8 @@ class Formatting(Case):
         top = os.path.realpath(self.folder)
         for name, path in (("in a folder", self.at("made")), ("in this folder", "made_here"), ("over a file", self.at("made"))):
             with self.subTest(f"format syncs the file, its folder, and what it writes: {name}"):
-                words = ["strace", "-y", "-e", "trace=fsync,fdatasync,pwrite64,write", "-o", self.at("found"), PROGRAM, "format", path]
-                self.has_ended(ended([*words, *options_of(SMALL)], cwd=self.folder), 0, TOLD, b"")
+                strace = ["strace", "-y", "-e", "trace=fsync,fdatasync,pwrite64,write", "-o", self.at("found")]
+                self.has_ended(run(["format", path, *options_of(SMALL)], before=strace, cwd=self.folder), 0, TOLD, b"")
                 calls = re.findall(r"^(\w+)\(\d+<(.*?)>.* = (?!-)", bytes_of(self.at("found")).decode(), re.M)
                 file = os.path.join(top, os.path.basename(path))
                 changing = [name for name, of in calls if of == file]
@@ -41,7 +35,7 @@ class Formatting(Case):
         os.chmod(closed, 0o333)
         os.chmod(self.folder, 0o711)
         user = NOBODY if os.geteuid() == 0 else None  # root may read each folder
-        end = ended([PROGRAM, "format", os.path.join(closed, "made"), *options_of(SMALL)], user=user)
+        end = run(["format", os.path.join(closed, "made"), *options_of(SMALL)], user=user)
         os.chmod(closed, 0o700)
         self.ends("format in a folder that can't be read", end, 0, TOLD, b"")
 

@@ -1,11 +1,4 @@
-"""What stands in the repository without being run: the scripts of tests/lint, the pictures, the figures, ./waffd and ./try.
-
-No public word of the definitions has two meanings, but for those that CONTRIBUTING.md excuses; no clause, function or file is longer than
-it may be, and a file's first line says what it is; what refuses each wrong body is there, so is each public name and each worked row that
-is fixed; the model of the bench has the steps of its sources; what has to be read to believe the promises is within its budget, and as much
-as the pages say, so is the longest chain of crates; the table of what each crate took has its counts; each picture fits what it shows; the
-pages' figures of speed are those of one run; the version names the kit and the logic.
-"""
+"""What stands in the repository without being run: the scripts of tests/lint, the pictures, the figures and the model of the bench."""
 import os
 import shutil
 import subprocess

@@ -1,10 +1,5 @@
-"""./waffd and ./try. The first is tried in a tree of its own, where ./build and the program only print that they were called.
-
-- Where there is no program, it is built and run; where it can't be built, nothing is run, and the status is 4.
-- A program that is as new as its sources is run, with the words and the status of the call, also through a link.
-- Where a source is newer, nothing is built or run, ./build is named on the standard error, and the status is 4. Tests are no sources.
-- A program that ./build didn't make is built anew, or is too old as well.
-"""
+"""./waffd and ./try. The first is tried in a tree of its own, where ./build and the program only print that they were called. Tests are no
+sources."""
 import os
 import shutil
 import subprocess
@@ -28,16 +23,13 @@ class Launcher(Case):
     def setUp(self):
         """Two crates and their tests, all of whose sources are of the time 1000."""
         super().setUp()
-        for crate in ("disk", "parts_tests", "waffd"):
-            self.put(f"crates/{crate}/src/lib.rt", "")
-            self.touch(f"crates/{crate}/src", 1000)
-        for path, text in (("crates.txt", ""), ("build", BUILD), ("program", PROGRAM)):
-            self.put(path, text)
+        folders = [f"crates/{crate}/src" for crate in ("disk", "parts_tests", "waffd")]
+        files = {"crates.txt": "", "build": BUILD, "program": PROGRAM, **{f"{folder}/lib.rt": "" for folder in folders}}
+        for path, text in files.items():
+            self.put_script(path, text)
+        for path in (*files, *folders):
+            self.touch(path, 1000)
         shutil.copy(os.path.join(TOP, "waffd"), self.folder)
-
-    def put(self, path, text):
-        self.put_script(path, text)
-        self.touch(path, 1000)
 
     def touch(self, path, seconds):
         os.utime(self.at(path), (seconds, seconds))
@@ -47,7 +39,7 @@ class Launcher(Case):
         self.ends(name, (end.returncode, end.stdout, end.stderr), status, output, faults)
 
     def test_launcher(self):
-        self.put("wrong", "")
+        self.put_script("wrong", "")
         self.calls("there is no program, and none can be built", NOT_RUN, b"", BUILT)
         os.unlink(self.at("wrong"))
         self.calls("there is no program", *RAN, BUILT)

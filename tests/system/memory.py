@@ -32,7 +32,6 @@ class Memory(Case):
         file, between = File(self.folder), self.between("refuse.c")
         put_bytes(self.at("given"), EACH_KIND)
         given = open(self.at("given"), "rb", buffering=0)
-        self.addCleanup(given.close)
         for options, threads in (("--workers 1 --slots 1", 1), ("", 2), ("--workers 64 --slots 1024 --every 2", 64)):
             words = ["serve", file.path, *options.split()]
             file.format()

@@ -75,11 +75,6 @@ class Statuses(Case):
 
 
 class Streams(Case):
-    def opened(self, path, mode):
-        file = open(path, mode)
-        self.addCleanup(file.close)
-        return file
-
     def streams(self):
         """What is wrong with streams: how a run that answers lines ends then, and the streams."""
         ours, theirs = os.pipe()
@@ -88,9 +83,9 @@ class Streams(Case):
         return (("standard input closed", (1, b"", READ_FAULT), {"closed": [0]}), ("standard output closed", (1, b"", WRITE_FAULT), {"closed": [1]}),
                 ("standard error closed", (0, REPLIES, b""), {"closed": [2]}), ("output and error closed", (1, b"", b""), {"closed": [1, 2]}),
                 ("all closed", (1, b"", b""), {"closed": [0, 1, 2]}),
-                ("standard input for writing alone", (1, b"", READ_FAULT), {"stdin": self.opened("/dev/null", "wb")}),
-                ("standard output for reading alone", (1, None, WRITE_FAULT), {"stdout": self.opened("/dev/null", "rb")}),
-                ("to a full device", (1, None, WRITE_FAULT), {"stdout": self.opened("/dev/full", "wb")}),
+                ("standard input for writing alone", (1, b"", READ_FAULT), {"stdin": open("/dev/null", "wb")}),
+                ("standard output for reading alone", (1, None, WRITE_FAULT), {"stdout": open("/dev/null", "rb")}),
+                ("to a full device", (1, None, WRITE_FAULT), {"stdout": open("/dev/full", "wb")}),
                 ("to a pipe that nobody reads", (1, None, WRITE_FAULT), {"stdout": theirs}))
 
     def test_plain(self):
@@ -99,7 +94,7 @@ class Streams(Case):
         self.ends("standard error closed, wrong words", run(["flat"], closed=[2]), 2, b"", b"")
         for word in ("--help", "--version"):
             self.ends(f"{word} with the output closed", run([word], closed=[1]), 1, b"", WRITE_FAULT)
-        self.ends("--help to a full device", run(["--help"], stdout=self.opened("/dev/full", "wb")), 1, None, WRITE_FAULT)
+        self.ends("--help to a full device", run(["--help"], stdout=open("/dev/full", "wb")), 1, None, WRITE_FAULT)
 
     def test_serve(self):
         file = File(self.folder)

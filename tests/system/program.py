@@ -1,5 +1,6 @@
 """The program that is tried, how it is run, and how it has to end. A check is a subtest, or a test without any."""
 import os
+import pathlib
 import select
 import struct
 import subprocess
@@ -22,17 +23,13 @@ EACH_KIND = (b"makevol 0 0\ncreate 0 0 0\ncreate 0 0 1\nwrite 0 0 0 0 6162\nlist
              b"setlabel 0 0 6162\nlabel 0 0\nseal 0 0\nunseal 0 0\npunch 0 0 0 0\nread 0 0 0 0\ndelete 0 0 1\ndropvol 0 0\n")
 
 
-def run(words, given=b"", env=None, closed=(), stdin=None, stdout=None):
+def run(words, given=b"", env=None, closed=(), before=(), **more):
     """Runs the program to its end: status, standard output, standard error."""
-
-    def before():
-        for number in closed:
-            os.close(number)
-
-    source = {"input": given} if stdin is None else {"stdin": stdin}
+    more = more if "stdin" in more else {"input": given, **more}
     try:
-        end = subprocess.run([PROGRAM, *words], **source, stdout=subprocess.PIPE if stdout is None else stdout, stderr=subprocess.PIPE, check=False,
-                             timeout=LONGEST_RUN, env=dict(os.environ, **(env or {})), preexec_fn=before if closed else None)
+        end = subprocess.run([*before, PROGRAM, *words], **{"stdout": subprocess.PIPE, **more}, stderr=subprocess.PIPE, check=False,
+                             timeout=LONGEST_RUN, env=dict(os.environ, **(env or {})),
+                             preexec_fn=(lambda: [os.close(number) for number in closed]) if closed else None)
     except subprocess.TimeoutExpired:
         return None, b"", b"no end"
     return end.returncode, end.stdout or b"", end.stderr
@@ -55,13 +52,11 @@ def is_beginning(found, whole):
 
 
 def bytes_of(path):
-    with open(path, "rb") as file:
-        return file.read()
+    return pathlib.Path(path).read_bytes()
 
 
 def put_bytes(path, data):
-    with open(path, "wb") as file:
-        file.write(data)
+    pathlib.Path(path).write_bytes(data)
 
 
 class Between:

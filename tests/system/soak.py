@@ -12,23 +12,16 @@ import tempfile
 import time
 
 from program import PROGRAM, Case, read_until
+from servers import COMMON, Drawing, text_of
 
 BURSTS, LIFE = 2000, 20  # of one server, in seconds
 PATIENCE = 60  # seconds for a burst's replies, and for the end
 PAUSES = (0, 0, 0, 0.0001, 0.001, 0.02)  # seconds between two bursts
 
 
-def lines_of(draw, count):
-    """Lines that meet in one volume and in many: each has one reply."""
-    kinds = ("write 0 %d %d %d 61\n", "write 0 %d %d %d 62\n", "read 0 %d %d %d\n", "punch 0 %d %d %d\n")
-    some = [draw.choice(kinds) % (draw.randrange(4), draw.randrange(2), draw.randrange(16)) for _ in range(count)]
-    return "".join(draw.choice(("summary\n", "what\n", f"makevol 0 {draw.randrange(4)}\n", f"create 0 {draw.randrange(4)} 0\n"))
-                   if draw.randrange(10) == 0 else line for line in some).encode()
-
-
 def live(seed, until):
     """One server: how many lines it answered in how many bursts, or why it didn't."""
-    draw, bursts, lines = random.Random(seed), 0, 0
+    draw, drawing, bursts, lines = random.Random(seed), Drawing(seed, COMMON), 0, 0
     with tempfile.TemporaryDirectory() as folder:
         device = os.path.join(folder, "d")
         subprocess.run([PROGRAM, "format", device, "--half", str(draw.choice((4, 32, 256)))], check=True, stdout=subprocess.DEVNULL)
@@ -39,7 +32,7 @@ def live(seed, until):
                 end = min(until, time.monotonic() + LIFE)
                 while bursts < BURSTS and time.monotonic() < end:
                     count = draw.randint(1, 20)
-                    child.stdin.write(lines_of(draw, count))
+                    child.stdin.write(text_of(drawing.lines(count)))
                     replies = read_until(child.stdout, lambda found: found.count(b"\n") >= count, 1 << 16, PATIENCE)
                     assert replies.count(b"\n") == count, f"burst {bursts + 1} of {count} lines isn't answered"
                     bursts, lines = bursts + 1, lines + count
