@@ -20,7 +20,8 @@ import textwrap
 
 from program import PATIENCE, PROGRAM, TOP, Case, read_until
 
-INDENT, PROMPT = "    ", "    $ "
+PROMPT = "    $ "
+BLOCK = re.compile(r"(?<=\n\n)    \$ .*\n(?:(?:    .*)?\n)*")
 RUN = "./waffd"
 # The commands that aren't run, and why.
 NOT_RUN = {
@@ -38,16 +39,13 @@ PYTHON = re.compile(r"^\n((?: {4}import .*\n)(?: {4}.*\n|\n)*)", re.M)
 
 def examples(text):
     """The commands of a page: the number of the line, the command, and the lines below it, each as its columns."""
-    found, inside, is_behind_blank = [], False, True
-    for number, line in enumerate(text.splitlines(), 1):
-        if line.startswith(PROMPT) and (inside or is_behind_blank):
-            inside = True
-            found.append((number, BESIDE.split(line[len(PROMPT):])[0], []))
-        elif line.strip() and not line.startswith(INDENT):
-            inside = False
-        elif line.strip() and inside:
-            found[-1][2].append(BESIDE.split(line.strip()))
-        is_behind_blank = not line.strip()
+    found = []
+    for block in BLOCK.finditer(text):
+        for number, line in enumerate(block[0].splitlines(), text.count("\n", 0, block.start()) + 1):
+            if line.startswith(PROMPT):
+                found.append((number, BESIDE.split(line[len(PROMPT):])[0], []))
+            elif line.strip():
+                found[-1][2].append(BESIDE.split(line.strip()))
     return found
 
 
