@@ -243,10 +243,6 @@ def block_size(handle):
     return SECTOR, 8 * SECTOR, DISK_SIZE  # the least, the preferred, the greatest
 
 
-def is_rotational(handle):
-    return False
-
-
 def can_multi_conn(handle):
     return True  # what one connection was answered, each of them reads
 

@@ -7,13 +7,13 @@ import struct
 import subprocess
 import sys
 
-from program import MOST_TURNS, TOP, Case, bytes_of
+from program import MOST_TURNS, TOP, Case, bytes_of, run
 
 FAILED_TEST = (101, -signal.SIGABRT)  # by an error that it answered, or by an assertion
 LONGEST_TEST = 60  # seconds
 # Without memory a session writes what it has answered. Where the writer of the one test with such numbers refuses that too, nothing else is
 # reported than the last of these.
-MEMORY_WORDS = ("AllocError", "OutOfMemory", "out of memory", "AllocFailed", "left: (Err(Write), 1, ")
+MEMORY_WORDS = (b"AllocError", b"OutOfMemory", b"out of memory", b"AllocFailed", b"left: (Err(Write), 1, ")
 
 
 @functools.lru_cache(maxsize=None)
@@ -27,11 +27,6 @@ def tests_of(folder):
             raise AssertionError(f"tests of {folder}: {built.stdout[-1000:]}")
     lines = subprocess.run([program, "--list"], capture_output=True, text=True, check=True).stdout.splitlines()
     return program, [line[: -len(": test")] for line in lines if line.endswith(": test")]
-
-
-def ended(program, test, **env):
-    """How a test ended, alone."""
-    return subprocess.run([program, test], env={**os.environ, **env}, capture_output=True, text=True, timeout=LONGEST_TEST, check=False)
 
 
 class Refused(Case):
@@ -52,13 +47,13 @@ class Refused(Case):
         pass only those count that do."""
         count = 0
         for number in range(1, MOST_TURNS):
-            end = ended(program, test, **self.refusing.env(**{turn: number}))
+            status, _, faults = run([test], env=self.refusing.env(**{turn: number}), program=(program,), timeout=LONGEST_TEST)
             if not self.refusing.happened():
                 return count
-            is_for_want = end.returncode in FAILED_TEST and any(word in end.stderr for word in MEMORY_WORDS)
-            if end.returncode and not is_for_want:
-                self.fail(f"{test}, request {number}: status {end.returncode}, {end.stderr.strip()[-300:]}")
-            count += not (has_to_pass and end.returncode)
+            is_for_want = status in FAILED_TEST and any(word in faults for word in MEMORY_WORDS)
+            if status != 0 and not is_for_want:
+                self.fail(f"{test}, request {number}: status {status}, {faults[-300:]}")
+            count += not (has_to_pass and is_for_want)
         self.fail("too many requests")
 
 
@@ -110,8 +105,8 @@ class Calls(Refused):
     def test_no_request(self):
         for folder, name in ((folder, name) for folder, wanted in ASK_FOR_NONE.items() for name in wanted):
             with self.subTest(f"{folder}, {name}: no request for memory"):
-                end = ended(*self.named(folder, name), **self.refusing.env(COUNTED=self.at("counted")))
-                self.assertEqual(end.returncode, 0, end.stderr[-300:])
+                program, test = self.named(folder, name)
+                self.has_ended(run([test], env=self.refusing.env(COUNTED=self.at("counted")), program=(program,), timeout=LONGEST_TEST), 0)
                 before, between_them = struct.unpack("2q", bytes_of(self.at("counted")))
                 self.assertGreater(before, 0)
                 self.assertEqual(between_them, 0, f"behind {before}")
@@ -169,5 +164,4 @@ class Loaded(Case):
             self.started([sys.executable, "-c", "while True: pass"], preexec_fn=lambda: resource.setrlimit(resource.RLIMIT_CPU, (most, most)))
         for folder, program, test in meeting:
             with self.subTest(f"{folder}, {test} beside busy threads"):
-                end = ended(program, test, BENCH_ROUNDS=str(ROUNDS))
-                self.assertEqual(end.returncode, 0, end.stderr.strip()[-300:])
+                self.has_ended(run([test], env={"BENCH_ROUNDS": str(ROUNDS)}, program=(program,), timeout=LONGEST_TEST), 0)

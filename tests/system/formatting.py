@@ -5,7 +5,7 @@ import shutil
 import unittest
 
 from meaning import options_of
-from program import DEVICE_FAULT, Case, bytes_of, run
+from program import DEVICE_FAULT, PROGRAM, Case, bytes_of, run
 from servers import SMALL
 
 TOLD = b"formatted 8840\n"
@@ -20,8 +20,8 @@ class Formatting(Case):
         top = os.path.realpath(self.folder)
         for name, path in (("in a folder", self.at("made")), ("in this folder", "made_here"), ("over a file", self.at("made"))):
             with self.subTest(f"format syncs the file, its folder, and what it writes: {name}"):
-                strace = ["strace", "-y", "-e", "trace=fsync,fdatasync,pwrite64,write", "-o", self.at("found")]
-                self.has_ended(run(["format", path, *options_of(SMALL)], before=strace, cwd=self.folder), 0, TOLD, b"")
+                strace = ("strace", "-y", "-e", "trace=fsync,fdatasync,pwrite64,write", "-o", self.at("found"), PROGRAM)
+                self.has_ended(run(["format", path, *options_of(SMALL)], program=strace, cwd=self.folder), 0, TOLD, b"")
                 calls = re.findall(r"^(\w+)\(\d+<(.*?)>.* = (?!-)", bytes_of(self.at("found")).decode(), re.M)
                 file = os.path.join(top, os.path.basename(path))
                 changing = [name for name, of in calls if of == file]

@@ -2,10 +2,9 @@
 sources."""
 import os
 import shutil
-import subprocess
 import tempfile
 
-from program import TOP, Case
+from program import TOP, Case, run
 
 NOT_RUN = 4
 BUILD = """#!/bin/sh
@@ -34,9 +33,8 @@ class Launcher(Case):
     def touch(self, path, seconds):
         os.utime(self.at(path), (seconds, seconds))
 
-    def calls(self, name, status, output, faults, script="./waffd", cwd=None):
-        end = subprocess.run([script, "serve", "d", "--every", "2"], cwd=cwd or self.folder, capture_output=True, check=False)
-        self.ends(name, (end.returncode, end.stdout, end.stderr), status, output, faults)
+    def calls(self, name, *wanted, script="./waffd", cwd=None):
+        self.ends(name, run(["serve", "d", "--every", "2"], program=(script,), cwd=cwd or self.folder), *wanted)
 
     def test_launcher(self):
         self.put_script("wrong", "")
@@ -46,7 +44,7 @@ class Launcher(Case):
         self.calls("the program is there", *RAN, b"")
         with tempfile.TemporaryDirectory() as elsewhere:
             os.symlink(self.at("waffd"), os.path.join(elsewhere, "by_link"))
-            self.calls("it is called by a link", *RAN, b"", "./by_link", elsewhere)
+            self.calls("it is called by a link", *RAN, b"", script="./by_link", cwd=elsewhere)
         self.touch("crates/parts_tests/src/lib.rt", 4000)
         self.calls("a test is newer", *RAN, b"")
         for path in ("crates/disk/src/lib.rt", "crates/disk/src", "crates.txt"):
@@ -72,8 +70,8 @@ class Try(Case):
         self.put_script("rt", '#!/bin/sh\necho "$*"\npwd\n')
         os.makedirs(self.at("crates/waffd"))
         shutil.copy(os.path.join(TOP, "try"), self.folder)
-        env = dict(os.environ, PATH=f"{self.folder}:{os.environ['PATH']}")
+        env = {"PATH": f"{self.folder}:{os.environ['PATH']}"}
         for given, wanted in TRIED:
-            end = subprocess.run([self.at("try"), *given.split()], cwd="/tmp", env=env, capture_output=True, text=True, check=False)
             wanted = f"try --seconds 3600 -- {wanted.replace('@', '/tmp')}".strip() + f"\n{os.path.realpath(self.at('crates/waffd'))}\n"
-            self.ends(f"./try {given}", (end.returncode, end.stdout, end.stderr), 0, wanted, lambda text: "nothing of this program is proved" in text)
+            self.ends(f"./try {given}", run(given.split(), program=(self.at("try"),), cwd="/tmp", env=env), 0, wanted.encode(),
+                      lambda text: b"nothing of this program is proved" in text)

@@ -23,13 +23,12 @@ EACH_KIND = (b"makevol 0 0\ncreate 0 0 0\ncreate 0 0 1\nwrite 0 0 0 0 6162\nlist
              b"setlabel 0 0 6162\nlabel 0 0\nseal 0 0\nunseal 0 0\npunch 0 0 0 0\nread 0 0 0 0\ndelete 0 0 1\ndropvol 0 0\n")
 
 
-def run(words, given=b"", env=None, closed=(), before=(), **more):
-    """Runs the program to its end: status, standard output, standard error."""
-    more = more if "stdin" in more else {"input": given, **more}
+def run(words, given=b"", env=None, closed=(), program=(PROGRAM,), **more):
+    """Runs a program to its end: status, standard output, standard error."""
+    more = {"stdout": subprocess.PIPE, "timeout": LONGEST_RUN, **({} if "stdin" in more else {"input": given}), **more}
     try:
-        end = subprocess.run([*before, PROGRAM, *words], **{"stdout": subprocess.PIPE, **more}, stderr=subprocess.PIPE, check=False,
-                             timeout=LONGEST_RUN, env=dict(os.environ, **(env or {})),
-                             preexec_fn=(lambda: [os.close(number) for number in closed]) if closed else None)
+        end = subprocess.run([*program, *words], stderr=subprocess.PIPE, check=False, env=dict(os.environ, **(env or {})),
+                             preexec_fn=(lambda: [os.close(number) for number in closed]) if closed else None, **more)
     except subprocess.TimeoutExpired:
         return None, b"", b"no end"
     return end.returncode, end.stdout or b"", end.stderr
