@@ -36,10 +36,12 @@ class Refused(Case):
         super().setUp()
         self.refusing = self.between("refuse.c")
 
-    def named(self, folder, name):
+    def named(self, name):
+        """The program and the test of CRATE::TEST."""
+        folder, _, last = name.partition("::")
         program, tests = tests_of(folder)
-        found = [test for test in tests if test.endswith("::" + name)]
-        self.assertTrue(found, f"{folder} has no test {name}")
+        found = [test for test in tests if test.endswith("::" + last)]
+        self.assertTrue(found, f"there is no test {name}")
         return program, found[0]
 
     def met(self, program, test, turn, has_to_pass):
@@ -57,34 +59,29 @@ class Refused(Case):
         self.fail("too many requests")
 
 
-# Tests that make a call again to which memory was refused, by their crates, and how many requests of the call there have to be at
-# least, for memory and for threads: counted by hand in the sources, but of `serve`, of which this is less. Any other request that is
-# refused fails such a test, so where it passes the call was refused.
+# Tests that make a call again to which memory was refused, and how many requests of the call there have to be at least: counted by hand in
+# the sources, but of `serve`, of which this is less. Any other request that is refused fails such a test, so where it passes the call was
+# refused.
 MADE_AGAIN = {
-    "serial_tests": {"lines_are_answered_at_the_next_try": (5, 0), "beside_a_stripe_that_is_out": (11, 0)},
-    "parts_tests": {
-        "three_slots_and_two_chains": (3, 0),
-        "a_device_in_memory_is_made_at_the_next_try": (8, 0),
-        "a_run_queue_is_made_at_the_next_try": (7, 0),
-        "a_bench_is_opened_at_the_next_try": (9, 0),
-    },
-    "durability_tests": {
-        "a_refused_log_is_made_at_the_next_try": (1, 0),
-        "a_device_is_made_at_the_next_try": (1, 0),
-        "a_device_is_inspected_at_the_next_try": (13, 0),
-        "a_device_is_opened_at_the_next_try": (17, 0),
-    },
-    "machine_tests": {
-        "a_core_takes_its_own_memory_before_it_calls_the_device": (12, 0),
-        "a_core_is_opened_at_the_next_try": (29, 0),
-        "a_machine_is_made_at_the_next_try": (1, 0),
-    },
-    "server_tests": {"lines_are_served_at_the_next_try": (10, 3)},
+    "serial_tests::lines_are_answered_at_the_next_try": 5,
+    "serial_tests::beside_a_stripe_that_is_out": 11,
+    "parts_tests::three_slots_and_two_chains": 3,
+    "parts_tests::a_device_in_memory_is_made_at_the_next_try": 8,
+    "parts_tests::a_run_queue_is_made_at_the_next_try": 7,
+    "parts_tests::a_bench_is_opened_at_the_next_try": 9,
+    "durability_tests::a_refused_log_is_made_at_the_next_try": 1,
+    "durability_tests::a_device_is_made_at_the_next_try": 1,
+    "durability_tests::a_device_is_inspected_at_the_next_try": 13,
+    "durability_tests::a_device_is_opened_at_the_next_try": 17,
+    "machine_tests::a_core_takes_its_own_memory_before_it_calls_the_device": 12,
+    "machine_tests::a_core_is_opened_at_the_next_try": 29,
+    "machine_tests::a_machine_is_made_at_the_next_try": 1,
+    "server_tests::lines_are_served_at_the_next_try": 10,
 }
-# Tests that print on standard output between which lines they may ask for no memory, by their crates.
-ASK_FOR_NONE = {
-    "machine_tests": ("a_full_log_and_its_point_take_no_memory", "two_writes_side_by_side_take_no_memory", "a_cut_takes_no_memory"),
-}
+WITH_THREADS = {"server_tests::lines_are_served_at_the_next_try": 3}  # to which threads were refused
+# Tests that print on standard output between which lines they may ask for no memory.
+ASK_FOR_NONE = ("machine_tests::a_full_log_and_its_point_take_no_memory", "machine_tests::two_writes_side_by_side_take_no_memory",
+                "machine_tests::a_cut_takes_no_memory")
 
 
 class Calls(Refused):
@@ -95,17 +92,15 @@ class Calls(Refused):
     steps may make none behind the opening."""
 
     def test_calls_are_made_again(self):
-        for folder, wanted in MADE_AGAIN.items():
-            for name, least_of in wanted.items():
-                for turn, least in zip(("REFUSE_ONE", "REFUSE_THREAD"), least_of):
-                    if least:
-                        with self.subTest(f"{folder}, {name}: {turn}, {least} at least"):
-                            self.assertGreaterEqual(self.met(*self.named(folder, name), turn, True), least)
+        for turn, wanted in (("REFUSE_ONE", MADE_AGAIN), ("REFUSE_THREAD", WITH_THREADS)):
+            for name, least in wanted.items():
+                with self.subTest(f"{name}: {turn}, {least} at least"):
+                    self.assertGreaterEqual(self.met(*self.named(name), turn, True), least)
 
     def test_no_request(self):
-        for folder, name in ((folder, name) for folder, wanted in ASK_FOR_NONE.items() for name in wanted):
-            with self.subTest(f"{folder}, {name}: no request for memory"):
-                program, test = self.named(folder, name)
+        for name in ASK_FOR_NONE:
+            with self.subTest(f"{name}: no request for memory"):
+                program, test = self.named(name)
                 self.has_ended(run([test], env=self.refusing.env(COUNTED=self.at("counted")), program=(program,), timeout=LONGEST_TEST), 0)
                 before, between_them = struct.unpack("2q", bytes_of(self.at("counted")))
                 self.assertGreater(before, 0)

@@ -1,4 +1,5 @@
 """The program that is tried, how it is run, and how it has to end. A check is a subtest, or a test without any."""
+import contextlib
 import os
 import pathlib
 import select
@@ -73,10 +74,10 @@ class Between:
 
     def happened(self):
         """Whether it has happened; asked once a run."""
-        if not os.path.exists(self.mark):
-            return False
-        os.unlink(self.mark)
-        return True
+        with contextlib.suppress(FileNotFoundError):
+            os.unlink(self.mark)
+            return True
+        return False
 
     def run(self, turn, number, words, given=b"", **streams):
         """The end of the run, or None where it has no such call."""

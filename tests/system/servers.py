@@ -4,7 +4,7 @@ import random
 import shutil
 
 from program import bytes_of, put_bytes, run
-from meaning import FIELDS, Geometry, Search, empty_state, lines_that_make, lines_that_read, options_of, state_of_replies
+from meaning import FIELDS, MOST_DIGITS, Geometry, Search, empty_state, lines_that_make, lines_that_read, options_of, state_of_replies
 
 SMALL = Geometry(1, 1, 2, 1, 2, 4, 2, 4)
 WIDE = Geometry(2, 2, 2, 1, 2, 4, 2, 8)
@@ -78,24 +78,21 @@ class Device:
     def words(self, path=None):
         return ["serve", path or self.path, "--workers", str(self.workers), "--slots", str(self.slots), "--every", str(self.every)]
 
-    def read_state(self):
-        """The replies of the next run to the lines that read all, on a copy: so this file stays as it was left."""
-        shutil.copyfile(self.path, self.copy)
-        return replies_of(run(self.words(self.copy), text_of(lines_that_read(self.g))), "the next run")
-
     def judge(self, lines, output, whole):
-        """Asserts that what came out for these lines, and what the next run answers, may be."""
-        made = lines_that_make(self.g, self.state)
+        """Asserts that what came out for these lines, and what the next run answers, may be. That is run on a copy: so this file stays as it
+        was left."""
+        made, reads = lines_that_make(self.g, self.state), lines_that_read(self.g)
         wanted = text_of(plain(self.g, made + lines)[len(made):])
         if not wanted.startswith(output) or (whole and output != wanted):
             raise AssertionError(f"it answered other than the serial server, in the first {len(output)} bytes")
         answered = len(lines) if whole else output.count(b"\n") + (not output.endswith(b"\n") and output != b"")
-        told = self.read_state()
+        shutil.copyfile(self.path, self.copy)
+        told = replies_of(run(self.words(self.copy), text_of(reads)), "the next run")
         left = state_of_replies(self.g, told)
         logged = Search(self.g, self.state, lines, answered, left).find()
         if logged is None:
             raise AssertionError(f"of {answered} lines that were answered a change is missing, or what is there none has made")
-        if plain(self.g, made + logged + lines_that_read(self.g))[len(made + logged):] != told:
+        if plain(self.g, made + logged + reads)[len(made + logged):] != told:
             raise AssertionError("the serial server has another state")
         self.state = left
 
@@ -116,11 +113,6 @@ class Drawing:
     def __init__(self, seed, g):
         self.random, self.g, self.count = random.Random(seed), g, 0
 
-    def below(self, limit, most):
-        if self.random.randrange(200) == 0:
-            return limit  # out of range
-        return self.random.randrange(min(limit, most))
-
     def data(self, most):
         self.count += 1
         digits = "%08x" % self.count
@@ -132,9 +124,9 @@ class Drawing:
             return self.random.choice(NO_MESSAGES)
         kind = self.random.choices(KINDS, SHARES)[0]
         limits = (self.g.aggregates, self.g.volumes, self.g.files, self.g.blocks)[:FIELDS[kind]]
-        numbers = [self.below(limit, most) for limit, most in zip(limits, MOST)]
-        data = [self.data(512)] if kind == "write" else [self.data(32)] if kind == "setlabel" else []
-        return " ".join([kind, *map(str, numbers), *data])
+        is_out = [self.random.randrange(200) == 0 for _ in limits]  # of range
+        numbers = [limit if out else self.random.randrange(min(limit, most)) for out, limit, most in zip(is_out, limits, MOST)]
+        return " ".join([kind, *map(str, numbers), *([self.data(MOST_DIGITS[kind] // 2)] if kind in MOST_DIGITS else [])])
 
     def lines(self, count):
         return [self.line() for _ in range(count)]
