@@ -53,11 +53,6 @@ def lines_that_make_files():
             for line in (f"makevol {aggregate} {volume}", *(f"create {aggregate} {volume} {file}" for file in FILES))]
 
 
-def digits_of(data):
-    """The bytes of a sector in a line; those that are left out at the end are zeros."""
-    return bytes(data).rstrip(b"\0").hex() or "00"
-
-
 def sector_of(reply):
     """The bytes of the sector that a read was answered with. One that was never written is a hole, and so is one that was
     trimmed: both are zeros."""
@@ -264,8 +259,9 @@ def pread(handle, buffer, offset, flags):
 
 
 def pwrite(handle, buffer, offset, flags):
-    handle.change([f"write {place_of(sector)} {digits_of(buffer[at * SECTOR:(at + 1) * SECTOR])}"
-                   for at, sector in enumerate(sectors_of(len(buffer), offset))])
+    sectors = sectors_of(len(buffer), offset)
+    parts = (bytes(buffer[at:at + SECTOR]).rstrip(b"\0") for at in range(0, len(buffer), SECTOR))  # what a line leaves out are zeros
+    handle.change([f"write {place_of(sector)} {part.hex() or '00'}" for sector, part in zip(sectors, parts)])
 
 
 def trim(handle, count, offset, flags):

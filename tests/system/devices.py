@@ -1,8 +1,17 @@
 """What a device's file holds after each refusal of `serve`, after `serve` and after the next one; each call of the device fails in turn, alone
-and with all behind it, and the next run has all that was acknowledged."""
-from program import DEVICE_FAULT, EACH_KIND, MADE, READ_FAULT, REPLIES, Case, bytes_of, is_beginning, put_bytes
+and with all behind it, and the next run has all that was acknowledged. What `format` syncs before it tells that it has made a device."""
+import os
+import re
+import shutil
+import unittest
+
+from meaning import options_of
+from program import DEVICE_FAULT, EACH_KIND, MADE, PROGRAM, READ_FAULT, REPLIES, Case, bytes_of, is_beginning, put_bytes, run
 from servers import CHAIN_0, CHAIN_1, GATE_0, GATE_1, IMAGE_0, IMAGE_1, RECORD_0, ROOT, SMALL, Device, File, text_of, with_bytes
 
+TOLD = b"formatted 8840\n"
+CALLS_OF_FORMAT = 13  # the syncs of the new file and of its folder, one more and a read, then six writes and three syncs
+NOBODY = 65534
 LEAST_CALLS = 50  # of the device, while some thirty changes are logged
 # What is set in a device that was just formatted, and how it is reported.
 DAMAGED = (
@@ -87,3 +96,45 @@ class DeviceFaults(Case):
                     self.device.judge(lines, end[1], False)
 
                 self.each(f"{turn}: {slots} slots, every {every}", LEAST_CALLS, attempt, judge)
+
+
+class Formatting(Case):
+    @unittest.skipUnless(shutil.which("strace"), "strace isn't installed, so what `format` syncs isn't seen")
+    def test_syncs(self):
+        """The file and then its folder are synced, then what is written to the file, and then the line is printed."""
+        top = os.path.realpath(self.folder)
+        for name, path in (("in a folder", self.at("made")), ("in this folder", "made_here"), ("over a file", self.at("made"))):
+            with self.subTest(f"format syncs the file, its folder, and what it writes: {name}"):
+                strace = ("strace", "-y", "-e", "trace=fsync,fdatasync,pwrite64,write", "-o", self.at("found"), PROGRAM)
+                self.has_ended(run(["format", path, *options_of(SMALL)], program=strace, cwd=self.folder), 0, TOLD, b"")
+                calls = re.findall(r"^(\w+)\(\d+<(.*?)>.* = (?!-)", bytes_of(self.at("found")).decode(), re.M)
+                file = os.path.join(top, os.path.basename(path))
+                changing = [name for name, of in calls if of == file]
+                self.assertEqual(calls[:2], [("fsync", file), ("fsync", top)])
+                self.assertEqual((calls[-1][0], changing[-1], len(changing) + 2), ("write", "fdatasync", len(calls)), f"{calls}")
+
+    def test_a_folder_that_may_not_be_read(self):
+        """A folder that lets this user make files and not read it: the new file's name isn't synced, and that is no fault."""
+        closed = self.at("closed")
+        os.mkdir(closed)
+        os.chmod(closed, 0o333)
+        os.chmod(self.folder, 0o711)
+        user = NOBODY if os.geteuid() == 0 else None  # root may read each folder
+        end = run(["format", os.path.join(closed, "made"), *options_of(SMALL)], user=user)
+        os.chmod(closed, 0o700)
+        self.ends("format in a folder that can't be read", end, 0, TOLD, b"")
+
+    def test_faults(self):
+        """Each call of the device fails in turn, alone or with all behind it: nothing is printed but the fault."""
+        words, between = ["format", self.at("faulty"), *options_of(SMALL)], self.between("stop.c")
+        for over in (False, True):
+            for turn in ("FAIL_CALL", "FAIL_CALLS_FROM"):
+                def attempt(number):
+                    if os.path.exists(self.at("faulty")):
+                        os.unlink(self.at("faulty"))
+                    if over:
+                        run(words)
+                    return between.run(turn, number, words)
+
+                self.each(f"{turn}: format {'over a device' if over else 'of a new file'}", CALLS_OF_FORMAT, attempt,
+                          lambda end: self.has_ended(end, 1, b"", DEVICE_FAULT))

@@ -23,14 +23,7 @@ from program import PATIENCE, PROGRAM, TOP, Case, read_until
 PROMPT = "    $ "
 BLOCK = re.compile(r"(?<=\n\n)    \$ .*\n(?:(?:    .*)?\n)*")
 RUN = "./waffd"
-# The commands that aren't run, and why.
-NOT_RUN = {
-    "rt": "it proves, which takes from seconds to an hour; rt ci does it",
-    "./build": "it proves all crates",
-    "./try": "it compiles all of it, in a minute or two",
-    "./check": "it makes these checks",
-    "tests/run": "it makes these checks",
-}
+NOT_RUN = ("rt", "./build", "./try", "./check", "tests/run")  # they prove, compile all of it, or make these checks
 CONVERSE = ("plain", "serve")
 KILLED = "Killed"
 BESIDE = re.compile(r" {2,}")
