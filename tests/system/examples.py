@@ -42,11 +42,6 @@ def examples(text):
     return found
 
 
-def programs(text):
-    """The programs in Python of a page: the number of the first line, and the program."""
-    return [(text.count("\n", 0, found.start(1)) + 1, textwrap.dedent(found[1])) for found in PYTHON.finditer(text)]
-
-
 def pairs_of(rows):
     """Lines with their replies: side by side, or below each other."""
     if rows and len(rows[0]) > 1:
@@ -82,10 +77,10 @@ class Examples(Case):
             with open(path, encoding="utf-8") as page, tempfile.TemporaryDirectory() as folder:
                 os.symlink(os.path.abspath(PROGRAM), os.path.join(folder, "waffd"))
                 text = page.read()
-                for number, source in programs(text):
-                    with self.subTest(f"{os.path.relpath(path, TOP)}:{number}: a program in Python"):
+                for found in PYTHON.finditer(text):
+                    with self.subTest(f"{os.path.relpath(path, TOP)}:{text.count(chr(10), 0, found.start(1)) + 1}: a program in Python"):
                         self.runs(["./waffd", "format", "d"], [["formatted 1332608"]], folder)
-                        self.runs([sys.executable, "-c", source], [], folder)
+                        self.runs([sys.executable, "-c", textwrap.dedent(found[1])], [], folder)
                         os.unlink(os.path.join(folder, "d"))
                 for number, command, rows in examples(text):
                     words = shlex.split(command)

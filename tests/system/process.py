@@ -17,7 +17,6 @@ from examples import Examples
 from servers import COMMON, SMALL, Device, File, text_of
 
 HELP = ("--help", "-h", "help", "plain --help", "help plain", "serve --help", "serve -h", "help serve")
-GEOMETRY = b"waffd: geometry out of range\n"
 WRONG_WORDS = ("", "flat", "help flat", "--plain", "plain x", "plain --files", "plain --files two", "plain --files 65536")
 WRONG_OPTIONS = ("", "DEVICE other", "DEVICE --what", "DEVICE --workers", "DEVICE --workers x", "DEVICE --workers 65", "DEVICE --workers=-1",
                  "DEVICE --slots 0", "DEVICE --slots 1025", "DEVICE --every 1025", "DEVICE --workers 2 --workers 2", "DEVICE --files 2")
@@ -51,7 +50,7 @@ class Statuses(Case):
             self.ends("wrong words: " + (text or "none"), run(text.split(), MADE), 2, b"", is_of_clap)
         self.ends("words that are not UTF-8", run([b"plain", b"\xff"], MADE), 2, b"", lambda text: b"invalid UTF-8" in text)
         for number in ("0", "65"):
-            self.ends(f"--files {number}", run(["plain", "--files", number], MADE), 2, b"", GEOMETRY)
+            self.ends(f"--files {number}", run(["plain", "--files", number], MADE), 2, b"", b"waffd: geometry out of range\n")
 
     def test_serve(self):
         file = File(self.folder)
