@@ -70,11 +70,8 @@ class Measuring(Programs):
         """One run of a program on the input, with a fresh device or log."""
         kind, _, workers = program.partition(" ")
         path = self.copied(f"{geometry}.{'device' if workers else 'log'}")
-        if workers:
-            words = [PROGRAM, "serve", path, "--workers", workers, "--slots", slots]
-        else:
-            words = [self.at(f"server.{geometry}"), kind, path, slots]
-        return self.counted(words, output)
+        served = [PROGRAM, "serve", path, "--workers", workers, "--slots", slots]
+        return self.counted(served if workers else [self.at(f"server.{geometry}"), kind, path, slots], output)
 
     def start(self, geometry):
         """What each program asks for to answer one line, and the floor of an opening: all rounds. Measured once for a geometry."""

@@ -5,13 +5,12 @@ import errno
 import os
 import random
 import shutil
-import signal
 import subprocess
 import threading
 import time
 from urllib.parse import quote
 
-from program import PATIENCE, PROGRAM, TOP, Case, bytes_of, put_bytes, run
+from program import PATIENCE, PROGRAM, TOP, Case, put_bytes, run
 from meaning import options_of
 from servers import GREATEST
 
@@ -30,12 +29,6 @@ KILLS = 40
 DEPTH = 64  # requests in flight
 LONGEST = 24  # sectors of a request
 MOST_ANSWERS = 600  # before a kill
-
-# Runs the program, and notes the number of the process that serves.
-STARTING = """#!/bin/sh
-[ "$1" = serve ] && echo $$ >"{pid}"
-exec "{program}" "$@"
-"""
 
 
 class Client:
@@ -146,8 +139,7 @@ class BlockDevice(Case):
         missing = [name for name, words in TOOLS.items()
                    if shutil.which(words[0]) is None or subprocess.run(words, capture_output=True, check=False).returncode]
         self.assertFalse(missing + ["libnbd for Python"] * (nbd is None), "it needs these")
-        self.device, self.socket, self.pid = map(self.at, ("device", "socket", "pid"))
-        self.put_script("waffd", STARTING.format(pid=self.pid, program=os.path.abspath(PROGRAM)))
+        self.device, self.socket = self.at("device"), self.at("socket")
         self.has_ended(run(["format", self.device, *options_of(GREATEST)]), 0)
         self.start()
 
@@ -161,7 +153,7 @@ class BlockDevice(Case):
             time.sleep(0.05)
 
     def plugin_of(self, device):
-        return ["python", PLUGIN, f"device={device}", f"waffd={self.at('waffd')}"]
+        return ["python", PLUGIN, f"device={device}", f"waffd={os.path.abspath(PROGRAM)}"]
 
     def stop(self):
         """Ends nbdkit in order, and with it the server."""
@@ -169,8 +161,8 @@ class BlockDevice(Case):
         self.assertEqual(self.nbdkit.wait(PATIENCE), 0)
 
     def kill(self):
-        """Kills the server, and leaves nbdkit alone."""
-        os.kill(int(bytes_of(self.pid)), signal.SIGKILL)
+        """Kills the server, nbdkit's one child, and leaves nbdkit alone."""
+        subprocess.run(["pkill", "-KILL", "-P", str(self.nbdkit.pid)], check=True)
 
     def tearDown(self):
         with self.subTest("nbdkit ends in order"):

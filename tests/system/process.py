@@ -242,12 +242,6 @@ LINE, DONE = b"makevol 0 0\n", b"done\n"
 ENDING = (signal.SIGTERM, signal.SIGINT, signal.SIGHUP, signal.SIGKILL)
 
 
-def take_signals():
-    """A signal that is ignored here, as SIGINT is in the background, isn't by the server."""
-    for number in ENDING[:-1]:
-        signal.signal(number, signal.SIG_DFL)
-
-
 class Operating(Case):
     """What docs/program.md says to whoever operates a server: signals, one server at a time, `show` beside one, a server on a socket."""
 
@@ -257,8 +251,10 @@ class Operating(Case):
         self.has_ended(run(["format", self.device]), 0)
 
     def serve(self, *before, **streams):
-        pipes = {"stdin": subprocess.PIPE, "stdout": subprocess.PIPE, "stderr": subprocess.PIPE}
-        return self.started([*before, PROGRAM, "serve", self.device], bufsize=0, **{"preexec_fn": take_signals, **pipes, **streams})
+        # A signal that is ignored here, as SIGINT is in the background, isn't by the server.
+        more = {"preexec_fn": lambda: [signal.signal(number, signal.SIG_DFL) for number in ENDING[:-1]],
+                "stdin": subprocess.PIPE, "stdout": subprocess.PIPE, "stderr": subprocess.PIPE, **streams}
+        return self.started([*before, PROGRAM, "serve", self.device], bufsize=0, **more)
 
     def replies(self, server, line, reply):
         server.stdin.write(line)

@@ -148,6 +148,7 @@ def live(seed, until):
         subprocess.run([PROGRAM, "format", device, "--half", str(draw.choice((4, 32, 256)))], check=True, stdout=subprocess.DEVNULL)
         words = ["serve", device, "--workers", str(draw.randint(1, 8)), "--slots", str(draw.choice((1, 2, 3, 8, 16, 64))),
                  "--every", str(draw.choice((0, 0, 1, 5, 100)))]
+        what = f"seed {seed}, {' '.join(words)}"
         with subprocess.Popen([PROGRAM, *words], stdin=subprocess.PIPE, stdout=subprocess.PIPE, bufsize=0) as child:
             try:
                 end = min(until, time.monotonic() + LIFE)
@@ -155,14 +156,12 @@ def live(seed, until):
                     count = draw.randint(1, 20)
                     child.stdin.write(text_of(drawing.lines(count)))
                     replies = read_until(child.stdout, lambda found: found.count(b"\n") >= count, 1 << 16, BURST_PATIENCE)
-                    assert replies.count(b"\n") == count, f"burst {bursts + 1} of {count} lines isn't answered"
+                    assert replies.count(b"\n") == count, f"{what}: burst {bursts + 1} of {count} lines isn't answered"
                     bursts, lines = bursts + 1, lines + count
                     time.sleep(draw.choice(PAUSES))
                 child.stdin.close()
                 status = child.wait(BURST_PATIENCE)
-                assert status == 0, f"status {status}"
-            except (AssertionError, OSError, subprocess.TimeoutExpired) as problem:
-                raise AssertionError(f"seed {seed}, {' '.join(words)}: {problem}") from None
+                assert status == 0, f"{what}: status {status}"
             finally:
                 child.kill()
     return bursts, lines

@@ -57,10 +57,6 @@ class File:
     def format(self):
         put_bytes(self.path, self.formatted)
 
-    def shown(self):
-        """What `show` prints, but for the geometry and the version."""
-        return run(["show", self.path])[1].decode().splitlines()[1:4]
-
 
 class Device:
     """A device in a file and the state to which it recovers, as far as the replies report it."""
