@@ -54,18 +54,6 @@ class Measuring(Programs):
             raise Failed("a sync costs nothing in the folder for temporary files: TMPDIR has to name one on a disk")
         return median(times)
 
-    def prepare(self, geometry):
-        """The device and the log of a geometry, with all that the lines use."""
-        device, log = self.at(f"{geometry}.device"), self.at(f"{geometry}.log")
-        numbers = GREATEST if geometry == "greatest" else {}
-        server = self.build("serve/server.rs", f"server.{geometry}", **{name.upper(): str(number) for name, number in numbers.items()})
-        done([PROGRAM, "format", device, *(f"--{name}={number}" for name, number in numbers.items())])
-        self.write_input([self.build("serve/lines.rs", "lines"), "fill", "0", geometry])
-        size = os.path.getsize(self.stream("input")) + self.lines * 1200 + 1000000
-        done([server, "make", log, str(size)])
-        self.counted([PROGRAM, "serve", device, "--workers", "4", "--slots", "64"])
-        self.counted([server, "batch", log, "1024"])
-
     def run(self, geometry, program, slots, output="file"):
         """One run of a program on the input, with a fresh device or log."""
         kind, _, workers = program.partition(" ")
@@ -81,7 +69,16 @@ class Measuring(Programs):
             return {"first": int(done([self.at(f"server.{geometry}"), "floor", self.copied(f"{geometry}.device")]))}
 
         if geometry not in self.starts:
-            self.prepare(geometry)
+            # The device and the log of the geometry, with all that the lines use.
+            device, log = self.at(f"{geometry}.device"), self.at(f"{geometry}.log")
+            numbers = GREATEST if geometry == "greatest" else {}
+            server = self.build("serve/server.rs", f"server.{geometry}", **{name.upper(): str(number) for name, number in numbers.items()})
+            done([PROGRAM, "format", device, *(f"--{name}={number}" for name, number in numbers.items())])
+            self.write_input([self.build("serve/lines.rs", "lines"), "fill", "0", geometry])
+            size = os.path.getsize(self.stream("input")) + self.lines * 1200 + 1000000
+            done([server, "make", log, str(size)])
+            self.counted([PROGRAM, "serve", device, "--workers", "4", "--slots", "64"])
+            self.counted([server, "batch", log, "1024"])
             self.write_input(["echo", "summary"])
             self.starts[geometry] = self.in_turns((*ORDINARY, *OF_WAFFD, "floor"), run)
         return self.starts[geometry]

@@ -64,9 +64,6 @@ def sector_of(reply):
     return bytes.fromhex(digits).ljust(SECTOR, b"\0")
 
 
-# ---- the server
-
-
 class ServerFault(Exception):
     """The server could not be started, it ended, or it refused what it should have done."""
 
@@ -77,7 +74,7 @@ class Server:
 
     def __init__(self, program, device):
         self._child = waffd(subprocess.Popen, program, "serve", device, "--slots", "1024")
-        self._fault = None
+        self.fault = None  # why it has ended
         self._lock = threading.Lock()  # a request is outstanding, its lines are to be written, and there is no fault: at once
         self._open_requests = collections.deque()  # in the order of their lines: how many, the replies that came so far, and an event
         self._to_write = queue.SimpleQueue()  # texts of whole lines; None is the end of the input
@@ -106,11 +103,8 @@ class Server:
 
     def check(self):
         """Raises the fault with which the server has ended."""
-        if self._fault is not None:
-            raise ServerFault(self._fault)
-
-    def has_ended(self):
-        return self._fault is not None
+        if self.fault is not None:
+            raise ServerFault(self.fault)
 
     def stop(self):
         """Ends the input. The server answers what it has read, makes its last checkpoint and ends."""
@@ -145,7 +139,7 @@ class Server:
         status = self._child.wait()
         faults = self._child.stderr.read().decode(errors="replace").strip()
         with self._lock:
-            self._fault = f"waffd has ended with status {status}{': ' if faults else ''}{faults}"
+            self.fault = f"waffd has ended with status {status}{': ' if faults else ''}{faults}"
         for _, _, is_over in self._open_requests:
             is_over.set()
         self._to_write.put(None)
@@ -213,7 +207,7 @@ def running_server():
     """The server. Where none was started yet, or the last one has ended, a new one is started."""
     global server
     with starting:
-        if server is None or server.has_ended():
+        if server is None or server.fault is not None:
             new = Server(words["waffd"], words["device"])
             try:
                 new.change(lines_that_make_files(), also_fine=("error exists",))

@@ -182,9 +182,6 @@ def lines_that_make(g, state):
     return found
 
 
-# ---- which states a server that was killed may leave
-
-
 class Search:
     """Looks for a way to this state: each answered line was done, and of the others those that are in the log. A
     message waits until the related ones before it are in the log; so where one isn't, none related to it is."""

@@ -92,24 +92,18 @@ class Kills(Case):
             self.restarts("killed at a random moment", server, A_QUARTER,
                           lambda device, chance, lines: (None, chance.choice((0.005, 0.02, 0.1, 0.3)) * chance.random()))
 
-    def in_a_call(self, name, count, tears):
-        """Killed at a write or a sync of the device, where what was written since the last sync is torn."""
-        between = self.between("stop.c")
-
-        def stop(device, chance, lines):
-            shutil.copyfile(device.path, device.copy)
-            _, (_, changes, _, _) = between.counts(self.at("counts"), device.words(device.copy), text_of(lines))
-            at = chance.randrange(1, changes + 1)
-            return between.env(STOP_CALL=at, TEAR=chance.choice(tears), SEED=chance.randrange(1, 1 << 30)), LONGEST_RUN
-
-        for server in SERVERS:
-            self.restarts(name, server, count, stop)
-
     def test_in_a_call(self):
-        self.in_a_call("killed in a call of the device", A_QUARTER, AS_WRITTEN)
+        """Killed at a write or a sync of the device, where what was written since the last sync is torn in two runs of three."""
+        between = self.between("stop.c")
+        for name, count, tears in (("killed in a call of the device", A_QUARTER, AS_WRITTEN), ("killed so, with torn writes", 2 * A_QUARTER, TORN)):
+            def stop(device, chance, lines):
+                shutil.copyfile(device.path, device.copy)
+                _, (_, changes, _, _) = between.counts(self.at("counts"), device.words(device.copy), text_of(lines))
+                at = chance.randrange(1, changes + 1)
+                return between.env(STOP_CALL=at, TEAR=chance.choice(tears), SEED=chance.randrange(1, 1 << 30)), LONGEST_RUN
 
-    def test_with_torn_writes(self):
-        self.in_a_call("killed so, with torn writes", 2 * A_QUARTER, TORN)
+            for server in SERVERS:
+                self.restarts(name, server, count, stop)
 
 
 LINES = int(os.environ.get("LINES", 1000000))  # over all of these servers, whose last number is the share of each

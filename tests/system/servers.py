@@ -93,8 +93,6 @@ class Device:
         self.state = left
 
 
-# ---- random lines
-
 WEIGHTS = {"write": 48, "punch": 8, "read": 10, "create": 9, "delete": 2, "seal": 2, "unseal": 4, "makevol": 5, "dropvol": 1,
            "list": 2, "usage": 2, "summary": 1, "setlabel": 5, "label": 3}
 NO_MESSAGES = ("", "what", "READ 0 0 0 0", "read 0 0 0", "summary 0", " summary", "write 0 0 0 0 6", "read 00 0 0 0",
