@@ -24,10 +24,7 @@ class Failed(Exception):
 
 def need_program():
     """Sees to it that there is a program and that it is not older than a source, as ./waffd does."""
-    if "PROGRAM" not in os.environ:
-        done([os.path.join(TOP, "waffd"), "--help"])
-    elif not os.access(PROGRAM, os.X_OK):
-        raise Failed(f"there is no program {PROGRAM}")
+    done([PROGRAM if "PROGRAM" in os.environ else os.path.join(TOP, "waffd"), "--help"])
 
 
 def done(words, stdout=subprocess.PIPE, **more):

@@ -137,9 +137,6 @@ def changes_of(g, state, line):
     return message, {} if refusal(g, state, message) else changed_pieces(g, state, message)
 
 
-# ---- a state as lines, and its lines as a state
-
-
 def lines_that_read(g):
     """Lines whose replies give the whole state."""
     found = ["summary"]

@@ -23,8 +23,7 @@ KILLS = int(os.environ.get("KILLS", 800))
 A_QUARTER = max(1, KILLS // (4 * len(SERVERS)))  # on each
 RUNS_A_KILL = 10  # at most, and a hundred where few are to be killed
 LONGEST_RUN = 60
-AS_WRITTEN = (1,)  # a number of stop.c's list: all that was written stays
-TORN = tuple(range(11))
+AS_WRITTEN, TORN = (1,), tuple(range(11))  # numbers of stop.c's list: all that was written stays, or parts of it
 
 
 def run_slowly(words, lines, seed, env, seconds):
