@@ -1,5 +1,5 @@
 -- The changes that ran fit into the log, a crash recovers a prefix of them, and then they are logged.
-use Rattle.std.proofs.Common.{◌≡◌, ℕ, ◌+◌, ◌*◌, ◌-◌, ◌≤◌, List, length, take, true, false, refl, sym, ap, subst, ◌∙◌}
+use Rattle.std.proofs.Common.{◌≡◌, ℕ, ◌+◌, ◌*◌, ◌-◌, ◌≤◌, length, take, true, false, refl, sym, subst, ◌∙◌}
 use Rattle.std.specs.Prelude.{if◌then◌else◌}
 use Rattle.disk.specs.Moments.{CrashImagesAre, moment_number}
 use Rattle.journal.specs.Journal.{RecoversWithPrefix}
