@@ -1,6 +1,5 @@
 //! Messages at the label of a volume: they set it and ask for it.
 
-ghost use Rattle.std.specs.Prelude.{◌≡◌};
 ghost use Rattle.messages.specs.declared.Msg.{Msg};
 ghost use Rattle.messages.specs.Messages.{path_of};
 ghost use Rattle.parcel.specs.Fits.{IsRunnable};
