@@ -6,12 +6,12 @@ use Rattle.std.proofs.lemmas.Bool.{cases_order}
 use Rattle.std.proofs.lemmas.Bool.Decides.{nat_tests}
 use Rattle.std.proofs.lemmas.Nat.{row_fits, div-mul-add, mod-mul-add}
 use Rattle.affinity.specs.Path.{Path, is_prefix, are_related, serial, aggregate, volume, logical, stripe, label}
-use Rattle.affinity.specs.Interval.{IsPath, IsAffinityOf, Interval, interval, contains, number, size, volume_number, volume_size, aggregate_size, affinity_count}
+use Rattle.affinity.specs.Interval.{IsPath, IsAffinityOf, Interval, interval, contains, preorder_number, subtree_size, volume_number, volume_size, aggregate_size, affinity_count}
 use Rattle.affinity.specs.declared.geometry.Geometry.{Geometry}
 
 -- ---- among the paths of one volume
 
-in_volume : (g : Geometry) (a v : ℕ) (p q : Path) → IsPath g (a ∷ v ∷ p) → IsPath g (a ∷ v ∷ q) → is_prefix p q ≡ contains (interval g (a ∷ v ∷ p)) (number g (a ∷ v ∷ q))
+in_volume : (g : Geometry) (a v : ℕ) (p q : Path) → IsPath g (a ∷ v ∷ p) → IsPath g (a ∷ v ∷ q) → is_prefix p q ≡ contains (interval g (a ∷ v ∷ p)) (preorder_number g (a ∷ v ∷ q))
 in_volume g a v [] [] h k = grind (arith, nat_tests)
 in_volume g a v [] (zero ∷ []) h k = grind (arith, nat_tests)
 in_volume g a v [] (zero ∷ t ∷ []) h k = grind (arith, nat_tests)
@@ -41,7 +41,7 @@ pub record FitsIn (from space : ℕ) (first count : ℕ) : Type 0 where
   pub some : 0 < count
   pub high : first + count ≤ from + space
 
-fits_in_volume : (g : Geometry) (a v : ℕ) (p : Path) → IsPath g (a ∷ v ∷ p) → FitsIn (volume_number g a v) (volume_size g) (number g (a ∷ v ∷ p)) (size g (a ∷ v ∷ p))
+fits_in_volume : (g : Geometry) (a v : ℕ) (p : Path) → IsPath g (a ∷ v ∷ p) → FitsIn (volume_number g a v) (volume_size g) (preorder_number g (a ∷ v ∷ p)) (subtree_size g (a ∷ v ∷ p))
 fits_in_volume g a v [] h = record { low = omega arith; some = omega arith; high = omega arith }
 fits_in_volume g a v (zero ∷ []) h = record { low = omega arith; some = omega arith; high = omega arith }
 fits_in_volume g a v (zero ∷ s ∷ []) h = record { low = omega arith; some = omega arith; high = omega arith }
@@ -68,12 +68,12 @@ children base v w other {e} {first} {count} {r} fits low high same = ⊎_elim
 
 -- ---- among the paths of one aggregate
 
-among_volumes : (g : Geometry) (a v w : ℕ) (p q : Path) → IsPath g (a ∷ v ∷ p) → IsPath g (a ∷ w ∷ q) → is_prefix (v ∷ p) (w ∷ q) ≡ contains (interval g (a ∷ v ∷ p)) (number g (a ∷ w ∷ q))
+among_volumes : (g : Geometry) (a v w : ℕ) (p q : Path) → IsPath g (a ∷ v ∷ p) → IsPath g (a ∷ w ∷ q) → is_prefix (v ∷ p) (w ∷ q) ≡ contains (interval g (a ∷ v ∷ p)) (preorder_number g (a ∷ w ∷ q))
 among_volumes g a v w p q h k =
     let fits = fits_in_volume g a w q k in
-    let same : v ≡ w → is_prefix p q ≡ contains (interval g (a ∷ v ∷ p)) (number g (a ∷ w ∷ q)) =
-    λ e. subst (λ (x : ℕ). IsPath g (a ∷ x ∷ q) → is_prefix p q ≡ contains (interval g (a ∷ v ∷ p)) (number g (a ∷ x ∷ q))) e (in_volume g a v p q h) k in
-    children (2 + a * aggregate_size g) v w (number g (a ∷ w ∷ q)) (fits_in_volume g a v p h) fits.low (omega arith) same
+    let same : v ≡ w → is_prefix p q ≡ contains (interval g (a ∷ v ∷ p)) (preorder_number g (a ∷ w ∷ q)) =
+    λ e. subst (λ (x : ℕ). IsPath g (a ∷ x ∷ q) → is_prefix p q ≡ contains (interval g (a ∷ v ∷ p)) (preorder_number g (a ∷ x ∷ q))) e (in_volume g a v p q h) k in
+    children (2 + a * aggregate_size g) v w (preorder_number g (a ∷ w ∷ q)) (fits_in_volume g a v p h) fits.low (omega arith) same
 
 -- the numbers of a path's aggregate and volume are below their limits
 volume_there : (g : Geometry) (a v : ℕ) (p : Path) → IsPath g (a ∷ v ∷ p) → (a < g.aggregates) × (v < g.volumes)
@@ -89,28 +89,28 @@ aggregate_there : (g : Geometry) (a : ℕ) (p : Path) → IsPath g (a ∷ p) →
 aggregate_there g a [] h = h
 aggregate_there g a (v ∷ p) h = (volume_there g a v p h).0
 
-fits_in_aggregate : (g : Geometry) (a : ℕ) (p : Path) → IsPath g (a ∷ p) → FitsIn (1 + a * aggregate_size g) (aggregate_size g) (number g (a ∷ p)) (size g (a ∷ p))
+fits_in_aggregate : (g : Geometry) (a : ℕ) (p : Path) → IsPath g (a ∷ p) → FitsIn (1 + a * aggregate_size g) (aggregate_size g) (preorder_number g (a ∷ p)) (subtree_size g (a ∷ p))
 fits_in_aggregate g a [] h = record { low = omega arith; some = omega arith; high = omega arith }
 fits_in_aggregate g a (v ∷ p) h =
     let fits = fits_in_volume g a v p h in
     let space : v * volume_size g + volume_size g ≤ g.volumes * volume_size g = earlier v g.volumes (volume_size g) (volume_there g a v p h).1 in
     record { low = omega arith; some = omega arith; high = omega arith }
 
-in_aggregate : (g : Geometry) (a : ℕ) (p q : Path) → IsPath g (a ∷ p) → IsPath g (a ∷ q) → is_prefix p q ≡ contains (interval g (a ∷ p)) (number g (a ∷ q))
+in_aggregate : (g : Geometry) (a : ℕ) (p q : Path) → IsPath g (a ∷ p) → IsPath g (a ∷ q) → is_prefix p q ≡ contains (interval g (a ∷ p)) (preorder_number g (a ∷ q))
 in_aggregate g a [] q h k = let fits = fits_in_aggregate g a q k in grind (arith, nat_tests)
 in_aggregate g a (v ∷ p) [] h k = let fits = fits_in_volume g a v p h in grind (arith, nat_tests)
 in_aggregate g a (v ∷ p) (w ∷ q) h k = among_volumes g a v w p q h k
 
 -- ---- among all paths of a server
 
-among_aggregates : (g : Geometry) (a b : ℕ) (p q : Path) → IsPath g (a ∷ p) → IsPath g (b ∷ q) → is_prefix (a ∷ p) (b ∷ q) ≡ contains (interval g (a ∷ p)) (number g (b ∷ q))
+among_aggregates : (g : Geometry) (a b : ℕ) (p q : Path) → IsPath g (a ∷ p) → IsPath g (b ∷ q) → is_prefix (a ∷ p) (b ∷ q) ≡ contains (interval g (a ∷ p)) (preorder_number g (b ∷ q))
 among_aggregates g a b p q h k =
     let fits = fits_in_aggregate g b q k in
-    let same : a ≡ b → is_prefix p q ≡ contains (interval g (a ∷ p)) (number g (b ∷ q)) =
-    λ e. subst (λ (x : ℕ). IsPath g (x ∷ q) → is_prefix p q ≡ contains (interval g (a ∷ p)) (number g (x ∷ q))) e (in_aggregate g a p q h) k in
-    children 1 a b (number g (b ∷ q)) (fits_in_aggregate g a p h) fits.low (omega arith) same
+    let same : a ≡ b → is_prefix p q ≡ contains (interval g (a ∷ p)) (preorder_number g (b ∷ q)) =
+    λ e. subst (λ (x : ℕ). IsPath g (x ∷ q) → is_prefix p q ≡ contains (interval g (a ∷ p)) (preorder_number g (x ∷ q))) e (in_aggregate g a p q h) k in
+    children 1 a b (preorder_number g (b ∷ q)) (fits_in_aggregate g a p h) fits.low (omega arith) same
 
-fits_in_server : (g : Geometry) (p : Path) → IsPath g p → FitsIn 0 (affinity_count g) (number g p) (size g p)
+fits_in_server : (g : Geometry) (p : Path) → IsPath g p → FitsIn 0 (affinity_count g) (preorder_number g p) (subtree_size g p)
 fits_in_server g [] h = record { low = omega arith; some = omega arith; high = omega arith }
 fits_in_server g (a ∷ p) h =
     let fits = fits_in_aggregate g a p h in
@@ -118,7 +118,7 @@ fits_in_server g (a ∷ p) h =
     record { low = omega arith; some = omega arith; high = omega arith }
 
 -- A path begins another one exactly where its interval contains the other's number.
-pub is_prefix-contains : (g : Geometry) (p q : Path) → IsPath g p → IsPath g q → is_prefix p q ≡ contains (interval g p) (number g q)
+pub is_prefix-contains : (g : Geometry) (p q : Path) → IsPath g p → IsPath g q → is_prefix p q ≡ contains (interval g p) (preorder_number g q)
 is_prefix-contains g [] q h k = let fits = fits_in_server g q k in grind (arith, nat_tests)
 is_prefix-contains g (a ∷ p) [] h k = let fits = fits_in_aggregate g a p h in grind (arith, nat_tests)
 is_prefix-contains g (a ∷ p) (b ∷ q) h k = among_aggregates g a b p q h k
@@ -167,7 +167,7 @@ path_at-aggregate g a r h =
     let s = splits (aggregate_size g) a r (1 + a * aggregate_size g + r) h refl in
     rw (s.more, s.child_is, s.rest_is) refl
 
-in_volume_at-offset : (g : Geometry) (a v : ℕ) (p : Path) → IsPath g (a ∷ v ∷ p) → (r : ℕ) → number g (a ∷ v ∷ p) ≡ volume_number g a v + r → in_volume_at g a v r ≡ a ∷ v ∷ p
+in_volume_at-offset : (g : Geometry) (a v : ℕ) (p : Path) → IsPath g (a ∷ v ∷ p) → (r : ℕ) → preorder_number g (a ∷ v ∷ p) ≡ volume_number g a v + r → in_volume_at g a v r ≡ a ∷ v ∷ p
 unfolding in_volume_at
 in_volume_at-offset g a v [] h r e = let zero_is : r ≡ 0 = omega arith in rw zero_is refl
 in_volume_at-offset g a v (zero ∷ []) h r e = let one_is : r ≡ 1 = omega arith in rw one_is refl
@@ -188,15 +188,15 @@ in_volume_at-offset g a v (zero ∷ s ∷ x ∷ p) h r e = absurd h
 in_volume_at-offset g a v (suc zero ∷ x ∷ p) h r e = absurd h
 in_volume_at-offset g a v (suc (suc n) ∷ p) h r e = absurd h
 
-in_aggregate_at-offset : (g : Geometry) (a : ℕ) (p : Path) → IsPath g (a ∷ p) → (r : ℕ) → number g (a ∷ p) ≡ 1 + a * aggregate_size g + r → in_aggregate_at g a r ≡ a ∷ p
+in_aggregate_at-offset : (g : Geometry) (a : ℕ) (p : Path) → IsPath g (a ∷ p) → (r : ℕ) → preorder_number g (a ∷ p) ≡ 1 + a * aggregate_size g + r → in_aggregate_at g a r ≡ a ∷ p
 unfolding in_aggregate_at
 in_aggregate_at-offset g a [] h r e = let zero_is : r ≡ 0 = omega arith in rw zero_is refl
 in_aggregate_at-offset g a (v ∷ p) h r e =
     let fits = fits_in_volume g a v p h in
-    let rest : ℕ = number g (a ∷ v ∷ p) - volume_number g a v in
+    let rest : ℕ = preorder_number g (a ∷ v ∷ p) - volume_number g a v in
     let r_is : r ≡ 1 + v * volume_size g + rest = omega arith in
     let less : rest < volume_size g = omega arith in
-    let number_is : number g (a ∷ v ∷ p) ≡ volume_number g a v + rest = omega arith in
+    let number_is : preorder_number g (a ∷ v ∷ p) ≡ volume_number g a v + rest = omega arith in
     rw r_is (in_aggregate_at-volume g a v rest less) ∙ in_volume_at-offset g a v p h rest number_is
 
 path_at-zero : (g : Geometry) → path_at g 0 ≡ serial
@@ -204,12 +204,12 @@ unfolding path_at
 path_at-zero g = refl
 
 -- From a path's number `path_at` finds that path.
-pub path_at-number : (g : Geometry) (p : Path) → IsPath g p → path_at g (number g p) ≡ p
+pub path_at-number : (g : Geometry) (p : Path) → IsPath g p → path_at g (preorder_number g p) ≡ p
 path_at-number g [] h = path_at-zero g
 path_at-number g (a ∷ p) h =
     let fits = fits_in_aggregate g a p h in
-    let rest : ℕ = number g (a ∷ p) - (1 + a * aggregate_size g) in
-    let number_is : number g (a ∷ p) ≡ 1 + a * aggregate_size g + rest = omega arith in
+    let rest : ℕ = preorder_number g (a ∷ p) - (1 + a * aggregate_size g) in
+    let number_is : preorder_number g (a ∷ p) ≡ 1 + a * aggregate_size g + rest = omega arith in
     let less : rest < aggregate_size g = omega arith in
     ap (path_at g) number_is ∙ path_at-aggregate g a rest less ∙ in_aggregate_at-offset g a p h rest number_is
 

@@ -36,26 +36,26 @@ abbrev pub volume_number : Geometry → ℕ → ℕ → ℕ
 volume_number g a v = 2 + a * aggregate_size g + v * volume_size g
 
 -- the number of the affinity at a path: its position in preorder
-abbrev pub number : Geometry → Path → ℕ
-number g [] = 0
-number g (a ∷ []) = 1 + a * aggregate_size g
-number g (a ∷ v ∷ []) = volume_number g a v
-number g (a ∷ v ∷ zero ∷ []) = volume_number g a v + 1
-number g (a ∷ v ∷ zero ∷ s ∷ _) = volume_number g a v + 2 + s
-number g (a ∷ v ∷ suc _ ∷ _) = volume_number g a v + 2 + g.stripes
+abbrev pub preorder_number : Geometry → Path → ℕ
+preorder_number g [] = 0
+preorder_number g (a ∷ []) = 1 + a * aggregate_size g
+preorder_number g (a ∷ v ∷ []) = volume_number g a v
+preorder_number g (a ∷ v ∷ zero ∷ []) = volume_number g a v + 1
+preorder_number g (a ∷ v ∷ zero ∷ s ∷ _) = volume_number g a v + 2 + s
+preorder_number g (a ∷ v ∷ suc _ ∷ _) = volume_number g a v + 2 + g.stripes
 
 -- how many affinities there are at a path and below it
-abbrev pub size : Geometry → Path → ℕ
-size g [] = affinity_count g
-size g (a ∷ []) = aggregate_size g
-size g (a ∷ v ∷ []) = volume_size g
-size g (a ∷ v ∷ zero ∷ []) = 1 + g.stripes
-size g (a ∷ v ∷ zero ∷ s ∷ _) = 1
-size g (a ∷ v ∷ suc _ ∷ _) = 1
+abbrev pub subtree_size : Geometry → Path → ℕ
+subtree_size g [] = affinity_count g
+subtree_size g (a ∷ []) = aggregate_size g
+subtree_size g (a ∷ v ∷ []) = volume_size g
+subtree_size g (a ∷ v ∷ zero ∷ []) = 1 + g.stripes
+subtree_size g (a ∷ v ∷ zero ∷ s ∷ _) = 1
+subtree_size g (a ∷ v ∷ suc _ ∷ _) = 1
 
 -- the interval of the affinity at a path
 abbrev pub interval : Geometry → Path → Interval
-interval g p = record { number = number g p; end = number g p + size g p }
+interval g p = record { number = preorder_number g p; end = preorder_number g p + subtree_size g p }
 
 -- whether the number is that of the affinity, or of one below it
 abbrev pub contains : Interval → ℕ → Bool

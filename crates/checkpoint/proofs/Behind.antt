@@ -14,7 +14,7 @@ use Rattle.checkpoint.proofs.Refusing.{alone_count, alone_ran, alone_sound, behi
 use Rattle.checkpoint.proofs.Replays.{same_bytes}
 use Rattle.checkpoint.proofs.Walked.{image_bytes, no_bad_piece}
 use Rattle.disk.specs.Device.{AreBytes, Medium, moments}
-use Rattle.image.specs.Image.{read}
+use Rattle.image.specs.Image.{image_state}
 use Rattle.image.proofs.Walk.{read_is_good}
 use Rattle.oplog.specs.Front.{chain, front}
 use Rattle.device_map.specs.Layout.{device_size, header_part, image_part, layout_of, other, part_bytes}
@@ -23,8 +23,8 @@ use Rattle.oplog.proofs.Kept.{named_area-below}
 use Rattle.meaning.specs.State.{State}
 
 -- an image that can be read has no fault
-pub image_fine : (g : Geometry) (number : ℕ) (now : List ℕ) → number < 2 → device_size (layout_of g) ≤ length now → AreBytes now → is_some (read g (part_bytes (layout_of g) (image_part number) now))
-    ≡ true
+pub image_fine : (g : Geometry) (number : ℕ) (now : List ℕ) → number < 2 → device_size (layout_of g) ≤ length now → AreBytes now
+    → is_some (image_state g (part_bytes (layout_of g) (image_part number) now)) ≡ true
     → image_fault g (part_bytes (layout_of g) (image_part number) now) ≡ None
 image_fine g number now is_image long are some =
     let bytes = part_bytes (layout_of g) (image_part number) now in
@@ -44,7 +44,7 @@ none_behind g h (Some x) = refl
 
 -- where the named half isn't chained: for its own records
 pub refused_alone : (g : Geometry) (c : List ℕ) {n : ℕ} {x : State} → HasHeader g c → device_size (layout_of g) ≤ length c → n ≡ named_area (layout_of g) c
-    → image_fault g (part_bytes (layout_of g) (image_part n) c) ≡ None → read g (part_bytes (layout_of g) (image_part n) c) ≡ Some x
+    → image_fault g (part_bytes (layout_of g) (image_part n) c) ≡ None → image_state g (part_bytes (layout_of g) (image_part n) c) ≡ Some x
     → (chain (layout_of g) n c == 1) ≡ false → refused g c ≡ records_fault g x n (front (layout_of g) n c)
 refused_alone g c {n} {x} head long named good decoded shut =
     past_chain g c head long n named good x decoded (one_not (layout_of g) c n (omega (arith, named, named_area-below (layout_of g) c)) shut)

@@ -8,9 +8,9 @@ use Rattle.checkpoint.specs.declared.fault.OpenFault.TheVariants.{TooShort, BadV
 use Rattle.checkpoint.specs.Header.{header_of}
 use Rattle.checkpoint.specs.Recovery.{recovered_state}
 use Rattle.checkpoint.specs.Refusals.{HasNoGeometry, IsUnformatted, refused}
-use Rattle.messages.specs.declared.Reply.{Reply}
-use Rattle.messages.specs.declared.Reply.TheVariants.{Summary}
-use Rattle.messages.specs.declared.Msg.TheVariants.{Summary as AskSummary}
+use Rattle.language.specs.declared.Reply.{Reply}
+use Rattle.language.specs.declared.Reply.TheVariants.{Summary}
+use Rattle.language.specs.declared.Msg.TheVariants.{Summary as AskSummary}
 use Rattle.message.specs.Records.{data_of, message_in_fields, kind_numbered}
 use Rattle.device_map.specs.Layout.{layout_of, device_size, image_size}
 use Rattle.meaning.specs.Serial.{reply_to}

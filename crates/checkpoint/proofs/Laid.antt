@@ -13,7 +13,7 @@ use Rattle.checkpoint.proofs.Blank.{empty_spelled}
 use Rattle.disk.specs.Device.{SameOutside, overlaid}
 use Rattle.disk.proofs.Outside.{same_before, same_behind}
 use Rattle.disk.proofs.Overlays.{overlaid_outside, length-overlaid, range-overlaid}
-use Rattle.image.specs.Image.{image_of, read, version_in}
+use Rattle.image.specs.Image.{image_of, image_state, version_in}
 use Rattle.image.proofs.Reading.{read_again}
 use Rattle.oplog.specs.Front.{chain, front, gates, count_open, rows}
 use Rattle.device_map.specs.Layout.{Layout, slice, layout_of, part_bytes, part_at, device_size, half_part, half_size, header_part, image_part, image_size}
@@ -98,8 +98,8 @@ holds_empty g c long headed is_formatted =
     let one_chain : not (eqb (chain l 0 c) 1 && eqb (chain l 1 c) 1) ≡ true = ap (λ (b : ℕ). not (eqb b 1 && eqb (chain l 1 c) 1)) (no_chain_0 g c laid) in
     let laid_out : is_laid_out (decoding g) l c ≡ true = (λ i. head i && whole i && one_chain i) in
     ap (λ (n : ℕ). recovers_by_area (decoding g) l n c) (names_0 g c laid)
-    ∙ ap (λ (t : Bool). if t then run (decoding g) (read g (part_bytes l (image_part 0) c)) (in_force l 0 c) else None) laid_out
-    ∙ ap (λ (bytes : List ℕ). run (decoding g) (read g bytes) (in_force l 0 c)) (image_there g c laid)
+    ∙ ap (λ (t : Bool). if t then run (decoding g) (image_state g (part_bytes l (image_part 0) c)) (in_force l 0 c) else None) laid_out
+    ∙ ap (λ (bytes : List ℕ). run (decoding g) (image_state g bytes) (in_force l 0 c)) (image_there g c laid)
     ∙ ap (λ (x : Option State). run (decoding g) x (in_force l 0 c)) (read_again g empty (empty_is_state g))
     ∙ ap (λ (rs : List (List ℕ)). run (decoding g) (Some empty) rs) (in_force_none g c laid)
 

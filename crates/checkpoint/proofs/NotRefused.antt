@@ -11,7 +11,7 @@ use Rattle.checkpoint.proofs.Behind.{image_fine}
 use Rattle.checkpoint.proofs.OneGeometry.{laid_where}
 use Rattle.checkpoint.proofs.Refusing.{alone_sound, both_sound, not_refused}
 use Rattle.disk.specs.Device.{AreBytes}
-use Rattle.image.specs.Image.{read}
+use Rattle.image.specs.Image.{image_state}
 use Rattle.oplog.specs.Front.{chain, front}
 use Rattle.device_map.specs.Layout.{Layout, layout_of, device_size, header_part, image_part, other, part_bytes}
 use Rattle.oplog.specs.Recovery.{in_force, is_laid_out, named_area, run}
@@ -45,11 +45,11 @@ module _ (g : Geometry) (c : List ℕ) (x : State) (are : AreBytes c) (recovered
   one : are_both_chained l c ≡ false
   one = not-true (are_both_chained l c) tests.1
 
-  ran : run (decoding g) (read g (part_bytes l (image_part n) c)) (in_force l n c) ≡ Some x
-  ran = sym (cond-true (is_laid_out (decoding g) l c) (run (decoding g) (read g (part_bytes l (image_part n) c)) (in_force l n c)) None laid) ∙ recovered_before
+  ran : run (decoding g) (image_state g (part_bytes l (image_part n) c)) (in_force l n c) ≡ Some x
+  ran = sym (cond-true (is_laid_out (decoding g) l c) (run (decoding g) (image_state g (part_bytes l (image_part n) c)) (in_force l n c)) None laid) ∙ recovered_before
 
-  first : (y : State) × (read g (part_bytes l (image_part n) c) ≡ Some y)
-  first = some_before g (read g (part_bytes l (image_part n) c)) (in_force l n c) x ran
+  first : (y : State) × (image_state g (part_bytes l (image_part n) c) ≡ Some y)
+  first = some_before g (image_state g (part_bytes l (image_part n) c)) (in_force l n c) x ran
 
   good : image_fault g (part_bytes l (image_part n) c) ≡ None
   good = image_fine g n c (named_area-below l c) whole are (ap (λ (o : Option State). is_some o) first.1)

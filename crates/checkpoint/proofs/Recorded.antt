@@ -8,13 +8,13 @@ use Rattle.affinity.specs.declared.geometry.Geometry.{Geometry}
 use Rattle.affinity.specs.Kind.{is_changing}
 use Rattle.checkpoint.specs.declared.fault.OpenFault.TheVariants as faults
 use Rattle.checkpoint.specs.Loading.{IsConsistentFault, fault_of_log, record_fault}
-use Rattle.checkpoint.specs.Recovery.{apply, apply_decoded, is_record_there}
+use Rattle.checkpoint.specs.Recovery.{after_record, apply_decoded, is_record_there}
 use Rattle.checkpoint.specs.Refusals.{fault_if}
 use Rattle.disk.specs.Device.{AreBytes}
-use Rattle.messages.specs.declared.Msg.{Msg}
-use Rattle.messages.specs.declared.Reply.{Reply}
-use Rattle.messages.specs.declared.Reply.TheVariants.{Done}
-use Rattle.messages.specs.Messages.{IsMessage, is_in_range, kind}
+use Rattle.language.specs.declared.Msg.{Msg}
+use Rattle.language.specs.declared.Reply.{Reply}
+use Rattle.language.specs.declared.Reply.TheVariants.{Done}
+use Rattle.language.specs.Messages.{IsMessage, is_in_range, kind}
 use Rattle.message.specs.Records.{message_in_fields, record_of}
 use Rattle.message.proofs.RecordLemmas.{record_says}
 use Rattle.oplog.specs.declared.fault.LogFault.{LogFault}
@@ -31,23 +31,23 @@ not_done _ differs = refl
 
 -- a record of a message that is a change in range
 module _ (g : Geometry) (x : State) (m : Msg) (bytes : List ℕ) (whole : IsMessage m) (logged : IsChangeInRange g m) (are : bytes ≡ record_of m) where
-  decoded : apply g x bytes ≡ apply_decoded g x bytes (Some m)
+  decoded : after_record g x bytes ≡ apply_decoded g x bytes (Some m)
   decoded = ap (λ (o : Option Msg). apply_decoded g x bytes o) (ap message_in_fields are ∙ record_says g m whole logged.1)
 
   -- if the message is carried out, its record leads to the state after it
-  pub carried : reply_to g x m ≡ Done → apply g x bytes ≡ Some (next_state g x m)
+  pub carried : reply_to g x m ≡ Done → after_record g x bytes ≡ Some (next_state g x m)
   carried done =
       let same : bytes_eq bytes (record_of m) ≡ true = (bytes_eq-Decides bytes (record_of m)).1 are in
       decoded ∙ (λ i. if same i && logged.1 i && (logged.0 i && is_done (done i)) then Some (next_state g x m) else None)
 
   -- if it isn't, its record can't be run
-  pub not_carried : (reply_to g x m ≡ Done → ⊥) → apply g x bytes ≡ None
+  pub not_carried : (reply_to g x m ≡ Done → ⊥) → after_record g x bytes ≡ None
   not_carried differs =
       decoded ∙ ap (λ (b : Bool). if b then Some (next_state g x m) else None)
       (and_right (bytes_eq bytes (record_of m) && is_in_range g m) (is_recorded m (reply_to g x m)) (and_right (is_changing (kind m)) (is_done (reply_to g x m)) (not_done (reply_to g x m) differs)))
 
 -- bytes that are the record of no change in range
-pub no_record : (g : Geometry) (x : State) (bytes : List ℕ) → length bytes ≡ 520 → AreBytes bytes → IsNoChangeRecord g bytes → apply g x bytes ≡ None
+pub no_record : (g : Geometry) (x : State) (bytes : List ℕ) → length bytes ≡ 520 → AreBytes bytes → IsNoChangeRecord g bytes → after_record g x bytes ≡ None
 no_record g x bytes size are none = by (message_in_fields bytes) refl
   where
     by : (o : Option Msg) → message_in_fields bytes ≡ o → apply_decoded g x bytes o ≡ None

@@ -8,10 +8,10 @@ use Rattle.checkpoint.specs.declared.fault.OpenFault.{OpenFault}
 use Rattle.checkpoint.specs.declared.fault.OpenFault.TheVariants.{Device, TooShort, NotFormatted, BadGeometry, OutOfMemory, BadVersion, BadPiece, BadChain, BadRecord}
 use Rattle.checkpoint.specs.Header.{HasHeader, header_of, is_header}
 use Rattle.checkpoint.specs.Loading.{IsConsistentFault, IsOfHalf, IsOfHeader, are_both_chained, image_fault, in_force_fault, records_fault}
-use Rattle.checkpoint.specs.Recovery.{apply, recovered_state, decoding}
+use Rattle.checkpoint.specs.Recovery.{after_record, recovered_state, decoding}
 use Rattle.checkpoint.specs.Refusals.{HasHeaderAndParts, IsRefused, fault_if, fault_or_later, first_bad_piece, first_bad_record, refused}
 use Rattle.checkpoint.proofs.Replays.{fault_from}
-use Rattle.image.specs.Image.{has_head, read}
+use Rattle.image.specs.Image.{has_head, image_state}
 use Rattle.oplog.specs.Front.{chain, front}
 use Rattle.device_map.specs.Layout.{Layout, layout_of, device_size, header_part, image_part, other, part_bytes}
 use Rattle.oplog.specs.Recovery.{in_force, is_laid_out, named_area, run}
@@ -60,7 +60,7 @@ none_here g rs i y (Some z) later ran = later z ran
 none_bad : (g : Geometry) (rs : List (List ℕ)) (i : ℕ) (o : Option State) (y : State) → run (decoding g) o rs ≡ Some y → first_bad_record g i o rs ≡ None
 none_bad g rs i None y is = refl
 none_bad g [] i (Some x) y is = refl
-none_bad g (r ∷ rs) i (Some x) y is = none_here g rs i y (apply g x r) (λ z ran. none_bad g rs (suc i) (Some z) y ran) is
+none_bad g (r ∷ rs) i (Some x) y is = none_here g rs i y (after_record g x r) (λ z ran. none_bad g rs (suc i) (Some z) y ran) is
 
 module _ (g : Geometry) (x : State) (n : ℕ) (c : List ℕ) where
   abbrev l : Layout
@@ -141,7 +141,7 @@ module _ (g : Geometry) (c : List ℕ) (head : HasHeader g c) (long : device_siz
       (fault_or_later (BadRecord (other k)) (first_bad_record g 0 (run (decoding g) o (front (layout_of g) k c)) (if chain (layout_of g) k c == 1 then front (layout_of g) (other k) c else [])) None)
 
   behind_image : ℕ → Option OpenFault
-  behind_image k = fault_if (are_both_chained (layout_of g) c) BadChain (records_of k (read g (part_bytes (layout_of g) (image_part k) c)))
+  behind_image k = fault_if (are_both_chained (layout_of g) c) BadChain (records_of k (image_state g (part_bytes (layout_of g) (image_part k) c)))
 
   checks_of : ℕ → Option OpenFault
   checks_of k =
@@ -171,13 +171,13 @@ module _ (g : Geometry) (c : List ℕ) (head : HasHeader g c) (long : device_siz
     unfolding behind_image
     chain_refused e is =
         refused_with g c head enough e
-        (fault_from _ _ (λ f it. past_image ∙ first_if (are_both_chained (layout_of g) c) BadChain (records_of n (read g bytes)) f it) e is)
+        (fault_from _ _ (λ f it. past_image ∙ first_if (are_both_chained (layout_of g) c) BadChain (records_of n (image_state g bytes)) f it) e is)
 
     -- and no more than one half is chained
-    module _ (x : State) (decoded : read g bytes ≡ Some x) (one : are_both_chained (layout_of g) c ≡ false) where
+    module _ (x : State) (decoded : image_state g bytes ≡ Some x) (one : are_both_chained (layout_of g) c ≡ false) where
       pub past_chain : refused g c ≡ in_force_fault g x n c
       unfolding checks_of behind_image records_of
-      past_chain = past_image ∙ cond-false (are_both_chained (layout_of g) c) (Some BadChain) (records_of n (read g bytes)) one ∙ ap (λ (o : Option State). records_of n o) decoded
+      past_chain = past_image ∙ cond-false (are_both_chained (layout_of g) c) (Some BadChain) (records_of n (image_state g bytes)) one ∙ ap (λ (o : Option State). records_of n o) decoded
 
       pub records_refused : (e : OpenFault) → IsConsistentFault (in_force_fault g x n c) e → IsRefused c e
       records_refused e is = refused_with g c head enough e (fault_from _ _ (λ f it. past_chain ∙ it) e is)
@@ -190,8 +190,9 @@ module _ (g : Geometry) (c : List ℕ) (head : HasHeader g c) (long : device_siz
           let is_head : is_header g (part_bytes (layout_of g) header_part c) ≡ true = (bytes_eq-Decides (part_bytes (layout_of g) header_part c) (header_of g)).1 head in
           let whole : nat_le (device_size (layout_of g)) (length c) ≡ true = le-leb (device_size (layout_of g)) (length c) long in
           let laid_out : is_laid_out (decoding g) (layout_of g) c ≡ true = λ i. is_head i && whole i && not (one i) in
-          ap (λ (k : ℕ). if is_laid_out (decoding g) (layout_of g) c then run (decoding g) (read g (part_bytes (layout_of g) (image_part k) c)) (in_force (layout_of g) k c) else None) (sym names)
-          ∙ ap (λ (t : Bool). if t then run (decoding g) (read g bytes) (in_force (layout_of g) n c) else None) laid_out
+          ap (λ (k : ℕ). if is_laid_out (decoding g) (layout_of g) c
+          then run (decoding g) (image_state g (part_bytes (layout_of g) (image_part k) c)) (in_force (layout_of g) k c) else None) (sym names)
+          ∙ ap (λ (t : Bool). if t then run (decoding g) (image_state g bytes) (in_force (layout_of g) n c) else None) laid_out
           ∙ ap (λ (o : Option State). run (decoding g) o (in_force (layout_of g) n c)) decoded ∙ ran
 
 -- ---- of which half a bad record is

@@ -6,12 +6,12 @@ use Rattle.affinity.specs.declared.geometry.Geometry.{Geometry}
 use Rattle.checkpoint.specs.declared.fault.OpenFault.{OpenFault}
 use Rattle.checkpoint.specs.declared.fault.OpenFault.TheVariants.{Device, TooShort, NotFormatted, BadGeometry, OutOfMemory, BadVersion, BadPiece, BadChain, BadRecord}
 use Rattle.checkpoint.specs.Loading.{IsConsistentFault, record_fault, records_fault}
-use Rattle.checkpoint.specs.Recovery.{apply, decoding}
+use Rattle.checkpoint.specs.Recovery.{after_record, decoding}
 use Rattle.checkpoint.specs.Refusals.{fault_if, fault_or_later, first_bad_record}
 use Rattle.disk.specs.Device.{Medium, Moment, moments}
 use Rattle.oplog.specs.Front.{front, record_at}
 use Rattle.device_map.specs.Layout.{Layout}
-use Rattle.oplog.specs.Log.{Log, layout}
+use Rattle.oplog.specs.Log.{Log, layout_of_log}
 use Rattle.oplog.specs.Recovery.{run}
 use Rattle.oplog.proofs.Reading.{front_record}
 use Rattle.meaning.specs.State.{State}
@@ -44,16 +44,16 @@ fault_from o p gives (BadRecord h i) is = gives (BadRecord h i) is
 
 module _ (g : Geometry) (h i : ℕ) (x : State) (r : List ℕ) (rs : List (List ℕ)) where
   bad_here : (e : OpenFault) → record_fault g x h i r ≡ Some e → fault_or_later (BadRecord h) (first_bad_record g i (Some x) (r ∷ rs)) None ≡ Some e
-  bad_here e is = by (apply g x r) is
+  bad_here e is = by (after_record g x r) is
     where
       by : (o : Option State) → fault_if (is_none o) (BadRecord h i) None ≡ Some e → fault_or_later (BadRecord h) (if is_some o then first_bad_record g (suc i) o rs else Some i) None ≡ Some e
       by None is = is
       by (Some y) is = cc
 
-  runs : (y : State) → apply g x r ≡ Some y → run (decoding g) (Some x) (r ∷ rs) ≡ run (decoding g) (Some y) rs
+  runs : (y : State) → after_record g x r ≡ Some y → run (decoding g) (Some x) (r ∷ rs) ≡ run (decoding g) (Some y) rs
   runs y is = ap (λ (o : Option State). run (decoding g) o rs) is
 
-  good_here : (y : State) → apply g x r ≡ Some y → first_bad_record g i (Some x) (r ∷ rs) ≡ first_bad_record g (i + 1) (Some y) rs
+  good_here : (y : State) → after_record g x r ≡ Some y → first_bad_record g i (Some x) (r ∷ rs) ≡ first_bad_record g (i + 1) (Some y) rs
   good_here y is =
       ap (λ (o : Option State). if is_some o then first_bad_record g (suc i) o rs else Some i) is
       ∙ ap (λ (k : ℕ). first_bad_record g k (Some y) rs) (sym (add-one i))
@@ -72,7 +72,7 @@ module _ (g : Geometry) (l : Layout) (h : ℕ) (c : List ℕ) (x0 : State) where
   pub at_first : IsAt 0 x0
   at_first = record { ran = refl; first = refl }
 
-  pub at_next : (i : ℕ) (x y : State) → i < length (front l h c) → apply g x (record_at l h i c) ≡ Some y → IsAt i x → IsAt (i + 1) y
+  pub at_next : (i : ℕ) (x y : State) → i < length (front l h c) → after_record g x (record_at l h i c) ≡ Some y → IsAt i x → IsAt (i + 1) y
   at_next i x y few is before = record {
     ran = before.ran ∙ ap (λ (rs : List (List ℕ)). run (decoding g) (Some x) rs) (next i few) ∙ runs g h i x (record_at l h i c) (drop (i + 1) (front l h c)) y is;
     first = before.first ∙ ap (λ (rs : List (List ℕ)). first_bad_record g i (Some x) rs) (next i few) ∙ good_here g h i x (record_at l h i c) (drop (i + 1) (front l h c)) y is;
@@ -89,13 +89,13 @@ module _ (g : Geometry) (l : Layout) (h : ℕ) (c : List ℕ) (x0 : State) where
 -- ---- the same by the geometry of a tree, a log and bytes that are equal to these
 
 module _ {a b : Log} (log : b ≡ a) {c d : List ℕ} (bytes : d ≡ c) (half : ℕ) where
-  pub front_same : front (layout b) half d ≡ front (layout a) half c
-  front_same = λ j. front (layout (log j)) half (bytes j)
+  pub front_same : front (layout_of_log b) half d ≡ front (layout_of_log a) half c
+  front_same = λ j. front (layout_of_log (log j)) half (bytes j)
 
   module _ {g h : Geometry} (geometry : h ≡ g) (x : State) (i : ℕ) where
-    pub apply_same : apply h x (record_at (layout b) half i d) ≡ apply g x (record_at (layout a) half i c)
-    apply_same = λ j. apply (geometry j) x (record_at (layout (log j)) half i (bytes j))
+    pub apply_same : after_record h x (record_at (layout_of_log b) half i d) ≡ after_record g x (record_at (layout_of_log a) half i c)
+    apply_same = λ j. after_record (geometry j) x (record_at (layout_of_log (log j)) half i (bytes j))
 
-    pub record_fault_same : (e : OpenFault) → IsConsistentFault (record_fault h x half i (record_at (layout b) half i d)) e
-        → IsConsistentFault (record_fault g x half i (record_at (layout a) half i c)) e
-    record_fault_same e = subst (λ (o : Option OpenFault). IsConsistentFault o e) (λ j. record_fault (geometry j) x half i (record_at (layout (log j)) half i (bytes j)))
+    pub record_fault_same : (e : OpenFault) → IsConsistentFault (record_fault h x half i (record_at (layout_of_log b) half i d)) e
+        → IsConsistentFault (record_fault g x half i (record_at (layout_of_log a) half i c)) e
+    record_fault_same e = subst (λ (o : Option OpenFault). IsConsistentFault o e) (λ j. record_fault (geometry j) x half i (record_at (layout_of_log (log j)) half i (bytes j)))

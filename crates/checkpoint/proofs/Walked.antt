@@ -11,12 +11,12 @@ use Rattle.checkpoint.specs.Loading.{IsConsistentFault}
 use Rattle.checkpoint.specs.Refusals.{fault_or_later, first_bad, first_bad_piece}
 use Rattle.disk.specs.Device.{AreBytes}
 use Rattle.disk.proofs.Bytes.{bytes-range, bytes_by_recursion}
-use Rattle.image.specs.Image.{AreGood, has_head, is_good, is_version, piece_in, read, decoded_before, version_in}
+use Rattle.image.specs.Image.{AreGood, has_head, is_good, is_version, piece_in, image_state, decoded_before, version_in}
 use Rattle.image.specs.Pieces.{aggregate_of, block_in, part_of, piece_at, piece_count, piece_of, piece_size, volume_of, volume_piece_number, with_part, with_piece}
 use Rattle.image.proofs.Joining.{piece_inside, whole_image}
 use Rattle.image.proofs.Numbers.{number_there}
 use Rattle.image.proofs.Walk.{good_is_read, good_is_seen}
-use Rattle.messages.specs.Messages.{AreSizedBytes as Holds}
+use Rattle.language.specs.Messages.{AreSizedBytes as Holds}
 use Rattle.device_map.specs.Layout.{device_size, image_part, layout_of, part_bytes, part_at, part_size, slice}
 use Rattle.oplog.proofs.Slices.{image_sized, part_inside, slice_slice}
 use Rattle.meaning.specs.State.{State, empty, is_block_of}
@@ -173,7 +173,7 @@ module _ (g : Geometry) (number : ℕ) (now : List ℕ) (is_image : number < 2) 
         bytes_by_recursion bytes (bytes-range at size now are),
       )
 
-  pub all_read : {n : ℕ} {x : State} → has_head bytes ≡ true → n ≡ piece_count g → x ≡ decoded_before (version_in bytes) g bytes n → AreGood g bytes n → read g bytes ≡ Some x
+  pub all_read : {n : ℕ} {x : State} → has_head bytes ≡ true → n ≡ piece_count g → x ≡ decoded_before (version_in bytes) g bytes n → AreGood g bytes n → image_state g bytes ≡ Some x
   all_read head all decoded good =
       good_is_read g bytes image_bytes head (subst (λ (k : ℕ). AreGood g bytes k) all good)
       ∙ ap (λ (y : State). Some y) (sym (decoded ∙ ap (λ (k : ℕ). decoded_before (version_in bytes) g bytes k) all))

@@ -4,10 +4,10 @@ use Rattle.affinity.specs.declared.geometry.Geometry.{Geometry}
 use Rattle.checkpoint.specs.declared.fault.OpenFault.{OpenFault}
 use Rattle.checkpoint.specs.declared.fault.OpenFault.TheVariants.{Device, TooShort, NotFormatted, BadGeometry, OutOfMemory, BadVersion, BadPiece, BadRecord}
 use Rattle.checkpoint.specs.Header.{HasHeader}
-use Rattle.checkpoint.specs.Recovery.{apply, decoding}
+use Rattle.checkpoint.specs.Recovery.{after_record, decoding}
 use Rattle.checkpoint.specs.Refusals.{fault_if, fault_or_later, first_bad_piece, first_bad_record}
 use Rattle.disk.specs.Device.{Medium}
-use Rattle.image.specs.Image.{has_head, read}
+use Rattle.image.specs.Image.{has_head, image_state}
 use Rattle.oplog.specs.declared.fault.LogFault.{LogFault}
 use Rattle.oplog.specs.declared.fault.LogFault.TheVariants as log
 use Rattle.oplog.specs.Front.{chain, front}
@@ -54,7 +54,7 @@ fault_of_log (log.BadRecord h i) = BadRecord h i
 
 -- the fault of record i of half h, with these bytes, where it can't be run on a state
 abbrev pub record_fault : Geometry → State → ℕ → ℕ → List ℕ → Option OpenFault
-record_fault g x h i bytes = fault_if (is_none (apply g x bytes)) (BadRecord h i) None
+record_fault g x h i bytes = fault_if (is_none (after_record g x bytes)) (BadRecord h i) None
 
 -- the fault of the first of these records of half h that can't be run on what those before it make of the state x
 abbrev pub records_fault : Geometry → State → ℕ → List (List ℕ) → Option OpenFault
@@ -87,5 +87,5 @@ pub record NamedHolds (g : Geometry) (c : List ℕ) (area : ℕ) (chained : Bool
   pub one : are_both_chained (layout_of g) c ≡ false
   pub sound : image_fault g (part_bytes (layout_of g) (image_part area) c) ≡ None
   pub first : State
-  pub decoded : read g (part_bytes (layout_of g) (image_part area) c) ≡ Some first
+  pub decoded : image_state g (part_bytes (layout_of g) (image_part area) c) ≡ Some first
   pub ran : run (decoding g) (Some first) (front (layout_of g) area c) ≡ Some x

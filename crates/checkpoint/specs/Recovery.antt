@@ -3,9 +3,9 @@ use Rattle.std.specs.Prelude.{ℕ, Bool, ◌&&◌, if◌then◌else◌, List, Op
 use Rattle.std.specs.Str.{bytes_eq}
 use Rattle.affinity.specs.declared.geometry.Geometry.{Geometry}
 use Rattle.checkpoint.specs.Header.{is_header}
-use Rattle.image.specs.Image.{read}
-use Rattle.messages.specs.declared.Msg.{Msg}
-use Rattle.messages.specs.Messages.{is_in_range}
+use Rattle.image.specs.Image.{image_state}
+use Rattle.language.specs.declared.Msg.{Msg}
+use Rattle.language.specs.Messages.{is_in_range}
 use Rattle.message.specs.Records.{message_in_fields, record_of}
 use Rattle.device_map.specs.Layout.{layout_of}
 use Rattle.oplog.specs.Recovery.{Decoding, recovers}
@@ -22,12 +22,12 @@ apply_decoded g x bytes None = None
 apply_decoded g x bytes (Some m) = if is_record_there g x bytes m then Some (next_state g x m) else None
 
 -- the state after the record with these bytes; none where they are no record that can be run in the state
-abbrev pub apply : Geometry → State → List ℕ → Option State
-apply g x bytes = apply_decoded g x bytes (message_in_fields bytes)
+abbrev pub after_record : Geometry → State → List ℕ → Option State
+after_record g x bytes = apply_decoded g x bytes (message_in_fields bytes)
 
 -- how images, records and headers are decoded
 abbrev pub decoding : Geometry → Decoding State
-decoding g = record { read = read g; apply = apply g; is_header = is_header g }
+decoding g = record { read = image_state g; apply = after_record g; is_header = is_header g }
 
 -- the state that a device of this geometry recovers to; none where its header, length, chain bytes, image or a record in force is bad
 abbrev pub recovered_state : Geometry → List ℕ → Option State

@@ -4,8 +4,8 @@ use Rattle.affinity.specs.declared.geometry.Geometry.{Geometry}
 use Rattle.checkpoint.specs.declared.fault.OpenFault.{OpenFault}
 use Rattle.checkpoint.specs.declared.fault.OpenFault.TheVariants.{Device, TooShort, NotFormatted, BadGeometry, OutOfMemory, BadVersion, BadPiece, BadChain, BadRecord}
 use Rattle.checkpoint.specs.Header.{HasHeader, magic}
-use Rattle.checkpoint.specs.Recovery.{apply, decoding}
-use Rattle.image.specs.Image.{has_head, is_good, read}
+use Rattle.checkpoint.specs.Recovery.{after_record, decoding}
+use Rattle.image.specs.Image.{has_head, is_good, image_state}
 use Rattle.image.specs.Pieces.{piece_count}
 use Rattle.oplog.specs.Front.{chain, front}
 use Rattle.device_map.specs.Layout.{layout_of, part_bytes, device_size, image_part, other}
@@ -25,7 +25,7 @@ first_bad_piece g bytes = first_bad (is_good g bytes) 0 (piece_count g)
 abbrev pub first_bad_record : Geometry → ℕ → Option State → List (List ℕ) → Option ℕ
 first_bad_record g i None rs = None
 first_bad_record g i (Some x) [] = None
-first_bad_record g i (Some x) (r ∷ rs) = if is_some (apply g x r) then first_bad_record g (suc i) (apply g x r) rs else Some i
+first_bad_record g i (Some x) (r ∷ rs) = if is_some (after_record g x r) then first_bad_record g (suc i) (after_record g x r) rs else Some i
 
 -- ---- one test after another
 
@@ -49,8 +49,8 @@ refused g c =
     (fault_if (not (has_head bytes)) BadVersion
     (fault_or_later BadPiece (first_bad_piece g bytes)
     (fault_if ((chain l 0 c == 1) && (chain l 1 c == 1)) BadChain
-    (fault_or_later (BadRecord n) (first_bad_record g 0 (read g bytes) (front l n c))
-    (fault_or_later (BadRecord (other n)) (first_bad_record g 0 (run (decoding g) (read g bytes) (front l n c)) chained) None)))))
+    (fault_or_later (BadRecord n) (first_bad_record g 0 (image_state g bytes) (front l n c))
+    (fault_or_later (BadRecord (other n)) (first_bad_record g 0 (run (decoding g) (image_state g bytes) (front l n c)) chained) None)))))
 
 -- The device is long enough for a header and a root zone (64 bytes each), and doesn't begin with the magic.
 abbrev pub IsUnformatted : List ℕ → Type 0

@@ -4,7 +4,7 @@ ghost use Rattle.checkpoint.specs.declared.fault.OpenFault.TheVariants.{BadPiece
 ghost use Rattle.checkpoint.specs.Loading.{IsOpeningCall, IsConsistentFault};
 ghost use Rattle.checkpoint.specs.Refusals.{fault_or_later, first_bad_piece};
 ghost use Rattle.disk.specs.Device.{moments};
-ghost use Rattle.image.specs.Image.{has_head, is_version, read, version_in};
+ghost use Rattle.image.specs.Image.{has_head, is_version, image_state, version_in};
 ghost use Rattle.image.specs.Pieces.{aggregate_of, part_of, piece_count, piece_of, piece_size, volume_of, with_piece};
 ghost use Rattle.device_map.specs.Layout.{device_size, image_part, layout_of, part_bytes};
 ghost use Rattle.parcel.specs.Tree.{IsWholeTree, state_in};
@@ -67,7 +67,7 @@ pub(crate) fn read_pieces<D: Disk>(
         (part_bytes (layout_of tree.old.geometry) (image_part number) (D.medium disk.old).now) ≡ true }
     requires long_enough { device_size (layout_of tree.old.geometry) ≤ length (D.medium disk.old).now }
     requires room { tree.old.geometry.quota * 520 ≤ length buffer.old }
-    ensures read { OnOk result (D.keeps → read tree.old.geometry
+    ensures read { OnOk result (D.keeps → image_state tree.old.geometry
         (part_bytes (layout_of tree.old.geometry) (image_part number) (D.medium disk.old).now) ≡ Some (state_in tree.new)) }
     ensures good { OnOk result (D.keeps → first_bad_piece tree.old.geometry
         (part_bytes (layout_of tree.old.geometry) (image_part number) (D.medium disk.old).now) ≡ None) }

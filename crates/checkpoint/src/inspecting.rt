@@ -10,7 +10,7 @@ use crate::stepping::step;
 use crate::{OpenError, OpenFault};
 use affinity::Geometry;
 use disk::Disk;
-use messages::{Msg, Reply};
+use language::{Msg, Reply};
 use std::alloc::Global;
 
 /// What a device holds.

@@ -5,7 +5,7 @@ ghost use Rattle.checkpoint.specs.Header.{HasHeader};
 ghost use Rattle.checkpoint.specs.Loading.{IsOpeningCall, IsConsistentFault, IsOfHalf, NamedHolds, are_both_chained, image_fault};
 ghost use Rattle.checkpoint.specs.Refusals.{IsRefused, fault_if};
 ghost use Rattle.disk.specs.Device.{moments};
-ghost use Rattle.image.specs.Image.{read, version_in};
+ghost use Rattle.image.specs.Image.{image_state, version_in};
 ghost use Rattle.oplog.specs.Front.{chain, front};
 ghost use Rattle.device_map.specs.Layout.{device_size, image_part, layout_of, part_bytes};
 ghost use Rattle.oplog.specs.Log.{new_log, with_half_named};
@@ -61,7 +61,7 @@ fn read_image<D: Disk>(
     requires room { tree.old.geometry.quota * 520 ≤ length buffer.old }
     ensures version { IfOk result (λ v. D.keeps →
         v ≡ version_in (part_bytes (layout_of tree.old.geometry) (image_part area) (D.medium disk.old).now)) }
-    ensures read { OnOk result (D.keeps → read tree.old.geometry
+    ensures read { OnOk result (D.keeps → image_state tree.old.geometry
         (part_bytes (layout_of tree.old.geometry) (image_part area) (D.medium disk.old).now) ≡ Some (state_in tree.new)) }
     ensures sound { OnOk result (D.keeps → image_fault tree.old.geometry
         (part_bytes (layout_of tree.old.geometry) (image_part area) (D.medium disk.old).now) ≡ None) }

@@ -2,18 +2,18 @@
 ghost use Rattle.std.specs.Prelude.{◌≡◌, ◌≢◌, ◌<◌, ◌≤◌, Some, false, IfOk, IfErr, OnOk};
 ghost use Rattle.checkpoint.specs.declared.fault.OpenFault.TheVariants.{OutOfMemory};
 ghost use Rattle.checkpoint.specs.Loading.{IsOpeningCall, IsConsistentFault, record_fault, records_fault};
-ghost use Rattle.checkpoint.specs.Recovery.{apply, decoding};
+ghost use Rattle.checkpoint.specs.Recovery.{after_record, decoding};
 ghost use Rattle.disk.specs.Device.{moments};
 ghost use Rattle.oplog.specs.Calls.{HasFront, IsLongEnough};
 ghost use Rattle.oplog.specs.Front.{front, record_at};
-ghost use Rattle.oplog.specs.Log.{layout};
+ghost use Rattle.oplog.specs.Log.{layout_of_log};
 ghost use Rattle.oplog.specs.Recovery.{run};
 ghost use Rattle.parcel.specs.Tree.{IsWholeTree, state_in};
 
 use crate::OpenFault;
 use crate::stepping::step;
 use disk::Disk;
-use messages::Reply;
+use language::Reply;
 use oplog::Halves;
 use parcel::Tree;
 
@@ -33,10 +33,10 @@ fn replay_record<D: Disk>(
     requires whole { IsWholeTree tree.old }
     requires geometry { log.old.geometry ≡ tree.old.geometry }
     ensures done { OnOk result (D.keeps →
-        apply tree.old.geometry (state_in tree.old) (record_at (layout log.old) half i (D.medium disk.old).now)
+        after_record tree.old.geometry (state_in tree.old) (record_at (layout_of_log log.old) half i (D.medium disk.old).now)
         ≡ Some (state_in tree.new)) }
     ensures refused { IfErr result (λ e. D.keeps → IsConsistentFault (record_fault tree.old.geometry (state_in tree.old)
-        half i (record_at (layout log.old) half i (D.medium disk.old).now)) e) }
+        half i (record_at (layout_of_log log.old) half i (D.medium disk.old).now)) e) }
     ensures never_out_of_memory { IfErr result (λ e. e ≢ OutOfMemory) }
     ensures whole { OnOk result (IsWholeTree tree.new) }
     ensures geometry { OnOk result (tree.new.geometry ≡ tree.old.geometry) }
@@ -68,9 +68,9 @@ fn replay_front<D: Disk>(
     requires geometry { log.old.geometry ≡ tree.old.geometry }
     ensures done { OnOk result (D.keeps →
         run (decoding tree.old.geometry) (Some (state_in tree.old))
-        (front (layout log.old) half (D.medium disk.old).now) ≡ Some (state_in tree.new)) }
+        (front (layout_of_log log.old) half (D.medium disk.old).now) ≡ Some (state_in tree.new)) }
     ensures refused { IfErr result (λ e. D.keeps → IsConsistentFault (records_fault tree.old.geometry
-        (state_in tree.old) half (front (layout log.old) half (D.medium disk.old).now)) e) }
+        (state_in tree.old) half (front (layout_of_log log.old) half (D.medium disk.old).now)) e) }
     ensures never_out_of_memory { IfErr result (λ e. e ≢ OutOfMemory) }
     ensures whole { OnOk result (IsWholeTree tree.new) }
     ensures geometry { OnOk result (tree.new.geometry ≡ tree.old.geometry) }
@@ -101,9 +101,9 @@ pub fn replay<D: Disk>(
     ensures few { IfOk result (λ n. n ≤ log.old.geometry.half) }
     ensures done { OnOk result (D.keeps →
         run (decoding tree.old.geometry) (Some (state_in tree.old))
-        (front (layout log.old) half (D.medium disk.old).now) ≡ Some (state_in tree.new)) }
+        (front (layout_of_log log.old) half (D.medium disk.old).now) ≡ Some (state_in tree.new)) }
     ensures refused { IfErr result (λ e. D.keeps → IsConsistentFault (records_fault tree.old.geometry
-        (state_in tree.old) half (front (layout log.old) half (D.medium disk.old).now)) e) }
+        (state_in tree.old) half (front (layout_of_log log.old) half (D.medium disk.old).now)) e) }
     ensures never_out_of_memory { IfErr result (λ e. e ≢ OutOfMemory) }
     ensures whole { OnOk result (IsWholeTree tree.new) }
     ensures geometry { OnOk result (tree.new.geometry ≡ tree.old.geometry) }

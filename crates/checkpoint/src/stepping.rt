@@ -1,12 +1,12 @@
 //! Runs one message on a tree of which no part is checked out.
 ghost use Rattle.std.specs.Prelude.{◌≡◌, true};
-ghost use Rattle.messages.specs.Messages.{is_in_range};
+ghost use Rattle.language.specs.Messages.{is_in_range};
 ghost use Rattle.parcel.specs.Tree.{IsWholeTree, state_in};
 ghost use Rattle.meaning.specs.Serial.{next_state, reply_to};
 
 use affinity::place_of;
+use language::{Msg, Reply};
 use message::know_message;
-use messages::{Msg, Reply};
 use parcel::{Job, Tree, run};
 
 /// Runs a message that is in range on the whole tree, and gives its reply: the serial step of the tree's state. No part of the tree may be

@@ -5,9 +5,9 @@ use Rattle.std.specs.Io.KnownBytes.{Appends}
 use Rattle.std.specs.Fmt.{digits}
 use Rattle.affinity.specs.Geometry.{small}
 use Rattle.checkpoint.specs.declared.inspecting.Shown.{Shown}
-use Rattle.messages.specs.Grammar.{kind_named, message_of}
-use Rattle.messages.specs.Lines.{number_in_word}
-use Rattle.messages.specs.declared.Reply.TheVariants.{Summary}
+use Rattle.language.specs.Grammar.{kind_named, message_of}
+use Rattle.language.specs.Lines.{number_in_word}
+use Rattle.language.specs.declared.Reply.TheVariants.{Summary}
 use Rattle.meaning.specs.Output.{joined, output_lines, state_after_lines}
 use Rattle.meaning.specs.State.{State, empty}
 use Rattle.device_map.specs.Layout.{image_size}

@@ -3,10 +3,10 @@ use Rattle.std.proofs.Common.{ℕ, ◌+◌, ◌≤◌, List, ◌++◌, length, m
 use Rattle.std.specs.Prelude.{Result, Ok, Err}
 use Rattle.checkpoint.proofs.NotRefused.{is_not_refused, has_header}
 use Rattle.disk.specs.Device.{IsCrashImage, Medium}
-use Rattle.legal_runs.specs.Events.{recorded}
-use Rattle.legal_runs.specs.Runs.{logged_messages}
-use Rattle.runs.specs.Machine.{machine_of}
-use Rattle.runs.specs.DeviceEvents.{events_of}
+use Rattle.histories.specs.Events.{recorded}
+use Rattle.histories.specs.Runs.{logged_messages}
+use Rattle.incarnations.specs.Machine.{machine_of}
+use Rattle.incarnations.specs.DeviceEvents.{events_of}
 use Rattle.meaning.specs.Serial.{state_after_all}
 use Rattle.serving.proofs.Logged.{few_answered, holds_all, written_are_kept}
 use Rattle.serving.specs.Ends.{Exchange, committed_in}

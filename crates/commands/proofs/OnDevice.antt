@@ -8,10 +8,10 @@ use Rattle.checkpoint.specs.Recovery.{recovered_state}
 use Rattle.disk.proofs.Leaves.{itself}
 use Rattle.disk.specs.Device.{AreBytes, IsCrashImage, Medium}
 use Rattle.journal.specs.Opening.{OpeningCrashImages}
-use Rattle.legal_runs.specs.Laws.{IsIdle}
-use Rattle.runs.specs.DeviceEvents.{DeviceEvent}
+use Rattle.histories.specs.Laws.{IsIdle}
+use Rattle.incarnations.specs.DeviceEvents.{DeviceEvent}
 use Rattle.meaning.specs.Serial.{state_after_all}
-use Rattle.messages.specs.declared.Msg.{Msg}
+use Rattle.language.specs.declared.Msg.{Msg}
 use Rattle.scheduler.specs.CoreView.{IsJustOpened, CoreView, RecoversNow, core_state_of}
 use Rattle.serving.specs.Ends.{Exchange, HasRunLines, committed_in}
 use Rattle.oplog.specs.Recovery.{records_in}

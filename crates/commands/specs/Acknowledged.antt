@@ -5,7 +5,7 @@ use Rattle.affinity.specs.declared.geometry.Geometry.{Geometry}
 use Rattle.checkpoint.specs.Header.{HasHeader}
 use Rattle.checkpoint.specs.Refusals.{refused}
 use Rattle.disk.specs.Device.{IsCrashImage, Medium}
-use Rattle.legal_runs.specs.CoreState.{Replied}
+use Rattle.histories.specs.CoreState.{Replied}
 use Rattle.meaning.specs.Output.{joined}
 use Rattle.meaning.specs.State.{State}
 use Rattle.serving.specs.Ends.{AreFirst}

@@ -14,11 +14,11 @@ use Rattle.disk.specs.RealFile.{FileKeeps}
 use Rattle.disk.specs.declared.fault.FileFault.{FileFault}
 use Rattle.disk.specs.declared.torn.Torn.{Torn}
 use Rattle.journal.specs.Opening.{IsLeftByRefusal, OpeningCrashImages}
-use Rattle.legal_runs.specs.Incarnations.{Ran}
-use Rattle.runs.specs.Incarnations.{IsRunIncarnation}
-use Rattle.runs.specs.Machine.{MachineView, machine_of}
-use Rattle.runs.specs.DeviceEvents.{DeviceEvent, device_after, events_of}
-use Rattle.messages.specs.Lines.{lines}
+use Rattle.histories.specs.Incarnations.{Ran}
+use Rattle.incarnations.specs.Incarnations.{IsRunIncarnation}
+use Rattle.incarnations.specs.Machine.{MachineView, machine_of}
+use Rattle.incarnations.specs.DeviceEvents.{DeviceEvent, device_after, events_of}
+use Rattle.language.specs.Lines.{lines}
 use Rattle.meaning.specs.Output.{IsBeginning, WritesOutput}
 use Rattle.meaning.specs.State.{State}
 use Rattle.scheduler.specs.CoreView.{IsJustOpened, CoreView, RecoversNow}
@@ -94,8 +94,8 @@ EndsOnDevice keeps s old new (Err _) x = ⊥
 abbrev pub machine_at_start : ServeOptions → CoreView → MachineView
 machine_at_start s start = machine_with_jobs start (replicate s.workers None)
 
--- For every k, the service with this run is an incarnation of the device, in the sense of the law of incarnations in `runs`: the device
--- was opened, the run was made, and the crash came at any moment since event number k ended.
+-- For every k, the service with this run is an incarnation of the device, in the sense of the law of incarnations: the device was
+-- opened, the run was made, and the crash came at any moment since event number k ended.
 abbrev pub IsIncarnation : ServeOptions → CoreView → Medium → Medium → List DeviceEvent → Type 0
 IsIncarnation s start old new device_events = (k : ℕ) → k ≤ length device_events → IsRunIncarnation (record {
   at_open = old;

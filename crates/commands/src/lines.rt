@@ -2,7 +2,7 @@
 ghost use Rattle.std.specs.Prelude.{◌≡◌, ◌++◌, IfErr, OnOk};
 ghost use Rattle.std.specs.Io.KnownBytes.{Appends};
 ghost use Rattle.std.specs.List.{flat_map};
-ghost use Rattle.messages.specs.Replies.{spaced};
+ghost use Rattle.language.specs.Replies.{spaced};
 ghost use Rattle.commands.specs.Lines.{number_line};
 
 use crate::faults::Fault;

@@ -1,6 +1,6 @@
 //! `waffd serve`: the lines of the input, answered on the device in a file by workers that run messages at once.
 ghost use Rattle.std.specs.Prelude.{◌≡◌, false};
-ghost use Rattle.legal_runs.specs.Laws.{IsIdle};
+ghost use Rattle.histories.specs.Laws.{IsIdle};
 ghost use Rattle.scheduler.specs.CoreView.{core_state_of};
 ghost use Rattle.serving.specs.Ends.{exchange};
 ghost use Rattle.serving.specs.Serve.{ServePromise};

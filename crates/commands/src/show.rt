@@ -1,7 +1,7 @@
 //! `waffd show`: what the device in a file holds.
 ghost use Rattle.std.specs.Prelude.{◌≡◌, ◌++◌, IfOk, OnOk};
 ghost use Rattle.affinity.specs.Geometry.{numbers_of};
-ghost use Rattle.messages.specs.Replies.{reply_line};
+ghost use Rattle.language.specs.Replies.{reply_line};
 ghost use Rattle.commands.specs.Ends.{EndsShowing, ShowsBytes};
 ghost use Rattle.commands.specs.Lines.{shown_lines};
 
@@ -10,8 +10,8 @@ use crate::lines::{add_line, write_lines};
 use affinity::Geometry;
 use checkpoint::{Shown, inspect};
 use disk::{Disk, FileDisk};
+use language::Reply;
 use message::write_reply;
-use messages::Reply;
 use std::alloc::{AllocError, Global};
 use std::fs::File;
 use std::io::Write;

@@ -9,7 +9,7 @@ use affinity::{Geometry, changing, place_of};
 use checkpoint::{OpenFault, device_len, format, step};
 use disk::{Disk, MemDisk};
 use journal::{Journal, open};
-use messages::{Msg, Reply};
+use language::{Msg, Reply};
 use oplog::LogFault;
 use parcel::Tree;
 use std::alloc::{AllocError, Global};

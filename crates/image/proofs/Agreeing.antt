@@ -4,7 +4,7 @@ use Rattle.std.specs.Prelude.{◌==◌, if◌then◌else◌}
 use Rattle.std.proofs.lemmas.Bool.{eqb-true}
 use Rattle.affinity.specs.Geometry.{stripe_of}
 use Rattle.affinity.specs.declared.geometry.Geometry.{Geometry}
-use Rattle.messages.specs.declared.Block.{Block}
+use Rattle.language.specs.declared.Block.{Block}
 use Rattle.meaning.specs.State.{State, empty}
 use Rattle.stripe.specs.Entries.{stripe_bytes}
 use Rattle.stripe.specs.Stripe.{BlockEntry}

@@ -5,8 +5,8 @@ use Rattle.std.specs.List.{AllByRecursion}
 use Rattle.std.proofs.lemmas.Bool.{cases_lt, cases_eq, ne_eqb, eqb-true, and_parts}
 use Rattle.affinity.specs.Geometry.{stripe_of}
 use Rattle.affinity.specs.declared.geometry.Geometry.{Geometry}
-use Rattle.messages.specs.Messages.{IsBlock}
-use Rattle.messages.specs.declared.Block.{Block}
+use Rattle.language.specs.Messages.{IsBlock}
+use Rattle.language.specs.declared.Block.{Block}
 use Rattle.meaning.specs.State.{sum_below, count_below, one_if}
 use Rattle.meaning.proofs.Sums.{sum_below-le, sum_below-add, sum_pick}
 use Rattle.stripe.specs.Entries.{entry_in, entries_in}

@@ -10,9 +10,9 @@ use Rattle.affinity.specs.declared.geometry.Geometry.{Geometry}
 use Rattle.affinity.proofs.Placed.{group_below}
 use Rattle.byteorder.specs.Endian.{little_bytes, little_number}
 use Rattle.device_map.specs.Layout.{slice}
-use Rattle.messages.specs.Messages.{IsBlock, AreSizedBytes}
-use Rattle.messages.specs.Replies.{has_file}
-use Rattle.messages.specs.declared.Block.{Block}
+use Rattle.language.specs.Messages.{IsBlock, AreSizedBytes}
+use Rattle.language.specs.Replies.{has_file}
+use Rattle.language.specs.declared.Block.{Block}
 use Rattle.meaning.specs.Serial.{file_bits, no_label}
 use Rattle.meaning.specs.State.{State, VolumeKey, FileKey, BlockKey, IsState, blocks_in_stripe}
 use Rattle.stripe.specs.Entries.{entry_bytes, entries_in}

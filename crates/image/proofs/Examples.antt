@@ -1,16 +1,16 @@
 -- Worked examples of the definitions, on a small server: one volume of two files of four blocks, in two stripes that hold two blocks each.
 use Rattle.std.proofs.Common.{◌≡◌, ℕ, ◌+◌, List, [], ◌∷◌, ◌++◌, length, take, drop, replicate, Bool, true, false, Option, Some, None, refl}
 use Rattle.affinity.specs.Geometry.{small, default_geometry}
-use Rattle.messages.specs.declared.Block.{Block}
-use Rattle.messages.specs.declared.Msg.{Msg}
-use Rattle.messages.specs.declared.Msg.TheVariants.{MakeVol, DropVol, Create, Delete, Seal, Unseal, Write, Punch, Read, List as ListFiles, Usage as AskUsage, Summary as AskSummary, SetLabel, Label as AskLabel}
-use Rattle.messages.specs.declared.Reply.TheVariants.{Summary}
-use Rattle.messages.specs.declared.Reply.{Reply}
+use Rattle.language.specs.declared.Block.{Block}
+use Rattle.language.specs.declared.Msg.{Msg}
+use Rattle.language.specs.declared.Msg.TheVariants.{MakeVol, DropVol, Create, Delete, Seal, Unseal, Write, Punch, Read, List as ListFiles, Usage as AskUsage, Summary as AskSummary, SetLabel, Label as AskLabel}
+use Rattle.language.specs.declared.Reply.TheVariants.{Summary}
+use Rattle.language.specs.declared.Reply.{Reply}
 use Rattle.meaning.specs.Serial.{state_after_all, reply_to}
 use Rattle.meaning.specs.State.{State, empty}
 use Rattle.image.specs.Pieces.{piece_of}
 use Rattle.image.specs.Touched.{may_change}
-use Rattle.image.specs.Image.{image_of, read, decoded_before, is_good}
+use Rattle.image.specs.Image.{image_of, image_state, decoded_before, is_good}
 
 -- a block that begins with this byte
 abbrev block_of : ℕ → Block
@@ -48,10 +48,10 @@ abbrev summary_of : Option State → Option Reply
 summary_of None = None
 summary_of (Some x) = Some (reply_to small x AskSummary)
 
-read_again : summary_of (read small (image_of 2 small two_blocks)) ≡ Some (Summary 1 2 2)
+read_again : summary_of (image_state small (image_of 2 small two_blocks)) ≡ Some (Summary 1 2 2)
 read_again = refl
 
-read_again_from_version_1 : summary_of (read small (image_of 1 small two_blocks)) ≡ Some (Summary 1 2 2)
+read_again_from_version_1 : summary_of (image_state small (image_of 1 small two_blocks)) ≡ Some (Summary 1 2 2)
 read_again_from_version_1 = refl
 
 -- with this byte at a place
@@ -59,7 +59,7 @@ abbrev changed : ℕ → ℕ → List ℕ → List ℕ
 changed at b bytes = take at bytes ++ b ∷ drop (at + 1) bytes
 
 abbrev changed_is_read : ℕ → ℕ → State → Option Reply
-changed_is_read at b x = summary_of (read small (changed at b (image_of 2 small x)))
+changed_is_read at b x = summary_of (image_state small (changed at b (image_of 2 small x)))
 
 version_is_unknown : changed_is_read 0 3 two_blocks ≡ None
 version_is_unknown = refl
@@ -94,10 +94,10 @@ block_of_another_stripe = refl
 block_moved_within_its_stripe : changed_is_read 130 2 two_blocks ≡ Some (Summary 1 2 2)
 block_moved_within_its_stripe = refl
 
-out_of_order : summary_of (read small (changed 129 1 (changed 130 3 (image_of 2 small two_blocks)))) ≡ None
+out_of_order : summary_of (image_state small (changed 129 1 (changed 130 3 (image_of 2 small two_blocks)))) ≡ None
 out_of_order = refl
 
-same_block_twice : summary_of (read small (changed 129 1 (changed 130 1 (image_of 2 small two_blocks)))) ≡ None
+same_block_twice : summary_of (image_state small (changed 129 1 (changed 130 1 (image_of 2 small two_blocks)))) ≡ None
 same_block_twice = refl
 
 bytes_between : changed_is_read 132 1 two_blocks ≡ None
@@ -109,7 +109,7 @@ mark_of_an_entry_is_2 = refl
 bytes_behind_the_entries : changed_is_read 1300 1 two_blocks ≡ None
 bytes_behind_the_entries = refl
 
-label_in_version_1 : summary_of (read small (changed 80 1 (image_of 1 small two_blocks))) ≡ None
+label_in_version_1 : summary_of (image_state small (changed 80 1 (image_of 1 small two_blocks))) ≡ None
 label_in_version_1 = refl
 
 label_in_version_2 : changed_is_read 80 1 two_blocks ≡ Some (Summary 1 2 2)

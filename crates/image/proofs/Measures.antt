@@ -5,8 +5,8 @@ use Rattle.std.specs.List.{AllByRecursion, flat_map}
 use Rattle.std.proofs.lemmas.List.{length-replicate}
 use Rattle.affinity.specs.Geometry.{stripe_of}
 use Rattle.affinity.specs.declared.geometry.Geometry.{Geometry}
-use Rattle.messages.specs.Messages.{IsBlock, AreSizedBytes}
-use Rattle.messages.specs.declared.Block.{Block}
+use Rattle.language.specs.Messages.{IsBlock, AreSizedBytes}
+use Rattle.language.specs.declared.Block.{Block}
 use Rattle.stripe.specs.Stripe.{BlockEntry}
 use Rattle.byteorder.specs.Endian.{little_bytes}
 use Rattle.meaning.specs.Serial.{no_label, file_bits}

@@ -11,16 +11,16 @@ use Rattle.affinity.specs.Geometry.{stripe_of}
 use Rattle.affinity.specs.declared.geometry.Geometry.{Geometry}
 use Rattle.byteorder.specs.Endian.{little_bytes, little_number}
 use Rattle.device_map.specs.Layout.{slice}
-use Rattle.messages.specs.Messages.{AreSizedBytes}
-use Rattle.messages.specs.Replies.{has_file}
-use Rattle.messages.specs.declared.Block.{Block}
+use Rattle.language.specs.Messages.{AreSizedBytes}
+use Rattle.language.specs.Replies.{has_file}
+use Rattle.language.specs.declared.Block.{Block}
 use Rattle.meaning.specs.Serial.{file_bits}
 use Rattle.meaning.specs.State.{State, VolumeKey, FileKey, BlockKey, IsState, one_if}
 use Rattle.stripe.specs.Entries.{entry_bytes, entries_in}
 use Rattle.stripe.specs.Stripe.{BlockEntry, content_at}
 use Rattle.stripe.proofs.EntryBytes.{entries_again}
 use Rattle.image.specs.Pieces.{has_volume, volume_piece_number, volume_piece, stripe_entries, entry_if, joined_below, label_bytes, label_in}
-use Rattle.image.specs.Image.{image_of, decoded_state, read, is_image, is_version, version_in, piece_in}
+use Rattle.image.specs.Image.{image_of, decoded_state, image_state, is_image, is_version, version_in, piece_in}
 use Rattle.image.proofs.Cuts.{volume_again, stripe_again}
 use Rattle.meaning.proofs.FileNumber.{number_small, bits_there}
 use Rattle.image.proofs.Measures.{entries_good, state_is_measured}
@@ -257,13 +257,13 @@ module _ (g : Geometry) (x : State) (is : IsState g x) where
     labels = λ k. labels_again k i;
   }
 
-  pub read_again : read g (image_of 2 g x) ≡ Some x
+  pub read_again : image_state g (image_of 2 g x) ≡ Some x
   read_again =
       let same = (bytes_eq-Decides (image_of 2 g x) (image_of 2 g (decoded_state 2 g (image_of 2 g x)))).1 (ap (image_of 2 g) (sym decoded_again)) in
       ap (λ (t : Bool). if t then Some (decoded_state 2 g (image_of 2 g x)) else None) same ∙ ap (λ (y : State). Some y) decoded_again
 
 -- bytes that are read as a state are its image
-pub spelling : (g : Geometry) (bytes : List ℕ) (x : State) → read g bytes ≡ Some x → bytes ≡ image_of (version_in bytes) g x
+pub spelling : (g : Geometry) (bytes : List ℕ) (x : State) → image_state g bytes ≡ Some x → bytes ≡ image_of (version_in bytes) g x
 spelling g bytes x is = by (is_image g bytes) refl is
   where
     by : (t : Bool) → is_image g bytes ≡ t → (if t then Some (decoded_state (version_in bytes) g bytes) else None) ≡ Some x → bytes ≡ image_of (version_in bytes) g x

@@ -9,11 +9,11 @@ use Rattle.affinity.specs.Geometry.{stripe_of}
 use Rattle.affinity.specs.declared.geometry.Geometry.{Geometry}
 use Rattle.affinity.proofs.Placed.{group_below}
 use Rattle.device_map.specs.Layout.{slice}
-use Rattle.messages.specs.Messages.{AreSizedBytes}
-use Rattle.messages.specs.declared.Block.{Block}
+use Rattle.language.specs.Messages.{AreSizedBytes}
+use Rattle.language.specs.declared.Block.{Block}
 use Rattle.meaning.specs.State.{State, VolumeKey, IsState, sum_below}
 use Rattle.image.specs.Pieces.{pieces_of_volume, piece_count, piece_at, piece_size, piece_of, aggregate_of, volume_of, part_of, volume_piece_number, has_volume, is_made_in, is_sealed_in, has_file_in, label_in, block_in, decoded_by, stripe_piece_number}
-use Rattle.image.specs.Image.{image_head, image_of, read, is_image, is_version, has_head, version_in, piece_in, decoded_state, decoded_before, is_good, AreGood}
+use Rattle.image.specs.Image.{image_head, image_of, image_state, is_image, is_version, has_head, version_in, piece_in, decoded_state, decoded_before, is_good, AreGood}
 use Rattle.image.proofs.Agreeing.{piece_same, zero_piece}
 use Rattle.image.proofs.Cuts.{is_piece, piece_again}
 use Rattle.image.proofs.Joining.{by_pieces}
@@ -133,7 +133,7 @@ module _ (g : Geometry) (bytes : List ℕ) where
       (cases_lt i n)))
 
   pub good_is_read : AreSizedBytes (piece_at g (piece_count g)) bytes → has_head bytes ≡ true → AreGood g bytes (piece_count g)
-      → read g bytes ≡ Some (decoded_before (version_in bytes) g bytes (piece_count g))
+      → image_state g bytes ≡ Some (decoded_before (version_in bytes) g bytes (piece_count g))
   good_is_read are head good =
       let version : ℕ = version_in bytes in
       let parts = and_parts (is_version version) (bytes_eq (slice bytes 0 64) (image_head version)) head in
@@ -144,7 +144,7 @@ module _ (g : Geometry) (bytes : List ℕ) where
       ((bytes_eq-Decides bytes (image_of version g (decoded_state version g bytes))).1 spelled) in
       ap (λ (t : Bool). if t then Some (decoded_state version g bytes) else None) is ∙ ap (λ (x : State). Some x) (sym (all_taken version g bytes))
 
-  pub read_is_good : AreSizedBytes (piece_at g (piece_count g)) bytes → is_some (read g bytes) ≡ true
+  pub read_is_good : AreSizedBytes (piece_at g (piece_count g)) bytes → is_some (image_state g bytes) ≡ true
       → (has_head bytes ≡ true) × AreGood g bytes (piece_count g)
   read_is_good are some = by (is_image g bytes) refl some
     where
@@ -165,7 +165,7 @@ module _ (g : Geometry) (bytes : List ℕ) where
                 (is_measured version g (piece_in g bytes) (piece_bytes g bytes are)) n below),
           )
 
-  pub read_is_a_state : AreSizedBytes (piece_at g (piece_count g)) bytes → (x : State) → read g bytes ≡ Some x → IsState g x
+  pub read_is_a_state : AreSizedBytes (piece_at g (piece_count g)) bytes → (x : State) → image_state g bytes ≡ Some x → IsState g x
   read_is_a_state are x is =
       let good = read_is_good are (ap (λ (o : Option State). is_some o) is) in
       subst (IsState g) (one_value (sym (good_is_read are good.0 good.1) ∙ is)) (first_are_a_state are (piece_count g) (omega arith) good.1)

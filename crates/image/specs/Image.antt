@@ -41,8 +41,8 @@ is_image g bytes = let version = version_in bytes in is_version version
     && bytes_eq bytes (image_of version g (decoded_state version g bytes))
 
 -- the state of an image, if these bytes are one
-abbrev pub read : Geometry → List ℕ → Option State
-read g bytes = if is_image g bytes then Some (decoded_state (version_in bytes) g bytes) else None
+abbrev pub image_state : Geometry → List ℕ → Option State
+image_state g bytes = if is_image g bytes then Some (decoded_state (version_in bytes) g bytes) else None
 
 -- Piece n is good: it is piece n of the state to which the image decodes.
 abbrev pub is_good : Geometry → List ℕ → ℕ → Bool

@@ -3,8 +3,8 @@ use Rattle.std.specs.Prelude.{ℕ, zero, suc, ◌+◌, ◌*◌, ◌/◌, ◌%◌
 use Rattle.affinity.specs.Geometry.{stripe_of}
 use Rattle.affinity.specs.declared.geometry.Geometry.{Geometry}
 use Rattle.byteorder.specs.Endian.{little_bytes, little_number}
-use Rattle.messages.specs.Replies.{has_file}
-use Rattle.messages.specs.declared.Block.{Block}
+use Rattle.language.specs.Replies.{has_file}
+use Rattle.language.specs.declared.Block.{Block}
 use Rattle.device_map.specs.Layout.{entry_size, image_head_size, volume_piece_size, slice}
 use Rattle.stripe.specs.Stripe.{BlockEntry, content_at}
 use Rattle.meaning.specs.Serial.{file_bits, no_label}

@@ -4,11 +4,11 @@
 ghost use Rattle.std.specs.Prelude.{◌≡◌, ◌<◌, ◌≤◌, ◌↔◌, ℕ, suc, true, false, List, Some, None, is_some, length, if◌then◌else◌, ◌==◌};
 ghost use Rattle.affinity.specs.Geometry.{stripe_of};
 ghost use Rattle.affinity.specs.declared.geometry.Geometry.{Geometry};
-ghost use Rattle.image.specs.Image.{AreGood, has_head, image_of, is_good, read, decoded_before, version_in, piece_in};
+ghost use Rattle.image.specs.Image.{AreGood, has_head, image_of, is_good, image_state, decoded_before, version_in, piece_in};
 ghost use Rattle.image.specs.Pieces.{aggregate_of, part_of, piece_at, piece_count, piece_of, piece_size, stripe_entries, volume_of};
 ghost use Rattle.image.specs.Touched.{may_change};
-ghost use Rattle.messages.specs.Messages.{AreSizedBytes};
-ghost use Rattle.messages.specs.declared.Msg.{Msg};
+ghost use Rattle.language.specs.Messages.{AreSizedBytes};
+ghost use Rattle.language.specs.declared.Msg.{Msg};
 ghost use Rattle.device_map.specs.Layout.{image_size};
 ghost use Rattle.meaning.specs.Serial.{next_state};
 ghost use Rattle.meaning.specs.State.{State, IsState};
@@ -16,18 +16,18 @@ ghost use Rattle.stripe.specs.Stripe.{BlockEntry, IsAscending, content_at};
 
 /// The image of a state in version 2 (the one that is written) is read as that state.
 pub fn a_state_is_read_again()
-    ensures { (g : Geometry) (x : State) → IsState g x → read g (image_of 2 g x) ≡ Some x }
+    ensures { (g : Geometry) (x : State) → IsState g x → image_state g (image_of 2 g x) ≡ Some x }
 {}
 
 /// Bytes that are read as a state are its image, in the version that their first byte gives.
 pub fn an_image_is_its_spelling()
-    ensures { (g : Geometry) (bytes : List ℕ) (x : State) → read g bytes ≡ Some x → bytes ≡ image_of (version_in bytes) g x }
+    ensures { (g : Geometry) (bytes : List ℕ) (x : State) → image_state g bytes ≡ Some x → bytes ≡ image_of (version_in bytes) g x }
 {}
 
 /// If bytes of an image's length are read as a state, that state is a valid one of the geometry (`IsState`).
 pub fn what_is_read_is_a_state()
     ensures { (g : Geometry) (bytes : List ℕ) (x : State) → AreSizedBytes (piece_at g (piece_count g)) bytes
-        → read g bytes ≡ Some x → IsState g x }
+        → image_state g bytes ≡ Some x → IsState g x }
 {}
 
 /// The pieces of an image can be taken in one after the other. The state with a piece taken in shows whether that piece
@@ -43,9 +43,9 @@ pub fn an_image_is_read_piece_by_piece()
         ↔ (piece_in g bytes n ≡ piece_of (version_in bytes) g (decoded_before (version_in bytes) g bytes (suc n)) n) }
     ensures all_good { (g : Geometry) (bytes : List ℕ) → AreSizedBytes (piece_at g (piece_count g)) bytes
         → has_head bytes ≡ true → AreGood g bytes (piece_count g)
-        → read g bytes ≡ Some (decoded_before (version_in bytes) g bytes (piece_count g)) }
+        → image_state g bytes ≡ Some (decoded_before (version_in bytes) g bytes (piece_count g)) }
     ensures only_good { (g : Geometry) (bytes : List ℕ) → AreSizedBytes (piece_at g (piece_count g)) bytes
-        → is_some (read g bytes) ≡ true → (has_head bytes ≡ true) × AreGood g bytes (piece_count g) }
+        → is_some (image_state g bytes) ≡ true → (has_head bytes ≡ true) × AreGood g bytes (piece_count g) }
 {}
 
 /// Each piece of an image has its size (`piece_size`) and its place (`piece_at`), and the last one ends where the

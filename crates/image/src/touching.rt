@@ -3,7 +3,7 @@ ghost use Rattle.std.specs.Prelude.{◌≡◌};
 ghost use Rattle.image.specs.Touched.{may_change, may_change_part};
 
 use affinity::{Geometry, group_of};
-use messages::Msg;
+use language::Msg;
 
 /// Whether a message may change piece `n` of an image. It may change pieces of its own volume alone, and none if it only asks.
 /// A piece that it may not change stays as it is, whatever the reply is (`laws::an_untouched_piece_stays`).

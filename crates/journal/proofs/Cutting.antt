@@ -9,7 +9,7 @@ use Rattle.disk.specs.Moments.{CrashImagesAre}
 use Rattle.disk.proofs.Calls.{after_sync}
 use Rattle.disk.proofs.Leaves.{synced_left, itself}
 use Rattle.disk.proofs.Moments.{started, then, weaker}
-use Rattle.image.specs.Image.{read}
+use Rattle.image.specs.Image.{image_state}
 use Rattle.journal.specs.Steps.{RecoversByArea, run_on}
 use Rattle.journal.specs.Extents.{image_in}
 use Rattle.journal.proofs.Forced.{forced_alone, forced_both}
@@ -92,7 +92,7 @@ module _ (g : Geometry) (n used : ℕ) (x : Option State) (bytes : List ℕ) (w0
   pub sync_moments : (w1 : Medium) (r : Result (Unit {0}) DiskFault) → Syncs r w0 w1 → CrashImagesAre w0 w1 (λ c. recovered_state g c ≡ x)
   sync_moments w1 r syncs = weaker w0 w1 _ _ (after_sync w0 w0 w1 _ begun r syncs) (holds_by g n (other n) x)
 
-  module _ (is_area : n < 2) (some : is_some x ≡ true) (is : image_in g (other n) w0 ≡ bytes) (behind : run_on g (read g bytes) (front (layout_of g) (other n) w0.now) ≡ x) (w2 : Medium) where
+  module _ (is_area : n < 2) (some : is_some x ≡ true) (is : image_in g (other n) w0 ≡ bytes) (behind : run_on g (image_state g bytes) (front (layout_of g) (other n) w0.now) ≡ x) (w2 : Medium) where
     own_recovers : (c : List ℕ) → c ≡ w0.now → RecoversBy (decoding g) (layout_of g) n (other n) x c
         → (recovers_by_area (decoding g) (layout_of g) (other n) c ≡ x) × (eqb (chain (layout_of g) (other n) c) 1 ≡ false)
     own_recovers c same recovered_before =

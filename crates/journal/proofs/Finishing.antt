@@ -6,7 +6,7 @@ use Rattle.disk.specs.Device.{AreBytes, Medium}
 use Rattle.disk.specs.Moments.{CrashImagesAre}
 use Rattle.disk.proofs.Leaves.{synced_left, itself}
 use Rattle.disk.proofs.Moments.{leaves_now, then, weaker}
-use Rattle.image.specs.Image.{read}
+use Rattle.image.specs.Image.{image_state}
 use Rattle.journal.specs.Steps.{IsCutFinished, IsCutUnfinished, RecoversByArea, run_on}
 use Rattle.journal.specs.Extents.{Imaged, image_in}
 use Rattle.journal.proofs.Recovering.{as_other, both_of, chain_other, half_same, holds_by, holds_moments, shut_current, shut_force}
@@ -61,16 +61,16 @@ module _ (log : Log) (bytes : List ℕ) (w0 : Medium) (is_area : log.named < 2) 
       no_chain : eqb (chain (layout_of log.geometry) (other n) w1.now) 1 ≡ false
       no_chain = chain_other log.geometry n w1.now is_area laid (image_recovers w1.now (itself w1.now w1.unsynced are)).current
 
-      both_lead : run_on log.geometry (read log.geometry (image_in log.geometry n w0)) (front (layout_of log.geometry) n w0.now ++ front (layout_of log.geometry) (other n) w0.now) ≡ x
+      both_lead : run_on log.geometry (image_state log.geometry (image_in log.geometry n w0)) (front (layout_of log.geometry) n w0.now ++ front (layout_of log.geometry) (other n) w0.now) ≡ x
       both_lead =
-          sym (λ i. cond (unfinished.laid i) (run_on log.geometry (read log.geometry (image_in log.geometry n w0))
+          sym (λ i. cond (unfinished.laid i) (run_on log.geometry (image_state log.geometry (image_in log.geometry n w0))
           (cond (unfinished.chained i) (front (layout_of log.geometry) n w0.now ++ front (layout_of log.geometry) (other n) w0.now) (front (layout_of log.geometry) n w0.now))) None)
           ∙ sym (ap (λ (k : ℕ). recovers_by_area (decoding log.geometry) (layout_of log.geometry) k w0.now) unfinished.named)
 
-      leads : run_on log.geometry (read log.geometry bytes) (front (layout_of log.geometry) (other n) w0.now) ≡ x
+      leads : run_on log.geometry (image_state log.geometry bytes) (front (layout_of log.geometry) (other n) w0.now) ≡ x
       leads =
           ap (λ (o : Option State). run_on log.geometry o (front (layout_of log.geometry) (other n) w0.now)) unfinished.reads
-          ∙ sym (run-append (decoding log.geometry) (read log.geometry (image_in log.geometry n w0)) (front (layout_of log.geometry) n w0.now) (front (layout_of log.geometry) (other n) w0.now))
+          ∙ sym (run-append (decoding log.geometry) (image_state log.geometry (image_in log.geometry n w0)) (front (layout_of log.geometry) n w0.now) (front (layout_of log.geometry) (other n) w0.now))
           ∙ both_lead
 
       other_recovers : recovers_by_area (decoding log.geometry) (layout_of log.geometry) (other n) w1.now ≡ x
@@ -93,6 +93,6 @@ module _ (log : Log) (bytes : List ℕ) (w0 : Medium) (is_area : log.named < 2) 
           recovers = flip_by_area (decoding log.geometry) (layout_of log.geometry) (other n) (other n) x w1 w2 flipped (shut_current (layout_of log.geometry) (other n) w1.now no_chain) other_recovers;
           front = (half_same (layout_of log.geometry) (other n) w1.now w2.now (flipped.same.same.others (half_part (other n)) (λ is. omega (arith, is)))).0 ∙ half_kept.0;
           named = flipped.named;
-          reads = ap (λ (l : List ℕ). read log.geometry l) (flipped.same.same.others (image_part (other n)) (λ is. omega (arith, is)) ∙ imaged.is) ∙ unfinished.reads;
+          reads = ap (λ (l : List ℕ). image_state log.geometry l) (flipped.same.same.others (image_part (other n)) (λ is. omega (arith, is)) ∙ imaged.is) ∙ unfinished.reads;
           synced = flipped.synced;
         }

@@ -10,7 +10,7 @@ use Rattle.checkpoint.proofs.Behind.{alone_holds, follows, laid_out}
 use Rattle.checkpoint.proofs.Replays.{same_bytes}
 use Rattle.disk.specs.Device.{AreBytes, IsSynced, Medium, moments}
 use Rattle.disk.proofs.Leaves.{synced_left}
-use Rattle.image.specs.Image.{image_of, read}
+use Rattle.image.specs.Image.{image_of, image_state}
 use Rattle.image.specs.Pieces.{piece_count}
 use Rattle.image.proofs.Reading.{read_again}
 use Rattle.journal.specs.declared.opening.Parts.{Parts}
@@ -51,7 +51,7 @@ unfinished_cut log m x bytes is synced is_state spelled = record {
   named = sym is.named;
   chained = follows log.geometry m.now log.named x is;
   reads =
-      ap (read log.geometry) spelled ∙ read_again log.geometry x is_state
+      ap (image_state log.geometry) spelled ∙ read_again log.geometry x is_state
       ∙ sym (ap (λ (o : Option State). run_on log.geometry o (front (layout_of log.geometry) log.named m.now)) is.decoded ∙ is.ran);
 }
 

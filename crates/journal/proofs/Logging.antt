@@ -4,12 +4,12 @@ use Rattle.std.proofs.lemmas.List.{length-map, take-map}
 use Rattle.std.proofs.lemmas.Slice.Eq.{bytes_eq-Decides}
 use Rattle.std.specs.Str.{bytes_eq}
 use Rattle.affinity.specs.declared.geometry.Geometry.{Geometry}
-use Rattle.checkpoint.specs.Recovery.{apply, apply_decoded, recovered_state, decoding}
+use Rattle.checkpoint.specs.Recovery.{after_record, apply_decoded, recovered_state, decoding}
 use Rattle.disk.specs.Device.{AreBytes, IsCrashImage, Medium}
 use Rattle.disk.specs.Moments.{CrashImagesAre}
 use Rattle.disk.proofs.Leaves.{itself}
 use Rattle.disk.proofs.Moments.{weaker}
-use Rattle.image.specs.Image.{image_head, read}
+use Rattle.image.specs.Image.{image_head, image_state}
 use Rattle.image.specs.Touched.{may_change}
 use Rattle.image.proofs.Untouched.{piece_stays}
 use Rattle.meaning.proofs.Kept.{step_kept}
@@ -22,8 +22,8 @@ use Rattle.journal.specs.Extents.{AgreeOnClean, image_in, extent_of}
 use Rattle.journal.proofs.Cutting.{named_below}
 use Rattle.journal.proofs.Forced.{forced_more, used_most}
 use Rattle.journal.proofs.Recovering.{holds_by, holds_now}
-use Rattle.messages.specs.declared.Msg.{Msg}
-use Rattle.messages.specs.Messages.{is_in_range}
+use Rattle.language.specs.declared.Msg.{Msg}
+use Rattle.language.specs.Messages.{is_in_range}
 use Rattle.message.specs.Records.{message_in_fields, record_of}
 use Rattle.message.proofs.RecordLemmas.{record_says}
 use Rattle.oplog.specs.Calls.{Grows, HasAdded}
@@ -42,7 +42,7 @@ use Rattle.meaning.specs.State.{State, IsState}
 
 -- the record of a message that is carried out leads to the state after it
 applied : (g : Geometry) (x : State) (m : Msg) → message_in_fields (record_of m) ≡ Some m → is_in_range g m ≡ true → is_recorded m (reply_to g x m)
-    ≡ true → apply g x (record_of m) ≡ Some (next_state g x m)
+    ≡ true → after_record g x (record_of m) ≡ Some (next_state g x m)
 applied g x m says in_range recorded =
     let same : bytes_eq (record_of m) (record_of m) ≡ true = (bytes_eq-Decides (record_of m) (record_of m)).1 refl in
     ap (apply_decoded g x (record_of m)) says ∙ (λ i. cond (same i && in_range i && recorded i) (Some (next_state g x m)) None)
@@ -185,9 +185,9 @@ module _ {log : Log} {snapshot : List ℕ} {named others pending : List Bool} {p
     cut_more None placed cut = tt
     cut_more (Some k) placed cut = record {
       behind =
-          ap (λ (rs : List (List ℕ)). run_on log.geometry (read log.geometry snapshot) rs)
+          ap (λ (rs : List (List ℕ)). run_on log.geometry (image_state log.geometry snapshot) rs)
           (subst (λ (h : ℕ). front (layout_of log.geometry) h w1.now ≡ front (layout_of log.geometry) h w0.now ++ records_of ms) placed.0 has.has.front)
-          ∙ run-append (decoding log.geometry) (read log.geometry snapshot) (front (layout_of log.geometry) (other log.named) w0.now) (records_of ms)
+          ∙ run-append (decoding log.geometry) (image_state log.geometry snapshot) (front (layout_of log.geometry) (other log.named) w0.now) (records_of ms)
           ∙ ap (λ (o : Option State). run_on log.geometry o (records_of ms)) cut.behind ∙ leads ∙ sym log_committed;
       written = subst (λ (l : List ℕ). AgreeOnClean log.geometry pending l snapshot) (sym (images (other log.named) (omega arith))) cut.written;
       version = cut.version;

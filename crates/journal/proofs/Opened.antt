@@ -14,7 +14,7 @@ use Rattle.disk.specs.Device.{AreBytes, IsSynced, IsCrashImage, IsTornFrom, Medi
 use Rattle.disk.specs.Moments.{CrashImagesAre, left_since}
 use Rattle.disk.proofs.Leaves.{synced_left, itself}
 use Rattle.disk.proofs.Moments.{leaves_now, same, started, then, weaker}
-use Rattle.image.specs.Image.{read}
+use Rattle.image.specs.Image.{image_state}
 use Rattle.journal.specs.Opening.{area_state, IsBadAfterCut, IsLeftByRefusal, IsUnwritten, OpeningCrashImages, RecoversAsBefore}
 use Rattle.journal.specs.Parts.{IsFaultAfterCut, IsRefusedAlike}
 use Rattle.journal.specs.Steps.{RecoversByNamedAlone, IsCutFinished, RecoversByArea, RecoversStill, finished_log}
@@ -254,7 +254,7 @@ if_err (Err e) P Q gives held = gives e held
 pub record FinishedAndRefused (g : Geometry) (h : ℕ) (old new : Medium) : Type 0 where
   pub alike : IsRefusedAlike g old.now new.now
   pub named : named_area (layout_of g) new.now ≡ h
-  pub image : read g (image_in g h new) ≡ area_state g (named_area (layout_of g) old.now) old.now
+  pub image : image_state g (image_in g h new) ≡ area_state g (named_area (layout_of g) old.now) old.now
   pub synced : IsSynced new
 
 -- A cut was finished, and a record of half h behind it can't be run, or the device failed. In the first case the area of half h is named
@@ -278,7 +278,7 @@ bad_half {g} {h} o {w0} {w2} (BadRecord k j) some is head why done =
       own,
       record {
         named = done.named ∙ sym own;
-        image = ap (λ (n : ℕ). read g (image_in g n w2)) own ∙ done.image;
+        image = ap (λ (n : ℕ). image_state g (image_in g n w2)) own ∙ done.image;
         synced = done.synced;
         header = done.alike.header;
         refused = done.alike.refused ∙ ap (λ (x : Geometry). refused x w0.now) (same_geometry g why.geometry (sym head ∙ why.header)) ∙ why.is;

@@ -8,7 +8,7 @@ use Rattle.disk.specs.Device.{AreBytes, IsCrashImage, Medium}
 use Rattle.disk.specs.Moments.{CrashImagesAre}
 use Rattle.disk.proofs.Leaves.{itself}
 use Rattle.disk.proofs.Moments.{leaves_now}
-use Rattle.image.specs.Image.{read}
+use Rattle.image.specs.Image.{image_state}
 use Rattle.journal.specs.Images.{PatchesAt, PatchesUnnamed}
 use Rattle.journal.specs.Keeping.{IsUpToDate, FitsCutState, IsSoundJournal}
 use Rattle.journal.specs.DirtyPieces.{count_dirty}
@@ -118,7 +118,7 @@ module _ {log : Log} {snapshot : List ℕ} {named others pending : List Bool} {p
           snapshot_up_to_date = λ none. absurd (true≢false (ap is_some none));
           other_up_to_date = subst (λ (o : Option State). IsUpToDate log.geometry o others snapshot) (sym same) sound'.other_up_to_date;
           by_cut = record {
-            behind = ap (λ (rs : List (List ℕ)). run_on log.geometry (read log.geometry snapshot) rs) other_half.0 ∙ sound'.by_cut.behind ∙ sym same;
+            behind = ap (λ (rs : List (List ℕ)). run_on log.geometry (image_state log.geometry snapshot) rs) other_half.0 ∙ sound'.by_cut.behind ∙ sym same;
             written = λ i few' clean.
                 ⊎_elim
                 (λ (here : i ≡ n). ap (λ (j : ℕ). extent_in log.geometry (image_in log.geometry (other log.named) w1) j) here ∙ pieced.is.is

@@ -6,7 +6,7 @@ use Rattle.disk.specs.Device.{AreBytes, Medium}
 use Rattle.disk.specs.Moments.{CrashImagesAre}
 use Rattle.disk.proofs.Leaves.{synced_left, itself}
 use Rattle.disk.proofs.Moments.{leaves_now, then, weaker}
-use Rattle.image.specs.Image.{read}
+use Rattle.image.specs.Image.{image_state}
 use Rattle.journal.specs.Steps.{RecoversByArea}
 use Rattle.journal.specs.Extents.{AgreeOnClean, Imaged, image_in}
 use Rattle.journal.proofs.Recovering.{as_other, both_of, half_same, holds_by, holds_moments, laid_by, not_one, ready_none, run_none, shut_current, shut_force}
@@ -39,7 +39,7 @@ module _ (g : Geometry) (n : ℕ) (x : Option State) (is_area : n < 2) (w0 w1 : 
       pub image_moments : CrashImagesAre w0 w2 (λ c. recovered_state g c ≡ x)
       image_moments = holds_moments g n n x w0 w2 by_image
 
-      module _ (some : is_some x ≡ true) (bytes : List ℕ) (reads : read g bytes ≡ x) (cleared : Cleared (layout_of g) (other n) w0 w1) (imaged : Imaged g (other n) bytes w1 w2) where
+      module _ (some : is_some x ≡ true) (bytes : List ℕ) (reads : image_state g bytes ≡ x) (cleared : Cleared (layout_of g) (other n) w0 w1) (imaged : Imaged g (other n) bytes w1 w2) where
         image_recovers : RecoversByArea g n n x w2
         image_recovers = leaves_now w0 w2 _ by_image
 
@@ -56,7 +56,7 @@ module _ (g : Geometry) (n : ℕ) (x : Option State) (is_area : n < 2) (w0 w1 : 
         other_recovers c is own =
             let laid = laid_by g n x c own some in
             as_other g (other n) c laid (ap (λ (l : List ℕ). image_of_area l) is ∙ imaged.is)
-            (ap (λ (l : List ℕ). in_force (layout_of g) (other n) l) is ∙ no_force) (run_none g (read g bytes) ∙ reads)
+            (ap (λ (l : List ℕ). in_force (layout_of g) (other n) l) is ∙ no_force) (run_none g (image_state g bytes) ∙ reads)
           where
             image_of_area : List ℕ → List ℕ
             image_of_area l = part_bytes (layout_of g) (image_part (other n)) l

@@ -7,7 +7,7 @@ use Rattle.disk.specs.Device.{AreBytes, Medium}
 use Rattle.disk.specs.Moments.{CrashImagesAre}
 use Rattle.disk.proofs.Leaves.{itself}
 use Rattle.disk.proofs.Moments.{weaker}
-use Rattle.image.specs.Image.{read}
+use Rattle.image.specs.Image.{image_state}
 use Rattle.journal.specs.Steps.{RecoversByArea, run_on}
 use Rattle.oplog.specs.Changes.{IsReady}
 use Rattle.oplog.specs.Crash.{RecoversBy}
@@ -38,9 +38,9 @@ pub laid_by : (g : Geometry) (n : ℕ) (x : Option State) (c : List ℕ) → rec
 laid_by g n x c is some = laid_if (is_laid_out (decoding g) (layout_of g) c) _ x is some
 
 pub as_other : (g : Geometry) (q : ℕ) (c : List ℕ) → {x : Option State} {bytes : List ℕ} {rs : List (List ℕ)} → is_laid_out (decoding g) (layout_of g) c ≡ true
-    → part_bytes (layout_of g) (image_part q) c ≡ bytes → in_force (layout_of g) q c ≡ rs → run_on g (read g bytes) rs ≡ x
+    → part_bytes (layout_of g) (image_part q) c ≡ bytes → in_force (layout_of g) q c ≡ rs → run_on g (image_state g bytes) rs ≡ x
     → recovers_by_area (decoding g) (layout_of g) q c ≡ x
-as_other g q c laid is force leads = (λ i. cond (laid i) (run (decoding g) (read g (is i)) (force i)) None) ∙ leads
+as_other g q c laid is force leads = (λ i. cond (laid i) (run (decoding g) (image_state g (is i)) (force i)) None) ∙ leads
 
 -- ---- chains
 

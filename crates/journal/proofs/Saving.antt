@@ -7,7 +7,7 @@ use Rattle.checkpoint.specs.Recovery.{recovered_state}
 use Rattle.disk.specs.Device.{AreBytes, Medium}
 use Rattle.checkpoint.specs.Version.{named_version}
 use Rattle.disk.proofs.Leaves.{itself}
-use Rattle.image.specs.Image.{image_head, image_of, read, version_in}
+use Rattle.image.specs.Image.{image_head, image_of, image_state, version_in}
 use Rattle.image.specs.Pieces.{joined_below, piece_count, piece_of, piece_size}
 use Rattle.image.proofs.Cuts.{piece_again}
 use Rattle.image.proofs.Measures.{state_is_measured}
@@ -35,8 +35,8 @@ snapshot_is g y is zero few =
 snapshot_is g y is (suc n) few = piece_again 2 g y (state_is_measured g y is) (suc n) few
 
 module _ (g : Geometry) (x : Option State) (y : State) (snapshot : List ℕ) (is : x ≡ Some y) (is_state : IsState g y) (spelled : snapshot ≡ image_of 2 g y) where
-  pub snapshot_reads : read g snapshot ≡ x
-  snapshot_reads = ap (read g) spelled ∙ read_again g y is_state ∙ sym is
+  pub snapshot_reads : image_state g snapshot ≡ x
+  snapshot_reads = ap (image_state g) spelled ∙ read_again g y is_state ∙ sym is
 
   pub snapshot_up_to_date : (dirty : List Bool) → IsUpToDate g x dirty snapshot
   snapshot_up_to_date dirty z is' n few clean =
@@ -107,7 +107,7 @@ module _ {log : Log} {snapshot snapshot' : List ℕ} {named others pending : Lis
     recovers = subst (λ (h : ℕ). RecoversByArea log.geometry log.named h (recovered_state log.geometry w0.now) w0) f.current_is_named f.sound.recovers;
   }
 
-  pub reads : read log.geometry snapshot' ≡ recovered_state log.geometry w0.now
+  pub reads : image_state log.geometry snapshot' ≡ recovered_state log.geometry w0.now
   reads = snapshot_reads log.geometry (recovered_state log.geometry w0.now) y snapshot' f.is f.is_state f.spelled
 
   pub agrees : AgreeOnClean log.geometry others (image_in log.geometry (other log.named) w0) snapshot'
@@ -163,7 +163,8 @@ module _ {log : Log} {snapshot snapshot' : List ℕ} {named others pending : Lis
           other_up_to_date = subst (λ (o : Option State). IsUpToDate log.geometry o others' snapshot') (sym same)
               (snapshot_up_to_date log.geometry (recovered_state log.geometry w0.now) y snapshot' f.is f.is_state f.spelled others');
           by_cut = record {
-            behind = ap (λ (rs : List (List ℕ)). run_on log.geometry (read log.geometry snapshot') rs) begun.none ∙ run_none log.geometry (read log.geometry snapshot') ∙ reads ∙ sym same;
+            behind = ap (λ (rs : List (List ℕ)). run_on log.geometry (image_state log.geometry snapshot') rs) begun.none
+                ∙ run_none log.geometry (image_state log.geometry snapshot') ∙ reads ∙ sym same;
             written =
                 subst (λ (row : List Bool). AgreeOnClean log.geometry row (image_in log.geometry (other log.named) w1) snapshot') (sym same_dirty)
                 (subst (λ (l : List ℕ). AgreeOnClean log.geometry others l snapshot') (sym (begun.images (other log.named) (omega arith))) agrees);

@@ -10,7 +10,7 @@ use Rattle.disk.specs.Device.{AreBytes, IsSynced, Medium}
 use Rattle.disk.specs.Moments.{CrashImagesAre}
 use Rattle.disk.proofs.Leaves.{synced_left}
 use Rattle.disk.proofs.Moments.{then, weaker}
-use Rattle.image.specs.Image.{read}
+use Rattle.image.specs.Image.{image_state}
 use Rattle.journal.specs.Parts.{IsRefusedAlike}
 use Rattle.journal.specs.Extents.{Imaged}
 use Rattle.disk.specs.Store.{CrashesChangeOnly}
@@ -44,7 +44,7 @@ module _ (g : Geometry) (n : ℕ) (is_area : n < 2) (a c : List ℕ) (same : Are
     one = chains_same ∙ is.one;
     sound = ap (λ (l : List ℕ). image_fault g l) same.image ∙ is.sound;
     first = is.first;
-    decoded = ap (λ (l : List ℕ). read g l) same.image ∙ is.decoded;
+    decoded = ap (λ (l : List ℕ). image_state g l) same.image ∙ is.decoded;
     ran = ap (λ rs. run (decoding g) (Some is.first) rs) (front_same n is_area) ∙ is.ran;
   }
 
@@ -99,7 +99,7 @@ module _ (g : Geometry) (n : ℕ) (is_area : n < 2) (x : State) (w0 w1 : Medium)
       weaker w0 w1 _ _ writes
       (λ c after. torn_image c (subst (λ (l : List ℕ). IsSameBut (layout_of g) (image_part (other n)) l c) (synced_left w0 after.old synced after.left) after.change))
 
-  module _ (are : AreBytes w1.now) (bytes : List ℕ) (reads : read g bytes ≡ Some x) (imaged : Imaged g (other n) bytes w0 w1) where
+  module _ (are : AreBytes w1.now) (bytes : List ℕ) (reads : image_state g bytes ≡ Some x) (imaged : Imaged g (other n) bytes w0 w1) where
     now_names : named_area (layout_of g) w1.now ≡ n
     now_names = names_same w0.now w1.now imaged.same ∙ sym is.named
 
@@ -125,11 +125,11 @@ module _ (g : Geometry) (n : ℕ) (is_area : n < 2) (x : State) (w0 w1 : Medium)
     by_other : (c : List ℕ) → IsSameButRoot (layout_of g) w1.now c → named_area (layout_of g) c ≡ other n → refused g c ≡ refused g w0.now
     by_other c change names =
         let same = kept (other n) c (omega arith) change in
-        let decoded : read g (part_bytes (layout_of g) (image_part (other n)) w1.now) ≡ Some x = ap (λ (l : List ℕ). read g l) imaged.is ∙ reads in
+        let decoded : image_state g (part_bytes (layout_of g) (image_part (other n)) w1.now) ≡ Some x = ap (λ (l : List ℕ). image_state g l) imaged.is ∙ reads in
         let fine = image_fine g (other n) w1.now (omega arith) now_held.long_enough are (ap is_some decoded) in
         let shut = other_shut g n w1.now is_area now_held.one (sym now_held.chain) in
         refused_alone g c (same.header ∙ now_held.header) (subst (λ (k : ℕ). device_size (layout_of g) ≤ k) (sym same.size) now_held.long_enough) (sym names)
-        (ap (λ (l : List ℕ). image_fault g l) same.image ∙ fine) (ap (λ (l : List ℕ). read g l) same.image ∙ decoded)
+        (ap (λ (l : List ℕ). image_fault g l) same.image ∙ fine) (ap (λ (l : List ℕ). image_state g l) same.image ∙ decoded)
         (ap (λ (l : List ℕ). chain_in l == 1) (same.halves (other n) (omega arith)) ∙ shut)
         ∙ ap (λ rs. records_fault g x (other n) rs) (front_same g (other n) (omega arith) w1.now c same (other n) (omega arith) ∙ behind_same) ∙ sym was
 

@@ -4,8 +4,8 @@ use Rattle.affinity.specs.declared.geometry.Geometry.{Geometry}
 use Rattle.checkpoint.specs.Recovery.{recovered_state}
 use Rattle.disk.specs.Device.{Medium, IsCrashImage}
 use Rattle.journal.specs.DirtyPieces.{DirtyPieces}
-use Rattle.messages.specs.declared.Msg.{Msg}
-use Rattle.messages.specs.Messages.{IsMessage}
+use Rattle.language.specs.declared.Msg.{Msg}
+use Rattle.language.specs.Messages.{IsMessage}
 use Rattle.oplog.specs.Changing.{IsChangeInRange}
 use Rattle.oplog.specs.Recovery.{records_in}
 use Rattle.meaning.specs.Serial.{state_after_all, is_recorded, next_state, reply_to}

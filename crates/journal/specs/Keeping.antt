@@ -3,7 +3,7 @@ use Rattle.std.specs.Prelude.{◌≡◌, ◌<◌, ◌-◌, ℕ, Bool, true, fals
 use Rattle.affinity.specs.declared.geometry.Geometry.{Geometry}
 use Rattle.checkpoint.specs.Recovery.{recovered_state}
 use Rattle.disk.specs.Device.{IsCrashImage, Medium}
-use Rattle.image.specs.Image.{read, version_in}
+use Rattle.image.specs.Image.{image_state, version_in}
 use Rattle.journal.specs.Journal.{JournalView}
 use Rattle.journal.specs.DirtyPieces.{count_dirty}
 use Rattle.journal.specs.Steps.{RecoversByArea, run_on}
@@ -30,7 +30,7 @@ AreCleanBefore n dirty = (i : ℕ) → i < n → get_or dirty i false ≡ false
 -- A cut is in progress: its image, with the records of the other half run on it, leads to what the device recovers to, and
 -- each of its extents that isn't pending is on the device. Its image has version 2, the version that is written.
 pub record IsCut (log : Log) (snapshot : List ℕ) (pending : List Bool) (m : Medium) : Type 0 where
-  pub behind : run_on log.geometry (read log.geometry snapshot) (front (layout_of log.geometry) (other log.named) m.now)
+  pub behind : run_on log.geometry (image_state log.geometry snapshot) (front (layout_of log.geometry) (other log.named) m.now)
       ≡ recovered_state log.geometry m.now
   pub written : AgreeOnClean log.geometry pending (image_in log.geometry (other log.named) m) snapshot
   pub version : version_in snapshot ≡ 2

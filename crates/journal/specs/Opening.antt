@@ -11,7 +11,7 @@ use Rattle.disk.specs.Device.{Medium, IsCrashImage, IsSynced}
 use Rattle.disk.specs.Moments.{CrashImagesAre}
 use Rattle.journal.specs.Journal.{JournalView, IsRecoverable, records, committed}
 use Rattle.journal.specs.DirtyPieces.{opened_dirty}
-use Rattle.image.specs.Image.{read}
+use Rattle.image.specs.Image.{image_state}
 use Rattle.oplog.specs.Front.{front}
 use Rattle.device_map.specs.Layout.{image_part, layout_of, part_bytes}
 use Rattle.oplog.specs.Recovery.{named_area, run}
@@ -63,14 +63,14 @@ pub record IsUnwritten (old new : Medium) : Type 0 where
 
 -- the state of area n of a device with these bytes by itself: its image, with the records of its half run on it
 abbrev pub area_state : Geometry → ℕ → List ℕ → Option State
-area_state g n c = run (decoding g) (read g (part_bytes (layout_of g) (image_part n) c)) (front (layout_of g) n c)
+area_state g n c = run (decoding g) (image_state g (part_bytes (layout_of g) (image_part n) c)) (front (layout_of g) n c)
 
 -- A cut in progress was finished, and record i of the half that was after the named one is bad. The area of that half is
 -- named now, its image is that of the state which the area named before had by itself, nothing is unsynced, and the device is
 -- still refused for this record.
 pub record IsBadAfterCut (g : Geometry) (h i : ℕ) (old new : Medium) : Type 0 where
   pub named : named_area (layout_of g) new.now ≡ h
-  pub image : read g (part_bytes (layout_of g) (image_part h) new.now) ≡ area_state g (named_area (layout_of g) old.now) old.now
+  pub image : image_state g (part_bytes (layout_of g) (image_part h) new.now) ≡ area_state g (named_area (layout_of g) old.now) old.now
   pub synced : IsSynced new
   pub header : HasHeader g new.now
   pub refused : refused g new.now ≡ Some (BadRecord h i)

@@ -4,7 +4,7 @@ use Rattle.affinity.specs.declared.geometry.Geometry.{Geometry}
 use Rattle.checkpoint.specs.Recovery.{recovered_state, decoding}
 use Rattle.disk.specs.Device.{Medium, IsSynced}
 use Rattle.disk.specs.Moments.{CrashImagesAre}
-use Rattle.image.specs.Image.{read}
+use Rattle.image.specs.Image.{image_state}
 use Rattle.journal.specs.Extents.{image_in}
 use Rattle.oplog.specs.Changes.{IsReady}
 use Rattle.oplog.specs.Crash.{CrashRecovers}
@@ -64,7 +64,7 @@ pub record IsCutWritten (log : Log) (bytes : List ℕ) (m : Medium) : Type 0 whe
   pub by : RecoversWith log (other log.named) m
   pub ready : IsReady (layout_of log.geometry) (other log.named) log.used m
   pub is : image_in log.geometry (other log.named) m ≡ bytes
-  pub behind : run_on log.geometry (read log.geometry bytes) (front (layout_of log.geometry) (other log.named) m.now)
+  pub behind : run_on log.geometry (image_state log.geometry bytes) (front (layout_of log.geometry) (other log.named) m.now)
       ≡ recovered_state log.geometry m.now
 
 -- The other area is named, with the records that it had: they alone are in force. Both images are as they were.
@@ -80,15 +80,16 @@ pub record IsCutUnfinished (log : Log) (bytes : List ℕ) (m : Medium) : Type 0 
   pub laid : is_laid_out (decoding log.geometry) (layout_of log.geometry) m.now ≡ true
   pub named : named_area (layout_of log.geometry) m.now ≡ log.named
   pub chained : (chain (layout_of log.geometry) log.named m.now == 1) ≡ true
-  pub reads : read log.geometry bytes
-      ≡ run_on log.geometry (read log.geometry (image_in log.geometry log.named m)) (front (layout_of log.geometry) log.named m.now)
+  pub reads : image_state log.geometry bytes
+      ≡ run_on log.geometry (image_state log.geometry (image_in log.geometry log.named m)) (front (layout_of log.geometry) log.named m.now)
 
 -- The other area is named and recovers to the same by itself, and nothing is unsynced. Its half has the records that it had,
 -- and its image is that of what the area named before held by itself.
 pub record IsCutFinished (log : Log) (old new : Medium) : Type 0 where
   pub recovers : RecoversByArea log.geometry (other log.named) (other log.named) (recovered_state log.geometry old.now) new
-  pub reads : read log.geometry (image_in log.geometry (other log.named) new)
-      ≡ run_on log.geometry (read log.geometry (image_in log.geometry log.named old)) (front (layout_of log.geometry) log.named old.now)
+  pub reads : image_state log.geometry (image_in log.geometry (other log.named) new)
+      ≡ run_on log.geometry (image_state log.geometry (image_in log.geometry log.named old))
+      (front (layout_of log.geometry) log.named old.now)
   pub front : front (layout_of log.geometry) (other log.named) new.now ≡ front (layout_of log.geometry) (other log.named) old.now
   pub named : named_area (layout_of log.geometry) new.now ≡ other log.named
   pub synced : IsSynced new

@@ -22,7 +22,7 @@ use crate::extents::write_extent;
 use crate::snapshot::update_snapshot;
 use crate::steps::{cut_on, flip_on, point_on};
 use disk::Disk;
-use messages::Msg;
+use language::Msg;
 use oplog::{Halves, LogFault};
 use parcel::Tree;
 use std::marker::Model;

@@ -3,7 +3,7 @@ ghost use Rattle.std.specs.Prelude.{◌≡◌, true, false, Some, length, OnOk, 
 ghost use Rattle.checkpoint.specs.Loading.{NamedHolds};
 ghost use Rattle.checkpoint.specs.Recovery.{recovered_state};
 ghost use Rattle.disk.specs.Moments.{CrashImagesAre};
-ghost use Rattle.image.specs.Image.{read};
+ghost use Rattle.image.specs.Image.{image_state};
 ghost use Rattle.image.specs.Pieces.{piece_count};
 ghost use Rattle.journal.specs.Costs.{point_cost};
 ghost use Rattle.journal.specs.Parts.{IsRefusedAlike};
@@ -34,7 +34,7 @@ pub(crate) fn point_on<D: Disk>(
     requires long_enough { IsLongEnough halves.old (D.medium disk.old) }
     requires current_is_named { halves.old.current ≡ halves.old.named }
     requires alone { D.keeps → RecoversByNamedAlone halves.old (D.medium disk.old) }
-    requires image { D.keeps → read halves.old.geometry bytes.now ≡ recovered_state halves.old.geometry (D.medium disk.old).now }
+    requires image { D.keeps → image_state halves.old.geometry bytes.now ≡ recovered_state halves.old.geometry (D.medium disk.old).now }
     requires clean { D.keeps → AgreeOnClean halves.old.geometry dirty.now
         (image_in halves.old.geometry (other halves.old.named) (D.medium disk.old)) bytes.now }
     ensures any_moment { D.keeps → RecoversStill halves.old.geometry (D.medium disk.old) (D.medium disk.new) }
@@ -126,7 +126,7 @@ pub(crate) fn finish_on<D: Disk>(
     requires unfinished { D.keeps → IsCutUnfinished halves.old bytes.now (D.medium disk.old) }
     ensures any_moment { D.keeps → RecoversStill halves.old.geometry (D.medium disk.old) (D.medium disk.new) }
     ensures beyond { D.keeps → KeepsBeyond (layout_of halves.old.geometry) (D.medium disk.old) (D.medium disk.new) }
-    ensures alike { D.keeps → (x : State) → read halves.old.geometry bytes.now ≡ Some x
+    ensures alike { D.keeps → (x : State) → image_state halves.old.geometry bytes.now ≡ Some x
         → NamedHolds halves.old.geometry (D.medium disk.old).now halves.old.named true x
         → CrashImagesAre (D.medium disk.old) (D.medium disk.new) (IsRefusedAlike halves.old.geometry (D.medium disk.old).now) }
     ensures finished { OnOk result (D.keeps → IsCutFinished halves.old (D.medium disk.old) (D.medium disk.new)) }

@@ -2,12 +2,12 @@
 use Rattle.std.proofs.Common.{◌≡◌, ℕ, zero, suc, List, ◌∷◌, map, replicate, refl, ap, sym, subst, ◌∙◌}
 use Rattle.std.proofs.lemmas.Option.{none-some}
 use Rattle.affinity.specs.declared.geometry.Geometry.{Geometry}
-use Rattle.legal_runs.specs.Events.{Empty, Hand}
-use Rattle.legal_runs.specs.Laws.{IsSoundCoreState}
-use Rattle.legal_runs.specs.CoreState.{CoreState}
-use Rattle.runs.specs.Machine.{HoldsJobs, IsHandOf, hand_at, hand_of, ticket_in}
-use Rattle.runs.specs.declared.hands.HandContent.{HandContent}
-use Rattle.runs.specs.declared.hands.HandContent.TheVariants as has
+use Rattle.histories.specs.Events.{Empty, Hand}
+use Rattle.histories.specs.Laws.{IsSoundCoreState}
+use Rattle.histories.specs.CoreState.{CoreState}
+use Rattle.incarnations.specs.Machine.{HoldsJobs, IsHandOf, hand_at, hand_of, ticket_in}
+use Rattle.incarnations.specs.declared.hands.HandContent.{HandContent}
+use Rattle.incarnations.specs.declared.hands.HandContent.TheVariants as has
 
 empty_at : (n i : ℕ) → hand_at (replicate n has.Empty) i ≡ has.Empty
 empty_at zero zero = refl

@@ -1,11 +1,11 @@
 //! What is done with hands.
 ghost use Rattle.std.specs.Prelude.{position, ◌≡◌};
-ghost use Rattle.legal_runs.specs.Events.{is_empty};
-ghost use Rattle.runs.specs.Hands.{IsTakenFrom, IsRunIn};
-ghost use Rattle.runs.specs.Machine.{hand_of};
+ghost use Rattle.histories.specs.Events.{is_empty};
+ghost use Rattle.incarnations.specs.Hands.{IsTakenFrom, IsRunIn};
+ghost use Rattle.incarnations.specs.Machine.{hand_of};
 
+use incarnations::HandContent;
 use parcel::{Done, run};
-use runs::HandContent;
 use std::mem;
 
 /// The number of the first empty hand.

@@ -1,16 +1,16 @@
 //! One step of a machine.
 ghost use Rattle.std.specs.Prelude.{◌≡◌, false};
-ghost use Rattle.legal_runs.specs.Events.{touches_device};
-ghost use Rattle.legal_runs.specs.declared.outcomes.Step.TheVariants as steps;
-ghost use Rattle.runs.specs.Machine.{HoldsJobs};
-ghost use Rattle.runs.specs.Steps.{IsCoreStep, IsMachineStep};
+ghost use Rattle.histories.specs.Events.{touches_device};
+ghost use Rattle.histories.specs.declared.outcomes.Step.TheVariants as steps;
+ghost use Rattle.incarnations.specs.Machine.{HoldsJobs};
+ghost use Rattle.incarnations.specs.Steps.{IsCoreStep, IsMachineStep};
 ghost use Rattle.scheduler.specs.CoreView.{core_state_of};
 
 use crate::hands::{first_empty, run_in, take_result};
 use disk::Disk;
-use legal_runs::{Outcome, Step};
-use messages::Msg;
-use runs::HandContent;
+use histories::{Outcome, Step};
+use incarnations::HandContent;
+use language::Msg;
 use scheduler::{Core, Granted};
 
 /// Makes one step, and returns its outcome.

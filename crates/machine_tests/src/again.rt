@@ -9,7 +9,7 @@ use crate::making::{Row, SMALL, goes_so, holds};
 use checkpoint::OpenFault;
 use disk::MemDisk;
 use harness::{Wrong, device_with};
-use legal_runs::{Outcome, PointRefusal, Step};
+use histories::{Outcome, PointRefusal, Step};
 use machine::Machine;
 use scheduler::Core;
 use std::alloc::Global;

@@ -6,7 +6,7 @@
 use crate::making::Row::{Arrives, Does};
 use crate::making::{Row, SMALL, goes_so, holds, machine_on};
 use harness::{Wrong, device_with};
-use legal_runs::{ArriveRefusal, CoreFault, Outcome, PointRefusal, Step};
+use histories::{ArriveRefusal, CoreFault, Outcome, PointRefusal, Step};
 use std::alloc::Global;
 use std::process::Abort;
 use std::test::Fail;

@@ -2,7 +2,7 @@
 use checkpoint::OpenFault;
 use disk::MemDisk;
 use harness::Wrong;
-use legal_runs::{Outcome, Step};
+use histories::{Outcome, Step};
 use machine::Machine;
 use message::{LONGEST_REPLY, Msg, Reply, parse_line, write_reply};
 use scheduler::Core;

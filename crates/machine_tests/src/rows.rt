@@ -10,7 +10,7 @@ use crate::making::{FLAT, Row, SMALL, goes_so, holds, machine_on};
 use checkpoint::inspect;
 use disk::MemDisk;
 use harness::{MIXED, NEW, OLD, Wrong, device_with, torn};
-use legal_runs::{ArriveRefusal, CoreFault, Outcome, PointRefusal, Step};
+use histories::{ArriveRefusal, CoreFault, Outcome, PointRefusal, Step};
 use message::Reply;
 use std::alloc::Global;
 use std::process::Abort;

@@ -8,7 +8,7 @@ use harness::{
     Ended, OpenedDevice, Progress, Questions, Trial, Wrong, device_with, expected, messages_of,
     sweep,
 };
-use legal_runs::{CoreFault, Outcome, PointRefusal, Step};
+use histories::{CoreFault, Outcome, PointRefusal, Step};
 use std::alloc::Global;
 use std::test::Fail;
 

@@ -4,13 +4,13 @@ use Rattle.std.specs.Prelude.{not, find, is_some}
 use Rattle.std.specs.List.{AllByRecursion}
 use Rattle.std.proofs.lemmas.Bool.{and_from, or_left, lt-ltb}
 use Rattle.affinity.specs.declared.geometry.Geometry.{Geometry}
-use Rattle.messages.specs.declared.Msg.{Msg}
-use Rattle.messages.specs.declared.Msg.TheVariants.{MakeVol, DropVol, Create, Delete, Seal, Unseal, Write, Punch, Read, List as ListFiles, Usage, Summary, SetLabel, Label}
-use Rattle.messages.specs.declared.Block.{Block}
-use Rattle.messages.specs.declared.Refusal.{Refusal}
-use Rattle.messages.specs.declared.Refusal.TheVariants.{Range}
-use Rattle.messages.specs.declared.Reply.TheVariants.{Block as shows}
-use Rattle.messages.specs.Messages.{kind, four_numbers}
+use Rattle.language.specs.declared.Msg.{Msg}
+use Rattle.language.specs.declared.Msg.TheVariants.{MakeVol, DropVol, Create, Delete, Seal, Unseal, Write, Punch, Read, List as ListFiles, Usage, Summary, SetLabel, Label}
+use Rattle.language.specs.declared.Block.{Block}
+use Rattle.language.specs.declared.Refusal.{Refusal}
+use Rattle.language.specs.declared.Refusal.TheVariants.{Range}
+use Rattle.language.specs.declared.Reply.TheVariants.{Block as shows}
+use Rattle.language.specs.Messages.{kind, four_numbers}
 use Rattle.meaning.specs.State.{State, IsState}
 use Rattle.meaning.specs.Serial.{checks, passes, refusal, block_reply, reply_and_state, step}
 use Rattle.meaning.specs.ByKind.{refusal_by}

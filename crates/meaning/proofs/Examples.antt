@@ -2,12 +2,12 @@
 use Rattle.std.proofs.Common.{◌≡◌, ℕ, true, false, List, [], ◌∷◌, refl}
 use Rattle.std.specs.Prelude.{replicate}
 use Rattle.affinity.specs.Geometry.{small, default_geometry}
-use Rattle.messages.specs.declared.Block.{Block}
-use Rattle.messages.specs.declared.Msg.{Msg}
-use Rattle.messages.specs.declared.Msg.TheVariants.{MakeVol, DropVol, Create, Delete, Seal, Unseal, Write, Punch, Read, List as ListFiles, Usage as AskUsage, Summary as AskSummary, SetLabel, Label as AskLabel}
-use Rattle.messages.specs.declared.Refusal.TheVariants.{Range, Volume, Exists, Sealed, File, Space}
-use Rattle.messages.specs.declared.Reply.{Reply}
-use Rattle.messages.specs.declared.Reply.TheVariants.{Done, Hole, Block as Found, Files, Usage, Summary, Refused, Label}
+use Rattle.language.specs.declared.Block.{Block}
+use Rattle.language.specs.declared.Msg.{Msg}
+use Rattle.language.specs.declared.Msg.TheVariants.{MakeVol, DropVol, Create, Delete, Seal, Unseal, Write, Punch, Read, List as ListFiles, Usage as AskUsage, Summary as AskSummary, SetLabel, Label as AskLabel}
+use Rattle.language.specs.declared.Refusal.TheVariants.{Range, Volume, Exists, Sealed, File, Space}
+use Rattle.language.specs.declared.Reply.{Reply}
+use Rattle.language.specs.declared.Reply.TheVariants.{Done, Hole, Block as Found, Files, Usage, Summary, Refused, Label}
 use Rattle.meaning.specs.State.{empty}
 use Rattle.meaning.specs.Serial.{state_after_all, replies}
 use Rattle.meaning.specs.Laws.{recorded_of}

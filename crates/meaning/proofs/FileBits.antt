@@ -7,7 +7,7 @@ use Rattle.std.proofs.lemmas.Nat.{one_shl, or_lt, and_le_l}
 use Rattle.std.proofs.lemmas.Nat.Bits.{bit_at_above, bit_at_set_same, bit_at_set_other, bit_at_clear_same, bit_at_clear_other}
 use Rattle.std.proofs.Math.Pow.{pow-lt}
 use Rattle.std.proofs.Math.Nat.{pow-le-pow_right}
-use Rattle.messages.specs.Replies.{has_file}
+use Rattle.language.specs.Replies.{has_file}
 
 -- ---- one file more, one less
 

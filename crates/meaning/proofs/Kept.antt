@@ -7,12 +7,12 @@ use Rattle.affinity.specs.declared.geometry.Geometry.{Geometry}
 use Rattle.affinity.specs.Geometry.{stripe_of}
 use Rattle.affinity.specs.Path.{is_prefix, stripe}
 use Rattle.affinity.specs.Place.{are_below, limits}
-use Rattle.messages.specs.declared.Block.{Block}
-use Rattle.messages.specs.declared.Msg.{Msg}
-use Rattle.messages.specs.declared.Msg.TheVariants.{MakeVol, DropVol, Create, Delete, Seal, Unseal, Write, Punch, Read, List as ListFiles, Usage as AskUsage, Summary as AskSummary, SetLabel, Label as AskLabel}
-use Rattle.messages.specs.declared.Refusal.{Refusal}
-use Rattle.messages.specs.declared.Refusal.TheVariants.{Space}
-use Rattle.messages.specs.Messages.{AreSizedBytes, IsBlock, IsMessage, kind}
+use Rattle.language.specs.declared.Block.{Block}
+use Rattle.language.specs.declared.Msg.{Msg}
+use Rattle.language.specs.declared.Msg.TheVariants.{MakeVol, DropVol, Create, Delete, Seal, Unseal, Write, Punch, Read, List as ListFiles, Usage as AskUsage, Summary as AskSummary, SetLabel, Label as AskLabel}
+use Rattle.language.specs.declared.Refusal.{Refusal}
+use Rattle.language.specs.declared.Refusal.TheVariants.{Space}
+use Rattle.language.specs.Messages.{AreSizedBytes, IsBlock, IsMessage, kind}
 use Rattle.meaning.specs.State.{State, IsState, empty, VolumeKey, FileKey, BlockKey, is_volume, is_file, is_block, is_file_of, is_block_of, is_block_of_file, one_if, blocks_in_stripe}
 use Rattle.meaning.specs.Serial.{checks, passes, refusal, effect, accepted_reply, reply_and_state, next_state, state_after_all, no_label}
 use Rattle.meaning.specs.Laws.{outside}

@@ -3,7 +3,7 @@ use Rattle.std.proofs.Common.{◌≡◌, ℕ, List, [], ◌∷◌, ◌++◌, len
 use Rattle.std.specs.List.{AllByRecursion}
 use Rattle.std.proofs.lemmas.List.Concat.{flat_map-append}
 use Rattle.affinity.specs.declared.geometry.Geometry.{Geometry}
-use Rattle.messages.specs.Grammar.{message_of}
+use Rattle.language.specs.Grammar.{message_of}
 use Rattle.meaning.specs.State.{State}
 use Rattle.meaning.specs.Output.{answer_line, state_after_line, state_after_lines, output_lines, joined, with_newlines, HasNoNewline}
 

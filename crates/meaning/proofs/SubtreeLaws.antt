@@ -4,8 +4,8 @@ use Rattle.std.specs.Prelude.{◌&&◌, ◌||◌, not, if◌then◌else◌, None
 use Rattle.std.proofs.lemmas.Bool.{and_from, or_left, true≢false}
 use Rattle.affinity.specs.declared.geometry.Geometry.{Geometry}
 use Rattle.affinity.specs.Path.{Path, is_prefix, are_related}
-use Rattle.messages.specs.declared.Msg.{Msg}
-use Rattle.messages.specs.Messages.{path_of}
+use Rattle.language.specs.declared.Msg.{Msg}
+use Rattle.language.specs.Messages.{path_of}
 use Rattle.meaning.specs.State.{State}
 use Rattle.meaning.specs.Subtrees.{AgreeOn, restricted, subtree, standing, path_of_volume, path_of_file, path_of_block, path_of_label}
 use Rattle.meaning.specs.Laws.{outside, RunAlike}

@@ -4,14 +4,14 @@ use Rattle.std.specs.Prelude.{◌≡◌, ℕ, ◌≤◌, Bool, true, false, not,
 use Rattle.std.specs.List.{AllByRecursion}
 use Rattle.affinity.specs.declared.geometry.Geometry.{Geometry}
 use Rattle.affinity.specs.Path.{Path, is_prefix}
-use Rattle.messages.specs.declared.Msg.{Msg}
-use Rattle.messages.specs.declared.Reply.{Reply}
-use Rattle.messages.specs.declared.Reply.TheVariants.{Refused}
-use Rattle.messages.specs.Messages.{path_of}
+use Rattle.language.specs.declared.Msg.{Msg}
+use Rattle.language.specs.declared.Reply.{Reply}
+use Rattle.language.specs.declared.Reply.TheVariants.{Refused}
+use Rattle.language.specs.Messages.{path_of}
 use Rattle.meaning.specs.State.{State}
 use Rattle.meaning.specs.Serial.{reply_to, next_state, state_after_all, is_recorded}
 use Rattle.meaning.specs.Subtrees.{subtree}
-use Rattle.meaning.specs.Order.{serial_replies, messages, by_ticket}
+use Rattle.meaning.specs.Order.{serial_replies, messages_of, by_ticket}
 
 -- whether the second path is neither the first nor below it
 abbrev pub outside : Path → Path → Bool
@@ -31,7 +31,7 @@ pub record Commute (g : Geometry) (x : State) (m n : Msg) : Type 0 where
 -- Run in order of their tickets, the messages get the replies that they get in the order of the list, and lead to the same state.
 pub record SameByTicket (g : Geometry) (x : State) (es : List (ℕ × Msg)) : Type 0 where
   pub replies : serial_replies g x (by_ticket es) ≡ by_ticket (serial_replies g x es)
-  pub state : state_after_all g x (messages (by_ticket es)) ≡ state_after_all g x (messages es)
+  pub state : state_after_all g x (messages_of (by_ticket es)) ≡ state_after_all g x (messages_of es)
 
 abbrev pub is_refused : Reply → Bool
 is_refused (Refused why) = true

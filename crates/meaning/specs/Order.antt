@@ -3,9 +3,9 @@ use Rattle.std.specs.Prelude.{◌≡◌, ℕ, ◌<◌, true, nat_lt, List, [], �
 use Rattle.std.specs.List.{AllByRecursion}
 use Rattle.affinity.specs.declared.geometry.Geometry.{Geometry}
 use Rattle.affinity.specs.Path.{are_related}
-use Rattle.messages.specs.declared.Msg.{Msg}
-use Rattle.messages.specs.declared.Reply.{Reply}
-use Rattle.messages.specs.Messages.{path_of}
+use Rattle.language.specs.declared.Msg.{Msg}
+use Rattle.language.specs.declared.Reply.{Reply}
+use Rattle.language.specs.Messages.{path_of}
 use Rattle.meaning.specs.State.{State}
 use Rattle.meaning.specs.Serial.{reply_to, next_state}
 
@@ -15,18 +15,18 @@ serial_replies g x [] = []
 serial_replies g x (e ∷ es) = (e.0, reply_to g x e.1) ∷ serial_replies g (next_state g x e.1) es
 
 -- the messages of entries, without their tickets
-abbrev pub messages : List (ℕ × Msg) → List Msg
-messages es = map (λ e. e.1) es
+abbrev pub messages_of : List (ℕ × Msg) → List Msg
+messages_of es = map (λ e. e.1) es
 
 -- the list with the entry e in front of the first one that has a greater ticket
-abbrev pub put : {A : Type 0} → ℕ × A → List (ℕ × A) → List (ℕ × A)
-put e [] = e ∷ []
-put e (d ∷ ds) = if nat_lt e.0 d.0 then e ∷ d ∷ ds else d ∷ put e ds
+abbrev pub inserted_by_ticket : {A : Type 0} → ℕ × A → List (ℕ × A) → List (ℕ × A)
+inserted_by_ticket e [] = e ∷ []
+inserted_by_ticket e (d ∷ ds) = if nat_lt e.0 d.0 then e ∷ d ∷ ds else d ∷ inserted_by_ticket e ds
 
 -- the entries of a list, sorted by ticket
 abbrev pub by_ticket : {A : Type 0} → List (ℕ × A) → List (ℕ × A)
 by_ticket [] = []
-by_ticket (e ∷ es) = put e (by_ticket es)
+by_ticket (e ∷ es) = inserted_by_ticket e (by_ticket es)
 
 -- If the two messages belong at related paths, the first has the smaller ticket.
 abbrev pub InOrderIfRelated : Geometry → ℕ × Msg → ℕ × Msg → Type 0

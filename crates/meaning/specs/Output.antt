@@ -4,10 +4,10 @@ use Rattle.std.specs.Prelude.{◌≡◌, ◌≢◌, ℕ, List, [], ◌∷◌, �
 use Rattle.std.specs.Io.KnownBytes.{Appends}
 use Rattle.std.specs.List.{flat_map, AllByRecursion}
 use Rattle.affinity.specs.declared.geometry.Geometry.{Geometry}
-use Rattle.messages.specs.declared.Msg.{Msg}
-use Rattle.messages.specs.Lines.{lines}
-use Rattle.messages.specs.Grammar.{message_of}
-use Rattle.messages.specs.Replies.{reply_line, no_message}
+use Rattle.language.specs.declared.Msg.{Msg}
+use Rattle.language.specs.Lines.{lines}
+use Rattle.language.specs.Grammar.{message_of}
+use Rattle.language.specs.Replies.{reply_line, no_message}
 use Rattle.meaning.specs.State.{State}
 use Rattle.meaning.specs.Serial.{reply_to, next_state}
 

@@ -2,8 +2,8 @@
 use Rattle.std.specs.Prelude.{◌≡◌, ℕ, zero, suc, ◌+◌, ◌<◌, ◌≤◌, Bool, true, false, not, ◌&&◌, ◌||◌, ◌==◌, List, if◌then◌else◌, Option, Some, None, is_some, IfSome}
 use Rattle.affinity.specs.declared.geometry.Geometry.{Geometry}
 use Rattle.affinity.specs.Geometry.{stripe_of}
-use Rattle.messages.specs.declared.Block.{Block}
-use Rattle.messages.specs.Messages.{IsBlock, AreSizedBytes}
+use Rattle.language.specs.declared.Block.{Block}
+use Rattle.language.specs.Messages.{IsBlock, AreSizedBytes}
 
 -- ---- sets and maps
 

@@ -11,8 +11,8 @@ use Rattle.hex.specs.Hex.{decode_of, decode_sized, is_hex_digit}
 use Rattle.hex.specs.declared.error.FromHexError.{FromHexError}
 use Rattle.hex.proofs.HexLemmas.{decode_of-ok, decode_of-even, decode_of-odd, decode_sized-odd}
 use Rattle.hex.proofs.Pairs.{decode_sized-pairs}
-use Rattle.messages.specs.declared.Block.{Block}
-use Rattle.messages.specs.Lines.{bytes_in_word, block_in_word, label_in_word, padded, padded_with}
+use Rattle.language.specs.declared.Block.{Block}
+use Rattle.language.specs.Lines.{bytes_in_word, block_in_word, label_in_word, padded, padded_with}
 use Rattle.message.proofs.Words.{HasNoSpace}
 
 -- w is the hexadecimal digits of `bytes`, of which there are 1 to `size`

@@ -1,9 +1,9 @@
 -- The digits of a block or a label, as words and by what they encode.
 use Rattle.std.proofs.Common.{◌≡◌, ℕ, List, Some, ap, sym, ◌∙◌, arith}
 use Rattle.hex.proofs.HexLemmas.{decode_of-ok}
-use Rattle.messages.specs.declared.Block.{Block}
-use Rattle.messages.specs.Lines.{bytes_in_word, block_in_word, label_in_word}
-use Rattle.messages.specs.Grammar.{SpellsBytes}
+use Rattle.language.specs.declared.Block.{Block}
+use Rattle.language.specs.Lines.{bytes_in_word, block_in_word, label_in_word}
+use Rattle.language.specs.Grammar.{SpellsBytes}
 use Rattle.message.proofs.Blocks.{bytes_parts, bytes_from, block_bytes, bytes_block, label_bytes}
 
 bytes_say : (size : ℕ) (digits whole : List ℕ) → bytes_in_word size digits ≡ Some whole → SpellsBytes size digits whole

@@ -7,8 +7,8 @@ use Rattle.std.proofs.lemmas.Option.{same_Some}
 use Rattle.std.proofs.lemmas.Slice.Eq.{bytes_eq-Decides}
 use Rattle.affinity.specs.declared.kinds.Kind.{Kind}
 use Rattle.affinity.specs.declared.kinds.Kind.TheVariants.{MakeVol, DropVol, Create, Delete, Seal, Unseal, Write, Punch, Read, List as ListFiles, Usage, Summary, SetLabel, Label}
-use Rattle.messages.specs.Lines.{words}
-use Rattle.messages.specs.Grammar.{message_of, of_words, of_kind, keyword, kind_named, named_among, all_kinds, ◌>>=◌}
+use Rattle.language.specs.Lines.{words}
+use Rattle.language.specs.Grammar.{message_of, of_words, of_kind, keyword, kind_named, named_among, all_kinds, ◌>>=◌}
 use Rattle.message.proofs.Words.{none_before, words_whole, goes_on}
 
 pub by_words : (line : List ℕ) (ws : List (List ℕ)) → length line ≤ 1100 → words line ≡ ws → message_of line ≡ of_words ws

@@ -9,12 +9,12 @@ use Rattle.byteorder.specs.Endian.{little_bytes, little_number}
 use Rattle.affinity.specs.declared.kinds.Kind.{Kind}
 use Rattle.affinity.specs.declared.kinds.Kind.TheVariants as kinds
 use Rattle.affinity.specs.declared.geometry.Geometry.{Geometry}
-use Rattle.messages.specs.declared.Block.{Block}
-use Rattle.messages.specs.declared.Msg.{Msg}
-use Rattle.messages.specs.declared.Msg.TheVariants.{MakeVol, DropVol, Create, Delete, Seal, Unseal, Write, Punch, Read, List as ListFiles, Usage, Summary, SetLabel, Label}
-use Rattle.messages.specs.Messages.{kind, numbers, filled, four_numbers, is_in_range, AreSizedBytes, IsMessage}
+use Rattle.language.specs.declared.Block.{Block}
+use Rattle.language.specs.declared.Msg.{Msg}
+use Rattle.language.specs.declared.Msg.TheVariants.{MakeVol, DropVol, Create, Delete, Seal, Unseal, Write, Punch, Read, List as ListFiles, Usage, Summary, SetLabel, Label}
+use Rattle.language.specs.Messages.{kind, numbers, filled, four_numbers, is_in_range, AreSizedBytes, IsMessage}
 use Rattle.message.specs.Records.{FitsRecord, assembled, data_of, message_in_fields, head_with, record_head, kind_number, kind_numbered, numbered_among, record_of}
-use Rattle.messages.specs.Grammar.{all_kinds}
+use Rattle.language.specs.Grammar.{all_kinds}
 use borrow.Rule.Slice.PartMut.{put_mid, post_of}
 
 -- ---- the numbers of a message in range

@@ -8,12 +8,12 @@ use Rattle.std.proofs.lemmas.List.{append-nil}
 use Rattle.std.proofs.lemmas.Option.{same_Some}
 use Rattle.affinity.specs.declared.kinds.Kind.{Kind}
 use Rattle.affinity.specs.declared.kinds.Kind.TheVariants as kinds
-use Rattle.messages.specs.declared.Block.{Block}
-use Rattle.messages.specs.declared.Msg.{Msg}
-use Rattle.messages.specs.declared.Msg.TheVariants.{MakeVol, DropVol, Create, Delete, Seal, Unseal, Write, Punch, Read, List as ListFiles, Usage, Summary, SetLabel, Label}
-use Rattle.messages.specs.Lines.{words, number_in_word, block_in_word, label_in_word}
-use Rattle.messages.specs.Messages.{kind, numbers}
-use Rattle.messages.specs.Grammar.{message_of, of_words, of_kind, of_volume, of_file, of_block, of_data, of_label, of_nothing, kind_named, keyword, IsData, SpellsBytes, Spells, ◌>>=◌}
+use Rattle.language.specs.declared.Block.{Block}
+use Rattle.language.specs.declared.Msg.{Msg}
+use Rattle.language.specs.declared.Msg.TheVariants.{MakeVol, DropVol, Create, Delete, Seal, Unseal, Write, Punch, Read, List as ListFiles, Usage, Summary, SetLabel, Label}
+use Rattle.language.specs.Lines.{words, number_in_word, block_in_word, label_in_word}
+use Rattle.language.specs.Messages.{kind, numbers}
+use Rattle.language.specs.Grammar.{message_of, of_words, of_kind, of_volume, of_file, of_block, of_data, of_label, of_nothing, kind_named, keyword, IsData, SpellsBytes, Spells, ◌>>=◌}
 use Rattle.message.proofs.Words.{HasNoSpace, join-words, words-join}
 use Rattle.message.proofs.Numbers.{decimal-number, number-decimal, number_no_space}
 use Rattle.message.proofs.Blocks.{block_no_space, label_no_space}

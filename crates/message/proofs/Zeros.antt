@@ -2,19 +2,19 @@
 use Rattle.std.proofs.Common.{◌≡◌, ℕ, ◌+◌, ◌-◌, ◌<◌, ◌≤◌, List, [], ◌∷◌, ◌++◌, length, get_or, take, refl, ap, sym, ◌∙◌, arith}
 use Rattle.std.proofs.lemmas.Bool.{ne_eqb, cond-false}
 use Rattle.std.proofs.lemmas.List.{take_more}
-use Rattle.messages.specs.Replies.{before, without_trailing_zeros, at_least_one}
+use Rattle.language.specs.Replies.{prepended, without_trailing_zeros, at_least_one}
 
 zero_goes : (xs : List ℕ) → without_trailing_zeros (xs ++ 0 ∷ []) ≡ without_trailing_zeros xs
 zero_goes [] = refl
-zero_goes (b ∷ xs) = ap (before b) (zero_goes xs)
+zero_goes (b ∷ xs) = ap (prepended b) (zero_goes xs)
 
-before_some : (b c : ℕ) (xs : List ℕ) → before b (xs ++ c ∷ []) ≡ b ∷ xs ++ c ∷ []
+before_some : (b c : ℕ) (xs : List ℕ) → prepended b (xs ++ c ∷ []) ≡ b ∷ xs ++ c ∷ []
 before_some b c [] = refl
 before_some b c (x ∷ xs) = refl
 
 other_stays : (xs : List ℕ) (b : ℕ) → (b ≡ 0 → ⊥) → without_trailing_zeros (xs ++ b ∷ []) ≡ xs ++ b ∷ []
 other_stays [] b h = cond-false _ _ _ (ne_eqb b 0 h)
-other_stays (c ∷ xs) b h = ap (before c) (other_stays xs b h) ∙ before_some c b xs
+other_stays (c ∷ xs) b h = ap (prepended c) (other_stays xs b h) ∙ before_some c b xs
 
 some_stays : (xs : List ℕ) (b : ℕ) → at_least_one (xs ++ b ∷ []) ≡ xs ++ b ∷ []
 some_stays [] b = refl

@@ -4,10 +4,10 @@ use Rattle.std.specs.List.{AllByRecursion}
 use Rattle.affinity.specs.declared.kinds.Kind.{Kind}
 use Rattle.affinity.specs.declared.kinds.Kind.TheVariants as kinds
 use Rattle.byteorder.specs.Endian.{little_bytes, little_number}
-use Rattle.messages.specs.declared.Msg.{Msg}
-use Rattle.messages.specs.declared.Msg.TheVariants.{MakeVol, DropVol, Create, Delete, Seal, Unseal, Write, Punch, Read, List as ListFiles, Usage, Summary, SetLabel, Label}
-use Rattle.messages.specs.Messages.{kind, four_numbers}
-use Rattle.messages.specs.Grammar.{all_kinds}
+use Rattle.language.specs.declared.Msg.{Msg}
+use Rattle.language.specs.declared.Msg.TheVariants.{MakeVol, DropVol, Create, Delete, Seal, Unseal, Write, Punch, Read, List as ListFiles, Usage, Summary, SetLabel, Label}
+use Rattle.language.specs.Messages.{kind, four_numbers}
+use Rattle.language.specs.Grammar.{all_kinds}
 
 -- the code of a kind, which is the first byte of a record
 abbrev pub kind_number : Kind → ℕ

@@ -2,10 +2,10 @@
 //! behind the keyword the argument `line` is the rest of the line.
 
 ghost use Rattle.std.specs.Prelude.{◌≡◌, ◌↔◌, [], false, option_map, Option, MatchOption, Some, None};
-ghost use Rattle.messages.specs.declared.Msg.{Msg};
-ghost use Rattle.messages.specs.declared.Msg.TheVariants.{Write as write, SetLabel as set_label};
-ghost use Rattle.messages.specs.Lines.{words, block_in_word, bytes_in_word, label_in_word};
-ghost use Rattle.messages.specs.Grammar.{message_of, Spells, of_kind, of_data, of_label};
+ghost use Rattle.language.specs.declared.Msg.{Msg};
+ghost use Rattle.language.specs.declared.Msg.TheVariants.{Write as write, SetLabel as set_label};
+ghost use Rattle.language.specs.Lines.{words, block_in_word, bytes_in_word, label_in_word};
+ghost use Rattle.language.specs.Grammar.{message_of, Spells, of_kind, of_data, of_label};
 ghost use Rattle.message.specs.Heads.{IsHead, has_data, message_without_data, writing, labeling};
 ghost use Rattle.message.specs.declared.heads.Head.TheVariants.{NoMessage, WithoutData};
 
@@ -16,7 +16,7 @@ use crate::parsing::{
     volume_numbers,
 };
 use affinity::Kind;
-use messages::{Block, Msg};
+use language::{Block, Msg};
 
 /// What a line is, its data not decoded. It is a few bytes, where a `Msg` has 512 for a block.
 #[derive(Clone, Copy)]

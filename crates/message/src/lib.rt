@@ -13,8 +13,8 @@ mod sizes;
 
 pub use heads::{Head, decode_block, decode_label, head_of_line, parse_line};
 // A reader that is lent to a `LineReader`; its type parameter, a `Loan`, says which one it is.
+pub use language::{Block, Msg, Refusal, Reply};
 pub use lent_reader::{LentReader, Loan};
-pub use messages::{Block, Msg, Refusal, Reply};
 pub use printing::{no_message_line, write_reply};
 pub use reading::{Found, LineReader, ReadFault};
 pub use records::{decode, encode};

@@ -4,14 +4,14 @@
 ghost use Rattle.std.specs.Prelude.{◌≡◌, ◌≢◌, ℕ, ◌<◌, ◌≤◌, ◌∷◌, [], true, ◌↔◌, length, slice_index, IsTrue, IfSome, MatchOption, option_map};
 ghost use Rattle.std.specs.Str.{all_ascii_digits};
 ghost use Rattle.std.specs.Str.Parse.{digits_value};
-ghost use Rattle.messages.specs.declared.Msg.{Msg};
-ghost use Rattle.messages.specs.Lines.{words, number_in_word, bytes_in_word};
-ghost use Rattle.messages.specs.Grammar.{first_number, of_volume, of_file, of_block, kind_named};
-ghost use Rattle.messages.specs.Messages.{filled};
+ghost use Rattle.language.specs.declared.Msg.{Msg};
+ghost use Rattle.language.specs.Lines.{words, number_in_word, bytes_in_word};
+ghost use Rattle.language.specs.Grammar.{first_number, of_volume, of_file, of_block, kind_named};
+ghost use Rattle.language.specs.Messages.{filled};
 
 use crate::LONGEST_LINE;
 use affinity::Kind;
-use messages::{Block, Msg};
+use language::{Block, Msg};
 
 /// How many bytes the longest keyword has.
 const LONGEST_KEYWORD: usize = 8;

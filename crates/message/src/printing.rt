@@ -1,11 +1,11 @@
 //! The line of a reply.
 
 ghost use Rattle.std.specs.Prelude.{◌≡◌, ◌<◌, ◌≤◌, ◌+◌, ◌*◌, length, take, drop};
-ghost use Rattle.messages.specs.Replies.{AppendsText, at_least_one, no_message, reply_line, reply_text, shown, spaced, without_trailing_zeros, reason};
-ghost use Rattle.messages.specs.declared.Reply.TheVariants.{Block as block_reply, Files as files_reply, Usage as usage_reply, Summary as summary_reply};
+ghost use Rattle.language.specs.Replies.{AppendsText, at_least_one, no_message, reply_line, reply_text, shown, spaced, without_trailing_zeros, reason};
+ghost use Rattle.language.specs.declared.Reply.TheVariants.{Block as block_reply, Files as files_reply, Usage as usage_reply, Summary as summary_reply};
 
 use itoa::Buffer;
-use messages::{Block, Refusal, Reply};
+use language::{Block, Refusal, Reply};
 
 /// Writes the line of a reply, its newline included, into the front of `out`, and gives the
 /// line's length in bytes. What lies after the line stays as it was. The longest line has 1,031 bytes: `block `, two digits for

@@ -87,7 +87,7 @@ fn read_over<R: Read>(reader: &mut R, buffer: &mut Vec<u8>, at: usize) -> Result
 }
 
 impl Buffered {
-    ghost use Rattle.messages.specs.FirstLine.{first_line, behind_first_line, IsWithinLine};
+    ghost use Rattle.language.specs.FirstLine.{first_line, behind_first_line, IsWithinLine};
     ghost use Rattle.message.specs.Reader.{buffered_bytes, given_line};
 
     fn new(buffer: Vec<u8>) -> Buffered
@@ -245,7 +245,7 @@ pub struct LineReader<R> {
 }
 
 impl<R: Read> LineReader<R> {
-    ghost use Rattle.messages.specs.FirstLine.{first_line, behind_first_line, IsWithinLine, LosesLineStart, HasWholeFirstLine};
+    ghost use Rattle.language.specs.FirstLine.{first_line, behind_first_line, IsWithinLine, LosesLineStart, HasWholeFirstLine};
     ghost use Rattle.message.specs.Reader.{buffered_bytes, HoldsEnough, unread, line_of, HoldsLine, has_ended, has_failed, source, Finds, Closes, is_drained, KnowsEnd};
 
     /// A reader of lines over a reader, before its first read. The buffer has 1,101 bytes at least.

@@ -2,13 +2,13 @@
 
 ghost use Rattle.std.specs.Prelude.{◌≡◌, ◌↔◌, ◌++◌, true, Some, take, drop, replicate, IfSome, IsTrue, slice_index};
 ghost use Rattle.affinity.specs.declared.kinds.Kind.{Kind};
-ghost use Rattle.messages.specs.Messages.{IsMessage, is_in_range};
+ghost use Rattle.language.specs.Messages.{IsMessage, is_in_range};
 ghost use Rattle.message.specs.Records.{FitsRecord, assembled, data_of, message_in_fields, record_head, kind_number, kind_numbered, record_of};
-ghost use Rattle.messages.specs.declared.Msg.{Msg};
+ghost use Rattle.language.specs.declared.Msg.{Msg};
 
 use affinity::{Geometry, Kind, place_of};
 use byteorder::{ByteOrder, LittleEndian};
-use messages::{Block, Msg};
+use language::{Block, Msg};
 
 /// Writes the record of a message into `out`, all of it. The message's aggregate, volume and file
 /// are at most 255 each.

@@ -4,14 +4,14 @@
 ghost use Rattle.std.specs.Prelude.{◌≡◌, ◌+◌, ◌≤◌, ◌⊎◌, ◌↔◌, [], ◌++◌, length, take, vec_len, IsTrue, IsOk, IfOk, OnOk, OnErr};
 ghost use Rattle.std.specs.Io.KnownBytes.{Appends};
 ghost use Rattle.message.specs.Reader.{HoldsLine};
-ghost use Rattle.messages.specs.Replies.{no_message, reply_line};
+ghost use Rattle.language.specs.Replies.{no_message, reply_line};
 ghost use Rattle.message.specs.Waiting.{FitsReply, all_output};
-ghost use Rattle.messages.specs.declared.Reply.TheVariants.{Done, Refused, Block as block_reply};
+ghost use Rattle.language.specs.declared.Reply.TheVariants.{Done, Refused, Block as block_reply};
 
 use crate::printing::write_block;
 use crate::reading::LineReader;
 use crate::{LONGEST_REPLY, no_message_line, write_reply};
-use messages::{Block, Refusal, Reply};
+use language::{Block, Refusal, Reply};
 use std::alloc::{AllocError, Global};
 use std::io::{Read, Write};
 use std::marker::Model;

@@ -1,8 +1,8 @@
 //! The sizes of what is in a message, made known to proofs: a block has 512 bytes, a label 32.
 
-ghost use Rattle.messages.specs.Messages.{AreSizedBytes, IsBlock, IsMessage};
+ghost use Rattle.language.specs.Messages.{AreSizedBytes, IsBlock, IsMessage};
 
-use messages::{Block, Msg};
+use language::{Block, Msg};
 
 /// Does nothing: it lets a proof know that a block has 512 bytes.
 pub fn know_block(content: &Block)

@@ -2,52 +2,52 @@
 use Rattle.std.specs.Prelude.{◌≡◌, ◌≤◌, ℕ, List, length}
 use Rattle.disk.specs.Device.{Medium}
 use Rattle.disk.specs.Moments.{CrashImagesAre}
-use Rattle.messages.specs.declared.Msg.{Msg}
+use Rattle.language.specs.declared.Msg.{Msg}
 use Rattle.oplog.specs.declared.half.Half.{Half}
 use Rattle.device_map.specs.Layout.{layout_of, device_size, other}
 use Rattle.oplog.specs.Front.{front}
 use Rattle.disk.specs.Store.{CrashesChangeOnly}
 use Rattle.oplog.specs.Changes.{HasAppendedPrefix, HasAppendedAll, IsReady, IsSameButChainAndGates, IsSameButChain, IsSameButRoot}
 use Rattle.oplog.specs.Changing.{records_of}
-use Rattle.oplog.specs.Log.{Log, layout}
+use Rattle.oplog.specs.Log.{Log, layout_of_log}
 
 -- ---- what they ask
 
 -- The device is long enough for all its parts.
 abbrev pub IsLongEnough : Log → Medium → Type 0
-IsLongEnough log m = device_size (layout log) ≤ length m.now
+IsLongEnough log m = device_size (layout_of_log log) ≤ length m.now
 
 -- The current half has as many records as the log says, shut gates behind them, and nothing unsynced.
 abbrev pub IsReadyFor : Log → Medium → Type 0
-IsReadyFor log m = IsReady (layout log) log.current log.used m
+IsReadyFor log m = IsReady (layout_of_log log) log.current log.used m
 
 -- ---- what a crash leaves at any moment of a call, and what is there at `Ok`
 
 -- A crash at any moment leaves the current half with a prefix of these messages appended.
 abbrev pub Grows : Log → List Msg → Medium → Medium → Type 0
-Grows log messages old new = CrashImagesAre old new (HasAppendedPrefix (layout log) log.current (records_of messages) old)
+Grows log messages old new = CrashImagesAre old new (HasAppendedPrefix (layout_of_log log) log.current (records_of messages) old)
 
 -- The current half has all of these messages appended, and none of them is unsynced.
 abbrev pub HasAdded : Log → List Msg → Medium → Medium → Type 0
-HasAdded log messages old new = HasAppendedAll (layout log) log.current log.used (records_of messages) old new
+HasAdded log messages old new = HasAppendedAll (layout_of_log log) log.current log.used (records_of messages) old new
 
 -- Only the chain zone (the chain byte and the bytes beside it) and the gates of the half that isn't named change.
 abbrev pub Clears : Log → Medium → Medium → Type 0
-Clears log old new = CrashesChangeOnly old new (IsSameButChainAndGates (layout log) (other log.named))
+Clears log old new = CrashesChangeOnly old new (IsSameButChainAndGates (layout_of_log log) (other log.named))
 
 -- Only the chain byte of the named half changes.
 abbrev pub Chains : Log → Medium → Medium → Type 0
-Chains log old new = CrashesChangeOnly old new (IsSameButChain (layout log) log.named)
+Chains log old new = CrashesChangeOnly old new (IsSameButChain (layout_of_log log) log.named)
 
 -- Only the byte that names an area changes.
 abbrev pub Flips : Log → Medium → Medium → Type 0
-Flips log old new = CrashesChangeOnly old new (IsSameButRoot (layout log))
+Flips log old new = CrashesChangeOnly old new (IsSameButRoot (layout_of_log log))
 
 -- ---- what they read
 
 -- The front of half h has n records.
 abbrev pub HasFront : Log → ℕ → ℕ → Medium → Type 0
-HasFront log h n m = n ≡ length (front (layout log) h m.now)
+HasFront log h n m = n ≡ length (front (layout_of_log log) h m.now)
 
 -- ---- what calls of one half ask and do
 

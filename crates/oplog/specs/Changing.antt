@@ -4,8 +4,8 @@ use Rattle.std.specs.List.{All}
 use Rattle.affinity.specs.declared.geometry.Geometry.{Geometry}
 use Rattle.affinity.specs.Kind.{is_changing}
 use Rattle.disk.specs.Device.{AreBytes}
-use Rattle.messages.specs.declared.Msg.{Msg}
-use Rattle.messages.specs.Messages.{IsMessage, kind, is_in_range}
+use Rattle.language.specs.declared.Msg.{Msg}
+use Rattle.language.specs.Messages.{IsMessage, kind, is_in_range}
 use Rattle.message.specs.Records.{message_in_fields, record_of}
 use Rattle.device_map.specs.Layout.{Layout, device_size, record_size}
 use Rattle.oplog.specs.Front.{record_at}

@@ -2,7 +2,7 @@
 use Rattle.std.specs.Prelude.{◌≡◌, ℕ, ◌+◌, ◌-◌, ◌/◌, Bool, true, false, ◌&&◌, ◌==◌, if◌then◌else◌, List, length, Result, Ok, Err}
 use Rattle.affinity.specs.declared.geometry.Geometry.{Geometry}
 use Rattle.disk.specs.Device.{Medium}
-use Rattle.messages.specs.declared.Msg.{Msg}
+use Rattle.language.specs.declared.Msg.{Msg}
 use Rattle.message.specs.Records.{record_of}
 use Rattle.oplog.specs.declared.fault.LogFault.{LogFault}
 use Rattle.oplog.specs.declared.fault.LogFault.TheVariants.{Device, BadRecord}
@@ -26,8 +26,8 @@ pub record Log : Type 0 where
   pub failed : Bool
 
 -- where the parts of its device lie
-abbrev pub layout : Log → Layout
-layout log = layout_of log.geometry
+abbrev pub layout_of_log : Log → Layout
+layout_of_log log = layout_of log.geometry
 
 -- a log of which nothing is known: half 0 is named and current, and there is no room
 abbrev pub new_log : Geometry → Log

@@ -12,7 +12,7 @@ use affinity::Geometry;
 use device_map::{CHAIN_ZONE_SIZE, RECORD_SIZE, half_at};
 use disk::store::store;
 use disk::{Disk, DiskFault};
-use messages::Msg;
+use language::Msg;
 
 /// How many records are written at a time, at most.
 pub(crate) const RECORDS_PER_WRITE: usize = 64;

@@ -1,7 +1,7 @@
 //! The two halves of a log as one value.
 ghost use Rattle.std.specs.Prelude.{◌≡◌, ◌+◌, ◌*◌, ◌<◌, ◌≤◌, true, false, length, IfOk, IfSome, IsNone, OnOk};
 ghost use Rattle.disk.specs.Device.{moments};
-ghost use Rattle.messages.specs.Messages.{IsMessage};
+ghost use Rattle.language.specs.Messages.{IsMessage};
 ghost use Rattle.message.specs.Records.{record_of};
 ghost use Rattle.oplog.specs.Changing.{AreChangesInRange, IsChangeInRange, IsNoChangeRecord};
 
@@ -11,8 +11,8 @@ use affinity::{Geometry, changing};
 use device_map::{RECORD_SIZE, ROOT_ZONE_AT};
 use disk::Disk;
 use disk::store::store;
+use language::Msg;
 use message::decode;
-use messages::Msg;
 use std::alloc::{AllocError, Global};
 use std::marker::Model;
 
@@ -48,7 +48,7 @@ impl Model for Halves {
 }
 
 impl Halves {
-    ghost use Rattle.oplog.specs.Log.{layout, IsOfRecord, new_log, with_half_named, flipped, chained, log_after, IsLogCall, IsNotBadRecord, NamesRecord, batch_count};
+    ghost use Rattle.oplog.specs.Log.{layout_of_log, IsOfRecord, new_log, with_half_named, flipped, chained, log_after, IsLogCall, IsNotBadRecord, NamesRecord, batch_count};
     ghost use Rattle.disk.specs.Store.{Costs};
     ghost use Rattle.device_map.specs.Layout.{other};
     ghost use Rattle.oplog.specs.Changes.{Cleared, Chained, Flipped};
@@ -174,7 +174,8 @@ impl Halves {
         requires current_is_named { self.old.current ≡ self.old.named }
         requires long_enough { IsLongEnough self.old (D.medium disk.old) }
         ensures any_moment { D.keeps → Clears self.old (D.medium disk.old) (D.medium disk.new) }
-        ensures cleared { OnOk result (D.keeps → Cleared (layout self.old) (other self.old.named) (D.medium disk.old) (D.medium disk.new)) }
+        ensures cleared { OnOk result (D.keeps → Cleared (layout_of_log self.old) (other self.old.named) (D.medium disk.old)
+            (D.medium disk.new)) }
         ensures costs { D.keeps → Costs result 2 (D.medium disk.old) (D.medium disk.new) }
         ensures log { self.new ≡ log_after result self.old (record self.old { cleared = true }) }
         ensures no_bad_record { IsNotBadRecord result }
@@ -198,7 +199,7 @@ impl Halves {
         requires cleared { self.old.cleared ≡ true }
         requires long_enough { IsLongEnough self.old (D.medium disk.old) }
         ensures any_moment { D.keeps → Chains self.old (D.medium disk.old) (D.medium disk.new) }
-        ensures chained { OnOk result (D.keeps → Chained (layout self.old) self.old.named (D.medium disk.old) (D.medium disk.new)) }
+        ensures chained { OnOk result (D.keeps → Chained (layout_of_log self.old) self.old.named (D.medium disk.old) (D.medium disk.new)) }
         ensures costs { D.keeps → Costs result 2 (D.medium disk.old) (D.medium disk.new) }
         ensures log { self.new ≡ log_after result self.old (chained self.old) }
         ensures no_bad_record { IsNotBadRecord result }
@@ -222,7 +223,8 @@ impl Halves {
         requires not_failed { self.old.failed ≡ false }
         requires long_enough { IsLongEnough self.old (D.medium disk.old) }
         ensures any_moment { D.keeps → Flips self.old (D.medium disk.old) (D.medium disk.new) }
-        ensures flipped { OnOk result (D.keeps → Flipped (layout self.old) (other self.old.named) (D.medium disk.old) (D.medium disk.new)) }
+        ensures flipped { OnOk result (D.keeps → Flipped (layout_of_log self.old) (other self.old.named) (D.medium disk.old)
+            (D.medium disk.new)) }
         ensures costs { D.keeps → Costs result 2 (D.medium disk.old) (D.medium disk.new) }
         ensures log { self.new ≡ log_after result self.old (flipped self.old) }
         ensures no_bad_record { IsNotBadRecord result }
@@ -273,7 +275,7 @@ impl Halves {
         requires half { half < 2 }
         requires i { i < self.old.geometry.half }
         requires long_enough { IsLongEnough self.old (D.medium disk.old) }
-        ensures record { D.keeps → IsOfRecord self.old.geometry (record_at (layout self.old) half i (D.medium disk.old).now) result }
+        ensures record { D.keeps → IsOfRecord self.old.geometry (record_at (layout_of_log self.old) half i (D.medium disk.old).now) result }
         ensures change { IfOk result (λ m. IsMessage m × IsChangeInRange self.old.geometry m) }
         ensures names_record { NamesRecord half i result }
         ensures untouched { D.keeps → moments (D.medium disk.new) ≡ moments (D.medium disk.old) }

@@ -5,8 +5,8 @@ ghost use Rattle.message.specs.Records.{record_of, FitsRecord};
 ghost use Rattle.oplog.specs.Changing.{records_of};
 
 use device_map::RECORD_SIZE;
+use language::Msg;
 use message::encode;
-use messages::Msg;
 
 /// Writes the record of a message into a place of 520 bytes. `FitsRecord`: its aggregate, volume and file are below 256, as each has one
 /// byte there.

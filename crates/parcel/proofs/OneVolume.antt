@@ -4,14 +4,14 @@ use Rattle.std.specs.Prelude.{◌&&◌, ◌||◌, ◌==◌, not, nat_lt, is_some
 use Rattle.std.proofs.lemmas.Bool.{eq-eqb}
 use Rattle.affinity.specs.declared.geometry.Geometry.{Geometry}
 use Rattle.affinity.specs.Geometry.{stripe_of}
-use Rattle.messages.specs.declared.Block.{Block}
-use Rattle.messages.specs.declared.Msg.{Msg}
-use Rattle.messages.specs.declared.Msg.TheVariants.{Create, Delete, Write, Punch, List as ListFiles, Usage as AskUsage}
-use Rattle.messages.specs.declared.Refusal.{Refusal}
-use Rattle.messages.specs.declared.Refusal.TheVariants.{Range, Volume, Exists, File, Space}
-use Rattle.messages.specs.declared.Reply.{Reply}
-use Rattle.messages.specs.declared.Reply.TheVariants.{Refused}
-use Rattle.messages.specs.Messages.{is_in_range}
+use Rattle.language.specs.declared.Block.{Block}
+use Rattle.language.specs.declared.Msg.{Msg}
+use Rattle.language.specs.declared.Msg.TheVariants.{Create, Delete, Write, Punch, List as ListFiles, Usage as AskUsage}
+use Rattle.language.specs.declared.Refusal.{Refusal}
+use Rattle.language.specs.declared.Refusal.TheVariants.{Range, Volume, Exists, File, Space}
+use Rattle.language.specs.declared.Reply.{Reply}
+use Rattle.language.specs.declared.Reply.TheVariants.{Refused}
+use Rattle.language.specs.Messages.{is_in_range}
 use Rattle.meaning.specs.State.{State, blocks_in_stripe}
 use Rattle.meaning.specs.Serial.{refusal, effect, accepted_reply, reply_and_state}
 use Rattle.parcel.specs.Run.{IsSerialStep}

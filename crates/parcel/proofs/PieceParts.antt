@@ -8,8 +8,8 @@ use Rattle.affinity.specs.Path.{Path}
 use Rattle.affinity.specs.declared.geometry.Geometry.{Geometry}
 use Rattle.byteorder.specs.Endian.{little_number}
 use Rattle.device_map.specs.Layout.{slice}
-use Rattle.messages.specs.Messages.{AreSizedBytes}
-use Rattle.messages.specs.Replies.{has_file}
+use Rattle.language.specs.Messages.{AreSizedBytes}
+use Rattle.language.specs.Replies.{has_file}
 use Rattle.stripe.specs.Entries.{IsStripePiece}
 use Rattle.stripe.specs.Stripe.{StripePart}
 use Rattle.image.specs.Pieces.{block_in, piece_count, aggregate_of, volume_of as volume_number}

@@ -6,8 +6,8 @@ use Rattle.affinity.specs.Geometry.{stripe_of}
 use Rattle.affinity.specs.Interval.{IsPath}
 use Rattle.affinity.specs.Path.{Path, is_prefix, volume}
 use Rattle.affinity.specs.declared.geometry.Geometry.{Geometry}
-use Rattle.messages.specs.Messages.{AreSizedBytes}
-use Rattle.messages.specs.Replies.{has_file}
+use Rattle.language.specs.Messages.{AreSizedBytes}
+use Rattle.language.specs.Replies.{has_file}
 use Rattle.meaning.specs.Laws.{outside}
 use Rattle.meaning.specs.Subtrees.{AgreeOn}
 use Rattle.meaning.specs.State.{State, IsState, is_volume}

@@ -4,7 +4,7 @@ use Rattle.std.specs.Prelude.{◌==◌, if◌then◌else◌, Option, is_some, If
 use Rattle.std.specs.List.{AllByRecursion}
 use Rattle.std.proofs.lemmas.Bool.{true≢false}
 use Rattle.affinity.specs.declared.geometry.Geometry.{Geometry}
-use Rattle.messages.specs.declared.Block.{Block}
+use Rattle.language.specs.declared.Block.{Block}
 use Rattle.parcel.specs.Dropping.{DropsFile, Empties}
 use Rattle.parcel.specs.Fits.{FitsStripe, EachFits, IsWholeChild}
 use Rattle.parcel.specs.Shown.{blocks_in}

@@ -8,9 +8,9 @@ use Rattle.std.proofs.Math.Nat.{pow-le-pow_right}
 use Rattle.affinity.specs.declared.geometry.Geometry.{Geometry}
 use Rattle.byteorder.specs.Endian.{little_bytes, little_number}
 use Rattle.device_map.specs.Layout.{slice}
-use Rattle.messages.specs.Messages.{AreSizedBytes}
-use Rattle.messages.specs.Replies.{has_file}
-use Rattle.messages.specs.declared.Block.{Block}
+use Rattle.language.specs.Messages.{AreSizedBytes}
+use Rattle.language.specs.Replies.{has_file}
+use Rattle.language.specs.declared.Block.{Block}
 use Rattle.meaning.specs.Serial.{file_bits, no_label}
 use Rattle.meaning.specs.State.{State, VolumeKey, FileKey, BlockKey, IsState, is_volume, sum_below, one_if}
 use Rattle.image.specs.Pieces.{volume_piece, label_bytes, is_made_in, is_sealed_in, has_file_in, label_in as decoded_label_in, with_volume_piece}

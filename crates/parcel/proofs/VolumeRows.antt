@@ -4,9 +4,9 @@ use Rattle.std.specs.Prelude.{◌&&◌, ◌||◌, ◌==◌, not, if◌then◌els
 use Rattle.std.proofs.lemmas.Bool.{eq-eqb, ne_eqb, cases_eq}
 use Rattle.std.proofs.lemmas.List.{get_or-set_same, get_or-set_other}
 use Rattle.affinity.specs.declared.geometry.Geometry.{Geometry}
-use Rattle.messages.specs.declared.Msg.TheVariants.{MakeVol, DropVol}
-use Rattle.messages.specs.declared.Refusal.TheVariants.{Range, Exists}
-use Rattle.messages.specs.Messages.{is_in_range}
+use Rattle.language.specs.declared.Msg.TheVariants.{MakeVol, DropVol}
+use Rattle.language.specs.declared.Refusal.TheVariants.{Range, Exists}
+use Rattle.language.specs.Messages.{is_in_range}
 use Rattle.meaning.specs.Serial.{refusal, effect, no_label}
 use Rattle.parcel.specs.Shown.{aggregate_facts, child_facts, volume_facts}
 use Rattle.parcel.specs.Steps.{guard, guard_open, at_aggregate}

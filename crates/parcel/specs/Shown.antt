@@ -4,8 +4,8 @@ use Rattle.std.specs.Prelude.{ℕ, Bool, false, ◌==◌, List, [], ◌∷◌, s
 use Rattle.affinity.specs.declared.geometry.Geometry.{Geometry}
 use Rattle.affinity.specs.Geometry.{stripe_of}
 use Rattle.affinity.specs.Path.{Path}
-use Rattle.messages.specs.declared.Block.{Block}
-pub use Rattle.messages.specs.Replies.{has_file}
+use Rattle.language.specs.declared.Block.{Block}
+pub use Rattle.language.specs.Replies.{has_file}
 use Rattle.meaning.specs.State.{State}
 use Rattle.stripe.specs.Stripe.{StripePart, content_at}
 use Rattle.parcel.specs.Volume.{VolumeFacts, no_facts, facts_if, state_with, one_volume}

@@ -1,6 +1,6 @@
 //! Runs a message on its parcels: for each kind a small function at the level where it runs.
 
-ghost use Rattle.messages.specs.Messages.{path_of};
+ghost use Rattle.language.specs.Messages.{path_of};
 ghost use Rattle.parcel.specs.Fits.{IsRunnable};
 ghost use Rattle.parcel.specs.Run.{IsJobRun, IsSerialStep};
 ghost use Rattle.parcel.specs.Shown.{shown_state};
@@ -22,7 +22,7 @@ use at_logical::run_at_logical;
 use at_root::run_at_root;
 use at_stripe::run_at_stripe;
 use at_volume::run_at_volume;
-use messages::{Msg, Reply};
+use language::{Msg, Reply};
 
 /// Runs a job: the serial server, in the state that the job's parcels and standing show, gives this reply;
 /// afterwards they show the state in which it is then.

@@ -3,7 +3,7 @@ use Rattle.std.proofs.Common.{◌≡◌, ℕ, false, List, Some, ap, sym, ◌∙
 use Rattle.affinity.specs.declared.geometry.Geometry.{Geometry}
 use Rattle.affinity.specs.declared.kinds.Kind.{Kind}
 use Rattle.affinity.specs.declared.kinds.Kind.TheVariants as kinds
-use Rattle.messages.specs.Messages.{kind, IsMessage}
+use Rattle.language.specs.Messages.{kind, IsMessage}
 use Rattle.message.specs.Heads.{message_without_data, has_data, IsWithoutData}
 use Rattle.meaning.specs.State.{State}
 use Rattle.meaning.specs.Serial.{refusal}

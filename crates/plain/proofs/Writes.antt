@@ -3,8 +3,8 @@ use Rattle.std.proofs.Common.{◌≡◌, ℕ, ◌+◌, ◌<◌, true, false, Som
 use Rattle.std.specs.Prelude.{is_some, if◌then◌else◌}
 use Rattle.affinity.specs.declared.geometry.Geometry.{Geometry}
 use Rattle.affinity.specs.Geometry.{stripe_of}
-use Rattle.messages.specs.declared.Block.{Block}
-use Rattle.messages.specs.declared.Msg.TheVariants.{Write}
+use Rattle.language.specs.declared.Block.{Block}
+use Rattle.language.specs.declared.Msg.TheVariants.{Write}
 use Rattle.meaning.specs.State.{State, BlockKey, one_if, blocks_in_stripe, is_block}
 use Rattle.meaning.specs.Serial.{effect}
 use Rattle.plain.specs.Server.{StripeKey, is_stripe}

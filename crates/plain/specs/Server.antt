@@ -2,8 +2,8 @@
 use Rattle.std.specs.Prelude.{◌≡◌, ℕ, Bool, false, ◌&&◌, ◌==◌, List, Option, None, Some, is_some, unwrap_or}
 use Rattle.std.specs.BTreeMap as map
 use Rattle.affinity.specs.declared.geometry.Geometry.{Geometry}
-use Rattle.messages.specs.declared.Block.{Block}
-use Rattle.messages.specs.Replies.{has_file}
+use Rattle.language.specs.declared.Block.{Block}
+use Rattle.language.specs.Replies.{has_file}
 use Rattle.meaning.specs.State.{State, Map, VolumeKey, BlockKey, IsState, blocks_in_stripe}
 use Rattle.meaning.specs.KeyOrders.{volume_order, file_order, block_order}
 use Rattle.plain.specs.declared.server.Server.{Server}

@@ -4,18 +4,18 @@
 
 ghost use Rattle.std.specs.Prelude.{◌≡◌, ◌≤◌, ◌++◌, ℕ, List, [], Option, Some, true, false, option_map, IfOk, OnOk, OnErr, IsErrOf, IsFalse, MatchBool, unwrap_or, vec_len};
 ghost use Rattle.std.specs.Io.KnownBytes.{Appends, IsAtEnd};
-ghost use Rattle.messages.specs.Grammar.{message_of};
+ghost use Rattle.language.specs.Grammar.{message_of};
 ghost use Rattle.message.specs.Reader.{unread, is_drained, source, KnowsEnd};
 ghost use Rattle.message.specs.Waiting.{FitsReply, all_output};
-ghost use Rattle.messages.specs.Lines.{block_in_word, label_in_word};
+ghost use Rattle.language.specs.Lines.{block_in_word, label_in_word};
 ghost use Rattle.message.specs.Heads.{IsWithoutData, labeling, message_without_data, writing};
 ghost use Rattle.affinity.specs.Kind.{is_changing};
 ghost use Rattle.meaning.specs.ByKind.{done_or_refused};
 ghost use Rattle.meaning.specs.State.{State, empty};
 ghost use Rattle.plain.specs.Server.{server_state, IsConsistent};
-ghost use Rattle.messages.specs.Replies.{reply_line};
-ghost use Rattle.messages.specs.declared.Msg.{Msg};
-ghost use Rattle.messages.specs.declared.Reply.TheVariants.{Label as shows_label};
+ghost use Rattle.language.specs.Replies.{reply_line};
+ghost use Rattle.language.specs.declared.Msg.{Msg};
+ghost use Rattle.language.specs.declared.Reply.TheVariants.{Label as shows_label};
 ghost use Rattle.meaning.specs.Serial.{accepted_reply, no_label, reply_to, next_state};
 ghost use Rattle.meaning.specs.Progress.{HasAnswered};
 ghost use Rattle.meaning.specs.Output.{serial_output, answer_line, state_after_line, AnswersWholeLines, IsBeginning, WritesOutput};
@@ -23,11 +23,11 @@ ghost use Rattle.meaning.specs.Output.{serial_output, answer_line, state_after_l
 use crate::PlainFault;
 use crate::server::Server;
 use affinity::{Geometry, Kind, changing};
+use language::{Block, Refusal, Reply};
 use message::{
     Found, Head, LentReader, LineReader, Loan, ReplyBuffer, WriteFault, decode_block, decode_label,
     head_of_line,
 };
-use messages::{Block, Refusal, Reply};
 use std::alloc::{AllocError, Global};
 use std::io::{Read, Write};
 use std::marker::PhantomData;

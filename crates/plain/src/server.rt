@@ -10,8 +10,8 @@ ghost use Rattle.meaning.specs.Serial.{reply_to, next_state};
 ghost use Rattle.plain.specs.Server.{server_state, IsConsistent};
 
 use affinity::{Geometry, Kind, is_in_range};
+use language::{Block, Msg, Refusal};
 use message::{know_block, know_label};
-use messages::{Block, Msg, Refusal};
 use std::alloc::{AllocError, Global};
 use std::collections::BTreeMap;
 

@@ -1,6 +1,6 @@
 -- A reorder buffer whose lines with tickets lie beside the kinds of all: its lines, as it grows, shrinks and is answered.
 use Rattle.std.proofs.Common.{◌≡◌, ℕ, ◌+◌, ◌<◌, ◌≤◌, suc, List, [], ◌∷◌, ◌++◌, length, map, refl, ap, sym, ◌∙◌, append-nil, arith}
-use Rattle.messages.specs.declared.Reply.{Reply}
+use Rattle.language.specs.declared.Reply.{Reply}
 use Rattle.reorder_buffer.specs.ReorderBuffer.{Completed, Line, NoMessage, OutOfRange, Pending, complete_one, HaveTicketsFrom, HasTicket, Ticketed, LineKind, OutOfRangeKind, ReorderBufferView, NoMessageKind, ticketed_among, lines_of, with_tickets}
 
 -- ---- how many lines there are

@@ -5,7 +5,7 @@ use Rattle.std.specs.List.{list_any}
 use Rattle.std.proofs.lemmas.Bool.{eq-eqb, eqb-true, cases_Bool, and_parts, and_from, or_cases, or_right, true≢false}
 use Rattle.std.proofs.lemmas.Bool.Decides.{nat_tests}
 use Rattle.affinity.specs.Path.{Path, is_prefix}
-use Rattle.affinity.specs.Interval.{Interval, IsPath, IsAffinity, IsAffinityOf, contains, interval, number, affinity_count}
+use Rattle.affinity.specs.Interval.{Interval, IsPath, IsAffinity, IsAffinityOf, contains, interval, preorder_number, affinity_count}
 use Rattle.affinity.specs.declared.geometry.Geometry.{Geometry}
 use Rattle.affinity.proofs.Paths.{is_prefix-refl}
 use Rattle.affinity.proofs.Preorder.{is_prefix-contains, path_at, path_at-number}
@@ -75,36 +75,36 @@ three_is g (a ∷ v ∷ suc zero ∷ []) h = h
 three_is g (a ∷ v ∷ suc zero ∷ s ∷ p) h = absurd h
 three_is g (a ∷ v ∷ suc (suc k) ∷ p) h = absurd h
 
-pub same_path : (g : Geometry) (p q : Path) → IsPath g p → IsPath g q → number g p ≡ number g q → p ≡ q
+pub same_path : (g : Geometry) (p q : Path) → IsPath g p → IsPath g q → preorder_number g p ≡ preorder_number g q → p ≡ q
 same_path g p q h k same = sym (path_at-number g p h) ∙ ap (path_at g) same ∙ path_at-number g q k
 
 -- ---- their numbers
 
-is_at : (g : Geometry) (p q : Path) (k : ℕ) → q ≡ take k p → (number g (take k p) == number g q) ≡ true
-is_at g p q k same = eq-eqb _ _ (ap (λ (r : Path). number g r) (sym same))
+is_at : (g : Geometry) (p q : Path) (k : ℕ) → q ≡ take k p → (preorder_number g (take k p) == preorder_number g q) ≡ true
+is_at g p q k same = eq-eqb _ _ (ap (λ (r : Path). preorder_number g r) (sym same))
 
 -- a prefix q of the path p is p itself, or its affinity's number is among `numbers_above`
 found_at : (g : Geometry) (p q : Path) (k : ℕ) → IsPath g p → q ≡ take k p
-    → (q ≡ p) ⊎ (list_any (λ n. n == number g q) (numbers_above g p) ≡ true)
+    → (q ≡ p) ⊎ (list_any (λ n. n == preorder_number g q) (numbers_above g p) ≡ true)
 found_at g p q zero h is = inr (rw (is_at g p q 0 is) refl)
-found_at g p q (suc zero) h is = inr (or_right (number g (take 0 p) == number g q) _ (rw (is_at g p q 1 is) refl))
+found_at g p q (suc zero) h is = inr (or_right (preorder_number g (take 0 p) == preorder_number g q) _ (rw (is_at g p q 1 is) refl))
 found_at g p q (suc (suc zero)) h is =
-    inr (or_right (number g (take 0 p) == number g q) _ (or_right (number g (take 1 p) == number g q) _ (rw (is_at g p q 2 is) refl)))
+    inr (or_right (preorder_number g (take 0 p) == preorder_number g q) _ (or_right (preorder_number g (take 1 p) == preorder_number g q) _ (rw (is_at g p q 2 is) refl)))
 found_at g p q (suc (suc (suc zero))) h is =
-    inr (or_right (number g (take 0 p) == number g q) _ (or_right (number g (take 1 p) == number g q) _
-    (or_right (number g (take 2 p) == number g q) _ (rw (is_at g p q 3 is) refl))))
+    inr (or_right (preorder_number g (take 0 p) == preorder_number g q) _ (or_right (preorder_number g (take 1 p) == preorder_number g q) _
+    (or_right (preorder_number g (take 2 p) == preorder_number g q) _ (rw (is_at g p q 3 is) refl))))
 found_at g p q (suc (suc (suc (suc k)))) h is =
     let most = short g p h in inl (is ∙ take-all (suc (suc (suc (suc k)))) p (omega arith))
 
 above-found : (g : Geometry) (p q : Path) → IsPath g p → is_prefix q p ≡ true
-    → (q ≡ p) ⊎ (list_any (λ n. n == number g q) (numbers_above g p) ≡ true)
+    → (q ≡ p) ⊎ (list_any (λ n. n == preorder_number g q) (numbers_above g p) ≡ true)
 above-found g p q h first = found_at g p q (length q) h (is_prefix-is q p first)
 
-at_begins : (g : Geometry) (p q : Path) (k : ℕ) → IsPath g (take k p) → IsPath g q → (number g (take k p) == number g q) ≡ true → is_prefix q p ≡ true
+at_begins : (g : Geometry) (p q : Path) (k : ℕ) → IsPath g (take k p) → IsPath g q → (preorder_number g (take k p) == preorder_number g q) ≡ true → is_prefix q p ≡ true
 at_begins g p q k there h same =
     subst (λ (r : Path). is_prefix r p ≡ true) (same_path g (take k p) q there h (eqb-true _ _ same)) (is_prefix-take k p)
 
-above-is_prefix : (g : Geometry) (p q : Path) → IsPath g p → IsPath g q → list_any (λ n. n == number g q) (numbers_above g p) ≡ true → is_prefix q p ≡ true
+above-is_prefix : (g : Geometry) (p q : Path) → IsPath g p → IsPath g q → list_any (λ n. n == preorder_number g q) (numbers_above g p) ≡ true → is_prefix q p ≡ true
 above-is_prefix g p q h k found = elim (or_cases _ _ found) [
   | inl e ↦ at_begins g p q 0 tt k e
   | inr rest ↦ elim (or_cases _ _ rest) [
@@ -131,7 +131,7 @@ are_above g p a h b k =
     let q = k.0 in
     let below : contains a b.number ≡ is_prefix p q = rw (h.interval, k.1.interval) (sym (is_prefix-contains g p q h.path k.1.path)) in
     let above : contains b a.number ≡ is_prefix q p = rw (h.interval, k.1.interval) (sym (is_prefix-contains g q p k.1.path h.path)) in
-    let is : b.number ≡ number g q = ap (λ (i : Interval). i.number) k.1.interval in
+    let is : b.number ≡ preorder_number g q = ap (λ (i : Interval). i.number) k.1.interval in
     elim (cases_Bool (contains a b.number)) [
       | inl in_ ↦ rw in_ refl
       | inr out ↦ rw (out, above, is) (same_truth _ _ (λ first. elim (above-found g p q h.path first) [
@@ -145,6 +145,6 @@ contains-own g a h = rw h.1.interval (sym (is_prefix-contains g h.0 h.0 h.1.path
 
 pub number-below : (g : Geometry) (a : Interval) → IsAffinity g a → a.number < affinity_count g
 number-below g a h =
-    let whole : contains (interval g []) (number g h.0) ≡ true = sym (is_prefix-contains g [] h.0 tt h.1.path) in
-    let is : a.number ≡ number g h.0 = ap (λ (i : Interval). i.number) h.1.interval in
+    let whole : contains (interval g []) (preorder_number g h.0) ≡ true = sym (is_prefix-contains g [] h.0 tt h.1.path) in
+    let is : a.number ≡ preorder_number g h.0 = ap (λ (i : Interval). i.number) h.1.interval in
     grind (arith, nat_tests)

@@ -2,14 +2,15 @@
 use Rattle.std.specs.Prelude.{◌≡◌, ℕ, Bool, ◌||◌, ◌==◌, nat_lt, is_some, List, [], ◌∷◌, Option, Some, None, false, take}
 use Rattle.std.specs.List.{list_any, find}
 use Rattle.affinity.specs.Path.{Path}
-use Rattle.affinity.specs.Interval.{Interval, IsAffinity, contains, number}
+use Rattle.affinity.specs.Interval.{Interval, IsAffinity, contains, preorder_number}
 use Rattle.affinity.specs.declared.geometry.Geometry.{Geometry}
 use Rattle.run_queue.specs.RunQueue.{are_related_intervals, has_number}
 use Rattle.run_queue.specs.declared.queued_message.QueuedMessage.{QueuedMessage}
 
 -- the numbers of the affinities above the one with this path; where they are fewer than four, its own number fills the list up
 abbrev pub numbers_above : Geometry → Path → List ℕ
-numbers_above g p = number g (take 0 p) ∷ number g (take 1 p) ∷ number g (take 2 p) ∷ number g (take 3 p) ∷ []
+numbers_above g p =
+    preorder_number g (take 0 p) ∷ preorder_number g (take 1 p) ∷ preorder_number g (take 2 p) ∷ preorder_number g (take 3 p) ∷ []
 
 -- Related to affinity a are exactly a itself, the affinities below it, and those with the numbers `above`.
 abbrev pub AreAbove : Geometry → Interval → List ℕ → Type 0

@@ -1,7 +1,7 @@
 //! Conflicts: whether a waiting message is kept back by others.
 ghost use Rattle.std.specs.Prelude.{◌≡◌, ℕ, true, false};
 ghost use Rattle.std.specs.List.{list_any, AllByRecursion};
-ghost use Rattle.affinity.specs.Interval.{IsPath, IsAffinity, IsAffinityOf, contains, number};
+ghost use Rattle.affinity.specs.Interval.{IsPath, IsAffinity, IsAffinityOf, contains, preorder_number};
 ghost use Rattle.affinity.specs.Path.{Path};
 ghost use Rattle.affinity.specs.Place.{path};
 ghost use Rattle.run_queue.specs.Order.{Ascend, is_conflict_free};
@@ -15,7 +15,7 @@ use affinity::{Affinity, Geometry, Place};
 // The number of the affinity of a place.
 fn number_at(g: &Geometry, place: Place) -> u16
     requires { IsPath g.now (path place) }
-    ensures { result ≡ number g.now (path place) }
+    ensures { result ≡ preorder_number g.now (path place) }
 {
     Affinity::at(g, place).number()
 }

@@ -6,9 +6,9 @@ use Rattle.arena.proofs.ArenaLemmas.{chain-front, chained-listed, front-chained}
 use Rattle.arena.proofs.Counts.{count_of-append}
 use Rattle.arena.specs.Lists.{without}
 use Rattle.arena.specs.ArenaView.{IsPartitioned, ArenaView, after_take, capacity_of, chain_at, front_of, value_at}
-use Rattle.legal_runs.specs.Events.{answer}
-use Rattle.legal_runs.specs.declared.outcomes.Outcome.TheVariants as outcomes
-use Rattle.messages.specs.declared.Reply.TheVariants.{Done}
+use Rattle.histories.specs.Events.{answer}
+use Rattle.histories.specs.declared.outcomes.Outcome.TheVariants as outcomes
+use Rattle.language.specs.declared.Reply.TheVariants.{Done}
 use Rattle.scheduler.proofs.Answering.{answer_core, answer_front, with_answer}
 use Rattle.scheduler.proofs.Chains.{TakenSlot, slot_taken}
 use Rattle.scheduler.specs.declared.core_calls.Core.TheInside.{Inside}

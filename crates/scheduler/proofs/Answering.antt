@@ -6,14 +6,14 @@ use Rattle.std.proofs.lemmas.Bool.{eq-eqb, or_left, true≢false}
 use Rattle.std.proofs.lemmas.Bool.Decides.{eqb_tells}
 use Rattle.affinity.proofs.Paths.{are_related-refl}
 use Rattle.affinity.proofs.Preorder.{are_related-contains}
-use Rattle.affinity.specs.Interval.{contains, number}
+use Rattle.affinity.specs.Interval.{contains, preorder_number}
 use Rattle.affinity.specs.declared.geometry.Geometry.{Geometry}
-use Rattle.legal_runs.proofs.Lists.{all_back, all_front}
-use Rattle.legal_runs.proofs.Moves.{Answers}
-use Rattle.legal_runs.proofs.Sound.{move_sound}
-use Rattle.legal_runs.specs.Laws.{AreUnrelated}
-use Rattle.legal_runs.specs.CoreState.{Entry, entries, are_related_entries}
-use Rattle.messages.specs.Messages.{path_of}
+use Rattle.histories.proofs.Lists.{all_back, all_front}
+use Rattle.histories.proofs.Moves.{Answers}
+use Rattle.histories.proofs.Sound.{move_sound}
+use Rattle.histories.specs.Laws.{AreUnrelated}
+use Rattle.histories.specs.CoreState.{Entry, entries, are_related_entries}
+use Rattle.language.specs.Messages.{path_of}
 use Rattle.scheduler.proofs.Tests.{any_answered, any_filter}
 use Rattle.scheduler.specs.Parts.{IsCore, IsPlaced, Parts, entry_of, replied_of, queued_of, core_state_in}
 use Rattle.scheduler.specs.Slots.{SlotView}

@@ -7,15 +7,15 @@ use Rattle.std.proofs.lemmas.List.Folds.{list_any-append}
 use Rattle.arena.proofs.Counts.{count_of-cons_is, count_of-cons_other}
 use Rattle.arena.specs.Lists.{count_of}
 use Rattle.arena.specs.ArenaView.{IsPartitioned, ArenaView, after_move, after_put, capacity_of, chain_at, put_answer, put_into, slot_from}
-use Rattle.legal_runs.proofs.Lists.{all_back}
-use Rattle.legal_runs.specs.Events.{arrive}
-use Rattle.legal_runs.specs.CoreState.{Entry, held}
-use Rattle.legal_runs.specs.declared.outcomes.ArriveRefusal.TheVariants as arrivals
-use Rattle.legal_runs.specs.declared.outcomes.Outcome.TheVariants as outcomes
-use Rattle.messages.specs.Messages.{is_in_range}
-use Rattle.messages.specs.declared.Msg.{Msg}
-use Rattle.messages.specs.declared.Reply.{Reply}
-use Rattle.messages.specs.declared.Reply.TheVariants.{Done}
+use Rattle.histories.proofs.Lists.{all_back}
+use Rattle.histories.specs.Events.{arrive}
+use Rattle.histories.specs.CoreState.{Entry, held}
+use Rattle.histories.specs.declared.outcomes.ArriveRefusal.TheVariants as arrivals
+use Rattle.histories.specs.declared.outcomes.Outcome.TheVariants as outcomes
+use Rattle.language.specs.Messages.{is_in_range}
+use Rattle.language.specs.declared.Msg.{Msg}
+use Rattle.language.specs.declared.Reply.{Reply}
+use Rattle.language.specs.declared.Reply.TheVariants.{Done}
 use Rattle.scheduler.proofs.Arriving.{arrival_core, arrival_state, has_slot, with_arrival}
 use Rattle.scheduler.proofs.Choosing.{any_map}
 use Rattle.scheduler.proofs.Counting.{messages_counted}

@@ -1,11 +1,11 @@
 -- A core that takes a message in.
 use Rattle.std.proofs.Common.{◌≡◌, ℕ, suc, ◌+◌, ◌<◌, [], ◌∷◌, ◌++◌, map, length, refl, ap, sym, subst, ◌∙◌, arith}
 use Rattle.std.proofs.lemmas.List.{length-append, map-append}
-use Rattle.legal_runs.proofs.Lists.{all_join}
-use Rattle.legal_runs.proofs.Moves.{Arrives}
-use Rattle.legal_runs.proofs.Sound.{move_sound}
-use Rattle.legal_runs.specs.Laws.{IsSoundCoreState}
-use Rattle.legal_runs.specs.CoreState.{held}
+use Rattle.histories.proofs.Lists.{all_join}
+use Rattle.histories.proofs.Moves.{Arrives}
+use Rattle.histories.proofs.Sound.{move_sound}
+use Rattle.histories.specs.Laws.{IsSoundCoreState}
+use Rattle.histories.specs.CoreState.{held}
 use Rattle.scheduler.proofs.Counting.{messages_counted}
 use Rattle.scheduler.specs.Parts.{IsCore, IsPlaced, Parts, entry_of, queued_of, core_state_in}
 use Rattle.scheduler.specs.Slots.{SlotView}

@@ -4,18 +4,18 @@ use Rattle.std.specs.Prelude.{if◌then◌else◌, is_none, not}
 use Rattle.std.proofs.lemmas.Bool.{and_from, lt-ltb, not_from_false}
 use Rattle.affinity.specs.declared.geometry.Geometry.{Geometry}
 use Rattle.image.specs.Pieces.{piece_count}
-use Rattle.legal_runs.specs.Events.{Hand, MachineState, answer, arrive, batch, pieces_after, flip_refusal, all_pieces_written, log, piece_refusal, point_refusal, unless_refused}
-use Rattle.legal_runs.specs.CoreState.{CoreState}
-use Rattle.legal_runs.specs.declared.outcomes.ArriveRefusal.{ArriveRefusal}
-use Rattle.legal_runs.specs.declared.outcomes.CoreFault.{CoreFault}
-use Rattle.legal_runs.specs.declared.outcomes.CoreFault.TheVariants as faults
-use Rattle.legal_runs.specs.declared.outcomes.Outcome.{Outcome}
-use Rattle.legal_runs.specs.declared.outcomes.Outcome.TheVariants as outcomes
-use Rattle.legal_runs.specs.declared.outcomes.PointRefusal.{PointRefusal}
-use Rattle.legal_runs.specs.declared.outcomes.PointRefusal.TheVariants as points
-use Rattle.legal_runs.specs.declared.outcomes.Step.TheVariants as steps
-use Rattle.messages.specs.declared.Msg.{Msg}
-use Rattle.messages.specs.declared.Reply.{Reply}
+use Rattle.histories.specs.Events.{Hand, MachineState, answer, arrive, batch, pieces_after, flip_refusal, all_pieces_written, log, piece_refusal, point_refusal, unless_refused}
+use Rattle.histories.specs.CoreState.{CoreState}
+use Rattle.histories.specs.declared.outcomes.ArriveRefusal.{ArriveRefusal}
+use Rattle.histories.specs.declared.outcomes.CoreFault.{CoreFault}
+use Rattle.histories.specs.declared.outcomes.CoreFault.TheVariants as faults
+use Rattle.histories.specs.declared.outcomes.Outcome.{Outcome}
+use Rattle.histories.specs.declared.outcomes.Outcome.TheVariants as outcomes
+use Rattle.histories.specs.declared.outcomes.PointRefusal.{PointRefusal}
+use Rattle.histories.specs.declared.outcomes.PointRefusal.TheVariants as points
+use Rattle.histories.specs.declared.outcomes.Step.TheVariants as steps
+use Rattle.language.specs.declared.Msg.{Msg}
+use Rattle.language.specs.declared.Reply.{Reply}
 use Rattle.scheduler.specs.Calls.{IsCallEvent, IsLogStep, IsPieceStep, IsCheckpointStep, answer_outcome, arrive_outcome, log_device_failed, log_outcome, checkpoint_device_failed, step_outcome}
 
 abbrev In : CoreState → List Hand → MachineState

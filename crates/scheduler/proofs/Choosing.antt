@@ -8,12 +8,12 @@ use Rattle.std.proofs.lemmas.List.Folds.{list_any-append}
 use Rattle.std.proofs.lemmas.Option.{none-some, same_Some}
 use Rattle.affinity.proofs.Preorder.{are_related-contains}
 use Rattle.affinity.specs.declared.geometry.Geometry.{Geometry}
-use Rattle.legal_runs.specs.Eligible.{has_room as has_room_for, is_conflict_free as is_clear_in, is_eligible, lacks_only_room, next_eligible, pick}
-use Rattle.legal_runs.specs.Events.{grant_refusal}
-use Rattle.legal_runs.specs.Laws.{AreAscending}
-use Rattle.legal_runs.specs.CoreState.{Entry, CoreState, entries, entry, are_related_entries}
-use Rattle.legal_runs.specs.declared.outcomes.Outcome.TheVariants as outcomes
-use Rattle.messages.specs.Messages.{path_of}
+use Rattle.histories.specs.Eligible.{has_room as has_room_for, is_conflict_free as is_clear_in, is_eligible, lacks_only_room, next_eligible, pick}
+use Rattle.histories.specs.Events.{grant_refusal}
+use Rattle.histories.specs.Laws.{AreAscending}
+use Rattle.histories.specs.CoreState.{Entry, CoreState, entries, entry, are_related_entries}
+use Rattle.histories.specs.declared.outcomes.Outcome.TheVariants as outcomes
+use Rattle.language.specs.Messages.{path_of}
 use Rattle.scheduler.specs.Calls.{IsGranted}
 use Rattle.scheduler.specs.Parts.{ArePlaced, IsCore, IsPlaced, Parts, entry_of, held_any, replied_of, queued_of, core_state_in}
 use Rattle.scheduler.specs.Slots.{Phases, SlotView}

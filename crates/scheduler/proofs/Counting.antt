@@ -3,9 +3,9 @@ use Rattle.std.proofs.Common.{◌≡◌, ℕ, ◌+◌, List, [], ◌∷◌, ◌+
 use Rattle.std.specs.Prelude.{cond, count_by}
 use Rattle.std.proofs.lemmas.List.{length-map}
 use Rattle.std.proofs.lemmas.List.Sums.{sum_by-append, sum_by-cons}
-use Rattle.legal_runs.specs.Eligible.{changes, unlogged_changes}
-use Rattle.legal_runs.specs.CoreState.{Entry, Replied, held}
-use Rattle.legal_runs.proofs.Apart.{length_held}
+use Rattle.histories.specs.Eligible.{changes, unlogged_changes}
+use Rattle.histories.specs.CoreState.{Entry, Replied, held}
+use Rattle.histories.proofs.Apart.{length_held}
 use Rattle.scheduler.specs.Parts.{Parts, entry_of, replied_of, core_state_in}
 use Rattle.scheduler.specs.Slots.{SlotView}
 

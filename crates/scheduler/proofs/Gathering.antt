@@ -12,12 +12,12 @@ use Rattle.arena.specs.Lists.{behind, behind_in, first_of, count_of}
 use Rattle.arena.specs.ArenaView.{ArenaView, IsPartitioned, capacity_of, chain_at, next_of, value_at}
 use Rattle.arena.proofs.ArenaLemmas.{chained-holds, length-parts}
 use Rattle.arena.proofs.Counts.{count_of-append, count_of-at, count_of-cons_is, count_of-cons_other}
-use Rattle.legal_runs.specs.Eligible.{changes}
-use Rattle.legal_runs.specs.Events.{recorded}
-use Rattle.legal_runs.specs.CoreState.{Replied}
-use Rattle.messages.specs.declared.Msg.{Msg}
-use Rattle.messages.specs.declared.Reply.{Reply}
-use Rattle.messages.specs.declared.Reply.TheVariants.{Done}
+use Rattle.histories.specs.Eligible.{changes}
+use Rattle.histories.specs.Events.{recorded}
+use Rattle.histories.specs.CoreState.{Replied}
+use Rattle.language.specs.declared.Msg.{Msg}
+use Rattle.language.specs.declared.Reply.{Reply}
+use Rattle.language.specs.declared.Reply.TheVariants.{Done}
 use Rattle.meaning.specs.Serial.{is_recorded}
 use Rattle.scheduler.proofs.GrantCall.{some_value}
 use Rattle.scheduler.proofs.Shifting.{left_over, some_first}

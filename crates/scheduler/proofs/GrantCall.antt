@@ -12,14 +12,14 @@ use Rattle.arena.proofs.ArenaLemmas.{chained-holds, chained-once}
 use Rattle.arena.proofs.Counts.{count_of-append, count_of-cons_is, count_of-cons_other, count_of-cons_same}
 use Rattle.arena.specs.Lists.{count_of}
 use Rattle.arena.specs.ArenaView.{IsPartitioned, ArenaView, after_move, capacity_of, chain_at, value_at}
-use Rattle.legal_runs.proofs.Lists.{all_back, all_join}
-use Rattle.legal_runs.specs.Eligible.{is_eligible}
-use Rattle.legal_runs.specs.Events.{grant}
-use Rattle.legal_runs.specs.CoreState.{Entry, CoreState}
-use Rattle.messages.specs.Messages.{path_of}
-use Rattle.messages.specs.declared.Msg.{Msg}
-use Rattle.messages.specs.declared.Reply.{Reply}
-use Rattle.messages.specs.declared.Reply.TheVariants.{Done}
+use Rattle.histories.proofs.Lists.{all_back, all_join}
+use Rattle.histories.specs.Eligible.{is_eligible}
+use Rattle.histories.specs.Events.{grant}
+use Rattle.histories.specs.CoreState.{Entry, CoreState}
+use Rattle.language.specs.Messages.{path_of}
+use Rattle.language.specs.declared.Msg.{Msg}
+use Rattle.language.specs.declared.Reply.{Reply}
+use Rattle.language.specs.declared.Reply.TheVariants.{Done}
 use Rattle.parcel.specs.Fits.{IsRunnable}
 use Rattle.parcel.specs.Run.{JobView, Shows}
 use Rattle.parcel.specs.Tree.{HasGap, LendsAt, TreeView, tree_nodes}

@@ -5,14 +5,14 @@ use Rattle.std.specs.List.{AllByRecursion}
 use Rattle.std.proofs.lemmas.Bool.{eq-eqb}
 use Rattle.std.proofs.lemmas.List.{length-append, map-append}
 use Rattle.std.proofs.lemmas.List.Elements.{filter-append}
-use Rattle.legal_runs.proofs.Lists.{all_back, all_front, all_join}
-use Rattle.legal_runs.proofs.Moves.{Grants}
-use Rattle.legal_runs.proofs.Sound.{move_sound}
-use Rattle.legal_runs.specs.Eligible.{next_eligible}
-use Rattle.legal_runs.specs.Events.{grant}
-use Rattle.legal_runs.specs.Laws.{IsSoundCoreState}
-use Rattle.legal_runs.specs.CoreState.{Entry, held}
-use Rattle.messages.specs.Messages.{path_of}
+use Rattle.histories.proofs.Lists.{all_back, all_front, all_join}
+use Rattle.histories.proofs.Moves.{Grants}
+use Rattle.histories.proofs.Sound.{move_sound}
+use Rattle.histories.specs.Eligible.{next_eligible}
+use Rattle.histories.specs.Events.{grant}
+use Rattle.histories.specs.Laws.{IsSoundCoreState}
+use Rattle.histories.specs.CoreState.{Entry, held}
+use Rattle.language.specs.Messages.{path_of}
 use Rattle.parcel.specs.Holding.{TreeHolds}
 use Rattle.parcel.specs.Tree.{LendsAt, TreeView, tree_nodes}
 use Rattle.parcel.specs.declared.parts.Parcels.{Parcels}

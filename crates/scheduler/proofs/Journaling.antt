@@ -9,12 +9,12 @@ use Rattle.disk.specs.Device.{Medium}
 use Rattle.disk.specs.Moments.{CrashImagesAre}
 use Rattle.journal.specs.Journal.{RecoversWithPrefix, committed}
 use Rattle.journal.specs.DirtyPieces.{DirtyPieces}
-use Rattle.legal_runs.proofs.Sound.{event_sound}
-use Rattle.legal_runs.specs.Laws.{IsSoundCoreState}
-use Rattle.legal_runs.specs.CoreState.{CoreState}
-use Rattle.legal_runs.specs.declared.outcomes.Outcome.{Outcome}
-use Rattle.legal_runs.specs.declared.outcomes.Step.{Step}
-use Rattle.messages.specs.declared.Msg.{Msg}
+use Rattle.histories.proofs.Sound.{event_sound}
+use Rattle.histories.specs.Laws.{IsSoundCoreState}
+use Rattle.histories.specs.CoreState.{CoreState}
+use Rattle.histories.specs.declared.outcomes.Outcome.{Outcome}
+use Rattle.histories.specs.declared.outcomes.Step.{Step}
+use Rattle.language.specs.declared.Msg.{Msg}
 use Rattle.meaning.specs.Serial.{state_after_all}
 use Rattle.meaning.specs.State.{State}
 use Rattle.scheduler.specs.Calls.{IsCallEvent}

@@ -14,14 +14,14 @@ use Rattle.checkpoint.specs.Recovery.{recovered_state}
 use Rattle.disk.specs.Device.{IsCrashImage, Medium}
 use Rattle.disk.specs.Moments.{CrashImagesAre, moment_number}
 use Rattle.journal.specs.Journal.{after_call, AreCarriedOut, JournalView, RecoversWithPrefix, IsRecoverable, committed}
-use Rattle.legal_runs.proofs.SerialReplies.{state_after_all-joined}
-use Rattle.legal_runs.specs.Eligible.{changes}
-use Rattle.legal_runs.specs.Events.{batch as batch_of, log, recorded, touches_device}
-use Rattle.legal_runs.specs.Laws.{IsSoundCoreState}
-use Rattle.legal_runs.specs.declared.outcomes.Step.TheVariants as steps
-use Rattle.messages.specs.declared.Msg.{Msg}
-use Rattle.messages.specs.declared.Reply.{Reply}
-use Rattle.messages.specs.declared.Reply.TheVariants.{Done}
+use Rattle.histories.proofs.SerialReplies.{state_after_all-joined}
+use Rattle.histories.specs.Eligible.{changes}
+use Rattle.histories.specs.Events.{batch as batch_of, log, recorded, touches_device}
+use Rattle.histories.specs.Laws.{IsSoundCoreState}
+use Rattle.histories.specs.declared.outcomes.Step.TheVariants as steps
+use Rattle.language.specs.declared.Msg.{Msg}
+use Rattle.language.specs.declared.Reply.{Reply}
+use Rattle.language.specs.declared.Reply.TheVariants.{Done}
 use Rattle.disk.specs.Store.{Costs}
 use Rattle.oplog.specs.Changing.{AreChangesInRange}
 use Rattle.oplog.specs.declared.fault.LogFault.{LogFault}

@@ -13,16 +13,16 @@ use Rattle.disk.specs.Device.{IsCrashImage, Medium}
 use Rattle.disk.specs.Moments.{CrashImagesAre}
 use Rattle.journal.specs.Journal.{AreCarriedOut, RecoversWithPrefix, committed}
 use Rattle.journal.specs.DirtyPieces.{DirtyPieces}
-use Rattle.legal_runs.proofs.Lists.{all_back, all_front, all_join, before_back, before_front}
-use Rattle.legal_runs.proofs.Moves.{Logs}
-use Rattle.legal_runs.proofs.Room.{log_has_room}
-use Rattle.legal_runs.proofs.Sound.{move_sound}
-use Rattle.legal_runs.proofs.SerialReplies.{state_after_all-joined, still_replied}
-use Rattle.legal_runs.specs.Events.{batch, log, recorded}
-use Rattle.legal_runs.specs.Laws.{AreUnrelated, HaveRepliesAt, IsSoundCoreState}
-use Rattle.legal_runs.specs.CoreState.{Replied, CoreState, entries}
-use Rattle.messages.specs.Messages.{IsMessage, is_in_range, kind}
-use Rattle.messages.specs.declared.Msg.{Msg}
+use Rattle.histories.proofs.Lists.{all_back, all_front, all_join, before_back, before_front}
+use Rattle.histories.proofs.Moves.{Logs}
+use Rattle.histories.proofs.Room.{log_has_room}
+use Rattle.histories.proofs.Sound.{move_sound}
+use Rattle.histories.proofs.SerialReplies.{state_after_all-joined, still_replied}
+use Rattle.histories.specs.Events.{batch, log, recorded}
+use Rattle.histories.specs.Laws.{AreUnrelated, HaveRepliesAt, IsSoundCoreState}
+use Rattle.histories.specs.CoreState.{Replied, CoreState, entries}
+use Rattle.language.specs.Messages.{IsMessage, is_in_range, kind}
+use Rattle.language.specs.declared.Msg.{Msg}
 use Rattle.oplog.specs.Changing.{AreChangesInRange, IsChangeInRange}
 use Rattle.parcel.specs.Holding.{TreeHolds}
 use Rattle.parcel.specs.Tree.{tree_nodes}

@@ -6,7 +6,7 @@ use Rattle.affinity.specs.declared.geometry.Geometry.{Geometry}
 use Rattle.arena.proofs.Counts.{length-numbers}
 use Rattle.arena.specs.ArenaView.{IsPartitioned, ArenaView, capacity_of, empty_arena}
 use Rattle.journal.specs.Journal.{IsRecoverable, committed}
-use Rattle.legal_runs.proofs.Idle.{idle_sound}
+use Rattle.histories.proofs.Idle.{idle_sound}
 use Rattle.parcel.proofs.Holding.{holds_alike, holds_whole}
 use Rattle.parcel.specs.Holding.{TreeHolds, nowhere}
 use Rattle.parcel.specs.Nodes.{tree_state}

@@ -8,13 +8,13 @@ use Rattle.disk.specs.Moments.{CrashImagesAre}
 use Rattle.image.specs.Pieces.{piece_count}
 use Rattle.journal.specs.Journal.{JournalView, after_call, committed}
 use Rattle.journal.specs.DirtyPieces.{DirtyPieces, count_dirty, cut_dirty, flipped_dirty, pointed_dirty}
-use Rattle.legal_runs.specs.Events.{point_refusal}
-use Rattle.legal_runs.specs.Laws.{IsSoundCoreState}
-use Rattle.legal_runs.specs.CoreState.{CoreState, held}
-use Rattle.legal_runs.specs.declared.outcomes.Outcome.TheVariants as outcomes
-use Rattle.legal_runs.specs.declared.outcomes.PointRefusal.{PointRefusal}
-use Rattle.legal_runs.specs.declared.outcomes.PointRefusal.TheVariants as points
-use Rattle.legal_runs.specs.declared.outcomes.Step.TheVariants as steps
+use Rattle.histories.specs.Events.{point_refusal}
+use Rattle.histories.specs.Laws.{IsSoundCoreState}
+use Rattle.histories.specs.CoreState.{CoreState, held}
+use Rattle.histories.specs.declared.outcomes.Outcome.TheVariants as outcomes
+use Rattle.histories.specs.declared.outcomes.PointRefusal.{PointRefusal}
+use Rattle.histories.specs.declared.outcomes.PointRefusal.TheVariants as points
+use Rattle.histories.specs.declared.outcomes.Step.TheVariants as steps
 use Rattle.oplog.specs.declared.fault.LogFault.{LogFault}
 use Rattle.parcel.proofs.Holding.{whole_holds}
 use Rattle.parcel.specs.Holding.{TreeHolds, nowhere}

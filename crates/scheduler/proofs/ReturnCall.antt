@@ -14,15 +14,15 @@ use Rattle.arena.proofs.ArenaLemmas.{chained-listed}
 use Rattle.arena.proofs.Counts.{count_of-append}
 use Rattle.arena.specs.Lists.{count_of}
 use Rattle.arena.specs.ArenaView.{IsPartitioned, after_move, capacity_of, chain_at}
-use Rattle.legal_runs.proofs.Apart.{apart_turned}
-use Rattle.legal_runs.proofs.Lists.{all_back, all_front, before_first}
-use Rattle.legal_runs.specs.Events.{give_back, find_in_flight}
-use Rattle.legal_runs.specs.Laws.{AreUnrelated}
-use Rattle.legal_runs.specs.CoreState.{Entry, CoreState, held, are_related_entries}
-use Rattle.messages.specs.Messages.{path_of}
-use Rattle.messages.specs.declared.Msg.{Msg}
-use Rattle.messages.specs.declared.Reply.{Reply}
-use Rattle.messages.specs.declared.Reply.TheVariants.{Done}
+use Rattle.histories.proofs.Apart.{apart_turned}
+use Rattle.histories.proofs.Lists.{all_back, all_front, before_first}
+use Rattle.histories.specs.Events.{give_back, find_in_flight}
+use Rattle.histories.specs.Laws.{AreUnrelated}
+use Rattle.histories.specs.CoreState.{Entry, CoreState, held, are_related_entries}
+use Rattle.language.specs.Messages.{path_of}
+use Rattle.language.specs.declared.Msg.{Msg}
+use Rattle.language.specs.declared.Reply.{Reply}
+use Rattle.language.specs.declared.Reply.TheVariants.{Done}
 use Rattle.parcel.proofs.Lending.{kind_of}
 use Rattle.parcel.proofs.Serving.{fits_where_lent}
 use Rattle.parcel.specs.Fits.{Fits, IsKindOf}

@@ -5,15 +5,15 @@ use Rattle.std.specs.List.{AllByRecursion}
 use Rattle.std.proofs.lemmas.Bool.{eq-eqb}
 use Rattle.std.proofs.lemmas.Bool.Decides.{eqb_tells}
 use Rattle.std.proofs.lemmas.List.{length-append, map-append}
-use Rattle.legal_runs.proofs.Lists.{all_back, all_front, all_join, before_front, before_one}
-use Rattle.legal_runs.proofs.Moves.{Backs}
-use Rattle.legal_runs.proofs.Sound.{move_sound}
-use Rattle.legal_runs.specs.Eligible.{pick}
-use Rattle.legal_runs.specs.Events.{give_back, find_in_flight}
-use Rattle.legal_runs.specs.Laws.{HaveDistinctTickets, IsSoundCoreState}
-use Rattle.legal_runs.specs.CoreState.{Entry}
-use Rattle.messages.specs.Messages.{path_of}
-use Rattle.messages.specs.declared.Reply.{Reply}
+use Rattle.histories.proofs.Lists.{all_back, all_front, all_join, before_front, before_one}
+use Rattle.histories.proofs.Moves.{Backs}
+use Rattle.histories.proofs.Sound.{move_sound}
+use Rattle.histories.specs.Eligible.{pick}
+use Rattle.histories.specs.Events.{give_back, find_in_flight}
+use Rattle.histories.specs.Laws.{HaveDistinctTickets, IsSoundCoreState}
+use Rattle.histories.specs.CoreState.{Entry}
+use Rattle.language.specs.Messages.{path_of}
+use Rattle.language.specs.declared.Reply.{Reply}
 use Rattle.parcel.specs.Fits.{Fits}
 use Rattle.parcel.specs.Holding.{TreeHolds}
 use Rattle.parcel.specs.Run.{Shows}

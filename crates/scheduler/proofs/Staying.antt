@@ -3,12 +3,12 @@ use Rattle.std.proofs.Common.{◌≡◌, ap, sym, subst, ◌∙◌}
 use Rattle.std.specs.List.{Contains}
 use Rattle.affinity.specs.Path.{are_related}
 use Rattle.affinity.specs.declared.geometry.Geometry.{Geometry}
-use Rattle.legal_runs.proofs.Elements.{in_contained}
-use Rattle.legal_runs.proofs.Outs.{event_sees}
-use Rattle.legal_runs.specs.Events.{Event, MachineState, IsAllowed}
-use Rattle.legal_runs.specs.Laws.{IsSoundCoreState}
-use Rattle.legal_runs.specs.CoreState.{Entry, CoreState}
-use Rattle.messages.specs.Messages.{path_of}
+use Rattle.histories.proofs.Elements.{in_contained}
+use Rattle.histories.proofs.Outs.{event_sees}
+use Rattle.histories.specs.Events.{Event, MachineState, IsAllowed}
+use Rattle.histories.specs.Laws.{IsSoundCoreState}
+use Rattle.histories.specs.CoreState.{Entry, CoreState}
+use Rattle.language.specs.Messages.{path_of}
 use Rattle.parcel.proofs.SerialRuns.{serial_run}
 use Rattle.parcel.specs.Fits.{IsRunnable}
 use Rattle.parcel.specs.Run.{JobView, IsJobRun, Shows}

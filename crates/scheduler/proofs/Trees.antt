@@ -9,16 +9,16 @@ use Rattle.affinity.proofs.Paths.{unrelated_below, unrelated_turned}
 use Rattle.affinity.specs.Interval.{IsPath}
 use Rattle.affinity.specs.Path.{Path, are_related, is_prefix}
 use Rattle.affinity.specs.declared.geometry.Geometry.{Geometry}
-use Rattle.legal_runs.specs.Eligible.{next_eligible}
-use Rattle.legal_runs.specs.Events.{log}
-use Rattle.legal_runs.specs.Laws.{IsSoundCoreState, AreUnrelated}
-use Rattle.legal_runs.specs.CoreState.{Entry, Replied, CoreState, entries, held, are_related_entries}
-use Rattle.legal_runs.proofs.Apart.{apart_turned, entries-append, granted_is_free}
-use Rattle.legal_runs.proofs.Lists.{all_back, all_front, all_weaker, before_back, before_first, before_one}
-use Rattle.legal_runs.proofs.Outs.{entries_leave}
-use Rattle.legal_runs.proofs.Sound.{row_of}
-use Rattle.legal_runs.proofs.SerialReplies.{state_after_all-append}
-use Rattle.messages.specs.Messages.{IsMessage, path_of}
+use Rattle.histories.specs.Eligible.{next_eligible}
+use Rattle.histories.specs.Events.{log}
+use Rattle.histories.specs.Laws.{IsSoundCoreState, AreUnrelated}
+use Rattle.histories.specs.CoreState.{Entry, Replied, CoreState, entries, held, are_related_entries}
+use Rattle.histories.proofs.Apart.{apart_turned, entries-append, granted_is_free}
+use Rattle.histories.proofs.Lists.{all_back, all_front, all_weaker, before_back, before_first, before_one}
+use Rattle.histories.proofs.Outs.{entries_leave}
+use Rattle.histories.proofs.Sound.{row_of}
+use Rattle.histories.proofs.SerialReplies.{state_after_all-append}
+use Rattle.language.specs.Messages.{IsMessage, path_of}
 use Rattle.parcel.proofs.Holding.{can_be_lent, holds_alike, lent_holds, lent_shows, place_is_out, restored_holds}
 use Rattle.parcel.specs.Fits.{Fits}
 use Rattle.parcel.specs.Holding.{IsApart, TreeHolds, with_place}
@@ -29,7 +29,7 @@ use Rattle.parcel.specs.declared.parts.Parcels.{Parcels}
 use Rattle.parcel.specs.declared.parts.Standing.{Standing}
 use Rattle.meaning.proofs.Agree.{agree-sym, agree-trans}
 use Rattle.meaning.proofs.Frame.{reads_only}
-use Rattle.meaning.specs.Order.{messages}
+use Rattle.meaning.specs.Order.{messages_of}
 use Rattle.meaning.specs.Serial.{state_after_all, next_state}
 use Rattle.meaning.specs.Subtrees.{AgreeOn}
 use Rattle.meaning.specs.State.{State}
@@ -145,11 +145,11 @@ module _ (g : Geometry) (w : CoreState) (sound : IsSoundCoreState g w) (before :
 
 pub log_reaches : (g : Geometry) (w : CoreState) (n : ℕ) → IsSoundCoreState g w → reached g (log g w n) ≡ reached g w
 log_reaches g w n sound =
-    ap (λ x. state_after_all g x (messages (entries (drop n w.ran)))) (row_of g w n sound).logs
+    ap (λ x. state_after_all g x (messages_of (entries (drop n w.ran)))) (row_of g w n sound).logs
     ∙ sym (state_after_all-append g w.committed (entries (take n w.ran)) (entries (drop n w.ran)))
-    ∙ ap (λ es. state_after_all g w.committed (messages es)) (sym (entries-append (take n w.ran) (drop n w.ran)) ∙ ap entries (take-append-drop n w.ran))
+    ∙ ap (λ es. state_after_all g w.committed (messages_of es)) (sym (entries-append (take n w.ran) (drop n w.ran)) ∙ ap entries (take-append-drop n w.ran))
 
 -- when a message is given back, the state reached is the one to which it leads from the state reached before
 pub back_reaches : (g : Geometry) (x : State) (ran : List Replied) (a : Replied)
-    → state_after_all g x (messages (entries (ran ++ a ∷ []))) ≡ next_state g (state_after_all g x (messages (entries ran))) a.1
-back_reaches g x ran a = ap (λ es. state_after_all g x (messages es)) (entries-append ran (a ∷ [])) ∙ state_after_all-append g x (entries ran) ((a.0, a.1) ∷ [])
+    → state_after_all g x (messages_of (entries (ran ++ a ∷ []))) ≡ next_state g (state_after_all g x (messages_of (entries ran))) a.1
+back_reaches g x ran a = ap (λ es. state_after_all g x (messages_of es)) (entries-append ran (a ∷ [])) ∙ state_after_all-append g x (entries ran) ((a.0, a.1) ∷ [])

@@ -1,19 +1,19 @@
 -- Statement for engineers: What the calls of a core return, what they make of its core state, and which events they are.
 use Rattle.std.specs.Prelude.{◌≡◌, ℕ, ◌+◌, Bool, true, false, List, take, length, Option, Some, None, Result, Ok, Err}
 use Rattle.affinity.specs.declared.geometry.Geometry.{Geometry}
-use Rattle.legal_runs.specs.Eligible.{next_eligible}
-use Rattle.legal_runs.specs.Events.{Hand, IsAllowed, arrive, batch, fails, pieces_after, grant, all_pieces_written, log, grant_refusal, piece_refusal}
-use Rattle.legal_runs.specs.CoreState.{Entry, CoreState}
-use Rattle.legal_runs.specs.declared.outcomes.ArriveRefusal.{ArriveRefusal}
-use Rattle.legal_runs.specs.declared.outcomes.CoreFault.{CoreFault}
-use Rattle.legal_runs.specs.declared.outcomes.CoreFault.TheVariants as faults
-use Rattle.legal_runs.specs.declared.outcomes.Outcome.{Outcome}
-use Rattle.legal_runs.specs.declared.outcomes.Outcome.TheVariants as outcomes
-use Rattle.legal_runs.specs.declared.outcomes.PointRefusal.{PointRefusal}
-use Rattle.legal_runs.specs.declared.outcomes.PointRefusal.TheVariants as points
-use Rattle.legal_runs.specs.declared.outcomes.Step.{Step}
-use Rattle.messages.specs.declared.Msg.{Msg}
-use Rattle.messages.specs.declared.Reply.{Reply}
+use Rattle.histories.specs.Eligible.{next_eligible}
+use Rattle.histories.specs.Events.{Hand, IsAllowed, arrive, batch, fails, pieces_after, grant, all_pieces_written, log, grant_refusal, piece_refusal}
+use Rattle.histories.specs.CoreState.{Entry, CoreState}
+use Rattle.histories.specs.declared.outcomes.ArriveRefusal.{ArriveRefusal}
+use Rattle.histories.specs.declared.outcomes.CoreFault.{CoreFault}
+use Rattle.histories.specs.declared.outcomes.CoreFault.TheVariants as faults
+use Rattle.histories.specs.declared.outcomes.Outcome.{Outcome}
+use Rattle.histories.specs.declared.outcomes.Outcome.TheVariants as outcomes
+use Rattle.histories.specs.declared.outcomes.PointRefusal.{PointRefusal}
+use Rattle.histories.specs.declared.outcomes.PointRefusal.TheVariants as points
+use Rattle.histories.specs.declared.outcomes.Step.{Step}
+use Rattle.language.specs.declared.Msg.{Msg}
+use Rattle.language.specs.declared.Reply.{Reply}
 use Rattle.scheduler.specs.Jobs.{IsJobOf}
 use Rattle.scheduler.specs.CoreView.{CoreView, core_state_of}
 use Rattle.scheduler.specs.declared.granted.Granted.{Granted}

@@ -4,8 +4,8 @@ use Rattle.affinity.specs.declared.geometry.Geometry.{Geometry}
 use Rattle.disk.specs.Device.{Medium, IsCrashImage}
 use Rattle.disk.specs.Moments.{CrashImagesAre}
 use Rattle.journal.specs.Journal.{RecoversWithPrefix}
-use Rattle.legal_runs.specs.CoreState.{Entry, Replied, CoreState}
-use Rattle.messages.specs.declared.Msg.{Msg}
+use Rattle.histories.specs.CoreState.{Entry, Replied, CoreState}
+use Rattle.language.specs.declared.Msg.{Msg}
 use Rattle.parcel.specs.Tree.{TreeView, state_in}
 use Rattle.meaning.specs.Serial.{state_after_all}
 
@@ -32,7 +32,7 @@ pub record CoreView : Type 0 where
   pub pieces_left : Option ℕ
   pub medium : Medium
 
--- the core state of `legal_runs` for this view
+-- the core state of `histories` for this view
 abbrev pub core_state_of : CoreView → CoreState
 core_state_of c = record {
   waiting = c.waiting;

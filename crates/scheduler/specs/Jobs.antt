@@ -2,8 +2,8 @@
 use Rattle.std.specs.Prelude.{◌≡◌}
 use Rattle.std.specs.List.{Contains}
 use Rattle.affinity.specs.declared.geometry.Geometry.{Geometry}
-use Rattle.legal_runs.specs.CoreState.{CoreState}
-use Rattle.messages.specs.Messages.{path_of}
+use Rattle.histories.specs.CoreState.{CoreState}
+use Rattle.language.specs.Messages.{path_of}
 use Rattle.parcel.specs.Fits.{IsRunnable}
 use Rattle.parcel.specs.Run.{JobView, Shows}
 use Rattle.parcel.specs.RunLaws.{IsLentOf}

@@ -1,10 +1,10 @@
 -- Inner: What becomes of the messages that ran when they are logged.
 use Rattle.std.specs.Prelude.{◌≡◌, ℕ, List, ◌++◌, map, take, drop, count_by, unwrap_or}
 use Rattle.arena.specs.ArenaView.{ArenaView, chain_at, value_at}
-use Rattle.legal_runs.specs.Eligible.{changes}
-use Rattle.legal_runs.specs.Events.{recorded}
-use Rattle.messages.specs.declared.Msg.{Msg}
-use Rattle.messages.specs.declared.Reply.{Reply}
+use Rattle.histories.specs.Eligible.{changes}
+use Rattle.histories.specs.Events.{recorded}
+use Rattle.language.specs.declared.Msg.{Msg}
+use Rattle.language.specs.declared.Reply.{Reply}
 use Rattle.scheduler.specs.Parts.{replied_of}
 use Rattle.scheduler.specs.Slots.{HasChains, no_slot, slot_view_at}
 use Rattle.scheduler.specs.declared.slot.Slot.{Slot}

@@ -5,14 +5,14 @@ use Rattle.affinity.specs.Interval.{IsAffinityOf}
 use Rattle.affinity.specs.Path.{Path, is_prefix}
 use Rattle.affinity.specs.declared.geometry.Geometry.{Geometry}
 use Rattle.journal.specs.Journal.{JournalView, committed}
-use Rattle.legal_runs.specs.Eligible.{changes, unlogged_changes}
-use Rattle.legal_runs.specs.Laws.{IsSoundCoreState}
-use Rattle.legal_runs.specs.CoreState.{Entry, Replied, CoreState, entries}
-use Rattle.messages.specs.Messages.{IsMessage, is_in_range, path_of}
-use Rattle.messages.specs.declared.Msg.{Msg}
+use Rattle.histories.specs.Eligible.{changes, unlogged_changes}
+use Rattle.histories.specs.Laws.{IsSoundCoreState}
+use Rattle.histories.specs.CoreState.{Entry, Replied, CoreState, entries}
+use Rattle.language.specs.Messages.{IsMessage, is_in_range, path_of}
+use Rattle.language.specs.declared.Msg.{Msg}
 use Rattle.parcel.specs.Holding.{TreeHolds}
 use Rattle.parcel.specs.Tree.{TreeView, tree_nodes}
-use Rattle.meaning.specs.Order.{messages}
+use Rattle.meaning.specs.Order.{messages_of}
 use Rattle.meaning.specs.Serial.{state_after_all}
 use Rattle.meaning.specs.State.{State}
 use Rattle.scheduler.specs.CoreView.{CoreView, RecoversNow, core_state_of}
@@ -95,7 +95,7 @@ is_below g es q = list_any (λ e. is_prefix (path_of g e.1) q) es
 
 -- the state that all messages which ran so far have led to, logged or not
 abbrev pub reached : Geometry → CoreState → State
-reached g w = state_after_all g w.committed (messages (entries w.ran))
+reached g w = state_after_all g w.committed (messages_of (entries w.ran))
 
 -- What a core keeps true of its parts.
 pub record IsCore (keeps : Type 0) (p : Parts) : Type 0 where

@@ -1,14 +1,14 @@
 //! Messages that arrive by the lines that encode them.
 
 ghost use Rattle.std.specs.Prelude.{◌≡◌};
-ghost use Rattle.messages.specs.Grammar.{message_of};
+ghost use Rattle.language.specs.Grammar.{message_of};
 ghost use Rattle.scheduler.specs.Calls.{ArrivesByLine};
 
 use crate::Core;
 use disk::Disk;
-use legal_runs::ArriveRefusal;
+use histories::ArriveRefusal;
+use language::{Block, Msg};
 use message::{Head, decode_block, head_of_line};
-use messages::{Block, Msg};
 
 impl<D: Disk> Core<D> {
     /// Takes in the message that a line (without its newline) encodes, and gives it the next ticket, as `arrive` does. `None` if the line

@@ -3,9 +3,9 @@
 
 ghost use Rattle.std.specs.List.{Contains};
 ghost use Rattle.affinity.specs.declared.geometry.Geometry.{Geometry};
-ghost use Rattle.legal_runs.specs.Events.{Event, MachineState, IsAllowed};
-ghost use Rattle.legal_runs.specs.Laws.{IsSoundCoreState};
-ghost use Rattle.legal_runs.specs.CoreState.{CoreState};
+ghost use Rattle.histories.specs.Events.{Event, MachineState, IsAllowed};
+ghost use Rattle.histories.specs.Laws.{IsSoundCoreState};
+ghost use Rattle.histories.specs.CoreState.{CoreState};
 ghost use Rattle.parcel.specs.Run.{JobView, IsJobRun};
 ghost use Rattle.parcel.specs.declared.job.Done.{Done};
 ghost use Rattle.scheduler.specs.Jobs.{IsJobOf, IsResultOf};

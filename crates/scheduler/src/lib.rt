@@ -1,7 +1,7 @@
 //! The core of a server: messages arrive, are dispatched as jobs so that no two related ones are in progress at
 //! once, come back with their results, are logged on a device and answered.
 //!
-//! What each call does is stated over the core states and events of `legal_runs`.
+//! What each call does is stated over the core states and events of `histories`.
 #![tactic(auto)]
 
 mod arrive_line;

@@ -2,7 +2,7 @@
 //! of the messages that ran, chain 3 that of the logged ones.
 ghost use Rattle.std.specs.Prelude.{◌≡◌, ◌≤◌, ◌<◌, ◌+◌, [], ◌∷◌, ◌++◌, length, take, vec_capacity};
 ghost use Rattle.arena.specs.ArenaView.{capacity_of, chain_at};
-ghost use Rattle.legal_runs.specs.Events.{recorded};
+ghost use Rattle.histories.specs.Events.{recorded};
 ghost use Rattle.meaning.specs.Serial.{is_recorded};
 ghost use Rattle.scheduler.specs.Moving.{HasLogged, changing_in, recorded_in};
 ghost use Rattle.scheduler.specs.Slots.{HasChains};
@@ -11,7 +11,7 @@ use crate::core_calls::one_if;
 use crate::slot::{LOGGED, RAN, Slot};
 use affinity::changing;
 use arena::Arena;
-use messages::{Msg, Reply};
+use language::{Msg, Reply};
 
 // Whether the log keeps a message with this reply: a change that was carried out.
 fn is_recorded(message: &Msg, reply: &Reply) -> bool

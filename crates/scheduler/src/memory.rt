@@ -7,7 +7,7 @@ ghost use Rattle.run_queue.specs.RunQueue.{queue_at_start};
 use crate::slot::{CHAINS, Slot};
 use affinity::Geometry;
 use arena::Arena;
-use messages::{Msg, Reply};
+use language::{Msg, Reply};
 use run_queue::RunQueue;
 use std::alloc::{AllocError, Global};
 

@@ -3,7 +3,7 @@
 //! records a checkpoint is due (0: only where the log is full), and a hook that does nothing (`OpenGate`). `leaves` and `writes` fail the
 //! test unless the device has this area named and these numbers of volumes, files and blocks, or what was written is as wanted.
 ghost use Rattle.std.specs.Prelude.{◌≡◌, false, IfOk, IsTrue};
-ghost use Rattle.legal_runs.specs.Laws.{IsIdle};
+ghost use Rattle.histories.specs.Laws.{IsIdle};
 ghost use Rattle.scheduler.specs.CoreView.{core_state_of};
 
 use crate::serving_images::leaves;

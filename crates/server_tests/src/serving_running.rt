@@ -5,7 +5,7 @@ use affinity::Geometry;
 use checkpoint::OpenFault;
 use disk::{Disk, MemDisk};
 use harness::Wrong;
-use legal_runs::{ArriveRefusal, CoreFault, PointRefusal};
+use histories::{ArriveRefusal, CoreFault, PointRefusal};
 use message::Msg;
 use plain::serve_plain;
 use scheduler::{Core, Granted};

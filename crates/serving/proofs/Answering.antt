@@ -4,20 +4,20 @@ use Rattle.std.specs.Prelude.{if◌then◌else◌, ◌==◌}
 use Rattle.std.specs.List.{AllByRecursion, Contains}
 use Rattle.std.proofs.lemmas.Bool.{eq-eqb, eqb-true, true≢false}
 use Rattle.affinity.specs.declared.geometry.Geometry.{Geometry}
-use Rattle.legal_runs.proofs.Elements.{contains_in, in_contained}
-use Rattle.legal_runs.proofs.SerialReplies.{IsIn, in_left, in_right}
-use Rattle.legal_runs.specs.Events.{answer}
-use Rattle.legal_runs.specs.CoreState.{Entry, Replied, CoreState}
-use Rattle.legal_runs.specs.declared.outcomes.Outcome.{Outcome}
-use Rattle.legal_runs.specs.declared.outcomes.Outcome.TheVariants as outcomes
-use Rattle.legal_runs.specs.declared.outcomes.Step.TheVariants as steps
-use Rattle.runs.proofs.Events.{core_holds, core_step}
-use Rattle.runs.specs.Machine.{MachineView}
-use Rattle.runs.specs.Steps.{IsCoreStep}
-use Rattle.runs.specs.declared.hands.HandContent.{HandContent}
-use Rattle.messages.specs.Grammar.{message_of}
-use Rattle.messages.specs.declared.Msg.{Msg}
-use Rattle.messages.specs.declared.Reply.{Reply}
+use Rattle.histories.proofs.Elements.{contains_in, in_contained}
+use Rattle.histories.proofs.SerialReplies.{IsIn, in_left, in_right}
+use Rattle.histories.specs.Events.{answer}
+use Rattle.histories.specs.CoreState.{Entry, Replied, CoreState}
+use Rattle.histories.specs.declared.outcomes.Outcome.{Outcome}
+use Rattle.histories.specs.declared.outcomes.Outcome.TheVariants as outcomes
+use Rattle.histories.specs.declared.outcomes.Step.TheVariants as steps
+use Rattle.incarnations.proofs.Events.{core_holds, core_step}
+use Rattle.incarnations.specs.Machine.{MachineView}
+use Rattle.incarnations.specs.Steps.{IsCoreStep}
+use Rattle.incarnations.specs.declared.hands.HandContent.{HandContent}
+use Rattle.language.specs.Grammar.{message_of}
+use Rattle.language.specs.declared.Msg.{Msg}
+use Rattle.language.specs.declared.Reply.{Reply}
 use Rattle.scheduler.specs.Calls.{answer_outcome}
 use Rattle.scheduler.specs.CoreView.{CoreView}
 use Rattle.serving.specs.Lines.{Completed, AreKnown, IsKnown, Line, NoMessage, NoneIsTo, OutOfRange, Pending, complete_one, admitted, admitted_in, has_answer, next_ticket, ticketed}

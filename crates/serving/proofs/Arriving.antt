@@ -2,27 +2,27 @@
 use Rattle.std.proofs.Common.{◌≡◌, ◌≢◌, ℕ, ◌+◌, true, false, List, [], ◌∷◌, ◌++◌, Option, refl, ap, sym, ◌∙◌, subst, append_assoc, append-nil, arith, Some, None}
 use Rattle.std.specs.Prelude.{Bool, Result, Ok, Err, if◌then◌else◌, not, nat_le, ◌==◌, ◌^◌, ◌-◌, length}
 use Rattle.affinity.specs.declared.geometry.Geometry.{Geometry}
-use Rattle.legal_runs.proofs.Elements.{in_contained}
-use Rattle.legal_runs.specs.Events.{MachineState, arrive}
-use Rattle.legal_runs.specs.Laws.{IsIdle}
-use Rattle.legal_runs.specs.CoreState.{Entry, CoreState, held}
-use Rattle.legal_runs.specs.declared.outcomes.ArriveRefusal.{ArriveRefusal}
-use Rattle.legal_runs.specs.declared.outcomes.ArriveRefusal.TheVariants as arrivals
-use Rattle.legal_runs.specs.declared.outcomes.Outcome.{Outcome}
-use Rattle.legal_runs.specs.declared.outcomes.Outcome.TheVariants as outcomes
-use Rattle.legal_runs.specs.declared.outcomes.Step.TheVariants as steps
-use Rattle.runs.proofs.Events.{core_holds, core_step}
-use Rattle.runs.specs.DeviceEvents.{events_of}
-use Rattle.runs.specs.Steps.{IsCoreStep}
-use Rattle.runs.specs.declared.hands.HandContent.{HandContent}
-use Rattle.messages.specs.Messages.{is_in_range}
+use Rattle.histories.proofs.Elements.{in_contained}
+use Rattle.histories.specs.Events.{MachineState, arrive}
+use Rattle.histories.specs.Laws.{IsIdle}
+use Rattle.histories.specs.CoreState.{Entry, CoreState, held}
+use Rattle.histories.specs.declared.outcomes.ArriveRefusal.{ArriveRefusal}
+use Rattle.histories.specs.declared.outcomes.ArriveRefusal.TheVariants as arrivals
+use Rattle.histories.specs.declared.outcomes.Outcome.{Outcome}
+use Rattle.histories.specs.declared.outcomes.Outcome.TheVariants as outcomes
+use Rattle.histories.specs.declared.outcomes.Step.TheVariants as steps
+use Rattle.incarnations.proofs.Events.{core_holds, core_step}
+use Rattle.incarnations.specs.DeviceEvents.{events_of}
+use Rattle.incarnations.specs.Steps.{IsCoreStep}
+use Rattle.incarnations.specs.declared.hands.HandContent.{HandContent}
+use Rattle.language.specs.Messages.{is_in_range}
 use Rattle.scheduler.specs.Calls.{arrive_outcome as arrived_so}
 use Rattle.scheduler.specs.CoreView.{CoreView, core_state_of}
-use Rattle.runs.specs.Machine.{MachineView}
-use Rattle.messages.specs.Grammar.{message_of}
-use Rattle.messages.specs.declared.Msg.{Msg}
-use Rattle.messages.specs.declared.Reply.{Reply}
-use Rattle.meaning.specs.Order.{messages}
+use Rattle.incarnations.specs.Machine.{MachineView}
+use Rattle.language.specs.Grammar.{message_of}
+use Rattle.language.specs.declared.Msg.{Msg}
+use Rattle.language.specs.declared.Reply.{Reply}
+use Rattle.meaning.specs.Order.{messages_of}
 use Rattle.serving.specs.Progress.{IsServing}
 use Rattle.serving.specs.Lines.{AreKnown, IsKnown, Line, NoneIsTo, OutOfRange, Pending, admitted, admitted_in, next_ticket, ticketed, Completed, NoMessage}
 use Rattle.serving.specs.Reads.{IsRefusedLine, IsTaken}
@@ -55,7 +55,7 @@ module _ {keeps : Type 0} {start old : MachineView} {consumed : List (List ℕ)}
   -- the ticket that the core gives next
   pub next_is : old.core.next ≡ next_ticket start.core.next (admitted g consumed)
   next_is = ap (λ (w : MachineState). w.core.next) (sym s.segment.ends) ∙ run_next g _ (events_of s.segment.device_events) s.segment.legal
-      ∙ ap (λ (es : List Entry). next_ticket start.core.next (messages es)) s.segment.arrived_are
+      ∙ ap (λ (es : List Entry). next_ticket start.core.next (messages_of es)) s.segment.arrived_are
       ∙ ap (next_ticket start.core.next) (messages-ticketed start.core.next (admitted g consumed))
 
   -- A line was read, and its message has arrived, if it takes a ticket.

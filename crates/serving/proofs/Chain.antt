@@ -5,14 +5,14 @@ use Rattle.std.proofs.lemmas.List.{map-append}
 use Rattle.std.proofs.lemmas.List.Sums.{sum_by-append}
 use Rattle.affinity.specs.declared.geometry.Geometry.{Geometry}
 use Rattle.disk.specs.Device.{Medium}
-use Rattle.legal_runs.proofs.Joining.{runs_join}
-use Rattle.legal_runs.specs.Events.{Event, MachineState}
-use Rattle.legal_runs.specs.Runs.{IsLegal, answered, arrived, end_state}
-use Rattle.legal_runs.specs.CoreState.{Entry}
-use Rattle.messages.specs.declared.Reply.{Reply}
-use Rattle.runs.proofs.Running.{after-append, safe-append}
-use Rattle.runs.specs.Machine.{MachineView, machine_of}
-use Rattle.runs.specs.DeviceEvents.{AreSafe, DeviceEvent, device_after, events_of}
+use Rattle.histories.proofs.Joining.{runs_join}
+use Rattle.histories.specs.Events.{Event, MachineState}
+use Rattle.histories.specs.Runs.{IsLegal, answered, arrived, end_state}
+use Rattle.histories.specs.CoreState.{Entry}
+use Rattle.language.specs.declared.Reply.{Reply}
+use Rattle.incarnations.proofs.Running.{after-append, safe-append}
+use Rattle.incarnations.specs.Machine.{MachineView, machine_of}
+use Rattle.incarnations.specs.DeviceEvents.{AreSafe, DeviceEvent, device_after, events_of}
 use Rattle.serving.specs.Runs.{RunsBetween}
 
 -- how many of the events report that the device failed

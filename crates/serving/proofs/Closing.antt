@@ -6,12 +6,12 @@ use Rattle.std.proofs.KnownBytes.{Appends-trans}
 use Rattle.message.specs.Waiting.{all_output}
 use Rattle.std.proofs.lemmas.Bool.{true≢false}
 use Rattle.std.proofs.lemmas.List.{length-replicate}
-use Rattle.legal_runs.proofs.Full.{last_none_out}
-use Rattle.legal_runs.proofs.Idle.{idle_sound, none_in_flight}
-use Rattle.legal_runs.specs.Events.{MachineState}
-use Rattle.legal_runs.specs.Laws.{IsIdle, full_hands}
-use Rattle.runs.specs.Machine.{MachineView, hand_of as hand_in, machine_of}
-use Rattle.runs.specs.DeviceEvents.{events_of}
+use Rattle.histories.proofs.Full.{last_none_out}
+use Rattle.histories.proofs.Idle.{idle_sound, none_in_flight}
+use Rattle.histories.specs.Events.{MachineState}
+use Rattle.histories.specs.Laws.{IsIdle, full_hands}
+use Rattle.incarnations.specs.Machine.{MachineView, hand_of as hand_in, machine_of}
+use Rattle.incarnations.specs.DeviceEvents.{events_of}
 use Rattle.parcel.specs.Run.{JobView}
 use Rattle.scheduler.specs.CoreView.{CoreView, RecoversNow, core_state_of}
 use Rattle.serving.specs.Ends.{EndsWith, Exchange, IsQuiesced, exchange}

@@ -4,14 +4,14 @@ use Rattle.std.specs.Prelude.{◌==◌}
 use Rattle.std.proofs.lemmas.List.{length-append}
 use Rattle.affinity.specs.declared.geometry.Geometry.{Geometry}
 use Rattle.meaning.specs.Serial.{reply_to}
-use Rattle.legal_runs.specs.CoreState.{Replied, CoreState, entries, held}
-use Rattle.legal_runs.specs.Eligible.{is_eligible}
-use Rattle.legal_runs.specs.Events.{MachineState, Event, give_back}
-use Rattle.legal_runs.specs.Runs.{IsLegal, answered, answers, arrived, arrives, end_state}
+use Rattle.histories.specs.CoreState.{Replied, CoreState, entries, held}
+use Rattle.histories.specs.Eligible.{is_eligible}
+use Rattle.histories.specs.Events.{MachineState, Event, give_back}
+use Rattle.histories.specs.Runs.{IsLegal, answered, answers, arrived, arrives, end_state}
 use Rattle.serving.specs.Runs.{unanswered}
-use Rattle.legal_runs.proofs.Apart.{held_grant, length_held, log_held}
-use Rattle.legal_runs.proofs.Lists.{picked}
-use Rattle.legal_runs.proofs.Moves.{Passed, Move, Stays, Arrives, Grants, Backs, Logs, Answers, moves}
+use Rattle.histories.proofs.Apart.{held_grant, length_held, log_held}
+use Rattle.histories.proofs.Lists.{picked}
+use Rattle.histories.proofs.Moves.{Passed, Move, Stays, Arrives, Grants, Backs, Logs, Answers, moves}
 
 abbrev Counts : CoreState → CoreState → Passed → Type 0
 Counts old new p = unanswered new + length p.reply_pairs ≡ unanswered old + length p.come

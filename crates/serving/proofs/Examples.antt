@@ -2,12 +2,12 @@
 use Rattle.std.proofs.Common.{◌≡◌, ℕ, List, [], ◌∷◌, map, refl, lit≤, ap, arith, ⊎_elim}
 use Rattle.std.specs.Prelude.{codes}
 use Rattle.affinity.specs.Geometry.{small}
-use Rattle.legal_runs.proofs.Elements.{in_contained}
-use Rattle.messages.specs.Grammar.{kind_named, message_of}
-use Rattle.messages.specs.Lines.{number_in_word}
-use Rattle.messages.specs.declared.Msg.TheVariants.{MakeVol, Create, Summary as AskSummary}
-use Rattle.messages.specs.declared.Reply.{Reply}
-use Rattle.messages.specs.declared.Reply.TheVariants.{Done, Summary}
+use Rattle.histories.proofs.Elements.{in_contained}
+use Rattle.language.specs.Grammar.{kind_named, message_of}
+use Rattle.language.specs.Lines.{number_in_word}
+use Rattle.language.specs.declared.Msg.TheVariants.{MakeVol, Create, Summary as AskSummary}
+use Rattle.language.specs.declared.Reply.{Reply}
+use Rattle.language.specs.declared.Reply.TheVariants.{Done, Summary}
 use Rattle.meaning.specs.Output.{joined, output_lines}
 use Rattle.meaning.specs.State.{empty}
 use Rattle.serving.specs.Lines.{Completed, AreKnown, NoMessage, NoneIsTo, OutOfRange, Pending, admitted, next_ticket, answer_text, ticketed}

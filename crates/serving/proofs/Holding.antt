@@ -7,13 +7,13 @@ use Rattle.checkpoint.proofs.NotRefused.{is_not_refused, has_header}
 use Rattle.affinity.specs.declared.geometry.Geometry.{Geometry}
 use Rattle.disk.specs.Device.{IsCrashImage, Medium}
 use Rattle.disk.specs.Moments.{left_since, moment_number}
-use Rattle.legal_runs.specs.CoreState.{Replied}
-use Rattle.legal_runs.specs.Events.{Event, recorded}
-use Rattle.legal_runs.proofs.Lists.{all_join}
-use Rattle.legal_runs.specs.Runs.{answered, logged_messages}
-use Rattle.runs.specs.Machine.{machine_of}
-use Rattle.runs.specs.DeviceEvents.{DeviceEvent, device_after, events_of}
-use Rattle.messages.specs.Grammar.{message_of}
+use Rattle.histories.specs.CoreState.{Replied}
+use Rattle.histories.specs.Events.{Event, recorded}
+use Rattle.histories.proofs.Lists.{all_join}
+use Rattle.histories.specs.Runs.{answered, logged_messages}
+use Rattle.incarnations.specs.Machine.{machine_of}
+use Rattle.incarnations.specs.DeviceEvents.{DeviceEvent, device_after, events_of}
+use Rattle.language.specs.Grammar.{message_of}
 use Rattle.meaning.specs.Output.{joined}
 use Rattle.meaning.specs.Serial.{state_after_all}
 use Rattle.scheduler.specs.CoreView.{CoreView}

@@ -5,18 +5,18 @@ use Rattle.std.specs.List.{AllByRecursion}
 use Rattle.std.proofs.lemmas.Bool.{le-leb, leb-true, true≢false}
 use Rattle.std.proofs.lemmas.List.{length-append}
 use Rattle.affinity.specs.declared.geometry.Geometry.{Geometry}
-use Rattle.legal_runs.proofs.Elements.{in_contained}
-use Rattle.legal_runs.proofs.SerialReplies.{IsIn}
-use Rattle.legal_runs.specs.Events.{MachineState}
-use Rattle.legal_runs.specs.Laws.{IsIdle}
-use Rattle.legal_runs.specs.Runs.{answered, arrived, end_state}
-use Rattle.legal_runs.specs.CoreState.{CoreState, held}
-use Rattle.runs.specs.Machine.{MachineView, machine_of}
-use Rattle.runs.specs.DeviceEvents.{events_of}
-use Rattle.messages.specs.Grammar.{message_of}
-use Rattle.messages.specs.Messages.{is_in_range}
-use Rattle.messages.specs.declared.Msg.{Msg}
-use Rattle.messages.specs.declared.Reply.{Reply}
+use Rattle.histories.proofs.Elements.{in_contained}
+use Rattle.histories.proofs.SerialReplies.{IsIn}
+use Rattle.histories.specs.Events.{MachineState}
+use Rattle.histories.specs.Laws.{IsIdle}
+use Rattle.histories.specs.Runs.{answered, arrived, end_state}
+use Rattle.histories.specs.CoreState.{CoreState, held}
+use Rattle.incarnations.specs.Machine.{MachineView, machine_of}
+use Rattle.incarnations.specs.DeviceEvents.{events_of}
+use Rattle.language.specs.Grammar.{message_of}
+use Rattle.language.specs.Messages.{is_in_range}
+use Rattle.language.specs.declared.Msg.{Msg}
+use Rattle.language.specs.declared.Reply.{Reply}
 use Rattle.scheduler.specs.CoreView.{core_state_of}
 use Rattle.serving.specs.Progress.{ServingProgress, IsServing}
 use Rattle.serving.specs.Lines.{Completed, AreKnown, IsKnown, Line, NoMessage, OutOfRange, Pending, admitted, admitted_in, has_answer, next_ticket, ticketed}

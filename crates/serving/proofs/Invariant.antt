@@ -5,16 +5,16 @@ use Rattle.std.specs.Prelude.{IfSome, IsTrue, MatchBool}
 use Rattle.std.specs.Io.KnownBytes.{Appends, IsAtEnd}
 use Rattle.affinity.specs.declared.geometry.Geometry.{Geometry}
 use Rattle.std.proofs.lemmas.Bool.{true≢false}
-use Rattle.legal_runs.proofs.Lists.{all_join}
-use Rattle.legal_runs.specs.Events.{arrive}
-use Rattle.legal_runs.specs.Laws.{IsIdle}
-use Rattle.legal_runs.specs.declared.outcomes.ArriveRefusal.TheVariants as arrivals
-use Rattle.legal_runs.specs.declared.outcomes.Outcome.TheVariants.{ArriveRefused}
-use Rattle.messages.specs.Grammar.{message_of}
-use Rattle.messages.specs.FirstLine.{GivesLine, HasWholeFirstLine, PassesLine}
+use Rattle.histories.proofs.Lists.{all_join}
+use Rattle.histories.specs.Events.{arrive}
+use Rattle.histories.specs.Laws.{IsIdle}
+use Rattle.histories.specs.declared.outcomes.ArriveRefusal.TheVariants as arrivals
+use Rattle.histories.specs.declared.outcomes.Outcome.TheVariants.{ArriveRefused}
+use Rattle.language.specs.Grammar.{message_of}
+use Rattle.language.specs.FirstLine.{GivesLine, HasWholeFirstLine, PassesLine}
 use Rattle.message.specs.Waiting.{all_output}
-use Rattle.messages.specs.declared.Msg.{Msg}
-use Rattle.messages.specs.declared.Reply.{Reply}
+use Rattle.language.specs.declared.Msg.{Msg}
+use Rattle.language.specs.declared.Reply.{Reply}
 use Rattle.scheduler.specs.CoreView.{CoreView, RecoversNow, core_state_of}
 use Rattle.serving.specs.Progress.{ServingProgress}
 use Rattle.meaning.specs.Output.{joined}

@@ -9,21 +9,21 @@ use Rattle.affinity.specs.declared.geometry.Geometry.{Geometry}
 use Rattle.disk.proofs.Moments.{counts_now}
 use Rattle.disk.specs.Device.{IsCrashImage, Medium}
 use Rattle.disk.specs.Moments.{left_since, moment_number}
-use Rattle.legal_runs.proofs.Answering.{run_replies}
-use Rattle.legal_runs.proofs.Arrivals.{run_ascending}
-use Rattle.legal_runs.proofs.Crashes.{went_first}
-use Rattle.legal_runs.proofs.Elements.{contains_in, holds_of, in_contained}
-use Rattle.legal_runs.proofs.SerialHistories.{answered_came, left_in_order, logged_begins, one_message, still_serial}
-use Rattle.legal_runs.proofs.SerialReplies.{IsIn, in_left, in_right}
-use Rattle.legal_runs.specs.Events.{Event, MachineState, recorded}
-use Rattle.legal_runs.specs.Laws.{AreAscending, IsIdle, IsSerialHistory, ticket_replies}
-use Rattle.legal_runs.specs.Runs.{answered, answered_messages, arrived, arrives, end_state, logged_messages}
-use Rattle.legal_runs.specs.CoreState.{Entry, Replied, entry}
-use Rattle.runs.specs.Machine.{MachineView, machine_of}
-use Rattle.runs.specs.DeviceEvents.{DeviceEvent, RecoversForRun, device_after, events_of}
-use Rattle.messages.specs.Grammar.{message_of}
-use Rattle.messages.specs.declared.Msg.{Msg}
-use Rattle.messages.specs.declared.Reply.{Reply}
+use Rattle.histories.proofs.Answering.{run_replies}
+use Rattle.histories.proofs.Arrivals.{run_ascending}
+use Rattle.histories.proofs.Crashes.{went_first}
+use Rattle.histories.proofs.Elements.{contains_in, holds_of, in_contained}
+use Rattle.histories.proofs.SerialHistories.{answered_came, left_in_order, logged_begins, one_message, still_serial}
+use Rattle.histories.proofs.SerialReplies.{IsIn, in_left, in_right}
+use Rattle.histories.specs.Events.{Event, MachineState, recorded}
+use Rattle.histories.specs.Laws.{AreAscending, IsIdle, IsSerialHistory, ticket_replies}
+use Rattle.histories.specs.Runs.{answered, answered_messages, arrived, arrives, end_state, logged_messages}
+use Rattle.histories.specs.CoreState.{Entry, Replied, entry}
+use Rattle.incarnations.specs.Machine.{MachineView, machine_of}
+use Rattle.incarnations.specs.DeviceEvents.{DeviceEvent, RecoversForRun, device_after, events_of}
+use Rattle.language.specs.Grammar.{message_of}
+use Rattle.language.specs.declared.Msg.{Msg}
+use Rattle.language.specs.declared.Reply.{Reply}
 use Rattle.meaning.specs.Serial.{state_after_all}
 use Rattle.meaning.specs.State.{State}
 use Rattle.scheduler.specs.CoreView.{CoreView, core_state_of}

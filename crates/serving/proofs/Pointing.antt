@@ -3,10 +3,10 @@ use Rattle.std.proofs.Common.{◌≡◌, ◌≢◌, ℕ, ◌-◌, true, false, L
 use Rattle.std.specs.Prelude.{Bool, if◌then◌else◌, is_some, nat_lt, IfOk, MatchBool, MatchResult, OnErr, OnOk}
 use Rattle.std.proofs.lemmas.Bool.{true≢false}
 use Rattle.std.proofs.lemmas.Option.{none-some}
-use Rattle.legal_runs.specs.Events.{pieces_after, point_refusal}
-use Rattle.legal_runs.specs.CoreState.{Entry, CoreState, held}
-use Rattle.legal_runs.specs.declared.outcomes.PointRefusal.{PointRefusal}
-use Rattle.legal_runs.specs.declared.outcomes.PointRefusal.TheVariants as points
+use Rattle.histories.specs.Events.{pieces_after, point_refusal}
+use Rattle.histories.specs.CoreState.{Entry, CoreState, held}
+use Rattle.histories.specs.declared.outcomes.PointRefusal.{PointRefusal}
+use Rattle.histories.specs.declared.outcomes.PointRefusal.TheVariants as points
 use Rattle.scheduler.specs.Calls.{IsPieceStep, IsCheckpointStep}
 use Rattle.serving.specs.declared.session.Halted.{Halted}
 

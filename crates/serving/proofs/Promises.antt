@@ -3,9 +3,9 @@ use Rattle.std.proofs.Common.{◌≡◌, ◌≤◌, ℕ, Bool, false, List, [], 
 use Rattle.std.specs.Prelude.{Ok, Err}
 use Rattle.std.specs.Io.KnownBytes.{IsAtEnd}
 use Rattle.std.proofs.lemmas.Option.{none-some, same_Some}
-use Rattle.legal_runs.specs.Laws.{IsIdle}
-use Rattle.runs.specs.Machine.{MachineView}
-use Rattle.messages.specs.Lines.{lines}
+use Rattle.histories.specs.Laws.{IsIdle}
+use Rattle.incarnations.specs.Machine.{MachineView}
+use Rattle.language.specs.Lines.{lines}
 use Rattle.meaning.specs.Progress.{TakesLines}
 use Rattle.scheduler.specs.CoreView.{CoreView, RecoversNow, core_state_of}
 use Rattle.serving.specs.Ends.{HasServed}

@@ -6,23 +6,23 @@ use Rattle.std.specs.List.{AllByRecursion, Contains}
 use Rattle.std.proofs.lemmas.Bool.{true≢false}
 use Rattle.affinity.specs.declared.geometry.Geometry.{Geometry}
 use Rattle.affinity.specs.Path.{are_related}
-use Rattle.messages.specs.Grammar.{message_of}
-use Rattle.messages.specs.Lines.{lines}
-use Rattle.messages.specs.Messages.{is_in_range, path_of}
-use Rattle.messages.specs.Replies.{reply_line}
-use Rattle.messages.specs.declared.Msg.{Msg}
-use Rattle.messages.specs.declared.Refusal.TheVariants.{Range}
-use Rattle.messages.specs.declared.Reply.{Reply}
-use Rattle.messages.specs.declared.Reply.TheVariants.{Refused}
-use Rattle.meaning.specs.Order.{by_ticket, messages, serial_replies}
+use Rattle.language.specs.Grammar.{message_of}
+use Rattle.language.specs.Lines.{lines}
+use Rattle.language.specs.Messages.{is_in_range, path_of}
+use Rattle.language.specs.Replies.{reply_line}
+use Rattle.language.specs.declared.Msg.{Msg}
+use Rattle.language.specs.declared.Refusal.TheVariants.{Range}
+use Rattle.language.specs.declared.Reply.{Reply}
+use Rattle.language.specs.declared.Reply.TheVariants.{Refused}
+use Rattle.meaning.specs.Order.{by_ticket, messages_of, serial_replies}
 use Rattle.meaning.specs.Output.{WritesOutput, answer_line, joined, output_lines, state_after_line, state_after_lines}
 use Rattle.meaning.specs.Serial.{state_after_all, next_state, reply_to}
 use Rattle.meaning.specs.State.{State}
-use Rattle.legal_runs.specs.Events.{recorded}
-use Rattle.legal_runs.specs.Laws.{AreAscending, ticket_replies}
-use Rattle.legal_runs.specs.CoreState.{Entry, Replied, are_related_entries, entries}
-use Rattle.legal_runs.proofs.Elements.{in_contained}
-use Rattle.legal_runs.proofs.SerialReplies.{IsIn, in_left}
+use Rattle.histories.specs.Events.{recorded}
+use Rattle.histories.specs.Laws.{AreAscending, ticket_replies}
+use Rattle.histories.specs.CoreState.{Entry, Replied, are_related_entries, entries}
+use Rattle.histories.proofs.Elements.{in_contained}
+use Rattle.histories.proofs.SerialReplies.{IsIn, in_left}
 use Rattle.serving.specs.Ends.{AreFirst}
 use Rattle.serving.specs.Lines.{admitted, admitted_in, next_ticket, ticketed}
 use Rattle.serving.specs.Restart.{IsClosedPart, RecoversTo, BytesRecover, are_related_lines}
@@ -65,7 +65,7 @@ pub record SpellsPart (g : Geometry) (es : List Entry) (ls : List (List ℕ)) : 
   closed : IsClosedPart g part ls
 
 leads : (g : Geometry) (x : State) (part : List (List ℕ)) (es : List Entry) → Spell part es
-    → state_after_all g x (messages es) ≡ state_after_lines g x part
+    → state_after_all g x (messages_of es) ≡ state_after_lines g x part
 leads g x [] [] s = refl
 leads g x [] (e ∷ es) s = absurd s
 leads g x (line ∷ part) [] s = absurd s
@@ -175,7 +175,7 @@ pub record AnswersFirst (g : Geometry) (x : State) (es : List Entry) (ls written
   pub answers : written ≡ output_lines g x first
   pub part : List (List ℕ)
   pub closed : IsClosedPart g part others
-  pub state : state_after_all g x (messages es) ≡ state_after_lines g x (first ++ part)
+  pub state : state_after_all g x (messages_of es) ≡ state_after_lines g x (first ++ part)
 
 serial_from : (g : Geometry) (x : State) (n : ℕ) (es : List Entry) → AllByRecursion (λ e. n ≤ e.0) es → (p : ℕ × Reply)
     → IsIn p (serial_replies g x es) → n ≤ p.0
@@ -248,7 +248,7 @@ module _ (g : Geometry) (log : List Replied) where
       record { first = []; others = ls; parts = refl; answers = refl; part = s.part; closed = s.closed; state = leads g x s.part es s.spell }
 
   one_more : {x : State} {es fs : List Entry} {line : List ℕ} {ls : List (List ℕ)} {w : List ℕ} {written : List (List ℕ)}
-      → w ≡ answer_line g x (message_of line) → state_after_all g x (messages es) ≡ state_after_all g (state_after_line g x (message_of line)) (messages fs)
+      → w ≡ answer_line g x (message_of line) → state_after_all g x (messages_of es) ≡ state_after_all g (state_after_line g x (message_of line)) (messages_of fs)
       → AnswersFirst g (state_after_line g x (message_of line)) fs ls written → AnswersFirst g x es (line ∷ ls) (w ∷ written)
   one_more {line} retires goes rest = record {
     first = line ∷ rest.first;
@@ -269,7 +269,7 @@ module _ (g : Geometry) (log : List Replied) where
         let stays = state_stays g x (message_of line) none in
         let retires = kept_line g x log n (message_of line) w k
         (λ m reply is in_range its. absurd (true≢false (sym in_range ∙ not_in_range g m (ap (admitted_in g) (sym is) ∙ none)))) in
-        one_more retires (ap (λ y. state_after_all g y (messages es)) (sym stays))
+        one_more retires (ap (λ y. state_after_all g y (messages_of es)) (sym stays))
         (subst (λ y. AnswersFirst g y es ls written) (sym stays) (on x n es h serial_all rest))
 
     answers_one : (m : Msg) → message_of line ≡ Some m → is_in_range g m ≡ true → HasNoGap g es ((n, m) ∷ ticketed (n + 1) (admitted g ls))
@@ -284,7 +284,7 @@ module _ (g : Geometry) (log : List Replied) where
         let retires = kept_line g x log n (Some m) w k
         (λ m' reply same in_range its. its_reply g x n m log j.0 serial_here greater m' reply its ∙ ap (reply_to g x) (some_is m m' same)) in
         one_more (retires ∙ ap (answer_line g x) (sym is))
-        (ap (λ l. state_after_all g x (messages l)) j.1 ∙ ap (λ o. state_after_all g (state_after_line g x o) (messages j.0)) (sym is))
+        (ap (λ l. state_after_all g x (messages_of l)) j.1 ∙ ap (λ o. state_after_all g (state_after_line g x o) (messages_of j.0)) (sym is))
         (subst (λ o. AnswersFirst g (state_after_line g x o) j.0 ls written) (sym is)
         (on (next_state g x m) (n + 1) j.0 j.2 (serial_on g x n m log j.0 serial_here) rest)))
         (λ (j : AllByRecursion (λ e. are_related_entries g (n, m) e ≡ false) es × HasNoGap g es (ticketed (n + 1) (admitted g ls))).

@@ -3,15 +3,15 @@ use Rattle.std.proofs.Common.{◌≡◌, ℕ, ◌<◌, zero, suc, true, false, L
 use Rattle.std.specs.Prelude.{option_map, slice_get, get_or}
 use Rattle.std.proofs.lemmas.Option.{slice_get-get_or, slice_get-map}
 use Rattle.std.proofs.lemmas.List.{get_or-set_same, length-map}
-use Rattle.legal_runs.specs.Events.{give_back, find_in_flight}
-use Rattle.legal_runs.specs.CoreState.{Entry}
-use Rattle.legal_runs.specs.declared.outcomes.Outcome.TheVariants as outcomes
-use Rattle.legal_runs.specs.declared.outcomes.Step.TheVariants as steps
-use Rattle.runs.proofs.Events.{a_job, back_holds, back_step, was_result}
-use Rattle.runs.specs.Machine.{MachineView}
-use Rattle.runs.specs.Steps.{IsMachineStep}
-use Rattle.runs.specs.declared.hands.HandContent.{HandContent}
-use Rattle.runs.specs.declared.hands.HandContent.TheVariants as has
+use Rattle.histories.specs.Events.{give_back, find_in_flight}
+use Rattle.histories.specs.CoreState.{Entry}
+use Rattle.histories.specs.declared.outcomes.Outcome.TheVariants as outcomes
+use Rattle.histories.specs.declared.outcomes.Step.TheVariants as steps
+use Rattle.incarnations.proofs.Events.{a_job, back_holds, back_step, was_result}
+use Rattle.incarnations.specs.Machine.{MachineView}
+use Rattle.incarnations.specs.Steps.{IsMachineStep}
+use Rattle.incarnations.specs.declared.hands.HandContent.{HandContent}
+use Rattle.incarnations.specs.declared.hands.HandContent.TheVariants as has
 use Rattle.parcel.specs.Run.{JobView, IsJobRun}
 use Rattle.parcel.specs.declared.job.Done.{Done}
 use Rattle.scheduler.specs.Jobs.{IsResultOf}

@@ -2,23 +2,23 @@
 use Rattle.std.proofs.Common.{◌≡◌, ℕ, Bool, List, [], ◌∷◌, ◌++◌, Result, Ok, Err, refl, ap, sym, ◌∙◌, subst, take, append-nil, false, true, ◌≤◌, ◌+◌, add-zero, zero, suc, arith, Option}
 use Rattle.std.specs.Prelude.{OnErr, drop, length, if◌then◌else◌}
 use Rattle.affinity.specs.declared.geometry.Geometry.{Geometry}
-use Rattle.legal_runs.proofs.Failures.{failure_lasts}
-use Rattle.legal_runs.specs.Events.{Event, MachineState, batch}
-use Rattle.legal_runs.specs.Laws.{dispatches_or_returns}
-use Rattle.legal_runs.specs.Runs.{IsLegal, answers, arrives, end_state}
-use Rattle.legal_runs.specs.CoreState.{Entry, CoreState}
-use Rattle.legal_runs.specs.declared.outcomes.CoreFault.{CoreFault}
-use Rattle.legal_runs.specs.declared.outcomes.CoreFault.TheVariants as faults
-use Rattle.legal_runs.specs.declared.outcomes.Outcome.{Outcome}
-use Rattle.legal_runs.specs.declared.outcomes.Outcome.TheVariants as outcomes
-use Rattle.legal_runs.specs.declared.outcomes.PointRefusal.{PointRefusal}
-use Rattle.legal_runs.specs.declared.outcomes.Step.{Step}
-use Rattle.legal_runs.specs.declared.outcomes.Step.TheVariants as steps
-use Rattle.runs.proofs.Events.{core_holds, core_step}
-use Rattle.runs.specs.Machine.{MachineView, machine_of}
-use Rattle.runs.specs.Steps.{IsCoreStep, IsMachineStep}
-use Rattle.runs.specs.declared.hands.HandContent.{HandContent}
-use Rattle.messages.specs.declared.Reply.{Reply}
+use Rattle.histories.proofs.Failures.{failure_lasts}
+use Rattle.histories.specs.Events.{Event, MachineState, batch}
+use Rattle.histories.specs.Laws.{dispatches_or_returns}
+use Rattle.histories.specs.Runs.{IsLegal, answers, arrives, end_state}
+use Rattle.histories.specs.CoreState.{Entry, CoreState}
+use Rattle.histories.specs.declared.outcomes.CoreFault.{CoreFault}
+use Rattle.histories.specs.declared.outcomes.CoreFault.TheVariants as faults
+use Rattle.histories.specs.declared.outcomes.Outcome.{Outcome}
+use Rattle.histories.specs.declared.outcomes.Outcome.TheVariants as outcomes
+use Rattle.histories.specs.declared.outcomes.PointRefusal.{PointRefusal}
+use Rattle.histories.specs.declared.outcomes.Step.{Step}
+use Rattle.histories.specs.declared.outcomes.Step.TheVariants as steps
+use Rattle.incarnations.proofs.Events.{core_holds, core_step}
+use Rattle.incarnations.specs.Machine.{MachineView, machine_of}
+use Rattle.incarnations.specs.Steps.{IsCoreStep, IsMachineStep}
+use Rattle.incarnations.specs.declared.hands.HandContent.{HandContent}
+use Rattle.language.specs.declared.Reply.{Reply}
 use Rattle.scheduler.specs.Calls.{CountsFailure, IsCallEvent, IsLogStep, log_device_failed, log_outcome, checkpoint_device_failed, step_outcome}
 use Rattle.scheduler.specs.CoreView.{CoreView, RecoversThroughout, core_state_of}
 use Rattle.serving.specs.Lines.{Line, admitted, ticketed}

@@ -6,18 +6,18 @@ use Rattle.std.proofs.lemmas.List.{length-map}
 use Rattle.std.proofs.lemmas.List.Quantifiers.{position-Some}
 use Rattle.std.proofs.lemmas.Bool.{true≢false}
 use Rattle.affinity.specs.declared.geometry.Geometry.{Geometry}
-use Rattle.legal_runs.specs.Events.{is_empty}
-use Rattle.legal_runs.specs.CoreState.{CoreState}
-use Rattle.legal_runs.specs.declared.outcomes.Outcome.{Outcome}
-use Rattle.legal_runs.specs.declared.outcomes.Outcome.TheVariants as outcomes
-use Rattle.legal_runs.specs.declared.outcomes.Step.TheVariants as steps
-use Rattle.legal_runs.specs.Runs.{answers}
-use Rattle.runs.proofs.Events.{failed_step, grant_holds, grant_step, no_grant_step, position_within, still_holds}
-use Rattle.runs.specs.Machine.{MachineView, hand_of as to_hand}
-use Rattle.runs.specs.Steps.{IsMachineStep}
-use Rattle.runs.specs.declared.hands.HandContent.{HandContent}
-use Rattle.runs.specs.declared.hands.HandContent.TheVariants as has
-use Rattle.messages.specs.declared.Reply.{Reply}
+use Rattle.histories.specs.Events.{is_empty}
+use Rattle.histories.specs.CoreState.{CoreState}
+use Rattle.histories.specs.declared.outcomes.Outcome.{Outcome}
+use Rattle.histories.specs.declared.outcomes.Outcome.TheVariants as outcomes
+use Rattle.histories.specs.declared.outcomes.Step.TheVariants as steps
+use Rattle.histories.specs.Runs.{answers}
+use Rattle.incarnations.proofs.Events.{failed_step, grant_holds, grant_step, no_grant_step, position_within, still_holds}
+use Rattle.incarnations.specs.Machine.{MachineView, hand_of as to_hand}
+use Rattle.incarnations.specs.Steps.{IsMachineStep}
+use Rattle.incarnations.specs.declared.hands.HandContent.{HandContent}
+use Rattle.incarnations.specs.declared.hands.HandContent.TheVariants as has
+use Rattle.language.specs.declared.Reply.{Reply}
 use Rattle.parcel.specs.Run.{JobView}
 use Rattle.scheduler.specs.Calls.{IsGrantOf, IsNoGrant}
 use Rattle.scheduler.specs.CoreView.{CoreView, RecoversNow, core_state_of}

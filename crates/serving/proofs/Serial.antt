@@ -4,19 +4,19 @@ use Rattle.std.specs.Prelude.{if◌then◌else◌, find, not}
 use Rattle.std.specs.List.{AllByRecursion}
 use Rattle.std.proofs.lemmas.Bool.{true≢false}
 use Rattle.affinity.specs.declared.geometry.Geometry.{Geometry}
-use Rattle.legal_runs.proofs.Elements.{in_contained}
-use Rattle.legal_runs.proofs.SerialReplies.{IsIn}
-use Rattle.messages.specs.Grammar.{message_of}
-use Rattle.messages.specs.Messages.{is_in_range, kind}
-use Rattle.messages.specs.Replies.{reply_line}
-use Rattle.messages.specs.declared.Msg.{Msg}
-use Rattle.messages.specs.declared.Msg.TheVariants.{MakeVol, DropVol, Create, Delete, Seal, Unseal, Write, Punch, Read, List as ListFiles, Usage as AskUsage, Summary as AskSummary, SetLabel, Label as AskLabel}
-use Rattle.messages.specs.declared.Refusal.{Refusal}
-use Rattle.messages.specs.declared.Refusal.TheVariants.{Range}
-use Rattle.messages.specs.declared.Reply.{Reply}
-use Rattle.messages.specs.declared.Reply.TheVariants.{Refused}
+use Rattle.histories.proofs.Elements.{in_contained}
+use Rattle.histories.proofs.SerialReplies.{IsIn}
+use Rattle.language.specs.Grammar.{message_of}
+use Rattle.language.specs.Messages.{is_in_range, kind}
+use Rattle.language.specs.Replies.{reply_line}
+use Rattle.language.specs.declared.Msg.{Msg}
+use Rattle.language.specs.declared.Msg.TheVariants.{MakeVol, DropVol, Create, Delete, Seal, Unseal, Write, Punch, Read, List as ListFiles, Usage as AskUsage, Summary as AskSummary, SetLabel, Label as AskLabel}
+use Rattle.language.specs.declared.Refusal.{Refusal}
+use Rattle.language.specs.declared.Refusal.TheVariants.{Range}
+use Rattle.language.specs.declared.Reply.{Reply}
+use Rattle.language.specs.declared.Reply.TheVariants.{Refused}
 use Rattle.meaning.proofs.OutputLemmas.{take-output_lines}
-use Rattle.meaning.specs.Order.{messages, serial_replies}
+use Rattle.meaning.specs.Order.{messages_of, serial_replies}
 use Rattle.meaning.specs.Output.{answer_line, output_lines, state_after_line, state_after_lines}
 use Rattle.meaning.specs.Serial.{accepted_reply, effect, state_after_all, next_state, reply_and_state, passes, refusal, reply_to, step, checks}
 use Rattle.meaning.specs.State.{State}
@@ -49,7 +49,7 @@ module _ (g : Geometry) (x : State) where
 
 -- ---- the tickets
 
-pub messages-ticketed : (n : ℕ) (ms : List Msg) → messages (ticketed n ms) ≡ ms
+pub messages-ticketed : (n : ℕ) (ms : List Msg) → messages_of (ticketed n ms) ≡ ms
 messages-ticketed n [] = refl
 messages-ticketed n (m ∷ ms) = ap (λ l. m ∷ l) (messages-ticketed (n + 1) ms)
 

@@ -6,19 +6,19 @@ use Rattle.std.proofs.lemmas.Bool.{true≢false}
 use Rattle.std.proofs.lemmas.List.Elements.{recursion_from_All}
 use Rattle.std.proofs.lemmas.Option.{none-some, same_Some}
 use Rattle.affinity.specs.declared.geometry.Geometry.{Geometry}
-use Rattle.runs.proofs.Running.{left_since_event}
-use Rattle.legal_runs.proofs.Arrivals.{answered_by_ticket, arrived_by_ticket, committed_by_ticket}
-use Rattle.legal_runs.proofs.Idle.{idle_sound}
-use Rattle.legal_runs.proofs.SerialReplies.{IsIn}
-use Rattle.legal_runs.specs.Events.{MachineState}
-use Rattle.legal_runs.specs.Laws.{IsIdle, IsSoundCoreState}
-use Rattle.legal_runs.specs.CoreState.{Entry}
-use Rattle.legal_runs.specs.Runs.{arrived}
-use Rattle.messages.proofs.FirstLines.{lines-first}
-use Rattle.messages.specs.Lines.{lines}
-use Rattle.messages.specs.FirstLine.{LosesLineStart, behind_first_line}
-use Rattle.messages.specs.declared.Reply.{Reply}
-use Rattle.meaning.specs.Order.{by_ticket, messages, serial_replies}
+use Rattle.incarnations.proofs.Running.{left_since_event}
+use Rattle.histories.proofs.Arrivals.{answered_by_ticket, arrived_by_ticket, committed_by_ticket}
+use Rattle.histories.proofs.Idle.{idle_sound}
+use Rattle.histories.proofs.SerialReplies.{IsIn}
+use Rattle.histories.specs.Events.{MachineState}
+use Rattle.histories.specs.Laws.{IsIdle, IsSoundCoreState}
+use Rattle.histories.specs.CoreState.{Entry}
+use Rattle.histories.specs.Runs.{arrived}
+use Rattle.language.proofs.FirstLines.{lines-first}
+use Rattle.language.specs.Lines.{lines}
+use Rattle.language.specs.FirstLine.{LosesLineStart, behind_first_line}
+use Rattle.language.specs.declared.Reply.{Reply}
+use Rattle.meaning.specs.Order.{by_ticket, messages_of, serial_replies}
 use Rattle.meaning.specs.Output.{AnswersWholeLines, joined, output_lines, state_after_lines, with_newlines}
 use Rattle.meaning.specs.Progress.{AreTaken, TakesLines}
 use Rattle.meaning.specs.Serial.{state_after_all}
@@ -28,8 +28,8 @@ use Rattle.serving.specs.Ends.{AreFirst, AreServed, EndsWith, HasServed, IsQuies
 use Rattle.serving.specs.Progress.{ServingProgress, IsServing}
 use Rattle.serving.specs.Session.{IsReadEnd}
 use Rattle.serving.specs.Lines.{AreKnown, Line, admitted, next_ticket, answer_text, ticketed}
-use Rattle.runs.specs.Machine.{MachineView, machine_of}
-use Rattle.runs.specs.DeviceEvents.{events_of}
+use Rattle.incarnations.specs.Machine.{MachineView, machine_of}
+use Rattle.incarnations.specs.DeviceEvents.{events_of}
 use Rattle.serving.specs.declared.server.ServeFault.TheVariants as faults
 use Rattle.serving.specs.declared.session.ReadEnd.TheVariants as ends_of_reading
 use Rattle.serving.proofs.Inside.{idle_again}
@@ -68,7 +68,7 @@ module _ (keeps : Type 0) (start now : MachineView) (idle : IsIdle (core_state_o
         let e = s.segment.ends in
         ap (λ (w : MachineState). w.core.committed) (sym e)
         ∙ committed_by_ticket g (machine_of start) (events_of s.segment.device_events) s.segment.legal sound idle (subst (λ (w : MachineState). IsIdle w.core) (sym e) ends)
-        ∙ ap (λ (es : List Entry). state_after_all g x (messages es)) by_line
+        ∙ ap (λ (es : List Entry). state_after_all g x (messages_of es)) by_line
         ∙ ap (state_after_all g x) (messages-ticketed start.core.next (admitted g consumed))
         ∙ asked_leads_there g x consumed
 

@@ -5,19 +5,19 @@ use Rattle.std.specs.List.{AllByRecursion}
 use Rattle.std.proofs.lemmas.Bool.{true≢false}
 use Rattle.std.proofs.lemmas.List.{length-map}
 use Rattle.affinity.specs.declared.geometry.Geometry.{Geometry}
-use Rattle.legal_runs.proofs.Elements.{in_contained}
-use Rattle.legal_runs.specs.Events.{MachineState}
-use Rattle.legal_runs.specs.Runs.{answered, arrived}
-use Rattle.legal_runs.specs.CoreState.{Entry}
-use Rattle.runs.specs.Machine.{machine_of}
-use Rattle.runs.specs.DeviceEvents.{events_of}
-use Rattle.messages.specs.Grammar.{message_of}
-use Rattle.messages.specs.Replies.{no_message, reply_line}
-use Rattle.messages.specs.declared.Msg.{Msg}
-use Rattle.messages.specs.declared.Reply.{Reply}
-use Rattle.messages.specs.declared.Refusal.TheVariants.{Range}
-use Rattle.messages.specs.declared.Reply.TheVariants.{Done, Refused}
-use Rattle.meaning.specs.Order.{messages}
+use Rattle.histories.proofs.Elements.{in_contained}
+use Rattle.histories.specs.Events.{MachineState}
+use Rattle.histories.specs.Runs.{answered, arrived}
+use Rattle.histories.specs.CoreState.{Entry}
+use Rattle.incarnations.specs.Machine.{machine_of}
+use Rattle.incarnations.specs.DeviceEvents.{events_of}
+use Rattle.language.specs.Grammar.{message_of}
+use Rattle.language.specs.Replies.{no_message, reply_line}
+use Rattle.language.specs.declared.Msg.{Msg}
+use Rattle.language.specs.declared.Reply.{Reply}
+use Rattle.language.specs.declared.Refusal.TheVariants.{Range}
+use Rattle.language.specs.declared.Reply.TheVariants.{Done, Refused}
+use Rattle.meaning.specs.Order.{messages_of}
 use Rattle.meaning.specs.Output.{joined}
 use Rattle.scheduler.specs.CoreView.{CoreView, core_state_of}
 use Rattle.serving.specs.Lines.{Completed, HaveAnswers, AreKnown, IsKnown, Line, NoMessage, OutOfRange, Pending, admitted_in, next_ticket, answer_text}
@@ -67,7 +67,7 @@ module _ (keeps : Type 0) (s : Start) (sent : Option (List ℕ)) (now : CoreView
       let at_end = ap (λ (w : MachineState). unanswered w.core) r.ends in
       let next_at_end = ap (λ (w : MachineState). w.core.next) r.ends in
       let next = run_next g (machine_of (start_machine s)) events r.legal in
-      let tickets = next_counts s.core.next (messages (arrived events)) in
+      let tickets = next_counts s.core.next (messages_of (arrived events)) in
       let many = length-map (arrived events) (λ (e : Entry). e.1) in
       no_items (answered events) (omega (arith, all_inside, first, count, at_end, next_at_end, next, tickets, many))
 

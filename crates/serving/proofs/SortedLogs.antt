@@ -8,20 +8,20 @@ use Rattle.std.proofs.lemmas.List.Elements.{All-contains_itself, recursion_from_
 use Rattle.std.proofs.lemmas.List.Sorted.{IsPermutation-sym, IsPermutation-trans}
 use Rattle.std.proofs.lemmas.Map.Keys.{IsDistinct-IsPermutation}
 use Rattle.affinity.specs.declared.geometry.Geometry.{Geometry}
-use Rattle.messages.specs.declared.Reply.{Reply}
+use Rattle.language.specs.declared.Reply.{Reply}
 use Rattle.meaning.specs.Laws.{AreInOrder}
-use Rattle.meaning.specs.Order.{by_ticket, messages, put, serial_replies, InOrderIfRelated, KeepsOrder}
+use Rattle.meaning.specs.Order.{by_ticket, messages_of, inserted_by_ticket, serial_replies, InOrderIfRelated, KeepsOrder}
 use Rattle.meaning.specs.Serial.{state_after_all, is_recorded, next_state, reply_to}
 use Rattle.meaning.specs.State.{State}
 use Rattle.meaning.proofs.ByTicket.{all-by_ticket, state_after_all-by_ticket, in_order-by_ticket, permutation-by_ticket, serial_replies-by_ticket}
 use Rattle.meaning.proofs.Unchanged.{unrecorded_changes_nothing}
-use Rattle.legal_runs.specs.Events.{recorded}
-use Rattle.legal_runs.specs.Laws.{AreAscending, IsSerialHistory, ticket_replies}
-use Rattle.legal_runs.specs.CoreState.{Entry, Replied, are_related_entries, entries}
-use Rattle.legal_runs.proofs.Apart.{apart_turned}
-use Rattle.legal_runs.proofs.Elements.{holds_of, in_contained}
-use Rattle.legal_runs.proofs.Lists.{all_back, all_front, all_permuted, all_weaker}
-use Rattle.legal_runs.proofs.SerialReplies.{IsIn}
+use Rattle.histories.specs.Events.{recorded}
+use Rattle.histories.specs.Laws.{AreAscending, IsSerialHistory, ticket_replies}
+use Rattle.histories.specs.CoreState.{Entry, Replied, are_related_entries, entries}
+use Rattle.histories.proofs.Apart.{apart_turned}
+use Rattle.histories.proofs.Elements.{holds_of, in_contained}
+use Rattle.histories.proofs.Lists.{all_back, all_front, all_permuted, all_weaker}
+use Rattle.histories.proofs.SerialReplies.{IsIn}
 
 -- ---- some of a list, in their order
 
@@ -41,23 +41,23 @@ none_among : (Out : Entry → Type 0) (all : List Entry) → AllByRecursion Out 
 none_among Out [] h = refl
 none_among Out (a ∷ all) h = inr (h.0, none_among Out all h.1)
 
-put_first : (e : Entry) (ds : List Entry) → AllByRecursion (λ d. e.0 < d.0) ds → put e ds ≡ e ∷ ds
+put_first : (e : Entry) (ds : List Entry) → AllByRecursion (λ d. e.0 < d.0) ds → inserted_by_ticket e ds ≡ e ∷ ds
 put_first e [] h = refl
-put_first e (d ∷ ds) h = ap (λ b. if b then e ∷ d ∷ ds else d ∷ put e ds) (lt-ltb e.0 d.0 h.0)
+put_first e (d ∷ ds) h = ap (λ b. if b then e ∷ d ∷ ds else d ∷ inserted_by_ticket e ds) (lt-ltb e.0 d.0 h.0)
 
 -- One more message is put into both lists, by its ticket.
 put_among : (Out : Entry → Type 0) (e : Entry) (es all : List Entry) → AreInOrder all → AreAmong Out es all
-    → AreAmong Out (put e es) (put e all)
-put_among Out e es [] h among = subst (λ l. AreAmong Out (put e l) (e ∷ [])) (sym among) (inl ([], refl, refl))
+    → AreAmong Out (inserted_by_ticket e es) (inserted_by_ticket e all)
+put_among Out e es [] h among = subst (λ l. AreAmong Out (inserted_by_ticket e l) (e ∷ [])) (sym among) (inl ([], refl, refl))
 put_among Out e es (a ∷ all) h among = ⊎_elim
     (λ (k : (rest : List Entry) × (es ≡ a ∷ rest) × AreAmong Out rest all).
-    subst (λ l. AreAmong Out (put e l) (put e (a ∷ all))) (sym k.1)
-    (elim (nat_lt e.0 a.0) as (λ b. AreAmong Out (if b then e ∷ a ∷ k.0 else a ∷ put e k.0) (if b then e ∷ a ∷ all else a ∷ put e all)) [
+    subst (λ l. AreAmong Out (inserted_by_ticket e l) (inserted_by_ticket e (a ∷ all))) (sym k.1)
+    (elim (nat_lt e.0 a.0) as (λ b. AreAmong Out (if b then e ∷ a ∷ k.0 else a ∷ inserted_by_ticket e k.0) (if b then e ∷ a ∷ all else a ∷ inserted_by_ticket e all)) [
       | true ↦ inl (a ∷ k.0, refl, inl (k.0, refl, k.2))
-      | false ↦ inl (put e k.0, refl, put_among Out e k.0 all h.1 k.2)
+      | false ↦ inl (inserted_by_ticket e k.0, refl, put_among Out e k.0 all h.1 k.2)
     ]))
     (λ (k : Out a × AreAmong Out es all).
-    elim (nat_lt e.0 a.0) as (λ b. nat_lt e.0 a.0 ≡ b → AreAmong Out (put e es) (if b then e ∷ a ∷ all else a ∷ put e all)) [
+    elim (nat_lt e.0 a.0) as (λ b. nat_lt e.0 a.0 ≡ b → AreAmong Out (inserted_by_ticket e es) (if b then e ∷ a ∷ all else a ∷ inserted_by_ticket e all)) [
       | true ↦ λ less.
           let lt : e.0 < a.0 = ltb-true e.0 a.0 less in
           let greater = all_weaker (λ d. a.0 ≤ d.0) (λ d. e.0 < d.0) (λ d le. omega (arith, lt, le)) es
@@ -173,7 +173,7 @@ both_parts a b as' bs h = (cc, cc)
 
 -- The recorded changes of a history lead to the same state as all its messages.
 pub log_leads : (g : Geometry) (x : State) (log : List Replied) → ticket_replies log ≡ serial_replies g x (entries log)
-    → state_after_all g x (recorded log) ≡ state_after_all g x (messages (entries log))
+    → state_after_all g x (recorded log) ≡ state_after_all g x (messages_of (entries log))
 log_leads g x [] h = refl
 log_leads g x (a ∷ log) h =
     let parts = both_parts (a.0, a.2) (a.0, reply_to g x a.1) (ticket_replies log) (serial_replies g (next_state g x a.1) (entries log)) h in
@@ -182,7 +182,7 @@ log_leads g x (a ∷ log) h =
     elim (is_recorded a.1 a.2) as
     (λ b. is_recorded a.1 a.2 ≡ b → state_after_all g x (map
     (λ (a : Replied). a.1) (cond b (a ∷ filter (λ a. is_recorded a.1 a.2) log) (filter (λ a. is_recorded a.1 a.2) log)))
-    ≡ state_after_all g (next_state g x a.1) (messages (entries log))) [
+    ≡ state_after_all g (next_state g x a.1) (messages_of (entries log))) [
       | true ↦ λ e. rest
       | false ↦ λ e. ap (λ y. state_after_all g y (recorded log)) (sym (unrecorded_changes_nothing g x a.1 (ap (is_recorded a.1) (sym reply) ∙ e))) ∙ rest
     ] refl
@@ -191,7 +191,7 @@ log_leads g x (a ∷ log) h =
 -- recorded changes lead, and each has the reply that the history has for it.
 pub record IsSortedLog (g : Geometry) (x : State) (arrivals : List Entry) (log : List Replied) (sorted : List Entry) : Type 0 where
   pub no_gap : HasNoGap g sorted arrivals
-  pub state : state_after_all g x (recorded log) ≡ state_after_all g x (messages sorted)
+  pub state : state_after_all g x (recorded log) ≡ state_after_all g x (messages_of sorted)
   pub tells : (p : ℕ × Reply) → IsIn p (ticket_replies log) → IsIn p (serial_replies g x sorted)
 
 pub sorted_log : (g : Geometry) (x : State) (arrivals : List Entry) (log : List Replied) → AreAscending arrivals

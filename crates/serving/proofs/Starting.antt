@@ -2,9 +2,9 @@
 use Rattle.std.proofs.Common.{◌≡◌, ℕ, zero, suc, false, List, [], Option, Some, None, refl, ap, sym, ◌∙◌, subst, map, inr, add-zero, append-nil, replicate}
 use Rattle.std.specs.Io.KnownBytes.{Appends}
 use Rattle.std.proofs.lemmas.Option.{none-some}
-use Rattle.legal_runs.specs.Laws.{IsSoundCoreState}
-use Rattle.runs.specs.Machine.{MachineView, IsHandOf, hand_at, ticket_in}
-use Rattle.runs.specs.declared.hands.HandContent.TheVariants as has
+use Rattle.histories.specs.Laws.{IsSoundCoreState}
+use Rattle.incarnations.specs.Machine.{MachineView, IsHandOf, hand_at, ticket_in}
+use Rattle.incarnations.specs.declared.hands.HandContent.TheVariants as has
 use Rattle.meaning.specs.Progress.{TakesLines}
 use Rattle.scheduler.specs.CoreView.{CoreView, core_state_of}
 use Rattle.serving.specs.Progress.{ServingProgress}

@@ -2,16 +2,16 @@
 use Rattle.std.proofs.Common.{◌≡◌, ℕ, true, false, Bool, List, [], ◌∷◌, ◌++◌, Option, Some, None, sym, refl, subst}
 use Rattle.std.specs.Prelude.{IfSome, Result, Ok, Err, ◌&&◌}
 use Rattle.std.specs.Io.KnownBytes.{IsAtEnd}
-use Rattle.legal_runs.specs.Events.{arrive}
-use Rattle.legal_runs.specs.Laws.{IsIdle}
-use Rattle.legal_runs.specs.declared.outcomes.ArriveRefusal.{ArriveRefusal}
-use Rattle.legal_runs.specs.declared.outcomes.ArriveRefusal.TheVariants as arrivals
-use Rattle.runs.proofs.Events.{arrive_step}
-use Rattle.runs.specs.Machine.{MachineView}
-use Rattle.runs.specs.declared.hands.HandContent.{HandContent}
-use Rattle.messages.specs.Grammar.{message_of}
-use Rattle.messages.specs.FirstLine.{GivesLine, IsAtEndOf, HasWholeFirstLine, PassesLine}
-use Rattle.messages.specs.declared.Msg.{Msg}
+use Rattle.histories.specs.Events.{arrive}
+use Rattle.histories.specs.Laws.{IsIdle}
+use Rattle.histories.specs.declared.outcomes.ArriveRefusal.{ArriveRefusal}
+use Rattle.histories.specs.declared.outcomes.ArriveRefusal.TheVariants as arrivals
+use Rattle.incarnations.proofs.Events.{arrive_step}
+use Rattle.incarnations.specs.Machine.{MachineView}
+use Rattle.incarnations.specs.declared.hands.HandContent.{HandContent}
+use Rattle.language.specs.Grammar.{message_of}
+use Rattle.language.specs.FirstLine.{GivesLine, IsAtEndOf, HasWholeFirstLine, PassesLine}
+use Rattle.language.specs.declared.Msg.{Msg}
 use Rattle.meaning.proofs.Taking.{takes_line, takes_long_line}
 use Rattle.scheduler.specs.Calls.{ArrivesByLine, arrive_outcome}
 use Rattle.scheduler.specs.CoreView.{CoreView, RecoversNow, core_state_of}

@@ -1,15 +1,15 @@
 -- The tickets that a run gives, one after the other.
 use Rattle.std.proofs.Common.{◌≡◌, ℕ, ◌+◌, List, [], ◌∷◌, ◌++◌, refl, ap, sym, ◌∙◌}
 use Rattle.affinity.specs.declared.geometry.Geometry.{Geometry}
-use Rattle.legal_runs.proofs.Moves.{Answers, Arrives, Backs, Grants, Logs, Move, Passed, Stays, moves}
-use Rattle.legal_runs.specs.Events.{Event, MachineState}
-use Rattle.legal_runs.specs.Runs.{IsLegal, arrived, arrives, end_state}
-use Rattle.legal_runs.specs.CoreState.{Entry, CoreState}
-use Rattle.runs.specs.Machine.{MachineView, machine_of}
-use Rattle.runs.specs.DeviceEvents.{events_of}
-use Rattle.messages.specs.declared.Msg.{Msg}
-use Rattle.messages.specs.declared.Reply.{Reply}
-use Rattle.meaning.specs.Order.{messages}
+use Rattle.histories.proofs.Moves.{Answers, Arrives, Backs, Grants, Logs, Move, Passed, Stays, moves}
+use Rattle.histories.specs.Events.{Event, MachineState}
+use Rattle.histories.specs.Runs.{IsLegal, arrived, arrives, end_state}
+use Rattle.histories.specs.CoreState.{Entry, CoreState}
+use Rattle.incarnations.specs.Machine.{MachineView, machine_of}
+use Rattle.incarnations.specs.DeviceEvents.{events_of}
+use Rattle.language.specs.declared.Msg.{Msg}
+use Rattle.language.specs.declared.Reply.{Reply}
+use Rattle.meaning.specs.Order.{messages_of}
 use Rattle.serving.specs.Lines.{next_ticket, ticketed}
 use Rattle.serving.specs.Runs.{RunsBetween}
 
@@ -21,31 +21,31 @@ pub ticketed-append : (n : ℕ) (ms more : List Msg) → ticketed n (ms ++ more)
 ticketed-append n [] more = refl
 ticketed-append n (m ∷ ms) more = ap (λ l. (n, m) ∷ l) (ticketed-append (n + 1) ms more)
 
-messages-append : (es fs : List Entry) → messages (es ++ fs) ≡ messages es ++ messages fs
+messages-append : (es fs : List Entry) → messages_of (es ++ fs) ≡ messages_of es ++ messages_of fs
 messages-append [] fs = refl
 messages-append (e ∷ es) fs = ap (λ l. e.1 ∷ l) (messages-append es fs)
 
 -- ---- the next ticket after a run
 
-quiet_next : (old new : CoreState) (p : Passed) → p.come ≡ [] → new.next ≡ old.next → new.next ≡ next_ticket old.next (messages p.come)
-quiet_next old new p none same = same ∙ ap (λ (es : List Entry). next_ticket old.next (messages es)) (sym none)
+quiet_next : (old new : CoreState) (p : Passed) → p.come ≡ [] → new.next ≡ old.next → new.next ≡ next_ticket old.next (messages_of p.come)
+quiet_next old new p none same = same ∙ ap (λ (es : List Entry). next_ticket old.next (messages_of es)) (sym none)
 
-move_next : (g : Geometry) (old new : CoreState) (p : Passed) → Move g old new p → new.next ≡ next_ticket old.next (messages p.come)
+move_next : (g : Geometry) (old new : CoreState) (p : Passed) → Move g old new p → new.next ≡ next_ticket old.next (messages_of p.come)
 move_next g old new p (Stays s e) = quiet_next old new p (ap (λ p. p.come) e) s.next
-move_next g old new p (Arrives m fits is e) = ap (λ w. w.next) is ∙ ap (λ (q : Passed). next_ticket old.next (messages q.come)) (sym e)
+move_next g old new p (Arrives m fits is e) = ap (λ w. w.next) is ∙ ap (λ (q : Passed). next_ticket old.next (messages_of q.come)) (sym e)
 move_next g old new p (Grants found first is e) = quiet_next old new p (ap (λ p. p.come) e) (ap (λ w. w.next) is)
 move_next g old new p (Backs ticket found one_out is e) = quiet_next old new p (ap (λ p. p.come) e) (ap (λ w. w.next) is)
 move_next g old new p (Logs n is e) = quiet_next old new p (ap (λ p. p.come) e) (ap (λ w. w.next) is)
 move_next g old new p (Answers a rest front is e) = quiet_next old new p (ap (λ p. p.come) e) (ap (λ w. w.next) is)
 
 pub run_next : (g : Geometry) (old : MachineState) (events : List Event) → IsLegal g old events
-    → (end_state old events).core.next ≡ next_ticket old.core.next (messages (arrived events))
+    → (end_state old events).core.next ≡ next_ticket old.core.next (messages_of (arrived events))
 run_next g old [] legal = refl
 run_next g old (event ∷ events) legal =
     let come = arrives event.step event.outcome in
     run_next g event.state_after events legal.1
-    ∙ ap (λ n. next_ticket n (messages (arrived events))) (move_next g old.core event.state_after.core _ (moves g old event legal.0))
-    ∙ sym (next-append old.core.next (messages come) (messages (arrived events)))
+    ∙ ap (λ n. next_ticket n (messages_of (arrived events))) (move_next g old.core event.state_after.core _ (moves g old event legal.0))
+    ∙ sym (next-append old.core.next (messages_of come) (messages_of (arrived events)))
     ∙ ap (next_ticket old.core.next) (sym (messages-append come (arrived events)))
 
 -- Where nothing arrives, the next ticket stays.
@@ -53,4 +53,4 @@ pub quiet_ticket : {keeps : Type 0} {old new : MachineView} {reply_pairs : List 
     → new.core.next ≡ old.core.next
 quiet_ticket {old} p =
     ap (λ (w : MachineState). w.core.next) (sym p.ends) ∙ run_next old.core.geometry (machine_of old) (events_of p.device_events) p.legal
-    ∙ ap (λ (es : List Entry). next_ticket old.core.next (messages es)) p.arrived_are
+    ∙ ap (λ (es : List Entry). next_ticket old.core.next (messages_of es)) p.arrived_are

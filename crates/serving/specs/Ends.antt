@@ -4,15 +4,15 @@ use Rattle.std.specs.Io.KnownBytes.{Appends, IsAtEnd}
 use Rattle.std.specs.List.{AllByRecursion}
 use Rattle.affinity.specs.declared.geometry.Geometry.{Geometry}
 use Rattle.disk.specs.Moments.{left_since, moment_number}
-use Rattle.legal_runs.specs.Laws.{IsIdle}
-use Rattle.legal_runs.specs.Runs.{IsLegal, answered, arrived, end_state}
-use Rattle.runs.specs.Machine.{MachineView, machine_of}
-use Rattle.runs.specs.DeviceEvents.{AreSafe, DeviceEvent, RecoversForRun, device_after, events_of}
-use Rattle.runs.specs.declared.hands.HandContent.{HandContent}
-use Rattle.messages.specs.Grammar.{message_of}
-use Rattle.messages.specs.Lines.{lines}
-use Rattle.messages.specs.Messages.{is_in_range}
-use Rattle.messages.specs.declared.Msg.{Msg}
+use Rattle.histories.specs.Laws.{IsIdle}
+use Rattle.histories.specs.Runs.{IsLegal, answered, arrived, end_state}
+use Rattle.incarnations.specs.Machine.{MachineView, machine_of}
+use Rattle.incarnations.specs.DeviceEvents.{AreSafe, DeviceEvent, RecoversForRun, device_after, events_of}
+use Rattle.incarnations.specs.declared.hands.HandContent.{HandContent}
+use Rattle.language.specs.Grammar.{message_of}
+use Rattle.language.specs.Lines.{lines}
+use Rattle.language.specs.Messages.{is_in_range}
+use Rattle.language.specs.declared.Msg.{Msg}
 use Rattle.meaning.specs.Output.{AnswersWholeLines, IsBeginning, WritesOutput, joined, output_lines, state_after_lines}
 use Rattle.meaning.specs.State.{State}
 use Rattle.scheduler.specs.CoreView.{CoreView, core_state_of}

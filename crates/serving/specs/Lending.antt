@@ -1,8 +1,8 @@
 -- Inner: What is dispatched to the places of a bench, why nothing is, and when nothing is in flight.
 use Rattle.std.specs.Prelude.{◌≡◌, ℕ, true, List, Option, Some, None, Result, Ok, Err, is_none, length, position, replicate, slice_set}
 use Rattle.affinity.specs.declared.geometry.Geometry.{Geometry}
-use Rattle.legal_runs.specs.CoreState.{CoreState}
-use Rattle.legal_runs.specs.declared.outcomes.Outcome.TheVariants as outcomes
+use Rattle.histories.specs.CoreState.{CoreState}
+use Rattle.histories.specs.declared.outcomes.Outcome.TheVariants as outcomes
 use Rattle.parcel.specs.Run.{JobView}
 use Rattle.scheduler.specs.Calls.{IsGrantOf, IsNoGrant}
 use Rattle.serving.specs.declared.dispatch.Blocked.{Blocked}

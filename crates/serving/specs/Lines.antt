@@ -2,11 +2,11 @@
 use Rattle.std.specs.Prelude.{◌≡◌, ℕ, ◌+◌, true, false, List, [], ◌∷◌, ◌++◌, if◌then◌else◌, Option, Some, None}
 use Rattle.std.specs.List.{Contains}
 use Rattle.affinity.specs.declared.geometry.Geometry.{Geometry}
-use Rattle.legal_runs.specs.CoreState.{Entry}
-use Rattle.messages.specs.declared.Msg.{Msg}
-use Rattle.messages.specs.declared.Reply.{Reply}
-use Rattle.messages.specs.Grammar.{message_of}
-use Rattle.messages.specs.Messages.{is_in_range}
+use Rattle.histories.specs.CoreState.{Entry}
+use Rattle.language.specs.declared.Msg.{Msg}
+use Rattle.language.specs.declared.Reply.{Reply}
+use Rattle.language.specs.Grammar.{message_of}
+use Rattle.language.specs.Messages.{is_in_range}
 pub use Rattle.reorder_buffer.specs.ReorderBuffer.{HaveAnswers, complete_one, has_answer, answer_text}
 pub use Rattle.reorder_buffer.specs.declared.reorder_buffer.Line.{Line}
 pub use Rattle.reorder_buffer.specs.declared.reorder_buffer.Line.TheVariants.{NoMessage, OutOfRange, Pending, Completed}

@@ -4,16 +4,16 @@ use Rattle.std.specs.Prelude.{◌≡◌, ◌⊎◌, ℕ, true, false, List, [], 
 use Rattle.std.specs.List.{Contains}
 use Rattle.affinity.specs.declared.geometry.Geometry.{Geometry}
 use Rattle.checkpoint.specs.Recovery.{recovered_state}
-use Rattle.legal_runs.specs.Events.{recorded}
-use Rattle.legal_runs.specs.Laws.{IsSerialHistory}
-use Rattle.legal_runs.specs.CoreState.{Entry, Replied}
-use Rattle.messages.specs.Grammar.{message_of}
-use Rattle.messages.specs.Messages.{is_in_range}
-use Rattle.messages.specs.Replies.{reply_line, no_message}
-use Rattle.messages.specs.declared.Msg.{Msg}
-use Rattle.messages.specs.declared.Reply.{Reply}
-use Rattle.messages.specs.declared.Reply.TheVariants.{Refused}
-use Rattle.messages.specs.declared.Refusal.TheVariants.{Range}
+use Rattle.histories.specs.Events.{recorded}
+use Rattle.histories.specs.Laws.{IsSerialHistory}
+use Rattle.histories.specs.CoreState.{Entry, Replied}
+use Rattle.language.specs.Grammar.{message_of}
+use Rattle.language.specs.Messages.{is_in_range}
+use Rattle.language.specs.Replies.{reply_line, no_message}
+use Rattle.language.specs.declared.Msg.{Msg}
+use Rattle.language.specs.declared.Reply.{Reply}
+use Rattle.language.specs.declared.Reply.TheVariants.{Refused}
+use Rattle.language.specs.declared.Refusal.TheVariants.{Range}
 use Rattle.meaning.specs.Serial.{state_after_all}
 use Rattle.meaning.specs.State.{State}
 use Rattle.serving.specs.Lines.{admitted_in, next_ticket}

@@ -4,12 +4,12 @@ use Rattle.std.specs.Io.KnownBytes.{Appends}
 use Rattle.std.specs.List.{AllByRecursion}
 use Rattle.checkpoint.specs.Header.{HasHeader}
 use Rattle.checkpoint.specs.Refusals.{refused}
-use Rattle.legal_runs.specs.Laws.{IsIdle}
-use Rattle.legal_runs.specs.CoreState.{Replied}
-use Rattle.runs.specs.Machine.{MachineView}
-use Rattle.messages.specs.Replies.{no_message, reply_line}
-use Rattle.messages.specs.declared.Refusal.TheVariants.{Range}
-use Rattle.messages.specs.declared.Reply.TheVariants.{Refused}
+use Rattle.histories.specs.Laws.{IsIdle}
+use Rattle.histories.specs.CoreState.{Replied}
+use Rattle.incarnations.specs.Machine.{MachineView}
+use Rattle.language.specs.Replies.{no_message, reply_line}
+use Rattle.language.specs.declared.Refusal.TheVariants.{Range}
+use Rattle.language.specs.declared.Reply.TheVariants.{Refused}
 use Rattle.meaning.specs.Output.{joined}
 use Rattle.scheduler.specs.CoreView.{CoreView, core_state_of}
 use Rattle.serving.specs.Ends.{AreFirst, HasServed, committed_in}

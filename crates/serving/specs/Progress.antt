@@ -3,8 +3,8 @@
 use Rattle.std.specs.Prelude.{◌≡◌, ℕ, Bool, true, List, ◌++◌, map, Option}
 use Rattle.std.specs.Io.KnownBytes.{Appends}
 use Rattle.std.specs.List.{AllByRecursion}
-use Rattle.runs.specs.Machine.{MachineView}
-use Rattle.messages.specs.declared.Reply.{Reply}
+use Rattle.incarnations.specs.Machine.{MachineView}
+use Rattle.language.specs.declared.Reply.{Reply}
 use Rattle.meaning.specs.Output.{joined}
 use Rattle.meaning.specs.Progress.{TakesLines}
 use Rattle.serving.specs.Lines.{AreKnown, Line, admitted, has_answer, answer_text, ticketed}

@@ -1,11 +1,11 @@
 -- Inner: What reading a line has done: it is consumed, and its message has arrived if it takes a ticket; or its message is refused.
 use Rattle.std.specs.Prelude.{◌≡◌, ◌≢◌, List, ◌∷◌, ◌++◌, [], Option, Some, Result, Ok, Err}
-use Rattle.legal_runs.specs.Events.{arrive}
-use Rattle.legal_runs.specs.declared.outcomes.ArriveRefusal.{ArriveRefusal}
-use Rattle.legal_runs.specs.declared.outcomes.ArriveRefusal.TheVariants as arrivals
-use Rattle.legal_runs.specs.declared.outcomes.Outcome.TheVariants.{ArriveRefused}
-use Rattle.runs.specs.Machine.{MachineView}
-use Rattle.messages.specs.declared.Msg.{Msg}
+use Rattle.histories.specs.Events.{arrive}
+use Rattle.histories.specs.declared.outcomes.ArriveRefusal.{ArriveRefusal}
+use Rattle.histories.specs.declared.outcomes.ArriveRefusal.TheVariants as arrivals
+use Rattle.histories.specs.declared.outcomes.Outcome.TheVariants.{ArriveRefused}
+use Rattle.incarnations.specs.Machine.{MachineView}
+use Rattle.language.specs.declared.Msg.{Msg}
 use Rattle.scheduler.specs.CoreView.{core_state_of}
 use Rattle.serving.specs.Lines.{IsKnown, Line, admitted_in, ticketed}
 use Rattle.serving.specs.Runs.{HandsHaveJobs, IsInternal, RunsBetween}

@@ -4,10 +4,10 @@ use Rattle.std.specs.List.{AllByRecursion}
 use Rattle.affinity.specs.Path.{are_related}
 use Rattle.affinity.specs.declared.geometry.Geometry.{Geometry}
 use Rattle.checkpoint.specs.Recovery.{recovered_state}
-use Rattle.messages.specs.Grammar.{message_of}
-use Rattle.messages.specs.Lines.{lines}
-use Rattle.messages.specs.Messages.{is_in_range, path_of}
-use Rattle.messages.specs.declared.Msg.{Msg}
+use Rattle.language.specs.Grammar.{message_of}
+use Rattle.language.specs.Lines.{lines}
+use Rattle.language.specs.Messages.{is_in_range, path_of}
+use Rattle.language.specs.declared.Msg.{Msg}
 use Rattle.meaning.specs.Output.{WritesOutput, joined, output_lines, state_after_lines}
 use Rattle.meaning.specs.State.{State}
 

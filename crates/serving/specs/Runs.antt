@@ -1,13 +1,13 @@
 -- Statement for operators: A segment of a server's run: its machine (the core; its hands are the bench's places, with the jobs lent there)
 -- before and after, and what a crash meanwhile may leave.
 use Rattle.std.specs.Prelude.{◌≡◌, ◌+◌, ℕ, List, [], map, length, count_by, Option, Some, None}
-use Rattle.legal_runs.specs.Runs.{IsLegal, answered, arrived, end_state}
-use Rattle.legal_runs.specs.CoreState.{Entry, CoreState, held}
-use Rattle.runs.specs.Machine.{MachineView, HoldsJobs, machine_of}
-use Rattle.runs.specs.DeviceEvents.{AreSafe, DeviceEvent, device_after, events_of}
-use Rattle.runs.specs.declared.hands.HandContent.{HandContent}
-use Rattle.runs.specs.declared.hands.HandContent.TheVariants as has
-use Rattle.messages.specs.declared.Reply.{Reply}
+use Rattle.histories.specs.Runs.{IsLegal, answered, arrived, end_state}
+use Rattle.histories.specs.CoreState.{Entry, CoreState, held}
+use Rattle.incarnations.specs.Machine.{MachineView, HoldsJobs, machine_of}
+use Rattle.incarnations.specs.DeviceEvents.{AreSafe, DeviceEvent, device_after, events_of}
+use Rattle.incarnations.specs.declared.hands.HandContent.{HandContent}
+use Rattle.incarnations.specs.declared.hands.HandContent.TheVariants as has
+use Rattle.language.specs.declared.Reply.{Reply}
 use Rattle.parcel.specs.Run.{JobView}
 use Rattle.scheduler.specs.CoreView.{CoreView, core_state_of}
 

@@ -2,8 +2,8 @@
 use Rattle.std.specs.Prelude.{◌≡◌, ◌≢◌, ℕ, false, List, [], ◌++◌, Option, Some, None, Result, Ok, Err, OnOk, replicate}
 use Rattle.std.specs.Io.KnownBytes.{Appends}
 use Rattle.affinity.specs.declared.geometry.Geometry.{Geometry}
-use Rattle.runs.specs.Machine.{MachineView}
-use Rattle.messages.specs.Lines.{lines}
+use Rattle.incarnations.specs.Machine.{MachineView}
+use Rattle.language.specs.Lines.{lines}
 use Rattle.oplog.specs.Recovery.{records_in}
 use Rattle.scheduler.specs.CoreView.{CoreView}
 use Rattle.serving.specs.Ends.{EndsWith, Exchange, HasServed}

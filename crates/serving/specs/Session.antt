@@ -2,12 +2,12 @@
 use Rattle.std.specs.Prelude.{◌≡◌, ◌+◌, ◌≤◌, ◌-◌, ◌^◌, ℕ, Bool, true, false, List, [], ◌++◌, length, map, Option, Some, None, IfSome, IsTrue, MatchResult, Result, Ok, Err}
 use Rattle.std.specs.Io.KnownBytes.{IsAtEnd}
 use Rattle.affinity.specs.declared.geometry.Geometry.{Geometry}
-use Rattle.legal_runs.specs.Laws.{IsIdle}
-use Rattle.runs.specs.Machine.{MachineView}
-use Rattle.messages.specs.Grammar.{message_of}
-use Rattle.messages.specs.Messages.{is_in_range}
-use Rattle.messages.specs.FirstLine.{GivesLine, LosesLineStart}
-use Rattle.messages.specs.declared.Msg.{Msg}
+use Rattle.histories.specs.Laws.{IsIdle}
+use Rattle.incarnations.specs.Machine.{MachineView}
+use Rattle.language.specs.Grammar.{message_of}
+use Rattle.language.specs.Messages.{is_in_range}
+use Rattle.language.specs.FirstLine.{GivesLine, LosesLineStart}
+use Rattle.language.specs.declared.Msg.{Msg}
 use Rattle.meaning.specs.Output.{joined}
 use Rattle.scheduler.specs.CoreView.{CoreView, core_state_of}
 use Rattle.serving.specs.Progress.{ServingProgress}

@@ -1,16 +1,16 @@
 //! Checkpoints of a session: when one is due, how it begins, and how it is carried to its end step by step.
 
 ghost use Rattle.std.specs.Prelude.{◌≡◌, ◌≢◌, ◌+◌, ℕ, [], None, Some, IfOk, IsTrue, MatchBool, MatchResult, false};
-ghost use Rattle.legal_runs.specs.declared.outcomes.PointRefusal.TheVariants.{Held};
-ghost use Rattle.legal_runs.specs.CoreState.{held};
+ghost use Rattle.histories.specs.declared.outcomes.PointRefusal.TheVariants.{Held};
+ghost use Rattle.histories.specs.CoreState.{held};
 ghost use Rattle.scheduler.specs.CoreView.{core_state_of};
 ghost use Rattle.serving.specs.Session.{IsSessionStep, steps_left};
 
 use crate::output::ReplySink;
 use crate::session::{Halted, Session};
 use disk::Disk;
-use legal_runs::PointRefusal;
-use messages::Reply;
+use histories::PointRefusal;
+use language::Reply;
 use std::io::Read;
 
 /// When checkpoints are due. A wrong count makes them at other times, which no contract forbids.

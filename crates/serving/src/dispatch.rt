@@ -3,7 +3,7 @@
 
 ghost use Rattle.std.specs.Prelude.{◌≡◌, ◌<◌, ◌≤◌, ◌-◌, ◌↔◌, IsTrue, OnErr, OnOk, Some, [], None, false, is_none, length, position, true};
 ghost use Rattle.affinity.specs.declared.geometry.Geometry.{Geometry};
-ghost use Rattle.legal_runs.specs.CoreState.{CoreState};
+ghost use Rattle.histories.specs.CoreState.{CoreState};
 ghost use Rattle.scheduler.specs.Calls.{IsGranted};
 ghost use Rattle.scheduler.specs.CoreView.{core_state_of};
 ghost use Rattle.serving.specs.Lending.{DispatchesTo, IsBlocked, NoneInFlight};
@@ -13,7 +13,7 @@ use crate::gated_runtime::GatedRuntime;
 use crate::output::ReplySink;
 use crate::session::{Activity, Halted, Session, or_halt};
 use disk::Disk;
-use messages::Reply;
+use language::Reply;
 use scheduler::Granted;
 use std::hint::spin_loop;
 use std::io::Read;

@@ -1,8 +1,8 @@
 //! Reading: takes each line into the reorder buffer, and its message into the core.
 
 ghost use Rattle.std.specs.Prelude.{◌≡◌, ◌<◌, ◌↔◌, ◌+◌, ◌++◌, List, [], ◌∷◌, IsTrue, None, OnErr, is_none, length};
-ghost use Rattle.messages.specs.Grammar.{message_of};
-ghost use Rattle.runs.specs.declared.hands.HandContent.{HandContent};
+ghost use Rattle.language.specs.Grammar.{message_of};
+ghost use Rattle.incarnations.specs.declared.hands.HandContent.{HandContent};
 ghost use Rattle.serving.specs.Lines.{Pending};
 ghost use Rattle.serving.specs.Reads.{TakesLine};
 ghost use Rattle.reorder_buffer.specs.ReorderBuffer.{AreConsecutive, with_tickets};
@@ -11,7 +11,7 @@ ghost use Rattle.serving.specs.Runs.{HandsHaveJobs};
 use crate::output::ReplySink;
 use crate::session::{Activity, ReadEnd, Session};
 use disk::Disk;
-use legal_runs::ArriveRefusal;
+use histories::ArriveRefusal;
 use message::Found;
 use reorder_buffer::{Line, ReorderBuffer};
 use scheduler::Core;

@@ -8,7 +8,7 @@
 //! has to give some values all the same. They are stand-ins: with the start `None` nothing could be served.
 
 ghost use Rattle.std.specs.Prelude.{◌≡◌, ◌≢◌, ◌≤◌, All, false, [], None, IfOk, OnErr, OnOk, Some, replicate, vec_len};
-ghost use Rattle.legal_runs.specs.Laws.{IsIdle};
+ghost use Rattle.histories.specs.Laws.{IsIdle};
 ghost use Rattle.scheduler.specs.CoreView.{RecoversNow, core_state_of};
 ghost use Rattle.std.specs.Io.KnownBytes.{Appends};
 ghost use Rattle.serving.specs.Ends.{exchange};

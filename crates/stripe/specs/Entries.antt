@@ -5,7 +5,7 @@ use Rattle.affinity.specs.Geometry.{stripe_of}
 use Rattle.affinity.specs.declared.geometry.Geometry.{Geometry}
 use Rattle.byteorder.specs.Endian.{little_bytes, little_number}
 use Rattle.device_map.specs.Layout.{entry_size}
-use Rattle.messages.specs.Replies.{has_file}
+use Rattle.language.specs.Replies.{has_file}
 use Rattle.stripe.specs.Stripe.{BlockEntry, IsAscending}
 
 -- an entry: 1, the file, the block with the lower byte first, four zeros, the content

@@ -2,8 +2,8 @@
 
 ghost use Rattle.std.specs.Prelude.{◌≡◌, ℕ, ◌<◌, true, false, slice_index_or, Some, None, IfSome, vec_len};
 ghost use Rattle.affinity.specs.declared.geometry.Geometry.{Geometry};
-ghost use Rattle.messages.specs.declared.Msg.{Msg};
-ghost use Rattle.messages.specs.Messages.{is_in_range, path_of};
+ghost use Rattle.language.specs.declared.Msg.{Msg};
+ghost use Rattle.language.specs.Messages.{is_in_range, path_of};
 ghost use Rattle.parcel.specs.Dropping.{Empties};
 ghost use Rattle.parcel.specs.Fits.{FitsAggregate, FitsLogical, FitsVolume, IsWholeAggregate, IsWholeChild, IsWholeLogical, IsWholeVolume, IsRunnable};
 ghost use Rattle.parcel.specs.Run.{IsSerialStep};
@@ -17,7 +17,7 @@ ghost use Rattle.parcel.specs.declared.parts.Standing.{Standing};
 use super::refusals::{guard, guard_open, reply_to_change};
 use crate::{Aggr, Label, Logical, StripeParcel, Vol};
 use affinity::Geometry;
-use messages::{Msg, Refusal, Reply};
+use language::{Msg, Refusal, Reply};
 
 // Whether the volume at one index is made, and whether it is sealed.
 fn marks(node: &Option<Vol>) -> (bool, bool)

@@ -1,7 +1,7 @@
 //! Messages at the label of a volume: they set it and ask for it.
 
-ghost use Rattle.messages.specs.declared.Msg.{Msg};
-ghost use Rattle.messages.specs.Messages.{path_of};
+ghost use Rattle.language.specs.declared.Msg.{Msg};
+ghost use Rattle.language.specs.Messages.{path_of};
 ghost use Rattle.parcel.specs.Fits.{IsRunnable};
 ghost use Rattle.parcel.specs.Run.{IsSerialStep};
 ghost use Rattle.parcel.specs.Shown.{label_facts, shown_state};
@@ -11,7 +11,7 @@ ghost use Rattle.parcel.specs.declared.parts.Parcels.{Parcels};
 use super::refusals::{guard_open, reply_to_change};
 use crate::{Label, Standing};
 use affinity::Geometry;
-use messages::{Msg, Refusal, Reply};
+use language::{Msg, Refusal, Reply};
 
 // Sets the label.
 fn set_label(

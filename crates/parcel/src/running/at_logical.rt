@@ -1,8 +1,8 @@
 //! Messages at a Volume Logical, the files of a volume with its stripes: they make, remove and list files.
 
 ghost use Rattle.std.specs.Prelude.{◌≡◌, ℕ, ◌<◌, slice_index_or, None, vec_len};
-ghost use Rattle.messages.specs.declared.Msg.{Msg};
-ghost use Rattle.messages.specs.Messages.{path_of};
+ghost use Rattle.language.specs.declared.Msg.{Msg};
+ghost use Rattle.language.specs.Messages.{path_of};
 ghost use Rattle.parcel.specs.Dropping.{DropsFile};
 ghost use Rattle.parcel.specs.Fits.{FitsLogical, IsWholeLogical, IsRunnable};
 ghost use Rattle.parcel.specs.Run.{IsSerialStep};
@@ -13,7 +13,7 @@ ghost use Rattle.parcel.specs.declared.parts.Parcels.{Parcels};
 use super::refusals::{guard, guard_file, guard_open, reply_to_change};
 use crate::{Logical, Standing, StripeParcel};
 use affinity::Geometry;
-use messages::{Msg, Refusal, Reply, has_file};
+use language::{Msg, Refusal, Reply, has_file};
 
 // Makes a file, without blocks.
 fn create(logical: &mut Logical, g: &Geometry, standing: Standing, f: u16) -> Result<(), Refusal>

@@ -1,7 +1,7 @@
 //! Messages at the whole server: they ask how much all volumes hold.
 
-ghost use Rattle.messages.specs.declared.Msg.{Msg};
-ghost use Rattle.messages.specs.Messages.{path_of};
+ghost use Rattle.language.specs.declared.Msg.{Msg};
+ghost use Rattle.language.specs.Messages.{path_of};
 ghost use Rattle.parcel.specs.Fits.{FitsRoot, IsRunnable};
 ghost use Rattle.parcel.specs.Run.{IsSerialStep};
 ghost use Rattle.parcel.specs.Shown.{root_facts, shown_state};
@@ -12,7 +12,7 @@ ghost use Rattle.parcel.specs.declared.parts.Standing.{Standing};
 use super::totals::root_totals;
 use crate::Root;
 use affinity::Geometry;
-use messages::{Msg, Reply};
+use language::{Msg, Reply};
 
 // How much all volumes hold, and how many they are.
 fn summary(root: &Root, g: &Geometry) -> Reply

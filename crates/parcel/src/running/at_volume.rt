@@ -2,8 +2,8 @@
 
 ghost use Rattle.std.specs.Prelude.{◌≡◌};
 ghost use Rattle.affinity.specs.declared.geometry.Geometry.{Geometry};
-ghost use Rattle.messages.specs.declared.Msg.{Msg};
-ghost use Rattle.messages.specs.Messages.{path_of};
+ghost use Rattle.language.specs.declared.Msg.{Msg};
+ghost use Rattle.language.specs.Messages.{path_of};
 ghost use Rattle.parcel.specs.Fits.{FitsVolume, IsRunnable};
 ghost use Rattle.parcel.specs.Run.{IsSerialStep};
 ghost use Rattle.parcel.specs.Shown.{volume_facts, shown_state};
@@ -15,7 +15,7 @@ use super::refusals::{guard, reply_to_change};
 use super::totals::volume_totals;
 use crate::Vol;
 use affinity::Geometry;
-use messages::{Msg, Refusal, Reply};
+use language::{Msg, Refusal, Reply};
 
 // Seals the volume, whether it was sealed or not.
 fn seal(volume: &mut Vol) -> Result<(), Refusal>

@@ -8,7 +8,7 @@ ghost use Rattle.parcel.specs.Totals.{block_total, entry_count, file_total, sum_
 
 use crate::{Aggr, Logical, Root, StripeParcel, Vol};
 use affinity::Geometry;
-use messages::has_file;
+use language::has_file;
 
 /// How many volumes are made, and how many files and blocks they have.
 #[derive(Clone, Copy)]

@@ -1,15 +1,15 @@
 //! A block is put into a file, and its stripe has one more where it is new.
 
 ghost use Rattle.std.specs.Prelude.{◌≡◌, ◌<◌, IfOk, OnErr, None, Some, is_some, if◌then◌else◌};
-ghost use Rattle.messages.specs.declared.Msg.{Msg};
-ghost use Rattle.messages.specs.declared.Refusal.{Refusal};
+ghost use Rattle.language.specs.declared.Msg.{Msg};
+ghost use Rattle.language.specs.declared.Refusal.{Refusal};
 ghost use Rattle.meaning.specs.Serial.{passes, effect};
 ghost use Rattle.plain.specs.Server.{server_state, HasRightCounts};
 
 use super::Server;
 use super::places::Place;
 use affinity::{Geometry, group_of};
-use messages::{Block, Msg, Refusal};
+use language::{Block, Msg, Refusal};
 use std::alloc::AllocError;
 
 impl Server {

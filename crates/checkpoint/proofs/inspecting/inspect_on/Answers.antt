@@ -6,7 +6,7 @@ use Rattle.checkpoint.specs.Loading.{IsConsistentFault, NamedHolds, records_faul
 use Rattle.checkpoint.specs.Recovery.{decoding}
 use Rattle.device_map.specs.Layout.{image_part, layout_of, other, part_bytes}
 use Rattle.image.specs.Image.{version_in}
-use Rattle.messages.specs.declared.Msg.TheVariants.{Summary}
+use Rattle.language.specs.declared.Msg.TheVariants.{Summary}
 use Rattle.meaning.specs.Serial.{reply_to}
 use Rattle.oplog.specs.Front.{front}
 use Rattle.oplog.specs.Log.{Log}

@@ -7,7 +7,7 @@ use Rattle.checkpoint.specs.declared.fault.OpenFault.TheVariants.{BadChain}
 use Rattle.checkpoint.specs.Loading.{IsConsistentFault, IsOfHalf, are_both_chained, image_fault, records_fault}
 use Rattle.checkpoint.specs.Recovery.{decoding}
 use Rattle.checkpoint.specs.Refusals.{fault_if}
-use Rattle.image.specs.Image.{read}
+use Rattle.image.specs.Image.{image_state}
 use Rattle.oplog.specs.Front.{chain, front}
 use Rattle.device_map.specs.Layout.{image_part, layout_of, part_bytes}
 use Rattle.oplog.specs.Log.{Log}
@@ -59,8 +59,8 @@ returns-in_err-records-clause-refused g c =
     (c.chain_of.ensures.untouched k ∙ c.read_image.ensures.untouched k ∙ c.named_area.ensures.untouched k) in
     let good = sym (ap (λ (l : List ℕ). image_fault geometry (part_bytes (layout_of geometry) (image_part c.in_ok-area.area) l)) first) ∙ c.in_ok-version.ensures.sound k in
     let state = state_in c.read_image.new.tree in
-    let decoded : read geometry (part_bytes (layout_of geometry) (image_part c.in_ok-area.area) now) ≡ Some state =
-    sym (ap (λ (l : List ℕ). read geometry (part_bytes (layout_of geometry) (image_part c.in_ok-area.area) l)) first) ∙ c.in_ok-version.ensures.read k in
+    let decoded : image_state geometry (part_bytes (layout_of geometry) (image_part c.in_ok-area.area) now) ≡ Some state =
+    sym (ap (λ (l : List ℕ). image_state geometry (part_bytes (layout_of geometry) (image_part c.in_ok-area.area) l)) first) ∙ c.in_ok-version.ensures.read k in
     let one = sym (λ i. are_both_chained (layout_of (c.geometry-g.ensures i)) (second i)) ∙ c.in_ok-chained.ensures.sound k in
     let log = ap (λ (l : Log). l.geometry) c.name.ensures ∙ ap (λ (l : Log). l.geometry) c.requires.log in
     records_refused geometry now (c.requires.header k) c.requires.long_enough c.in_ok-area.area names good state decoded one _
@@ -87,7 +87,7 @@ returns-clause-loaded g c = λ k.
       one = sym (λ i. are_both_chained (layout_of (c.geometry-g.ensures i)) (second i)) ∙ c.in_ok-chained.ensures.sound k;
       sound = sym (ap (λ (l : List ℕ). image_fault geometry (part_bytes (layout_of geometry) (image_part c.in_ok-area.area) l)) first) ∙ c.in_ok-version.ensures.sound k;
       first = state;
-      decoded = sym (ap (λ (l : List ℕ). read geometry (part_bytes (layout_of geometry) (image_part c.in_ok-area.area) l)) first) ∙ c.in_ok-version.ensures.read k;
+      decoded = sym (ap (λ (l : List ℕ). image_state geometry (part_bytes (layout_of geometry) (image_part c.in_ok-area.area) l)) first) ∙ c.in_ok-version.ensures.read k;
       ran = sym (λ i. run (decoding (c.in_ok-version.ensures.geometry i)) (Some state) (front (layout_of (log i)) c.in_ok-area.area (third i))) ∙ c.in_ok-records.ensures.done k;
     }
 

@@ -1,7 +1,7 @@
 -- All records before this one were run, so one that can't be is the first bad one; else the run goes on.
 use Rattle.std.proofs.Common.{sym, ◌∙◌, arith}
 use Rattle.std.proofs.lemmas.Result.{err_from_is_err_and}
-use Rattle.oplog.specs.Log.{layout}
+use Rattle.oplog.specs.Log.{layout_of_log}
 use Rattle.parcel.specs.Tree.{state_in}
 use Rattle.checkpoint.proofs.Replays.{apply_same, at_next, bad_at, record_fault_same, same_bytes}
 use Rattle.checkpoint.proofs.replaying.replay_front.Goals as goal
@@ -11,7 +11,7 @@ returns-in_err-replay_record-clause-refused g c =
     let p = err_from_is_err_and c.from_residual.result c.from_residual.ensures.1 in
     rw (p.1, p.2)
     (λ k.
-    bad_at c.args.tree.now.geometry (layout c.args.log.now) c.args.half (g.D.Disk.medium c.args.disk.now).now (state_in c.args.tree.now) c.loop-i.i (state_in c.loop-i.tree)
+    bad_at c.args.tree.now.geometry (layout_of_log c.args.log.now) c.args.half (g.D.Disk.medium c.args.disk.now).now (state_in c.args.tree.now) c.loop-i.i (state_in c.loop-i.tree)
     (omega (arith, c.loop-i-test.true, c.requires.count k)) (c.loop-i.invariant.at k) _
     (record_fault_same c.loop-i.invariant.log (same_bytes (g.D.Disk.medium c.args.disk.now) (g.D.Disk.medium c.loop-i.disk) (c.loop-i.invariant.untouched k)) c.args.half
     c.loop-i.invariant.geometry (state_in c.loop-i.tree) c.loop-i.i _ (c.in_err-replay_record.ensures.refused k)))
@@ -25,7 +25,7 @@ loop-i-preserved g c = record {
   faults = c.in_ok-replay_record.ensures.call.0 ∙ c.loop-i.invariant.faults;
   untouched = λ k. c.replay_record.ensures.untouched k ∙ c.loop-i.invariant.untouched k;
   at = λ k.
-      at_next c.args.tree.now.geometry (layout c.args.log.now) c.args.half (g.D.Disk.medium c.args.disk.now).now (state_in c.args.tree.now)
+      at_next c.args.tree.now.geometry (layout_of_log c.args.log.now) c.args.half (g.D.Disk.medium c.args.disk.now).now (state_in c.args.tree.now)
       c.loop-i.i (state_in c.loop-i.tree) (state_in c.replay_record.new.tree)
       (omega (arith, c.loop-i-test.true, c.requires.count k))
       (sym (apply_same c.loop-i.invariant.log (same_bytes (g.D.Disk.medium c.args.disk.now) (g.D.Disk.medium c.loop-i.disk) (c.loop-i.invariant.untouched k)) c.args.half

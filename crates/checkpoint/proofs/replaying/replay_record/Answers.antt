@@ -2,7 +2,7 @@
 use Rattle.std.proofs.Common.{Some, sym, ◌∙◌, ap, subst}
 use Rattle.std.proofs.lemmas.Result.{err_from_is_err_and}
 use Rattle.affinity.specs.declared.geometry.Geometry.{Geometry}
-use Rattle.oplog.specs.Log.{layout}
+use Rattle.oplog.specs.Log.{layout_of_log}
 use Rattle.oplog.specs.Changing.{IsChangeInRange}
 use Rattle.oplog.proofs.BadRecords.{records_are_bytes}
 use Rattle.parcel.specs.Tree.{state_in}
@@ -14,7 +14,7 @@ returns-in_err-m-clause-refused g c =
     let p = err_from_is_err_and c.from_residual.result c.from_residual.ensures.1 in
     rw (p.1, p.2)
     (λ k.
-    let bytes = records_are_bytes (layout c.args.log.now) c.args.half c.args.i (g.D.Disk.medium c.args.disk.now).now c.requires.half c.requires.i
+    let bytes = records_are_bytes (layout_of_log c.args.log.now) c.args.half c.args.i (g.D.Disk.medium c.args.disk.now).now c.requires.half c.requires.i
     c.requires.long_enough (g.met.D.Disk.bytes c.args.disk.now) in
     read_fault c.requires.geometry (state_in c.args.tree.now) c.args.half c.args.i _ bytes.0 bytes.1
     c.in_err-m.field-0.0 (c.in_err-m.ensures.record k) c.in_err-m.ensures.names_record)

@@ -1,6 +1,6 @@
 -- Each of the messages so far is one that the log keeps.
 use Rattle.std.proofs.Common.{ℕ, ◌<◌, get_or}
-use Rattle.messages.specs.declared.Msg.{Msg}
+use Rattle.language.specs.declared.Msg.{Msg}
 use Rattle.oplog.specs.Changing.{IsChangeInRange}
 use Rattle.durability_tests.proofs.oplog_common.are_changes_in_range.Given as goal
 

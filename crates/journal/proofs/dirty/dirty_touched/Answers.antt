@@ -3,7 +3,7 @@ use Rattle.std.proofs.Common.{◌∙◌, List, refl, subst, arith}
 use Rattle.std.proofs.lemmas.List.{take_all}
 use Rattle.journal.specs.DirtyPieces.{DirtiesTouched}
 use Rattle.journal.proofs.Rows.{message_more, no_message}
-use Rattle.messages.specs.declared.Msg.{Msg}
+use Rattle.language.specs.declared.Msg.{Msg}
 use Rattle.journal.proofs.dirty.dirty_touched.Goals as goal
 
 pub loop-m-init : goal.loop-m-init

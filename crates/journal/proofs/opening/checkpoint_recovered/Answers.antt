@@ -2,7 +2,7 @@
 use Rattle.std.proofs.Common.{Bool, List, sym, ◌∙◌, ap, subst, arith, true≢false}
 use Rattle.std.proofs.lemmas.Result.{err_from_is_err_and}
 use Rattle.affinity.specs.declared.geometry.Geometry.{Geometry}
-use Rattle.image.specs.Image.{image_of, read}
+use Rattle.image.specs.Image.{image_of, image_state}
 use Rattle.image.proofs.Reading.{read_again}
 use Rattle.journal.specs.Costs.{count_runs}
 use Rattle.journal.specs.Extents.{AreAllDirty}
@@ -22,7 +22,7 @@ point_on-requires-clause-image g c = λ k.
     let right = all_right p.tree.geometry geometry x c.deref.result.now c.deref_mut.result.now c.requires.loaded.geometry all in
     let snapshot = whole_put c.update_snapshot.new.bytes c.update_snapshot.ensures.size c.deref_mut.ensures.value c.deref_mut.ensures.len in
     let spelled = c.deref-2.ensures.value ∙ snapshot ∙ c.update_snapshot.ensures.image right ∙ ap (λ (h : Geometry). image_of 2 h x) c.requires.loaded.geometry in
-    ap (read geometry) spelled ∙ read_again geometry x (subst (λ (h : Geometry). IsState h x) c.requires.loaded.geometry c.requires.loaded.tree.state)
+    ap (image_state geometry) spelled ∙ read_again geometry x (subst (λ (h : Geometry). IsState h x) c.requires.loaded.geometry c.requires.loaded.tree.state)
     ∙ sym (c.requires.recovers k)
 
 pub point_on-requires-clause-clean : goal.point_on-requires-clause-clean

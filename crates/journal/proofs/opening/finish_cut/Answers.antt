@@ -2,7 +2,7 @@
 -- it, and none of the other half's.
 use Rattle.std.proofs.Common.{Bool, List, length, refl, sym, ◌∙◌, ap, subst}
 use Rattle.affinity.specs.declared.geometry.Geometry.{Geometry}
-use Rattle.image.specs.Image.{image_of, read}
+use Rattle.image.specs.Image.{image_of, image_state}
 use Rattle.image.proofs.Reading.{read_again}
 use Rattle.journal.specs.Extents.{AreAllDirty}
 use Rattle.journal.proofs.Loaded.{unfinished_cut}
@@ -35,7 +35,7 @@ returns-clause-alike g c = λ k.
     let right = all_right p.tree.geometry p.halves.geometry x c.deref.result.now c.deref_mut.result.now c.requires.loaded.geometry all in
     let snapshot = whole_put c.update_snapshot.new.bytes c.update_snapshot.ensures.size c.deref_mut.ensures.value c.deref_mut.ensures.len in
     let spelled = c.deref-2.ensures.value ∙ snapshot ∙ c.update_snapshot.ensures.image right ∙ ap (λ (h : Geometry). image_of 2 h x) c.requires.loaded.geometry in
-    c.finish_on.ensures.alike k x (ap (read p.halves.geometry) spelled ∙ read_again p.halves.geometry x is_state) (c.requires.recovers k)
+    c.finish_on.ensures.alike k x (ap (image_state p.halves.geometry) spelled ∙ read_again p.halves.geometry x is_state) (c.requires.recovers k)
 
 pub returns-clause-room : goal.returns-clause-room
 returns-clause-room g c =

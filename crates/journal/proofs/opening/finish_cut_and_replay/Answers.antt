@@ -8,7 +8,7 @@ use Rattle.checkpoint.specs.Refusals.{first_bad_record}
 use Rattle.checkpoint.proofs.Replays.{same_bytes}
 use Rattle.disk.proofs.Leaves.{itself}
 use Rattle.disk.proofs.Moments.{leaves_now, same}
-use Rattle.image.specs.Image.{read}
+use Rattle.image.specs.Image.{image_state}
 use Rattle.journal.specs.Opening.{area_state}
 use Rattle.journal.specs.Steps.{RecoversByNamedAlone}
 use Rattle.journal.proofs.Costs.{no_call}
@@ -74,7 +74,7 @@ returns-in_err-replay-clause-behind g c =
     (record {
       alike = alike;
       named = ap (λ (l : List ℕ). named_area (layout_of c.args.parts.now.halves.geometry) l) bytes ∙ finished.named;
-      image = ap (λ (l : List ℕ). read c.args.parts.now.halves.geometry (part_bytes (layout_of c.args.parts.now.halves.geometry) (image_part (other c.args.parts.now.halves.named)) l)) bytes
+      image = ap (λ (l : List ℕ). image_state c.args.parts.now.halves.geometry (part_bytes (layout_of c.args.parts.now.halves.geometry) (image_part (other c.args.parts.now.halves.named)) l)) bytes
           ∙ finished.reads ∙ ap (λ (n : ℕ). area_state c.args.parts.now.halves.geometry n w0.now) (c.requires.recovers k).named;
       synced = still_synced (g.D.Disk.medium c.finish_cut.new.disk) w2 only finished.synced;
     }))

@@ -7,7 +7,7 @@ use Rattle.oplog.proofs.Beyond.{beyond, beyond_then}
 use Rattle.oplog.specs.Calls.{Chains}
 use Rattle.oplog.specs.Changes.{IsSameButChain, IsSameButChainAndGates, Chained}
 use Rattle.device_map.specs.Layout.{layout_of, other}
-use Rattle.oplog.specs.Log.{Log, layout}
+use Rattle.oplog.specs.Log.{Log, layout_of_log}
 use Rattle.journal.proofs.steps.cut_on.Goals as goal
 
 pub returns-in_err-clear_other-clause-any_moment : goal.returns-in_err-clear_other-clause-any_moment
@@ -44,7 +44,7 @@ returns-clause-begun g c = λ k.
     let clears = c.clear_other.ensures.any_moment k in
     let cleared = c.in_ok-clear_other.ensures.cleared k in
     let chains = subst (λ (log : Log). Chains log w1 w2) c.in_ok-clear_other.ensures.log (c.open_chain.ensures.any_moment k) in
-    let chained = subst (λ (log : Log). Chained (layout log) log.named w1 w2) c.in_ok-clear_other.ensures.log (c.in_ok-open_chain.ensures.chained k) in
+    let chained = subst (λ (log : Log). Chained (layout_of_log log) log.named w1 w2) c.in_ok-clear_other.ensures.log (c.in_ok-open_chain.ensures.chained k) in
     let are = g.met.D.Disk.bytes c.clear_other.new.disk in
     record {
       at = record {

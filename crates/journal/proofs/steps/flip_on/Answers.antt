@@ -4,7 +4,7 @@ use Rattle.checkpoint.specs.Recovery.{recovered_state}
 use Rattle.disk.specs.Device.{Medium}
 use Rattle.disk.specs.Moments.{CrashImagesAre}
 use Rattle.journal.proofs.Cutting.{name_moments, named_alone, named_before, named_below, named_images, named_ready, named_recovers, sync_moments}
-use Rattle.oplog.specs.Log.{layout}
+use Rattle.oplog.specs.Log.{layout_of_log}
 use Rattle.oplog.proofs.Answered.{on_ok}
 use Rattle.oplog.proofs.Beyond.{beyond, beyond_sync, beyond_then}
 use Rattle.oplog.specs.Calls.{Flips}
@@ -56,7 +56,7 @@ returns-clause-flipped g c = λ k.
     let syncs = on_ok c.sync_image.result _ (sym c.is_err.ensures.value ∙ c.if-is_err.false) (c.sync_image.ensures.syncs k).ok in
     let is_area = named_below geometry named _ _ w0 (g.met.D.Disk.bytes c.args.disk.now) written.by.recovers in
     let are = g.met.D.Disk.bytes c.args.disk.now in
-    let flipped = subst (λ (m : Medium). Flipped (layout c.args.halves.now) (other c.args.halves.now.named) m w2) syncs (c.in_ok-flip_root.ensures.flipped k) in
+    let flipped = subst (λ (m : Medium). Flipped (layout_of_log c.args.halves.now) (other c.args.halves.now.named) m w2) syncs (c.in_ok-flip_root.ensures.flipped k) in
     record {
       at = record {
         recovers = named_recovers geometry named c.args.halves.now.used _ c.args.bytes.now w0 written.by.recovers is_area written.by.some written.is written.behind w2 are flipped;

@@ -11,7 +11,7 @@ use Rattle.oplog.specs.Calls.{Flips}
 use Rattle.disk.specs.Store.{CrashesChangeOnly}
 use Rattle.oplog.specs.Changes.{IsSameBut, IsSameButChainAndGates, IsSameButRoot, Flipped}
 use Rattle.device_map.specs.Layout.{layout_of, image_part, other}
-use Rattle.oplog.specs.Log.{Log, layout}
+use Rattle.oplog.specs.Log.{Log, layout_of_log}
 use Rattle.journal.proofs.steps.point_on.Goals as goal
 
 along : {A B : Type 0} (P : A → B → Type 0) {a a' : A} {b b' : B} → a ≡ a' → b ≡ b' → P a b → P a' b'
@@ -73,7 +73,7 @@ returns-clause-pointed g c = λ k.
     (c.write_image.ensures.any_moment k) in
     let imaged = along (λ (x : Geometry) (n : ℕ). Imaged x (other n) c.args.bytes.now w1 w2) c.geometry-g.ensures c.named-area.ensures.named
     (on_ok c.write_image.result _ (sym c.is_err.ensures.value ∙ c.if-is_err.false) c.write_image.ensures.written k) in
-    let flipped = subst (λ (log : Log). Flipped (layout log) (other log.named) w2 w3) c.in_ok-clear_other.ensures.log (c.in_ok-flip_root.ensures.flipped k) in
+    let flipped = subst (λ (log : Log). Flipped (layout_of_log log) (other log.named) w2 w3) c.in_ok-clear_other.ensures.log (c.in_ok-flip_root.ensures.flipped k) in
     let recovers = (c.requires.alone k).recovers in
     let clears = c.clear_other.ensures.any_moment k in
     let cleared = c.in_ok-clear_other.ensures.cleared k in

@@ -1,6 +1,6 @@
 -- The lemma on calls that leave the device alone.
 use Rattle.std.proofs.Common.{Some, None}
-use Rattle.runs.proofs.Events.{answer_step}
+use Rattle.incarnations.proofs.Events.{answer_step}
 use Rattle.machine.proofs.stepping.answer.Goals as goal
 
 pub returns-in-Some-clause-step : goal.returns-in-Some-clause-step

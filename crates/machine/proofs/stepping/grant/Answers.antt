@@ -1,11 +1,11 @@
 -- The lemmas on grants.
 use Rattle.std.proofs.Common.{refl, sym, subst, ℕ}
 use Rattle.std.specs.Prelude.{slice_set}
-use Rattle.legal_runs.specs.declared.outcomes.Outcome.TheVariants as outcomes
-use Rattle.legal_runs.specs.declared.outcomes.Step.TheVariants as steps
-use Rattle.runs.specs.Steps.{IsMachineStep}
-use Rattle.runs.specs.declared.hands.HandContent.TheVariants as has
-use Rattle.runs.proofs.Events.{failed_step, grant_holds, grant_step, no_grant_step, no_hand, position_within, still_holds}
+use Rattle.histories.specs.declared.outcomes.Outcome.TheVariants as outcomes
+use Rattle.histories.specs.declared.outcomes.Step.TheVariants as steps
+use Rattle.incarnations.specs.Steps.{IsMachineStep}
+use Rattle.incarnations.specs.declared.hands.HandContent.TheVariants as has
+use Rattle.incarnations.proofs.Events.{failed_step, grant_holds, grant_step, no_grant_step, no_hand, position_within, still_holds}
 use Rattle.machine.proofs.stepping.grant.Goals as goal
 
 pub returns-in_default-clause-step : goal.returns-in_default-clause-step

@@ -1,6 +1,6 @@
 -- The lemma on calls that leave the device alone.
 use Rattle.std.proofs.Common.{Ok, Err}
-use Rattle.runs.proofs.Events.{arrive_step}
+use Rattle.incarnations.proofs.Events.{arrive_step}
 use Rattle.machine.proofs.stepping.take_in.Goals as goal
 
 pub returns-in-Ok-clause-step : goal.returns-in-Ok-clause-step

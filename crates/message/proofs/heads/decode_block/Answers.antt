@@ -1,7 +1,7 @@
 -- The digits spell a block exactly where they spell its 512 bytes.
 use Rattle.std.proofs.Common.{◌≡◌, ℕ, List, Option, Some, None}
 use Rattle.std.specs.Prelude.{MatchOption}
-use Rattle.messages.specs.Lines.{block_in_word, bytes_in_word}
+use Rattle.language.specs.Lines.{block_in_word, bytes_in_word}
 use Rattle.message.proofs.Blocks.{bytes_block, no_block}
 use Rattle.message.proofs.heads.decode_block.Goals as goal
 

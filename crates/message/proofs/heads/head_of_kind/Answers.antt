@@ -1,5 +1,5 @@
 -- A `summary` with a word behind its keyword is no message.
-use Rattle.messages.specs.declared.Msg.TheVariants.{Summary}
+use Rattle.language.specs.declared.Msg.TheVariants.{Summary}
 use Rattle.message.proofs.Forms.{nothing_behind}
 use Rattle.message.proofs.heads.head_of_kind.Goals as goal
 

@@ -1,7 +1,7 @@
 -- The two numbers are read one behind the other; where one is missing, the line spells no setlabel.
 use Rattle.std.proofs.Common.{◌∙◌}
-use Rattle.messages.specs.declared.Msg.TheVariants.{SetLabel as set_label}
-use Rattle.messages.specs.Lines.{words}
+use Rattle.language.specs.declared.Msg.TheVariants.{SetLabel as set_label}
+use Rattle.language.specs.Lines.{words}
 use Rattle.message.proofs.Forms.{onward_some, of_label_digits, of_label_digits-told, label_from_volume, label_from_volume-onward, of_label-onward}
 use Rattle.message.proofs.heads.label_parts.Goals as goal
 

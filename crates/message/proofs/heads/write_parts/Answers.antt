@@ -1,7 +1,7 @@
 -- The four numbers are read one behind the other; where one is missing, the line spells no write.
 use Rattle.std.proofs.Common.{◌∙◌}
-use Rattle.messages.specs.declared.Msg.TheVariants.{Write as write}
-use Rattle.messages.specs.Lines.{words}
+use Rattle.language.specs.declared.Msg.TheVariants.{Write as write}
+use Rattle.language.specs.Lines.{words}
 use Rattle.message.proofs.Forms.{onward_some, onward_none, of_digits, of_digits-told, from_block, from_file, from_volume, from_block-onward, from_file-onward, from_volume-onward, of_data-onward}
 use Rattle.message.proofs.heads.write_parts.Goals as goal
 

@@ -1,8 +1,8 @@
 -- The aggregate's number comes before the first space, and the numbers of volume, file and block behind it.
 use Rattle.std.proofs.Common.{ap, sym, ◌∙◌}
 use Rattle.std.specs.Prelude.{option_map}
-use Rattle.messages.specs.Lines.{words}
-use Rattle.messages.specs.Grammar.{of_file}
+use Rattle.language.specs.Lines.{words}
+use Rattle.language.specs.Grammar.{of_file}
 use Rattle.message.proofs.Forms.{onward_some, of_block-onward}
 use Rattle.message.proofs.parsing.block_numbers.Goals as goal
 

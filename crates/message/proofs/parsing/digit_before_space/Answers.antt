@@ -1,8 +1,8 @@
 -- A digit with a space behind it is the first word.
 use Rattle.std.proofs.Common.{◌≡◌, ℕ, ◌-◌, ◌<◌, Some, List, [], ◌∷◌, get_or, length, take, drop, arith, ap, sym, ◌∙◌, subst}
 use Rattle.std.proofs.lemmas.List.{take_all}
-use Rattle.messages.specs.Lines.{words, number_in_word}
-use Rattle.messages.specs.Grammar.{first_number}
+use Rattle.language.specs.Lines.{words, number_in_word}
+use Rattle.language.specs.Grammar.{first_number}
 use Rattle.message.proofs.Words.{words_space}
 use Rattle.message.proofs.Forms.{first_number_some}
 use Rattle.message.proofs.Numbers.{number_no_space}

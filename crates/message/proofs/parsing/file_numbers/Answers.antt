@@ -1,8 +1,8 @@
 -- The aggregate's number comes before the first space, and the numbers of volume and file behind it.
 use Rattle.std.proofs.Common.{ap, sym, ◌∙◌}
 use Rattle.std.specs.Prelude.{option_map}
-use Rattle.messages.specs.Lines.{words}
-use Rattle.messages.specs.Grammar.{of_volume}
+use Rattle.language.specs.Lines.{words}
+use Rattle.language.specs.Grammar.{of_volume}
 use Rattle.message.proofs.Forms.{onward_some, of_file-onward}
 use Rattle.message.proofs.parsing.file_numbers.Goals as goal
 

@@ -3,7 +3,7 @@ use Rattle.std.proofs.Common.{◌≡◌, ◌+◌, ◌*◌, ◌-◌, get_or, leng
 use Rattle.std.specs.Char.{is_ascii_digit}
 use Rattle.std.specs.Str.Parse.{digits_value}
 use Rattle.std.proofs.lemmas.Bool.{true≢false, ne_eqb}
-use Rattle.messages.specs.Lines.{words}
+use Rattle.language.specs.Lines.{words}
 use Rattle.message.proofs.Words.{goes_on, words_split, words_whole}
 use Rattle.message.proofs.Forms.{first_number_none, first_number_some}
 use Rattle.message.proofs.Numbers.{no_number, digit_at, digits_more, digits_no_space, value_more, too_large}

@@ -1,7 +1,7 @@
 -- The aggregate's number comes before the first space, the volume's behind it, up to the end of the line.
 use Rattle.std.proofs.Common.{ap, sym, ◌∙◌}
 use Rattle.std.specs.Prelude.{option_map, slice_index}
-use Rattle.messages.specs.Lines.{words}
+use Rattle.language.specs.Lines.{words}
 use Rattle.message.proofs.Forms.{onward_some, of_number, of_number-read, of_number-none, of_volume-onward}
 use Rattle.message.proofs.parsing.volume_numbers.Goals as goal
 

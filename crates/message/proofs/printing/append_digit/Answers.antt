@@ -1,7 +1,7 @@
 -- The decimal text of a number below 10 is one digit.
 use Rattle.std.proofs.Common.{List, ℕ, ◌∷◌, sym, ap, subst}
 use Rattle.std.proofs.lemmas.Fmt.{decimal_digit}
-use Rattle.messages.specs.Replies.{AppendsText}
+use Rattle.language.specs.Replies.{AppendsText}
 use Rattle.message.proofs.printing.append_digit.Goals as goal
 
 pub returns-clause-text : goal.returns-clause-text

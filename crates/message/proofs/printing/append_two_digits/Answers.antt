@@ -2,7 +2,7 @@
 use Rattle.std.proofs.Common.{◌≡◌, List, ℕ, [], ◌∷◌, ◌++◌, ◌+◌, ◌<◌, ◌/◌, ◌%◌, sym, ap, subst, ◌∙◌, arith}
 use Rattle.std.specs.Fmt.{decimal}
 use Rattle.std.proofs.lemmas.Fmt.{decimal_digit, decimal_step}
-use Rattle.messages.specs.Replies.{AppendsText}
+use Rattle.language.specs.Replies.{AppendsText}
 use Rattle.message.proofs.printing.append_two_digits.Goals as goal
 
 pub returns-clause-text : goal.returns-clause-text

@@ -1,7 +1,7 @@
 -- A zero at the end is left out until there is none, or one byte is left.
 use Rattle.std.proofs.Common.{length, ap, sym, ◌∙◌, arith}
 use Rattle.std.proofs.lemmas.List.{take_all}
-use Rattle.messages.specs.Replies.{without_trailing_zeros, at_least_one}
+use Rattle.language.specs.Replies.{without_trailing_zeros, at_least_one}
 use Rattle.message.proofs.Zeros.{one_fewer, last_stays}
 use Rattle.message.proofs.printing.shown_size.Goals as goal
 

@@ -2,7 +2,7 @@
 use Rattle.std.proofs.Common.{◌≡◌, List, ℕ, drop, take, ap, length-drop, ◌∙◌, arith}
 use Rattle.std.specs.Prelude.{slice_index}
 use Rattle.std.proofs.lemmas.List.{take_all}
-use Rattle.messages.specs.declared.Msg.TheVariants.{Write as write}
+use Rattle.language.specs.declared.Msg.TheVariants.{Write as write}
 use Rattle.message.proofs.records.assembled.Goals as goal
 
 pub returns-in-Write : goal.returns-in-Write

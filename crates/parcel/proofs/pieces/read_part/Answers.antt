@@ -1,6 +1,6 @@
 -- The part is the volume itself or one of its stripes.
 use Rattle.std.proofs.Common.{◌≡◌, ℕ, suc, ◌-◌, ◌*◌, sym, ap, subst, arith, ◌∙◌, Some}
-use Rattle.messages.specs.Messages.{AreSizedBytes}
+use Rattle.language.specs.Messages.{AreSizedBytes}
 use Rattle.image.specs.Pieces.{piece_part_size}
 use Rattle.parcel.specs.Pieces.{IsPieceOfVolumeRead}
 use Rattle.parcel.proofs.PieceParts.{all_bytes, stripe_is_read, volume_is_read}

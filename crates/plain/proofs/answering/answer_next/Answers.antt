@@ -1,10 +1,10 @@
 -- Whatever comes next, a line, one too long, the end or a fault, each whole line before it has its answer.
 use Rattle.std.proofs.Common.{refl, sym, ap, ◌∙◌, subst, ℕ, List, Option}
 use Rattle.std.specs.Prelude.{IfSome}
-use Rattle.messages.specs.FirstLine.{LosesLineStart}
+use Rattle.language.specs.FirstLine.{LosesLineStart}
 use Rattle.message.specs.Reader.{unread, line_of, source}
-use Rattle.messages.specs.Grammar.{message_of}
-use Rattle.messages.specs.Replies.{no_message}
+use Rattle.language.specs.Grammar.{message_of}
+use Rattle.language.specs.Replies.{no_message}
 use Rattle.message.specs.Waiting.{all_output}
 use Rattle.message.proofs.Adding.{adds_so_far}
 use Rattle.plain.specs.Server.{server_state}

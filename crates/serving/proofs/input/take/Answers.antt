@@ -1,8 +1,8 @@
 -- The lemmas on a line that is consumed with its message, if it has one.
 use Rattle.std.proofs.Common.{◌∙◌, ◌++◌, ◌∷◌, [], ℕ, Err, Ok, ap, refl, subst, sym}
-use Rattle.legal_runs.specs.declared.outcomes.ArriveRefusal.TheVariants as arrivals
+use Rattle.histories.specs.declared.outcomes.ArriveRefusal.TheVariants as arrivals
 use Rattle.reorder_buffer.specs.ReorderBuffer.{AreConsecutive, with_tickets}
-use Rattle.messages.specs.Grammar.{message_of}
+use Rattle.language.specs.Grammar.{message_of}
 use Rattle.scheduler.specs.Calls.{ArrivesByLine}
 use Rattle.serving.specs.Lines.{NoMessage, OutOfRange, Pending}
 use Rattle.serving.proofs.Taken.{comes_as, next_of_line}

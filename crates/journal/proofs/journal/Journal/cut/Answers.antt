@@ -15,7 +15,7 @@ use Rattle.journal.proofs.Rows.{count_most, whole_items, whole_put}
 use Rattle.journal.proofs.Saving.{cut_committed, cut_sound, saves}
 use Rattle.oplog.specs.Beyond.{KeepsBeyond}
 use Rattle.device_map.specs.Layout.{device_size, image_size, other, layout_of}
-use Rattle.oplog.specs.Log.{Log, layout}
+use Rattle.oplog.specs.Log.{Log, layout_of_log}
 use Rattle.oplog.specs.Recovery.{records_in}
 use Rattle.journal.proofs.journal.Journal.cut.Goals as goal
 
@@ -88,7 +88,7 @@ invariant_of-self-2 g c =
     let same = c.cut_on.ensures.geometry in
     let cleared = whole_put c.clear_dirty.new.dirty (ap length c.clear_dirty.ensures ∙ length-replicate _ false) c.deref_mut-2.ensures.value c.deref_mut-2.ensures.len in
     record {
-      long_enough = omega (arith, c.self.invariant.long_enough, c.cut_on.ensures.call.1, ap (λ (l : Log). device_size (layout l)) log);
+      long_enough = omega (arith, c.self.invariant.long_enough, c.cut_on.ensures.call.1, ap (λ (l : Log). device_size (layout_of_log l)) log);
       used = omega (arith, ap (λ (l : Log). l.used) log);
       snapshot = ap length snapshot ∙ c.update_snapshot.ensures.size ∙ ap length c.deref_mut.ensures.value ∙ c.self.invariant.snapshot ∙ sym (ap image_size same);
       named_dirty = c.self.invariant.named_dirty ∙ sym (ap piece_count same);

@@ -16,7 +16,7 @@ use Rattle.image.specs.Pieces.{piece_count}
 use Rattle.oplog.specs.Front.{front}
 use Rattle.oplog.specs.Beyond.{KeepsBeyond}
 use Rattle.device_map.specs.Layout.{device_size, image_size, layout_of}
-use Rattle.oplog.specs.Log.{Log, layout}
+use Rattle.oplog.specs.Log.{Log, layout_of_log}
 use Rattle.oplog.specs.Recovery.{records_in}
 use Rattle.journal.proofs.journal.Journal.flip.Goals as goal
 
@@ -84,7 +84,7 @@ invariant_of-self-2 g c =
     let none : c.self.inside.pieces_left ≡ Some 0 = ap (λ (h : JournalView). h.pieces_left) c.self.view_is ∙ c.requires.written in
     let log = c.in_ok-flip_on.ensures.log in
     record {
-      long_enough = omega (arith, c.self.invariant.long_enough, c.flip_on.ensures.call.1, ap (λ (l : Log). device_size (layout l)) log);
+      long_enough = omega (arith, c.self.invariant.long_enough, c.flip_on.ensures.call.1, ap (λ (l : Log). device_size (layout_of_log l)) log);
       used = omega (arith, c.self.invariant.used, ap (λ (l : Log). l.used) log, ap (λ (l : Log). l.geometry.half) log);
       snapshot = c.self.invariant.snapshot ∙ sym (ap image_size c.flip_on.ensures.geometry);
       named_dirty = ap (λ v. length v.items) c.swap.ensures.x_after ∙ c.self.invariant.other_dirty ∙ sym (ap piece_count c.flip_on.ensures.geometry);

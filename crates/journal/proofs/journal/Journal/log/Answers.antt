@@ -12,7 +12,7 @@ use Rattle.journal.proofs.Rows.{same_dirty, whole_items, whole_put}
 use Rattle.disk.proofs.Moments.{weaker}
 use Rattle.oplog.specs.Beyond.{KeepsBeyond}
 use Rattle.device_map.specs.Layout.{device_size, image_size, layout_of}
-use Rattle.oplog.specs.Log.{Log, layout}
+use Rattle.oplog.specs.Log.{Log, layout_of_log}
 use Rattle.oplog.specs.Changing.{records_of}
 use Rattle.oplog.specs.Recovery.{records_in}
 use Rattle.meaning.specs.Serial.{state_after_all}
@@ -109,7 +109,7 @@ invariant_of-self-2 g c =
     let first = whole_put c.dirty_touched.new.dirty c.dirty_touched.ensures.size c.deref_mut.ensures.value c.deref_mut.ensures.len in
     let second = whole_put c.dirty_touched-2.new.dirty c.dirty_touched-2.ensures.size c.deref_mut-2.ensures.value c.deref_mut-2.ensures.len in
     record {
-      long_enough = omega (arith, c.self.invariant.long_enough, c.append.ensures.call.1, ap (λ (l : Log). device_size (layout l)) log);
+      long_enough = omega (arith, c.self.invariant.long_enough, c.append.ensures.call.1, ap (λ (l : Log). device_size (layout_of_log l)) log);
       used = omega (arith, c.self.invariant.used, ap (λ (l : Log). l.used) log, ap (λ (g : Geometry). g.half) geometry, ap (λ (h : JournalView). h.room) c.self.view_is, c.requires.room);
       snapshot = c.self.invariant.snapshot ∙ sym (ap image_size geometry);
       named_dirty = ap length first ∙ c.dirty_touched.ensures.size ∙ ap length c.deref_mut.ensures.value ∙ c.self.invariant.named_dirty ∙ sym (ap piece_count geometry);

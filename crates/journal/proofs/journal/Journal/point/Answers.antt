@@ -5,7 +5,7 @@ use Rattle.std.proofs.lemmas.Result.{err_from_is_err_and}
 use Rattle.affinity.specs.declared.geometry.Geometry.{Geometry}
 use Rattle.checkpoint.specs.Recovery.{recovered_state}
 use Rattle.disk.specs.Moments.{CrashImagesAre, moment_number}
-use Rattle.image.specs.Image.{read}
+use Rattle.image.specs.Image.{image_state}
 use Rattle.image.specs.Pieces.{piece_count}
 use Rattle.journal.specs.Costs.{point_cost}
 use Rattle.journal.specs.Journal.{JournalView, committed}
@@ -19,7 +19,7 @@ use Rattle.checkpoint.specs.Version.{named_version}
 use Rattle.journal.proofs.Saving.{agrees, is_alone, point_committed, point_sound, pointed_version, reads, saves}
 use Rattle.oplog.specs.Beyond.{KeepsBeyond}
 use Rattle.device_map.specs.Layout.{layout_of, device_size, image_size, other}
-use Rattle.oplog.specs.Log.{Log, layout}
+use Rattle.oplog.specs.Log.{Log, layout_of_log}
 use Rattle.oplog.specs.Recovery.{records_in}
 use Rattle.parcel.specs.Tree.{state_in}
 use Rattle.journal.proofs.journal.Journal.point.Goals as goal
@@ -37,7 +37,7 @@ point_on-requires-clause-image g c = λ k.
     let f = saves {self = c.args.self.now} {tree = c.args.tree.now} c.self.invariant c.self.view_is k
     (record { not_failed = c.requires.not_failed; no_cut = c.requires.no_cut; geometry = c.requires.geometry; state = c.requires.whole.state; committed = c.requires.state k })
     (g.met.D.Disk.bytes c.self.inside.disk) c.deref.ensures.value c.deref_mut.ensures.value c.update_snapshot.ensures.image in
-    ap (read c.self.inside.halves.geometry) (c.deref-2.ensures.value ∙ snapshot) ∙ reads f
+    ap (image_state c.self.inside.halves.geometry) (c.deref-2.ensures.value ∙ snapshot) ∙ reads f
 
 pub point_on-requires-clause-clean : goal.point_on-requires-clause-clean
 point_on-requires-clause-clean g c = λ k.
@@ -114,7 +114,7 @@ invariant_of-self-2 g c =
     let log = c.in_ok-point_on.ensures.log in
     let same = c.point_on.ensures.geometry in
     record {
-      long_enough = omega (arith, c.self.invariant.long_enough, c.point_on.ensures.call.1, ap (λ (l : Log). device_size (layout l)) log);
+      long_enough = omega (arith, c.self.invariant.long_enough, c.point_on.ensures.call.1, ap (λ (l : Log). device_size (layout_of_log l)) log);
       used = omega (arith, ap (λ (l : Log). l.used) log);
       snapshot = ap length snapshot ∙ c.update_snapshot.ensures.size ∙ ap length c.deref_mut.ensures.value ∙ c.self.invariant.snapshot ∙ sym (ap image_size same);
       named_dirty = ap length c.swap_and_clear_dirty.ensures.written ∙ length-replicate _ false ∙ c.self.invariant.other_dirty ∙ sym (ap piece_count same);

@@ -3,12 +3,12 @@ use Rattle.std.proofs.Common.{◌≡◌, ◌+◌, ◌<◌, ◌≤◌, List, [], 
 use Rattle.std.specs.Prelude.{slice_set}
 use Rattle.std.specs.Vec.{with_items}
 use Rattle.std.proofs.lemmas.List.{take_all, with_items_is}
-use Rattle.legal_runs.specs.Laws.{IsSoundCoreState}
-use Rattle.legal_runs.specs.declared.outcomes.Outcome.{Outcome}
-use Rattle.legal_runs.specs.declared.outcomes.Step.{Step}
-use Rattle.runs.proofs.Running.{has_run, next_device_events, no_device_events}
-use Rattle.runs.specs.Machine.{MachineView, HasDeviceEvents, HoldsJobs}
-use Rattle.runs.specs.declared.hands.HandContent.{HandContent}
+use Rattle.histories.specs.Laws.{IsSoundCoreState}
+use Rattle.histories.specs.declared.outcomes.Outcome.{Outcome}
+use Rattle.histories.specs.declared.outcomes.Step.{Step}
+use Rattle.incarnations.proofs.Running.{has_run, next_device_events, no_device_events}
+use Rattle.incarnations.specs.Machine.{MachineView, HasDeviceEvents, HoldsJobs}
+use Rattle.incarnations.specs.declared.hands.HandContent.{HandContent}
 use Rattle.scheduler.specs.CoreView.{core_state_of}
 use Rattle.machine.proofs.machine.Machine.run.Goals as goal
 

@@ -2,7 +2,7 @@
 use Rattle.std.proofs.Common.{◌≡◌, ◌⊎◌, ◌<◌, inl, inr, true, length, arith}
 use Rattle.std.specs.List.{Contains}
 use Rattle.std.proofs.lemmas.Bool.{iff_false}
-use Rattle.messages.specs.FirstLine.{first_line}
+use Rattle.language.specs.FirstLine.{first_line}
 use Rattle.message.specs.Reader.{buffered_bytes, still_to_come, unread, given_line}
 use Rattle.message.proofs.ReaderLemmas.{IsWhole-known_end, PassesLine-buffered, GivesLine-buffered, HasWholeFirstLine-buffered}
 use Rattle.message.proofs.reading.LineReader.give.Goals as goal

@@ -3,7 +3,7 @@ use Rattle.std.proofs.Common.{sym, ◌∙◌, subst, arith}
 use Rattle.oplog.specs.Changes.{Cleared}
 use Rattle.oplog.specs.Calls.{IsLongEnough, Clears}
 use Rattle.device_map.specs.Layout.{layout_of, other}
-use Rattle.oplog.specs.Log.{Log, layout}
+use Rattle.oplog.specs.Log.{Log, layout_of_log}
 use Rattle.oplog.proofs.Answered.{on_ok}
 use Rattle.oplog.proofs.OneStore.{clear_moments, cleared}
 use Rattle.oplog.proofs.halves.Halves.clear_other.Goals as goal
@@ -21,6 +21,6 @@ returns-clause-any_moment g c = λ k.
 pub returns-clause-cleared : goal.returns-clause-cleared
 returns-clause-cleared g c = λ k.
     let whole = subst (λ (log : Log). IsLongEnough log (g.D.Disk.medium c.args.disk.now)) (sym c.self.view_is) c.requires.long_enough in
-    subst (λ (log : Log). Cleared (layout log) (other log.named) (g.D.Disk.medium c.args.disk.now) (g.D.Disk.medium c.clear.new.disk)) c.self.view_is
+    subst (λ (log : Log). Cleared (layout_of_log log) (other log.named) (g.D.Disk.medium c.args.disk.now) (g.D.Disk.medium c.clear.new.disk)) c.self.view_is
     (cleared (layout_of c.self.inside.geometry) (other c.self.inside.named) (omega arith) _ _ whole
     (on_ok c.clear.result _ (sym c.is_err.ensures.value ∙ c.if-is_err.false) c.clear.ensures.cleared k))

@@ -3,7 +3,7 @@ use Rattle.std.proofs.Common.{sym, ◌∙◌, subst, arith}
 use Rattle.oplog.specs.Changes.{Flipped}
 use Rattle.oplog.specs.Calls.{IsLongEnough, Flips}
 use Rattle.device_map.specs.Layout.{layout_of, other}
-use Rattle.oplog.specs.Log.{Log, layout}
+use Rattle.oplog.specs.Log.{Log, layout_of_log}
 use Rattle.oplog.proofs.Answered.{on_ok}
 use Rattle.oplog.proofs.OneStore.{root_moments, named}
 use Rattle.oplog.proofs.halves.Halves.flip_root.Goals as goal
@@ -21,6 +21,6 @@ returns-clause-any_moment g c = λ k.
 pub returns-clause-flipped : goal.returns-clause-flipped
 returns-clause-flipped g c = λ k.
     let whole = subst (λ (log : Log). IsLongEnough log (g.D.Disk.medium c.args.disk.now)) (sym c.self.view_is) c.requires.long_enough in
-    subst (λ (log : Log). Flipped (layout log) (other log.named) (g.D.Disk.medium c.args.disk.now) (g.D.Disk.medium c.store.new.disk)) c.self.view_is
+    subst (λ (log : Log). Flipped (layout_of_log log) (other log.named) (g.D.Disk.medium c.args.disk.now) (g.D.Disk.medium c.store.new.disk)) c.self.view_is
     (named (layout_of c.self.inside.geometry) (other c.self.inside.named) _ _ (omega arith) whole
     (on_ok c.store.result _ (sym c.is_err.ensures.value ∙ c.if-is_err.false) c.store.ensures.stored k))

@@ -3,7 +3,7 @@ use Rattle.std.proofs.Common.{◌≡◌, ℕ, ap, arith, sym, ◌∙◌, subst}
 use Rattle.oplog.specs.Changes.{Chained}
 use Rattle.oplog.specs.Calls.{IsLongEnough, Chains}
 use Rattle.device_map.specs.Layout.{Layout, layout_of, part_at, half_part}
-use Rattle.oplog.specs.Log.{Log, layout}
+use Rattle.oplog.specs.Log.{Log, layout_of_log}
 use Rattle.oplog.proofs.Answered.{on_ok}
 use Rattle.oplog.proofs.OneStore.{chain_moments, chained}
 use Rattle.oplog.proofs.halves.Halves.open_chain.Goals as goal
@@ -27,6 +27,6 @@ returns-clause-any_moment g c = λ k.
 pub returns-clause-chained : goal.returns-clause-chained
 returns-clause-chained g c = λ k.
     let whole = subst (λ (log : Log). IsLongEnough log (g.D.Disk.medium c.args.disk.now)) (sym c.self.view_is) c.requires.long_enough in
-    subst (λ (log : Log). Chained (layout log) log.named (g.D.Disk.medium c.args.disk.now) (g.D.Disk.medium c.store.new.disk)) c.self.view_is
+    subst (λ (log : Log). Chained (layout_of_log log) log.named (g.D.Disk.medium c.args.disk.now) (g.D.Disk.medium c.store.new.disk)) c.self.view_is
     (chained (layout_of c.self.inside.geometry) c.self.inside.named c.start.result c.self.invariant.named (at_half _ _ _ _ c.start.ensures (omega (arith, c.self.invariant.named))) _ _ whole
     (on_ok c.store.result _ (sym c.is_err.ensures.value ∙ c.if-is_err.false) c.store.ensures.stored k))

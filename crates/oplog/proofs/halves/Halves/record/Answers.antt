@@ -2,7 +2,7 @@
 use Rattle.std.proofs.Common.{◌≡◌, ◌<◌, refl, sym, ◌∙◌, subst, arith}
 use Rattle.oplog.specs.Front.{record_at}
 use Rattle.device_map.specs.Layout.{layout_of}
-use Rattle.oplog.specs.Log.{Log, IsOfRecord, layout}
+use Rattle.oplog.specs.Log.{Log, IsOfRecord, layout_of_log}
 use Rattle.oplog.proofs.Answered.{on_ok}
 use Rattle.oplog.proofs.Reading.{record_read}
 use Rattle.oplog.proofs.halves.Halves.record.Goals as goal
@@ -16,7 +16,7 @@ returns-clause-record g c = λ k.
     let read : c.read_at.new.out ≡ bytes =
     record_read (layout_of c.self.inside.geometry) c.args.half c.requires.half now c.args.i few
     c.record_at.ensures (omega arith) (on_ok c.read_at.result _ (sym c.is_err.ensures.value ∙ c.if-is_err.false) (c.read_at.ensures.reads k).ok).1 in
-    subst (λ (log : Log). IsOfRecord log.geometry (record_at (layout log) c.args.half c.args.i now) c.match-change_in_record.result) c.self.view_is
+    subst (λ (log : Log). IsOfRecord log.geometry (record_at (layout_of_log log) c.args.half c.args.i now) c.match-change_in_record.result) c.self.view_is
     (elim c.match-change_in_record.branch [
       | in-Some w ↦ subst (λ r. IsOfRecord c.self.inside.geometry bytes r) (sym w.result-is) (sym read ∙ w.in-Some.ensures.some.0)
       | in-None w ↦ subst (λ r. IsOfRecord c.self.inside.geometry bytes r) (sym w.result-is) (λ m whole logged is. w.in-None.ensures.none refl m whole logged (read ∙ is))

@@ -3,8 +3,8 @@ use Rattle.std.proofs.Common.{◌≡◌, ◌<◌, refl, ap, sym, ◌∙◌, leng
 use Rattle.std.specs.Prelude.{◌==◌, None, not}
 use Rattle.std.proofs.lemmas.List.{get_or_read, length-set}
 use Rattle.std.proofs.lemmas.Result.{err_from_is_err_and}
-use Rattle.messages.specs.declared.Msg.TheVariants.{MakeVol}
-use Rattle.messages.specs.declared.Refusal.TheVariants.{Exists}
+use Rattle.language.specs.declared.Msg.TheVariants.{MakeVol}
+use Rattle.language.specs.declared.Refusal.TheVariants.{Exists}
 use Rattle.parcel.specs.Fits.{FitsVolume}
 use Rattle.parcel.specs.Shown.{aggregate_facts, child_facts, volume_facts}
 use Rattle.parcel.specs.Steps.{guard, at_aggregate}

@@ -1,8 +1,8 @@
 -- The bit of the file is set, which is the effect of a create that passes its checks; the stripes stay.
 use Rattle.std.proofs.Common.{◌<◌, Bool, None, not, refl, ap, sym, ◌∙◌, arith}
 use Rattle.std.proofs.lemmas.Result.{err_from_is_err_and}
-use Rattle.messages.specs.declared.Msg.TheVariants.{Create}
-use Rattle.messages.specs.declared.Refusal.TheVariants.{Exists}
+use Rattle.language.specs.declared.Msg.TheVariants.{Create}
+use Rattle.language.specs.declared.Refusal.TheVariants.{Exists}
 use Rattle.parcel.specs.Steps.{guard}
 use Rattle.parcel.specs.Shown.{logical_facts, has_file}
 use Rattle.parcel.specs.Volume.{one_volume}

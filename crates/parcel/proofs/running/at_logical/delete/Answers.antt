@@ -3,7 +3,7 @@ use Rattle.std.proofs.Common.{◌≡◌, ◌<◌, None, refl, ◌∙◌, length,
 use Rattle.std.proofs.lemmas.Result.{err_from_is_err_and}
 use Rattle.affinity.specs.Geometry.{stripe_of}
 use Rattle.affinity.proofs.Placed.{group_below}
-use Rattle.messages.specs.declared.Msg.TheVariants.{Delete}
+use Rattle.language.specs.declared.Msg.TheVariants.{Delete}
 use Rattle.parcel.specs.Dropping.{DropsFile}
 use Rattle.parcel.specs.Fits.{FitsStripe}
 use Rattle.parcel.specs.Shown.{logical_facts, blocks_of, has_file}

@@ -1,7 +1,7 @@
 -- The block is gone from its stripe, which is the effect of a punch that passes its checks.
 use Rattle.std.proofs.Common.{None, refl, ◌∙◌}
 use Rattle.std.proofs.lemmas.Result.{err_from_is_err_and}
-use Rattle.messages.specs.declared.Msg.TheVariants.{Punch}
+use Rattle.language.specs.declared.Msg.TheVariants.{Punch}
 use Rattle.parcel.specs.Shown.{stripe_facts}
 use Rattle.stripe.specs.Stripe.{content_at}
 use Rattle.parcel.specs.Volume.{one_volume}

@@ -1,8 +1,8 @@
 -- The totals of the volume and its seal are the reply, for a usage that passes its check.
 use Rattle.std.proofs.Common.{Bool, None, refl, ap, sym, ◌∙◌}
-use Rattle.messages.specs.declared.Msg.TheVariants.{Usage as AskUsage}
-use Rattle.messages.specs.declared.Refusal.TheVariants.{Volume}
-use Rattle.messages.specs.declared.Reply.TheVariants.{Usage}
+use Rattle.language.specs.declared.Msg.TheVariants.{Usage as AskUsage}
+use Rattle.language.specs.declared.Refusal.TheVariants.{Volume}
+use Rattle.language.specs.declared.Reply.TheVariants.{Usage}
 use Rattle.parcel.specs.Shown.{volume_facts}
 use Rattle.parcel.specs.Steps.{guard}
 use Rattle.parcel.specs.Totals.{file_total, block_total}

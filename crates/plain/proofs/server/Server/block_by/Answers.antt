@@ -4,9 +4,9 @@ use Rattle.std.specs.Prelude.{IfNone, IfSome}
 use Rattle.std.specs.Option.{option_copied}
 use Rattle.affinity.specs.declared.geometry.Geometry.{Geometry}
 use Rattle.affinity.specs.declared.kinds.Kind.TheVariants as kinds
-use Rattle.messages.specs.declared.Block.{Block}
-use Rattle.messages.specs.declared.Msg.TheVariants.{Read}
-use Rattle.messages.specs.declared.Reply.TheVariants.{Block as shows, Hole}
+use Rattle.language.specs.declared.Block.{Block}
+use Rattle.language.specs.declared.Msg.TheVariants.{Read}
+use Rattle.language.specs.declared.Reply.TheVariants.{Block as shows, Hole}
 use Rattle.meaning.specs.State.{State, IsState}
 use Rattle.meaning.specs.Serial.{accepted_reply, block_reply, step}
 use Rattle.plain.specs.Server.{server_state}

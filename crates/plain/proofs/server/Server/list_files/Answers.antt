@@ -1,6 +1,6 @@
 -- The bits of a volume's field `files` are its files, and a volume that isn't there has none.
 use Rattle.std.proofs.Common.{ap, sym}
-use Rattle.messages.specs.declared.Reply.TheVariants.{Files}
+use Rattle.language.specs.declared.Reply.TheVariants.{Files}
 use Rattle.std.specs.BTreeMap as map
 use Rattle.meaning.specs.KeyOrders.{volume_order, block_order}
 use Rattle.plain.proofs.Totals.{listed, none_listed}

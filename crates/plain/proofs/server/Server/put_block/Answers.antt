@@ -5,7 +5,7 @@ use Rattle.std.specs.BTreeMap as map
 use Rattle.std.specs.BTreeMap.{is_at}
 use Rattle.std.specs.Map.{lookup}
 use Rattle.affinity.specs.declared.geometry.Geometry.{Geometry}
-use Rattle.messages.specs.declared.Block.{Block}
+use Rattle.language.specs.declared.Block.{Block}
 use Rattle.meaning.specs.State.{State, BlockKey, one_if}
 use Rattle.meaning.specs.KeyOrders.{file_order, block_order}
 use Rattle.meaning.proofs.Keys.{one_block}

@@ -3,8 +3,8 @@ use Rattle.std.proofs.Common.{rules, ◌≡◌, Ok, Err, sym, subst, OnOk, OnErr
 use Rattle.std.specs.declared.result.Result.{Result}
 use Rattle.affinity.specs.declared.geometry.Geometry.{Geometry}
 use Rattle.message.specs.Heads.{writing}
-use Rattle.messages.specs.declared.Msg.{Msg}
-use Rattle.messages.specs.Messages.{IsMessage}
+use Rattle.language.specs.declared.Msg.{Msg}
+use Rattle.language.specs.Messages.{IsMessage}
 use Rattle.meaning.specs.State.{State, IsState}
 use Rattle.meaning.specs.Serial.{next_state}
 use Rattle.plain.specs.Server.{server_state}

@@ -1,9 +1,9 @@
 -- The message that was logged first leaves its slot and frees its affinity, with the reply that was kept for it.
 use Rattle.std.proofs.Common.{◌<◌, length, sym, ap, subst, ◌∙◌, arith}
 use Rattle.arena.specs.ArenaView.{IsPartitioned}
-use Rattle.legal_runs.specs.Events.{answer}
-use Rattle.legal_runs.specs.declared.outcomes.Outcome.TheVariants as outcomes
-use Rattle.messages.specs.declared.Reply.TheVariants.{Done}
+use Rattle.histories.specs.Events.{answer}
+use Rattle.histories.specs.declared.outcomes.Outcome.TheVariants as outcomes
+use Rattle.language.specs.declared.Reply.TheVariants.{Done}
 use Rattle.scheduler.proofs.AnswerCall.{answer_call, answer_call_state, front_low, get_or_any}
 use Rattle.scheduler.specs.CoreView.{CoreView, core_state_of}
 use Rattle.scheduler.specs.Fields.{IsSoundCore, parts}

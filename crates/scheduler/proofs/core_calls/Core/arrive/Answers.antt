@@ -2,9 +2,9 @@
 use Rattle.std.proofs.Common.{◌+◌, Bool, [], ◌∷◌, ◌++◌, refl, sym, ap, subst, ◌∙◌}
 use Rattle.affinity.specs.Kind.{is_changing}
 use Rattle.arena.specs.ArenaView.{ArenaView, IsPartitioned, after_move}
-use Rattle.legal_runs.specs.Events.{arrive}
-use Rattle.legal_runs.specs.declared.outcomes.ArriveRefusal.TheVariants as arrivals
-use Rattle.legal_runs.specs.declared.outcomes.Outcome.TheVariants as outcomes
+use Rattle.histories.specs.Events.{arrive}
+use Rattle.histories.specs.declared.outcomes.ArriveRefusal.TheVariants as arrivals
+use Rattle.histories.specs.declared.outcomes.Outcome.TheVariants as outcomes
 use Rattle.scheduler.proofs.ArriveCall.{arrive_call, arrive_later, arrive_new, arrive_slot, arrive_state, full_arena, full_state, not_this}
 use Rattle.scheduler.proofs.Placing.{placed_of, range_of}
 use Rattle.scheduler.specs.CoreView.{CoreView, core_state_of}

@@ -5,9 +5,9 @@ use Rattle.disk.specs.Moments.{CrashImagesAre, moment_number}
 use Rattle.image.specs.Pieces.{piece_count}
 use Rattle.journal.specs.Journal.{JournalView, RecoversWithPrefix}
 use Rattle.journal.specs.DirtyPieces.{count_dirty}
-use Rattle.legal_runs.specs.CoreState.{CoreState}
+use Rattle.histories.specs.CoreState.{CoreState}
 use Rattle.oplog.proofs.Answered.{on_ok}
-use Rattle.legal_runs.specs.Events.{point_refusal}
+use Rattle.histories.specs.Events.{point_refusal}
 use Rattle.oplog.proofs.Beyond.{beyond_none}
 use Rattle.oplog.specs.Beyond.{KeepsBeyond}
 use Rattle.device_map.specs.Layout.{layout_of}

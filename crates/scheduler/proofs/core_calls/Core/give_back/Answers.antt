@@ -5,9 +5,9 @@ use Rattle.std.proofs.lemmas.Bool.{true≢false}
 use Rattle.affinity.specs.Interval.{IsAffinityOf}
 use Rattle.affinity.specs.Path.{Path}
 use Rattle.arena.specs.ArenaView.{IsPartitioned}
-use Rattle.legal_runs.specs.Events.{give_back, find_in_flight}
-use Rattle.legal_runs.specs.CoreState.{Entry}
-use Rattle.messages.specs.Messages.{four_numbers, kind}
+use Rattle.histories.specs.Events.{give_back, find_in_flight}
+use Rattle.histories.specs.CoreState.{Entry}
+use Rattle.language.specs.Messages.{four_numbers, kind}
 use Rattle.parcel.specs.Fits.{Fits, IsKindOf}
 use Rattle.parcel.specs.Tree.{IsOut, RestoresAt, tree_nodes}
 use Rattle.parcel.specs.declared.parts.Parcels.{Parcels}

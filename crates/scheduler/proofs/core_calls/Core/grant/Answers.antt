@@ -4,7 +4,7 @@ use Rattle.std.specs.Prelude.{nat_lt, option_copied}
 use Rattle.affinity.specs.Interval.{IsAffinityOf}
 use Rattle.affinity.specs.declared.geometry.Geometry.{Geometry}
 use Rattle.arena.specs.ArenaView.{IsPartitioned}
-use Rattle.messages.specs.Messages.{path_of}
+use Rattle.language.specs.Messages.{path_of}
 use Rattle.parcel.specs.Fits.{IsRunnable}
 use Rattle.parcel.specs.Tree.{HasGap, tree_nodes}
 use Rattle.scheduler.proofs.Choosing.{none_is_granted}

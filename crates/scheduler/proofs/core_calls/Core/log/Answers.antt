@@ -3,8 +3,8 @@ use Rattle.std.proofs.Common.{◌≡◌, ℕ, ◌+◌, ◌*◌, ◌-◌, ◌≤�
 use Rattle.std.specs.Prelude.{if◌then◌else◌}
 use Rattle.disk.specs.Moments.{CrashImagesAre, moment_number}
 use Rattle.journal.specs.Journal.{RecoversWithPrefix}
-use Rattle.legal_runs.specs.Events.{batch, log, touches_device}
-use Rattle.legal_runs.specs.declared.outcomes.Step.TheVariants as steps
+use Rattle.histories.specs.Events.{batch, log, touches_device}
+use Rattle.histories.specs.declared.outcomes.Step.TheVariants as steps
 use Rattle.oplog.proofs.Answered.{on_ok}
 use Rattle.oplog.proofs.Beyond.{beyond_none}
 use Rattle.oplog.specs.Beyond.{KeepsBeyond}

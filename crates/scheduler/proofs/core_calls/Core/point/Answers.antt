@@ -4,7 +4,7 @@ use Rattle.std.specs.Prelude.{if◌then◌else◌}
 use Rattle.disk.specs.Moments.{CrashImagesAre, moment_number}
 use Rattle.journal.specs.Costs.{longest_point}
 use Rattle.journal.specs.Journal.{RecoversWithPrefix}
-use Rattle.legal_runs.specs.Events.{point_refusal}
+use Rattle.histories.specs.Events.{point_refusal}
 use Rattle.oplog.proofs.Beyond.{beyond_none}
 use Rattle.oplog.specs.Beyond.{KeepsBeyond}
 use Rattle.device_map.specs.Layout.{layout_of}

@@ -1,8 +1,8 @@
 -- The message is answered, and its line completed; and the session keeps its invariant.
 use Rattle.std.proofs.Common.{◌≡◌, ◌+◌, ℕ, Option, ap, length, refl, subst}
-use Rattle.legal_runs.specs.Events.{answer}
-use Rattle.runs.proofs.Events.{answer_step}
-use Rattle.messages.specs.declared.Reply.{Reply}
+use Rattle.histories.specs.Events.{answer}
+use Rattle.incarnations.proofs.Events.{answer_step}
+use Rattle.language.specs.declared.Reply.{Reply}
 use Rattle.scheduler.specs.Calls.{answer_outcome}
 use Rattle.scheduler.specs.CoreView.{core_state_of}
 use Rattle.serving.specs.Runs.{machine_with_jobs}

@@ -1,6 +1,6 @@
 -- The session keeps its invariant, and halts only where the device has failed.
 use Rattle.std.proofs.Common.{◌≡◌, ap, false, refl, ◌∙◌}
-use Rattle.legal_runs.specs.CoreState.{CoreState}
+use Rattle.histories.specs.CoreState.{CoreState}
 use Rattle.scheduler.proofs.Called.{cut_called}
 use Rattle.scheduler.specs.CoreView.{core_state_of}
 use Rattle.serving.specs.Session.{SessionView}

@@ -2,7 +2,7 @@
 use Rattle.std.proofs.Common.{◌<◌, ◌+◌, ◌∷◌, [], arith, ℕ, List, Ok, Option, Some, ap, length, map, refl, subst, sym, ◌∙◌}
 use Rattle.std.specs.Prelude.{IfSome}
 use Rattle.std.proofs.lemmas.List.{length-append}
-use Rattle.messages.specs.FirstLine.{GivesLine, LosesLineStart}
+use Rattle.language.specs.FirstLine.{GivesLine, LosesLineStart}
 use Rattle.message.specs.Reader.{Closes, Finds, has_ended, is_drained, line_of, source, unread}
 use Rattle.message.specs.declared.reading.Found.{Found}
 use Rattle.serving.specs.Lines.{NoMessage}

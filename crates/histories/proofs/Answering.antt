@@ -1,0 +1,125 @@
+-- The messages that a run answers are the first of those that were logged before it and in it.
+use Rattle.std.proofs.Common.{◌≡◌, ℕ, ◌≤◌, List, [], ◌∷◌, ◌++◌, refl, ap, sym, ◌∙◌, append_assoc, take, drop}
+use Rattle.std.specs.Prelude.{map, filter}
+use Rattle.std.proofs.lemmas.List.{append-nil, map-append}
+use Rattle.std.proofs.lemmas.List.Elements.{filter-append}
+use Rattle.affinity.specs.declared.geometry.Geometry.{Geometry}
+use Rattle.language.specs.declared.Msg.{Msg}
+use Rattle.language.specs.declared.Reply.{Reply}
+use Rattle.meaning.specs.Serial.{is_recorded}
+use Rattle.histories.specs.declared.outcomes.Outcome.{Outcome}
+use Rattle.histories.specs.declared.outcomes.Outcome.TheVariants as outcomes
+use Rattle.histories.specs.CoreState.{Replied, CoreState}
+use Rattle.histories.specs.Events.{MachineState, Event, recorded}
+use Rattle.histories.specs.Runs.{IsLegal, end_state, logged_at, logged_messages, appended_messages, answers, answered, answered_at, answered_messages, answered_changes}
+use Rattle.histories.specs.Crash.{IsLogAfter, in_doubt}
+use Rattle.histories.specs.Laws.{ticket_replies}
+use Rattle.histories.proofs.Moves.{Passed, Move, Stays, Arrives, Grants, Backs, Logs, Answers, moves}
+use Rattle.histories.proofs.SerialReplies.{ticket_replies-append}
+use Rattle.histories.proofs.Runs.{appended_is_recorded}
+use Rattle.histories.proofs.Crashes.{legal_first, appended_first}
+
+pub recorded-append : (as' bs : List Replied) → recorded (as' ++ bs) ≡ recorded as' ++ recorded bs
+recorded-append as' bs = ap (map (λ (a : Replied). a.1)) (filter-append (λ (a : Replied). is_recorded a.1 a.2) as' bs)
+    ∙ map-append (λ (a : Replied). a.1) (filter (λ (a : Replied). is_recorded a.1 a.2) as') (filter
+    (λ (a : Replied). is_recorded a.1 a.2) bs)
+
+-- ---- one event
+
+module _ (w : CoreState) where
+  none_answered : (o : Outcome) → answers o ≡ [] → answered_at w o ≡ []
+  none_answered (outcomes.Answered ticket reply) e = cc
+  none_answered _ e = refl
+
+  one_answered : (o : Outcome) (reply : ℕ × Reply) → answers o ≡ reply ∷ [] → answered_at w o ≡ take 1 w.logged
+  one_answered (outcomes.Answered ticket reply) x e = refl
+  one_answered _ x e = cc
+
+-- An outcome that answers no message, and so gives no reply.
+record Silent (old : CoreState) (o : Outcome) : Type 0 where
+  pub none : answered_at old o ≡ []
+  pub same : ticket_replies (answered_at old o) ≡ answers o
+
+silent : (old : CoreState) (o : Outcome) → answers o ≡ [] → Silent old o
+silent old o e = record { none = none_answered old o e; same = ap ticket_replies (none_answered old o e) ∙ sym e }
+
+-- What was logged before an event, and then what it logs, is the message that it answers, if any, and then what is logged after it.
+pub record Ordered (old new : CoreState) (p : Passed) (o : Outcome) : Type 0 where
+  pub order : old.logged ++ p.gone ≡ answered_at old o ++ new.logged
+  pub same : ticket_replies (answered_at old o) ≡ answers o
+
+quiet : (old new : CoreState) (p : Passed) (o : Outcome) → answers o ≡ p.reply_pairs → p.gone ≡ [] → p.reply_pairs ≡ [] → new.logged ≡ old.logged
+    → Ordered old new p o
+quiet old new p o reply_pairs none quietly still =
+    let k = silent old o (reply_pairs ∙ quietly) in
+    record {
+      order = ap (λ l. old.logged ++ l) none ∙ append-nil old.logged ∙ sym still ∙ ap (λ l. l ++ new.logged) (sym k.none);
+      same = k.same;
+    }
+
+pub move_ordered : (g : Geometry) (old new : CoreState) (p : Passed) (o : Outcome) → answers o ≡ p.reply_pairs → Move g old new p
+    → Ordered old new p o
+move_ordered g old new p o reply_pairs (Stays s e) = quiet old new p o reply_pairs (ap (λ p. p.gone) e) (ap (λ p. p.reply_pairs) e) s.logged
+move_ordered g old new p o reply_pairs (Arrives m fits is e) = quiet old new p o reply_pairs (ap (λ p. p.gone) e) (ap (λ p. p.reply_pairs) e)
+    (ap (λ w. w.logged) is)
+move_ordered g old new p o reply_pairs (Grants found first is e) = quiet old new p o reply_pairs (ap (λ p. p.gone) e) (ap (λ p. p.reply_pairs) e)
+    (ap (λ w. w.logged) is)
+move_ordered g old new p o reply_pairs (Backs ticket found one_out is e) = quiet old new p o reply_pairs (ap (λ p. p.gone) e) (ap (λ p. p.reply_pairs) e)
+    (ap (λ w. w.logged) is)
+move_ordered g old new p o reply_pairs (Logs n is e) =
+    let k = silent old o (reply_pairs ∙ ap (λ p. p.reply_pairs) e) in
+    record {
+      order = ap (λ p. old.logged ++ p.gone) e ∙ sym (ap (λ w. w.logged) is) ∙ ap (λ l. l ++ new.logged) (sym k.none);
+      same = k.same;
+    }
+move_ordered g old new p o reply_pairs (Answers a rest front is e) =
+    let one : answered_at old o ≡ a ∷ [] = one_answered old o (a.0, a.2) (reply_pairs ∙ ap (λ p. p.reply_pairs) e) ∙ ap (take 1) front in
+    record {
+      order = ap (λ p. old.logged ++ p.gone) e ∙ append-nil old.logged ∙ front ∙ ap (λ w. a ∷ w.logged) (sym is)
+          ∙ ap (λ l. l ++ new.logged) (sym one);
+      same = ap ticket_replies one ∙ sym (reply_pairs ∙ ap (λ p. p.reply_pairs) e);
+    }
+
+-- ---- a run
+
+pub run_in_order : (g : Geometry) (old : MachineState) (events : List Event) → IsLegal g old events
+    → old.core.logged ++ logged_messages old events ≡ answered_messages old events ++ (end_state old events).core.logged
+run_in_order g old [] legal = append-nil old.core.logged
+run_in_order g old (event ∷ events) legal =
+    let gone = logged_at old.core event.step event.device_failed in
+    let later = logged_messages event.state_after events in
+    let now = answered_at old.core event.outcome in
+    sym (append_assoc old.core.logged gone later)
+    ∙ ap (λ l. l ++ later) (move_ordered g old.core event.state_after.core _ event.outcome refl (moves g old event legal.0)).order
+    ∙ append_assoc now event.state_after.core.logged later
+    ∙ ap (λ l. now ++ l) (run_in_order g event.state_after events legal.1)
+    ∙ sym (append_assoc now (answered_messages event.state_after events) (end_state event.state_after events).core.logged)
+
+pub run_replies : (g : Geometry) (old : MachineState) (events : List Event) → IsLegal g old events
+    → ticket_replies (answered_messages old events) ≡ answered events
+run_replies g old [] legal = refl
+run_replies g old (event ∷ events) legal =
+    let k = move_ordered g old.core event.state_after.core _ event.outcome refl (moves g old event legal.0) in
+    ticket_replies-append (answered_at old.core event.outcome) (answered_messages event.state_after events)
+    ∙ (λ i. k.same i ++ run_replies g event.state_after events legal.1 i)
+
+-- The changes logged at the start, and then the log that a later crash leaves, begin with all changes that were answered.
+pub answered_left : (g : Geometry) {old : MachineState} {events : List Event} {k after : ℕ} {ms : List Msg} → IsLegal g old events → k ≤ after
+    → IsLogAfter old events after ms
+    → (rest : List Msg) × (recorded old.core.logged ++ ms ≡ answered_changes old (take k events) ++ rest)
+answered_left g {old} {events} {k} {after} legal le log =
+    let j = appended_first old events k after le in
+    let first = take k events in
+    let begun = recorded old.core.logged in
+    let more = j.0 ++ take log.some (in_doubt (end_state old (take after events)).core (drop after events)) in
+    let still = recorded (end_state old first).core.logged in
+    let answers_first : begun ++ appended_messages old first ≡ answered_changes old first ++ still =
+    ap (λ l. begun ++ l) (appended_is_recorded old first) ∙ sym (recorded-append old.core.logged (logged_messages old first))
+    ∙ ap recorded (run_in_order g old first (legal_first g old events k legal))
+    ∙ recorded-append (answered_messages old first) (end_state old first).core.logged in (
+      still ++ more,
+      ap (λ l. begun ++ l) (log.is ∙ ap (λ l. l ++ take log.some (in_doubt (end_state old (take after events)).core (drop after events))) j.1
+          ∙ append_assoc (appended_messages old first) j.0 _)
+          ∙ sym (append_assoc begun (appended_messages old first) more) ∙ ap (λ l. l ++ more) answers_first
+          ∙ append_assoc (answered_changes old first) still more,
+    )

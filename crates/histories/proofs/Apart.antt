@@ -1,0 +1,72 @@
+-- No two held messages are at related places: what a dispatch, a return and a log step do to them.
+use Rattle.std.proofs.Common.{◌≡◌, ℕ, ◌+◌, false, List, [], ◌∷◌, ◌++◌, Some, refl, ap, sym, ◌∙◌, subst, append_assoc, length, take, drop}
+use Rattle.std.specs.Prelude.{◌&&◌, ◌==◌, not, nat_lt}
+use Rattle.std.specs.List.{AllByRecursion, list_any}
+use Rattle.std.proofs.lemmas.Bool.{and_parts, not-true}
+use Rattle.std.proofs.lemmas.List.{length-append, length-map, take-append-drop}
+use Rattle.affinity.specs.declared.geometry.Geometry.{Geometry}
+use Rattle.affinity.proofs.Paths.{unrelated_turned}
+use Rattle.language.specs.Messages.{path_of}
+use Rattle.meaning.specs.Serial.{reply_to}
+use Rattle.histories.specs.CoreState.{Entry, Replied, CoreState, entry, entries, held, are_related_entries}
+use Rattle.histories.specs.Eligible.{is_conflict_free, has_room, is_eligible, next_eligible}
+use Rattle.histories.specs.Events.{grant, give_back, find_in_flight, log}
+use Rattle.histories.specs.Laws.{AreUnrelated}
+use Rattle.histories.proofs.Lists.{all_none, all_weaker, before_push, before_moved, picked}
+
+pub apart_turned : (g : Geometry) (e d : Entry) → are_related_entries g e d ≡ false → are_related_entries g d e ≡ false
+apart_turned g e d h = unrelated_turned (path_of g e.1) (path_of g d.1) h
+
+pub entries-append : (as' bs : List Replied) → entries (as' ++ bs) ≡ entries as' ++ entries bs
+entries-append [] bs = refl
+entries-append (a ∷ as') bs = ap (λ l. entry a ∷ l) (entries-append as' bs)
+
+pub length_held : (w : CoreState) → length (held w) ≡ length w.logged + (length w.ran + length w.in_flight)
+length_held w = length-append (entries w.logged) (entries w.ran ++ w.in_flight)
+    ∙ (λ i. length-map w.logged entry i + (length-append (entries w.ran) w.in_flight ∙ ap (λ n. n + length w.in_flight) (length-map w.ran entry)) i)
+
+-- what is dispatched is at a place unrelated to those of all that are held
+pub granted_is_free : (g : Geometry) (w : CoreState) (found : Entry × List Entry) → next_eligible g w ≡ Some found
+    → AllByRecursion (λ d. are_related_entries g found.0 d ≡ false) (held w)
+granted_is_free g w found h =
+    let k = picked (is_eligible g w) w.waiting found h in
+    let e = found.0 in
+    let clear = (and_parts (is_conflict_free g w e) (has_room w e) k.passes).0 in
+    let free = (and_parts (not (list_any (are_related_entries g e) (held w))) (not (list_any
+    (λ d. nat_lt d.0 e.0 && are_related_entries g e d) w.waiting)) clear).0 in
+    all_none (are_related_entries g e) (held w) (not-true _ free)
+
+pub held_grant : (w : CoreState) (found : Entry × List Entry) → held (grant w found) ≡ held w ++ found.0 ∷ []
+held_grant w found = ap (λ l. entries w.logged ++ l) (sym (append_assoc (entries w.ran) w.in_flight (found.0 ∷ [])))
+    ∙ sym (append_assoc (entries w.logged) (entries w.ran ++ w.in_flight) (found.0 ∷ []))
+
+pub grant_apart : (g : Geometry) (w : CoreState) (found : Entry × List Entry) → next_eligible g w ≡ Some found → AreUnrelated g (held w)
+    → AreUnrelated g (held (grant w found))
+grant_apart g w found h apart =
+    let e = found.0 in
+    subst (AreUnrelated g) (sym (held_grant w found))
+    (before_push (λ e d. are_related_entries g e d ≡ false) (held w) e apart (all_weaker (λ d. are_related_entries g e d ≡ false) (λ d. are_related_entries g d e ≡ false)
+    (λ d. apart_turned g e d) (held w) (granted_is_free g w found h)))
+
+pub back_apart : (g : Geometry) (w : CoreState) (ticket : ℕ) (found : Entry × List Entry) → find_in_flight w ticket ≡ Some found
+    → AreUnrelated g (held w) → AreUnrelated g (held (give_back g w found))
+back_apart g w ticket found h apart =
+    let k = picked (λ d. d.0 == ticket) w.in_flight found h in
+    let e = found.0 in
+    let L = entries w.logged in
+    let R = entries w.ran in
+    let split : held w ≡ (L ++ R) ++ (k.before ++ e ∷ k.behind) = ap (λ o. L ++ (R ++ o)) k.whole ∙ sym (append_assoc L R _) in
+    let moved = before_moved (λ e d. are_related_entries g e d ≡ false) (apart_turned g) (L ++ R) k.before e k.behind
+    (subst (AreUnrelated g) split apart) in
+    subst (AreUnrelated g)
+    (append_assoc L R _ ∙ ap (λ l. L ++ l) (sym (append_assoc R (e ∷ []) (k.before ++ k.behind)) ∙
+    (λ i. sym (entries-append w.ran ((e.0, e.1, reply_to g w.committed e.1) ∷ [])) i ++ sym k.rest i)))
+    moved
+
+-- A log step leaves the list of held messages as it is.
+pub log_held : (g : Geometry) (w : CoreState) (n : ℕ) → held (log g w n) ≡ held w
+log_held g w n =
+    ap (λ l. l ++ (entries (drop n w.ran) ++ w.in_flight)) (entries-append w.logged (take n w.ran))
+    ∙ append_assoc (entries w.logged) (entries (take n w.ran)) _
+    ∙ ap (λ l. entries w.logged ++ l) (sym (append_assoc (entries (take n w.ran)) (entries (drop n w.ran)) w.in_flight)
+    ∙ ap (λ l. l ++ w.in_flight) (sym (entries-append (take n w.ran) (drop n w.ran)) ∙ ap entries (take-append-drop n w.ran)))

@@ -1,0 +1,298 @@
+-- The replies in a legal run are those of the serial server to the messages in the order in which they arrived.
+use Rattle.std.proofs.Common.{◌≡◌, ℕ, ◌<◌, ◌≤◌, Bool, false, List, [], ◌∷◌, ◌++◌, refl, ap, sym, ◌∙◌, subst, append_assoc, take, drop, arith}
+use Rattle.std.specs.Prelude.{◌&&◌, ◌||◌, ◌==◌, not, nat_lt, IsPermutation}
+use Rattle.std.specs.List.{AllByRecursion, list_any}
+use Rattle.std.proofs.lemmas.List.{append-nil, take-append-drop}
+use Rattle.std.proofs.lemmas.Bool.{and_parts, or_parts, not-true, lt-ltb, true≢false}
+use Rattle.std.proofs.lemmas.List.Sorted.{IsPermutation-append_left, IsPermutation-append_right, IsPermutation-middle, IsPermutation-refl, IsPermutation-trans}
+use Rattle.affinity.specs.declared.geometry.Geometry.{Geometry}
+use Rattle.language.specs.declared.Reply.{Reply}
+use Rattle.meaning.specs.State.{State}
+use Rattle.meaning.specs.Serial.{reply_to, state_after_all}
+use Rattle.meaning.specs.Order.{serial_replies, messages_of, by_ticket, InOrderIfRelated}
+use Rattle.meaning.proofs.ByTicket.{by_ticket-ascending, AreAscending as AreEachLess}
+use Rattle.histories.specs.CoreState.{Entry, Replied, CoreState, entries, held, are_related_entries}
+use Rattle.histories.specs.Eligible.{is_conflict_free, has_room, is_eligible}
+use Rattle.histories.specs.Events.{MachineState, Event, grant, give_back, log}
+use Rattle.histories.specs.Runs.{IsLegal, end_state, logged_at, arrives, logged_messages, arrived, answered}
+use Rattle.histories.specs.Laws.{AreUnrelated, AreAscending, EachBefore, IsSoundCoreState, IsIdle, ticket_replies}
+use Rattle.histories.proofs.Lists.{picked, all_join, all_front, all_none, all_permuted, all_weaker, before_back, before_front, before_moved, before_one, before_past, before_push, before_join}
+use Rattle.histories.proofs.Apart.{apart_turned, entries-append}
+use Rattle.histories.proofs.Moves.{Passed, Move, Stays, Arrives, Grants, Backs, Logs, Answers, moves, passed}
+use Rattle.histories.proofs.SerialReplies.{serial_replies-append, IsIn, in_left, IsAsGood, good_itself, good_on, good_push, good_moved}
+use Rattle.histories.proofs.Sound.{move_sound}
+use Rattle.histories.proofs.Idle.{idle_sound, none_in_flight, none_ran, none_logged}
+use Rattle.histories.proofs.Runs.{run_follows, run_answers}
+
+-- ---- a run leaves its messages in a list (the row) that is in step with the list of arrivals
+
+-- the row: all that arrived, namely what was logged so far, then what ran, what is in flight and what waits
+abbrev pub row : CoreState → List Replied → List Entry
+row w past = entries past ++ (entries w.ran ++ (w.in_flight ++ w.waiting))
+
+or_false : (a b : Bool) → a ≡ false → b ≡ false → (a || b) ≡ false
+or_false a b h j = ap (λ a. a || b) h ∙ j
+
+not_any : (p : Entry → Bool) (us : List Entry) → AllByRecursion (λ d. p d ≡ false) us → list_any p us ≡ false
+not_any p [] h = refl
+not_any p (u ∷ us) h = or_false (p u) (list_any p us) h.0 (not_any p us h.1)
+
+any_front : (p : Entry → Bool) (us vs : List Entry) → list_any p (us ++ vs) ≡ false → list_any p us ≡ false
+any_front p [] vs h = refl
+any_front p (u ∷ us) vs h = let k = or_parts (p u) (list_any p (us ++ vs)) h in or_false (p u) (list_any p us) k.0 (any_front p us vs k.1)
+
+-- Two lists in step stay so when the same message is put behind each, and when a message of the second moves forward past unrelated ones.
+pub record KeepsInStep (g : Geometry) (AreInStep : List Entry → List Entry → Type 0) : Type 0 where
+  pub push : (es fs : List Entry) (e : Entry) → AreInStep es fs → AreInStep (es ++ e ∷ []) (fs ++ e ∷ [])
+  pub moved : (es ps us : List Entry) (e : Entry) (vs : List Entry) → AllByRecursion (λ d. are_related_entries g e d ≡ false) us
+      → AreInStep es (ps ++ (us ++ e ∷ vs)) → AreInStep es (ps ++ e ∷ (us ++ vs))
+
+module _ (g : Geometry) (AreInStep : List Entry → List Entry → Type 0) (keeps : KeepsInStep g AreInStep) where
+  -- an event that logs no message, and at which none arrives
+  quiet : (new : CoreState) (past : List Replied) (all : List Entry) (gone : List Replied) (come : List Entry) → gone ≡ [] → come ≡ []
+      → AreInStep all (row new past) → AreInStep (all ++ come) (row new (past ++ gone))
+  quiet new past all gone come e f good =
+      subst (λ c. AreInStep (all ++ c) (row new (past ++ gone))) (sym f)
+      (subst (λ d. AreInStep (all ++ []) (row new (past ++ d))) (sym e)
+      (subst (λ l. AreInStep l (row new (past ++ []))) (sym (append-nil all))
+      (subst (λ l. AreInStep all (row new l)) (sym (append-nil past)) good)))
+
+  one_more : (w : CoreState) (past : List Replied) (e : Entry)
+      → row w past ++ e ∷ [] ≡ entries past ++ (entries w.ran ++ (w.in_flight ++ (w.waiting ++ e ∷ [])))
+  one_more w past e =
+      append_assoc (entries past) _ (e ∷ [])
+      ∙ ap (λ l. entries past ++ l) (append_assoc (entries w.ran) _ (e ∷ []) ∙ ap
+      (λ l. entries w.ran ++ l) (append_assoc w.in_flight w.waiting (e ∷ [])))
+
+  -- if no message of us is related to e and has a smaller ticket, and all have smaller tickets, none is related to e
+  clear_of : (w : CoreState) (e : Entry) (us : List Entry) → list_any (λ d. nat_lt d.0 e.0 && are_related_entries g e d) us ≡ false
+      → AllByRecursion (λ d. d.0 < e.0) us → AllByRecursion (λ d. are_related_entries g e d ≡ false) us
+  clear_of w e [] h j = tt
+  clear_of w e (u ∷ us) h j =
+      let k = all_none (λ d. nat_lt d.0 e.0 && are_related_entries g e d) (u ∷ us) h in (
+        ap (λ b. b && are_related_entries g e u) (sym (lt-ltb u.0 e.0 j.0))
+            ∙ k.0,
+        clear_of w e us (not_any (λ d. nat_lt d.0 e.0 && are_related_entries g e d) us k.1) j.1,
+      )
+
+  move_in_step : (old new : CoreState) (p : Passed) (past : List Replied) (all : List Entry)
+      → Move g old new p → IsSoundCoreState g old → AreInStep all (row old past) → AreInStep (all ++ p.come) (row new (past ++ p.gone))
+  move_in_step old new p past all (Stays s e) h good =
+      quiet new past all p.gone p.come (ap (λ p. p.gone) e) (ap (λ p. p.come) e)
+      (subst (AreInStep all) (λ i. entries past ++ (entries (sym s.ran i) ++ (sym s.in_flight i ++ sym s.waiting i))) good)
+  move_in_step old new p past all (Arrives m fits is e) h good =
+      let one : Entry = (old.next, m) in
+      subst (λ p. AreInStep (all ++ p.come) (row new (past ++ p.gone))) (sym e)
+      (subst (λ l. AreInStep (all ++ one ∷ []) (row new l)) (sym (append-nil past))
+      (subst (λ w. AreInStep (all ++ one ∷ []) (row w past)) (sym is)
+      (subst (AreInStep (all ++ one ∷ [])) (one_more old past one) (keeps.push all (row old past) one good))))
+  move_in_step old new p past all (Grants found first is e) h good =
+      let k = picked (is_eligible g old) old.waiting found first in
+      let one = found.0 in
+      let P = entries past in
+      let R = entries old.ran in
+      let waits_before = λ (d : Entry). nat_lt d.0 one.0 && are_related_entries g one d in
+      let clear = (and_parts (is_conflict_free g old one) (has_room old one) k.passes).0 in
+      let early = (and_parts (not (list_any (are_related_entries g one) (held old))) (not (list_any
+      (λ d. nat_lt d.0 one.0 && are_related_entries g one d) old.waiting)) clear).1 in
+      let none = any_front waits_before k.before (one ∷ k.behind) (ap (list_any waits_before) (sym k.whole) ∙ not-true _ early) in
+      let free = clear_of old one k.before none (before_one (λ e d. e.0 < d.0) k.before one k.behind
+      (subst AreAscending k.whole h.ascending)) in
+      let F = P ++ (R ++ old.in_flight) in
+      let joined : (l : List Entry) → P ++ (R ++ (old.in_flight ++ l)) ≡ F ++ l = λ l. ap (λ m. P ++ m) (sym (append_assoc R old.in_flight l))
+      ∙ sym (append_assoc P (R ++ old.in_flight) l) in
+      let from : row old past ≡ F ++ (k.before ++ one ∷ k.behind) = ap (λ l. P ++ (R ++ (old.in_flight ++ l))) k.whole ∙ joined _ in
+      let to : F ++ one ∷ (k.before ++ k.behind) ≡ row (grant old found) past =
+      sym (joined _) ∙ ap (λ l. P ++ (R ++ l)) (sym (append_assoc old.in_flight (one ∷ []) _) ∙ ap
+      (λ l. (old.in_flight ++ one ∷ []) ++ l) (sym k.rest)) in
+      quiet new past all p.gone p.come (ap (λ p. p.gone) e) (ap (λ p. p.come) e) (subst (λ w. AreInStep all (row w past)) (sym is)
+      (subst (AreInStep all) to (keeps.moved all F k.before one k.behind free
+      (subst (AreInStep all) from good))))
+  move_in_step old new p past all (Backs ticket found one_out is e) h good =
+      let k = picked (λ d. d.0 == ticket) old.in_flight found one_out in
+      let one = found.0 in
+      let P = entries past in
+      let R = entries old.ran in
+      let L = entries old.logged in
+      let whole : held old ≡ (L ++ R) ++ (k.before ++ one ∷ k.behind) = ap (λ o. L ++ (R ++ o)) k.whole ∙ sym (append_assoc L R _) in
+      let free = all_front (λ d. are_related_entries g one d ≡ false) k.before k.behind (before_back
+      (λ e d. are_related_entries g e d ≡ false) (L ++ R) _ (before_moved
+      (λ e d. are_related_entries g e d ≡ false) (apart_turned g) (L ++ R) k.before one k.behind (subst (AreUnrelated g) whole h.apart))).0 in
+      let from : row old past ≡ (P ++ R) ++ (k.before ++ one ∷ (k.behind ++ old.waiting)) =
+      ap (λ o. P ++ (R ++ (o ++ old.waiting))) k.whole ∙ ap (λ l. P ++ (R ++ l)) (append_assoc k.before (one ∷ k.behind) old.waiting)
+      ∙ sym (append_assoc P R _) in
+      let back : R ++ one ∷ [] ≡ entries (old.ran ++ (one.0, one.1, reply_to g old.committed one.1)
+      ∷ []) = sym (entries-append old.ran ((one.0, one.1, reply_to g old.committed one.1) ∷ [])) in
+      let to : (P ++ R) ++ one ∷ (k.before ++ (k.behind ++ old.waiting)) ≡ row (give_back g old found) past =
+      append_assoc P R _ ∙ ap (λ l. P ++ l) (sym (append_assoc R (one ∷ []) _) ∙
+      (λ i. back i ++ (sym (append_assoc k.before k.behind old.waiting) i)) ∙ ap
+      (λ o. entries (old.ran ++ (one.0, one.1, reply_to g old.committed one.1) ∷ []) ++ (o ++ old.waiting)) (sym k.rest)) in
+      quiet new past all p.gone p.come (ap (λ p. p.gone) e) (ap (λ p. p.come) e) (subst (λ w. AreInStep all (row w past)) (sym is)
+      (subst (AreInStep all) to (keeps.moved all (P ++ R) k.before one (k.behind ++ old.waiting) free
+      (subst (AreInStep all) from good))))
+  move_in_step old new p past all (Logs n is e) h good =
+      let rest = old.in_flight ++ old.waiting in
+      let same : row old past ≡ row (log g old n) (past ++ take n old.ran) =
+      ap (λ l. entries past ++ (entries l ++ rest)) (sym (take-append-drop n old.ran))
+      ∙ ap (λ l. entries past ++ l) (ap (λ l. l ++ rest) (entries-append (take n old.ran) (drop n old.ran))
+      ∙ append_assoc (entries (take n old.ran)) (entries (drop n old.ran)) rest)
+      ∙ sym (append_assoc (entries past) (entries (take n old.ran)) _)
+      ∙ ap (λ l. l ++ (entries (drop n old.ran) ++ rest)) (sym (entries-append past (take n old.ran))) in
+      subst (λ p. AreInStep (all ++ p.come) (row new (past ++ p.gone))) (sym e)
+      (subst (λ l. AreInStep l (row new (past ++ take n old.ran))) (sym (append-nil all))
+      (subst (λ w. AreInStep all (row w (past ++ take n old.ran))) (sym is) (subst (AreInStep all) same good)))
+  move_in_step old new p past all (Answers a rest front is e) h good =
+      quiet new past all p.gone p.come (ap (λ p. p.gone) e) (ap (λ p. p.come) e) (subst (λ w. AreInStep all (row w past)) (sym is) good)
+
+  run_in_step : (old : MachineState) (events : List Event) (past : List Replied) (all : List Entry) → IsLegal g old events
+      → IsSoundCoreState g old.core → AreInStep all (row old.core past)
+      → AreInStep (all ++ arrived events) (row (end_state old events).core (past ++ logged_messages old events))
+  run_in_step old [] past all legal h good = quiet old.core past all [] [] refl refl good
+  run_in_step old (event ∷ events) past all legal h good =
+      let m = moves g old event legal.0 in
+      let p = passed old.core event.step event.outcome event.device_failed in
+      let gone = logged_at old.core event.step event.device_failed in
+      let come = arrives event.step event.outcome in
+      let k = run_in_step event.state_after events (past ++ gone) (all
+      ++ come) legal.1 (move_sound g old.core event.state_after.core p m h) (move_in_step old.core event.state_after.core p past all m h good) in
+      subst (λ l. AreInStep l (row (end_state event.state_after events).core (past
+      ++ (gone ++ logged_messages event.state_after events)))) (append_assoc all come (arrived events))
+      (subst (λ l. AreInStep ((all ++ come)
+      ++ arrived events) (row (end_state event.state_after events).core l)) (append_assoc past gone (logged_messages event.state_after events)) k)
+
+  -- From a core state without messages on, the list of arrivals and the row are in step.
+  pub arrivals_in_step : (old : MachineState) (events : List Event) → IsLegal g old events → IsIdle old.core → AreInStep [] []
+      → AreInStep (arrived events) (row (end_state old events).core (logged_messages old events))
+  arrivals_in_step old events legal idle start =
+      let none : row old.core [] ≡ [] = λ i. entries (none_ran old.core idle i) ++ (none_in_flight old.core idle i ++ idle.none_waits i) in
+      run_in_step old events [] [] legal (idle_sound old.core idle g) (subst (AreInStep []) (sym none) start)
+
+-- ---- each has the same replies
+
+good_in_step : (g : Geometry) (x : State) → KeepsInStep g (IsAsGood g x)
+good_in_step g x = record {
+  push = good_push g x;
+  moved = λ es ps us e vs free good. good_on g x es _ _ good (good_moved g x ps us e vs free);
+}
+
+-- ---- none is lost, none is there twice, and related ones stay in order
+
+-- The second list has the messages of the first, each as often. Its messages at related places are by ticket, if those of the first are.
+pub record IsReordered (g : Geometry) (es fs : List Entry) : Type 0 where
+  pub same : IsPermutation es fs
+  pub ordered : EachBefore (InOrderIfRelated g) es → EachBefore (InOrderIfRelated g) fs
+
+reordered_in_step : (g : Geometry) → KeepsInStep g (IsReordered g)
+reordered_in_step g = record {
+  push = λ es fs e h. record {
+    same = IsPermutation-append_left (e ∷ []) es fs h.same;
+    ordered = λ ordered. before_push (InOrderIfRelated g) fs e (h.ordered (before_front (InOrderIfRelated g) es (e ∷ []) ordered))
+        (all_permuted (λ d. InOrderIfRelated g d e) es fs h.same (before_one (InOrderIfRelated g) es e [] ordered));
+  };
+  moved = λ es ps us e vs free h. record {
+    same = IsPermutation-trans es _ _ h.same (IsPermutation-append_right ps _ _ (IsPermutation-middle us e vs));
+    ordered = λ ordered. before_past (InOrderIfRelated g) ps us e vs
+        (all_weaker (λ d. are_related_entries g e d ≡ false) (InOrderIfRelated g e) (λ d free related. absurd (true≢false (sym related ∙ free))) us free)
+        (h.ordered ordered);
+  };
+}
+
+pub arrivals_reordered : (g : Geometry) (old : MachineState) (events : List Event) → IsLegal g old events → IsIdle old.core
+    → IsReordered g (arrived events) (row (end_state old events).core (logged_messages old events))
+arrivals_reordered g old events legal idle =
+    arrivals_in_step g (IsReordered g) (reordered_in_step g) old events legal idle
+    (record { same = IsPermutation-refl []; ordered = λ ordered. ordered })
+
+-- ---- tickets are given in order
+
+-- The entry's ticket is n or a later one.
+abbrev IsFrom : ℕ → Entry → Type 0
+IsFrom n e = n ≤ e.0
+
+record GivenFrom (old new : CoreState) (come : List Entry) : Type 0 where
+  grows : old.next ≤ new.next
+  ascending : AreAscending come
+  from : AllByRecursion (IsFrom old.next) come
+  below : AllByRecursion (λ e. e.0 < new.next) come
+
+none_come : (old new : CoreState) (come : List Entry) → come ≡ [] → new.next ≡ old.next → GivenFrom old new come
+none_come old new come none next = subst (GivenFrom old new) (sym none)
+    (record { grows = omega (arith, next); ascending = tt; from = tt; below = tt })
+
+move_given : (g : Geometry) (old new : CoreState) (p : Passed) → Move g old new p → GivenFrom old new p.come
+move_given g old new p (Stays s e) = none_come old new p.come (ap (λ p. p.come) e) s.next
+move_given g old new p (Arrives m fits is e) =
+    let next = ap (λ w. w.next) is in
+    subst (λ p. GivenFrom old new p.come) (sym e)
+    (record { grows = omega (arith, next); ascending = (tt, tt); from = (omega arith, tt); below = (omega (arith, next), tt) })
+move_given g old new p (Grants found first is e) = none_come old new p.come (ap (λ p. p.come) e) (ap (λ w. w.next) is)
+move_given g old new p (Backs ticket found one_out is e) = none_come old new p.come (ap (λ p. p.come) e) (ap (λ w. w.next) is)
+move_given g old new p (Logs n is e) = none_come old new p.come (ap (λ p. p.come) e) (ap (λ w. w.next) is)
+move_given g old new p (Answers a rest front is e) = none_come old new p.come (ap (λ p. p.come) e) (ap (λ w. w.next) is)
+
+record ArrivedFrom (n : ℕ) (es : List Entry) : Type 0 where
+  ascending : AreAscending es
+  from : AllByRecursion (IsFrom n) es
+
+run_given : (g : Geometry) (old : MachineState) (events : List Event) → IsLegal g old events → ArrivedFrom old.core.next (arrived events)
+run_given g old [] legal = record { ascending = tt; from = tt }
+run_given g old (event ∷ events) legal =
+    let come = arrives event.step event.outcome in
+    let k = move_given g old.core event.state_after.core _ (moves g old event legal.0) in
+    let j = run_given g event.state_after events legal.1 in
+    let grows = k.grows in
+    record {
+      ascending = before_join (λ e d. e.0 < d.0) come (arrived events) k.ascending j.ascending
+          (all_weaker (λ e. e.0 < event.state_after.core.next) (λ e. AllByRecursion (λ d. e.0 < d.0) (arrived events))
+          (λ e lt. all_weaker (IsFrom event.state_after.core.next) (λ d. e.0 < d.0)
+          (λ d from. omega (arith, lt, from)) (arrived events) j.from) come k.below);
+      from = all_join (IsFrom old.core.next) come (arrived events) k.from
+          (all_weaker (IsFrom event.state_after.core.next) (IsFrom old.core.next) (λ d from. omega (arith, grows, from)) (arrived events) j.from);
+    }
+
+-- The tickets of the messages that arrive in a run ascend.
+pub run_ascending : (g : Geometry) (old : MachineState) (events : List Event) → IsLegal g old events → AreAscending (arrived events)
+run_ascending g old events legal = (run_given g old events legal).ascending
+
+each_less : (es : List Entry) → AreAscending es → AreEachLess es
+each_less [] h = tt
+each_less (e ∷ es) h = (h.0, each_less es h.1)
+
+-- So sorting them by ticket changes nothing.
+pub arrived_by_ticket : (g : Geometry) (old : MachineState) (events : List Event) → IsLegal g old events
+    → by_ticket (arrived events) ≡ arrived events
+arrived_by_ticket g old events legal = by_ticket-ascending (arrived events) (each_less (arrived events) (run_ascending g old events legal))
+
+-- ---- from a core state in which nothing waits and nothing is held
+
+module _ (g : Geometry) (old : MachineState) (events : List Event) (legal : IsLegal g old events) (h : IsSoundCoreState g old.core)
+    (idle : IsIdle old.core) where
+  good : IsAsGood g old.core.committed (by_ticket (arrived events)) (row (end_state old events).core (logged_messages old events))
+  good =
+      let x = old.core.committed in
+      subst (λ l. IsAsGood g x l (row (end_state old events).core (logged_messages old events))) (sym (arrived_by_ticket g old events legal))
+      (arrivals_in_step g (IsAsGood g x) (good_in_step g x) old events legal idle (good_itself g x []))
+
+  -- Each reply to a message that the run logs is one that the serial server gives to the messages by ticket.
+  pub logged_by_ticket : (p : ℕ × Reply) → IsIn p (ticket_replies (logged_messages old events)) → IsIn p (serial_replies g old.core.committed (by_ticket (arrived events)))
+  logged_by_ticket p is =
+      let x = old.core.committed in
+      good.tells p (subst (IsIn p) (sym (serial_replies-append g x (entries (logged_messages old events)) _)) (in_left p _ _
+      (subst (IsIn p) (sym (run_follows g old events legal h).reply_pairs) is)))
+
+  -- So is each reply that the run gives.
+  pub answered_by_ticket : (p : ℕ × Reply) → IsIn p (answered events) → IsIn p (serial_replies g old.core.committed (by_ticket (arrived events)))
+  answered_by_ticket p is =
+      let all : ticket_replies (logged_messages old events) ≡ answered events ++ ticket_replies (end_state old events).core.logged =
+      ap (λ l. ticket_replies l ++ ticket_replies (logged_messages old events)) (sym (none_logged old.core idle)) ∙ run_answers g old events legal in
+      logged_by_ticket p (subst (IsIn p) (sym all) (in_left p (answered events) _ is))
+
+  -- Where all was answered in the end, the committed state is the serial one too.
+  pub committed_by_ticket : IsIdle (end_state old events).core
+      → (end_state old events).core.committed ≡ state_after_all g old.core.committed (messages_of (by_ticket (arrived events)))
+  committed_by_ticket ends =
+      let new = (end_state old events).core in
+      let none : row new (logged_messages old events) ≡ entries (logged_messages old events) =
+      (λ i. entries (logged_messages old events) ++ (entries (none_ran new ends i) ++ (none_in_flight new ends i ++ ends.none_waits i)))
+      ∙ append-nil (entries (logged_messages old events)) in
+      (run_follows g old events legal h).committed ∙ ap (λ l. state_after_all g old.core.committed (messages_of l)) (sym none) ∙ sym good.state

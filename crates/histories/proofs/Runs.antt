@@ -1,0 +1,144 @@
+-- The replies in a legal run, in log order, and the state that it commits.
+use Rattle.std.proofs.Common.{◌≡◌, Bool, true, false, List, [], ◌∷◌, ◌++◌, refl, ap, sym, ◌∙◌, subst, append_assoc, take}
+use Rattle.std.specs.Prelude.{◌||◌, if◌then◌else◌, map, filter}
+use Rattle.std.proofs.lemmas.List.{append-nil, map-append}
+use Rattle.std.proofs.lemmas.List.Elements.{filter-append}
+use Rattle.affinity.specs.declared.geometry.Geometry.{Geometry}
+use Rattle.meaning.specs.Serial.{state_after_all, is_recorded}
+use Rattle.meaning.specs.Order.{serial_replies, messages_of}
+use Rattle.histories.specs.declared.outcomes.Step.{Step}
+use Rattle.histories.specs.declared.outcomes.Step.TheVariants as steps
+use Rattle.histories.specs.CoreState.{Replied, CoreState, entries}
+use Rattle.histories.specs.Events.{MachineState, Event, IsAllowed, batch, recorded}
+use Rattle.histories.specs.Runs.{IsLegal, end_state, logged_at, appended_at, answers, logged_messages, appended_messages, answered}
+use Rattle.histories.specs.Laws.{IsSoundCoreState, ticket_replies}
+use Rattle.histories.proofs.Apart.{entries-append}
+use Rattle.histories.proofs.Moves.{Passed, Move, Stays, Arrives, Grants, Backs, Logs, Answers, moves}
+use Rattle.histories.proofs.SerialReplies.{state_after_all-append, state_after_all-joined, serial_replies-append, ticket_replies-append}
+use Rattle.histories.proofs.Sound.{row_of, event_sound}
+
+-- ---- what an event or a run logs
+
+-- What is logged has the serial server's replies, and the committed state follows.
+pub record Follows (g : Geometry) (old new : CoreState) (gone : List Replied) : Type 0 where
+  pub reply_pairs : serial_replies g old.committed (entries gone) ≡ ticket_replies gone
+  pub committed : new.committed ≡ state_after_all g old.committed (messages_of (entries gone))
+
+quiet : (g : Geometry) (old new : CoreState) (gone : List Replied) → gone ≡ [] → new.committed ≡ old.committed → Follows g old new gone
+quiet g old new gone none committed = subst (Follows g old new) (sym none) (record { reply_pairs = refl; committed = committed })
+
+move_follows : (g : Geometry) (old new : CoreState) (p : Passed) → Move g old new p → IsSoundCoreState g old → Follows g old new p.gone
+move_follows g old new p (Stays s e) h = quiet g old new p.gone (ap (λ p. p.gone) e) s.committed
+move_follows g old new p (Arrives m fits is e) h = quiet g old new p.gone (ap (λ p. p.gone) e) (ap (λ w. w.committed) is)
+move_follows g old new p (Grants found first is e) h = quiet g old new p.gone (ap (λ p. p.gone) e) (ap (λ w. w.committed) is)
+move_follows g old new p (Backs ticket found one_out is e) h = quiet g old new p.gone (ap (λ p. p.gone) e) (ap (λ w. w.committed) is)
+move_follows g old new p (Logs n is e) h =
+    let k = row_of g old n h in
+    subst (λ p. Follows g old new p.gone) (sym e) (record { reply_pairs = k.reply_pairs; committed = ap (λ w. w.committed) is ∙ k.logs })
+move_follows g old new p (Answers a rest front is e) h = quiet g old new p.gone (ap (λ p. p.gone) e) (ap (λ w. w.committed) is)
+
+event_follows : (g : Geometry) (old : MachineState) (event : Event) → IsAllowed g old event → IsSoundCoreState g old.core
+    → Follows g old.core event.state_after.core (logged_at old.core event.step event.device_failed)
+event_follows g old event allowed h = move_follows g old.core event.state_after.core _ (moves g old event allowed) h
+
+-- The replies of the messages that a run logs are the serial server's, one after the other in log order.
+pub run_follows : (g : Geometry) (old : MachineState) (events : List Event) → IsLegal g old events → IsSoundCoreState g old.core
+    → Follows g old.core (end_state old events).core (logged_messages old events)
+run_follows g old [] legal h = record { reply_pairs = refl; committed = refl }
+run_follows g old (event ∷ events) legal h =
+    let x = old.core.committed in
+    let gone = logged_at old.core event.step event.device_failed in
+    let later = logged_messages event.state_after events in
+    let k = event_follows g old event legal.0 h in
+    let j = run_follows g event.state_after events legal.1 (event_sound g old event legal.0 h) in
+    record {
+      reply_pairs = ap (serial_replies g x) (entries-append gone later) ∙ serial_replies-append g x (entries gone) (entries later)
+          ∙ (λ i. k.reply_pairs i ++ serial_replies g (sym k.committed i) (entries later)) ∙ ap (λ l. ticket_replies gone ++ l) j.reply_pairs ∙ sym (ticket_replies-append gone later);
+      committed = j.committed ∙ ap (λ y. state_after_all g y (messages_of (entries later))) k.committed ∙ sym (state_after_all-append g x (entries gone) (entries later))
+          ∙ ap (λ l. state_after_all g x (messages_of l)) (sym (entries-append gone later));
+    }
+
+-- ---- what is answered
+
+move_answers : (g : Geometry) (old new : CoreState) (p : Passed) → Move g old new p → ticket_replies old.logged ++ ticket_replies p.gone ≡ p.reply_pairs ++ ticket_replies new.logged
+move_answers g old new p (Stays s e) = ap (λ p. ticket_replies old.logged ++ ticket_replies p.gone) e ∙ append-nil (ticket_replies old.logged)
+    ∙ ap ticket_replies (sym s.logged) ∙ ap (λ p. p.reply_pairs ++ ticket_replies new.logged) (sym e)
+move_answers g old new p (Arrives m fits is e) = ap (λ p. ticket_replies old.logged ++ ticket_replies p.gone) e ∙ append-nil (ticket_replies old.logged) ∙ ap
+    (λ w. ticket_replies w.logged) (sym is) ∙ ap (λ p. p.reply_pairs ++ ticket_replies new.logged) (sym e)
+move_answers g old new p (Grants found first is e) = ap (λ p. ticket_replies old.logged ++ ticket_replies p.gone) e ∙ append-nil (ticket_replies old.logged) ∙ ap
+    (λ w. ticket_replies w.logged) (sym is) ∙ ap (λ p. p.reply_pairs ++ ticket_replies new.logged) (sym e)
+move_answers g old new p (Backs ticket found one_out is e) = ap (λ p. ticket_replies old.logged ++ ticket_replies p.gone) e ∙ append-nil (ticket_replies old.logged)
+    ∙ ap (λ w. ticket_replies w.logged) (sym is) ∙ ap (λ p. p.reply_pairs ++ ticket_replies new.logged) (sym e)
+move_answers g old new p (Logs n is e) = ap (λ p. ticket_replies old.logged ++ ticket_replies p.gone) e ∙ sym (ticket_replies-append old.logged (take n old.ran)) ∙ ap
+    (λ w. ticket_replies w.logged) (sym is) ∙ ap (λ p. p.reply_pairs ++ ticket_replies new.logged) (sym e)
+move_answers g old new p (Answers a rest front is e) =
+    ap (λ p. ticket_replies old.logged ++ ticket_replies p.gone) e ∙ append-nil (ticket_replies old.logged) ∙ ap ticket_replies front ∙ ap
+    (λ w. (a.0, a.2) ∷ ticket_replies w.logged) (sym is) ∙ ap (λ p. p.reply_pairs ++ ticket_replies new.logged) (sym e)
+
+-- The replies of what was logged before a run and in it, in log order, are those that it gives, and then those of what is still logged.
+pub run_answers : (g : Geometry) (old : MachineState) (events : List Event) → IsLegal g old events
+    → ticket_replies old.core.logged ++ ticket_replies (logged_messages old events) ≡ answered events ++ ticket_replies (end_state old events).core.logged
+run_answers g old [] legal = append-nil (ticket_replies old.core.logged)
+run_answers g old (event ∷ events) legal =
+    let gone = logged_at old.core event.step event.device_failed in
+    let later = logged_messages event.state_after events in
+    ap (λ l. ticket_replies old.core.logged ++ l) (ticket_replies-append gone later)
+    ∙ sym (append_assoc (ticket_replies old.core.logged) (ticket_replies gone) (ticket_replies later))
+    ∙ ap (λ l. l ++ ticket_replies later) (move_answers g old.core event.state_after.core _ (moves g old event legal.0))
+    ∙ append_assoc (answers event.outcome) (ticket_replies event.state_after.core.logged) (ticket_replies later)
+    ∙ ap (λ l. answers event.outcome ++ l) (run_answers g event.state_after events legal.1)
+    ∙ sym (append_assoc (answers event.outcome) (answered events) (ticket_replies (end_state event.state_after events).core.logged))
+
+-- ---- what is appended to the log
+
+-- What a step appends leads where the messages that it logs lead.
+appends : (g : Geometry) (w : CoreState) (s : Step) (device_failed : Bool) → IsSoundCoreState g w
+    → state_after_all g w.committed (appended_at w s device_failed) ≡ state_after_all g w.committed (messages_of (entries (logged_at w s device_failed)))
+appends g w (steps.Arrive m) device_failed h = refl
+appends g w steps.Grant device_failed h = refl
+appends g w (steps.Run i) device_failed h = refl
+appends g w (steps.Back i) device_failed h = refl
+appends g w (steps.Log k) device_failed h = elim (device_failed || w.failed) as
+    (λ b. state_after_all g w.committed (if b then [] else batch w k) ≡ state_after_all g w.committed (messages_of (entries (if b then [] else take k w.ran)))) [
+      | true ↦ refl
+      | false ↦ (row_of g w k h).logs
+    ]
+appends g w steps.Answer device_failed h = refl
+appends g w steps.Point device_failed h = refl
+appends g w steps.Cut device_failed h = refl
+appends g w steps.Piece device_failed h = refl
+appends g w steps.Flip device_failed h = refl
+
+-- The committed state after a run is that to which the messages lead that it appends to the log.
+pub run_appended : (g : Geometry) (old : MachineState) (events : List Event) → IsLegal g old events → IsSoundCoreState g old.core
+    → (end_state old events).core.committed ≡ state_after_all g old.core.committed (appended_messages old events)
+run_appended g old [] legal h = refl
+run_appended g old (event ∷ events) legal h =
+    run_appended g event.state_after events legal.1 (event_sound g old event legal.0 h)
+    ∙ ap (λ x. state_after_all g x (appended_messages event.state_after events)) ((event_follows g old event legal.0 h).committed
+    ∙ sym (appends g old.core event.step event.device_failed h))
+    ∙ sym (state_after_all-joined g old.core.committed (appended_at old.core event.step event.device_failed) (appended_messages event.state_after events))
+
+appends_recorded : (w : CoreState) (s : Step) (device_failed : Bool) → appended_at w s device_failed ≡ recorded (logged_at w s device_failed)
+appends_recorded w (steps.Arrive m) device_failed = refl
+appends_recorded w steps.Grant device_failed = refl
+appends_recorded w (steps.Run i) device_failed = refl
+appends_recorded w (steps.Back i) device_failed = refl
+appends_recorded w (steps.Log k) device_failed = elim (device_failed || w.failed) as
+    (λ b. (if b then [] else batch w k) ≡ recorded (if b then [] else take k w.ran)) [ true ↦ refl | false ↦ refl ]
+appends_recorded w steps.Answer device_failed = refl
+appends_recorded w steps.Point device_failed = refl
+appends_recorded w steps.Cut device_failed = refl
+appends_recorded w steps.Piece device_failed = refl
+appends_recorded w steps.Flip device_failed = refl
+
+-- What a run appends to the log is the changes that were carried out among the messages that it logs.
+pub appended_is_recorded : (old : MachineState) (events : List Event) → appended_messages old events ≡ recorded (logged_messages old events)
+appended_is_recorded old [] = refl
+appended_is_recorded old (event ∷ events) =
+    let gone = logged_at old.core event.step event.device_failed in
+    let later = logged_messages event.state_after events in
+    (λ i. appends_recorded old.core event.step event.device_failed i ++ appended_is_recorded event.state_after events i)
+    ∙ sym (map-append (λ (a : Replied). a.1) (filter (λ (a : Replied). is_recorded a.1 a.2) gone) (filter
+    (λ (a : Replied). is_recorded a.1 a.2) later))
+    ∙ ap (map (λ (a : Replied). a.1)) (sym (filter-append (λ (a : Replied). is_recorded a.1 a.2) gone later))

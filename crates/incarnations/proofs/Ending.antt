@@ -1,0 +1,55 @@
+-- What a core leaves when a run has ended holds all that was answered in it.
+use Rattle.std.proofs.Common.{◌≡◌, ℕ, false, List, [], ◌++◌, ap, sym, ◌∙◌, subst, length, drop, arith}
+use Rattle.std.proofs.lemmas.List.{drop_all, take_all}
+use Rattle.affinity.specs.declared.geometry.Geometry.{Geometry}
+use Rattle.disk.specs.Device.{IsCrashImage}
+use Rattle.journal.specs.Journal.{RecoversWithPrefix}
+use Rattle.histories.proofs.Answering.{answered_left}
+use Rattle.histories.proofs.Idle.{none_logged}
+use Rattle.histories.specs.Crash.{in_doubt}
+use Rattle.histories.specs.Events.{Event, MachineState, recorded}
+use Rattle.histories.specs.Laws.{IsIdle, IsSoundCoreState}
+use Rattle.histories.specs.Incarnations.{HoldsAnswered, Ran}
+use Rattle.histories.specs.Runs.{IsLegal, end_state}
+use Rattle.incarnations.proofs.Events.{some_of}
+use Rattle.incarnations.proofs.Running.{RecoversSince, recovers_for_run}
+use Rattle.incarnations.specs.Machine.{MachineView, machine_of}
+use Rattle.incarnations.specs.DeviceEvents.{RecoversForRun}
+use Rattle.incarnations.specs.declared.hands.HandContent.{HandContent}
+use Rattle.scheduler.specs.CoreView.{CoreView, RecoversNow, core_state_of}
+
+module _ (start : MachineView) (new : CoreView) (hands : List HandContent) (events : List Event)
+    (legal : IsLegal start.core.geometry (machine_of start) events) (sound : IsSoundCoreState start.core.geometry (core_state_of start.core))
+    (ends : end_state (machine_of start) events ≡ machine_of (record { core = new; hands = hands })) (same : new.geometry ≡ start.core.geometry)
+    (none : new.failed ≡ false → new.doubt ≡ []) (recovers : RecoversNow new) (c : List ℕ) (left : IsCrashImage new.medium c) where
+  abbrev g : Geometry
+  g = start.core.geometry
+
+  abbrev w : MachineState
+  w = machine_of start
+
+  base : RecoversWithPrefix g (end_state w events).core.committed (in_doubt (end_state w events).core []) c
+  base = subst (λ (x : MachineState). RecoversWithPrefix g x.core.committed (in_doubt x.core []) c) (sym ends)
+      (subst (λ (y : Geometry). RecoversWithPrefix y (core_state_of new).committed (in_doubt (core_state_of new) []) c) same
+      (some_of new.geometry (core_state_of new).committed new.failed new.doubt [] c none (recovers c left)))
+
+  since : RecoversSince g w events (length events) c
+  since = record {
+    at = length events;
+    since = omega arith;
+    within = omega arith;
+    recovers = subst (λ (es : List Event). RecoversWithPrefix g (end_state w es).core.committed (in_doubt (end_state w es).core (drop (length events) events)) c)
+        (sym (take_all (length events) events (omega arith)))
+        (subst (λ (ds : List Event). RecoversWithPrefix g (end_state w events).core.committed (in_doubt (end_state w events).core ds) c)
+        (sym (drop_all (length events) events (omega arith))) base);
+  }
+
+  pub ended_so : RecoversForRun g w events (length events) c
+  ended_so = recovers_for_run g w events (length events) c legal sound since
+
+  pub holds_answered : IsIdle (core_state_of start.core)
+      → (h : RecoversForRun g w events (length events) c) × HoldsAnswered (Ran w events (length events)) h.left.log
+  holds_answered idle =
+      let l = ended_so.left in
+      let k = answered_left g legal l.since l.is_log in
+      (ended_so, (k.0, ap (λ ms. recorded ms ++ l.log) (sym (none_logged (core_state_of start.core) idle)) ∙ k.1))

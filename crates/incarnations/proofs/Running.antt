@@ -1,0 +1,235 @@
+-- A run of steps, extended by one step, and what a crash of it leaves.
+use Rattle.std.proofs.Common.{◌≡◌, ◌⊎◌, ℕ, zero, suc, ◌+◌, ◌<◌, ◌≤◌, false, List, [], ◌∷◌, ◌++◌, refl, ap, sym, ◌∙◌, subst, length, take, drop, get_or, set, inl, inr, ⊎_elim, arith}
+use Rattle.std.specs.Prelude.{map}
+use Rattle.std.specs.List.{AllByRecursion}
+use Rattle.std.proofs.lemmas.List.{map-append, take_more, take_more_set}
+use Rattle.affinity.specs.declared.geometry.Geometry.{Geometry}
+use Rattle.disk.proofs.Moments.{only_now}
+use Rattle.disk.specs.Device.{IsCrashImage, Medium}
+use Rattle.disk.specs.Moments.{CrashImagesAre, left_since, moment_number}
+use Rattle.journal.specs.Journal.{RecoversWithPrefix}
+use Rattle.histories.proofs.Arrivals.{answered_by_ticket}
+use Rattle.histories.proofs.Crashes.{left_is_committed}
+use Rattle.histories.proofs.Elements.{contains_in, in_contained}
+use Rattle.histories.proofs.Joining.{runs_join}
+use Rattle.histories.proofs.Runs.{run_follows}
+use Rattle.histories.proofs.Sound.{run_sound}
+use Rattle.histories.specs.Crash.{IsLogAfter, in_doubt}
+use Rattle.histories.specs.Events.{Event, MachineState, IsAllowed, touches_device}
+use Rattle.histories.specs.Laws.{AreUnrelated, IsSoundCoreState}
+use Rattle.histories.specs.Runs.{IsLegal, IsRun, appended_messages, end_state}
+use Rattle.histories.specs.CoreState.{held}
+use Rattle.histories.specs.declared.outcomes.Outcome.{Outcome}
+use Rattle.histories.specs.declared.outcomes.Step.{Step}
+use Rattle.incarnations.proofs.Events.{some_of}
+use Rattle.incarnations.specs.Machine.{MachineView, HasRun, HasDeviceEvents, machine_of}
+use Rattle.incarnations.specs.DeviceEvents.{AreSafe, DeviceEvent, RecoversForRun, AgreeWithDevice, device_after, events_of}
+use Rattle.incarnations.specs.Steps.{IsMachineStep}
+use Rattle.language.specs.declared.Msg.{Msg}
+use Rattle.meaning.specs.Serial.{state_after_all}
+use Rattle.scheduler.specs.Calls.{CountsFailure}
+use Rattle.incarnations.specs.declared.hands.HandContent.{HandContent}
+use Rattle.scheduler.specs.CoreView.{CoreView, RecoversNow, core_state_of}
+
+-- ---- what a crash of a run leaves
+
+-- These bytes recover to what was committed after j events, with a prefix of what was to be appended then (`in_doubt`).
+abbrev pub RecoversAt : Geometry → MachineState → List Event → List ℕ → ℕ → Type 0
+RecoversAt g w events c j = RecoversWithPrefix g (end_state w (take j events)).core.committed (in_doubt (end_state w (take j events)).core (drop j events)) c
+
+-- The bytes c recover so (`RecoversAt`) for some number of events, `at`, that is k or more.
+pub record RecoversSince (g : Geometry) (w : MachineState) (events : List Event) (k : ℕ) (c : List ℕ) : Type 0 where
+  pub at : ℕ
+  pub since : k ≤ at
+  pub within : at ≤ length events
+  pub recovers : RecoversAt g w events c at
+
+module _ (g : Geometry) where
+  -- what a crash leaves when all events have ended
+  abbrev EndsWith : MachineState → Medium → List DeviceEvent → Type 0
+  EndsWith w m device_events = (c : List ℕ) → IsCrashImage (device_after m device_events) c
+      → RecoversWithPrefix g (end_state w (events_of device_events)).core.committed (in_doubt (end_state w (events_of device_events)).core []) c
+
+  later : (w : MachineState) (event : Event) (events : List Event) (k : ℕ) (c : List ℕ) → RecoversSince g event.state_after events k c
+      → RecoversSince g w (event ∷ events) (suc k) c
+  later w event events k c h = record { at = suc h.at; since = omega (arith, h.since); within = omega (arith, h.within); recovers = h.recovers }
+
+  earlier : (w : MachineState) (events : List Event) (k j : ℕ) (c : List ℕ) → j ≤ k → RecoversSince g w events k c → RecoversSince g w events j c
+  earlier w events k j c le h = record { at = h.at; since = omega (arith, h.since, le); within = h.within; recovers = h.recovers }
+
+  -- What a crash at moment t or later leaves, where t is not after the run's start, it leaves before the run or at some moment of it.
+  parted : (w : MachineState) (m : Medium) (device_events : List DeviceEvent) → AreSafe g w m device_events → (t : ℕ) (c : List ℕ) → t ≤ moment_number m
+      → left_since (device_after m device_events) t c → left_since m t c ⊎ RecoversSince g w (events_of device_events) 0 c
+  parted w m [] safe t c early since = inl since
+  parted w m (device_event ∷ device_events) safe t c early since =
+      ⊎_elim
+      (λ mid. ⊎_elim (λ (was : left_since m t c). inl was)
+      (λ now. inr (record { at = 0; since = omega arith; within = omega arith; recovers = now })) (safe.0.before t c early mid))
+      (λ (rest : RecoversSince g device_event.event.state_after (events_of device_events) 0 c).
+      inr (earlier w (device_event.event ∷ events_of device_events) 1 0 c (omega arith) (later w device_event.event (events_of device_events) 0 c rest)))
+      (parted device_event.event.state_after device_event.medium device_events safe.1 t c (omega (arith, early, safe.0.later)) since)
+
+  from_start : (w : MachineState) (m : Medium) (device_events : List DeviceEvent) → AreSafe g w m device_events → EndsWith w m device_events → (c : List ℕ)
+      → left_since (device_after m device_events) (moment_number m) c → RecoversSince g w (events_of device_events) 0 c
+  from_start w m [] safe ends c since = record { at = 0; since = omega arith; within = omega arith; recovers = ends c (only_now m c since) }
+  from_start w m (device_event ∷ device_events) safe ends c since =
+      ⊎_elim
+      (λ mid. record { at = 0; since = omega arith; within = omega arith; recovers = safe.0.each c mid })
+      (λ (rest : RecoversSince g device_event.event.state_after (events_of device_events) 0 c).
+      earlier w (device_event.event ∷ events_of device_events) 1 0 c (omega arith) (later w device_event.event (events_of device_events) 0 c rest))
+      (parted device_event.event.state_after device_event.medium device_events safe.1 (moment_number m) c safe.0.later since)
+
+  from_event : {w : MachineState} (m : Medium) (device_events : List DeviceEvent) → AreSafe g w m device_events → EndsWith w m device_events → (k : ℕ) {c : List ℕ}
+      → k ≤ length device_events → left_since (device_after m device_events) (moment_number (device_after m (take k device_events))) c
+      → RecoversSince g w (events_of device_events) k c
+  from_event {w} m device_events safe ends zero {c} le since = from_start w m device_events safe ends c since
+  from_event m [] safe ends (suc k) le since = absurd (omega (arith, le))
+  from_event {w} m (device_event ∷ device_events) safe ends (suc k) {c} le since =
+      later w device_event.event (events_of device_events) k c (from_event device_event.medium device_events safe.1 ends k (omega (arith, le)) since)
+
+  -- So it recovers to a state that the run may leave.
+  pub recovers_for_run : (w : MachineState) (events : List Event) (k : ℕ) (c : List ℕ) → IsLegal g w events → IsSoundCoreState g w.core
+      → RecoversSince g w events k c → RecoversForRun g w events k c
+  recovers_for_run w events k c legal sound h =
+      let first = take h.at events in
+      let doubt = in_doubt (end_state w first).core (drop h.at events) in
+      let log : List Msg = appended_messages w first ++ take h.recovers.added doubt in
+      let is_log : IsLogAfter w events h.at log = record { some = h.recovers.added; at_most = h.recovers.at_most; is = refl } in
+      record {
+        state = state_after_all g (end_state w first).core.committed (take h.recovers.added doubt);
+        is = h.recovers.is;
+        left = record {
+          after = h.at;
+          since = h.since;
+          within = h.within;
+          log = log;
+          is_log = is_log;
+          state = sym (left_is_committed g w events h.at log legal sound is_log);
+        };
+      }
+
+  -- These events led to this machine, and a crash at any moment of an event leaves what it may.
+  pub record HasPassed (w : MachineState) (m : Medium) (device_events : List DeviceEvent) (new : MachineView) : Type 0 where
+    pub legal : IsLegal g w (events_of device_events)
+    pub safe : AreSafe g w m device_events
+    pub ends : end_state w (events_of device_events) ≡ machine_of new
+    pub geometry : new.core.geometry ≡ g
+    pub device : device_after m device_events ≡ new.core.medium
+
+  -- So a crash of the whole run leaves what it may, if the core at its end keeps what `Core::know_recovery` promises.
+  pub left_since_event : {w : MachineState} {m : Medium} {device_events : List DeviceEvent} {new : MachineView} → HasPassed w m device_events new → IsSoundCoreState g w.core
+      → (new.core.failed ≡ false → new.core.doubt ≡ []) → RecoversNow new.core → (k : ℕ) (c : List ℕ) → k ≤ length device_events
+      → left_since new.core.medium (moment_number (device_after m (take k device_events))) c → RecoversForRun g w (events_of device_events) k c
+  left_since_event {w} {m} {device_events} {new} h sound none recovers k c le since =
+      let ends : EndsWith w m device_events = λ b left.
+      subst (λ (x : MachineState). RecoversWithPrefix g x.core.committed (in_doubt x.core []) b) (sym h.ends)
+      (subst (λ (y : Geometry). RecoversWithPrefix y (core_state_of new.core).committed (in_doubt (core_state_of new.core) []) b) h.geometry
+      (some_of new.core.geometry (core_state_of new.core).committed new.core.failed new.core.doubt [] b none
+      (recovers b (subst (λ (x : Medium). IsCrashImage x b) h.device left)))) in
+      recovers_for_run w (events_of device_events) k c h.legal sound (from_event m device_events h.safe ends k le
+      (subst (λ (x : Medium). left_since x (moment_number (device_after m (take k device_events))) c) (sym h.device) since))
+
+  -- ---- events behind others
+
+  pub safe-append : (w : MachineState) (m : Medium) (xs ys : List DeviceEvent) → AreSafe g w m xs
+      → AreSafe g (end_state w (events_of xs)) (device_after m xs) ys → AreSafe g w m (xs ++ ys)
+  safe-append w m [] ys h k = k
+  safe-append w m (s ∷ xs) ys h k = (h.0, safe-append s.event.state_after s.medium xs ys h.1 k)
+
+pub after-append : (m : Medium) (xs ys : List DeviceEvent) → device_after m (xs ++ ys) ≡ device_after (device_after m xs) ys
+after-append m [] ys = refl
+after-append m (s ∷ xs) ys = after-append s.medium xs ys
+
+agrees-push : (w : MachineState) (m : Medium) (device_events : List DeviceEvent) (device_event : DeviceEvent) → AgreeWithDevice w m device_events
+    → CountsFailure device_event.event.device_failed (device_after m device_events).faults device_event.medium.faults
+    → (touches_device (end_state w (events_of device_events)).core device_event.event.step ≡ false → device_event.medium ≡ device_after m device_events)
+    → AgreeWithDevice w m (device_events ++ device_event ∷ [])
+agrees-push w m [] device_event agrees counts quiet = (counts, quiet, tt)
+agrees-push w m (s ∷ device_events) device_event agrees counts quiet = (agrees.0, agrees.1, agrees-push s.event.state_after s.medium device_events device_event agrees.2 counts quiet)
+
+pub no_device_events : (keeps : Type 0) (m : MachineView) → HasDeviceEvents keeps m m [] []
+no_device_events keeps m = record {
+  device_events = [];
+  run = record { legal = tt; of_steps = refl; with_outcomes = refl; ends = refl };
+  device = refl;
+  agrees = tt;
+  geometry = refl;
+  any_moment = λ kept. tt;
+}
+
+pub more_device_events : {keeps : Type 0} {old now new : MachineView} {asked : List Step} {came : List Outcome} {step : Step} {outcome : Outcome}
+    → HasDeviceEvents keeps old now asked came → IsMachineStep keeps now new step outcome
+    → (touches_device (core_state_of now.core) step ≡ false → new.core.medium ≡ now.core.medium)
+    → HasDeviceEvents keeps old new (asked ++ step ∷ []) (came ++ outcome ∷ [])
+more_device_events {old} {now} {new} {asked} {came} {step} {outcome} h k quiet =
+    let g = old.core.geometry in
+    let event : Event = record { step = step; outcome = outcome; device_failed = k.device_failed; state_after = machine_of new } in
+    let device_event : DeviceEvent = record { event = event; medium = new.core.medium } in
+    let events = events_of h.device_events in
+    let device = device_after old.core.medium h.device_events in
+    let here : end_state (machine_of old) events ≡ machine_of now = h.run.ends in
+    let allowed : IsAllowed g (end_state (machine_of old) events) event =
+    subst (λ (x : MachineState). IsAllowed g x event) (sym here)
+    (subst (λ (y : Geometry). IsAllowed y (machine_of now) event) h.geometry k.allowed) in
+    let joined = runs_join g (machine_of old) events (event ∷ []) h.run.legal (allowed, tt) in
+    let pushed : events_of (h.device_events ++ device_event ∷ []) ≡ events ++ event ∷ [] = map-append (λ (s : DeviceEvent). s.event) h.device_events (device_event ∷ []) in
+    let run : IsRun g (machine_of old) (machine_of new) (asked ++ step ∷ []) (came ++ outcome ∷ []) (events ++ event ∷ []) = record {
+      legal = joined.legal;
+      of_steps = map-append (λ (e : Event). e.step) events (event ∷ []) ∙ ap (λ (l : List Step). l ++ step ∷ []) h.run.of_steps;
+      with_outcomes = map-append (λ (e : Event). e.outcome) events (event ∷ []) ∙ ap (λ (l : List Outcome). l ++ outcome ∷ []) h.run.with_outcomes;
+      ends = joined.end_state_is;
+    } in
+    record {
+      device_events = h.device_events ++ device_event ∷ [];
+      run = subst (IsRun g (machine_of old) (machine_of new) (asked ++ step ∷ []) (came ++ outcome ∷ [])) (sym pushed) run;
+      device = after-append old.core.medium h.device_events (device_event ∷ []);
+      agrees = agrees-push (machine_of old) old.core.medium h.device_events device_event h.agrees
+          (subst (λ (m : Medium). CountsFailure k.device_failed m.faults new.core.medium.faults) (sym h.device) k.failures)
+          (λ none. quiet (ap (λ (x : MachineState). touches_device x.core step) (sym here) ∙ none) ∙ sym h.device);
+      geometry = k.geometry ∙ h.geometry;
+      any_moment = λ kept. safe-append g (machine_of old) old.core.medium h.device_events (device_event ∷ []) (h.any_moment kept) (
+        subst (λ (x : MachineState). CrashImagesAre device new.core.medium (RecoversWithPrefix g x.core.committed (in_doubt x.core (event ∷ [])))) (sym here)
+            (subst (λ (y : Geometry). CrashImagesAre device new.core.medium (RecoversWithPrefix y (core_state_of now.core).committed (in_doubt (core_state_of now.core) (event ∷ []))))
+            h.geometry
+            (subst (λ (m : Medium). CrashImagesAre m new.core.medium (RecoversWithPrefix now.core.geometry (core_state_of now.core).committed
+            (in_doubt (core_state_of now.core) (event ∷ [])))) (sym h.device) (k.any_moment kept))),
+        tt,
+      );
+    }
+
+-- ---- the whole run
+
+each_state_apart : (g : Geometry) (events : List Event) → AllByRecursion (λ (event : Event). IsSoundCoreState g event.state_after.core) events
+    → AllByRecursion (λ (w : MachineState). AreUnrelated g (held w.core)) (map (λ e. e.state_after) events)
+each_state_apart g [] sound = tt
+each_state_apart g (event ∷ events) sound = (sound.0.apart, each_state_apart g events sound.1)
+
+pub has_run : {keeps : Type 0} {old new : MachineView} {asked : List Step} {came : List Outcome}
+    → IsSoundCoreState old.core.geometry (core_state_of old.core) → HasDeviceEvents keeps old new asked came
+    → (new.core.failed ≡ false → new.core.doubt ≡ []) → (keeps → RecoversNow new.core) → HasRun keeps old new asked came
+has_run {old} {new} sound h none recovers =
+    let g = old.core.geometry in
+    let w = machine_of old in
+    let events = events_of h.device_events in
+    record {
+      ran = h;
+      crash = λ kept. left_since_event g {new = new}
+          (record { legal = h.run.legal; safe = h.any_moment kept; ends = h.run.ends; geometry = h.geometry; device = h.device }) sound none (recovers kept);
+      apart = (sound.apart, each_state_apart g events (run_sound g w events h.run.legal sound));
+      in_log_order = sym (run_follows g w events h.run.legal sound).reply_pairs;
+      in_ticket_order = λ idle reply is. contains_in _ reply
+          (answered_by_ticket g w events h.run.legal sound idle reply (in_contained _ reply is));
+    }
+
+-- The run of the first i steps is extended by the next one; `hands` and `lent` are the same hands by two names.
+pub next_device_events : {keeps : Type 0} {old : MachineView} {core : CoreView} {hands lent : List HandContent} {new : MachineView} (asked : List Step) {i : ℕ} (d : Step)
+    (came : List Outcome) {outcome : Outcome} → lent ≡ hands → (i < length asked) × (i < length came)
+    → HasDeviceEvents keeps old (record { core = core; hands = hands }) (take i asked) (take i came)
+    → IsMachineStep keeps (record { core = core; hands = lent }) new (get_or asked i d) outcome
+    → (touches_device (core_state_of core) (get_or asked i d) ≡ false → new.core.medium ≡ core.medium)
+    → HasDeviceEvents keeps old new (take (i + 1) asked) (take (i + 1) (set came i outcome))
+next_device_events {keeps} {old} {core} {new} asked {i} d came {outcome} same within h k quiet =
+    let step = subst (λ (l : List HandContent). IsMachineStep keeps (record { core = core; hands = l }) new (get_or asked i d) outcome) same k in
+    subst (λ (ss : List Step). HasDeviceEvents keeps old new ss (take (i + 1) (set came i outcome))) (sym (take_more asked i d within.0))
+    (subst (λ (os : List Outcome). HasDeviceEvents keeps old new (take i asked ++ get_or asked i d ∷ []) os) (sym (take_more_set came i outcome within.1))
+    (more_device_events h step quiet))

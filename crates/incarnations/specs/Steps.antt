@@ -1,0 +1,33 @@
+-- Inner: One step of a machine, and of its core alone.
+use Rattle.std.specs.Prelude.{◌≡◌, Bool, [], ◌∷◌}
+use Rattle.disk.specs.Moments.{CrashImagesAre}
+use Rattle.journal.specs.Journal.{RecoversWithPrefix}
+use Rattle.histories.specs.Crash.{in_doubt, to_append}
+use Rattle.histories.specs.Events.{IsAllowed}
+use Rattle.histories.specs.declared.outcomes.Outcome.{Outcome}
+use Rattle.histories.specs.declared.outcomes.Step.{Step}
+use Rattle.incarnations.specs.Machine.{MachineView, machine_of}
+use Rattle.scheduler.specs.Calls.{CountsFailure, IsCallEvent}
+use Rattle.scheduler.specs.CoreView.{CoreView, RecoversThroughout, core_state_of}
+
+-- The step had this outcome, and was an allowed event. A crash at any moment of it leaves the state committed before, with a prefix of
+-- the messages that it is to append, or, where the device had failed before, of those in `doubt`.
+pub record IsMachineStep (keeps : Type 0) (old new : MachineView) (step : Step) (outcome : Outcome) : Type 0 where
+  pub device_failed : Bool
+  pub allowed : IsAllowed old.core.geometry (machine_of old)
+      (record { step = step; outcome = outcome; device_failed = device_failed; state_after = machine_of new })
+  pub geometry : new.core.geometry ≡ old.core.geometry
+  pub failures : CountsFailure device_failed old.core.medium.faults new.core.medium.faults
+  pub any_moment : keeps → CrashImagesAre old.core.medium new.core.medium (RecoversWithPrefix old.core.geometry
+      (core_state_of old.core).committed
+      (in_doubt (core_state_of old.core)
+      (record { step = step; outcome = outcome; device_failed = device_failed; state_after = machine_of new } ∷ [])))
+
+-- A step of the core alone had this outcome, and was an allowed event whatever the hands have. A crash at any moment of it leaves what
+-- `RecoversThroughout` says.
+pub record IsCoreStep (keeps : Type 0) (old new : CoreView) (step : Step) (outcome : Outcome) : Type 0 where
+  pub device_failed : Bool
+  pub called : IsCallEvent old.geometry (core_state_of old) (core_state_of new) step outcome device_failed
+  pub geometry : new.geometry ≡ old.geometry
+  pub failures : CountsFailure device_failed old.medium.faults new.medium.faults
+  pub any_moment : keeps → RecoversThroughout (to_append (core_state_of old) step) old new

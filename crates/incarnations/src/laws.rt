@@ -1,0 +1,54 @@
+//! What holds of a device over many incarnations: the law of incarnations. No function here does anything; its
+//! contract is the law.
+ghost use Rattle.std.specs.Prelude.{◌≡◌, ℕ, List, Some, None, length};
+ghost use Rattle.disk.specs.Device.{IsCrashImage};
+ghost use Rattle.histories.specs.Events.{Event};
+ghost use Rattle.histories.specs.Laws.{IsIdle, IsSoundCoreState};
+ghost use Rattle.histories.specs.Incarnations.{HoldsAnswered, Ran};
+ghost use Rattle.incarnations.specs.Machine.{MachineView, IsEndOfRun, machine_of};
+ghost use Rattle.incarnations.specs.DeviceEvents.{RecoversForRun};
+ghost use Rattle.scheduler.specs.CoreView.{CoreView, core_state_of};
+ghost use Rattle.affinity.specs.declared.geometry.Geometry.{Geometry};
+ghost use Rattle.checkpoint.specs.Header.{HasHeader};
+ghost use Rattle.checkpoint.specs.Recovery.{recovered_state};
+ghost use Rattle.checkpoint.specs.Refusals.{refused};
+ghost use Rattle.disk.specs.Device.{IsSynced, Medium};
+ghost use Rattle.disk.specs.Moments.{moment_number};
+ghost use Rattle.incarnations.specs.Incarnations.{DeviceIncarnation, HasIncarnations, HaveGeometry, LeftByLast, RecoversForIncarnations, incarnations_of};
+ghost use Rattle.meaning.specs.State.{empty};
+
+/// A device is formatted. Then it has any number of incarnations, one after the other: in each it is opened, a machine makes a run
+/// of any steps, and a crash comes at any moment, also while it is opened and within a call, and leaves any bytes where something
+/// was unsynced. Each server that is opened has the geometry with which the device was formatted. Whatever the last crash leaves
+/// recovers to the state that the serial server reaches, from the empty one on, by the logs of all incarnations in order. The log
+/// of each incarnation begins with every change that was answered before its crash. What the last crash leaves has the header of
+/// the format and isn't refused: the next opening gives that state, unless the device fails or there is no memory (`Core::open`).
+pub fn incarnations_leave_what_was_answered()
+    ensures geometry { (g : Geometry) (formatted : Medium) (incarnations : List DeviceIncarnation)
+        → recovered_state g formatted.now ≡ Some empty
+        → IsSynced formatted → HasIncarnations formatted (moment_number formatted) incarnations → HaveGeometry g incarnations }
+    ensures recovers { (g : Geometry) (formatted : Medium) (incarnations : List DeviceIncarnation) (c : List ℕ)
+        → recovered_state g formatted.now ≡ Some empty
+        → IsSynced formatted → HasIncarnations formatted (moment_number formatted) incarnations
+        → LeftByLast formatted (moment_number formatted) incarnations c
+        → RecoversForIncarnations g (incarnations_of incarnations) c }
+    ensures opens { (g : Geometry) (formatted : Medium) (incarnations : List DeviceIncarnation) (c : List ℕ)
+        → recovered_state g formatted.now ≡ Some empty
+        → IsSynced formatted → HasIncarnations formatted (moment_number formatted) incarnations
+        → LeftByLast formatted (moment_number formatted) incarnations c
+        → HasHeader g c × (refused g c ≡ None) }
+{}
+
+/// A run has ended, and the crash comes after all of its events. Whatever it leaves of the device recovers to where the log of
+/// the run leads, with the first m of the messages that were to be appended when the device failed. Where no message was in the
+/// core at its start, that log begins with every change that was answered.
+pub fn a_crash_behind_a_run_leaves_what_was_answered()
+    ensures run { (start : MachineView) (events : List Event) (new : CoreView) (c : List ℕ)
+        → IsSoundCoreState start.core.geometry (core_state_of start.core)
+        → IsEndOfRun start events new → IsCrashImage new.medium c
+        → RecoversForRun start.core.geometry (machine_of start) events (length events) c }
+    ensures answered { (start : MachineView) (events : List Event) (new : CoreView) (c : List ℕ) → IsIdle (core_state_of start.core)
+        → IsEndOfRun start events new → IsCrashImage new.medium c
+        → (h : RecoversForRun start.core.geometry (machine_of start) events (length events) c)
+        × HoldsAnswered (Ran (machine_of start) events (length events)) h.left.log }
+{}

@@ -1,6 +1,0 @@
--- A run and one that goes on from its end are one run: by a lemma of `Joining`.
-use Rattle.legal_runs.proofs.Joining.{runs_join}
-use Rattle.legal_runs.proofs.laws.legal_runs_join.Goals as goal
-
-pub returns : goal.returns
-returns c = runs_join

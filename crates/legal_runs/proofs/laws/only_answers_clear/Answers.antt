@@ -1,7 +1,0 @@
--- The lemma on events.
-use Rattle.legal_runs.proofs.Clearing.{event_clears}
-use Rattle.legal_runs.proofs.Elements.{in_contained}
-use Rattle.legal_runs.proofs.laws.only_answers_clear.Goals as goal
-
-pub returns : goal.returns
-returns c g old event e allowed sound was is off = event_clears old event e allowed sound (in_contained _ e was) (in_contained _ e is) off

@@ -1,6 +1,0 @@
--- The lemma on events.
-use Rattle.legal_runs.proofs.Outs.{event_keeps_out}
-use Rattle.legal_runs.proofs.laws.only_grants_and_returns_change_what_is_in_flight.Goals as goal
-
-pub returns : goal.returns
-returns c = event_keeps_out
