@@ -40,9 +40,7 @@ kept-start g slots numbers most = record {
     entries = λ any. (let all = all_below any in omega (arith, all, most));
     capacity = refl;
     in_slots = λ s. omega arith;
-    ascends = tt;
-    waiting_placed = tt;
-    held_placed = tt;
+    placed = record { held_placed = tt; waiting_placed = tt; ascends = tt };
   };
   right = record {
     numbers = λ any. (let all = all_below any in omega (arith, all, most, length-replicate {A = Option QueuedMessage} numbers None));
@@ -56,9 +54,7 @@ messages-begun g next slots w h are none_waits none_held = record {
   entries = are.entries;
   capacity = are.capacity;
   in_slots = are.in_slots;
-  ascends = are.ascends;
-  waiting_placed = rw none_waits tt;
-  held_placed = rw none_held tt;
+  placed = record { held_placed = rw none_held tt; waiting_placed = rw none_waits tt; ascends = are.placed.ascends };
 }
 
 -- ---- a message that arrives
@@ -71,9 +67,11 @@ messages-arrived {g} {slots} {w} {h} t are placed later there new = record {
   entries = are.entries;
   capacity = are.capacity;
   in_slots = in_slots-arrived slots w.messages h.messages t are.in_slots there new;
-  ascends = ascend-last w.messages t are.ascends later;
-  waiting_placed = all-last (λ d. IsAffinity g d.affinity) w.messages t are.waiting_placed placed;
-  held_placed = are.held_placed;
+  placed = record {
+    held_placed = are.placed.held_placed;
+    waiting_placed = all-last (λ d. IsAffinity g d.affinity) w.messages t are.placed.waiting_placed placed;
+    ascends = ascend-last w.messages t are.placed.ascends later;
+  };
 }
 
 pub room-for-arrived : {g : Geometry} {slots : ℕ} {w : Waiting} {h : HeldMessages} (t : QueuedMessage) → AreQueued g slots w h → t.slot < slots
@@ -110,9 +108,11 @@ messages-freed {g} {slots} {w} {h} n are = record {
   entries = are.entries;
   capacity = are.capacity;
   in_slots = in_slots-freed slots w.messages h.messages (λ t. not (has_number n t)) are.in_slots;
-  ascends = are.ascends;
-  waiting_placed = are.waiting_placed;
-  held_placed = all-filter (λ d. IsAffinity g d.affinity) (λ t. not (has_number n t)) h.messages are.held_placed;
+  placed = record {
+    held_placed = all-filter (λ d. IsAffinity g d.affinity) (λ t. not (has_number n t)) h.messages are.placed.held_placed;
+    waiting_placed = are.placed.waiting_placed;
+    ascends = are.placed.ascends;
+  };
 }
 
 pub kept-freed : {g : Geometry} {slots : ℕ} {w : Waiting} {h k : HeldMessages} {t : QueuedMessage} (n : ℕ) {before after : List (Option QueuedMessage)}
@@ -123,8 +123,8 @@ kept-freed {g} {slots} {w} {h} {k} {t} n {before} {after} are found freed near s
   right = record {
     numbers = λ any. (let all = are.right.numbers any in let same = stay.0 in omega (arith, all, same));
     right = λ m. subst (λ (ts : List QueuedMessage). IsEntryRight ts w.messages after m) (sym is)
-        (right-freed g t (find-all (λ d. IsAffinity g d.affinity) (has_number n) h.messages t are.queued.held_placed found)
-        h.messages w.messages are.queued.held_placed are.queued.waiting_placed before after are.right.right
+        (right-freed g t (find-all (λ d. IsAffinity g d.affinity) (has_number n) h.messages t are.queued.placed.held_placed found)
+        h.messages w.messages are.queued.placed.held_placed are.queued.placed.waiting_placed before after are.right.right
         (subst (λ (ts : List QueuedMessage). AreRelatedRight g t.affinity ts w.messages after) is near)
         (subst (λ (ts : List QueuedMessage). StayRight ts w.messages before after) is stay) m);
   };
@@ -141,16 +141,16 @@ kept-freed {g} {slots} {w} {h} {k} {t} n {before} {after} are found freed near s
 module _ (g : Geometry) (slots : ℕ) (w : Waiting) (h : HeldMessages) (are : AreQueued g slots w h) (t : QueuedMessage) (room : Bool)
     (next : next_queued room h.messages w.messages ≡ Some t) where
   found : find (λ u. has_room room u && is_conflict_free h.messages w.messages u) w.messages ≡ Some t
-  found = sym (next_is_first room h.messages w.messages are.ascends) ∙ next
+  found = sym (next_is_first room h.messages w.messages are.placed.ascends) ∙ next
 
   pub next-clear : is_conflict_free h.messages w.messages t ≡ true
   next-clear = (and_parts (has_room room t) _ (find-passes (λ u. has_room room u && is_conflict_free h.messages w.messages u) w.messages t found)).1
 
   pub next-placed : IsAffinity g t.affinity
-  next-placed = find-all (λ d. IsAffinity g d.affinity) (λ u. has_room room u && is_conflict_free h.messages w.messages u) w.messages t are.waiting_placed found
+  next-placed = find-all (λ d. IsAffinity g d.affinity) (λ u. has_room room u && is_conflict_free h.messages w.messages u) w.messages t are.placed.waiting_placed found
 
   pub next-first : find (has_number t.affinity.number) w.messages ≡ Some t
-  next-first = clear-first g h.messages w.messages (λ u. has_room room u && is_conflict_free h.messages w.messages u) are.waiting_placed are.ascends found next-clear
+  next-first = clear-first g h.messages w.messages (λ u. has_room room u && is_conflict_free h.messages w.messages u) are.placed.waiting_placed are.placed.ascends found next-clear
 
   -- no other message that waits has its slot
   pub next-once : count_in_slot t.slot w.messages ≤ 1
@@ -210,11 +210,13 @@ messages-gone {g} {slots} {w} {h} {k} t are placed waits same between = record {
       let count = ap (λ (ts : List QueuedMessage). count_in_slot s ts) between.3 ∙ count_in_slot-between s between.0 between.1 t
       ∙ ap (λ (ts : List QueuedMessage). count_in_slot s (ts ++ t ∷ [])) (sym between.2) in
       omega (arith, all, count);
-  ascends = ascend-filter (λ d. not (has_slot t.slot d)) w.messages are.ascends;
-  waiting_placed = all-filter (λ d. IsAffinity g d.affinity) (λ d. not (has_slot t.slot d)) w.messages are.waiting_placed;
-  held_placed = subst (λ (ts : List QueuedMessage). AllByRecursion (λ d. IsAffinity g d.affinity) ts) (sym between.3)
-      (all-between (λ d. IsAffinity g d.affinity) between.0 between.1 t
-      (subst (λ (ts : List QueuedMessage). AllByRecursion (λ d. IsAffinity g d.affinity) ts) between.2 are.held_placed) placed);
+  placed = record {
+    held_placed = subst (λ (ts : List QueuedMessage). AllByRecursion (λ d. IsAffinity g d.affinity) ts) (sym between.3)
+        (all-between (λ d. IsAffinity g d.affinity) between.0 between.1 t
+        (subst (λ (ts : List QueuedMessage). AllByRecursion (λ d. IsAffinity g d.affinity) ts) between.2 are.placed.held_placed) placed);
+    waiting_placed = all-filter (λ d. IsAffinity g d.affinity) (λ d. not (has_slot t.slot d)) w.messages are.placed.waiting_placed;
+    ascends = ascend-filter (λ d. not (has_slot t.slot d)) w.messages are.placed.ascends;
+  };
 }
 
 module _ (g : Geometry) (slots : ℕ) (w v : Waiting) (h k : HeldMessages) (t : QueuedMessage) (are : AreQueued g slots w h)
@@ -238,7 +240,7 @@ module _ (g : Geometry) (slots : ℕ) (w v : Waiting) (h k : HeldMessages) (t : 
     right = record {
       numbers = λ any. (let all = right.numbers any in let count = stay.0 in omega (arith, all, count));
       right = λ m. subst (λ (ts : List QueuedMessage). IsEntryRight k.messages ts after m) (sym is)
-          (right-gone h.messages k.messages w.messages t joined are.ascends (next-once g slots w h are t next.0 next.1) first
+          (right-gone h.messages k.messages w.messages t joined are.placed.ascends (next-once g slots w h are t next.0 next.1) first
           (next-clear g slots w h are t next.0 next.1) before after right.right
           (subst (λ (ts : List QueuedMessage). StayRight k.messages ts before after) is stay)
           (subst (λ i. IsEntryRight k.messages (without_slot t.slot w.messages) after i) number

@@ -9,15 +9,19 @@ use Rattle.run_queue.specs.Slots.{AreInSlots}
 use Rattle.run_queue.specs.ReadyTable.{IsEntryRight}
 use Rattle.run_queue.specs.declared.queued_message.QueuedMessage.{QueuedMessage}
 
+-- Each message is at an affinity of the geometry, and those that wait are in the order of their tickets.
+pub record ArePlacedInOrder (g : Geometry) (held waiting : List QueuedMessage) : Type 0 where
+  pub held_placed : AllByRecursion (λ t. IsAffinity g t.affinity) held
+  pub waiting_placed : AllByRecursion (λ t. IsAffinity g t.affinity) waiting
+  pub ascends : Ascend waiting
+
 -- There is a queue and an entry for each affinity of any geometry, and each message has a slot of its own.
 pub record AreQueued (g : Geometry) (slots : ℕ) (waiting : Waiting) (held : HeldMessages) : Type 0 where
   pub queues : (any : Geometry) → affinity_count any ≤ waiting.numbers
   pub entries : (any : Geometry) → affinity_count any ≤ held.numbers
   pub capacity : waiting.capacity ≡ slots
   pub in_slots : AreInSlots slots waiting.messages held.messages
-  pub ascends : Ascend waiting.messages
-  pub waiting_placed : AllByRecursion (λ t. IsAffinity g t.affinity) waiting.messages
-  pub held_placed : AllByRecursion (λ t. IsAffinity g t.affinity) held.messages
+  pub placed : ArePlacedInOrder g held.messages waiting.messages
 
 -- The ready table has an entry for each affinity of any geometry, and each entry is right.
 pub record AreEntriesRight (held waiting : List QueuedMessage) (ready_table : List (Option QueuedMessage)) : Type 0 where

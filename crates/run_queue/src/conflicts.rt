@@ -1,10 +1,11 @@
 //! Conflicts: whether a waiting message is kept back by others.
 ghost use Rattle.std.specs.Prelude.{◌≡◌, ℕ, true, false};
-ghost use Rattle.std.specs.List.{list_any, AllByRecursion};
+ghost use Rattle.std.specs.List.{list_any};
 ghost use Rattle.affinity.specs.Interval.{IsPath, IsAffinity, IsAffinityOf, contains, preorder_number};
 ghost use Rattle.affinity.specs.Path.{Path};
 ghost use Rattle.affinity.specs.Place.{path};
-ghost use Rattle.run_queue.specs.Order.{Ascend, is_conflict_free};
+ghost use Rattle.run_queue.specs.Invariant.{ArePlacedInOrder};
+ghost use Rattle.run_queue.specs.Order.{is_conflict_free};
 ghost use Rattle.run_queue.specs.RelatedNumbers.{numbers_above, conflicts_at};
 
 use crate::QueuedMessage;
@@ -88,9 +89,7 @@ pub(crate) fn is_conflict_free(
     queued: &QueuedMessage,
 ) -> bool
     requires placed { IsAffinity g.now queued.now.affinity }
-    requires held_placed { AllByRecursion (λ t. IsAffinity g.now t.affinity) held.now.messages }
-    requires waiting_placed { AllByRecursion (λ t. IsAffinity g.now t.affinity) waiting.now.messages }
-    requires ascends { Ascend waiting.now.messages }
+    requires messages { ArePlacedInOrder g.now held.now.messages waiting.now.messages }
     ensures { result ≡ is_conflict_free held.now.messages waiting.now.messages queued.now }
 {
     let a = queued.affinity;

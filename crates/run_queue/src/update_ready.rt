@@ -1,9 +1,9 @@
 //! How the ready table follows waiting and held messages. It has an entry for each affinity (`affinity_count` is how many there are), by
 //! number: the affinity's first waiting message, if that is free of conflicts.
 ghost use Rattle.std.specs.Prelude.{◌≡◌, ◌≤◌, ◌==◌, ℕ, true, length};
-ghost use Rattle.std.specs.List.{list_any, AllByRecursion};
+ghost use Rattle.std.specs.List.{list_any};
 ghost use Rattle.affinity.specs.Interval.{IsAffinity, contains, affinity_count};
-ghost use Rattle.run_queue.specs.Order.{Ascend};
+ghost use Rattle.run_queue.specs.Invariant.{ArePlacedInOrder};
 ghost use Rattle.run_queue.specs.ReadyTable.{ready_at, IsEntryRight, StayRight, AreRelatedRight};
 
 use crate::QueuedMessage;
@@ -15,9 +15,7 @@ use affinity::{Affinity, Geometry};
 
 // The first message that waits at an affinity number, if it is conflict-free.
 fn ready_at(g: &Geometry, held: &Holders, waiting: &Queues, number: usize) -> Option<QueuedMessage>
-    requires held_placed { AllByRecursion (λ t. IsAffinity g.now t.affinity) held.now.messages }
-    requires waiting_placed { AllByRecursion (λ t. IsAffinity g.now t.affinity) waiting.now.messages }
-    requires ascends { Ascend waiting.now.messages }
+    requires messages { ArePlacedInOrder g.now held.now.messages waiting.now.messages }
     ensures { result ≡ ready_at held.now.messages waiting.now.messages number }
 {
     let front = waiting.front(number)?;
@@ -37,9 +35,7 @@ pub(crate) fn update_ready(
     number: usize,
 )
     requires numbers { affinity_count g.now ≤ length ready_table.old }
-    requires held_placed { AllByRecursion (λ t. IsAffinity g.now t.affinity) held.now.messages }
-    requires waiting_placed { AllByRecursion (λ t. IsAffinity g.now t.affinity) waiting.now.messages }
-    requires ascends { Ascend waiting.now.messages }
+    requires messages { ArePlacedInOrder g.now held.now.messages waiting.now.messages }
     ensures right { IsEntryRight held.now.messages waiting.now.messages ready_table.new number }
     ensures others { StayRight held.now.messages waiting.now.messages ready_table.old ready_table.new }
 {
@@ -57,9 +53,7 @@ fn update_ready_below(
     a: Affinity,
 )
     requires numbers { affinity_count g.now ≤ length ready_table.old }
-    requires held_placed { AllByRecursion (λ t. IsAffinity g.now t.affinity) held.now.messages }
-    requires waiting_placed { AllByRecursion (λ t. IsAffinity g.now t.affinity) waiting.now.messages }
-    requires ascends { Ascend waiting.now.messages }
+    requires messages { ArePlacedInOrder g.now held.now.messages waiting.now.messages }
     ensures right { (n : ℕ) → contains a n ≡ true → IsEntryRight held.now.messages waiting.now.messages ready_table.new n }
     ensures others { StayRight held.now.messages waiting.now.messages ready_table.old ready_table.new }
 {
@@ -77,9 +71,7 @@ fn update_ready_each(
     numbers: &[u16],
 )
     requires numbers { affinity_count g.now ≤ length ready_table.old }
-    requires held_placed { AllByRecursion (λ t. IsAffinity g.now t.affinity) held.now.messages }
-    requires waiting_placed { AllByRecursion (λ t. IsAffinity g.now t.affinity) waiting.now.messages }
-    requires ascends { Ascend waiting.now.messages }
+    requires messages { ArePlacedInOrder g.now held.now.messages waiting.now.messages }
     ensures right { (n : ℕ) → list_any (λ m. m == n) numbers.now ≡ true
         → IsEntryRight held.now.messages waiting.now.messages ready_table.new n }
     ensures others { StayRight held.now.messages waiting.now.messages ready_table.old ready_table.new }
@@ -99,9 +91,7 @@ pub(crate) fn update_ready_related(
 )
     requires placed { IsAffinity g.now a }
     requires numbers { affinity_count g.now ≤ length ready_table.old }
-    requires held_placed { AllByRecursion (λ t. IsAffinity g.now t.affinity) held.now.messages }
-    requires waiting_placed { AllByRecursion (λ t. IsAffinity g.now t.affinity) waiting.now.messages }
-    requires ascends { Ascend waiting.now.messages }
+    requires messages { ArePlacedInOrder g.now held.now.messages waiting.now.messages }
     ensures near { AreRelatedRight g.now a held.now.messages waiting.now.messages ready_table.new }
     ensures others { StayRight held.now.messages waiting.now.messages ready_table.old ready_table.new }
 {

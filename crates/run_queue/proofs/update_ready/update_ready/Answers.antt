@@ -5,4 +5,4 @@ use Rattle.run_queue.proofs.update_ready.update_ready.Goals as goal
 
 pub returns-else-number-len-clause-right : goal.returns-else-number-len-clause-right
 returns-else-number-len-clause-right c =
-    update_ready-past c.args.g.now c.args.held.now.messages c.args.waiting.now.messages c.args.ready_table.now c.args.number c.requires.waiting_placed c.requires.numbers (omega arith)
+    update_ready-past c.args.g.now c.args.held.now.messages c.args.waiting.now.messages c.args.ready_table.now c.args.number c.requires.messages.waiting_placed c.requires.numbers (omega arith)

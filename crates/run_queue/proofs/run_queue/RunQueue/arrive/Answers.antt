@@ -25,8 +25,8 @@ push-requires-clause-not_full c =
     let new = subst (λ (q : RunQueueView). list_any (has_slot t.slot) (q.waiting ++ q.held) ≡ false) (sym c.self.view_is) c.requires.new_slot in
     room-for-arrived t c.self.invariant.queued there new
 
-pub update_ready-requires-clause-ascends : goal.update_ready-requires-clause-ascends
-update_ready-requires-clause-ascends c =
+pub update_ready-requires-clause-messages : goal.update_ready-requires-clause-messages
+update_ready-requires-clause-messages c =
     let t = c.args.queued in
     let placed = subst (λ (q : RunQueueView). IsAffinity q.geometry t.affinity) (sym c.self.view_is) c.requires.placed in
     let later = subst (λ (q : RunQueueView). CameBefore t.ticket q.waiting) (sym c.self.view_is) c.requires.later in
@@ -34,7 +34,7 @@ update_ready-requires-clause-ascends c =
     let new = subst (λ (q : RunQueueView). list_any (has_slot t.slot) (q.waiting ++ q.held) ≡ false) (sym c.self.view_is) c.requires.new_slot in
     let queued = subst (λ (w : Waiting). AreQueued c.self.inside.geometry c.self.inside.slots w c.self.inside.held) (sym c.push.ensures)
     (messages-arrived t c.self.invariant.queued placed later there new) in
-    queued.ascends
+    queued.placed
 
 -- whatever waits in this slot, at this affinity
 pub invariant_of-self : goal.invariant_of-self

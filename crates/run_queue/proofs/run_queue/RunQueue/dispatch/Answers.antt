@@ -18,29 +18,13 @@ hold-requires-clause-free c =
     let next = subst (λ (q : RunQueueView). IsNext q c.args.queued) (sym c.self.view_is) c.requires in
     next-free c.self.inside.geometry c.self.inside.slots c.self.inside.waiting c.self.inside.held c.self.invariant.queued c.args.queued next.0 next.1
 
-pub update_ready-requires-clause-held_placed : goal.update_ready-requires-clause-held_placed
-update_ready-requires-clause-held_placed c =
+pub update_ready-requires-clause-messages : goal.update_ready-requires-clause-messages
+update_ready-requires-clause-messages c =
     let next = subst (λ (q : RunQueueView). IsNext q c.args.queued) (sym c.self.view_is) c.requires in
     let number : c.from-number.result ≡ c.args.queued.affinity.number = omega arith in
     let queued = queued-gone c.self.inside.geometry c.self.inside.slots c.self.inside.waiting c.pop.new.self c.self.inside.held c.hold.new.self
     c.args.queued c.self.invariant.queued next c.from-number.result number c.pop.ensures c.hold.ensures.rest c.hold.ensures.messages in
-    queued.held_placed
-
-pub update_ready-requires-clause-waiting_placed : goal.update_ready-requires-clause-waiting_placed
-update_ready-requires-clause-waiting_placed c =
-    let next = subst (λ (q : RunQueueView). IsNext q c.args.queued) (sym c.self.view_is) c.requires in
-    let number : c.from-number.result ≡ c.args.queued.affinity.number = omega arith in
-    let queued = queued-gone c.self.inside.geometry c.self.inside.slots c.self.inside.waiting c.pop.new.self c.self.inside.held c.hold.new.self
-    c.args.queued c.self.invariant.queued next c.from-number.result number c.pop.ensures c.hold.ensures.rest c.hold.ensures.messages in
-    queued.waiting_placed
-
-pub update_ready-requires-clause-ascends : goal.update_ready-requires-clause-ascends
-update_ready-requires-clause-ascends c =
-    let next = subst (λ (q : RunQueueView). IsNext q c.args.queued) (sym c.self.view_is) c.requires in
-    let number : c.from-number.result ≡ c.args.queued.affinity.number = omega arith in
-    let queued = queued-gone c.self.inside.geometry c.self.inside.slots c.self.inside.waiting c.pop.new.self c.self.inside.held c.hold.new.self
-    c.args.queued c.self.invariant.queued next c.from-number.result number c.pop.ensures c.hold.ensures.rest c.hold.ensures.messages in
-    queued.ascends
+    queued.placed
 
 pub invariant_of-self : goal.invariant_of-self
 invariant_of-self c =

@@ -12,13 +12,13 @@ use Rattle.run_queue.proofs.run_queue.RunQueue.free.Goals as goal
 pub update_ready_related-requires-clause-placed : goal.update_ready_related-requires-clause-placed
 update_ready_related-requires-clause-placed c =
     find-all (λ d. IsAffinity c.self.inside.geometry d.affinity) (has_number c.from-number.result) c.self.inside.held.messages c.in-Some.queued
-    c.self.invariant.queued.held_placed (sym c.at.ensures ∙ c.in-Some.is)
+    c.self.invariant.queued.placed.held_placed (sym c.at.ensures ∙ c.in-Some.is)
 
-pub update_ready_related-requires-clause-held_placed : goal.update_ready_related-requires-clause-held_placed
-update_ready_related-requires-clause-held_placed c =
+pub update_ready_related-requires-clause-messages : goal.update_ready_related-requires-clause-messages
+update_ready_related-requires-clause-messages c =
     let queued = subst (λ (h : HeldMessages). AreQueued c.self.inside.geometry c.self.inside.slots c.self.inside.waiting h) (sym c.free.ensures)
     (messages-freed c.from-number.result c.self.invariant.queued) in
-    queued.held_placed
+    queued.placed
 
 pub invariant_of-self : goal.invariant_of-self
 invariant_of-self c =

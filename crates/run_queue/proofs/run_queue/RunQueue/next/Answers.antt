@@ -12,7 +12,8 @@ use Rattle.run_queue.proofs.run_queue.RunQueue.next.Goals as goal
 pub loop-chunk-init : goal.loop-chunk-init
 loop-chunk-init c =
     past-ready_table c.self.inside.ready_table c.len-best.result (omega arith)
-    ∙ below-start c.self.inside.geometry c.args.log_has_room c.self.inside.held.messages c.self.inside.waiting.messages c.self.invariant.queued.waiting_placed c.self.invariant.queued.ascends
+    ∙ below-start c.self.inside.geometry c.args.log_has_room c.self.inside.held.messages c.self.inside.waiting.messages
+    c.self.invariant.queued.placed.waiting_placed c.self.invariant.queued.placed.ascends
 
 pub loop-chunk-preserved : goal.loop-chunk-preserved
 loop-chunk-preserved c =
@@ -24,7 +25,7 @@ loop-chunk-preserved c =
     let next : from + 16 ≡ 16 * (c.loop-chunk.chunk + 1) = omega arith in
     let step : earliest_from (has_room room) ready_table from 16 (ready_in ready_table c.loop-chunk.best) ≡ first_below room held waiting (16 * (c.loop-chunk.chunk + 1)) =
     ap (λ (o : Option QueuedMessage). earliest_from (has_room room) ready_table from 16 o) c.loop-chunk.invariant
-    ∙ below-from c.self.inside.geometry room held waiting c.self.invariant.queued.waiting_placed c.self.invariant.queued.ascends ready_table c.self.invariant.right.right from 16
+    ∙ below-from c.self.inside.geometry room held waiting c.self.invariant.queued.placed.waiting_placed c.self.invariant.queued.placed.ascends ready_table c.self.invariant.right.right from 16
     ∙ ap (λ n. first_below room held waiting n) next in
     elim c.if-least-bound.branch [
       | then-least-bound w ↦ ap (λ i. ready_in ready_table i) w.best-is ∙ w.best_in-best.ensures ∙ step
@@ -40,6 +41,6 @@ returns c =
     c.copied.ensures
     ∙ c.at.ensures
     ∙ c.loop-chunk.invariant
-    ∙ below-all c.self.inside.geometry room held waiting c.self.invariant.queued.waiting_placed c.self.invariant.queued.ascends (16 * c.loop-chunk.chunk)
+    ∙ below-all c.self.inside.geometry room held waiting c.self.invariant.queued.placed.waiting_placed c.self.invariant.queued.placed.ascends (16 * c.loop-chunk.chunk)
     (omega (arith, c.chunks_of-chunk-end.ensures.all, c.loop-chunk-test.false))
     ∙ ap (λ (q : RunQueueView). next_queued room q.held q.waiting) c.self.view_is
