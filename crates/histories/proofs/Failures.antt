@@ -92,46 +92,34 @@ module _ (g : Geometry) (w : MachineState) where
   happens_quiet n steps.Piece = piece_quiet w.core _ refl
   happens_quiet n steps.Flip = flip_quiet w.core _ refl
 
-fault_reported : (w : CoreState) (s : Step) → reports_failure (fail_step w s).0 ≡ true
-fault_reported w (steps.Arrive m) = refl
-fault_reported w steps.Grant = refl
-fault_reported w (steps.Run i) = refl
-fault_reported w (steps.Back i) = refl
-fault_reported w (steps.Log k) = refl
-fault_reported w steps.Answer = refl
-fault_reported w steps.Point = refl
-fault_reported w steps.Cut = refl
-fault_reported w steps.Piece = refl
-fault_reported w steps.Flip = refl
+fault_fails : (w : CoreState) (s : Step) → (reports_failure (fail_step w s).0 ≡ true) × ((fail_step w s).1.failed ≡ true)
+fault_fails w (steps.Arrive m) = (refl, refl)
+fault_fails w steps.Grant = (refl, refl)
+fault_fails w (steps.Run i) = (refl, refl)
+fault_fails w (steps.Back i) = (refl, refl)
+fault_fails w (steps.Log k) = (refl, refl)
+fault_fails w steps.Answer = (refl, refl)
+fault_fails w steps.Point = (refl, refl)
+fault_fails w steps.Cut = (refl, refl)
+fault_fails w steps.Piece = (refl, refl)
+fault_fails w steps.Flip = (refl, refl)
 
 -- A step reports that the device failed exactly where it did.
 pub failure_reported : (g : Geometry) (old : MachineState) (event : Event) → IsAllowed g old event → event.device_failed ≡ reports_failure event.outcome
 failure_reported g old event h = by event.device_failed h
   where
     by : (b : Bool) → MatchBool b (IsFault old event) (IsWithoutFault g old event) → b ≡ reports_failure event.outcome
-    by true f = sym (fault_reported old.core event.step) ∙ ap (λ o. reports_failure o.0) f.core
+    by true f = sym (fault_fails old.core event.step).0 ∙ ap (λ o. reports_failure o.0) f.core
     by false d = sym (happens_quiet g old d.to_write event.step) ∙ ap (λ o. reports_failure o.0) d.does
 
 -- ---- after such a step the core has failed
-
-fault_fails : (w : CoreState) (s : Step) → (fail_step w s).1.failed ≡ true
-fault_fails w (steps.Arrive m) = refl
-fault_fails w steps.Grant = refl
-fault_fails w (steps.Run i) = refl
-fault_fails w (steps.Back i) = refl
-fault_fails w (steps.Log k) = refl
-fault_fails w steps.Answer = refl
-fault_fails w steps.Point = refl
-fault_fails w steps.Cut = refl
-fault_fails w steps.Piece = refl
-fault_fails w steps.Flip = refl
 
 pub failure_fails : (g : Geometry) (old : MachineState) (event : Event) → IsAllowed g old event → event.device_failed ≡ true
     → event.state_after.core.failed ≡ true
 failure_fails g old event h device_failed = by event.device_failed h device_failed
   where
     by : (b : Bool) → MatchBool b (IsFault old event) (IsWithoutFault g old event) → b ≡ true → event.state_after.core.failed ≡ true
-    by true f device_failed = ap (λ o. o.1.failed) (sym f.core) ∙ fault_fails old.core event.step
+    by true f device_failed = ap (λ o. o.1.failed) (sym f.core) ∙ (fault_fails old.core event.step).1
     by false d device_failed = absurd (true≢false (sym device_failed))
 
 -- ---- and it stays failed
@@ -143,8 +131,8 @@ module _ (g : Geometry) (n : ℕ) (state_after : CoreState) (row : List Hand) wh
   abbrev machine : MachineState
   machine = record { core = stopped; hands = row }
 
-  still : StaysFailed stopped stopped
-  still = record {
+  still_with : (logged : List Replied) → StaysFailed stopped (record stopped { logged = logged })
+  still_with logged = record {
     failed = refl;
     waiting = refl;
     back = [];
@@ -155,6 +143,9 @@ module _ (g : Geometry) (n : ℕ) (state_after : CoreState) (row : List Hand) wh
     next = refl;
     pieces_left = refl;
   }
+
+  still : StaysFailed stopped stopped
+  still = still_with state_after.logged
 
   abbrev Still : Outcome × MachineState → Type 0
   Still o = StaysFailed stopped o.1.core
@@ -186,17 +177,7 @@ module _ (g : Geometry) (n : ℕ) (state_after : CoreState) (row : List Hand) wh
 
   answer_still : (as' : List Replied) → StaysFailed stopped (answer stopped as').1
   answer_still [] = still
-  answer_still (a ∷ as') = record {
-    failed = refl;
-    waiting = refl;
-    back = [];
-    ran = sym (append-nil state_after.ran);
-    committed = refl;
-    doubt = refl;
-    room = refl;
-    next = refl;
-    pieces_left = refl;
-  }
+  answer_still (a ∷ as') = still_with as'
 
   happens_still : (s : Step) → Still (apply_step g n machine s)
   happens_still (steps.Arrive m) = still

@@ -65,12 +65,13 @@ pub data Move (g : Geometry) (old new : CoreState) (p : Passed) : Type 0 where
       → (passes : p ≡ record { gone = []; come = []; reply_pairs = (a.0, a.2) ∷ [] }) → Move g old new p
 
 module _ (g : Geometry) (w : CoreState) where
-  -- only the room and the number of pieces left change
-  repoints : (room : ℕ) (pieces_left : Option ℕ) → (unlogged_changes w ≤ w.room → unlogged_changes w ≤ room) → Move g w
-      (record w { room = room; pieces_left = pieces_left }) nothing
-  repoints room pieces_left fits = Stays kept refl
+  -- no list, no ticket and no state changes
+  keeps : (room : ℕ) (pieces_left : Option ℕ) (failed : Bool) (doubt : List Msg) → (unlogged_changes w ≤ w.room → unlogged_changes w ≤ room)
+      → (DoubtOnlyAfterFailure w → failed ≡ false → doubt ≡ []) → (DoubtIsPrefixOfRan w → (n : ℕ) × (n ≤ length w.ran) × (doubt ≡ recorded (take n w.ran)))
+      → Move g w (record w { room = room; pieces_left = pieces_left; failed = failed; doubt = doubt }) nothing
+  keeps room pieces_left failed doubt fits after of = Stays kept refl
     where
-      kept : Same w (record w { room = room; pieces_left = pieces_left })
+      kept : Same w (record w { room = room; pieces_left = pieces_left; failed = failed; doubt = doubt })
       kept = record {
         waiting = refl;
         in_flight = refl;
@@ -80,9 +81,13 @@ module _ (g : Geometry) (w : CoreState) where
         next = refl;
         slots = refl;
         room = fits;
-        doubt = λ h. h;
-        doubts = λ h. record { some = h.some; at_most = h.at_most; is = h.is };
+        doubt = after;
+        doubts = λ h. let first = of h in record { some = first.0; at_most = first.1; is = first.2 };
       }
+
+  repoints : (room : ℕ) (pieces_left : Option ℕ) → (unlogged_changes w ≤ w.room → unlogged_changes w ≤ room) → Move g w
+      (record w { room = room; pieces_left = pieces_left }) nothing
+  repoints room pieces_left fits = keeps room pieces_left w.failed w.doubt fits (λ h. h) (λ h. (h.some, h.at_most, h.is))
 
   -- nothing changes
   stays : Move g w w nothing
@@ -158,32 +163,18 @@ module _ (g : Geometry) (w : CoreState) where
 
   -- ---- with a device that fails
 
-  failing : (doubt : List Msg) → (DoubtIsPrefixOfRan w → DoubtIsPrefixOfRan (record w { failed = true; doubt = doubt }))
+  failing : (doubt : List Msg) → (DoubtIsPrefixOfRan w → (n : ℕ) × (n ≤ length w.ran) × (doubt ≡ recorded (take n w.ran)))
       → Move g w (record w { failed = true; doubt = doubt }) nothing
-  failing doubt doubts = Stays kept refl
-    where
-      kept : Same w (record w { failed = true; doubt = doubt })
-      kept = record {
-        waiting = refl;
-        in_flight = refl;
-        ran = refl;
-        logged = refl;
-        committed = refl;
-        next = refl;
-        slots = refl;
-        room = λ h. h;
-        doubt = λ h e. absurd (true≢false e);
-        doubts = doubts;
-      }
+  failing doubt of = keeps w.room w.pieces_left true doubt (λ h. h) (λ h e. absurd (true≢false e)) of
 
   fails_moves : Move g w (fails w) nothing
-  fails_moves = failing w.doubt (λ h. record { some = h.some; at_most = h.at_most; is = h.is })
+  fails_moves = failing w.doubt (λ h. (h.some, h.at_most, h.is))
 
   -- what was to be appended is the changes among the first of those that ran
   log_fails : (k : ℕ) → Move g w (record w { failed = true; doubt = batch w k }) nothing
   log_fails k =
       let f = first_few k w.ran in
-      failing (batch w k) (λ h. record { some = f.0; at_most = f.1; is = ap recorded (sym f.2) })
+      failing (batch w k) (λ h. (f.0, f.1, ap recorded (sym f.2)))
 
   fault_moves : (s : Step) → Move g w (fail_step w s).1 (passed w s (fail_step w s).0 true)
   fault_moves (steps.Arrive m) = fails_moves
