@@ -24,23 +24,12 @@ volume_in_range g a v rest h =
 IsPath-path_of_numbers : (g : Geometry) (k : Kind) (a v f b : ℕ) → is_in_range g k (a ∷ v ∷ f ∷ b ∷ []) ≡ true → IsPath g (path_of_numbers g k a v f b)
 IsPath-path_of_numbers g MakeVol a v f b h = (volume_in_range g a v _ h).0
 IsPath-path_of_numbers g DropVol a v f b h = (volume_in_range g a v _ h).0
-IsPath-path_of_numbers g Create a v f b h = volume_in_range g a v _ h
-IsPath-path_of_numbers g Delete a v f b h = volume_in_range g a v _ h
-IsPath-path_of_numbers g Seal a v f b h = volume_in_range g a v _ h
-IsPath-path_of_numbers g Unseal a v f b h = volume_in_range g a v _ h
 IsPath-path_of_numbers g Write a v f b h = let there = volume_in_range g a v _ h in (there.0, there.1, group_below g f b)
 IsPath-path_of_numbers g Punch a v f b h = let there = volume_in_range g a v _ h in (there.0, there.1, group_below g f b)
 IsPath-path_of_numbers g Read a v f b h = let there = volume_in_range g a v _ h in (there.0, there.1, group_below g f b)
-IsPath-path_of_numbers g ListFiles a v f b h = volume_in_range g a v _ h
-IsPath-path_of_numbers g Usage a v f b h = volume_in_range g a v _ h
 IsPath-path_of_numbers g Summary a v f b h = tt
-IsPath-path_of_numbers g SetLabel a v f b h = volume_in_range g a v _ h
-IsPath-path_of_numbers g Label a v f b h = volume_in_range g a v _ h
+IsPath-path_of_numbers g _ a v f b h = volume_in_range g a v _ h
 
 pub IsPath-path_of_kind : (g : Geometry) (k : Kind) (n : List ℕ) → is_in_range g k n ≡ true → IsPath g (path_of_kind g k n)
 IsPath-path_of_kind g k (a ∷ v ∷ f ∷ b ∷ []) h = IsPath-path_of_numbers g k a v f b h
-IsPath-path_of_kind g k [] h = tt
-IsPath-path_of_kind g k (a ∷ []) h = tt
-IsPath-path_of_kind g k (a ∷ v ∷ []) h = tt
-IsPath-path_of_kind g k (a ∷ v ∷ f ∷ []) h = tt
-IsPath-path_of_kind g k (a ∷ v ∷ f ∷ b ∷ c ∷ n) h = tt
+IsPath-path_of_kind g k _ h = tt

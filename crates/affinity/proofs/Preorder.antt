@@ -12,28 +12,13 @@ use Rattle.affinity.specs.declared.geometry.Geometry.{Geometry}
 -- ---- among the paths of one volume
 
 in_volume : (g : Geometry) (a v : ℕ) (p q : Path) → IsPath g (a ∷ v ∷ p) → IsPath g (a ∷ v ∷ q) → is_prefix p q ≡ contains (interval g (a ∷ v ∷ p)) (preorder_number g (a ∷ v ∷ q))
-in_volume g a v [] [] h k = grind (arith, nat_tests)
-in_volume g a v [] (zero ∷ []) h k = grind (arith, nat_tests)
-in_volume g a v [] (zero ∷ t ∷ []) h k = grind (arith, nat_tests)
-in_volume g a v [] (suc zero ∷ []) h k = grind (arith, nat_tests)
-in_volume g a v (zero ∷ []) [] h k = grind (arith, nat_tests)
-in_volume g a v (zero ∷ []) (zero ∷ []) h k = grind (arith, nat_tests)
-in_volume g a v (zero ∷ []) (zero ∷ t ∷ []) h k = grind (arith, nat_tests)
-in_volume g a v (zero ∷ []) (suc zero ∷ []) h k = grind (arith, nat_tests)
-in_volume g a v (zero ∷ s ∷ []) [] h k = grind (arith, nat_tests)
-in_volume g a v (zero ∷ s ∷ []) (zero ∷ []) h k = grind (arith, nat_tests)
-in_volume g a v (zero ∷ s ∷ []) (zero ∷ t ∷ []) h k = grind (arith, nat_tests)
-in_volume g a v (zero ∷ s ∷ []) (suc zero ∷ []) h k = grind (arith, nat_tests)
-in_volume g a v (suc zero ∷ []) [] h k = grind (arith, nat_tests)
-in_volume g a v (suc zero ∷ []) (zero ∷ []) h k = grind (arith, nat_tests)
-in_volume g a v (suc zero ∷ []) (zero ∷ t ∷ []) h k = grind (arith, nat_tests)
-in_volume g a v (suc zero ∷ []) (suc zero ∷ []) h k = grind (arith, nat_tests)
 in_volume g a v (zero ∷ s ∷ x ∷ p) q h k = absurd h
 in_volume g a v (suc zero ∷ x ∷ p) q h k = absurd h
 in_volume g a v (suc (suc n) ∷ p) q h k = absurd h
 in_volume g a v p (zero ∷ t ∷ x ∷ q) h k = absurd k
 in_volume g a v p (suc zero ∷ x ∷ q) h k = absurd k
 in_volume g a v p (suc (suc n) ∷ q) h k = absurd k
+in_volume g a v _ _ h k = grind (arith, nat_tests)
 
 -- an interval lies in another: `count` numbers from `first` on, at least one, are among the `space` numbers from `from` on
 pub record FitsIn (from space : ℕ) (first count : ℕ) : Type 0 where
@@ -42,13 +27,10 @@ pub record FitsIn (from space : ℕ) (first count : ℕ) : Type 0 where
   pub high : first + count ≤ from + space
 
 fits_in_volume : (g : Geometry) (a v : ℕ) (p : Path) → IsPath g (a ∷ v ∷ p) → FitsIn (volume_number g a v) (volume_size g) (preorder_number g (a ∷ v ∷ p)) (subtree_size g (a ∷ v ∷ p))
-fits_in_volume g a v [] h = record { low = omega arith; some = omega arith; high = omega arith }
-fits_in_volume g a v (zero ∷ []) h = record { low = omega arith; some = omega arith; high = omega arith }
-fits_in_volume g a v (zero ∷ s ∷ []) h = record { low = omega arith; some = omega arith; high = omega arith }
-fits_in_volume g a v (suc zero ∷ []) h = record { low = omega arith; some = omega arith; high = omega arith }
 fits_in_volume g a v (zero ∷ s ∷ x ∷ p) h = absurd h
 fits_in_volume g a v (suc zero ∷ x ∷ p) h = absurd h
 fits_in_volume g a v (suc (suc n) ∷ p) h = absurd h
+fits_in_volume g a v _ h = record { low = omega arith; some = omega arith; high = omega arith }
 
 -- ---- among children of one size
 
@@ -77,13 +59,11 @@ among_volumes g a v w p q h k =
 
 -- the numbers of a path's aggregate and volume are below their limits
 volume_there : (g : Geometry) (a v : ℕ) (p : Path) → IsPath g (a ∷ v ∷ p) → (a < g.aggregates) × (v < g.volumes)
-volume_there g a v [] h = h
-volume_there g a v (zero ∷ []) h = h
 volume_there g a v (zero ∷ s ∷ []) h = (h.0, h.1)
-volume_there g a v (suc zero ∷ []) h = h
 volume_there g a v (zero ∷ s ∷ x ∷ p) h = absurd h
 volume_there g a v (suc zero ∷ x ∷ p) h = absurd h
 volume_there g a v (suc (suc n) ∷ p) h = absurd h
+volume_there g a v _ h = h
 
 aggregate_there : (g : Geometry) (a : ℕ) (p : Path) → IsPath g (a ∷ p) → a < g.aggregates
 aggregate_there g a [] h = h
@@ -184,9 +164,7 @@ in_volume_at-offset g a v (suc zero ∷ []) h r e =
     let not_one : (2 + g.stripes == 1) ≡ false = grind (arith, nat_tests) in
     let not_less : nat_lt (2 + g.stripes) (2 + g.stripes) ≡ false = grind (arith, nat_tests) in
     rw (r_is, not_zero, not_one, not_less) refl
-in_volume_at-offset g a v (zero ∷ s ∷ x ∷ p) h r e = absurd h
-in_volume_at-offset g a v (suc zero ∷ x ∷ p) h r e = absurd h
-in_volume_at-offset g a v (suc (suc n) ∷ p) h r e = absurd h
+in_volume_at-offset g a v _ h r e = absurd h
 
 in_aggregate_at-offset : (g : Geometry) (a : ℕ) (p : Path) → IsPath g (a ∷ p) → (r : ℕ) → preorder_number g (a ∷ p) ≡ 1 + a * aggregate_size g + r → in_aggregate_at g a r ≡ a ∷ p
 unfolding in_aggregate_at

@@ -108,15 +108,7 @@ to_append_ran w (steps.Log n) k =
     let few = first_few n w.ran in
     let h = first_doubts (record w { doubt = recorded (take few.0 w.ran) }) (record { some = few.0; at_most = few.1; is = refl }) k in
     record { some = h.some; at_most = h.at_most; are = h.are ∙ ap (λ l. take k (recorded l)) few.2 }
-to_append_ran w (steps.Arrive m) k = none_first w.ran k
-to_append_ran w steps.Grant k = none_first w.ran k
-to_append_ran w (steps.Run i) k = none_first w.ran k
-to_append_ran w (steps.Back i) k = none_first w.ran k
-to_append_ran w steps.Answer k = none_first w.ran k
-to_append_ran w steps.Point k = none_first w.ran k
-to_append_ran w steps.Cut k = none_first w.ran k
-to_append_ran w steps.Piece k = none_first w.ran k
-to_append_ran w steps.Flip k = none_first w.ran k
+to_append_ran w _ k = none_first w.ran k
 
 next_ran : (w : CoreState) (events : List Event) (k : ℕ) → AreOfFirst w.ran (take k (next_batch w events))
 next_ran w [] k = none_first w.ran k

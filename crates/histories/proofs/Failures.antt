@@ -69,10 +69,8 @@ module _ (g : Geometry) (w : MachineState) where
   grant_quiet (Some hand) (Some found) = refl
 
   run_quiet : (i : ℕ) (hand : Option Hand) → Quiet (run_hand w i hand)
-  run_quiet i None = refl
-  run_quiet i (Some Empty) = refl
   run_quiet i (Some (Job ticket)) = refl
-  run_quiet i (Some (Result ticket)) = refl
+  run_quiet i _ = refl
 
   back_quiet : (i : ℕ) (found : Option (Entry × List Entry)) → Quiet (back_from g w i found)
   back_quiet i None = refl
@@ -94,15 +92,7 @@ module _ (g : Geometry) (w : MachineState) where
 
 fault_fails : (w : CoreState) (s : Step) → (reports_failure (fail_step w s).0 ≡ true) × ((fail_step w s).1.failed ≡ true)
 fault_fails w (steps.Arrive m) = (refl, refl)
-fault_fails w steps.Grant = (refl, refl)
-fault_fails w (steps.Run i) = (refl, refl)
-fault_fails w (steps.Back i) = (refl, refl)
-fault_fails w (steps.Log k) = (refl, refl)
-fault_fails w steps.Answer = (refl, refl)
-fault_fails w steps.Point = (refl, refl)
-fault_fails w steps.Cut = (refl, refl)
-fault_fails w steps.Piece = (refl, refl)
-fault_fails w steps.Flip = (refl, refl)
+fault_fails w _ = (refl, refl)
 
 -- A step reports that the device failed exactly where it did.
 pub failure_reported : (g : Geometry) (old : MachineState) (event : Event) → IsAllowed g old event → event.device_failed ≡ reports_failure event.outcome
@@ -156,10 +146,8 @@ module _ (g : Geometry) (n : ℕ) (state_after : CoreState) (row : List Hand) wh
   grant_still (Some hand) = still
 
   run_still : (i : ℕ) (hand : Option Hand) → Still (run_hand machine i hand)
-  run_still i None = still
-  run_still i (Some Empty) = still
   run_still i (Some (Job ticket)) = still
-  run_still i (Some (Result ticket)) = still
+  run_still i _ = still
 
   back_still : (i : ℕ) (found : Option (Entry × List Entry)) → Still (back_from g machine i found)
   back_still i None = still
@@ -180,28 +168,15 @@ module _ (g : Geometry) (n : ℕ) (state_after : CoreState) (row : List Hand) wh
   answer_still (a ∷ as') = still_with as'
 
   happens_still : (s : Step) → Still (apply_step g n machine s)
-  happens_still (steps.Arrive m) = still
   happens_still steps.Grant = grant_still (position is_empty row)
   happens_still (steps.Run i) = run_still i (slice_get row i)
   happens_still (steps.Back i) = back_still i (result_in stopped (slice_get row i))
-  happens_still (steps.Log k) = still
   happens_still steps.Answer = answer_still state_after.logged
-  happens_still steps.Point = still
-  happens_still steps.Cut = still
-  happens_still steps.Piece = still
-  happens_still steps.Flip = still
+  happens_still _ = still
 
 untouched : (state_after : CoreState) (s : Step) → touches_device (record state_after { failed = true }) s ≡ false
 untouched state_after (steps.Arrive m) = refl
-untouched state_after steps.Grant = refl
-untouched state_after (steps.Run i) = refl
-untouched state_after (steps.Back i) = refl
-untouched state_after (steps.Log k) = refl
-untouched state_after steps.Answer = refl
-untouched state_after steps.Point = refl
-untouched state_after steps.Cut = refl
-untouched state_after steps.Piece = refl
-untouched state_after steps.Flip = refl
+untouched state_after _ = refl
 
 pub failure_lasts : (g : Geometry) (old : MachineState) (event : Event) → IsAllowed g old event → old.core.failed ≡ true
     → StaysFailed old.core event.state_after.core

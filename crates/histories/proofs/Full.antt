@@ -62,10 +62,8 @@ module _ (g : Geometry) (w : MachineState) where
       omega (arith, counted, was, more)
 
   run_tallies : (i : ℕ) (hand : Option Hand) → slice_get w.hands i ≡ hand → Tallies w (run_hand w i hand).1
-  run_tallies i None e = refl
-  run_tallies i (Some Empty) e = refl
   run_tallies i (Some (Job ticket)) e = let k = full_hands-set w.hands i (Job ticket) (Result ticket) e in omega (arith, k)
-  run_tallies i (Some (Result ticket)) e = refl
+  run_tallies i _ e = refl
 
   found_tallies : (i ticket : ℕ) (found : Option (Entry × List Entry)) → slice_get w.hands i ≡ Some (Result ticket)
       → find_in_flight w.core ticket ≡ found → Tallies w (back_from g w i found).1
@@ -76,10 +74,8 @@ module _ (g : Geometry) (w : MachineState) where
       omega (arith, k, fewer)
 
   back_tallies : (i : ℕ) (hand : Option Hand) → slice_get w.hands i ≡ hand → Tallies w (back_from g w i (result_in w.core hand)).1
-  back_tallies i None e = refl
-  back_tallies i (Some Empty) e = refl
-  back_tallies i (Some (Job ticket)) e = refl
   back_tallies i (Some (Result ticket)) e = found_tallies i ticket (find_in_flight w.core ticket) e refl
+  back_tallies i _ e = refl
 
   happens_tallies : (n : ℕ) (s : Step) → Tallies w (apply_step g n w s).1
   happens_tallies n steps.Grant =

@@ -177,16 +177,8 @@ module _ (g : Geometry) (w : CoreState) where
       failing (batch w k) (λ h. (f.0, f.1, ap recorded (sym f.2)))
 
   fault_moves : (s : Step) → Move g w (fail_step w s).1 (passed w s (fail_step w s).0 true)
-  fault_moves (steps.Arrive m) = fails_moves
-  fault_moves steps.Grant = fails_moves
-  fault_moves (steps.Run i) = fails_moves
-  fault_moves (steps.Back i) = fails_moves
   fault_moves (steps.Log k) = log_fails k
-  fault_moves steps.Answer = fails_moves
-  fault_moves steps.Point = fails_moves
-  fault_moves steps.Cut = fails_moves
-  fault_moves steps.Piece = fails_moves
-  fault_moves steps.Flip = fails_moves
+  fault_moves _ = fails_moves
 
 -- ---- with the hands
 
@@ -205,10 +197,8 @@ module _ (g : Geometry) (w : MachineState) where
   grant_moves (Some hand) (Some found) e = Grants found e refl refl
 
   run_moves : (i : ℕ) (hand : Option Hand) → In g w (steps.Run i) (run_hand w i hand)
-  run_moves i None = stays g w.core
-  run_moves i (Some Empty) = stays g w.core
   run_moves i (Some (Job ticket)) = stays g w.core
-  run_moves i (Some (Result ticket)) = stays g w.core
+  run_moves i _ = stays g w.core
 
   found_moves : (i ticket : ℕ) (found : Option (Entry × List Entry)) → find_in_flight w.core ticket ≡ found
       → In g w (steps.Back i) (back_from g w i found)
@@ -216,10 +206,8 @@ module _ (g : Geometry) (w : MachineState) where
   found_moves i ticket (Some found) e = Backs ticket found e refl refl
 
   back_moves : (i : ℕ) (hand : Option Hand) → In g w (steps.Back i) (back_from g w i (result_in w.core hand))
-  back_moves i None = stays g w.core
-  back_moves i (Some Empty) = stays g w.core
-  back_moves i (Some (Job ticket)) = stays g w.core
   back_moves i (Some (Result ticket)) = found_moves i ticket (find_in_flight w.core ticket) refl
+  back_moves i _ = stays g w.core
 
   happens_moves : (n : ℕ) (s : Step) → In g w s (apply_step g n w s)
   happens_moves n (steps.Arrive m) = arrive_moves g w.core m

@@ -123,10 +123,8 @@ module _ (g : Geometry) (n : ℕ) (w : MachineState) where
   KeepsIn x = x.1.core.in_flight ≡ w.core.in_flight
 
   run_keeps_out : (i : ℕ) (hand : Option Hand) → KeepsIn (run_hand w i hand)
-  run_keeps_out i None = refl
-  run_keeps_out i (Some Empty) = refl
   run_keeps_out i (Some (Job ticket)) = refl
-  run_keeps_out i (Some (Result ticket)) = refl
+  run_keeps_out i _ = refl
 
   pub happens_keeps_out : (s : Step) → dispatches_or_returns s ≡ false → KeepsIn (apply_step g n w s)
   happens_keeps_out (steps.Arrive m) e = arrive_keeps_out w.core g m

@@ -94,20 +94,12 @@ run_answers g old (event ∷ events) legal =
 -- What a step appends leads where the messages that it logs lead.
 appends : (g : Geometry) (w : CoreState) (s : Step) (device_failed : Bool) → IsSoundCoreState g w
     → state_after_all g w.committed (appended_at w s device_failed) ≡ state_after_all g w.committed (messages_of (entries (logged_at w s device_failed)))
-appends g w (steps.Arrive m) device_failed h = refl
-appends g w steps.Grant device_failed h = refl
-appends g w (steps.Run i) device_failed h = refl
-appends g w (steps.Back i) device_failed h = refl
 appends g w (steps.Log k) device_failed h = elim (device_failed || w.failed) as
     (λ b. state_after_all g w.committed (if b then [] else batch w k) ≡ state_after_all g w.committed (messages_of (entries (if b then [] else take k w.ran)))) [
       | true ↦ refl
       | false ↦ (row_of g w k h).logs
     ]
-appends g w steps.Answer device_failed h = refl
-appends g w steps.Point device_failed h = refl
-appends g w steps.Cut device_failed h = refl
-appends g w steps.Piece device_failed h = refl
-appends g w steps.Flip device_failed h = refl
+appends g w _ device_failed h = refl
 
 -- The committed state after a run is that to which the messages lead that it appends to the log.
 pub run_appended : (g : Geometry) (old : MachineState) (events : List Event) → IsLegal g old events → IsSoundCoreState g old.core
@@ -120,17 +112,9 @@ run_appended g old (event ∷ events) legal h =
     ∙ sym (state_after_all-joined g old.core.committed (appended_at old.core event.step event.device_failed) (appended_messages event.state_after events))
 
 appends_recorded : (w : CoreState) (s : Step) (device_failed : Bool) → appended_at w s device_failed ≡ recorded (logged_at w s device_failed)
-appends_recorded w (steps.Arrive m) device_failed = refl
-appends_recorded w steps.Grant device_failed = refl
-appends_recorded w (steps.Run i) device_failed = refl
-appends_recorded w (steps.Back i) device_failed = refl
 appends_recorded w (steps.Log k) device_failed = elim (device_failed || w.failed) as
     (λ b. (if b then [] else batch w k) ≡ recorded (if b then [] else take k w.ran)) [ true ↦ refl | false ↦ refl ]
-appends_recorded w steps.Answer device_failed = refl
-appends_recorded w steps.Point device_failed = refl
-appends_recorded w steps.Cut device_failed = refl
-appends_recorded w steps.Piece device_failed = refl
-appends_recorded w steps.Flip device_failed = refl
+appends_recorded w _ device_failed = refl
 
 -- What a run appends to the log is the changes that were carried out among the messages that it logs.
 pub appended_is_recorded : (old : MachineState) (events : List Event) → appended_messages old events ≡ recorded (logged_messages old events)

@@ -57,9 +57,7 @@ length-joined-le (suc n) f most each = omega (arith, length-append (joined_below
 
 one_entry : (p q : Bool) (f b : ℕ) (o : Option Block) → length (entry_if (p && q) f b o) ≤ one_if (q && is_some o)
 one_entry true true f b (Some content) = omega arith
-one_entry true true f b None = omega arith
-one_entry true false f b o = omega arith
-one_entry false q f b o = omega arith
+one_entry _ _ f b _ = omega arith
 
 pub entries_most : (g : Geometry) (x : State) (a v s : ℕ) → length (stripe_entries g x a v s) ≤ blocks_in_stripe g x a v s
 entries_most g x a v s =

@@ -112,10 +112,7 @@ module _ (x : State) (i j : ℕ) where
     labels = ap (λ (t : Bool). if t then Some bytes else x.labels (i, j)) off;
   }
   agrees_elsewhere (Read a v f b) off = record { made = refl; sealed = refl; files = λ k. refl; blocks = λ k l. refl; labels = refl }
-  agrees_elsewhere (ListFiles a v) off = record { made = refl; sealed = refl; files = λ k. refl; blocks = λ k l. refl; labels = refl }
-  agrees_elsewhere (AskUsage a v) off = record { made = refl; sealed = refl; files = λ k. refl; blocks = λ k l. refl; labels = refl }
-  agrees_elsewhere AskSummary off = record { made = refl; sealed = refl; files = λ k. refl; blocks = λ k l. refl; labels = refl }
-  agrees_elsewhere (AskLabel a v) off = record { made = refl; sealed = refl; files = λ k. refl; blocks = λ k l. refl; labels = refl }
+  agrees_elsewhere _ off = record { made = refl; sealed = refl; files = λ k. refl; blocks = λ k l. refl; labels = refl }
 
 -- ---- another part
 
@@ -143,31 +140,23 @@ block_elsewhere g i j k l q other on =
   where
     by : (p q r t : Bool) → (r ≡ true → t ≡ true → ⊥) → (p && q && r && t) ≡ false
     by true true true true none = absurd (none refl refl)
-    by true true true false none = refl
-    by true true false t none = refl
-    by true false r t none = refl
-    by false q r t none = refl
+    by _ _ _ _ none = refl
 
 module _ (version : ℕ) (g : Geometry) (x : State) (is : IsState g x) (i j : ℕ) where
   part_untouched : (m : Msg) (p : ℕ) → may_change_part g m p ≡ false → part_piece version g (effect x m) i j p ≡ part_piece version g x i j p
   part_untouched (MakeVol a v) zero off = absurd (true≢false off)
-  part_untouched (MakeVol a v) (suc s) off = refl
   part_untouched (DropVol a v) p off = absurd (true≢false off)
   part_untouched (Create a v f) zero off = absurd (true≢false off)
   part_untouched (Create a v f) (suc s) off = created g x is i j s a v f
   part_untouched (Delete a v f) p off = absurd (true≢false off)
   part_untouched (Seal a v) zero off = absurd (true≢false off)
-  part_untouched (Seal a v) (suc s) off = refl
   part_untouched (Unseal a v) zero off = absurd (true≢false off)
-  part_untouched (Unseal a v) (suc s) off = refl
-  part_untouched (Write a v f b content) zero off = refl
   part_untouched (Write a v f b content) (suc s) off =
       let other : s ≢ stripe_of g f b = λ same. true≢false (sym (eq-eqb (suc s) (suc (stripe_of g f b)) (ap suc same)) ∙ off) in
       ap (stripe_bytes g.quota)
       (entries_same g (effect x (Write a v f b content)) x i j s
       (λ k l on. ap (λ (t : Bool). entry_if (x.files (i, j, k)) k l (if t then Some content else x.blocks (i, j, k, l)))
       (block_elsewhere g a v f b (i, j, k, l) other on)))
-  part_untouched (Punch a v f b) zero off = refl
   part_untouched (Punch a v f b) (suc s) off =
       let other : s ≢ stripe_of g f b = λ same. true≢false (sym (eq-eqb (suc s) (suc (stripe_of g f b)) (ap suc same)) ∙ off) in
       ap (stripe_bytes g.quota)
@@ -175,12 +164,7 @@ module _ (version : ℕ) (g : Geometry) (x : State) (is : IsState g x) (i j : �
       (λ k l on. ap (λ (t : Bool). entry_if (x.files (i, j, k)) k l (if t then None else x.blocks (i, j, k, l)))
       (block_elsewhere g a v f b (i, j, k, l) other on)))
   part_untouched (SetLabel a v bytes) zero off = absurd (true≢false off)
-  part_untouched (SetLabel a v bytes) (suc s) off = refl
-  part_untouched (Read a v f b) p off = refl
-  part_untouched (ListFiles a v) p off = refl
-  part_untouched (AskUsage a v) p off = refl
-  part_untouched AskSummary p off = refl
-  part_untouched (AskLabel a v) p off = refl
+  part_untouched _ _ off = refl
 
 module _ (version : ℕ) (g : Geometry) (x : State) (is : IsState g x) (m : Msg) (n : ℕ) (off : may_change g m n ≡ false) where
   effect_leaves : piece_of version g (effect x m) n ≡ piece_of version g x n

@@ -17,19 +17,7 @@ use Rattle.meaning.specs.ByKind.{refusal_by}
 
 pub refusal_by_kind : (g : Geometry) (x : State) (m : Msg) → refusal_by g x (kind m) (four_numbers m) ≡ refusal g x m
 refusal_by_kind g x (MakeVol a v) = refl
-refusal_by_kind g x (DropVol a v) = refl
-refusal_by_kind g x (Create a v f) = refl
-refusal_by_kind g x (Delete a v f) = refl
-refusal_by_kind g x (Seal a v) = refl
-refusal_by_kind g x (Unseal a v) = refl
-refusal_by_kind g x (Write a v f b content) = refl
-refusal_by_kind g x (Punch a v f b) = refl
-refusal_by_kind g x (Read a v f b) = refl
-refusal_by_kind g x (ListFiles a v) = refl
-refusal_by_kind g x (Usage a v) = refl
-refusal_by_kind g x Summary = refl
-refusal_by_kind g x (SetLabel a v bytes) = refl
-refusal_by_kind g x (Label a v) = refl
+refusal_by_kind g x _ = refl
 
 -- no check fails where all are passed
 none_fails : (p : Refusal → Bool) (ts : List Refusal) → AllByRecursion (λ t. p t ≡ true) ts → find (λ t. not (p t)) ts ≡ None

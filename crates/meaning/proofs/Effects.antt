@@ -81,10 +81,7 @@ effect_agrees g R x y h (SetLabel a v bytes) = record {
   labels = λ k r. ap (λ o. if is_volume a v k then Some bytes else o) (h.labels k r);
 }
 effect_agrees g R x y h (Read a v f b) = h
-effect_agrees g R x y h (ListFiles a v) = h
-effect_agrees g R x y h (AskUsage a v) = h
-effect_agrees g R x y h AskSummary = h
-effect_agrees g R x y h (AskLabel a v) = h
+effect_agrees g R x y h _ = h
 
 -- ---- only at the place and below
 
@@ -193,7 +190,4 @@ effect_only g x (SetLabel a v bytes) = record {
   labels = setting_only (is_volume a v) (λ k. is_prefix (label a v) (path_of_label k)) (λ k. in_label a v k.0 k.1) bytes x.labels;
 }
 effect_only g x (Read a v f b) = agree-refl x
-effect_only g x (ListFiles a v) = agree-refl x
-effect_only g x (AskUsage a v) = agree-refl x
-effect_only g x AskSummary = agree-refl x
-effect_only g x (AskLabel a v) = agree-refl x
+effect_only g x _ = agree-refl x

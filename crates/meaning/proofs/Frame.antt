@@ -138,15 +138,7 @@ module _ (g : Geometry) (R : Path → Bool) (x y : State) (h : AgreeOn g R x y) 
       (sum_over_volumes g (λ a v. sum_below g.files (λ f. one_if (h.files (a, v, f) (covers (logical a v) refl) i))))
       (sum_over_volumes g (λ a v. sum_below g.files (λ f. sum_below g.blocks (λ b. one_if (is_some (h.blocks (a, v, f, b) (covers (stripe a v (stripe_of g f b)) refl) i))))))
   same_answer (AskLabel a v) covers = ap (λ o. Label (unwrap_or o no_label)) (h.labels (a, v) (covers _ (are_related-refl (label a v))))
-  same_answer (MakeVol a v) covers = refl
-  same_answer (DropVol a v) covers = refl
-  same_answer (Create a v f) covers = refl
-  same_answer (Delete a v f) covers = refl
-  same_answer (Seal a v) covers = refl
-  same_answer (Unseal a v) covers = refl
-  same_answer (Write a v f b content) covers = refl
-  same_answer (Punch a v f b) covers = refl
-  same_answer (SetLabel a v bytes) covers = refl
+  same_answer _ covers = refl
 
 -- ---- the two laws
 

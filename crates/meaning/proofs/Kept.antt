@@ -258,10 +258,7 @@ effect_kept g x h (SetLabel a v bytes) w p = record {
   quota = h.quota;
 }
 effect_kept g x h (Read a v f b) w p = h
-effect_kept g x h (ListFiles a v) w p = h
-effect_kept g x h (AskUsage a v) w p = h
-effect_kept g x h AskSummary w p = h
-effect_kept g x h (AskLabel a v) w p = h
+effect_kept g x h _ w p = h
 
 pub step_kept : (g : Geometry) (x : State) (m : Msg) → IsState g x → IsMessage m → IsState g (next_state g x m)
 step_kept g x m h w = by (refusal g x m) refl

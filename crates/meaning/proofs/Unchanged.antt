@@ -17,15 +17,7 @@ effect_same g x (ListFiles a v) h = refl
 effect_same g x (AskUsage a v) h = refl
 effect_same g x AskSummary h = refl
 effect_same g x (AskLabel a v) h = refl
-effect_same g x (MakeVol a v) h = absurd (true≢false h)
-effect_same g x (DropVol a v) h = absurd (true≢false h)
-effect_same g x (Create a v f) h = absurd (true≢false h)
-effect_same g x (Delete a v f) h = absurd (true≢false h)
-effect_same g x (Seal a v) h = absurd (true≢false h)
-effect_same g x (Unseal a v) h = absurd (true≢false h)
-effect_same g x (Write a v f b content) h = absurd (true≢false h)
-effect_same g x (Punch a v f b) h = absurd (true≢false h)
-effect_same g x (SetLabel a v bytes) h = absurd (true≢false h)
+effect_same g x _ h = absurd (true≢false h)
 
 -- A message of which the log keeps no record has changed nothing.
 pub unrecorded_changes_nothing : (g : Geometry) (x : State) (m : Msg) → is_recorded m (reply_to g x m) ≡ false → next_state g x m ≡ x

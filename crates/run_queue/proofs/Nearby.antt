@@ -32,48 +32,35 @@ take-all (suc k) [] h = refl
 take-all (suc k) (x ∷ p) h = ap (λ (r : Path). x ∷ r) (take-all k p (omega arith))
 
 short : (g : Geometry) (p : Path) → IsPath g p → length p ≤ 4
-short g [] h = omega arith
-short g (a ∷ []) h = omega arith
-short g (a ∷ v ∷ []) h = omega arith
-short g (a ∷ v ∷ k ∷ []) h = omega arith
-short g (a ∷ v ∷ k ∷ s ∷ []) h = omega arith
 short g (a ∷ v ∷ zero ∷ s ∷ r ∷ p) h = absurd h
 short g (a ∷ v ∷ suc zero ∷ s ∷ r ∷ p) h = absurd h
 short g (a ∷ v ∷ suc (suc k) ∷ s ∷ r ∷ p) h = absurd h
+short g _ h = omega arith
 
 -- the prefixes of an affinity's path are paths of affinities, too
 one_is : (g : Geometry) (p : Path) → IsPath g p → IsPath g (take 1 p)
 one_is g [] h = tt
 one_is g (a ∷ []) h = h
-one_is g (a ∷ v ∷ []) h = h.0
-one_is g (a ∷ v ∷ zero ∷ []) h = h.0
-one_is g (a ∷ v ∷ zero ∷ s ∷ []) h = h.0
 one_is g (a ∷ v ∷ zero ∷ s ∷ r ∷ p) h = absurd h
-one_is g (a ∷ v ∷ suc zero ∷ []) h = h.0
 one_is g (a ∷ v ∷ suc zero ∷ s ∷ p) h = absurd h
 one_is g (a ∷ v ∷ suc (suc k) ∷ p) h = absurd h
+one_is g _ h = h.0
 
 two_is : (g : Geometry) (p : Path) → IsPath g p → IsPath g (take 2 p)
 two_is g [] h = tt
-two_is g (a ∷ []) h = h
-two_is g (a ∷ v ∷ []) h = h
-two_is g (a ∷ v ∷ zero ∷ []) h = h
 two_is g (a ∷ v ∷ zero ∷ s ∷ []) h = (h.0, h.1)
 two_is g (a ∷ v ∷ zero ∷ s ∷ r ∷ p) h = absurd h
-two_is g (a ∷ v ∷ suc zero ∷ []) h = h
 two_is g (a ∷ v ∷ suc zero ∷ s ∷ p) h = absurd h
 two_is g (a ∷ v ∷ suc (suc k) ∷ p) h = absurd h
+two_is g _ h = h
 
 three_is : (g : Geometry) (p : Path) → IsPath g p → IsPath g (take 3 p)
 three_is g [] h = tt
-three_is g (a ∷ []) h = h
-three_is g (a ∷ v ∷ []) h = h
-three_is g (a ∷ v ∷ zero ∷ []) h = h
 three_is g (a ∷ v ∷ zero ∷ s ∷ []) h = (h.0, h.1)
 three_is g (a ∷ v ∷ zero ∷ s ∷ r ∷ p) h = absurd h
-three_is g (a ∷ v ∷ suc zero ∷ []) h = h
 three_is g (a ∷ v ∷ suc zero ∷ s ∷ p) h = absurd h
 three_is g (a ∷ v ∷ suc (suc k) ∷ p) h = absurd h
+three_is g _ h = h
 
 pub same_path : (g : Geometry) (p q : Path) → IsPath g p → IsPath g q → preorder_number g p ≡ preorder_number g q → p ≡ q
 same_path g p q h k same = sym (path_at-number g p h) ∙ ap (path_at g) same ∙ path_at-number g q k

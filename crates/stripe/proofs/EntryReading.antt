@@ -62,14 +62,7 @@ high l h l_small h_small = omega (arith, l_small, h_small)
 pub row_spelled : (row : List ℕ) → length row ≡ 520 → get_or row 0 0 ≡ 1 → take 4 (drop 4 row) ≡ replicate 4 0 → get_or row 2 0 < 256 → get_or row 3 0 < 256 → row ≡ entry_bytes (entry_in row)
 row_spelled (m ∷ f ∷ l ∷ h ∷ p ∷ q ∷ r ∷ t ∷ content) long marked blank l_small h_small =
     λ i. marked i ∷ f ∷ low l h l_small h_small i ∷ high l h l_small h_small i ∷ get_or (blank i) 0 0 ∷ get_or (blank i) 1 0 ∷ get_or (blank i) 2 0 ∷ get_or (blank i) 3 0 ∷ content
-row_spelled [] long marked blank l_small h_small = absurd (omega (arith, long))
-row_spelled (m ∷ []) long marked blank l_small h_small = absurd (omega (arith, long))
-row_spelled (m ∷ f ∷ []) long marked blank l_small h_small = absurd (omega (arith, long))
-row_spelled (m ∷ f ∷ l ∷ []) long marked blank l_small h_small = absurd (omega (arith, long))
-row_spelled (m ∷ f ∷ l ∷ h ∷ []) long marked blank l_small h_small = absurd (omega (arith, long))
-row_spelled (m ∷ f ∷ l ∷ h ∷ p ∷ []) long marked blank l_small h_small = absurd (omega (arith, long))
-row_spelled (m ∷ f ∷ l ∷ h ∷ p ∷ q ∷ []) long marked blank l_small h_small = absurd (omega (arith, long))
-row_spelled (m ∷ f ∷ l ∷ h ∷ p ∷ q ∷ r ∷ []) long marked blank l_small h_small = absurd (omega (arith, long))
+row_spelled _ long marked blank l_small h_small = absurd (omega (arith, long))
 
 length-entry_in : (row : List ℕ) → length row ≡ 520 → length (entry_bytes (entry_in row)) ≡ 520
 length-entry_in row long = omega (arith, length-drop 8 row, long)

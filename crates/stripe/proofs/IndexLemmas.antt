@@ -397,17 +397,15 @@ count_of-split i (q ∷ index) (suc m) =
 pub count_of-cut : (i : ℕ) (index : List IndexEntry) (from m end : ℕ) → end ≡ from + m
     → count_of i (slots_of index) ≡ count_of i (slots_of (take from index ++ drop end index)) + count_of i (slots_of (take m (drop from index)))
 count_of-cut i index zero m end sum = let same : end ≡ m = omega arith in rw same (count_of-split i index m)
-count_of-cut i [] (suc from) zero zero sum = absurd (omega arith)
-count_of-cut i [] (suc from) (suc m) zero sum = absurd (omega arith)
 count_of-cut i [] (suc from) zero (suc end) sum = omega arith
 count_of-cut i [] (suc from) (suc m) (suc end) sum = omega arith
-count_of-cut i (q ∷ index) (suc from) m zero sum = absurd (omega arith)
 count_of-cut i (q ∷ index) (suc from) m (suc end) sum =
     let rest = count_of-cut i index from m end (omega arith) in
     elim (eqb_tells q.slot i) [
       | inl e ↦ omega (arith, count_of-cons_is i q.slot (slots_of index) e.1, count_of-cons_is i q.slot (slots_of (take from index ++ drop end index)) e.1)
       | inr n ↦ omega (arith, count_of-cons_other i q.slot (slots_of index) n.1, count_of-cons_other i q.slot (slots_of (take from index ++ drop end index)) n.1)
     ]
+count_of-cut i _ (suc from) _ zero sum = absurd (omega arith)
 
 length-cut : (index : List IndexEntry) (from m end : ℕ) → end ≡ from + m → end ≤ length index → length (take from index ++ drop end index) + m ≡ length index
 length-cut index zero m end sum within = let rest = length-drop end index in omega arith
