@@ -23,18 +23,15 @@ mistake_among (x ∷ xs) k all among = elim among [
 ]
 
 pub ask_for_nothing : (words : List Text) (request : Request) → Asks words request → AreRefused words → ⊥
-ask_for_nothing words (Plain g) asks (inl wrong) = wrong.0 asks.0
 ask_for_nothing words (Plain g) asks (inr out_of_range) = out_of_range.3 (subst AreInRange asks.2 (in_range g))
-ask_for_nothing words (Format path g) asks (inl wrong) = wrong.0 asks.0
 ask_for_nothing words (Format path g) asks (inr out_of_range) = out_of_range.3 (subst AreInRange asks.3 (in_range g))
-ask_for_nothing words (Show path) asks (inl wrong) = wrong.0 asks.0
 ask_for_nothing words (Show path) asks (inr out_of_range) = out_of_range.1 asks.1
-ask_for_nothing words (Serve path s) asks (inl wrong) = wrong.0 asks.0
 ask_for_nothing words (Serve path s) asks (inr out_of_range) = out_of_range.2 asks.1
 ask_for_nothing words (Help text) asks (inl wrong) =
     let bad : true ≡ false = sym (mistake_among _ (kind_of text) wrong.1 asks.0) ∙ asks.1 in
     cc
 ask_for_nothing words (Help text) asks (inr out_of_range) = subst (IsAmong (kind_of text)) out_of_range.0 asks.0
+ask_for_nothing words _ asks (inl wrong) = wrong.0 asks.0
 
 -- ---- words that name a command
 
