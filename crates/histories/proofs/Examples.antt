@@ -22,7 +22,7 @@ use Rattle.histories.specs.declared.outcomes.CoreFault.TheVariants as faults
 use Rattle.histories.specs.declared.outcomes.PointRefusal.TheVariants as points
 use Rattle.histories.specs.CoreState.{Entry, CoreState}
 use Rattle.histories.specs.Events.{MachineState, Empty, Event, IsAllowed, apply_step, fail_step, recorded, touches_device}
-use Rattle.histories.specs.Runs.{IsLegal, IsRun, outcomes_of, appended_messages, end_state, answered_changes}
+use Rattle.histories.specs.Runs.{IsLegal, IsRun, appended_messages, end_state, answered_changes}
 use Rattle.histories.specs.Crash.{IsLeftSince, IsLogAfter, in_doubt}
 use Rattle.histories.specs.Laws.{full_hands, DoubtIsPrefixOfRan, IsSerialHistory}
 use Rattle.histories.specs.Incarnations.{Unopened, Ran, IsLeftByIncarnations}
@@ -57,9 +57,10 @@ three_hands slots x = record { core = opened slots x; hands = Empty ∷ Empty �
 abbrev with_file : State
 with_file = state_after_all small empty (MakeVol 0 0 ∷ Create 0 0 0 ∷ [])
 
--- what a machine answers whose cuts have three pieces
+-- what a machine answers whose cuts have three pieces, where the device doesn't fail
 abbrev answers_of : MachineState → List Step → List Outcome
-answers_of w ss = outcomes_of small 3 w ss
+answers_of w [] = []
+answers_of w (s ∷ ss) = (apply_step small 3 w s).0 ∷ answers_of (apply_step small 3 w s).1 ss
 
 -- the events of steps during which the device doesn't fail, and the core state after them
 abbrev events_of : MachineState → List Step → List Event

@@ -15,7 +15,7 @@ use Rattle.histories.specs.declared.outcomes.Outcome.TheVariants as outcomes
 use Rattle.histories.specs.declared.outcomes.PointRefusal.{PointRefusal}
 use Rattle.histories.specs.CoreState.{Entry, Replied, CoreState, held}
 use Rattle.histories.specs.Eligible.{lacks_only_room, next_eligible}
-use Rattle.histories.specs.Events.{Hand, MachineState, Empty, Job, Result, Event, IsAllowed, IsFault, IsWithoutFault, arrive, answer, unfinished_refusal, unless_refused, piece_refusal, point_refusal, flip_refusal, grant_to, run_hand, result_in, back_from, is_empty, apply_step, fail_step, touches_device}
+use Rattle.histories.specs.Events.{Hand, MachineState, Job, Event, IsAllowed, IsFault, IsWithoutFault, arrive, answer, unfinished_refusal, unless_refused, piece_refusal, point_refusal, flip_refusal, grant_to, run_hand, result_in, back_from, is_empty, apply_step, fail_step, touches_device}
 use Rattle.histories.specs.Laws.{StaysFailed, reports_failure}
 
 -- ---- a step during which the device doesn't fail reports no failure, and one during which it fails reports it

@@ -16,7 +16,7 @@ use Rattle.histories.specs.declared.outcomes.PointRefusal.{PointRefusal}
 use Rattle.histories.specs.declared.outcomes.PointRefusal.TheVariants as points
 use Rattle.histories.specs.CoreState.{Entry, Replied, CoreState, held}
 use Rattle.histories.specs.Eligible.{changes, unlogged_changes, next_eligible}
-use Rattle.histories.specs.Events.{Hand, MachineState, Empty, Job, Result, Event, IsAllowed, IsFault, IsWithoutFault, arrive, grant, give_back, find_in_flight, batch, fails, recorded, log, log_unless_failed, answer, point_refusal, piece_refusal, flip_refusal, unless_refused, pieces_after, grant_to, run_hand, result_in, back_from, is_empty, apply_step, fail_step}
+use Rattle.histories.specs.Events.{Hand, MachineState, Job, Result, Event, IsAllowed, IsFault, IsWithoutFault, arrive, grant, give_back, find_in_flight, batch, fails, recorded, log, log_unless_failed, answer, point_refusal, piece_refusal, flip_refusal, unless_refused, pieces_after, grant_to, run_hand, result_in, back_from, is_empty, apply_step, fail_step}
 use Rattle.histories.specs.Runs.{logged_at, arrives, answers}
 use Rattle.histories.specs.Laws.{DoubtOnlyAfterFailure, DoubtIsPrefixOfRan}
 use Rattle.histories.proofs.Apart.{length_held}

@@ -19,7 +19,7 @@ use Rattle.histories.specs.declared.outcomes.PointRefusal.{PointRefusal}
 use Rattle.histories.specs.declared.outcomes.Step.{Step}
 use Rattle.histories.specs.declared.outcomes.Step.TheVariants as steps
 use Rattle.histories.specs.CoreState.{Entry, Replied, CoreState, entry, entries, held, are_related_entries}
-use Rattle.histories.specs.Events.{Hand, MachineState, Empty, Job, Result, Event, IsAllowed, IsWithoutFault, IsFault, answer, arrive, batch, fail_step, flip_refusal, apply_step, recorded, piece_refusal, point_refusal, run_hand, unless_refused}
+use Rattle.histories.specs.Events.{Hand, MachineState, Job, Event, IsAllowed, IsWithoutFault, IsFault, answer, arrive, batch, fail_step, flip_refusal, apply_step, recorded, piece_refusal, point_refusal, run_hand, unless_refused}
 use Rattle.histories.specs.Laws.{EachBefore, IsSoundCoreState, dispatches_or_returns}
 use Rattle.histories.proofs.Apart.{apart_turned, entries-append}
 use Rattle.histories.proofs.Clearing.{all_at}

@@ -8,7 +8,7 @@ use Rattle.histories.specs.declared.outcomes.Step.TheVariants as steps
 use Rattle.histories.specs.declared.outcomes.Outcome.{Outcome}
 use Rattle.histories.specs.declared.outcomes.Outcome.TheVariants as outcomes
 use Rattle.histories.specs.CoreState.{Entry, Replied, CoreState}
-use Rattle.histories.specs.Events.{MachineState, Event, IsAllowed, batch, apply_step, recorded}
+use Rattle.histories.specs.Events.{MachineState, Event, IsAllowed, batch, recorded}
 
 -- Each of these events is allowed where it comes, in a run from this machine state.
 abbrev pub IsLegal : Geometry → MachineState → List Event → Type 0
@@ -80,8 +80,3 @@ pub record IsRun (g : Geometry) (old new : MachineState) (asked : List Step) (ca
   pub of_steps : map (λ e. e.step) events ≡ asked
   pub with_outcomes : map (λ e. e.outcome) events ≡ came
   pub ends : end_state old events ≡ new
-
--- the outcomes of steps during which the device doesn't fail, where each cut has n pieces to write
-abbrev pub outcomes_of : Geometry → ℕ → MachineState → List Step → List Outcome
-outcomes_of g n w [] = []
-outcomes_of g n w (s ∷ ss) = (apply_step g n w s).0 ∷ outcomes_of g n (apply_step g n w s).1 ss

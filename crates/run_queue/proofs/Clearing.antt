@@ -7,8 +7,9 @@ use Rattle.affinity.specs.Interval.{IsAffinity, contains}
 use Rattle.affinity.specs.declared.geometry.Geometry.{Geometry}
 use Rattle.run_queue.specs.RunQueue.{are_related_intervals, is_free_of, has_number}
 use Rattle.run_queue.specs.Order.{Ascend, waits_for, is_conflict_free}
-use Rattle.run_queue.specs.RelatedNumbers.{AreAbove, is_before, conflicts_at}
+use Rattle.run_queue.specs.RelatedNumbers.{is_before, conflicts_at}
 use Rattle.run_queue.specs.declared.queued_message.QueuedMessage.{QueuedMessage}
+use Rattle.run_queue.proofs.Nearby.{AreAbove}
 
 -- ---- what is found
 

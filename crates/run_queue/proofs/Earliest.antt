@@ -9,11 +9,15 @@ use Rattle.affinity.specs.Interval.{IsAffinity, contains, affinity_count}
 use Rattle.affinity.specs.declared.geometry.Geometry.{Geometry}
 use Rattle.run_queue.specs.RunQueue.{are_related_intervals, is_free_of, has_room, has_number, next_queued}
 use Rattle.run_queue.specs.ReadyTable.{earliest_from, if_passes, last_rank, ready_in, rank_of}
-use Rattle.run_queue.specs.Order.{Ascend, waits_for, is_conflict_free, dispatchable_at, earlier}
+use Rattle.run_queue.specs.Order.{Ascend, waits_for, is_conflict_free, earlier}
 use Rattle.run_queue.specs.declared.queued_message.QueuedMessage.{QueuedMessage}
 use Rattle.run_queue.proofs.ByTicket.{next_is_first}
 use Rattle.run_queue.proofs.Nearby.{contains-own, number-below}
 use Rattle.run_queue.proofs.Clearing.{find-cons, find-skip, find-all, find-passes, has_own}
+
+-- the first waiting message at this affinity number that may be dispatched, by whether the log has room
+abbrev pub dispatchable_at : Bool → List QueuedMessage → List QueuedMessage → ℕ → Option QueuedMessage
+dispatchable_at room held waiting n = find (λ t. has_number n t && (has_room room t && is_conflict_free held waiting t)) waiting
 
 -- ---- the first message that passes a test
 

@@ -1,5 +1,5 @@
 -- The affinities above one, by their numbers.
-use Rattle.std.proofs.Common.{◌≡◌, ◌∙◌, ℕ, zero, suc, ◌<◌, ◌≤◌, Bool, true, false, [], ◌∷◌, take, refl, ap, sym, subst, inl, inr, arith, length, ◌⊎◌}
+use Rattle.std.proofs.Common.{◌≡◌, ◌∙◌, ℕ, zero, suc, ◌<◌, ◌≤◌, Bool, true, false, [], ◌∷◌, take, refl, ap, sym, subst, inl, inr, arith, length, ◌⊎◌, List, ◌||◌}
 use Rattle.std.specs.Prelude.{◌==◌}
 use Rattle.std.specs.List.{list_any}
 use Rattle.std.proofs.lemmas.Bool.{eq-eqb, eqb-true, cases_Bool, and_parts, and_from, or_cases, or_right, true≢false}
@@ -9,7 +9,13 @@ use Rattle.affinity.specs.Interval.{Interval, IsPath, IsAffinity, IsAffinityOf, 
 use Rattle.affinity.specs.declared.geometry.Geometry.{Geometry}
 use Rattle.affinity.proofs.Paths.{is_prefix-refl}
 use Rattle.affinity.proofs.Preorder.{is_prefix-contains, path_at, path_at-number}
-use Rattle.run_queue.specs.RelatedNumbers.{numbers_above, AreAbove}
+use Rattle.run_queue.specs.RunQueue.{are_related_intervals}
+use Rattle.run_queue.specs.RelatedNumbers.{numbers_above}
+
+-- Related to affinity a are exactly a itself, the affinities below it, and those with the numbers `above`.
+abbrev pub AreAbove : Geometry → Interval → List ℕ → Type 0
+AreAbove g a above = (b : Interval) → IsAffinity g b
+    → are_related_intervals a b ≡ (contains a b.number || list_any (λ n. n == b.number) above)
 
 -- ---- prefixes of a path
 

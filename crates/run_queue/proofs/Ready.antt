@@ -11,14 +11,14 @@ use Rattle.affinity.specs.Interval.{Interval, IsAffinity, contains, interval, af
 use Rattle.affinity.specs.declared.geometry.Geometry.{Geometry}
 use Rattle.run_queue.specs.RunQueue.{are_related_intervals, is_free_of, has_room, has_slot, has_number, without_slot, without_number, CameBefore}
 use Rattle.run_queue.specs.Slots.{count_in_slot}
-use Rattle.run_queue.specs.Order.{Ascend, waits_for, is_conflict_free, dispatchable_at}
+use Rattle.run_queue.specs.Order.{Ascend, waits_for, is_conflict_free}
 use Rattle.run_queue.specs.Queues.{HasInserted}
 use Rattle.run_queue.specs.ReadyTable.{if_passes, ready_at, ready_in, IsEntryRight, StayRight, AreRelatedRight}
 use Rattle.run_queue.specs.declared.queued_message.QueuedMessage.{QueuedMessage}
 use Rattle.run_queue.proofs.Nearby.{number-below, same_path}
 use Rattle.run_queue.proofs.SlotCounts.{count_in_slot-cons_is, count_in_slot-cons_other}
 use Rattle.run_queue.proofs.Clearing.{find-cons, find-skip, find-all, find-passes, any-found}
-use Rattle.run_queue.proofs.Earliest.{none_at, some_at, empty_at, false_and_right}
+use Rattle.run_queue.proofs.Earliest.{dispatchable_at, none_at, some_at, empty_at, false_and_right}
 
 -- ---- what the ready entries show
 

@@ -1,7 +1,7 @@
 -- Inner: Waiting messages, by their tickets.
-use Rattle.std.specs.Prelude.{ℕ, ◌<◌, Bool, true, not, ◌&&◌, nat_lt, if◌then◌else◌, List, [], ◌∷◌, Option, Some, None}
-use Rattle.std.specs.List.{list_any, find, AllByRecursion}
-use Rattle.run_queue.specs.RunQueue.{are_related_intervals, is_free_of, has_room, has_number}
+use Rattle.std.specs.Prelude.{◌<◌, Bool, true, not, ◌&&◌, nat_lt, if◌then◌else◌, List, [], ◌∷◌, Option, Some, None}
+use Rattle.std.specs.List.{list_any, AllByRecursion}
+use Rattle.run_queue.specs.RunQueue.{are_related_intervals, is_free_of}
 use Rattle.run_queue.specs.declared.queued_message.QueuedMessage.{QueuedMessage}
 
 -- The tickets ascend.
@@ -16,10 +16,6 @@ waits_for t d = nat_lt d.ticket t.ticket && are_related_intervals t.affinity d.a
 -- whether no message at a related affinity is held, and none with a smaller ticket waits
 abbrev pub is_conflict_free : List QueuedMessage → List QueuedMessage → QueuedMessage → Bool
 is_conflict_free held waiting t = is_free_of held t && not (list_any (waits_for t) waiting)
-
--- the first waiting message at this affinity number that may be dispatched, by whether the log has room
-abbrev pub dispatchable_at : Bool → List QueuedMessage → List QueuedMessage → ℕ → Option QueuedMessage
-dispatchable_at room held waiting n = find (λ t. has_number n t && (has_room room t && is_conflict_free held waiting t)) waiting
 
 -- whether message t came before the best so far, or there is no best yet
 abbrev pub is_earlier : Option QueuedMessage → QueuedMessage → Bool

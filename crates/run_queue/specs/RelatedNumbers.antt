@@ -1,21 +1,16 @@
 -- Inner: Which affinities are related, by numbers alone.
-use Rattle.std.specs.Prelude.{◌≡◌, ℕ, Bool, ◌||◌, ◌==◌, nat_lt, is_some, List, [], ◌∷◌, Option, Some, None, false, take}
-use Rattle.std.specs.List.{list_any, find}
+use Rattle.std.specs.Prelude.{ℕ, Bool, ◌||◌, nat_lt, is_some, List, [], ◌∷◌, Option, Some, None, false, take}
+use Rattle.std.specs.List.{find}
 use Rattle.affinity.specs.Path.{Path}
-use Rattle.affinity.specs.Interval.{Interval, IsAffinity, contains, preorder_number}
+use Rattle.affinity.specs.Interval.{preorder_number}
 use Rattle.affinity.specs.declared.geometry.Geometry.{Geometry}
-use Rattle.run_queue.specs.RunQueue.{are_related_intervals, has_number}
+use Rattle.run_queue.specs.RunQueue.{has_number}
 use Rattle.run_queue.specs.declared.queued_message.QueuedMessage.{QueuedMessage}
 
 -- the numbers of the affinities above the one with this path; where they are fewer than four, its own number fills the list up
 abbrev pub numbers_above : Geometry → Path → List ℕ
 numbers_above g p =
     preorder_number g (take 0 p) ∷ preorder_number g (take 1 p) ∷ preorder_number g (take 2 p) ∷ preorder_number g (take 3 p) ∷ []
-
--- Related to affinity a are exactly a itself, the affinities below it, and those with the numbers `above`.
-abbrev pub AreAbove : Geometry → Interval → List ℕ → Type 0
-AreAbove g a above = (b : Interval) → IsAffinity g b
-    → are_related_intervals a b ≡ (contains a b.number || list_any (λ n. n == b.number) above)
 
 -- whether there is a message, and it came before this ticket
 abbrev pub is_before : ℕ → Option QueuedMessage → Bool
