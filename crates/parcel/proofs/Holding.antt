@@ -26,8 +26,8 @@ use Rattle.parcel.specs.declared.job.Done.{Done}
 use Rattle.parcel.specs.declared.parts.Parcels.{Parcels}
 use Rattle.parcel.specs.declared.parts.Standing.{Standing}
 use Rattle.parcel.proofs.Leaving.{taken_leaves, put_leaves, put_outside}
-use Rattle.parcel.proofs.Lending.{kind_of, restored_is_in}
-use Rattle.parcel.proofs.SerialRuns.{begins_split, serial_run}
+use Rattle.parcel.proofs.Lending.{begins_split, kind_of, restored_is_in}
+use Rattle.parcel.proofs.SerialRuns.{serial_run}
 
 -- ---- the path above
 

@@ -1,41 +1,22 @@
--- From the levels to the tree: what was taken out was lent, and what was put back was restored.
-use Rattle.std.proofs.Common.{◌≡◌, zero, suc, true, [], ◌∷◌, ◌++◌, refl, ap, ◌∙◌}
-use Rattle.std.specs.Prelude.{Some, is_some}
-use Rattle.std.proofs.lemmas.Bool.{cond-true, eq-eqb}
+-- What was taken out of the tree was lent, and what was put back was restored.
+use Rattle.std.proofs.Common.{◌≡◌, zero, suc, true, List, [], ◌∷◌, ◌++◌, refl, sym, ap, subst, ◌∙◌, ⊎_elim}
+use Rattle.std.specs.Prelude.{◌==◌, Option, None, Some, is_some, slice_index_or, Result, Ok, Err, MatchResult, IfNone}
+use Rattle.std.proofs.lemmas.Bool.{and_parts, cond-true, eq-eqb, eqb-true, or_cases, true≢false}
+use Rattle.std.proofs.lemmas.List.{append-nil}
 use Rattle.affinity.specs.declared.geometry.Geometry.{Geometry}
 use Rattle.affinity.specs.Interval.{IsPath}
-use Rattle.affinity.specs.Path.{Path}
+use Rattle.affinity.specs.Path.{Path, is_prefix}
 use Rattle.parcel.specs.Fits.{Fits, IsKindOf}
-use Rattle.parcel.specs.Levels.{IsRootPath, TakesNothing, TakesParcels, Puts}
-use Rattle.parcel.specs.Nodes.{Nodes, parcels_nodes, put_at, PutsBack, SameNodes}
-use Rattle.parcel.specs.Tree.{HasGap, LendsAt, RestoresAt, standing_at}
+use Rattle.parcel.specs.Nodes.{Node, Nodes, child_nodes, children_nodes, leaf, stripe_nodes, label_nodes, logical_nodes, volume_nodes, aggregate_nodes, root_nodes, parcels_nodes, put_at, PutsBack}
+use Rattle.parcel.specs.Parts.{TakesParcels, Puts}
+use Rattle.parcel.specs.Tree.{LendsAt, RestoresAt, standing_at}
+use Rattle.parcel.specs.declared.parts.Vol.{Vol}
+use Rattle.parcel.specs.declared.parts.Root.{Root}
 use Rattle.parcel.specs.declared.parts.Parcels.{Parcels}
 use Rattle.parcel.specs.declared.parts.Parcels.TheVariants as parcels
 use Rattle.parcel.specs.declared.parts.Standing.{Standing}
-use Rattle.parcel.proofs.Whole.{root_all_in, aggregate_all_in, volume_all_in, logical_all_in}
+use Rattle.parcel.proofs.Whole.{whole_is_in}
 use Rattle.parcel.proofs.Shows.{subtree_shown, related_shown}
-
-pub path_there : (g : Geometry) (q : Path) → IsRootPath g q → IsPath g q
-path_there g [] h = tt
-path_there g (a ∷ []) h = h.0
-path_there g (a ∷ v ∷ []) h = (h.0, h.1.0)
-path_there g (a ∷ v ∷ zero ∷ []) h = (h.0, h.1.0)
-path_there g (a ∷ v ∷ zero ∷ s ∷ []) h = (h.0, h.1.0, h.1.1.0)
-path_there g (a ∷ v ∷ zero ∷ s ∷ x ∷ q) h = absurd h.1.1.1
-path_there g (a ∷ v ∷ suc zero ∷ []) h = (h.0, h.1.0)
-path_there g (a ∷ v ∷ suc zero ∷ x ∷ q) h = absurd h.1.1
-path_there g (a ∷ v ∷ suc (suc i) ∷ q) h = absurd h.1.1
-
-pub root_path : (g : Geometry) (q : Path) → IsPath g q → IsRootPath g q
-root_path g [] h = tt
-root_path g (a ∷ []) h = (h, tt)
-root_path g (a ∷ v ∷ []) h = (h.0, (h.1, tt))
-root_path g (a ∷ v ∷ zero ∷ []) h = (h.0, (h.1, tt))
-root_path g (a ∷ v ∷ zero ∷ s ∷ []) h = (h.0, (h.1, (h.2, tt)))
-root_path g (a ∷ v ∷ zero ∷ s ∷ x ∷ q) h = absurd h
-root_path g (a ∷ v ∷ suc zero ∷ []) h = (h.0, (h.1, tt))
-root_path g (a ∷ v ∷ suc zero ∷ x ∷ q) h = absurd h
-root_path g (a ∷ v ∷ suc (suc i) ∷ q) h = absurd h
 
 pub kind_of : (g : Geometry) (p : Path) (l : Parcels) → Fits g p l → IsKindOf p l
 kind_of g [] (parcels.Root r) h = tt
@@ -46,43 +27,89 @@ kind_of g (a ∷ v ∷ zero ∷ s ∷ []) (parcels.Stripe p) h = tt
 kind_of g (a ∷ v ∷ suc zero ∷ []) (parcels.Label l) h = tt
 kind_of g p l h = absurd h
 
-pub gap_from_refused : (g : Geometry) (p : Path) (old new : Nodes) → TakesNothing (IsRootPath g) p old new → HasGap g p old × SameNodes old new
-gap_from_refused g p old new h = ((h.gap.0, path_there g h.gap.0 h.gap.1, h.gap.2, h.gap.3), h.same)
+-- what begins with a path is that path and the rest
+pub begins_split : (p q : Path) → is_prefix p q ≡ true → (r : Path) × (q ≡ p ++ r)
+begins_split [] q h = (q, refl)
+begins_split (x ∷ p) [] h = absurd (true≢false (sym h))
+begins_split (x ∷ p) (y ∷ q) h =
+    let both = and_parts (x == y) (is_prefix p q) h in
+    let rest = begins_split p q both.1 in
+    (rest.0, sym (ap (λ z. z ∷ q) (eqb-true x y both.0)) ∙ ap (λ r. x ∷ r) rest.1)
 
-pub lent_from_taken : {g : Geometry} {p : Path} {t : Standing} {l : Parcels} {old new : Nodes} → TakesParcels (IsRootPath g) p l old new → Fits g p l → t ≡ standing_at p old → LendsAt g p t l old new
-lent_from_taken {g} {p} {t} {l} {old} h fits stands = record {
-  all_in = λ q path related. h.all_in q (root_path g q path) related;
-  fits = fits;
+-- ---- the nodes above one that is in are in
+
+abbrev IsClosed : Nodes → Type 0
+IsClosed n = (q r : Path) → is_some (n (q ++ r)) ≡ true → is_some (n q) ≡ true
+
+child_closed : {X : Type 0} (nodes : X → Nodes) → ((x : X) → IsClosed (nodes x)) → (o : Option X) → IsClosed (child_nodes nodes o)
+child_closed nodes h None q r there = there
+child_closed nodes h (Some x) q r there = h x q r there
+
+row_closed : {X : Type 0} (nodes : X → Nodes) → ((x : X) → IsClosed (nodes x)) → (own : Node) (xs : List (Option X)) → IsClosed (children_nodes nodes own xs)
+row_closed nodes h own xs [] r there = refl
+row_closed nodes h own xs (i ∷ q) r there = child_closed nodes h (slice_index_or xs i None) q r there
+
+leaf_closed : (own : Node) → IsClosed (leaf own)
+leaf_closed own [] r there = refl
+leaf_closed own (i ∷ q) r there = there
+
+volume_closed : (w : Vol) → IsClosed (volume_nodes w)
+volume_closed w [] r there = refl
+volume_closed w (zero ∷ q) r there = child_closed logical_nodes (λ l. row_closed stripe_nodes (λ p. leaf_closed _) _ l.stripes.items) w.logical q r there
+volume_closed w (suc zero ∷ q) r there = child_closed label_nodes (λ l. leaf_closed _) w.label q r there
+volume_closed w (suc (suc i) ∷ q) r there = there
+
+tree_closed : (o : Option Root) → IsClosed (child_nodes root_nodes o)
+tree_closed = child_closed root_nodes (λ r. row_closed aggregate_nodes (λ a. row_closed volume_nodes volume_closed _ a.volumes.items) _ r.aggregates.items)
+
+-- ---- what was taken out was lent, and what was put back was restored
+
+pub lent_from_taken : {g : Geometry} {p : Path} {t : Standing} {l : Parcels} (o : Option Root) {new : Nodes} → IsPath g p → TakesParcels g p l (child_nodes root_nodes o) new
+    → t ≡ standing_at p (child_nodes root_nodes o) → LendsAt g p t l (child_nodes root_nodes o) new
+lent_from_taken {g} {p} {t} {l} o path h stands = record {
+  all_in = λ q there related. ⊎_elim
+      (λ below. let rest = begins_split p q below in
+      subst (λ r. is_some (old r) ≡ true) (sym rest.1) (in_below rest.0 (subst (IsPath g) rest.1 there)))
+      (λ above. let rest = begins_split q p above in tree_closed o q rest.0 (subst (λ r. is_some (old r) ≡ true) rest.1 here))
+      (or_cases (is_prefix p q) (is_prefix q p) related);
+  fits = h.fits;
   parcels = h.parcels;
   standing = stands;
-  shows = related_shown g p t l old (kind_of g p l fits) h.parcels stands;
+  shows = related_shown g p t l old (kind_of g p l h.fits) h.parcels stands;
   rest = h.rest;
 }
+  where
+    old : Nodes
+    old = child_nodes root_nodes o
+
+    in_below : (q : Path) → IsPath g (p ++ q) → is_some (old (p ++ q)) ≡ true
+    in_below q there = ap is_some (h.parcels q) ∙ whole_is_in g p l h.fits q there
+
+    here : is_some (old p) ≡ true
+    here = subst (λ r. is_some (old r) ≡ true) (append-nil p) (in_below [] (subst (IsPath g) (sym (append-nil p)) path))
 
 pub put_there : (p q : Path) (part old : Nodes) → put_at p part old (p ++ q) ≡ part q
 put_there [] q part old = refl
 put_there (x ∷ p) q part old = cond-true _ _ _ (eq-eqb x x refl) ∙ put_there p q part (λ r. old (x ∷ r))
 
-pub restored_from_put : (g : Geometry) (p : Path) (l : Parcels) (old new : Nodes) → Puts p l old new → IsKindOf p l → RestoresAt g p l old new
-restored_from_put g p l old new h kind = record {
+pub restored_from_put : (g : Geometry) (p : Path) (l : Parcels) (old new : Nodes) → Puts p l old new → RestoresAt g p l old new
+restored_from_put g p l old new h = record {
   out = h.out;
-  kind = kind;
+  kind = h.kind;
   nodes = h.nodes;
-  subtree = λ t. subtree_shown g p t l new kind (λ q. h.nodes (p ++ q) ∙ put_there p q (parcels_nodes l) old);
+  subtree = λ t. subtree_shown g p t l new h.kind (λ q. h.nodes (p ++ q) ∙ put_there p q (parcels_nodes l) old);
 }
-
--- Parcels that fit are whole: each path from theirs on is in.
-whole_is_in : (g : Geometry) (p : Path) (l : Parcels) → Fits g p l → (q : Path) → IsPath g (p ++ q) → is_some (parcels_nodes l q) ≡ true
-whole_is_in g [] (parcels.Root r) h q path = root_all_in g (Some r) h.0 h.1 q (root_path g q path)
-whole_is_in g (a ∷ []) (parcels.Aggr r) h q path = aggregate_all_in g (Some r) h.0 h.1 q (root_path g (a ∷ q) path).1
-whole_is_in g (a ∷ v ∷ []) (parcels.Vol w) h q path = volume_all_in g (Some w) h.0 h.1 q (root_path g (a ∷ v ∷ q) path).1.1
-whole_is_in g (a ∷ v ∷ zero ∷ []) (parcels.Logical l) h q path = logical_all_in g (Some l) h.0 h.1 q (root_path g (a ∷ v ∷ 0 ∷ q) path).1.1
-whole_is_in g (a ∷ v ∷ zero ∷ s ∷ []) (parcels.Stripe p) h [] path = refl
-whole_is_in g (a ∷ v ∷ zero ∷ s ∷ []) (parcels.Stripe p) h (i ∷ q) path = absurd path
-whole_is_in g (a ∷ v ∷ suc zero ∷ []) (parcels.Label l) h [] path = refl
-whole_is_in g (a ∷ v ∷ suc zero ∷ []) (parcels.Label l) h (i ∷ q) path = absurd path
-whole_is_in g p l h q path = absurd h
 
 pub restored_is_in : (g : Geometry) (p : Path) (l : Parcels) (old : Nodes) {new : Nodes} → PutsBack p (parcels_nodes l) old new → Fits g p l
     → (q : Path) → IsPath g (p ++ q) → is_some (new (p ++ q)) ≡ true
 restored_is_in g p l old h fits q path = ap is_some (h (p ++ q) ∙ put_there p q (parcels_nodes l) old) ∙ whole_is_in g p l fits q path
+
+-- ---- from one clause about a result to another
+
+pub none_either_way : {X P : Type 0} (o : Option X) → P → IfNone o P
+none_either_way None h = h
+none_either_way (Some x) h = tt
+
+pub map_result : {X E : Type 0} {P P' : X → Type 0} {Q Q' : E → Type 0} (r : Result X E) → ((x : X) → P x → P' x) → ((e : E) → Q e → Q' e) → MatchResult r P Q → MatchResult r P' Q'
+map_result (Ok x) ok err h = ok x h
+map_result (Err e) ok err h = err e h

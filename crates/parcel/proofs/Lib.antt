@@ -5,7 +5,8 @@ pub mod Holding
 -- ---- this crate's own
 pub mod ChildRows
 pub mod Whole
-pub mod Levels
+pub mod Slots
+pub mod TakenPut
 pub mod VolumeWritten
 pub mod Shows
 pub mod Lending

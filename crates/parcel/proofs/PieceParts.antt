@@ -1,7 +1,8 @@
 -- A piece of a volume is read (part 0: its own, part s + 1: that of stripe s), and the piece's volume is found in the tree.
-use Rattle.std.proofs.Common.{◌≡◌, ℕ, zero, suc, ◌*◌, ◌%◌, ◌^◌, ◌<◌, Bool, true, false, List, [], ◌∷◌, length, get_or, slice_index_or, Option, Some, None, IfSome, is_some, refl, sym, ◌∙◌, ap, subst, arith, true≢false, mod-lt}
+use Rattle.std.proofs.Common.{◌≡◌, ℕ, zero, suc, ◌*◌, ◌%◌, ◌^◌, ◌<◌, Bool, true, false, List, [], ◌∷◌, length, get_or, slice_index_or, Option, Some, None, IfSome, is_some, refl, sym, ◌∙◌, ap, subst, ⊎_elim, arith, true≢false, mod-lt}
 use Rattle.std.specs.Prelude.{◌↔◌, ◌==◌, if◌then◌else◌, IsTrue, IsFalse}
 use Rattle.std.specs.List.{AllByRecursion}
+use Rattle.std.specs.Option.{option_and_then}
 use Rattle.std.proofs.lemmas.Nat.{pow_pos}
 use Rattle.affinity.specs.Geometry.{stripe_of}
 use Rattle.affinity.specs.Path.{Path}
@@ -15,7 +16,7 @@ use Rattle.stripe.specs.Stripe.{StripePart}
 use Rattle.image.specs.Pieces.{block_in, piece_count, aggregate_of, volume_of as volume_number}
 use Rattle.image.proofs.Numbers.{in_aggregates, in_volumes}
 use Rattle.parcel.specs.Fits.{FitsLogical, FitsVolume, FitsAggregate, FitsRoot, IsWholeChild, IsWholeLogical, IsWholeVolume, IsWholeAggregate, IsWholeRoot}
-use Rattle.parcel.specs.Levels.{volume_below, volume_of_tree, is_whole_root}
+use Rattle.parcel.specs.Lends.{aggregate_of_tree, volume_of_tree}
 use Rattle.parcel.specs.Nodes.{Nodes, child_nodes, stripe_nodes, label_nodes, logical_nodes, volume_nodes, aggregate_nodes, root_nodes, node_made, node_sealed, node_has_file, node_block, node_label, tree_state}
 use Rattle.parcel.specs.Pieces.{HasFacts, IsPieceOfVolumeRead, spelled, decoded_piece, volume_with, with_files}
 use Rattle.parcel.specs.Shown.{volume_facts, files_in, blocks_below, blocks_in, blocks_of, shown_label}
@@ -25,11 +26,11 @@ use Rattle.parcel.specs.declared.parts.Logical.{Logical}
 use Rattle.parcel.specs.declared.parts.Vol.{Vol}
 use Rattle.parcel.specs.declared.parts.Aggr.{Aggr}
 use Rattle.parcel.specs.declared.parts.Root.{Root}
-use Rattle.parcel.proofs.ChildRows.{fits_in_place}
-use Rattle.parcel.proofs.Lending.{path_there}
+use Rattle.parcel.proofs.ChildRows.{child_whole_at}
 use Rattle.parcel.proofs.StripePieces.{stripe_good, stripe_is_piece}
 use Rattle.parcel.proofs.VolumePieces.{volume_decoded, facts_decoded}
-use Rattle.parcel.proofs.Whole.{root_whole, root_gap, child_whole_at}
+use Rattle.parcel.proofs.Slots.{aggregate_child, volume_child}
+use Rattle.parcel.proofs.Whole.{root_or}
 
 -- ---- the volume's own piece
 
@@ -93,38 +94,29 @@ stripe_is_read {g} {s} {bytes} {old} {l} was whole fits now_whole files piece bl
 
 module _ (g : Geometry) where
   tree_whole : (o : Option Root) → IfSome o (FitsRoot g) → IsIn g [] (child_nodes root_nodes o) → IsWholeChild IsWholeRoot o
-  tree_whole o fits all = by (is_whole_root o) refl
+  tree_whole o fits all = ⊎_elim (λ whole. whole) (λ gap. absurd (true≢false (sym (all gap.0 gap.1 refl) ∙ ap is_some gap.2))) (root_or g o fits)
+
+  -- a child that is in, fits and is whole
+  abbrev IsThere : {X : Type 0} → (X → Type 0) → (X → Type 0) → Option X → Type 0
+  IsThere IsFit IsWhole found = IfSome found IsFit × IsWholeChild IsWhole found
+
+  aggregate_is_there : (a : ℕ) → a < g.aggregates → (o : Option Root) → IfSome o (FitsRoot g) → IsWholeChild IsWholeRoot o → IsThere (FitsAggregate g) IsWholeAggregate (aggregate_of_tree o a)
+  aggregate_is_there a below None fits whole = absurd whole
+  aggregate_is_there a below (Some r) fits whole = ((aggregate_child g a).fits r fits, child_whole_at IsWholeAggregate r.aggregates.items a (omega (arith, below, fits.count)) whole)
+
+  volume_is_there : (a v : ℕ) → v < g.volumes → (o : Option Root) → IsThere (FitsAggregate g) IsWholeAggregate (aggregate_of_tree o a) → IsThere (FitsVolume g) IsWholeVolume (volume_of_tree o a v)
+  volume_is_there a v below o there = by (aggregate_of_tree o a) there
     where
-      by : (t : Bool) → is_whole_root o ≡ t → IsWholeChild IsWholeRoot o
-      by true on = root_whole o on
-      by false off =
-          let gap = root_gap g o fits off in
-          absurd (true≢false (sym (all gap.0 (path_there g gap.0 gap.1) refl) ∙ ap is_some gap.2))
-
-  -- a volume that is in, and fits
-  abbrev IsThere : Option Vol → Type 0
-  IsThere found = IfSome found (FitsVolume g) × IsWholeChild IsWholeVolume found
-
-  of_aggregate : (v : ℕ) → v < g.volumes → (x : Option Aggr) → IfSome x (FitsAggregate g) → IsWholeChild IsWholeAggregate x → IsThere (volume_below x v)
-  of_aggregate v below None fits whole = absurd whole
-  of_aggregate v below (Some r) fits whole =
-      let within : v < length r.volumes.items = omega (arith, below, fits.count) in
-      (fits_in_place (λ v. FitsVolume g) r.volumes.items fits.volumes v _ refl, child_whole_at IsWholeVolume r.volumes.items v within whole)
-
-  volume_is_there : (a v : ℕ) → a < g.aggregates → v < g.volumes → (o : Option Root) → IfSome o (FitsRoot g) → IsWholeChild IsWholeRoot o → IsThere (volume_of_tree o a v)
-  volume_is_there a v first second None fits whole = absurd whole
-  volume_is_there a v first second (Some r) fits whole =
-      let within : a < length r.aggregates.items = omega (arith, first, fits.count) in
-      of_aggregate v second (slice_index_or r.aggregates.items a None)
-      (fits_in_place (λ a. FitsAggregate g) r.aggregates.items fits.aggregates a _ refl)
-      (child_whole_at IsWholeAggregate r.aggregates.items a within whole)
+      by : (x : Option Aggr) → IsThere (FitsAggregate g) IsWholeAggregate x → IsThere (FitsVolume g) IsWholeVolume (option_and_then (λ r. slice_index_or r.volumes.items v None) x)
+      by None there = absurd there.1
+      by (Some r) there = ((volume_child g v).fits r there.0, child_whole_at IsWholeVolume r.volumes.items v (omega (arith, below, there.0.count)) there.1)
 
   -- the volume of a piece, where nothing is out
   pub piece_is_there : (o : Option Root) → IfSome o (FitsRoot g) → IsIn g [] (child_nodes root_nodes o) → (n : ℕ) → n < piece_count g
-      → {a v : ℕ} → a ≡ aggregate_of g n → v ≡ volume_number g n → IsThere (volume_of_tree o a v)
+      → {a v : ℕ} → a ≡ aggregate_of g n → v ≡ volume_number g n → IsThere (FitsVolume g) IsWholeVolume (volume_of_tree o a v)
   piece_is_there o fits all n below {a} {v} aggregate volume =
-      volume_is_there a v (subst (λ (k : ℕ). k < g.aggregates) (sym aggregate) (in_aggregates g n below))
-      (subst (λ (k : ℕ). k < g.volumes) (sym volume) (in_volumes g n)) o fits (tree_whole o fits all)
+      volume_is_there a v (subst (λ (k : ℕ). k < g.volumes) (sym volume) (in_volumes g n)) o
+      (aggregate_is_there a (subst (λ (k : ℕ). k < g.aggregates) (sym aggregate) (in_aggregates g n below)) o fits (tree_whole o fits all))
 
   -- ---- the nodes and the state there
 
@@ -132,7 +124,7 @@ module _ (g : Geometry) where
   nodes_there a v None q = refl
   nodes_there a v (Some r) q = by (slice_index_or r.aggregates.items a None)
     where
-      by : (x : Option Aggr) → child_nodes aggregate_nodes x (v ∷ q) ≡ child_nodes volume_nodes (volume_below x v) q
+      by : (x : Option Aggr) → child_nodes aggregate_nodes x (v ∷ q) ≡ child_nodes volume_nodes (option_and_then (λ r. slice_index_or r.volumes.items v None) x) q
       by None = refl
       by (Some r) = refl
 

@@ -1,6 +1,6 @@
 -- A piece was read into the tree: the tree's state is the one before, with that piece taken in.
 use Rattle.std.proofs.Common.{◌≡◌, ℕ, zero, suc, Bool, true, false, ◌&&◌, List, [], ◌∷◌, Option, Some, None, is_some, refl, sym, ◌∙◌, ap, subst}
-use Rattle.std.specs.Prelude.{◌↔◌, ◌==◌, if◌then◌else◌, IsTrue}
+use Rattle.std.specs.Prelude.{◌↔◌, ◌==◌, if◌then◌else◌, IfSome, IsTrue}
 use Rattle.std.proofs.lemmas.Bool.{and_parts, and_from, eqb-true, eq-eqb, not-true}
 use Rattle.affinity.specs.Geometry.{stripe_of}
 use Rattle.affinity.specs.Interval.{IsPath}
@@ -14,8 +14,8 @@ use Rattle.meaning.specs.State.{State, IsState, is_volume}
 use Rattle.meaning.proofs.Agree.{agree-sym, agree-trans}
 use Rattle.meaning.proofs.SubtreeLaws.{agree_in_and_out}
 use Rattle.image.specs.Pieces.{part_piece, piece_part_size, with_part, is_made_in, is_sealed_in, has_file_in, label_in as decoded_label_in, block_in}
-use Rattle.parcel.specs.Levels.{volume_of_tree}
-use Rattle.parcel.specs.Lends.{with_volume}
+use Rattle.parcel.specs.Fits.{FitsRoot}
+use Rattle.parcel.specs.Lends.{volume_of_tree, with_volume}
 use Rattle.parcel.specs.Nodes.{Nodes, child_nodes, logical_nodes, volume_nodes, root_nodes, node_files, tree_state, PutsBack}
 use Rattle.parcel.specs.Pieces.{HasFacts, IsPieceOfVolumeRead, facts_with}
 use Rattle.parcel.specs.Shown.{volume_facts, files_in}
@@ -26,12 +26,11 @@ use Rattle.parcel.specs.declared.parts.Root.{Root}
 use Rattle.parcel.specs.declared.parts.Vol.{Vol}
 use Rattle.parcel.specs.declared.parts.Parcels.TheVariants as parcels
 use Rattle.parcel.proofs.Leaving.{put_leaves, put_outside}
-use Rattle.parcel.proofs.Lending.{put_there, restored_is_in}
+use Rattle.parcel.proofs.Lending.{begins_split, put_there, restored_is_in}
 use Rattle.parcel.proofs.PieceParts.{nodes_there, state_there}
-use Rattle.parcel.proofs.SerialRuns.{begins_split}
 use Rattle.parcel.proofs.Shows.{has_none}
 use Rattle.parcel.proofs.StripePieces.{stripe_is_piece, stripe_state}
-use Rattle.parcel.proofs.VolumeWritten.{put_with}
+use Rattle.parcel.proofs.Slots.{volume_slot}
 use Rattle.parcel.proofs.VolumePieces.{volume_decoded, volume_state}
 
 -- ---- states that have the same in one volume
@@ -121,30 +120,31 @@ nodes_of o = child_nodes root_nodes o
 
 module _ {version : ℕ} {g : Geometry} {part : ℕ} {bytes : List ℕ} {good : Bool} (a v : ℕ) (o : Option Root) {was now : Vol}
     (there : volume_of_tree o a v ≡ Some was) (read : IsPieceOfVolumeRead version g part bytes good was now) where
-  nodes : PutsBack (volume a v) (volume_nodes now) (nodes_of o) (nodes_of (with_volume o a v now))
-  nodes = put_with v now a o there
-
   pub has_then : HasFacts (tree_state g (nodes_of o)) a v (volume_facts g was)
   has_then = state_there g (nodes_of o) a v was (λ q. nodes_there g a v o q ∙ ap (λ x. child_nodes volume_nodes x q) there)
 
   pub read_good : IsState g (tree_state g (nodes_of o)) → IsTrue good ↔ (bytes ≡ part_piece version g (with_part version g (tree_state g (nodes_of o)) a v part bytes) a v part)
   read_good is = read.spelled (tree_state g (nodes_of o)) a v is has_then
 
-  pub read_taken : IsTrue good → tree_state g (nodes_of (with_volume o a v now)) ≡ with_part version g (tree_state g (nodes_of o)) a v part bytes
-  read_taken on =
-      let after = state_there g (nodes_of (with_volume o a v now)) a v now (λ q. nodes (a ∷ v ∷ q) ∙ put_there (volume a v) q (volume_nodes now) (nodes_of o)) in
-      let told = subst (λ (h : VolumeFacts). HasFacts (tree_state g (nodes_of (with_volume o a v now))) a v h) (read.facts on) after in
-      agree_in_and_out g (volume a v) (tree_state g (nodes_of (with_volume o a v now))) (with_part version g (tree_state g (nodes_of o)) a v part bytes)
-      (same_there g a v (tree_state g (nodes_of (with_volume o a v now))) (with_part version g (tree_state g (nodes_of o)) a v part bytes) _ told
-      (facts_taken g a v version (tree_state g (nodes_of o)) (volume_facts g was) has_then part bytes))
-      (agree-trans (put_leaves g (volume a v) (volume_nodes now) (nodes_of o) (nodes_of (with_volume o a v now)) nodes)
-      (agree-sym (elsewhere_taken g a v version (tree_state g (nodes_of o)) part bytes)))
+  module _ (fits : IfSome o (FitsRoot g)) (path : IsPath g (volume a v)) where
+    nodes : PutsBack (volume a v) (volume_nodes now) (nodes_of o) (nodes_of (with_volume o a v (Some now)))
+    nodes = (volume_slot g o fits a v path (sym there)).put (Some now)
 
-  pub read_in : IsIn g [] (nodes_of o) → IsIn g [] (nodes_of (with_volume o a v now))
-  read_in whole q path related =
-      elim (is_prefix (volume a v) q) as (λ b. is_prefix (volume a v) q ≡ b → is_some (nodes_of (with_volume o a v now) q) ≡ true) [
-        | true ↦ λ e. let rest = begins_split (volume a v) q e in
-            subst (λ r. is_some (nodes_of (with_volume o a v now) r) ≡ true) (sym rest.1) (restored_is_in g (volume a v) (parcels.Vol now) (nodes_of o) nodes
-            (read.fits, read.whole) rest.0 (subst (λ r. IsPath g r) rest.1 path))
-        | false ↦ λ e. ap is_some (nodes q ∙ put_outside (volume a v) (volume_nodes now) (nodes_of o) q e) ∙ whole q path refl
-      ] refl
+    pub read_taken : IsTrue good → tree_state g (nodes_of (with_volume o a v (Some now))) ≡ with_part version g (tree_state g (nodes_of o)) a v part bytes
+    read_taken on =
+        let after = state_there g (nodes_of (with_volume o a v (Some now))) a v now (λ q. nodes (a ∷ v ∷ q) ∙ put_there (volume a v) q (volume_nodes now) (nodes_of o)) in
+        let told = subst (λ (h : VolumeFacts). HasFacts (tree_state g (nodes_of (with_volume o a v (Some now)))) a v h) (read.facts on) after in
+        agree_in_and_out g (volume a v) (tree_state g (nodes_of (with_volume o a v (Some now)))) (with_part version g (tree_state g (nodes_of o)) a v part bytes)
+        (same_there g a v (tree_state g (nodes_of (with_volume o a v (Some now)))) (with_part version g (tree_state g (nodes_of o)) a v part bytes) _ told
+        (facts_taken g a v version (tree_state g (nodes_of o)) (volume_facts g was) has_then part bytes))
+        (agree-trans (put_leaves g (volume a v) (volume_nodes now) (nodes_of o) (nodes_of (with_volume o a v (Some now))) nodes)
+        (agree-sym (elsewhere_taken g a v version (tree_state g (nodes_of o)) part bytes)))
+
+    pub read_in : IsIn g [] (nodes_of o) → IsIn g [] (nodes_of (with_volume o a v (Some now)))
+    read_in whole q path related =
+        elim (is_prefix (volume a v) q) as (λ b. is_prefix (volume a v) q ≡ b → is_some (nodes_of (with_volume o a v (Some now)) q) ≡ true) [
+          | true ↦ λ e. let rest = begins_split (volume a v) q e in
+              subst (λ r. is_some (nodes_of (with_volume o a v (Some now)) r) ≡ true) (sym rest.1) (restored_is_in g (volume a v) (parcels.Vol now) (nodes_of o) nodes
+              (read.fits, read.whole) rest.0 (subst (λ r. IsPath g r) rest.1 path))
+          | false ↦ λ e. ap is_some (nodes q ∙ put_outside (volume a v) (volume_nodes now) (nodes_of o) q e) ∙ whole q path refl
+        ] refl

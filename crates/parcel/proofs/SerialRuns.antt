@@ -1,7 +1,7 @@
 -- A run is a serial step of each state that can have lent its job, and of the tree that lent it and takes back what it left.
 use Rattle.std.proofs.Common.{◌≡◌, true, false, [], ◌∷◌, ◌++◌, refl, sym, ap, subst, ◌∙◌}
 use Rattle.std.specs.Prelude.{◌&&◌, ◌==◌, not, None, is_some}
-use Rattle.std.proofs.lemmas.Bool.{and_parts, cond-false, eqb-true, or_left, or_right, true≢false}
+use Rattle.std.proofs.lemmas.Bool.{and_parts, cond-false, or_left, or_right, true≢false}
 use Rattle.affinity.specs.declared.geometry.Geometry.{Geometry}
 use Rattle.affinity.specs.Interval.{IsPath}
 use Rattle.affinity.specs.Path.{Path, is_prefix, are_related}
@@ -23,7 +23,7 @@ use Rattle.parcel.specs.declared.job.Done.{Done}
 use Rattle.parcel.specs.declared.parts.Parcels.{Parcels}
 use Rattle.parcel.specs.declared.parts.Standing.{Standing}
 use Rattle.parcel.proofs.Leaving.{taken_leaves, put_leaves, put_outside}
-use Rattle.parcel.proofs.Lending.{restored_is_in}
+use Rattle.parcel.proofs.Lending.{begins_split, restored_is_in}
 
 pub serial_run : (job : JobView) (done : Done) (x : State) → IsJobRun job done → IsLentOf job x → IsSerialStepOf job done x
 serial_run job done x run lent =
@@ -50,15 +50,6 @@ served_step job done old lent new h =
     let elsewhere : AgreeOn g (outside p) (tree_state g new) (next_state g x m) =
     agree-trans (put_leaves g p (parcels_nodes done.parcels) lent new h.put.nodes) (agree-trans (taken_leaves g p old lent h.taken.rest) (agree-sym (changes_only g x m))) in
     record { reply = run.reply; state = agree_in_and_out g p (tree_state g new) (next_state g x m) there elsewhere }
-
--- what begins with a path is that path and the rest
-pub begins_split : (p q : Path) → is_prefix p q ≡ true → (r : Path) × (q ≡ p ++ r)
-begins_split [] q h = (q, refl)
-begins_split (x ∷ p) [] h = absurd (true≢false (sym h))
-begins_split (x ∷ p) (y ∷ q) h =
-    let both = and_parts (x == y) (is_prefix p q) h in
-    let rest = begins_split p q both.1 in
-    (rest.0, sym (ap (λ z. z ∷ q) (eqb-true x y both.0)) ∙ ap (λ r. x ∷ r) rest.1)
 
 pub served_is_in : (job : JobView) (done : Done) (old lent new : Nodes) → LendsRunsRestores job done old lent new → IsIn job.geometry [] old → IsIn job.geometry [] new
 served_is_in job done old lent new h whole q path related =

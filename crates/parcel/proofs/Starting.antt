@@ -10,7 +10,7 @@ use Rattle.meaning.specs.State.{empty}
 use Rattle.stripe.specs.Stripe.{StripePart, content_at}
 use Rattle.parcel.specs.Shown.{has_file}
 use Rattle.parcel.specs.Fits.{EachFits, FitsStripe, FitsLogical, FitsVolume, FitsAggregate, FitsRoot, IsWholeChild, IsWholeLogical, IsWholeVolume, IsWholeAggregate, IsWholeRoot}
-use Rattle.parcel.specs.Levels.{IsNewLogical, IsNewVolume, IsNewAggregate, IsNewRoot}
+use Rattle.parcel.specs.Parts.{IsNewLogical, IsNewVolume, IsNewAggregate, IsNewRoot}
 use Rattle.parcel.specs.Nodes.{Nodes, child_nodes, stripe_nodes, label_nodes, logical_nodes, volume_nodes, aggregate_nodes, root_nodes, node_made, node_sealed, node_has_file, node_block, node_label, tree_state}
 use Rattle.parcel.specs.Tree.{IsIn}
 use Rattle.parcel.specs.declared.parts.Label.{Label}
@@ -18,9 +18,9 @@ use Rattle.parcel.specs.declared.parts.Logical.{Logical}
 use Rattle.parcel.specs.declared.parts.Vol.{Vol}
 use Rattle.parcel.specs.declared.parts.Aggr.{Aggr}
 use Rattle.parcel.specs.declared.parts.Root.{Root}
-use Rattle.parcel.proofs.Lending.{root_path}
+use Rattle.parcel.specs.declared.parts.Parcels.TheVariants as parcels
 use Rattle.parcel.proofs.Shows.{has_none}
-use Rattle.parcel.proofs.Whole.{root_all_in}
+use Rattle.parcel.proofs.Whole.{whole_is_in}
 
 -- ---- lists of children, each of which is new
 
@@ -93,7 +93,7 @@ module _ (g : Geometry) where
   root_is_whole r h = each_whole (IsNewAggregate g) IsWholeAggregate aggregate_is_whole r.aggregates.items h.1
 
   pub new_all_in : (r : Root) → IsNewRoot g r → IsIn g [] (child_nodes root_nodes (Some r))
-  new_all_in r h q path related = root_all_in g (Some r) (root_fits r h) (root_is_whole r h) q (root_path g q path)
+  new_all_in r h q path related = whole_is_in g [] (parcels.Root r) (root_fits r h, root_is_whole r h) q path
 
   -- ---- the state
 

@@ -5,7 +5,7 @@ pub mod Fits
 pub mod Nodes
 pub mod Tree
 pub mod Run
-pub mod Levels
+pub mod Parts
 pub mod Lends
 pub mod Steps
 pub mod Dropping

@@ -1,6 +1,5 @@
 //! The parts of a server's state, a type for each kind of node, and `Parcels`: any one of them. A child that is `None` is out (lent);
 //! a volume that isn't made is there, too.
-mod paths;
 mod putting;
 mod standings;
 mod starting;

@@ -4,12 +4,12 @@ ghost use Rattle.std.specs.Borrow.{sem};
 ghost use Rattle.std.specs.Option.{option_copied_mut};
 ghost use Rattle.affinity.specs.Path.{volume, logical};
 ghost use Rattle.affinity.specs.Place.{path};
-ghost use Rattle.parcel.specs.Lends.{lends_child, lends_volume};
-ghost use Rattle.parcel.specs.Levels.{volume_of_tree};
+ghost use Rattle.parcel.specs.Lends.{lends_child, lends_aggregate, lends_volume, lends_logical};
+ghost use Rattle.parcel.specs.Lends.{aggregate_of_tree, volume_of_tree, logical_of_tree};
 ghost use Rattle.parcel.specs.Nodes.{child_nodes, root_nodes, volume_nodes, node_made, node_sealed, node_files};
 ghost use Rattle.parcel.specs.Tree.{standing_at};
 
-use super::{Root, Standing, Vol};
+use super::{Aggr, Logical, Root, Standing, Vol};
 use affinity::Place;
 
 /// The standing at a place. For what is out it has `false` and 0.
@@ -73,13 +73,28 @@ pub(crate) fn volume_at(root: &Option<Root>, a: usize, v: usize) -> Option<&Vol>
         .as_ref()
 }
 
-/// The same for writing.
+/// An aggregate for writing, where it and the root are in.
+pub(crate) fn aggregate_mut(root: &mut Option<Root>, a: usize) -> Option<&mut Aggr>
+    ensures* writes_back { sem 𝓛 (lends_aggregate root.entry a result) }
+    ensures value { option_copied_mut result ≡ aggregate_of_tree root.old a }
+{
+    child_mut(&mut root.as_mut()?.aggregates, a)
+}
+
+/// A volume for writing, where it and the nodes above it are in.
 pub(crate) fn volume_mut(root: &mut Option<Root>, a: usize, v: usize) -> Option<&mut Vol>
     ensures* writes_back { sem 𝓛 (lends_volume root.entry a v result) }
     ensures value { option_copied_mut result ≡ volume_of_tree root.old a v }
 {
-    let aggregate = child_mut(&mut root.as_mut()?.aggregates, a)?;
-    child_mut(&mut aggregate.volumes, v)
+    child_mut(&mut aggregate_mut(root, a)?.volumes, v)
+}
+
+/// The Volume Logical of a volume for writing, where it and the nodes above it are in.
+pub(crate) fn logical_mut(root: &mut Option<Root>, a: usize, v: usize) -> Option<&mut Logical>
+    ensures* writes_back { sem 𝓛 (lends_logical root.entry a v result) }
+    ensures value { option_copied_mut result ≡ logical_of_tree root.old a v }
+{
+    volume_mut(root, a, v)?.logical.as_mut()
 }
 
 // A child of a row, where it is in.

@@ -1,47 +1,81 @@
-//! Whether a node and all below it are in: nothing of it is lent.
-ghost use Rattle.std.specs.Prelude.{◌≡◌};
-ghost use Rattle.parcel.specs.Levels.{is_whole_logical, is_whole_volume, is_whole_aggregate, is_whole_root};
+//! Whether a part and all below it are in: nothing of it is lent.
+ghost use Rattle.std.specs.Prelude.{◌↔◌, IsTrue};
+ghost use Rattle.std.specs.List.{AllByRecursion};
+ghost use Rattle.parcel.specs.Fits.{IsWholeChild, IsWholeLogical, IsWholeVolume, IsWholeAggregate, IsWholeRoot};
 
-use super::{Aggr, Logical, Root, Vol};
+use super::{Aggr, Label, Logical, Root, Vol};
+use crate::StripeParcel;
 
-pub(super) fn is_whole_logical(node: &Option<Logical>) -> bool
-    ensures { result ≡ is_whole_logical node.now }
-{
-    match node {
-        None => false,
-        Some(logical) => logical.stripes.iter().all(|stripe| stripe.is_some()),
+pub(super) trait Whole {
+    ghost IsWhole: { Self → Type 0 };
+
+    fn is_whole(&self) -> bool
+        ensures { IsTrue result ↔ IsWhole self.now };
+}
+
+impl<T: Whole> Whole for Option<T> {
+    ghost IsWhole = { IsWholeChild T.IsWhole };
+
+    fn is_whole(&self) -> bool {
+        match self {
+            None => false,
+            Some(part) => part.is_whole(),
+        }
     }
 }
 
-pub(super) fn is_whole_volume(node: &Option<Vol>) -> bool
-    ensures { result ≡ is_whole_volume node.now }
-{
-    match node {
-        None => false,
-        Some(volume) => is_whole_logical(&volume.logical) && volume.label.is_some(),
+impl<T: Whole> Whole for Vec<T> {
+    ghost IsWhole = { λ row. AllByRecursion T.IsWhole row.items };
+
+    fn is_whole(&self) -> bool {
+        self.iter().all(|child| child.is_whole())
     }
 }
 
-pub(super) fn is_whole_aggregate(node: &Option<Aggr>) -> bool
-    ensures { result ≡ is_whole_aggregate node.now }
-{
-    match node {
-        None => false,
-        Some(aggregate) => aggregate
-            .volumes
-            .iter()
-            .all(|volume| is_whole_volume(volume)),
+impl Whole for Root {
+    ghost IsWhole = { IsWholeRoot };
+
+    fn is_whole(&self) -> bool {
+        self.aggregates.is_whole()
     }
 }
 
-pub(super) fn is_whole_root(node: &Option<Root>) -> bool
-    ensures { result ≡ is_whole_root node.now }
-{
-    match node {
-        None => false,
-        Some(root) => root
-            .aggregates
-            .iter()
-            .all(|aggregate| is_whole_aggregate(aggregate)),
+impl Whole for Aggr {
+    ghost IsWhole = { IsWholeAggregate };
+
+    fn is_whole(&self) -> bool {
+        self.volumes.is_whole()
+    }
+}
+
+impl Whole for Vol {
+    ghost IsWhole = { IsWholeVolume };
+
+    fn is_whole(&self) -> bool {
+        self.logical.is_whole() && self.label.is_whole()
+    }
+}
+
+impl Whole for Logical {
+    ghost IsWhole = { IsWholeLogical };
+
+    fn is_whole(&self) -> bool {
+        self.stripes.is_whole()
+    }
+}
+
+impl Whole for StripeParcel {
+    ghost IsWhole = { λ p. Unit {0} };
+
+    fn is_whole(&self) -> bool {
+        true
+    }
+}
+
+impl Whole for Label {
+    ghost IsWhole = { λ l. Unit {0} };
+
+    fn is_whole(&self) -> bool {
+        true
     }
 }

@@ -8,8 +8,7 @@ use Rattle.image.proofs.Numbers.{in_aggregates, in_volumes}
 use Rattle.std.specs.Option.{option_copied_mut}
 use Rattle.std.specs.Prelude.{IfSome}
 use Rattle.parcel.specs.Fits.{FitsVolume, IsWholeChild, IsWholeVolume}
-use Rattle.parcel.specs.Lends.{with_volume}
-use Rattle.parcel.specs.Levels.{volume_of_tree}
+use Rattle.parcel.specs.Lends.{volume_of_tree, with_volume}
 use Rattle.parcel.specs.Nodes.{Nodes, child_nodes, root_nodes, tree_state}
 use Rattle.parcel.specs.Tree.{TreeView, IsWholeTree, state_in}
 use Rattle.parcel.proofs.PieceParts.{all_bytes, piece_is_there}
@@ -104,12 +103,14 @@ returns-clause-taken c =
     let at = c.place_of_piece-place in
     let a : ℕ = at.result.aggregate in
     let v : ℕ = at.result.volume in
-    let new : Nodes = child_nodes root_nodes (with_volume c.t.inside.root a v c.read_part.new.volume) in
+    let new : Nodes = child_nodes root_nodes (with_volume c.t.inside.root a v (Some c.read_part.new.volume)) in
     let x : State = tree_state g (child_nodes root_nodes c.t.inside.root) in
     let read = c.read_part.ensures in
+    let piece = subst (λ (t : TreeView). n < piece_count t.geometry) (sym c.t.view_is) c.requires.piece in
+    let path : IsPath g (volume a v) = subst (λ q. IsPath g q) (λ i. volume (sym at.ensures.aggregate i) (sym at.ensures.volume i)) (in_aggregates g n piece, in_volumes g n) in
     let found : volume_of_tree c.t.inside.root a v ≡ Some c.in-Some.volume.now = sym c.volume_mut.ensures.value ∙ ap option_copied_mut c.in-Some.is in
     subst (λ (t : TreeView). tree_state g new ≡ with_piece c.args.version t.geometry (state_in t) n bytes) c.t.view_is
-    (read_taken a v c.t.inside.root found read c.if-not-read_part.false
+    (read_taken a v c.t.inside.root found read c.t.invariant path c.if-not-read_part.false
     ∙ (λ i. with_part c.args.version g x (at.ensures.aggregate i) (at.ensures.volume i) (at.ensures.part i) bytes))
 
 pub returns-clause-whole : goal.returns-clause-whole
@@ -127,15 +128,15 @@ returns-clause-whole c =
     let found : volume_of_tree c.t.inside.root a v ≡ Some c.in-Some.volume.now = sym c.volume_mut.ensures.value ∙ ap option_copied_mut c.in-Some.is in
     let good = read_good a v c.t.inside.root found read whole.state in
     let piece = subst (λ (t : TreeView). n < piece_count t.geometry) (sym c.t.view_is) c.requires.piece in
+    let path : IsPath g (volume a v) = subst (λ q. IsPath g q) (λ i. volume (sym at.ensures.aggregate i) (sym at.ensures.volume i)) (in_aggregates g n piece, in_volumes g n) in
     let size : length bytes ≡ piece_part_size g p = subst (λ (t : TreeView). length bytes ≡ piece_size t.geometry n) (sym c.t.view_is) c.requires.size ∙ ap (piece_part_size g) (sym at.ensures.part) in
     let none = subst (λ (t : TreeView). part_of t.geometry n ≡ 0 → (f b : ℕ)
     → (state_in t).blocks (aggregate_of t.geometry n, volume_of t.geometry n, f, b) ≡ None) (sym c.t.view_is) c.requires.empty in
     let empty : p ≡ 0 → (f b : ℕ) → x.blocks (a, v, f, b) ≡ None = λ first f b. (λ i. x.blocks (at.ensures.aggregate i, at.ensures.volume i, f, b)) ∙ none (sym at.ensures.part ∙ first) f b in
-    let taken = read_taken a v c.t.inside.root found read c.if-not-read_part.false in
+    let taken = read_taken a v c.t.inside.root found read c.t.invariant path c.if-not-read_part.false in
     let has = has_then a v c.t.inside.root found read in
-    let path : IsPath g (volume a v) = subst (λ q. IsPath g q) (λ i. volume (sym at.ensures.aggregate i) (sym at.ensures.volume i)) (in_aggregates g n piece, in_volumes g n) in
     record {
-      all_in = read_in a v c.t.inside.root found read whole.all_in;
+      all_in = read_in a v c.t.inside.root found read c.t.invariant path whole.all_in;
       state = subst (λ (y : State). IsState g y) (sym taken)
           (part_state c.args.version whole.state path c.in-Some.volume.now has empty (size, all_bytes bytes (λ i. (c.type_inv.bytes i).fits)) (good.0 c.if-not-read_part.false));
     }

@@ -3,7 +3,7 @@ use Rattle.std.proofs.Common.{◌≡◌, ℕ, ◌<◌, Some, sym, ◌∙◌, ap,
 use Rattle.std.specs.Prelude.{IfSome, option_copied}
 use Rattle.image.specs.Pieces.{piece_count, piece_of, part_piece}
 use Rattle.parcel.specs.Fits.{FitsVolume, IsWholeChild, IsWholeVolume}
-use Rattle.parcel.specs.Levels.{volume_of_tree}
+use Rattle.parcel.specs.Lends.{volume_of_tree}
 use Rattle.parcel.specs.Nodes.{child_nodes, root_nodes, volume_nodes}
 use Rattle.parcel.specs.Tree.{TreeView, IsWholeTree, state_in}
 use Rattle.parcel.proofs.PieceParts.{piece_is_there, nodes_there, state_there}

@@ -2,7 +2,7 @@
 use Rattle.std.proofs.Common.{◌≡◌, ◌≤◌, length, vec_capacity}
 use Rattle.std.specs.List.{AllByRecursion}
 use Rattle.parcel.specs.Fits.{IsWholeChild}
-use Rattle.parcel.specs.Levels.{IsNewVolume}
+use Rattle.parcel.specs.Parts.{IsNewVolume}
 use Rattle.parcel.proofs.parts.starting.new_aggregate.Given as goal
 
 abbrev pub invariant-loop : goal.invariant-loop

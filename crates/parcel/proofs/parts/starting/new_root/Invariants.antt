@@ -2,7 +2,7 @@
 use Rattle.std.proofs.Common.{◌≡◌, ◌≤◌, length, vec_capacity}
 use Rattle.std.specs.List.{AllByRecursion}
 use Rattle.parcel.specs.Fits.{IsWholeChild}
-use Rattle.parcel.specs.Levels.{IsNewAggregate}
+use Rattle.parcel.specs.Parts.{IsNewAggregate}
 use Rattle.parcel.proofs.parts.starting.new_root.Given as goal
 
 abbrev pub invariant-loop : goal.invariant-loop
