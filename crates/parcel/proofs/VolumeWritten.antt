@@ -6,7 +6,7 @@ use Rattle.std.specs.Prelude.{None, Some, is_some, IfSome, slice_index_or, slice
 use Rattle.std.specs.Global.{Vec}
 use Rattle.std.specs.Option.{option_and_then, option_map}
 use Rattle.std.specs.Vec.{with_item}
-use Rattle.std.proofs.lemmas.List.{length-set}
+use Rattle.std.proofs.lemmas.List.{set-get_or}
 use Rattle.affinity.specs.declared.geometry.Geometry.{Geometry}
 use Rattle.parcel.specs.Fits.{FitsVolume, FitsAggregate, FitsRoot}
 use Rattle.parcel.specs.Lends.{aggregate_of_tree, volume_of_tree, with_aggregate, with_volume}
@@ -19,14 +19,9 @@ use Rattle.parcel.proofs.Slots.{aggregate_child, volume_child}
 
 -- ---- a child that is written back as it was changes nothing
 
-set_kept : {X : Type 0} (xs : List (Option X)) (i : ℕ) (x : Option X) → x ≡ slice_index_or xs i None → slice_set xs i x ≡ xs
-set_kept [] i x at = refl
-set_kept (y ∷ xs) zero x at = ap (λ z. z ∷ xs) at
-set_kept (y ∷ xs) (suc i) x at = ap (λ zs. y ∷ zs) (set_kept xs i x at)
-
 pub item_kept : {X : Type 0} (xs : Vec (Option X)) (i : ℕ) (x : Option X) → x ≡ slice_index_or xs.items i None → with_item xs i x ≡ xs
 item_kept xs i x at j =
-    let same = set_kept xs.items i x at in
+    let same = ap (slice_set xs.items i) at ∙ set-get_or xs.items i None in
     record {
       ptr = xs.ptr;
       len = xs.len;

@@ -39,37 +39,29 @@ pub(crate) fn put_at(
             None => Err(Parcels::Aggr(part)),
         },
         (Place::Volume(a, v), Parcels::Vol(part)) => match aggregate_mut(root, usize::from(a)) {
-            Some(aggregate) => put(&mut aggregate.volumes[usize::from(v)], part).map_err(
-                Parcels::Vol,
-            ),
+            Some(above) => put(&mut above.volumes[usize::from(v)], part).map_err(Parcels::Vol),
             None => Err(Parcels::Vol(part)),
         },
-        (Place::Logical(a, v), Parcels::Logical(part)) => match volume_mut(
-            root,
-            usize::from(a),
-            usize::from(v),
-        ) {
-            Some(volume) => put(&mut volume.logical, part).map_err(Parcels::Logical),
-            None => Err(Parcels::Logical(part)),
-        },
-        (Place::Stripe(a, v, s), Parcels::Stripe(part)) => match logical_mut(
-            root,
-            usize::from(a),
-            usize::from(v),
-        ) {
-            Some(logical) => put(&mut logical.stripes[usize::from(s)], part).map_err(
-                Parcels::Stripe,
-            ),
-            None => Err(Parcels::Stripe(part)),
-        },
-        (Place::Label(a, v), Parcels::Label(part)) => match volume_mut(
-            root,
-            usize::from(a),
-            usize::from(v),
-        ) {
-            Some(volume) => put(&mut volume.label, part).map_err(Parcels::Label),
-            None => Err(Parcels::Label(part)),
-        },
+        (Place::Logical(a, v), Parcels::Logical(part)) => {
+            match volume_mut(root, usize::from(a), usize::from(v)) {
+                Some(volume) => put(&mut volume.logical, part).map_err(Parcels::Logical),
+                None => Err(Parcels::Logical(part)),
+            }
+        }
+        (Place::Stripe(a, v, s), Parcels::Stripe(part)) => {
+            match logical_mut(root, usize::from(a), usize::from(v)) {
+                Some(above) => {
+                    put(&mut above.stripes[usize::from(s)], part).map_err(Parcels::Stripe)
+                }
+                None => Err(Parcels::Stripe(part)),
+            }
+        }
+        (Place::Label(a, v), Parcels::Label(part)) => {
+            match volume_mut(root, usize::from(a), usize::from(v)) {
+                Some(volume) => put(&mut volume.label, part).map_err(Parcels::Label),
+                None => Err(Parcels::Label(part)),
+            }
+        }
         (_, other) => Err(other),
     }
 }

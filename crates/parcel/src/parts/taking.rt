@@ -25,9 +25,10 @@ pub(crate) fn take_at(root: &mut Option<Root>, g: &Geometry, place: Place) -> Op
 {
     match place {
         Place::Serial => take(root).map(Parcels::Root),
-        Place::Aggregate(a) => take(&mut root.as_mut()?.aggregates[usize::from(a)]).map(
-            Parcels::Aggr,
-        ),
+        Place::Aggregate(a) => {
+            let root = root.as_mut()?;
+            take(&mut root.aggregates[usize::from(a)]).map(Parcels::Aggr)
+        }
         Place::Volume(a, v) => {
             let aggregate = aggregate_mut(root, usize::from(a))?;
             take(&mut aggregate.volumes[usize::from(v)]).map(Parcels::Vol)
