@@ -24,15 +24,14 @@ use Rattle.parcel.proofs.Whole.{whole_is_in}
 
 -- ---- lists of children, each of which is new
 
-each_fits : {X : Type 0} (P : X → Type 0) (Fits : ℕ → X → Type 0) → ((i : ℕ) (x : X) → P x → Fits i x) → (i : ℕ) (xs : List (Option X)) → AllByRecursion (IsWholeChild P) xs → EachFits Fits i xs
-each_fits P Fits f i [] h = tt
-each_fits P Fits f i (None ∷ xs) h = absurd h.0
-each_fits P Fits f i (Some x ∷ xs) h = (f i x h.0, each_fits P Fits f (suc i) xs h.1)
-
-each_whole : {X : Type 0} (P IsWhole : X → Type 0) → ((x : X) → P x → IsWhole x) → (xs : List (Option X)) → AllByRecursion (IsWholeChild P) xs → AllByRecursion (IsWholeChild IsWhole) xs
-each_whole P IsWhole f [] h = tt
-each_whole P IsWhole f (None ∷ xs) h = absurd h.0
-each_whole P IsWhole f (Some x ∷ xs) h = (f x h.0, each_whole P IsWhole f xs h.1)
+each_new : {X : Type 0} (P : X → Type 0) (Fits : ℕ → X → Type 0) (IsWhole : X → Type 0) → ((i : ℕ) (x : X) → P x → Fits i x × IsWhole x)
+    → (i : ℕ) (xs : List (Option X)) → AllByRecursion (IsWholeChild P) xs → EachFits Fits i xs × AllByRecursion (IsWholeChild IsWhole) xs
+each_new P Fits IsWhole new i [] h = (tt, tt)
+each_new P Fits IsWhole new i (None ∷ xs) h = absurd h.0
+each_new P Fits IsWhole new i (Some x ∷ xs) h =
+    let here = new i x h.0 in
+    let rest = each_new P Fits IsWhole new (suc i) xs h.1 in
+    ((here.0, rest.0), (here.1, rest.1))
 
 new_at : {X : Type 0} (P : X → Type 0) (xs : List (Option X)) (i : ℕ) → AllByRecursion (IsWholeChild P) xs → IfSome (slice_index_or xs i None) P
 new_at P [] i h = tt
@@ -49,51 +48,39 @@ module _ (g : Geometry) where
   no_content : (p : StripePart) (f b : ℕ) → IsNewStripe p → content_at p.entries f b ≡ None
   no_content p f b h = ap (λ z. content_at z.entries f b) h
 
-  stripe_fits : (s : ℕ) (p : StripePart) → IsNewStripe p → FitsStripe g s p
-  stripe_fits s p h = record {
-    quota = ap (λ z. z.quota) h;
-    lies = λ f b there. absurd (true≢false (sym there ∙ ap is_some (no_content p f b h)));
-  }
+  stripe_new : (s : ℕ) (p : StripePart) → IsNewStripe p → FitsStripe g s p × Unit {0}
+  stripe_new s p h = (
+    record { quota = ap (λ z. z.quota) h; lies = λ f b there. absurd (true≢false (sym there ∙ ap is_some (no_content p f b h))) },
+    tt,
+  )
 
-  logical_fits : (l : Logical) → IsNewLogical g l → FitsLogical g l
-  logical_fits l h = record {
-    files = subst (λ n. n < 2 ^ g.files) (sym h.0) (pow_pos g.files);
-    count = h.1;
-    stripes = each_fits IsNewStripe (FitsStripe g) stripe_fits 0 l.stripes.items h.2;
-  }
+  logical_new : (x : Option Logical) → IsWholeChild (IsNewLogical g) x → IfSome x (FitsLogical g) × IsWholeChild IsWholeLogical x
+  logical_new None h = absurd h
+  logical_new (Some l) h =
+      let each = each_new IsNewStripe (FitsStripe g) (λ p. Unit {0}) stripe_new 0 l.stripes.items h.2 in
+      (record { files = subst (λ n. n < 2 ^ g.files) (sym h.0) (pow_pos g.files); count = h.1; stripes = each.0 }, each.1)
 
-  child_fits : (x : Option Logical) → IsWholeChild (IsNewLogical g) x → IfSome x (FitsLogical g)
-  child_fits None h = absurd h
-  child_fits (Some l) h = logical_fits l h
+  label_new : (x : Option Label) → IsWholeChild (λ l. l.bytes ≡ None) x → IsWholeChild (λ l. Unit {0}) x
+  label_new None h = absurd h
+  label_new (Some l) h = tt
 
-  volume_fits : (w : Vol) → IsNewVolume g w → FitsVolume g w
-  volume_fits w h = record { logical = child_fits w.logical h.logical }
+  volume_new : (w : Vol) → IsNewVolume g w → FitsVolume g w × IsWholeVolume w
+  volume_new w h =
+      let below = logical_new w.logical h.logical in
+      (record { logical = below.0 }, (below.1, label_new w.label h.label))
 
-  aggregate_fits : (r : Aggr) → IsNewAggregate g r → FitsAggregate g r
-  aggregate_fits r h = record { count = h.0; volumes = each_fits (IsNewVolume g) (λ v. FitsVolume g) (λ v. volume_fits) 0 r.volumes.items h.1 }
+  aggregate_new : (r : Aggr) → IsNewAggregate g r → FitsAggregate g r × IsWholeAggregate r
+  aggregate_new r h =
+      let each = each_new (IsNewVolume g) (λ v. FitsVolume g) IsWholeVolume (λ v. volume_new) 0 r.volumes.items h.1 in
+      (record { count = h.0; volumes = each.0 }, each.1)
 
-  pub root_fits : (r : Root) → IsNewRoot g r → FitsRoot g r
-  root_fits r h = record { count = h.0; aggregates = each_fits (IsNewAggregate g) (λ a. FitsAggregate g) (λ a. aggregate_fits) 0 r.aggregates.items h.1 }
-
-  logical_is_whole : (x : Option Logical) → IsWholeChild (IsNewLogical g) x → IsWholeChild IsWholeLogical x
-  logical_is_whole None h = absurd h
-  logical_is_whole (Some l) h = each_whole IsNewStripe (λ p. Unit {0}) (λ p k. tt) l.stripes.items h.2
-
-  label_is_whole : (x : Option Label) → IsWholeChild (λ l. l.bytes ≡ None) x → IsWholeChild (λ l. Unit {0}) x
-  label_is_whole None h = absurd h
-  label_is_whole (Some l) h = tt
-
-  volume_is_whole : (w : Vol) → IsNewVolume g w → IsWholeVolume w
-  volume_is_whole w h = (logical_is_whole w.logical h.logical, label_is_whole w.label h.label)
-
-  aggregate_is_whole : (r : Aggr) → IsNewAggregate g r → IsWholeAggregate r
-  aggregate_is_whole r h = each_whole (IsNewVolume g) IsWholeVolume volume_is_whole r.volumes.items h.1
-
-  root_is_whole : (r : Root) → IsNewRoot g r → IsWholeRoot r
-  root_is_whole r h = each_whole (IsNewAggregate g) IsWholeAggregate aggregate_is_whole r.aggregates.items h.1
+  pub root_new : (r : Root) → IsNewRoot g r → FitsRoot g r × IsWholeRoot r
+  root_new r h =
+      let each = each_new (IsNewAggregate g) (λ a. FitsAggregate g) IsWholeAggregate (λ a. aggregate_new) 0 r.aggregates.items h.1 in
+      (record { count = h.0; aggregates = each.0 }, each.1)
 
   pub new_all_in : (r : Root) → IsNewRoot g r → IsIn g [] (child_nodes root_nodes (Some r))
-  new_all_in r h q path related = whole_is_in g [] (parcels.Root r) (root_fits r h, root_is_whole r h) q path
+  new_all_in r h q path related = whole_is_in g [] (parcels.Root r) (root_new r h) q path
 
   -- ---- the state
 

@@ -1,5 +1,5 @@
 -- Inner: The pieces of one volume of the tree, and what the volume has once one of them was read.
-use Rattle.std.specs.Prelude.{◌≡◌, ◌↔◌, ℕ, Bool, zero, suc, ◌==◌, ◌%◌, ◌^◌, if◌then◌else◌, List, [], ◌∷◌, ◌++◌, replicate, unwrap_or, Option, Some, None, IfSome, IsTrue}
+use Rattle.std.specs.Prelude.{◌≡◌, ◌↔◌, ℕ, ◌<◌, Bool, zero, suc, ◌==◌, ◌%◌, ◌^◌, if◌then◌else◌, List, [], ◌∷◌, ◌++◌, length, replicate, unwrap_or, Option, Some, None, IfSome, IsTrue, Result, IsOk, OnOk}
 use Rattle.affinity.specs.Geometry.{stripe_of}
 use Rattle.affinity.specs.declared.geometry.Geometry.{Geometry}
 use Rattle.byteorder.specs.Endian.{little_bytes, little_number}
@@ -8,10 +8,12 @@ use Rattle.stripe.specs.Stripe.{StripePart}
 use Rattle.device_map.specs.Layout.{slice}
 use Rattle.meaning.specs.State.{State, IsState, one_if}
 use Rattle.meaning.specs.Serial.{no_label}
+use Rattle.image.specs.Pieces.{aggregate_of, volume_of, part_of, piece_count, piece_of, piece_size, with_piece}
 use Rattle.image.specs.Pieces.{is_made_in, is_sealed_in, has_file_in, label_in as decoded_label_in, block_in, part_piece, with_part}
 use Rattle.parcel.specs.Fits.{FitsStripe, FitsVolume, IsWholeChild, IsWholeVolume}
 use Rattle.parcel.specs.Nodes.{volume_nodes, node_files}
 use Rattle.parcel.specs.Shown.{blocks_in, volume_facts, shown_label}
+use Rattle.parcel.specs.Tree.{TreeView, IsWholeTree, state_in}
 use Rattle.parcel.specs.Volume.{VolumeFacts}
 use Rattle.parcel.specs.declared.parts.Logical.{Logical}
 use Rattle.parcel.specs.declared.parts.Vol.{Vol}
@@ -94,3 +96,17 @@ pub record IsStripeRead (g : Geometry) (files s : ℕ) (bytes : List ℕ) (good 
   pub whole : IsWholeChild (λ (p : StripePart). Unit {0}) new
   pub piece : IsTrue good ↔ IsStripePiece g files s bytes
   pub blocks : IsTrue good → (f b : ℕ) → blocks_in new f b ≡ block_in g bytes f b
+
+-- Bytes can be read into the tree as piece n: nothing is out, and where the piece is a volume's own the tree has no block of the volume.
+pub record CanRead (n : ℕ) (bytes : List ℕ) (t : TreeView) : Type 0 where
+  pub whole : IsWholeTree t
+  pub piece : n < piece_count t.geometry
+  pub size : length bytes ≡ piece_size t.geometry n
+  pub empty : part_of t.geometry n ≡ 0 → (f b : ℕ) → (state_in t).blocks (aggregate_of t.geometry n, volume_of t.geometry n, f, b) ≡ None
+
+-- The bytes were read as piece n of an image of this version: `Ok` exactly if they encode what they decode to, which the tree then has.
+pub record Reads {E : Type 0} (version n : ℕ) (bytes : List ℕ) (result : Result (Unit {0}) E) (old new : TreeView) : Type 0 where
+  pub good : IsOk result ↔ (bytes ≡ piece_of version old.geometry (with_piece version old.geometry (state_in old) n bytes) n)
+  pub taken : OnOk result (state_in new ≡ with_piece version old.geometry (state_in old) n bytes)
+  pub whole : OnOk result (IsWholeTree new)
+  pub geometry : new.geometry ≡ old.geometry

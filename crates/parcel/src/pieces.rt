@@ -5,7 +5,7 @@ ghost use Rattle.image.specs.Pieces.{aggregate_of, volume_of, part_of, part_piec
 ghost use Rattle.image.specs.Pieces.{piece_count, piece_of, piece_size, with_piece};
 ghost use Rattle.meaning.specs.State.{State, IsState};
 ghost use Rattle.parcel.specs.Fits.{FitsVolume, IsWholeVolume};
-ghost use Rattle.parcel.specs.Pieces.{HasFacts, IsPieceOfVolumeRead};
+ghost use Rattle.parcel.specs.Pieces.{HasFacts, IsPieceOfVolumeRead, CanRead, Reads};
 ghost use Rattle.parcel.specs.Shown.{volume_facts};
 ghost use Rattle.parcel.specs.Tree.{IsWholeTree, state_in};
 
@@ -136,17 +136,8 @@ pub fn read_piece_1(t: &mut Tree, n: usize, bytes: &[u8]) -> Result<(), BadPiece
 
 // Reads bytes into the tree as piece `n` of an image of this version.
 fn read_piece_of_version(t: &mut Tree, version: u8, n: usize, bytes: &[u8]) -> Result<(), BadPiece>
-    requires whole { IsWholeTree t.old }
-    requires piece { n < piece_count t.old.geometry }
-    requires size { length bytes.now ≡ piece_size t.old.geometry n }
-    requires empty { part_of t.old.geometry n ≡ 0 → (f b : ℕ)
-        → (state_in t.old).blocks (aggregate_of t.old.geometry n, volume_of t.old.geometry n, f, b) ≡ None }
-    ensures good { IsOk result ↔ (bytes.now
-        ≡ piece_of version t.old.geometry (with_piece version t.old.geometry (state_in t.old) n bytes.now) n) }
-    ensures taken { OnOk result (state_in t.new
-        ≡ with_piece version t.old.geometry (state_in t.old) n bytes.now) }
-    ensures whole { OnOk result (IsWholeTree t.new) }
-    ensures geometry { t.new.geometry ≡ t.old.geometry }
+    requires { CanRead n bytes.now t.old }
+    ensures { Reads version n bytes.now result t.old t.new }
 {
     let g = t.geometry;
     let place = place_of_piece(&g, n);

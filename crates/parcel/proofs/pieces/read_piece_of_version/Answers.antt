@@ -1,6 +1,8 @@
 -- The bytes were read into the volume of the piece; if they are good, the state is the one before, with the piece taken in.
 use Rattle.std.proofs.Common.{◌≡◌, ℕ, ◌<◌, List, length, true, false, true≢false, None, Some, refl, sym, ◌∙◌, ap, subst}
+use Rattle.std.specs.Prelude.{Ok, Err}
 use Rattle.affinity.specs.Interval.{IsPath}
+use Rattle.affinity.specs.declared.geometry.Geometry.{Geometry}
 use Rattle.affinity.specs.Path.{volume}
 use Rattle.meaning.specs.State.{State, IsState}
 use Rattle.image.specs.Pieces.{aggregate_of, volume_of, part_of, piece_count, piece_of, piece_size, part_piece, piece_part_size, with_part, with_piece}
@@ -10,38 +12,38 @@ use Rattle.std.specs.Prelude.{IfSome}
 use Rattle.parcel.specs.Fits.{FitsVolume, IsWholeChild, IsWholeVolume}
 use Rattle.parcel.specs.Lends.{volume_of_tree, with_volume}
 use Rattle.parcel.specs.Nodes.{Nodes, child_nodes, root_nodes, tree_state}
+use Rattle.parcel.specs.Pieces.{CanRead, Reads}
 use Rattle.parcel.specs.Tree.{TreeView, IsWholeTree, state_in}
 use Rattle.parcel.proofs.PieceParts.{all_bytes, piece_is_there}
 use Rattle.parcel.proofs.PiecesTaken.{has_then, part_state, read_good, read_taken, read_in}
 use Rattle.parcel.proofs.VolumeWritten.{fits_with}
 use Rattle.parcel.proofs.pieces.read_piece_of_version.Goals as goal
 
+piece_there : (version : ℕ) (g : Geometry) (x : State) (n : ℕ) (bytes : List ℕ) {a v p : ℕ} → a ≡ aggregate_of g n → v ≡ volume_of g n → p ≡ part_of g n
+    → part_piece version g (with_part version g x a v p bytes) a v p ≡ piece_of version g (with_piece version g x n bytes) n
+piece_there version g x n bytes a v p i = part_piece version g (with_part version g x (a i) (v i) (p i) bytes) (a i) (v i) (p i)
+
 pub read_part-requires-clause-fits : goal.read_part-requires-clause-fits
 read_part-requires-clause-fits c =
     let g = c.t.inside.geometry in
     let at = c.place_of_piece-place in
-    let whole = subst IsWholeTree (sym c.t.view_is) c.requires.whole in
-    let piece = subst (λ (t : TreeView). c.args.n < piece_count t.geometry) (sym c.t.view_is) c.requires.piece in
-    let there = piece_is_there g c.t.inside.root c.t.invariant whole.all_in c.args.n piece at.ensures.aggregate at.ensures.volume in
-    subst (λ o. IfSome o (FitsVolume g)) (sym c.volume_mut.ensures.value ∙ ap option_copied_mut c.in-Some.is) there.0
+    let can = subst (CanRead c.args.n c.args.bytes.now) (sym c.t.view_is) c.requires in
+    let there = piece_is_there g c.t.inside.root c.t.invariant can.whole.all_in c.args.n can.piece at.ensures.aggregate at.ensures.volume in
+    subst (λ o. IfSome o (FitsVolume g)) (sym c.in-Some.ensures.value) there.0
 
 pub read_part-requires-clause-whole : goal.read_part-requires-clause-whole
 read_part-requires-clause-whole c =
-    let g = c.t.inside.geometry in
     let at = c.place_of_piece-place in
-    let whole = subst IsWholeTree (sym c.t.view_is) c.requires.whole in
-    let piece = subst (λ (t : TreeView). c.args.n < piece_count t.geometry) (sym c.t.view_is) c.requires.piece in
-    let there = piece_is_there g c.t.inside.root c.t.invariant whole.all_in c.args.n piece at.ensures.aggregate at.ensures.volume in
-    subst (λ o. IsWholeChild IsWholeVolume o) (sym c.volume_mut.ensures.value ∙ ap option_copied_mut c.in-Some.is) there.1
+    let can = subst (CanRead c.args.n c.args.bytes.now) (sym c.t.view_is) c.requires in
+    let there = piece_is_there c.t.inside.geometry c.t.inside.root c.t.invariant can.whole.all_in c.args.n can.piece at.ensures.aggregate at.ensures.volume in
+    subst (λ o. IsWholeChild IsWholeVolume o) (sym c.in-Some.ensures.value) there.1
 
 pub unreachable-requires : goal.unreachable-requires
 unreachable-requires c =
-    let g = c.t.inside.geometry in
     let at = c.place_of_piece-place in
-    let whole = subst IsWholeTree (sym c.t.view_is) c.requires.whole in
-    let piece = subst (λ (t : TreeView). c.args.n < piece_count t.geometry) (sym c.t.view_is) c.requires.piece in
-    let there = piece_is_there g c.t.inside.root c.t.invariant whole.all_in c.args.n piece at.ensures.aggregate at.ensures.volume in
-    subst (λ o. IsWholeChild IsWholeVolume o) (sym c.volume_mut.ensures.value ∙ ap option_copied_mut c.in-None.is) there.1
+    let can = subst (CanRead c.args.n c.args.bytes.now) (sym c.t.view_is) c.requires in
+    let there = piece_is_there c.t.inside.geometry c.t.inside.root c.t.invariant can.whole.all_in c.args.n can.piece at.ensures.aggregate at.ensures.volume in
+    subst (λ o. IsWholeChild IsWholeVolume o) (sym c.in-None.ensures.value) there.1
 
 pub invariant_of-t : goal.invariant_of-t
 invariant_of-t c =
@@ -53,90 +55,45 @@ invariant_of-t-2 c =
     let at = c.place_of_piece-place.result in
     fits_with c.t.inside.geometry at.volume c.read_part.new.volume at.aggregate c.t.inside.root c.t.invariant c.read_part.ensures.fits
 
-pub returns-then-not-read_part-clause-good : goal.returns-then-not-read_part-clause-good
-returns-then-not-read_part-clause-good c =
+pub returns-then-not-read_part : goal.returns-then-not-read_part
+returns-then-not-read_part c =
     let g = c.t.inside.geometry in
-    let n : ℕ = c.args.n in
     let bytes : List ℕ = c.args.bytes.now in
     let at = c.place_of_piece-place in
-    let a : ℕ = at.result.aggregate in
-    let v : ℕ = at.result.volume in
-    let p : ℕ = at.result.part in
-    let whole = subst IsWholeTree (sym c.t.view_is) c.requires.whole in
+    let can = subst (CanRead c.args.n bytes) (sym c.t.view_is) c.requires in
     let x : State = tree_state g (child_nodes root_nodes c.t.inside.root) in
-    let read = c.read_part.ensures in
-    let found : volume_of_tree c.t.inside.root a v ≡ Some c.in-Some.volume.now = sym c.volume_mut.ensures.value ∙ ap option_copied_mut c.in-Some.is in
-    let good = read_good a v c.t.inside.root found read whole.state in
-    let same : part_piece c.args.version g (with_part c.args.version g x a v p bytes) a v p ≡ piece_of c.args.version g (with_piece c.args.version g x n bytes) n =
-    (λ i. part_piece c.args.version g (with_part c.args.version g x (at.ensures.aggregate i) (at.ensures.volume i) (at.ensures.part i) bytes)
-    (at.ensures.aggregate i) (at.ensures.volume i) (at.ensures.part i)) in
-    subst (λ (t : TreeView). (false ≡ true → bytes ≡ piece_of c.args.version t.geometry (with_piece c.args.version t.geometry (state_in t) n bytes)
-    n) × (bytes ≡ piece_of c.args.version t.geometry (with_piece c.args.version t.geometry (state_in t) n bytes) n → false ≡ true)) c.t.view_is
-    (λ on. absurd (true≢false (sym on)), λ spelled. sym c.if-not-read_part.true ∙ good.1 (spelled ∙ sym same))
+    let good = read_good at.result.aggregate at.result.volume c.t.inside.root (sym c.in-Some.ensures.value) c.read_part.ensures can.whole.state in
+    let same = piece_there c.args.version g x c.args.n bytes at.ensures.aggregate at.ensures.volume at.ensures.part in
+    rw (sym c.t.view_is) (record {
+      good = (λ on. absurd (true≢false (sym on)), λ spelled. sym c.if-not-read_part.true ∙ good.1 (spelled ∙ sym same));
+      taken = tt;
+      whole = tt;
+      geometry = refl;
+    })
 
-pub returns-clause-good : goal.returns-clause-good
-returns-clause-good c =
+pub returns : goal.returns
+returns c =
     let g = c.t.inside.geometry in
     let n : ℕ = c.args.n in
     let bytes : List ℕ = c.args.bytes.now in
     let at = c.place_of_piece-place in
     let a : ℕ = at.result.aggregate in
     let v : ℕ = at.result.volume in
-    let p : ℕ = at.result.part in
-    let whole = subst IsWholeTree (sym c.t.view_is) c.requires.whole in
+    let can = subst (CanRead n bytes) (sym c.t.view_is) c.requires in
     let x : State = tree_state g (child_nodes root_nodes c.t.inside.root) in
     let read = c.read_part.ensures in
-    let found : volume_of_tree c.t.inside.root a v ≡ Some c.in-Some.volume.now = sym c.volume_mut.ensures.value ∙ ap option_copied_mut c.in-Some.is in
-    let good = read_good a v c.t.inside.root found read whole.state in
-    let same : part_piece c.args.version g (with_part c.args.version g x a v p bytes) a v p ≡ piece_of c.args.version g (with_piece c.args.version g x n bytes) n =
-    (λ i. part_piece c.args.version g (with_part c.args.version g x (at.ensures.aggregate i) (at.ensures.volume i) (at.ensures.part i) bytes)
-    (at.ensures.aggregate i) (at.ensures.volume i) (at.ensures.part i)) in
-    subst (λ (t : TreeView). (true ≡ true → bytes ≡ piece_of c.args.version t.geometry (with_piece c.args.version t.geometry (state_in t) n bytes)
-    n) × (bytes ≡ piece_of c.args.version t.geometry (with_piece c.args.version t.geometry (state_in t) n bytes) n → true ≡ true)) c.t.view_is
-    (λ on. good.0 c.if-not-read_part.false ∙ same, λ spelled. refl)
-
-pub returns-clause-taken : goal.returns-clause-taken
-returns-clause-taken c =
-    let g = c.t.inside.geometry in
-    let n : ℕ = c.args.n in
-    let bytes : List ℕ = c.args.bytes.now in
-    let at = c.place_of_piece-place in
-    let a : ℕ = at.result.aggregate in
-    let v : ℕ = at.result.volume in
-    let new : Nodes = child_nodes root_nodes (with_volume c.t.inside.root a v (Some c.read_part.new.volume)) in
-    let x : State = tree_state g (child_nodes root_nodes c.t.inside.root) in
-    let read = c.read_part.ensures in
-    let piece = subst (λ (t : TreeView). n < piece_count t.geometry) (sym c.t.view_is) c.requires.piece in
-    let path : IsPath g (volume a v) = subst (λ q. IsPath g q) (λ i. volume (sym at.ensures.aggregate i) (sym at.ensures.volume i)) (in_aggregates g n piece, in_volumes g n) in
-    let found : volume_of_tree c.t.inside.root a v ≡ Some c.in-Some.volume.now = sym c.volume_mut.ensures.value ∙ ap option_copied_mut c.in-Some.is in
-    subst (λ (t : TreeView). tree_state g new ≡ with_piece c.args.version t.geometry (state_in t) n bytes) c.t.view_is
-    (read_taken a v c.t.inside.root found read c.t.invariant path c.if-not-read_part.false
-    ∙ (λ i. with_part c.args.version g x (at.ensures.aggregate i) (at.ensures.volume i) (at.ensures.part i) bytes))
-
-pub returns-clause-whole : goal.returns-clause-whole
-returns-clause-whole c =
-    let g = c.t.inside.geometry in
-    let n : ℕ = c.args.n in
-    let bytes : List ℕ = c.args.bytes.now in
-    let at = c.place_of_piece-place in
-    let a : ℕ = at.result.aggregate in
-    let v : ℕ = at.result.volume in
-    let p : ℕ = at.result.part in
-    let whole = subst IsWholeTree (sym c.t.view_is) c.requires.whole in
-    let x : State = tree_state g (child_nodes root_nodes c.t.inside.root) in
-    let read = c.read_part.ensures in
-    let found : volume_of_tree c.t.inside.root a v ≡ Some c.in-Some.volume.now = sym c.volume_mut.ensures.value ∙ ap option_copied_mut c.in-Some.is in
-    let good = read_good a v c.t.inside.root found read whole.state in
-    let piece = subst (λ (t : TreeView). n < piece_count t.geometry) (sym c.t.view_is) c.requires.piece in
-    let path : IsPath g (volume a v) = subst (λ q. IsPath g q) (λ i. volume (sym at.ensures.aggregate i) (sym at.ensures.volume i)) (in_aggregates g n piece, in_volumes g n) in
-    let size : length bytes ≡ piece_part_size g p = subst (λ (t : TreeView). length bytes ≡ piece_size t.geometry n) (sym c.t.view_is) c.requires.size ∙ ap (piece_part_size g) (sym at.ensures.part) in
-    let none = subst (λ (t : TreeView). part_of t.geometry n ≡ 0 → (f b : ℕ)
-    → (state_in t).blocks (aggregate_of t.geometry n, volume_of t.geometry n, f, b) ≡ None) (sym c.t.view_is) c.requires.empty in
-    let empty : p ≡ 0 → (f b : ℕ) → x.blocks (a, v, f, b) ≡ None = λ first f b. (λ i. x.blocks (at.ensures.aggregate i, at.ensures.volume i, f, b)) ∙ none (sym at.ensures.part ∙ first) f b in
+    let found = sym c.in-Some.ensures.value in
+    let good = read_good a v c.t.inside.root found read can.whole.state in
+    let same = piece_there c.args.version g x n bytes at.ensures.aggregate at.ensures.volume at.ensures.part in
+    let path : IsPath g (volume a v) = subst (λ q. IsPath g q) (λ i. volume (sym at.ensures.aggregate i) (sym at.ensures.volume i)) (in_aggregates g n can.piece, in_volumes g n) in
     let taken = read_taken a v c.t.inside.root found read c.t.invariant path c.if-not-read_part.false in
-    let has = has_then a v c.t.inside.root found read in
-    record {
-      all_in = read_in a v c.t.inside.root found read c.t.invariant path whole.all_in;
-      state = subst (λ (y : State). IsState g y) (sym taken)
-          (part_state c.args.version whole.state path c.in-Some.volume.now has empty (size, all_bytes bytes (λ i. (c.type_inv.bytes i).fits)) (good.0 c.if-not-read_part.false));
-    }
+    let empty : at.result.part ≡ 0 → (f b : ℕ) → x.blocks (a, v, f, b) ≡ None =
+        λ first f b. (λ i. x.blocks (at.ensures.aggregate i, at.ensures.volume i, f, b)) ∙ can.empty (sym at.ensures.part ∙ first) f b in
+    let state = part_state c.args.version can.whole.state path c.in-Some.volume.now (has_then a v c.t.inside.root found read) empty
+        (can.size ∙ ap (piece_part_size g) (sym at.ensures.part), all_bytes bytes (λ i. (c.type_inv.bytes i).fits)) (good.0 c.if-not-read_part.false) in
+    rw (sym c.t.view_is) (record {
+      good = (λ on. good.0 c.if-not-read_part.false ∙ same, λ spelled. refl);
+      taken = taken ∙ (λ i. with_part c.args.version g x (at.ensures.aggregate i) (at.ensures.volume i) (at.ensures.part i) bytes);
+      whole = record { all_in = read_in a v c.t.inside.root found read c.t.invariant path can.whole.all_in; state = subst (λ (y : State). IsState g y) (sym taken) state };
+      geometry = refl;
+    })
