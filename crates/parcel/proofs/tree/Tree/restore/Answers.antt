@@ -5,8 +5,7 @@ use Rattle.affinity.specs.Path.{Path}
 use Rattle.affinity.specs.Place.{path}
 use Rattle.affinity.proofs.Preorder.{path_unique}
 use Rattle.parcel.specs.Fits.{Fits, IsKindOf}
-use Rattle.parcel.specs.Nodes.{Nodes, child_nodes, root_nodes, SameNodes}
-use Rattle.parcel.specs.Tree.{TreeView, tree_nodes, IsOut, RestoresAt}
+use Rattle.parcel.specs.Tree.{TreeView}
 use Rattle.parcel.proofs.Lending.{map_result, restored_from_put}
 use Rattle.parcel.proofs.tree.Tree.restore.Goals as goal
 
@@ -17,24 +16,15 @@ put_at-requires-clause-parcels c =
 
 pub returns-clause-ok : goal.returns-clause-ok
 returns-clause-ok c =
-    let g = c.self.inside.geometry in
-    let new : Nodes = child_nodes root_nodes c.put_at.new.root in
-    map_result c.put_at.result (λ r put.
-    subst (λ (s : TreeView). (q : Path) → IsAffinityOf s.geometry q c.args.a → RestoresAt s.geometry q c.args.p (tree_nodes s) new) c.self.view_is
-    (λ q h. subst (λ r. RestoresAt g r c.args.p (child_nodes root_nodes c.self.inside.root) new) (path_unique g (path c.place-place.result) q c.args.a c.place-place.ensures h)
-    (restored_from_put g (path c.place-place.result) c.args.p _ new put))) (λ r k. tt) c.put_at.ensures.nodes
+    rw (sym c.self.view_is) (map_result c.put_at.result (λ r put q h. rw (sym (path_unique _ _ q c.args.a c.place-place.ensures h)) (restored_from_put _ _ c.args.p _ _ put))
+    (λ r k. tt) c.put_at.ensures.nodes)
 
 pub returns-clause-back : goal.returns-clause-back
 returns-clause-back c = map_result c.put_at.result (λ r k. tt) (λ r k. k.back) c.put_at.ensures.nodes
 
 pub returns-clause-err : goal.returns-clause-err
 returns-clause-err c =
-    let g = c.self.inside.geometry in
-    map_result c.put_at.result (λ r k. tt) (λ r k.
-    subst (λ (s : TreeView). (q : Path) → IsAffinityOf s.geometry q c.args.a → IsOut q (tree_nodes s) → IsKindOf q c.args.p → ⊥) c.self.view_is
-    (λ q h. subst (λ r. IsOut r (child_nodes root_nodes c.self.inside.root) → IsKindOf r c.args.p → ⊥)
-    (path_unique g (path c.place-place.result) q c.args.a c.place-place.ensures h) k.why)) c.put_at.ensures.nodes
+    rw (sym c.self.view_is) (map_result c.put_at.result (λ r k. tt) (λ r k q h. rw (sym (path_unique _ _ q c.args.a c.place-place.ensures h)) k.why) c.put_at.ensures.nodes)
 
 pub returns-clause-same : goal.returns-clause-same
-returns-clause-same c =
-    map_result c.put_at.result (λ r k. tt) (λ r k. subst (λ (s : TreeView). SameNodes (tree_nodes s) (child_nodes root_nodes c.put_at.new.root)) c.self.view_is k.same) c.put_at.ensures.nodes
+returns-clause-same c = rw (sym c.self.view_is) (map_result c.put_at.result (λ r k. tt) (λ r k. k.same) c.put_at.ensures.nodes)
