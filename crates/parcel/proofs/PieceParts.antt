@@ -20,7 +20,7 @@ use Rattle.parcel.specs.Lends.{aggregate_of_tree, volume_of_tree}
 use Rattle.parcel.specs.Nodes.{Nodes, child_nodes, stripe_nodes, label_nodes, logical_nodes, volume_nodes, aggregate_nodes, root_nodes, node_made, node_sealed, node_has_file, node_block, node_label, tree_state}
 use Rattle.parcel.specs.Pieces.{HasFacts, IsPieceOfVolumeRead, spelled, decoded_piece, volume_with, with_files}
 use Rattle.parcel.specs.Shown.{volume_facts, files_in, blocks_below, blocks_in, blocks_of, shown_label}
-use Rattle.parcel.specs.Tree.{IsIn}
+use Rattle.parcel.specs.Tree.{TreeView, IsWellFormed, IsWholeTree, IsIn}
 use Rattle.parcel.specs.declared.parts.Label.{Label}
 use Rattle.parcel.specs.declared.parts.Logical.{Logical}
 use Rattle.parcel.specs.declared.parts.Vol.{Vol}
@@ -97,7 +97,7 @@ module _ (g : Geometry) where
   tree_whole o fits all = ⊎_elim (λ whole. whole) (λ gap. absurd (true≢false (sym (all gap.0 gap.1 refl) ∙ ap is_some gap.2))) (root_or g o fits)
 
   -- a child that is in, fits and is whole
-  abbrev IsThere : {X : Type 0} → (X → Type 0) → (X → Type 0) → Option X → Type 0
+  abbrev pub IsThere : {X : Type 0} → (X → Type 0) → (X → Type 0) → Option X → Type 0
   IsThere IsFit IsWhole found = IfSome found IsFit × IsWholeChild IsWhole found
 
   aggregate_is_there : (a : ℕ) → a < g.aggregates → (o : Option Root) → IfSome o (FitsRoot g) → IsWholeChild IsWholeRoot o → IsThere (FitsAggregate g) IsWholeAggregate (aggregate_of_tree o a)
@@ -111,16 +111,9 @@ module _ (g : Geometry) where
       by None there = absurd there.1
       by (Some r) there = ((volume_child g v).fits r there.0, child_whole_at IsWholeVolume r.volumes.items v (omega (arith, below, there.0.count)) there.1)
 
-  -- the volume of a piece, where nothing is out
-  pub piece_is_there : (o : Option Root) → IfSome o (FitsRoot g) → IsIn g [] (child_nodes root_nodes o) → (n : ℕ) → n < piece_count g
-      → {a v : ℕ} → a ≡ aggregate_of g n → v ≡ volume_number g n → IsThere (FitsVolume g) IsWholeVolume (volume_of_tree o a v)
-  piece_is_there o fits all n below {a} {v} aggregate volume =
-      volume_is_there a v (subst (λ (k : ℕ). k < g.volumes) (sym volume) (in_volumes g n)) o
-      (aggregate_is_there a (subst (λ (k : ℕ). k < g.aggregates) (sym aggregate) (in_aggregates g n below)) o fits (tree_whole o fits all))
-
   -- ---- the nodes and the state there
 
-  pub nodes_there : (a v : ℕ) (o : Option Root) (q : Path) → child_nodes root_nodes o (a ∷ v ∷ q) ≡ child_nodes volume_nodes (volume_of_tree o a v) q
+  nodes_there : (a v : ℕ) (o : Option Root) (q : Path) → child_nodes root_nodes o (a ∷ v ∷ q) ≡ child_nodes volume_nodes (volume_of_tree o a v) q
   nodes_there a v None q = refl
   nodes_there a v (Some r) q = by (slice_index_or r.aggregates.items a None)
     where
@@ -153,3 +146,19 @@ module _ (g : Geometry) where
     blocks = λ f b. ap (λ o. node_block o f b) (at (0 ∷ stripe_of g f b ∷ [])) ∙ blocks_same w.logical f b;
     label = ap node_label (at (1 ∷ [])) ∙ label_same w.label;
   }
+
+  -- so has the state of the tree
+  pub has_volume : (o : Option Root) (a v : ℕ) {w : Vol} → Some w ≡ volume_of_tree o a v → HasFacts (tree_state g (child_nodes root_nodes o)) a v (volume_facts g w)
+  has_volume o a v {w} is = state_there (child_nodes root_nodes o) a v w (λ q. nodes_there a v o q ∙ ap (λ x. child_nodes volume_nodes x q) (sym is))
+
+-- the volume of a piece, where nothing is out
+pub piece_is_there : (s : TreeView) {t : TreeView} → s ≡ t → IsWellFormed s → IsWholeTree t → {n : ℕ} → n < piece_count t.geometry
+    → {a v : ℕ} → a ≡ aggregate_of s.geometry n → v ≡ volume_number s.geometry n → {found : Option Vol} → found ≡ volume_of_tree s.root a v
+    → IsThere s.geometry (FitsVolume s.geometry) IsWholeVolume found
+piece_is_there s view fits whole {n} below {a} {v} aggregate volume is =
+    let g = s.geometry in
+    let piece = subst (λ (t : TreeView). n < piece_count t.geometry) (sym view) below in
+    subst (IsThere g (FitsVolume g) IsWholeVolume) (sym is)
+    (volume_is_there g a v (subst (λ (k : ℕ). k < g.volumes) (sym volume) (in_volumes g n)) s.root
+    (aggregate_is_there g a (subst (λ (k : ℕ). k < g.aggregates) (sym aggregate) (in_aggregates g n piece)) s.root fits
+    (tree_whole g s.root fits (subst IsWholeTree (sym view) whole).all_in)))

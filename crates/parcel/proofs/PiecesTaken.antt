@@ -27,7 +27,7 @@ use Rattle.parcel.specs.declared.parts.Vol.{Vol}
 use Rattle.parcel.specs.declared.parts.Parcels.TheVariants as parcels
 use Rattle.parcel.proofs.Leaving.{put_leaves, put_outside}
 use Rattle.parcel.proofs.Lending.{begins_split, put_there, restored_is_in}
-use Rattle.parcel.proofs.PieceParts.{nodes_there, state_there}
+use Rattle.parcel.proofs.PieceParts.{has_volume, state_there}
 use Rattle.parcel.proofs.Shows.{has_none}
 use Rattle.parcel.proofs.StripePieces.{stripe_is_piece, stripe_state}
 use Rattle.parcel.proofs.Slots.{volume_slot}
@@ -119,16 +119,13 @@ abbrev nodes_of : Option Root → Nodes
 nodes_of o = child_nodes root_nodes o
 
 module _ {version : ℕ} {g : Geometry} {part : ℕ} {bytes : List ℕ} {good : Bool} (a v : ℕ) (o : Option Root) {was now : Vol}
-    (there : volume_of_tree o a v ≡ Some was) (read : IsPieceOfVolumeRead version g part bytes good was now) where
-  pub has_then : HasFacts (tree_state g (nodes_of o)) a v (volume_facts g was)
-  has_then = state_there g (nodes_of o) a v was (λ q. nodes_there g a v o q ∙ ap (λ x. child_nodes volume_nodes x q) there)
-
+    (there : Some was ≡ volume_of_tree o a v) (read : IsPieceOfVolumeRead version g part bytes good was now) where
   pub read_good : IsState g (tree_state g (nodes_of o)) → IsTrue good ↔ (bytes ≡ part_piece version g (with_part version g (tree_state g (nodes_of o)) a v part bytes) a v part)
-  read_good is = read.spelled (tree_state g (nodes_of o)) a v is has_then
+  read_good is = read.spelled (tree_state g (nodes_of o)) a v is (has_volume g o a v there)
 
   module _ (fits : IfSome o (FitsRoot g)) (path : IsPath g (volume a v)) where
     nodes : PutsBack (volume a v) (volume_nodes now) (nodes_of o) (nodes_of (with_volume o a v (Some now)))
-    nodes = (volume_slot g o fits a v path (sym there)).put (Some now)
+    nodes = (volume_slot g o fits a v path there).put (Some now)
 
     pub read_taken : IsTrue good → tree_state g (nodes_of (with_volume o a v (Some now))) ≡ with_part version g (tree_state g (nodes_of o)) a v part bytes
     read_taken on =
@@ -136,7 +133,7 @@ module _ {version : ℕ} {g : Geometry} {part : ℕ} {bytes : List ℕ} {good : 
         let told = subst (λ (h : VolumeFacts). HasFacts (tree_state g (nodes_of (with_volume o a v (Some now)))) a v h) (read.facts on) after in
         agree_in_and_out g (volume a v) (tree_state g (nodes_of (with_volume o a v (Some now)))) (with_part version g (tree_state g (nodes_of o)) a v part bytes)
         (same_there g a v (tree_state g (nodes_of (with_volume o a v (Some now)))) (with_part version g (tree_state g (nodes_of o)) a v part bytes) _ told
-        (facts_taken g a v version (tree_state g (nodes_of o)) (volume_facts g was) has_then part bytes))
+        (facts_taken g a v version (tree_state g (nodes_of o)) (volume_facts g was) (has_volume g o a v there) part bytes))
         (agree-trans (put_leaves g (volume a v) (volume_nodes now) (nodes_of o) (nodes_of (with_volume o a v (Some now))) nodes)
         (agree-sym (elsewhere_taken g a v version (tree_state g (nodes_of o)) part bytes)))
 

@@ -14,8 +14,8 @@ use Rattle.parcel.specs.Lends.{volume_of_tree, with_volume}
 use Rattle.parcel.specs.Nodes.{Nodes, child_nodes, root_nodes, tree_state}
 use Rattle.parcel.specs.Pieces.{CanRead, Reads}
 use Rattle.parcel.specs.Tree.{TreeView, IsWholeTree, state_in}
-use Rattle.parcel.proofs.PieceParts.{all_bytes, piece_is_there}
-use Rattle.parcel.proofs.PiecesTaken.{has_then, part_state, read_good, read_taken, read_in}
+use Rattle.parcel.proofs.PieceParts.{all_bytes, has_volume, piece_is_there}
+use Rattle.parcel.proofs.PiecesTaken.{part_state, read_good, read_taken, read_in}
 use Rattle.parcel.proofs.VolumeWritten.{fits_with}
 use Rattle.parcel.proofs.pieces.read_piece_of_version.Goals as goal
 
@@ -25,25 +25,18 @@ piece_there version g x n bytes a v p i = part_piece version g (with_part versio
 
 pub read_part-requires-clause-fits : goal.read_part-requires-clause-fits
 read_part-requires-clause-fits c =
-    let g = c.t.inside.geometry in
-    let at = c.place_of_piece-place in
-    let can = subst (CanRead c.args.n c.args.bytes.now) (sym c.t.view_is) c.requires in
-    let there = piece_is_there g c.t.inside.root c.t.invariant can.whole.all_in c.args.n can.piece at.ensures.aggregate at.ensures.volume in
-    subst (λ o. IfSome o (FitsVolume g)) (sym c.in-Some.ensures.value) there.0
+    let at = c.place_of_piece-place.ensures in
+    (piece_is_there _ c.t.view_is c.t.invariant c.requires.whole c.requires.piece at.aggregate at.volume c.in-Some.ensures.value).0
 
 pub read_part-requires-clause-whole : goal.read_part-requires-clause-whole
 read_part-requires-clause-whole c =
-    let at = c.place_of_piece-place in
-    let can = subst (CanRead c.args.n c.args.bytes.now) (sym c.t.view_is) c.requires in
-    let there = piece_is_there c.t.inside.geometry c.t.inside.root c.t.invariant can.whole.all_in c.args.n can.piece at.ensures.aggregate at.ensures.volume in
-    subst (λ o. IsWholeChild IsWholeVolume o) (sym c.in-Some.ensures.value) there.1
+    let at = c.place_of_piece-place.ensures in
+    (piece_is_there _ c.t.view_is c.t.invariant c.requires.whole c.requires.piece at.aggregate at.volume c.in-Some.ensures.value).1
 
 pub unreachable-requires : goal.unreachable-requires
 unreachable-requires c =
-    let at = c.place_of_piece-place in
-    let can = subst (CanRead c.args.n c.args.bytes.now) (sym c.t.view_is) c.requires in
-    let there = piece_is_there c.t.inside.geometry c.t.inside.root c.t.invariant can.whole.all_in c.args.n can.piece at.ensures.aggregate at.ensures.volume in
-    subst (λ o. IsWholeChild IsWholeVolume o) (sym c.in-None.ensures.value) there.1
+    let at = c.place_of_piece-place.ensures in
+    (piece_is_there _ c.t.view_is c.t.invariant c.requires.whole c.requires.piece at.aggregate at.volume c.in-None.ensures.value).1
 
 pub invariant_of-t : goal.invariant_of-t
 invariant_of-t c =
@@ -62,7 +55,7 @@ returns-then-not-read_part c =
     let at = c.place_of_piece-place in
     let can = subst (CanRead c.args.n bytes) (sym c.t.view_is) c.requires in
     let x : State = tree_state g (child_nodes root_nodes c.t.inside.root) in
-    let good = read_good at.result.aggregate at.result.volume c.t.inside.root (sym c.in-Some.ensures.value) c.read_part.ensures can.whole.state in
+    let good = read_good at.result.aggregate at.result.volume c.t.inside.root c.in-Some.ensures.value c.read_part.ensures can.whole.state in
     let same = piece_there c.args.version g x c.args.n bytes at.ensures.aggregate at.ensures.volume at.ensures.part in
     rw (sym c.t.view_is) (record {
       good = (λ on. absurd (true≢false (sym on)), λ spelled. sym c.if-not-read_part.true ∙ good.1 (spelled ∙ sym same));
@@ -82,14 +75,14 @@ returns c =
     let can = subst (CanRead n bytes) (sym c.t.view_is) c.requires in
     let x : State = tree_state g (child_nodes root_nodes c.t.inside.root) in
     let read = c.read_part.ensures in
-    let found = sym c.in-Some.ensures.value in
+    let found = c.in-Some.ensures.value in
     let good = read_good a v c.t.inside.root found read can.whole.state in
     let same = piece_there c.args.version g x n bytes at.ensures.aggregate at.ensures.volume at.ensures.part in
     let path : IsPath g (volume a v) = subst (λ q. IsPath g q) (λ i. volume (sym at.ensures.aggregate i) (sym at.ensures.volume i)) (in_aggregates g n can.piece, in_volumes g n) in
     let taken = read_taken a v c.t.inside.root found read c.t.invariant path c.if-not-read_part.false in
     let empty : at.result.part ≡ 0 → (f b : ℕ) → x.blocks (a, v, f, b) ≡ None =
         λ first f b. (λ i. x.blocks (at.ensures.aggregate i, at.ensures.volume i, f, b)) ∙ can.empty (sym at.ensures.part ∙ first) f b in
-    let state = part_state c.args.version can.whole.state path c.in-Some.volume.now (has_then a v c.t.inside.root found read) empty
+    let state = part_state c.args.version can.whole.state path c.in-Some.volume.now (has_volume g c.t.inside.root a v found) empty
         (can.size ∙ ap (piece_part_size g) (sym at.ensures.part), all_bytes bytes (λ i. (c.type_inv.bytes i).fits)) (good.0 c.if-not-read_part.false) in
     rw (sym c.t.view_is) (record {
       good = (λ on. good.0 c.if-not-read_part.false ∙ same, λ spelled. refl);
