@@ -27,6 +27,11 @@ pub record IsSerialStep (g : Geometry) (x : State) (m : Msg) (given : Reply) (y 
   pub reply : given ≡ reply_to g x m
   pub state : y ≡ next_state g x m
 
+-- A message was run on the parcels of its place, with this standing: from the state that they show, its serial step gives this reply and
+-- the state that they show after it.
+abbrev pub IsStepOn : Geometry → Msg → Standing → Parcels → Reply → Parcels → Type 0
+IsStepOn g m t old given new = IsSerialStep g (shown_state g (path_of g m) t old) m given (shown_state g (path_of g m) t new)
+
 -- The parcels and the standing show what a state has at a path: the parcels what lies there and below, the standing what is seen of the
 -- nodes above.
 abbrev pub Shows : Geometry → Path → Standing → Parcels → State → Type 0
@@ -38,6 +43,4 @@ pub record IsJobRun (job : JobView) (done : Done) : Type 0 where
   pub ticket : done.ticket ≡ job.ticket
   pub message : done.message ≡ job.message
   pub runnable : IsRunnable job.geometry job.message done.parcels
-  pub step : let p = path_of job.geometry job.message in
-      IsSerialStep job.geometry (shown_state job.geometry p job.standing job.parcels) job.message done.reply
-      (shown_state job.geometry p job.standing done.parcels)
+  pub step : IsStepOn job.geometry job.message job.standing job.parcels done.reply done.parcels

@@ -1,9 +1,7 @@
 //! Runs a message on its parcels: for each kind a small function at the level where it runs.
 
-ghost use Rattle.language.specs.Messages.{path_of};
 ghost use Rattle.parcel.specs.Fits.{IsRunnable};
-ghost use Rattle.parcel.specs.Run.{IsJobRun, IsSerialStep};
-ghost use Rattle.parcel.specs.Shown.{shown_state};
+ghost use Rattle.parcel.specs.Run.{IsJobRun, IsStepOn};
 
 mod at_aggregate;
 mod at_label;
@@ -50,8 +48,7 @@ pub fn run(job: Job) -> Done
 #[inline(never)]
 fn run_on(parcels: &mut Parcels, g: &Geometry, standing: Standing, message: &Msg) -> Reply
     requires { IsRunnable g.now message.now parcels.old }
-    ensures step { IsSerialStep g.now (shown_state g.now (path_of g.now message.now) standing parcels.old) message.now result
-        (shown_state g.now (path_of g.now message.now) standing parcels.new) }
+    ensures step { IsStepOn g.now message.now standing parcels.old result parcels.new }
     ensures runnable { IsRunnable g.now message.now parcels.new }
 {
     match parcels {

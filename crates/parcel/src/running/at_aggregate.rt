@@ -3,11 +3,11 @@
 ghost use Rattle.std.specs.Prelude.{◌≡◌, ℕ, ◌<◌, true, false, slice_index_or, Some, None, IfSome, vec_len};
 ghost use Rattle.affinity.specs.declared.geometry.Geometry.{Geometry};
 ghost use Rattle.language.specs.declared.Msg.{Msg};
-ghost use Rattle.language.specs.Messages.{is_in_range, path_of};
+ghost use Rattle.language.specs.Messages.{is_in_range};
 ghost use Rattle.parcel.specs.Dropping.{Empties};
 ghost use Rattle.parcel.specs.Fits.{FitsAggregate, FitsLogical, FitsVolume, IsWholeAggregate, IsWholeChild, IsWholeLogical, IsWholeVolume, IsRunnable};
-ghost use Rattle.parcel.specs.Run.{IsSerialStep};
-ghost use Rattle.parcel.specs.Shown.{blocks_of, child_facts, volume_facts, shown_state};
+ghost use Rattle.parcel.specs.Run.{IsSerialStep, IsStepOn};
+ghost use Rattle.parcel.specs.Shown.{blocks_of, child_facts, volume_facts};
 ghost use Rattle.parcel.specs.Steps.{at_aggregate, reply_to_change};
 ghost use Rattle.parcel.specs.Totals.{with_made};
 ghost use Rattle.parcel.specs.Volume.{no_facts};
@@ -132,9 +132,7 @@ fn drop_volume(aggregate: &mut Aggr, g: &Geometry, v: u16) -> Result<(), Refusal
 /// Runs a message at an aggregate. It sees nothing of what lies above.
 pub(crate) fn run_at_aggregate(aggregate: &mut Aggr, g: &Geometry, message: &Msg) -> Reply
     requires { IsRunnable g.now message.now (Parcels.Aggr aggregate.old) }
-    ensures step { (t : Standing) → IsSerialStep g.now
-        (shown_state g.now (path_of g.now message.now) t (Parcels.Aggr aggregate.old)) message.now result
-        (shown_state g.now (path_of g.now message.now) t (Parcels.Aggr aggregate.new)) }
+    ensures step { (t : Standing) → IsStepOn g.now message.now t (Parcels.Aggr aggregate.old) result (Parcels.Aggr aggregate.new) }
     ensures runnable { IsRunnable g.now message.now (Parcels.Aggr aggregate.new) }
 {
     match message {

@@ -1,10 +1,9 @@
 //! Messages at the label of a volume: they set it and ask for it.
 
 ghost use Rattle.language.specs.declared.Msg.{Msg};
-ghost use Rattle.language.specs.Messages.{path_of};
 ghost use Rattle.parcel.specs.Fits.{IsRunnable};
-ghost use Rattle.parcel.specs.Run.{IsSerialStep};
-ghost use Rattle.parcel.specs.Shown.{label_facts, shown_state};
+ghost use Rattle.parcel.specs.Run.{IsStepOn};
+ghost use Rattle.parcel.specs.Shown.{label_facts};
 ghost use Rattle.parcel.specs.Steps.{IsVolumeStep, reply_to_change};
 ghost use Rattle.parcel.specs.declared.parts.Parcels.{Parcels};
 
@@ -46,8 +45,7 @@ pub(crate) fn run_at_label(
     message: &Msg,
 ) -> Reply
     requires { IsRunnable g.now message.now (Parcels.Label label.old) }
-    ensures step { IsSerialStep g.now (shown_state g.now (path_of g.now message.now) standing (Parcels.Label label.old)) message.now result
-        (shown_state g.now (path_of g.now message.now) standing (Parcels.Label label.new)) }
+    ensures step { IsStepOn g.now message.now standing (Parcels.Label label.old) result (Parcels.Label label.new) }
     ensures runnable { IsRunnable g.now message.now (Parcels.Label label.new) }
 {
     match message {

@@ -2,11 +2,10 @@
 
 ghost use Rattle.std.specs.Prelude.{◌≡◌, ℕ, ◌<◌, slice_index_or, None, vec_len};
 ghost use Rattle.language.specs.declared.Msg.{Msg};
-ghost use Rattle.language.specs.Messages.{path_of};
 ghost use Rattle.parcel.specs.Dropping.{DropsFile};
 ghost use Rattle.parcel.specs.Fits.{FitsLogical, IsWholeLogical, IsRunnable};
-ghost use Rattle.parcel.specs.Run.{IsSerialStep};
-ghost use Rattle.parcel.specs.Shown.{logical_facts, shown_state};
+ghost use Rattle.parcel.specs.Run.{IsStepOn};
+ghost use Rattle.parcel.specs.Shown.{logical_facts};
 ghost use Rattle.parcel.specs.Steps.{IsVolumeStep, reply_to_change};
 ghost use Rattle.parcel.specs.declared.parts.Parcels.{Parcels};
 
@@ -85,9 +84,7 @@ pub(crate) fn run_at_logical(
     message: &Msg,
 ) -> Reply
     requires { IsRunnable g.now message.now (Parcels.Logical logical.old) }
-    ensures step { IsSerialStep g.now
-        (shown_state g.now (path_of g.now message.now) standing (Parcels.Logical logical.old)) message.now result
-        (shown_state g.now (path_of g.now message.now) standing (Parcels.Logical logical.new)) }
+    ensures step { IsStepOn g.now message.now standing (Parcels.Logical logical.old) result (Parcels.Logical logical.new) }
     ensures runnable { IsRunnable g.now message.now (Parcels.Logical logical.new) }
 {
     match message {

@@ -1,10 +1,9 @@
 //! Messages at the whole server: they ask how much all volumes hold.
 
 ghost use Rattle.language.specs.declared.Msg.{Msg};
-ghost use Rattle.language.specs.Messages.{path_of};
 ghost use Rattle.parcel.specs.Fits.{FitsRoot, IsRunnable};
-ghost use Rattle.parcel.specs.Run.{IsSerialStep};
-ghost use Rattle.parcel.specs.Shown.{root_facts, shown_state};
+ghost use Rattle.parcel.specs.Run.{IsSerialStep, IsStepOn};
+ghost use Rattle.parcel.specs.Shown.{root_facts};
 ghost use Rattle.parcel.specs.Volume.{state_with};
 ghost use Rattle.parcel.specs.declared.parts.Parcels.{Parcels};
 ghost use Rattle.parcel.specs.declared.parts.Standing.{Standing};
@@ -30,9 +29,7 @@ fn summary(root: &Root, g: &Geometry) -> Reply
 /// Runs a message at the whole server. There is nothing above it.
 pub(crate) fn run_at_root(root: &mut Root, g: &Geometry, message: &Msg) -> Reply
     requires { IsRunnable g.now message.now (Parcels.Root root.old) }
-    ensures step { (t : Standing) → IsSerialStep g.now
-        (shown_state g.now (path_of g.now message.now) t (Parcels.Root root.old)) message.now result
-        (shown_state g.now (path_of g.now message.now) t (Parcels.Root root.new)) }
+    ensures step { (t : Standing) → IsStepOn g.now message.now t (Parcels.Root root.old) result (Parcels.Root root.new) }
     ensures runnable { IsRunnable g.now message.now (Parcels.Root root.new) }
 {
     match message {

@@ -4,10 +4,9 @@ ghost use Rattle.std.specs.Prelude.{◌≡◌, ◌<◌, ◌||◌, is_some, lengt
 ghost use Rattle.affinity.specs.declared.geometry.Geometry.{Geometry};
 ghost use Rattle.affinity.specs.Geometry.{stripe_of};
 ghost use Rattle.language.specs.declared.Msg.{Msg};
-ghost use Rattle.language.specs.Messages.{path_of};
 ghost use Rattle.parcel.specs.Fits.{FitsStripe, IsRunnable};
-ghost use Rattle.parcel.specs.Run.{IsSerialStep};
-ghost use Rattle.parcel.specs.Shown.{stripe_facts, shown_state};
+ghost use Rattle.parcel.specs.Run.{IsStepOn};
+ghost use Rattle.parcel.specs.Shown.{stripe_facts};
 ghost use Rattle.parcel.specs.Steps.{IsVolumeStep, reply_to_change};
 ghost use Rattle.stripe.specs.Stripe.{StripeRule, content_at};
 ghost use Rattle.parcel.specs.declared.parts.Parcels.{Parcels};
@@ -84,9 +83,7 @@ pub(crate) fn run_at_stripe(
     message: &Msg,
 ) -> Reply
     requires { IsRunnable g.now message.now (Parcels.Stripe stripe.old) }
-    ensures step { IsSerialStep g.now (shown_state g.now (path_of g.now message.now) standing (Parcels.Stripe stripe.old))
-        message.now result
-        (shown_state g.now (path_of g.now message.now) standing (Parcels.Stripe stripe.new)) }
+    ensures step { IsStepOn g.now message.now standing (Parcels.Stripe stripe.old) result (Parcels.Stripe stripe.new) }
     ensures runnable { IsRunnable g.now message.now (Parcels.Stripe stripe.new) }
 {
     match message {

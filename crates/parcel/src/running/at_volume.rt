@@ -3,10 +3,9 @@
 ghost use Rattle.std.specs.Prelude.{◌≡◌};
 ghost use Rattle.affinity.specs.declared.geometry.Geometry.{Geometry};
 ghost use Rattle.language.specs.declared.Msg.{Msg};
-ghost use Rattle.language.specs.Messages.{path_of};
 ghost use Rattle.parcel.specs.Fits.{FitsVolume, IsRunnable};
-ghost use Rattle.parcel.specs.Run.{IsSerialStep};
-ghost use Rattle.parcel.specs.Shown.{volume_facts, shown_state};
+ghost use Rattle.parcel.specs.Run.{IsStepOn};
+ghost use Rattle.parcel.specs.Shown.{volume_facts};
 ghost use Rattle.parcel.specs.Steps.{IsVolumeStep, reply_to_change};
 ghost use Rattle.parcel.specs.declared.parts.Parcels.{Parcels};
 ghost use Rattle.parcel.specs.declared.parts.Standing.{Standing};
@@ -60,9 +59,7 @@ fn usage(volume: &Vol, g: &Geometry) -> Reply
 /// Runs a message at a volume. It sees nothing of what lies above.
 pub(crate) fn run_at_volume(volume: &mut Vol, g: &Geometry, message: &Msg) -> Reply
     requires { IsRunnable g.now message.now (Parcels.Vol volume.old) }
-    ensures step { (t : Standing) → IsSerialStep g.now
-        (shown_state g.now (path_of g.now message.now) t (Parcels.Vol volume.old)) message.now result
-        (shown_state g.now (path_of g.now message.now) t (Parcels.Vol volume.new)) }
+    ensures step { (t : Standing) → IsStepOn g.now message.now t (Parcels.Vol volume.old) result (Parcels.Vol volume.new) }
     ensures runnable { IsRunnable g.now message.now (Parcels.Vol volume.new) }
 {
     match message {

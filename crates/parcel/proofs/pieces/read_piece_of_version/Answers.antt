@@ -81,9 +81,9 @@ returns c =
     let path : IsPath g (volume a v) = subst (λ q. IsPath g q) (λ i. volume (sym at.ensures.aggregate i) (sym at.ensures.volume i)) (in_aggregates g n can.piece, in_volumes g n) in
     let taken = read_taken a v c.t.inside.root found read c.t.invariant path c.if-not-read_part.false in
     let empty : at.result.part ≡ 0 → (f b : ℕ) → x.blocks (a, v, f, b) ≡ None =
-        λ first f b. (λ i. x.blocks (at.ensures.aggregate i, at.ensures.volume i, f, b)) ∙ can.empty (sym at.ensures.part ∙ first) f b in
+    λ first f b. (λ i. x.blocks (at.ensures.aggregate i, at.ensures.volume i, f, b)) ∙ can.empty (sym at.ensures.part ∙ first) f b in
     let state = part_state c.args.version can.whole.state path c.in-Some.volume.now (has_volume g c.t.inside.root a v found) empty
-        (can.size ∙ ap (piece_part_size g) (sym at.ensures.part), all_bytes bytes (λ i. (c.type_inv.bytes i).fits)) (good.0 c.if-not-read_part.false) in
+    (can.size ∙ ap (piece_part_size g) (sym at.ensures.part), all_bytes bytes (λ i. (c.type_inv.bytes i).fits)) (good.0 c.if-not-read_part.false) in
     rw (sym c.t.view_is) (record {
       good = (λ on. good.0 c.if-not-read_part.false ∙ same, λ spelled. refl);
       taken = taken ∙ (λ i. with_part c.args.version g x (at.ensures.aggregate i) (at.ensures.volume i) (at.ensures.part i) bytes);
