@@ -1,7 +1,7 @@
 -- A run is a serial step of each state that can have lent its job, and of the tree that lent it and takes back what it left.
-use Rattle.std.proofs.Common.{◌≡◌, true, false, [], ◌∷◌, ◌++◌, refl, sym, ap, subst, ◌∙◌}
-use Rattle.std.specs.Prelude.{◌&&◌, ◌==◌, not, None, is_some}
-use Rattle.std.proofs.lemmas.Bool.{and_parts, cond-false, or_left, or_right, true≢false}
+use Rattle.std.proofs.Common.{◌≡◌, true, false, [], refl, sym, ap, subst, ◌∙◌}
+use Rattle.std.specs.Prelude.{◌&&◌, not, None, is_some}
+use Rattle.std.proofs.lemmas.Bool.{and_parts, cond-false, or_left, or_right}
 use Rattle.affinity.specs.declared.geometry.Geometry.{Geometry}
 use Rattle.affinity.specs.Interval.{IsPath}
 use Rattle.affinity.specs.Path.{Path, is_prefix, are_related}

@@ -5,14 +5,14 @@ use Rattle.std.specs.Vec.{with_item}
 use Rattle.std.proofs.lemmas.Bool.{and_from, eq-eqb, or_left, true≢false}
 use Rattle.std.proofs.lemmas.List.{append-nil}
 use Rattle.affinity.specs.Interval.{IsPath}
-use Rattle.affinity.specs.Path.{Path, is_prefix, are_related, aggregate, volume, logical, stripe, label}
+use Rattle.affinity.specs.Path.{Path, is_prefix, aggregate, volume, logical, stripe, label}
 use Rattle.affinity.specs.declared.geometry.Geometry.{Geometry}
 use Rattle.stripe.specs.Stripe.{StripePart}
 use Rattle.parcel.specs.Fits.{Fits, FitsStripe, FitsLogical, FitsVolume, FitsAggregate, FitsRoot, IsKindOf, IsWholeLogical, IsWholeVolume, IsWholeAggregate, IsWholeRoot}
 use Rattle.parcel.specs.Lends.{aggregate_of_tree, volume_of_tree, logical_of_tree, with_aggregate, with_volume, with_logical}
-use Rattle.parcel.specs.Nodes.{Nodes, child_nodes, parcels_nodes, stripe_nodes, label_nodes, logical_nodes, volume_nodes, aggregate_nodes, root_nodes, put_at}
+use Rattle.parcel.specs.Nodes.{Nodes, child_nodes, parcels_nodes, root_nodes, put_at}
 use Rattle.parcel.specs.Parts.{TakesWhole, TakesAt, Fills, PutsAt}
-use Rattle.parcel.specs.Tree.{HasGap, IsOut}
+use Rattle.parcel.specs.Tree.{IsOut}
 use Rattle.parcel.specs.declared.parts.Logical.{Logical}
 use Rattle.parcel.specs.declared.parts.Vol.{Vol}
 use Rattle.parcel.specs.declared.parts.Aggr.{Aggr}
@@ -20,7 +20,7 @@ use Rattle.parcel.specs.declared.parts.Root.{Root}
 use Rattle.parcel.specs.declared.parts.Parcels.{Parcels}
 use Rattle.parcel.specs.declared.parts.Parcels.TheVariants as parcels
 use Rattle.parcel.proofs.Slots.{IsSlot, put_own, put_none, aggregate_child, volume_child, logical_child, label_child, stripe_child, child_slot, indexed_slot, tree_slot, root_slot, aggregate_slot, volume_slot, logical_slot}
-use Rattle.parcel.proofs.Whole.{IsGapped, IsWholeOrGapped, stripe_or, label_or, logical_or, volume_or, aggregate_or, root_or}
+use Rattle.parcel.proofs.Whole.{IsWholeOrGapped, stripe_or, label_or, logical_or, volume_or, aggregate_or, root_or}
 
 -- What lies at path p is an X, as parcels `parcels_of x`.
 pub record IsPart {X : Type 0} (g : Geometry) (p : Path) (IsFit IsWhole : X → Type 0) (parcels_of : X → Parcels) : Type 0 where

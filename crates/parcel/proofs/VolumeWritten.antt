@@ -1,6 +1,6 @@
 -- What is written back as it was changes nothing, and the tree still fits with a volume that fits.
 use mathlib.Core.HLevel.{is_prop→PathP}
-use Rattle.std.proofs.Common.{◌≡◌, ℕ, zero, suc, ◌<◌, ◌≤◌, List, [], ◌∷◌, length, Option, true, true≢false, refl, sym, ap, ◌∙◌, arith}
+use Rattle.std.proofs.Common.{◌≡◌, ℕ, ◌≤◌, length, Option, true≢false, refl, sym, ap, ◌∙◌}
 use Rattle.std.proofs.Props.{props}
 use Rattle.std.specs.Prelude.{None, Some, is_some, IfSome, slice_index_or, slice_set}
 use Rattle.std.specs.Global.{Vec}
@@ -10,8 +10,6 @@ use Rattle.std.proofs.lemmas.List.{set-get_or}
 use Rattle.affinity.specs.declared.geometry.Geometry.{Geometry}
 use Rattle.parcel.specs.Fits.{FitsVolume, FitsAggregate, FitsRoot}
 use Rattle.parcel.specs.Lends.{aggregate_of_tree, volume_of_tree, with_aggregate, with_volume}
-use Rattle.parcel.specs.Nodes.{child_nodes, volume_nodes, aggregate_nodes, root_nodes, PutsBack}
-use Rattle.parcel.specs.Nodes.Node.{Inner}
 use Rattle.parcel.specs.declared.parts.Vol.{Vol}
 use Rattle.parcel.specs.declared.parts.Aggr.{Aggr}
 use Rattle.parcel.specs.declared.parts.Root.{Root}

@@ -36,7 +36,8 @@ pub record TakesParcels (g : Geometry) (p : Path) (taken : Parcels) (old new : N
 
 -- What was taken out at path p. Nothing was, and nothing changed, exactly if something there, above or below is out.
 pub record TakesAt (g : Geometry) (p : Path) (taken : Option Parcels) (old new : Option Root) : Type 0 where
-  pub nodes : MatchOption taken (HasGap g p (child_nodes root_nodes old) × SameNodes (child_nodes root_nodes old) (child_nodes root_nodes new))
+  pub nodes : MatchOption taken
+      (HasGap g p (child_nodes root_nodes old) × SameNodes (child_nodes root_nodes old) (child_nodes root_nodes new))
       (λ parcels. TakesParcels g p parcels (child_nodes root_nodes old) (child_nodes root_nodes new))
   pub fits : IfSome new (FitsRoot g)
 
@@ -54,7 +55,8 @@ pub record HandsBack (p : Path) (parcels returned : Parcels) (old new : Nodes) :
 
 -- whether the parcels were put back at path p
 pub record PutsAt (g : Geometry) (p : Path) (parcels : Parcels) (put : Result (Unit {0}) Parcels) (old new : Option Root) : Type 0 where
-  pub nodes : MatchResult put (λ t. Puts p parcels (child_nodes root_nodes old) (child_nodes root_nodes new))
+  pub nodes : MatchResult put
+      (λ t. Puts p parcels (child_nodes root_nodes old) (child_nodes root_nodes new))
       (λ back. HandsBack p parcels back (child_nodes root_nodes old) (child_nodes root_nodes new))
   pub fits : IfSome new (FitsRoot g)
 

@@ -98,14 +98,14 @@ pub record IsStripeRead (g : Geometry) (files s : ℕ) (bytes : List ℕ) (good 
   pub blocks : IsTrue good → (f b : ℕ) → blocks_in new f b ≡ block_in g bytes f b
 
 -- Bytes can be read into the tree as piece n: nothing is out, and where the piece is a volume's own the tree has no block of the volume.
-pub record CanRead (n : ℕ) (bytes : List ℕ) (t : TreeView) : Type 0 where
+pub record CanReadPiece (n : ℕ) (bytes : List ℕ) (t : TreeView) : Type 0 where
   pub whole : IsWholeTree t
   pub piece : n < piece_count t.geometry
   pub size : length bytes ≡ piece_size t.geometry n
   pub empty : part_of t.geometry n ≡ 0 → (f b : ℕ) → (state_in t).blocks (aggregate_of t.geometry n, volume_of t.geometry n, f, b) ≡ None
 
 -- The bytes were read as piece n of an image of this version: `Ok` exactly if they encode what they decode to, which the tree then has.
-pub record Reads {E : Type 0} (version n : ℕ) (bytes : List ℕ) (result : Result (Unit {0}) E) (old new : TreeView) : Type 0 where
+pub record ReadsPiece {E : Type 0} (version n : ℕ) (bytes : List ℕ) (result : Result (Unit {0}) E) (old new : TreeView) : Type 0 where
   pub good : IsOk result ↔ (bytes ≡ piece_of version old.geometry (with_piece version old.geometry (state_in old) n bytes) n)
   pub taken : OnOk result (state_in new ≡ with_piece version old.geometry (state_in old) n bytes)
   pub whole : OnOk result (IsWholeTree new)

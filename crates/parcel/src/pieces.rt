@@ -5,7 +5,7 @@ ghost use Rattle.image.specs.Pieces.{aggregate_of, volume_of, part_of, part_piec
 ghost use Rattle.image.specs.Pieces.{piece_count, piece_of, piece_size, with_piece};
 ghost use Rattle.meaning.specs.State.{State, IsState};
 ghost use Rattle.parcel.specs.Fits.{FitsVolume, IsWholeVolume};
-ghost use Rattle.parcel.specs.Pieces.{HasFacts, IsPieceOfVolumeRead, CanRead, Reads};
+ghost use Rattle.parcel.specs.Pieces.{HasFacts, IsPieceOfVolumeRead, CanReadPiece, ReadsPiece};
 ghost use Rattle.parcel.specs.Shown.{volume_facts};
 ghost use Rattle.parcel.specs.Tree.{IsWholeTree, state_in};
 
@@ -96,7 +96,7 @@ fn write_part(volume: &Vol, g: &Geometry, part: usize, out: &mut [u8])
     }
 }
 
-/// Reads `bytes` into the tree as piece `n`, in place of what the tree has there. `BadPiece` exactly
+/// ReadsPiece `bytes` into the tree as piece `n`, in place of what the tree has there. `BadPiece` exactly
 /// where they differ from the encoding (in version 2 of an image) of what they decode to; then it is
 /// unspecified what the tree holds. Nothing of the tree may be out, and when a volume's own piece is read
 /// the tree must have no block of that volume.
@@ -134,10 +134,10 @@ pub fn read_piece_1(t: &mut Tree, n: usize, bytes: &[u8]) -> Result<(), BadPiece
     read_piece_of_version(t, FIRST_VERSION, n, bytes)
 }
 
-// Reads bytes into the tree as piece `n` of an image of this version.
+// ReadsPiece bytes into the tree as piece `n` of an image of this version.
 fn read_piece_of_version(t: &mut Tree, version: u8, n: usize, bytes: &[u8]) -> Result<(), BadPiece>
-    requires { CanRead n bytes.now t.old }
-    ensures { Reads version n bytes.now result t.old t.new }
+    requires { CanReadPiece n bytes.now t.old }
+    ensures { ReadsPiece version n bytes.now result t.old t.new }
 {
     let g = t.geometry;
     let place = place_of_piece(&g, n);

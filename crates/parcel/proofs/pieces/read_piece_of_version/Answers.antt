@@ -1,19 +1,13 @@
 -- The bytes were read into the volume of the piece; if they are good, the state is the one before, with the piece taken in.
-use Rattle.std.proofs.Common.{◌≡◌, ℕ, ◌<◌, List, length, true, false, true≢false, None, Some, refl, sym, ◌∙◌, ap, subst}
-use Rattle.std.specs.Prelude.{Ok, Err}
+use Rattle.std.proofs.Common.{◌≡◌, ℕ, List, true≢false, None, refl, sym, ◌∙◌, ap, subst}
 use Rattle.affinity.specs.Interval.{IsPath}
 use Rattle.affinity.specs.declared.geometry.Geometry.{Geometry}
 use Rattle.affinity.specs.Path.{volume}
 use Rattle.meaning.specs.State.{State, IsState}
-use Rattle.image.specs.Pieces.{aggregate_of, volume_of, part_of, piece_count, piece_of, piece_size, part_piece, piece_part_size, with_part, with_piece}
+use Rattle.image.specs.Pieces.{aggregate_of, volume_of, part_of, piece_of, part_piece, piece_part_size, with_part, with_piece}
 use Rattle.image.proofs.Numbers.{in_aggregates, in_volumes}
-use Rattle.std.specs.Option.{option_copied_mut}
-use Rattle.std.specs.Prelude.{IfSome}
-use Rattle.parcel.specs.Fits.{FitsVolume, IsWholeChild, IsWholeVolume}
-use Rattle.parcel.specs.Lends.{volume_of_tree, with_volume}
-use Rattle.parcel.specs.Nodes.{Nodes, child_nodes, root_nodes, tree_state}
-use Rattle.parcel.specs.Pieces.{CanRead, Reads}
-use Rattle.parcel.specs.Tree.{TreeView, IsWholeTree, state_in}
+use Rattle.parcel.specs.Nodes.{child_nodes, root_nodes, tree_state}
+use Rattle.parcel.specs.Pieces.{CanReadPiece}
 use Rattle.parcel.proofs.PieceParts.{all_bytes, has_volume, piece_is_there}
 use Rattle.parcel.proofs.PiecesTaken.{part_state, read_good, read_taken, read_in}
 use Rattle.parcel.proofs.VolumeWritten.{fits_with}
@@ -53,7 +47,7 @@ returns-then-not-read_part c =
     let g = c.t.inside.geometry in
     let bytes : List ℕ = c.args.bytes.now in
     let at = c.place_of_piece-place in
-    let can = subst (CanRead c.args.n bytes) (sym c.t.view_is) c.requires in
+    let can = subst (CanReadPiece c.args.n bytes) (sym c.t.view_is) c.requires in
     let x : State = tree_state g (child_nodes root_nodes c.t.inside.root) in
     let good = read_good at.result.aggregate at.result.volume c.t.inside.root c.in-Some.ensures.value c.read_part.ensures can.whole.state in
     let same = piece_there c.args.version g x c.args.n bytes at.ensures.aggregate at.ensures.volume at.ensures.part in
@@ -72,7 +66,7 @@ returns c =
     let at = c.place_of_piece-place in
     let a : ℕ = at.result.aggregate in
     let v : ℕ = at.result.volume in
-    let can = subst (CanRead n bytes) (sym c.t.view_is) c.requires in
+    let can = subst (CanReadPiece n bytes) (sym c.t.view_is) c.requires in
     let x : State = tree_state g (child_nodes root_nodes c.t.inside.root) in
     let read = c.read_part.ensures in
     let found = c.in-Some.ensures.value in

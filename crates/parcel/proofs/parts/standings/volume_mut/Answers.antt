@@ -15,6 +15,7 @@ returns c =
     let a = c.args.a in
     let v = c.args.v in
     let is : aggregate_of_tree root a ≡ Some c.in_ok-aggregate_mut.field-0.now = sym c.aggregate_mut.ensures.value ∙ ap option_copied_mut c.in_ok-aggregate_mut.was in (
-      λ i. read_of (ghost_name_of c.child_mut.result) (λ w. with_aggregate root a (option_map (λ (r : Aggr). record { volumes = with_item r.volumes v (Some w) }) (sym is i))) (aggregate_kept root a is i),
+      λ i. read_of (ghost_name_of c.child_mut.result)
+          (λ w. with_aggregate root a (option_map (λ (r : Aggr). record { volumes = with_item r.volumes v (Some w) }) (sym is i))) (aggregate_kept root a is i),
       record { writes_back = tt; value = c.child_mut.ensures.value ∙ ap (option_and_then (λ (r : Aggr). slice_index_or r.volumes.items v None)) (sym is) },
     )
