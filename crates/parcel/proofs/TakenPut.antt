@@ -10,7 +10,7 @@ use Rattle.affinity.specs.declared.geometry.Geometry.{Geometry}
 use Rattle.stripe.specs.Stripe.{StripePart}
 use Rattle.parcel.specs.Fits.{Fits, FitsStripe, FitsLogical, FitsVolume, FitsAggregate, FitsRoot, IsKindOf, IsWholeLogical, IsWholeVolume, IsWholeAggregate, IsWholeRoot}
 use Rattle.parcel.specs.Lends.{aggregate_of_tree, volume_of_tree, logical_of_tree, with_aggregate, with_volume, with_logical}
-use Rattle.parcel.specs.Nodes.{Nodes, child_nodes, parcels_nodes, root_nodes, put_at}
+use Rattle.parcel.specs.Nodes.{Nodes, child_nodes, parcels_nodes, stripe_nodes, label_nodes, root_nodes, put_at}
 use Rattle.parcel.specs.Parts.{TakesWhole, TakesAt, Fills, PutsAt}
 use Rattle.parcel.specs.Tree.{IsOut}
 use Rattle.parcel.specs.declared.parts.Logical.{Logical}
@@ -20,7 +20,7 @@ use Rattle.parcel.specs.declared.parts.Root.{Root}
 use Rattle.parcel.specs.declared.parts.Parcels.{Parcels}
 use Rattle.parcel.specs.declared.parts.Parcels.TheVariants as parcels
 use Rattle.parcel.proofs.Slots.{IsSlot, put_own, put_none, aggregate_child, volume_child, logical_child, label_child, stripe_child, child_slot, indexed_slot, tree_slot, root_slot, aggregate_slot, volume_slot, logical_slot}
-use Rattle.parcel.proofs.Whole.{IsWholeOrGapped, stripe_or, label_or, logical_or, volume_or, aggregate_or, root_or}
+use Rattle.parcel.proofs.Whole.{IsWholeOrGapped, leaf_or, logical_or, volume_or, aggregate_or, root_or}
 
 -- What lies at path p is an X, as parcels `parcels_of x`.
 pub record IsPart {X : Type 0} (g : Geometry) (p : Path) (IsFit IsWhole : X → Type 0) (parcels_of : X → Parcels) : Type 0 where
@@ -76,7 +76,7 @@ module _ (g : Geometry) (tree : Option Root) (fits : IfSome tree (FitsRoot g)) w
       label_place at above =
           let there = subst (IsPath g) at path in (
             child_slot (volume_slot g tree fits a v there above) (label_child g) tt,
-            record { kind = λ l. tt; fits = λ l fits whole. tt; fit = λ l h. h; or = λ o fits. label_or g a v there o },
+            record { kind = λ l. tt; fits = λ l fits whole. tt; fit = λ l h. h; or = λ o fits. leaf_or g label_nodes (label a v) there o },
           )
 
       pub stripe_within : {l : Logical} (s : ℕ) → q ≡ stripe a v s → Some l ≡ logical_of_tree tree a v → s < length l.stripes.items
@@ -89,7 +89,7 @@ module _ (g : Geometry) (tree : Option Root) (fits : IfSome tree (FitsRoot g)) w
       stripe_place {l} s at above read =
           let there = subst (IsPath g) at path in (
             indexed_slot l.stripes.items s (child_slot (logical_slot g tree fits a v (there.0, there.1) above) (stripe_child g s) there.2) (stripe_within s at above) read,
-            record { kind = λ p. tt; fits = λ p fits whole. fits; fit = λ p h. h; or = λ o fits. stripe_or g a v s there o },
+            record { kind = λ p. tt; fits = λ p fits whole. fits; fit = λ p h. h; or = λ o fits. leaf_or g stripe_nodes (stripe a v s) there o },
           )
 
 -- ---- what is done to a slot is done to the tree

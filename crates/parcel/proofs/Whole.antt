@@ -125,23 +125,20 @@ module _ (g : Geometry) where
   abbrev pub IsWholeOrGapped : {X : Type 0} → Path → (X → Nodes) → (X → Type 0) → Option X → Type 0
   IsWholeOrGapped p nodes IsWhole x = IsWholeChild IsWhole x ⊎ IsGapped p (child_nodes nodes x)
 
-  pub stripe_or : (a v s : ℕ) → IsPath g (stripe a v s) → (x : Option StripePart) → IsWholeOrGapped (stripe a v s) stripe_nodes (λ p. Unit {0}) x
-  stripe_or a v s path None = inr ([], path, refl)
-  stripe_or a v s path (Some p) = inl tt
-
-  pub label_or : (a v : ℕ) → IsPath g (label a v) → (x : Option Label) → IsWholeOrGapped (label a v) label_nodes (λ l. Unit {0}) x
-  label_or a v path None = inr ([], path, refl)
-  label_or a v path (Some l) = inl tt
+  -- a child that has nothing below
+  pub leaf_or : {X : Type 0} (nodes : X → Nodes) (p : Path) → IsPath g (p ++ []) → (x : Option X) → IsWholeOrGapped p nodes (λ x. Unit {0}) x
+  leaf_or nodes p path None = inr ([], path, refl)
+  leaf_or nodes p path (Some x) = inl tt
 
   pub logical_or : (a v : ℕ) → IsPath g (logical a v) → (x : Option Logical) → IfSome x (FitsLogical g) → IsWholeOrGapped (logical a v) logical_nodes IsWholeLogical x
   logical_or a v path None f = inr ([], path, refl)
   logical_or a v path (Some l) f = ⊎_elim inl (λ gap. inr (gap.0 ∷ gap.1.0, gap.1.1, gap.1.2))
-      (row_or (logical a v) stripe_nodes (FitsStripe g) (λ p. Unit {0}) g.stripes (λ s x below fits. stripe_or a v s (path.0, path.1, below) x) l.stripes.items f.count f.stripes)
+      (row_or (logical a v) stripe_nodes (FitsStripe g) (λ p. Unit {0}) g.stripes (λ s x below fits. leaf_or stripe_nodes (stripe a v s) (path.0, path.1, below) x) l.stripes.items f.count f.stripes)
 
   pub volume_or : (a v : ℕ) → IsPath g (volume a v) → (x : Option Vol) → IfSome x (FitsVolume g) → IsWholeOrGapped (volume a v) volume_nodes IsWholeVolume x
   volume_or a v path None f = inr ([], path, refl)
   volume_or a v path (Some w) f = ⊎_elim
-      (λ logical. ⊎_elim (λ label. inl (logical, label)) (λ gap. inr (1 ∷ gap.0, gap.1, gap.2)) (label_or a v path w.label))
+      (λ logical. ⊎_elim (λ label. inl (logical, label)) (λ gap. inr (1 ∷ gap.0, gap.1, gap.2)) (leaf_or label_nodes (label a v) path w.label))
       (λ gap. inr (0 ∷ gap.0, gap.1, gap.2))
       (logical_or a v path w.logical f.logical)
 

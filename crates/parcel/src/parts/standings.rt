@@ -74,7 +74,7 @@ pub(crate) fn volume_at(root: &Option<Root>, a: usize, v: usize) -> Option<&Vol>
 }
 
 /// An aggregate for writing, where it and the root are in.
-pub(crate) fn aggregate_mut(root: &mut Option<Root>, a: usize) -> Option<&mut Aggr>
+pub(super) fn aggregate_mut(root: &mut Option<Root>, a: usize) -> Option<&mut Aggr>
     ensures* writes_back { sem 𝓛 (lends_aggregate root.entry a result) }
     ensures value { option_copied_mut result ≡ aggregate_of_tree root.old a }
 {
@@ -90,7 +90,7 @@ pub(crate) fn volume_mut(root: &mut Option<Root>, a: usize, v: usize) -> Option<
 }
 
 /// The Volume Logical of a volume for writing, where it and the nodes above it are in.
-pub(crate) fn logical_mut(root: &mut Option<Root>, a: usize, v: usize) -> Option<&mut Logical>
+pub(super) fn logical_mut(root: &mut Option<Root>, a: usize, v: usize) -> Option<&mut Logical>
     ensures* writes_back { sem 𝓛 (lends_logical root.entry a v result) }
     ensures value { option_copied_mut result ≡ logical_of_tree root.old a v }
 {

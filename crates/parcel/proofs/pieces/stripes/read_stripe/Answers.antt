@@ -3,7 +3,8 @@ use Rattle.std.proofs.Common.{◌≡◌, ℕ, ◌<◌, length, slice_index_or, s
 use Rattle.std.specs.Prelude.{None, IfSome}
 use Rattle.std.proofs.lemmas.List.{get_or_read, length-set}
 use Rattle.parcel.specs.Fits.{FitsStripe}
-use Rattle.parcel.proofs.ChildRows.{each_set, fits_in_place}
+use Rattle.parcel.proofs.ChildRows.{fits_in_place}
+use Rattle.parcel.proofs.Slots.{stripe_child}
 use Rattle.parcel.proofs.pieces.stripes.read_stripe.Goals as goal
 
 pub read_at-requires-clause-fits : goal.read_at-requires-clause-fits
@@ -14,11 +15,4 @@ read_at-requires-clause-fits c =
     fits_in_place (FitsStripe c.args.g.now) row.items c.requires.fits.stripes c.args.s c.index_mut.result.now at
 
 pub returns-clause-fits : goal.returns-clause-fits
-returns-clause-fits c =
-    let row = c.args.logical.now.stripes in
-    record {
-      files = c.requires.fits.files;
-      count = length-set row.items c.args.s c.read_at.new.node ∙ c.requires.fits.count;
-      stripes = each_set (FitsStripe c.args.g.now) 0 c.args.s row.items c.read_at.new.node c.requires.fits.stripes
-          (subst (λ (n : ℕ). IfSome c.read_at.new.node (FitsStripe c.args.g.now n)) (omega arith) c.read_at.ensures.fits);
-    }
+returns-clause-fits c = (stripe_child c.args.g.now c.args.s).put_fits c.args.logical.now c.read_at.new.node c.requires.fits c.read_at.ensures.fits

@@ -9,22 +9,19 @@ use Rattle.parcel.specs.Shown.{aggregate_facts, child_facts, volume_facts}
 use Rattle.parcel.specs.Steps.{guard_open, at_aggregate}
 use Rattle.parcel.specs.Volume.{no_facts}
 use Rattle.parcel.proofs.OneVolume.{passed, refused}
-use Rattle.parcel.proofs.ChildRows.{each_set, fits_in_place}
+use Rattle.parcel.proofs.ChildRows.{fits_in_place}
+use Rattle.parcel.proofs.Slots.{volume_child}
 use Rattle.parcel.proofs.VolumeRows.{set_changes, changed_if, drop_tests, effect_drop}
 use Rattle.parcel.proofs.running.at_aggregate.drop_volume.Goals as goal
 
 pub returns-clause-fits : goal.returns-clause-fits
 returns-clause-fits c =
     let g = c.args.g.now in
-    let row = c.args.aggregate.now.volumes in
+    let row = c.args.aggregate.now.volumes.items in
     let n = c.from-index.result in
-    let below : n < length row.items = omega (arith, c.from-index.ensures, c.requires.volume, c.requires.fits.count) in
-    let at : slice_index_or row.items n None ≡ c.index_mut.result.now = sym (get_or_read row.items _ _ below c.index_mut.ensures.value None) in
-    record {
-      count = length-set row.items n c.clear.new.node ∙ c.requires.fits.count;
-      volumes = each_set (λ v. FitsVolume g) 0 n row.items c.clear.new.node c.requires.fits.volumes
-          (c.clear.ensures.fits g (fits_in_place (λ v. FitsVolume g) row.items c.requires.fits.volumes n c.index_mut.result.now at));
-    }
+    let below : n < length row = omega (arith, c.from-index.ensures, c.requires.volume, c.requires.fits.count) in
+    let at = sym (get_or_read row _ _ below c.index_mut.ensures.value None) in
+    (volume_child g n).put_fits c.args.aggregate.now c.clear.new.node c.requires.fits (c.clear.ensures.fits g (fits_in_place (λ v. FitsVolume g) row c.requires.fits.volumes n _ at))
 
 pub returns-clause-step : goal.returns-clause-step
 returns-clause-step c =
