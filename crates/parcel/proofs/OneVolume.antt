@@ -72,25 +72,10 @@ module _ (g : Geometry) (a v : ℕ) where
 -- ---- effects
 
 module _ (h : VolumeFacts) where
-  same_made : (k : VolumeFacts) → k.made ≡ h.made → (t : Bool) → (facts_if t k).made ≡ (facts_if t h).made
-  same_made k e true = e
-  same_made k e false = refl
-
-  same_sealed : (k : VolumeFacts) → k.sealed ≡ h.sealed → (t : Bool) → (facts_if t k).sealed ≡ (facts_if t h).sealed
-  same_sealed k e true = e
-  same_sealed k e false = refl
-
-  same_files : (k : VolumeFacts) → k.files ≡ h.files → (t : Bool) → (facts_if t k).files ≡ (facts_if t h).files
-  same_files k e true = e
-  same_files k e false = refl
-
-  same_label : (k : VolumeFacts) → k.label ≡ h.label → (t : Bool) → (facts_if t k).label ≡ (facts_if t h).label
-  same_label k e true = e
-  same_label k e false = refl
-
-  same_blocks : (k : VolumeFacts) → k.blocks ≡ h.blocks → (t : Bool) → (facts_if t k).blocks ≡ (facts_if t h).blocks
-  same_blocks k e true = e
-  same_blocks k e false = refl
+  -- a part that both have
+  same : {A : Type 0} (part : VolumeFacts → A) (k : VolumeFacts) → part k ≡ part h → (t : Bool) → part (facts_if t k) ≡ part (facts_if t h)
+  same part k e true = e
+  same part k e false = refl
 
   -- the volume gets other blocks, and keeps the rest
   module _ (a v : ℕ) (blocks' : ℕ → ℕ → Option Block) where
@@ -100,11 +85,11 @@ module _ (h : VolumeFacts) where
     pub effect_write : (f b : ℕ) (content : Block) → ((i j : ℕ) → blocks' i j ≡ (if (f == i) && (b == j) then Some content else h.blocks i j))
         → one_volume a v with_blocks ≡ effect (one_volume a v h) (Write a v f b content)
     effect_write f b content e = λ i. record {
-      made = λ k. same_made with_blocks refl ((a == k.0) && (v == k.1)) i;
-      sealed = λ k. same_sealed with_blocks refl ((a == k.0) && (v == k.1)) i;
-      files = λ k. same_files with_blocks refl ((a == k.0) && (v == k.1)) i k.2;
+      made = λ k. same (λ x. x.made) with_blocks refl ((a == k.0) && (v == k.1)) i;
+      sealed = λ k. same (λ x. x.sealed) with_blocks refl ((a == k.0) && (v == k.1)) i;
+      files = λ k. same (λ x. x.files) with_blocks refl ((a == k.0) && (v == k.1)) i k.2;
       blocks = λ k. blocks ((a == k.0) && (v == k.1)) k.2 k.3 i;
-      labels = λ k. same_label with_blocks refl ((a == k.0) && (v == k.1)) i;
+      labels = λ k. same (λ x. x.label) with_blocks refl ((a == k.0) && (v == k.1)) i;
     }
       where
         blocks : (t : Bool) (i j : ℕ) → (facts_if t with_blocks).blocks i j ≡ (if t && (f == i) && (b == j) then Some content else (facts_if t h).blocks i j)
@@ -113,11 +98,11 @@ module _ (h : VolumeFacts) where
 
     pub effect_punch : (f b : ℕ) → ((i j : ℕ) → blocks' i j ≡ (if (f == i) && (b == j) then None else h.blocks i j)) → one_volume a v with_blocks ≡ effect (one_volume a v h) (Punch a v f b)
     effect_punch f b e = λ i. record {
-      made = λ k. same_made with_blocks refl ((a == k.0) && (v == k.1)) i;
-      sealed = λ k. same_sealed with_blocks refl ((a == k.0) && (v == k.1)) i;
-      files = λ k. same_files with_blocks refl ((a == k.0) && (v == k.1)) i k.2;
+      made = λ k. same (λ x. x.made) with_blocks refl ((a == k.0) && (v == k.1)) i;
+      sealed = λ k. same (λ x. x.sealed) with_blocks refl ((a == k.0) && (v == k.1)) i;
+      files = λ k. same (λ x. x.files) with_blocks refl ((a == k.0) && (v == k.1)) i k.2;
       blocks = λ k. blocks ((a == k.0) && (v == k.1)) k.2 k.3 i;
-      labels = λ k. same_label with_blocks refl ((a == k.0) && (v == k.1)) i;
+      labels = λ k. same (λ x. x.label) with_blocks refl ((a == k.0) && (v == k.1)) i;
     }
       where
         blocks : (t : Bool) (i j : ℕ) → (facts_if t with_blocks).blocks i j ≡ (if t && (f == i) && (b == j) then None else (facts_if t h).blocks i j)
@@ -131,11 +116,11 @@ module _ (h : VolumeFacts) where
 
     pub effect_create : (f : ℕ) → ((i : ℕ) → files' i ≡ ((f == i) || h.files i)) → one_volume a v with_files ≡ effect (one_volume a v h) (Create a v f)
     effect_create f e = λ i. record {
-      made = λ k. same_made with_files refl ((a == k.0) && (v == k.1)) i;
-      sealed = λ k. same_sealed with_files refl ((a == k.0) && (v == k.1)) i;
+      made = λ k. same (λ x. x.made) with_files refl ((a == k.0) && (v == k.1)) i;
+      sealed = λ k. same (λ x. x.sealed) with_files refl ((a == k.0) && (v == k.1)) i;
       files = λ k. files ((a == k.0) && (v == k.1)) k.2 i;
-      blocks = λ k. same_blocks with_files refl ((a == k.0) && (v == k.1)) i k.2 k.3;
-      labels = λ k. same_label with_files refl ((a == k.0) && (v == k.1)) i;
+      blocks = λ k. same (λ x. x.blocks) with_files refl ((a == k.0) && (v == k.1)) i k.2 k.3;
+      labels = λ k. same (λ x. x.label) with_files refl ((a == k.0) && (v == k.1)) i;
     }
       where
         files : (t : Bool) (j : ℕ) → (facts_if t with_files).files j ≡ ((t && (f == j)) || (facts_if t h).files j)
@@ -150,11 +135,11 @@ module _ (h : VolumeFacts) where
     pub effect_delete : (f : ℕ) → ((i : ℕ) → files' i ≡ (not (f == i) && h.files i))
         → ((i j : ℕ) → blocks' i j ≡ (if f == i then None else h.blocks i j)) → one_volume a v with_both ≡ effect (one_volume a v h) (Delete a v f)
     effect_delete f e d = λ i. record {
-      made = λ k. same_made with_both refl ((a == k.0) && (v == k.1)) i;
-      sealed = λ k. same_sealed with_both refl ((a == k.0) && (v == k.1)) i;
+      made = λ k. same (λ x. x.made) with_both refl ((a == k.0) && (v == k.1)) i;
+      sealed = λ k. same (λ x. x.sealed) with_both refl ((a == k.0) && (v == k.1)) i;
       files = λ k. files ((a == k.0) && (v == k.1)) k.2 i;
       blocks = λ k. blocks ((a == k.0) && (v == k.1)) k.2 k.3 i;
-      labels = λ k. same_label with_both refl ((a == k.0) && (v == k.1)) i;
+      labels = λ k. same (λ x. x.label) with_both refl ((a == k.0) && (v == k.1)) i;
     }
       where
         files : (t : Bool) (j : ℕ) → (facts_if t with_both).files j ≡ (not (t && (f == j)) && (facts_if t h).files j)

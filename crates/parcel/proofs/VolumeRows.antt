@@ -49,79 +49,51 @@ pub drop_tests : (g : Geometry) (a v : ℕ) (r : Aggr) → is_in_range g (DropVo
     ≡ guard_open (aggregate_facts g r v).made (aggregate_facts g r v).sealed None
 drop_tests g a v r range = let at = at_itself a (aggregate_facts g r v) in λ i. guard (range i) Range (guard_open (at i).made (at i).sealed None)
 
+-- a part that the change leaves as it was
+kept : {A : Type 0} (part : VolumeFacts → A) (change : VolumeFacts → VolumeFacts) → ((h : VolumeFacts) → part (change h) ≡ part h)
+    → (s t : Bool) (h : VolumeFacts) → part (facts_if s (changed_if change t h)) ≡ part (facts_if s h)
+kept part change e true true h = e h
+kept part change e true false h = refl
+kept part change e false t h = refl
+
+-- a part that isn't there where there are no facts
+unset : (part : VolumeFacts → Bool) → part no_facts ≡ false → (s t : Bool) (h : VolumeFacts) → part (facts_if s (changed_if (λ h. no_facts) t h)) ≡ (not (s && t) && part (facts_if s h))
+unset part e true true h = e
+unset part e true false h = refl
+unset part e false t h = refl
+
+gone : {A : Type 0} (part : VolumeFacts → Option A) → part no_facts ≡ None → (s t : Bool) (h : VolumeFacts)
+    → part (facts_if s (changed_if (λ h. no_facts) t h)) ≡ (if s && t then None else part (facts_if s h))
+gone part e true true h = e
+gone part e true false h = refl
+gone part e false t h = refl
+
 module _ (a v : ℕ) (old new : ℕ → VolumeFacts) where
   pub effect_make : ((q : ℕ) → new q ≡ changed_if with_made (v == q) (old q)) → state_with (λ p q. facts_if (a == p) (new q)) ≡ effect (state_with (λ p q. facts_if (a == p) (old q))) (MakeVol a v)
   effect_make e i = record {
     made = λ k. (ap (λ h. (facts_if (a == k.0) h).made) (e k.1) ∙ made (a == k.0) (v == k.1) (old k.1)) i;
-    sealed = λ k. (ap (λ h. (facts_if (a == k.0) h).sealed) (e k.1) ∙ sealed (a == k.0) (v == k.1) (old k.1)) i;
-    files = λ k. (ap (λ h. (facts_if (a == k.0) h).files k.2) (e k.1) ∙ files (a == k.0) (v == k.1) (old k.1) k.2) i;
-    blocks = λ k. (ap (λ h. (facts_if (a == k.0) h).blocks k.2 k.3) (e k.1) ∙ blocks (a == k.0) (v == k.1) (old k.1) k.2 k.3) i;
+    sealed = λ k. (ap (λ h. (facts_if (a == k.0) h).sealed) (e k.1) ∙ kept (λ h. h.sealed) with_made (λ h. refl) (a == k.0) (v == k.1) (old k.1)) i;
+    files = λ k. (ap (λ h. (facts_if (a == k.0) h).files k.2) (e k.1) ∙ kept (λ h. h.files k.2) with_made (λ h. refl) (a == k.0) (v == k.1) (old k.1)) i;
+    blocks = λ k. (ap (λ h. (facts_if (a == k.0) h).blocks k.2 k.3) (e k.1) ∙ kept (λ h. h.blocks k.2 k.3) with_made (λ h. refl) (a == k.0) (v == k.1) (old k.1)) i;
     labels = λ k. (ap (λ h. (facts_if (a == k.0) h).label) (e k.1) ∙ label (a == k.0) (v == k.1) (old k.1)) i;
   }
     where
       made : (s t : Bool) (h : VolumeFacts) → (facts_if s (changed_if with_made t h)).made ≡ ((s && t) || (facts_if s h).made)
       made true true h = refl
       made true false h = refl
-      made false true h = refl
-      made false false h = refl
-
-      sealed : (s t : Bool) (h : VolumeFacts) → (facts_if s (changed_if with_made t h)).sealed ≡ (facts_if s h).sealed
-      sealed true true h = refl
-      sealed true false h = refl
-      sealed false t h = refl
-
-      files : (s t : Bool) (h : VolumeFacts) (f : ℕ) → (facts_if s (changed_if with_made t h)).files f ≡ (facts_if s h).files f
-      files true true h f = refl
-      files true false h f = refl
-      files false t h f = refl
-
-      blocks : (s t : Bool) (h : VolumeFacts) (f b : ℕ) → (facts_if s (changed_if with_made t h)).blocks f b ≡ (facts_if s h).blocks f b
-      blocks true true h f b = refl
-      blocks true false h f b = refl
-      blocks false t h f b = refl
+      made false t h = refl
 
       label : (s t : Bool) (h : VolumeFacts) → (facts_if s (changed_if with_made t h)).label ≡ (if s && t then Some no_label else (facts_if s h).label)
       label true true h = refl
       label true false h = refl
-      label false true h = refl
-      label false false h = refl
+      label false t h = refl
 
   pub effect_drop : ((q : ℕ) → new q ≡ changed_if (λ h. no_facts) (v == q) (old q)) → state_with (λ p q. facts_if (a == p) (new q))
       ≡ effect (state_with (λ p q. facts_if (a == p) (old q))) (DropVol a v)
   effect_drop e i = record {
-    made = λ k. (ap (λ h. (facts_if (a == k.0) h).made) (e k.1) ∙ made (a == k.0) (v == k.1) (old k.1)) i;
-    sealed = λ k. (ap (λ h. (facts_if (a == k.0) h).sealed) (e k.1) ∙ sealed (a == k.0) (v == k.1) (old k.1)) i;
-    files = λ k. (ap (λ h. (facts_if (a == k.0) h).files k.2) (e k.1) ∙ files (a == k.0) (v == k.1) (old k.1) k.2) i;
-    blocks = λ k. (ap (λ h. (facts_if (a == k.0) h).blocks k.2 k.3) (e k.1) ∙ blocks (a == k.0) (v == k.1) (old k.1) k.2 k.3) i;
-    labels = λ k. (ap (λ h. (facts_if (a == k.0) h).label) (e k.1) ∙ label (a == k.0) (v == k.1) (old k.1)) i;
+    made = λ k. (ap (λ h. (facts_if (a == k.0) h).made) (e k.1) ∙ unset (λ h. h.made) refl (a == k.0) (v == k.1) (old k.1)) i;
+    sealed = λ k. (ap (λ h. (facts_if (a == k.0) h).sealed) (e k.1) ∙ unset (λ h. h.sealed) refl (a == k.0) (v == k.1) (old k.1)) i;
+    files = λ k. (ap (λ h. (facts_if (a == k.0) h).files k.2) (e k.1) ∙ unset (λ h. h.files k.2) refl (a == k.0) (v == k.1) (old k.1)) i;
+    blocks = λ k. (ap (λ h. (facts_if (a == k.0) h).blocks k.2 k.3) (e k.1) ∙ gone (λ h. h.blocks k.2 k.3) refl (a == k.0) (v == k.1) (old k.1)) i;
+    labels = λ k. (ap (λ h. (facts_if (a == k.0) h).label) (e k.1) ∙ gone (λ h. h.label) refl (a == k.0) (v == k.1) (old k.1)) i;
   }
-    where
-      made : (s t : Bool) (h : VolumeFacts) → (facts_if s (changed_if (λ h. no_facts) t h)).made ≡ (not (s && t) && (facts_if s h).made)
-      made true true h = refl
-      made true false h = refl
-      made false true h = refl
-      made false false h = refl
-
-      sealed : (s t : Bool) (h : VolumeFacts) → (facts_if s (changed_if (λ h. no_facts) t h)).sealed ≡ (not (s && t) && (facts_if s h).sealed)
-      sealed true true h = refl
-      sealed true false h = refl
-      sealed false true h = refl
-      sealed false false h = refl
-
-      files : (s t : Bool) (h : VolumeFacts) (f : ℕ) → (facts_if s (changed_if (λ h. no_facts) t h)).files f ≡ (not (s && t) && (facts_if s h).files f)
-      files true true h f = refl
-      files true false h f = refl
-      files false true h f = refl
-      files false false h f = refl
-
-      blocks : (s t : Bool) (h : VolumeFacts) (f b : ℕ) → (facts_if s (changed_if (λ h. no_facts) t h)).blocks f b ≡ (if s && t then None else (facts_if s h).blocks f b)
-      blocks true true h f b = refl
-      blocks true false h f b = refl
-      blocks false true h f b = refl
-      blocks false false h f b = refl
-
-      label : (s t : Bool) (h : VolumeFacts) → (facts_if s (changed_if (λ h. no_facts) t h)).label ≡ (if s && t then None else (facts_if s h).label)
-      label true true h = refl
-      label true false h = refl
-      label false true h = refl
-      label false false h = refl
