@@ -4,7 +4,7 @@ ghost use Rattle.std.specs.Prelude.{◌≡◌, ℕ, ◌<◌, true, false, slice_
 ghost use Rattle.affinity.specs.declared.geometry.Geometry.{Geometry};
 ghost use Rattle.language.specs.declared.Msg.{Msg};
 ghost use Rattle.language.specs.Messages.{is_in_range};
-ghost use Rattle.parcel.specs.Dropping.{Empties};
+ghost use Rattle.parcel.specs.Dropping.{Removes};
 ghost use Rattle.parcel.specs.Fits.{FitsAggregate, FitsLogical, FitsVolume, IsWholeAggregate, IsWholeChild, IsWholeLogical, IsWholeVolume, IsRunnable};
 ghost use Rattle.parcel.specs.Run.{IsSerialStep, IsStepOn};
 ghost use Rattle.parcel.specs.Shown.{blocks_of, child_facts, volume_facts};
@@ -47,7 +47,7 @@ fn make(node: &mut Option<Vol>)
 
 // Removes all blocks from a stripe, unless it is checked out.
 fn clear_in(node: &mut Option<StripeParcel>)
-    ensures { Empties node.old node.new }
+    ensures { Removes (λ i j. true) node.old node.new }
 {
     if let Some(stripe) = node {
         stripe.drop_all();
@@ -58,7 +58,7 @@ fn clear_in(node: &mut Option<StripeParcel>)
 fn clear_stripes(stripes: &mut Vec<Option<StripeParcel>>)
     ensures count { vec_len stripes.new ≡ vec_len stripes.old }
     ensures each { (s : ℕ) → s < vec_len stripes.old
-        → Empties (slice_index_or stripes.old.items s None) (slice_index_or stripes.new.items s None) }
+        → Removes (λ i j. true) (slice_index_or stripes.old.items s None) (slice_index_or stripes.new.items s None) }
 {
     for s in 0..stripes.len() {
         clear_in(&mut stripes[s]);

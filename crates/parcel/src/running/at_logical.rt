@@ -1,8 +1,8 @@
 //! Messages at a Volume Logical, the files of a volume with its stripes: they make, remove and list files.
 
-ghost use Rattle.std.specs.Prelude.{◌≡◌, ℕ, ◌<◌, slice_index_or, None, vec_len};
+ghost use Rattle.std.specs.Prelude.{◌≡◌, ◌==◌, ℕ, ◌<◌, slice_index_or, None, vec_len};
 ghost use Rattle.language.specs.declared.Msg.{Msg};
-ghost use Rattle.parcel.specs.Dropping.{DropsFile};
+ghost use Rattle.parcel.specs.Dropping.{Removes};
 ghost use Rattle.parcel.specs.Fits.{FitsLogical, IsWholeLogical, IsRunnable};
 ghost use Rattle.parcel.specs.Run.{IsStepOn};
 ghost use Rattle.parcel.specs.Shown.{logical_facts};
@@ -31,7 +31,7 @@ fn create(logical: &mut Logical, g: &Geometry, standing: Standing, f: u16) -> Re
 
 // Removes the blocks of a file from a stripe, unless it is checked out.
 fn drop_in(node: &mut Option<StripeParcel>, f: u16)
-    ensures { DropsFile f node.old node.new }
+    ensures { Removes (λ i j. f == i) node.old node.new }
 {
     if let Some(stripe) = node {
         stripe.drop_file(f);
@@ -42,7 +42,7 @@ fn drop_in(node: &mut Option<StripeParcel>, f: u16)
 fn drop_file(stripes: &mut Vec<Option<StripeParcel>>, f: u16)
     ensures count { vec_len stripes.new ≡ vec_len stripes.old }
     ensures each { (s : ℕ) → s < vec_len stripes.old
-        → DropsFile f (slice_index_or stripes.old.items s None) (slice_index_or stripes.new.items s None) }
+        → Removes (λ i j. f == i) (slice_index_or stripes.old.items s None) (slice_index_or stripes.new.items s None) }
 {
     for s in 0..stripes.len() {
         drop_in(&mut stripes[s], f);

@@ -1,9 +1,7 @@
 -- Stripes that are emptied fit, and are whole where they were, and no file is left.
-use Rattle.std.proofs.Common.{◌≡◌, ◌∙◌, length, arith}
-use Rattle.parcel.specs.Dropping.{Empties}
-use Rattle.parcel.specs.Fits.{FitsStripe}
+use Rattle.std.proofs.Common.{◌≡◌, true, ◌∙◌, length, arith}
 use Rattle.meaning.proofs.FileBits.{none_below}
-use Rattle.parcel.proofs.StripeRows.{pairs_from_places, still_fit, still_whole, fits_emptied, whole_emptied}
+use Rattle.parcel.proofs.StripeRows.{row_fits, row_whole}
 use Rattle.parcel.proofs.running.at_aggregate.clear_files.Goals as goal
 
 pub returns-clause-fits : goal.returns-clause-fits
@@ -14,8 +12,7 @@ returns-clause-fits c =
     λ g fits. record {
       files = none_below g.files;
       count = same ∙ fits.count;
-      stripes = still_fit Empties (FitsStripe g) (fits_emptied g) 0 old.items new.items
-          (pairs_from_places Empties old.items new.items same (λ s lt. c.clear_stripes.ensures.each s (omega (arith, lt, old.ok.0)))) fits.stripes;
+      stripes = row_fits (λ i j. true) g 0 old.items new.items same (λ s lt. c.clear_stripes.ensures.each s (omega (arith, lt, old.ok.0))) fits.stripes;
     }
 
 pub returns-clause-whole : goal.returns-clause-whole
@@ -23,5 +20,4 @@ returns-clause-whole c =
     let old = c.args.logical.now.stripes in
     let new = c.clear_stripes.new.stripes in
     let same : length new.items ≡ length old.items = omega (arith, c.clear_stripes.ensures.count, old.ok.0, new.ok.0) in
-    still_whole Empties (λ p. Unit {0}) whole_emptied old.items new.items
-    (pairs_from_places Empties old.items new.items same (λ s lt. c.clear_stripes.ensures.each s (omega (arith, lt, old.ok.0))))
+    row_whole (λ i j. true) old.items new.items same (λ s lt. c.clear_stripes.ensures.each s (omega (arith, lt, old.ok.0)))

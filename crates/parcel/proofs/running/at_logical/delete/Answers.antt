@@ -1,16 +1,15 @@
 -- The bit of the file goes, and each stripe drops its blocks: the effect of a delete, and all still fits.
 use Rattle.std.proofs.Common.{◌≡◌, ◌<◌, None, refl, ◌∙◌, length, arith}
+use Rattle.std.specs.Prelude.{◌==◌}
 use Rattle.std.proofs.lemmas.Result.{err_from_is_err_and}
 use Rattle.affinity.specs.Geometry.{stripe_of}
 use Rattle.affinity.proofs.Placed.{group_below}
 use Rattle.language.specs.declared.Msg.TheVariants.{Delete}
-use Rattle.parcel.specs.Dropping.{DropsFile}
-use Rattle.parcel.specs.Fits.{FitsStripe}
 use Rattle.parcel.specs.Shown.{logical_facts, blocks_of, has_file}
 use Rattle.parcel.specs.Volume.{one_volume}
 use Rattle.meaning.proofs.FileBits.{few_bits, without_bit, without_bit_has, without_bit_below}
 use Rattle.parcel.proofs.OneVolume.{passed, refused, delete_tests, effect_delete}
-use Rattle.parcel.proofs.StripeRows.{pairs_from_places, still_fit, still_whole, fits_without_file, whole_without_file, blocks_without_file}
+use Rattle.parcel.proofs.StripeRows.{blocks_left, row_fits, row_whole}
 use Rattle.parcel.proofs.running.at_logical.delete.Goals as goal
 
 pub returns-clause-step : goal.returns-clause-step
@@ -24,7 +23,7 @@ returns-clause-step c =
     λ a v range. passed g (one_volume a v h) (Delete a v c.args.f) _ _ (delete_tests g a v c.args.f h range ∙ c.in_ok-guard_file.ensures None) refl
     (effect_delete h a v (has_file (without_bit c.args.logical.now.files c.args.f)) (blocks_of g new.items) c.args.f
     (without_bit_has c.args.logical.now.files c.args.f below (few_bits g.files c.args.logical.now.files c.requires.fits.files most))
-    (λ i j. blocks_without_file c.args.f _ _ (c.drop_file.ensures.each (stripe_of g i j) (omega (arith, group_below g i j, c.requires.fits.count, old.ok.0))) i j))
+    (λ i j. blocks_left (λ i j. c.args.f == i) _ _ (c.drop_file.ensures.each (stripe_of g i j) (omega (arith, group_below g i j, c.requires.fits.count, old.ok.0))) i j))
 
 pub returns-in_err-guard_file-clause-step : goal.returns-in_err-guard_file-clause-step
 returns-in_err-guard_file-clause-step c =
@@ -35,15 +34,13 @@ returns-in_err-guard_file-clause-step c =
 
 pub returns-clause-fits : goal.returns-clause-fits
 returns-clause-fits c =
-    let g = c.args.g.now in
     let old = c.args.logical.now.stripes in
     let new = c.drop_file.new.stripes in
     let same : length new.items ≡ length old.items = omega (arith, c.drop_file.ensures.count, old.ok.0, new.ok.0) in
     record {
-      files = without_bit_below g.files c.args.logical.now.files c.args.f c.requires.fits.files;
+      files = without_bit_below c.args.g.now.files c.args.logical.now.files c.args.f c.requires.fits.files;
       count = same ∙ c.requires.fits.count;
-      stripes = still_fit (DropsFile c.args.f) (FitsStripe g) (fits_without_file g c.args.f) 0 old.items new.items
-          (pairs_from_places (DropsFile c.args.f) old.items new.items same (λ s lt. c.drop_file.ensures.each s (omega (arith, lt, old.ok.0)))) c.requires.fits.stripes;
+      stripes = row_fits (λ i j. c.args.f == i) c.args.g.now 0 old.items new.items same (λ s lt. c.drop_file.ensures.each s (omega (arith, lt, old.ok.0))) c.requires.fits.stripes;
     }
 
 pub returns-clause-whole : goal.returns-clause-whole
@@ -51,5 +48,4 @@ returns-clause-whole c =
     let old = c.args.logical.now.stripes in
     let new = c.drop_file.new.stripes in
     let same : length new.items ≡ length old.items = omega (arith, c.drop_file.ensures.count, old.ok.0, new.ok.0) in
-    still_whole (DropsFile c.args.f) (λ p. Unit {0}) (whole_without_file c.args.f) old.items new.items
-    (pairs_from_places (DropsFile c.args.f) old.items new.items same (λ s lt. c.drop_file.ensures.each s (omega (arith, lt, old.ok.0)))) c.requires.whole
+    row_whole (λ i j. c.args.f == i) old.items new.items same (λ s lt. c.drop_file.ensures.each s (omega (arith, lt, old.ok.0))) c.requires.whole

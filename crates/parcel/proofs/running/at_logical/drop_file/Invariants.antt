@@ -1,11 +1,11 @@
 -- In the stripes so far the file has no blocks, and the others are as they were.
 use Rattle.std.proofs.Common.{◌≡◌, ℕ, ◌<◌, ◌≤◌, vec_len, slice_index_or}
-use Rattle.std.specs.Prelude.{None}
-use Rattle.parcel.specs.Dropping.{DropsFile}
+use Rattle.std.specs.Prelude.{◌==◌, None}
+use Rattle.parcel.specs.Dropping.{Removes}
 use Rattle.parcel.proofs.running.at_logical.drop_file.Given as goal
 
 abbrev pub invariant-loop-s : goal.invariant-loop-s
 invariant-loop-s l =
     (vec_len l.stripes ≡ vec_len l.initial.stripes)
-    × ((k : ℕ) → k < l.s → DropsFile l.f (slice_index_or l.initial.stripes.items k None) (slice_index_or l.stripes.items k None))
+    × ((k : ℕ) → k < l.s → Removes (λ i j. l.f == i) (slice_index_or l.initial.stripes.items k None) (slice_index_or l.stripes.items k None))
     × ((k : ℕ) → l.s ≤ k → slice_index_or l.stripes.items k None ≡ slice_index_or l.initial.stripes.items k None)
