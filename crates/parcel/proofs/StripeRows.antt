@@ -1,6 +1,6 @@
 -- The list (row) of a volume's stripes, before and after a call that removes blocks from each of them.
 use Rattle.std.proofs.Common.{◌≡◌, ℕ, suc, ◌<◌, Bool, true, false, List, [], ◌∷◌, Some, None, refl, ap, sym, ◌∙◌, length, slice_index_or, arith}
-use Rattle.std.specs.Prelude.{◌==◌, if◌then◌else◌, Option, is_some, IfSome}
+use Rattle.std.specs.Prelude.{if◌then◌else◌, Option, is_some, IfSome}
 use Rattle.std.specs.List.{AllByRecursion}
 use Rattle.std.proofs.lemmas.Bool.{true≢false}
 use Rattle.affinity.specs.declared.geometry.Geometry.{Geometry}

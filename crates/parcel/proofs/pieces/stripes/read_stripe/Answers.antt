@@ -1,7 +1,7 @@
 -- The stripe that is read is one of the volume's list, and the others stay.
-use Rattle.std.proofs.Common.{◌≡◌, ℕ, ◌<◌, length, slice_index_or, sym, subst, ◌∙◌, arith}
-use Rattle.std.specs.Prelude.{None, IfSome}
-use Rattle.std.proofs.lemmas.List.{get_or_read, length-set}
+use Rattle.std.proofs.Common.{◌≡◌, ◌<◌, length, slice_index_or, sym, arith}
+use Rattle.std.specs.Prelude.{None}
+use Rattle.std.proofs.lemmas.List.{get_or_read}
 use Rattle.parcel.specs.Fits.{FitsStripe}
 use Rattle.parcel.proofs.ChildRows.{fits_in_place}
 use Rattle.parcel.proofs.Slots.{stripe_child}

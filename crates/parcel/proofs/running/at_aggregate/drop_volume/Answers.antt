@@ -1,7 +1,7 @@
 -- The one volume of the row that is cleared loses all it has; the others stay, and the row still fits.
 use Rattle.std.proofs.Common.{◌≡◌, ◌<◌, refl, ap, sym, ◌∙◌, length, slice_index_or, slice_set, arith}
 use Rattle.std.specs.Prelude.{◌==◌, None}
-use Rattle.std.proofs.lemmas.List.{get_or_read, length-set}
+use Rattle.std.proofs.lemmas.List.{get_or_read}
 use Rattle.std.proofs.lemmas.Result.{err_from_is_err_and}
 use Rattle.language.specs.declared.Msg.TheVariants.{DropVol}
 use Rattle.parcel.specs.Fits.{FitsVolume}
