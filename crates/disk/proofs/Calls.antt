@@ -2,7 +2,7 @@
 use Rattle.std.proofs.Common.{◌≡◌, ◌+◌, ◌≤◌, ℕ, Bool, List, length, Result, Ok, Err, refl, sym, ap, subst}
 use Rattle.disk.specs.declared.fault.DiskFault.{DiskFault}
 use Rattle.disk.specs.declared.fault.DiskFault.TheVariants.{OutOfRange, Device}
-use Rattle.disk.specs.Device.{AreBytes, Medium, IsTornFrom, IsCrashImage, IsSynced, SameOutside, moments, overlaid, synced, Reads, Writes, Syncs}
+use Rattle.disk.specs.Device.{AreBytes, Medium, IsTornFrom, IsCrashImage, SameOutside, moments, overlaid, synced, Reads, Writes, Syncs}
 use Rattle.disk.specs.Moments.{CrashImagesAre}
 use Rattle.disk.proofs.Overlays.{overlaid_outside}
 use Rattle.disk.proofs.Leaves.{itself, synced_left, put_back, undone, same_but_range}
@@ -44,9 +44,3 @@ module _ (old mid new : Medium) (P : List ℕ → Type 0) (so_far : CrashImagesA
         let left' = subst (λ (l : List Bool). IsTornFrom new.now l c) fails.unsynced left in
         here (put_back at (length bytes) mid.now c) c (undone at (length bytes) mid.now new.now mid.unsynced c inside fails.bytes are left')
         (same_but_range at (length bytes) mid.now new.now mid.unsynced c inside fails.bytes are left'))
-
-    -- The same of a device of which nothing is unsynced: what a read gives, with anything in the range, has P.
-    pub after_synced_write : IsSynced mid → (r : Result (Unit {0}) DiskFault) → Writes at bytes r mid new
-        → ((torn : List ℕ) → SameOutside at (length bytes) mid.now torn → P torn) → CrashImagesAre old new P
-    after_synced_write synced r writes here = after_write r writes (λ c torn left. subst (λ (d : List ℕ). SameOutside at (length bytes) d torn → P torn)
-        (sym (synced_left mid c synced left)) (here torn))

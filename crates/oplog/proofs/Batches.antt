@@ -105,9 +105,6 @@ module _ (g : Layout) (h k m n : ℕ) (messages : List Msg) (inside : m + n ≤ 
     so_far' : SoFar g h k (records_of (take m messages)) (records_of (take m messages) ++ (records_of (take n (drop m messages)) ++ records_of (drop (m + n) messages))) w0 w
     so_far' = subst (λ (l : List (List ℕ)). SoFar g h k (records_of (take m messages)) l w0 w) (sym parted) so_far
 
-    pub now_ready : IsReady g h (k + m) w
-    now_ready = subst (λ (j : ℕ). IsReady g h (k + j) w) count so_far.has.ready
-
     module _ (moments : CrashImagesAre w w' (HasAppendedPrefix g h (records_of (take n (drop m messages))) w)) where
       pub messages_moments : CrashImagesAre w0 w' (HasAppendedPrefix g h (records_of messages) w0)
       messages_moments = subst (λ (l : List (List ℕ)). CrashImagesAre w0 w' (HasAppendedPrefix g h l w0)) parted (batch_moments g h k _ _ _ w0 w w' so_far' moments)

@@ -51,12 +51,6 @@ HasFront log h n m = n ≡ length (front (layout_of_log log) h m.now)
 
 -- ---- what calls of one half ask and do
 
-abbrev pub IsLongEnoughForHalf : Half → Medium → Type 0
-IsLongEnoughForHalf half m = device_size (layout_of half.geometry) ≤ length m.now
-
-abbrev pub IsHalfReady : Half → ℕ → Medium → Type 0
-IsHalfReady half used m = IsReady (layout_of half.geometry) half.number used m
-
 abbrev pub HalfGrows : Half → List Msg → Medium → Medium → Type 0
 HalfGrows half messages old new = CrashImagesAre old new (HasAppendedPrefix (layout_of half.geometry) half.number (records_of messages) old)
 

@@ -4,7 +4,8 @@ ghost use Rattle.disk.specs.Device.{IsDeviceCall, SameOutside, moments};
 ghost use Rattle.disk.specs.Store.{CrashesChangeOnly, Costs, Stored};
 ghost use Rattle.oplog.specs.Log.{batch_count};
 ghost use Rattle.oplog.specs.Front.{front, count_open};
-ghost use Rattle.device_map.specs.Layout.{layout_of, part_at, half_part};
+ghost use Rattle.device_map.specs.Layout.{layout_of, device_size, part_at, half_part};
+ghost use Rattle.oplog.specs.Changes.{IsReady};
 ghost use Rattle.oplog.specs.Changing.{AreChangesInRange};
 
 use crate::staging::stage;
@@ -52,7 +53,7 @@ pub(crate) struct Half {
 }
 
 impl Half {
-    ghost use Rattle.oplog.specs.Calls.{IsLongEnoughForHalf, IsHalfReady, HalfGrows, HalfHasAdded};
+    ghost use Rattle.oplog.specs.Calls.{HalfGrows, HalfHasAdded};
 
     /// How many records it can hold.
     pub(crate) fn capacity(self) -> usize
@@ -85,10 +86,10 @@ impl Half {
         self.start() + (CHAIN_ZONE_SIZE + self.capacity() + i * RECORD_SIZE) as u64
     }
 
-    /// Writes zeros over its chain byte, the bytes beside it and its gates, and syncs. `IsLongEnoughForHalf`: the device is long enough for
-    /// all its parts, not only for this half.
+    /// Writes zeros over its chain byte, the bytes beside it and its gates, and syncs. The device is long enough for all its parts, not
+    /// only for this half.
     pub(crate) fn clear<D: Disk>(self, disk: &mut D) -> Result<(), DiskFault>
-        requires long_enough { IsLongEnoughForHalf self (D.medium disk.old) }
+        requires long_enough { device_size (layout_of self.geometry) ≤ length (D.medium disk.old).now }
         ensures any_moment { D.keeps → CrashesChangeOnly (D.medium disk.old) (D.medium disk.new)
             (SameOutside (part_at (layout_of self.geometry) (half_part self.number)) (64 + self.geometry.half)) }
         ensures cleared { OnOk result (D.keeps →
@@ -105,7 +106,7 @@ impl Half {
     fn open_gates<D: Disk>(self, disk: &mut D, first: usize, count: usize) -> Result<(), DiskFault>
         requires batch { count ≤ 64 }
         requires room { first + count ≤ self.geometry.half }
-        requires long_enough { IsLongEnoughForHalf self (D.medium disk.old) }
+        requires long_enough { device_size (layout_of self.geometry) ≤ length (D.medium disk.old).now }
         ensures any_moment { D.keeps → CrashesChangeOnly (D.medium disk.old) (D.medium disk.new)
             (SameOutside (part_at (layout_of self.geometry) (half_part self.number) + (64 + first)) count) }
         ensures opened { OnOk result (D.keeps →
@@ -130,9 +131,9 @@ impl Half {
         requires batch { length messages.now ≤ 64 }
         requires room { used + length messages.now ≤ self.geometry.half }
         requires buffer { length messages.now * 520 ≤ length buffer.old }
-        requires long_enough { IsLongEnoughForHalf self (D.medium disk.old) }
+        requires long_enough { device_size (layout_of self.geometry) ≤ length (D.medium disk.old).now }
         // The front has `used` records, all gates behind it are 0, and nothing in this half is unsynced.
-        requires ready { D.keeps → IsHalfReady self used (D.medium disk.old) }
+        requires ready { D.keeps → IsReady (layout_of self.geometry) self.number used (D.medium disk.old) }
         ensures any_moment { D.keeps → HalfGrows self messages.now (D.medium disk.old) (D.medium disk.new) }
         ensures added { OnOk result (D.keeps → HalfHasAdded self used messages.now (D.medium disk.old) (D.medium disk.new)) }
         ensures costs { D.keeps → Costs result 4 (D.medium disk.old) (D.medium disk.new) }
@@ -156,9 +157,9 @@ impl Half {
         requires changes { AreChangesInRange self.geometry messages.now }
         requires room { used + length messages.now ≤ self.geometry.half }
         requires buffer { min self.geometry.half 64 * 520 ≤ length buffer.old }
-        requires long_enough { IsLongEnoughForHalf self (D.medium disk.old) }
+        requires long_enough { device_size (layout_of self.geometry) ≤ length (D.medium disk.old).now }
         // The front has `used` records, all gates behind it are 0, and nothing in this half is unsynced.
-        requires ready { D.keeps → IsHalfReady self used (D.medium disk.old) }
+        requires ready { D.keeps → IsReady (layout_of self.geometry) self.number used (D.medium disk.old) }
         ensures any_moment { D.keeps → HalfGrows self messages.now (D.medium disk.old) (D.medium disk.new) }
         ensures added { OnOk result (D.keeps → HalfHasAdded self used messages.now (D.medium disk.old) (D.medium disk.new)) }
         ensures none { length messages.now ≡ 0 → disk.new ≡ disk.old }
@@ -178,7 +179,7 @@ impl Half {
     /// How many records its front has. The gates are read into `gates`.
     pub(crate) fn front<D: Disk>(self, disk: &mut D, gates: &mut [u8]) -> Result<usize, DiskFault>
         requires size { length gates.old ≡ self.geometry.half }
-        requires long_enough { IsLongEnoughForHalf self (D.medium disk.old) }
+        requires long_enough { device_size (layout_of self.geometry) ≤ length (D.medium disk.old).now }
         ensures front { IfOk result (λ n. D.keeps → n ≡ length (front (layout_of self.geometry) self.number (D.medium disk.old).now)) }
         ensures within { IfOk result (λ n. n ≤ self.geometry.half) }
         ensures untouched { D.keeps → moments (D.medium disk.new) ≡ moments (D.medium disk.old) }
