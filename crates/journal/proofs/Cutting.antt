@@ -1,5 +1,5 @@
 -- What a crash leaves at each moment of the beginning of a cut and of its end, and what is on the device afterwards.
-use Rattle.std.proofs.Common.{◌≡◌, ◌≢◌, ◌<◌, ◌≤◌, ℕ, true, false, eqb, List, [], ◌++◌, length, Option, is_some, Result, refl, sym, ◌∙◌, ap, subst, arith}
+use Rattle.std.proofs.Common.{◌≡◌, ◌≢◌, ◌<◌, ◌≤◌, ℕ, false, eqb, List, [], ◌++◌, length, Option, Result, refl, sym, ◌∙◌, ap, subst, arith}
 use Rattle.std.proofs.lemmas.List.{append-nil}
 use Rattle.affinity.specs.declared.geometry.Geometry.{Geometry}
 use Rattle.checkpoint.specs.Recovery.{recovered_state, decoding}
@@ -9,20 +9,22 @@ use Rattle.disk.specs.Moments.{CrashImagesAre}
 use Rattle.disk.proofs.Calls.{after_sync}
 use Rattle.disk.proofs.Leaves.{synced_left, itself}
 use Rattle.disk.proofs.Moments.{started, then, weaker}
-use Rattle.image.specs.Image.{image_state}
-use Rattle.journal.specs.Steps.{RecoversByArea, run_on}
-use Rattle.journal.specs.Extents.{image_in}
+use Rattle.journal.specs.Steps.{IsCutBegun, IsCutWritten, IsFlipped, RecoversByArea, RecoversByNamedAlone}
 use Rattle.journal.proofs.Forced.{forced_alone, forced_both}
-use Rattle.journal.proofs.Pointing.{clear_moments, clear_recovers}
+use Rattle.journal.proofs.Pointing.{clear_beyond, clear_moments, clear_recovers}
 use Rattle.journal.proofs.Recovering.{as_other, both_of, chain_other, half_same, holds_by, laid_by, ready_none, shut_current, shut_force}
 use Rattle.disk.specs.Store.{CrashesChangeOnly}
-use Rattle.oplog.specs.Changes.{Chained, Cleared, Flipped, IsReady, IsSameButChain, IsSameButChainAndGates, IsSameButRoot}
+use Rattle.oplog.specs.Beyond.{KeepsBeyond}
+use Rattle.oplog.specs.Calls.{Chains, Clears}
+use Rattle.oplog.specs.Changes.{Chained, Cleared, Flipped, IsSameButRoot}
 use Rattle.oplog.specs.Crash.{RecoversBy, RecoversEitherWay}
 use Rattle.oplog.specs.Front.{chain, front}
+use Rattle.oplog.specs.Log.{Log}
 use Rattle.device_map.specs.Layout.{layout_of, device_size, part_bytes, half_part, image_part, root_part, other}
 use Rattle.oplog.specs.Recovery.{in_force, recovers_by_area, records_in}
 use Rattle.oplog.proofs.AfterCrash.{chain_by_area, chained_by_area, flip_by_area, torn_root_recovers}
 use Rattle.oplog.proofs.Kept.{front_beside, named_area-below}
+use Rattle.oplog.proofs.Beyond.{beyond, beyond_then}
 use Rattle.oplog.proofs.Ready.{ready_kept}
 use Rattle.oplog.proofs.Slices.{same_but_none}
 use Rattle.meaning.specs.State.{State}
@@ -31,120 +33,128 @@ use Rattle.meaning.specs.State.{State}
 pub named_below : (g : Geometry) (n h : ℕ) (x : Option State) (m : Medium) → AreBytes m.now → RecoversByArea g n h x m → n < 2
 named_below g n h x m are recovers = subst (λ (k : ℕ). k < 2) (recovers m.now (itself m.now m.unsynced are)).named (named_area-below (layout_of g) m.now)
 
--- ---- the beginning
+module _ (log : Log) (w0 : Medium) where
+  abbrev g : Geometry
+  g = log.geometry
 
-module _ (g : Geometry) (n : ℕ) (x : Option State) (is_area : n < 2) (w0 w1 w2 : Medium) (recovers : RecoversByArea g n n x w0)
-    (clears : CrashesChangeOnly w0 w1 (IsSameButChainAndGates (layout_of g) (other n))) (cleared : Cleared (layout_of g) (other n) w0 w1)
-    (chains : CrashesChangeOnly w1 w2 (IsSameButChain (layout_of g) n)) where
-  empty : (c : List ℕ) → IsCrashImage w1 c → (front (layout_of g) (other n) c ≡ []) × (chain (layout_of g) (other n) c ≢ 1)
-  empty c left =
-      let is : c ≡ w1.now = synced_left w1 c cleared.synced left in (
-        ap (λ (l : List ℕ). front (layout_of g) (other n) l) is ∙ ready_none (layout_of g) (other n) w1 cleared.ready,
-        λ one. let shut : chain (layout_of g) (other n) c ≡ 0 = ap (λ (l : List ℕ). chain (layout_of g) (other n) l) is ∙ cleared.chain in absurd (omega (arith, one, shut)),
-      )
+  abbrev n : ℕ
+  n = log.named
 
-  pub chain_moments : CrashImagesAre w0 w2 (λ c. recovered_state g c ≡ x)
-  chain_moments =
-      then w0 w1 w2 _ (clear_moments g n x is_area w0 w1 recovers clears)
-      (weaker w1 w2 _ _ (chain_by_area (decoding g) (layout_of g) n x w1 w2 is_area (clear_recovers g n x is_area w0 w1 recovers clears) empty chains)
-      (λ c recovered_before. holds_by g _ _ x c recovered_before))
+  abbrev x : Option State
+  x = recovered_state log.geometry w0.now
 
-  module _ (are : AreBytes w1.now) (fits : device_size (layout_of g) ≤ length w0.now) (chained : Chained (layout_of g) n w1 w2) where
-    pub begun_recovers : RecoversByArea g n (other n) x w2
-    begun_recovers =
-        let left = itself w1.now w1.unsynced are in
-        chained_by_area (decoding g) (layout_of g) n x w1 w2 is_area (clear_recovers g n x is_area w0 w1 recovers clears w1.now left) (empty w1.now left) chained
+  -- ---- the beginning
 
-    long_1 : length w1.now ≡ length w0.now
-    long_1 = cleared.same.same.size
-
-    long_2 : length w2.now ≡ length w1.now
-    long_2 = chained.same.same.size
-
-    pub begun_ready : IsReady (layout_of g) (other n) 0 w2
-    begun_ready = ready_kept (omega arith) (λ is. omega (arith, is, is_area)) (omega (arith, fits, long_1, long_2)) cleared.ready chained.same.same chained.synced
-
-    pub begun_none : front (layout_of g) (other n) w2.now ≡ []
-    begun_none =
-        (half_same (layout_of g) (other n) w1.now w2.now (chained.same.same.others (half_part (other n)) (λ is. omega (arith, is, is_area)))).0
-        ∙ ready_none (layout_of g) (other n) w1 cleared.ready
-
-    first_same : front (layout_of g) n w2.now ≡ front (layout_of g) n w0.now
-    first_same =
-        front_beside g.half (part_bytes (layout_of g) (half_part n) w1.now) (part_bytes (layout_of g) (half_part n) w2.now) chained.same.beside
-        ∙ (half_same (layout_of g) n w0.now w1.now (cleared.same.same.others (half_part n) (λ is. omega (arith, is, is_area)))).0
-
-    pub begun_forced : AreBytes w0.now → AreBytes w2.now → records_in g w2.now ≡ records_in g w0.now
-    begun_forced are_0 are_2 =
-        forced_both g n x w2.now is_area (begun_recovers w2.now (itself w2.now w2.unsynced are_2))
-        ∙ (λ i. first_same i ++ begun_none i) ∙ append-nil (front (layout_of g) n w0.now)
-        ∙ sym (forced_alone g n x w0.now is_area (recovers w0.now (itself w0.now w0.unsynced are_0)))
-
-    pub begun_images : (i : ℕ) → i < 2 → image_in g i w2 ≡ image_in g i w0
-    begun_images i is_image = chained.same.same.others (image_part i) (λ is. omega (arith, is, is_area)) ∙ cleared.same.same.others (image_part i) (λ is. omega (arith, is))
-
--- ---- the end
-
-module _ (g : Geometry) (n used : ℕ) (x : Option State) (bytes : List ℕ) (w0 : Medium) (recovers : RecoversByArea g n (other n) x w0) where
-  begun : CrashImagesAre w0 w0 (RecoversBy (decoding g) (layout_of g) n (other n) x)
-  begun = started w0 _ recovers
-
-  pub sync_moments : (w1 : Medium) (r : Result (Unit {0}) DiskFault) → Syncs r w0 w1 → CrashImagesAre w0 w1 (λ c. recovered_state g c ≡ x)
-  sync_moments w1 r syncs = weaker w0 w1 _ _ (after_sync w0 w0 w1 _ begun r syncs) (holds_by g n (other n) x)
-
-  module _ (is_area : n < 2) (some : is_some x ≡ true) (is : image_in g (other n) w0 ≡ bytes) (behind : run_on g (image_state g bytes) (front (layout_of g) (other n) w0.now) ≡ x) (w2 : Medium) where
-    own_recovers : (c : List ℕ) → c ≡ w0.now → RecoversBy (decoding g) (layout_of g) n (other n) x c
-        → (recovers_by_area (decoding g) (layout_of g) (other n) c ≡ x) × (eqb (chain (layout_of g) (other n) c) 1 ≡ false)
-    own_recovers c same recovered_before =
-        let laid = laid_by g n x c recovered_before.is some in
-        let shut = chain_other g n c is_area laid recovered_before.current in (
-          as_other g (other n) c laid (ap (λ (l : List ℕ). part_bytes (layout_of g) (image_part (other n)) l) same ∙ is)
-              (shut_force (layout_of g) (other n) c shut ∙ ap (λ (l : List ℕ). front (layout_of g) (other n) l) same) behind,
-          shut,
+  module _ (is_area : log.named < 2) (w1 w2 : Medium) (alone : RecoversByNamedAlone log w0) (clears : Clears log w0 w1)
+      (cleared : Cleared (layout_of log.geometry) (other log.named) w0 w1) (chains : Chains log w1 w2) where
+    empty : (c : List ℕ) → IsCrashImage w1 c → (front (layout_of g) (other n) c ≡ []) × (chain (layout_of g) (other n) c ≢ 1)
+    empty c left =
+        let is : c ≡ w1.now = synced_left w1 c cleared.synced left in (
+          ap (λ (l : List ℕ). front (layout_of g) (other n) l) is ∙ ready_none (layout_of g) (other n) w1 cleared.ready,
+          λ one. let shut : chain (layout_of g) (other n) c ≡ 0 = ap (λ (l : List ℕ). chain (layout_of g) (other n) l) is ∙ cleared.chain in absurd (omega (arith, one, shut)),
         )
 
-    still_left : (c : List ℕ) → IsCrashImage (synced w0) c → c ≡ w0.now
-    still_left c left = synced_left (synced w0) c refl left
+    pub chain_moments : CrashImagesAre w0 w2 (λ c. recovered_state g c ≡ x)
+    chain_moments =
+        then w0 w1 w2 _ (clear_moments log is_area w0 w1 alone clears)
+        (weaker w1 w2 _ _ (chain_by_area (decoding g) (layout_of g) n x w1 w2 is_area (clear_recovers log is_area w0 w1 alone clears) empty chains)
+        (λ c recovered_before. holds_by g _ _ x c recovered_before))
 
-    module _ (are : AreBytes w0.now) where
-      now_own : RecoversBy (decoding g) (layout_of g) n (other n) x w0.now
-      now_own = recovers w0.now (itself w0.now w0.unsynced are)
+    pub chain_beyond : KeepsBeyond (layout_of g) w0 w2
+    chain_beyond = beyond_then (layout_of g) w0 w1 w2 (clear_beyond log is_area w0 w1 alone clears) (beyond (layout_of g) w1 w2 _ (λ o d h. h.same.rest) chains)
 
-      either_way : RecoversEitherWay (decoding g) (layout_of g) x (synced w0)
-      either_way c left =
-          let same = still_left c left in
-          let recovered_before : RecoversBy (decoding g) (layout_of g) n (other n) x c = subst (λ (l : List ℕ). RecoversBy (decoding g) (layout_of g) n (other n) x l) (sym same) now_own in
-          both_of (λ (k : ℕ). recovers_by_area (decoding g) (layout_of g) k c ≡ x) n is_area recovered_before.is (own_recovers c same recovered_before).0
+    module _ (are : AreBytes w1.now) (fits : device_size (layout_of g) ≤ length w0.now) (chained : Chained (layout_of g) n w1 w2) where
+      long_1 : length w1.now ≡ length w0.now
+      long_1 = cleared.same.same.size
 
-      pub name_moments : CrashImagesAre w0 (synced w0) (λ c. recovered_state g c ≡ x) → CrashesChangeOnly (synced w0) w2 (IsSameButRoot (layout_of g))
-          → CrashImagesAre w0 w2 (λ c. recovered_state g c ≡ x)
-      name_moments so_far flips =
-          then w0 (synced w0) w2 _ so_far
-          (weaker (synced w0) w2 _ _ (torn_root_recovers (decoding g) (layout_of g) x (synced w0) w2 either_way flips) (λ c recovered_before. holds_by g _ _ x c recovered_before))
+      long_2 : length w2.now ≡ length w1.now
+      long_2 = chained.same.same.size
 
-      module _ (flipped : Flipped (layout_of g) (other n) (synced w0) w2) where
-        pub named_recovers : RecoversByArea g (other n) (other n) x w2
-        named_recovers =
-            let own = own_recovers w0.now refl now_own in
-            flip_by_area (decoding g) (layout_of g) (other n) (other n) x (synced w0) w2 flipped (shut_current (layout_of g) (other n) w0.now own.1) own.0
+      none : front (layout_of g) (other n) w2.now ≡ []
+      none =
+          (half_same (layout_of g) (other n) w1.now w2.now (chained.same.same.others (half_part (other n)) (λ is. omega (arith, is, is_area)))).0
+          ∙ ready_none (layout_of g) (other n) w1 cleared.ready
 
-        pub named_ready : device_size (layout_of g) ≤ length w0.now → IsReady (layout_of g) (other n) used w0 → IsReady (layout_of g) (other n) used w2
-        named_ready fits ready =
-            let long = flipped.same.same.size in
-            ready_kept (omega arith) (λ is. omega (arith, is)) (omega (arith, fits, long))
-            (ready_kept {w' = synced w0} (omega arith) (λ is. omega (arith, is)) fits ready (same_but_none (layout_of g) root_part w0.now) refl)
-            flipped.same.same flipped.synced
+      first_same : front (layout_of g) n w2.now ≡ front (layout_of g) n w0.now
+      first_same =
+          front_beside g.half (part_bytes (layout_of g) (half_part n) w1.now) (part_bytes (layout_of g) (half_part n) w2.now) chained.same.beside
+          ∙ (half_same (layout_of g) n w0.now w1.now (cleared.same.same.others (half_part n) (λ is. omega (arith, is, is_area)))).0
 
-        half_named : (front (layout_of g) (other n) w2.now ≡ front (layout_of g) (other n) w0.now) × (chain (layout_of g) (other n) w2.now ≡ chain (layout_of g) (other n) w0.now)
-        half_named = half_same (layout_of g) (other n) w0.now w2.now (flipped.same.same.others (half_part (other n)) (λ is. omega (arith, is)))
+      pub begun : AreBytes w0.now → AreBytes w2.now → IsCutBegun log w0 w2
+      begun are_0 are_2 =
+          let left = itself w1.now w1.unsynced are in
+          let recovers = chained_by_area (decoding g) (layout_of g) n x w1 w2 is_area (clear_recovers log is_area w0 w1 alone clears w1.now left) (empty w1.now left) chained in
+          record {
+            at = record {
+              recovers = recovers;
+              ready = ready_kept (omega arith) (λ is. omega (arith, is, is_area)) (omega (arith, fits, long_1, long_2)) cleared.ready chained.same.same chained.synced;
+              synced = chained.synced;
+            };
+            none = none;
+            same_records = forced_both g n x w2.now is_area (recovers w2.now (itself w2.now w2.unsynced are_2))
+                ∙ (λ i. first_same i ++ none i) ∙ append-nil (front (layout_of g) n w0.now)
+                ∙ sym (forced_alone g n x w0.now is_area (alone.recovers w0.now (itself w0.now w0.unsynced are_0)));
+            images = λ i is_image. chained.same.same.others (image_part i) (λ is. omega (arith, is, is_area)) ∙ cleared.same.same.others (image_part i) (λ is. omega (arith, is));
+          }
 
-        pub named_alone : records_in g w2.now ≡ front (layout_of g) (other n) w2.now
-        named_alone =
-            ap (λ (k : ℕ). in_force (layout_of g) k w2.now) flipped.named
-            ∙ shut_force (layout_of g) (other n) w2.now (ap (λ (b : ℕ). eqb b 1) half_named.1 ∙ (own_recovers w0.now refl now_own).1)
+  -- ---- the end
 
-        pub named_before : records_in g w0.now ≡ front (layout_of g) n w0.now ++ records_in g w2.now
-        named_before = forced_both g n x w0.now is_area now_own ∙ ap (λ rs. front (layout_of g) n w0.now ++ rs) (sym half_named.0 ∙ sym named_alone)
+  module _ (bytes : List ℕ) (written : IsCutWritten log bytes w0) where
+    pub sync_moments : (w1 : Medium) (r : Result (Unit {0}) DiskFault) → Syncs r w0 w1 → CrashImagesAre w0 w1 (λ c. recovered_state g c ≡ x)
+    sync_moments w1 r syncs = weaker w0 w1 _ _ (after_sync w0 w0 w1 _ (started w0 _ written.by.recovers) r syncs) (holds_by g n (other n) x)
 
-        pub named_images : (i : ℕ) → i < 2 → image_in g i w2 ≡ image_in g i w0
-        named_images i is_image = flipped.same.same.others (image_part i) (λ is. omega (arith, is))
+    module _ (is_area : n < 2) (w2 : Medium) where
+      own_recovers : (c : List ℕ) → c ≡ w0.now → RecoversBy (decoding g) (layout_of g) n (other n) x c
+          → (recovers_by_area (decoding g) (layout_of g) (other n) c ≡ x) × (eqb (chain (layout_of g) (other n) c) 1 ≡ false)
+      own_recovers c same recovered_before =
+          let laid = laid_by g n x c recovered_before.is written.by.some in
+          let shut = chain_other g n c is_area laid recovered_before.current in (
+            as_other g (other n) c laid (ap (λ (l : List ℕ). part_bytes (layout_of g) (image_part (other n)) l) same ∙ written.is)
+                (shut_force (layout_of g) (other n) c shut ∙ ap (λ (l : List ℕ). front (layout_of g) (other n) l) same) written.behind,
+            shut,
+          )
+
+      still_left : (c : List ℕ) → IsCrashImage (synced w0) c → c ≡ w0.now
+      still_left c left = synced_left (synced w0) c refl left
+
+      module _ (are : AreBytes w0.now) where
+        now_own : RecoversBy (decoding g) (layout_of g) n (other n) x w0.now
+        now_own = written.by.recovers w0.now (itself w0.now w0.unsynced are)
+
+        either_way : RecoversEitherWay (decoding g) (layout_of g) x (synced w0)
+        either_way c left =
+            let same = still_left c left in
+            let recovered_before : RecoversBy (decoding g) (layout_of g) n (other n) x c = subst (λ (l : List ℕ). RecoversBy (decoding g) (layout_of g) n (other n) x l) (sym same) now_own in
+            both_of (λ (k : ℕ). recovers_by_area (decoding g) (layout_of g) k c ≡ x) n is_area recovered_before.is (own_recovers c same recovered_before).0
+
+        pub name_moments : CrashImagesAre w0 (synced w0) (λ c. recovered_state g c ≡ x) → CrashesChangeOnly (synced w0) w2 (IsSameButRoot (layout_of g))
+            → CrashImagesAre w0 w2 (λ c. recovered_state g c ≡ x)
+        name_moments so_far flips =
+            then w0 (synced w0) w2 _ so_far
+            (weaker (synced w0) w2 _ _ (torn_root_recovers (decoding g) (layout_of g) x (synced w0) w2 either_way flips) (λ c recovered_before. holds_by g _ _ x c recovered_before))
+
+        module _ (flipped : Flipped (layout_of g) (other n) (synced w0) w2) where
+          half_named : (front (layout_of g) (other n) w2.now ≡ front (layout_of g) (other n) w0.now) × (chain (layout_of g) (other n) w2.now ≡ chain (layout_of g) (other n) w0.now)
+          half_named = half_same (layout_of g) (other n) w0.now w2.now (flipped.same.same.others (half_part (other n)) (λ is. omega (arith, is)))
+
+          alone : records_in g w2.now ≡ front (layout_of g) (other n) w2.now
+          alone =
+              ap (λ (k : ℕ). in_force (layout_of g) k w2.now) flipped.named
+              ∙ shut_force (layout_of g) (other n) w2.now (ap (λ (b : ℕ). eqb b 1) half_named.1 ∙ (own_recovers w0.now refl now_own).1)
+
+          pub named : device_size (layout_of g) ≤ length w0.now → IsFlipped log w0 w2
+          named fits =
+              let own = own_recovers w0.now refl now_own in
+              let long = flipped.same.same.size in
+              record {
+                at = record {
+                  recovers = flip_by_area (decoding g) (layout_of g) (other n) (other n) x (synced w0) w2 flipped (shut_current (layout_of g) (other n) w0.now own.1) own.0;
+                  ready = ready_kept (omega arith) (λ is. omega (arith, is)) (omega (arith, fits, long))
+                      (ready_kept {w' = synced w0} (omega arith) (λ is. omega (arith, is)) fits written.ready (same_but_none (layout_of g) root_part w0.now) refl)
+                      flipped.same.same flipped.synced;
+                  synced = flipped.synced;
+                };
+                before = forced_both g n x w0.now is_area now_own ∙ ap (λ rs. front (layout_of g) n w0.now ++ rs) (sym half_named.0 ∙ sym alone);
+                alone = alone;
+                images = λ i is_image. flipped.same.same.others (image_part i) (λ is. omega (arith, is));
+              }

@@ -14,14 +14,17 @@ use Rattle.image.specs.Touched.{may_change}
 use Rattle.image.proofs.Untouched.{piece_stays}
 use Rattle.meaning.proofs.Kept.{step_kept}
 use Rattle.std.specs.List.{AllByRecursion}
-use Rattle.journal.specs.Journal.{AreCarriedOut, RecoversWithPrefix, IsRecoverable}
+use Rattle.journal.specs.Journal.{JournalView, AreCarriedOut, RecoversWithPrefix, IsRecoverable, committed}
 use Rattle.journal.specs.Keeping.{IsCutIfRunning, IsUpToDate, FitsCutState, IsSoundJournal, image_after_cut, journal_view_of}
 use Rattle.journal.specs.DirtyPieces.{AreBothTouched, DirtiesTouched}
-use Rattle.journal.specs.Steps.{RecoversByArea, run_on}
+use Rattle.journal.specs.Steps.{RecoversByArea, RecoversStill, run_on}
 use Rattle.journal.specs.Extents.{AgreeOnClean, image_in, extent_of}
 use Rattle.journal.proofs.Cutting.{named_below}
 use Rattle.journal.proofs.Forced.{forced_more, used_most}
 use Rattle.journal.proofs.Recovering.{holds_by, holds_now}
+use Rattle.journal.specs.Fields.{IsJournal, journal_view}
+use Rattle.journal.specs.declared.journal.Journal.TheInside.{Inside}
+use Rattle.oplog.specs.Beyond.{KeepsBeyond}
 use Rattle.language.specs.declared.Msg.{Msg}
 use Rattle.language.specs.Messages.{is_in_range}
 use Rattle.message.specs.Records.{message_in_fields, record_of}
@@ -105,6 +108,22 @@ recoverable_of {log} {m} sound = record {
       let most = used_most (layout_of log.geometry) log.current log.used m sound.ready in
       omega (arith, count, most);
 }
+
+-- what holds of a journal that hasn't failed
+module _ {D : Type 0} {medium : D → Medium} {keeps : Type 0} {j : Inside D} {self : JournalView} (kept : IsJournal medium keeps j) (view : journal_view medium j ≡ self)
+    (fine : self.failed ≡ false) where
+  pub sound_of : keeps → IsSoundJournal j.halves j.snapshot.items j.named_dirty.items j.other_dirty.items j.pending.items j.pieces_left (medium j.disk)
+  sound_of = kept.sound (ap (λ (h : JournalView). h.failed) view ∙ fine)
+
+  pub fits_of : FitsCutState j.halves j.pending.items j.pieces_left
+  fits_of = kept.fits_cut_state (ap (λ (h : JournalView). h.failed) view ∙ fine)
+
+-- what a step leaves of the device, in the words of contracts
+pub still_of : {h self : JournalView} {w1 : Medium} → h ≡ self → RecoversStill h.geometry h.medium w1 → CrashImagesAre self.medium w1 (λ c. recovered_state self.geometry c ≡ committed self)
+still_of {w1} view = subst (λ (h : JournalView). CrashImagesAre h.medium w1 (λ c. recovered_state h.geometry c ≡ committed h)) view
+
+pub beyond_of : {h self : JournalView} {w1 : Medium} → h ≡ self → KeepsBeyond (layout_of h.geometry) h.medium w1 → KeepsBeyond (layout_of self.geometry) self.medium w1
+beyond_of {w1} view = subst (λ (h : JournalView). KeepsBeyond (layout_of h.geometry) h.medium w1) view
 
 -- a journal is sound if one with an equal log, snapshot, flags and count of pieces left is
 pub sound_along : {log log' : Log} {snapshot snapshot' : List ℕ} {named named' others others' pending : List Bool} {pieces_left pieces_left' : Option ℕ} {m : Medium} → log' ≡ log

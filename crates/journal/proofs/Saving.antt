@@ -16,13 +16,13 @@ use Rattle.journal.specs.Fields.{IsJournal, journal_view}
 use Rattle.journal.specs.Journal.{JournalView, committed}
 use Rattle.journal.specs.Keeping.{IsUpToDate, FitsCutState, IsSoundJournal}
 use Rattle.journal.specs.declared.journal.Journal.TheInside.{Inside}
-use Rattle.journal.specs.Steps.{RecoversByNamedAlone, IsCutBegun, IsPointed, RecoversByArea, cut_log, pointed_log, run_on}
+use Rattle.journal.specs.Steps.{RecoversByNamedAlone, IsCutBegun, IsPointed, RecoversByArea, pointed_log, run_on}
 use Rattle.journal.specs.Extents.{AgreeOnClean, AreAllDirty, AreCleanExtentsOf, image_in, extent_in, extent_of}
 use Rattle.journal.proofs.Cutting.{named_below}
 use Rattle.journal.proofs.Forced.{forced_synced}
 use Rattle.journal.proofs.Recovering.{holds_now, run_none}
 use Rattle.device_map.specs.Layout.{other}
-use Rattle.oplog.specs.Log.{Log}
+use Rattle.oplog.specs.Log.{Log, chained}
 use Rattle.parcel.specs.Tree.{TreeView, state_in}
 use Rattle.meaning.specs.State.{State, IsState}
 
@@ -146,7 +146,7 @@ module _ {log : Log} {snapshot snapshot' : List ℕ} {named others pending : Lis
     pub cut_committed : IsCutBegun log w0 w1 → recovered_state log.geometry w1.now ≡ recovered_state log.geometry w0.now
     cut_committed begun = holds_now log.geometry log.named (other log.named) (recovered_state log.geometry w0.now) w1 are' begun.at.recovers
 
-    pub cut_sound : {others' pending' : List Bool} {count : ℕ} → pending' ≡ others → IsCutBegun log w0 w1 → IsSoundJournal (cut_log log) snapshot' named others' pending' (Some count) w1
+    pub cut_sound : {others' pending' : List Bool} {count : ℕ} → pending' ≡ others → IsCutBegun log w0 w1 → IsSoundJournal (chained log) snapshot' named others' pending' (Some count) w1
     cut_sound {others'} same_dirty begun =
         let same = cut_committed begun in
         record {

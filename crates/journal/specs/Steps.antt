@@ -100,10 +100,6 @@ pub record IsCutFinished (log : Log) (old new : Medium) : Type 0 where
 abbrev pub pointed_log : Log → Log
 pointed_log log = record log { named = other log.named; current = other log.named; used = 0; cleared = false }
 
--- after the beginning of a cut
-abbrev pub cut_log : Log → Log
-cut_log log = record log { current = other log.named; used = 0; cleared = false }
-
 -- after the end of a cut, whose records stay in the current half
 abbrev pub flipped_log : Log → Log
 flipped_log log = record log { named = other log.named; cleared = false }

@@ -7,13 +7,13 @@ ghost use Rattle.image.specs.Image.{image_state};
 ghost use Rattle.image.specs.Pieces.{piece_count};
 ghost use Rattle.journal.specs.Costs.{point_cost};
 ghost use Rattle.journal.specs.Parts.{IsRefusedAlike};
-ghost use Rattle.journal.specs.Steps.{RecoversByNamedAlone, IsCutBegun, IsCutFinished, IsFlipped, IsPointed, IsCutUnfinished, IsCutWritten, RecoversStill, cut_log, finished_log, flipped_log, pointed_log};
+ghost use Rattle.journal.specs.Steps.{RecoversByNamedAlone, IsCutBegun, IsCutFinished, IsFlipped, IsPointed, IsCutUnfinished, IsCutWritten, RecoversStill, finished_log, flipped_log, pointed_log};
 ghost use Rattle.journal.specs.Extents.{AgreeOnClean, AreAllDirty, image_in};
 ghost use Rattle.oplog.specs.Beyond.{KeepsBeyond};
 ghost use Rattle.oplog.specs.Calls.{IsLongEnough};
 ghost use Rattle.disk.specs.Store.{Costs};
 ghost use Rattle.device_map.specs.Layout.{image_size, layout_of, other};
-ghost use Rattle.oplog.specs.Log.{IsLogCall, IsNotBadRecord};
+ghost use Rattle.oplog.specs.Log.{IsLogCall, IsNotBadRecord, chained};
 ghost use Rattle.meaning.specs.State.{State};
 
 use crate::extents::{sync_image, write_image};
@@ -68,7 +68,7 @@ pub(crate) fn cut_on<D: Disk>(halves: &mut Halves, disk: &mut D) -> Result<(), L
     ensures beyond { D.keeps → KeepsBeyond (layout_of halves.old.geometry) (D.medium disk.old) (D.medium disk.new) }
     ensures begun { OnOk result (D.keeps → IsCutBegun halves.old (D.medium disk.old) (D.medium disk.new)) }
     ensures costs { D.keeps → Costs result 4 (D.medium disk.old) (D.medium disk.new) }
-    ensures log { OnOk result (halves.new ≡ cut_log halves.old) }
+    ensures log { OnOk result (halves.new ≡ chained halves.old) }
     ensures geometry { halves.new.geometry ≡ halves.old.geometry }
     ensures used { OnErr result (halves.new.used ≡ halves.old.used) }
     ensures failed { OnErr result (halves.new.failed ≡ true) }

@@ -1,6 +1,7 @@
 -- The cut is finished, and then the records behind it are run; if one is bad, the device is refused for it, as it was before.
 use Rattle.std.proofs.Common.{◌≡◌, ℕ, List, Option, Some, refl, sym, ◌∙◌, ap, subst, arith}
 use Rattle.std.proofs.lemmas.Result.{err_from_is_err_and}
+use Rattle.affinity.specs.declared.geometry.Geometry.{Geometry}
 use Rattle.checkpoint.specs.declared.fault.OpenFault.{OpenFault}
 use Rattle.checkpoint.specs.Loading.{IsConsistentFault, records_fault}
 use Rattle.checkpoint.specs.Recovery.{decoding}
@@ -21,7 +22,22 @@ use Rattle.oplog.specs.Log.{Log}
 use Rattle.oplog.proofs.Beyond.{beyond_read, beyond_then}
 use Rattle.oplog.specs.Recovery.{named_area, run}
 use Rattle.parcel.specs.Tree.{state_in}
+use Rattle.meaning.specs.State.{State}
+use Rattle.journal.proofs.opening.finish_cut_and_replay.Given.{Over}
+use Rattle.journal.proofs.opening.finish_cut_and_replay.Goals.{After-replay}
 use Rattle.journal.proofs.opening.finish_cut_and_replay.Goals as goal
+
+-- the records that are run: those of the half behind the named one, from the state of the cut on
+begins : {A : Type 0} (f : Geometry → State → ℕ → List (List ℕ) → A) (g : Over) (c : After-replay g) → g.D.Disk.keeps
+    → f c.finish_cut.new.parts.tree.geometry (state_in c.finish_cut.new.parts.tree) (other c.named-behind.result)
+    (front (layout_of c.finish_cut.new.parts.halves.geometry) (other c.named-behind.result) (g.D.Disk.medium c.finish_cut.new.disk).now)
+    ≡ f c.args.parts.now.halves.geometry (state_in c.args.parts.now.tree) (other c.args.parts.now.halves.named)
+    (front (layout_of c.args.parts.now.halves.geometry) (other c.args.parts.now.halves.named) (g.D.Disk.medium c.args.disk.now).now)
+begins f g c k =
+    let half = ap other c.named-behind.ensures.named in
+    let geometry : c.finish_cut.new.parts.tree.geometry ≡ c.args.parts.now.halves.geometry = (λ i. (c.finish_cut.ensures.tree i).geometry) ∙ c.requires.loaded.geometry in
+    (λ i. f (geometry i) (state_in (c.finish_cut.ensures.tree i)) (half i) (front (layout_of (c.in_ok-finish_cut.ensures.log i).geometry) (half i) (g.D.Disk.medium c.finish_cut.new.disk).now))
+    ∙ ap (f c.args.parts.now.halves.geometry (state_in c.args.parts.now.tree) (other c.args.parts.now.halves.named)) (c.in_ok-finish_cut.ensures.finished k).front
 
 pub returns-in_err-replay-clause-any_moment : goal.returns-in_err-replay-clause-any_moment
 returns-in_err-replay-clause-any_moment g c = λ k. same _ _ _ _ (c.finish_cut.ensures.any_moment k) (c.replay.ensures.untouched k)
@@ -34,45 +50,29 @@ returns-in_err-replay-clause-refused g c =
     let p = err_from_is_err_and c.from_residual-in_err-replay.result c.from_residual-in_err-replay.ensures.1 in
     rw (p.1, p.2)
     (λ k.
-    let x = state_in c.args.parts.now.tree in
-    let w1 = (g.D.Disk.medium c.finish_cut.new.disk).now in
-    let log : c.finish_cut.new.parts.halves.geometry ≡ c.args.parts.now.halves.geometry = ap (λ (l : Log). l.geometry) c.in_ok-finish_cut.ensures.log in
-    let half = ap other c.named-behind.ensures.named in
-    let held' : state_in c.finish_cut.new.parts.tree ≡ x = ap state_in c.finish_cut.ensures.tree in
-    let geometry : c.finish_cut.new.parts.tree.geometry ≡ c.args.parts.now.halves.geometry = (λ i. (c.finish_cut.ensures.tree i).geometry) ∙ c.requires.loaded.geometry in
-    behind_refused c.args.parts.now.halves.geometry (g.D.Disk.medium c.args.disk.now).now c.args.parts.now.halves.named x (c.requires.recovers k) _
-    (subst (λ (rs : List (List ℕ)). IsConsistentFault (records_fault c.args.parts.now.halves.geometry x (other c.args.parts.now.halves.named) rs)
-    c.in_err-replay.field-0.0) (c.in_ok-finish_cut.ensures.finished k).front
-    (subst (λ (o : Option OpenFault). IsConsistentFault o c.in_err-replay.field-0.0)
-    (λ i. records_fault (geometry i) (held' i) (half i) (front (layout_of (log i)) (half i) w1)) (c.in_err-replay.ensures.refused k))))
+    let fault = subst (λ (o : Option OpenFault). IsConsistentFault o c.in_err-replay.field-0.0) (begins records_fault g (goal.at.returns-in_err-replay-clause-refused g c).After-replay k)
+    (c.in_err-replay.ensures.refused k) in
+    behind_refused c.args.parts.now.halves.geometry (g.D.Disk.medium c.args.disk.now).now c.args.parts.now.halves.named (state_in c.args.parts.now.tree) (c.requires.recovers k)
+    c.in_err-replay.field-0.0 fault)
 
 pub returns-in_err-replay-clause-behind : goal.returns-in_err-replay-clause-behind
 returns-in_err-replay-clause-behind g c =
     let p = err_from_is_err_and c.from_residual-in_err-replay.result c.from_residual-in_err-replay.ensures.1 in
     rw (p.1, p.2)
     (λ k.
-    let x = state_in c.args.parts.now.tree in
-    let w1 = (g.D.Disk.medium c.finish_cut.new.disk).now in
     let w0 = g.D.Disk.medium c.args.disk.now in
     let w2 = g.D.Disk.medium c.replay.new.disk in
-    let log : c.finish_cut.new.parts.halves.geometry ≡ c.args.parts.now.halves.geometry = ap (λ (l : Log). l.geometry) c.in_ok-finish_cut.ensures.log in
-    let half = ap other c.named-behind.ensures.named in
-    let held' : state_in c.finish_cut.new.parts.tree ≡ x = ap state_in c.finish_cut.ensures.tree in
-    let geometry : c.finish_cut.new.parts.tree.geometry ≡ c.args.parts.now.halves.geometry = (λ i. (c.finish_cut.ensures.tree i).geometry) ∙ c.requires.loaded.geometry in
-    let rs = front (layout_of c.finish_cut.new.parts.halves.geometry) (other c.named-behind.result) w1 in
     let finished = c.in_ok-finish_cut.ensures.finished k in
     let only = c.replay.ensures.untouched k in
     let bytes = same_bytes (g.D.Disk.medium c.finish_cut.new.disk) w2 only in
-    let fault = c.in_err-replay.ensures.refused k in
-    let why = behind_refused c.args.parts.now.halves.geometry w0.now c.args.parts.now.halves.named x (c.requires.recovers k) c.in_err-replay.field-0.0
-    (subst (λ (rs : List (List ℕ)). IsConsistentFault (records_fault c.args.parts.now.halves.geometry x (other c.args.parts.now.halves.named) rs) c.in_err-replay.field-0.0) finished.front
-    (subst (λ (o : Option OpenFault). IsConsistentFault o c.in_err-replay.field-0.0) (λ i. records_fault (geometry i) (held' i) (half i) (front (layout_of (log i)) (half i) w1)) fault)) in
-    let alike = leaves_now w0 w2 _ (same _ _ _ _ (c.finish_cut.ensures.alike k) only) w2.now (itself w2.now w2.unsynced (g.met.D.Disk.bytes c.replay.new.disk)) in
-    bad_half (first_bad_record c.args.parts.now.tree.geometry 0 (Some x) rs) _ c.in_err-replay.ensures.never_out_of_memory
-    (subst (λ (o : Option OpenFault). IsConsistentFault o c.in_err-replay.field-0.0) (λ i. records_fault (c.finish_cut.ensures.tree i).geometry (held' i) (half i) rs) fault)
-    (c.requires.recovers k).header why
+    let fault = subst (λ (o : Option OpenFault). IsConsistentFault o c.in_err-replay.field-0.0) (begins records_fault g (goal.at.returns-in_err-replay-clause-behind g c).After-replay k)
+    (c.in_err-replay.ensures.refused k) in
+    bad_half (first_bad_record c.args.parts.now.halves.geometry 0 (Some (state_in c.args.parts.now.tree))
+    (front (layout_of c.args.parts.now.halves.geometry) (other c.args.parts.now.halves.named) w0.now)) _ c.in_err-replay.ensures.never_out_of_memory fault
+    (c.requires.recovers k).header (behind_refused c.args.parts.now.halves.geometry (g.D.Disk.medium c.args.disk.now).now c.args.parts.now.halves.named (state_in c.args.parts.now.tree)
+    (c.requires.recovers k) c.in_err-replay.field-0.0 fault)
     (record {
-      alike = alike;
+      alike = leaves_now w0 w2 _ (same _ _ _ _ (c.finish_cut.ensures.alike k) only) w2.now (itself w2.now w2.unsynced (g.met.D.Disk.bytes c.replay.new.disk));
       named = ap (λ (l : List ℕ). named_area (layout_of c.args.parts.now.halves.geometry) l) bytes ∙ finished.named;
       image = ap (λ (l : List ℕ). image_state c.args.parts.now.halves.geometry (part_bytes (layout_of c.args.parts.now.halves.geometry) (image_part (other c.args.parts.now.halves.named)) l)) bytes
           ∙ finished.reads ∙ ap (λ (n : ℕ). area_state c.args.parts.now.halves.geometry n w0.now) (c.requires.recovers k).named;
@@ -87,42 +87,23 @@ returns-clause-alike g c = λ k. same _ _ _ _ (c.finish_cut.ensures.alike k) (c.
 
 pub returns-clause-alone : goal.returns-clause-alone
 returns-clause-alone g c = λ k.
-    let x = state_in c.args.parts.now.tree in
-    let w1 = (g.D.Disk.medium c.finish_cut.new.disk).now in
-    let log : c.finish_cut.new.parts.halves.geometry ≡ c.args.parts.now.halves.geometry = ap (λ (l : Log). l.geometry) c.in_ok-finish_cut.ensures.log in
-    let half = ap other c.named-behind.ensures.named in
-    let held' : state_in c.finish_cut.new.parts.tree ≡ x = ap state_in c.finish_cut.ensures.tree in
-    let geometry : c.finish_cut.new.parts.tree.geometry ≡ c.args.parts.now.halves.geometry = (λ i. (c.finish_cut.ensures.tree i).geometry) ∙ c.requires.loaded.geometry in
-    let more = ap (λ (rs : List (List ℕ)). run (decoding c.args.parts.now.halves.geometry) (Some x) rs) (sym (c.in_ok-finish_cut.ensures.finished k).front)
-    ∙ sym (λ i. run (decoding (geometry i)) (Some (held' i)) (front (layout_of (log i)) (half i) w1)) ∙ c.in_ok-replay.ensures.done k in
-    let held = behind_holds c.args.parts.now.halves.geometry (g.D.Disk.medium c.args.disk.now).now c.args.parts.now.halves.named x (c.requires.recovers k) (state_in c.replay.new.tree) more in
+    let more = sym (begins (λ h x b rs. run (decoding h) (Some x) rs) g (goal.at.returns-clause-alone g c).After-replay k) ∙ c.in_ok-replay.ensures.done k in
     subst (λ (l : Log). RecoversByNamedAlone l (g.D.Disk.medium c.replay.new.disk)) (sym (c.in_ok-replay.ensures.log ∙ c.in_ok-finish_cut.ensures.log))
     (alone_finished (g.met.D.Disk.bytes c.replay.new.disk)
-    (same _ _ _ _ (c.finish_cut.ensures.any_moment k) (c.replay.ensures.untouched k)) held (c.in_ok-finish_cut.ensures.finished k) (c.replay.ensures.untouched k))
+    (same _ _ _ _ (c.finish_cut.ensures.any_moment k) (c.replay.ensures.untouched k)) (behind_holds c.args.parts.now.halves.geometry (g.D.Disk.medium c.args.disk.now).now
+    c.args.parts.now.halves.named (state_in c.args.parts.now.tree) (c.requires.recovers k) (state_in c.replay.new.tree) more) (c.in_ok-finish_cut.ensures.finished k) (c.replay.ensures.untouched k))
 
 pub returns-clause-was : goal.returns-clause-was
 returns-clause-was g c = λ k.
-    let x = state_in c.args.parts.now.tree in
-    let w1 = (g.D.Disk.medium c.finish_cut.new.disk).now in
-    let log : c.finish_cut.new.parts.halves.geometry ≡ c.args.parts.now.halves.geometry = ap (λ (l : Log). l.geometry) c.in_ok-finish_cut.ensures.log in
-    let half = ap other c.named-behind.ensures.named in
-    let held' : state_in c.finish_cut.new.parts.tree ≡ x = ap state_in c.finish_cut.ensures.tree in
-    let geometry : c.finish_cut.new.parts.tree.geometry ≡ c.args.parts.now.halves.geometry = (λ i. (c.finish_cut.ensures.tree i).geometry) ∙ c.requires.loaded.geometry in
-    let more = ap (λ (rs : List (List ℕ)). run (decoding c.args.parts.now.halves.geometry) (Some x) rs) (sym (c.in_ok-finish_cut.ensures.finished k).front)
-    ∙ sym (λ i. run (decoding (geometry i)) (Some (held' i)) (front (layout_of (log i)) (half i) w1)) ∙ c.in_ok-replay.ensures.done k in
-    behind_holds c.args.parts.now.halves.geometry (g.D.Disk.medium c.args.disk.now).now c.args.parts.now.halves.named x (c.requires.recovers k) (state_in c.replay.new.tree) more
+    let more = sym (begins (λ h x b rs. run (decoding h) (Some x) rs) g (goal.at.returns-clause-was g c).After-replay k) ∙ c.in_ok-replay.ensures.done k in
+    behind_holds c.args.parts.now.halves.geometry (g.D.Disk.medium c.args.disk.now).now c.args.parts.now.halves.named (state_in c.args.parts.now.tree) (c.requires.recovers k)
+    (state_in c.replay.new.tree) more
 
 pub returns-clause-sound : goal.returns-clause-sound
 returns-clause-sound g c = λ k.
-    let x = state_in c.args.parts.now.tree in
-    let w1 = (g.D.Disk.medium c.finish_cut.new.disk).now in
-    let log : c.finish_cut.new.parts.halves.geometry ≡ c.args.parts.now.halves.geometry = ap (λ (l : Log). l.geometry) c.in_ok-finish_cut.ensures.log in
-    let half = ap other c.named-behind.ensures.named in
-    let held' : state_in c.finish_cut.new.parts.tree ≡ x = ap state_in c.finish_cut.ensures.tree in
-    let geometry : c.finish_cut.new.parts.tree.geometry ≡ c.args.parts.now.halves.geometry = (λ i. (c.finish_cut.ensures.tree i).geometry) ∙ c.requires.loaded.geometry in
-    let more = ap (λ (rs : List (List ℕ)). run (decoding c.args.parts.now.halves.geometry) (Some x) rs) (sym (c.in_ok-finish_cut.ensures.finished k).front)
-    ∙ sym (λ i. run (decoding (geometry i)) (Some (held' i)) (front (layout_of (log i)) (half i) w1)) ∙ c.in_ok-replay.ensures.done k in
-    behind_fine c.args.parts.now.halves.geometry (g.D.Disk.medium c.args.disk.now).now c.args.parts.now.halves.named x (c.requires.recovers k) (state_in c.replay.new.tree) more
+    let more = sym (begins (λ h x b rs. run (decoding h) (Some x) rs) g (goal.at.returns-clause-sound g c).After-replay k) ∙ c.in_ok-replay.ensures.done k in
+    behind_fine c.args.parts.now.halves.geometry (g.D.Disk.medium c.args.disk.now).now c.args.parts.now.halves.named (state_in c.args.parts.now.tree) (c.requires.recovers k)
+    (state_in c.replay.new.tree) more
 
 pub returns-clause-loaded : goal.returns-clause-loaded
 returns-clause-loaded g c =
@@ -161,10 +142,7 @@ returns-in_err-finish_cut-clause-costs g c =
 pub returns-in_err-replay-clause-costs : goal.returns-in_err-replay-clause-costs
 returns-in_err-replay-clause-costs g c =
     let p = err_from_is_err_and c.from_residual-in_err-replay.result c.from_residual-in_err-replay.ensures.1 in
-    rw p.1
-    (λ k.
-    let read = no_call (g.D.Disk.medium c.finish_cut.new.disk) (g.D.Disk.medium c.replay.new.disk) (c.replay.ensures.untouched k) in
-    omega (arith, read, c.in_ok-finish_cut.ensures.costs k))
+    rw p.1 (λ k. omega (arith, no_call (g.D.Disk.medium c.finish_cut.new.disk) (g.D.Disk.medium c.replay.new.disk) (c.replay.ensures.untouched k), c.in_ok-finish_cut.ensures.costs k))
 
 pub returns-clause-costs : goal.returns-clause-costs
 returns-clause-costs g c = λ k.

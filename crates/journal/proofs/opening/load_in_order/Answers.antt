@@ -18,7 +18,36 @@ use Rattle.device_map.specs.Layout.{layout_of, other}
 use Rattle.oplog.proofs.Beyond.{beyond_read, beyond_then}
 use Rattle.oplog.specs.Log.{Log}
 use Rattle.parcel.specs.Tree.{state_in}
+use Rattle.journal.proofs.opening.load_in_order.Given.{Over}
+use Rattle.journal.proofs.opening.load_in_order.Goals.{After-finish_cut_and_replay, Then-not-named}
 use Rattle.journal.proofs.opening.load_in_order.Goals as goal
+
+moments : (g : Over) (c : After-finish_cut_and_replay g) → g.D.Disk.keeps
+    → RecoversStill c.args.parts.now.tree.geometry (g.D.Disk.medium c.args.disk.now) (g.D.Disk.medium c.finish_cut_and_replay.new.disk)
+moments g c k =
+    still_after c.args.parts.now.tree.geometry _ (g.D.Disk.medium c.load_named.new.disk) _ (c.requires.synced k) (c.load_named.ensures.untouched k)
+    (subst (λ (h : Geometry). RecoversStill h (g.D.Disk.medium c.load_named.new.disk) (g.D.Disk.medium c.finish_cut_and_replay.new.disk)) (ap (λ (l : Log). l.geometry) c.in_ok-named.ensures.log)
+    (c.finish_cut_and_replay.ensures.any_moment k))
+
+alike : (g : Over) (c : After-finish_cut_and_replay g) → g.D.Disk.keeps
+    → CrashImagesAre (g.D.Disk.medium c.args.disk.now) (g.D.Disk.medium c.finish_cut_and_replay.new.disk) (IsRefusedAlike c.args.parts.now.tree.geometry (g.D.Disk.medium c.args.disk.now).now)
+alike g c k =
+    alike_after c.args.parts.now.tree.geometry _ (g.D.Disk.medium c.load_named.new.disk) _ (c.requires.header k) (c.requires.synced k) (c.load_named.ensures.untouched k)
+    (subst (λ (h : Geometry). CrashImagesAre (g.D.Disk.medium c.load_named.new.disk) (g.D.Disk.medium c.finish_cut_and_replay.new.disk)
+    (IsRefusedAlike h (g.D.Disk.medium c.load_named.new.disk).now)) (ap (λ (l : Log). l.geometry) c.in_ok-named.ensures.log) (c.finish_cut_and_replay.ensures.alike k))
+
+stays : (g : Over) (c : After-finish_cut_and_replay g) → g.D.Disk.keeps
+    → KeepsBeyond (layout_of c.args.parts.now.tree.geometry) (g.D.Disk.medium c.args.disk.now) (g.D.Disk.medium c.finish_cut_and_replay.new.disk)
+stays g c k =
+    beyond_then (layout_of c.args.parts.now.tree.geometry) _ (g.D.Disk.medium c.load_named.new.disk) _ (beyond_read (layout_of c.args.parts.now.tree.geometry) _ _ (c.load_named.ensures.untouched k))
+    (subst (λ (h : Geometry). KeepsBeyond (layout_of h) (g.D.Disk.medium c.load_named.new.disk) (g.D.Disk.medium c.finish_cut_and_replay.new.disk))
+    (ap (λ (l : Log). l.geometry) c.in_ok-named.ensures.log) (c.finish_cut_and_replay.ensures.beyond k))
+
+held : (g : Over) (c : Then-not-named g) → g.D.Disk.keeps → NamedHolds c.args.parts.now.tree.geometry (g.D.Disk.medium c.args.disk.now).now c.in_ok-named.named.area false
+    (state_in c.load_named.new.tree)
+held g c k =
+    subst (λ (t : Bool). NamedHolds c.args.parts.now.tree.geometry (g.D.Disk.medium c.args.disk.now).now c.in_ok-named.named.area t (state_in c.load_named.new.tree))
+    (not_on c.in_ok-named.named.chained c.if-not-named.true) (c.in_ok-named.ensures.loaded k)
 
 pub returns-in_err-named-clause-any_moment : goal.returns-in_err-named-clause-any_moment
 returns-in_err-named-clause-any_moment g c = λ k. still_read c.args.parts.now.tree.geometry _ _ (c.requires.synced k) (c.load_named.ensures.untouched k)
@@ -49,19 +78,13 @@ returns-then-not-named-clause-alone g c = λ k.
 
 pub returns-then-not-named-clause-was : goal.returns-then-not-named-clause-was
 returns-then-not-named-clause-was g c = λ k.
-    let geometry = c.args.parts.now.tree.geometry in
-    let now = (g.D.Disk.medium c.args.disk.now).now in
-    let x = state_in c.load_named.new.tree in
-    alone_holds geometry now c.in_ok-named.named.area x (subst (λ (t : Bool). NamedHolds geometry now c.in_ok-named.named.area t x)
-    (not_on c.in_ok-named.named.chained c.if-not-named.true) (c.in_ok-named.ensures.loaded k))
+    alone_holds c.args.parts.now.tree.geometry (g.D.Disk.medium c.args.disk.now).now c.in_ok-named.named.area (state_in c.load_named.new.tree)
+    (held g (goal.at.returns-then-not-named-clause-was g c).Then-not-named k)
 
 pub returns-then-not-named-clause-sound : goal.returns-then-not-named-clause-sound
 returns-then-not-named-clause-sound g c = λ k.
-    let geometry = c.args.parts.now.tree.geometry in
-    let now = (g.D.Disk.medium c.args.disk.now).now in
-    let x = state_in c.load_named.new.tree in
-    alone_fine geometry now c.in_ok-named.named.area x (subst (λ (t : Bool). NamedHolds geometry now c.in_ok-named.named.area t x)
-    (not_on c.in_ok-named.named.chained c.if-not-named.true) (c.in_ok-named.ensures.loaded k))
+    alone_fine c.args.parts.now.tree.geometry (g.D.Disk.medium c.args.disk.now).now c.in_ok-named.named.area (state_in c.load_named.new.tree)
+    (held g (goal.at.returns-then-not-named-clause-sound g c).Then-not-named k)
 
 pub finish_cut_and_replay-requires-clause-recovers : goal.finish_cut_and_replay-requires-clause-recovers
 finish_cut_and_replay-requires-clause-recovers g c = λ k.
@@ -69,20 +92,10 @@ finish_cut_and_replay-requires-clause-recovers g c = λ k.
     (not_off c.in_ok-named.named.chained c.if-not-named.false) (c.load_named.ensures.untouched k) (c.in_ok-named.ensures.loaded k)
 
 pub returns-in_err-finish_cut_and_replay-clause-any_moment : goal.returns-in_err-finish_cut_and_replay-clause-any_moment
-returns-in_err-finish_cut_and_replay-clause-any_moment g c = λ k.
-    let w1 = g.D.Disk.medium c.load_named.new.disk in
-    let w2 = g.D.Disk.medium c.finish_cut_and_replay.new.disk in
-    let log = ap (λ (l : Log). l.geometry) c.in_ok-named.ensures.log in
-    still_after c.args.parts.now.tree.geometry (g.D.Disk.medium c.args.disk.now) w1 w2 (c.requires.synced k) (c.load_named.ensures.untouched k)
-    (subst (λ (h : Geometry). RecoversStill h w1 w2) log (c.finish_cut_and_replay.ensures.any_moment k))
+returns-in_err-finish_cut_and_replay-clause-any_moment g c = moments g (goal.at.returns-in_err-finish_cut_and_replay-clause-any_moment g c).After-finish_cut_and_replay
 
 pub returns-in_err-finish_cut_and_replay-clause-alike : goal.returns-in_err-finish_cut_and_replay-clause-alike
-returns-in_err-finish_cut_and_replay-clause-alike g c = λ k.
-    let w1 = g.D.Disk.medium c.load_named.new.disk in
-    let w2 = g.D.Disk.medium c.finish_cut_and_replay.new.disk in
-    let log = ap (λ (l : Log). l.geometry) c.in_ok-named.ensures.log in
-    alike_after c.args.parts.now.tree.geometry (g.D.Disk.medium c.args.disk.now) w1 w2 (c.requires.header k) (c.requires.synced k) (c.load_named.ensures.untouched k)
-    (subst (λ (h : Geometry). CrashImagesAre w1 w2 (IsRefusedAlike h w1.now)) log (c.finish_cut_and_replay.ensures.alike k))
+returns-in_err-finish_cut_and_replay-clause-alike g c = alike g (goal.at.returns-in_err-finish_cut_and_replay-clause-alike g c).After-finish_cut_and_replay
 
 pub returns-in_err-finish_cut_and_replay-clause-unwritten : goal.returns-in_err-finish_cut_and_replay-clause-unwritten
 returns-in_err-finish_cut_and_replay-clause-unwritten g c =
@@ -98,20 +111,10 @@ returns-in_err-finish_cut_and_replay-clause-unwritten g c =
     (bad_from _ _ _ w0 w1 w2 (same_bytes w0 w1 (c.load_named.ensures.untouched k)) bad))
 
 pub returns-clause-any_moment : goal.returns-clause-any_moment
-returns-clause-any_moment g c = λ k.
-    let w1 = g.D.Disk.medium c.load_named.new.disk in
-    let w2 = g.D.Disk.medium c.finish_cut_and_replay.new.disk in
-    let log = ap (λ (l : Log). l.geometry) c.in_ok-named.ensures.log in
-    still_after c.args.parts.now.tree.geometry (g.D.Disk.medium c.args.disk.now) w1 w2 (c.requires.synced k) (c.load_named.ensures.untouched k)
-    (subst (λ (h : Geometry). RecoversStill h w1 w2) log (c.finish_cut_and_replay.ensures.any_moment k))
+returns-clause-any_moment g c = moments g (goal.at.returns-clause-any_moment g c).After-finish_cut_and_replay
 
 pub returns-clause-alike : goal.returns-clause-alike
-returns-clause-alike g c = λ k.
-    let w1 = g.D.Disk.medium c.load_named.new.disk in
-    let w2 = g.D.Disk.medium c.finish_cut_and_replay.new.disk in
-    let log = ap (λ (l : Log). l.geometry) c.in_ok-named.ensures.log in
-    alike_after c.args.parts.now.tree.geometry (g.D.Disk.medium c.args.disk.now) w1 w2 (c.requires.header k) (c.requires.synced k) (c.load_named.ensures.untouched k)
-    (subst (λ (h : Geometry). CrashImagesAre w1 w2 (IsRefusedAlike h w1.now)) log (c.finish_cut_and_replay.ensures.alike k))
+returns-clause-alike g c = alike g (goal.at.returns-clause-alike g c).After-finish_cut_and_replay
 
 pub returns-clause-was : goal.returns-clause-was
 returns-clause-was g c = λ k.
@@ -164,61 +167,39 @@ returns-in_err-finish_cut_and_replay-clause-synced g c =
     (g.D.Disk.medium c.finish_cut_and_replay.new.disk) not_device (c.in_err-finish_cut_and_replay.ensures.behind k))
 
 pub returns-in_err-named-clause-beyond : goal.returns-in_err-named-clause-beyond
-returns-in_err-named-clause-beyond g c = λ k.
-    beyond_read (layout_of c.args.parts.now.tree.geometry) _ _ (c.load_named.ensures.untouched k)
+returns-in_err-named-clause-beyond g c = λ k. beyond_read (layout_of c.args.parts.now.tree.geometry) _ _ (c.load_named.ensures.untouched k)
 
 pub returns-then-not-named-clause-beyond : goal.returns-then-not-named-clause-beyond
-returns-then-not-named-clause-beyond g c = λ k.
-    beyond_read (layout_of c.args.parts.now.tree.geometry) _ _ (c.load_named.ensures.untouched k)
+returns-then-not-named-clause-beyond g c = λ k. beyond_read (layout_of c.args.parts.now.tree.geometry) _ _ (c.load_named.ensures.untouched k)
 
 pub returns-in_err-finish_cut_and_replay-clause-beyond : goal.returns-in_err-finish_cut_and_replay-clause-beyond
-returns-in_err-finish_cut_and_replay-clause-beyond g c = λ k.
-    let t = c.args.parts.now.tree.geometry in
-    let w0 = g.D.Disk.medium c.args.disk.now in
-    let w1 = g.D.Disk.medium c.load_named.new.disk in
-    let w2 = g.D.Disk.medium c.finish_cut_and_replay.new.disk in
-    let log = ap (λ (l : Log). l.geometry) c.in_ok-named.ensures.log in
-    beyond_then (layout_of t) w0 w1 w2 (beyond_read (layout_of t) w0 w1 (c.load_named.ensures.untouched k))
-    (subst (λ (h : Geometry). KeepsBeyond (layout_of h) w1 w2) log (c.finish_cut_and_replay.ensures.beyond k))
+returns-in_err-finish_cut_and_replay-clause-beyond g c = stays g (goal.at.returns-in_err-finish_cut_and_replay-clause-beyond g c).After-finish_cut_and_replay
 
 pub returns-clause-beyond : goal.returns-clause-beyond
-returns-clause-beyond g c = λ k.
-    let t = c.args.parts.now.tree.geometry in
-    let w0 = g.D.Disk.medium c.args.disk.now in
-    let w1 = g.D.Disk.medium c.load_named.new.disk in
-    let w2 = g.D.Disk.medium c.finish_cut_and_replay.new.disk in
-    let log = ap (λ (l : Log). l.geometry) c.in_ok-named.ensures.log in
-    beyond_then (layout_of t) w0 w1 w2 (beyond_read (layout_of t) w0 w1 (c.load_named.ensures.untouched k))
-    (subst (λ (h : Geometry). KeepsBeyond (layout_of h) w1 w2) log (c.finish_cut_and_replay.ensures.beyond k))
+returns-clause-beyond g c = stays g (goal.at.returns-clause-beyond g c).After-finish_cut_and_replay
 
 pub returns-in_err-named-clause-costs : goal.returns-in_err-named-clause-costs
 returns-in_err-named-clause-costs g c =
     let p = err_from_is_err_and c.from_residual.result c.from_residual.ensures.1 in
-    rw p.1
-    (λ k.
-    let read = no_call (g.D.Disk.medium c.args.disk.now) (g.D.Disk.medium c.load_named.new.disk) (c.load_named.ensures.untouched k) in
-    omega (arith, read))
+    rw p.1 (λ k. omega (arith, no_call (g.D.Disk.medium c.args.disk.now) (g.D.Disk.medium c.load_named.new.disk) (c.load_named.ensures.untouched k)))
 
 pub returns-then-not-named-clause-costs : goal.returns-then-not-named-clause-costs
 returns-then-not-named-clause-costs g c = λ k.
-    let read = no_call (g.D.Disk.medium c.args.disk.now) (g.D.Disk.medium c.load_named.new.disk) (c.load_named.ensures.untouched k) in
     let none = finish_is c.args.parts.now.tree.geometry (g.D.Disk.medium c.args.disk.now).now c.in_ok-named.named.area c.in_ok-named.named.chained
     false (state_in c.load_named.new.tree) (not_on c.in_ok-named.named.chained c.if-not-named.true) (c.in_ok-named.ensures.loaded k) in
-    omega (arith, read, none)
+    omega (arith, no_call (g.D.Disk.medium c.args.disk.now) (g.D.Disk.medium c.load_named.new.disk) (c.load_named.ensures.untouched k), none)
 
 pub returns-in_err-finish_cut_and_replay-clause-costs : goal.returns-in_err-finish_cut_and_replay-clause-costs
 returns-in_err-finish_cut_and_replay-clause-costs g c =
     let p = err_from_is_err_and c.from_residual-in_err-finish_cut_and_replay.result c.from_residual-in_err-finish_cut_and_replay.ensures.1 in
     rw p.1
     (λ k.
-    let read = no_call (g.D.Disk.medium c.args.disk.now) (g.D.Disk.medium c.load_named.new.disk) (c.load_named.ensures.untouched k) in
     let four = finish_is c.args.parts.now.tree.geometry (g.D.Disk.medium c.args.disk.now).now c.in_ok-named.named.area c.in_ok-named.named.chained
     true (state_in c.load_named.new.tree) (not_off c.in_ok-named.named.chained c.if-not-named.false) (c.in_ok-named.ensures.loaded k) in
-    omega (arith, read, four, c.in_err-finish_cut_and_replay.ensures.costs k))
+    omega (arith, no_call (g.D.Disk.medium c.args.disk.now) (g.D.Disk.medium c.load_named.new.disk) (c.load_named.ensures.untouched k), four, c.in_err-finish_cut_and_replay.ensures.costs k))
 
 pub returns-clause-costs : goal.returns-clause-costs
 returns-clause-costs g c = λ k.
-    let read = no_call (g.D.Disk.medium c.args.disk.now) (g.D.Disk.medium c.load_named.new.disk) (c.load_named.ensures.untouched k) in
     let four = finish_is c.args.parts.now.tree.geometry (g.D.Disk.medium c.args.disk.now).now c.in_ok-named.named.area c.in_ok-named.named.chained
     true (state_in c.load_named.new.tree) (not_off c.in_ok-named.named.chained c.if-not-named.false) (c.in_ok-named.ensures.loaded k) in
-    omega (arith, read, four, c.in_ok-finish_cut_and_replay.ensures.costs k)
+    omega (arith, no_call (g.D.Disk.medium c.args.disk.now) (g.D.Disk.medium c.load_named.new.disk) (c.load_named.ensures.untouched k), four, c.in_ok-finish_cut_and_replay.ensures.costs k)

@@ -25,7 +25,38 @@ use Rattle.oplog.proofs.Beyond.{beyond_read, beyond_then}
 use Rattle.oplog.specs.Recovery.{named_area}
 use Rattle.parcel.specs.Tree.{TreeView, state_in}
 use Rattle.meaning.specs.State.{IsState}
+use Rattle.disk.specs.Moments.{CrashImagesAre}
+use Rattle.journal.specs.Opening.{RecoversAsBefore}
+use Rattle.journal.proofs.opening.open_synced.Given.{Over}
+use Rattle.journal.proofs.opening.open_synced.Goals.{After-checkpoint_recovered}
 use Rattle.journal.proofs.opening.open_synced.Goals as goal
+
+headed : (g : Over) (c : After-checkpoint_recovered g) → g.D.Disk.keeps → HasHeader c.in_ok-parts.parts.tree.geometry (g.D.Disk.medium c.args.disk.now).now
+headed g c k = subst (λ (h : Geometry). HasHeader h (g.D.Disk.medium c.args.disk.now).now) (sym c.in_ok-parts.ensures.geometry) (c.in_ok-g.ensures.header k)
+
+moments : (g : Over) (c : After-checkpoint_recovered g) → g.D.Disk.keeps
+    → CrashImagesAre (g.D.Disk.medium c.args.disk.now) (g.D.Disk.medium c.checkpoint_recovered.new.disk) (RecoversAsBefore (g.D.Disk.medium c.args.disk.now).now)
+moments g c k =
+    let only = c.read_header.ensures.untouched k in
+    let fine = sym (ap (λ (l : List ℕ). refused c.in_ok-parts.parts.tree.geometry l) (same_bytes (g.D.Disk.medium c.args.disk.now) (g.D.Disk.medium c.read_header.new.disk) only)) ∙
+    c.in_ok-load_in_order.ensures.sound k in
+    as_still c.in_ok-parts.parts.tree.geometry _ _ (headed g c k) (subst (λ (h : Geometry). device_size (layout_of h) ≤ length (g.D.Disk.medium c.args.disk.now).now)
+    (sym c.in_ok-parts.ensures.geometry) c.in_ok-g.ensures.long_enough) fine
+    (still_after c.in_ok-parts.parts.tree.geometry _ (g.D.Disk.medium c.read_header.new.disk) _ (c.requires.synced k) only
+    (still_then c.in_ok-parts.parts.tree.geometry _ (g.D.Disk.medium c.load_in_order.new.disk) _ (g.met.D.Disk.bytes c.load_in_order.new.disk) (c.load_in_order.ensures.any_moment k)
+    (subst (λ (h : Geometry). RecoversStill h (g.D.Disk.medium c.load_in_order.new.disk) (g.D.Disk.medium c.checkpoint_recovered.new.disk)) c.in_ok-load_in_order.ensures.geometry
+    (c.checkpoint_recovered.ensures.any_moment k))))
+
+stays : (g : Over) (c : After-checkpoint_recovered g) → g.D.Disk.keeps → (h : Geometry) → HasHeader h (g.D.Disk.medium c.args.disk.now).now
+    → KeepsBeyond (layout_of h) (g.D.Disk.medium c.args.disk.now) (g.D.Disk.medium c.checkpoint_recovered.new.disk)
+stays g c k h head =
+    let l = layout_of c.in_ok-parts.parts.tree.geometry in
+    subst (λ (x : Geometry). KeepsBeyond (layout_of x) (g.D.Disk.medium c.args.disk.now) (g.D.Disk.medium c.checkpoint_recovered.new.disk))
+    (same_geometry c.in_ok-parts.parts.tree.geometry h (sym (headed g c k) ∙ head))
+    (beyond_then l _ (g.D.Disk.medium c.read_header.new.disk) _ (beyond_read l _ _ (c.read_header.ensures.untouched k))
+    (beyond_then l _ (g.D.Disk.medium c.load_in_order.new.disk) _ (c.load_in_order.ensures.beyond k)
+    (subst (λ (x : Geometry). KeepsBeyond (layout_of x) (g.D.Disk.medium c.load_in_order.new.disk) (g.D.Disk.medium c.checkpoint_recovered.new.disk)) c.in_ok-load_in_order.ensures.geometry
+    (c.checkpoint_recovered.ensures.beyond k))))
 
 pub returns-in_err-g-clause-any_moment : goal.returns-in_err-g-clause-any_moment
 returns-in_err-g-clause-any_moment g c = λ k. as_before _ _ (c.requires.synced k) (c.read_header.ensures.untouched k)
@@ -48,15 +79,11 @@ returns-in_err-parts-clause-unwritten g c =
 
 pub returns-in_err-load_in_order-clause-any_moment : goal.returns-in_err-load_in_order-clause-any_moment
 returns-in_err-load_in_order-clause-any_moment g c = λ k.
-    let w0 = g.D.Disk.medium c.args.disk.now in
-    let w1 = g.D.Disk.medium c.read_header.new.disk in
-    let w2 = g.D.Disk.medium c.load_in_order.new.disk in
-    let t = c.in_ok-parts.parts.tree.geometry in
-    let only = c.read_header.ensures.untouched k in
-    let head = subst (λ (h : Geometry). HasHeader h w0.now) (sym c.in_ok-parts.ensures.geometry) (c.in_ok-g.ensures.header k) in
-    let fits = subst (λ (h : Geometry). device_size (layout_of h) ≤ length w0.now) (sym c.in_ok-parts.ensures.geometry) c.in_ok-g.ensures.long_enough in
-    as_alike t w0 w2 head fits (still_after t w0 w1 w2 (c.requires.synced k) only (c.load_in_order.ensures.any_moment k))
-    (alike_after t w0 w1 w2 head (c.requires.synced k) only (c.load_in_order.ensures.alike k))
+    let head = subst (λ (h : Geometry). HasHeader h (g.D.Disk.medium c.args.disk.now).now) (sym c.in_ok-parts.ensures.geometry) (c.in_ok-g.ensures.header k) in
+    let fits = subst (λ (h : Geometry). device_size (layout_of h) ≤ length (g.D.Disk.medium c.args.disk.now).now) (sym c.in_ok-parts.ensures.geometry) c.in_ok-g.ensures.long_enough in
+    as_alike c.in_ok-parts.parts.tree.geometry _ (g.D.Disk.medium c.load_in_order.new.disk) head fits
+    (still_after c.in_ok-parts.parts.tree.geometry _ _ _ (c.requires.synced k) (c.read_header.ensures.untouched k) (c.load_in_order.ensures.any_moment k))
+    (alike_after c.in_ok-parts.parts.tree.geometry _ _ _ head (c.requires.synced k) (c.read_header.ensures.untouched k) (c.load_in_order.ensures.alike k))
 
 pub returns-in_err-load_in_order-clause-unwritten : goal.returns-in_err-load_in_order-clause-unwritten
 returns-in_err-load_in_order-clause-unwritten g c =
@@ -80,34 +107,10 @@ checkpoint_recovered-requires-clause-recovers g c = λ k.
     ∙ still_now t w1 w2 (g.met.D.Disk.bytes c.load_in_order.new.disk) (c.load_in_order.ensures.any_moment k) ∙ c.in_ok-load_in_order.ensures.was k
 
 pub returns-in_err-checkpoint_recovered-clause-any_moment : goal.returns-in_err-checkpoint_recovered-clause-any_moment
-returns-in_err-checkpoint_recovered-clause-any_moment g c = λ k.
-    let w0 = g.D.Disk.medium c.args.disk.now in
-    let w1 = g.D.Disk.medium c.read_header.new.disk in
-    let w2 = g.D.Disk.medium c.load_in_order.new.disk in
-    let t = c.in_ok-parts.parts.tree.geometry in
-    let only = c.read_header.ensures.untouched k in
-    let head = subst (λ (h : Geometry). HasHeader h w0.now) (sym c.in_ok-parts.ensures.geometry) (c.in_ok-g.ensures.header k) in
-    let fits = subst (λ (h : Geometry). device_size (layout_of h) ≤ length w0.now) (sym c.in_ok-parts.ensures.geometry) c.in_ok-g.ensures.long_enough in
-    let w3 = g.D.Disk.medium c.checkpoint_recovered.new.disk in
-    let fine = sym (ap (λ (l : List ℕ). refused t l) (same_bytes w0 w1 only)) ∙ c.in_ok-load_in_order.ensures.sound k in
-    let later = subst (λ (h : Geometry). RecoversStill h w2 w3) c.in_ok-load_in_order.ensures.geometry (c.checkpoint_recovered.ensures.any_moment k) in
-    as_still t w0 w3 head fits fine (still_after t w0 w1 w3 (c.requires.synced k) only
-    (still_then t w1 w2 w3 (g.met.D.Disk.bytes c.load_in_order.new.disk) (c.load_in_order.ensures.any_moment k) later))
+returns-in_err-checkpoint_recovered-clause-any_moment g c = moments g (goal.at.returns-in_err-checkpoint_recovered-clause-any_moment g c).After-checkpoint_recovered
 
 pub returns-clause-any_moment : goal.returns-clause-any_moment
-returns-clause-any_moment g c = λ k.
-    let w0 = g.D.Disk.medium c.args.disk.now in
-    let w1 = g.D.Disk.medium c.read_header.new.disk in
-    let w2 = g.D.Disk.medium c.load_in_order.new.disk in
-    let t = c.in_ok-parts.parts.tree.geometry in
-    let only = c.read_header.ensures.untouched k in
-    let head = subst (λ (h : Geometry). HasHeader h w0.now) (sym c.in_ok-parts.ensures.geometry) (c.in_ok-g.ensures.header k) in
-    let fits = subst (λ (h : Geometry). device_size (layout_of h) ≤ length w0.now) (sym c.in_ok-parts.ensures.geometry) c.in_ok-g.ensures.long_enough in
-    let w3 = g.D.Disk.medium c.checkpoint_recovered.new.disk in
-    let fine = sym (ap (λ (l : List ℕ). refused t l) (same_bytes w0 w1 only)) ∙ c.in_ok-load_in_order.ensures.sound k in
-    let later = subst (λ (h : Geometry). RecoversStill h w2 w3) c.in_ok-load_in_order.ensures.geometry (c.checkpoint_recovered.ensures.any_moment k) in
-    as_still t w0 w3 head fits fine (still_after t w0 w1 w3 (c.requires.synced k) only
-    (still_then t w1 w2 w3 (g.met.D.Disk.bytes c.load_in_order.new.disk) (c.load_in_order.ensures.any_moment k) later))
+returns-clause-any_moment g c = moments g (goal.at.returns-clause-any_moment g c).After-checkpoint_recovered
 
 pub returns-clause-made : goal.returns-clause-made
 returns-clause-made g c =
@@ -171,80 +174,56 @@ returns-in_err-checkpoint_recovered-clause-synced g c =
     rw (p.1, p.2) (λ other k. absurd (other c.in_err-checkpoint_recovered.ensures.device))
 
 pub returns-in_err-g-clause-beyond : goal.returns-in_err-g-clause-beyond
-returns-in_err-g-clause-beyond g c = λ k h head.
-    beyond_read (layout_of h) _ _ (c.read_header.ensures.untouched k)
+returns-in_err-g-clause-beyond g c = λ k h head. beyond_read (layout_of h) _ _ (c.read_header.ensures.untouched k)
 
 pub returns-in_err-parts-clause-beyond : goal.returns-in_err-parts-clause-beyond
-returns-in_err-parts-clause-beyond g c = λ k h head.
-    beyond_read (layout_of h) _ _ (c.read_header.ensures.untouched k)
+returns-in_err-parts-clause-beyond g c = λ k h head. beyond_read (layout_of h) _ _ (c.read_header.ensures.untouched k)
 
 pub returns-in_err-load_in_order-clause-beyond : goal.returns-in_err-load_in_order-clause-beyond
 returns-in_err-load_in_order-clause-beyond g c = λ k h head.
-    let w0 = g.D.Disk.medium c.args.disk.now in
-    let w1 = g.D.Disk.medium c.read_header.new.disk in
-    let w2 = g.D.Disk.medium c.load_in_order.new.disk in
-    let t = c.in_ok-parts.parts.tree.geometry in
-    let own = subst (λ (x : Geometry). HasHeader x w0.now) (sym c.in_ok-parts.ensures.geometry) (c.in_ok-g.ensures.header k) in
-    let loaded = beyond_then (layout_of t) w0 w1 w2 (beyond_read (layout_of t) w0 w1 (c.read_header.ensures.untouched k)) (c.load_in_order.ensures.beyond k) in
-    subst (λ (x : Geometry). KeepsBeyond (layout_of x) w0 w2) (same_geometry t h (sym own ∙ head)) loaded
+    let own = subst (λ (h : Geometry). HasHeader h (g.D.Disk.medium c.args.disk.now).now) (sym c.in_ok-parts.ensures.geometry) (c.in_ok-g.ensures.header k) in
+    subst (λ (x : Geometry). KeepsBeyond (layout_of x) (g.D.Disk.medium c.args.disk.now) (g.D.Disk.medium c.load_in_order.new.disk))
+    (same_geometry c.in_ok-parts.parts.tree.geometry h (sym own ∙ head))
+    (beyond_then (layout_of c.in_ok-parts.parts.tree.geometry) _ (g.D.Disk.medium c.read_header.new.disk) _
+    (beyond_read (layout_of c.in_ok-parts.parts.tree.geometry) _ _ (c.read_header.ensures.untouched k)) (c.load_in_order.ensures.beyond k))
 
 pub returns-in_err-checkpoint_recovered-clause-beyond : goal.returns-in_err-checkpoint_recovered-clause-beyond
-returns-in_err-checkpoint_recovered-clause-beyond g c = λ k h head.
-    let w0 = g.D.Disk.medium c.args.disk.now in
-    let w1 = g.D.Disk.medium c.read_header.new.disk in
-    let w2 = g.D.Disk.medium c.load_in_order.new.disk in
-    let t = c.in_ok-parts.parts.tree.geometry in
-    let own = subst (λ (x : Geometry). HasHeader x w0.now) (sym c.in_ok-parts.ensures.geometry) (c.in_ok-g.ensures.header k) in
-    let loaded = beyond_then (layout_of t) w0 w1 w2 (beyond_read (layout_of t) w0 w1 (c.read_header.ensures.untouched k)) (c.load_in_order.ensures.beyond k) in
-    let w3 = g.D.Disk.medium c.checkpoint_recovered.new.disk in
-    let last = subst (λ (x : Geometry). KeepsBeyond (layout_of x) w2 w3) c.in_ok-load_in_order.ensures.geometry (c.checkpoint_recovered.ensures.beyond k) in
-    subst (λ (x : Geometry). KeepsBeyond (layout_of x) w0 w3) (same_geometry t h (sym own ∙ head)) (beyond_then (layout_of t) w0 w2 w3 loaded last)
+returns-in_err-checkpoint_recovered-clause-beyond g c = stays g (goal.at.returns-in_err-checkpoint_recovered-clause-beyond g c).After-checkpoint_recovered
 
 pub returns-clause-beyond : goal.returns-clause-beyond
-returns-clause-beyond g c = λ k h head.
-    let w0 = g.D.Disk.medium c.args.disk.now in
-    let w1 = g.D.Disk.medium c.read_header.new.disk in
-    let w2 = g.D.Disk.medium c.load_in_order.new.disk in
-    let t = c.in_ok-parts.parts.tree.geometry in
-    let own = subst (λ (x : Geometry). HasHeader x w0.now) (sym c.in_ok-parts.ensures.geometry) (c.in_ok-g.ensures.header k) in
-    let loaded = beyond_then (layout_of t) w0 w1 w2 (beyond_read (layout_of t) w0 w1 (c.read_header.ensures.untouched k)) (c.load_in_order.ensures.beyond k) in
-    let w3 = g.D.Disk.medium c.checkpoint_recovered.new.disk in
-    let last = subst (λ (x : Geometry). KeepsBeyond (layout_of x) w2 w3) c.in_ok-load_in_order.ensures.geometry (c.checkpoint_recovered.ensures.beyond k) in
-    subst (λ (x : Geometry). KeepsBeyond (layout_of x) w0 w3) (same_geometry t h (sym own ∙ head)) (beyond_then (layout_of t) w0 w2 w3 loaded last)
+returns-clause-beyond g c = stays g (goal.at.returns-clause-beyond g c).After-checkpoint_recovered
 
 pub returns-in_err-g-clause-costs : goal.returns-in_err-g-clause-costs
 returns-in_err-g-clause-costs g c =
     let p = err_from_is_err_and c.from_residual.result c.from_residual.ensures.1 in
-    rw p.1
-    (λ k.
-    let read = no_call (g.D.Disk.medium c.args.disk.now) (g.D.Disk.medium c.read_header.new.disk) (c.read_header.ensures.untouched k) in
-    omega (arith, read))
+    rw p.1 (λ k. omega (arith, no_call (g.D.Disk.medium c.args.disk.now) (g.D.Disk.medium c.read_header.new.disk) (c.read_header.ensures.untouched k)))
 
 pub returns-in_err-parts-clause-costs : goal.returns-in_err-parts-clause-costs
 returns-in_err-parts-clause-costs g c =
     let p = err_from_is_err_and c.from_residual-in_err-parts.result c.from_residual-in_err-parts.ensures.1 in
-    rw p.1
-    (λ k.
-    let read = no_call (g.D.Disk.medium c.args.disk.now) (g.D.Disk.medium c.read_header.new.disk) (c.read_header.ensures.untouched k) in
-    omega (arith, read))
+    rw p.1 (λ k. omega (arith, no_call (g.D.Disk.medium c.args.disk.now) (g.D.Disk.medium c.read_header.new.disk) (c.read_header.ensures.untouched k)))
 
 pub returns-in_err-load_in_order-clause-costs : goal.returns-in_err-load_in_order-clause-costs
 returns-in_err-load_in_order-clause-costs g c =
     let p = err_from_is_err_and c.from_residual-in_err-load_in_order.result c.from_residual-in_err-load_in_order.ensures.1 in
     rw p.1
     (λ k.
-    let read = no_call (g.D.Disk.medium c.args.disk.now) (g.D.Disk.medium c.read_header.new.disk) (c.read_header.ensures.untouched k) in
     let few = finish_few c.in_ok-parts.parts.tree.geometry (g.D.Disk.medium c.read_header.new.disk).now in
-    omega (arith, read, few, c.in_err-load_in_order.ensures.costs k))
+    omega (arith, no_call (g.D.Disk.medium c.args.disk.now) (g.D.Disk.medium c.read_header.new.disk) (c.read_header.ensures.untouched k), few, c.in_err-load_in_order.ensures.costs k))
 
 pub returns-in_err-checkpoint_recovered-clause-costs : goal.returns-in_err-checkpoint_recovered-clause-costs
 returns-in_err-checkpoint_recovered-clause-costs g c =
     let p = err_from_is_err_and c.from_residual-in_err-checkpoint_recovered.result c.from_residual-in_err-checkpoint_recovered.ensures.1 in
     rw p.1
     (λ k.
-    let read = no_call (g.D.Disk.medium c.args.disk.now) (g.D.Disk.medium c.read_header.new.disk) (c.read_header.ensures.untouched k) in
     let few = finish_few c.in_ok-parts.parts.tree.geometry (g.D.Disk.medium c.read_header.new.disk).now in
-    omega (arith, read, few, c.in_ok-load_in_order.ensures.costs k, c.in_err-checkpoint_recovered.ensures.costs k))
+    omega (
+      arith,
+      no_call (g.D.Disk.medium c.args.disk.now) (g.D.Disk.medium c.read_header.new.disk) (c.read_header.ensures.untouched k),
+      few,
+      c.in_ok-load_in_order.ensures.costs k,
+      c.in_err-checkpoint_recovered.ensures.costs k,
+    ))
 
 pub returns-clause-costs : goal.returns-clause-costs
 returns-clause-costs g c = λ k.

@@ -1,6 +1,6 @@
 -- A cut is finished: the other area gets the image of what the named one holds without the other half's records, which are in force
 -- before and after.
-use Rattle.std.proofs.Common.{◌≡◌, ◌<◌, ℕ, sym, ◌∙◌, subst, arith, true≢false}
+use Rattle.std.proofs.Common.{◌≡◌, ◌<◌, sym, ◌∙◌, subst, arith, true≢false}
 use Rattle.std.proofs.lemmas.Result.{err_from_is_err_and}
 use Rattle.affinity.specs.declared.geometry.Geometry.{Geometry}
 use Rattle.image.specs.Pieces.{piece_count}
@@ -13,10 +13,46 @@ use Rattle.oplog.proofs.Beyond.{beyond, beyond_then}
 use Rattle.disk.specs.Store.{CrashesChangeOnly}
 use Rattle.oplog.specs.Changes.{IsSameBut, IsSameButRoot}
 use Rattle.device_map.specs.Layout.{layout_of, image_part, other}
+use Rattle.std.proofs.Common.{Some, true}
+use Rattle.checkpoint.specs.Loading.{NamedHolds}
+use Rattle.disk.specs.Moments.{CrashImagesAre}
+use Rattle.image.specs.Image.{image_state}
+use Rattle.journal.specs.Parts.{IsRefusedAlike}
+use Rattle.journal.specs.Steps.{RecoversStill}
+use Rattle.journal.proofs.Pointing.{other_imaged, other_written}
+use Rattle.oplog.specs.Beyond.{KeepsBeyond}
+use Rattle.meaning.specs.State.{State}
+use Rattle.journal.proofs.steps.finish_on.Given.{Over}
+use Rattle.journal.proofs.steps.finish_on.Goals.{After-flip_root}
 use Rattle.journal.proofs.steps.finish_on.Goals as goal
 
-along : {A B : Type 0} (P : A → B → Type 0) {a a' : A} {b b' : B} → a ≡ a' → b ≡ b' → P a b → P a' b'
-along P {a} {a'} {b} {b'} first second held = subst (λ y. P a' y) second (subst (λ x. P x b) first held)
+is_area : (g : Over) (c : After-flip_root g) → c.args.halves.now.named < 2
+is_area g c = omega (arith, c.named-second.ensures.named, c.named-second.ensures.half)
+
+writes : (g : Over) (c : After-flip_root g) → g.D.Disk.keeps
+    → CrashesChangeOnly (g.D.Disk.medium c.args.disk.now) (g.D.Disk.medium c.write_image.new.disk) (IsSameBut (layout_of c.args.halves.now.geometry) (image_part (other c.args.halves.now.named)))
+writes g c k = other_written _ _ c.geometry-g.ensures c.named-second.ensures.named (c.write_image.ensures.any_moment k)
+
+imaged : (g : Over) (c : After-flip_root g) → g.D.Disk.keeps
+    → Imaged c.args.halves.now.geometry (other c.args.halves.now.named) c.args.bytes.now (g.D.Disk.medium c.args.disk.now) (g.D.Disk.medium c.write_image.new.disk)
+imaged g c k = other_imaged _ _ _ c.geometry-g.ensures c.named-second.ensures.named (on_ok c.write_image.result _ (sym c.is_err.ensures.value ∙ c.if-is_err.false) c.write_image.ensures.written k)
+
+moments : (g : Over) (c : After-flip_root g) → g.D.Disk.keeps → RecoversStill c.args.halves.now.geometry (g.D.Disk.medium c.args.disk.now) (g.D.Disk.medium c.flip_root.new.disk)
+moments g c k =
+    finish_moments c.args.halves.now c.args.bytes.now _ (is_area g c) (c.requires.unfinished k) _ (writes g c k) (g.met.D.Disk.bytes c.write_image.new.disk) (imaged g c k) _
+    (c.flip_root.ensures.any_moment k)
+
+stays : (g : Over) (c : After-flip_root g) → g.D.Disk.keeps → KeepsBeyond (layout_of c.args.halves.now.geometry) (g.D.Disk.medium c.args.disk.now) (g.D.Disk.medium c.flip_root.new.disk)
+stays g c k =
+    let l = layout_of c.args.halves.now.geometry in
+    beyond_then l _ _ _ (beyond l _ _ _ (λ o d h. h.rest) (writes g c k)) (beyond l _ _ (IsSameButRoot l) (λ o d h. h.same.rest) (c.flip_root.ensures.any_moment k))
+
+alike : (g : Over) (c : After-flip_root g) → g.D.Disk.keeps → (x : State) → image_state c.args.halves.now.geometry c.args.bytes.now ≡ Some x
+    → NamedHolds c.args.halves.now.geometry (g.D.Disk.medium c.args.disk.now).now c.args.halves.now.named true x
+    → CrashImagesAre (g.D.Disk.medium c.args.disk.now) (g.D.Disk.medium c.flip_root.new.disk) (IsRefusedAlike c.args.halves.now.geometry (g.D.Disk.medium c.args.disk.now).now)
+alike g c k x reads held =
+    finish_alike c.args.halves.now.geometry c.args.halves.now.named (is_area g c) x _ _ (c.requires.unfinished k).synced held
+    (g.met.D.Disk.bytes c.write_image.new.disk) c.args.bytes.now reads (imaged g c k) _ (writes g c k) (c.flip_root.ensures.any_moment k)
 
 pub write_image-requires-clause-clean : goal.write_image-requires-clause-clean
 write_image-requires-clause-clean g c = λ k n few clean.
@@ -24,97 +60,41 @@ write_image-requires-clause-clean g c = λ k n few clean.
 
 pub returns-then-is_err-clause-any_moment : goal.returns-then-is_err-clause-any_moment
 returns-then-is_err-clause-any_moment g c = λ k.
-    let writes = along (λ (x : Geometry) (n : ℕ). CrashesChangeOnly (g.D.Disk.medium c.args.disk.now) (g.D.Disk.medium c.write_image.new.disk)
-    (IsSameBut (layout_of x) (image_part (other n)))) c.geometry-g.ensures c.named-second.ensures.named (c.write_image.ensures.any_moment k) in
-    finish_image_moments c.args.halves.now c.args.bytes.now _ (omega (arith, c.named-second.ensures.named, c.named-second.ensures.half)) (c.requires.unfinished k) _ writes
-
-pub returns-in_err-flip_root-clause-any_moment : goal.returns-in_err-flip_root-clause-any_moment
-returns-in_err-flip_root-clause-any_moment g c = λ k.
-    let writes = along (λ (x : Geometry) (n : ℕ). CrashesChangeOnly (g.D.Disk.medium c.args.disk.now) (g.D.Disk.medium c.write_image.new.disk)
-    (IsSameBut (layout_of x) (image_part (other n)))) c.geometry-g.ensures c.named-second.ensures.named (c.write_image.ensures.any_moment k) in
-    let imaged = along (λ (x : Geometry) (n : ℕ). Imaged x (other n) c.args.bytes.now (g.D.Disk.medium c.args.disk.now)
-    (g.D.Disk.medium c.write_image.new.disk)) c.geometry-g.ensures c.named-second.ensures.named
-    (on_ok c.write_image.result _ (sym c.is_err.ensures.value ∙ c.if-is_err.false) c.write_image.ensures.written k) in
-    finish_moments c.args.halves.now c.args.bytes.now _ (omega (arith, c.named-second.ensures.named, c.named-second.ensures.half)) (c.requires.unfinished k) _ writes
-    (g.met.D.Disk.bytes c.write_image.new.disk) imaged _ (c.flip_root.ensures.any_moment k)
-
-pub returns-clause-any_moment : goal.returns-clause-any_moment
-returns-clause-any_moment g c = λ k.
-    let writes = along (λ (x : Geometry) (n : ℕ). CrashesChangeOnly (g.D.Disk.medium c.args.disk.now) (g.D.Disk.medium c.write_image.new.disk)
-    (IsSameBut (layout_of x) (image_part (other n)))) c.geometry-g.ensures c.named-second.ensures.named (c.write_image.ensures.any_moment k) in
-    let imaged = along (λ (x : Geometry) (n : ℕ). Imaged x (other n) c.args.bytes.now (g.D.Disk.medium c.args.disk.now)
-    (g.D.Disk.medium c.write_image.new.disk)) c.geometry-g.ensures c.named-second.ensures.named
-    (on_ok c.write_image.result _ (sym c.is_err.ensures.value ∙ c.if-is_err.false) c.write_image.ensures.written k) in
-    finish_moments c.args.halves.now c.args.bytes.now _ (omega (arith, c.named-second.ensures.named, c.named-second.ensures.half)) (c.requires.unfinished k) _ writes
-    (g.met.D.Disk.bytes c.write_image.new.disk) imaged _ (c.flip_root.ensures.any_moment k)
-
-pub returns-clause-finished : goal.returns-clause-finished
-returns-clause-finished g c = λ k.
-    let writes = along (λ (x : Geometry) (n : ℕ). CrashesChangeOnly (g.D.Disk.medium c.args.disk.now) (g.D.Disk.medium c.write_image.new.disk)
-    (IsSameBut (layout_of x) (image_part (other n)))) c.geometry-g.ensures c.named-second.ensures.named (c.write_image.ensures.any_moment k) in
-    let imaged = along (λ (x : Geometry) (n : ℕ). Imaged x (other n) c.args.bytes.now (g.D.Disk.medium c.args.disk.now)
-    (g.D.Disk.medium c.write_image.new.disk)) c.geometry-g.ensures c.named-second.ensures.named
-    (on_ok c.write_image.result _ (sym c.is_err.ensures.value ∙ c.if-is_err.false) c.write_image.ensures.written k) in
-    finished c.args.halves.now c.args.bytes.now _ (omega (arith, c.named-second.ensures.named, c.named-second.ensures.half)) (c.requires.unfinished k) _ writes
-    (g.met.D.Disk.bytes c.write_image.new.disk) imaged _ (c.in_ok-flip_root.ensures.flipped k)
+    finish_image_moments c.args.halves.now c.args.bytes.now _ (omega (arith, c.named-second.ensures.named, c.named-second.ensures.half)) (c.requires.unfinished k) _
+    (other_written _ _ c.geometry-g.ensures c.named-second.ensures.named (c.write_image.ensures.any_moment k))
 
 pub returns-then-is_err-clause-alike : goal.returns-then-is_err-clause-alike
 returns-then-is_err-clause-alike g c = λ k x reads held.
-    let writes = along (λ (h : Geometry) (n : ℕ). CrashesChangeOnly (g.D.Disk.medium c.args.disk.now) (g.D.Disk.medium c.write_image.new.disk)
-    (IsSameBut (layout_of h) (image_part (other n)))) c.geometry-g.ensures c.named-second.ensures.named (c.write_image.ensures.any_moment k) in
-    image_alike c.args.halves.now.geometry c.args.halves.now.named (omega (arith, c.named-second.ensures.named, c.named-second.ensures.half)) x _ _ (c.requires.unfinished k).synced held writes
-
-pub returns-in_err-flip_root-clause-alike : goal.returns-in_err-flip_root-clause-alike
-returns-in_err-flip_root-clause-alike g c = λ k x reads held.
-    let writes = along (λ (h : Geometry) (n : ℕ). CrashesChangeOnly (g.D.Disk.medium c.args.disk.now) (g.D.Disk.medium c.write_image.new.disk)
-    (IsSameBut (layout_of h) (image_part (other n)))) c.geometry-g.ensures c.named-second.ensures.named (c.write_image.ensures.any_moment k) in
-    let imaged = along (λ (h : Geometry) (n : ℕ). Imaged h (other n) c.args.bytes.now (g.D.Disk.medium c.args.disk.now)
-    (g.D.Disk.medium c.write_image.new.disk)) c.geometry-g.ensures c.named-second.ensures.named
-    (on_ok c.write_image.result _ (sym c.is_err.ensures.value ∙ c.if-is_err.false) c.write_image.ensures.written k) in
-    finish_alike c.args.halves.now.geometry c.args.halves.now.named (omega (arith, c.named-second.ensures.named, c.named-second.ensures.half)) x _ _ (c.requires.unfinished k).synced held
-    (g.met.D.Disk.bytes c.write_image.new.disk) c.args.bytes.now reads imaged _ writes (c.flip_root.ensures.any_moment k)
-
-pub returns-clause-alike : goal.returns-clause-alike
-returns-clause-alike g c = λ k x reads held.
-    let writes = along (λ (h : Geometry) (n : ℕ). CrashesChangeOnly (g.D.Disk.medium c.args.disk.now) (g.D.Disk.medium c.write_image.new.disk)
-    (IsSameBut (layout_of h) (image_part (other n)))) c.geometry-g.ensures c.named-second.ensures.named (c.write_image.ensures.any_moment k) in
-    let imaged = along (λ (h : Geometry) (n : ℕ). Imaged h (other n) c.args.bytes.now (g.D.Disk.medium c.args.disk.now)
-    (g.D.Disk.medium c.write_image.new.disk)) c.geometry-g.ensures c.named-second.ensures.named
-    (on_ok c.write_image.result _ (sym c.is_err.ensures.value ∙ c.if-is_err.false) c.write_image.ensures.written k) in
-    finish_alike c.args.halves.now.geometry c.args.halves.now.named (omega (arith, c.named-second.ensures.named, c.named-second.ensures.half)) x _ _ (c.requires.unfinished k).synced held
-    (g.met.D.Disk.bytes c.write_image.new.disk) c.args.bytes.now reads imaged _ writes (c.flip_root.ensures.any_moment k)
+    image_alike c.args.halves.now.geometry c.args.halves.now.named (omega (arith, c.named-second.ensures.named, c.named-second.ensures.half)) x _ _ (c.requires.unfinished k).synced held
+    (other_written _ _ c.geometry-g.ensures c.named-second.ensures.named (c.write_image.ensures.any_moment k))
 
 pub returns-then-is_err-clause-beyond : goal.returns-then-is_err-clause-beyond
 returns-then-is_err-clause-beyond g c = λ k.
-    let l = layout_of c.args.halves.now.geometry in
-    let w0 = g.D.Disk.medium c.args.disk.now in
-    let w1 = g.D.Disk.medium c.write_image.new.disk in
-    let writes = along (λ (x : Geometry) (n : ℕ). CrashesChangeOnly w0 w1 (IsSameBut (layout_of x) (image_part (other n)))) c.geometry-g.ensures
-    c.named-second.ensures.named (c.write_image.ensures.any_moment k) in
-    let imaged = beyond l w0 w1 (IsSameBut l (image_part (other c.args.halves.now.named))) (λ o d h. h.rest) writes in
-    imaged
+    beyond (layout_of c.args.halves.now.geometry) _ _ _ (λ o d h. h.rest) (other_written _ _ c.geometry-g.ensures c.named-second.ensures.named (c.write_image.ensures.any_moment k))
+
+pub returns-in_err-flip_root-clause-any_moment : goal.returns-in_err-flip_root-clause-any_moment
+returns-in_err-flip_root-clause-any_moment g c = moments g (goal.at.returns-in_err-flip_root-clause-any_moment g c).After-flip_root
+
+pub returns-in_err-flip_root-clause-alike : goal.returns-in_err-flip_root-clause-alike
+returns-in_err-flip_root-clause-alike g c = alike g (goal.at.returns-in_err-flip_root-clause-alike g c).After-flip_root
 
 pub returns-in_err-flip_root-clause-beyond : goal.returns-in_err-flip_root-clause-beyond
-returns-in_err-flip_root-clause-beyond g c = λ k.
-    let l = layout_of c.args.halves.now.geometry in
-    let w0 = g.D.Disk.medium c.args.disk.now in
-    let w1 = g.D.Disk.medium c.write_image.new.disk in
-    let writes = along (λ (x : Geometry) (n : ℕ). CrashesChangeOnly w0 w1 (IsSameBut (layout_of x) (image_part (other n)))) c.geometry-g.ensures
-    c.named-second.ensures.named (c.write_image.ensures.any_moment k) in
-    let imaged = beyond l w0 w1 (IsSameBut l (image_part (other c.args.halves.now.named))) (λ o d h. h.rest) writes in
-    let w2 = g.D.Disk.medium c.flip_root.new.disk in
-    beyond_then l w0 w1 w2 imaged (beyond l w1 w2 (IsSameButRoot l) (λ o d h. h.same.rest) (c.flip_root.ensures.any_moment k))
+returns-in_err-flip_root-clause-beyond g c = stays g (goal.at.returns-in_err-flip_root-clause-beyond g c).After-flip_root
+
+pub returns-clause-any_moment : goal.returns-clause-any_moment
+returns-clause-any_moment g c = moments g (goal.at.returns-clause-any_moment g c).After-flip_root
+
+pub returns-clause-alike : goal.returns-clause-alike
+returns-clause-alike g c = alike g (goal.at.returns-clause-alike g c).After-flip_root
 
 pub returns-clause-beyond : goal.returns-clause-beyond
-returns-clause-beyond g c = λ k.
-    let l = layout_of c.args.halves.now.geometry in
-    let w0 = g.D.Disk.medium c.args.disk.now in
-    let w1 = g.D.Disk.medium c.write_image.new.disk in
-    let writes = along (λ (x : Geometry) (n : ℕ). CrashesChangeOnly w0 w1 (IsSameBut (layout_of x) (image_part (other n)))) c.geometry-g.ensures
-    c.named-second.ensures.named (c.write_image.ensures.any_moment k) in
-    let imaged = beyond l w0 w1 (IsSameBut l (image_part (other c.args.halves.now.named))) (λ o d h. h.rest) writes in
-    let w2 = g.D.Disk.medium c.flip_root.new.disk in
-    beyond_then l w0 w1 w2 imaged (beyond l w1 w2 (IsSameButRoot l) (λ o d h. h.same.rest) (c.flip_root.ensures.any_moment k))
+returns-clause-beyond g c = stays g (goal.at.returns-clause-beyond g c).After-flip_root
+
+pub returns-clause-finished : goal.returns-clause-finished
+returns-clause-finished g c = λ k.
+    let here = (goal.at.returns-clause-finished g c).After-flip_root in
+    finished c.args.halves.now c.args.bytes.now _ (is_area g here) (c.requires.unfinished k) _ (writes g here k)
+    (g.met.D.Disk.bytes c.write_image.new.disk) (imaged g here k) _ (c.in_ok-flip_root.ensures.flipped k)
 
 pub returns-then-is_err-clause-costs : goal.returns-then-is_err-clause-costs
 returns-then-is_err-clause-costs g c = λ k.

@@ -1,96 +1,59 @@
 -- The synced image and the records behind it recover to the same as the named area, so a torn root byte does no harm.
-use Rattle.std.proofs.Common.{◌≡◌, sym, ◌∙◌, subst}
-use Rattle.checkpoint.specs.Recovery.{recovered_state}
+use Rattle.std.proofs.Common.{◌≡◌, ◌<◌, sym, ◌∙◌, subst}
 use Rattle.disk.specs.Device.{Medium}
-use Rattle.disk.specs.Moments.{CrashImagesAre}
-use Rattle.journal.proofs.Cutting.{name_moments, named_alone, named_before, named_below, named_images, named_ready, named_recovers, sync_moments}
 use Rattle.oplog.specs.Log.{layout_of_log}
 use Rattle.oplog.proofs.Answered.{on_ok}
 use Rattle.oplog.proofs.Beyond.{beyond, beyond_sync, beyond_then}
 use Rattle.oplog.specs.Calls.{Flips}
 use Rattle.oplog.specs.Changes.{IsSameButRoot, Flipped}
 use Rattle.device_map.specs.Layout.{layout_of, other}
+use Rattle.journal.proofs.Cutting.{name_moments, named, named_below, sync_moments}
+use Rattle.journal.specs.Steps.{RecoversStill}
+use Rattle.oplog.specs.Beyond.{KeepsBeyond}
+use Rattle.disk.specs.Device.{synced}
+use Rattle.journal.proofs.steps.flip_on.Given.{Over}
+use Rattle.journal.proofs.steps.flip_on.Goals.{After-flip_root}
 use Rattle.journal.proofs.steps.flip_on.Goals as goal
 
+syncs : (g : Over) (c : After-flip_root g) → g.D.Disk.keeps → g.D.Disk.medium c.sync_image.new.disk ≡ synced (g.D.Disk.medium c.args.disk.now)
+syncs g c k = on_ok c.sync_image.result _ (sym c.is_err.ensures.value ∙ c.if-is_err.false) (c.sync_image.ensures.syncs k).ok
+
+is_area : (g : Over) (c : After-flip_root g) → g.D.Disk.keeps → c.args.halves.now.named < 2
+is_area g c k = named_below c.args.halves.now.geometry c.args.halves.now.named _ _ (g.D.Disk.medium c.args.disk.now) (g.met.D.Disk.bytes c.args.disk.now) (c.requires.written k).by.recovers
+
+moments : (g : Over) (c : After-flip_root g) → g.D.Disk.keeps → RecoversStill c.args.halves.now.geometry (g.D.Disk.medium c.args.disk.now) (g.D.Disk.medium c.flip_root.new.disk)
+moments g c k =
+    name_moments c.args.halves.now (g.D.Disk.medium c.args.disk.now) c.args.bytes.now (c.requires.written k) (is_area g c k) _ (g.met.D.Disk.bytes c.args.disk.now)
+    (subst (λ (m : Medium). RecoversStill c.args.halves.now.geometry (g.D.Disk.medium c.args.disk.now) m) (syncs g c k)
+    (sync_moments c.args.halves.now _ c.args.bytes.now (c.requires.written k) _ c.sync_image.result (c.sync_image.ensures.syncs k)))
+    (subst (λ (m : Medium). Flips c.args.halves.now m (g.D.Disk.medium c.flip_root.new.disk)) (syncs g c k) (c.flip_root.ensures.any_moment k))
+
+stays : (g : Over) (c : After-flip_root g) → g.D.Disk.keeps → KeepsBeyond (layout_of c.args.halves.now.geometry) (g.D.Disk.medium c.args.disk.now) (g.D.Disk.medium c.flip_root.new.disk)
+stays g c k =
+    let l = layout_of c.args.halves.now.geometry in
+    beyond_then l _ _ _ (beyond_sync l _ _ c.sync_image.result (c.sync_image.ensures.syncs k)) (beyond l _ _ (IsSameButRoot l) (λ o d h. h.same.rest) (c.flip_root.ensures.any_moment k))
+
 pub returns-then-is_err-clause-any_moment : goal.returns-then-is_err-clause-any_moment
-returns-then-is_err-clause-any_moment g c = λ k.
-    sync_moments c.args.halves.now.geometry c.args.halves.now.named c.args.halves.now.used _ c.args.bytes.now _ (c.requires.written k).by.recovers _ c.sync_image.result (c.sync_image.ensures.syncs k)
+returns-then-is_err-clause-any_moment g c = λ k. sync_moments c.args.halves.now _ c.args.bytes.now (c.requires.written k) _ c.sync_image.result (c.sync_image.ensures.syncs k)
+
+pub returns-then-is_err-clause-beyond : goal.returns-then-is_err-clause-beyond
+returns-then-is_err-clause-beyond g c = λ k. beyond_sync (layout_of c.args.halves.now.geometry) _ _ c.sync_image.result (c.sync_image.ensures.syncs k)
 
 pub returns-in_err-flip_root-clause-any_moment : goal.returns-in_err-flip_root-clause-any_moment
-returns-in_err-flip_root-clause-any_moment g c = λ k.
-    let geometry = c.args.halves.now.geometry in
-    let named = c.args.halves.now.named in
-    let w0 = g.D.Disk.medium c.args.disk.now in
-    let w2 = g.D.Disk.medium c.flip_root.new.disk in
-    let written = c.requires.written k in
-    let syncs = on_ok c.sync_image.result _ (sym c.is_err.ensures.value ∙ c.if-is_err.false) (c.sync_image.ensures.syncs k).ok in
-    let is_area = named_below geometry named _ _ w0 (g.met.D.Disk.bytes c.args.disk.now) written.by.recovers in
-    let flips = subst (λ (m : Medium). Flips c.args.halves.now m w2) syncs (c.flip_root.ensures.any_moment k) in
-    let so_far = subst (λ (m : Medium). CrashImagesAre w0 m (λ c'. recovered_state geometry c' ≡ recovered_state geometry w0.now)) syncs
-    (sync_moments geometry named c.args.halves.now.used _ c.args.bytes.now w0 written.by.recovers (g.D.Disk.medium c.sync_image.new.disk)
-    c.sync_image.result (c.sync_image.ensures.syncs k)) in
-    name_moments geometry named c.args.halves.now.used _ c.args.bytes.now w0 written.by.recovers is_area written.by.some written.is written.behind w2 (g.met.D.Disk.bytes c.args.disk.now) so_far flips
+returns-in_err-flip_root-clause-any_moment g c = moments g (goal.at.returns-in_err-flip_root-clause-any_moment g c).After-flip_root
+
+pub returns-in_err-flip_root-clause-beyond : goal.returns-in_err-flip_root-clause-beyond
+returns-in_err-flip_root-clause-beyond g c = stays g (goal.at.returns-in_err-flip_root-clause-beyond g c).After-flip_root
 
 pub returns-clause-any_moment : goal.returns-clause-any_moment
-returns-clause-any_moment g c = λ k.
-    let geometry = c.args.halves.now.geometry in
-    let named = c.args.halves.now.named in
-    let w0 = g.D.Disk.medium c.args.disk.now in
-    let w2 = g.D.Disk.medium c.flip_root.new.disk in
-    let written = c.requires.written k in
-    let syncs = on_ok c.sync_image.result _ (sym c.is_err.ensures.value ∙ c.if-is_err.false) (c.sync_image.ensures.syncs k).ok in
-    let is_area = named_below geometry named _ _ w0 (g.met.D.Disk.bytes c.args.disk.now) written.by.recovers in
-    let flips = subst (λ (m : Medium). Flips c.args.halves.now m w2) syncs (c.flip_root.ensures.any_moment k) in
-    let so_far = subst (λ (m : Medium). CrashImagesAre w0 m (λ c'. recovered_state geometry c' ≡ recovered_state geometry w0.now)) syncs
-    (sync_moments geometry named c.args.halves.now.used _ c.args.bytes.now w0 written.by.recovers (g.D.Disk.medium c.sync_image.new.disk)
-    c.sync_image.result (c.sync_image.ensures.syncs k)) in
-    name_moments geometry named c.args.halves.now.used _ c.args.bytes.now w0 written.by.recovers is_area written.by.some written.is written.behind w2 (g.met.D.Disk.bytes c.args.disk.now) so_far flips
+returns-clause-any_moment g c = moments g (goal.at.returns-clause-any_moment g c).After-flip_root
+
+pub returns-clause-beyond : goal.returns-clause-beyond
+returns-clause-beyond g c = stays g (goal.at.returns-clause-beyond g c).After-flip_root
 
 pub returns-clause-flipped : goal.returns-clause-flipped
 returns-clause-flipped g c = λ k.
-    let geometry = c.args.halves.now.geometry in
-    let named = c.args.halves.now.named in
-    let w0 = g.D.Disk.medium c.args.disk.now in
-    let w2 = g.D.Disk.medium c.flip_root.new.disk in
-    let written = c.requires.written k in
-    let syncs = on_ok c.sync_image.result _ (sym c.is_err.ensures.value ∙ c.if-is_err.false) (c.sync_image.ensures.syncs k).ok in
-    let is_area = named_below geometry named _ _ w0 (g.met.D.Disk.bytes c.args.disk.now) written.by.recovers in
-    let are = g.met.D.Disk.bytes c.args.disk.now in
-    let flipped = subst (λ (m : Medium). Flipped (layout_of_log c.args.halves.now) (other c.args.halves.now.named) m w2) syncs (c.in_ok-flip_root.ensures.flipped k) in
-    record {
-      at = record {
-        recovers = named_recovers geometry named c.args.halves.now.used _ c.args.bytes.now w0 written.by.recovers is_area written.by.some written.is written.behind w2 are flipped;
-        ready = named_ready geometry named c.args.halves.now.used _ c.args.bytes.now w0 written.by.recovers is_area written.by.some written.is
-            written.behind w2 are flipped c.requires.long_enough written.ready;
-        synced = flipped.synced;
-      };
-      before = named_before geometry named c.args.halves.now.used _ c.args.bytes.now w0 written.by.recovers is_area written.by.some written.is written.behind w2 are flipped;
-      alone = named_alone geometry named c.args.halves.now.used _ c.args.bytes.now w0 written.by.recovers is_area written.by.some written.is written.behind w2 are flipped;
-      images = named_images geometry named c.args.halves.now.used _ c.args.bytes.now w0 written.by.recovers is_area written.by.some written.is written.behind w2 are flipped;
-    }
-
-pub returns-then-is_err-clause-beyond : goal.returns-then-is_err-clause-beyond
-returns-then-is_err-clause-beyond g c = λ k.
-    let l = layout_of c.args.halves.now.geometry in
-    let w0 = g.D.Disk.medium c.args.disk.now in
-    let w1 = g.D.Disk.medium c.sync_image.new.disk in
-    let synced = beyond_sync l w0 w1 c.sync_image.result (c.sync_image.ensures.syncs k) in
-    synced
-
-pub returns-in_err-flip_root-clause-beyond : goal.returns-in_err-flip_root-clause-beyond
-returns-in_err-flip_root-clause-beyond g c = λ k.
-    let l = layout_of c.args.halves.now.geometry in
-    let w0 = g.D.Disk.medium c.args.disk.now in
-    let w1 = g.D.Disk.medium c.sync_image.new.disk in
-    let synced = beyond_sync l w0 w1 c.sync_image.result (c.sync_image.ensures.syncs k) in
-    let w2 = g.D.Disk.medium c.flip_root.new.disk in
-    beyond_then l w0 w1 w2 synced (beyond l w1 w2 (IsSameButRoot l) (λ o d h. h.same.rest) (c.flip_root.ensures.any_moment k))
-
-pub returns-clause-beyond : goal.returns-clause-beyond
-returns-clause-beyond g c = λ k.
-    let l = layout_of c.args.halves.now.geometry in
-    let w0 = g.D.Disk.medium c.args.disk.now in
-    let w1 = g.D.Disk.medium c.sync_image.new.disk in
-    let synced = beyond_sync l w0 w1 c.sync_image.result (c.sync_image.ensures.syncs k) in
-    let w2 = g.D.Disk.medium c.flip_root.new.disk in
-    beyond_then l w0 w1 w2 synced (beyond l w1 w2 (IsSameButRoot l) (λ o d h. h.same.rest) (c.flip_root.ensures.any_moment k))
+    let here = (goal.at.returns-clause-flipped g c).After-flip_root in
+    named c.args.halves.now _ c.args.bytes.now (c.requires.written k) (is_area g here k) _ (g.met.D.Disk.bytes c.args.disk.now)
+    (subst (λ (m : Medium). Flipped (layout_of_log c.args.halves.now) (other c.args.halves.now.named) m (g.D.Disk.medium c.flip_root.new.disk)) (syncs g here k) (c.in_ok-flip_root.ensures.flipped k))
+    c.requires.long_enough

@@ -3,51 +3,47 @@ use Rattle.std.proofs.Common.{◌≡◌, ◌-◌, Bool, false, Some, ℕ, List, 
 use Rattle.std.proofs.lemmas.List.{length-replicate}
 use Rattle.affinity.specs.declared.geometry.Geometry.{Geometry}
 use Rattle.checkpoint.specs.Recovery.{recovered_state}
-use Rattle.disk.specs.Moments.{CrashImagesAre}
 use Rattle.image.specs.Pieces.{piece_count}
 use Rattle.journal.specs.Journal.{JournalView, records, committed}
 use Rattle.journal.specs.Images.{KeepsImages}
 use Rattle.journal.specs.Keeping.{journal_view_of}
 use Rattle.journal.specs.DirtyPieces.{all_clean, count_dirty, cut_dirty}
-use Rattle.journal.specs.Steps.{cut_log}
-use Rattle.journal.proofs.Logging.{recoverable_of, sound_along}
+use Rattle.journal.proofs.Logging.{beyond_of, recoverable_of, sound_along, still_of}
 use Rattle.journal.proofs.Rows.{count_most, whole_items, whole_put}
-use Rattle.journal.proofs.Saving.{cut_committed, cut_sound, saves}
-use Rattle.oplog.specs.Beyond.{KeepsBeyond}
-use Rattle.device_map.specs.Layout.{device_size, image_size, other, layout_of}
-use Rattle.oplog.specs.Log.{Log, layout_of_log}
+use Rattle.journal.proofs.Saving.{cut_committed, cut_sound, Saves, saves}
+use Rattle.device_map.specs.Layout.{device_size, image_size, other}
+use Rattle.oplog.specs.Log.{Log, chained, layout_of_log}
 use Rattle.oplog.specs.Recovery.{records_in}
+use Rattle.parcel.specs.Tree.{state_in}
+use Rattle.journal.proofs.journal.Journal.cut.Given.{Over}
+use Rattle.journal.proofs.journal.Journal.cut.Goals.{After-cut_on}
 use Rattle.journal.proofs.journal.Journal.cut.Goals as goal
 
+saved : (g : Over) (c : After-cut_on g) → g.D.Disk.keeps
+    → Saves c.self.inside.halves c.self.inside.snapshot.items c.update_snapshot.new.bytes c.self.inside.named_dirty.items c.self.inside.other_dirty.items c.self.inside.pending.items
+    (g.D.Disk.medium c.self.inside.disk) (state_in c.args.tree.now)
+saved g c k =
+    saves {self = c.args.self.now} {tree = c.args.tree.now} c.self.invariant c.self.view_is k
+    (record { not_failed = c.requires.not_failed; no_cut = c.requires.no_cut; geometry = c.requires.geometry; state = c.requires.whole.state; committed = c.requires.state k })
+    (g.met.D.Disk.bytes c.self.inside.disk) c.deref.ensures.value c.deref_mut.ensures.value c.update_snapshot.ensures.image
+
 pub returns-in_err-cut_on-clause-any_moment : goal.returns-in_err-cut_on-clause-any_moment
-returns-in_err-cut_on-clause-any_moment g c = λ k.
-    subst (λ (h : JournalView). CrashImagesAre h.medium (g.D.Disk.medium c.cut_on.new.disk) (λ c'. recovered_state h.geometry c' ≡ committed h)) c.self.view_is (c.cut_on.ensures.any_moment k)
+returns-in_err-cut_on-clause-any_moment g c = λ k. still_of c.self.view_is (c.cut_on.ensures.any_moment k)
 
 pub returns-clause-any_moment : goal.returns-clause-any_moment
-returns-clause-any_moment g c = λ k.
-    subst (λ (h : JournalView). CrashImagesAre h.medium (g.D.Disk.medium c.cut_on.new.disk) (λ c'. recovered_state h.geometry c' ≡ committed h)) c.self.view_is (c.cut_on.ensures.any_moment k)
+returns-clause-any_moment g c = λ k. still_of c.self.view_is (c.cut_on.ensures.any_moment k)
 
 pub returns-clause-committed : goal.returns-clause-committed
 returns-clause-committed g c = λ k.
-    let f = saves {self = c.args.self.now} {tree = c.args.tree.now} c.self.invariant c.self.view_is k
-    (record { not_failed = c.requires.not_failed; no_cut = c.requires.no_cut; geometry = c.requires.geometry; state = c.requires.whole.state; committed = c.requires.state k })
-    (g.met.D.Disk.bytes c.self.inside.disk) c.deref.ensures.value c.deref_mut.ensures.value c.update_snapshot.ensures.image in
-    let w1 = g.D.Disk.medium c.cut_on.new.disk in
-    let begun = c.in_ok-cut_on.ensures.begun k in
-    ap (λ (x : Geometry). recovered_state x w1.now) c.cut_on.ensures.geometry
-    ∙ cut_committed f (g.met.D.Disk.bytes c.cut_on.new.disk) begun ∙ ap committed c.self.view_is
+    ap (λ (x : Geometry). recovered_state x (g.D.Disk.medium c.cut_on.new.disk).now) c.cut_on.ensures.geometry
+    ∙ cut_committed (saved g (goal.at.returns-clause-committed g c).After-cut_on k) (g.met.D.Disk.bytes c.cut_on.new.disk) (c.in_ok-cut_on.ensures.begun k) ∙ ap committed c.self.view_is
 
 pub returns-clause-recoverable : goal.returns-clause-recoverable
 returns-clause-recoverable g c = λ k.
-    let snapshot = whole_put c.update_snapshot.new.bytes c.update_snapshot.ensures.size c.deref_mut.ensures.value c.deref_mut.ensures.len in
-    let f = saves {self = c.args.self.now} {tree = c.args.tree.now} c.self.invariant c.self.view_is k
-    (record { not_failed = c.requires.not_failed; no_cut = c.requires.no_cut; geometry = c.requires.geometry; state = c.requires.whole.state; committed = c.requires.state k })
-    (g.met.D.Disk.bytes c.self.inside.disk) c.deref.ensures.value c.deref_mut.ensures.value c.update_snapshot.ensures.image in
-    let begun = c.in_ok-cut_on.ensures.begun k in
     recoverable_of
-    (sound_along c.in_ok-cut_on.ensures.log snapshot refl refl refl
-    (cut_sound f (g.met.D.Disk.bytes c.cut_on.new.disk)
-    {others' = whole_items c.swap.new.y.len c.clear_dirty.new.dirty c.swap.new.y.items} (ap (λ v. v.items) c.swap.ensures.x_after) begun))
+    (sound_along c.in_ok-cut_on.ensures.log (whole_put c.update_snapshot.new.bytes c.update_snapshot.ensures.size c.deref_mut.ensures.value c.deref_mut.ensures.len) refl refl refl
+    (cut_sound (saved g (goal.at.returns-clause-recoverable g c).After-cut_on k) (g.met.D.Disk.bytes c.cut_on.new.disk)
+    {others' = whole_items c.swap.new.y.len c.clear_dirty.new.dirty c.swap.new.y.items} (ap (λ v. v.items) c.swap.ensures.x_after) (c.in_ok-cut_on.ensures.begun k)))
 
 pub returns-clause-begun : goal.returns-clause-begun
 returns-clause-begun g c =
@@ -60,9 +56,9 @@ returns-clause-begun g c =
     ap length c.deref_mut-2.ensures.value ∙ ap (λ v. length v.items) c.swap.ensures.y_after ∙ c.self.invariant.pending ∙ sym c.self.invariant.other_dirty in
     let others = put ∙ c.clear_dirty.ensures ∙ ap (λ (n : ℕ). replicate n false) long in
     ap (λ (l : Log). journal_view_of l named (whole_items c.swap.new.y.len c.clear_dirty.new.dirty c.swap.new.y.items) (Some c.count_dirty.result) w1) c.in_ok-cut_on.ensures.log
-    ∙ ap (λ (l : List Bool). journal_view_of (cut_log c.self.inside.halves) named l (Some c.count_dirty.result) w1) others
-    ∙ ap (λ (n : ℕ). journal_view_of (cut_log c.self.inside.halves) named (all_clean c.self.inside.other_dirty.items) (Some n) w1) count
-    ∙ ap (λ (n : ℕ). record (journal_view_of (cut_log c.self.inside.halves) named (all_clean c.self.inside.other_dirty.items)
+    ∙ ap (λ (l : List Bool). journal_view_of (chained c.self.inside.halves) named l (Some c.count_dirty.result) w1) others
+    ∙ ap (λ (n : ℕ). journal_view_of (chained c.self.inside.halves) named (all_clean c.self.inside.other_dirty.items) (Some n) w1) count
+    ∙ ap (λ (n : ℕ). record (journal_view_of (chained c.self.inside.halves) named (all_clean c.self.inside.other_dirty.items)
     (Some (count_dirty c.self.inside.other_dirty.items)) w1) { room = n }) all
     ∙ ap (λ (h : JournalView). record h { room = h.geometry.half; pieces_left = Some (count_dirty h.dirty.other); dirty = cut_dirty h.dirty; medium = w1 }) c.self.view_is
 
@@ -100,20 +96,14 @@ invariant_of-self-2 g c =
         sym (c.count_dirty.ensures ∙ ap count_dirty c.deref-2.ensures.value),
       );
       sound = λ _ k.
-          let f = saves {self = c.args.self.now} {tree = c.args.tree.now} c.self.invariant c.self.view_is k
-          (record { not_failed = c.requires.not_failed; no_cut = c.requires.no_cut; geometry = c.requires.geometry; state = c.requires.whole.state; committed = c.requires.state k })
-          (g.met.D.Disk.bytes c.self.inside.disk) c.deref.ensures.value c.deref_mut.ensures.value c.update_snapshot.ensures.image in
-          let begun = c.in_ok-cut_on.ensures.begun k in
           sound_along c.in_ok-cut_on.ensures.log snapshot refl refl refl
-          (cut_sound f (g.met.D.Disk.bytes c.cut_on.new.disk) (ap (λ v. v.items) c.swap.ensures.x_after) begun);
+          (cut_sound (saved g (goal.at.invariant_of-self-2 g c).After-cut_on k) (g.met.D.Disk.bytes c.cut_on.new.disk) (ap (λ v. v.items) c.swap.ensures.x_after) (c.in_ok-cut_on.ensures.begun k));
       next_pending = omega arith;
       clean_before = λ i few. absurd (omega (arith, few));
     }
 
 pub returns-in_err-cut_on-clause-beyond : goal.returns-in_err-cut_on-clause-beyond
-returns-in_err-cut_on-clause-beyond g c = λ k.
-    subst (λ (h : JournalView). KeepsBeyond (layout_of h.geometry) h.medium (g.D.Disk.medium c.cut_on.new.disk)) c.self.view_is (c.cut_on.ensures.beyond k)
+returns-in_err-cut_on-clause-beyond g c = λ k. beyond_of c.self.view_is (c.cut_on.ensures.beyond k)
 
 pub returns-clause-beyond : goal.returns-clause-beyond
-returns-clause-beyond g c = λ k.
-    subst (λ (h : JournalView). KeepsBeyond (layout_of h.geometry) h.medium (g.D.Disk.medium c.cut_on.new.disk)) c.self.view_is (c.cut_on.ensures.beyond k)
+returns-clause-beyond g c = λ k. beyond_of c.self.view_is (c.cut_on.ensures.beyond k)

@@ -1,40 +1,41 @@
 -- What a crash leaves names the old area or the new one, and the device recovers to the committed state by either.
-use Rattle.std.proofs.Common.{◌≡◌, false, Option, Some, ℕ, List, ◌++◌, length, refl, sym, ◌∙◌, ap, subst, arith}
+use Rattle.std.proofs.Common.{◌≡◌, Option, ℕ, List, ◌++◌, length, refl, sym, ◌∙◌, ap, subst, arith}
 use Rattle.std.proofs.lemmas.Result.{err_from_is_err_and}
 use Rattle.affinity.specs.declared.geometry.Geometry.{Geometry}
 use Rattle.checkpoint.specs.Recovery.{recovered_state}
-use Rattle.disk.specs.Moments.{CrashImagesAre, moment_number}
+use Rattle.disk.specs.Moments.{moment_number}
 use Rattle.journal.specs.Journal.{JournalView, records, committed}
 use Rattle.journal.specs.Images.{KeepsImages}
 use Rattle.journal.specs.Keeping.{FitsCutState}
 use Rattle.journal.specs.Steps.{IsCutWritten}
 use Rattle.checkpoint.specs.Version.{named_version}
 use Rattle.journal.proofs.Flipping.{flip_asks, flip_sound, flip_version}
-use Rattle.journal.proofs.Logging.{recoverable_of, sound_along}
+use Rattle.journal.proofs.Logging.{beyond_of, fits_of, recoverable_of, sound_along, sound_of, still_of}
 use Rattle.journal.proofs.Recovering.{holds_now}
 use Rattle.image.specs.Pieces.{piece_count}
 use Rattle.oplog.specs.Front.{front}
-use Rattle.oplog.specs.Beyond.{KeepsBeyond}
 use Rattle.device_map.specs.Layout.{device_size, image_size, layout_of}
 use Rattle.oplog.specs.Log.{Log, layout_of_log}
 use Rattle.oplog.specs.Recovery.{records_in}
+use Rattle.journal.specs.Steps.{IsCutWritten}
+use Rattle.journal.proofs.journal.Journal.flip.Given.{Over}
+use Rattle.journal.proofs.journal.Journal.flip.Goals.{After-deref}
 use Rattle.journal.proofs.journal.Journal.flip.Goals as goal
 
+written : (g : Over) (c : After-deref g) → g.D.Disk.keeps → IsCutWritten c.self.inside.halves c.self.inside.snapshot.items (g.D.Disk.medium c.self.inside.disk)
+written g c k =
+    flip_asks (ap (λ (h : JournalView). h.pieces_left) c.self.view_is ∙ c.requires.written) c.self.invariant.long_enough c.self.invariant.snapshot c.self.invariant.pending
+    (g.met.D.Disk.bytes c.self.inside.disk)
+    (fits_of c.self.invariant c.self.view_is c.requires.not_failed) (sound_of c.self.invariant c.self.view_is c.requires.not_failed k)
+
 pub flip_on-requires-clause-written : goal.flip_on-requires-clause-written
-flip_on-requires-clause-written g c = λ k.
-    let fine : c.self.inside.halves.failed ≡ false = ap (λ (h : JournalView). h.failed) c.self.view_is ∙ c.requires.not_failed in
-    let none : c.self.inside.pieces_left ≡ Some 0 = ap (λ (h : JournalView). h.pieces_left) c.self.view_is ∙ c.requires.written in
-    subst (λ (l : List ℕ). IsCutWritten c.self.inside.halves l (g.D.Disk.medium c.self.inside.disk)) (sym c.deref.ensures.value)
-    (flip_asks none c.self.invariant.long_enough c.self.invariant.snapshot c.self.invariant.pending (g.met.D.Disk.bytes c.self.inside.disk) (c.self.invariant.fits_cut_state fine)
-    (c.self.invariant.sound fine k))
+flip_on-requires-clause-written g c = λ k. subst (λ (l : List ℕ). IsCutWritten c.self.inside.halves l (g.D.Disk.medium c.self.inside.disk)) (sym c.deref.ensures.value) (written g c k)
 
 pub returns-in_err-flip_on-clause-any_moment : goal.returns-in_err-flip_on-clause-any_moment
-returns-in_err-flip_on-clause-any_moment g c = λ k.
-    subst (λ (h : JournalView). CrashImagesAre h.medium (g.D.Disk.medium c.flip_on.new.disk) (λ c'. recovered_state h.geometry c' ≡ committed h)) c.self.view_is (c.flip_on.ensures.any_moment k)
+returns-in_err-flip_on-clause-any_moment g c = λ k. still_of c.self.view_is (c.flip_on.ensures.any_moment k)
 
 pub returns-clause-any_moment : goal.returns-clause-any_moment
-returns-clause-any_moment g c = λ k.
-    subst (λ (h : JournalView). CrashImagesAre h.medium (g.D.Disk.medium c.flip_on.new.disk) (λ c'. recovered_state h.geometry c' ≡ committed h)) c.self.view_is (c.flip_on.ensures.any_moment k)
+returns-clause-any_moment g c = λ k. still_of c.self.view_is (c.flip_on.ensures.any_moment k)
 
 pub returns-clause-committed : goal.returns-clause-committed
 returns-clause-committed g c = λ k.
@@ -45,14 +46,11 @@ returns-clause-committed g c = λ k.
 
 pub returns-clause-recoverable : goal.returns-clause-recoverable
 returns-clause-recoverable g c = λ k.
-    let fine : c.self.inside.halves.failed ≡ false = ap (λ (h : JournalView). h.failed) c.self.view_is ∙ c.requires.not_failed in
-    let none : c.self.inside.pieces_left ≡ Some 0 = ap (λ (h : JournalView). h.pieces_left) c.self.view_is ∙ c.requires.written in
-    let sound = c.self.invariant.sound fine k in
-    let placed = (c.self.invariant.fits_cut_state fine) in
-    let written = flip_asks none c.self.invariant.long_enough c.self.invariant.snapshot c.self.invariant.pending (g.met.D.Disk.bytes c.self.inside.disk) placed sound in
     recoverable_of
     (sound_along c.in_ok-flip_on.ensures.log refl (ap (λ v. v.items) c.swap.ensures.x_after) (ap (λ v. v.items) c.swap.ensures.y_after) refl
-    (flip_sound none (g.met.D.Disk.bytes c.self.inside.disk) (g.met.D.Disk.bytes c.flip_on.new.disk) placed written sound (c.in_ok-flip_on.ensures.flipped k)))
+    (flip_sound (ap (λ (h : JournalView). h.pieces_left) c.self.view_is ∙ c.requires.written) (g.met.D.Disk.bytes c.self.inside.disk) (g.met.D.Disk.bytes c.flip_on.new.disk)
+    (fits_of c.self.invariant c.self.view_is c.requires.not_failed)
+    (written g (goal.at.returns-clause-recoverable g c).After-deref k) (sound_of c.self.invariant c.self.view_is c.requires.not_failed k) (c.in_ok-flip_on.ensures.flipped k)))
 
 pub returns-clause-records : goal.returns-clause-records
 returns-clause-records g c = λ k.
@@ -65,14 +63,9 @@ returns-clause-records g c = λ k.
 
 pub returns-clause-version : goal.returns-clause-version
 returns-clause-version g c = λ k.
-    let fine : c.self.inside.halves.failed ≡ false = ap (λ (h : JournalView). h.failed) c.self.view_is ∙ c.requires.not_failed in
-    let none : c.self.inside.pieces_left ≡ Some 0 = ap (λ (h : JournalView). h.pieces_left) c.self.view_is ∙ c.requires.written in
-    let sound = c.self.invariant.sound fine k in
-    let placed = (c.self.invariant.fits_cut_state fine) in
-    let w1 = g.D.Disk.medium c.flip_on.new.disk in
-    let written = flip_asks none c.self.invariant.long_enough c.self.invariant.snapshot c.self.invariant.pending (g.met.D.Disk.bytes c.self.inside.disk) placed sound in
-    ap (λ (x : Geometry). named_version x w1.now) c.flip_on.ensures.geometry
-    ∙ flip_version none (g.met.D.Disk.bytes c.flip_on.new.disk) written sound (c.in_ok-flip_on.ensures.flipped k)
+    ap (λ (x : Geometry). named_version x (g.D.Disk.medium c.flip_on.new.disk).now) c.flip_on.ensures.geometry
+    ∙ flip_version (ap (λ (h : JournalView). h.pieces_left) c.self.view_is ∙ c.requires.written) (g.met.D.Disk.bytes c.flip_on.new.disk)
+    (written g (goal.at.returns-clause-version g c).After-deref k) (sound_of c.self.invariant c.self.view_is c.requires.not_failed k) (c.in_ok-flip_on.ensures.flipped k)
 
 pub returns-clause-images : goal.returns-clause-images
 returns-clause-images g c = λ k.
@@ -80,8 +73,6 @@ returns-clause-images g c = λ k.
 
 pub invariant_of-self-2 : goal.invariant_of-self-2
 invariant_of-self-2 g c =
-    let fine : c.self.inside.halves.failed ≡ false = ap (λ (h : JournalView). h.failed) c.self.view_is ∙ c.requires.not_failed in
-    let none : c.self.inside.pieces_left ≡ Some 0 = ap (λ (h : JournalView). h.pieces_left) c.self.view_is ∙ c.requires.written in
     let log = c.in_ok-flip_on.ensures.log in
     record {
       long_enough = omega (arith, c.self.invariant.long_enough, c.flip_on.ensures.call.1, ap (λ (l : Log). device_size (layout_of_log l)) log);
@@ -91,25 +82,23 @@ invariant_of-self-2 g c =
       other_dirty = ap (λ v. length v.items) c.swap.ensures.y_after ∙ c.self.invariant.named_dirty ∙ sym (ap piece_count c.flip_on.ensures.geometry);
       pending = c.self.invariant.pending ∙ sym (ap piece_count c.flip_on.ensures.geometry);
       fits_cut_state = λ _.
-          let placed = subst (λ (l : Option ℕ). FitsCutState c.self.inside.halves c.self.inside.pending.items l) none (c.self.invariant.fits_cut_state fine) in
+          let placed = subst (λ (l : Option ℕ). FitsCutState c.self.inside.halves c.self.inside.pending.items l) (ap (λ (h : JournalView). h.pieces_left) c.self.view_is ∙ c.requires.written)
+          (fits_of c.self.invariant c.self.view_is c.requires.not_failed) in
           ap (λ (l : Log). l.current) log ∙ placed.0 ∙ sym (ap (λ (l : Log). l.named) log);
       sound = λ _ k.
-          let sound = c.self.invariant.sound fine k in
-          let placed = c.self.invariant.fits_cut_state fine in
-          let written = flip_asks none c.self.invariant.long_enough c.self.invariant.snapshot c.self.invariant.pending (g.met.D.Disk.bytes c.self.inside.disk) placed sound in
           sound_along log refl (ap (λ v. v.items) c.swap.ensures.x_after) (ap (λ v. v.items) c.swap.ensures.y_after) refl
-          (flip_sound none (g.met.D.Disk.bytes c.self.inside.disk) (g.met.D.Disk.bytes c.flip_on.new.disk) placed written sound (c.in_ok-flip_on.ensures.flipped k));
+          (flip_sound (ap (λ (h : JournalView). h.pieces_left) c.self.view_is ∙ c.requires.written) (g.met.D.Disk.bytes c.self.inside.disk) (g.met.D.Disk.bytes c.flip_on.new.disk)
+          (fits_of c.self.invariant c.self.view_is c.requires.not_failed)
+          (written g (goal.at.invariant_of-self-2 g c).After-deref k) (sound_of c.self.invariant c.self.view_is c.requires.not_failed k) (c.in_ok-flip_on.ensures.flipped k));
       next_pending = c.self.invariant.next_pending;
       clean_before = c.self.invariant.clean_before;
     }
 
 pub returns-in_err-flip_on-clause-beyond : goal.returns-in_err-flip_on-clause-beyond
-returns-in_err-flip_on-clause-beyond g c = λ k.
-    subst (λ (h : JournalView). KeepsBeyond (layout_of h.geometry) h.medium (g.D.Disk.medium c.flip_on.new.disk)) c.self.view_is (c.flip_on.ensures.beyond k)
+returns-in_err-flip_on-clause-beyond g c = λ k. beyond_of c.self.view_is (c.flip_on.ensures.beyond k)
 
 pub returns-clause-beyond : goal.returns-clause-beyond
-returns-clause-beyond g c = λ k.
-    subst (λ (h : JournalView). KeepsBeyond (layout_of h.geometry) h.medium (g.D.Disk.medium c.flip_on.new.disk)) c.self.view_is (c.flip_on.ensures.beyond k)
+returns-clause-beyond g c = λ k. beyond_of c.self.view_is (c.flip_on.ensures.beyond k)
 
 pub returns-in_err-flip_on-clause-costs : goal.returns-in_err-flip_on-clause-costs
 returns-in_err-flip_on-clause-costs g c =

@@ -1,5 +1,5 @@
 -- What a crash leaves recovers to the committed state with the first m of the messages run on it; all that they touch is dirty.
-use Rattle.std.proofs.Common.{◌≡◌, ℕ, ◌+◌, ◌++◌, false, Some, length, option_map, refl, sym, ◌∙◌, ap, subst, arith}
+use Rattle.std.proofs.Common.{◌≡◌, ℕ, ◌+◌, ◌++◌, Some, length, option_map, refl, sym, ◌∙◌, ap, subst, arith}
 use Rattle.affinity.specs.declared.geometry.Geometry.{Geometry}
 use Rattle.checkpoint.specs.Recovery.{recovered_state}
 use Rattle.disk.specs.Moments.{CrashImagesAre}
@@ -7,7 +7,7 @@ use Rattle.image.specs.Pieces.{piece_count}
 use Rattle.journal.specs.Journal.{AreCarriedOut, JournalView, RecoversWithPrefix, records, committed}
 use Rattle.journal.specs.Keeping.{FitsCutState, journal_view_of}
 use Rattle.journal.specs.DirtyPieces.{AreBothTouched}
-use Rattle.journal.proofs.Logging.{log_kept, log_moments, log_records, log_told, placed_used, recoverable_of, sound_along, touched_along}
+use Rattle.journal.proofs.Logging.{beyond_of, fits_of, sound_of, log_kept, log_moments, log_records, log_told, placed_used, recoverable_of, sound_along, touched_along}
 use Rattle.journal.proofs.Rows.{same_dirty, whole_items, whole_put}
 use Rattle.disk.proofs.Moments.{weaker}
 use Rattle.oplog.specs.Beyond.{KeepsBeyond}
@@ -17,45 +17,49 @@ use Rattle.oplog.specs.Changing.{records_of}
 use Rattle.oplog.specs.Recovery.{records_in}
 use Rattle.meaning.specs.Serial.{state_after_all}
 use Rattle.meaning.specs.State.{State}
+use Rattle.journal.proofs.journal.Journal.log.Given.{Over}
+use Rattle.journal.proofs.journal.Journal.log.Goals.{After-append}
 use Rattle.journal.proofs.journal.Journal.log.Goals as goal
 
-pub returns-in_err-append-clause-any_moment : goal.returns-in_err-append-clause-any_moment
-returns-in_err-append-clause-any_moment g c = λ k x is.
-    let fine : c.self.inside.halves.failed ≡ false = ap (λ (h : JournalView). h.failed) c.self.view_is ∙ c.requires.not_failed in
-    let out = subst (λ (h : JournalView). AreCarriedOut h.geometry x c.args.messages.now) (sym c.self.view_is) (c.requires.carried_out k x is) in
+moments : (g : Over) (c : After-append g) → g.D.Disk.keeps → (x : State) → committed c.args.self.now ≡ Some x
+    → CrashImagesAre c.args.self.now.medium (g.D.Disk.medium c.append.new.disk) (RecoversWithPrefix c.args.self.now.geometry x c.args.messages.now)
+moments g c k x is =
     subst (λ (h : JournalView). CrashImagesAre h.medium (g.D.Disk.medium c.append.new.disk) (RecoversWithPrefix h.geometry x c.args.messages.now)) c.self.view_is
-    (log_moments c.args.messages.now (g.D.Disk.medium c.append.new.disk) (g.met.D.Disk.bytes c.self.inside.disk) (c.self.invariant.sound fine k)
-    (c.append.ensures.any_moment k) x (ap committed c.self.view_is ∙ is) out)
+    (log_moments c.args.messages.now (g.D.Disk.medium c.append.new.disk) (g.met.D.Disk.bytes c.self.inside.disk) (sound_of c.self.invariant c.self.view_is c.requires.not_failed k)
+    (c.append.ensures.any_moment k) x (ap committed c.self.view_is ∙ is) (subst (λ (h : JournalView). AreCarriedOut h.geometry x c.args.messages.now) (sym c.self.view_is)
+    (c.requires.carried_out k x is)))
+
+stays : (g : Over) (c : After-append g) → g.D.Disk.keeps → KeepsBeyond (layout_of c.args.self.now.geometry) c.args.self.now.medium (g.D.Disk.medium c.append.new.disk)
+stays g c k =
+    beyond_of c.self.view_is (weaker _ _ _ _ (c.append.ensures.any_moment k) (λ d grew. record { old = grew.has.old; left = grew.has.left; change = grew.has.change.same.rest }))
+
+out : (g : Over) (c : After-append g) → g.D.Disk.keeps → (x : State) → recovered_state c.self.inside.halves.geometry (g.D.Disk.medium c.self.inside.disk).now ≡ Some x
+    → AreCarriedOut c.self.inside.halves.geometry x c.args.messages.now
+out g c k x is = subst (λ (h : JournalView). AreCarriedOut h.geometry x c.args.messages.now) (sym c.self.view_is) (c.requires.carried_out k x (sym (ap committed c.self.view_is) ∙ is))
+
+pub returns-in_err-append-clause-any_moment : goal.returns-in_err-append-clause-any_moment
+returns-in_err-append-clause-any_moment g c = moments g (goal.at.returns-in_err-append-clause-any_moment g c).After-append
 
 pub returns-clause-any_moment : goal.returns-clause-any_moment
-returns-clause-any_moment g c = λ k x is.
-    let fine : c.self.inside.halves.failed ≡ false = ap (λ (h : JournalView). h.failed) c.self.view_is ∙ c.requires.not_failed in
-    let out = subst (λ (h : JournalView). AreCarriedOut h.geometry x c.args.messages.now) (sym c.self.view_is) (c.requires.carried_out k x is) in
-    subst (λ (h : JournalView). CrashImagesAre h.medium (g.D.Disk.medium c.append.new.disk) (RecoversWithPrefix h.geometry x c.args.messages.now)) c.self.view_is
-    (log_moments c.args.messages.now (g.D.Disk.medium c.append.new.disk) (g.met.D.Disk.bytes c.self.inside.disk) (c.self.invariant.sound fine k)
-    (c.append.ensures.any_moment k) x (ap committed c.self.view_is ∙ is) out)
+returns-clause-any_moment g c = moments g (goal.at.returns-clause-any_moment g c).After-append
 
 pub returns-clause-committed : goal.returns-clause-committed
 returns-clause-committed g c = λ k.
-    let fine : c.self.inside.halves.failed ≡ false = ap (λ (h : JournalView). h.failed) c.self.view_is ∙ c.requires.not_failed in
-    let out : (x : State) → recovered_state c.self.inside.halves.geometry (g.D.Disk.medium c.self.inside.disk).now ≡ Some x → AreCarriedOut c.self.inside.halves.geometry x c.args.messages.now =
-    λ x is. subst (λ (h : JournalView). AreCarriedOut h.geometry x c.args.messages.now) (sym c.self.view_is) (c.requires.carried_out k x (sym (ap committed c.self.view_is) ∙ is)) in
     subst (λ (h : JournalView). recovered_state c.append.new.self.geometry (g.D.Disk.medium c.append.new.disk).now ≡ option_map
     (λ x. state_after_all h.geometry x c.args.messages.now) (committed h)) c.self.view_is
     (ap (λ (l : Log). recovered_state l.geometry (g.D.Disk.medium c.append.new.disk).now) c.in_ok-append.ensures.log
     ∙ log_told c.args.messages.now (g.met.D.Disk.bytes c.self.inside.disk)
-    (g.met.D.Disk.bytes c.append.new.disk) (c.self.invariant.sound fine k) out (c.in_ok-append.ensures.added k))
+    (g.met.D.Disk.bytes c.append.new.disk) (sound_of c.self.invariant c.self.view_is c.requires.not_failed k) (out g (goal.at.returns-clause-committed g c).After-append k)
+    (c.in_ok-append.ensures.added k))
 
 pub returns-clause-recoverable : goal.returns-clause-recoverable
 returns-clause-recoverable g c = λ k.
-    let fine : c.self.inside.halves.failed ≡ false = ap (λ (h : JournalView). h.failed) c.self.view_is ∙ c.requires.not_failed in
-    let out : (x : State) → recovered_state c.self.inside.halves.geometry (g.D.Disk.medium c.self.inside.disk).now ≡ Some x → AreCarriedOut c.self.inside.halves.geometry x c.args.messages.now =
-    λ x is. subst (λ (h : JournalView). AreCarriedOut h.geometry x c.args.messages.now) (sym c.self.view_is) (c.requires.carried_out k x (sym (ap committed c.self.view_is) ∙ is)) in
     let same : c.geometry-g.result ≡ c.self.inside.halves.geometry = c.geometry-g.ensures ∙ ap (λ (l : Log). l.geometry) c.in_ok-append.ensures.log in
     recoverable_of
     (sound_along c.in_ok-append.ensures.log refl refl refl refl
     (log_kept {named' = c.dirty_touched.new.dirty} {others' = c.dirty_touched-2.new.dirty} c.args.messages.now (g.met.D.Disk.bytes c.self.inside.disk)
-    (g.met.D.Disk.bytes c.append.new.disk) (c.self.invariant.sound fine k) out (c.in_ok-append.ensures.added k) (c.self.invariant.fits_cut_state fine)
+    (g.met.D.Disk.bytes c.append.new.disk) (sound_of c.self.invariant c.self.view_is c.requires.not_failed k) (out g (goal.at.returns-clause-recoverable g c).After-append k)
+    (c.in_ok-append.ensures.added k) (fits_of c.self.invariant c.self.view_is c.requires.not_failed)
     (record {
       named = touched_along c.args.messages.now same c.deref_mut.ensures.value refl c.dirty_touched.ensures.touched;
       other = touched_along c.args.messages.now same c.deref_mut-2.ensures.value refl c.dirty_touched-2.ensures.touched;
@@ -63,10 +67,10 @@ returns-clause-recoverable g c = λ k.
 
 pub returns-clause-records : goal.returns-clause-records
 returns-clause-records g c = λ k.
-    let fine : c.self.inside.halves.failed ≡ false = ap (λ (h : JournalView). h.failed) c.self.view_is ∙ c.requires.not_failed in
     subst (λ (h : JournalView). records_in c.append.new.self.geometry (g.D.Disk.medium c.append.new.disk).now ≡ records h ++ records_of c.args.messages.now) c.self.view_is
     (ap (λ (l : Log). records_in l.geometry (g.D.Disk.medium c.append.new.disk).now) c.in_ok-append.ensures.log
-    ∙ log_records c.args.messages.now (g.D.Disk.medium c.append.new.disk) (g.met.D.Disk.bytes c.self.inside.disk) (c.self.invariant.sound fine k) (c.in_ok-append.ensures.added k))
+    ∙ log_records c.args.messages.now (g.D.Disk.medium c.append.new.disk) (g.met.D.Disk.bytes c.self.inside.disk) (sound_of c.self.invariant c.self.view_is c.requires.not_failed k)
+    (c.in_ok-append.ensures.added k))
 
 pub returns-clause-dirties : goal.returns-clause-dirties
 returns-clause-dirties g c =
@@ -102,7 +106,6 @@ returns-clause-none g c = λ none.
 
 pub invariant_of-self-2 : goal.invariant_of-self-2
 invariant_of-self-2 g c =
-    let fine : c.self.inside.halves.failed ≡ false = ap (λ (h : JournalView). h.failed) c.self.view_is ∙ c.requires.not_failed in
     let log = c.in_ok-append.ensures.log in
     let geometry = ap (λ (l : Log). l.geometry) log in
     let same : c.geometry-g.result ≡ c.self.inside.halves.geometry = c.geometry-g.ensures ∙ geometry in
@@ -118,13 +121,11 @@ invariant_of-self-2 g c =
       fits_cut_state = λ _.
           subst (λ (l : Log). FitsCutState l c.self.inside.pending.items c.self.inside.pieces_left) (sym log)
           (placed_used c.self.inside.halves (c.self.inside.halves.used + length c.args.messages.now) c.self.inside.pending.items c.self.inside.pieces_left
-          (c.self.invariant.fits_cut_state fine));
+          (fits_of c.self.invariant c.self.view_is c.requires.not_failed));
       sound = λ _ k.
-          let out : (x : State) → recovered_state c.self.inside.halves.geometry (g.D.Disk.medium c.self.inside.disk).now ≡ Some x → AreCarriedOut c.self.inside.halves.geometry x c.args.messages.now =
-          λ x is. subst (λ (h : JournalView). AreCarriedOut h.geometry x c.args.messages.now) (sym c.self.view_is) (c.requires.carried_out k x (sym (ap committed c.self.view_is) ∙ is)) in
           sound_along log refl refl refl refl
-          (log_kept c.args.messages.now (g.met.D.Disk.bytes c.self.inside.disk) (g.met.D.Disk.bytes c.append.new.disk) (c.self.invariant.sound fine k)
-          out (c.in_ok-append.ensures.added k) (c.self.invariant.fits_cut_state fine)
+          (log_kept c.args.messages.now (g.met.D.Disk.bytes c.self.inside.disk) (g.met.D.Disk.bytes c.append.new.disk) (sound_of c.self.invariant c.self.view_is c.requires.not_failed k)
+          (out g (goal.at.invariant_of-self-2 g c).After-append k) (c.in_ok-append.ensures.added k) (fits_of c.self.invariant c.self.view_is c.requires.not_failed)
           (record {
             named = touched_along c.args.messages.now same c.deref_mut.ensures.value first c.dirty_touched.ensures.touched;
             other = touched_along c.args.messages.now same c.deref_mut-2.ensures.value second c.dirty_touched-2.ensures.touched;
@@ -134,15 +135,7 @@ invariant_of-self-2 g c =
     }
 
 pub returns-in_err-append-clause-beyond : goal.returns-in_err-append-clause-beyond
-returns-in_err-append-clause-beyond g c = λ k.
-    let w0 = g.D.Disk.medium c.self.inside.disk in
-    let w1 = g.D.Disk.medium c.append.new.disk in
-    subst (λ (h : JournalView). KeepsBeyond (layout_of h.geometry) h.medium w1) c.self.view_is
-    (weaker w0 w1 _ _ (c.append.ensures.any_moment k) (λ d grew. record { old = grew.has.old; left = grew.has.left; change = grew.has.change.same.rest }))
+returns-in_err-append-clause-beyond g c = stays g (goal.at.returns-in_err-append-clause-beyond g c).After-append
 
 pub returns-clause-beyond : goal.returns-clause-beyond
-returns-clause-beyond g c = λ k.
-    let w0 = g.D.Disk.medium c.self.inside.disk in
-    let w1 = g.D.Disk.medium c.append.new.disk in
-    subst (λ (h : JournalView). KeepsBeyond (layout_of h.geometry) h.medium w1) c.self.view_is
-    (weaker w0 w1 _ _ (c.append.ensures.any_moment k) (λ d grew. record { old = grew.has.old; left = grew.has.left; change = grew.has.change.same.rest }))
+returns-clause-beyond g c = stays g (goal.at.returns-clause-beyond g c).After-append

@@ -4,7 +4,7 @@ use Rattle.std.proofs.lemmas.List.{length-replicate}
 use Rattle.std.proofs.lemmas.Result.{err_from_is_err_and}
 use Rattle.affinity.specs.declared.geometry.Geometry.{Geometry}
 use Rattle.checkpoint.specs.Recovery.{recovered_state}
-use Rattle.disk.specs.Moments.{CrashImagesAre, moment_number}
+use Rattle.disk.specs.Moments.{moment_number}
 use Rattle.image.specs.Image.{image_state}
 use Rattle.image.specs.Pieces.{piece_count}
 use Rattle.journal.specs.Costs.{point_cost}
@@ -13,99 +13,78 @@ use Rattle.journal.specs.Keeping.{FitsCutState}
 use Rattle.journal.specs.Steps.{IsPointed}
 use Rattle.journal.specs.Extents.{AgreeOnClean, image_in}
 use Rattle.journal.proofs.Costs.{few_runs}
-use Rattle.journal.proofs.Logging.{recoverable_of, sound_along}
+use Rattle.journal.proofs.Logging.{beyond_of, recoverable_of, sound_along, still_of}
 use Rattle.journal.proofs.Rows.{whole_put}
 use Rattle.checkpoint.specs.Version.{named_version}
-use Rattle.journal.proofs.Saving.{agrees, is_alone, point_committed, point_sound, pointed_version, reads, saves}
-use Rattle.oplog.specs.Beyond.{KeepsBeyond}
-use Rattle.device_map.specs.Layout.{layout_of, device_size, image_size, other}
+use Rattle.journal.proofs.Saving.{agrees, is_alone, point_committed, point_sound, pointed_version, reads, Saves, saves}
+use Rattle.device_map.specs.Layout.{device_size, image_size, other}
 use Rattle.oplog.specs.Log.{Log, layout_of_log}
 use Rattle.oplog.specs.Recovery.{records_in}
 use Rattle.parcel.specs.Tree.{state_in}
+use Rattle.journal.proofs.journal.Journal.point.Given.{Over}
+use Rattle.journal.proofs.journal.Journal.point.Goals.{After-deref-3, After-swap_and_clear_dirty}
 use Rattle.journal.proofs.journal.Journal.point.Goals as goal
 
-pub point_on-requires-clause-alone : goal.point_on-requires-clause-alone
-point_on-requires-clause-alone g c = λ k.
-    let f = saves {self = c.args.self.now} {tree = c.args.tree.now} c.self.invariant c.self.view_is k
+saved : (g : Over) (c : After-deref-3 g) → g.D.Disk.keeps
+    → Saves c.self.inside.halves c.self.inside.snapshot.items c.update_snapshot.new.bytes c.self.inside.named_dirty.items c.self.inside.other_dirty.items c.self.inside.pending.items
+    (g.D.Disk.medium c.self.inside.disk) (state_in c.args.tree.now)
+saved g c k =
+    saves {self = c.args.self.now} {tree = c.args.tree.now} c.self.invariant c.self.view_is k
     (record { not_failed = c.requires.not_failed; no_cut = c.requires.no_cut; geometry = c.requires.geometry; state = c.requires.whole.state; committed = c.requires.state k })
-    (g.met.D.Disk.bytes c.self.inside.disk) c.deref.ensures.value c.deref_mut.ensures.value c.update_snapshot.ensures.image in
-    is_alone f
+    (g.met.D.Disk.bytes c.self.inside.disk) c.deref.ensures.value c.deref_mut.ensures.value c.update_snapshot.ensures.image
+
+made : (g : Over) (c : After-swap_and_clear_dirty g) → g.D.Disk.keeps
+    → IsPointed c.self.inside.halves c.update_snapshot.new.bytes (g.D.Disk.medium c.self.inside.disk) (g.D.Disk.medium c.point_on.new.disk)
+made g c k =
+    subst (λ (l : List ℕ). IsPointed c.self.inside.halves l (g.D.Disk.medium c.self.inside.disk) (g.D.Disk.medium c.point_on.new.disk))
+    (c.deref-2.ensures.value ∙ whole_put c.update_snapshot.new.bytes c.update_snapshot.ensures.size c.deref_mut.ensures.value c.deref_mut.ensures.len) (c.in_ok-point_on.ensures.pointed k)
+
+pub point_on-requires-clause-alone : goal.point_on-requires-clause-alone
+point_on-requires-clause-alone g c = λ k. is_alone (saved g c k)
 
 pub point_on-requires-clause-image : goal.point_on-requires-clause-image
 point_on-requires-clause-image g c = λ k.
     let snapshot = whole_put c.update_snapshot.new.bytes c.update_snapshot.ensures.size c.deref_mut.ensures.value c.deref_mut.ensures.len in
-    let f = saves {self = c.args.self.now} {tree = c.args.tree.now} c.self.invariant c.self.view_is k
-    (record { not_failed = c.requires.not_failed; no_cut = c.requires.no_cut; geometry = c.requires.geometry; state = c.requires.whole.state; committed = c.requires.state k })
-    (g.met.D.Disk.bytes c.self.inside.disk) c.deref.ensures.value c.deref_mut.ensures.value c.update_snapshot.ensures.image in
-    ap (image_state c.self.inside.halves.geometry) (c.deref-2.ensures.value ∙ snapshot) ∙ reads f
+    ap (image_state c.self.inside.halves.geometry) (c.deref-2.ensures.value ∙ snapshot) ∙ reads (saved g c k)
 
 pub point_on-requires-clause-clean : goal.point_on-requires-clause-clean
 point_on-requires-clause-clean g c = λ k.
     let snapshot = whole_put c.update_snapshot.new.bytes c.update_snapshot.ensures.size c.deref_mut.ensures.value c.deref_mut.ensures.len in
     let w0 = g.D.Disk.medium c.self.inside.disk in
-    let f = saves {self = c.args.self.now} {tree = c.args.tree.now} c.self.invariant c.self.view_is k
-    (record { not_failed = c.requires.not_failed; no_cut = c.requires.no_cut; geometry = c.requires.geometry; state = c.requires.whole.state; committed = c.requires.state k })
-    (g.met.D.Disk.bytes c.self.inside.disk) c.deref.ensures.value c.deref_mut.ensures.value c.update_snapshot.ensures.image in
     subst (λ (l : List ℕ). AgreeOnClean c.self.inside.halves.geometry c.deref-3.result.now
     (image_in c.self.inside.halves.geometry (other c.self.inside.halves.named) w0) l) (sym (c.deref-2.ensures.value ∙ snapshot))
     (subst (λ (l : List Bool). AgreeOnClean c.self.inside.halves.geometry l
     (image_in c.self.inside.halves.geometry (other c.self.inside.halves.named) w0) c.update_snapshot.new.bytes) (sym c.deref-3.ensures.value)
-    (agrees f))
+    (agrees (saved g c k)))
 
 pub returns-in_err-point_on-clause-any_moment : goal.returns-in_err-point_on-clause-any_moment
-returns-in_err-point_on-clause-any_moment g c = λ k.
-    subst (λ (h : JournalView). CrashImagesAre h.medium (g.D.Disk.medium c.point_on.new.disk) (λ c'. recovered_state h.geometry c' ≡ committed h)) c.self.view_is (c.point_on.ensures.any_moment k)
+returns-in_err-point_on-clause-any_moment g c = λ k. still_of c.self.view_is (c.point_on.ensures.any_moment k)
 
 pub returns-clause-any_moment : goal.returns-clause-any_moment
-returns-clause-any_moment g c = λ k.
-    subst (λ (h : JournalView). CrashImagesAre h.medium (g.D.Disk.medium c.point_on.new.disk) (λ c'. recovered_state h.geometry c' ≡ committed h)) c.self.view_is (c.point_on.ensures.any_moment k)
+returns-clause-any_moment g c = λ k. still_of c.self.view_is (c.point_on.ensures.any_moment k)
 
 pub returns-clause-committed : goal.returns-clause-committed
 returns-clause-committed g c = λ k.
-    let snapshot = whole_put c.update_snapshot.new.bytes c.update_snapshot.ensures.size c.deref_mut.ensures.value c.deref_mut.ensures.len in
-    let w0 = g.D.Disk.medium c.self.inside.disk in
-    let f = saves {self = c.args.self.now} {tree = c.args.tree.now} c.self.invariant c.self.view_is k
-    (record { not_failed = c.requires.not_failed; no_cut = c.requires.no_cut; geometry = c.requires.geometry; state = c.requires.whole.state; committed = c.requires.state k })
-    (g.met.D.Disk.bytes c.self.inside.disk) c.deref.ensures.value c.deref_mut.ensures.value c.update_snapshot.ensures.image in
-    let w1 = g.D.Disk.medium c.point_on.new.disk in
-    let made = subst (λ (l : List ℕ). IsPointed c.self.inside.halves l w0 w1) (c.deref-2.ensures.value ∙ snapshot) (c.in_ok-point_on.ensures.pointed k) in
-    ap (λ (x : Geometry). recovered_state x w1.now) c.point_on.ensures.geometry
-    ∙ point_committed f (g.met.D.Disk.bytes c.point_on.new.disk) made ∙ ap committed c.self.view_is
+    ap (λ (x : Geometry). recovered_state x (g.D.Disk.medium c.point_on.new.disk).now) c.point_on.ensures.geometry
+    ∙ point_committed (saved g (goal.at.returns-clause-committed g c).After-deref-3 k) (g.met.D.Disk.bytes c.point_on.new.disk) (made g c k) ∙ ap committed c.self.view_is
 
 pub returns-clause-emptied : goal.returns-clause-emptied
-returns-clause-emptied g c = λ k.
-    let snapshot = whole_put c.update_snapshot.new.bytes c.update_snapshot.ensures.size c.deref_mut.ensures.value c.deref_mut.ensures.len in
-    let w0 = g.D.Disk.medium c.self.inside.disk in
-    let w1 = g.D.Disk.medium c.point_on.new.disk in
-    let made = subst (λ (l : List ℕ). IsPointed c.self.inside.halves l w0 w1) (c.deref-2.ensures.value ∙ snapshot) (c.in_ok-point_on.ensures.pointed k) in
-    ap (λ (x : Geometry). records_in x w1.now) c.point_on.ensures.geometry ∙ made.emptied
+returns-clause-emptied g c = λ k. ap (λ (x : Geometry). records_in x (g.D.Disk.medium c.point_on.new.disk).now) c.point_on.ensures.geometry ∙ (made g c k).emptied
 
 pub returns-clause-version : goal.returns-clause-version
 returns-clause-version g c = λ k.
-    let snapshot = whole_put c.update_snapshot.new.bytes c.update_snapshot.ensures.size c.deref_mut.ensures.value c.deref_mut.ensures.len in
-    let w0 = g.D.Disk.medium c.self.inside.disk in
-    let f = saves {self = c.args.self.now} {tree = c.args.tree.now} c.self.invariant c.self.view_is k
-    (record { not_failed = c.requires.not_failed; no_cut = c.requires.no_cut; geometry = c.requires.geometry; state = c.requires.whole.state; committed = c.requires.state k })
-    (g.met.D.Disk.bytes c.self.inside.disk) c.deref.ensures.value c.deref_mut.ensures.value c.update_snapshot.ensures.image in
-    let w1 = g.D.Disk.medium c.point_on.new.disk in
-    let made = subst (λ (l : List ℕ). IsPointed c.self.inside.halves l w0 w1) (c.deref-2.ensures.value ∙ snapshot) (c.in_ok-point_on.ensures.pointed k) in
-    ap (λ (x : Geometry). named_version x w1.now) c.point_on.ensures.geometry
-    ∙ pointed_version c.self.inside.halves c.update_snapshot.new.bytes w0 w1 (state_in c.args.tree.now) (g.met.D.Disk.bytes c.point_on.new.disk) f.spelled
-    made
+    ap (λ (x : Geometry). named_version x (g.D.Disk.medium c.point_on.new.disk).now) c.point_on.ensures.geometry
+    ∙ pointed_version c.self.inside.halves c.update_snapshot.new.bytes (g.D.Disk.medium c.self.inside.disk) (g.D.Disk.medium c.point_on.new.disk) (state_in c.args.tree.now)
+    (g.met.D.Disk.bytes c.point_on.new.disk) (saved g (goal.at.returns-clause-version g c).After-deref-3 k).spelled
+    (made g c k)
 
 pub returns-clause-recoverable : goal.returns-clause-recoverable
 returns-clause-recoverable g c = λ k.
     let no_cut : c.self.inside.pieces_left ≡ None = ap (λ (h : JournalView). h.pieces_left) c.self.view_is ∙ c.requires.no_cut in
-    let snapshot = whole_put c.update_snapshot.new.bytes c.update_snapshot.ensures.size c.deref_mut.ensures.value c.deref_mut.ensures.len in
-    let w0 = g.D.Disk.medium c.self.inside.disk in
-    let f = saves {self = c.args.self.now} {tree = c.args.tree.now} c.self.invariant c.self.view_is k
-    (record { not_failed = c.requires.not_failed; no_cut = c.requires.no_cut; geometry = c.requires.geometry; state = c.requires.whole.state; committed = c.requires.state k })
-    (g.met.D.Disk.bytes c.self.inside.disk) c.deref.ensures.value c.deref_mut.ensures.value c.update_snapshot.ensures.image in
-    let w1 = g.D.Disk.medium c.point_on.new.disk in
-    let made = subst (λ (l : List ℕ). IsPointed c.self.inside.halves l w0 w1) (c.deref-2.ensures.value ∙ snapshot) (c.in_ok-point_on.ensures.pointed k) in
     recoverable_of
-    (sound_along c.in_ok-point_on.ensures.log snapshot refl refl no_cut
-    (point_sound f (g.met.D.Disk.bytes c.point_on.new.disk) {named' = c.swap_and_clear_dirty.new.named.items} (ap (λ v. v.items) c.swap_and_clear_dirty.ensures.kept) made))
+    (sound_along c.in_ok-point_on.ensures.log (whole_put c.update_snapshot.new.bytes c.update_snapshot.ensures.size c.deref_mut.ensures.value c.deref_mut.ensures.len) refl refl no_cut
+    (point_sound (saved g (goal.at.returns-clause-recoverable g c).After-deref-3 k) (g.met.D.Disk.bytes c.point_on.new.disk) {named' = c.swap_and_clear_dirty.new.named.items}
+    (ap (λ v. v.items) c.swap_and_clear_dirty.ensures.kept) (made g c k)))
 
 pub invariant_of-self-2 : goal.invariant_of-self-2
 invariant_of-self-2 g c =
@@ -123,25 +102,17 @@ invariant_of-self-2 g c =
       fits_cut_state = λ _.
           subst (λ (o : Option ℕ). FitsCutState c.point_on.new.halves c.self.inside.pending.items o) (sym no_cut) (ap (λ (l : Log). l.current) log ∙ sym (ap (λ (l : Log). l.named) log));
       sound = λ _ k.
-          let w0 = g.D.Disk.medium c.self.inside.disk in
-          let f = saves {self = c.args.self.now} {tree = c.args.tree.now} c.self.invariant c.self.view_is k
-          (record { not_failed = c.requires.not_failed; no_cut = c.requires.no_cut; geometry = c.requires.geometry; state = c.requires.whole.state; committed = c.requires.state k })
-          (g.met.D.Disk.bytes c.self.inside.disk) c.deref.ensures.value c.deref_mut.ensures.value c.update_snapshot.ensures.image in
-          let w1 = g.D.Disk.medium c.point_on.new.disk in
-          let made = subst (λ (l : List ℕ). IsPointed c.self.inside.halves l w0 w1) (c.deref-2.ensures.value ∙ snapshot) (c.in_ok-point_on.ensures.pointed k) in
           sound_along c.in_ok-point_on.ensures.log snapshot refl refl no_cut
-          (point_sound f (g.met.D.Disk.bytes c.point_on.new.disk) (ap (λ v. v.items) c.swap_and_clear_dirty.ensures.kept) made);
+          (point_sound (saved g (goal.at.invariant_of-self-2 g c).After-deref-3 k) (g.met.D.Disk.bytes c.point_on.new.disk) (ap (λ v. v.items) c.swap_and_clear_dirty.ensures.kept) (made g c k));
       next_pending = c.self.invariant.next_pending;
       clean_before = c.self.invariant.clean_before;
     }
 
 pub returns-in_err-point_on-clause-beyond : goal.returns-in_err-point_on-clause-beyond
-returns-in_err-point_on-clause-beyond g c = λ k.
-    subst (λ (h : JournalView). KeepsBeyond (layout_of h.geometry) h.medium (g.D.Disk.medium c.point_on.new.disk)) c.self.view_is (c.point_on.ensures.beyond k)
+returns-in_err-point_on-clause-beyond g c = λ k. beyond_of c.self.view_is (c.point_on.ensures.beyond k)
 
 pub returns-clause-beyond : goal.returns-clause-beyond
-returns-clause-beyond g c = λ k.
-    subst (λ (h : JournalView). KeepsBeyond (layout_of h.geometry) h.medium (g.D.Disk.medium c.point_on.new.disk)) c.self.view_is (c.point_on.ensures.beyond k)
+returns-clause-beyond g c = λ k. beyond_of c.self.view_is (c.point_on.ensures.beyond k)
 
 pub returns-in_err-point_on-clause-costs : goal.returns-in_err-point_on-clause-costs
 returns-in_err-point_on-clause-costs g c =
