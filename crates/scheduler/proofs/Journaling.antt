@@ -45,6 +45,10 @@ still_standing keeps p k keep ms new same =
         (from_none p.journal.geometry (core_state_in p).committed ms c
         (subst (λ ds. RecoversWithPrefix p.journal.geometry (core_state_in p).committed ds c) (k.no_doubt e) h))
 
+-- the same in the words of contracts
+pub stands : {keeps : Type 0} {p : Parts} {self : CoreView} → IsCore keeps p → core_view_of p ≡ self → keeps → (ms : List Msg) → RecoversThroughout ms self self
+stands {keeps} {p} k view keep ms = subst (λ (o : CoreView). RecoversThroughout ms o o) view (still_standing keeps p k keep ms (core_view_of p) refl)
+
 -- an event leads to a sound core state
 pub called_sound : (g : Geometry) (old new : CoreState) (step : Step) (outcome : Outcome) (device_failed : Bool) → IsCallEvent g old new step outcome device_failed
     → IsSoundCoreState g old → IsSoundCoreState g new

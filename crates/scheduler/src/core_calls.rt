@@ -359,10 +359,10 @@ impl<D: Disk> Core<D> {
         if let Some(why) = self.point_refusal() {
             return Err(why);
         }
-        if self.journal.point(&self.tree).is_err() {
-            return Err(PointRefusal::Device);
+        match self.journal.point(&self.tree) {
+            Ok(()) => Ok(()),
+            Err(_) => Err(PointRefusal::Device),
         }
-        Ok(())
     }
 
     /// Begins an online checkpoint, where no message is held. It will hold what is committed now, and goes on while messages are served.
@@ -380,10 +380,10 @@ impl<D: Disk> Core<D> {
         if let Some(why) = self.point_refusal() {
             return Err(why);
         }
-        if self.journal.cut(&self.tree).is_err() {
-            return Err(PointRefusal::Device);
+        match self.journal.cut(&self.tree) {
+            Ok(()) => Ok(()),
+            Err(_) => Err(PointRefusal::Device),
         }
-        Ok(())
     }
 
     /// Writes the next piece of the online checkpoint in progress, and returns how many are left. With none left it touches nothing.
@@ -428,10 +428,10 @@ impl<D: Disk> Core<D> {
         if pieces_left > 0 {
             return Err(PointRefusal::Unfinished);
         }
-        if self.journal.flip().is_err() {
-            return Err(PointRefusal::Device);
+        match self.journal.flip() {
+            Ok(()) => Ok(()),
+            Err(_) => Err(PointRefusal::Device),
         }
-        Ok(())
     }
 
     /// How many messages the core can have at once, waiting or held.

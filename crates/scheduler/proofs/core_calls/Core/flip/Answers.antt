@@ -1,47 +1,30 @@
 -- A call that is refused before it reaches the journal touches nothing. The flip ends the online checkpoint, and keeps the committed
 -- state at each moment.
-use Rattle.std.proofs.Common.{◌≡◌, ◌≤◌, ◌+◌, [], refl, sym, subst, ◌∙◌}
+use Rattle.std.proofs.Common.{[], sym, subst, ◌∙◌}
 use Rattle.std.specs.Prelude.{if◌then◌else◌}
-use Rattle.disk.specs.Moments.{CrashImagesAre, moment_number}
+use Rattle.disk.specs.Moments.{CrashImagesAre}
 use Rattle.journal.specs.Journal.{RecoversWithPrefix}
 use Rattle.oplog.proofs.Beyond.{beyond_none}
 use Rattle.oplog.specs.Beyond.{KeepsBeyond}
 use Rattle.device_map.specs.Layout.{layout_of}
-use Rattle.scheduler.proofs.Journaling.{still_standing}
-use Rattle.scheduler.proofs.LogCall.{broken_takes, made_takes, none_taken}
+use Rattle.scheduler.proofs.Journaling.{stands}
+use Rattle.scheduler.proofs.LogCall.{none_taken}
 use Rattle.scheduler.proofs.Pointing.{called_core, flip_core, step_moment}
-use Rattle.scheduler.specs.CoreView.{CoreView, RecoversThroughout, core_state_of}
-use Rattle.scheduler.specs.Fields.{core_view, parts}
+use Rattle.scheduler.specs.CoreView.{CoreView, core_state_of}
+use Rattle.scheduler.specs.Fields.{parts}
 use Rattle.scheduler.proofs.core_calls.Core.flip.Goals as goal
 
 pub returns-then-failed-clause-any_moment : goal.returns-then-failed-clause-any_moment
-returns-then-failed-clause-any_moment g c = λ keep.
-    subst (λ (o : CoreView). RecoversThroughout [] o o) c.self.view_is
-    (still_standing g.D.Disk.keeps (parts c.self.inside) c.self.invariant.core keep [] (core_view c.self.inside) refl)
+returns-then-failed-clause-any_moment g c = λ keep. stands c.self.invariant.core c.self.view_is keep []
 
 pub returns-in_default-clause-any_moment : goal.returns-in_default-clause-any_moment
-returns-in_default-clause-any_moment g c = λ keep.
-    subst (λ (o : CoreView). RecoversThroughout [] o o) c.self.view_is
-    (still_standing g.D.Disk.keeps (parts c.self.inside) c.self.invariant.core keep [] (core_view c.self.inside) refl)
+returns-in_default-clause-any_moment g c = λ keep. stands c.self.invariant.core c.self.view_is keep []
 
 pub returns-then-pieces_left-gt0-clause-any_moment : goal.returns-then-pieces_left-gt0-clause-any_moment
-returns-then-pieces_left-gt0-clause-any_moment g c = λ keep.
-    subst (λ (o : CoreView). RecoversThroughout [] o o) c.self.view_is
-    (still_standing g.D.Disk.keeps (parts c.self.inside) c.self.invariant.core keep [] (core_view c.self.inside) refl)
+returns-then-pieces_left-gt0-clause-any_moment g c = λ keep. stands c.self.invariant.core c.self.view_is keep []
 
 pub invariant_of-self : goal.invariant_of-self
 invariant_of-self g c =
-    called_core c.self.invariant
-    (flip_core g.D.Disk.keeps (parts c.self.inside) c.self.invariant.core c.flip.new.self c.flip.ensures.any_moment c.flip.result (sym c.failed.ensures ∙ c.if-failed.false) c.flip.ensures.committed
-    c.flip.ensures.after)
-
-pub returns-then-is_err-clause-any_moment : goal.returns-then-is_err-clause-any_moment
-returns-then-is_err-clause-any_moment g c = λ keep.
-    subst (λ (o : CoreView). CrashImagesAre o.medium c.flip.new.self.medium (RecoversWithPrefix o.geometry (core_state_of o).committed (if o.failed then o.doubt else []))) c.self.view_is
-    (step_moment g.D.Disk.keeps (parts c.self.inside) c.self.invariant.core (sym c.failed.ensures ∙ c.if-failed.false) c.flip.new.self c.flip.ensures.any_moment keep)
-
-pub invariant_of-self-2 : goal.invariant_of-self-2
-invariant_of-self-2 g c =
     called_core c.self.invariant
     (flip_core g.D.Disk.keeps (parts c.self.inside) c.self.invariant.core c.flip.new.self c.flip.ensures.any_moment c.flip.result (sym c.failed.ensures ∙ c.if-failed.false) c.flip.ensures.committed
     c.flip.ensures.after)
@@ -60,10 +43,6 @@ returns-in_default-clause-beyond g c = λ keep. beyond_none (layout_of c.args.se
 pub returns-then-pieces_left-gt0-clause-beyond : goal.returns-then-pieces_left-gt0-clause-beyond
 returns-then-pieces_left-gt0-clause-beyond g c = λ keep. beyond_none (layout_of c.args.self.now.geometry) c.args.self.now.medium
 
-pub returns-then-is_err-clause-beyond : goal.returns-then-is_err-clause-beyond
-returns-then-is_err-clause-beyond g c = λ keep.
-    subst (λ (o : CoreView). KeepsBeyond (layout_of o.geometry) o.medium c.flip.new.self.medium) c.self.view_is (c.flip.ensures.beyond keep)
-
 pub returns-clause-beyond : goal.returns-clause-beyond
 returns-clause-beyond g c = λ keep.
     subst (λ (o : CoreView). KeepsBeyond (layout_of o.geometry) o.medium c.flip.new.self.medium) c.self.view_is (c.flip.ensures.beyond keep)
@@ -76,13 +55,3 @@ returns-in_default-clause-costs g c = λ keep. none_taken c.args.self.now.medium
 
 pub returns-then-pieces_left-gt0-clause-costs : goal.returns-then-pieces_left-gt0-clause-costs
 returns-then-pieces_left-gt0-clause-costs g c = λ keep. none_taken c.args.self.now.medium 3
-
-pub returns-then-is_err-clause-costs : goal.returns-then-is_err-clause-costs
-returns-then-is_err-clause-costs g c = λ keep.
-    subst (λ (o : CoreView). moment_number c.flip.new.self.medium ≤ moment_number o.medium + 3) c.self.view_is
-    (broken_takes c.flip.result _ _ _ (sym c.is_err.ensures.value ∙ c.if-is_err.true) (c.flip.ensures.costs keep))
-
-pub returns-clause-costs : goal.returns-clause-costs
-returns-clause-costs g c = λ keep.
-    subst (λ (o : CoreView). moment_number c.flip.new.self.medium ≡ moment_number o.medium + 3) c.self.view_is
-    (made_takes c.flip.result _ _ _ (sym c.is_err.ensures.value ∙ c.if-is_err.false) (c.flip.ensures.costs keep))

@@ -1,26 +1,22 @@
 -- A refusal touches nothing; the write of a piece keeps the committed state at each moment.
-use Rattle.std.proofs.Common.{[], refl, sym, subst, ◌∙◌}
+use Rattle.std.proofs.Common.{[], sym, subst, ◌∙◌}
 use Rattle.std.specs.Prelude.{if◌then◌else◌}
 use Rattle.disk.specs.Moments.{CrashImagesAre}
 use Rattle.journal.specs.Journal.{RecoversWithPrefix}
 use Rattle.oplog.proofs.Beyond.{beyond_none}
 use Rattle.oplog.specs.Beyond.{KeepsBeyond}
 use Rattle.device_map.specs.Layout.{layout_of}
-use Rattle.scheduler.proofs.Journaling.{still_standing}
+use Rattle.scheduler.proofs.Journaling.{stands}
 use Rattle.scheduler.proofs.Pointing.{called_core, piece_core, step_moment}
-use Rattle.scheduler.specs.CoreView.{CoreView, RecoversThroughout, core_state_of}
-use Rattle.scheduler.specs.Fields.{core_view, parts}
+use Rattle.scheduler.specs.CoreView.{CoreView, core_state_of}
+use Rattle.scheduler.specs.Fields.{parts}
 use Rattle.scheduler.proofs.core_calls.Core.piece.Goals as goal
 
 pub returns-then-failed-clause-any_moment : goal.returns-then-failed-clause-any_moment
-returns-then-failed-clause-any_moment g c = λ keep.
-    subst (λ (o : CoreView). RecoversThroughout [] o o) c.self.view_is
-    (still_standing g.D.Disk.keeps (parts c.self.inside) c.self.invariant.core keep [] (core_view c.self.inside) refl)
+returns-then-failed-clause-any_moment g c = λ keep. stands c.self.invariant.core c.self.view_is keep []
 
 pub returns-in_default-clause-any_moment : goal.returns-in_default-clause-any_moment
-returns-in_default-clause-any_moment g c = λ keep.
-    subst (λ (o : CoreView). RecoversThroughout [] o o) c.self.view_is
-    (still_standing g.D.Disk.keeps (parts c.self.inside) c.self.invariant.core keep [] (core_view c.self.inside) refl)
+returns-in_default-clause-any_moment g c = λ keep. stands c.self.invariant.core c.self.view_is keep []
 
 pub invariant_of-self : goal.invariant_of-self
 invariant_of-self g c =

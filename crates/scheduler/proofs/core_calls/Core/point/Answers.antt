@@ -1,24 +1,21 @@
 -- No message is held, so the tree is whole and has the committed state, and the point keeps that state.
-use Rattle.std.proofs.Common.{◌≤◌, ◌+◌, [], arith, refl, sym, subst, ◌∙◌}
+use Rattle.std.proofs.Common.{[], subst}
 use Rattle.std.specs.Prelude.{if◌then◌else◌}
-use Rattle.disk.specs.Moments.{CrashImagesAre, moment_number}
+use Rattle.disk.specs.Moments.{CrashImagesAre}
 use Rattle.journal.specs.Costs.{longest_point}
 use Rattle.journal.specs.Journal.{RecoversWithPrefix}
-use Rattle.histories.specs.Events.{point_refusal}
 use Rattle.oplog.proofs.Beyond.{beyond_none}
 use Rattle.oplog.specs.Beyond.{KeepsBeyond}
 use Rattle.device_map.specs.Layout.{layout_of}
-use Rattle.scheduler.proofs.Journaling.{still_standing}
-use Rattle.scheduler.proofs.LogCall.{broken_takes, made_takes, none_taken}
+use Rattle.scheduler.proofs.Journaling.{stands}
+use Rattle.scheduler.proofs.LogCall.{none_taken}
 use Rattle.scheduler.proofs.Pointing.{called_core, not_refused, point_core, point_state, point_whole, point_works, step_moment}
-use Rattle.scheduler.specs.CoreView.{CoreView, RecoversThroughout, core_state_of}
-use Rattle.scheduler.specs.Fields.{core_view, parts}
+use Rattle.scheduler.specs.CoreView.{CoreView, core_state_of}
+use Rattle.scheduler.specs.Fields.{parts}
 use Rattle.scheduler.proofs.core_calls.Core.point.Goals as goal
 
 pub returns-in-Some-clause-any_moment : goal.returns-in-Some-clause-any_moment
-returns-in-Some-clause-any_moment g c = λ keep.
-    subst (λ (o : CoreView). RecoversThroughout [] o o) c.self.view_is
-    (still_standing g.D.Disk.keeps (parts c.self.inside) c.self.invariant.core keep [] (core_view c.self.inside) refl)
+returns-in-Some-clause-any_moment g c = λ keep. stands c.self.invariant.core c.self.view_is keep []
 
 pub point-requires-clause-whole : goal.point-requires-clause-whole
 point-requires-clause-whole g c = point_whole g.D.Disk.keeps (parts c.self.inside) c.self.invariant.core (not_refused c.self.view_is c.point_refusal.ensures c.in_default.is)
@@ -32,18 +29,6 @@ invariant_of-self g c =
     (point_core g.D.Disk.keeps (parts c.self.inside) c.self.invariant.core c.point.new.self c.point.ensures.any_moment c.point.result
     (not_refused c.self.view_is c.point_refusal.ensures c.in_default.is) c.point.ensures.committed c.point.ensures.after)
 
-pub returns-then-is_err-clause-any_moment : goal.returns-then-is_err-clause-any_moment
-returns-then-is_err-clause-any_moment g c = λ keep.
-    subst (λ (o : CoreView). CrashImagesAre o.medium c.point.new.self.medium (RecoversWithPrefix o.geometry (core_state_of o).committed (if o.failed then o.doubt else []))) c.self.view_is
-    (step_moment g.D.Disk.keeps (parts c.self.inside) c.self.invariant.core (point_works g.D.Disk.keeps (parts c.self.inside) c.self.invariant.core
-    (not_refused c.self.view_is c.point_refusal.ensures c.in_default.is)) c.point.new.self c.point.ensures.any_moment keep)
-
-pub invariant_of-self-2 : goal.invariant_of-self-2
-invariant_of-self-2 g c =
-    called_core c.self.invariant
-    (point_core g.D.Disk.keeps (parts c.self.inside) c.self.invariant.core c.point.new.self c.point.ensures.any_moment c.point.result
-    (not_refused c.self.view_is c.point_refusal.ensures c.in_default.is) c.point.ensures.committed c.point.ensures.after)
-
 pub returns-clause-any_moment : goal.returns-clause-any_moment
 returns-clause-any_moment g c = λ keep.
     subst (λ (o : CoreView). CrashImagesAre o.medium c.point.new.self.medium (RecoversWithPrefix o.geometry (core_state_of o).committed (if o.failed then o.doubt else []))) c.self.view_is
@@ -53,23 +38,9 @@ returns-clause-any_moment g c = λ keep.
 pub returns-in-Some-clause-beyond : goal.returns-in-Some-clause-beyond
 returns-in-Some-clause-beyond g c = λ keep. beyond_none (layout_of c.args.self.now.geometry) c.args.self.now.medium
 
-pub returns-then-is_err-clause-beyond : goal.returns-then-is_err-clause-beyond
-returns-then-is_err-clause-beyond g c = λ keep.
-    subst (λ (o : CoreView). KeepsBeyond (layout_of o.geometry) o.medium c.point.new.self.medium) c.self.view_is (c.point.ensures.beyond keep)
-
 pub returns-clause-beyond : goal.returns-clause-beyond
 returns-clause-beyond g c = λ keep.
     subst (λ (o : CoreView). KeepsBeyond (layout_of o.geometry) o.medium c.point.new.self.medium) c.self.view_is (c.point.ensures.beyond keep)
 
 pub returns-in-Some-clause-costs : goal.returns-in-Some-clause-costs
 returns-in-Some-clause-costs g c = λ keep. none_taken c.args.self.now.medium (longest_point c.args.self.now.geometry)
-
-pub returns-then-is_err-clause-costs : goal.returns-then-is_err-clause-costs
-returns-then-is_err-clause-costs g c = λ keep.
-    let took = broken_takes c.point.result _ _ _ (sym c.is_err.ensures.value ∙ c.if-is_err.true) (c.point.ensures.costs keep) in
-    subst (λ (o : CoreView). moment_number c.point.new.self.medium ≤ moment_number o.medium + longest_point o.geometry) c.self.view_is (omega (arith, took, c.point.ensures.few))
-
-pub returns-clause-costs : goal.returns-clause-costs
-returns-clause-costs g c = λ keep.
-    let took = made_takes c.point.result _ _ _ (sym c.is_err.ensures.value ∙ c.if-is_err.false) (c.point.ensures.costs keep) in
-    subst (λ (o : CoreView). moment_number c.point.new.self.medium ≤ moment_number o.medium + longest_point o.geometry) c.self.view_is (omega (arith, took, c.point.ensures.few))
