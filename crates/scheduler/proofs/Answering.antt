@@ -6,7 +6,7 @@ use Rattle.std.proofs.lemmas.Bool.{eq-eqb, or_left, true≢false}
 use Rattle.std.proofs.lemmas.Bool.Decides.{eqb_tells}
 use Rattle.affinity.proofs.Paths.{are_related-refl}
 use Rattle.affinity.proofs.Preorder.{are_related-contains}
-use Rattle.affinity.specs.Interval.{contains, preorder_number}
+use Rattle.affinity.specs.Interval.{contains}
 use Rattle.affinity.specs.declared.geometry.Geometry.{Geometry}
 use Rattle.histories.proofs.Lists.{all_back, all_front}
 use Rattle.histories.proofs.Moves.{Answers}

@@ -73,8 +73,15 @@ counted arena replies (y ∷ ys) =
     ∙ ap (λ (m : ℕ). cond (changes (unwrap_or (value_at arena y) no_slot).message) 1 0 + m) (counted arena replies ys)
     ∙ sym (changing-cons (slot_view_at arena replies y) (map (slot_view_at arena replies) ys))
 
-module _ {D : Type 0} {keeps : Type 0} (core : Inside D) (is : IsSoundCore keeps core) (works : core.journal.failed ≡ false)
-    (n count : ℕ) (count_is : count ≡ min n core.ran) where
+-- what a call gathered while the device works: the changes that the first `count` messages recorded, which are passed to the journal
+pub record Gathers {D : Type 0} (core : Inside D) (n count : ℕ) (messages : Vec Msg Global) (passed : List Msg) : Type 0 where
+  pub works : core.journal.failed ≡ false
+  pub is_least : count ≡ min n core.ran
+  pub gathered : messages.items ≡ recorded_in core.slots core.replies.items (take count (chain_at core.slots 2))
+  pub handed_on : passed ≡ messages.items
+
+module _ {D : Type 0} {keeps : Type 0} (core : Inside D) (is : IsSoundCore keeps core) {n count : ℕ} {messages : Vec Msg Global} {passed : List Msg}
+    (gathered : Gathers core n count messages passed) where
   abbrev p : Parts
   p = parts core
 
@@ -85,7 +92,7 @@ module _ {D : Type 0} {keeps : Type 0} (core : Inside D) (is : IsSoundCore keeps
   ran_slots = slots_on core.slots core.replies.items 2
 
   min_is : count ≡ min n (length ran_slots)
-  min_is = count_is ∙ ap (λ (m : ℕ). min n m) is.ran
+  min_is = gathered.is_least ∙ ap (λ (m : ℕ). min n m) is.ran
 
   take_is : take count ran_slots ≡ take n ran_slots
   take_is = ap (λ (m : ℕ). take m ran_slots) min_is ∙ take_min n ran_slots
@@ -121,157 +128,154 @@ module _ {D : Type 0} {keeps : Type 0} (core : Inside D) (is : IsSoundCore keeps
         let same = logged_changes_same in
         omega (arith, unlogged_was, all, same)
 
-  module _ (messages : Vec Msg Global) {replies : List Reply} (gathered_is : messages.items ≡ recorded_in core.slots replies (take count slots)) (replies_are : replies ≡ core.replies.items) where
-    messages_are : messages.items ≡ batch_at p n
-    messages_are = gathered_is ∙ ap (λ (rs : List Reply). recorded_in core.slots rs (take count slots)) replies_are
-        ∙ ap (λ (l : List SlotView). recorded (map replied_of l)) (sym (take-map (slot_view_at core.slots core.replies.items) count slots) ∙ take_is)
+  messages_are : messages.items ≡ batch_at p n
+  messages_are = gathered.gathered ∙ ap (λ (l : List SlotView). recorded (map replied_of l)) (sym (take-map (slot_view_at core.slots core.replies.items) count slots) ∙ take_is)
 
-    module _ (passed : List Msg) (passed_is : passed ≡ messages.items) where
-      passed_at : passed ≡ batch_at p n
-      passed_at = passed_is ∙ messages_are
+  passed_at : passed ≡ batch_at p n
+  passed_at = gathered.handed_on ∙ messages_are
 
-      pub log_length : length passed ≡ length (batch_of (core_state_in p) n)
-      log_length = ap (λ (ms : List Msg). length ms) (passed_at ∙ same_batch keeps p is.core n)
+  pub log_length : length passed ≡ length (batch_of (core_state_in p) n)
+  log_length = ap (λ (ms : List Msg). length ms) (passed_at ∙ same_batch keeps p is.core n)
 
-      none_passed : length (batch_of (core_state_in p) n) ≡ 0 → length passed ≡ 0
-      none_passed none = log_length ∙ none
+  none_passed : length (batch_of (core_state_in p) n) ≡ 0 → length passed ≡ 0
+  none_passed none = log_length ∙ none
 
-      pub log_fits : length passed ≤ core.journal.room
-      log_fits = subst (λ (ms : List Msg). length ms ≤ core.journal.room) (sym passed_at) (batch_fits keeps p is.core n)
+  pub log_fits : length passed ≤ core.journal.room
+  log_fits = subst (λ (ms : List Msg). length ms ≤ core.journal.room) (sym passed_at) (batch_fits keeps p is.core n)
 
-      pub log_changes : AreChangesInRange core.journal.geometry passed
-      log_changes = subst (AreChangesInRange core.journal.geometry) (sym passed_at) (batch_changes keeps p is.core n)
+  pub log_changes : AreChangesInRange core.journal.geometry passed
+  log_changes = subst (AreChangesInRange core.journal.geometry) (sym passed_at) (batch_changes keeps p is.core n)
 
-      pub log_carried : keeps → (x : State) → committed core.journal ≡ Some x → AreCarriedOut core.journal.geometry x passed
-      log_carried keep x at =
-          subst (λ (y : State). AreCarriedOut core.journal.geometry y passed) (same_Some (core_state_in p).committed x (sym (is.core.is_committed keep works) ∙ at))
-          (subst (AreCarriedOut core.journal.geometry (core_state_in p).committed) (sym passed_at) (batch_carried keeps p is.core n))
+  pub log_carried : keeps → (x : State) → committed core.journal ≡ Some x → AreCarriedOut core.journal.geometry x passed
+  log_carried keep x at =
+      subst (λ (y : State). AreCarriedOut core.journal.geometry y passed) (same_Some (core_state_in p).committed x (sym (is.core.is_committed keep gathered.works) ∙ at))
+      (subst (AreCarriedOut core.journal.geometry (core_state_in p).committed) (sym passed_at) (batch_carried keeps p is.core n))
 
-      module _ (new : JournalView) (any : keeps → (x : State) → committed core.journal ≡ Some x → CrashImagesAre core.journal.medium new.medium
-          (RecoversWithPrefix core.journal.geometry x passed)) where
-        any_at : keeps → CrashImagesAre core.journal.medium new.medium (RecoversWithPrefix core.journal.geometry (core_state_in p).committed (batch_at p n))
-        any_at keep = subst (λ (ms : List Msg). CrashImagesAre core.journal.medium new.medium (RecoversWithPrefix core.journal.geometry (core_state_in p).committed ms)) passed_at
-            (any keep (core_state_in p).committed (is.core.is_committed keep works))
+  module _ (new : JournalView) (any : keeps → (x : State) → committed core.journal ≡ Some x → CrashImagesAre core.journal.medium new.medium
+      (RecoversWithPrefix core.journal.geometry x passed)) where
+    any_at : keeps → CrashImagesAre core.journal.medium new.medium (RecoversWithPrefix core.journal.geometry (core_state_in p).committed (batch_at p n))
+    any_at keep = subst (λ (ms : List Msg). CrashImagesAre core.journal.medium new.medium (RecoversWithPrefix core.journal.geometry (core_state_in p).committed ms)) passed_at
+        (any keep (core_state_in p).committed (is.core.is_committed keep gathered.works))
 
-        pub log_call_throughout : (now : CoreView) → now.medium ≡ new.medium → keeps → RecoversThroughout (batch_of (core_state_in p) n) (core_view_of p) now
-        log_call_throughout now same keep = log_throughout keeps p is.core works n core.unlogged new.dirty new.medium any_at now same keep
+    pub log_call_throughout : (now : CoreView) → now.medium ≡ new.medium → keeps → RecoversThroughout (batch_of (core_state_in p) n) (core_view_of p) now
+    log_call_throughout now same keep = log_throughout keeps p is.core gathered.works n core.unlogged new.dirty new.medium any_at now same keep
 
-        pub log_untouched : (length passed ≡ 0 → new ≡ core.journal) → touches_device (core_state_in p) (steps.Log n) ≡ false → new.medium ≡ core.journal.medium
-        log_untouched same quiet = ap (λ (j : JournalView). j.medium) (same (none_passed (none_to_log core.journal.failed (length (batch_of (core_state_in p) n)) works quiet)))
+    pub log_untouched : (length passed ≡ 0 → new ≡ core.journal) → touches_device (core_state_in p) (steps.Log n) ≡ false → new.medium ≡ core.journal.medium
+    log_untouched same quiet = ap (λ (j : JournalView). j.medium) (same (none_passed (none_to_log core.journal.failed (length (batch_of (core_state_in p) n)) gathered.works quiet)))
 
-        -- ---- the device failed
+    -- ---- the device failed
 
-        module _ (broken : new ≡ record core.journal { failed = true; medium = new.medium }) where
-          abbrev pub doubting : Inside D
-          doubting = record core { journal = new; batch = messages }
+    module _ (broken : new ≡ record core.journal { failed = true; medium = new.medium }) where
+      abbrev pub doubting : Inside D
+      doubting = record core { journal = new; batch = messages }
 
-          doubting_is : parts doubting ≡ with_doubt p n new.medium
-          doubting_is = λ i. record (with_doubt p n new.medium) { journal = broken i; batch = messages_are i }
+      doubting_is : parts doubting ≡ with_doubt p n new.medium
+      doubting_is = λ i. record (with_doubt p n new.medium) { journal = broken i; batch = messages_are i }
 
-          doubt_sound : IsSoundCoreState core.journal.geometry (core_state_in (with_doubt p n new.medium))
-          doubt_sound = record {
-            apart = is.core.sound.apart;
-            replied = is.core.sound.replied;
-            ascending = is.core.sound.ascending;
-            once = is.core.sound.once;
-            given = is.core.sound.given;
-            room = is.core.sound.room;
-            fits = is.core.sound.fits;
-          }
+      doubt_sound : IsSoundCoreState core.journal.geometry (core_state_in (with_doubt p n new.medium))
+      doubt_sound = record {
+        apart = is.core.sound.apart;
+        replied = is.core.sound.replied;
+        ascending = is.core.sound.ascending;
+        once = is.core.sound.once;
+        given = is.core.sound.given;
+        room = is.core.sound.room;
+        fits = is.core.sound.fits;
+      }
 
-          pub doubt_call : vec_capacity messages ≡ vec_capacity core.batch → IsSoundCore keeps doubting
-          doubt_call same_capacity = record {
-            chains = is.chains;
-            core = subst (IsCore keeps) (sym doubting_is) (doubt_core keeps p is.core works n core.unlogged new.dirty new.medium any_at doubt_sound);
-            batch = subst (λ (m : ℕ). capacity_of core.slots ≤ m) (sym same_capacity) is.batch;
-            replies = is.replies;
-            ran = is.ran;
-          }
+      pub doubt_call : vec_capacity messages ≡ vec_capacity core.batch → IsSoundCore keeps doubting
+      doubt_call same_capacity = record {
+        chains = is.chains;
+        core = subst (IsCore keeps) (sym doubting_is) (doubt_core keeps p is.core gathered.works n core.unlogged new.dirty new.medium any_at doubt_sound);
+        batch = subst (λ (m : ℕ). capacity_of core.slots ≤ m) (sym same_capacity) is.batch;
+        replies = is.replies;
+        ran = is.ran;
+      }
 
-          pub doubt_call_state : core_state_in (parts doubting) ≡ record (core_state_in p) { failed = true; doubt = batch_of (core_state_in p) n }
-          doubt_call_state = ap core_state_in doubting_is ∙ (λ i. record (core_state_in p) { failed = true; doubt = same_batch keeps p is.core n i })
+      pub doubt_call_state : core_state_in (parts doubting) ≡ record (core_state_in p) { failed = true; doubt = batch_of (core_state_in p) n }
+      doubt_call_state = ap core_state_in doubting_is ∙ (λ i. record (core_state_in p) { failed = true; doubt = same_batch keeps p is.core n i })
 
-          pub some_were_passed : (length passed ≡ 0 → new ≡ core.journal) → length (batch_of (core_state_in p) n) ≡ 0 → ⊥
-          some_were_passed same none = true≢false (sym (ap (λ (j : JournalView). j.failed) broken) ∙ ap (λ (j : JournalView). j.failed) (same (none_passed none)) ∙ works)
+      pub some_were_passed : (length passed ≡ 0 → new ≡ core.journal) → length (batch_of (core_state_in p) n) ≡ 0 → ⊥
+      some_were_passed same none = true≢false (sym (ap (λ (j : JournalView). j.failed) broken) ∙ ap (λ (j : JournalView). j.failed) (same (none_passed none)) ∙ gathered.works)
 
-        -- ---- the messages are logged
+    -- ---- the messages are logged
 
-        module _ (made : new ≡ record core.journal { room = core.journal.room - length passed; dirty = new.dirty; medium = new.medium })
-            (settles : keeps → committed new ≡ option_map (λ x. state_after_all core.journal.geometry x passed) (committed core.journal)) (recovers : keeps → IsRecoverable new)
-            (moved : ArenaView Slot) (has : HasLogged count core.slots moved) (logged_changes : ℕ) (logged_changes_is : logged_changes ≡ changing_in core.slots (take count slots))
-            (history : HistoryView) (history_is : history ≡ record { opened = core.history.opened; since_open = core.history.since_open ++ messages.items })
-            (emptied : Vec Msg Global) (empty : emptied.items ≡ []) where
-          abbrev pub logged : Inside D
-          logged = record core {
-            slots = moved;
-            journal = new;
-            batch = emptied;
-            unlogged = core.unlogged - logged_changes;
-            ran = core.ran - count;
-            history = history;
-          }
+    module _ (made : new ≡ record core.journal { room = core.journal.room - length passed; dirty = new.dirty; medium = new.medium })
+        (settles : keeps → committed new ≡ option_map (λ x. state_after_all core.journal.geometry x passed) (committed core.journal)) (recovers : keeps → IsRecoverable new)
+        (moved : ArenaView Slot) (has : HasLogged count core.slots moved) (logged_changes : ℕ) (logged_changes_is : logged_changes ≡ changing_in core.slots (take count slots))
+        (history : HistoryView) (history_is : history ≡ record { opened = core.history.opened; since_open = core.history.since_open ++ messages.items })
+        (emptied : Vec Msg Global) (empty : emptied.items ≡ []) where
+      abbrev pub logged : Inside D
+      logged = record core {
+        slots = moved;
+        journal = new;
+        batch = emptied;
+        unlogged = core.unlogged - logged_changes;
+        ran = core.ran - count;
+        history = history;
+      }
 
-          abbrev room : ℕ
-          room = core.journal.room - length (batch_at p n)
+      abbrev room : ℕ
+      room = core.journal.room - length (batch_at p n)
 
-          moved_places : (ys : List ℕ) → map (slot_view_at moved core.replies.items) ys ≡ map (slot_view_at core.slots core.replies.items) ys
-          moved_places ys = λ z. map (λ i. (i, unwrap_or (slice_index_or (has.values z) i None) no_slot, get_or core.replies.items i Done)) ys
+      moved_places : (ys : List ℕ) → map (slot_view_at moved core.replies.items) ys ≡ map (slot_view_at core.slots core.replies.items) ys
+      moved_places ys = λ z. map (λ i. (i, unwrap_or (slice_index_or (has.values z) i None) no_slot, get_or core.replies.items i Done)) ys
 
-          ran_now : slots_on moved core.replies.items 2 ≡ drop n ran_slots
-          ran_now = moved_places (chain_at moved 2) ∙ ap (map (slot_view_at core.slots core.replies.items)) has.ran ∙ sym (drop-map (slot_view_at core.slots core.replies.items) count slots) ∙ drop_is
+      ran_now : slots_on moved core.replies.items 2 ≡ drop n ran_slots
+      ran_now = moved_places (chain_at moved 2) ∙ ap (map (slot_view_at core.slots core.replies.items)) has.ran ∙ sym (drop-map (slot_view_at core.slots core.replies.items) count slots) ∙ drop_is
 
-          logged_now : slots_on moved core.replies.items 3 ≡ slots_on core.slots core.replies.items 3 ++ take n ran_slots
-          logged_now = moved_places (chain_at moved 3) ∙ ap (map (slot_view_at core.slots core.replies.items)) has.logged
-              ∙ map-append (slot_view_at core.slots core.replies.items) (chain_at core.slots 3) (take count slots)
-              ∙ ap (λ (l : List SlotView). slots_on core.slots core.replies.items 3 ++ l) (sym (take-map (slot_view_at core.slots core.replies.items) count slots) ∙ take_is)
+      logged_now : slots_on moved core.replies.items 3 ≡ slots_on core.slots core.replies.items 3 ++ take n ran_slots
+      logged_now = moved_places (chain_at moved 3) ∙ ap (map (slot_view_at core.slots core.replies.items)) has.logged
+          ∙ map-append (slot_view_at core.slots core.replies.items) (chain_at core.slots 3) (take count slots)
+          ∙ ap (λ (l : List SlotView). slots_on core.slots core.replies.items 3 ++ l) (sym (take-map (slot_view_at core.slots core.replies.items) count slots) ∙ take_is)
 
-          log_size : capacity_of moved ≡ capacity_of core.slots
-          log_size = ap (λ (vs : List (Option Slot)). length vs) has.values
+      log_size : capacity_of moved ≡ capacity_of core.slots
+      log_size = ap (λ (vs : List (Option Slot)). length vs) has.values
 
-          log_ran : core.ran - count ≡ length (slots_on moved core.replies.items 2)
-          log_ran =
-              let now = ap (λ (l : List SlotView). length l) ran_now ∙ length-drop n ran_slots in
-              let were = is.ran in
-              let same = min_is in
-              omega (arith, now, were, same)
+      log_ran : core.ran - count ≡ length (slots_on moved core.replies.items 2)
+      log_ran =
+          let now = ap (λ (l : List SlotView). length l) ran_now ∙ length-drop n ran_slots in
+          let were = is.ran in
+          let same = min_is in
+          omega (arith, now, were, same)
 
-          after_is : parts logged ≡ with_log p n (core.unlogged - logged_changes) room new.dirty new.medium
-          after_is = λ i. record (with_log p n (core.unlogged - logged_changes) room new.dirty new.medium) {
-            phases = record {
-              waiting = same_slots core.slots moved core.replies.items 0 has.values has.waiting i;
-              in_flight = same_slots core.slots moved core.replies.items 1 has.values has.in_flight i;
-              ran = ran_now i;
-              logged = logged_now i;
-            };
-            free = ap (λ (fs : List ℕ). length fs) has.free i;
-            capacity = log_size i;
-            journal = (made ∙ (λ j. record core.journal { room = core.journal.room - length (passed_at j); dirty = new.dirty; medium = new.medium })) i;
-            batch = empty i;
-            opened = (history_is i).opened;
-            since_open = (ap (λ (h : HistoryView). h.since_open) history_is ∙ ap (λ (ms : List Msg). core.history.since_open ++ ms) messages_are) i;
-          }
+      after_is : parts logged ≡ with_log p n (core.unlogged - logged_changes) room new.dirty new.medium
+      after_is = λ i. record (with_log p n (core.unlogged - logged_changes) room new.dirty new.medium) {
+        phases = record {
+          waiting = same_slots core.slots moved core.replies.items 0 has.values has.waiting i;
+          in_flight = same_slots core.slots moved core.replies.items 1 has.values has.in_flight i;
+          ran = ran_now i;
+          logged = logged_now i;
+        };
+        free = ap (λ (fs : List ℕ). length fs) has.free i;
+        capacity = log_size i;
+        journal = (made ∙ (λ j. record core.journal { room = core.journal.room - length (passed_at j); dirty = new.dirty; medium = new.medium })) i;
+        batch = empty i;
+        opened = (history_is i).opened;
+        since_open = (ap (λ (h : HistoryView). h.since_open) history_is ∙ ap (λ (ms : List Msg). core.history.since_open ++ ms) messages_are) i;
+      }
 
-          settles_at : keeps → committed (record core.journal { room = room; dirty = new.dirty; medium = new.medium })
-              ≡ Some (core_state_in (with_log p n (core.unlogged - logged_changes) room new.dirty new.medium)).committed
-          settles_at keep =
-              sym (ap committed made) ∙ settles keep
-              ∙ ap (option_map (λ x. state_after_all core.journal.geometry x passed)) (is.core.is_committed keep works)
-              ∙ ap (λ (ms : List Msg). Some (state_after_all core.journal.geometry (core_state_in p).committed ms)) passed_at
-              ∙ ap Some (sym (state_after_all-joined core.journal.geometry (state_in core.history.opened) core.history.since_open (batch_at p n)))
+      settles_at : keeps → committed (record core.journal { room = room; dirty = new.dirty; medium = new.medium })
+          ≡ Some (core_state_in (with_log p n (core.unlogged - logged_changes) room new.dirty new.medium)).committed
+      settles_at keep =
+          sym (ap committed made) ∙ settles keep
+          ∙ ap (option_map (λ x. state_after_all core.journal.geometry x passed)) (is.core.is_committed keep gathered.works)
+          ∙ ap (λ (ms : List Msg). Some (state_after_all core.journal.geometry (core_state_in p).committed ms)) passed_at
+          ∙ ap Some (sym (state_after_all-joined core.journal.geometry (state_in core.history.opened) core.history.since_open (batch_at p n)))
 
-          recovers_at : keeps → (c : List ℕ) → IsCrashImage new.medium c → recovered_state core.journal.geometry c ≡ committed
-              (record core.journal { room = room; dirty = new.dirty; medium = new.medium })
-          recovers_at keep c leaves = ap (λ (j : JournalView). recovered_state j.geometry c) (sym made) ∙ (recovers keep).each c leaves ∙ ap committed made
+      recovers_at : keeps → (c : List ℕ) → IsCrashImage new.medium c → recovered_state core.journal.geometry c ≡ committed
+          (record core.journal { room = room; dirty = new.dirty; medium = new.medium })
+      recovers_at keep c leaves = ap (λ (j : JournalView). recovered_state j.geometry c) (sym made) ∙ (recovers keep).each c leaves ∙ ap committed made
 
-          pub log_call : IsPartitioned moved → length moved.chains ≡ 4 → vec_capacity emptied ≡ vec_capacity core.batch → IsSoundCore keeps logged
-          log_call partitioned four same_capacity = record {
-            chains = record { partitioned = partitioned; four = four };
-            core = subst (IsCore keeps) (sym after_is) (log_core keeps p is.core works n (core.unlogged - logged_changes) new.dirty new.medium
-                (unlogged_is logged_changes logged_changes_is) settles_at recovers_at);
-            batch = subst (λ (m : ℕ). m ≤ vec_capacity emptied) (sym log_size) (subst (λ (m : ℕ). capacity_of core.slots ≤ m) (sym same_capacity) is.batch);
-            replies = is.replies ∙ sym log_size;
-            ran = log_ran;
-          }
+      pub log_call : IsPartitioned moved → length moved.chains ≡ 4 → vec_capacity emptied ≡ vec_capacity core.batch → IsSoundCore keeps logged
+      log_call partitioned four same_capacity = record {
+        chains = record { partitioned = partitioned; four = four };
+        core = subst (IsCore keeps) (sym after_is) (log_core keeps p is.core gathered.works n (core.unlogged - logged_changes) new.dirty new.medium
+            (unlogged_is logged_changes logged_changes_is) settles_at recovers_at);
+        batch = subst (λ (m : ℕ). m ≤ vec_capacity emptied) (sym log_size) (subst (λ (m : ℕ). capacity_of core.slots ≤ m) (sym same_capacity) is.batch);
+        replies = is.replies ∙ sym log_size;
+        ran = log_ran;
+      }
 
-          pub log_call_state : core_state_in (parts logged) ≡ log core.journal.geometry (core_state_in p) n
-          log_call_state = ap core_state_in after_is ∙ log_state keeps p is.core works n (core.unlogged - logged_changes) new.dirty new.medium
+      pub log_call_state : core_state_in (parts logged) ≡ log core.journal.geometry (core_state_in p) n
+      log_call_state = ap core_state_in after_is ∙ log_state keeps p is.core gathered.works n (core.unlogged - logged_changes) new.dirty new.medium

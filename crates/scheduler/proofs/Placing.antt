@@ -7,13 +7,12 @@ use Rattle.affinity.specs.declared.kinds.Kind.{Kind}
 use Rattle.language.specs.Messages.{four_numbers, is_in_range, kind, path_of}
 use Rattle.language.specs.declared.Msg.{Msg}
 
-module _ (h g : Geometry) (m : Msg) (k : Kind) (n : List ℕ) where
+module _ {h g : Geometry} {k : Kind} {n : List ℕ} (m : Msg) where
   pub range_of : h ≡ g → k ≡ kind m → n ≡ four_numbers m → true ≡ numbers_are_in_range h k n → is_in_range g m ≡ true
   range_of same is_kind is_numbers e = sym (e ∙ (λ i. numbers_are_in_range (same i) (is_kind i) (is_numbers i)))
 
-module _ (h g : Geometry) (m : Msg) (k : Kind) (n : List ℕ) (a : Interval) where
-  pub placed_of : h ≡ g → k ≡ kind m → n ≡ four_numbers m → IsAffinityOf h (path_of_kind h k n) a → IsAffinityOf g (path_of g m) a
-  placed_of same is_kind is_numbers is =
+  pub placed_of : (a : Interval) → h ≡ g → k ≡ kind m → n ≡ four_numbers m → IsAffinityOf h (path_of_kind h k n) a → IsAffinityOf g (path_of g m) a
+  placed_of a same is_kind is_numbers is =
       subst (λ (x : Geometry). IsAffinityOf x (path_of x m) a) same
       (subst (λ (ns : List ℕ). IsAffinityOf h (path_of_kind h (kind m) ns) a) is_numbers
       (subst (λ (j : Kind). IsAffinityOf h (path_of_kind h j n) a) is_kind is))

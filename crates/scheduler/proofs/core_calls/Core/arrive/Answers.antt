@@ -26,8 +26,7 @@ returns-in_default-put-clause-state_after g c =
     (λ i. (outcomes.ArriveRefused arrivals.Full, core_state_in (parts (record c.self.inside { slots = (c.put.ensures.arena ∙ same) i }))))
     ∙ full_state c.self.inside c.self.invariant (record { ticket = c.self.inside.next; message = c.args.m.now; affinity = c.in-Some.affinity })
     c.in_default-put.field-0 (sym c.put.ensures.answer ∙ c.in_default-put.is) (sym c.failed.ensures ∙ c.if-failed.false)
-    (range_of c.geometry-g.result c.self.inside.journal.geometry c.args.m.now c.kind.result c.numbers.result c.geometry-g.ensures c.kind.ensures
-    c.numbers.ensures c.in-Some.ensures.in_range) (not_this c.self.inside.next 18446744073709551615 c.if-self.false)
+    (range_of c.args.m.now c.geometry-g.ensures c.kind.ensures c.numbers.ensures c.in-Some.ensures.in_range) (not_this c.self.inside.next 18446744073709551615 c.if-self.false)
     ∙ ap (λ (o : CoreView). arrive o.geometry (core_state_of o) c.args.m.now) c.self.view_is
 
 pub arrive-requires-clause-later : goal.arrive-requires-clause-later
@@ -51,10 +50,8 @@ invariant_of-self-2 g c =
     subst (IsSoundCore g.D.Disk.keeps) (λ i. record c.self.inside { slots = sym rows i; queue = sym queue i; next = c.self.inside.next + 1 })
     (arrive_call c.self.inside c.self.invariant (record { ticket = c.self.inside.next; message = c.args.m.now; affinity = c.in-Some.affinity }) c.in-Ok.slot
     (sym c.put.ensures.answer ∙ c.in-Ok.is) refl (record {
-      affinity = placed_of c.geometry-g.result c.self.inside.journal.geometry c.args.m.now c.kind.result c.numbers.result c.in-Some.affinity
-          c.geometry-g.ensures c.kind.ensures c.numbers.ensures c.in-Some.ensures.placed;
-      range = range_of c.geometry-g.result c.self.inside.journal.geometry c.args.m.now c.kind.result c.numbers.result c.geometry-g.ensures
-          c.kind.ensures c.numbers.ensures c.in-Some.ensures.in_range;
+      affinity = placed_of c.args.m.now c.in-Some.affinity c.geometry-g.ensures c.kind.ensures c.numbers.ensures c.in-Some.ensures.placed;
+      range = range_of c.args.m.now c.geometry-g.ensures c.kind.ensures c.numbers.ensures c.in-Some.ensures.in_range;
       message = c.know_message.ensures;
     }) (subst IsPartitioned rows c.move_to.ensures.partitioned))
 
@@ -67,12 +64,9 @@ returns-clause-state_after g c =
     (λ i. (outcomes.Ticket c.self.inside.next, core_state_in (parts (record c.self.inside { slots = rows i; queue = queue i; next = c.self.inside.next + 1 }))))
     ∙ arrive_state c.self.inside c.self.invariant (record { ticket = c.self.inside.next; message = c.args.m.now; affinity = c.in-Some.affinity }) c.in-Ok.slot
     (sym c.put.ensures.answer ∙ c.in-Ok.is) refl (record {
-      affinity = placed_of c.geometry-g.result c.self.inside.journal.geometry c.args.m.now c.kind.result c.numbers.result c.in-Some.affinity
-          c.geometry-g.ensures c.kind.ensures c.numbers.ensures c.in-Some.ensures.placed;
-      range = range_of c.geometry-g.result c.self.inside.journal.geometry c.args.m.now c.kind.result c.numbers.result c.geometry-g.ensures
-          c.kind.ensures c.numbers.ensures c.in-Some.ensures.in_range;
+      affinity = placed_of c.args.m.now c.in-Some.affinity c.geometry-g.ensures c.kind.ensures c.numbers.ensures c.in-Some.ensures.placed;
+      range = range_of c.args.m.now c.geometry-g.ensures c.kind.ensures c.numbers.ensures c.in-Some.ensures.in_range;
       message = c.know_message.ensures;
     }) (sym c.failed.ensures ∙ c.if-failed.false)
-    (range_of c.geometry-g.result c.self.inside.journal.geometry c.args.m.now c.kind.result c.numbers.result c.geometry-g.ensures c.kind.ensures
-    c.numbers.ensures c.in-Some.ensures.in_range) (not_this c.self.inside.next 18446744073709551615 c.if-self.false)
+    (range_of c.args.m.now c.geometry-g.ensures c.kind.ensures c.numbers.ensures c.in-Some.ensures.in_range) (not_this c.self.inside.next 18446744073709551615 c.if-self.false)
     ∙ ap (λ (o : CoreView). arrive o.geometry (core_state_of o) c.args.m.now) c.self.view_is

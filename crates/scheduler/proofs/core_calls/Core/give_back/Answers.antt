@@ -23,14 +23,14 @@ pub unreachable-requires-in_default-holder : goal.unreachable-requires-in_defaul
 unreachable-requires-in_default-holder g c =
     true≢false (sym (back_is_held c.self.inside c.self.invariant c.args.d (subst (λ (o : CoreView). IsResultOf o.geometry (core_state_of o) c.args.d) (sym c.self.view_is) c.requires)
     c.in-Some.affinity
-    (placed_of c.geometry-g.result c.self.inside.journal.geometry c.args.d.message c.kind.result c.numbers.result c.in-Some.affinity
+    (placed_of c.args.d.message c.in-Some.affinity
     c.geometry-g.ensures (c.kind.ensures ∙ ap kind c.msg.ensures) (c.numbers.ensures ∙ ap four_numbers c.msg-2.ensures) c.in-Some.ensures.placed)) ∙ c.in_default-holder.ensures.none)
 
 pub index_mut-requires : goal.index_mut-requires
 index_mut-requires g c =
     subst (λ (n : ℕ). c.in-Some-holder.slot < n) (sym c.self.invariant.replies ∙ sym c.self.inside.replies.ok.0)
     (back_low c.self.inside c.self.invariant c.args.d (subst (λ (o : CoreView). IsResultOf o.geometry (core_state_of o) c.args.d) (sym c.self.view_is) c.requires) c.in-Some.affinity
-    (placed_of c.geometry-g.result c.self.inside.journal.geometry c.args.d.message c.kind.result c.numbers.result c.in-Some.affinity
+    (placed_of c.args.d.message c.in-Some.affinity
     c.geometry-g.ensures (c.kind.ensures ∙ ap kind c.msg.ensures) (c.numbers.ensures ∙ ap four_numbers c.msg-2.ensures) c.in-Some.ensures.placed) c.in-Some-holder.slot c.in-Some-holder.ensures.some)
 
 pub restore-requires-clause-fits : goal.restore-requires-clause-fits
@@ -38,14 +38,12 @@ restore-requires-clause-fits g c =
     subst (λ (l : Parcels). (q : Path) → IsAffinityOf c.self.inside.tree.geometry q c.in-Some.affinity → IsKindOf q l → Fits c.self.inside.tree.geometry q l)
     (sym c.into_parcels.ensures)
     (back_fits c.self.inside c.self.invariant c.args.d (subst (λ (o : CoreView). IsResultOf o.geometry (core_state_of o) c.args.d) (sym c.self.view_is) c.requires) c.in-Some.affinity
-    (placed_of c.geometry-g.result c.self.inside.journal.geometry c.args.d.message c.kind.result c.numbers.result c.in-Some.affinity
-    c.geometry-g.ensures (c.kind.ensures ∙ ap kind c.msg.ensures) (c.numbers.ensures ∙ ap four_numbers c.msg-2.ensures) c.in-Some.ensures.placed))
+    (placed_of c.args.d.message c.in-Some.affinity c.geometry-g.ensures (c.kind.ensures ∙ ap kind c.msg.ensures) (c.numbers.ensures ∙ ap four_numbers c.msg-2.ensures) c.in-Some.ensures.placed))
 
 pub unreachable-requires-in_default-restore : goal.unreachable-requires-in_default-restore
 unreachable-requires-in_default-restore g c =
     back_goes_in c.self.inside c.self.invariant c.args.d (subst (λ (o : CoreView). IsResultOf o.geometry (core_state_of o) c.args.d) (sym c.self.view_is) c.requires) c.in-Some.affinity
-    (placed_of c.geometry-g.result c.self.inside.journal.geometry c.args.d.message c.kind.result c.numbers.result c.in-Some.affinity
-    c.geometry-g.ensures (c.kind.ensures ∙ ap kind c.msg.ensures) (c.numbers.ensures ∙ ap four_numbers c.msg-2.ensures) c.in-Some.ensures.placed)
+    (placed_of c.args.d.message c.in-Some.affinity c.geometry-g.ensures (c.kind.ensures ∙ ap kind c.msg.ensures) (c.numbers.ensures ∙ ap four_numbers c.msg-2.ensures) c.in-Some.ensures.placed)
     (subst (λ (l : Parcels). (q : Path) → IsAffinityOf c.self.inside.tree.geometry q c.in-Some.affinity → IsOut q (tree_nodes c.self.inside.tree)
     → IsKindOf q l → ⊥) c.into_parcels.ensures c.in_default-restore.ensures.err)
 
@@ -59,8 +57,7 @@ invariant_of-self g c =
       ran = c.self.inside.ran + 1;
     })
     (back_call c.self.inside c.self.invariant c.args.d (subst (λ (o : CoreView). IsResultOf o.geometry (core_state_of o) c.args.d) (sym c.self.view_is) c.requires) c.in-Some.affinity
-    (placed_of c.geometry-g.result c.self.inside.journal.geometry c.args.d.message c.kind.result c.numbers.result c.in-Some.affinity
-    c.geometry-g.ensures (c.kind.ensures ∙ ap kind c.msg.ensures) (c.numbers.ensures ∙ ap four_numbers c.msg-2.ensures) c.in-Some.ensures.placed)
+    (placed_of c.args.d.message c.in-Some.affinity c.geometry-g.ensures (c.kind.ensures ∙ ap kind c.msg.ensures) (c.numbers.ensures ∙ ap four_numbers c.msg-2.ensures) c.in-Some.ensures.placed)
     c.in-Some-holder.slot c.in-Some-holder.ensures.some c.reply.result.now c.reply.ensures c.restore.new.self c.restore.ensures.geometry
     (subst (λ (l : Parcels). (q : Path) → IsAffinityOf c.self.inside.tree.geometry q c.in-Some.affinity
     → RestoresAt c.self.inside.tree.geometry q l (tree_nodes c.self.inside.tree) (tree_nodes c.restore.new.self)) c.into_parcels.ensures c.in-Ok.ensures.ok)
@@ -77,8 +74,7 @@ returns-clause-state_after g c =
       ran = c.self.inside.ran + 1;
     })) ≡ give_back (c.self.view_is i).geometry (core_state_of (c.self.view_is i)) found))
     (back_state c.self.inside c.self.invariant c.args.d (subst (λ (o : CoreView). IsResultOf o.geometry (core_state_of o) c.args.d) (sym c.self.view_is) c.requires) c.in-Some.affinity
-    (placed_of c.geometry-g.result c.self.inside.journal.geometry c.args.d.message c.kind.result c.numbers.result c.in-Some.affinity
-    c.geometry-g.ensures (c.kind.ensures ∙ ap kind c.msg.ensures) (c.numbers.ensures ∙ ap four_numbers c.msg-2.ensures) c.in-Some.ensures.placed)
+    (placed_of c.args.d.message c.in-Some.affinity c.geometry-g.ensures (c.kind.ensures ∙ ap kind c.msg.ensures) (c.numbers.ensures ∙ ap four_numbers c.msg-2.ensures) c.in-Some.ensures.placed)
     c.in-Some-holder.slot c.in-Some-holder.ensures.some c.reply.result.now c.reply.ensures c.restore.new.self c.restore.ensures.geometry
     (subst (λ (l : Parcels). (q : Path) → IsAffinityOf c.self.inside.tree.geometry q c.in-Some.affinity
     → RestoresAt c.self.inside.tree.geometry q l (tree_nodes c.self.inside.tree) (tree_nodes c.restore.new.self)) c.into_parcels.ensures c.in-Ok.ensures.ok))

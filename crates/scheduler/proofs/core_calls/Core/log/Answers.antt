@@ -1,5 +1,5 @@
 -- The changes that ran fit into the log, a crash recovers a prefix of them, and then they are logged.
-use Rattle.std.proofs.Common.{◌≡◌, ℕ, ◌+◌, ◌*◌, ◌-◌, ◌≤◌, length, take, true, false, refl, sym, subst, ◌∙◌}
+use Rattle.std.proofs.Common.{◌≡◌, ℕ, ◌+◌, ◌*◌, ◌-◌, ◌≤◌, length, take, true, false, refl, sym, ap, List, subst, ◌∙◌}
 use Rattle.std.specs.Prelude.{if◌then◌else◌}
 use Rattle.disk.specs.Moments.{CrashImagesAre, moment_number}
 use Rattle.journal.specs.Journal.{RecoversWithPrefix}
@@ -10,34 +10,41 @@ use Rattle.oplog.proofs.Beyond.{beyond_none}
 use Rattle.oplog.specs.Beyond.{KeepsBeyond}
 use Rattle.oplog.specs.Log.{batch_count}
 use Rattle.device_map.specs.Layout.{layout_of}
-use Rattle.scheduler.proofs.Journaling.{still_standing}
-use Rattle.scheduler.proofs.LogCall.{broken_from, broken_takes, doubt_call, doubt_call_state, log_call, log_call_throughout, log_call_state, log_carried, log_count, log_fits, log_unlogged, log_length, log_changes, log_low, log_untouched, made_from, made_takes, none_taken, some_were_passed}
-use Rattle.scheduler.specs.CoreView.{CoreView, RecoversThroughout, core_state_of}
+use Rattle.scheduler.proofs.Journaling.{stands}
+use Rattle.scheduler.proofs.LogCall.{Gathers, broken_from, broken_takes, doubt_call, doubt_call_state, log_call, log_call_throughout, log_call_state, log_carried, log_count, log_fits, log_unlogged, log_length, log_changes, log_low, log_untouched, made_from, made_takes, none_taken, some_were_passed}
+use Rattle.scheduler.specs.CoreView.{CoreView, core_state_of}
 use Rattle.scheduler.specs.Fields.{core_view, parts}
 use Rattle.scheduler.specs.Parts.{core_state_in}
+use Rattle.arena.specs.ArenaView.{chain_at}
+use Rattle.language.specs.declared.Reply.{Reply}
+use Rattle.scheduler.specs.Moving.{recorded_in}
+use Rattle.scheduler.proofs.core_calls.Core.log.Given.{Over}
+use Rattle.scheduler.proofs.core_calls.Core.log.Goals.{After-deref-2}
 use Rattle.scheduler.proofs.core_calls.Core.log.Goals as goal
 
+gathered : (g : Over) (c : After-deref-2 g) → Gathers c.self.inside c.args.n c.min-count.result c.collect_recorded-changing_count.new.batch c.deref-2.result.now
+gathered g c = record {
+  works = sym c.failed.ensures ∙ c.if-failed.false;
+  is_least = c.min-count.ensures;
+  gathered = c.collect_recorded-changing_count.ensures.batch
+      ∙ ap (λ (rs : List Reply). recorded_in c.self.inside.slots rs (take c.min-count.result (chain_at c.self.inside.slots 2))) c.deref.ensures.value;
+  handed_on = c.deref-2.ensures.value;
+}
+
 pub returns-then-failed-clause-any_moment : goal.returns-then-failed-clause-any_moment
-returns-then-failed-clause-any_moment g c = λ keep.
-    subst (λ (o : CoreView). RecoversThroughout (batch (core_state_of o) c.args.n) o o) c.self.view_is
-    (still_standing g.D.Disk.keeps (parts c.self.inside) c.self.invariant.core keep (batch (core_state_of (core_view c.self.inside)) c.args.n) (core_view c.self.inside) refl)
+returns-then-failed-clause-any_moment g c = λ keep. stands c.self.invariant.core c.self.view_is keep (batch (core_state_of c.args.self.now) c.args.n)
 
 pub log-requires : goal.log-requires
 log-requires g c = record {
   not_failed = (sym c.failed.ensures ∙ c.if-failed.false);
-  room = log_fits c.self.inside c.self.invariant (sym c.failed.ensures ∙ c.if-failed.false) c.args.n c.min-count.result c.min-count.ensures
-      c.collect_recorded-changing_count.new.batch c.collect_recorded-changing_count.ensures.batch c.deref.ensures.value c.deref-2.result.now c.deref-2.ensures.value;
-  changes = log_changes c.self.inside c.self.invariant (sym c.failed.ensures ∙ c.if-failed.false) c.args.n c.min-count.result c.min-count.ensures
-      c.collect_recorded-changing_count.new.batch c.collect_recorded-changing_count.ensures.batch c.deref.ensures.value c.deref-2.result.now c.deref-2.ensures.value;
-  carried_out = log_carried c.self.inside c.self.invariant (sym c.failed.ensures ∙ c.if-failed.false) c.args.n c.min-count.result c.min-count.ensures
-      c.collect_recorded-changing_count.new.batch c.collect_recorded-changing_count.ensures.batch c.deref.ensures.value c.deref-2.result.now c.deref-2.ensures.value;
+  room = log_fits c.self.inside c.self.invariant (gathered g c);
+  changes = log_changes c.self.inside c.self.invariant (gathered g c);
+  carried_out = log_carried c.self.inside c.self.invariant (gathered g c);
 }
 
 pub invariant_of-self : goal.invariant_of-self
 invariant_of-self g c =
-    doubt_call c.self.inside c.self.invariant (sym c.failed.ensures ∙ c.if-failed.false) c.args.n c.min-count.result c.min-count.ensures
-    c.collect_recorded-changing_count.new.batch c.collect_recorded-changing_count.ensures.batch c.deref.ensures.value
-    c.deref-2.result.now c.deref-2.ensures.value c.log.new.self c.log.ensures.any_moment
+    doubt_call c.self.inside c.self.invariant (gathered g (goal.at.invariant_of-self g c).After-deref-2) c.log.new.self c.log.ensures.any_moment
     (broken_from c.log.result _ c.self.inside.journal c.log.new.self (sym c.is_err.ensures.value ∙ c.if-is_err.true) c.log.ensures.after)
     c.collect_recorded-changing_count.ensures.capacity
 
@@ -47,13 +54,9 @@ returns-then-is_err-clause-state_after g c =
     × (core_state_in (parts (record c.self.inside { journal = c.log.new.self; batch = c.collect_recorded-changing_count.new.batch }))
     ≡ record (core_state_of o) { failed = true; doubt = batch (core_state_of o) c.args.n })) c.self.view_is (
       (sym c.failed.ensures ∙ c.if-failed.false),
-      some_were_passed c.self.inside c.self.invariant (sym c.failed.ensures ∙ c.if-failed.false) c.args.n c.min-count.result c.min-count.ensures
-          c.collect_recorded-changing_count.new.batch c.collect_recorded-changing_count.ensures.batch c.deref.ensures.value
-          c.deref-2.result.now c.deref-2.ensures.value c.log.new.self c.log.ensures.any_moment
+      some_were_passed c.self.inside c.self.invariant (gathered g (goal.at.returns-then-is_err-clause-state_after g c).After-deref-2) c.log.new.self c.log.ensures.any_moment
           (broken_from c.log.result _ c.self.inside.journal c.log.new.self (sym c.is_err.ensures.value ∙ c.if-is_err.true) c.log.ensures.after) c.log.ensures.none,
-      doubt_call_state c.self.inside c.self.invariant (sym c.failed.ensures ∙ c.if-failed.false) c.args.n c.min-count.result c.min-count.ensures
-          c.collect_recorded-changing_count.new.batch c.collect_recorded-changing_count.ensures.batch c.deref.ensures.value
-          c.deref-2.result.now c.deref-2.ensures.value c.log.new.self c.log.ensures.any_moment
+      doubt_call_state c.self.inside c.self.invariant (gathered g (goal.at.returns-then-is_err-clause-state_after g c).After-deref-2) c.log.new.self c.log.ensures.any_moment
           (broken_from c.log.result _ c.self.inside.journal c.log.new.self (sym c.is_err.ensures.value ∙ c.if-is_err.true) c.log.ensures.after),
     )
 
@@ -61,33 +64,27 @@ pub returns-then-is_err-clause-any_moment : goal.returns-then-is_err-clause-any_
 returns-then-is_err-clause-any_moment g c = λ keep.
     subst (λ (o : CoreView). CrashImagesAre o.medium c.log.new.self.medium
     (RecoversWithPrefix o.geometry (core_state_of o).committed (if o.failed then o.doubt else batch (core_state_of o) c.args.n))) c.self.view_is
-    (log_call_throughout c.self.inside c.self.invariant (sym c.failed.ensures ∙ c.if-failed.false) c.args.n c.min-count.result c.min-count.ensures
-    c.collect_recorded-changing_count.new.batch c.collect_recorded-changing_count.ensures.batch c.deref.ensures.value
-    c.deref-2.result.now c.deref-2.ensures.value c.log.new.self c.log.ensures.any_moment
+    (log_call_throughout c.self.inside c.self.invariant (gathered g (goal.at.returns-then-is_err-clause-any_moment g c).After-deref-2) c.log.new.self c.log.ensures.any_moment
     (core_view (record c.self.inside { journal = c.log.new.self })) refl keep)
 
 pub returns-then-is_err-clause-untouched : goal.returns-then-is_err-clause-untouched
 returns-then-is_err-clause-untouched g c =
     subst (λ (o : CoreView). touches_device (core_state_of o) (steps.Log c.args.n) ≡ false → c.log.new.self.medium ≡ o.medium) c.self.view_is
-    (log_untouched c.self.inside c.self.invariant (sym c.failed.ensures ∙ c.if-failed.false) c.args.n c.min-count.result c.min-count.ensures
-    c.collect_recorded-changing_count.new.batch c.collect_recorded-changing_count.ensures.batch c.deref.ensures.value
-    c.deref-2.result.now c.deref-2.ensures.value c.log.new.self c.log.ensures.any_moment c.log.ensures.none)
+    (log_untouched c.self.inside c.self.invariant (gathered g (goal.at.returns-then-is_err-clause-untouched g c).After-deref-2) c.log.new.self c.log.ensures.any_moment c.log.ensures.none)
 
 pub move_ran-requires : goal.move_ran-requires
 move_ran-requires g c = record {
   chains = c.self.invariant.chains;
-  count = log_low c.self.inside c.self.invariant (sym c.failed.ensures ∙ c.if-failed.false) c.args.n c.min-count.result c.min-count.ensures;
+  count = log_low c.self.inside c.self.invariant (gathered g (goal.at.move_ran-requires g c).After-deref-2);
 }
 
 pub overflow_sub-self : goal.overflow_sub-self
-overflow_sub-self g c = log_unlogged c.self.inside c.self.invariant (sym c.failed.ensures ∙ c.if-failed.false) c.args.n c.min-count.result c.min-count.ensures
+overflow_sub-self g c = log_unlogged c.self.inside c.self.invariant (gathered g (goal.at.overflow_sub-self g c).After-deref-2)
     c.collect_recorded-changing_count.result c.collect_recorded-changing_count.ensures.changing
 
 pub invariant_of-self-2 : goal.invariant_of-self-2
 invariant_of-self-2 g c =
-    log_call c.self.inside c.self.invariant (sym c.failed.ensures ∙ c.if-failed.false) c.args.n c.min-count.result c.min-count.ensures
-    c.collect_recorded-changing_count.new.batch c.collect_recorded-changing_count.ensures.batch c.deref.ensures.value
-    c.deref-2.result.now c.deref-2.ensures.value c.log.new.self c.log.ensures.any_moment
+    log_call c.self.inside c.self.invariant (gathered g (goal.at.invariant_of-self-2 g c).After-deref-2) c.log.new.self c.log.ensures.any_moment
     (made_from c.log.result _ c.self.inside.journal c.log.new.self (sym c.is_err.ensures.value ∙ c.if-is_err.false) c.log.ensures.after)
     (on_ok c.log.result _ (sym c.is_err.ensures.value ∙ c.if-is_err.false) c.log.ensures.committed)
     (on_ok c.log.result _ (sym c.is_err.ensures.value ∙ c.if-is_err.false) c.log.ensures.recoverable) c.move_ran.new.slots c.move_ran.ensures
@@ -106,10 +103,8 @@ returns-clause-state_after g c =
       history = c.note.new.self;
     })) ≡ log o.geometry (core_state_of o) c.args.n)) c.self.view_is (
       (sym c.failed.ensures ∙ c.if-failed.false),
-      log_count c.self.inside c.self.invariant (sym c.failed.ensures ∙ c.if-failed.false) c.args.n c.min-count.result c.min-count.ensures,
-      log_call_state c.self.inside c.self.invariant (sym c.failed.ensures ∙ c.if-failed.false) c.args.n c.min-count.result c.min-count.ensures
-          c.collect_recorded-changing_count.new.batch c.collect_recorded-changing_count.ensures.batch c.deref.ensures.value
-          c.deref-2.result.now c.deref-2.ensures.value c.log.new.self c.log.ensures.any_moment
+      log_count c.self.inside c.self.invariant (gathered g (goal.at.returns-clause-state_after g c).After-deref-2),
+      log_call_state c.self.inside c.self.invariant (gathered g (goal.at.returns-clause-state_after g c).After-deref-2) c.log.new.self c.log.ensures.any_moment
           (made_from c.log.result _ c.self.inside.journal c.log.new.self (sym c.is_err.ensures.value ∙ c.if-is_err.false) c.log.ensures.after)
           (on_ok c.log.result _ (sym c.is_err.ensures.value ∙ c.if-is_err.false) c.log.ensures.committed)
           (on_ok c.log.result _ (sym c.is_err.ensures.value ∙ c.if-is_err.false) c.log.ensures.recoverable) c.move_ran.new.slots c.move_ran.ensures
@@ -121,17 +116,13 @@ pub returns-clause-any_moment : goal.returns-clause-any_moment
 returns-clause-any_moment g c = λ keep.
     subst (λ (o : CoreView). CrashImagesAre o.medium c.log.new.self.medium
     (RecoversWithPrefix o.geometry (core_state_of o).committed (if o.failed then o.doubt else batch (core_state_of o) c.args.n))) c.self.view_is
-    (log_call_throughout c.self.inside c.self.invariant (sym c.failed.ensures ∙ c.if-failed.false) c.args.n c.min-count.result c.min-count.ensures
-    c.collect_recorded-changing_count.new.batch c.collect_recorded-changing_count.ensures.batch c.deref.ensures.value
-    c.deref-2.result.now c.deref-2.ensures.value c.log.new.self c.log.ensures.any_moment
+    (log_call_throughout c.self.inside c.self.invariant (gathered g (goal.at.returns-clause-any_moment g c).After-deref-2) c.log.new.self c.log.ensures.any_moment
     (core_view (record c.self.inside { journal = c.log.new.self })) refl keep)
 
 pub returns-clause-untouched : goal.returns-clause-untouched
 returns-clause-untouched g c =
     subst (λ (o : CoreView). touches_device (core_state_of o) (steps.Log c.args.n) ≡ false → c.log.new.self.medium ≡ o.medium) c.self.view_is
-    (log_untouched c.self.inside c.self.invariant (sym c.failed.ensures ∙ c.if-failed.false) c.args.n c.min-count.result c.min-count.ensures
-    c.collect_recorded-changing_count.new.batch c.collect_recorded-changing_count.ensures.batch c.deref.ensures.value
-    c.deref-2.result.now c.deref-2.ensures.value c.log.new.self c.log.ensures.any_moment c.log.ensures.none)
+    (log_untouched c.self.inside c.self.invariant (gathered g (goal.at.returns-clause-untouched g c).After-deref-2) c.log.new.self c.log.ensures.any_moment c.log.ensures.none)
 
 pub returns-then-failed-clause-beyond : goal.returns-then-failed-clause-beyond
 returns-then-failed-clause-beyond g c = λ keep. beyond_none (layout_of c.args.self.now.geometry) c.args.self.now.medium
@@ -151,14 +142,12 @@ pub returns-then-is_err-clause-costs : goal.returns-then-is_err-clause-costs
 returns-then-is_err-clause-costs g c = λ keep.
     subst (λ (o : CoreView). moment_number c.log.new.self.medium ≤ moment_number o.medium + 4 * batch_count (length (batch (core_state_of o) c.args.n))) c.self.view_is
     (subst (λ (m : ℕ). moment_number c.log.new.self.medium ≤ moment_number c.self.inside.journal.medium + 4 * batch_count m)
-    (log_length c.self.inside c.self.invariant (sym c.failed.ensures ∙ c.if-failed.false) c.args.n c.min-count.result c.min-count.ensures
-    c.collect_recorded-changing_count.new.batch c.collect_recorded-changing_count.ensures.batch c.deref.ensures.value c.deref-2.result.now c.deref-2.ensures.value)
+    (log_length c.self.inside c.self.invariant (gathered g (goal.at.returns-then-is_err-clause-costs g c).After-deref-2))
     (broken_takes c.log.result _ _ _ (sym c.is_err.ensures.value ∙ c.if-is_err.true) (c.log.ensures.costs keep)))
 
 pub returns-clause-costs : goal.returns-clause-costs
 returns-clause-costs g c = λ keep.
     subst (λ (o : CoreView). moment_number c.log.new.self.medium ≡ moment_number o.medium + 4 * batch_count (length (batch (core_state_of o) c.args.n))) c.self.view_is
     (subst (λ (m : ℕ). moment_number c.log.new.self.medium ≡ moment_number c.self.inside.journal.medium + 4 * batch_count m)
-    (log_length c.self.inside c.self.invariant (sym c.failed.ensures ∙ c.if-failed.false) c.args.n c.min-count.result c.min-count.ensures
-    c.collect_recorded-changing_count.new.batch c.collect_recorded-changing_count.ensures.batch c.deref.ensures.value c.deref-2.result.now c.deref-2.ensures.value)
+    (log_length c.self.inside c.self.invariant (gathered g (goal.at.returns-clause-costs g c).After-deref-2))
     (made_takes c.log.result _ _ _ (sym c.is_err.ensures.value ∙ c.if-is_err.false) (c.log.ensures.costs keep)))
