@@ -88,14 +88,10 @@ module _ (g : Geometry) (l : Layout) (h : ℕ) (c : List ℕ) (x0 : State) where
 
 -- ---- the same by the geometry of a tree, a log and bytes that are equal to these
 
-module _ {a b : Log} (log : b ≡ a) {c d : List ℕ} (bytes : d ≡ c) (half : ℕ) where
-  pub front_same : front (layout_of_log b) half d ≡ front (layout_of_log a) half c
-  front_same = λ j. front (layout_of_log (log j)) half (bytes j)
+module _ {a b : Log} (log : b ≡ a) {c d : List ℕ} (bytes : d ≡ c) (half : ℕ) {g h : Geometry} (geometry : h ≡ g) (x : State) (i : ℕ) where
+  pub apply_same : after_record h x (record_at (layout_of_log b) half i d) ≡ after_record g x (record_at (layout_of_log a) half i c)
+  apply_same = λ j. after_record (geometry j) x (record_at (layout_of_log (log j)) half i (bytes j))
 
-  module _ {g h : Geometry} (geometry : h ≡ g) (x : State) (i : ℕ) where
-    pub apply_same : after_record h x (record_at (layout_of_log b) half i d) ≡ after_record g x (record_at (layout_of_log a) half i c)
-    apply_same = λ j. after_record (geometry j) x (record_at (layout_of_log (log j)) half i (bytes j))
-
-    pub record_fault_same : (e : OpenFault) → IsConsistentFault (record_fault h x half i (record_at (layout_of_log b) half i d)) e
-        → IsConsistentFault (record_fault g x half i (record_at (layout_of_log a) half i c)) e
-    record_fault_same e = subst (λ (o : Option OpenFault). IsConsistentFault o e) (λ j. record_fault (geometry j) x half i (record_at (layout_of_log (log j)) half i (bytes j)))
+  pub record_fault_same : (e : OpenFault) → IsConsistentFault (record_fault h x half i (record_at (layout_of_log b) half i d)) e
+      → IsConsistentFault (record_fault g x half i (record_at (layout_of_log a) half i c)) e
+  record_fault_same e = subst (λ (o : Option OpenFault). IsConsistentFault o e) (λ j. record_fault (geometry j) x half i (record_at (layout_of_log (log j)) half i (bytes j)))

@@ -100,8 +100,7 @@ fn lay_out<D: Disk>(disk: &mut D, zeros: &[u8], g: &Geometry) -> Result<(), Disk
     write_zeros(disk, zeros, ROOT_ZONE_AT, ROOT_ZONE_SIZE + chain_and_gates)?;
     write_zeros(disk, zeros, half_at(g, 1), chain_and_gates)?;
     write_zeros(disk, zeros, image_at(g, 0), image_size(g))?;
-    store(disk, image_at(g, 0), &[VERSION])?;
-    Ok(())
+    store(disk, image_at(g, 0), &[VERSION])
 }
 
 /// Writes the header of a device that has all else, the format byte last.
@@ -120,8 +119,7 @@ fn write_header<D: Disk>(disk: &mut D, g: &Geometry) -> Result<(), DiskFault>
 {
     let header = header_of(g);
     store(disk, 1, &header[1..])?;
-    store(disk, 0, &[FORMATTED])?;
-    Ok(())
+    store(disk, 0, &[FORMATTED])
 }
 
 /// Formats a device, which has to be long enough.

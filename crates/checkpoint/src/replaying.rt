@@ -51,39 +51,6 @@ fn replay_record<D: Disk>(
     }
 }
 
-/// Runs the first `count` records of this half on the tree, in order.
-fn replay_front<D: Disk>(
-    log: &mut Halves,
-    disk: &mut D,
-    half: usize,
-    count: usize,
-    tree: &mut Tree,
-) -> Result<(), OpenFault>
-    requires not_failed { log.old.failed ≡ false }
-    requires half { half < 2 }
-    requires within { count ≤ log.old.geometry.half }
-    requires count { D.keeps → HasFront log.old half count (D.medium disk.old) }
-    requires long_enough { IsLongEnough log.old (D.medium disk.old) }
-    requires whole { IsWholeTree tree.old }
-    requires geometry { log.old.geometry ≡ tree.old.geometry }
-    ensures done { OnOk result (D.keeps →
-        run (decoding tree.old.geometry) (Some (state_in tree.old))
-        (front (layout_of_log log.old) half (D.medium disk.old).now) ≡ Some (state_in tree.new)) }
-    ensures refused { IfErr result (λ e. D.keeps → IsConsistentFault (records_fault tree.old.geometry
-        (state_in tree.old) half (front (layout_of_log log.old) half (D.medium disk.old).now)) e) }
-    ensures never_out_of_memory { IfErr result (λ e. e ≢ OutOfMemory) }
-    ensures whole { OnOk result (IsWholeTree tree.new) }
-    ensures geometry { OnOk result (tree.new.geometry ≡ tree.old.geometry) }
-    ensures log { OnOk result (log.new ≡ log.old) }
-    ensures untouched { D.keeps → moments (D.medium disk.new) ≡ moments (D.medium disk.old) }
-    ensures call { IsOpeningCall result (D.medium disk.old) (D.medium disk.new) }
-{
-    for i in 0..count {
-        replay_record(log, disk, half, i, tree)?;
-    }
-    Ok(())
-}
-
 /// Runs the records of this half's front on the tree, in order, and gives their number. `BadRecord` exactly where one
 /// can't be run, with the first such record; then the tree isn't of use any more.
 pub fn replay<D: Disk>(
@@ -112,6 +79,8 @@ pub fn replay<D: Disk>(
     ensures call { IsOpeningCall result (D.medium disk.old) (D.medium disk.new) }
 {
     let count = log.front(disk, half)?;
-    replay_front(log, disk, half, count, tree)?;
+    for i in 0..count {
+        replay_record(log, disk, half, i, tree)?;
+    }
     Ok(count)
 }

@@ -1,32 +1,46 @@
--- Counting only reads the device, so the records that are run are those of the front that was counted.
-use Rattle.std.proofs.Common.{ℕ, List, length, Some, sym, ◌∙◌, ap, subst}
+-- Counting only reads the device. All records before this one were run, so one that can't be is the first bad one; else the run goes on.
+use Rattle.std.proofs.Common.{refl, sym, ◌∙◌, arith}
 use Rattle.std.proofs.lemmas.Result.{err_from_is_err_and}
-use Rattle.oplog.specs.Recovery.{run}
+use Rattle.oplog.specs.Log.{layout_of_log}
 use Rattle.parcel.specs.Tree.{state_in}
-use Rattle.checkpoint.specs.Loading.{IsConsistentFault, records_fault}
-use Rattle.checkpoint.specs.Recovery.{decoding}
-use Rattle.checkpoint.proofs.Replays.{front_same, same_bytes}
+use Rattle.checkpoint.proofs.Replays.{apply_same, at_first, at_next, bad_at, record_fault_same, same_bytes}
 use Rattle.checkpoint.proofs.replaying.replay.Goals as goal
 
-pub replay_front-requires-clause-count : goal.replay_front-requires-clause-count
-replay_front-requires-clause-count g c = λ k.
-    c.in_ok-count.ensures.front k
-    ∙ ap (λ (rs : List (List ℕ)). length rs) (sym (front_same c.in_ok-count.ensures.log
-    (same_bytes (g.D.Disk.medium c.args.disk.now) (g.D.Disk.medium c.front.new.disk) (c.front.ensures.untouched k)) c.args.half))
+pub loop-i-init : goal.loop-i-init
+loop-i-init g c = record {
+  whole = c.requires.whole;
+  geometry = refl;
+  log = c.in_ok-count.ensures.log;
+  len = c.front.ensures.call.1;
+  faults = c.in_ok-count.ensures.call.0;
+  untouched = λ k. c.front.ensures.untouched k;
+  at = λ k. at_first _ _ _ _ _;
+}
 
-pub returns-in_err-replay_front-clause-refused : goal.returns-in_err-replay_front-clause-refused
-returns-in_err-replay_front-clause-refused g c =
-    let p = err_from_is_err_and c.from_residual-in_err-replay_front.result c.from_residual-in_err-replay_front.ensures.1 in
+pub returns-in_err-replay_record-clause-refused : goal.returns-in_err-replay_record-clause-refused
+returns-in_err-replay_record-clause-refused g c =
+    let p = err_from_is_err_and c.from_residual-in_err-replay_record.result c.from_residual-in_err-replay_record.ensures.1 in
     rw (p.1, p.2)
     (λ k.
-    subst (λ (rs : List (List ℕ)). IsConsistentFault (records_fault c.args.tree.now.geometry (state_in c.args.tree.now) c.args.half rs) c.in_err-replay_front.field-0.0)
-    (front_same c.in_ok-count.ensures.log
-    (same_bytes (g.D.Disk.medium c.args.disk.now) (g.D.Disk.medium c.front.new.disk) (c.front.ensures.untouched k)) c.args.half)
-    (c.in_err-replay_front.ensures.refused k))
+    bad_at c.args.tree.now.geometry (layout_of_log c.args.log.now) c.args.half (g.D.Disk.medium c.args.disk.now).now (state_in c.args.tree.now) c.loop-i.i (state_in c.loop-i.tree)
+    (omega (arith, c.loop-i-test.true, c.in_ok-count.ensures.front k)) (c.loop-i.invariant.at k) _
+    (record_fault_same c.loop-i.invariant.log (same_bytes (g.D.Disk.medium c.args.disk.now) (g.D.Disk.medium c.loop-i.disk) (c.loop-i.invariant.untouched k)) c.args.half
+    c.loop-i.invariant.geometry (state_in c.loop-i.tree) c.loop-i.i _ (c.in_err-replay_record.ensures.refused k)))
 
-pub returns-clause-done : goal.returns-clause-done
-returns-clause-done g c = λ k.
-    ap (λ (rs : List (List ℕ)). run (decoding c.args.tree.now.geometry) (Some (state_in c.args.tree.now)) rs)
-    (sym (front_same c.in_ok-count.ensures.log
-    (same_bytes (g.D.Disk.medium c.args.disk.now) (g.D.Disk.medium c.front.new.disk) (c.front.ensures.untouched k)) c.args.half))
-    ∙ c.in_ok-replay_front.ensures.done k
+pub loop-i-preserved : goal.loop-i-preserved
+loop-i-preserved g c = record {
+  whole = c.in_ok-replay_record.ensures.whole;
+  geometry = c.in_ok-replay_record.ensures.geometry ∙ c.loop-i.invariant.geometry;
+  log = c.in_ok-replay_record.ensures.log ∙ c.loop-i.invariant.log;
+  len = c.replay_record.ensures.call.1 ∙ c.loop-i.invariant.len;
+  faults = c.in_ok-replay_record.ensures.call.0 ∙ c.loop-i.invariant.faults;
+  untouched = λ k. c.replay_record.ensures.untouched k ∙ c.loop-i.invariant.untouched k;
+  at = λ k.
+      at_next c.args.tree.now.geometry (layout_of_log c.args.log.now) c.args.half (g.D.Disk.medium c.args.disk.now).now (state_in c.args.tree.now)
+      c.loop-i.i (state_in c.loop-i.tree) (state_in c.replay_record.new.tree)
+      (omega (arith, c.loop-i-test.true, c.in_ok-count.ensures.front k))
+      (sym (apply_same c.loop-i.invariant.log (same_bytes (g.D.Disk.medium c.args.disk.now) (g.D.Disk.medium c.loop-i.disk) (c.loop-i.invariant.untouched k)) c.args.half
+      c.loop-i.invariant.geometry (state_in c.loop-i.tree) c.loop-i.i)
+      ∙ c.in_ok-replay_record.ensures.done k)
+      (c.loop-i.invariant.at k);
+}
