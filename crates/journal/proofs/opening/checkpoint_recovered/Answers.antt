@@ -32,8 +32,7 @@ point_on-requires-clause-clean g c = λ k n few clean.
 
 pub returns-in_err-point_on-clause-costs : goal.returns-in_err-point_on-clause-costs
 returns-in_err-point_on-clause-costs g c =
-    let p = err_from_is_err_and c.from_residual.result c.from_residual.ensures.1 in
-    rw p.1
+    rw (err_from_is_err_and c.from_residual.result c.from_residual.ensures.1).1
     (λ k.
     let one = ap count_runs c.deref-3.ensures.value ∙ one_run c.args.parts.now.halves.geometry c.args.parts.now.other_dirty.items c.requires.loaded.other_dirty c.requires.loaded.all in
     omega (arith, one, c.in_err-point_on.ensures.costs k))

@@ -136,13 +136,12 @@ returns-clause-beyond g c = λ k.
 
 pub returns-in_err-finish_cut-clause-costs : goal.returns-in_err-finish_cut-clause-costs
 returns-in_err-finish_cut-clause-costs g c =
-    let p = err_from_is_err_and c.from_residual.result c.from_residual.ensures.1 in
-    rw p.1 (λ k. c.in_err-finish_cut.ensures.costs k)
+    rw (err_from_is_err_and c.from_residual.result c.from_residual.ensures.1).1 (λ k. c.in_err-finish_cut.ensures.costs k)
 
 pub returns-in_err-replay-clause-costs : goal.returns-in_err-replay-clause-costs
 returns-in_err-replay-clause-costs g c =
-    let p = err_from_is_err_and c.from_residual-in_err-replay.result c.from_residual-in_err-replay.ensures.1 in
-    rw p.1 (λ k. omega (arith, no_call (g.D.Disk.medium c.finish_cut.new.disk) (g.D.Disk.medium c.replay.new.disk) (c.replay.ensures.untouched k), c.in_ok-finish_cut.ensures.costs k))
+    rw (err_from_is_err_and c.from_residual-in_err-replay.result c.from_residual-in_err-replay.ensures.1).1
+    (λ k. omega (arith, no_call (g.D.Disk.medium c.finish_cut.new.disk) (g.D.Disk.medium c.replay.new.disk) (c.replay.ensures.untouched k), c.in_ok-finish_cut.ensures.costs k))
 
 pub returns-clause-costs : goal.returns-clause-costs
 returns-clause-costs g c = λ k.

@@ -154,8 +154,8 @@ returns-clause-room g c =
 
 pub returns-in_err-named-clause-synced : goal.returns-in_err-named-clause-synced
 returns-in_err-named-clause-synced g c =
-    let p = err_from_is_err_and c.from_residual.result c.from_residual.ensures.1 in
-    rw p.1 (λ not_device k. still_synced (g.D.Disk.medium c.args.disk.now) (g.D.Disk.medium c.load_named.new.disk) (c.load_named.ensures.untouched k) (c.requires.synced k))
+    rw (err_from_is_err_and c.from_residual.result c.from_residual.ensures.1).1
+    (λ not_device k. still_synced (g.D.Disk.medium c.args.disk.now) (g.D.Disk.medium c.load_named.new.disk) (c.load_named.ensures.untouched k) (c.requires.synced k))
 
 pub returns-in_err-finish_cut_and_replay-clause-synced : goal.returns-in_err-finish_cut_and_replay-clause-synced
 returns-in_err-finish_cut_and_replay-clause-synced g c =
@@ -180,8 +180,8 @@ returns-clause-beyond g c = stays g (goal.at.returns-clause-beyond g c).After-fi
 
 pub returns-in_err-named-clause-costs : goal.returns-in_err-named-clause-costs
 returns-in_err-named-clause-costs g c =
-    let p = err_from_is_err_and c.from_residual.result c.from_residual.ensures.1 in
-    rw p.1 (λ k. omega (arith, no_call (g.D.Disk.medium c.args.disk.now) (g.D.Disk.medium c.load_named.new.disk) (c.load_named.ensures.untouched k)))
+    rw (err_from_is_err_and c.from_residual.result c.from_residual.ensures.1).1
+    (λ k. omega (arith, no_call (g.D.Disk.medium c.args.disk.now) (g.D.Disk.medium c.load_named.new.disk) (c.load_named.ensures.untouched k)))
 
 pub returns-then-not-named-clause-costs : goal.returns-then-not-named-clause-costs
 returns-then-not-named-clause-costs g c = λ k.
@@ -191,8 +191,7 @@ returns-then-not-named-clause-costs g c = λ k.
 
 pub returns-in_err-finish_cut_and_replay-clause-costs : goal.returns-in_err-finish_cut_and_replay-clause-costs
 returns-in_err-finish_cut_and_replay-clause-costs g c =
-    let p = err_from_is_err_and c.from_residual-in_err-finish_cut_and_replay.result c.from_residual-in_err-finish_cut_and_replay.ensures.1 in
-    rw p.1
+    rw (err_from_is_err_and c.from_residual-in_err-finish_cut_and_replay.result c.from_residual-in_err-finish_cut_and_replay.ensures.1).1
     (λ k.
     let four = finish_is c.args.parts.now.tree.geometry (g.D.Disk.medium c.args.disk.now).now c.in_ok-named.named.area c.in_ok-named.named.chained
     true (state_in c.load_named.new.tree) (not_off c.in_ok-named.named.chained c.if-not-named.false) (c.in_ok-named.ensures.loaded k) in

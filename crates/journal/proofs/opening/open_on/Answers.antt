@@ -53,8 +53,7 @@ returns-clause-beyond g c = λ k h head.
 
 pub returns-in_err-first_sync-clause-costs : goal.returns-in_err-first_sync-clause-costs
 returns-in_err-first_sync-clause-costs g c =
-    let p = err_from_is_err_and c.from_residual.result c.from_residual.ensures.1 in
-    rw p.1 (λ k. omega (arith, c.in_err-first_sync.ensures.costs k))
+    rw (err_from_is_err_and c.from_residual.result c.from_residual.ensures.1).1 (λ k. omega (arith, c.in_err-first_sync.ensures.costs k))
 
 pub returns-clause-costs : goal.returns-clause-costs
 returns-clause-costs g c = λ k.

@@ -160,13 +160,13 @@ returns-in_err-checkpoint_recovered-clause-memory g c =
 
 pub returns-in_err-g-clause-synced : goal.returns-in_err-g-clause-synced
 returns-in_err-g-clause-synced g c =
-    let p = err_from_is_err_and c.from_residual.result c.from_residual.ensures.1 in
-    rw p.1 (λ other k. still_synced (g.D.Disk.medium c.args.disk.now) (g.D.Disk.medium c.read_header.new.disk) (c.read_header.ensures.untouched k) (c.requires.synced k))
+    rw (err_from_is_err_and c.from_residual.result c.from_residual.ensures.1).1
+    (λ other k. still_synced (g.D.Disk.medium c.args.disk.now) (g.D.Disk.medium c.read_header.new.disk) (c.read_header.ensures.untouched k) (c.requires.synced k))
 
 pub returns-in_err-parts-clause-synced : goal.returns-in_err-parts-clause-synced
 returns-in_err-parts-clause-synced g c =
-    let p = err_from_is_err_and c.from_residual-in_err-parts.result c.from_residual-in_err-parts.ensures.1 in
-    rw p.1 (λ other k. still_synced (g.D.Disk.medium c.args.disk.now) (g.D.Disk.medium c.read_header.new.disk) (c.read_header.ensures.untouched k) (c.requires.synced k))
+    rw (err_from_is_err_and c.from_residual-in_err-parts.result c.from_residual-in_err-parts.ensures.1).1
+    (λ other k. still_synced (g.D.Disk.medium c.args.disk.now) (g.D.Disk.medium c.read_header.new.disk) (c.read_header.ensures.untouched k) (c.requires.synced k))
 
 pub returns-in_err-checkpoint_recovered-clause-synced : goal.returns-in_err-checkpoint_recovered-clause-synced
 returns-in_err-checkpoint_recovered-clause-synced g c =
@@ -195,26 +195,24 @@ returns-clause-beyond g c = stays g (goal.at.returns-clause-beyond g c).After-ch
 
 pub returns-in_err-g-clause-costs : goal.returns-in_err-g-clause-costs
 returns-in_err-g-clause-costs g c =
-    let p = err_from_is_err_and c.from_residual.result c.from_residual.ensures.1 in
-    rw p.1 (λ k. omega (arith, no_call (g.D.Disk.medium c.args.disk.now) (g.D.Disk.medium c.read_header.new.disk) (c.read_header.ensures.untouched k)))
+    rw (err_from_is_err_and c.from_residual.result c.from_residual.ensures.1).1
+    (λ k. omega (arith, no_call (g.D.Disk.medium c.args.disk.now) (g.D.Disk.medium c.read_header.new.disk) (c.read_header.ensures.untouched k)))
 
 pub returns-in_err-parts-clause-costs : goal.returns-in_err-parts-clause-costs
 returns-in_err-parts-clause-costs g c =
-    let p = err_from_is_err_and c.from_residual-in_err-parts.result c.from_residual-in_err-parts.ensures.1 in
-    rw p.1 (λ k. omega (arith, no_call (g.D.Disk.medium c.args.disk.now) (g.D.Disk.medium c.read_header.new.disk) (c.read_header.ensures.untouched k)))
+    rw (err_from_is_err_and c.from_residual-in_err-parts.result c.from_residual-in_err-parts.ensures.1).1
+    (λ k. omega (arith, no_call (g.D.Disk.medium c.args.disk.now) (g.D.Disk.medium c.read_header.new.disk) (c.read_header.ensures.untouched k)))
 
 pub returns-in_err-load_in_order-clause-costs : goal.returns-in_err-load_in_order-clause-costs
 returns-in_err-load_in_order-clause-costs g c =
-    let p = err_from_is_err_and c.from_residual-in_err-load_in_order.result c.from_residual-in_err-load_in_order.ensures.1 in
-    rw p.1
+    rw (err_from_is_err_and c.from_residual-in_err-load_in_order.result c.from_residual-in_err-load_in_order.ensures.1).1
     (λ k.
     let few = finish_few c.in_ok-parts.parts.tree.geometry (g.D.Disk.medium c.read_header.new.disk).now in
     omega (arith, no_call (g.D.Disk.medium c.args.disk.now) (g.D.Disk.medium c.read_header.new.disk) (c.read_header.ensures.untouched k), few, c.in_err-load_in_order.ensures.costs k))
 
 pub returns-in_err-checkpoint_recovered-clause-costs : goal.returns-in_err-checkpoint_recovered-clause-costs
 returns-in_err-checkpoint_recovered-clause-costs g c =
-    let p = err_from_is_err_and c.from_residual-in_err-checkpoint_recovered.result c.from_residual-in_err-checkpoint_recovered.ensures.1 in
-    rw p.1
+    rw (err_from_is_err_and c.from_residual-in_err-checkpoint_recovered.result c.from_residual-in_err-checkpoint_recovered.ensures.1).1
     (λ k.
     let few = finish_few c.in_ok-parts.parts.tree.geometry (g.D.Disk.medium c.read_header.new.disk).now in
     omega (

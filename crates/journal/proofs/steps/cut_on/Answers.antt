@@ -58,5 +58,4 @@ returns-clause-begun g c = λ k.
 
 pub returns-in_err-clear_other-clause-costs : goal.returns-in_err-clear_other-clause-costs
 returns-in_err-clear_other-clause-costs g c =
-    let p = err_from_is_err_and c.from_residual.result c.from_residual.ensures.1 in
-    rw p.1 (λ k. omega (arith, c.in_err-clear_other.ensures.costs k))
+    rw (err_from_is_err_and c.from_residual.result c.from_residual.ensures.1).1 (λ k. omega (arith, c.in_err-clear_other.ensures.costs k))

@@ -104,8 +104,7 @@ returns-then-is_err-clause-costs g c = λ k.
 
 pub returns-in_err-flip_root-clause-costs : goal.returns-in_err-flip_root-clause-costs
 returns-in_err-flip_root-clause-costs g c =
-    let p = err_from_is_err_and c.from_residual.result c.from_residual.ensures.1 in
-    rw p.1
+    rw (err_from_is_err_and c.from_residual.result c.from_residual.ensures.1).1
     (λ k.
     let one = one_run c.args.halves.now.geometry c.args.dirty.now c.requires.dirty c.requires.all in
     let wrote = takes_all c.write_image.result _ _ _ (sym c.is_err.ensures.value ∙ c.if-is_err.false) (c.write_image.ensures.costs k) in

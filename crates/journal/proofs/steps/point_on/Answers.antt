@@ -86,8 +86,7 @@ returns-clause-pointed g c = λ k.
 
 pub returns-in_err-clear_other-clause-costs : goal.returns-in_err-clear_other-clause-costs
 returns-in_err-clear_other-clause-costs g c =
-    let p = err_from_is_err_and c.from_residual.result c.from_residual.ensures.1 in
-    rw p.1 (λ k. omega (arith, c.in_err-clear_other.ensures.costs k))
+    rw (err_from_is_err_and c.from_residual.result c.from_residual.ensures.1).1 (λ k. omega (arith, c.in_err-clear_other.ensures.costs k))
 
 pub returns-then-is_err-clause-costs : goal.returns-then-is_err-clause-costs
 returns-then-is_err-clause-costs g c = λ k.
@@ -96,8 +95,7 @@ returns-then-is_err-clause-costs g c = λ k.
 
 pub returns-in_err-flip_root-clause-costs : goal.returns-in_err-flip_root-clause-costs
 returns-in_err-flip_root-clause-costs g c =
-    let p = err_from_is_err_and c.from_residual-in_err-flip_root.result c.from_residual-in_err-flip_root.ensures.1 in
-    rw p.1
+    rw (err_from_is_err_and c.from_residual-in_err-flip_root.result c.from_residual-in_err-flip_root.ensures.1).1
     (λ k.
     let wrote = takes_all c.write_image.result _ _ _ (sym c.is_err.ensures.value ∙ c.if-is_err.false) (c.write_image.ensures.costs k) in
     omega (arith, wrote, c.in_ok-clear_other.ensures.costs k, c.in_err-flip_root.ensures.costs k))

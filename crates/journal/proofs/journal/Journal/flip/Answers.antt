@@ -102,8 +102,7 @@ returns-clause-beyond g c = λ k. beyond_of c.self.view_is (c.flip_on.ensures.be
 
 pub returns-in_err-flip_on-clause-costs : goal.returns-in_err-flip_on-clause-costs
 returns-in_err-flip_on-clause-costs g c =
-    let p = err_from_is_err_and c.from_residual.result c.from_residual.ensures.1 in
-    rw p.1
+    rw (err_from_is_err_and c.from_residual.result c.from_residual.ensures.1).1
     (λ k.
     let start = ap (λ (h : JournalView). moment_number h.medium) c.self.view_is in
     omega (arith, start, c.in_err-flip_on.ensures.costs k))

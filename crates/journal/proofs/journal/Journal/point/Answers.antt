@@ -116,8 +116,7 @@ returns-clause-beyond g c = λ k. beyond_of c.self.view_is (c.point_on.ensures.b
 
 pub returns-in_err-point_on-clause-costs : goal.returns-in_err-point_on-clause-costs
 returns-in_err-point_on-clause-costs g c =
-    let p = err_from_is_err_and c.from_residual.result c.from_residual.ensures.1 in
-    rw p.1
+    rw (err_from_is_err_and c.from_residual.result c.from_residual.ensures.1).1
     (λ k.
     let dirty = ap point_cost c.deref-3.ensures.value ∙ ap (λ (h : JournalView). point_cost h.dirty.other) c.self.view_is in
     let start = ap (λ (h : JournalView). moment_number h.medium) c.self.view_is in
