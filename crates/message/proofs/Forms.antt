@@ -54,17 +54,14 @@ of_volume-onward make (a ∷ v ∷ f ∷ ws) = dead (number_in_word a) (v ∷ f 
 pub of_file-onward : (make : ℕ → ℕ → ℕ → Msg) (ws : List (List ℕ)) → of_file make ws ≡ onward (λ n. of_volume (make n)) ws
 of_file-onward make [] = refl
 of_file-onward make (a ∷ []) = refl
-of_file-onward make (a ∷ v ∷ []) = dead (number_in_word a) (v ∷ []) (λ n. of_volume (make n)) (λ n. refl)
 of_file-onward make (a ∷ v ∷ f ∷ []) = live (number_in_word a) (v ∷ f ∷ []) _ (λ n. of_volume (make n)) (λ n. refl)
-of_file-onward make (a ∷ v ∷ f ∷ b ∷ ws) = dead (number_in_word a) (v ∷ f ∷ b ∷ ws) (λ n. of_volume (make n)) (λ n. refl)
+of_file-onward make (a ∷ vs) = dead (number_in_word a) vs (λ n. of_volume (make n)) (λ n. refl)
 
 pub of_block-onward : (make : ℕ → ℕ → ℕ → ℕ → Msg) (ws : List (List ℕ)) → of_block make ws ≡ onward (λ n. of_file (make n)) ws
 of_block-onward make [] = refl
 of_block-onward make (a ∷ []) = refl
-of_block-onward make (a ∷ v ∷ []) = dead (number_in_word a) (v ∷ []) (λ n. of_file (make n)) (λ n. refl)
-of_block-onward make (a ∷ v ∷ f ∷ []) = dead (number_in_word a) (v ∷ f ∷ []) (λ n. of_file (make n)) (λ n. refl)
 of_block-onward make (a ∷ v ∷ f ∷ b ∷ []) = live (number_in_word a) (v ∷ f ∷ b ∷ []) _ (λ n. of_file (make n)) (λ n. refl)
-of_block-onward make (a ∷ v ∷ f ∷ b ∷ w ∷ ws) = dead (number_in_word a) (v ∷ f ∷ b ∷ w ∷ ws) (λ n. of_file (make n)) (λ n. refl)
+of_block-onward make (a ∷ vs) = dead (number_in_word a) vs (λ n. of_file (make n)) (λ n. refl)
 
 -- ---- numbers and the digits of a block
 
@@ -93,26 +90,20 @@ from_block-onward make (b ∷ d ∷ w ∷ ws) = dead (number_in_word b) (d ∷ w
 pub from_file-onward : (make : ℕ → ℕ → Block → Msg) (ws : List (List ℕ)) → from_file make ws ≡ onward (λ n. from_block (make n)) ws
 from_file-onward make [] = refl
 from_file-onward make (f ∷ []) = refl
-from_file-onward make (f ∷ b ∷ []) = dead (number_in_word f) (b ∷ []) (λ n. from_block (make n)) (λ n. refl)
 from_file-onward make (f ∷ b ∷ d ∷ []) = live (number_in_word f) (b ∷ d ∷ []) _ (λ n. from_block (make n)) (λ n. refl)
-from_file-onward make (f ∷ b ∷ d ∷ w ∷ ws) = dead (number_in_word f) (b ∷ d ∷ w ∷ ws) (λ n. from_block (make n)) (λ n. refl)
+from_file-onward make (f ∷ vs) = dead (number_in_word f) vs (λ n. from_block (make n)) (λ n. refl)
 
 pub from_volume-onward : (make : ℕ → ℕ → ℕ → Block → Msg) (ws : List (List ℕ)) → from_volume make ws ≡ onward (λ n. from_file (make n)) ws
 from_volume-onward make [] = refl
 from_volume-onward make (v ∷ []) = refl
-from_volume-onward make (v ∷ f ∷ []) = dead (number_in_word v) (f ∷ []) (λ n. from_file (make n)) (λ n. refl)
-from_volume-onward make (v ∷ f ∷ b ∷ []) = dead (number_in_word v) (f ∷ b ∷ []) (λ n. from_file (make n)) (λ n. refl)
 from_volume-onward make (v ∷ f ∷ b ∷ d ∷ []) = live (number_in_word v) (f ∷ b ∷ d ∷ []) _ (λ n. from_file (make n)) (λ n. refl)
-from_volume-onward make (v ∷ f ∷ b ∷ d ∷ w ∷ ws) = dead (number_in_word v) (f ∷ b ∷ d ∷ w ∷ ws) (λ n. from_file (make n)) (λ n. refl)
+from_volume-onward make (v ∷ vs) = dead (number_in_word v) vs (λ n. from_file (make n)) (λ n. refl)
 
 pub of_data-onward : (make : ℕ → ℕ → ℕ → ℕ → Block → Msg) (ws : List (List ℕ)) → of_data make ws ≡ onward (λ n. from_volume (make n)) ws
 of_data-onward make [] = refl
 of_data-onward make (a ∷ []) = refl
-of_data-onward make (a ∷ v ∷ []) = dead (number_in_word a) (v ∷ []) (λ n. from_volume (make n)) (λ n. refl)
-of_data-onward make (a ∷ v ∷ f ∷ []) = dead (number_in_word a) (v ∷ f ∷ []) (λ n. from_volume (make n)) (λ n. refl)
-of_data-onward make (a ∷ v ∷ f ∷ b ∷ []) = dead (number_in_word a) (v ∷ f ∷ b ∷ []) (λ n. from_volume (make n)) (λ n. refl)
 of_data-onward make (a ∷ v ∷ f ∷ b ∷ d ∷ []) = live (number_in_word a) (v ∷ f ∷ b ∷ d ∷ []) _ (λ n. from_volume (make n)) (λ n. refl)
-of_data-onward make (a ∷ v ∷ f ∷ b ∷ d ∷ w ∷ ws) = dead (number_in_word a) (v ∷ f ∷ b ∷ d ∷ w ∷ ws) (λ n. from_volume (make n)) (λ n. refl)
+of_data-onward make (a ∷ vs) = dead (number_in_word a) vs (λ n. from_volume (make n)) (λ n. refl)
 
 -- ---- numbers and the digits of a label
 
@@ -133,9 +124,8 @@ label_from_volume-onward make (v ∷ d ∷ w ∷ ws) = dead (number_in_word v) (
 pub of_label-onward : (make : ℕ → ℕ → List ℕ → Msg) (ws : List (List ℕ)) → of_label make ws ≡ onward (λ n. label_from_volume (make n)) ws
 of_label-onward make [] = refl
 of_label-onward make (a ∷ []) = refl
-of_label-onward make (a ∷ v ∷ []) = dead (number_in_word a) (v ∷ []) (λ n. label_from_volume (make n)) (λ n. refl)
 of_label-onward make (a ∷ v ∷ d ∷ []) = live (number_in_word a) (v ∷ d ∷ []) _ (λ n. label_from_volume (make n)) (λ n. refl)
-of_label-onward make (a ∷ v ∷ d ∷ w ∷ ws) = dead (number_in_word a) (v ∷ d ∷ w ∷ ws) (λ n. label_from_volume (make n)) (λ n. refl)
+of_label-onward make (a ∷ vs) = dead (number_in_word a) vs (λ n. label_from_volume (make n)) (λ n. refl)
 
 -- ---- no words
 

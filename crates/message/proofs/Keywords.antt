@@ -6,7 +6,7 @@ use Rattle.std.proofs.lemmas.Bool.{both_ways, cases_lt, cond-false, eqb-false, f
 use Rattle.std.proofs.lemmas.Option.{same_Some}
 use Rattle.std.proofs.lemmas.Slice.Eq.{bytes_eq-Decides}
 use Rattle.affinity.specs.declared.kinds.Kind.{Kind}
-use Rattle.affinity.specs.declared.kinds.Kind.TheVariants.{MakeVol, DropVol, Create, Delete, Seal, Unseal, Write, Punch, Read, List as ListFiles, Usage, Summary, SetLabel, Label}
+use Rattle.affinity.specs.declared.kinds.Kind.TheVariants.{MakeVol, Summary}
 use Rattle.language.specs.Lines.{words}
 use Rattle.language.specs.Grammar.{message_of, of_words, of_kind, keyword, kind_named, named_among, all_kinds, ◌>>=◌}
 use Rattle.message.proofs.Words.{none_before, words_whole, goes_on}
@@ -24,20 +24,8 @@ without_kind line word args h e named = by_words line (word ∷ args) h e ∙ ap
 
 -- a keyword alone in its line is a message only if it is `summary`
 pub needs_words : (k : Kind) → (k ≡ Summary → ⊥) → of_kind k [] ≡ None
-needs_words MakeVol h = refl
-needs_words DropVol h = refl
-needs_words Create h = refl
-needs_words Delete h = refl
-needs_words Seal h = refl
-needs_words Unseal h = refl
-needs_words Write h = refl
-needs_words Punch h = refl
-needs_words Read h = refl
-needs_words ListFiles h = refl
-needs_words Usage h = refl
 needs_words Summary h = absurd (h refl)
-needs_words SetLabel h = refl
-needs_words Label h = refl
+needs_words _ h = refl
 
 -- ---- a kind and its keyword
 
@@ -60,19 +48,7 @@ its_keyword word k h = named_by_keyword all_kinds word k h
 pub keyword_names : (k : Kind) → kind_named (keyword k) ≡ Some k
 unfolding kind_named
 keyword_names MakeVol = refl
-keyword_names DropVol = refl
-keyword_names Create = refl
-keyword_names Delete = refl
-keyword_names Seal = refl
-keyword_names Unseal = refl
-keyword_names Write = refl
-keyword_names Punch = refl
-keyword_names Read = refl
-keyword_names ListFiles = refl
-keyword_names Usage = refl
-keyword_names Summary = refl
-keyword_names SetLabel = refl
-keyword_names Label = refl
+keyword_names _ = refl
 
 -- a word that is no keyword names no kind
 pub names_none : (word : List ℕ) → ((k : Kind) → word ≡ keyword k → ⊥) → kind_named word ≡ None
@@ -131,19 +107,7 @@ no_length word k others fails = sym (names_none word (λ j is. elim (others j) [
 
 keyword_short : (k : Kind) → length (keyword k) ≤ 8
 keyword_short MakeVol = omega arith
-keyword_short DropVol = omega arith
-keyword_short Create = omega arith
-keyword_short Delete = omega arith
-keyword_short Seal = omega arith
-keyword_short Unseal = omega arith
-keyword_short Write = omega arith
-keyword_short Punch = omega arith
-keyword_short Read = omega arith
-keyword_short ListFiles = omega arith
-keyword_short Usage = omega arith
-keyword_short Summary = omega arith
-keyword_short SetLabel = omega arith
-keyword_short Label = omega arith
+keyword_short _ = omega arith
 
 long_word : (word : List ℕ) → 8 < length word → None ≡ kind_named word
 long_word word long = sym (names_none word (λ k is. let short = keyword_short k in omega (arith, ap length is, short, long)))

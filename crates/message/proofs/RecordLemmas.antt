@@ -1,8 +1,8 @@
 -- Messages and their records.
-use Rattle.std.proofs.Common.{◌≡◌, ℕ, lit≤, zero, suc, true, ◌+◌, ◌<◌, List, [], ◌∷◌, ◌++◌, length, length-append, length-drop, length-take-le, get_or, take, drop, replicate, Option, Some, None, refl, ap, sym, subst, ◌∙◌, inl, inr, arith}
+use Rattle.std.proofs.Common.{◌≡◌, ℕ, lit≤, zero, suc, true, ◌+◌, ◌<◌, List, [], ◌∷◌, ◌++◌, length, length-append, length-drop, length-take-le, get_or, take, drop, replicate, Option, Some, None, refl, ap, sym, subst, ◌∙◌, arith}
 use Rattle.std.specs.Prelude.{option_map, slice_index, nat_lt, ◌↔◌, ◌&&◌}
 use Rattle.std.specs.List.{AllByRecursion}
-use Rattle.std.proofs.lemmas.Bool.{and_parts, ltb-true, eq-eqb, ne_eqb, cases_eq, cond-true, cond-false}
+use Rattle.std.proofs.lemmas.Bool.{and_parts, ltb-true}
 use Rattle.std.proofs.lemmas.List.{take_at, drop_at, drop-drop, drop_all, append-nil, take-append-drop}
 use Rattle.std.proofs.lemmas.Option.{same_Some}
 use Rattle.byteorder.specs.Endian.{little_bytes, little_number}
@@ -11,10 +11,9 @@ use Rattle.affinity.specs.declared.kinds.Kind.TheVariants as kinds
 use Rattle.affinity.specs.declared.geometry.Geometry.{Geometry}
 use Rattle.language.specs.declared.Block.{Block}
 use Rattle.language.specs.declared.Msg.{Msg}
-use Rattle.language.specs.declared.Msg.TheVariants.{MakeVol, DropVol, Create, Delete, Seal, Unseal, Write, Punch, Read, List as ListFiles, Usage, Summary, SetLabel, Label}
+use Rattle.language.specs.declared.Msg.TheVariants.{Create, Delete, Write, Punch, Read, Summary, SetLabel}
 use Rattle.language.specs.Messages.{kind, numbers, filled, four_numbers, is_in_range, AreSizedBytes, IsMessage}
-use Rattle.message.specs.Records.{FitsRecord, assembled, data_of, message_in_fields, head_with, record_head, kind_number, kind_numbered, numbered_among, record_of}
-use Rattle.language.specs.Grammar.{all_kinds}
+use Rattle.message.specs.Records.{FitsRecord, assembled, data_of, message_in_fields, head_with, record_head, kind_number, kind_numbered, record_of}
 use borrow.Rule.Slice.PartMut.{put_mid, post_of}
 
 -- ---- the numbers of a message in range
@@ -64,20 +63,13 @@ four_fit g a v f b h =
     record { room = (omega arith, (omega arith, (omega arith, tt))); block = omega arith }
 
 fits : (g : Geometry) (m : Msg) → is_in_range g m ≡ true → Fits (four_numbers m)
-fits g (MakeVol a v) h = two_fit g a v h
-fits g (DropVol a v) h = two_fit g a v h
 fits g (Create a v f) h = three_fit g a v f h
 fits g (Delete a v f) h = three_fit g a v f h
-fits g (Seal a v) h = two_fit g a v h
-fits g (Unseal a v) h = two_fit g a v h
 fits g (Write a v f b content) h = four_fit g a v f b h
 fits g (Punch a v f b) h = four_fit g a v f b h
 fits g (Read a v f b) h = four_fit g a v f b h
-fits g (ListFiles a v) h = two_fit g a v h
-fits g (Usage a v) h = two_fit g a v h
 fits g Summary h = record { room = (lit≤ tt, (lit≤ tt, (lit≤ tt, tt))); block = lit≤ tt }
-fits g (SetLabel a v bytes) h = two_fit g a v h
-fits g (Label a v) h = two_fit g a v h
+fits g _ h = two_fit g _ _ h
 
 -- what encoding asks for holds of each message in range
 pub in_range_has_room : (g : Geometry) (m : Msg) → is_in_range g m ≡ true → FitsRecord m
@@ -88,37 +80,13 @@ in_range_has_room g m h = (fits g m h).room
 kind_again : (k : Kind) → kind_numbered (kind_number k) ≡ Some k
 unfolding kind_numbered
 kind_again kinds.MakeVol = refl
-kind_again kinds.DropVol = refl
-kind_again kinds.Create = refl
-kind_again kinds.Delete = refl
-kind_again kinds.Seal = refl
-kind_again kinds.Unseal = refl
-kind_again kinds.Write = refl
-kind_again kinds.Punch = refl
-kind_again kinds.Read = refl
-kind_again kinds.List = refl
-kind_again kinds.Usage = refl
-kind_again kinds.Summary = refl
-kind_again kinds.SetLabel = refl
-kind_again kinds.Label = refl
+kind_again _ = refl
 
 -- a message is the one that its own kind, numbers and data make
 made_again : (m : Msg) → IsMessage m → assembled (kind m) (get_or (four_numbers m) 0 0) (get_or (four_numbers m) 1 0) (get_or (four_numbers m) 2 0) (get_or (four_numbers m) 3 0) (data_of m) ≡ m
 unfolding data_of
-made_again (MakeVol a v) h = refl
-made_again (DropVol a v) h = refl
-made_again (Create a v f) h = refl
-made_again (Delete a v f) h = refl
-made_again (Seal a v) h = refl
-made_again (Unseal a v) h = refl
-made_again (Write a v f b content) h = refl
-made_again (Punch a v f b) h = refl
-made_again (Read a v f b) h = refl
-made_again (ListFiles a v) h = refl
-made_again (Usage a v) h = refl
-made_again Summary h = refl
 made_again (SetLabel a v bytes) h = ap (SetLabel a v) (take_at bytes (replicate 480 0) 32 h.0)
-made_again (Label a v) h = refl
+made_again _ h = refl
 
 low_byte : (b : ℕ) → b < 65536 → little_number 2 (little_bytes 2 b) ≡ b
 low_byte b h = omega arith
@@ -131,11 +99,8 @@ fields_decoded k bytes {a} {v} {f} {b} h e =
     rw (e, kind_again k) (ap (λ (x : ℕ). Some (assembled k a v f x bytes)) block)
 
 four : (ns : List ℕ) → filled ns ≡ get_or (filled ns) 0 0 ∷ get_or (filled ns) 1 0 ∷ get_or (filled ns) 2 0 ∷ get_or (filled ns) 3 0 ∷ []
-four [] = refl
-four (a ∷ []) = refl
-four (a ∷ v ∷ []) = refl
-four (a ∷ v ∷ f ∷ []) = refl
 four (a ∷ v ∷ f ∷ b ∷ more) = refl
+four _ = refl
 
 -- the fields of a record encode its message
 pub record_says : (g : Geometry) (m : Msg) → IsMessage m → is_in_range g m ≡ true → message_in_fields (record_of m) ≡ Some m
@@ -146,20 +111,9 @@ record_says g m whole h =
 
 pub zeros_else : (m : Msg) → ((a v f b : ℕ) (content : Block) → m ≡ Write a v f b content → ⊥) → ((a v : ℕ) (bytes : List ℕ) → m ≡ SetLabel a v bytes → ⊥) → data_of m ≡ replicate 512 0
 unfolding data_of
-zeros_else (MakeVol a v) no_write no_setlabel = refl
-zeros_else (DropVol a v) no_write no_setlabel = refl
-zeros_else (Create a v f) no_write no_setlabel = refl
-zeros_else (Delete a v f) no_write no_setlabel = refl
-zeros_else (Seal a v) no_write no_setlabel = refl
-zeros_else (Unseal a v) no_write no_setlabel = refl
 zeros_else (Write a v f b content) no_write no_setlabel = absurd (no_write a v f b content refl)
-zeros_else (Punch a v f b) no_write no_setlabel = refl
-zeros_else (Read a v f b) no_write no_setlabel = refl
-zeros_else (ListFiles a v) no_write no_setlabel = refl
-zeros_else (Usage a v) no_write no_setlabel = refl
-zeros_else Summary no_write no_setlabel = refl
 zeros_else (SetLabel a v bytes) no_write no_setlabel = absurd (no_setlabel a v bytes refl)
-zeros_else (Label a v) no_write no_setlabel = refl
+zeros_else _ no_write no_setlabel = refl
 
 pub put_together : (out head bytes : List ℕ) (k : ℕ) → length out ≡ 520 → length head ≡ 8 → length bytes ≡ 512 → k ≡ 512 → put_mid 8 k (head ++ post_of 0 8 out) bytes ≡ head ++ bytes
 put_together out head bytes k room h d n =
@@ -185,72 +139,22 @@ taken_fit (suc n) [] h = tt
 taken_fit (suc n) (b ∷ bytes) h = (h.0, taken_fit n bytes h.1)
 
 assembled_whole : (k : Kind) (a v f b : ℕ) (bytes : List ℕ) → AreSizedBytes 512 bytes → IsMessage (assembled k a v f b bytes)
-assembled_whole kinds.MakeVol a v f b bytes h = tt
-assembled_whole kinds.DropVol a v f b bytes h = tt
-assembled_whole kinds.Create a v f b bytes h = tt
-assembled_whole kinds.Delete a v f b bytes h = tt
-assembled_whole kinds.Seal a v f b bytes h = tt
-assembled_whole kinds.Unseal a v f b bytes h = tt
 assembled_whole kinds.Write a v f b bytes h = h
-assembled_whole kinds.Punch a v f b bytes h = tt
-assembled_whole kinds.Read a v f b bytes h = tt
-assembled_whole kinds.List a v f b bytes h = tt
-assembled_whole kinds.Usage a v f b bytes h = tt
-assembled_whole kinds.Summary a v f b bytes h = tt
 assembled_whole kinds.SetLabel a v f b bytes h = (length-take-le 32 bytes (let len = h.0 in omega arith), taken_fit 32 bytes h.1)
-assembled_whole kinds.Label a v f b bytes h = tt
+assembled_whole _ a v f b bytes h = tt
 
 assembled_room : (k : Kind) {a v f : ℕ} (b : ℕ) (bytes : List ℕ) → a < 256 → v < 256 → f < 256 → FitsRecord (assembled k a v f b bytes)
-assembled_room kinds.MakeVol b bytes a_fits v_fits f_fits = (a_fits, (v_fits, (lit≤ tt, tt)))
-assembled_room kinds.DropVol b bytes a_fits v_fits f_fits = (a_fits, (v_fits, (lit≤ tt, tt)))
 assembled_room kinds.Create b bytes a_fits v_fits f_fits = (a_fits, (v_fits, (f_fits, tt)))
 assembled_room kinds.Delete b bytes a_fits v_fits f_fits = (a_fits, (v_fits, (f_fits, tt)))
-assembled_room kinds.Seal b bytes a_fits v_fits f_fits = (a_fits, (v_fits, (lit≤ tt, tt)))
-assembled_room kinds.Unseal b bytes a_fits v_fits f_fits = (a_fits, (v_fits, (lit≤ tt, tt)))
 assembled_room kinds.Write b bytes a_fits v_fits f_fits = (a_fits, (v_fits, (f_fits, tt)))
 assembled_room kinds.Punch b bytes a_fits v_fits f_fits = (a_fits, (v_fits, (f_fits, tt)))
 assembled_room kinds.Read b bytes a_fits v_fits f_fits = (a_fits, (v_fits, (f_fits, tt)))
-assembled_room kinds.List b bytes a_fits v_fits f_fits = (a_fits, (v_fits, (lit≤ tt, tt)))
-assembled_room kinds.Usage b bytes a_fits v_fits f_fits = (a_fits, (v_fits, (lit≤ tt, tt)))
 assembled_room kinds.Summary b bytes a_fits v_fits f_fits = (lit≤ tt, (lit≤ tt, (lit≤ tt, tt)))
-assembled_room kinds.SetLabel b bytes a_fits v_fits f_fits = (a_fits, (v_fits, (lit≤ tt, tt)))
-assembled_room kinds.Label b bytes a_fits v_fits f_fits = (a_fits, (v_fits, (lit≤ tt, tt)))
+assembled_room _ b bytes a_fits v_fits f_fits = (a_fits, (v_fits, (lit≤ tt, tt)))
 
 kind_assembled : (k : Kind) (a v f b : ℕ) (bytes : List ℕ) → kind (assembled k a v f b bytes) ≡ k
 kind_assembled kinds.MakeVol a v f b bytes = refl
-kind_assembled kinds.DropVol a v f b bytes = refl
-kind_assembled kinds.Create a v f b bytes = refl
-kind_assembled kinds.Delete a v f b bytes = refl
-kind_assembled kinds.Seal a v f b bytes = refl
-kind_assembled kinds.Unseal a v f b bytes = refl
-kind_assembled kinds.Write a v f b bytes = refl
-kind_assembled kinds.Punch a v f b bytes = refl
-kind_assembled kinds.Read a v f b bytes = refl
-kind_assembled kinds.List a v f b bytes = refl
-kind_assembled kinds.Usage a v f b bytes = refl
-kind_assembled kinds.Summary a v f b bytes = refl
-kind_assembled kinds.SetLabel a v f b bytes = refl
-kind_assembled kinds.Label a v f b bytes = refl
-
--- the kinds and their numbers
-numbered_by : (ks : List Kind) (n : ℕ) (k : Kind) → numbered_among ks n ≡ Some k → n ≡ kind_number k
-numbered_by [] n k h = cc h
-numbered_by (x ∷ ks) n k h = elim (cases_eq n (kind_number x)) [
-  | inl is ↦ is ∙ ap kind_number (same_Some x k (sym (cond-true _ _ _ (eq-eqb n (kind_number x) is)) ∙ h))
-  | inr not ↦ numbered_by ks n k (sym (cond-false _ _ _ (ne_eqb n (kind_number x) not)) ∙ h)
-]
-
--- a kind's number gives that kind
-pub numbers_it : (n : ℕ) (k : Kind) → n ≡ kind_number k → Some k ≡ kind_numbered n
-numbers_it n k is = sym (ap kind_numbered is ∙ kind_again k)
-
--- a number that is no kind's gives none
-pub numbers_none : (n : ℕ) → ((k : Kind) → n ≡ kind_number k → ⊥) → kind_numbered n ≡ None
-unfolding kind_numbered
-numbers_none n none = elim (kind_numbered n) as (λ o. kind_numbered n ≡ o → kind_numbered n ≡ None) [
-  | None ↦ λ e. e
-  | Some k ↦ λ e. absurd (none k (numbered_by all_kinds n k e))
-] refl
+kind_assembled _ a v f b bytes = refl
 
 -- a message that is made of an optional kind is made of a kind
 made : (o : Option Kind) (make : Kind → Msg) (m : Msg) → option_map make o ≡ Some m → (k : Kind) × (m ≡ make k)
@@ -327,11 +231,8 @@ some_fields bytes k m h e =
     ∙ ap (λ (o : Option Kind). option_map (λ k. assembled k (slice_index bytes 1) (slice_index bytes 2) (slice_index bytes 3) (little_number 2 (take 2 (drop 4 bytes))) (drop 8 bytes)) o) h
 
 length_filled : (k : ℕ) (ns : List ℕ) → length (head_with k (filled ns)) ≡ 8
-length_filled k [] = refl
-length_filled k (a ∷ []) = refl
-length_filled k (a ∷ v ∷ []) = refl
-length_filled k (a ∷ v ∷ f ∷ []) = refl
 length_filled k (a ∷ v ∷ f ∷ b ∷ more) = refl
+length_filled k _ = refl
 
 pub length_head : (m : Msg) → length (record_head m) ≡ 8
 length_head m = length_filled (kind_number (kind m)) (numbers m)

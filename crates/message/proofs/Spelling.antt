@@ -1,5 +1,5 @@
 -- The two definitions agree: the message that the words of a line make (`message_of`), and the lines that spell a message (`Spells`).
-use Rattle.std.proofs.Common.{◌≡◌, ℕ, ◌<◌, ◌≤◌, Bool, true, codes, List, [], ◌∷◌, ◌++◌, map, length, Option, Some, None, refl, ap, sym, subst, ◌∙◌, inl, inr}
+use Rattle.std.proofs.Common.{◌≡◌, ℕ, ◌<◌, ◌≤◌, Bool, true, List, [], ◌∷◌, ◌++◌, map, length, Option, Some, None, refl, ap, sym, subst, ◌∙◌, inl, inr}
 use Rattle.std.specs.Prelude.{◌&&◌, not, ◌==◌, nat_lt, ◌↔◌}
 use Rattle.std.specs.List.{AllByRecursion, join_with_byte}
 use Rattle.std.specs.Fmt.{decimal}
@@ -10,7 +10,7 @@ use Rattle.affinity.specs.declared.kinds.Kind.{Kind}
 use Rattle.affinity.specs.declared.kinds.Kind.TheVariants as kinds
 use Rattle.language.specs.declared.Block.{Block}
 use Rattle.language.specs.declared.Msg.{Msg}
-use Rattle.language.specs.declared.Msg.TheVariants.{MakeVol, DropVol, Create, Delete, Seal, Unseal, Write, Punch, Read, List as ListFiles, Usage, Summary, SetLabel, Label}
+use Rattle.language.specs.declared.Msg.TheVariants.{Create, Delete, Write, Punch, Read, Summary, SetLabel}
 use Rattle.language.specs.Lines.{words, number_in_word, block_in_word, label_in_word}
 use Rattle.language.specs.Messages.{kind, numbers}
 use Rattle.language.specs.Grammar.{message_of, of_words, of_kind, of_volume, of_file, of_block, of_data, of_label, of_nothing, kind_named, keyword, IsData, SpellsBytes, Spells, ◌>>=◌}
@@ -47,47 +47,33 @@ says_more w n ws ns h more =
     }
 
 volume_spelled : (make : ℕ → ℕ → Msg) (ws : List (List ℕ)) (m : Msg) → of_volume make ws ≡ Some m → (a : ℕ) × (v : ℕ) × (m ≡ make a v) × Say ws (a ∷ v ∷ [])
-volume_spelled make [] m h = cc h
-volume_spelled make (x ∷ []) m h = cc h
 volume_spelled make (x ∷ y ∷ []) m h =
     let a = bind_some (number_in_word x) _ m h in
     let v = bind_some (number_in_word y) _ m a.2 in
     (a.0, v.0, sym (same_Some _ m v.2), says_more x a.0 _ _ a.1 (says_more y v.0 _ _ v.1 says_none))
-volume_spelled make (x ∷ y ∷ z ∷ ws) m h = cc h
+volume_spelled make _ m h = cc h
 
 file_spelled : (make : ℕ → ℕ → ℕ → Msg) (ws : List (List ℕ)) (m : Msg) → of_file make ws ≡ Some m → (a : ℕ) × (v : ℕ) × (f : ℕ) × (m ≡ make a v f) × Say ws (a ∷ v ∷ f ∷ [])
-file_spelled make [] m h = cc h
-file_spelled make (x ∷ []) m h = cc h
-file_spelled make (x ∷ y ∷ []) m h = cc h
 file_spelled make (x ∷ y ∷ z ∷ []) m h =
     let a = bind_some (number_in_word x) _ m h in
     let v = bind_some (number_in_word y) _ m a.2 in
     let f = bind_some (number_in_word z) _ m v.2 in
     (a.0, v.0, f.0, sym (same_Some _ m f.2), says_more x a.0 _ _ a.1 (says_more y v.0 _ _ v.1 (says_more z f.0 _ _ f.1 says_none)))
-file_spelled make (x ∷ y ∷ z ∷ w ∷ ws) m h = cc h
+file_spelled make _ m h = cc h
 
 block_spelled : (make : ℕ → ℕ → ℕ → ℕ → Msg) (ws : List (List ℕ)) (m : Msg) → of_block make ws ≡ Some m
     → (a : ℕ) × (v : ℕ) × (f : ℕ) × (b : ℕ) × (m ≡ make a v f b) × Say ws (a ∷ v ∷ f ∷ b ∷ [])
-block_spelled make [] m h = cc h
-block_spelled make (x ∷ []) m h = cc h
-block_spelled make (x ∷ y ∷ []) m h = cc h
-block_spelled make (x ∷ y ∷ z ∷ []) m h = cc h
 block_spelled make (x ∷ y ∷ z ∷ w ∷ []) m h =
     let a = bind_some (number_in_word x) _ m h in
     let v = bind_some (number_in_word y) _ m a.2 in
     let f = bind_some (number_in_word z) _ m v.2 in
     let b = bind_some (number_in_word w) _ m f.2 in
     (a.0, v.0, f.0, b.0, sym (same_Some _ m b.2), says_more x a.0 _ _ a.1 (says_more y v.0 _ _ v.1 (says_more z f.0 _ _ f.1 (says_more w b.0 _ _ b.1 says_none))))
-block_spelled make (x ∷ y ∷ z ∷ w ∷ u ∷ ws) m h = cc h
+block_spelled make _ m h = cc h
 
 data_spelled : (make : ℕ → ℕ → ℕ → ℕ → Block → Msg) (ws : List (List ℕ)) (m : Msg) → of_data make ws ≡ Some m
     → (a : ℕ) × (v : ℕ) × (f : ℕ) × (b : ℕ) × (content : Block) × (digits : List ℕ)
     × (m ≡ make a v f b content) × (ws ≡ map decimal (a ∷ v ∷ f ∷ b ∷ []) ++ digits ∷ []) × AreSmall (a ∷ v ∷ f ∷ b ∷ []) × SpellsBytes 512 digits content.0
-data_spelled make [] m h = cc h
-data_spelled make (x ∷ []) m h = cc h
-data_spelled make (x ∷ y ∷ []) m h = cc h
-data_spelled make (x ∷ y ∷ z ∷ []) m h = cc h
-data_spelled make (x ∷ y ∷ z ∷ w ∷ []) m h = cc h
 data_spelled make (x ∷ y ∷ z ∷ w ∷ u ∷ []) m h =
     let a = bind_some (number_in_word x) _ m h in
     let v = bind_some (number_in_word y) _ m a.2 in
@@ -96,21 +82,18 @@ data_spelled make (x ∷ y ∷ z ∷ w ∷ u ∷ []) m h =
     let d = bind_some (block_in_word u) _ m b.2 in
     let spelled = says_more x a.0 _ _ a.1 (says_more y v.0 _ _ v.1 (says_more z f.0 _ _ f.1 (says_more w b.0 _ _ b.1 says_none))) in
     (a.0, v.0, f.0, b.0, d.0, u, sym (same_Some _ m d.2), ap (λ (vs : List (List ℕ)). vs ++ u ∷ []) spelled.words, spelled.small, block_says u d.0 d.1)
-data_spelled make (x ∷ y ∷ z ∷ w ∷ u ∷ t ∷ ws) m h = cc h
+data_spelled make _ m h = cc h
 
 label_spelled : (make : ℕ → ℕ → List ℕ → Msg) (ws : List (List ℕ)) (m : Msg) → of_label make ws ≡ Some m
     → (a : ℕ) × (v : ℕ) × (bytes : List ℕ) × (digits : List ℕ)
     × (m ≡ make a v bytes) × (ws ≡ map decimal (a ∷ v ∷ []) ++ digits ∷ []) × AreSmall (a ∷ v ∷ []) × SpellsBytes 32 digits bytes
-label_spelled make [] m h = cc h
-label_spelled make (x ∷ []) m h = cc h
-label_spelled make (x ∷ y ∷ []) m h = cc h
 label_spelled make (x ∷ y ∷ z ∷ []) m h =
     let a = bind_some (number_in_word x) _ m h in
     let v = bind_some (number_in_word y) _ m a.2 in
     let d = bind_some (label_in_word z) _ m v.2 in
     let spelled = says_more x a.0 _ _ a.1 (says_more y v.0 _ _ v.1 says_none) in
     (a.0, v.0, d.0, z, sym (same_Some _ m d.2), ap (λ (vs : List (List ℕ)). vs ++ z ∷ []) spelled.words, spelled.small, label_says z d.0 d.1)
-label_spelled make (x ∷ y ∷ z ∷ w ∷ ws) m h = cc h
+label_spelled make _ m h = cc h
 
 nothing_spelled : (m : Msg) (ws : List (List ℕ)) (n : Msg) → of_nothing m ws ≡ Some n → (n ≡ m) × Say ws []
 nothing_spelled m [] n h = (sym (same_Some m n h), says_none)
@@ -174,20 +157,14 @@ module _ (line : List ℕ) (args : List (List ℕ)) (m : Msg) (short : length li
       subst (λ (n : Msg). Spells line n) (sym s.0) (plain_spells {k = kinds.Summary} (record { kinded = refl; numbered = refl; no_data = refl }) short e s.1)
 
   kind_spells : (k : Kind) → words line ≡ keyword k ∷ args → of_kind k args ≡ Some m → Spells line m
-  kind_spells kinds.MakeVol e h = volume_spells MakeVol kinds.MakeVol (λ a v. record { kinded = refl; numbered = refl; no_data = refl }) e h
-  kind_spells kinds.DropVol e h = volume_spells DropVol kinds.DropVol (λ a v. record { kinded = refl; numbered = refl; no_data = refl }) e h
   kind_spells kinds.Create e h = file_spells Create kinds.Create (λ a v f. record { kinded = refl; numbered = refl; no_data = refl }) e h
   kind_spells kinds.Delete e h = file_spells Delete kinds.Delete (λ a v f. record { kinded = refl; numbered = refl; no_data = refl }) e h
-  kind_spells kinds.Seal e h = volume_spells Seal kinds.Seal (λ a v. record { kinded = refl; numbered = refl; no_data = refl }) e h
-  kind_spells kinds.Unseal e h = volume_spells Unseal kinds.Unseal (λ a v. record { kinded = refl; numbered = refl; no_data = refl }) e h
   kind_spells kinds.Write e h = write_spells e h
   kind_spells kinds.Punch e h = block_spells Punch kinds.Punch (λ a v f b. record { kinded = refl; numbered = refl; no_data = refl }) e h
   kind_spells kinds.Read e h = block_spells Read kinds.Read (λ a v f b. record { kinded = refl; numbered = refl; no_data = refl }) e h
-  kind_spells kinds.List e h = volume_spells ListFiles kinds.List (λ a v. record { kinded = refl; numbered = refl; no_data = refl }) e h
-  kind_spells kinds.Usage e h = volume_spells Usage kinds.Usage (λ a v. record { kinded = refl; numbered = refl; no_data = refl }) e h
   kind_spells kinds.Summary e h = summary_spells e h
   kind_spells kinds.SetLabel e h = setlabel_spells e h
-  kind_spells kinds.Label e h = volume_spells Label kinds.Label (λ a v. record { kinded = refl; numbered = refl; no_data = refl }) e h
+  kind_spells k e h = volume_spells _ k (λ a v. record { kinded = refl; numbered = refl; no_data = refl }) e h
 
 words_spell : (line : List ℕ) (ws : List (List ℕ)) (m : Msg) → length line ≤ 1100 → words line ≡ ws → of_words ws ≡ Some m → Spells line m
 words_spell line [] m short e h = cc h
@@ -221,20 +198,8 @@ no_space_from_test (b ∷ w) h =
 
 keyword_no_space : (k : Kind) → HasNoSpace (keyword k)
 unfolding has_no_space
-keyword_no_space kinds.MakeVol = no_space_from_test (codes "makevol") refl
-keyword_no_space kinds.DropVol = no_space_from_test (codes "dropvol") refl
-keyword_no_space kinds.Create = no_space_from_test (codes "create") refl
-keyword_no_space kinds.Delete = no_space_from_test (codes "delete") refl
-keyword_no_space kinds.Seal = no_space_from_test (codes "seal") refl
-keyword_no_space kinds.Unseal = no_space_from_test (codes "unseal") refl
-keyword_no_space kinds.Write = no_space_from_test (codes "write") refl
-keyword_no_space kinds.Punch = no_space_from_test (codes "punch") refl
-keyword_no_space kinds.Read = no_space_from_test (codes "read") refl
-keyword_no_space kinds.List = no_space_from_test (codes "list") refl
-keyword_no_space kinds.Usage = no_space_from_test (codes "usage") refl
-keyword_no_space kinds.Summary = no_space_from_test (codes "summary") refl
-keyword_no_space kinds.SetLabel = no_space_from_test (codes "setlabel") refl
-keyword_no_space kinds.Label = no_space_from_test (codes "label") refl
+keyword_no_space kinds.MakeVol = no_space_from_test (keyword kinds.MakeVol) refl
+keyword_no_space k = no_space_from_test (keyword k) refl
 
 numbers_no_space : (ns : List ℕ) (behind : List (List ℕ)) → AreSmall ns → AllByRecursion HasNoSpace behind → AllByRecursion HasNoSpace (map decimal ns ++ behind)
 numbers_no_space [] behind h rest = rest
@@ -249,18 +214,7 @@ one_no_space behind digits e h = subst (λ (ws : List (List ℕ)). AllByRecursio
 data_no_space : (m : Msg) (behind : List (List ℕ)) → IsData m behind → AllByRecursion HasNoSpace behind
 data_no_space (Write a v f b content) behind h = one_no_space behind h.0 h.1 (block_no_space h.0 content (says_block h.0 content h.2))
 data_no_space (SetLabel a v bytes) behind h = one_no_space behind h.0 h.1 (label_no_space h.0 bytes (says_label h.0 bytes h.2))
-data_no_space (MakeVol a v) behind h = none_no_space behind h
-data_no_space (DropVol a v) behind h = none_no_space behind h
-data_no_space (Create a v f) behind h = none_no_space behind h
-data_no_space (Delete a v f) behind h = none_no_space behind h
-data_no_space (Seal a v) behind h = none_no_space behind h
-data_no_space (Unseal a v) behind h = none_no_space behind h
-data_no_space (Punch a v f b) behind h = none_no_space behind h
-data_no_space (Read a v f b) behind h = none_no_space behind h
-data_no_space (ListFiles a v) behind h = none_no_space behind h
-data_no_space (Usage a v) behind h = none_no_space behind h
-data_no_space Summary behind h = none_no_space behind h
-data_no_space (Label a v) behind h = none_no_space behind h
+data_no_space _ behind h = none_no_space behind h
 
 -- the words of a line that spells a message
 spelled_words : (line : List ℕ) (m : Msg) (s : Spells line m) → words line ≡ keyword (kind m) ∷ map decimal (numbers m) ++ s.words_behind
@@ -303,20 +257,14 @@ label_read make {a} {v} h is spelled =
 
 -- what a line spells is what its words make
 made_again : (m : Msg) (behind : List (List ℕ)) → AreSmall (numbers m) → IsData m behind → of_kind (kind m) (map decimal (numbers m) ++ behind) ≡ Some m
-made_again (MakeVol a v) behind small none = volume_read MakeVol small none
-made_again (DropVol a v) behind small none = volume_read DropVol small none
 made_again (Create a v f) behind small none = file_read Create small none
 made_again (Delete a v f) behind small none = file_read Delete small none
-made_again (Seal a v) behind small none = volume_read Seal small none
-made_again (Unseal a v) behind small none = volume_read Unseal small none
 made_again (Write a v f b content) behind small d = data_read Write small d.1 (says_block d.0 content d.2)
 made_again (Punch a v f b) behind small none = block_read Punch small none
 made_again (Read a v f b) behind small none = block_read Read small none
-made_again (ListFiles a v) behind small none = volume_read ListFiles small none
-made_again (Usage a v) behind small none = volume_read Usage small none
 made_again Summary behind small none = ap (of_nothing Summary) none
 made_again (SetLabel a v bytes) behind small d = label_read SetLabel small d.1 (says_label d.0 bytes d.2)
-made_again (Label a v) behind small none = volume_read Label small none
+made_again _ behind small none = volume_read _ small none
 
 pub spelled_is_read : (line : List ℕ) (m : Msg) → Spells line m → message_of line ≡ Some m
 spelled_is_read line m s = spelled_as line m s ∙ made_again m s.words_behind s.fits s.content

@@ -1,12 +1,12 @@
 //! The head of a line: the kind and the numbers of its message, the data not decoded; and the message of a head. In functions that work
 //! behind the keyword the argument `line` is the rest of the line.
 
-ghost use Rattle.std.specs.Prelude.{◌≡◌, ◌↔◌, [], false, option_map, Option, MatchOption, Some, None};
+ghost use Rattle.std.specs.Prelude.{◌≡◌, ◌↔◌, [], option_map, Option, MatchOption, Some, None};
 ghost use Rattle.language.specs.declared.Msg.{Msg};
 ghost use Rattle.language.specs.declared.Msg.TheVariants.{Write as write, SetLabel as set_label};
 ghost use Rattle.language.specs.Lines.{words, block_in_word, bytes_in_word, label_in_word};
 ghost use Rattle.language.specs.Grammar.{message_of, Spells, of_kind, of_data, of_label};
-ghost use Rattle.message.specs.Heads.{IsHead, has_data, message_without_data, writing, labeling};
+ghost use Rattle.message.specs.Heads.{IsHead, writing, labeling};
 ghost use Rattle.message.specs.declared.heads.Head.TheVariants.{NoMessage, WithoutData};
 
 use crate::LONGEST_LINE;
@@ -15,6 +15,7 @@ use crate::parsing::{
     block_numbers, bytes_in_word, file_numbers, kind_named, number_before_space, split_keyword,
     volume_numbers,
 };
+use crate::records::assembled;
 use affinity::Kind;
 use language::{Block, Msg};
 
@@ -49,7 +50,7 @@ impl Head<'_> {
     {
         match self {
             Head::NoMessage => None,
-            Head::WithoutData(kind, numbers) => Some(message_without_data(kind, numbers)),
+            Head::WithoutData(kind, numbers) => Some(assembled(kind, numbers, &[])),
             Head::Writes(numbers, digits) => {
                 let [a, v, f, b] = numbers;
                 Some(Msg::Write(a, v, f, b, Block(bytes_in_word(digits)?)))
@@ -59,29 +60,6 @@ impl Head<'_> {
                 Some(Msg::SetLabel(a, v, decode_label(digits)?))
             }
         }
-    }
-}
-
-/// The message of a kind without data and its numbers. It is built in place: no 512-byte block is copied.
-fn message_without_data(kind: Kind, numbers: [u16; 4]) -> Msg
-    requires { has_data kind ≡ false }
-    ensures { result ≡ message_without_data kind numbers }
-{
-    let [a, v, f, b] = numbers;
-    match kind {
-        Kind::MakeVol => Msg::MakeVol(a, v),
-        Kind::DropVol => Msg::DropVol(a, v),
-        Kind::Create => Msg::Create(a, v, f),
-        Kind::Delete => Msg::Delete(a, v, f),
-        Kind::Seal => Msg::Seal(a, v),
-        Kind::Unseal => Msg::Unseal(a, v),
-        Kind::Punch => Msg::Punch(a, v, f, b),
-        Kind::Read => Msg::Read(a, v, f, b),
-        Kind::List => Msg::List(a, v),
-        Kind::Usage => Msg::Usage(a, v),
-        Kind::Summary => Msg::Summary,
-        Kind::Label => Msg::Label(a, v),
-        Kind::Write | Kind::SetLabel => unreachable!(),
     }
 }
 

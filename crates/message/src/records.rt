@@ -1,8 +1,9 @@
 //! Messages as records of 520 bytes.
 
-ghost use Rattle.std.specs.Prelude.{◌≡◌, ◌↔◌, ◌++◌, true, Some, take, drop, replicate, IfSome, IsTrue, slice_index};
+ghost use Rattle.std.specs.Prelude.{◌≡◌, ◌↔◌, ◌++◌, true, Some, take, drop, length, replicate, IfSome, IsTrue, slice_index};
 ghost use Rattle.affinity.specs.declared.kinds.Kind.{Kind};
 ghost use Rattle.language.specs.Messages.{IsMessage, is_in_range};
+ghost use Rattle.message.specs.Heads.{has_data};
 ghost use Rattle.message.specs.Records.{FitsRecord, assembled, data_of, message_in_fields, record_head, kind_number, kind_numbered, record_of};
 ghost use Rattle.language.specs.declared.Msg.{Msg};
 
@@ -89,12 +90,15 @@ fn message_in_fields(bytes: &[u8; 520]) -> Option<Msg>
         u16::from(bytes[3]),
         LittleEndian::read_u16(&bytes[4..6]),
     ];
-    Some(assembled(kind, numbers, bytes))
+    Some(assembled(kind, numbers, &bytes[8..]))
 }
 
-fn assembled(kind: Kind, numbers: [u16; 4], bytes: &[u8; 520]) -> Msg
+/// The message of a kind with these numbers, and with the data that its record has behind the head; a kind without data needs none. It is
+/// built in place: without a block none is copied.
+pub(crate) fn assembled(kind: Kind, numbers: [u16; 4], behind: &[u8]) -> Msg
+    requires { has_data kind ≡ true → length behind.now ≡ 512 }
     ensures { let n = numbers in result
-        ≡ assembled kind (slice_index n 0) (slice_index n 1) (slice_index n 2) (slice_index n 3) (drop 8 bytes.now) }
+        ≡ assembled kind (slice_index n 0) (slice_index n 1) (slice_index n 2) (slice_index n 3) behind.now }
 {
     let [a, v, f, b] = numbers;
     match kind {
@@ -106,7 +110,7 @@ fn assembled(kind: Kind, numbers: [u16; 4], bytes: &[u8; 520]) -> Msg
         Kind::Unseal => Msg::Unseal(a, v),
         Kind::Write => {
             let mut content = [0; 512];
-            content.copy_from_slice(&bytes[8..]);
+            content.copy_from_slice(behind);
             Msg::Write(a, v, f, b, Block(content))
         }
         Kind::Punch => Msg::Punch(a, v, f, b),
@@ -116,7 +120,7 @@ fn assembled(kind: Kind, numbers: [u16; 4], bytes: &[u8; 520]) -> Msg
         Kind::Summary => Msg::Summary,
         Kind::SetLabel => {
             let mut label = [0; 32];
-            label.copy_from_slice(&bytes[8..40]);
+            label.copy_from_slice(&behind[..32]);
             Msg::SetLabel(a, v, label)
         }
         Kind::Label => Msg::Label(a, v),
@@ -146,6 +150,7 @@ fn kind_number(kind: Kind) -> u8
 }
 
 /// The kind that has this code.
+#[tactic(auto, unfolding(crate::specs::Records::kind_numbered))]
 fn kind_numbered(number: u8) -> Option<Kind>
     ensures { result ≡ kind_numbered number }
 {

@@ -1,12 +1,12 @@
--- A block takes all 512 bytes behind the head.
-use Rattle.std.proofs.Common.{◌≡◌, List, ℕ, drop, take, ap, length-drop, ◌∙◌, arith}
-use Rattle.std.specs.Prelude.{slice_index}
-use Rattle.std.proofs.lemmas.List.{take_all}
-use Rattle.language.specs.declared.Msg.TheVariants.{Write as write}
+-- A label is the first 32 bytes of 512.
+use Rattle.std.proofs.Common.{◌≡◌, length, length-take-le, ap, sym, arith}
+use Rattle.message.specs.Heads.{has_data}
 use Rattle.message.proofs.records.assembled.Goals as goal
 
-pub returns-in-Write : goal.returns-in-Write
-returns-in-Write c =
-    let n = c.args.numbers in
-    let whole : take 512 (drop 8 c.args.bytes.now) ≡ drop 8 c.args.bytes.now = take_all 512 (drop 8 c.args.bytes.now) (omega (arith, length-drop 8 c.args.bytes.now, c.told-bytes)) in
-    rw c.in-Write.is (ap (λ (bytes : List ℕ). write (slice_index n 0) (slice_index n 1) (slice_index n 2) (slice_index n 3) (record { 0 = bytes })) (c.copy_from_slice.ensures.after ∙ whole))
+pub slice_bounds-copy_from_slice-end-in-SetLabel-2 : goal.slice_bounds-copy_from_slice-end-in-SetLabel-2
+slice_bounds-copy_from_slice-end-in-SetLabel-2 c =
+    let size : length c.args.behind.now ≡ 512 = c.requires (ap has_data c.in-SetLabel.is) in
+    sym (length-take-le 32 c.args.behind.now (omega arith))
+
+pub copy_from_slice-requires-in-SetLabel : goal.copy_from_slice-requires-in-SetLabel
+copy_from_slice-requires-in-SetLabel = slice_bounds-copy_from_slice-end-in-SetLabel-2
