@@ -1,19 +1,18 @@
 //! The head of a line: the kind and the numbers of its message, the data not decoded; and the message of a head. In functions that work
 //! behind the keyword the argument `line` is the rest of the line.
 
-ghost use Rattle.std.specs.Prelude.{◌≡◌, ◌↔◌, [], option_map, Option, MatchOption, Some, None};
+ghost use Rattle.std.specs.Prelude.{◌≡◌, ◌↔◌, [], Option, MatchOption, Some, None, unwrap_or};
 ghost use Rattle.language.specs.declared.Msg.{Msg};
 ghost use Rattle.language.specs.declared.Msg.TheVariants.{Write as write, SetLabel as set_label};
 ghost use Rattle.language.specs.Lines.{words, block_in_word, bytes_in_word, label_in_word};
 ghost use Rattle.language.specs.Grammar.{message_of, Spells, of_kind, of_data, of_label};
-ghost use Rattle.message.specs.Heads.{IsHead, writing, labeling};
-ghost use Rattle.message.specs.declared.heads.Head.TheVariants.{NoMessage, WithoutData};
+ghost use Rattle.message.specs.Heads.{IsHead};
+ghost use Rattle.message.specs.declared.heads.Head.TheVariants.{NoMessage};
 
 use crate::LONGEST_LINE;
 use crate::decoding::decode_to_slice;
 use crate::parsing::{
-    block_numbers, bytes_in_word, file_numbers, kind_named, number_before_space, split_keyword,
-    volume_numbers,
+    block_numbers, file_numbers, kind_named, number_before_space, split_keyword, volume_numbers,
 };
 use crate::records::assembled;
 use affinity::Kind;
@@ -53,7 +52,9 @@ impl Head<'_> {
             Head::WithoutData(kind, numbers) => Some(assembled(kind, numbers, &[])),
             Head::Writes(numbers, digits) => {
                 let [a, v, f, b] = numbers;
-                Some(Msg::Write(a, v, f, b, Block(bytes_in_word(digits)?)))
+                let mut content = Block([0; 512]);
+                decode_block(digits, &mut content)?;
+                Some(Msg::Write(a, v, f, b, content))
             }
             Head::SetsLabel(numbers, digits) => {
                 let [a, v, _, _] = numbers;
@@ -72,7 +73,7 @@ pub fn head_of_line(line: &[u8]) -> Head<'_>
     }
     match split_keyword(line) {
         Some((word, arguments)) => match kind_named(word) {
-            Some(kind) => head_of_kind(kind, arguments),
+            Some(kind) => head_of_kind(kind, arguments).unwrap_or(Head::NoMessage),
             None => Head::NoMessage,
         },
         None => match kind_named(line) {
@@ -93,102 +94,67 @@ fn head_of_word(kind: Kind) -> Head<'static>
 }
 
 /// The head of the message of a kind and what comes after its keyword and a space.
-fn head_of_kind(kind: Kind, line: &[u8]) -> Head<'_>
-    ensures { IsHead result (of_kind kind (words line.now)) }
+fn head_of_kind(kind: Kind, line: &[u8]) -> Option<Head<'_>>
+    ensures { IsHead (unwrap_or result NoMessage) (of_kind kind (words line.now)) }
 {
     match kind {
-        Kind::MakeVol => head_without_data(Kind::MakeVol, volume_numbers(line)),
-        Kind::DropVol => head_without_data(Kind::DropVol, volume_numbers(line)),
-        Kind::Create => head_without_data(Kind::Create, file_numbers(line)),
-        Kind::Delete => head_without_data(Kind::Delete, file_numbers(line)),
-        Kind::Seal => head_without_data(Kind::Seal, volume_numbers(line)),
-        Kind::Unseal => head_without_data(Kind::Unseal, volume_numbers(line)),
+        Kind::MakeVol => Some(Head::WithoutData(Kind::MakeVol, volume_numbers(line)?)),
+        Kind::DropVol => Some(Head::WithoutData(Kind::DropVol, volume_numbers(line)?)),
+        Kind::Create => Some(Head::WithoutData(Kind::Create, file_numbers(line)?)),
+        Kind::Delete => Some(Head::WithoutData(Kind::Delete, file_numbers(line)?)),
+        Kind::Seal => Some(Head::WithoutData(Kind::Seal, volume_numbers(line)?)),
+        Kind::Unseal => Some(Head::WithoutData(Kind::Unseal, volume_numbers(line)?)),
         Kind::Write => head_of_write(line),
-        Kind::Punch => head_without_data(Kind::Punch, block_numbers(line)),
-        Kind::Read => head_without_data(Kind::Read, block_numbers(line)),
-        Kind::List => head_without_data(Kind::List, volume_numbers(line)),
-        Kind::Usage => head_without_data(Kind::Usage, volume_numbers(line)),
-        Kind::Summary => Head::NoMessage,
+        Kind::Punch => Some(Head::WithoutData(Kind::Punch, block_numbers(line)?)),
+        Kind::Read => Some(Head::WithoutData(Kind::Read, block_numbers(line)?)),
+        Kind::List => Some(Head::WithoutData(Kind::List, volume_numbers(line)?)),
+        Kind::Usage => Some(Head::WithoutData(Kind::Usage, volume_numbers(line)?)),
+        Kind::Summary => None,
         Kind::SetLabel => head_of_label(line),
-        Kind::Label => head_without_data(Kind::Label, volume_numbers(line)),
-    }
-}
-
-/// The head with these numbers; `NoMessage` where there are none.
-fn head_without_data(kind: Kind, numbers: Option<[u16; 4]>) -> Head<'static>
-    ensures { MatchOption numbers (result ≡ NoMessage) (λ ns. result ≡ WithoutData kind ns) }
-{
-    match numbers {
-        Some(numbers) => Head::WithoutData(kind, numbers),
-        None => Head::NoMessage,
+        Kind::Label => Some(Head::WithoutData(Kind::Label, volume_numbers(line)?)),
     }
 }
 
 /// The head of a `write`.
-fn head_of_write(line: &[u8]) -> Head<'_>
-    ensures { IsHead result (of_data write (words line.now)) }
-{
-    match write_parts(line) {
-        Some(parts) => {
-            let numbers = parts.0;
-            Head::Writes(numbers, parts.1)
-        }
-        None => Head::NoMessage,
-    }
-}
-
-/// The numbers of a `write`, and what is in the place of its digits.
-fn write_parts(line: &[u8]) -> Option<([u16; 4], &[u8])>
-    ensures { MatchOption result (of_data write (words line.now) ≡ None)
-        (λ p. of_data write (words line.now) ≡ option_map (writing p.0) (block_in_word p.1.now)) }
+fn head_of_write(line: &[u8]) -> Option<Head<'_>>
+    ensures { IsHead (unwrap_or result NoMessage) (of_data write (words line.now)) }
 {
     let (aggregate, behind) = number_before_space(line)?;
     let (volume, behind) = number_before_space(behind)?;
     let (file, behind) = number_before_space(behind)?;
-    let (block, behind) = number_before_space(behind)?;
-    Some(([aggregate, volume, file, block], behind))
+    let (block, digits) = number_before_space(behind)?;
+    Some(Head::Writes([aggregate, volume, file, block], digits))
 }
 
 /// The head of a `setlabel`.
-fn head_of_label(line: &[u8]) -> Head<'_>
-    ensures { IsHead result (of_label set_label (words line.now)) }
-{
-    match label_parts(line) {
-        Some(parts) => {
-            let numbers = parts.0;
-            Head::SetsLabel(numbers, parts.1)
-        }
-        None => Head::NoMessage,
-    }
-}
-
-/// The numbers of a `setlabel`, and what is in the place of its digits.
-fn label_parts(line: &[u8]) -> Option<([u16; 4], &[u8])>
-    ensures { MatchOption result (of_label set_label (words line.now) ≡ None)
-        (λ p. of_label set_label (words line.now) ≡ option_map (labeling p.0) (label_in_word p.1.now)) }
+fn head_of_label(line: &[u8]) -> Option<Head<'_>>
+    ensures { IsHead (unwrap_or result NoMessage) (of_label set_label (words line.now)) }
 {
     let (aggregate, behind) = number_before_space(line)?;
     let (volume, digits) = number_before_space(behind)?;
-    Some(([aggregate, volume, 0, 0], digits))
+    Some(Head::SetsLabel([aggregate, volume, 0, 0], digits))
 }
 
 /// The label that digits encode.
 pub fn decode_label(digits: &[u8]) -> Option<[u8; 32]>
     ensures { result ≡ label_in_word digits.now }
 {
-    bytes_in_word(digits)
+    let mut label = [0; 32];
+    decode_bytes(digits, &mut label)?;
+    Some(label)
 }
 
-/// Decodes digits into a buffer of one block, and fills the rest with zeros.
-fn decode_bytes(digits: &[u8], out: &mut [u8; 512]) -> Option<()>
-    ensures { MatchOption result (bytes_in_word 512 digits.now ≡ None)
-        (λ _. bytes_in_word 512 digits.now ≡ Some out.new) }
+/// Decodes digits into the front of a buffer, and fills the rest with zeros. Where they encode no bytes that fit into it, `out` is
+/// unspecified afterwards.
+fn decode_bytes<const N: usize>(digits: &[u8], out: &mut [u8; N]) -> Option<()>
+    ensures { MatchOption result (bytes_in_word N digits.now ≡ None)
+        (λ _. bytes_in_word N digits.now ≡ Some out.new) }
 {
     let size = digits.len() / 2;
-    if size == 0 || size > 512 {
+    if size == 0 || size > N {
         return None;
     }
-    *out = [0; 512];
+    out.fill(0);
     decode_to_slice(digits, &mut out[..size])?;
     Some(())
 }

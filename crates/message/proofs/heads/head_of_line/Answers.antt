@@ -13,7 +13,7 @@ pub returns-in-Some-kind_named : goal.returns-in-Some-kind_named
 returns-in-Some-kind_named c =
     let s = c.in-Some in
     let k = c.in-Some-kind_named in
-    subst (IsHead c.head_of_kind.result) (sym (with_kind c.args.line.now s.word.now (words s.arguments.now) k.kind c.if-line-gt-LONGEST_LINE.false s.ensures k.ensures)) c.head_of_kind.ensures
+    rw (c.unwrap_or.ensures, with_kind c.args.line.now s.word.now (words s.arguments.now) k.kind c.if-line-gt-LONGEST_LINE.false s.ensures k.ensures) c.head_of_kind.ensures
 
 pub returns-in-None-kind_named : goal.returns-in-None-kind_named
 returns-in-None-kind_named c =

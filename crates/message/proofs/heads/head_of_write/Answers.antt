@@ -3,7 +3,7 @@ use Rattle.std.proofs.Common.{◌∙◌}
 use Rattle.language.specs.declared.Msg.TheVariants.{Write as write}
 use Rattle.language.specs.Lines.{words}
 use Rattle.message.proofs.Forms.{onward_some, onward_none, of_digits, of_digits-told, from_block, from_file, from_volume, from_block-onward, from_file-onward, from_volume-onward, of_data-onward}
-use Rattle.message.proofs.heads.write_parts.Goals as goal
+use Rattle.message.proofs.heads.head_of_write.Goals as goal
 
 pub returns-in_err-block : goal.returns-in_err-block
 returns-in_err-block c =
@@ -34,5 +34,5 @@ returns c =
     ∙ from_file-onward (write a.aggregate v.volume) (words v.behind.now)
     ∙ onward_some (λ n. from_block (write a.aggregate v.volume n)) (words v.behind.now) f.file (words f.behind.now) f.ensures
     ∙ from_block-onward (write a.aggregate v.volume f.file) (words f.behind.now)
-    ∙ onward_some (λ n. of_digits (write a.aggregate v.volume f.file n)) (words f.behind.now) b.block (words b.behind.now) b.ensures
-    ∙ of_digits-told (write a.aggregate v.volume f.file b.block) b.behind.now
+    ∙ onward_some (λ n. of_digits (write a.aggregate v.volume f.file n)) (words f.behind.now) b.block (words b.digits.now) b.ensures
+    ∙ of_digits-told (write a.aggregate v.volume f.file b.block) b.digits.now

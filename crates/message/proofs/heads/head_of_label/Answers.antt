@@ -3,7 +3,7 @@ use Rattle.std.proofs.Common.{◌∙◌}
 use Rattle.language.specs.declared.Msg.TheVariants.{SetLabel as set_label}
 use Rattle.language.specs.Lines.{words}
 use Rattle.message.proofs.Forms.{onward_some, of_label_digits, of_label_digits-told, label_from_volume, label_from_volume-onward, of_label-onward}
-use Rattle.message.proofs.heads.label_parts.Goals as goal
+use Rattle.message.proofs.heads.head_of_label.Goals as goal
 
 pub returns : goal.returns
 returns c =
