@@ -12,20 +12,9 @@ use Rattle.meaning.proofs.ByKind.{refusal_by_kind}
 
 -- a message without data has no bytes to be right
 pub asking_is_message : (k : Kind) (ns : List ℕ) → has_data k ≡ false → IsMessage (message_without_data k ns)
-asking_is_message kinds.MakeVol ns h = tt
-asking_is_message kinds.DropVol ns h = tt
-asking_is_message kinds.Create ns h = tt
-asking_is_message kinds.Delete ns h = tt
-asking_is_message kinds.Seal ns h = tt
-asking_is_message kinds.Unseal ns h = tt
 asking_is_message kinds.Write ns h = cc h
-asking_is_message kinds.Punch ns h = tt
-asking_is_message kinds.Read ns h = tt
-asking_is_message kinds.List ns h = tt
-asking_is_message kinds.Usage ns h = tt
-asking_is_message kinds.Summary ns h = tt
 asking_is_message kinds.SetLabel ns h = cc h
-asking_is_message kinds.Label ns h = tt
+asking_is_message _ ns h = tt
 
 pub refusal_asked : (g : Geometry) (x : State) (k : Kind) (ns : List ℕ) → IsWithoutData k ns (Some (message_without_data k ns)) → refusal_by g x k ns ≡ refusal g x (message_without_data k ns)
 refusal_asked g x k ns h =

@@ -2,7 +2,7 @@
 use Rattle.std.proofs.Common.{◌≡◌, ℕ, ◌<◌, true, false, List, ◌∷◌, refl, ap, sym, ◌∙◌, subst, arith}
 use Rattle.std.specs.Prelude.{is_some}
 use Rattle.std.specs.Ordering.{nat_cmp, ordering_then, ordering_reverse, is_eq, is_gt, MatchOrdering}
-use Rattle.std.specs.Cmp.{IsTotalOrder, nat_cmp_total, on_total, then_total, ranks}
+use Rattle.std.specs.Cmp.{ranks}
 use Rattle.std.specs.declared.cmp.Ordering.{Ordering}
 use Rattle.std.specs.declared.cmp.Ordering.TheVariants.{Less, Equal, Greater}
 use Rattle.std.specs.declared.ops.Bound.TheVariants.{Included, Unbounded}
@@ -13,6 +13,7 @@ use Rattle.std.proofs.lemmas.Bool.{true≢false, false_from_ne_true}
 use Rattle.meaning.specs.State.{VolumeKey, FileKey, BlockKey, is_block_of, is_block_of_file}
 use Rattle.meaning.specs.KeyOrders.{volume_order, file_order, block_order}
 use Rattle.meaning.proofs.Keys.{at_volume, at_file, the_volume, the_file}
+use Rattle.plain.specs.Places.{volume_order_total, file_order_total}
 
 -- ---- an order by a first part, and then by a second one
 
@@ -39,12 +40,6 @@ from_tied Less n e = refl
 from_tied Equal n e = none_below_zero n
 from_tied Greater n e = absurd (true≢false (sym e))
 
-volume_total : IsTotalOrder volume_order
-volume_total = then_total (on_total (λ (k : VolumeKey). k.0) nat_cmp_total) (on_total (λ (k : VolumeKey). k.1) nat_cmp_total)
-
-file_total : IsTotalOrder file_order
-file_total = then_total (on_total (λ (k : FileKey). (k.0, k.1)) volume_total) (on_total (λ (k : FileKey). k.2) nat_cmp_total)
-
 -- ---- the blocks of a file
 
 -- the first key that a file can have is at most the key of each block of the file
@@ -57,7 +52,7 @@ within_file a v f k q from to e =
     let here : FileKey = (k.0, k.1, k.2) in
     let after = first_part (file_order (a, v, f) here) (nat_cmp 0 k.3) from in
     let before = subst (λ (p : FileKey). is_gt (file_order here p) ≡ false) (sym (the_file a v f (q.0, q.1, q.2) e)) (first_part (file_order here (q.0, q.1, q.2)) (nat_cmp k.3 q.3) to) in
-    sym (at_file a v f here) ∙ both_ways (file_order (a, v, f) here) (file_order here (a, v, f)) (file_total.antisymm (a, v, f) here) after before
+    sym (at_file a v f here) ∙ both_ways (file_order (a, v, f) here) (file_order here (a, v, f)) (file_order_total.antisymm (a, v, f) here) after before
 
 -- where the first key in a map from (a, v, f, 0) on is no block of the file, the file has no block in it
 pub no_block_of_file : {X : Type 0} (m : BTreeMap BlockKey X) {r rest : List (BlockKey × X)} {a v f : ℕ} {k : BlockKey} {x : X}
@@ -85,7 +80,7 @@ within_volume a v k q from to e =
     let after = first_part (volume_order (a, v) here) (nat_cmp 0 k.2) (first_part (file_order (a, v, 0) file) (nat_cmp 0 k.3) from) in
     let upto = first_part (volume_order here (q.0, q.1)) (nat_cmp k.2 q.2) (first_part (file_order file (q.0, q.1, q.2)) (nat_cmp k.3 q.3) to) in
     let before = subst (λ (p : VolumeKey). is_gt (volume_order here p) ≡ false) (sym (the_volume a v (q.0, q.1) e)) upto in
-    sym (at_volume a v here) ∙ both_ways (volume_order (a, v) here) (volume_order here (a, v)) (volume_total.antisymm (a, v) here) after before
+    sym (at_volume a v here) ∙ both_ways (volume_order (a, v) here) (volume_order here (a, v)) (volume_order_total.antisymm (a, v) here) after before
 
 -- where the first key in a map from (a, v, 0, 0) on is no block of the volume, the volume has no block in it
 pub no_block_of_volume : {X : Type 0} (m : BTreeMap BlockKey X) {r rest : List (BlockKey × X)} {a v : ℕ} {k : BlockKey} {x : X}

@@ -4,10 +4,10 @@ use Rattle.std.specs.Cmp.{IsTotalOrder, nat_cmp_total, on_total, then_total}
 use Rattle.meaning.specs.State.{VolumeKey, FileKey, BlockKey}
 use Rattle.meaning.specs.KeyOrders.{volume_order, file_order, block_order}
 
-volume_order_total : IsTotalOrder volume_order
+pub volume_order_total : IsTotalOrder volume_order
 volume_order_total = then_total (on_total (λ (k : VolumeKey). k.0) nat_cmp_total) (on_total (λ (k : VolumeKey). k.1) nat_cmp_total)
 
-file_order_total : IsTotalOrder file_order
+pub file_order_total : IsTotalOrder file_order
 file_order_total = then_total (on_total (λ (k : FileKey). (k.0, k.1)) volume_order_total) (on_total (λ (k : FileKey). k.2) nat_cmp_total)
 
 pub block_order_total : IsTotalOrder block_order

@@ -2,7 +2,7 @@
 //! followed by the replies that wait; `unread` is what a reader of lines hasn't given yet: the bytes that it holds, followed by what its
 //! source has left (nothing once a read has reported the end).
 
-ghost use Rattle.std.specs.Prelude.{◌≡◌, ◌≤◌, ◌++◌, ℕ, List, [], Option, Some, true, false, option_map, IfOk, OnOk, OnErr, IsErrOf, IsFalse, MatchBool, unwrap_or, vec_len};
+ghost use Rattle.std.specs.Prelude.{◌≡◌, ◌≤◌, ◌++◌, ℕ, List, [], Option, Some, true, false, is_ok, option_map, IfOk, OnOk, IsErrOf, IsFalse, MatchBool, unwrap_or, vec_len};
 ghost use Rattle.std.specs.Io.KnownBytes.{Appends, IsAtEnd};
 ghost use Rattle.language.specs.Grammar.{message_of};
 ghost use Rattle.message.specs.Reader.{unread, is_drained, source, KnowsEnd};
@@ -12,13 +12,14 @@ ghost use Rattle.message.specs.Heads.{IsWithoutData, labeling, message_without_d
 ghost use Rattle.affinity.specs.Kind.{is_changing};
 ghost use Rattle.meaning.specs.ByKind.{done_or_refused};
 ghost use Rattle.meaning.specs.State.{State, empty};
+ghost use Rattle.plain.specs.Answering.{AnswersLine};
 ghost use Rattle.plain.specs.Server.{server_state, IsConsistent};
 ghost use Rattle.language.specs.Replies.{reply_line};
 ghost use Rattle.language.specs.declared.Msg.{Msg};
 ghost use Rattle.language.specs.declared.Reply.TheVariants.{Label as shows_label};
-ghost use Rattle.meaning.specs.Serial.{accepted_reply, no_label, reply_to, next_state};
+ghost use Rattle.meaning.specs.Serial.{accepted_reply, no_label};
 ghost use Rattle.meaning.specs.Progress.{HasAnswered};
-ghost use Rattle.meaning.specs.Output.{serial_output, answer_line, state_after_line, AnswersWholeLines, IsBeginning, WritesOutput};
+ghost use Rattle.meaning.specs.Output.{serial_output, AnswersWholeLines, IsBeginning, WritesOutput};
 
 use crate::PlainFault;
 use crate::server::Server;
@@ -45,12 +46,7 @@ fn answer_change(
     requires changes { is_changing kind ≡ true }
     requires sound { IsConsistent g.now server.old }
     requires room { FitsReply out.old }
-    ensures sound { IsConsistent g.now server.new }
-    ensures state { OnOk result (server_state server.new
-        ≡ next_state g.now (server_state server.old) (message_without_data kind numbers)) }
-    ensures added { OnOk result (out.new ≡ out.old
-        ++ reply_line (reply_to g.now (server_state server.old) (message_without_data kind numbers))) }
-    ensures out_of_memory { OnErr result (out.new ≡ out.old) }
+    ensures { AnswersLine g.now (Some (message_without_data kind numbers)) (is_ok result) server.old server.new out.old out.new }
 {
     let why = server.carry_out(g, kind, numbers)?;
     add_outcome(why, out);
@@ -100,10 +96,7 @@ fn answer_question(
     requires asks { is_changing kind ≡ false }
     requires sound { IsConsistent g.now server.now }
     requires room { FitsReply out.old }
-    ensures state { server_state server.now
-        ≡ next_state g.now (server_state server.now) (message_without_data kind numbers) }
-    ensures added { out.new ≡ out.old
-        ++ reply_line (reply_to g.now (server_state server.now) (message_without_data kind numbers)) }
+    ensures { AnswersLine g.now (Some (message_without_data kind numbers)) true server.now server.now out.old out.new }
 {
     if let Some(content) = server.block_by(g, kind, numbers) {
         out.add_block(content);
@@ -137,12 +130,7 @@ fn answer_write(
 ) -> Result<(), AllocError>
     requires sound { IsConsistent g.now server.old }
     requires room { FitsReply out.old }
-    ensures sound { IsConsistent g.now server.new }
-    ensures state { OnOk result (server_state server.new ≡ state_after_line g.now
-        (server_state server.old) (option_map (writing numbers) (block_in_word digits.now))) }
-    ensures added { OnOk result (out.new ≡ out.old ++ answer_line g.now (server_state server.old)
-        (option_map (writing numbers) (block_in_word digits.now))) }
-    ensures out_of_memory { OnErr result (out.new ≡ out.old) }
+    ensures { AnswersLine g.now (option_map (writing numbers) (block_in_word digits.now)) (is_ok result) server.old server.new out.old out.new }
 {
     if decode_block(digits, content).is_none() {
         out.add_no_message();
@@ -165,11 +153,7 @@ fn answer_set_label(
 )
     requires sound { IsConsistent g.now server.old }
     requires room { FitsReply out.old }
-    ensures sound { IsConsistent g.now server.new }
-    ensures state { server_state server.new ≡ state_after_line g.now
-        (server_state server.old) (option_map (labeling numbers) (label_in_word digits.now)) }
-    ensures added { out.new ≡ out.old ++ answer_line g.now (server_state server.old)
-        (option_map (labeling numbers) (label_in_word digits.now)) }
+    ensures { AnswersLine g.now (option_map (labeling numbers) (label_in_word digits.now)) true server.old server.new out.old out.new }
 {
     match &decode_label(digits) {
         Some(label) => {
@@ -191,12 +175,7 @@ fn answer_without_data(
     requires asked { IsWithoutData kind numbers (Some (message_without_data kind numbers)) }
     requires sound { IsConsistent g.now server.old }
     requires room { FitsReply out.old }
-    ensures sound { IsConsistent g.now server.new }
-    ensures state { OnOk result (server_state server.new
-        ≡ next_state g.now (server_state server.old) (message_without_data kind numbers)) }
-    ensures added { OnOk result (out.new ≡ out.old
-        ++ reply_line (reply_to g.now (server_state server.old) (message_without_data kind numbers))) }
-    ensures out_of_memory { OnErr result (out.new ≡ out.old) }
+    ensures { AnswersLine g.now (Some (message_without_data kind numbers)) (is_ok result) server.old server.new out.old out.new }
 {
     if changing(kind) {
         answer_change(g, kind, numbers, server, out)
@@ -216,12 +195,7 @@ fn answer_line(
 ) -> Result<(), AllocError>
     requires sound { IsConsistent g.now server.old }
     requires room { FitsReply out.old }
-    ensures sound { IsConsistent g.now server.new }
-    ensures state { OnOk result (server_state server.new
-        ≡ state_after_line g.now (server_state server.old) (message_of line.now)) }
-    ensures added { OnOk result (out.new ≡ out.old
-        ++ answer_line g.now (server_state server.old) (message_of line.now)) }
-    ensures out_of_memory { OnErr result (out.new ≡ out.old) }
+    ensures { AnswersLine g.now (message_of line.now) (is_ok result) server.old server.new out.old out.new }
 {
     match head_of_line(line) {
         Head::NoMessage => {

@@ -22,12 +22,12 @@ returns-in-Ok-clause-answered g c = λ start input before h.
     answers_line (line_of c.next_line.new.self)
     (goes_on {newer = all_output contents c.send_before_line.new.out} h c.in_ok-send_before_line.ensures.kept) (sym c.if-is_drained.ensures.value)
     (rw c.in-Ok-Line.field-0-is at c.in-Ok-Line.ensures.found) (rw c.in-Ok-Line.field-0-is at c.in-Ok-Line.ensures.closes)
-    (c.in-Ok.ensures.state ∙ ap (λ z. state_after_line c.args.g.now (server_state c.args.server.now) (message_of z)) c.line.ensures) refl
-    (adds_so_far contents c.send_before_line.new.out c.answer_line.new.out answer (rw c.line.ensures at c.in-Ok.ensures.added))
+    (c.in-Ok.ensures.state refl ∙ ap (λ z. state_after_line c.args.g.now (server_state c.args.server.now) (message_of z)) c.line.ensures) refl
+    (adds_so_far contents c.send_before_line.new.out c.answer_line.new.out answer (rw c.line.ensures at (c.in-Ok.ensures.added refl)))
 
 pub returns-in-Err-answer_line-clause-out_of_memory : goal.returns-in-Err-answer_line-clause-out_of_memory
 returns-in-Err-answer_line-clause-out_of_memory g c = λ start input before h is.
-    rw c.in-Err-answer_line.ensures.out_of_memory
+    rw (c.in-Err-answer_line.ensures.out_of_memory refl)
     (stops_short (goes_on {newer = all_output (g.W.Write.contents c.send_before_line.new.w) c.send_before_line.new.out} h c.in_ok-send_before_line.ensures.kept))
 
 pub returns-in-Ok-TooLong-clause-answered : goal.returns-in-Ok-TooLong-clause-answered
