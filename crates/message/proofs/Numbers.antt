@@ -155,8 +155,3 @@ one_digit c digit =
 
 pub no_digit : (c : ℕ) → is_ascii_digit c ≡ false → number_in_word (c ∷ []) ≡ None
 no_digit c other = no_number (c ∷ []) (λ n. true≢false (sym (digit_at (c ∷ []) 0 n.digits (omega arith)) ∙ other))
-
-pub one_byte : (w : List ℕ) → length w ≡ 1 → number_in_word (get_or w 0 0 ∷ []) ≡ number_in_word w
-one_byte [] one = absurd (omega (arith, one))
-one_byte (c ∷ []) one = refl
-one_byte (c ∷ b ∷ w) one = absurd (omega (arith, one))

@@ -8,6 +8,7 @@ ghost use Rattle.language.specs.declared.Msg.{Msg};
 ghost use Rattle.language.specs.Lines.{words, number_in_word};
 ghost use Rattle.language.specs.Grammar.{first_number, of_volume, of_file, of_block, kind_named};
 ghost use Rattle.language.specs.Messages.{filled};
+ghost use Rattle.message.specs.Numbers.{AreInFront, HasTooMuchInFront};
 
 use crate::LONGEST_LINE;
 use affinity::Kind;
@@ -178,29 +179,50 @@ pub(crate) fn number_before_space(line: &[u8]) -> Option<(u16, &[u8])>
     if let Some(found) = digit_before_space(line) {
         return Some(found);
     }
+    let (value, size) = digits_in_front(line)?;
+    if size == line.len() {
+        return None;
+    }
+    if line[size] != b' ' {
+        return None;
+    }
+    let number = plain_number(value, &line[..size])?;
+    Some((number, &line[size + 1..]))
+}
+
+/// The number that a word encodes.
+fn number(word: &[u8]) -> Option<u16>
+    ensures { result ≡ number_in_word word.now }
+{
+    let (value, size) = digits_in_front(word)?;
+    if size < word.len() {
+        return None;
+    }
+    plain_number(value, word)
+}
+
+/// The value of the decimal digits at the front of a line, and how many they are. `None` where the value is past 65535.
+fn digits_in_front(line: &[u8]) -> Option<(u16, usize)>
+    ensures { MatchOption result (HasTooMuchInFront line.now) (λ p. AreInFront line.now p.0 p.1) }
+{
     let mut value = 0u32;
-    for end in 0..line.len() {
-        let byte = line[end];
-        if byte == b' ' {
-            let number = plain_number(value, &line[..end])?;
-            return Some((number, &line[end + 1..]));
-        }
+    for size in 0..line.len() {
+        let byte = line[size];
         if !byte.is_ascii_digit() {
-            return None;
+            return Some((value as u16, size));
         }
         value = 10 * value + u32::from(byte - b'0');
         if value > 65535 {
             return None;
         }
     }
-    None
+    Some((value as u16, line.len()))
 }
 
 /// The number that a word of decimal digits encodes, given the value of the digits.
-fn plain_number(value: u32, word: &[u8]) -> Option<u16>
+fn plain_number(value: u16, word: &[u8]) -> Option<u16>
     requires digits { all_ascii_digits word.now ≡ true }
     requires value { value ≡ digits_value 10 word.now }
-    requires fits { value < 65536 }
     ensures { result ≡ number_in_word word.now }
 {
     if word.is_empty() {
@@ -209,7 +231,7 @@ fn plain_number(value: u32, word: &[u8]) -> Option<u16>
     if has_leading_zero(word) {
         return None;
     }
-    Some(value as u16)
+    Some(value)
 }
 
 /// Whether there is a zero in front of other digits.
@@ -217,30 +239,4 @@ fn has_leading_zero(word: &[u8]) -> bool
     ensures { IsTrue result ↔ ((1 < length word.now) × (slice_index word.now 0 ≡ 48)) }
 {
     word.len() > 1 && word[0] == b'0'
-}
-
-/// The number that a word encodes.
-fn number(word: &[u8]) -> Option<u16>
-    ensures { result ≡ number_in_word word.now }
-{
-    if word.len() == 1 {
-        return number_of_byte(word[0]);
-    }
-    if word.is_empty() {
-        return None;
-    }
-    if has_leading_zero(word) {
-        return None;
-    }
-    let mut value = 0u32;
-    for digit in word {
-        if !digit.is_ascii_digit() {
-            return None;
-        }
-        value = 10 * value + u32::from(*digit - b'0');
-        if value > 65535 {
-            return None;
-        }
-    }
-    u16::try_from(value).ok()
 }
