@@ -152,6 +152,3 @@ one_digit c digit =
     let value : digits_value 10 (c ∷ []) ≡ c - 48 = omega (arith, more) in
     number_from (c ∷ []) (record { digits = and_from (is_ascii_digit c) true digit refl; some = omega arith; plain = λ e. refl; fits = omega (arith, value, range) })
     ∙ ap Some value
-
-pub no_digit : (c : ℕ) → is_ascii_digit c ≡ false → number_in_word (c ∷ []) ≡ None
-no_digit c other = no_number (c ∷ []) (λ n. true≢false (sym (digit_at (c ∷ []) 0 n.digits (omega arith)) ∙ other))

@@ -1,5 +1,5 @@
 -- Messages and their records.
-use Rattle.std.proofs.Common.{◌≡◌, ℕ, lit≤, zero, suc, true, ◌+◌, ◌<◌, List, [], ◌∷◌, ◌++◌, length, length-append, length-drop, length-take-le, get_or, take, drop, replicate, Option, Some, None, refl, ap, sym, subst, ◌∙◌, arith}
+use Rattle.std.proofs.Common.{◌≡◌, ℕ, lit≤, zero, suc, Bool, true, ◌+◌, ◌<◌, List, [], ◌∷◌, ◌++◌, length, length-append, length-drop, length-take-le, get_or, take, drop, replicate, Option, Some, None, refl, ap, sym, subst, ◌∙◌, arith}
 use Rattle.std.specs.Prelude.{option_map, slice_index, nat_lt, ◌↔◌, ◌&&◌}
 use Rattle.std.specs.List.{AllByRecursion}
 use Rattle.std.proofs.lemmas.Bool.{and_parts, ltb-true}
@@ -23,43 +23,29 @@ record Fits (n : List ℕ) : Type 0 where
   pub room : AllByRecursion (λ x. x < 256) (take 3 n)
   pub block : get_or n 3 0 < 65536
 
+-- the first number of a test, and what is left of it
+below : (n limit : ℕ) {rest : Bool} → nat_lt n limit && rest ≡ true → (n < limit) × (rest ≡ true)
+below n limit {rest} h = let p = and_parts (nat_lt n limit) rest h in (ltb-true n limit p.0, p.1)
+
 two_fit : (g : Geometry) (a v : ℕ) → nat_lt a g.aggregates && (nat_lt v g.volumes && true) ≡ true → Fits (a ∷ v ∷ 0 ∷ 0 ∷ [])
 two_fit g a v h =
-    let p = and_parts (nat_lt a g.aggregates) (nat_lt v g.volumes && true) h in
-    let q = and_parts (nat_lt v g.volumes) true p.1 in
-    let a_in = ltb-true a g.aggregates p.0 in
-    let v_in = ltb-true v g.volumes q.0 in
-    let a_max = g.aggregates_range.1 in
-    let v_max = g.volumes_range.1 in
+    let p = below a g.aggregates h in
+    let q = below v g.volumes p.1 in
     record { room = (omega arith, (omega arith, (lit≤ tt, tt))); block = lit≤ tt }
 
 three_fit : (g : Geometry) (a v f : ℕ) → nat_lt a g.aggregates && (nat_lt v g.volumes && (nat_lt f g.files && true)) ≡ true → Fits (a ∷ v ∷ f ∷ 0 ∷ [])
 three_fit g a v f h =
-    let p = and_parts (nat_lt a g.aggregates) (nat_lt v g.volumes && (nat_lt f g.files && true)) h in
-    let q = and_parts (nat_lt v g.volumes) (nat_lt f g.files && true) p.1 in
-    let r = and_parts (nat_lt f g.files) true q.1 in
-    let a_in = ltb-true a g.aggregates p.0 in
-    let v_in = ltb-true v g.volumes q.0 in
-    let f_in = ltb-true f g.files r.0 in
-    let a_max = g.aggregates_range.1 in
-    let v_max = g.volumes_range.1 in
-    let f_max = g.files_range.1 in
+    let p = below a g.aggregates h in
+    let q = below v g.volumes p.1 in
+    let r = below f g.files q.1 in
     record { room = (omega arith, (omega arith, (omega arith, tt))); block = lit≤ tt }
 
 four_fit : (g : Geometry) (a v f b : ℕ) → nat_lt a g.aggregates && (nat_lt v g.volumes && (nat_lt f g.files && (nat_lt b g.blocks && true))) ≡ true → Fits (a ∷ v ∷ f ∷ b ∷ [])
 four_fit g a v f b h =
-    let p = and_parts (nat_lt a g.aggregates) (nat_lt v g.volumes && (nat_lt f g.files && (nat_lt b g.blocks && true))) h in
-    let q = and_parts (nat_lt v g.volumes) (nat_lt f g.files && (nat_lt b g.blocks && true)) p.1 in
-    let r = and_parts (nat_lt f g.files) (nat_lt b g.blocks && true) q.1 in
-    let s = and_parts (nat_lt b g.blocks) true r.1 in
-    let a_in = ltb-true a g.aggregates p.0 in
-    let v_in = ltb-true v g.volumes q.0 in
-    let f_in = ltb-true f g.files r.0 in
-    let b_in = ltb-true b g.blocks s.0 in
-    let a_max = g.aggregates_range.1 in
-    let v_max = g.volumes_range.1 in
-    let f_max = g.files_range.1 in
-    let b_max = g.blocks_range.1 in
+    let p = below a g.aggregates h in
+    let q = below v g.volumes p.1 in
+    let r = below f g.files q.1 in
+    let s = below b g.blocks r.1 in
     record { room = (omega arith, (omega arith, (omega arith, tt))); block = omega arith }
 
 fits : (g : Geometry) (m : Msg) → is_in_range g m ≡ true → Fits (four_numbers m)

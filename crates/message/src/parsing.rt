@@ -157,19 +157,10 @@ fn digit_before_space(line: &[u8]) -> Option<(u16, &[u8])>
     if line.len() < 2 || line[1] != b' ' {
         return None;
     }
-    let number = number_of_byte(line[0])?;
-    Some((number, &line[2..]))
-}
-
-/// The number that a word of this byte alone encodes.
-fn number_of_byte(byte: u8) -> Option<u16>
-    ensures { result ≡ number_in_word (byte ∷ []) }
-{
-    if byte.is_ascii_digit() {
-        Some(u16::from(byte - b'0'))
-    } else {
-        None
+    if !line[0].is_ascii_digit() {
+        return None;
     }
+    Some((u16::from(line[0] - b'0'), &line[2..]))
 }
 
 /// The number before the first space of a line, and what comes after that space.

@@ -5,7 +5,7 @@ use Rattle.language.specs.Lines.{words, number_in_word}
 use Rattle.language.specs.Grammar.{first_number}
 use Rattle.message.proofs.Words.{words_space}
 use Rattle.message.proofs.Forms.{first_number_some}
-use Rattle.message.proofs.Numbers.{number_no_space}
+use Rattle.message.proofs.Numbers.{number_no_space, one_digit}
 use Rattle.message.proofs.parsing.digit_before_space.Goals as goal
 
 in_front : (c : ℕ) (rest : List ℕ) (n : ℕ) → number_in_word (c ∷ []) ≡ Some n → first_number (words (c ∷ 32 ∷ rest)) ≡ Some (n, words rest)
@@ -21,4 +21,6 @@ of_line (c ∷ b ∷ rest) n lt space h =
     ∙ ap (λ (bs : List ℕ). Some (n, words bs)) (sym whole)
 
 pub returns : goal.returns
-returns c = of_line c.args.line.now c.in_ok-number.number (omega arith) c.if-line-ne32.false (sym c.in_ok-number.ensures)
+returns c =
+    let digit = sym c.is_ascii_digit.ensures.value ∙ c.if-not-is_ascii_digit.false in
+    of_line c.args.line.now c.from.result (omega arith) c.if-line-ne32.false (one_digit _ digit ∙ ap Some (sym c.from.ensures))

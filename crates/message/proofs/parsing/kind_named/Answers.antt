@@ -1,7 +1,7 @@
 -- The length of a word leaves the keywords of that length; of eight bytes there is setlabel alone.
 use Rattle.std.proofs.Common.{◌≡◌, ◌⊎◌, length, inl, inr, refl, sym, ap, ◌∙◌}
 use Rattle.std.specs.Str.{bytes_eq}
-use Rattle.affinity.specs.declared.kinds.Kind.TheVariants.{MakeVol, DropVol, Create, Delete, Seal, Unseal, Write, Punch, Read, List as ListFiles, Usage, Summary, SetLabel, Label}
+use Rattle.affinity.specs.declared.kinds.Kind.TheVariants.{MakeVol, DropVol, Create, Delete, Seal, Unseal, Read, List as ListFiles, Summary, SetLabel}
 use Rattle.language.specs.Grammar.{keyword}
 use Rattle.message.proofs.Keywords.{no_length, passes}
 use Rattle.message.proofs.parsing.kind_named.Goals as goal
@@ -16,18 +16,15 @@ returns c =
     let six = c.in_default-as_array-2.ensures.cases in
     let seven = c.in_default-as_array-3.ensures.cases in
     no_length c.args.word.now SetLabel (λ j. elim j as (λ j. (length c.args.word.now ≡ length (keyword j) → ⊥) ⊎ (j ≡ SetLabel)) [
-      | MakeVol ↦ inl seven
-      | DropVol ↦ inl seven
-      | Create ↦ inl six
-      | Delete ↦ inl six
+      | SetLabel ↦ inr refl
       | Seal ↦ inl four
-      | Unseal ↦ inl six
-      | Write ↦ inl five
-      | Punch ↦ inl five
       | Read ↦ inl four
       | ListFiles ↦ inl four
-      | Usage ↦ inl five
+      | Create ↦ inl six
+      | Delete ↦ inl six
+      | Unseal ↦ inl six
+      | MakeVol ↦ inl seven
+      | DropVol ↦ inl seven
       | Summary ↦ inl seven
-      | SetLabel ↦ inr refl
-      | Label ↦ inl five
+      | _ ↦ inl five
     ]) (ap (bytes_eq c.args.word.now) (sym c.as_slice.ensures) ∙ sym c.eq.ensures ∙ c.if-eq.false)
