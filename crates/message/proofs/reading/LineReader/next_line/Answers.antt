@@ -1,8 +1,8 @@
 -- Reading on keeps the known bytes as they were, so what is found is the line that they begin with.
-use Rattle.std.proofs.Common.{ℕ, List, Option, Some, None, Result, Ok, Err, subst}
+use Rattle.std.proofs.Common.{ℕ, List, Option, Some, None, Result, Ok, subst}
 use Rattle.std.specs.Io.KnownBytes.{Keeps}
 use Rattle.message.specs.declared.reading.Found.{Found}
-use Rattle.message.specs.declared.reading.Found.TheVariants.{Line, TooLong, End}
+use Rattle.message.specs.declared.reading.Found.TheVariants.{Line}
 use Rattle.message.specs.declared.reading.ReadFault.{ReadFault}
 use Rattle.message.specs.Reader.{unread, line_of, Finds}
 use Rattle.message.proofs.reading.LineReader.next_line.Goals as goal
@@ -10,9 +10,7 @@ use Rattle.message.proofs.reading.LineReader.next_line.Goals as goal
 -- nothing is claimed of bytes that are not known
 of_unknown : (r : Result Found ReadFault) (line : List ℕ) (left : Option (List ℕ)) → Finds r None line left
 of_unknown (Ok Line) line left = tt
-of_unknown (Ok TooLong) line left = tt
-of_unknown (Ok End) line left = tt
-of_unknown (Err fault) line left = tt
+of_unknown _ line left = tt
 
 of_kept : (a b : Option (List ℕ)) (r : Result Found ReadFault) (line : List ℕ) (left : Option (List ℕ)) → Keeps a b → Finds r b line left → Finds r a line left
 of_kept None b r line left kept h = of_unknown r line left
