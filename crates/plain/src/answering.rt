@@ -33,26 +33,6 @@ use std::alloc::{AllocError, Global};
 use std::io::{Read, Write};
 use std::marker::PhantomData;
 
-/// Answers a message that changes something and has no data.
-fn answer_change(
-    g: &Geometry,
-    kind: Kind,
-    numbers: [u16; 4],
-    server: &mut Server,
-    out: &mut ReplyBuffer,
-) -> Result<(), AllocError>
-    // Kind and numbers fit each other: a number that the kind doesn't have is 0.
-    requires asked { IsWithoutData kind numbers (Some (message_without_data kind numbers)) }
-    requires changes { is_changing kind ≡ true }
-    requires sound { IsConsistent g.now server.old }
-    requires room { FitsReply out.old }
-    ensures { AnswersLine g.now (Some (message_without_data kind numbers)) (is_ok result) server.old server.new out.old out.new }
-{
-    let why = server.carry_out(g, kind, numbers)?;
-    add_outcome(why, out);
-    Ok(())
-}
-
 /// Adds the reply to a message that changes something.
 fn add_outcome(why: Option<Refusal>, out: &mut ReplyBuffer)
     requires { FitsReply out.old }
@@ -92,6 +72,7 @@ fn answer_question(
     server: &Server,
     out: &mut ReplyBuffer,
 )
+    // Kind and numbers fit each other: a number that the kind doesn't have is 0.
     requires asked { IsWithoutData kind numbers (Some (message_without_data kind numbers)) }
     requires asks { is_changing kind ≡ false }
     requires sound { IsConsistent g.now server.now }
@@ -178,11 +159,12 @@ fn answer_without_data(
     ensures { AnswersLine g.now (Some (message_without_data kind numbers)) (is_ok result) server.old server.new out.old out.new }
 {
     if changing(kind) {
-        answer_change(g, kind, numbers, server, out)
-    } else {
-        answer_question(g, kind, numbers, server, out);
-        Ok(())
+        let why = server.carry_out(g, kind, numbers)?;
+        add_outcome(why, out);
+        return Ok(());
     }
+    answer_question(g, kind, numbers, server, out);
+    Ok(())
 }
 
 /// Answers one line. The block of a `write` is decoded into `content`.

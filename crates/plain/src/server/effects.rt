@@ -96,13 +96,8 @@ impl Server {
             Kind::Seal => self.seal_volume(a, v),
             Kind::Unseal => self.unseal_volume(a, v),
             Kind::Punch => self.remove_block(g, a, v, f, b),
-            Kind::Write => unreachable!(),
-            Kind::SetLabel => unreachable!(),
-            Kind::Read => {}
-            Kind::List => {}
-            Kind::Usage => {}
-            Kind::Summary => {}
-            Kind::Label => {}
+            Kind::Read | Kind::List | Kind::Usage | Kind::Summary | Kind::Label => {}
+            Kind::Write | Kind::SetLabel => unreachable!(),
         }
         Ok(())
     }
