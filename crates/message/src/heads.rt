@@ -98,20 +98,18 @@ fn head_of_kind(kind: Kind, line: &[u8]) -> Option<Head<'_>>
     ensures { IsHead (unwrap_or result NoMessage) (of_kind kind (words line.now)) }
 {
     match kind {
-        Kind::MakeVol => Some(Head::WithoutData(Kind::MakeVol, volume_numbers(line)?)),
-        Kind::DropVol => Some(Head::WithoutData(Kind::DropVol, volume_numbers(line)?)),
-        Kind::Create => Some(Head::WithoutData(Kind::Create, file_numbers(line)?)),
-        Kind::Delete => Some(Head::WithoutData(Kind::Delete, file_numbers(line)?)),
-        Kind::Seal => Some(Head::WithoutData(Kind::Seal, volume_numbers(line)?)),
-        Kind::Unseal => Some(Head::WithoutData(Kind::Unseal, volume_numbers(line)?)),
+        Kind::MakeVol
+        | Kind::DropVol
+        | Kind::Seal
+        | Kind::Unseal
+        | Kind::List
+        | Kind::Usage
+        | Kind::Label => Some(Head::WithoutData(kind, volume_numbers(line)?)),
+        Kind::Create | Kind::Delete => Some(Head::WithoutData(kind, file_numbers(line)?)),
+        Kind::Punch | Kind::Read => Some(Head::WithoutData(kind, block_numbers(line)?)),
         Kind::Write => head_of_write(line),
-        Kind::Punch => Some(Head::WithoutData(Kind::Punch, block_numbers(line)?)),
-        Kind::Read => Some(Head::WithoutData(Kind::Read, block_numbers(line)?)),
-        Kind::List => Some(Head::WithoutData(Kind::List, volume_numbers(line)?)),
-        Kind::Usage => Some(Head::WithoutData(Kind::Usage, volume_numbers(line)?)),
-        Kind::Summary => None,
         Kind::SetLabel => head_of_label(line),
-        Kind::Label => Some(Head::WithoutData(Kind::Label, volume_numbers(line)?)),
+        Kind::Summary => None,
     }
 }
 
