@@ -90,21 +90,18 @@ module _ (m n : Map VolumeKey Volume) (a v : ℕ) (o : Option Volume) (h : (k : 
 
     -- a volume that is there changes
     module _ {w : Volume} (was : m (a, v) ≡ Some w) where
-      pub sealed_state : o ≡ Some (record w { sealed = true }) → state_of n blocks ≡ effect (state_of m blocks) (Seal a v)
-      sealed_state now = λ i. record (state_of m blocks) {
+      -- whether it is sealed changes
+      seal_state : (sealed : Bool) → o ≡ Some (record w { sealed = sealed }) → state_of n blocks ≡ record (state_of m blocks) { sealed = (state_of n blocks).sealed }
+      seal_state sealed now = λ i. record (state_of m blocks) {
         made = λ k. kept is_some (ap is_some now ∙ sym (ap is_some was)) k i;
-        sealed = λ k. added volume_is_sealed (ap volume_is_sealed now) k i;
+        sealed = (state_of n blocks).sealed;
         files = λ k. kept (λ w. volume_has_file w k.2) (ap (λ w. volume_has_file w k.2) now ∙ sym (ap (λ w. volume_has_file w k.2) was)) (k.0, k.1) i;
         labels = λ k. kept volume_label (ap volume_label now ∙ sym (ap volume_label was)) k i;
       }
 
-      pub unsealed_state : o ≡ Some (record w { sealed = false }) → state_of n blocks ≡ effect (state_of m blocks) (Unseal a v)
-      unsealed_state now = λ i. record (state_of m blocks) {
-        made = λ k. kept is_some (ap is_some now ∙ sym (ap is_some was)) k i;
-        sealed = λ k. dropped volume_is_sealed (ap volume_is_sealed now) k i;
-        files = λ k. kept (λ w. volume_has_file w k.2) (ap (λ w. volume_has_file w k.2) now ∙ sym (ap (λ w. volume_has_file w k.2) was)) (k.0, k.1) i;
-        labels = λ k. kept volume_label (ap volume_label now ∙ sym (ap volume_label was)) k i;
-      }
+      pub sealed_state : (sealed : Bool) → o ≡ Some (record w { sealed = sealed }) → state_of n blocks ≡ effect (state_of m blocks) (if sealed then Seal a v else Unseal a v)
+      sealed_state true now = seal_state true now ∙ (λ i. record (state_of m blocks) { sealed = λ k. added volume_is_sealed (ap volume_is_sealed now) k i })
+      sealed_state false now = seal_state false now ∙ (λ i. record (state_of m blocks) { sealed = λ k. dropped volume_is_sealed (ap volume_is_sealed now) k i })
 
       pub label_state : (bytes : List ℕ) → o ≡ Some (record w { label = bytes }) → state_of n blocks ≡ effect (state_of m blocks) (SetLabel a v bytes)
       label_state bytes now = λ i. record (state_of m blocks) {

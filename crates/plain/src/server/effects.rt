@@ -1,6 +1,6 @@
 //! What a message that passes its checks changes. The counts of each stripe's blocks stay right.
 
-ghost use Rattle.std.specs.Prelude.{◌≡◌, ◌<◌, OnOk, OnErr, None, true, false};
+ghost use Rattle.std.specs.Prelude.{◌≡◌, ◌<◌, OnOk, OnErr, None, true, false, if◌then◌else◌};
 ghost use Rattle.affinity.specs.declared.geometry.Geometry.{Geometry};
 ghost use Rattle.language.specs.declared.Msg.{Msg};
 ghost use Rattle.message.specs.Heads.{message_without_data, has_data};
@@ -51,25 +51,14 @@ impl Server {
         }
     }
 
-    /// Seals a volume that is made, whether it was sealed or not.
-    pub(super) fn seal_volume(&mut self, a: u16, v: u16)
+    /// Seals or unseals a volume that is made, whether it was sealed or not.
+    pub(super) fn set_sealed(&mut self, a: u16, v: u16, sealed: bool)
         requires made { (server_state self.old).made (a, v) ≡ true }
-        ensures state { server_state self.new ≡ effect (server_state self.old) (Msg.Seal a v) }
+        ensures state { server_state self.new ≡ effect (server_state self.old) (if sealed then Msg.Seal a v else Msg.Unseal a v) }
         ensures counted { (g : Geometry) → HasRightCounts g self.old → HasRightCounts g self.new }
     {
         if let Some(volume) = self.volumes.get_mut(&(a, v)) {
-            volume.sealed = true;
-        }
-    }
-
-    /// Unseals a volume that is made, whether it was sealed or not.
-    pub(super) fn unseal_volume(&mut self, a: u16, v: u16)
-        requires made { (server_state self.old).made (a, v) ≡ true }
-        ensures state { server_state self.new ≡ effect (server_state self.old) (Msg.Unseal a v) }
-        ensures counted { (g : Geometry) → HasRightCounts g self.old → HasRightCounts g self.new }
-    {
-        if let Some(volume) = self.volumes.get_mut(&(a, v)) {
-            volume.sealed = false;
+            volume.sealed = sealed;
         }
     }
 
@@ -93,8 +82,8 @@ impl Server {
             Kind::DropVol => self.remove_volume(g, a, v),
             Kind::Create => self.insert_file(a, v, f),
             Kind::Delete => self.remove_file(g, a, v, f),
-            Kind::Seal => self.seal_volume(a, v),
-            Kind::Unseal => self.unseal_volume(a, v),
+            Kind::Seal => self.set_sealed(a, v, true),
+            Kind::Unseal => self.set_sealed(a, v, false),
             Kind::Punch => self.remove_block(g, a, v, f, b),
             Kind::Read | Kind::List | Kind::Usage | Kind::Summary | Kind::Label => {}
             Kind::Write | Kind::SetLabel => unreachable!(),
