@@ -111,7 +111,8 @@ fn answer_write(
 ) -> Result<(), AllocError>
     requires sound { IsConsistent g.now server.old }
     requires room { FitsReply out.old }
-    ensures { AnswersLine g.now (option_map (writing numbers) (block_in_word digits.now)) (is_ok result) server.old server.new out.old out.new }
+    ensures { AnswersLine g.now (option_map (writing numbers) (block_in_word digits.now)) (is_ok result)
+        server.old server.new out.old out.new }
 {
     if decode_block(digits, content).is_none() {
         out.add_no_message();
@@ -134,7 +135,8 @@ fn answer_set_label(
 )
     requires sound { IsConsistent g.now server.old }
     requires room { FitsReply out.old }
-    ensures { AnswersLine g.now (option_map (labeling numbers) (label_in_word digits.now)) true server.old server.new out.old out.new }
+    ensures { AnswersLine g.now (option_map (labeling numbers) (label_in_word digits.now)) true
+        server.old server.new out.old out.new }
 {
     match &decode_label(digits) {
         Some(label) => {
