@@ -124,10 +124,6 @@ next_file files from fits some =
 
 -- ---- a whole line
 
--- the same buffer and end under other names
-pub appends_moved : {old new new' : List ℕ} {at end end' : ℕ} {t : List ℕ} → new' ≡ new → end' ≡ end → AppendsText old new at end t → AppendsText old new' at end' t
-appends_moved {old} {new} {new'} {at} {end} {end'} {t} e f h = rw (e, f) h
-
 pub line_bound : (old new line : List ℕ) (end : ℕ) → length new ≡ 1031 → AppendsText old new 0 end line → end ≤ 1031
 line_bound old new line end size h =
     let ends = h.ends in
