@@ -1,6 +1,7 @@
 -- What a word encodes as bytes, a block or a label.
 use Rattle.std.proofs.Common.{◌≡◌, ℕ, ◌-◌, ◌*◌, ◌/◌, ◌%◌, ◌<◌, ◌≤◌, Bool, true, false, cond, List, [], ◌∷◌, ◌++◌, length, length-take-le, take, drop, replicate, Option, Some, None, Result, Ok, Err, refl, ap, sym, ◌∙◌, inl, inr, arith}
 use Rattle.std.specs.Prelude.{◌&&◌, nat_le, MatchResult, option_map}
+use Rattle.std.specs.Result.{result_ok}
 use Rattle.std.proofs.lemmas.Bool.{and_parts, and_from, ne_eqb, leb-true, le-leb, cond-true, cases_eq, true≢false}
 use Rattle.std.proofs.lemmas.Option.{same_Some}
 use Rattle.std.proofs.lemmas.List.{drop-replicate, length-replicate}
@@ -96,6 +97,16 @@ decode_sized-half w n half =
 -- what decoding into a slice showed
 abbrev pub Decoded : List ℕ → ℕ → Option (Unit {0}) → List ℕ → Type 0
 Decoded w n r out = MatchResult (decode_sized w n) (λ bytes. (r ≡ Some tt) × (out ≡ bytes)) (λ e. r ≡ None)
+
+told_ok : (d : Result (List ℕ) FromHexError) (r : Result (Unit {0}) FromHexError) (out : List ℕ) → MatchResult d (λ bytes. (r ≡ Ok tt) × (out ≡ bytes)) (λ e. r ≡ Err e)
+    → MatchResult d (λ bytes. (result_ok r ≡ Some tt) × (out ≡ bytes)) (λ e. result_ok r ≡ None)
+told_ok (Ok bytes) r out h = (ap result_ok h.0, h.1)
+told_ok (Err x) r out h = ap result_ok h
+
+-- what the decoding of the crate `hex` showed, its error left out
+pub decoded_by_hex : (w : List ℕ) (n : ℕ) (r : Result (Unit {0}) FromHexError) (o : Option (Unit {0})) (out : List ℕ)
+    → MatchResult (decode_sized w n) (λ bytes. (r ≡ Ok tt) × (out ≡ bytes)) (λ e. r ≡ Err e) → o ≡ result_ok r → Decoded w n o out
+decoded_by_hex w n r o out h e = rw e (told_ok (decode_sized w n) r out h)
 
 decoded_ok : (d : Result (List ℕ) FromHexError) (r : Option (Unit {0})) (out : List ℕ) (u : Unit {0}) → MatchResult d (λ bytes. (r ≡ Some tt) × (out ≡ bytes)) (λ e. r ≡ None) → Some u ≡ r → d ≡ Ok out
 decoded_ok (Ok bytes) r out u h e = ap Ok (sym h.1)

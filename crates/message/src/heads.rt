@@ -12,7 +12,8 @@ ghost use Rattle.message.specs.declared.heads.Head.TheVariants.{NoMessage};
 use crate::LONGEST_LINE;
 use crate::decoding::decode_to_slice;
 use crate::parsing::{
-    block_numbers, file_numbers, kind_named, number_before_space, split_keyword, volume_numbers,
+    block_numbers, bytes_in_word, file_numbers, kind_named, number_before_space, split_keyword,
+    volume_numbers,
 };
 use crate::records::assembled;
 use affinity::Kind;
@@ -137,22 +138,19 @@ fn head_of_label(line: &[u8]) -> Option<Head<'_>>
 pub fn decode_label(digits: &[u8]) -> Option<[u8; 32]>
     ensures { result ≡ label_in_word digits.now }
 {
-    let mut label = [0; 32];
-    decode_bytes(digits, &mut label)?;
-    Some(label)
+    bytes_in_word(digits)
 }
 
-/// Decodes digits into the front of a buffer, and fills the rest with zeros. Where they encode no bytes that fit into it, `out` is
-/// unspecified afterwards.
-fn decode_bytes<const N: usize>(digits: &[u8], out: &mut [u8; N]) -> Option<()>
-    ensures { MatchOption result (bytes_in_word N digits.now ≡ None)
-        (λ _. bytes_in_word N digits.now ≡ Some out.new) }
+/// Decodes digits into a buffer of one block, and fills the rest with zeros.
+fn decode_bytes(digits: &[u8], out: &mut [u8; 512]) -> Option<()>
+    ensures { MatchOption result (bytes_in_word 512 digits.now ≡ None)
+        (λ _. bytes_in_word 512 digits.now ≡ Some out.new) }
 {
     let size = digits.len() / 2;
-    if size == 0 || size > N {
+    if size == 0 || size > 512 {
         return None;
     }
-    out.fill(0);
+    *out = [0; 512];
     decode_to_slice(digits, &mut out[..size])?;
     Some(())
 }

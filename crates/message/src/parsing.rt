@@ -5,7 +5,7 @@ ghost use Rattle.std.specs.Prelude.{◌≡◌, ◌≢◌, ℕ, ◌<◌, ◌≤�
 ghost use Rattle.std.specs.Str.{all_ascii_digits};
 ghost use Rattle.std.specs.Str.Parse.{digits_value};
 ghost use Rattle.language.specs.declared.Msg.{Msg};
-ghost use Rattle.language.specs.Lines.{words, number_in_word};
+ghost use Rattle.language.specs.Lines.{words, number_in_word, bytes_in_word};
 ghost use Rattle.language.specs.Grammar.{first_number, of_volume, of_file, of_block, kind_named};
 ghost use Rattle.language.specs.Messages.{filled};
 ghost use Rattle.message.specs.Numbers.{AreInFront, HasTooMuchInFront};
@@ -230,4 +230,17 @@ fn has_leading_zero(word: &[u8]) -> bool
     ensures { IsTrue result ↔ ((1 < length word.now) × (slice_index word.now 0 ≡ 48)) }
 {
     word.len() > 1 && word[0] == b'0'
+}
+
+/// The bytes that a word encodes in hexadecimal digits, and zeros after them.
+pub(crate) fn bytes_in_word<const N: usize>(digits: &[u8]) -> Option<[u8; N]>
+    ensures { result ≡ bytes_in_word N digits.now }
+{
+    let size = digits.len() / 2;
+    if size == 0 || size > N {
+        return None;
+    }
+    let mut bytes = [0; N];
+    hex::decode_to_slice(digits, &mut bytes[..size]).ok()?;
+    Some(bytes)
 }
