@@ -32,11 +32,11 @@ module _ {keeps : Type 0} {s : ServeOptions} {old new : Medium} {end : Result (U
       let served = h.served.run.served in
       let g = h.start.geometry in
       let x = committed_in h.start in
-      let log = logged_messages (machine_of (machine_at_start s h.start)) (events_of served.device_events) in
+      let log = logged_messages (machine_of (machine_at_start s h.start)) (events_of served.run.segment.device_events) in
       let idle = is_idle s.slots h.start h.fresh in
       let on_device : RecoversToHistory g x (ticketed 0 (admitted g served.consumed)) log c =
       subst (λ (t : ℕ). RecoversToHistory g x (ticketed t (admitted g served.consumed)) log c) h.fresh.next
-      (holds_all keeps (machine_at_start s h.start) h.now streams.input served.consumed served.device_events idle h.fresh.no_doubt served.run keep c
+      (holds_all idle h.fresh.no_doubt served.run keep c
       (subst (λ (m : Medium). IsCrashImage m c) h.given_back leaves)) in
       let state = state_after_all g x (recorded (log ++ on_device.more)) in
       record {
@@ -48,10 +48,10 @@ module _ {keeps : Type 0} {s : ServeOptions} {old new : Medium} {end : Result (U
         sent = map answer_text served.sent_lines;
         output = served.output;
         few = subst (λ (n : ℕ). length served.consumed ≤ length (map answer_text served.sent_lines) + n) h.fresh.slots_are
-            (few_answered keeps (machine_at_start s h.start) h.now h.served.run.unsent streams.input streams.before h.served.run.all idle served);
+            (few_answered idle served);
         history = log;
         kept = subst (λ (t : ℕ). AreInHistory g log t served.consumed (map answer_text served.sent_lines)) h.fresh.next
-            (written_are_kept keeps (machine_at_start s h.start) h.now h.served.run.unsent streams.input streams.before h.served.run.all idle served);
+            (written_are_kept idle served);
         holds = on_device;
         header = has_header g c state leaves.bytes on_device.recovers;
         not_refused = is_not_refused g c state leaves.bytes on_device.recovers;

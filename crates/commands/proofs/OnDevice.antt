@@ -31,13 +31,13 @@ is_idle slots c just = record { none_waits = just.none_waits; none_held = rw (ju
 -- from what is known of the core before and after: the service is an incarnation of its device
 module _ (keeps : Type 0) (s : ServeOptions) (old : Medium) (start now : CoreView) (end : Result (Unit {0}) ServeFault) (x : Exchange) where
   pub is_incarnation : IsJustOpened s.slots start → (keeps → HasHeader start.geometry old.now) → (keeps → recovered_state start.geometry old.now ≡ Some (committed_in start))
-      → (consumed : List (List ℕ)) (device_events : List DeviceEvent) → HasRunLines keeps (machine_at_start s start) now x.input consumed device_events → keeps
-      → IsIncarnation s start old now.medium device_events
-  is_incarnation fresh header recovered_before consumed device_events run keep = λ k within. record {
+      → {consumed : List (List ℕ)} (run : HasRunLines keeps (machine_at_start s start) now x.input consumed) → keeps
+      → IsIncarnation s start old now.medium run.segment.device_events
+  is_incarnation fresh header recovered_before run keep = λ k within. record {
     header = header keep;
     recovered_before = recovered_before keep;
     idle = is_idle s.slots start fresh;
-    legal = run.legal;
+    legal = run.segment.legal;
     crash = λ c left. run.crash keep k c within left;
   }
 
@@ -55,7 +55,7 @@ module _ (keeps : Type 0) (s : ServeOptions) (old : Medium) (start now : CoreVie
     served = served;
     leaves = leaves;
     given_back = refl;
-    incarnation = is_incarnation fresh header recovered_before served.run.served.consumed served.run.served.device_events served.run.served.run;
+    incarnation = is_incarnation fresh header recovered_before served.run.served.run;
   }
 
 -- a service as `HasServedBy` describes it crashes safely, whatever its end
@@ -120,7 +120,7 @@ pub ends_on_device : {keeps : Type 0} {s : ServeOptions} {old new : Medium} (end
     → (h : HasServedBy keeps s old new end x) → (h.now.failed ≡ false → h.now.doubt ≡ []) → AreBytes new.now
     → EndsOnDevice keeps s old new (command_result end) x
 ends_on_device {new} (Ok _) h no_doubt bytes =
-    let same = h.served.run.served.run.geometry in (
+    let same = h.served.run.served.run.segment.geometry in (
       h.served.no_workers,
       (
         went h no_doubt bytes same h.served.ends.1,
@@ -129,8 +129,8 @@ ends_on_device {new} (Ok _) h no_doubt bytes =
         h.served.ends.3,
       ),
     )
-ends_on_device (Err faults.Read) h no_doubt bytes = (h.served.no_workers, (went h no_doubt bytes h.served.run.served.run.geometry h.served.ends.1, h.served.ends.2))
-ends_on_device (Err faults.Exhausted) h no_doubt bytes = (h.served.no_workers, (went h no_doubt bytes h.served.run.served.run.geometry h.served.ends.1, h.served.ends.3))
+ends_on_device (Err faults.Read) h no_doubt bytes = (h.served.no_workers, (went h no_doubt bytes h.served.run.served.run.segment.geometry h.served.ends.1, h.served.ends.2))
+ends_on_device (Err faults.Exhausted) h no_doubt bytes = (h.served.no_workers, (went h no_doubt bytes h.served.run.served.run.segment.geometry h.served.ends.1, h.served.ends.3))
 ends_on_device (Err faults.Device) h no_doubt bytes =
     (h.served.no_workers, (h.start.geometry, committed_in h.start, recovered_to h no_doubt bytes, h.served.ends.2))
 ends_on_device (Err faults.Write) h no_doubt bytes = (h.served.no_workers, (h.start.geometry, committed_in h.start, recovered_to h no_doubt bytes))

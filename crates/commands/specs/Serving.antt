@@ -119,7 +119,7 @@ pub record HasServedBy (keeps : Type 0) (s : ServeOptions) (old new : Medium) (e
   -- whatever a crash leaves now recovers to the committed state with a prefix of the messages in `doubt`
   pub leaves : keeps → RecoversNow now
   pub given_back : new ≡ now.medium
-  pub incarnation : keeps → IsIncarnation s start old new served.run.served.device_events
+  pub incarnation : keeps → IsIncarnation s start old new served.run.served.run.segment.device_events
 
 -- `HasServedBy` holds; or the device could not be opened. A crash during the opening leaves what a crash before it might have left or,
 -- from the opening's first sync on, bytes that recover to the same state as the device did, or are refused for the same fault.

@@ -54,9 +54,7 @@ module _ {keeps : Type 0} {start old : MachineView} {consumed : List (List ℕ)}
 
   -- the ticket that the core gives next
   pub next_is : old.core.next ≡ next_ticket start.core.next (admitted g consumed)
-  next_is = ap (λ (w : MachineState). w.core.next) (sym s.segment.ends) ∙ run_next g _ (events_of s.segment.device_events) s.segment.legal
-      ∙ ap (λ (es : List Entry). next_ticket start.core.next (messages_of es)) s.segment.arrived_are
-      ∙ ap (next_ticket start.core.next) (messages-ticketed start.core.next (admitted g consumed))
+  next_is = passes_next s.segment ∙ ap (next_ticket start.core.next) (messages-ticketed start.core.next (admitted g consumed))
 
   -- A line was read, and its message has arrived, if it takes a ticket.
   takes_in : (new : MachineView) (line : List ℕ) (known : Line) → RunsBetween keeps old new (ticketed old.core.next (admitted_in g (message_of line))) []

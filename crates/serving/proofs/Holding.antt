@@ -42,10 +42,9 @@ module _ {keeps : Type 0} {s : Start} {sent later : Option (List ℕ)} {now : Co
       let h = m.served in
       record {
         consumed = h.consumed;
-        device_events = h.device_events;
         run = h.run;
         sent_lines = h.sent_lines ++ m.next;
-        known = subst (λ (l : List Line). AreKnown s.core.geometry (answered (events_of h.device_events)) s.core.next h.consumed l)
+        known = subst (λ (l : List Line). AreKnown s.core.geometry h.run.reply_pairs s.core.next h.consumed l)
             (sym (append_assoc h.sent_lines m.next m.rest)) h.known;
         have_answers = all_join (λ line. has_answer line ≡ true) h.sent_lines m.next h.have_answers m.have_answers;
         few = let n = length-append m.next m.rest in let a = h.few in omega (arith, n, a);
@@ -58,17 +57,17 @@ module _ {keeps : Type 0} {s : Start} {sent later : Option (List ℕ)} {now : Co
   holds_sent kept c leaves =
       let h = served_after_sending in
       let g = s.core.geometry in
-      let log = logged_messages (machine_of (start_machine s)) (events_of h.device_events) in
-      let held = holds_all keeps (start_machine s) now s.input h.consumed h.device_events m.idle m.none_in_doubt h.run kept c leaves in
+      let log = logged_messages (machine_of (start_machine s)) (events_of h.run.segment.device_events) in
+      let held = holds_all m.idle m.none_in_doubt h.run kept c leaves in
       let state = state_after_all g (committed_in s.core) (recorded (log ++ held.more)) in
       record {
         consumed = h.consumed;
         first = h.run.first;
         lines = map answer_text h.sent_lines;
         output = h.output;
-        few = few_answered keeps (start_machine s) now m.rest s.input s.before later m.idle h;
+        few = few_answered m.idle h;
         history = log;
-        kept = written_are_kept keeps (start_machine s) now m.rest s.input s.before later m.idle h;
+        kept = written_are_kept m.idle h;
         holds = held;
         header = has_header g c state leaves.bytes held.recovers;
         not_refused = is_not_refused g c state leaves.bytes held.recovers;
@@ -77,7 +76,8 @@ module _ {keeps : Type 0} {s : Start} {sent later : Option (List ℕ)} {now : Co
   -- ---- the same after more events, with more lines read
 
   module _ (lines_since : List (List ℕ)) (events_since : List DeviceEvent) (last : CoreView)
-      (run : HasRunLines keeps (start_machine s) last s.input (m.served.consumed ++ lines_since) (m.served.device_events ++ events_since)) where
+      (run : HasRunLines keeps (start_machine s) last s.input (m.served.consumed ++ lines_since))
+      (went_on : run.segment.device_events ≡ m.served.run.segment.device_events ++ events_since) where
     pub recovers_since : keeps → (c : List ℕ) → left_since last.medium (moment_number now.medium) c
         → BytesRecover s.core.geometry (s.core.slots + length lines_since) (committed_in s.core) s.input s.before later c
     unfolding served_after_sending
@@ -85,20 +85,20 @@ module _ {keeps : Type 0} {s : Start} {sent later : Option (List ℕ)} {now : Co
         let h = served_after_sending in
         let g = s.core.geometry in
         let w = machine_of (start_machine s) in
-        let before = m.served.device_events in
-        let events = before ++ events_since in
+        let before = m.served.run.segment.device_events in
+        let events = run.segment.device_events in
         let n = length before in
-        let many = length-append before events_since in
-        let first : take n events ≡ before = take-append-le n before events_since (omega arith) ∙ take_all n before (omega arith) in
-        let at_send : device_after s.core.medium (take n events) ≡ now.medium = ap (λ (es : List DeviceEvent). device_after s.core.medium es) first ∙ h.run.device in
+        let many = ap length went_on ∙ length-append before events_since in
+        let first : take n events ≡ before = ap (take n) went_on ∙ take-append-le n before events_since (omega arith) ∙ take_all n before (omega arith) in
+        let at_send : device_after s.core.medium (take n events) ≡ now.medium = ap (λ (es : List DeviceEvent). device_after s.core.medium es) first ∙ h.run.segment.device in
         let log = logged_messages w (events_of before) in
         let first_events : take n (events_of events) ≡ events_of before = take-map (λ (e : DeviceEvent). e.event) n events ∙ ap events_of first in
         let held : RecoversToHistory g (committed_in s.core) (ticketed s.core.next (admitted g (m.served.consumed ++ lines_since))) log c =
         subst (λ (es : List Event). RecoversToHistory g (committed_in s.core) (ticketed s.core.next (admitted g (m.served.consumed ++ lines_since))) (logged_messages w es) c) first_events
-        (holds_logged keeps (start_machine s) last s.input (m.served.consumed ++ lines_since) events m.idle m.none_in_doubt run kept n c (omega (arith, many))
+        (holds_logged m.idle m.none_in_doubt run kept n c (omega (arith, many))
         (subst (λ (d : Medium). left_since last.medium (moment_number d) c) (sym at_send) left)) in
-        let few = few_answered keeps (start_machine s) now m.rest s.input s.before later m.idle h in
+        let few = few_answered m.idle h in
         let read = length-append m.served.consumed lines_since in
         bytes_recover s.core.next (m.served.consumed ++ lines_since) (map answer_text h.sent_lines) run.first h.output (omega (arith, few, read))
         (still_in_history g log s.core.next m.served.consumed lines_since (map answer_text h.sent_lines)
-        (written_are_kept keeps (start_machine s) now m.rest s.input s.before later m.idle h)) held
+        (written_are_kept m.idle h)) held

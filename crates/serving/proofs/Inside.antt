@@ -135,21 +135,28 @@ none_long (x ∷ xs) h = absurd (omega (arith, h))
 none_inside : (w : CoreState) → unanswered w ≤ 0 → IsIdle w
 none_inside w h = record { none_waits = none_long w.waiting (omega (arith, h)); none_held = none_long (held w) (omega (arith, h)) }
 
+-- How many messages wait or are held grows by the arrivals, less those that were answered.
+pub passes_count : {keeps : Type 0} {old new : MachineView} {arriving : List Entry} {reply_pairs : List (ℕ × Reply)} → RunsBetween keeps old new arriving reply_pairs
+    → unanswered (core_state_of new.core) + length reply_pairs ≡ unanswered (core_state_of old.core) + length arriving
+passes_count {old} {new} p =
+    let run = run_counts old.core.geometry (machine_of old) (events_of p.device_events) p.legal in
+    let ends : unanswered (end_state (machine_of old) (events_of p.device_events)).core ≡ unanswered (core_state_of new.core) = ap (λ (w : MachineState). unanswered w.core) p.ends in
+    let came = ap length p.arrived_are in
+    let tells = ap length p.reply_pairs_are in
+    omega (arith, run, ends, came, tells)
+
 module _ {keeps : Type 0} {start now : MachineView} (idle : IsIdle (core_state_of start.core)) where
   serving_inside : {consumed : List (List ℕ)} {sent_lines unsent : List Line} → IsServing keeps start now consumed sent_lines unsent
       → unanswered (core_state_of now.core) ≤ length unsent
   serving_inside {consumed} {sent_lines} {unsent} s =
-      let p = s.segment in
       let g = start.core.geometry in
       let n = start.core.next in
-      let counts = run_counts g (machine_of start) (events_of p.device_events) p.legal in
-      let ends : unanswered (core_state_of now.core) ≡ unanswered (end_state (machine_of start) (events_of p.device_events)).core = ap (λ (w : MachineState). unanswered w.core) (sym p.ends) in
-      let arriving : length (arrived (events_of p.device_events)) ≡ length (admitted g consumed) = ap length p.arrived_are ∙ length-ticketed n (admitted g consumed) in
-      let reply_pairs : length (answered (events_of p.device_events)) ≡ length s.reply_pairs = ap length p.reply_pairs_are in
+      let counts = passes_count s.segment in
+      let arriving = length-ticketed n (admitted g consumed) in
       let none = idle_inside (core_state_of start.core) idle in
       let takes = lines_take g s.reply_pairs n consumed sent_lines unsent s.known s.answered in
       let most = later_most n s.reply_pairs in
-      omega (arith, counts, ends, arriving, reply_pairs, none, takes, most)
+      omega (arith, counts, arriving, none, takes, most)
 
   -- No more messages wait or are held than there are lines that were read and aren't written.
   pub few_inside : {unsent : List Line} {input unread : Option (List ℕ)} {ended : Bool} {before written : Option (List ℕ)}

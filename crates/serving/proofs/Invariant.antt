@@ -35,7 +35,7 @@ use Rattle.serving.proofs.Served.{has_served}
 use Rattle.serving.proofs.Slots.{finds_a_slot}
 use Rattle.serving.proofs.Segments.{quiet_goes_on, still_failed}
 use Rattle.serving.proofs.Taken.{line_goes_on, long_line_goes_on}
-use Rattle.serving.proofs.Tickets.{quiet_ticket}
+use Rattle.serving.proofs.Tickets.{passes_next}
 
 -- ---- lines that are sent, completed or retired
 
@@ -170,7 +170,7 @@ module _ (keeps : Type 0) where
           holds = k.holds;
           places = places ∙ u.places ∙ ap (λ (z : _). z.slots) (sym bench);
           knows = u.knows;
-          reads = reads_on s p q (quiet_ticket k.segment) (still_failed k.segment)
+          reads = reads_on s p q (passes_next k.segment) (still_failed k.segment)
               (λ unread drained h. record {
                 waiting = h.waiting;
                 have_answers = h.have_answers;
@@ -197,7 +197,7 @@ module _ (keeps : Type 0) where
           holds = k.0;
           places = u.places;
           knows = u.knows;
-          reads = reads_on s p q (quiet_ticket k.1) (still_failed k.1)
+          reads = reads_on s p q (passes_next k.1) (still_failed k.1)
               (λ unread drained h. record {
                 waiting = h.waiting;
                 have_answers = h.have_answers;

@@ -42,13 +42,16 @@ arrived_parted (event ∷ events) (suc k) =
     append_assoc (arrives event.step event.outcome) (arrived (take k events)) (arrived (drop k events))
     ∙ ap (λ es. arrives event.step event.outcome ++ es) (arrived_parted events k)
 
-module _ (keeps : Type 0) (start : MachineView) (new : CoreView) (input : Option (List ℕ)) (consumed : List (List ℕ)) (device_events : List DeviceEvent)
-    (idle : IsIdle (core_state_of start.core)) (none : start.core.doubt ≡ []) (r : HasRunLines keeps start new input consumed device_events) where
+module _ {keeps : Type 0} {start : MachineView} {new : CoreView} {input : Option (List ℕ)} {consumed : List (List ℕ)}
+    (idle : IsIdle (core_state_of start.core)) (none : start.core.doubt ≡ []) (r : HasRunLines keeps start new input consumed) where
   abbrev g : Geometry
   g = start.core.geometry
 
   abbrev w : MachineState
   w = machine_of start
+
+  abbrev device_events : List DeviceEvent
+  device_events = r.segment.device_events
 
   abbrev events : List Event
   events = events_of device_events
@@ -57,7 +60,7 @@ module _ (keeps : Type 0) (start : MachineView) (new : CoreView) (input : Option
   holds_since : (k : ℕ) (c : List ℕ) → RecoversForRun g w events k c → RecoversToHistory g (committed_in start.core) (arrived events) (logged_messages w (take k events)) c
   holds_since k c s =
       let after = s.left.after in
-      let found = left_in_order g r.legal idle none s.left.is_log in
+      let found = left_in_order g r.segment.legal idle none s.left.is_log in
       let some = take found.0 (end_state w (take after events)).core.ran in
       let first = went_first w events k after s.left.since in
       let whole : logged_messages w (take after events) ++ some ≡ logged_messages w (take k events) ++ (first.0 ++ some) =
@@ -66,7 +69,7 @@ module _ (keeps : Type 0) (start : MachineView) (new : CoreView) (input : Option
       let serial : IsSerialHistory g (committed_in start.core) (arrived events) (logged_messages w (take after events) ++ some) =
       subst (λ (es : List Entry). IsSerialHistory g (committed_in start.core) es (logged_messages w (take after events) ++ some)) all
       (still_serial g (committed_in start.core) (arrived (take after events)) (arrived (drop after events)) (logged_messages w (take after events) ++ some)
-      (subst AreAscending (sym all) (run_ascending g w events r.legal)) found.1) in
+      (subst AreAscending (sym all) (run_ascending g w events r.segment.legal)) found.1) in
       record {
         more = first.0 ++ some;
         serial = subst (IsSerialHistory g (committed_in start.core) (arrived events)) whole serial;
@@ -79,7 +82,7 @@ module _ (keeps : Type 0) (start : MachineView) (new : CoreView) (input : Option
       → left_since new.medium (moment_number (device_after start.core.medium (take k device_events))) c
       → RecoversToHistory g (committed_in start.core) (ticketed start.core.next (admitted g consumed)) (logged_messages w (take k events)) c
   holds_logged kept k c le since =
-      subst (λ (es : List Entry). RecoversToHistory g (committed_in start.core) es (logged_messages w (take k events)) c) r.arrived_are
+      subst (λ (es : List Entry). RecoversToHistory g (committed_in start.core) es (logged_messages w (take k events)) c) r.segment.arrived_are
       (holds_since k c (r.crash kept k c le since))
 
   -- What a crash leaves at the end of the run holds all that was logged.
@@ -88,7 +91,7 @@ module _ (keeps : Type 0) (start : MachineView) (new : CoreView) (input : Option
   holds_all kept c leaves =
       let n = length device_events in
       let at_end : device_after start.core.medium (take n device_events) ≡ new.medium =
-      ap (λ (ss : List DeviceEvent). device_after start.core.medium ss) (take_all n device_events (omega arith)) ∙ r.device in
+      ap (λ (ss : List DeviceEvent). device_after start.core.medium ss) (take_all n device_events (omega arith)) ∙ r.segment.device in
       let since : left_since new.medium (moment_number (device_after start.core.medium (take n device_events))) c =
       subst (λ (m : Medium). left_since new.medium (moment_number m) c) (sym at_end) (counts_now new.medium (moment_number new.medium) c (omega arith) leaves) in
       let long : length events ≤ n = omega (arith, length-map device_events (λ (s : DeviceEvent). s.event)) in
@@ -133,36 +136,37 @@ said_of (a ∷ as') p is = ⊎_elim
     (λ (e : p ≡ (a.0, a.2)). (a.1, inl (λ i. ((e i).0, a.1, (e i).1))))
     (λ later. let h = said_of as' p later in (h.0, inr h.1)) is
 
-module _ (keeps : Type 0) (start : MachineView) (new : CoreView) (unsent : List Line) (input before written : Option (List ℕ))
+module _ {keeps : Type 0} {start : MachineView} {new : CoreView} {unsent : List Line} {input before written : Option (List ℕ)}
     (idle : IsIdle (core_state_of start.core)) (h : HasServed keeps start new unsent input before written) where
   abbrev run_log : List Replied
-  run_log = logged_messages (machine_of start) (events_of h.device_events)
+  run_log = logged_messages (machine_of start) (events_of h.run.segment.device_events)
 
   -- If the run gave a reply to a message's ticket, the message was logged with that reply.
   was_logged : (ticket : ℕ) (m : Msg) (reply : Reply) → IsIn (ticket, m) (ticketed start.core.next (admitted start.core.geometry h.consumed))
-      → Contains (answered (events_of h.device_events)) (ticket, reply) → Contains run_log (ticket, m, reply)
+      → Contains h.run.reply_pairs (ticket, reply) → Contains run_log (ticket, m, reply)
   was_logged ticket m reply asks told =
       let g = start.core.geometry in
       let w = machine_of start in
-      let events = events_of h.device_events in
+      let p = h.run.segment in
+      let events = events_of p.device_events in
       let came = arrived events in
       let one = said_of (answered_messages w events) (ticket, reply)
-      (subst (IsIn (ticket, reply)) (sym (run_replies g w events h.run.legal)) (in_contained (answered events) (ticket, reply) told)) in
+      (subst (IsIn (ticket, reply)) (sym (run_replies g w events p.legal ∙ p.reply_pairs_are)) (in_contained h.run.reply_pairs (ticket, reply) told)) in
       let its : IsIn (ticket, one.0) came =
       in_contained came (ticket, one.0)
-      (holds_of (λ (a : Replied). Contains came (entry a)) (answered_messages w events) (answered_came g w events h.run.legal idle) (ticket, one.0, reply) one.1) in
+      (holds_of (λ (a : Replied). Contains came (entry a)) (answered_messages w events) (answered_came g w events p.legal idle) (ticket, one.0, reply) one.1) in
       let same : one.0 ≡ m = ap (λ (e : Entry). e.1)
-      (one_message came (run_ascending g w events h.run.legal) (ticket, one.0) (ticket, m) its
-      (subst (IsIn (ticket, m)) (sym h.run.arrived_are) asks) refl) in
+      (one_message came (run_ascending g w events p.legal) (ticket, one.0) (ticket, m) its
+      (subst (IsIn (ticket, m)) (sym p.arrived_are) asks) refl) in
       contains_in run_log (ticket, m, reply)
-      (subst (λ (l : List Replied). IsIn (ticket, m, reply) l) (sym (logged_begins g w events h.run.legal idle))
+      (subst (λ (l : List Replied). IsIn (ticket, m, reply) l) (sym (logged_begins g w events p.legal idle))
       (in_left (ticket, m, reply) (answered_messages w events) (end_state w events).core.logged
       (subst (λ (m' : Msg). IsIn (ticket, m', reply) (answered_messages w events)) same one.1)))
 
   -- No more consumed lines have no answer than there are slots.
   pub few_answered : length h.consumed ≤ length (map answer_text h.sent_lines) + start.core.slots
   few_answered =
-      let all = as_many start.core.geometry (answered (events_of h.device_events)) start.core.next h.consumed (h.sent_lines ++ unsent) h.known in
+      let all = as_many start.core.geometry h.run.reply_pairs start.core.next h.consumed (h.sent_lines ++ unsent) h.known in
       let both = length-append h.sent_lines unsent in
       let same = length-map h.sent_lines answer_text in
       let few = h.few in
@@ -170,5 +174,5 @@ module _ (keeps : Type 0) (start : MachineView) (new : CoreView) (unsent : List 
 
   -- Each line that was written is in the history of what the run logged (`AreInHistory`).
   pub written_are_kept : AreInHistory start.core.geometry run_log start.core.next h.consumed (map answer_text h.sent_lines)
-  written_are_kept = are_kept start.core.geometry (answered (events_of h.device_events)) run_log
+  written_are_kept = are_kept start.core.geometry h.run.reply_pairs run_log
       (ticketed start.core.next (admitted start.core.geometry h.consumed)) was_logged start.core.next h.consumed h.sent_lines unsent (λ e is. is) h.known h.have_answers

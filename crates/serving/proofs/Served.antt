@@ -178,22 +178,16 @@ module _ (keeps : Type 0) (start now : MachineView) (idle : IsIdle (core_state_o
       let p = h.serving.segment in
       record {
         consumed = h.consumed;
-        device_events = p.device_events;
         run = record {
           first = first_taken input unread ended h.consumed h.takes;
-          legal = p.legal;
           hands = now.hands;
-          ends = p.ends;
-          geometry = p.geometry;
-          arrived_are = p.arrived_are;
-          device = p.device;
-          failures = p.failures;
-          any_moment = p.any_moment;
+          reply_pairs = h.serving.reply_pairs;
+          segment = p;
           crash = λ kept. left_since_event g {new = now}
               (record { legal = p.legal; safe = p.any_moment kept; ends = p.ends; geometry = p.geometry; device = p.device }) sound none (recovers kept);
         };
         sent_lines = h.sent_lines;
-        known = subst (λ (l : List (ℕ × Reply)). AreKnown g l start.core.next h.consumed (h.sent_lines ++ unsent)) (sym p.reply_pairs_are) h.serving.known;
+        known = h.serving.known;
         have_answers = h.serving.answered;
         output = h.output;
         few = few;

@@ -6,11 +6,7 @@ use Rattle.std.proofs.lemmas.Bool.{true≢false}
 use Rattle.std.proofs.lemmas.List.{length-map}
 use Rattle.affinity.specs.declared.geometry.Geometry.{Geometry}
 use Rattle.histories.proofs.Elements.{in_contained}
-use Rattle.histories.specs.Events.{MachineState}
-use Rattle.histories.specs.Runs.{answered, arrived}
 use Rattle.histories.specs.CoreState.{Entry}
-use Rattle.incarnations.specs.Machine.{machine_of}
-use Rattle.incarnations.specs.DeviceEvents.{events_of}
 use Rattle.language.specs.Grammar.{message_of}
 use Rattle.language.specs.Replies.{no_message, reply_line}
 use Rattle.language.specs.declared.Msg.{Msg}
@@ -20,12 +16,11 @@ use Rattle.language.specs.declared.Reply.TheVariants.{Done, Refused}
 use Rattle.meaning.specs.Order.{messages_of}
 use Rattle.meaning.specs.Output.{joined}
 use Rattle.scheduler.specs.CoreView.{CoreView, core_state_of}
-use Rattle.serving.specs.Lines.{Completed, HaveAnswers, AreKnown, IsKnown, Line, NoMessage, OutOfRange, Pending, admitted_in, next_ticket, answer_text}
+use Rattle.serving.specs.Lines.{Completed, HaveAnswers, AreKnown, IsKnown, Line, NoMessage, OutOfRange, Pending, admitted, admitted_in, next_ticket, answer_text, ticketed}
 use Rattle.serving.specs.Runs.{unanswered}
-use Rattle.serving.specs.Output.{HasNoReply, MaySendFrom, MaySend, Start, SendsNoReply, start_machine}
-use Rattle.serving.proofs.Counting.{run_counts}
-use Rattle.serving.proofs.Inside.{idle_inside}
-use Rattle.serving.proofs.Tickets.{run_next}
+use Rattle.serving.specs.Output.{HasNoReply, MaySendFrom, MaySend, Start, SendsNoReply}
+use Rattle.serving.proofs.Inside.{idle_inside, passes_count}
+use Rattle.serving.proofs.Tickets.{passes_next}
 
 -- ---- lines that are known where no reply was given
 
@@ -57,19 +52,16 @@ no_items (x ∷ xs) none = absurd (omega (arith, none))
 
 module _ (keeps : Type 0) (s : Start) (sent : Option (List ℕ)) (now : CoreView) (bytes : List ℕ) (m : MaySendFrom keeps s sent now bytes)
     (all_inside : unanswered (core_state_of now) + s.core.next ≡ now.next) where
-  none_answered : answered (events_of m.served.device_events) ≡ []
+  none_answered : m.served.run.reply_pairs ≡ []
   none_answered =
-      let r = m.served.run in
-      let events = events_of m.served.device_events in
-      let g = s.core.geometry in
+      let p = m.served.run.segment in
+      let arriving = ticketed s.core.next (admitted s.core.geometry m.served.consumed) in
       let first = idle_inside (core_state_of s.core) m.idle in
-      let count = run_counts g (machine_of (start_machine s)) events r.legal in
-      let at_end = ap (λ (w : MachineState). unanswered w.core) r.ends in
-      let next_at_end = ap (λ (w : MachineState). w.core.next) r.ends in
-      let next = run_next g (machine_of (start_machine s)) events r.legal in
-      let tickets = next_counts s.core.next (messages_of (arrived events)) in
-      let many = length-map (arrived events) (λ (e : Entry). e.1) in
-      no_items (answered events) (omega (arith, all_inside, first, count, at_end, next_at_end, next, tickets, many))
+      let count = passes_count p in
+      let next = passes_next p in
+      let tickets = next_counts s.core.next (messages_of arriving) in
+      let many = length-map arriving (λ (e : Entry). e.1) in
+      no_items m.served.run.reply_pairs (omega (arith, all_inside, first, count, next, tickets, many))
 
   pub is_silent : AllByRecursion HasNoReply m.next
   is_silent = all_silent s.core.geometry s.core.next m.served.consumed m.served.sent_lines m.next m.rest

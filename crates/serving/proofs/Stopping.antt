@@ -17,7 +17,7 @@ use Rattle.language.specs.declared.Msg.{Msg}
 use Rattle.scheduler.specs.CoreView.{core_state_of}
 use Rattle.serving.specs.Reads.{IsRefusedLine, read_end_of}
 use Rattle.serving.specs.Session.{IsReadEnd}
-use Rattle.serving.proofs.Tickets.{quiet_ticket}
+use Rattle.serving.proofs.Tickets.{passes_next}
 use Rattle.serving.proofs.Segments.{still_failed}
 
 -- ---- why a message is refused
@@ -76,6 +76,6 @@ stops_at_refusal {why = arrivals.Range} unread remaining drained line is found r
 stops_at_refusal {why = arrivals.Full} unread remaining drained line is found r fits = absurd (fits r.refused)
 stops_at_refusal {old} {m} {why = arrivals.Exhausted} unread remaining drained line is found r fits =
     let so = exhausted_so old.core.geometry (core_state_of old.core) m r.refused in
-    (quiet_ticket r.quiet.segment ∙ so.1, (line, m, found, is, so.0))
+    (passes_next r.quiet.segment ∙ so.1, (line, m, found, is, so.0))
 stops_at_refusal {old} {m} {why = arrivals.Failed} unread remaining drained line is found r fits =
     still_failed r.quiet.segment (failed_so old.core.geometry (core_state_of old.core) m r.refused)

@@ -48,9 +48,8 @@ run_next g old (event ∷ events) legal =
     ∙ sym (next-append old.core.next (messages_of come) (messages_of (arrived events)))
     ∙ ap (next_ticket old.core.next) (sym (messages-append come (arrived events)))
 
--- Where nothing arrives, the next ticket stays.
-pub quiet_ticket : {keeps : Type 0} {old new : MachineView} {reply_pairs : List (ℕ × Reply)} → RunsBetween keeps old new [] reply_pairs
-    → new.core.next ≡ old.core.next
-quiet_ticket {old} p =
+pub passes_next : {keeps : Type 0} {old new : MachineView} {arriving : List Entry} {reply_pairs : List (ℕ × Reply)} → RunsBetween keeps old new arriving reply_pairs
+    → new.core.next ≡ next_ticket old.core.next (messages_of arriving)
+passes_next {old} p =
     ap (λ (w : MachineState). w.core.next) (sym p.ends) ∙ run_next old.core.geometry (machine_of old) (events_of p.device_events) p.legal
     ∙ ap (λ (es : List Entry). next_ticket old.core.next (messages_of es)) p.arrived_are

@@ -1,22 +1,22 @@
 -- Statement for operators: What a server has done when it ends.
 use Rattle.std.specs.Prelude.{◌≡◌, ◌≤◌, ◌+◌, ◌-◌, ◌^◌, ℕ, true, false, List, [], ◌∷◌, ◌++◌, map, take, length, count_by, Option, Some, None, Result, Ok, Err}
 use Rattle.std.specs.Io.KnownBytes.{Appends, IsAtEnd}
-use Rattle.std.specs.List.{AllByRecursion}
 use Rattle.affinity.specs.declared.geometry.Geometry.{Geometry}
 use Rattle.disk.specs.Moments.{left_since, moment_number}
 use Rattle.histories.specs.Laws.{IsIdle}
-use Rattle.histories.specs.Runs.{IsLegal, answered, arrived, end_state}
 use Rattle.incarnations.specs.Machine.{MachineView, machine_of}
-use Rattle.incarnations.specs.DeviceEvents.{AreSafe, DeviceEvent, RecoversForRun, device_after, events_of}
+use Rattle.incarnations.specs.DeviceEvents.{RecoversForRun, device_after, events_of}
 use Rattle.incarnations.specs.declared.hands.HandContent.{HandContent}
 use Rattle.language.specs.Grammar.{message_of}
 use Rattle.language.specs.Lines.{lines}
 use Rattle.language.specs.Messages.{is_in_range}
 use Rattle.language.specs.declared.Msg.{Msg}
+use Rattle.language.specs.declared.Reply.{Reply}
 use Rattle.meaning.specs.Output.{AnswersWholeLines, IsBeginning, WritesOutput, joined, output_lines, state_after_lines}
 use Rattle.meaning.specs.State.{State}
 use Rattle.scheduler.specs.CoreView.{CoreView, core_state_of}
-use Rattle.serving.specs.Lines.{AreKnown, Line, admitted, has_answer, answer_text, ticketed}
+use Rattle.serving.specs.Lines.{AreKnown, HaveAnswers, Line, admitted, answer_text, ticketed}
+use Rattle.serving.specs.Runs.{RunsBetween}
 use Rattle.serving.specs.declared.server.ServeFault.{ServeFault}
 use Rattle.serving.specs.declared.server.ServeFault.TheVariants as faults
 
@@ -51,27 +51,20 @@ abbrev pub AreFirst : Option (List ℕ) → List (List ℕ) → Type 0
 AreFirst None consumed = Unit {0}
 AreFirst (Some input) consumed = (more : List (List ℕ)) × (lines input ≡ consumed ++ more)
 
--- A legal run leads from the machine at the start to the core at the end. `device_events` are its events, each with the device as it left
--- it. The messages that arrive in it are those in range among `consumed`, which are the first lines of the input; they take the tickets in
--- order.
+-- A legal run (`segment`) leads from the machine at the start to the core at the end. The messages that arrive in it are those in range
+-- among `consumed`, which are the first lines of the input; they take the tickets in order.
 pub record HasRunLines (keeps : Type 0) (start : MachineView) (new : CoreView)
-    (input : Option (List ℕ)) (consumed : List (List ℕ)) (device_events : List DeviceEvent) : Type 0 where
+    (input : Option (List ℕ)) (consumed : List (List ℕ)) : Type 0 where
   pub first : AreFirst input consumed
-  pub legal : IsLegal start.core.geometry (machine_of start) (events_of device_events)
   pub hands : List HandContent
-  pub ends : end_state (machine_of start) (events_of device_events) ≡ machine_of (record { core = new; hands = hands })
-  pub geometry : new.geometry ≡ start.core.geometry
-  pub arrived_are : arrived (events_of device_events) ≡ ticketed start.core.next (admitted start.core.geometry consumed)
-  pub device : device_after start.core.medium device_events ≡ new.medium
-  -- the device failed as often as the events say
-  pub failures : new.medium.faults ≡ start.core.medium.faults + count_by (λ e. e.device_failed) (events_of device_events)
-  -- A crash at any moment of an event leaves the state committed before it, with a prefix of what the event appends or, once the device
-  -- has failed, of `doubt`.
-  pub any_moment : keeps → AreSafe start.core.geometry (machine_of start) start.core.medium device_events
+  -- each ticket that was answered, with its reply
+  pub reply_pairs : List (ℕ × Reply)
+  pub segment : RunsBetween keeps start (record { core = new; hands = hands })
+      (ticketed start.core.next (admitted start.core.geometry consumed)) reply_pairs
   -- For every k: a crash at any moment since event number k ended leaves a device that recovers to a state which the run may leave.
-  pub crash : keeps → (k : ℕ) (c : List ℕ) → k ≤ length device_events
-      → left_since new.medium (moment_number (device_after start.core.medium (take k device_events))) c
-      → RecoversForRun start.core.geometry (machine_of start) (events_of device_events) k c
+  pub crash : keeps → (k : ℕ) (c : List ℕ) → k ≤ length segment.device_events
+      → left_since new.medium (moment_number (device_after start.core.medium (take k segment.device_events))) c
+      → RecoversForRun start.core.geometry (machine_of start) (events_of segment.device_events) k c
 
 -- A legal run (`HasRunLines`) led to the output: each reply there is to a line that is no message or is out of range, or to a message that
 -- the run answered. `unsent` are the lines that were read and have no reply in the output, never more than the core has slots. `known`:
@@ -79,11 +72,10 @@ pub record HasRunLines (keeps : Type 0) (start : MachineView) (new : CoreView)
 pub record HasServed (keeps : Type 0) (start : MachineView) (new : CoreView) (unsent : List Line)
     (input before written : Option (List ℕ)) : Type 0 where
   pub consumed : List (List ℕ)
-  pub device_events : List DeviceEvent
-  pub run : HasRunLines keeps start new input consumed device_events
+  pub run : HasRunLines keeps start new input consumed
   pub sent_lines : List Line
-  pub known : AreKnown start.core.geometry (answered (events_of device_events)) start.core.next consumed (sent_lines ++ unsent)
-  pub have_answers : AllByRecursion (λ line. has_answer line ≡ true) sent_lines
+  pub known : AreKnown start.core.geometry run.reply_pairs start.core.next consumed (sent_lines ++ unsent)
+  pub have_answers : HaveAnswers sent_lines
   pub output : Appends before written (joined (map answer_text sent_lines))
   pub few : length unsent ≤ start.core.slots
 

@@ -1,13 +1,12 @@
 -- Statement for engineers: How far a server has come: the lines that it has read, those of them that it has answered in the output, and the
 -- run that led there.
-use Rattle.std.specs.Prelude.{◌≡◌, ℕ, Bool, true, List, ◌++◌, map, Option}
+use Rattle.std.specs.Prelude.{ℕ, Bool, List, ◌++◌, map, Option}
 use Rattle.std.specs.Io.KnownBytes.{Appends}
-use Rattle.std.specs.List.{AllByRecursion}
 use Rattle.incarnations.specs.Machine.{MachineView}
 use Rattle.language.specs.declared.Reply.{Reply}
 use Rattle.meaning.specs.Output.{joined}
 use Rattle.meaning.specs.Progress.{TakesLines}
-use Rattle.serving.specs.Lines.{AreKnown, Line, admitted, has_answer, answer_text, ticketed}
+use Rattle.serving.specs.Lines.{AreKnown, HaveAnswers, Line, admitted, answer_text, ticketed}
 use Rattle.serving.specs.Runs.{RunsBetween}
 
 -- From its start the server has come to this machine. It has consumed these lines, of which the first ones are answered in the
@@ -21,7 +20,7 @@ pub record IsServing (keeps : Type 0) (start now : MachineView) (consumed : List
   -- `reply_pairs` or none there
   pub known : AreKnown start.core.geometry reply_pairs start.core.next consumed (sent_lines ++ unsent)
   -- each that is answered in the output has its answer
-  pub answered : AllByRecursion (λ line. has_answer line ≡ true) sent_lines
+  pub answered : HaveAnswers sent_lines
 
 -- Since its start the server has reached this machine state. It has consumed lines of the input, of which `unread` is left (`drained`: its
 -- end was read), and has written the replies to all of them but `unsent`, a session's outstanding lines.

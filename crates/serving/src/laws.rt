@@ -115,21 +115,19 @@ pub fn serving_ends_as_the_serial_server<D: Disk>()
 /// server has ended, it recovers so for all that was logged in the run.
 pub fn what_was_sent_is_on_the_device<D: Disk>()
     ensures logged { (start : MachineView) (new : CoreView) (input : Option (List ℕ)) (consumed : List (List ℕ))
-        (device_events : List DeviceEvent)
-        → IsIdle (core_state_of start.core) → start.core.doubt ≡ [] → HasRunLines D.keeps start new input consumed device_events → D.keeps
-        → (k : ℕ) (c : List ℕ) → k ≤ length device_events
-        → left_since new.medium (moment_number (device_after start.core.medium (take k device_events))) c
+        → IsIdle (core_state_of start.core) → start.core.doubt ≡ [] → (h : HasRunLines D.keeps start new input consumed) → D.keeps
+        → (k : ℕ) (c : List ℕ) → k ≤ length h.segment.device_events
+        → left_since new.medium (moment_number (device_after start.core.medium (take k h.segment.device_events))) c
         → RecoversToHistory start.core.geometry (committed_in start.core) (ticketed start.core.next (admitted start.core.geometry consumed))
-        (logged_messages (machine_of start) (take k (events_of device_events))) c }
+        (logged_messages (machine_of start) (take k (events_of h.segment.device_events))) c }
     ensures at_end { (start : MachineView) (new : CoreView) (input : Option (List ℕ)) (consumed : List (List ℕ))
-        (device_events : List DeviceEvent)
-        → IsIdle (core_state_of start.core) → start.core.doubt ≡ [] → HasRunLines D.keeps start new input consumed device_events → D.keeps
+        → IsIdle (core_state_of start.core) → start.core.doubt ≡ [] → (h : HasRunLines D.keeps start new input consumed) → D.keeps
         → (c : List ℕ) → IsCrashImage new.medium c
         → RecoversToHistory start.core.geometry (committed_in start.core) (ticketed start.core.next (admitted start.core.geometry consumed))
-        (logged_messages (machine_of start) (events_of device_events)) c }
+        (logged_messages (machine_of start) (events_of h.segment.device_events)) c }
     ensures sent { (start : MachineView) (new : CoreView) (unsent : List Line) (input before written : Option (List ℕ))
         → IsIdle (core_state_of start.core) → (h : HasServed D.keeps start new unsent input before written)
-        → AreInHistory start.core.geometry (logged_messages (machine_of start) (events_of h.device_events)) start.core.next h.consumed
+        → AreInHistory start.core.geometry (logged_messages (machine_of start) (events_of h.run.segment.device_events)) start.core.next h.consumed
         (map answer_text h.sent_lines) }
 {}
 
@@ -156,8 +154,8 @@ pub fn a_kill_loses_no_line_that_was_sent<D: Disk>()
     ensures { (s : Start) (sent later : Option (List ℕ)) (now last : CoreView) (bytes : List ℕ)
         → (may : MaySendFrom D.keeps s sent now bytes) → D.keeps → Appends sent later bytes
         → (lines_since : List (List ℕ)) (events_since : List DeviceEvent)
-        → HasRunLines D.keeps (start_machine s) last s.input (may.served.consumed ++ lines_since)
-        (may.served.device_events ++ events_since)
+        → (run : HasRunLines D.keeps (start_machine s) last s.input (may.served.consumed ++ lines_since))
+        → run.segment.device_events ≡ may.served.run.segment.device_events ++ events_since
         → (c : List ℕ) → left_since last.medium (moment_number now.medium) c
         → BytesRecover s.core.geometry (s.core.slots + length lines_since) (committed_in s.core) s.input s.before later c }
 {}
