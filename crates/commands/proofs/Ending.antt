@@ -5,23 +5,23 @@ use Rattle.std.proofs.KnownBytes.{Appends-nil}
 use Rattle.checkpoint.specs.declared.fault.FormatFault.TheVariants as formatting
 use Rattle.checkpoint.specs.declared.fault.OpenFault.TheVariants as opening
 use Rattle.affinity.specs.declared.geometry.Geometry.{Geometry}
+use Rattle.affinity.specs.Geometry.{numbers_of}
 use Rattle.affinity.specs.Limits.{AreInRange}
 use Rattle.affinity.proofs.Numbers.{geometry_same}
 use Rattle.clap.specs.Words.{IsAmong, Text, kind_of}
 use Rattle.meaning.specs.Output.{WritesOutput, IsBeginning}
 use Rattle.meaning.specs.State.{empty}
-use Rattle.serving.specs.Ends.{Exchange, exchange}
-use Rattle.commands.specs.Ends.{EndsFormatting, EndsInMemory}
+use Rattle.serving.specs.Ends.{Exchange}
+use Rattle.commands.specs.Ends.{EndsFormatting, EndsInMemory, EndsShowing}
 use Rattle.commands.specs.Serving.{EndsInFile}
 use Rattle.commands.specs.declared.serve_options.ServeOptions.{ServeOptions}
 use Rattle.commands.proofs.Services.{service_same}
-use Rattle.disk.specs.declared.fault.FileFault.TheVariants as file
-use Rattle.commands.specs.Calls.{Ends, ExitsFormat, ExitsHelp, ExitsPlain, ExitsRefused, ExitsServe, ExitsShow, status_at, status_of_refusal}
+use Rattle.commands.specs.Calls.{Ends, Exits, ExitsHelp, ExitsRefused, status_at, status_of_refusal}
 use Rattle.commands.specs.Services.{AsksServe, within_limits}
 use Rattle.commands.specs.Faults.{status_of}
 use Rattle.arguments.proofs.Asking.{no_mistake, two_names}
 use Rattle.arguments.proofs.Options.{in_range}
-use Rattle.arguments.specs.Arguments.{Asks, AsksFormat, RunsNoCommand, AsksPlain, AsksShow, IsReason, command_of}
+use Rattle.arguments.specs.Arguments.{Asks, AsksFormat, AsksOutOfRange, RunsNoCommand, AsksPlain, AsksShow, IsReason, command_of, findings, numbers_at}
 use Rattle.commands.specs.declared.faults.Fault.{Fault}
 use Rattle.commands.specs.declared.faults.Fault.TheVariants.{Read, Write, GeometryOutOfRange, OutOfMemory, Device, NoWorkers, NoTicketLeft, Format as ByFormat, Open as ByOpen}
 use Rattle.arguments.specs.declared.parsing.ArgumentRefusal.{ArgumentRefusal}
@@ -68,39 +68,23 @@ is_refused refusal.GeometryOutOfRange none = cc
 
 -- ---- arguments that ask for a command give no request only for want of memory
 
-nothing_written : (g : Geometry) (input old : Option (List ℕ)) → WritesOutput input old old (IsBeginning g empty)
+pub nothing_written : (g : Geometry) (input old : Option (List ℕ)) → WritesOutput input old old (IsBeginning g empty)
 nothing_written g None old = tt
 nothing_written g (Some bytes) old = ([], Appends-nil old, (0, refl))
 
-pub served_nothing : (arguments : List Text) {g : Geometry} (why : ArgumentRefusal) {input old : Option (List ℕ)} → AsksPlain arguments g → IsReason arguments why
-    → ExitsPlain g (status_of_refusal why) (exchange input input old old)
-served_nothing arguments {g} refusal.OutOfMemory {input} {old} asks reason = (Err OutOfMemory, refl, nothing_written g input old)
-served_nothing arguments {g} refusal.GeometryOutOfRange asks reason = absurd (reason.3 (subst AreInRange asks.2 (in_range g)))
-served_nothing arguments (refusal.Words error) asks reason = absurd (no_mistake arguments error asks.0 reason)
+pub exits_for_memory : {P : Result (Unit {0}) Fault → Type 0} {arguments : List Text} (why : ArgumentRefusal) → findings arguments ≡ [] → IsReason arguments why
+    → (AsksOutOfRange arguments → ⊥) → P (Err OutOfMemory) → Exits (status_of_refusal why) P
+exits_for_memory refusal.OutOfMemory none reason fits h = (Err OutOfMemory, refl, h)
+exits_for_memory refusal.GeometryOutOfRange none reason fits h = absurd (fits reason)
+exits_for_memory {arguments} (refusal.Words error) none reason fits h = absurd (no_mistake arguments error none reason)
 
-pub formatted_nothing : (arguments : List Text) {path : List ℕ} (g : Geometry) (why : ArgumentRefusal) {old : Option (List ℕ)} → AsksFormat arguments path g → IsReason arguments why
-    → ExitsFormat g (status_of_refusal why) old old
-formatted_nothing arguments g refusal.OutOfMemory asks reason = (Err OutOfMemory, refl, refl)
-formatted_nothing arguments g refusal.GeometryOutOfRange asks reason = absurd (reason.3 (subst AreInRange asks.3 (in_range g)))
-formatted_nothing arguments g (refusal.Words error) asks reason = absurd (no_mistake arguments error asks.0 reason)
-
-pub shown_nothing : (arguments : List Text) {path : List ℕ} (why : ArgumentRefusal) {old : Option (List ℕ)} → AsksShow arguments path → IsReason arguments why
-    → ExitsShow (status_of_refusal why) old old
-shown_nothing arguments refusal.OutOfMemory asks reason = (Err OutOfMemory, refl, refl)
-shown_nothing arguments refusal.GeometryOutOfRange asks reason = absurd (reason.1 asks.1)
-shown_nothing arguments (refusal.Words error) asks reason = absurd (no_mistake arguments error asks.0 reason)
-
-pub served_on_nothing : (arguments : List Text) {path : List ℕ} {s : ServeOptions} (why : ArgumentRefusal) {input old : Option (List ℕ)} → AsksServe arguments path s
-    → IsReason arguments why → ExitsServe s (status_of_refusal why) (exchange input input old old)
-served_on_nothing arguments refusal.OutOfMemory asks reason =
-    (Err OutOfMemory, refl, inl (record { why = file.OutOfMemory; ends = refl; unread = refl; unwritten = refl }))
-served_on_nothing arguments refusal.GeometryOutOfRange asks reason = absurd (reason.2 asks.1)
-served_on_nothing arguments (refusal.Words error) asks reason = absurd (no_mistake arguments error asks.0 reason)
+pub numbers_fit : (g : Geometry) {arguments : List Text} → numbers_of g ≡ numbers_at (command_of arguments) → AsksOutOfRange arguments → ⊥
+numbers_fit g are wrong = wrong.3 (subst AreInRange are (in_range g))
 
 -- ---- what the arguments ask for is done
 
 pub served : (arguments : List Text) (request : Request) {g : Geometry} (end : Result (Unit {0}) Fault) {x : Exchange} → Asks arguments request
-    → AsksPlain arguments g → Ends request end x → ExitsPlain g (status_at end) x
+    → AsksPlain arguments g → Ends request end x → Exits (status_at end) (λ end. EndsInMemory g end x)
 served arguments (Plain h) {g} end {x} given asks ends =
     (end, refl, subst (λ k. EndsInMemory k end x) (geometry_same h g (given.2 ∙ sym asks.2)) ends)
 served arguments (Format path h) end given asks ends = absurd (asks.1.0 given.1)
@@ -109,7 +93,7 @@ served arguments (Serve path s) end given asks ends = absurd (asks.1.2 given.1)
 served arguments (Help text) end given asks ends = absurd (subst (IsAmong (kind_of text)) asks.0 given.0)
 
 pub formatted : (arguments : List Text) (request : Request) {path : List ℕ} (g : Geometry) (end : Result (Unit {0}) Fault) {x : Exchange}
-    → Asks arguments request → AsksFormat arguments path g → Ends request end x → ExitsFormat g (status_at end) x.before x.written × (x.remaining ≡ x.input)
+    → Asks arguments request → AsksFormat arguments path g → Ends request end x → Exits (status_at end) (λ end. EndsFormatting g end x.before x.written) × (x.remaining ≡ x.input)
 formatted arguments (Plain h) g end given asks ends = absurd (given.1.0 asks.1)
 formatted arguments (Format there h) g end {x} given asks ends =
     ((end, refl, subst (λ k. EndsFormatting k end x.before x.written) (geometry_same h g (given.3 ∙ sym asks.3)) ends.1), ends.0)
@@ -118,7 +102,7 @@ formatted arguments (Serve there s) g end given asks ends = let same : codes "fo
 formatted arguments (Help text) g end given asks ends = absurd (subst (IsAmong (kind_of text)) asks.0 given.0)
 
 pub shown : (arguments : List Text) (request : Request) {path : List ℕ} (end : Result (Unit {0}) Fault) {x : Exchange} → Asks arguments request
-    → AsksShow arguments path → Ends request end x → ExitsShow (status_at end) x.before x.written × (x.remaining ≡ x.input)
+    → AsksShow arguments path → Ends request end x → Exits (status_at end) (λ end. EndsShowing end x.before x.written) × (x.remaining ≡ x.input)
 shown arguments (Plain h) end given asks ends = absurd (given.1.1 asks.1)
 shown arguments (Format there h) end given asks ends = let same : codes "format" ≡ codes "show" = two_names _ _ (command_of arguments) given.1 asks.1 in cc
 shown arguments (Show there) end given asks ends = ((end, refl, ends.1), ends.0)
@@ -126,7 +110,7 @@ shown arguments (Serve there s) end given asks ends = let same : codes "show" �
 shown arguments (Help text) end given asks ends = absurd (subst (IsAmong (kind_of text)) asks.0 given.0)
 
 pub served_on : (arguments : List Text) (request : Request) {path : List ℕ} {s : ServeOptions} (end : Result (Unit {0}) Fault) {x : Exchange}
-    → Asks arguments request → AsksServe arguments path s → Ends request end x → ExitsServe s (status_at end) x
+    → Asks arguments request → AsksServe arguments path s → Ends request end x → Exits (status_at end) (λ end. EndsInFile s end x)
 served_on arguments (Plain h) end given asks ends = absurd (given.1.2 asks.1)
 served_on arguments (Format there h) end given asks ends = let same : codes "format" ≡ codes "serve" = two_names _ _ (command_of arguments) given.1 asks.1 in cc
 served_on arguments (Show there) end given asks ends = let same : codes "show" ≡ codes "serve" = two_names _ _ (command_of arguments) given.1 asks.1 in cc

@@ -1,6 +1,5 @@
 -- Statement for engineers: How a call ends, and with which status.
-use Rattle.std.specs.Prelude.{◌≡◌, ◌⊎◌, ℕ, List, Option, Result, Ok, Err}
-use Rattle.affinity.specs.declared.geometry.Geometry.{Geometry}
+use Rattle.std.specs.Prelude.{◌≡◌, ◌⊎◌, ℕ, Result, Ok, Err}
 use Rattle.serving.specs.Ends.{Exchange}
 use Rattle.commands.specs.Ends.{EndsFormatting, EndsInMemory, EndsShowing}
 use Rattle.commands.specs.Faults.{status_of}
@@ -37,21 +36,9 @@ status_of_refusal (refusal.Words _) = 2
 status_of_refusal refusal.OutOfMemory = status_of OutOfMemory
 status_of_refusal refusal.GeometryOutOfRange = status_of GeometryOutOfRange
 
--- The serial server (`plain`) came to an end that has this status.
-abbrev pub ExitsPlain : Geometry → ℕ → Exchange → Type 0
-ExitsPlain g status x = (end : Result (Unit {0}) Fault) × (status ≡ status_at end) × EndsInMemory g end x
-
--- The making of a device came to an end that has this status.
-abbrev pub ExitsFormat : Geometry → ℕ → Option (List ℕ) → Option (List ℕ) → Type 0
-ExitsFormat g status old new = (end : Result (Unit {0}) Fault) × (status ≡ status_at end) × EndsFormatting g end old new
-
--- The printing of what a device holds came to an end that has this status.
-abbrev pub ExitsShow : ℕ → Option (List ℕ) → Option (List ℕ) → Type 0
-ExitsShow status old new = (end : Result (Unit {0}) Fault) × (status ≡ status_at end) × EndsShowing end old new
-
--- The service with a device came to an end that has this status.
-abbrev pub ExitsServe : ServeOptions → ℕ → Exchange → Type 0
-ExitsServe s status x = (end : Result (Unit {0}) Fault) × (status ≡ status_at end) × EndsInFile s end x
+-- The command came to an end that has this status, and of which P is true.
+abbrev pub Exits : ℕ → (Result (Unit {0}) Fault → Type 0) → Type 0
+Exits status P = (end : Result (Unit {0}) Fault) × (status ≡ status_at end) × P end
 
 -- Help or the version was printed, or could not be written, or there was no memory.
 abbrev pub ExitsHelp : ℕ → Type 0

@@ -2,11 +2,12 @@
 ghost use Rattle.std.specs.Prelude.{◌≡◌, ◌⊎◌, ℕ, List, [], ◌∷◌, codes, map, string_bytes};
 ghost use Rattle.affinity.specs.Geometry.{default_geometry};
 ghost use Rattle.serving.specs.Ends.{exchange};
-ghost use Rattle.commands.specs.Calls.{Ends, ExitsFormat, ExitsHelp, ExitsPlain, ExitsRefused, ExitsServe, ExitsShow, status_of_refusal};
+ghost use Rattle.commands.specs.Calls.{Ends, Exits, ExitsHelp, ExitsRefused, status_of_refusal};
+ghost use Rattle.commands.specs.Ends.{EndsFormatting, EndsInMemory, EndsShowing};
 ghost use Rattle.commands.specs.Services.{AsksServe, within_limits};
 ghost use Rattle.arguments.specs.Arguments.{AsksFormat, AsksHelp, RunsNoCommand, AsksPlain, AsksShow, AsksVersion, AreRefused, service_numbers};
 ghost use Rattle.affinity.specs.declared.geometry.Geometry.{Geometry};
-ghost use Rattle.commands.specs.Serving.{options_in_order};
+ghost use Rattle.commands.specs.Serving.{EndsInFile, options_in_order};
 ghost use Rattle.commands.specs.declared.serve_options.ServeOptions.{ServeOptions};
 
 use crate::faults::Fault;
@@ -82,20 +83,20 @@ pub fn command<T: Files<File = File> + Threads + Wait + Sync, R: Read, W: Write,
     e: &mut E,
 ) -> u8
     ensures served_plain { (g : Geometry) → AsksPlain (map string_bytes arguments.now) g
-        → ExitsPlain g result
-        (exchange (R.remaining r.old) (R.remaining r.new) (W.contents w.old) (W.contents w.new)) }
+        → Exits result (λ end. EndsInMemory g end
+        (exchange (R.remaining r.old) (R.remaining r.new) (W.contents w.old) (W.contents w.new))) }
     ensures plain { (program : List ℕ) → map string_bytes arguments.now ≡ program ∷ codes "plain" ∷ []
-        → ExitsPlain default_geometry result
-        (exchange (R.remaining r.old) (R.remaining r.new) (W.contents w.old) (W.contents w.new)) }
+        → Exits result (λ end. EndsInMemory default_geometry end
+        (exchange (R.remaining r.old) (R.remaining r.new) (W.contents w.old) (W.contents w.new))) }
     ensures formatted { (path : List ℕ) → (g : Geometry) → AsksFormat (map string_bytes arguments.now) path g
-        → ExitsFormat g result (W.contents w.old) (W.contents w.new)
+        → Exits result (λ end. EndsFormatting g end (W.contents w.old) (W.contents w.new))
         × (R.remaining r.new ≡ R.remaining r.old) }
     ensures shown { (path : List ℕ) → AsksShow (map string_bytes arguments.now) path
-        → ExitsShow result (W.contents w.old) (W.contents w.new)
+        → Exits result (λ end. EndsShowing end (W.contents w.old) (W.contents w.new))
         × (R.remaining r.new ≡ R.remaining r.old) }
     ensures served { (path : List ℕ) → (s : ServeOptions) → AsksServe (map string_bytes arguments.now) path s
-        → ExitsServe s result
-        (exchange (R.remaining r.old) (R.remaining r.new) (W.contents w.old) (W.contents w.new)) }
+        → Exits result (λ end. EndsInFile s end
+        (exchange (R.remaining r.old) (R.remaining r.new) (W.contents w.old) (W.contents w.new))) }
     ensures help { AsksHelp (map string_bytes arguments.now)
         → ExitsHelp result × (R.remaining r.new ≡ R.remaining r.old) }
     ensures version { AsksVersion (map string_bytes arguments.now)

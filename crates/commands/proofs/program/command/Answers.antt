@@ -1,6 +1,7 @@
 -- For each kind of request: refused arguments do nothing, and all others end as the run of their request.
 use Rattle.std.proofs.Common.{map, string_bytes, inr, inl, refl, Ok, Err}
-use Rattle.commands.proofs.Ending.{formatted, formatted_nothing, helped, is_refused, is_reported, refused_by, served, served_nothing, served_on, served_on_nothing, shown, shown_nothing}
+use Rattle.commands.proofs.Ending.{exits_for_memory, formatted, helped, is_refused, is_reported, nothing_written, numbers_fit, refused_by, served, served_on, shown}
+use Rattle.disk.specs.declared.fault.FileFault.TheVariants as file
 use Rattle.arguments.proofs.Asking.{ask_for_nothing}
 use Rattle.arguments.proofs.Examples.{asks_alone}
 use Rattle.affinity.specs.Geometry.{default_geometry}
@@ -8,7 +9,7 @@ use Rattle.commands.proofs.program.command.Goals as goal
 
 pub returns-in-Err-clause-served_plain : goal.returns-in-Err-clause-served_plain
 returns-in-Err-clause-served_plain g c = λ geometry asks.
-    rw c.report_refusal.ensures (served_nothing (map string_bytes c.args.arguments.now) c.in-Err.refusal asks c.in-Err.ensures.err)
+    rw c.report_refusal.ensures (exits_for_memory (map string_bytes c.args.arguments.now) c.in-Err.refusal asks.0 c.in-Err.ensures.err (numbers_fit geometry (map string_bytes c.args.arguments.now) asks.2) (nothing_written geometry _ _))
 
 pub returns-in-Ok-run-clause-served_plain : goal.returns-in-Ok-run-clause-served_plain
 returns-in-Ok-run-clause-served_plain g c = λ geometry asks.
@@ -22,7 +23,7 @@ returns-in-Err-run-clause-served_plain g c = λ geometry asks.
 
 pub returns-in-Err-clause-formatted : goal.returns-in-Err-clause-formatted
 returns-in-Err-clause-formatted g c = λ path geometry asks.
-    rw c.report_refusal.ensures (formatted_nothing (map string_bytes c.args.arguments.now) geometry c.in-Err.refusal asks c.in-Err.ensures.err, refl {a = g.R.Read.remaining c.args.r.now})
+    rw c.report_refusal.ensures (exits_for_memory (map string_bytes c.args.arguments.now) c.in-Err.refusal asks.0 c.in-Err.ensures.err (numbers_fit geometry (map string_bytes c.args.arguments.now) asks.3) refl, refl {a = g.R.Read.remaining c.args.r.now})
 
 pub returns-in-Ok-run-clause-formatted : goal.returns-in-Ok-run-clause-formatted
 returns-in-Ok-run-clause-formatted g c = λ path geometry asks.
@@ -36,7 +37,7 @@ returns-in-Err-run-clause-formatted g c = λ path geometry asks.
 
 pub returns-in-Err-clause-shown : goal.returns-in-Err-clause-shown
 returns-in-Err-clause-shown g c = λ path asks.
-    rw c.report_refusal.ensures (shown_nothing (map string_bytes c.args.arguments.now) c.in-Err.refusal asks c.in-Err.ensures.err, refl {a = g.R.Read.remaining c.args.r.now})
+    rw c.report_refusal.ensures (exits_for_memory (map string_bytes c.args.arguments.now) c.in-Err.refusal asks.0 c.in-Err.ensures.err (λ wrong. wrong.1 asks.1) refl, refl {a = g.R.Read.remaining c.args.r.now})
 
 pub returns-in-Ok-run-clause-shown : goal.returns-in-Ok-run-clause-shown
 returns-in-Ok-run-clause-shown g c = λ path asks.
@@ -50,7 +51,8 @@ returns-in-Err-run-clause-shown g c = λ path asks.
 
 pub returns-in-Err-clause-served : goal.returns-in-Err-clause-served
 returns-in-Err-clause-served g c = λ path s asks.
-    rw c.report_refusal.ensures (served_on_nothing (map string_bytes c.args.arguments.now) c.in-Err.refusal asks c.in-Err.ensures.err)
+    rw c.report_refusal.ensures (exits_for_memory (map string_bytes c.args.arguments.now) c.in-Err.refusal asks.0 c.in-Err.ensures.err (λ wrong. wrong.2 asks.1)
+    (inl (record { why = file.OutOfMemory; ends = refl; unread = refl; unwritten = refl })))
 
 pub returns-in-Ok-run-clause-served : goal.returns-in-Ok-run-clause-served
 returns-in-Ok-run-clause-served g c = λ path s asks.
