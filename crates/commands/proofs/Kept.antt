@@ -17,8 +17,8 @@ use Rattle.serving.specs.declared.server.ServeFault.{ServeFault}
 use Rattle.serving.specs.declared.server.ServeFault.TheVariants as faults
 use Rattle.commands.proofs.OnDevice.{is_idle}
 use Rattle.commands.specs.Faults.{command_result}
-use Rattle.commands.specs.Acknowledged.{HoldsAcknowledged, KeepsAcknowledged, UnlessRefused}
-use Rattle.commands.specs.Promise.{IsWritten}
+use Rattle.commands.specs.Acknowledged.{HoldsAcknowledged}
+use Rattle.commands.specs.Promise.{HoldsOfAll}
 use Rattle.commands.specs.Serving.{HasServedBy, machine_at_start}
 use Rattle.commands.specs.declared.faults.Fault.{Fault}
 use Rattle.commands.specs.declared.faults.Fault.TheVariants as ends
@@ -57,40 +57,19 @@ module _ {keeps : Type 0} {s : ServeOptions} {old new : Medium} {end : Result (U
         not_refused = is_not_refused g c state leaves.bytes on_device.recovers;
       }
 
--- what was written, in words of a command
-pub written_at : (end : Result (Unit {0}) ServeFault) (before written all : Option (List ℕ)) → IsWrittenAtEnd end before written all → IsWritten (command_result end) before written all
-written_at (Ok _) before written all h = h
-written_at (Err faults.Device) before written all h = h
-written_at (Err faults.Write) before written all h = h
-written_at (Err faults.Read) before written all h = h
-written_at (Err faults.Exhausted) before written all h = h
-written_at (Err faults.NoWorkers) before written all h = h
-written_at (Err faults.OutOfMemory) before written all h = h
+-- what holds of all that the server was to write, in words of a command
+holds_of_all : {P : Option (List ℕ) → Type 0} (end : Result (Unit {0}) ServeFault) {before written : Option (List ℕ)} (all : Option (List ℕ))
+    → IsWrittenAtEnd end before written all → P all → HoldsOfAll (command_result end) before written P
+holds_of_all (Err faults.Write) all is h = (all, is, h)
+holds_of_all end all is h = (all, is, h)
 
 -- what was sent is kept, whatever the end
-pub keeps_acknowledged : {keeps : Type 0} {s : ServeOptions} {old new : Medium} (end : Result (Unit {0}) ServeFault) {streams : Exchange}
-    → HasServedBy keeps s old new end streams → KeepsAcknowledged keeps s.slots old new (command_result end) streams.input streams.before streams.written
-keeps_acknowledged end {streams} h =
-    unless_refused end streams.before streams.written (h.served.run.all, written_at end streams.before streams.written h.served.run.all h.served.run.written_is, held h)
-  where
-    unless_refused : {P : Type 0} (end : Result (Unit {0}) ServeFault) (before written : Option (List ℕ)) → P → UnlessRefused (command_result end) before written P
-    unless_refused (Ok _) before written k = k
-    unless_refused (Err faults.Device) before written k = k
-    unless_refused (Err faults.Write) before written k = k
-    unless_refused (Err faults.Read) before written k = k
-    unless_refused (Err faults.Exhausted) before written k = k
-    unless_refused (Err faults.NoWorkers) before written k = k
-    unless_refused (Err faults.OutOfMemory) before written k = k
+pub keeps_acknowledged : {keeps : Type 0} {s : ServeOptions} {old new : Medium} (end : Result (Unit {0}) ServeFault) {x : Exchange} → HasServedBy keeps s old new end x
+    → HoldsOfAll (command_result end) x.before x.written (λ all. keeps → (c : List ℕ) → IsCrashImage new c → HoldsAcknowledged s.slots old x.input x.before all c)
+keeps_acknowledged end h = holds_of_all end h.served.run.all h.served.run.written_is (held h)
 
--- if P implies Q, then P, unless the device was refused, implies Q, unless it was
-pub kept_then : {P Q : Type 0} (end : Result (Unit {0}) Fault) (before written : Option (List ℕ)) → (P → Q) → UnlessRefused end before written P → UnlessRefused end before written Q
-kept_then (Err (ends.Open fault)) before written f k = k
-kept_then (Ok _) before written f k = f k
-kept_then (Err ends.Read) before written f k = f k
-kept_then (Err ends.Write) before written f k = f k
-kept_then (Err ends.GeometryOutOfRange) before written f k = f k
-kept_then (Err ends.OutOfMemory) before written f k = f k
-kept_then (Err ends.Device) before written f k = f k
-kept_then (Err ends.NoWorkers) before written f k = f k
-kept_then (Err ends.NoTicketLeft) before written f k = f k
-kept_then (Err (ends.Format fault)) before written f k = f k
+-- if P implies Q, what has P has Q
+pub all_then : {P Q : Option (List ℕ) → Type 0} (end : Result (Unit {0}) Fault) (before written : Option (List ℕ)) → ((all : Option (List ℕ)) → P all → Q all)
+    → HoldsOfAll end before written P → HoldsOfAll end before written Q
+all_then (Err (ends.Open fault)) before written f h = h
+all_then end before written f h = (h.0, h.1, f h.0 h.2)

@@ -21,12 +21,11 @@ use Rattle.scheduler.specs.Opening.{IsShownByBytes}
 use Rattle.serving.proofs.Recovering.{none_written, bytes_recover}
 use Rattle.serving.specs.Restart.{RecoversTo, BytesRecover}
 use Rattle.serving.specs.declared.server.ServeFault.{ServeFault}
-use Rattle.serving.specs.declared.server.ServeFault.TheVariants as faults
-use Rattle.commands.proofs.Kept.{held, written_at}
+use Rattle.commands.proofs.Kept.{all_then, keeps_acknowledged}
 use Rattle.serving.specs.Ends.{Exchange}
 use Rattle.commands.specs.Faults.{command_result}
 use Rattle.commands.specs.Acknowledged.{HoldsAcknowledged}
-use Rattle.commands.specs.Promise.{HasRunFrom, HoldsRecovered, HoldsState, LeavesRecovered, LeavesRun, IfOpened, IsWritten, OpensUnlessFailed}
+use Rattle.commands.specs.Promise.{HasRunFrom, HoldsOfAll, HoldsRecovered, HoldsState, LeavesRun, IsWritten, OpensUnlessFailed}
 use Rattle.commands.specs.Restarts.{CrashedRun, FollowCrashes, HaveRunFrom}
 use Rattle.commands.specs.Serving.{EndsOnDevice, CrashesSafely, HasServedBy, RecoveredTo}
 use Rattle.commands.specs.declared.faults.Fault.{Fault}
@@ -45,34 +44,9 @@ recovered {slots} {input} {before} {written} {c} h = record {
   recovered = bytes_recover 0 h.consumed h.sent h.first h.output h.few h.kept h.holds;
 }
 
--- where the device was opened
-unless_refused : {P : Type 0} (end : Result (Unit {0}) ServeFault) → P → IfOpened (command_result end) P
-unless_refused (Ok _) h = h
-unless_refused (Err faults.Device) h = h
-unless_refused (Err faults.Write) h = h
-unless_refused (Err faults.Read) h = h
-unless_refused (Err faults.Exhausted) h = h
-unless_refused (Err faults.NoWorkers) h = h
-unless_refused (Err faults.OutOfMemory) h = h
-
-pub leaves_recovered : {keeps : Type 0} {s : ServeOptions} {old new : Medium} (end : Result (Unit {0}) ServeFault) {streams : Exchange}
-    → HasServedBy keeps s old new end streams → LeavesRecovered keeps s.slots old new (command_result end) streams.input streams.before streams.written
-leaves_recovered {keeps} {s} {old} {new} end {streams} h =
-    unless_refused end
-    (h.served.run.all, written_at end streams.before streams.written h.served.run.all h.served.run.written_is, λ keep c leaves. recovered (held h keep c leaves))
-
--- if P implies Q, then P, unless the device could not be opened, implies Q, unless it could not
-pub opened_then : {P Q : Type 0} (end : Result (Unit {0}) Fault) → (P → Q) → IfOpened end P → IfOpened end Q
-opened_then (Err (ends.Open fault)) f h = tt
-opened_then (Ok done) f h = f h
-opened_then (Err ends.Read) f h = f h
-opened_then (Err ends.Write) f h = f h
-opened_then (Err ends.GeometryOutOfRange) f h = f h
-opened_then (Err ends.OutOfMemory) f h = f h
-opened_then (Err ends.Device) f h = f h
-opened_then (Err ends.NoWorkers) f h = f h
-opened_then (Err ends.NoTicketLeft) f h = f h
-opened_then (Err (ends.Format fault)) f h = f h
+pub leaves_recovered : {keeps : Type 0} {s : ServeOptions} {old new : Medium} (end : Result (Unit {0}) ServeFault) {x : Exchange} → HasServedBy keeps s old new end x
+    → HoldsOfAll (command_result end) x.before x.written (λ all. keeps → (c : List ℕ) → IsCrashImage new c → HoldsRecovered s.slots old x.input x.before all c)
+leaves_recovered end {x} h = all_then (command_result end) x.before x.written (λ all k keep c leaves. recovered (k keep c leaves)) (keeps_acknowledged end h)
 
 -- ---- two incarnations
 
@@ -100,18 +74,11 @@ module _ {keeps : Type 0} (keep : keeps) (g : Geometry) {x : State} (old : Mediu
       written_so streams.input streams.before streams.written _ _
       (λ bytes out served. served.output ∙ (λ i. serial_output (own.0 i) (own.1 i) bytes)) h.1.3
 
--- Of the end of a service: the device could not be opened; or P holds, which holds unless it could not.
-opened_or : {P : Type 0} (end : Result (Unit {0}) Fault) → IfOpened end P → ((fault : OpenFault) × (end ≡ Err (ends.Open fault))) ⊎ P
-opened_or (Err (ends.Open fault)) h = inl (fault, refl)
-opened_or (Ok done) h = inr h
-opened_or (Err ends.Read) h = inr h
-opened_or (Err ends.Write) h = inr h
-opened_or (Err ends.GeometryOutOfRange) h = inr h
-opened_or (Err ends.OutOfMemory) h = inr h
-opened_or (Err ends.Device) h = inr h
-opened_or (Err ends.NoWorkers) h = inr h
-opened_or (Err ends.NoTicketLeft) h = inr h
-opened_or (Err (ends.Format fault)) h = inr h
+-- Of the end of a service: the device could not be opened; or P holds of all that was to be written.
+opened_or : (P : Option (List ℕ) → Type 0) (end : Result (Unit {0}) Fault) (before written : Option (List ℕ)) → HoldsOfAll end before written P
+    → ((fault : OpenFault) × (end ≡ Err (ends.Open fault))) ⊎ ((all : Option (List ℕ)) × IsWritten end before written all × P all)
+opened_or P (Err (ends.Open fault)) before written h = inl (fault, refl)
+opened_or P end before written h = inr h
 
 -- One run, on a device that is synced and recovers to state x, and what a crash leaves of it then.
 module _ {keeps : Type 0} (keep : keeps) (g : Geometry) (slots : ℕ) (old new : Medium) {x : State}
@@ -144,33 +111,27 @@ module _ {keeps : Type 0} (keep : keeps) (g : Geometry) (slots : ℕ) (old new :
           ([], subst (λ (w : Option (List ℕ)). Appends before w []) (sym unwritten) (Appends-nil before), none_written g slots x bytes)
 
   module _ (s : ServeOptions) (end : Result (Unit {0}) Fault) (streams : Exchange) where
-    left_at : EndsOnDevice keeps s old new end streams → CrashesSafely keeps s old new end streams
-        → IfOpened end ((all : Option (List ℕ)) × IsWritten end streams.before streams.written all × HoldsRecovered slots old streams.input streams.before all c)
-        → (all : Option (List ℕ)) × IsWritten end streams.before streams.written all × BytesRecover g slots x streams.input streams.before all c
-    left_at e safe recovers = ⊎_elim
-        (λ (why : (fault : OpenFault) × (end ≡ Err (ends.Open fault))). (
-          streams.written,
-          subst (λ (r : Result (Unit {0}) Fault). IsWritten r streams.before streams.written streams.written) (sym why.1) refl,
-          left_unopened streams.input streams.before streams.written
-              (subst (λ (r : Result (Unit {0}) Fault). CrashesSafely keeps s old new r streams) why.1 safe keep)
-              (subst (λ (r : Result (Unit {0}) Fault). EndsOnDevice keeps s old new r streams) why.1 e).2,
-        ))
-        (λ (h : (all : Option (List ℕ)) × IsWritten end streams.before streams.written all × HoldsRecovered slots old streams.input streams.before all c).
-        (h.0, h.1, left_so streams.input streams.before h.0 h.2))
-        (opened_or end recovers)
-
     run_so : EndsOnDevice keeps s old new end streams → CrashesSafely keeps s old new end streams
-        → IfOpened end ((all : Option (List ℕ)) × IsWritten end streams.before streams.written all × HoldsRecovered slots old streams.input streams.before all c)
+        → HoldsOfAll end streams.before streams.written (λ all. keeps → (c : List ℕ) → IsCrashImage new c → HoldsRecovered slots old streams.input streams.before all c)
         → HasRunFrom g slots x end streams.input streams.before streams.written (λ now. recovered_state g c ≡ Some now)
-    run_so e safe recovers =
-        let h = left_at e safe recovers in
-        record {
-          now = h.2.now;
-          all = h.0;
-          written = h.1;
-          recovers = h.2.recovers;
+    run_so e safe recovers = ⊎_elim
+        (λ (why : (fault : OpenFault) × (end ≡ Err (ends.Open fault))).
+        so streams.written (subst (λ (r : Result (Unit {0}) Fault). IsWritten r streams.before streams.written streams.written) (sym why.1) refl)
+        (left_unopened streams.input streams.before streams.written
+        (subst (λ (r : Result (Unit {0}) Fault). CrashesSafely keeps s old new r streams) why.1 safe keep)
+        (subst (λ (r : Result (Unit {0}) Fault). EndsOnDevice keeps s old new r streams) why.1 e).2))
+        (λ h. so h.0 h.1 (left_so streams.input streams.before h.0 (h.2 keep c leaves)))
+        (opened_or _ end streams.before streams.written recovers)
+      where
+        so : (all : Option (List ℕ)) → IsWritten end streams.before streams.written all → BytesRecover g slots x streams.input streams.before all c
+            → HasRunFrom g slots x end streams.input streams.before streams.written (λ now. recovered_state g c ≡ Some now)
+        so all is h = record {
+          now = h.now;
+          all = all;
+          written = is;
+          recovers = h.recovers;
           all_answered = serves_so keep g old made s new end streams e;
-          goes_on = h.2.holds_now;
+          goes_on = h.holds_now;
         }
 
 module _ {keeps : Type 0} (keep : keeps) (g : Geometry) (s : ServeOptions) (old new : Medium) (end : Result (Unit {0}) Fault) (streams : Exchange) where
@@ -183,22 +144,16 @@ module _ {keeps : Type 0} (keep : keeps) (g : Geometry) (s : ServeOptions) (old 
       not_shown : (fault : OpenFault) → (IsShownByBytes fault → IsRefused old.now fault → ⊥) → IsRefused old.now fault → (fault ≡ opening.Device) ⊎ (fault ≡ opening.OutOfMemory)
       not_shown opening.Device none is = inl refl
       not_shown opening.OutOfMemory none is = inr refl
-      not_shown opening.TooShort none is = absurd (none tt is)
-      not_shown opening.NotFormatted none is = absurd (none tt is)
-      not_shown opening.BadGeometry none is = absurd (none tt is)
-      not_shown opening.BadVersion none is = absurd (none tt is)
-      not_shown (opening.BadPiece n) none is = absurd (none tt is)
-      not_shown opening.BadChain none is = absurd (none tt is)
-      not_shown (opening.BadRecord h i) none is = absurd (none tt is)
+      not_shown fault none is = absurd (none tt is)
 
 module _ {keeps : Type 0} (s : ServeOptions) (old new : Medium) (end : Result (Unit {0}) Fault) (streams : Exchange) where
   -- The service ran from the state that the device held.
   pub leaves_run : AreBytes old.now → EndsOnDevice keeps s old new end streams → CrashesSafely keeps s old new end streams
-      → LeavesRecovered keeps s.slots old new end streams.input streams.before streams.written
+      → HoldsOfAll end streams.before streams.written (λ all. keeps → (c : List ℕ) → IsCrashImage new c → HoldsRecovered s.slots old streams.input streams.before all c)
       → LeavesRun keeps s.slots old new end streams.input streams.before streams.written
   leaves_run bytes e safe recovers keep g x is = (
     opens_so keep g s old new end streams bytes is.0 e,
-    λ c leaves. run_so keep g s.slots old new is.0 is.1 c leaves s end streams e safe (opened_then end (λ k. (k.0, k.1, k.2 keep c leaves)) recovers),
+    λ c leaves. run_so keep g s.slots old new is.0 is.1 c leaves s end streams e safe recovers,
   )
 
 -- What follows a run may be put in other words.

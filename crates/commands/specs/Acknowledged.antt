@@ -1,20 +1,17 @@
 -- Statement for operators: What was sent is kept: the promise of a service on a device, in words of its lines and of what a crash leaves.
-use Rattle.std.specs.Prelude.{◌≡◌, ◌+◌, ◌≤◌, ℕ, List, length, Option, None, Result, Err}
+use Rattle.std.specs.Prelude.{◌≡◌, ◌+◌, ◌≤◌, ℕ, List, length, Option, None}
 use Rattle.std.specs.Io.KnownBytes.{Appends}
 use Rattle.affinity.specs.declared.geometry.Geometry.{Geometry}
 use Rattle.checkpoint.specs.Header.{HasHeader}
 use Rattle.checkpoint.specs.Refusals.{refused}
-use Rattle.disk.specs.Device.{IsCrashImage, Medium}
+use Rattle.disk.specs.Device.{Medium}
 use Rattle.histories.specs.CoreState.{Replied}
 use Rattle.meaning.specs.Output.{joined}
 use Rattle.meaning.specs.State.{State}
 use Rattle.serving.specs.Ends.{AreFirst}
 use Rattle.serving.specs.Lines.{admitted, ticketed}
 use Rattle.serving.specs.Logged.{AreInHistory, RecoversToHistory}
-use Rattle.commands.specs.Promise.{IsWritten}
 use Rattle.commands.specs.Serving.{RecoveredTo}
-use Rattle.commands.specs.declared.faults.Fault.{Fault}
-use Rattle.commands.specs.declared.faults.Fault.TheVariants.{Open}
 
 -- The device recovered to the state `start`, and the output grew by the lines `sent`, for the first lines of the input, `consumed`: no more
 -- of these lack a line than there are slots. A history has each message whose reply was sent, reads included, with its ticket and that
@@ -34,15 +31,3 @@ pub record HoldsAcknowledged (slots : ℕ) (old : Medium) (input before written 
   pub holds : RecoversToHistory geometry start (ticketed 0 (admitted geometry consumed)) history bytes
   pub header : HasHeader geometry bytes
   pub not_refused : refused geometry bytes ≡ None
-
--- P holds, unless the device could not be opened: then nothing was sent.
-abbrev pub UnlessRefused : Result (Unit {0}) Fault → Option (List ℕ) → Option (List ℕ) → Type 0 → Type 0
-UnlessRefused (Err (Open fault)) before written P = written ≡ before
-UnlessRefused _ before written P = P
-
--- Whatever a crash leaves at the end of a service holds what was sent; where a write failed, all that was to be sent by it, too.
-abbrev pub KeepsAcknowledged : Type 0 → ℕ → Medium → Medium → Result (Unit {0}) Fault → Option (List ℕ) → Option (List ℕ)
-    → Option (List ℕ) → Type 0
-KeepsAcknowledged keeps slots old new end input before written = UnlessRefused end before written
-    ((all : Option (List ℕ)) × IsWritten end before written all
-    × (keeps → (c : List ℕ) → IsCrashImage new c → HoldsAcknowledged slots old input before all c))

@@ -18,6 +18,11 @@ abbrev pub IsWritten : Result (Unit {0}) Fault → Option (List ℕ) → Option 
 IsWritten (Err Write) before after all = (out : List ℕ) × (rest : List ℕ) × Appends before after out × Appends before all (out ++ rest)
 IsWritten _ before after all = after ≡ all
 
+-- P holds of all that was to be written, as `IsWritten` says. If the device could not be opened, nothing was written.
+abbrev pub HoldsOfAll : Result (Unit {0}) Fault → Option (List ℕ) → Option (List ℕ) → (Option (List ℕ) → Type 0) → Type 0
+HoldsOfAll (Err (Open fault)) before after P = after ≡ before
+HoldsOfAll end before after P = (all : Option (List ℕ)) × IsWritten end before after all × P all
+
 -- A server ran from the state `start` on one input and came to this end, and a crash left another state, of which `next` is true. What it
 -- wrote is the serial server's output for the first lines of its input, however it ended. `next` may be that another server ran so from
 -- that state, on what the crash left, and a further one after it: one record in the other for each.
@@ -41,18 +46,6 @@ pub record HoldsRecovered (slots : ℕ) (old : Medium) (input before after : Opt
   pub start : State
   pub recovered_before : RecoveredTo (Unit {0}) old geometry start
   pub recovered : BytesRecover geometry slots start input before after bytes
-
--- P, unless the device could not be opened
-abbrev pub IfOpened : Result (Unit {0}) Fault → Type 0 → Type 0
-IfOpened (Err (Open fault)) P = Unit {0}
-IfOpened _ P = P
-
--- Whatever a crash leaves when a service has come to this end recovers as `HoldsRecovered` says, unless the device could not be opened.
-abbrev pub LeavesRecovered : Type 0 → ℕ → Medium → Medium → Result (Unit {0}) Fault → Option (List ℕ) → Option (List ℕ)
-    → Option (List ℕ) → Type 0
-LeavesRecovered keeps slots old new end input before after = IfOpened end
-    ((all : Option (List ℕ)) × IsWritten end before after all
-    × (keeps → (c : List ℕ) → IsCrashImage new c → HoldsRecovered slots old input before all c))
 
 -- ---- a run on a device
 

@@ -1,12 +1,13 @@
 //! `waffd serve`: the lines of the input, answered on the device in a file by workers that run messages at once.
-ghost use Rattle.std.specs.Prelude.{◌≡◌, false};
+ghost use Rattle.std.specs.Prelude.{◌≡◌, false, ℕ, List};
+ghost use Rattle.disk.specs.Device.{IsCrashImage};
 ghost use Rattle.histories.specs.Laws.{IsIdle};
 ghost use Rattle.scheduler.specs.CoreView.{core_state_of};
 ghost use Rattle.serving.specs.Ends.{exchange};
 ghost use Rattle.serving.specs.Serve.{ServePromise};
 ghost use Rattle.commands.specs.Faults.{command_result};
-ghost use Rattle.commands.specs.Acknowledged.{KeepsAcknowledged};
-ghost use Rattle.commands.specs.Promise.{LeavesRecovered, LeavesRun};
+ghost use Rattle.commands.specs.Acknowledged.{HoldsAcknowledged};
+ghost use Rattle.commands.specs.Promise.{HoldsOfAll, HoldsRecovered, LeavesRun};
 ghost use Rattle.commands.specs.Serving.{EndsInFile, EndsOnDevice, CrashesSafely};
 
 use crate::faults::Fault;
@@ -69,10 +70,14 @@ pub fn serve_on<T: Threads + Wait + Sync, R: Read, W: Write, D: Disk + Drop>(
         (exchange (R.remaining r.old) (R.remaining r.new) (W.contents w.old) (W.contents w.new)) }
     ensures crash_safe { CrashesSafely D.keeps service (D.medium disk) (D.medium result.0) result.1
         (exchange (R.remaining r.old) (R.remaining r.new) (W.contents w.old) (W.contents w.new)) }
-    ensures kept { KeepsAcknowledged D.keeps service.slots (D.medium disk) (D.medium result.0) result.1 (R.remaining r.old)
-        (W.contents w.old) (W.contents w.new) }
-    ensures recovers { LeavesRecovered D.keeps service.slots (D.medium disk) (D.medium result.0) result.1 (R.remaining r.old)
-        (W.contents w.old) (W.contents w.new) }
+    // Whatever a crash leaves at the end holds what was sent, and recovers to a state with it; where a write failed, all that was to be
+    // sent by that, too.
+    ensures kept { HoldsOfAll result.1 (W.contents w.old) (W.contents w.new)
+        (λ all. D.keeps → (c : List ℕ) → IsCrashImage (D.medium result.0) c
+        → HoldsAcknowledged service.slots (D.medium disk) (R.remaining r.old) (W.contents w.old) all c) }
+    ensures recovers { HoldsOfAll result.1 (W.contents w.old) (W.contents w.new)
+        (λ all. D.keeps → (c : List ℕ) → IsCrashImage (D.medium result.0) c
+        → HoldsRecovered service.slots (D.medium disk) (R.remaining r.old) (W.contents w.old) all c) }
     ensures goes_on { LeavesRun D.keeps service.slots (D.medium disk) (D.medium result.0) result.1 (R.remaining r.old) (W.contents w.old)
         (W.contents w.new) }
 {

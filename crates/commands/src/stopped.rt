@@ -1,13 +1,13 @@
 //! The promise of a service, with the crash point as a variable: a device in memory that stops at any call, and then crashes.
-ghost use Rattle.std.specs.Prelude.{◌≡◌, ◌<◌, ℕ, List, Option};
+ghost use Rattle.std.specs.Prelude.{◌≡◌, ◌<◌};
 ghost use Rattle.affinity.specs.declared.geometry.Geometry.{Geometry};
 ghost use Rattle.disk.specs.Memory.{medium_of, memory_of};
 ghost use Rattle.disk.specs.Torn.{HasPattern};
 ghost use Rattle.disk.specs.declared.injected_fault.InjectedFault.TheVariants.{StopAt};
 ghost use Rattle.meaning.specs.State.{State};
 ghost use Rattle.serving.specs.Ends.{exchange};
-ghost use Rattle.commands.specs.Acknowledged.{HoldsAcknowledged, UnlessRefused};
-ghost use Rattle.commands.specs.Promise.{HasRunFrom, HoldsRecovered, HoldsState, IfOpened, IsWritten};
+ghost use Rattle.commands.specs.Acknowledged.{HoldsAcknowledged};
+ghost use Rattle.commands.specs.Promise.{HasRunFrom, HoldsOfAll, HoldsRecovered, HoldsState};
 ghost use Rattle.commands.specs.Serving.{HasServedUntilCrash};
 
 use crate::faults::Fault;
@@ -35,11 +35,10 @@ fn serve_and_crash<T: Threads + Wait + Sync, R: Read, W: Write>(
     requires bytes { HasPattern torn }
     ensures crashed { HasServedUntilCrash service (medium_of disk) torn (memory_of result.0) result.1
         (exchange (R.remaining r.old) (R.remaining r.new) (W.contents w.old) (W.contents w.new)) }
-    ensures kept { UnlessRefused result.1 (W.contents w.old) (W.contents w.new) ((all : Option (List ℕ))
-        × IsWritten result.1 (W.contents w.old) (W.contents w.new) all
-        × HoldsAcknowledged service.slots (medium_of disk) (R.remaining r.old) (W.contents w.old) all (medium_of result.0).now) }
-    ensures recovers { IfOpened result.1 ((all : Option (List ℕ)) × IsWritten result.1 (W.contents w.old) (W.contents w.new) all
-        × HoldsRecovered service.slots (medium_of disk) (R.remaining r.old) (W.contents w.old) all (medium_of result.0).now) }
+    ensures kept { HoldsOfAll result.1 (W.contents w.old) (W.contents w.new) (λ all. HoldsAcknowledged service.slots (medium_of disk)
+        (R.remaining r.old) (W.contents w.old) all (medium_of result.0).now) }
+    ensures recovers { HoldsOfAll result.1 (W.contents w.old) (W.contents w.new) (λ all. HoldsRecovered service.slots (medium_of disk)
+        (R.remaining r.old) (W.contents w.old) all (medium_of result.0).now) }
     ensures goes_on { (g : Geometry) (start : State) → HoldsState g (medium_of disk) start → HasRunFrom g service.slots start result.1
         (R.remaining r.old) (W.contents w.old) (W.contents w.new) (HoldsState g (medium_of result.0)) }
 {
@@ -64,11 +63,10 @@ pub fn serve_stopped<T: Threads + Wait + Sync, R: Read, W: Write>(
     requires bytes { HasPattern torn }
     ensures crashed { HasServedUntilCrash service (medium_of disk) torn (memory_of result.0) result.1
         (exchange (R.remaining r.old) (R.remaining r.new) (W.contents w.old) (W.contents w.new)) }
-    ensures kept { UnlessRefused result.1 (W.contents w.old) (W.contents w.new) ((all : Option (List ℕ))
-        × IsWritten result.1 (W.contents w.old) (W.contents w.new) all
-        × HoldsAcknowledged service.slots (medium_of disk) (R.remaining r.old) (W.contents w.old) all (medium_of result.0).now) }
-    ensures recovers { IfOpened result.1 ((all : Option (List ℕ)) × IsWritten result.1 (W.contents w.old) (W.contents w.new) all
-        × HoldsRecovered service.slots (medium_of disk) (R.remaining r.old) (W.contents w.old) all (medium_of result.0).now) }
+    ensures kept { HoldsOfAll result.1 (W.contents w.old) (W.contents w.new) (λ all. HoldsAcknowledged service.slots (medium_of disk)
+        (R.remaining r.old) (W.contents w.old) all (medium_of result.0).now) }
+    ensures recovers { HoldsOfAll result.1 (W.contents w.old) (W.contents w.new) (λ all. HoldsRecovered service.slots (medium_of disk)
+        (R.remaining r.old) (W.contents w.old) all (medium_of result.0).now) }
     ensures goes_on { (g : Geometry) (start : State) → HoldsState g (medium_of disk) start → HasRunFrom g service.slots start result.1
         (R.remaining r.old) (W.contents w.old) (W.contents w.new) (HoldsState g (medium_of result.0)) }
 {

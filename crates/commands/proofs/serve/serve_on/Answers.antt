@@ -1,12 +1,12 @@
 -- A refused opening leaves input and output; else the device is given back with all that its server promises.
-use Rattle.std.proofs.Common.{ℕ, refl, sym, subst}
+use Rattle.std.proofs.Common.{ℕ, List, refl, sym, subst}
 use Rattle.std.specs.Prelude.{Result, Err}
-use Rattle.disk.specs.Device.{AreBytes, Medium}
+use Rattle.disk.specs.Device.{AreBytes, IsCrashImage, Medium}
 use Rattle.scheduler.specs.CoreView.{IsJustOpened}
 use Rattle.serving.specs.Ends.{exchange}
 use Rattle.commands.specs.Faults.{command_result}
-use Rattle.commands.specs.Acknowledged.{KeepsAcknowledged}
-use Rattle.commands.specs.Promise.{LeavesRecovered, LeavesRun}
+use Rattle.commands.specs.Acknowledged.{HoldsAcknowledged}
+use Rattle.commands.specs.Promise.{HoldsOfAll, HoldsRecovered, LeavesRun}
 use Rattle.commands.specs.Serving.{EndsOnDevice, CrashesSafely}
 use Rattle.commands.specs.declared.faults.Fault.{Fault}
 use Rattle.commands.proofs.Kept.{keeps_acknowledged}
@@ -59,8 +59,10 @@ returns g c =
       ends = given_back (λ m r. EndsOnDevice keeps service old m r streams)
           (ends_on_device end by c.know_recovery.ensures.no_doubt bytes);
       crash_safe = given_back (λ m r. CrashesSafely keeps service old m r streams) (crashes_safely end by);
-      kept = given_back (λ m r. KeepsAcknowledged keeps service.slots old m r streams.input streams.before streams.written) (keeps_acknowledged end by);
-      recovers = given_back (λ m r. LeavesRecovered keeps service.slots old m r streams.input streams.before streams.written) (leaves_recovered end by);
+      kept = given_back (λ m r. HoldsOfAll r streams.before streams.written (λ all. keeps → (b : List ℕ) → IsCrashImage m b → HoldsAcknowledged service.slots old streams.input streams.before all b))
+          (keeps_acknowledged end by);
+      recovers = given_back (λ m r. HoldsOfAll r streams.before streams.written (λ all. keeps → (b : List ℕ) → IsCrashImage m b → HoldsRecovered service.slots old streams.input streams.before all b))
+          (leaves_recovered end by);
       goes_on = given_back (λ m r. LeavesRun keeps service.slots old m r streams.input streams.before streams.written)
           (leaves_run service old now.medium (command_result end) streams (g.met.D.Disk.bytes c.args.disk)
           (ends_on_device end by c.know_recovery.ensures.no_doubt bytes) (crashes_safely end by) (leaves_recovered end by));

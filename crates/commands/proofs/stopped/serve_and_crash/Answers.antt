@@ -2,8 +2,8 @@
 use Rattle.std.proofs.Common.{refl, subst, sym}
 use Rattle.disk.specs.Device.{IsSynced}
 use Rattle.disk.specs.Memory.{Memory, medium_of, memory_of}
-use Rattle.commands.proofs.Kept.{kept_then}
-use Rattle.commands.proofs.Promise.{opened_then, then_so}
+use Rattle.commands.proofs.Kept.{all_then}
+use Rattle.commands.proofs.Promise.{then_so}
 use Rattle.commands.proofs.stopped.serve_and_crash.Goals as goal
 
 pub returns : goal.returns
@@ -19,8 +19,8 @@ returns g c =
         crash = c.crash.ensures.after;
         leaves = c.crash.ensures.may;
       };
-      kept = kept_then end before written (λ k. (k.0, k.1, k.2 tt (medium_of c.crash.result).now c.crash.ensures.may)) c.serve_on-disk.ensures.kept;
-      recovers = opened_then end (λ k. (k.0, k.1, k.2 tt (medium_of c.crash.result).now c.crash.ensures.may)) c.serve_on-disk.ensures.recovers;
+      kept = all_then end before written (λ all k. k tt (medium_of c.crash.result).now c.crash.ensures.may) c.serve_on-disk.ensures.kept;
+      recovers = all_then end before written (λ all k. k tt (medium_of c.crash.result).now c.crash.ensures.may) c.serve_on-disk.ensures.recovers;
       goes_on = λ k start held. then_so (λ now is. (is, subst (λ (m : Memory). IsSynced m.medium) (sym c.crash.ensures.after) refl))
           ((c.serve_on-disk.ensures.goes_on tt k start held).1 (medium_of c.crash.result).now c.crash.ensures.may);
     }

@@ -1,10 +1,10 @@
 -- The injected fault that is set is no part of the medium.
-use Rattle.std.proofs.Common.{◌≡◌, ℕ, List, Option, ap, subst, sym}
+use Rattle.std.proofs.Common.{◌≡◌, ap, subst, sym}
 use Rattle.disk.specs.Device.{Medium}
 use Rattle.disk.specs.Memory.{Memory, medium_of, memory_of}
 use Rattle.serving.specs.Ends.{exchange}
-use Rattle.commands.specs.Acknowledged.{HoldsAcknowledged, UnlessRefused}
-use Rattle.commands.specs.Promise.{HoldsRecovered, HoldsState, IfOpened, IsWritten}
+use Rattle.commands.specs.Acknowledged.{HoldsAcknowledged}
+use Rattle.commands.specs.Promise.{HoldsOfAll, HoldsRecovered, HoldsState}
 use Rattle.commands.specs.Serving.{HasServedUntilCrash}
 use Rattle.commands.proofs.stopped.serve_stopped.Goals as goal
 
@@ -20,10 +20,9 @@ returns g c =
     record {
       crashed = subst (λ (m : Medium). HasServedUntilCrash c.args.service m c.args.torn (memory_of left) end (exchange input rest before written))
           same c.serve_and_crash.ensures.crashed;
-      kept = subst (λ (m : Medium). UnlessRefused end before written
-          ((all : Option (List ℕ)) × IsWritten end before written all × HoldsAcknowledged c.args.service.slots m input before all (medium_of left).now))
+      kept = subst (λ (m : Medium). HoldsOfAll end before written (λ all. HoldsAcknowledged c.args.service.slots m input before all (medium_of left).now))
           same c.serve_and_crash.ensures.kept;
-      recovers = subst (λ (m : Medium). IfOpened end ((all : Option (List ℕ)) × IsWritten end before written all × HoldsRecovered c.args.service.slots m input before all (medium_of left).now))
+      recovers = subst (λ (m : Medium). HoldsOfAll end before written (λ all. HoldsRecovered c.args.service.slots m input before all (medium_of left).now))
           same c.serve_and_crash.ensures.recovers;
       goes_on = λ k start held. c.serve_and_crash.ensures.goes_on k start (subst (λ (m : Medium). HoldsState k m start) (sym same) held);
     }
