@@ -1,23 +1,17 @@
--- The refusal and the reply of a message, by its kind and its numbers.
+-- What is asked of a block that is there, and what is written over it, passes all checks.
 use Rattle.std.proofs.Common.{◌≡◌, ℕ, true, false, Bool, List, [], ◌∷◌, None, Some, refl, ap, ◌∙◌}
 use Rattle.std.specs.Prelude.{not, find, is_some}
 use Rattle.std.specs.List.{AllByRecursion}
 use Rattle.std.proofs.lemmas.Bool.{and_from, or_left, lt-ltb}
 use Rattle.affinity.specs.declared.geometry.Geometry.{Geometry}
-use Rattle.language.specs.declared.Msg.{Msg}
-use Rattle.language.specs.declared.Msg.TheVariants.{MakeVol, DropVol, Create, Delete, Seal, Unseal, Write, Punch, Read, List as ListFiles, Usage, Summary, SetLabel, Label}
+use Rattle.affinity.specs.declared.kinds.Kind.TheVariants as kinds
+use Rattle.language.specs.declared.Msg.TheVariants.{Write, Read}
 use Rattle.language.specs.declared.Block.{Block}
 use Rattle.language.specs.declared.Refusal.{Refusal}
-use Rattle.language.specs.declared.Refusal.TheVariants.{Range}
 use Rattle.language.specs.declared.Reply.TheVariants.{Block as shows}
-use Rattle.language.specs.Messages.{kind, four_numbers}
+use Rattle.language.specs.Messages.{is_in_range}
 use Rattle.meaning.specs.State.{State, IsState}
 use Rattle.meaning.specs.Serial.{checks, passes, refusal, block_reply, reply_and_state, step}
-use Rattle.meaning.specs.ByKind.{refusal_by}
-
-pub refusal_by_kind : (g : Geometry) (x : State) (m : Msg) → refusal_by g x (kind m) (four_numbers m) ≡ refusal g x m
-refusal_by_kind g x (MakeVol a v) = refl
-refusal_by_kind g x _ = refl
 
 -- no check fails where all are passed
 none_fails : (p : Refusal → Bool) (ts : List Refusal) → AllByRecursion (λ t. p t ≡ true) ts → find (λ t. not (p t)) ts ≡ None
@@ -25,7 +19,7 @@ none_fails p [] h = refl
 none_fails p (t ∷ ts) h = rw h.0 (none_fails p ts h.1)
 
 -- the numbers of a block that is there are in range
-block_in_range : {g : Geometry} {x : State} → IsState g x → (a v f b : ℕ) → is_some (x.blocks (a, v, f, b)) ≡ true → passes g x (Read a v f b) Range ≡ true
+block_in_range : {g : Geometry} {x : State} → IsState g x → (a v f b : ℕ) → is_some (x.blocks (a, v, f, b)) ≡ true → is_in_range g (Read a v f b) ≡ true
 block_in_range {g} s a v f b there =
     let block = s.blocks (a, v, f, b) there in
     let file = s.files (a, v, f) block.1 in
@@ -38,14 +32,14 @@ pub write_passes : {g : Geometry} {x : State} → IsState g x → (a v f b : ℕ
 write_passes {g} {x} s a v f b content unsealed there =
     let block = s.blocks (a, v, f, b) there in
     let file = s.files (a, v, f) block.1 in
-    none_fails (passes g x (Write a v f b content)) (checks (kind (Write a v f b content))) (block_in_range s a v f b there, (file.1, (ap not unsealed, (block.1, (or_left _ _ there, tt)))))
+    none_fails (passes g x kinds.Write (a ∷ v ∷ f ∷ b ∷ [])) (checks kinds.Write) (block_in_range s a v f b there, (file.1, (ap not unsealed, (block.1, (or_left _ _ there, tt)))))
 
 -- a block that is there has a file and a volume, and its numbers are in range
 pub read_passes : {g : Geometry} {x : State} → IsState g x → (a v f b : ℕ) → is_some (x.blocks (a, v, f, b)) ≡ true → refusal g x (Read a v f b) ≡ None
 read_passes {g} {x} s a v f b there =
     let block = s.blocks (a, v, f, b) there in
     let file = s.files (a, v, f) block.1 in
-    none_fails (passes g x (Read a v f b)) (checks (kind (Read a v f b))) (block_in_range s a v f b there, (file.1, (block.1, tt)))
+    none_fails (passes g x kinds.Read (a ∷ v ∷ f ∷ b ∷ [])) (checks kinds.Read) (block_in_range s a v f b there, (file.1, (block.1, tt)))
 
 -- a block that is there answers a read
 pub read_told : {g : Geometry} {x : State} → IsState g x → (a v f b : ℕ) {content : Block} → x.blocks (a, v, f, b) ≡ Some content → step g x (Read a v f b) ≡ (shows content, x)

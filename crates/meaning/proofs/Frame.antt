@@ -13,7 +13,7 @@ use Rattle.language.specs.declared.Refusal.{Refusal}
 use Rattle.language.specs.declared.Refusal.TheVariants.{Volume, Sealed, File, Space}
 use Rattle.language.specs.declared.Reply.{Reply}
 use Rattle.language.specs.declared.Reply.TheVariants.{Files, Usage, Summary, Label}
-use Rattle.language.specs.Messages.{kind, path_of}
+use Rattle.language.specs.Messages.{kind, four_numbers, path_of}
 use Rattle.meaning.specs.State.{State, sum_below, one_if, blocks_in_stripe, sum_over_volumes}
 use Rattle.meaning.specs.Serial.{key, checks, passes, refusal, effect, accepted_reply, reply_and_state, reply_to, next_state, block_reply, no_label}
 use Rattle.meaning.specs.Subtrees.{AgreeOn}
@@ -81,25 +81,28 @@ module _ (g : Geometry) (R : Path → Bool) (x y : State) (h : AgreeOn g R x y) 
   pub same_group_count : (a v s : ℕ) → R (stripe a v s) ≡ true → blocks_in_stripe g x a v s ≡ blocks_in_stripe g y a v s
   same_group_count a v s r i = sum_below g.files (λ f. sum_below g.blocks (λ b. one_if (same_in_group a v s f b r i)))
 
+  abbrev test : State → Msg → Refusal → Bool
+  test w m = passes g w (kind m) (four_numbers m)
+
   module _ (m : Msg) (covers : (q : Path) → are_related (path_of g m) q ≡ true → R q ≡ true) where
-    same_volume : passes g x m Volume ≡ passes g y m Volume
+    same_volume : test x m Volume ≡ test y m Volume
     same_volume = h.made _ (covers _ (marks_related g m))
 
-    same_sealed : passes g x m Sealed ≡ passes g y m Sealed
+    same_sealed : test x m Sealed ≡ test y m Sealed
     same_sealed = ap not (h.sealed _ (covers _ (marks_related g m)))
 
     -- of a message that goes to the files
-    same_file : is_prefix (0 ∷ []) (in_volume g m) ≡ true → passes g x m File ≡ passes g y m File
+    same_file : is_prefix (0 ∷ []) (in_volume g m) ≡ true → test x m File ≡ test y m File
     same_file goes = h.files _ (covers _ (related_in_volume g m (0 ∷ []) goes))
 
-    same_space : let n = key m in is_prefix (0 ∷ stripe_of g n.2 n.3 ∷ []) (in_volume g m) ≡ true → passes g x m Space ≡ passes g y m Space
+    same_space : let n = key m in is_prefix (0 ∷ stripe_of g n.2 n.3 ∷ []) (in_volume g m) ≡ true → test x m Space ≡ test y m Space
     same_space goes =
         let n = key m in
         let r = covers (stripe n.0 n.1 (stripe_of g n.2 n.3)) (related_in_volume g m (0 ∷ stripe_of g n.2 n.3 ∷ []) goes) in
         λ i. is_some (h.blocks n r i) || nat_lt (same_group_count n.0 n.1 (stripe_of g n.2 n.3) r i) g.quota
 
   -- each check of a message has the same result in both states
-  same_tests : (m : Msg) → ((q : Path) → are_related (path_of g m) q ≡ true → R q ≡ true) → AllByRecursion (λ test. passes g x m test ≡ passes g y m test) (checks (kind m))
+  same_tests : (m : Msg) → ((q : Path) → are_related (path_of g m) q ≡ true → R q ≡ true) → AllByRecursion (λ t. test x m t ≡ test y m t) (checks (kind m))
   same_tests (MakeVol a v) c = (refl, (ap not (h.made (a, v) (c _ (marks_related g (MakeVol a v)))), tt))
   same_tests (DropVol a v) c = (refl, (same_volume (DropVol a v) c, (same_sealed (DropVol a v) c, tt)))
   same_tests (Create a v f) c = (refl, (same_volume (Create a v f) c, (same_sealed (Create a v f) c, (ap not (h.files (a, v, f) (c _ (related_in_volume g (Create a v f) (0 ∷ []) refl))), tt))))
@@ -122,7 +125,7 @@ module _ (g : Geometry) (R : Path → Bool) (x y : State) (h : AgreeOn g R x y) 
   same_tests (AskLabel a v) c = (refl, (same_volume (AskLabel a v) c, tt))
 
   same_refusal : (m : Msg) → ((q : Path) → are_related (path_of g m) q ≡ true → R q ≡ true) → refusal g x m ≡ refusal g y m
-  same_refusal m covers = same_find (passes g x m) (passes g y m) (checks (kind m)) (same_tests m covers)
+  same_refusal m covers = same_find (test x m) (test y m) (checks (kind m)) (same_tests m covers)
 
   same_answer : (m : Msg) → ((q : Path) → are_related (path_of g m) q ≡ true → R q ≡ true) → accepted_reply g x m ≡ accepted_reply g y m
   same_answer (Read a v f b) covers = ap block_reply (h.blocks (a, v, f, b) (covers _ (are_related-refl (stripe a v (stripe_of g f b)))))

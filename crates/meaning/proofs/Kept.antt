@@ -7,12 +7,13 @@ use Rattle.affinity.specs.declared.geometry.Geometry.{Geometry}
 use Rattle.affinity.specs.Geometry.{stripe_of}
 use Rattle.affinity.specs.Path.{is_prefix, stripe}
 use Rattle.affinity.specs.Place.{are_below, limits}
+use Rattle.affinity.specs.declared.kinds.Kind.TheVariants as kinds
 use Rattle.language.specs.declared.Block.{Block}
 use Rattle.language.specs.declared.Msg.{Msg}
 use Rattle.language.specs.declared.Msg.TheVariants.{MakeVol, DropVol, Create, Delete, Seal, Unseal, Write, Punch, Read, List as ListFiles, Usage as AskUsage, Summary as AskSummary, SetLabel, Label as AskLabel}
 use Rattle.language.specs.declared.Refusal.{Refusal}
 use Rattle.language.specs.declared.Refusal.TheVariants.{Space}
-use Rattle.language.specs.Messages.{AreSizedBytes, IsBlock, IsMessage, kind}
+use Rattle.language.specs.Messages.{AreSizedBytes, IsBlock, IsMessage, kind, four_numbers}
 use Rattle.meaning.specs.State.{State, IsState, empty, VolumeKey, FileKey, BlockKey, is_volume, is_file, is_block, is_file_of, is_block_of, is_block_of_file, one_if, blocks_in_stripe}
 use Rattle.meaning.specs.Serial.{checks, passes, refusal, effect, accepted_reply, reply_and_state, next_state, state_after_all, no_label}
 use Rattle.meaning.specs.Laws.{outside}
@@ -119,7 +120,7 @@ module _ (g : Geometry) (x : State) (a v f b : ℕ) (content : Block) where
       (sum_below_one_more g.blocks b _ _ (λ b' ne. other_block s f b' (other_place a v f b (a, v, f, b') ne))
       (omega (arith, one_if-le ((stripe_of g f b == s) && is_some (written.blocks (a, v, f, b))))))
 
-  keeps_quota : ((a v s : ℕ) → blocks_in_stripe g x a v s ≤ g.quota) → passes g x (Write a v f b content) Space ≡ true → (a' v' s' : ℕ) → blocks_in_stripe g written a' v' s' ≤ g.quota
+  keeps_quota : ((a v s : ℕ) → blocks_in_stripe g x a v s ≤ g.quota) → passes g x kinds.Write (a ∷ v ∷ f ∷ b ∷ []) Space ≡ true → (a' v' s' : ℕ) → blocks_in_stripe g written a' v' s' ≤ g.quota
   keeps_quota h space a' v' s' =
       let s = stripe_of g f b in
       elim (is_prefix (stripe a v s) (stripe a' v' s')) as (λ t. is_prefix (stripe a v s) (stripe a' v' s') ≡ t → blocks_in_stripe g written a' v' s' ≤ g.quota) [
@@ -173,7 +174,7 @@ delete_kept g x a v f h =
 
 -- ---- each kind
 
-effect_kept : (g : Geometry) (x : State) → IsState g x → (m : Msg) → IsMessage m → AllByRecursion (λ t. passes g x m t ≡ true) (checks (kind m)) → IsState g (effect x m)
+effect_kept : (g : Geometry) (x : State) → IsState g x → (m : Msg) → IsMessage m → AllByRecursion (λ t. passes g x (kind m) (four_numbers m) t ≡ true) (checks (kind m)) → IsState g (effect x m)
 effect_kept g x h (MakeVol a v) w p =
     let r = two_below g a v [] p.0 in
     record {
@@ -264,7 +265,7 @@ pub step_kept : (g : Geometry) (x : State) (m : Msg) → IsState g x → IsMessa
 step_kept g x m h w = by (refusal g x m) refl
   where
     by : (r : Option Refusal) → refusal g x m ≡ r → IsState g (reply_and_state r (accepted_reply g x m) (effect x m) x).1
-    by None e = effect_kept g x h m w (passed (passes g x m) (checks (kind m)) e)
+    by None e = effect_kept g x h m w (passed (passes g x (kind m) (four_numbers m)) (checks (kind m)) e)
     by (Some why) e = h
 
 pub fold_kept : (g : Geometry) (x : State) (ms : List Msg) → IsState g x → AllByRecursion IsMessage ms → IsState g (state_after_all g x ms)

@@ -5,7 +5,6 @@ pub mod Subtrees
 pub mod Order
 pub mod Laws
 pub mod Output
-pub mod ByKind
 pub mod Removals
 pub mod Progress
 pub mod KeyOrders

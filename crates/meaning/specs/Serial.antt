@@ -1,5 +1,5 @@
 -- Statement for clients: What each message means: its checks, its effect and its reply; and lists of messages, one after the other.
-use Rattle.std.specs.Prelude.{ℕ, ◌^◌, Bool, true, false, not, ◌||◌, ◌&&◌, nat_lt, List, [], ◌∷◌, find, replicate, unwrap_or, if◌then◌else◌, Option, Some, None, is_some}
+use Rattle.std.specs.Prelude.{ℕ, ◌^◌, Bool, true, false, not, ◌||◌, ◌&&◌, nat_lt, List, [], ◌∷◌, find, replicate, slice_index, unwrap_or, if◌then◌else◌, Option, Some, None, is_some}
 use Rattle.affinity.specs.declared.geometry.Geometry.{Geometry}
 use Rattle.affinity.specs.Geometry.{stripe_of}
 use Rattle.affinity.specs.declared.kinds.Kind.{Kind}
@@ -12,15 +12,15 @@ use Rattle.language.specs.declared.Refusal.{Refusal}
 use Rattle.language.specs.declared.Refusal.TheVariants.{Range, Volume, Exists, Sealed, File, Space}
 use Rattle.language.specs.declared.Reply.{Reply}
 use Rattle.language.specs.declared.Reply.TheVariants.{Done, Hole, Block as Found, Files, Usage, Summary, Refused, Label}
-use Rattle.language.specs.Messages.{kind, four_numbers, is_in_range}
+use Rattle.affinity.specs.Place.{is_in_range}
+use Rattle.language.specs.Messages.{kind, four_numbers}
 use Rattle.meaning.specs.State.{State, BlockKey, adding, dropping, setting, clearing, is_volume, is_file, is_block, is_file_of, is_block_of, is_block_of_file, sum_below, one_if, file_count, block_count, blocks_in_stripe, sum_over_volumes}
 
 -- ---- the checks
 
 -- the key of a block by a list of four numbers: its aggregate, volume, file and number
 abbrev pub key_of : List ℕ → BlockKey
-key_of (a ∷ v ∷ f ∷ b ∷ []) = (a, v, f, b)
-key_of _ = (0, 0, 0, 0)
+key_of ns = (slice_index ns 0, slice_index ns 1, slice_index ns 2, slice_index ns 3)
 
 -- the key (aggregate, volume, file, block) that a message names; a number that it doesn't have is 0
 abbrev pub key : Msg → BlockKey
@@ -43,24 +43,29 @@ checks kinds.Summary = []
 checks kinds.SetLabel = Range ∷ Volume ∷ Sealed ∷ []
 checks kinds.Label = Range ∷ Volume ∷ []
 
--- whether what the message makes is there already
-abbrev pub exists : State → Msg → Bool
-exists x (MakeVol a v) = x.made (a, v)
-exists x (Create a v f) = x.files (a, v, f)
-exists x _ = false
+-- whether what a message of the kind makes is there already, by the key that it names
+abbrev pub exists : State → Kind → BlockKey → Bool
+exists x kinds.MakeVol n = x.made (n.0, n.1)
+exists x kinds.Create n = x.files (n.0, n.1, n.2)
+exists x _ n = false
 
--- whether the message passes a check
-abbrev pub passes : Geometry → State → Msg → Refusal → Bool
-passes g x m Range = is_in_range g m
-passes g x m Volume = let n = key m in x.made (n.0, n.1)
-passes g x m Exists = not (exists x m)
-passes g x m Sealed = let n = key m in not (x.sealed (n.0, n.1))
-passes g x m File = let n = key m in x.files (n.0, n.1, n.2)
-passes g x m Space = let n = key m in is_some (x.blocks n) || nat_lt (blocks_in_stripe g x n.0 n.1 (stripe_of g n.2 n.3)) g.quota
+-- whether a message of the kind with these four numbers passes a check
+abbrev pub passes : Geometry → State → Kind → List ℕ → Refusal → Bool
+passes g x k ns Range = is_in_range g k ns
+passes g x k ns Volume = let n = key_of ns in x.made (n.0, n.1)
+passes g x k ns Exists = not (exists x k (key_of ns))
+passes g x k ns Sealed = let n = key_of ns in not (x.sealed (n.0, n.1))
+passes g x k ns File = let n = key_of ns in x.files (n.0, n.1, n.2)
+passes g x k ns Space =
+    let n = key_of ns in is_some (x.blocks n) || nat_lt (blocks_in_stripe g x n.0 n.1 (stripe_of g n.2 n.3)) g.quota
 
--- why the message is refused: the first check that fails, if one does
+-- why a message of the kind with these four numbers is refused: the first check that fails, if one does
+abbrev pub refusal_by : Geometry → State → Kind → List ℕ → Option Refusal
+refusal_by g x k ns = find (λ test. not (passes g x k ns test)) (checks k)
+
+-- why the message is refused, if it is
 abbrev pub refusal : Geometry → State → Msg → Option Refusal
-refusal g x m = find (λ test. not (passes g x m test)) (checks (kind m))
+refusal g x m = refusal_by g x (kind m) (four_numbers m)
 
 -- ---- the step
 
@@ -109,6 +114,11 @@ accepted_reply g x AskSummary = Summary (sum_over_volumes g (λ a v. one_if (x.m
     (sum_over_volumes g (block_count g x))
 accepted_reply g x (AskLabel a v) = Label (unwrap_or (x.labels (a, v)) no_label)
 accepted_reply g x _ = Done
+
+-- the reply to a message that changes something, by why it is refused, if it is
+abbrev pub done_or_refused : Option Refusal → Reply
+done_or_refused None = Done
+done_or_refused (Some why) = Refused why
 
 -- the reply and the state after a message, by why it is refused, if it is
 abbrev pub reply_and_state : Option Refusal → Reply → State → State → Reply × State

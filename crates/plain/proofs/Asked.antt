@@ -6,9 +6,7 @@ use Rattle.affinity.specs.declared.kinds.Kind.TheVariants as kinds
 use Rattle.language.specs.Messages.{kind, IsMessage}
 use Rattle.message.specs.Heads.{message_without_data, has_data, IsWithoutData}
 use Rattle.meaning.specs.State.{State}
-use Rattle.meaning.specs.Serial.{refusal}
-use Rattle.meaning.specs.ByKind.{refusal_by}
-use Rattle.meaning.proofs.ByKind.{refusal_by_kind}
+use Rattle.meaning.specs.Serial.{refusal, refusal_by}
 
 -- a message without data has no bytes to be right
 pub asking_is_message : (k : Kind) (ns : List ℕ) → has_data k ≡ false → IsMessage (message_without_data k ns)
@@ -18,6 +16,4 @@ asking_is_message _ ns h = tt
 
 pub refusal_asked : (g : Geometry) (x : State) (k : Kind) (ns : List ℕ) → IsWithoutData k ns (Some (message_without_data k ns)) → refusal_by g x k ns ≡ refusal g x (message_without_data k ns)
 refusal_asked g x k ns h =
-    ap (λ j. refusal_by g x j ns) (sym h.kind_is)
-    ∙ ap (λ ms. refusal_by g x (kind (message_without_data k ns)) ms) (sym h.numbers_are)
-    ∙ refusal_by_kind g x (message_without_data k ns)
+    ap (λ j. refusal_by g x j ns) (sym h.kind_is) ∙ ap (refusal_by g x (kind (message_without_data k ns))) (sym h.numbers_are)

@@ -10,7 +10,7 @@ ghost use Rattle.message.specs.Waiting.{FitsReply, all_output};
 ghost use Rattle.language.specs.Lines.{block_in_word, label_in_word};
 ghost use Rattle.message.specs.Heads.{IsWithoutData, labeling, message_without_data, writing};
 ghost use Rattle.affinity.specs.Kind.{is_changing};
-ghost use Rattle.meaning.specs.ByKind.{done_or_refused};
+ghost use Rattle.meaning.specs.Serial.{done_or_refused};
 ghost use Rattle.meaning.specs.State.{State, empty};
 ghost use Rattle.plain.specs.Answering.{AnswersLine};
 ghost use Rattle.plain.specs.Server.{server_state, IsConsistent};

@@ -4,13 +4,15 @@ use Rattle.std.specs.Prelude.{if◌then◌else◌, find, not}
 use Rattle.std.specs.List.{AllByRecursion}
 use Rattle.std.proofs.lemmas.Bool.{true≢false}
 use Rattle.affinity.specs.declared.geometry.Geometry.{Geometry}
+use Rattle.affinity.specs.declared.kinds.Kind.{Kind}
+use Rattle.affinity.specs.declared.kinds.Kind.TheVariants as kinds
+use Rattle.affinity.specs.Place.{is_in_range as numbers_are_in_range}
 use Rattle.histories.proofs.Elements.{in_contained}
 use Rattle.histories.proofs.SerialReplies.{IsIn}
 use Rattle.language.specs.Grammar.{message_of}
-use Rattle.language.specs.Messages.{is_in_range, kind}
+use Rattle.language.specs.Messages.{is_in_range, kind, four_numbers}
 use Rattle.language.specs.Replies.{reply_line}
 use Rattle.language.specs.declared.Msg.{Msg}
-use Rattle.language.specs.declared.Msg.TheVariants.{MakeVol, DropVol, Create, Delete, Seal, Unseal, Write, Punch, Read, List as ListFiles, Usage as AskUsage, Summary as AskSummary, SetLabel, Label as AskLabel}
 use Rattle.language.specs.declared.Refusal.{Refusal}
 use Rattle.language.specs.declared.Refusal.TheVariants.{Range}
 use Rattle.language.specs.declared.Reply.{Reply}
@@ -18,34 +20,20 @@ use Rattle.language.specs.declared.Reply.TheVariants.{Refused}
 use Rattle.meaning.proofs.OutputLemmas.{take-output_lines}
 use Rattle.meaning.specs.Order.{messages_of, serial_replies}
 use Rattle.meaning.specs.Output.{answer_line, output_lines, state_after_line, state_after_lines}
-use Rattle.meaning.specs.Serial.{accepted_reply, effect, state_after_all, next_state, reply_and_state, passes, refusal, reply_to, step, checks}
+use Rattle.meaning.specs.Serial.{accepted_reply, effect, state_after_all, next_state, reply_and_state, passes, refusal_by, reply_to, step, checks}
 use Rattle.meaning.specs.State.{State}
 use Rattle.serving.specs.Lines.{Completed, AreKnown, IsKnown, Line, NoMessage, OutOfRange, Pending, admitted, admitted_in, has_answer, next_ticket, answer_text, ticketed}
 
 -- ---- a message that is out of range
 
 module _ (g : Geometry) (x : State) where
-  fails_first : (m : Msg) (rest : List Refusal) → is_in_range g m ≡ false → find (λ test. not (passes g x m test)) (Range ∷ rest) ≡ Some Range
-  fails_first m rest h = ap (λ (b : Bool). if not b then Some Range else find (λ test. not (passes g x m test)) rest) h
-
-  refused : (m : Msg) → is_in_range g m ≡ false → refusal g x m ≡ Some Range
-  refused (MakeVol a v) h = fails_first (MakeVol a v) (drop 1 (checks (kind (MakeVol a v)))) h
-  refused (DropVol a v) h = fails_first (DropVol a v) (drop 1 (checks (kind (DropVol a v)))) h
-  refused (Create a v f) h = fails_first (Create a v f) (drop 1 (checks (kind (Create a v f)))) h
-  refused (Delete a v f) h = fails_first (Delete a v f) (drop 1 (checks (kind (Delete a v f)))) h
-  refused (Seal a v) h = fails_first (Seal a v) (drop 1 (checks (kind (Seal a v)))) h
-  refused (Unseal a v) h = fails_first (Unseal a v) (drop 1 (checks (kind (Unseal a v)))) h
-  refused (Write a v f b content) h = fails_first (Write a v f b content) (drop 1 (checks (kind (Write a v f b content)))) h
-  refused (Punch a v f b) h = fails_first (Punch a v f b) (drop 1 (checks (kind (Punch a v f b)))) h
-  refused (Read a v f b) h = fails_first (Read a v f b) (drop 1 (checks (kind (Read a v f b)))) h
-  refused (ListFiles a v) h = fails_first (ListFiles a v) (drop 1 (checks (kind (ListFiles a v)))) h
-  refused (AskUsage a v) h = fails_first (AskUsage a v) (drop 1 (checks (kind (AskUsage a v)))) h
-  refused AskSummary h = absurd (true≢false h)
-  refused (SetLabel a v bytes) h = fails_first (SetLabel a v bytes) (drop 1 (checks (kind (SetLabel a v bytes)))) h
-  refused (AskLabel a v) h = fails_first (AskLabel a v) (drop 1 (checks (kind (AskLabel a v)))) h
+  -- the check of each kind that fails first: all but `summary` begin with that of the range
+  refused : (k : Kind) (ns : List ℕ) → numbers_are_in_range g k ns ≡ false → refusal_by g x k ns ≡ Some Range
+  refused kinds.Summary ns h = absurd (true≢false h)
+  refused k ns h = ap (λ (b : Bool). if not b then Some Range else find (λ test. not (passes g x k ns test)) (drop 1 (checks k))) h
 
   pub out_of_range : (m : Msg) → is_in_range g m ≡ false → step g x m ≡ (Refused Range, x)
-  out_of_range m h = ap (λ (why : Option Refusal). reply_and_state why (accepted_reply g x m) (effect x m) x) (refused m h)
+  out_of_range m h = ap (λ (why : Option Refusal). reply_and_state why (accepted_reply g x m) (effect x m) x) (refused (kind m) (four_numbers m) h)
 
 -- ---- the tickets
 

@@ -1,6 +1,7 @@
 //! A block is put into a file, and its stripe has one more where it is new.
 
-ghost use Rattle.std.specs.Prelude.{◌≡◌, ◌<◌, IfOk, OnErr, None, Some, is_some, if◌then◌else◌};
+ghost use Rattle.std.specs.Prelude.{◌≡◌, ◌<◌, [], ◌∷◌, IfOk, OnErr, None, Some, is_some, if◌then◌else◌};
+ghost use Rattle.affinity.specs.declared.kinds.Kind.TheVariants as kinds;
 ghost use Rattle.language.specs.declared.Msg.{Msg};
 ghost use Rattle.language.specs.declared.Refusal.{Refusal};
 ghost use Rattle.meaning.specs.Serial.{passes, effect};
@@ -29,7 +30,7 @@ impl Server {
         requires place { b < g.now.blocks }
         requires counted { HasRightCounts g.now self.old }
         ensures room { IfOk result (λ why. why
-            ≡ (if passes g.now (server_state self.old) (Msg.Write a v f b content.now) Refusal.Space then None else Some Refusal.Space)) }
+            ≡ (if passes g.now (server_state self.old) kinds.Write (a ∷ v ∷ f ∷ b ∷ []) Refusal.Space then None else Some Refusal.Space)) }
         ensures state { IfOk result (λ why. server_state self.new
             ≡ (if is_some why then server_state self.old else effect (server_state self.old) (Msg.Write a v f b content.now))) }
         ensures unchanged { OnErr result (server_state self.new ≡ server_state self.old) }
