@@ -32,24 +32,3 @@ default_geometry = record {
   quota_range = (lit≤ tt, lit≤ tt);
   half_range = (lit≤ tt, lit≤ tt);
 }
-
--- a small server for worked examples: one volume of two files of four blocks, in two stripes that hold two blocks each
-abbrev pub small : Geometry
-small = record {
-  aggregates = 1;
-  volumes = 1;
-  stripes = 2;
-  width = 1;
-  files = 2;
-  blocks = 4;
-  quota = 2;
-  half = 4;
-  aggregates_range = (lit≤ tt, lit≤ tt);
-  volumes_range = (lit≤ tt, lit≤ tt);
-  stripes_range = (lit≤ tt, lit≤ tt);
-  width_range = (lit≤ tt, lit≤ tt);
-  files_range = (lit≤ tt, lit≤ tt);
-  blocks_range = (lit≤ tt, lit≤ tt);
-  quota_range = (lit≤ tt, lit≤ tt);
-  half_range = (lit≤ tt, lit≤ tt);
-}

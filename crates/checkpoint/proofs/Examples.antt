@@ -1,8 +1,9 @@
 -- Worked examples of the definitions, on a small server: one volume of two files of four blocks, in two stripes that
 -- hold two blocks each, and four records in a half. Its device has 8,840 bytes.
-use Rattle.std.proofs.Common.{◌≡◌, ℕ, ◌+◌, ◌%◌, List, ◌∷◌, ◌++◌, take, drop, get_or, replicate, Option, Some, None, refl, ap, arith, lit≤}
+use Rattle.std.proofs.Common.{◌≡◌, ℕ, ◌+◌, ◌%◌, List, ◌∷◌, ◌++◌, take, drop, get_or, replicate, Option, Some, None, [], refl, ap, arith, lit≤}
 use Rattle.affinity.specs.declared.geometry.Geometry.{Geometry}
-use Rattle.affinity.specs.Geometry.{small, default_geometry}
+use Rattle.affinity.specs.Geometry.{default_geometry}
+use Rattle.affinity.proofs.Numbers.{geometry_of, small}
 use Rattle.checkpoint.specs.declared.fault.OpenFault.{OpenFault}
 use Rattle.checkpoint.specs.declared.fault.OpenFault.TheVariants.{TooShort, BadVersion, BadPiece, BadChain, BadRecord}
 use Rattle.checkpoint.specs.Header.{header_of}
@@ -25,24 +26,8 @@ size_of_the_default = refl
 
 -- each number as great as it may be
 abbrev greatest : Geometry
-greatest = record {
-  aggregates = 4;
-  volumes = 8;
-  stripes = 8;
-  width = 64;
-  files = 64;
-  blocks = 256;
-  quota = 64;
-  half = 1024;
-  aggregates_range = (lit≤ tt, lit≤ tt);
-  volumes_range = (lit≤ tt, lit≤ tt);
-  stripes_range = (lit≤ tt, lit≤ tt);
-  width_range = (lit≤ tt, lit≤ tt);
-  files_range = (lit≤ tt, lit≤ tt);
-  blocks_range = (lit≤ tt, lit≤ tt);
-  quota_range = (lit≤ tt, lit≤ tt);
-  half_range = (lit≤ tt, lit≤ tt);
-}
+greatest = geometry_of (4 ∷ 8 ∷ 8 ∷ 64 ∷ 64 ∷ 256 ∷ 64 ∷ 1024 ∷ [])
+    ((lit≤ tt, lit≤ tt), (lit≤ tt, lit≤ tt), (lit≤ tt, lit≤ tt), (lit≤ tt, lit≤ tt), (lit≤ tt, lit≤ tt), (lit≤ tt, lit≤ tt), (lit≤ tt, lit≤ tt), (lit≤ tt, lit≤ tt))
 
 size_of_the_greatest : device_size (layout_of greatest) ≡ 18110848
 unfolding image_size

@@ -3,7 +3,7 @@ use Rattle.std.proofs.Common.{◌≡◌, ◌++◌, ℕ, Bool, true, List, [], �
 use Rattle.std.proofs.lemmas.Bool.{true≢false}
 use Rattle.std.specs.Io.KnownBytes.{Appends}
 use Rattle.std.specs.Fmt.{digits}
-use Rattle.affinity.specs.Geometry.{small}
+use Rattle.affinity.proofs.Numbers.{small}
 use Rattle.checkpoint.specs.declared.inspecting.Shown.{Shown}
 use Rattle.language.specs.Grammar.{kind_named, message_of}
 use Rattle.language.specs.Lines.{number_in_word}

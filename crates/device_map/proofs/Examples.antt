@@ -1,6 +1,6 @@
 -- The map of a device of a small server: one volume of two stripes that hold two blocks each, and four records in a half.
 use Rattle.std.proofs.Common.{◌≡◌, refl}
-use Rattle.affinity.specs.Geometry.{small}
+use Rattle.affinity.proofs.Numbers.{small}
 use Rattle.device_map.specs.Layout.{image_size, layout_of, part_at, device_size, half_part, image_part}
 
 image_of_small : image_size small ≡ 2208

@@ -3,7 +3,7 @@ use Rattle.std.proofs.Common.{◌≡◌, ℕ, zero, suc, true, false, List, [], 
 use Rattle.std.specs.Prelude.{◌-◌, ◌^◌, None, IsPermutation}
 use Rattle.std.proofs.lemmas.Bool.{true≢false}
 use Rattle.std.proofs.lemmas.List.Sorted.{Contains-permutation, IsPermutation-middle, length_permutation}
-use Rattle.affinity.specs.Geometry.{small}
+use Rattle.affinity.proofs.Numbers.{small}
 use Rattle.language.specs.declared.Block.{Block}
 use Rattle.language.specs.declared.Msg.{Msg}
 use Rattle.language.specs.declared.Msg.TheVariants.{MakeVol, Create, Write, Read, Summary as AskSummary, SetLabel, Label as AskLabel}

@@ -1,7 +1,8 @@
 -- Worked examples, by computing: what a small server answers to a list of messages.
 use Rattle.std.proofs.Common.{◌≡◌, ℕ, true, false, List, [], ◌∷◌, refl}
 use Rattle.std.specs.Prelude.{replicate}
-use Rattle.affinity.specs.Geometry.{small, default_geometry}
+use Rattle.affinity.specs.Geometry.{default_geometry}
+use Rattle.affinity.proofs.Numbers.{small}
 use Rattle.language.specs.declared.Block.{Block}
 use Rattle.language.specs.declared.Msg.{Msg}
 use Rattle.language.specs.declared.Msg.TheVariants.{MakeVol, DropVol, Create, Delete, Seal, Unseal, Write, Punch, Read, List as ListFiles, Usage as AskUsage, Summary as AskSummary, SetLabel, Label as AskLabel}

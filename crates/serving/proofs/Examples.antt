@@ -1,7 +1,7 @@
 -- Worked examples, by computing: which lines take tickets, and what is known of lines.
 use Rattle.std.proofs.Common.{◌≡◌, ℕ, List, [], ◌∷◌, map, refl, lit≤, ap, arith, ⊎_elim}
 use Rattle.std.specs.Prelude.{codes}
-use Rattle.affinity.specs.Geometry.{small}
+use Rattle.affinity.proofs.Numbers.{small}
 use Rattle.histories.proofs.Elements.{in_contained}
 use Rattle.language.specs.Grammar.{kind_named, message_of}
 use Rattle.language.specs.Lines.{number_in_word}

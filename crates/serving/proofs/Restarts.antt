@@ -2,7 +2,7 @@
 use Rattle.std.proofs.Common.{◌≡◌, ℕ, Bool, List, [], ◌∷◌, ◌++◌, true, false, refl, sym, ◌∙◌, ap, inl, inr, ⊎_elim, arith}
 use Rattle.std.specs.Prelude.{codes, get_or, length, take}
 use Rattle.std.proofs.lemmas.Bool.{true≢false}
-use Rattle.affinity.specs.Geometry.{small}
+use Rattle.affinity.proofs.Numbers.{small}
 use Rattle.language.specs.Grammar.{kind_named, message_of}
 use Rattle.language.specs.Lines.{lines, number_in_word}
 use Rattle.meaning.specs.Output.{joined, output_lines, state_after_lines}
