@@ -30,32 +30,31 @@ is_idle slots c just = record { none_waits = just.none_waits; none_held = rw (ju
 
 -- from what is known of the core before and after: the service is an incarnation of its device
 module _ (keeps : Type 0) (s : ServeOptions) (old : Medium) (start now : CoreView) (end : Result (Unit {0}) ServeFault) (x : Exchange) where
-  pub is_incarnation : IsJustOpened s.slots start → (keeps → HasHeader start.geometry old.now) → (keeps → recovered_state start.geometry old.now ≡ Some (committed_in start))
+  pub is_incarnation : IsJustOpened s.slots start → RecoveredTo keeps old start.geometry (committed_in start)
       → {consumed : List (List ℕ)} (run : HasRunLines keeps (machine_at_start s start) now x.input consumed) → keeps
       → IsIncarnation s start old now.medium run.segment.device_events
-  is_incarnation fresh header recovered_before run keep = λ k within. record {
-    header = header keep;
-    recovered_before = recovered_before keep;
+  is_incarnation fresh before run keep = λ k within. record {
+    header = before.header keep;
+    recovered_before = before.recovered_before keep;
     idle = is_idle s.slots start fresh;
     legal = run.segment.legal;
     crash = λ c left. run.crash keep k c within left;
   }
 
-  abbrev pub has_served_by : IsJustOpened s.slots start → (keeps → HasHeader start.geometry old.now)
-      → (keeps → recovered_state start.geometry old.now ≡ Some (committed_in start)) → (keeps → OpeningCrashImages old start.medium)
+  abbrev pub has_served_by : IsJustOpened s.slots start → RecoveredTo keeps old start.geometry (committed_in start)
+      → (keeps → OpeningCrashImages old start.medium)
       → ServePromise keeps s.workers start (now, end) x
       → (keeps → RecoversNow now) → HasServedBy keeps s old now.medium end x
-  has_served_by fresh header recovered_before opening served leaves = record {
+  has_served_by fresh before opening served leaves = record {
     start = start;
     now = now;
     fresh = fresh;
-    header = header;
-    recovered_before = recovered_before;
+    recovered_before = before;
     opening = opening;
     served = served;
     leaves = leaves;
     given_back = refl;
-    incarnation = is_incarnation fresh header recovered_before served.run.served.run;
+    incarnation = is_incarnation fresh before served.run.served.run;
   }
 
 -- a service as `HasServedBy` describes it crashes safely, whatever its end
@@ -93,9 +92,6 @@ no_records now g new same back none = rw (back, ← same) none
 module _ {keeps : Type 0} {s : ServeOptions} {old new : Medium} {end : Result (Unit {0}) ServeFault} {x : Exchange}
     (h : HasServedBy keeps s old new end x) (no_doubt : h.now.failed ≡ false → h.now.doubt ≡ [])
     (bytes : AreBytes new.now) where
-  abbrev recovered_to : RecoveredTo keeps old h.start.geometry (committed_in h.start)
-  recovered_to = record { header = h.header; recovered_before = h.recovered_before }
-
   recovers_so : h.now.geometry ≡ h.start.geometry → h.now.failed ≡ false → RecoversDurably keeps new h.start.geometry (committed_in h.now)
   recovers_so same works =
       let own = recovers_for keeps h.now (no_doubt works) h.leaves (subst (λ (m : Medium). AreBytes m.now) h.given_back bytes) in
@@ -107,7 +103,7 @@ module _ {keeps : Type 0} {s : ServeOptions} {old new : Medium} {end : Result (U
     geometry = h.start.geometry;
     start = committed_in h.start;
     end = committed_in h.now;
-    before = recovered_to;
+    before = h.recovered_before;
     after = recovers_so same works;
   }
 
@@ -132,8 +128,8 @@ ends_on_device {new} (Ok _) h no_doubt bytes =
 ends_on_device (Err faults.Read) h no_doubt bytes = (h.served.no_workers, (went h no_doubt bytes h.served.run.served.run.segment.geometry h.served.ends.1, h.served.ends.2))
 ends_on_device (Err faults.Exhausted) h no_doubt bytes = (h.served.no_workers, (went h no_doubt bytes h.served.run.served.run.segment.geometry h.served.ends.1, h.served.ends.3))
 ends_on_device (Err faults.Device) h no_doubt bytes =
-    (h.served.no_workers, (h.start.geometry, committed_in h.start, recovered_to h no_doubt bytes, h.served.ends.2))
-ends_on_device (Err faults.Write) h no_doubt bytes = (h.served.no_workers, (h.start.geometry, committed_in h.start, recovered_to h no_doubt bytes))
+    (h.served.no_workers, (h.start.geometry, committed_in h.start, h.recovered_before, h.served.ends.2))
+ends_on_device (Err faults.Write) h no_doubt bytes = (h.served.no_workers, (h.start.geometry, committed_in h.start, h.recovered_before))
 ends_on_device (Err faults.NoWorkers) h no_doubt bytes =
     (h.served.no_workers, served_nothing h no_doubt bytes h.served.ends.0 h.served.ends.1 h.served.ends.2)
 ends_on_device (Err faults.OutOfMemory) h no_doubt bytes =

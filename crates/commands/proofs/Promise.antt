@@ -41,7 +41,7 @@ recovered {slots} {input} {before} {written} {c} h = record {
   geometry = h.geometry;
   start = h.start;
   recovered_before = h.recovered_before;
-  recovered = bytes_recover 0 h.consumed h.sent h.first h.output h.few h.kept h.holds;
+  recovered = bytes_recover 0 h.holds.consumed h.holds.lines h.holds.first h.holds.output h.holds.few h.holds.kept h.holds.holds;
 }
 
 pub leaves_recovered : {keeps : Type 0} {s : ServeOptions} {old new : Medium} (end : Result (Unit {0}) ServeFault) {x : Exchange} → HasServedBy keeps s old new end x

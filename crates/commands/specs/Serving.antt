@@ -112,8 +112,7 @@ pub record HasServedBy (keeps : Type 0) (s : ServeOptions) (old new : Medium) (e
   pub start : CoreView
   pub now : CoreView
   pub fresh : IsJustOpened s.slots start
-  pub header : keeps → HasHeader start.geometry old.now
-  pub recovered_before : keeps → recovered_state start.geometry old.now ≡ Some (committed_in start)
+  pub recovered_before : RecoveredTo keeps old start.geometry (committed_in start)
   pub opening : keeps → OpeningCrashImages old start.medium
   pub served : ServePromise keeps s.workers start (now, end) x
   -- whatever a crash leaves now recovers to the committed state with a prefix of the messages in `doubt`

@@ -3,7 +3,6 @@ use Rattle.std.proofs.Common.{◌≡◌, ℕ, ◌+◌, true, List, [], ◌∷◌
 use Rattle.std.proofs.lemmas.List.{length-append, take-append-le, take-map, take_all}
 use Rattle.std.proofs.KnownBytes.{Appends-trans}
 use Rattle.std.specs.Io.KnownBytes.{Appends}
-use Rattle.checkpoint.proofs.NotRefused.{is_not_refused, has_header}
 use Rattle.affinity.specs.declared.geometry.Geometry.{Geometry}
 use Rattle.disk.specs.Device.{IsCrashImage, Medium}
 use Rattle.disk.specs.Moments.{left_since, moment_number}
@@ -19,11 +18,11 @@ use Rattle.meaning.specs.Serial.{state_after_all}
 use Rattle.scheduler.specs.CoreView.{CoreView}
 use Rattle.serving.specs.Ends.{HasRunLines, HasServed, committed_in}
 use Rattle.serving.specs.Lines.{AreKnown, Line, admitted, admitted_in, has_answer, answer_text, next_ticket, ticketed}
-use Rattle.serving.specs.Logged.{AreInHistory, RecoversToHistory}
-use Rattle.serving.specs.Output.{HoldsSent, MaySendFrom, Start, start_machine}
+use Rattle.serving.specs.Logged.{AreInHistory, HoldsSent, RecoversToHistory}
+use Rattle.serving.specs.Output.{MaySendFrom, Start, start_machine}
 use Rattle.serving.specs.Restart.{BytesRecover}
 use Rattle.serving.proofs.Advancing.{texts_both}
-use Rattle.serving.proofs.Logged.{few_answered, holds_all, holds_logged, written_are_kept}
+use Rattle.serving.proofs.Logged.{few_answered, holds_logged, holds_sent, written_are_kept}
 use Rattle.serving.proofs.Recovering.{bytes_recover}
 
 -- The output for the first lines stays so when more lines are read.
@@ -53,25 +52,9 @@ module _ {keeps : Type 0} {s : Start} {sent later : Option (List ℕ)} {now : Co
             (subst (λ (z : List ℕ). Appends sent later z) m.bytes_are appends));
       }
 
-  pub holds_sent : keeps → (c : List ℕ) → IsCrashImage now.medium c → HoldsSent s later c
-  holds_sent kept c leaves =
-      let h = served_after_sending in
-      let g = s.core.geometry in
-      let log = logged_messages (machine_of (start_machine s)) (events_of h.run.segment.device_events) in
-      let held = holds_all m.idle m.none_in_doubt h.run kept c leaves in
-      let state = state_after_all g (committed_in s.core) (recorded (log ++ held.more)) in
-      record {
-        consumed = h.consumed;
-        first = h.run.first;
-        lines = map answer_text h.sent_lines;
-        output = h.output;
-        few = few_answered m.idle h;
-        history = log;
-        kept = written_are_kept m.idle h;
-        holds = held;
-        header = has_header g c state leaves.bytes held.recovers;
-        not_refused = is_not_refused g c state leaves.bytes held.recovers;
-      }
+  pub sent_is_held : keeps → (c : List ℕ) → IsCrashImage now.medium c
+      → HoldsSent s.core.geometry (committed_in s.core) s.core.slots s.core.next s.input s.before later c
+  sent_is_held = holds_sent m.idle served_after_sending m.none_in_doubt
 
   -- ---- the same after more events, with more lines read
 

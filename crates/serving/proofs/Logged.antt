@@ -6,6 +6,7 @@ use Rattle.std.specs.List.{AllByRecursion, Contains}
 use Rattle.std.proofs.lemmas.Bool.{true≢false}
 use Rattle.std.proofs.lemmas.List.{length-append, length-map, take_all}
 use Rattle.affinity.specs.declared.geometry.Geometry.{Geometry}
+use Rattle.checkpoint.proofs.NotRefused.{is_not_refused, has_header}
 use Rattle.disk.proofs.Moments.{counts_now}
 use Rattle.disk.specs.Device.{IsCrashImage, Medium}
 use Rattle.disk.specs.Moments.{left_since, moment_number}
@@ -29,7 +30,7 @@ use Rattle.meaning.specs.State.{State}
 use Rattle.scheduler.specs.CoreView.{CoreView, core_state_of}
 use Rattle.serving.specs.Ends.{HasRunLines, HasServed, committed_in}
 use Rattle.serving.specs.Lines.{Completed, AreKnown, IsKnown, Line, NoMessage, OutOfRange, Pending, admitted, admitted_in, has_answer, next_ticket, answer_text, ticketed}
-use Rattle.serving.specs.Logged.{AreInHistory, RecoversToHistory, IsInHistory}
+use Rattle.serving.specs.Logged.{AreInHistory, HoldsSent, RecoversToHistory, IsInHistory}
 use Rattle.serving.proofs.Serial.{as_many}
 use Rattle.serving.proofs.Tickets.{ticketed-append}
 
@@ -176,3 +177,23 @@ module _ {keeps : Type 0} {start : MachineView} {new : CoreView} {unsent : List 
   pub written_are_kept : AreInHistory start.core.geometry run_log start.core.next h.consumed (map answer_text h.sent_lines)
   written_are_kept = are_kept start.core.geometry h.run.reply_pairs run_log
       (ticketed start.core.next (admitted start.core.geometry h.consumed)) was_logged start.core.next h.consumed h.sent_lines unsent (λ e is. is) h.known h.have_answers
+
+  -- Whatever a crash leaves at the end of the run holds what was written.
+  pub holds_sent : start.core.doubt ≡ [] → keeps → (c : List ℕ) → IsCrashImage new.medium c
+      → HoldsSent start.core.geometry (committed_in start.core) start.core.slots start.core.next input before written c
+  holds_sent none kept c leaves =
+      let g = start.core.geometry in
+      let held = holds_all idle none h.run kept c leaves in
+      let state = state_after_all g (committed_in start.core) (recorded (run_log ++ held.more)) in
+      record {
+        consumed = h.consumed;
+        first = h.run.first;
+        lines = map answer_text h.sent_lines;
+        output = h.output;
+        few = few_answered;
+        history = run_log;
+        kept = written_are_kept;
+        holds = held;
+        header = has_header g c state leaves.bytes held.recovers;
+        not_refused = is_not_refused g c state leaves.bytes held.recovers;
+      }

@@ -32,23 +32,6 @@ start_machine s = machine_with_jobs s.core (replicate s.places None)
 abbrev pub AppendsBeginning : Option (List ℕ) → Option (List ℕ) → List ℕ → Type 0
 AppendsBeginning old new bytes = (begun : List ℕ) × (rest : List ℕ) × (bytes ≡ begun ++ rest) × Appends old new begun
 
--- A device of these bytes holds what was sent since the start: a line for each of the first lines of the input, and no more of the lines
--- that were consumed lack one than the core has slots. Each message with a ticket among the lines that were answered is in a history, with
--- the reply that was sent. The bytes recover to the state to which the changes of that history lead from the one at the start, perhaps
--- with more of the messages that arrived; and they are not refused.
-pub record HoldsSent (s : Start) (sent : Option (List ℕ)) (bytes : List ℕ) : Type 0 where
-  pub consumed : List (List ℕ)
-  pub first : AreFirst s.input consumed
-  pub lines : List (List ℕ)
-  pub output : Appends s.before sent (joined lines)
-  pub few : length consumed ≤ length lines + s.core.slots
-  pub history : List Replied
-  pub kept : AreInHistory s.core.geometry history s.core.next consumed lines
-  pub holds : RecoversToHistory s.core.geometry (committed_in s.core) (ticketed s.core.next (admitted s.core.geometry consumed)) history
-      bytes
-  pub header : HasHeader s.core.geometry bytes
-  pub not_refused : refused s.core.geometry bytes ≡ None
-
 -- These bytes may be sent where this was sent before. Since the start a legal run has led to the core as it is now, and a crash of its
 -- device leaves what holds all that was logged in that run. What was sent are the first answers of the run, to the lines in order, and the
 -- bytes are the next ones.

@@ -28,8 +28,8 @@ ghost use Rattle.scheduler.specs.CoreView.{CoreView, RecoversNow, core_state_of}
 ghost use Rattle.serving.specs.Ends.{EndsWith, exchange, HasRunLines, HasServed, IsQuiesced, committed_in};
 ghost use Rattle.serving.specs.Progress.{ServingProgress};
 ghost use Rattle.serving.specs.Restart.{BytesRecover};
-ghost use Rattle.serving.specs.Logged.{AreInHistory, RecoversToHistory};
-ghost use Rattle.serving.specs.Output.{HoldsSent, MaySend, MaySendFrom, Start, SendsNoReply, start_machine};
+ghost use Rattle.serving.specs.Logged.{AreInHistory, HoldsSent, RecoversToHistory};
+ghost use Rattle.serving.specs.Output.{MaySend, MaySendFrom, Start, SendsNoReply, start_machine};
 ghost use Rattle.serving.specs.Lines.{AreKnown, Line, admitted, has_answer, answer_text, ticketed};
 ghost use Rattle.incarnations.specs.Machine.{MachineView, machine_of};
 ghost use Rattle.incarnations.specs.DeviceEvents.{DeviceEvent, device_after, events_of};
@@ -127,14 +127,15 @@ pub fn what_was_sent_is_on_the_device<D: Disk>()
         (logged_messages (machine_of start) (events_of h.segment.device_events)) c }
     ensures sent { (start : MachineView) (new : CoreView) (unsent : List Line) (input before written : Option (List ℕ))
         → IsIdle (core_state_of start.core) → (h : HasServed D.keeps start new unsent input before written)
-        → AreInHistory start.core.geometry (logged_messages (machine_of start) (events_of h.run.segment.device_events)) start.core.next h.consumed
-        (map answer_text h.sent_lines) }
+        → AreInHistory start.core.geometry (logged_messages (machine_of start) (events_of h.run.segment.device_events))
+        start.core.next h.consumed (map answer_text h.sent_lines) }
 {}
 
 /// What may be sent is on the device: once it is sent, whatever a crash leaves of the device, as it was then, holds all that was sent.
 pub fn what_may_be_sent_is_on_the_device<D: Disk>()
     ensures { (s : Start) (sent later : Option (List ℕ)) (now : CoreView) (bytes : List ℕ) → MaySend D.keeps (Some s) sent now bytes
-        → D.keeps → Appends sent later bytes → (c : List ℕ) → IsCrashImage now.medium c → HoldsSent s later c }
+        → D.keeps → Appends sent later bytes → (c : List ℕ) → IsCrashImage now.medium c
+        → HoldsSent s.core.geometry (committed_in s.core) s.core.slots s.core.next s.input s.before later c }
 {}
 
 /// What may be sent is recovered: once it is sent, whatever a crash leaves of the device, as it was then, recovers to a state with each

@@ -35,7 +35,7 @@ returns-in-Err-clause-goes_on g c =
     let refused = c.in-Err.ensures in
     subst (λ (f : Fault). LeavesRun keeps service.slots old new (Err f) input before before) (sym c.from-in-Err.ensures)
     (leaves_run service old new _ (exchange input input before before) (g.met.D.Disk.bytes c.args.disk)
-    ((λ k. (refused.refused k, refused.unwritten k)), refl, refl, refused.device) refused.any_moment tt)
+    ((λ k. (refused.refused k, refused.unwritten k)), refl, refl, refused.device) refused.any_moment refl)
 
 pub returns : goal.returns
 returns g c =
@@ -48,7 +48,8 @@ returns g c =
     let streams = exchange (g.R.Read.remaining c.args.r.now) (g.R.Read.remaining c.serve_core-core.new.r) (g.W.Write.contents c.args.w.now)
     (g.W.Write.contents c.serve_core-core.new.w) in
     let fresh = subst (λ (n : ℕ). IsJustOpened n start) c.from.ensures c.in-Ok.ensures.opened in
-    let by = has_served_by keeps service old start now end streams fresh c.in-Ok.ensures.header c.in-Ok.ensures.recovered_before
+    let by = has_served_by keeps service old start now end streams fresh
+    (record { header = c.in-Ok.ensures.header; recovered_before = c.in-Ok.ensures.recovered_before })
     c.in-Ok.ensures.any_moment c.serve_core-core.ensures c.know_recovery.ensures.now in
     let bytes = subst (λ (m : Medium). AreBytes m.now) c.into_disk.ensures (g.met.D.Disk.bytes c.into_disk.result) in
     let given_back : (P : Medium → Result (Unit {0}) Fault → Type 0) → P now.medium (command_result end)
