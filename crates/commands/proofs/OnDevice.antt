@@ -1,5 +1,5 @@
 -- What a service on a device has done, from what its server promises.
-use Rattle.std.proofs.Common.{◌≡◌, ◌∙◌, ℕ, List, [], Some, false, refl, sym, ap, subst, take, arith}
+use Rattle.std.proofs.Common.{◌≡◌, ◌∙◌, ℕ, List, [], Some, None, false, refl, sym, ap, subst, take, replicate, arith}
 use Rattle.std.specs.Prelude.{Result, Ok, Err}
 use Rattle.std.proofs.lemmas.List.{take_all}
 use Rattle.affinity.specs.declared.geometry.Geometry.{Geometry}
@@ -15,11 +15,12 @@ use Rattle.language.specs.declared.Msg.{Msg}
 use Rattle.scheduler.specs.CoreView.{IsJustOpened, CoreView, RecoversNow, core_state_of}
 use Rattle.serving.specs.Ends.{Exchange, HasRunLines, committed_in}
 use Rattle.oplog.specs.Recovery.{records_in}
+use Rattle.serving.specs.Runs.{machine_with_jobs}
 use Rattle.serving.specs.Serve.{ServePromise}
 use Rattle.serving.specs.declared.server.ServeFault.{ServeFault}
 use Rattle.serving.specs.declared.server.ServeFault.TheVariants as faults
 use Rattle.commands.specs.Faults.{command_result}
-use Rattle.commands.specs.Serving.{EndsOnDevice, CrashesSafely, HasServedBy, HasServedNothing, IsIncarnation, RecoversDurably, RecoveredTo, ServedDevice, machine_at_start}
+use Rattle.commands.specs.Serving.{EndsOnDevice, CrashesSafely, HasServedBy, HasServedNothing, IsIncarnation, RecoversDurably, RecoveredTo, ServedDevice}
 use Rattle.commands.specs.declared.serve_options.ServeOptions.{ServeOptions}
 
 -- no message is in a core that was just opened
@@ -31,13 +32,13 @@ is_idle slots c just = record { none_waits = just.none_waits; none_held = rw (ju
 -- from what is known of the core before and after: the service is an incarnation of its device
 module _ (keeps : Type 0) (s : ServeOptions) (old : Medium) (start now : CoreView) (end : Result (Unit {0}) ServeFault) (x : Exchange) where
   pub is_incarnation : IsJustOpened s.slots start → RecoveredTo keeps old start.geometry (committed_in start)
-      → {consumed : List (List ℕ)} (run : HasRunLines keeps (machine_at_start s start) now x.input consumed) → keeps
+      → {consumed : List (List ℕ)} (run : HasRunLines keeps (machine_with_jobs start (replicate s.workers None)) now x.input consumed) → keeps
       → IsIncarnation s start old now.medium run.segment.device_events
   is_incarnation fresh before run keep = λ k within. record {
     header = before.header keep;
     recovered_before = before.recovered_before keep;
     idle = is_idle s.slots start fresh;
-    legal = run.segment.legal;
+    legal = run.segment.leads.legal;
     crash = λ c left. run.crash keep k c within left;
   }
 
@@ -116,7 +117,7 @@ pub ends_on_device : {keeps : Type 0} {s : ServeOptions} {old new : Medium} (end
     → (h : HasServedBy keeps s old new end x) → (h.now.failed ≡ false → h.now.doubt ≡ []) → AreBytes new.now
     → EndsOnDevice keeps s old new (command_result end) x
 ends_on_device {new} (Ok _) h no_doubt bytes =
-    let same = h.served.run.served.run.segment.geometry in (
+    let same = h.served.run.served.run.segment.leads.geometry in (
       h.served.no_workers,
       (
         went h no_doubt bytes same h.served.ends.1,
@@ -125,8 +126,8 @@ ends_on_device {new} (Ok _) h no_doubt bytes =
         h.served.ends.3,
       ),
     )
-ends_on_device (Err faults.Read) h no_doubt bytes = (h.served.no_workers, (went h no_doubt bytes h.served.run.served.run.segment.geometry h.served.ends.1, h.served.ends.2))
-ends_on_device (Err faults.Exhausted) h no_doubt bytes = (h.served.no_workers, (went h no_doubt bytes h.served.run.served.run.segment.geometry h.served.ends.1, h.served.ends.3))
+ends_on_device (Err faults.Read) h no_doubt bytes = (h.served.no_workers, (went h no_doubt bytes h.served.run.served.run.segment.leads.geometry h.served.ends.1, h.served.ends.2))
+ends_on_device (Err faults.Exhausted) h no_doubt bytes = (h.served.no_workers, (went h no_doubt bytes h.served.run.served.run.segment.leads.geometry h.served.ends.1, h.served.ends.3))
 ends_on_device (Err faults.Device) h no_doubt bytes =
     (h.served.no_workers, (h.start.geometry, committed_in h.start, h.recovered_before, h.served.ends.2))
 ends_on_device (Err faults.Write) h no_doubt bytes = (h.served.no_workers, (h.start.geometry, committed_in h.start, h.recovered_before))

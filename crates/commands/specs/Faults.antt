@@ -15,17 +15,12 @@ use Rattle.commands.specs.declared.faults.Fault.TheVariants.{Read, Write, Geomet
 
 -- the exit status: 3 for want of memory, 2 for arguments with which nothing can be served, 1 for any other fault
 abbrev pub status_of : Fault → ℕ
-status_of Read = 1
-status_of Write = 1
-status_of GeometryOutOfRange = 2
 status_of OutOfMemory = 3
-status_of Device = 1
-status_of NoWorkers = 2
-status_of NoTicketLeft = 1
 status_of (Format formatting.OutOfMemory) = 3
-status_of (Format _) = 1
 status_of (Open opening.OutOfMemory) = 3
-status_of (Open _) = 1
+status_of GeometryOutOfRange = 2
+status_of NoWorkers = 2
+status_of _ = 1
 
 -- The exit status where the arguments could not be read: 3 for want of memory, and else that of wrong arguments, since one of them is not
 -- UTF-8.

@@ -16,7 +16,7 @@ use Rattle.disk.specs.declared.torn.Torn.{Torn}
 use Rattle.journal.specs.Opening.{IsLeftByRefusal, OpeningCrashImages}
 use Rattle.histories.specs.Incarnations.{Ran}
 use Rattle.incarnations.specs.Incarnations.{IsRunIncarnation}
-use Rattle.incarnations.specs.Machine.{MachineView, machine_of}
+use Rattle.incarnations.specs.Machine.{machine_of}
 use Rattle.incarnations.specs.DeviceEvents.{DeviceEvent, device_after, events_of}
 use Rattle.language.specs.Lines.{lines}
 use Rattle.meaning.specs.Output.{IsBeginning, WritesOutput}
@@ -90,20 +90,19 @@ EndsOnDevice keeps s old new (Err _) x = ⊥
 
 -- ---- the run that led to it
 
--- the machine of a core that was just opened: each of the workers has a place, and all are free
-abbrev pub machine_at_start : ServeOptions → CoreView → MachineView
-machine_at_start s start = machine_with_jobs start (replicate s.workers None)
-
 -- For every k, the service with this run is an incarnation of the device, in the sense of the law of incarnations: the device was
--- opened, the run was made, and the crash came at any moment since event number k ended.
+-- opened, the run was made, and the crash came at any moment since event number k ended. `machine` is that of a core that was just opened:
+-- each of the workers has a place, and all are free.
 abbrev pub IsIncarnation : ServeOptions → CoreView → Medium → Medium → List DeviceEvent → Type 0
-IsIncarnation s start old new device_events = (k : ℕ) → k ≤ length device_events → IsRunIncarnation (record {
-  at_open = old;
-  at_end = new;
-  earliest_crash = moment_number (device_after start.medium (take k device_events));
-  geometry = start.geometry;
-  incarnation = Ran (machine_of (machine_at_start s start)) (events_of device_events) k;
-}) (machine_of (machine_at_start s start)) (events_of device_events) k
+IsIncarnation s start old new device_events =
+    let machine = machine_of (machine_with_jobs start (replicate s.workers None)) in
+    (k : ℕ) → k ≤ length device_events → IsRunIncarnation (record {
+      at_open = old;
+      at_end = new;
+      earliest_crash = moment_number (device_after start.medium (take k device_events));
+      geometry = start.geometry;
+      incarnation = Ran machine (events_of device_events) k;
+    }) machine (events_of device_events) k
 
 -- The device was opened, with no message in its core. Then the server ran and came to this end. A legal run led to what was written, and a
 -- crash meanwhile leaves what a crash of that run may leave.

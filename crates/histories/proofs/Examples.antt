@@ -1,5 +1,5 @@
 -- Worked examples, by computing: what a small machine answers to lists of steps, what is logged in them, and what a crash may leave.
-use Rattle.std.proofs.Common.{◌≡◌, ℕ, zero, suc, true, false, List, [], ◌∷◌, ◌++◌, take, refl, ap, sym, ◌∙◌, get_or, inl, ⊎_elim, arith, lit≤}
+use Rattle.std.proofs.Common.{◌≡◌, map, ℕ, zero, suc, true, false, List, [], ◌∷◌, ◌++◌, take, refl, ap, sym, ◌∙◌, get_or, inl, ⊎_elim, arith, lit≤}
 use Rattle.std.specs.Prelude.{◌-◌, ◌^◌, None, IsPermutation}
 use Rattle.std.proofs.lemmas.Bool.{true≢false}
 use Rattle.std.proofs.lemmas.List.Sorted.{Contains-permutation, IsPermutation-middle, length_permutation}
@@ -22,7 +22,7 @@ use Rattle.histories.specs.declared.outcomes.CoreFault.TheVariants as faults
 use Rattle.histories.specs.declared.outcomes.PointRefusal.TheVariants as points
 use Rattle.histories.specs.CoreState.{Entry, CoreState}
 use Rattle.histories.specs.Events.{MachineState, Empty, Event, IsAllowed, apply_step, fail_step, recorded, touches_device}
-use Rattle.histories.specs.Runs.{IsLegal, IsRun, appended_messages, end_state, answered_changes}
+use Rattle.histories.specs.Runs.{IsLegal, appended_messages, end_state, answered_changes}
 use Rattle.histories.specs.Crash.{IsLeftSince, IsLogAfter, in_doubt}
 use Rattle.histories.specs.Laws.{full_hands, DoubtIsPrefixOfRan, IsSerialHistory}
 use Rattle.histories.specs.Incarnations.{Unopened, Ran, IsLeftByIncarnations}
@@ -373,15 +373,12 @@ legal_where_no_device_fails w [] = tt
 legal_where_no_device_fails w (s ∷ ss) =
     (record { to_write = 3; at_most = lit≤ tt; does = refl }, legal_where_no_device_fails (apply_step small 3 w s).1 ss)
 
-a_run_of_two_messages : IsRun small (one_hand 1 empty) (after (one_hand 1 empty) (whole (MakeVol 0 0) ++ whole (Create 0 0 0)))
-    (whole (MakeVol 0 0) ++ whole (Create 0 0 0)) (done 0 ++ done 1)
-    (events_of (one_hand 1 empty) (whole (MakeVol 0 0) ++ whole (Create 0 0 0)))
-a_run_of_two_messages = record {
-  legal = legal_where_no_device_fails (one_hand 1 empty) (whole (MakeVol 0 0) ++ whole (Create 0 0 0));
-  of_steps = refl;
-  with_outcomes = refl;
-  ends = refl;
-}
+abbrev two_messages : List Event
+two_messages = events_of (one_hand 1 empty) (whole (MakeVol 0 0) ++ whole (Create 0 0 0))
+
+a_run_of_two_messages : IsLegal small (one_hand 1 empty) two_messages × (map (λ (e : Event). e.outcome) two_messages ≡ done 0 ++ done 1)
+    × (end_state (one_hand 1 empty) two_messages ≡ after (one_hand 1 empty) (whole (MakeVol 0 0) ++ whole (Create 0 0 0)))
+a_run_of_two_messages = (legal_where_no_device_fails (one_hand 1 empty) (whole (MakeVol 0 0) ++ whole (Create 0 0 0)), refl, refl)
 
 a_question_is_no_answered_change : answered_changes (one_hand 1 empty)
     (events_of (one_hand 1 empty) (whole AskSummary ++ (whole (MakeVol 0 0) ++ whole (MakeVol 0 0)))) ≡ MakeVol 0 0 ∷ []

@@ -1,5 +1,5 @@
 -- Statement for operators: Legal runs: lists of events, each of them allowed in the machine state that the ones before it left.
-use Rattle.std.specs.Prelude.{◌≡◌, ℕ, Bool, ◌||◌, List, [], ◌∷◌, ◌++◌, map, take, if◌then◌else◌}
+use Rattle.std.specs.Prelude.{ℕ, Bool, ◌||◌, List, [], ◌∷◌, ◌++◌, take, if◌then◌else◌}
 use Rattle.affinity.specs.declared.geometry.Geometry.{Geometry}
 use Rattle.language.specs.declared.Msg.{Msg}
 use Rattle.language.specs.declared.Reply.{Reply}
@@ -73,10 +73,3 @@ answered_messages w (event ∷ events) = answered_at w.core event.outcome ++ ans
 -- the changes that were carried out among the messages that a run answers
 abbrev pub answered_changes : MachineState → List Event → List Msg
 answered_changes w events = recorded (answered_messages w events)
-
--- A run of the steps `asked`, from `old` to `new`: the events have these steps, in order, and the outcomes `came`.
-pub record IsRun (g : Geometry) (old new : MachineState) (asked : List Step) (came : List Outcome) (events : List Event) : Type 0 where
-  pub legal : IsLegal g old events
-  pub of_steps : map (λ e. e.step) events ≡ asked
-  pub with_outcomes : map (λ e. e.outcome) events ≡ came
-  pub ends : end_state old events ≡ new

@@ -6,7 +6,7 @@ use Rattle.std.proofs.lemmas.List.{map-append, take_more, take_more_set}
 use Rattle.affinity.specs.declared.geometry.Geometry.{Geometry}
 use Rattle.disk.proofs.Moments.{only_now}
 use Rattle.disk.specs.Device.{IsCrashImage, Medium}
-use Rattle.disk.specs.Moments.{CrashImagesAre, left_since, moment_number}
+use Rattle.disk.specs.Moments.{left_since, moment_number}
 use Rattle.journal.specs.Journal.{RecoversWithPrefix}
 use Rattle.histories.proofs.Arrivals.{answered_by_ticket}
 use Rattle.histories.proofs.Crashes.{left_is_committed}
@@ -15,14 +15,14 @@ use Rattle.histories.proofs.Joining.{runs_join}
 use Rattle.histories.proofs.Runs.{run_follows}
 use Rattle.histories.proofs.Sound.{run_sound}
 use Rattle.histories.specs.Crash.{IsLogAfter, in_doubt}
-use Rattle.histories.specs.Events.{Event, MachineState, IsAllowed, touches_device}
-use Rattle.histories.specs.Laws.{AreUnrelated, IsSoundCoreState}
-use Rattle.histories.specs.Runs.{IsLegal, IsRun, appended_messages, end_state}
+use Rattle.histories.specs.Events.{Event, MachineState, touches_device}
+use Rattle.histories.specs.Laws.{AreUnrelated, IsJoined, IsSoundCoreState}
+use Rattle.histories.specs.Runs.{IsLegal, appended_messages, end_state}
 use Rattle.histories.specs.CoreState.{held}
 use Rattle.histories.specs.declared.outcomes.Outcome.{Outcome}
 use Rattle.histories.specs.declared.outcomes.Step.{Step}
 use Rattle.incarnations.proofs.Events.{some_of}
-use Rattle.incarnations.specs.Machine.{MachineView, HasRun, HasDeviceEvents, machine_of}
+use Rattle.incarnations.specs.Machine.{LeadTo, MachineView, HasRun, HasDeviceEvents, RecoversFromRun, machine_of}
 use Rattle.incarnations.specs.DeviceEvents.{AreSafe, DeviceEvent, RecoversForRun, AgreeWithDevice, device_after, events_of}
 use Rattle.incarnations.specs.Steps.{IsMachineStep}
 use Rattle.language.specs.declared.Msg.{Msg}
@@ -108,30 +108,9 @@ module _ (g : Geometry) where
         };
       }
 
-  -- These events led to this machine, and a crash at any moment of an event leaves what it may.
-  pub record HasPassed (w : MachineState) (m : Medium) (device_events : List DeviceEvent) (new : MachineView) : Type 0 where
-    pub legal : IsLegal g w (events_of device_events)
-    pub safe : AreSafe g w m device_events
-    pub ends : end_state w (events_of device_events) ≡ machine_of new
-    pub geometry : new.core.geometry ≡ g
-    pub device : device_after m device_events ≡ new.core.medium
-
-  -- So a crash of the whole run leaves what it may, if the core at its end keeps what `Core::know_recovery` promises.
-  pub left_since_event : {w : MachineState} {m : Medium} {device_events : List DeviceEvent} {new : MachineView} → HasPassed w m device_events new → IsSoundCoreState g w.core
-      → (new.core.failed ≡ false → new.core.doubt ≡ []) → RecoversNow new.core → (k : ℕ) (c : List ℕ) → k ≤ length device_events
-      → left_since new.core.medium (moment_number (device_after m (take k device_events))) c → RecoversForRun g w (events_of device_events) k c
-  left_since_event {w} {m} {device_events} {new} h sound none recovers k c le since =
-      let ends : EndsWith w m device_events = λ b left.
-      subst (λ (x : MachineState). RecoversWithPrefix g x.core.committed (in_doubt x.core []) b) (sym h.ends)
-      (subst (λ (y : Geometry). RecoversWithPrefix y (core_state_of new.core).committed (in_doubt (core_state_of new.core) []) b) h.geometry
-      (some_of new.core.geometry (core_state_of new.core).committed new.core.failed new.core.doubt [] b none
-      (recovers b (subst (λ (x : Medium). IsCrashImage x b) h.device left)))) in
-      recovers_for_run w (events_of device_events) k c h.legal sound (from_event m device_events h.safe ends k le
-      (subst (λ (x : Medium). left_since x (moment_number (device_after m (take k device_events))) c) (sym h.device) since))
-
   -- ---- events behind others
 
-  pub safe-append : (w : MachineState) (m : Medium) (xs ys : List DeviceEvent) → AreSafe g w m xs
+  safe-append : (w : MachineState) (m : Medium) (xs ys : List DeviceEvent) → AreSafe g w m xs
       → AreSafe g (end_state w (events_of xs)) (device_after m xs) ys → AreSafe g w m (xs ++ ys)
   safe-append w m [] ys h k = k
   safe-append w m (s ∷ xs) ys h k = (h.0, safe-append s.event.state_after s.medium xs ys h.1 k)
@@ -147,57 +126,80 @@ agrees-push : (w : MachineState) (m : Medium) (device_events : List DeviceEvent)
 agrees-push w m [] device_event agrees counts quiet = (counts, quiet, tt)
 agrees-push w m (s ∷ device_events) device_event agrees counts quiet = (agrees.0, agrees.1, agrees-push s.event.state_after s.medium device_events device_event agrees.2 counts quiet)
 
+pub none_lead : (keeps : Type 0) (m : MachineView) → LeadTo keeps m m []
+none_lead keeps m = record { legal = tt; ends = refl; geometry = refl; device = refl; any_moment = λ kept. tt }
+
+-- a step as an event
+abbrev pub step_event : {keeps : Type 0} {old new : MachineView} {step : Step} {outcome : Outcome} → IsMachineStep keeps old new step outcome → DeviceEvent
+step_event {new} {step} {outcome} k =
+    record { event = record { step = step; outcome = outcome; device_failed = k.device_failed; state_after = machine_of new }; medium = new.core.medium }
+
+pub one_leads : {keeps : Type 0} {old new : MachineView} {step : Step} {outcome : Outcome} → (k : IsMachineStep keeps old new step outcome)
+    → LeadTo keeps old new (step_event k ∷ [])
+one_leads k = record { legal = (k.allowed, tt); ends = refl; geometry = k.geometry; device = refl; any_moment = λ kept. (k.any_moment kept, tt) }
+
+-- Where the first events end, others go on.
+module _ {keeps : Type 0} {old mid new : MachineView} {xs ys : List DeviceEvent} (h : LeadTo keeps old mid xs) (k : LeadTo keeps mid new ys) where
+  pub events_join : IsJoined old.core.geometry (machine_of old) (events_of xs) (events_of ys)
+  events_join = runs_join old.core.geometry (machine_of old) (events_of xs) (events_of ys) h.legal
+      (subst (λ (x : MachineState). IsLegal old.core.geometry x (events_of ys)) (sym h.ends)
+      (subst (λ (y : Geometry). IsLegal y (machine_of mid) (events_of ys)) h.geometry k.legal))
+
+  pub lead_on : LeadTo keeps old new (xs ++ ys)
+  lead_on =
+      let g = old.core.geometry in
+      let w = machine_of old in
+      let both : events_of (xs ++ ys) ≡ events_of xs ++ events_of ys = map-append (λ (s : DeviceEvent). s.event) xs ys in
+      record {
+        legal = subst (IsLegal g w) (sym both) events_join.legal;
+        ends = ap (λ (es : List Event). end_state w es) both ∙ events_join.end_state_is ∙ ap (λ (x : MachineState). end_state x (events_of ys)) h.ends ∙ k.ends;
+        geometry = k.geometry ∙ h.geometry;
+        device = after-append old.core.medium xs ys ∙ ap (λ (m : Medium). device_after m ys) h.device ∙ k.device;
+        any_moment = λ kept. safe-append g w old.core.medium xs ys (h.any_moment kept)
+            (subst (λ (x : MachineState). AreSafe g x (device_after old.core.medium xs) ys) (sym h.ends)
+            (subst (λ (m : Medium). AreSafe g (machine_of mid) m ys) (sym h.device)
+            (subst (λ (y : Geometry). AreSafe y (machine_of mid) mid.core.medium ys) h.geometry (k.any_moment kept))));
+      }
+
 pub no_device_events : (keeps : Type 0) (m : MachineView) → HasDeviceEvents keeps m m [] []
-no_device_events keeps m = record {
-  device_events = [];
-  run = record { legal = tt; of_steps = refl; with_outcomes = refl; ends = refl };
-  device = refl;
-  agrees = tt;
-  geometry = refl;
-  any_moment = λ kept. tt;
-}
+no_device_events keeps m = record { device_events = []; leads = none_lead keeps m; of_steps = refl; with_outcomes = refl; agrees = tt }
 
 pub more_device_events : {keeps : Type 0} {old now new : MachineView} {asked : List Step} {came : List Outcome} {step : Step} {outcome : Outcome}
     → HasDeviceEvents keeps old now asked came → IsMachineStep keeps now new step outcome
     → (touches_device (core_state_of now.core) step ≡ false → new.core.medium ≡ now.core.medium)
     → HasDeviceEvents keeps old new (asked ++ step ∷ []) (came ++ outcome ∷ [])
-more_device_events {old} {now} {new} {asked} {came} {step} {outcome} h k quiet =
-    let g = old.core.geometry in
-    let event : Event = record { step = step; outcome = outcome; device_failed = k.device_failed; state_after = machine_of new } in
-    let device_event : DeviceEvent = record { event = event; medium = new.core.medium } in
+more_device_events {old} {new} {step} {outcome} h k quiet =
+    let device_event = step_event k in
     let events = events_of h.device_events in
-    let device = device_after old.core.medium h.device_events in
-    let here : end_state (machine_of old) events ≡ machine_of now = h.run.ends in
-    let allowed : IsAllowed g (end_state (machine_of old) events) event =
-    subst (λ (x : MachineState). IsAllowed g x event) (sym here)
-    (subst (λ (y : Geometry). IsAllowed y (machine_of now) event) h.geometry k.allowed) in
-    let joined = runs_join g (machine_of old) events (event ∷ []) h.run.legal (allowed, tt) in
-    let pushed : events_of (h.device_events ++ device_event ∷ []) ≡ events ++ event ∷ [] = map-append (λ (s : DeviceEvent). s.event) h.device_events (device_event ∷ []) in
-    let run : IsRun g (machine_of old) (machine_of new) (asked ++ step ∷ []) (came ++ outcome ∷ []) (events ++ event ∷ []) = record {
-      legal = joined.legal;
-      of_steps = map-append (λ (e : Event). e.step) events (event ∷ []) ∙ ap (λ (l : List Step). l ++ step ∷ []) h.run.of_steps;
-      with_outcomes = map-append (λ (e : Event). e.outcome) events (event ∷ []) ∙ ap (λ (l : List Outcome). l ++ outcome ∷ []) h.run.with_outcomes;
-      ends = joined.end_state_is;
-    } in
+    let pushed : events_of (h.device_events ++ device_event ∷ []) ≡ events ++ device_event.event ∷ [] = map-append (λ (s : DeviceEvent). s.event) h.device_events (device_event ∷ []) in
     record {
       device_events = h.device_events ++ device_event ∷ [];
-      run = subst (IsRun g (machine_of old) (machine_of new) (asked ++ step ∷ []) (came ++ outcome ∷ [])) (sym pushed) run;
-      device = after-append old.core.medium h.device_events (device_event ∷ []);
+      leads = lead_on h.leads (one_leads k);
+      of_steps = ap (map (λ (e : Event). e.step)) pushed ∙ map-append (λ (e : Event). e.step) events (device_event.event ∷ []) ∙ ap (λ (l : List Step). l ++ step ∷ []) h.of_steps;
+      with_outcomes = ap (map (λ (e : Event). e.outcome)) pushed ∙ map-append (λ (e : Event). e.outcome) events (device_event.event ∷ [])
+          ∙ ap (λ (l : List Outcome). l ++ outcome ∷ []) h.with_outcomes;
       agrees = agrees-push (machine_of old) old.core.medium h.device_events device_event h.agrees
-          (subst (λ (m : Medium). CountsFailure k.device_failed m.faults new.core.medium.faults) (sym h.device) k.failures)
-          (λ none. quiet (ap (λ (x : MachineState). touches_device x.core step) (sym here) ∙ none) ∙ sym h.device);
-      geometry = k.geometry ∙ h.geometry;
-      any_moment = λ kept. safe-append g (machine_of old) old.core.medium h.device_events (device_event ∷ []) (h.any_moment kept) (
-        subst (λ (x : MachineState). CrashImagesAre device new.core.medium (RecoversWithPrefix g x.core.committed (in_doubt x.core (event ∷ [])))) (sym here)
-            (subst (λ (y : Geometry). CrashImagesAre device new.core.medium (RecoversWithPrefix y (core_state_of now.core).committed (in_doubt (core_state_of now.core) (event ∷ []))))
-            h.geometry
-            (subst (λ (m : Medium). CrashImagesAre m new.core.medium (RecoversWithPrefix now.core.geometry (core_state_of now.core).committed
-            (in_doubt (core_state_of now.core) (event ∷ [])))) (sym h.device) (k.any_moment kept))),
-        tt,
-      );
+          (subst (λ (m : Medium). CountsFailure k.device_failed m.faults new.core.medium.faults) (sym h.leads.device) k.failures)
+          (λ none. quiet (ap (λ (x : MachineState). touches_device x.core step) (sym h.leads.ends) ∙ none) ∙ sym h.leads.device);
     }
 
 -- ---- the whole run
+
+-- A crash of the whole run leaves what it may, if the core at its end keeps what `Core::know_recovery` promises.
+pub left_since_event : {keeps : Type 0} {old new : MachineView} {device_events : List DeviceEvent} → LeadTo keeps old new device_events
+    → IsSoundCoreState old.core.geometry (core_state_of old.core) → (new.core.failed ≡ false → new.core.doubt ≡ []) → (keeps → RecoversNow new.core) → keeps
+    → RecoversFromRun old new device_events
+left_since_event {old} {new} {device_events} h sound none recovers kept k c le since =
+    let g = old.core.geometry in
+    let w = machine_of old in
+    let m = old.core.medium in
+    let ends : EndsWith g w m device_events = λ b left.
+    subst (λ (x : MachineState). RecoversWithPrefix g x.core.committed (in_doubt x.core []) b) (sym h.ends)
+    (subst (λ (y : Geometry). RecoversWithPrefix y (core_state_of new.core).committed (in_doubt (core_state_of new.core) []) b) h.geometry
+    (some_of new.core.geometry (core_state_of new.core).committed new.core.failed new.core.doubt [] b none
+    (recovers kept b (subst (λ (x : Medium). IsCrashImage x b) h.device left)))) in
+    recovers_for_run g w (events_of device_events) k c h.legal sound (from_event g m device_events (h.any_moment kept) ends k le
+    (subst (λ (x : Medium). left_since x (moment_number (device_after m (take k device_events))) c) (sym h.device) since))
 
 each_state_apart : (g : Geometry) (events : List Event) → AllByRecursion (λ (event : Event). IsSoundCoreState g event.state_after.core) events
     → AllByRecursion (λ (w : MachineState). AreUnrelated g (held w.core)) (map (λ e. e.state_after) events)
@@ -207,18 +209,17 @@ each_state_apart g (event ∷ events) sound = (sound.0.apart, each_state_apart g
 pub has_run : {keeps : Type 0} {old new : MachineView} {asked : List Step} {came : List Outcome}
     → IsSoundCoreState old.core.geometry (core_state_of old.core) → HasDeviceEvents keeps old new asked came
     → (new.core.failed ≡ false → new.core.doubt ≡ []) → (keeps → RecoversNow new.core) → HasRun keeps old new asked came
-has_run {old} {new} sound h none recovers =
+has_run {old} sound h none recovers =
     let g = old.core.geometry in
     let w = machine_of old in
     let events = events_of h.device_events in
     record {
       ran = h;
-      crash = λ kept. left_since_event g {new = new}
-          (record { legal = h.run.legal; safe = h.any_moment kept; ends = h.run.ends; geometry = h.geometry; device = h.device }) sound none (recovers kept);
-      apart = (sound.apart, each_state_apart g events (run_sound g w events h.run.legal sound));
-      in_log_order = sym (run_follows g w events h.run.legal sound).reply_pairs;
+      crash = left_since_event h.leads sound none recovers;
+      apart = (sound.apart, each_state_apart g events (run_sound g w events h.leads.legal sound));
+      in_log_order = sym (run_follows g w events h.leads.legal sound).reply_pairs;
       in_ticket_order = λ idle reply is. contains_in _ reply
-          (answered_by_ticket g w events h.run.legal sound idle reply (in_contained _ reply is));
+          (answered_by_ticket g w events h.leads.legal sound idle reply (in_contained _ reply is));
     }
 
 -- The run of the first i steps is extended by the next one; `hands` and `lent` are the same hands by two names.

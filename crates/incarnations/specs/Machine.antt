@@ -5,7 +5,7 @@ use Rattle.affinity.specs.declared.geometry.Geometry.{Geometry}
 use Rattle.disk.specs.Moments.{moment_number, left_since}
 use Rattle.histories.specs.Events.{Event, Hand, MachineState, Empty, Job, Result}
 use Rattle.histories.specs.Laws.{AreUnrelated, IsIdle, IsSoundCoreState, ticket_replies}
-use Rattle.histories.specs.Runs.{IsLegal, IsRun, answered, arrived, end_state, logged_messages}
+use Rattle.histories.specs.Runs.{IsLegal, answered, arrived, end_state, logged_messages}
 use Rattle.histories.specs.CoreState.{CoreState, entries, held}
 use Rattle.histories.specs.declared.outcomes.Outcome.{Outcome}
 use Rattle.histories.specs.declared.outcomes.Step.{Step}
@@ -59,25 +59,36 @@ pub record HoldsJobs (g : Geometry) (w : CoreState) (hands : List HandContent) :
 
 -- ---- runs
 
+-- These events are a legal run from one machine to the other. A crash at any moment of an event leaves the state committed before it, with
+-- a prefix of what the event appends or, once the device has failed, of `doubt`.
+pub record LeadTo (keeps : Type 0) (old new : MachineView) (device_events : List DeviceEvent) : Type 0 where
+  pub legal : IsLegal old.core.geometry (machine_of old) (events_of device_events)
+  pub ends : end_state (machine_of old) (events_of device_events) ≡ machine_of new
+  pub geometry : new.core.geometry ≡ old.core.geometry
+  pub device : device_after old.core.medium device_events ≡ new.core.medium
+  pub any_moment : keeps → AreSafe old.core.geometry (machine_of old) old.core.medium device_events
+
+-- For every k: a crash at any moment since event number k ended leaves a device that recovers to the state committed after some event from
+-- k on, with a prefix of what the next event was to append (of `doubt`, if the device had failed).
+abbrev pub RecoversFromRun : MachineView → MachineView → List DeviceEvent → Type 0
+RecoversFromRun old new device_events = (k : ℕ) (c : List ℕ) → k ≤ length device_events
+    → left_since new.core.medium (moment_number (device_after old.core.medium (take k device_events))) c
+    → RecoversForRun old.core.geometry (machine_of old) (events_of device_events) k c
+
 -- The steps `asked` had the outcomes `came`, and led from the machine `old` to `new`.
 pub record HasDeviceEvents (keeps : Type 0) (old new : MachineView) (asked : List Step) (came : List Outcome) : Type 0 where
   pub device_events : List DeviceEvent
-  pub run : IsRun old.core.geometry (machine_of old) (machine_of new) asked came (events_of device_events)
-  pub device : device_after old.core.medium device_events ≡ new.core.medium
+  pub leads : LeadTo keeps old new device_events
+  pub of_steps : map (λ e. e.step) (events_of device_events) ≡ asked
+  pub with_outcomes : map (λ e. e.outcome) (events_of device_events) ≡ came
   -- each event reports whether the device failed in it, and left the device alone where its step touches none
   pub agrees : AgreeWithDevice (machine_of old) old.core.medium device_events
-  pub geometry : new.core.geometry ≡ old.core.geometry
-  -- what a crash leaves at each moment of each event
-  pub any_moment : keeps → AreSafe old.core.geometry (machine_of old) old.core.medium device_events
 
 -- What a machine promises of a run of steps, sensible or not.
 pub record HasRun (keeps : Type 0) (old new : MachineView) (asked : List Step) (came : List Outcome) : Type 0 where
   pub ran : HasDeviceEvents keeps old new asked came
-  -- For every k: a crash at any moment since event number k ended leaves a device that recovers to the state committed after some event
-  -- from k on, with a prefix of what the next event was to append (of `doubt`, if the device had failed).
-  pub crash : keeps → (k : ℕ) (c : List ℕ) → k ≤ length ran.device_events
-      → left_since new.core.medium (moment_number (device_after old.core.medium (take k ran.device_events))) c
-      → RecoversForRun old.core.geometry (machine_of old) (events_of ran.device_events) k c
+  -- what a crash meanwhile leaves
+  pub crash : keeps → RecoversFromRun old new ran.device_events
   -- In each core state, the first one too, no two of the messages that are held are at related places.
   pub apart : AllByRecursion (λ (w : MachineState). AreUnrelated old.core.geometry (held w.core))
       (machine_of old ∷ map (λ e. e.state_after) (events_of ran.device_events))

@@ -100,9 +100,9 @@ serves_taken {keeps} {start} {old} {new} {known} line idle t s =
     let before = ticket_before keeps start old idle s (old.core.next, reply) (in_contained s.reply_pairs (old.core.next, reply) there) in
     absurd (omega (arith, before, is)) in
     takes_in s new line known
-    (subst (λ (y : Geometry). RunsBetween keeps old new (ticketed old.core.next (admitted_in y o)) []) s.segment.geometry t.segment)
+    (subst (λ (y : Geometry). RunsBetween keeps old new (ticketed old.core.next (admitted_in y o)) []) s.segment.leads.geometry t.segment)
     (known_anyway start.core.geometry s.reply_pairs old.core.next o known fresh
-    (subst (λ (y : Geometry). IsKnown y [] old.core.next o known) s.segment.geometry t.is_known))
+    (subst (λ (y : Geometry). IsKnown y [] old.core.next o known) s.segment.leads.geometry t.is_known))
 
 -- ---- what follows from a ticket and from a refusal
 

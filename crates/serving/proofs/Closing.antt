@@ -122,9 +122,9 @@ module _ {keeps : Type 0} {s : Start} {p : SessionView} (u : SessionInvariant ke
         let none : full_hands (machine_of now).hands ≡ 0 =
         ap (λ (l : List (Option JobView)). full_hands (map hand_in (map lent_hand l))) none_lent ∙ all_empty (length p.dispatch_seat.lent) in
         record {
-          none_in_flight = ap (λ (w : MachineState). w.core.in_flight) (sym r.ends)
-              ∙ last_none_out start.core.geometry (machine_of start) (events_of r.device_events) r.legal (none_in_flight (core_state_of start.core) u.idle)
-              (ap (λ (w : MachineState). full_hands w.hands) r.ends ∙ none);
+          none_in_flight = ap (λ (w : MachineState). w.core.in_flight) (sym r.leads.ends)
+              ∙ last_none_out start.core.geometry (machine_of start) (events_of r.device_events) r.leads.legal (none_in_flight (core_state_of start.core) u.idle)
+              (ap (λ (w : MachineState). full_hands w.hands) r.leads.ends ∙ none);
           none_logged = answered;
         }
 

@@ -7,14 +7,13 @@ use Rattle.affinity.specs.declared.geometry.Geometry.{Geometry}
 use Rattle.disk.specs.Device.{IsCrashImage, Medium}
 use Rattle.disk.specs.Moments.{left_since, moment_number}
 use Rattle.histories.specs.CoreState.{Replied}
-use Rattle.histories.specs.Events.{Event, recorded}
+use Rattle.histories.specs.Events.{Event}
 use Rattle.histories.proofs.Lists.{all_join}
-use Rattle.histories.specs.Runs.{answered, logged_messages}
+use Rattle.histories.specs.Runs.{logged_messages}
 use Rattle.incarnations.specs.Machine.{machine_of}
 use Rattle.incarnations.specs.DeviceEvents.{DeviceEvent, device_after, events_of}
 use Rattle.language.specs.Grammar.{message_of}
 use Rattle.meaning.specs.Output.{joined}
-use Rattle.meaning.specs.Serial.{state_after_all}
 use Rattle.scheduler.specs.CoreView.{CoreView}
 use Rattle.serving.specs.Ends.{HasRunLines, HasServed, committed_in}
 use Rattle.serving.specs.Lines.{AreKnown, Line, admitted, admitted_in, has_answer, answer_text, next_ticket, ticketed}
@@ -73,7 +72,7 @@ module _ {keeps : Type 0} {s : Start} {sent later : Option (List ℕ)} {now : Co
         let n = length before in
         let many = ap length went_on ∙ length-append before events_since in
         let first : take n events ≡ before = ap (take n) went_on ∙ take-append-le n before events_since (omega arith) ∙ take_all n before (omega arith) in
-        let at_send : device_after s.core.medium (take n events) ≡ now.medium = ap (λ (es : List DeviceEvent). device_after s.core.medium es) first ∙ h.run.segment.device in
+        let at_send : device_after s.core.medium (take n events) ≡ now.medium = ap (λ (es : List DeviceEvent). device_after s.core.medium es) first ∙ h.run.segment.leads.device in
         let log = logged_messages w (events_of before) in
         let first_events : take n (events_of events) ≡ events_of before = take-map (λ (e : DeviceEvent). e.event) n events ∙ ap events_of first in
         let held : RecoversToHistory g (committed_in s.core) (ticketed s.core.next (admitted g (m.served.consumed ++ lines_since))) log c =

@@ -139,8 +139,8 @@ none_inside w h = record { none_waits = none_long w.waiting (omega (arith, h)); 
 pub passes_count : {keeps : Type 0} {old new : MachineView} {arriving : List Entry} {reply_pairs : List (ℕ × Reply)} → RunsBetween keeps old new arriving reply_pairs
     → unanswered (core_state_of new.core) + length reply_pairs ≡ unanswered (core_state_of old.core) + length arriving
 passes_count {old} {new} p =
-    let run = run_counts old.core.geometry (machine_of old) (events_of p.device_events) p.legal in
-    let ends : unanswered (end_state (machine_of old) (events_of p.device_events)).core ≡ unanswered (core_state_of new.core) = ap (λ (w : MachineState). unanswered w.core) p.ends in
+    let run = run_counts old.core.geometry (machine_of old) (events_of p.device_events) p.leads.legal in
+    let ends : unanswered (end_state (machine_of old) (events_of p.device_events)).core ≡ unanswered (core_state_of new.core) = ap (λ (w : MachineState). unanswered w.core) p.leads.ends in
     let came = ap length p.arrived_are in
     let tells = ap length p.reply_pairs_are in
     omega (arith, run, ends, came, tells)

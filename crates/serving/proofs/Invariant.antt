@@ -427,7 +427,7 @@ module _ (keeps : Type 0) where
               progress = subst (λ (l : List Line). ServingProgress keeps (start_machine s) (machine next) l s.input p.unread p.drained s.before h.whole)
                   (ap (λ (l : List Line). h.waiting ++ l) (sym same)) (quiet_goes_on k.segment h.progress);
             };
-            why = subst (λ (y : Geometry). IsReadEnd y core p.unread p.drained remaining read_end) h.progress.serving.segment.geometry why;
+            why = subst (λ (y : Geometry). IsReadEnd y core p.unread p.drained remaining read_end) h.progress.serving.segment.leads.geometry why;
           };
         }
 

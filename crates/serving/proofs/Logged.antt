@@ -61,7 +61,7 @@ module _ {keeps : Type 0} {start : MachineView} {new : CoreView} {input : Option
   holds_since : (k : ℕ) (c : List ℕ) → RecoversForRun g w events k c → RecoversToHistory g (committed_in start.core) (arrived events) (logged_messages w (take k events)) c
   holds_since k c s =
       let after = s.left.after in
-      let found = left_in_order g r.segment.legal idle none s.left.is_log in
+      let found = left_in_order g r.segment.leads.legal idle none s.left.is_log in
       let some = take found.0 (end_state w (take after events)).core.ran in
       let first = went_first w events k after s.left.since in
       let whole : logged_messages w (take after events) ++ some ≡ logged_messages w (take k events) ++ (first.0 ++ some) =
@@ -70,7 +70,7 @@ module _ {keeps : Type 0} {start : MachineView} {new : CoreView} {input : Option
       let serial : IsSerialHistory g (committed_in start.core) (arrived events) (logged_messages w (take after events) ++ some) =
       subst (λ (es : List Entry). IsSerialHistory g (committed_in start.core) es (logged_messages w (take after events) ++ some)) all
       (still_serial g (committed_in start.core) (arrived (take after events)) (arrived (drop after events)) (logged_messages w (take after events) ++ some)
-      (subst AreAscending (sym all) (run_ascending g w events r.segment.legal)) found.1) in
+      (subst AreAscending (sym all) (run_ascending g w events r.segment.leads.legal)) found.1) in
       record {
         more = first.0 ++ some;
         serial = subst (IsSerialHistory g (committed_in start.core) (arrived events)) whole serial;
@@ -92,7 +92,7 @@ module _ {keeps : Type 0} {start : MachineView} {new : CoreView} {input : Option
   holds_all kept c leaves =
       let n = length device_events in
       let at_end : device_after start.core.medium (take n device_events) ≡ new.medium =
-      ap (λ (ss : List DeviceEvent). device_after start.core.medium ss) (take_all n device_events (omega arith)) ∙ r.segment.device in
+      ap (λ (ss : List DeviceEvent). device_after start.core.medium ss) (take_all n device_events (omega arith)) ∙ r.segment.leads.device in
       let since : left_since new.medium (moment_number (device_after start.core.medium (take n device_events))) c =
       subst (λ (m : Medium). left_since new.medium (moment_number m) c) (sym at_end) (counts_now new.medium (moment_number new.medium) c (omega arith) leaves) in
       let long : length events ≤ n = omega (arith, length-map device_events (λ (s : DeviceEvent). s.event)) in
@@ -152,15 +152,15 @@ module _ {keeps : Type 0} {start : MachineView} {new : CoreView} {unsent : List 
       let events = events_of p.device_events in
       let came = arrived events in
       let one = said_of (answered_messages w events) (ticket, reply)
-      (subst (IsIn (ticket, reply)) (sym (run_replies g w events p.legal ∙ p.reply_pairs_are)) (in_contained h.run.reply_pairs (ticket, reply) told)) in
+      (subst (IsIn (ticket, reply)) (sym (run_replies g w events p.leads.legal ∙ p.reply_pairs_are)) (in_contained h.run.reply_pairs (ticket, reply) told)) in
       let its : IsIn (ticket, one.0) came =
       in_contained came (ticket, one.0)
-      (holds_of (λ (a : Replied). Contains came (entry a)) (answered_messages w events) (answered_came g w events p.legal idle) (ticket, one.0, reply) one.1) in
+      (holds_of (λ (a : Replied). Contains came (entry a)) (answered_messages w events) (answered_came g w events p.leads.legal idle) (ticket, one.0, reply) one.1) in
       let same : one.0 ≡ m = ap (λ (e : Entry). e.1)
-      (one_message came (run_ascending g w events p.legal) (ticket, one.0) (ticket, m) its
+      (one_message came (run_ascending g w events p.leads.legal) (ticket, one.0) (ticket, m) its
       (subst (IsIn (ticket, m)) (sym p.arrived_are) asks) refl) in
       contains_in run_log (ticket, m, reply)
-      (subst (λ (l : List Replied). IsIn (ticket, m, reply) l) (sym (logged_begins g w events p.legal idle))
+      (subst (λ (l : List Replied). IsIn (ticket, m, reply) l) (sym (logged_begins g w events p.leads.legal idle))
       (in_left (ticket, m, reply) (answered_messages w events) (end_state w events).core.logged
       (subst (λ (m' : Msg). IsIn (ticket, m', reply) (answered_messages w events)) same one.1)))
 

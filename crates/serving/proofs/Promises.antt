@@ -1,6 +1,6 @@
 -- What a server that has come so far promises of its whole call: the run that led to its output.
 use Rattle.std.proofs.Common.{◌≡◌, ◌≤◌, ℕ, Bool, false, List, [], ◌++◌, length, Option, Some, None, ap, refl, sym, ◌∙◌, append-nil, replicate, arith}
-use Rattle.std.specs.Prelude.{Ok, Err}
+use Rattle.std.specs.Prelude.{IfSome, Ok, Err}
 use Rattle.std.specs.Io.KnownBytes.{IsAtEnd}
 use Rattle.std.proofs.lemmas.Option.{none-some, same_Some}
 use Rattle.histories.specs.Laws.{IsIdle}
@@ -13,14 +13,15 @@ use Rattle.serving.specs.Progress.{ServingProgress}
 use Rattle.serving.specs.Lines.{Line}
 use Rattle.reorder_buffer.specs.ReorderBuffer.{can_retire}
 use Rattle.serving.specs.Runs.{machine_with_jobs}
-use Rattle.serving.specs.Serve.{AreAll, HasRunWith, IsWrittenAtEnd}
+use Rattle.serving.specs.Serve.{HasRunWith, IsWrittenAtEnd}
 use Rattle.serving.specs.declared.server.ServeFault.TheVariants as faults
 use Rattle.serving.proofs.Served.{has_served}
 use Rattle.serving.proofs.Starting.{starts}
 
 -- ---- the run
 
-all_taken : (input unread : Option (List ℕ)) (ended : Bool) (consumed : List (List ℕ)) → TakesLines input unread ended consumed → IsAtEnd unread → AreAll input consumed
+all_taken : (input unread : Option (List ℕ)) (ended : Bool) (consumed : List (List ℕ)) → TakesLines input unread ended consumed → IsAtEnd unread
+    → IfSome input (λ bytes. lines bytes ≡ consumed)
 all_taken None unread ended consumed t at_end = tt
 all_taken (Some input) None ended consumed t at_end = absurd (none-some t.0 t.1)
 all_taken (Some input) (Some bs) ended consumed t at_end =

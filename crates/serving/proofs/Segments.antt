@@ -15,6 +15,7 @@ use Rattle.histories.specs.declared.outcomes.PointRefusal.{PointRefusal}
 use Rattle.histories.specs.declared.outcomes.Step.{Step}
 use Rattle.histories.specs.declared.outcomes.Step.TheVariants as steps
 use Rattle.incarnations.proofs.Events.{core_holds, core_step}
+use Rattle.incarnations.proofs.Running.{one_leads, step_event}
 use Rattle.incarnations.specs.Machine.{MachineView, machine_of}
 use Rattle.incarnations.specs.Steps.{IsCoreStep, IsMachineStep}
 use Rattle.incarnations.specs.declared.hands.HandContent.{HandContent}
@@ -31,21 +32,14 @@ counted true old new h = h
 counted false old new h = h ∙ sym (add-zero old)
 
 module _ {keeps : Type 0} {old new : MachineView} {step : Step} {outcome : Outcome} (k : IsMachineStep keeps old new step outcome) where
-  abbrev event : Event
-  event = record { step = step; outcome = outcome; device_failed = k.device_failed; state_after = machine_of new }
-
   -- A step is a segment of a run.
   pub step_passes : RunsBetween keeps old new (arrives step outcome) (answers outcome)
   step_passes = record {
-    device_events = record { event = event; medium = new.core.medium } ∷ [];
-    legal = (k.allowed, tt);
-    ends = refl;
-    geometry = k.geometry;
+    device_events = step_event k ∷ [];
+    leads = one_leads k;
     arrived_are = append-nil (arrives step outcome);
     reply_pairs_are = append-nil (answers outcome);
-    device = refl;
     failures = counted k.device_failed old.core.medium.faults new.core.medium.faults k.failures;
-    any_moment = λ kept. (k.any_moment kept, tt);
   }
 
 -- A segment in which no message arrives and none is answered leaves what is known of the lines as it was.
@@ -79,7 +73,7 @@ run_fails g old (event ∷ events) legal failed = run_fails g event.state_after 
 pub still_failed : {keeps : Type 0} {old new : MachineView} {arriving : List Entry} {reply_pairs : List (ℕ × Reply)} → RunsBetween keeps old new arriving reply_pairs
     → old.core.failed ≡ true → new.core.failed ≡ true
 still_failed {old} p failed =
-    ap (λ (w : MachineState). w.core.failed) (sym p.ends) ∙ run_fails old.core.geometry (machine_of old) _ p.legal failed
+    ap (λ (w : MachineState). w.core.failed) (sym p.leads.ends) ∙ run_fails old.core.geometry (machine_of old) _ p.leads.legal failed
 
 -- A step of the core alone, in which nothing arrives or is answered, and nothing is dispatched or collected.
 pub core_is_quiet : {keeps : Type 0} {old new : CoreView} {hands : List HandContent} (step : Step) (outcome : Outcome) → IsCoreStep keeps old new step outcome

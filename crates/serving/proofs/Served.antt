@@ -27,7 +27,7 @@ use Rattle.scheduler.specs.CoreView.{RecoversNow, core_state_of}
 use Rattle.serving.specs.Ends.{AreFirst, AreServed, EndsWith, HasServed, IsQuiesced, committed_in, exchange}
 use Rattle.serving.specs.Progress.{ServingProgress, IsServing}
 use Rattle.serving.specs.Session.{IsReadEnd}
-use Rattle.serving.specs.Lines.{AreKnown, Line, admitted, next_ticket, answer_text, ticketed}
+use Rattle.serving.specs.Lines.{Line, admitted, next_ticket, answer_text, ticketed}
 use Rattle.incarnations.specs.Machine.{MachineView, machine_of}
 use Rattle.incarnations.specs.DeviceEvents.{events_of}
 use Rattle.serving.specs.declared.server.ServeFault.TheVariants as faults
@@ -49,11 +49,11 @@ module _ (keeps : Type 0) (start now : MachineView) (idle : IsIdle (core_state_o
 
   module _ {consumed : List (List ℕ)} {sent_lines unsent : List Line} (s : IsServing keeps start now consumed sent_lines unsent) where
     by_line : by_ticket (arrived (events_of s.segment.device_events)) ≡ ticketed start.core.next (admitted g consumed)
-    by_line = arrived_by_ticket g (machine_of start) (events_of s.segment.device_events) s.segment.legal ∙ s.segment.arrived_are
+    by_line = arrived_by_ticket g (machine_of start) (events_of s.segment.device_events) s.segment.leads.legal ∙ s.segment.arrived_are
 
     serial_pairs : HaveSerialReplies g s.reply_pairs x start.core.next (admitted g consumed)
     serial_pairs p is = inr (subst (λ (es : List Entry). IsIn p (serial_replies g x es)) by_line
-        (answered_by_ticket g (machine_of start) (events_of s.segment.device_events) s.segment.legal sound idle p
+        (answered_by_ticket g (machine_of start) (events_of s.segment.device_events) s.segment.leads.legal sound idle p
         (subst (IsIn p) (sym s.segment.reply_pairs_are) is)))
 
     -- Each ticket that was answered comes before the next one to be given.
@@ -65,9 +65,9 @@ module _ (keeps : Type 0) (start now : MachineView) (idle : IsIdle (core_state_o
 
     leads : IsIdle (core_state_of now.core) → committed_in now.core ≡ state_after_lines g x consumed
     leads ends =
-        let e = s.segment.ends in
+        let e = s.segment.leads.ends in
         ap (λ (w : MachineState). w.core.committed) (sym e)
-        ∙ committed_by_ticket g (machine_of start) (events_of s.segment.device_events) s.segment.legal sound idle (subst (λ (w : MachineState). IsIdle w.core) (sym e) ends)
+        ∙ committed_by_ticket g (machine_of start) (events_of s.segment.device_events) s.segment.leads.legal sound idle (subst (λ (w : MachineState). IsIdle w.core) (sym e) ends)
         ∙ ap (λ (es : List Entry). state_after_all g x (messages_of es)) by_line
         ∙ ap (state_after_all g x) (messages-ticketed start.core.next (admitted g consumed))
         ∙ asked_leads_there g x consumed
@@ -175,16 +175,14 @@ module _ (keeps : Type 0) (start now : MachineView) (idle : IsIdle (core_state_o
       → (now.core.failed ≡ false → now.core.doubt ≡ []) → (keeps → RecoversNow now.core) → length unsent ≤ start.core.slots
       → ServingProgress keeps start now unsent input unread ended before written → HasServed keeps start now.core unsent input before written
   has_served {unsent} {input} {unread} {ended} none recovers few h =
-      let p = h.serving.segment in
       record {
         consumed = h.consumed;
         run = record {
           first = first_taken input unread ended h.consumed h.takes;
           hands = now.hands;
           reply_pairs = h.serving.reply_pairs;
-          segment = p;
-          crash = λ kept. left_since_event g {new = now}
-              (record { legal = p.legal; safe = p.any_moment kept; ends = p.ends; geometry = p.geometry; device = p.device }) sound none (recovers kept);
+          segment = h.serving.segment;
+          crash = left_since_event h.serving.segment.leads sound none recovers;
         };
         sent_lines = h.sent_lines;
         known = h.serving.known;

@@ -17,7 +17,6 @@ use Rattle.language.specs.Messages.{is_in_range}
 use Rattle.language.specs.declared.Msg.{Msg}
 use Rattle.language.specs.declared.Reply.{Reply}
 use Rattle.scheduler.specs.CoreView.{core_state_of}
-use Rattle.serving.proofs.Counting.{run_counts}
 use Rattle.serving.proofs.Inside.{few_inside}
 use Rattle.serving.specs.Progress.{ServingProgress}
 use Rattle.serving.specs.Lines.{Line}
@@ -41,7 +40,7 @@ run_slots g old (event ∷ events) legal =
 pub passes_slots : {keeps : Type 0} {old new : MachineView} {arriving : List Entry} {reply_pairs : List (ℕ × Reply)} → RunsBetween keeps old new arriving reply_pairs
     → new.core.slots ≡ old.core.slots
 passes_slots {old} p =
-    ap (λ (w : MachineState). w.core.slots) (sym p.ends) ∙ run_slots old.core.geometry (machine_of old) (events_of p.device_events) p.legal
+    ap (λ (w : MachineState). w.core.slots) (sym p.leads.ends) ∙ run_slots old.core.geometry (machine_of old) (events_of p.device_events) p.leads.legal
 
 -- ---- a slot for the next
 

@@ -3,6 +3,7 @@ use Rattle.std.proofs.Common.{◌≡◌, ℕ, zero, suc, false, List, [], Option
 use Rattle.std.specs.Io.KnownBytes.{Appends}
 use Rattle.std.proofs.lemmas.Option.{none-some}
 use Rattle.histories.specs.Laws.{IsSoundCoreState}
+use Rattle.incarnations.proofs.Running.{none_lead}
 use Rattle.incarnations.specs.Machine.{MachineView, IsHandOf, hand_at, ticket_in}
 use Rattle.incarnations.specs.declared.hands.HandContent.TheVariants as has
 use Rattle.meaning.specs.Progress.{TakesLines}
@@ -31,14 +32,10 @@ module _ (keeps : Type 0) (start : MachineView) where
   pub stays : RunsBetween keeps start start [] []
   stays = record {
     device_events = [];
-    legal = tt;
-    ends = refl;
-    geometry = refl;
+    leads = none_lead keeps start;
     arrived_are = refl;
     reply_pairs_are = refl;
-    device = refl;
     failures = sym (add-zero start.core.medium.faults);
-    any_moment = λ kept. tt;
   }
 
   pub starts : (input before : Option (List ℕ)) → ServingProgress keeps start start [] input input false before before

@@ -51,5 +51,5 @@ run_next g old (event ∷ events) legal =
 pub passes_next : {keeps : Type 0} {old new : MachineView} {arriving : List Entry} {reply_pairs : List (ℕ × Reply)} → RunsBetween keeps old new arriving reply_pairs
     → new.core.next ≡ next_ticket old.core.next (messages_of arriving)
 passes_next {old} p =
-    ap (λ (w : MachineState). w.core.next) (sym p.ends) ∙ run_next old.core.geometry (machine_of old) (events_of p.device_events) p.legal
+    ap (λ (w : MachineState). w.core.next) (sym p.leads.ends) ∙ run_next old.core.geometry (machine_of old) (events_of p.device_events) p.leads.legal
     ∙ ap (λ (es : List Entry). next_ticket old.core.next (messages_of es)) p.arrived_are

@@ -1,11 +1,9 @@
 -- Statement for operators: What a server has done when it ends.
-use Rattle.std.specs.Prelude.{◌≡◌, ◌≤◌, ◌+◌, ◌-◌, ◌^◌, ℕ, true, false, List, [], ◌∷◌, ◌++◌, map, take, length, count_by, Option, Some, None, Result, Ok, Err}
+use Rattle.std.specs.Prelude.{◌≡◌, ◌≤◌, ◌-◌, ◌^◌, ℕ, true, false, List, [], ◌∷◌, ◌++◌, map, length, Option, Some, IfSome, Result, Ok, Err}
 use Rattle.std.specs.Io.KnownBytes.{Appends, IsAtEnd}
 use Rattle.affinity.specs.declared.geometry.Geometry.{Geometry}
-use Rattle.disk.specs.Moments.{left_since, moment_number}
 use Rattle.histories.specs.Laws.{IsIdle}
-use Rattle.incarnations.specs.Machine.{MachineView, machine_of}
-use Rattle.incarnations.specs.DeviceEvents.{RecoversForRun, device_after, events_of}
+use Rattle.incarnations.specs.Machine.{MachineView, RecoversFromRun}
 use Rattle.incarnations.specs.declared.hands.HandContent.{HandContent}
 use Rattle.language.specs.Grammar.{message_of}
 use Rattle.language.specs.Lines.{lines}
@@ -48,8 +46,7 @@ pub record ServesLinesBefore (g : Geometry) (start now : State) (input written :
 
 -- the lines are the first of the input, where it is known
 abbrev pub AreFirst : Option (List ℕ) → List (List ℕ) → Type 0
-AreFirst None consumed = Unit {0}
-AreFirst (Some input) consumed = (more : List (List ℕ)) × (lines input ≡ consumed ++ more)
+AreFirst input consumed = IfSome input (λ bytes. (more : List (List ℕ)) × (lines bytes ≡ consumed ++ more))
 
 -- A legal run (`segment`) leads from the machine at the start to the core at the end. The messages that arrive in it are those in range
 -- among `consumed`, which are the first lines of the input; they take the tickets in order.
@@ -61,10 +58,8 @@ pub record HasRunLines (keeps : Type 0) (start : MachineView) (new : CoreView)
   pub reply_pairs : List (ℕ × Reply)
   pub segment : RunsBetween keeps start (record { core = new; hands = hands })
       (ticketed start.core.next (admitted start.core.geometry consumed)) reply_pairs
-  -- For every k: a crash at any moment since event number k ended leaves a device that recovers to a state which the run may leave.
-  pub crash : keeps → (k : ℕ) (c : List ℕ) → k ≤ length segment.device_events
-      → left_since new.medium (moment_number (device_after start.core.medium (take k segment.device_events))) c
-      → RecoversForRun start.core.geometry (machine_of start) (events_of segment.device_events) k c
+  -- what a crash meanwhile leaves
+  pub crash : keeps → RecoversFromRun start (record { core = new; hands = hands }) segment.device_events
 
 -- A legal run (`HasRunLines`) led to the output: each reply there is to a line that is no message or is out of range, or to a message that
 -- the run answered. `unsent` are the lines that were read and have no reply in the output, never more than the core has slots. `known`:

@@ -1,21 +1,17 @@
 -- Statement for engineers: What a server may send, and when.
-use Rattle.std.specs.Prelude.{◌≡◌, ◌⊎◌, ◌+◌, ◌≤◌, ℕ, List, [], ◌++◌, length, map, replicate, Option, Some, None}
+use Rattle.std.specs.Prelude.{◌≡◌, ◌⊎◌, ℕ, List, [], ◌++◌, map, replicate, Option, None, IsSomeAnd}
 use Rattle.std.specs.Io.KnownBytes.{Appends}
 use Rattle.std.specs.List.{AllByRecursion}
-use Rattle.checkpoint.specs.Header.{HasHeader}
-use Rattle.checkpoint.specs.Refusals.{refused}
 use Rattle.histories.specs.Laws.{IsIdle}
-use Rattle.histories.specs.CoreState.{Replied}
 use Rattle.incarnations.specs.Machine.{MachineView}
 use Rattle.language.specs.Replies.{no_message, reply_line}
 use Rattle.language.specs.declared.Refusal.TheVariants.{Range}
 use Rattle.language.specs.declared.Reply.TheVariants.{Refused}
 use Rattle.meaning.specs.Output.{joined}
 use Rattle.scheduler.specs.CoreView.{CoreView, core_state_of}
-use Rattle.serving.specs.Ends.{AreFirst, HasServed, committed_in}
-use Rattle.serving.specs.Lines.{Completed, HaveAnswers, Line, Pending, admitted, answer_text, ticketed}
+use Rattle.serving.specs.Ends.{HasServed}
+use Rattle.serving.specs.Lines.{Completed, HaveAnswers, Line, Pending, answer_text}
 use Rattle.serving.specs.Runs.{machine_with_jobs}
-use Rattle.serving.specs.Logged.{AreInHistory, RecoversToHistory}
 
 -- what the call of a server begins with: its core, how many jobs may be lent at once, its input, and what was sent before
 pub record Start : Type 0 where
@@ -47,8 +43,7 @@ pub record MaySendFrom (keeps : Type 0) (s : Start) (sent : Option (List ℕ)) (
 
 -- Before a call has begun there is no start, and nothing may be sent.
 abbrev pub MaySend : Type 0 → Option Start → Option (List ℕ) → CoreView → List ℕ → Type 0
-MaySend keeps None sent now bytes = ⊥
-MaySend keeps (Some s) sent now bytes = MaySendFrom keeps s sent now bytes
+MaySend keeps start sent now bytes = IsSomeAnd start (λ s. MaySendFrom keeps s sent now bytes)
 
 -- These bytes are lines, each of which reports that a line is no message, or that a message is out of range.
 abbrev pub SendsNoReply : List ℕ → Type 0

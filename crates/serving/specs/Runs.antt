@@ -1,10 +1,10 @@
 -- Statement for operators: A segment of a server's run: its machine (the core; its hands are the bench's places, with the jobs lent there)
 -- before and after, and what a crash meanwhile may leave.
 use Rattle.std.specs.Prelude.{◌≡◌, ◌+◌, ℕ, List, [], map, length, count_by, Option, Some, None}
-use Rattle.histories.specs.Runs.{IsLegal, answered, arrived, end_state}
+use Rattle.histories.specs.Runs.{answered, arrived}
 use Rattle.histories.specs.CoreState.{Entry, CoreState, held}
-use Rattle.incarnations.specs.Machine.{MachineView, HoldsJobs, machine_of}
-use Rattle.incarnations.specs.DeviceEvents.{AreSafe, DeviceEvent, device_after, events_of}
+use Rattle.incarnations.specs.Machine.{LeadTo, MachineView, HoldsJobs}
+use Rattle.incarnations.specs.DeviceEvents.{DeviceEvent, events_of}
 use Rattle.incarnations.specs.declared.hands.HandContent.{HandContent}
 use Rattle.incarnations.specs.declared.hands.HandContent.TheVariants as has
 use Rattle.language.specs.declared.Reply.{Reply}
@@ -32,17 +32,11 @@ unanswered w = length w.waiting + length (held w)
 -- the device as it left it.
 pub record RunsBetween (keeps : Type 0) (old new : MachineView) (arriving : List Entry) (reply_pairs : List (ℕ × Reply)) : Type 0 where
   pub device_events : List DeviceEvent
-  pub legal : IsLegal old.core.geometry (machine_of old) (events_of device_events)
-  pub ends : end_state (machine_of old) (events_of device_events) ≡ machine_of new
-  pub geometry : new.core.geometry ≡ old.core.geometry
+  pub leads : LeadTo keeps old new device_events
   pub arrived_are : arrived (events_of device_events) ≡ arriving
   pub reply_pairs_are : answered (events_of device_events) ≡ reply_pairs
-  pub device : device_after old.core.medium device_events ≡ new.core.medium
   -- the device failed as often as the events say
   pub failures : new.core.medium.faults ≡ old.core.medium.faults + count_by (λ e. e.device_failed) (events_of device_events)
-  -- At each crash point of each event a crash leaves the state committed before it, with a prefix of what the event appends or, once the
-  -- device has failed, of `doubt`.
-  pub any_moment : keeps → AreSafe old.core.geometry (machine_of old) old.core.medium device_events
 
 -- ---- what the hands have
 

@@ -1,7 +1,6 @@
 -- Statement for operators: What a call of `serve` promises, by its result.
-use Rattle.std.specs.Prelude.{◌≡◌, ◌≢◌, ℕ, false, List, [], ◌++◌, Option, Some, None, Result, Ok, Err, OnOk, replicate}
+use Rattle.std.specs.Prelude.{◌≡◌, ◌≢◌, ℕ, false, List, [], ◌++◌, Option, None, IfSome, Result, Ok, Err, OnOk, replicate}
 use Rattle.std.specs.Io.KnownBytes.{Appends}
-use Rattle.affinity.specs.declared.geometry.Geometry.{Geometry}
 use Rattle.incarnations.specs.Machine.{MachineView}
 use Rattle.language.specs.Lines.{lines}
 use Rattle.oplog.specs.Recovery.{records_in}
@@ -14,11 +13,6 @@ use Rattle.serving.specs.declared.server.ServeError.{ServeError}
 use Rattle.serving.specs.declared.server.ServeFault.{ServeFault}
 use Rattle.serving.specs.declared.server.ServeFault.TheVariants as faults
 
--- the lines are all of the input, where it is known
-abbrev pub AreAll : Option (List ℕ) → List (List ℕ) → Type 0
-AreAll None consumed = Unit {0}
-AreAll (Some input) consumed = lines input ≡ consumed
-
 -- `all` is what the output holds; where it failed, what it would hold with all that was to be written: it holds a beginning of that.
 abbrev pub IsWrittenAtEnd : Result (Unit {0}) ServeFault → Option (List ℕ) → Option (List ℕ) → Option (List ℕ) → Type 0
 IsWrittenAtEnd (Err faults.Write) before written all =
@@ -28,7 +22,7 @@ IsWrittenAtEnd _ before written all = written ≡ all
 -- Which of the lines that were consumed have no reply in the output. At `Ok` none, and they are all of the input. Where the device failed,
 -- those from the first line without a reply on. Where the output failed, it is left open which. At any other end none.
 abbrev pub AreUnsent : Result (Unit {0}) ServeFault → Option (List ℕ) → List (List ℕ) → List Line → Type 0
-AreUnsent (Ok _) input consumed unsent = (unsent ≡ []) × AreAll input consumed
+AreUnsent (Ok _) input consumed unsent = (unsent ≡ []) × IfSome input (λ bytes. lines bytes ≡ consumed)
 AreUnsent (Err faults.Device) input consumed unsent = can_retire unsent ≡ false
 AreUnsent (Err faults.Write) input consumed unsent = Unit {0}
 AreUnsent (Err _) input consumed unsent = unsent ≡ []

@@ -1,5 +1,5 @@
 -- Inner: The state of a session, its invariant since its start, and how a call moves it.
-use Rattle.std.specs.Prelude.{◌≡◌, ◌+◌, ◌≤◌, ◌-◌, ◌^◌, ℕ, Bool, true, false, List, [], ◌++◌, length, map, Option, Some, None, IfSome, IsTrue, MatchResult, Result, Ok, Err}
+use Rattle.std.specs.Prelude.{◌≡◌, ◌+◌, ◌≤◌, ◌-◌, ◌^◌, ℕ, Bool, true, false, List, [], ◌++◌, length, map, Option, Some, None, IfSome, IsSomeAnd, IsTrue, MatchResult, Result, Ok, Err}
 use Rattle.std.specs.Io.KnownBytes.{IsAtEnd}
 use Rattle.affinity.specs.declared.geometry.Geometry.{Geometry}
 use Rattle.histories.specs.Laws.{IsIdle}
@@ -113,8 +113,7 @@ pub record SessionInvariant (keeps : Type 0) (s : Start) (p : SessionView) : Typ
 
 -- `SessionInvariant` from this start. Before a call of `serve` has begun there is no start, and no session satisfies this.
 abbrev pub SessionInvariantFrom : Type 0 → Option Start → SessionView → Type 0
-SessionInvariantFrom keeps None p = ⊥
-SessionInvariantFrom keeps (Some s) p = SessionInvariant keeps s p
+SessionInvariantFrom keeps start p = IsSomeAnd start (λ s. SessionInvariant keeps s p)
 
 -- A call of `serve` may begin at this start: no message is in the core or its `doubt`, the device has not failed, and the reorder buffer is
 -- empty and has room for no more lines than the core has slots.
