@@ -23,7 +23,7 @@ use Rattle.arguments.proofs.Asking.{no_mistake, two_names}
 use Rattle.arguments.proofs.Options.{in_range}
 use Rattle.arguments.specs.Arguments.{Asks, AsksFormat, AsksOutOfRange, RunsNoCommand, AsksPlain, AsksShow, IsReason, command_of, findings, numbers_at}
 use Rattle.commands.specs.declared.faults.Fault.{Fault}
-use Rattle.commands.specs.declared.faults.Fault.TheVariants.{Read, Write, GeometryOutOfRange, OutOfMemory, Device, NoWorkers, NoTicketLeft, Format as ByFormat, Open as ByOpen}
+use Rattle.commands.specs.declared.faults.Fault.TheVariants.{Write, OutOfMemory, Format as ByFormat, Open as ByOpen}
 use Rattle.arguments.specs.declared.parsing.ArgumentRefusal.{ArgumentRefusal}
 use Rattle.arguments.specs.declared.parsing.ArgumentRefusal.TheVariants as refusal
 use Rattle.arguments.specs.declared.parsing.Request.{Request}
@@ -38,28 +38,17 @@ refused_by refusal.GeometryOutOfRange = inl refl
 
 pub helped : (arguments : List Text) (request : Request) (end : Result (Unit {0}) Fault) (x : Exchange)
     → RunsNoCommand arguments → Asks arguments request → Ends request end x → ExitsHelp (status_at end) × (x.remaining ≡ x.input)
-helped arguments (Plain g) end x no_service asks ends = absurd (no_service asks.0)
-helped arguments (Format path g) end x no_service asks ends = absurd (no_service asks.0)
-helped arguments (Show path) end x no_service asks ends = absurd (no_service asks.0)
-helped arguments (Serve path s) end x no_service asks ends = absurd (no_service asks.0)
 helped arguments (Help text) (Ok _) x no_service asks ends = (inl refl, ends)
 helped arguments (Help text) (Err Write) x no_service asks ends = (inr (inl refl), ends)
 helped arguments (Help text) (Err fault) x no_service asks ends = absurd ends
+helped arguments request end x no_service asks ends = absurd (no_service asks.0)
 
 -- ---- no fault has status 0
 
 pub is_reported : (fault : Fault) → status_of fault ≡ 0 → ⊥
-is_reported Read none = cc
-is_reported Write none = cc
-is_reported GeometryOutOfRange none = cc
-is_reported OutOfMemory none = cc
-is_reported Device none = cc
-is_reported NoWorkers none = cc
-is_reported NoTicketLeft none = cc
 is_reported (ByFormat formatting.OutOfMemory) none = cc
-is_reported (ByFormat fault) none = cc
 is_reported (ByOpen opening.OutOfMemory) none = cc
-is_reported (ByOpen fault) none = cc
+is_reported fault none = cc
 
 pub is_refused : (why : ArgumentRefusal) → status_of_refusal why ≡ 0 → ⊥
 is_refused (refusal.Words error) none = cc
@@ -72,14 +61,14 @@ pub nothing_written : (g : Geometry) (input old : Option (List ℕ)) → WritesO
 nothing_written g None old = tt
 nothing_written g (Some bytes) old = ([], Appends-nil old, (0, refl))
 
-pub exits_for_memory : {P : Result (Unit {0}) Fault → Type 0} {arguments : List Text} (why : ArgumentRefusal) → findings arguments ≡ [] → IsReason arguments why
+pub exits_for_memory : {P : Result (Unit {0}) Fault → Type 0} (arguments : List Text) (why : ArgumentRefusal) → findings arguments ≡ [] → IsReason arguments why
     → (AsksOutOfRange arguments → ⊥) → P (Err OutOfMemory) → Exits (status_of_refusal why) P
-exits_for_memory refusal.OutOfMemory none reason fits h = (Err OutOfMemory, refl, h)
-exits_for_memory refusal.GeometryOutOfRange none reason fits h = absurd (fits reason)
-exits_for_memory {arguments} (refusal.Words error) none reason fits h = absurd (no_mistake arguments error none reason)
+exits_for_memory arguments refusal.OutOfMemory none reason fits h = (Err OutOfMemory, refl, h)
+exits_for_memory arguments refusal.GeometryOutOfRange none reason fits h = absurd (fits reason)
+exits_for_memory arguments (refusal.Words error) none reason fits h = absurd (no_mistake arguments error none reason)
 
-pub numbers_fit : (g : Geometry) {arguments : List Text} → numbers_of g ≡ numbers_at (command_of arguments) → AsksOutOfRange arguments → ⊥
-numbers_fit g are wrong = wrong.3 (subst AreInRange are (in_range g))
+pub numbers_fit : (g : Geometry) (arguments : List Text) → numbers_of g ≡ numbers_at (command_of arguments) → AsksOutOfRange arguments → ⊥
+numbers_fit g arguments are wrong = wrong.3 (subst AreInRange are (in_range g))
 
 -- ---- what the arguments ask for is done
 

@@ -3,13 +3,11 @@ use Rattle.std.proofs.Common.{◌≡◌, ◌∙◌, ℕ, List, [], Some, None, f
 use Rattle.std.specs.Prelude.{Result, Ok, Err}
 use Rattle.std.proofs.lemmas.List.{take_all}
 use Rattle.affinity.specs.declared.geometry.Geometry.{Geometry}
-use Rattle.checkpoint.specs.Header.{HasHeader}
 use Rattle.checkpoint.specs.Recovery.{recovered_state}
 use Rattle.disk.proofs.Leaves.{itself}
 use Rattle.disk.specs.Device.{AreBytes, IsCrashImage, Medium}
 use Rattle.journal.specs.Opening.{OpeningCrashImages}
 use Rattle.histories.specs.Laws.{IsIdle}
-use Rattle.incarnations.specs.DeviceEvents.{DeviceEvent}
 use Rattle.meaning.specs.Serial.{state_after_all}
 use Rattle.language.specs.declared.Msg.{Msg}
 use Rattle.scheduler.specs.CoreView.{IsJustOpened, CoreView, RecoversNow, core_state_of}
@@ -61,13 +59,8 @@ module _ (keeps : Type 0) (s : ServeOptions) (old : Medium) (start now : CoreVie
 -- a service as `HasServedBy` describes it crashes safely, whatever its end
 pub crashes_safely : {keeps : Type 0} {s : ServeOptions} {old new : Medium} (end : Result (Unit {0}) ServeFault) {x : Exchange}
     → HasServedBy keeps s old new end x → CrashesSafely keeps s old new (command_result end) x
-crashes_safely (Ok _) h = (Ok tt, refl, h)
 crashes_safely (Err faults.NoWorkers) h = (Err faults.NoWorkers, refl, h)
-crashes_safely (Err faults.Read) h = (Err faults.Read, refl, h)
-crashes_safely (Err faults.Write) h = (Err faults.Write, refl, h)
-crashes_safely (Err faults.Device) h = (Err faults.Device, refl, h)
-crashes_safely (Err faults.OutOfMemory) h = (Err faults.OutOfMemory, refl, h)
-crashes_safely (Err faults.Exhausted) h = (Err faults.Exhausted, refl, h)
+crashes_safely end h = (end, refl, h)
 
 -- ---- what the device recovers to
 

@@ -52,13 +52,10 @@ module _ (g : Geometry) (reply_pairs : List (ℕ × Reply)) (ticket : ℕ) (repl
   -- What was known of a line that has its answer is still known of it with one reply more.
   known_still : (n : ℕ) (o : Option Msg) (known : Line) → has_answer known ≡ true → IsKnown g reply_pairs n o known → IsKnown g more n o known
   known_still n None NoMessage done k = tt
-  known_still n None OutOfRange done k = absurd k
-  known_still n None (Pending t) done k = absurd k
-  known_still n None (Completed t r) done k = absurd k
-  known_still n (Some m) NoMessage done k = absurd k
   known_still n (Some m) OutOfRange done k = k
   known_still n (Some m) (Pending t) done k = absurd (true≢false (sym done))
   known_still n (Some m) (Completed t r) done k = (k.0, k.1, still_there (t, r) k.2)
+  known_still n o known done k = absurd k
 
   -- What is known of any line is known with one reply more, once that is stored in its message's line (`complete_one`).
   known_answered : (n : ℕ) (o : Option Msg) (known : Line) → IsKnown g reply_pairs n o known → IsKnown g more n o (complete_one ticket reply known)

@@ -3,7 +3,7 @@ use Rattle.std.proofs.Common.{◌≡◌, ◌≢◌, ℕ, ◌+◌, true, false, L
 use Rattle.std.specs.Prelude.{Bool, Result, Ok, Err, if◌then◌else◌, not, nat_le, ◌==◌, ◌^◌, ◌-◌, length}
 use Rattle.affinity.specs.declared.geometry.Geometry.{Geometry}
 use Rattle.histories.proofs.Elements.{in_contained}
-use Rattle.histories.specs.Events.{MachineState, arrive}
+use Rattle.histories.specs.Events.{arrive}
 use Rattle.histories.specs.Laws.{IsIdle}
 use Rattle.histories.specs.CoreState.{Entry, CoreState, held}
 use Rattle.histories.specs.declared.outcomes.ArriveRefusal.{ArriveRefusal}
@@ -12,7 +12,6 @@ use Rattle.histories.specs.declared.outcomes.Outcome.{Outcome}
 use Rattle.histories.specs.declared.outcomes.Outcome.TheVariants as outcomes
 use Rattle.histories.specs.declared.outcomes.Step.TheVariants as steps
 use Rattle.incarnations.proofs.Events.{core_holds, core_step}
-use Rattle.incarnations.specs.DeviceEvents.{events_of}
 use Rattle.incarnations.specs.Steps.{IsCoreStep}
 use Rattle.incarnations.specs.declared.hands.HandContent.{HandContent}
 use Rattle.language.specs.Messages.{is_in_range}
@@ -22,7 +21,6 @@ use Rattle.incarnations.specs.Machine.{MachineView}
 use Rattle.language.specs.Grammar.{message_of}
 use Rattle.language.specs.declared.Msg.{Msg}
 use Rattle.language.specs.declared.Reply.{Reply}
-use Rattle.meaning.specs.Order.{messages_of}
 use Rattle.serving.specs.Progress.{IsServing}
 use Rattle.serving.specs.Lines.{AreKnown, IsKnown, Line, NoneIsTo, OutOfRange, Pending, admitted, admitted_in, next_ticket, ticketed, Completed, NoMessage}
 use Rattle.serving.specs.Reads.{IsRefusedLine, IsTaken}
@@ -31,7 +29,7 @@ use Rattle.serving.proofs.Chain.{passes_on}
 use Rattle.serving.proofs.Serial.{admitted-append, messages-ticketed}
 use Rattle.serving.proofs.Served.{ticket_before}
 use Rattle.serving.proofs.Segments.{core_is_quiet, step_passes}
-use Rattle.serving.proofs.Tickets.{next-append, run_next, ticketed-append}
+use Rattle.serving.proofs.Tickets.{next-append, passes_next, ticketed-append}
 
 -- ---- one line more
 
@@ -81,13 +79,10 @@ module _ {keeps : Type 0} {start old : MachineView} {consumed : List (List ℕ)}
 known_anyway : (g : Geometry) (reply_pairs : List (ℕ × Reply)) (n : ℕ) (o : Option Msg) (known : Line) → NoneIsTo reply_pairs n → IsKnown g [] n o known
     → IsKnown g reply_pairs n o known
 known_anyway g reply_pairs n None NoMessage fresh k = k
-known_anyway g reply_pairs n None OutOfRange fresh k = absurd k
-known_anyway g reply_pairs n None (Pending t) fresh k = absurd k
-known_anyway g reply_pairs n None (Completed t r) fresh k = absurd k
-known_anyway g reply_pairs n (Some m) NoMessage fresh k = absurd k
 known_anyway g reply_pairs n (Some m) OutOfRange fresh k = k
 known_anyway g reply_pairs n (Some m) (Pending t) fresh k = (k.0, k.1, subst (NoneIsTo reply_pairs) (sym k.1) fresh)
 known_anyway g reply_pairs n (Some m) (Completed t r) fresh k = let none = k.2.1 in absurd (omega (arith, none))
+known_anyway g reply_pairs n o known fresh k = absurd k
 
 -- After a line is consumed, it is the last of the lines that are not sent.
 pub serves_taken : {keeps : Type 0} {start old new : MachineView} {consumed : List (List ℕ)} {sent_lines unsent : List Line} {known : Line} (line : List ℕ)

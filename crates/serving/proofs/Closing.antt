@@ -239,13 +239,8 @@ ends_finished keeps o p u read_end f result reported =
 -- With all workers started, a session ends with what is reported (`EndsBy`); if one could not be started, the session is as it was.
 reported_so : (old p : SessionView) (F : Type 0) (r : Result (Result (Unit {0}) ServeFault) F) → IfOk r (λ end. EndsBy p end) → OnErr r (p ≡ old)
     → EndsOrDeclines old p (reported r)
-reported_so old p F (Ok (Ok tt)) ends same = ends
-reported_so old p F (Ok (Err faults.Read)) ends same = ends
-reported_so old p F (Ok (Err faults.Exhausted)) ends same = ends
-reported_so old p F (Ok (Err faults.Device)) ends same = ends
-reported_so old p F (Ok (Err faults.Write)) ends same = ends
 reported_so old p F (Ok (Err faults.OutOfMemory)) ends same = absurd ends
-reported_so old p F (Ok (Err faults.NoWorkers)) ends same = absurd ends
+reported_so old p F (Ok end) ends same = ends
 reported_so old p F (Err f) ends same = same
 
 emptied_so : (P F : Type 0) (r : Result (Result (Unit {0}) ServeFault) F) → IfOk r (λ end. OnOk end P) → OnOk (reported r) P
@@ -268,13 +263,8 @@ module _ (p : SessionView) (P F : Type 0) (r : Result (Result (Unit {0}) ServeFa
 
 -- Where there are workers, what ends a session is never `NoWorkers`.
 pub refuses_none : (workers : ℕ) → workers ≢ 0 → (old p : SessionView) (result : Result (Unit {0}) ServeFault) → EndsOrDeclines old p result → FailsWithoutWorkers workers result
-refuses_none workers some old p (Ok tt) e = some
-refuses_none workers some old p (Err faults.OutOfMemory) e = some
-refuses_none workers some old p (Err faults.Read) e = some
-refuses_none workers some old p (Err faults.Exhausted) e = some
-refuses_none workers some old p (Err faults.Device) e = some
-refuses_none workers some old p (Err faults.Write) e = some
 refuses_none workers some old p (Err faults.NoWorkers) e = absurd e
+refuses_none workers some old p result e = some
 
 -- `ServePromise` stays true for an equal number of workers and an equal rest of the input.
 pub serves_as : {keeps : Type 0} {core : CoreView} {back : CoreView × Result (Unit {0}) ServeFault} {input before written remaining rest : Option (List ℕ)}

@@ -20,16 +20,13 @@ module _ (g : Geometry) (reply_pairs : List (ℕ × Reply)) where
   one_follows : (n last : ℕ) (o : Option Msg) (known : Line) (lines : List Line) → IsKnown g reply_pairs n o known
       → Follow (next_ticket n (admitted_in g o)) last lines → Follow n last (known ∷ lines)
   one_follows n last None NoMessage lines k rest = rest
-  one_follows n last None OutOfRange lines k rest = absurd k
-  one_follows n last None (Pending t) lines k rest = absurd k
-  one_follows n last None (Completed t r) lines k rest = absurd k
-  one_follows n last (Some m) NoMessage lines k rest = absurd k
   one_follows n last (Some m) OutOfRange lines k rest =
       subst (λ (b : Bool). Follow (next_ticket n (if b then m ∷ [] else [])) last lines) k rest
   one_follows n last (Some m) (Pending t) lines k rest =
       (k.1, subst (λ (b : Bool). Follow (next_ticket n (if b then m ∷ [] else [])) last lines) k.0 rest)
   one_follows n last (Some m) (Completed t r) lines k rest =
       (k.1, subst (λ (b : Bool). Follow (next_ticket n (if b then m ∷ [] else [])) last lines) k.0 rest)
+  one_follows n last o known lines k rest = absurd k
 
   after_one : (n : ℕ) (o : Option Msg) (ls : List (List ℕ))
       → next_ticket (next_ticket n (admitted_in g o)) (admitted g ls) ≡ next_ticket n (admitted_in g o ++ admitted g ls)

@@ -1,5 +1,5 @@
 -- There are no more messages in the core than lines that are not answered in the output, since each line that was written was answered.
-use Rattle.std.proofs.Common.{◌≡◌, ℕ, ◌+◌, ◌<◌, ◌≤◌, Bool, true, false, List, [], ◌∷◌, ◌++◌, Option, Some, None, refl, ap, sym, ◌∙◌, subst, length, ⊎_elim, arith}
+use Rattle.std.proofs.Common.{◌≡◌, ℕ, ◌+◌, ◌<◌, ◌≤◌, Bool, true, false, List, [], ◌∷◌, ◌++◌, Option, Some, None, refl, ap, sym, subst, length, ⊎_elim, arith}
 use Rattle.std.specs.Prelude.{if◌then◌else◌, nat_le}
 use Rattle.std.specs.List.{AllByRecursion}
 use Rattle.std.proofs.lemmas.Bool.{le-leb, leb-true, true≢false}
@@ -9,8 +9,8 @@ use Rattle.histories.proofs.Elements.{in_contained}
 use Rattle.histories.proofs.SerialReplies.{IsIn}
 use Rattle.histories.specs.Events.{MachineState}
 use Rattle.histories.specs.Laws.{IsIdle}
-use Rattle.histories.specs.Runs.{answered, arrived, end_state}
-use Rattle.histories.specs.CoreState.{CoreState, held}
+use Rattle.histories.specs.Runs.{end_state}
+use Rattle.histories.specs.CoreState.{CoreState, Entry, held}
 use Rattle.incarnations.specs.Machine.{MachineView, machine_of}
 use Rattle.incarnations.specs.DeviceEvents.{events_of}
 use Rattle.language.specs.Grammar.{message_of}
@@ -20,7 +20,7 @@ use Rattle.language.specs.declared.Reply.{Reply}
 use Rattle.scheduler.specs.CoreView.{core_state_of}
 use Rattle.serving.specs.Progress.{ServingProgress, IsServing}
 use Rattle.serving.specs.Lines.{Completed, AreKnown, IsKnown, Line, NoMessage, OutOfRange, Pending, admitted, admitted_in, has_answer, next_ticket, ticketed}
-use Rattle.serving.specs.Runs.{unanswered}
+use Rattle.serving.specs.Runs.{RunsBetween, unanswered}
 use Rattle.serving.proofs.Counting.{run_counts}
 
 -- ---- how many of the replies are to a ticket or to a later one
@@ -93,10 +93,6 @@ module _ (g : Geometry) (replies : List (ℕ × Reply)) where
   answered_takes : (n : ℕ) (o : Option Msg) (known : Line) → IsKnown g replies n o known → has_answer known ≡ true
       → length (admitted_in g o) + later (next_ticket n (admitted_in g o)) replies ≤ later n replies
   answered_takes n None NoMessage k done = omega arith
-  answered_takes n None OutOfRange k done = absurd k
-  answered_takes n None (Pending ticket) k done = absurd k
-  answered_takes n None (Completed ticket reply) k done = absurd k
-  answered_takes n (Some m) NoMessage k done = absurd k
   answered_takes n (Some m) OutOfRange k done =
       let none : admitted_in g (Some m) ≡ [] = ap (λ (b : Bool). if b then m ∷ [] else []) k in
       subst (λ (l : List Msg). length l + later (next_ticket n l) replies ≤ later n replies) (sym none) (omega arith)
@@ -106,6 +102,7 @@ module _ (g : Geometry) (replies : List (ℕ × Reply)) where
       let is : IsIn (n, reply) replies = subst (λ (t : ℕ). IsIn (t, reply) replies) k.1 (in_contained replies (ticket, reply) k.2) in
       let l = later_one n reply replies is in
       subst (λ (l : List Msg). length l + later (next_ticket n l) replies ≤ later n replies) (sym single) (omega (arith, l))
+  answered_takes n o known k done = absurd k
 
   -- No more lines take tickets than there are replies to ticket n or later ones, and lines that are not sent.
   lines_take : (n : ℕ) (ls : List (List ℕ)) (sent_lines unsent : List Line) → AreKnown g replies n ls (sent_lines ++ unsent)

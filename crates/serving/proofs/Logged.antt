@@ -18,7 +18,7 @@ use Rattle.histories.proofs.SerialHistories.{answered_came, left_in_order, logge
 use Rattle.histories.proofs.SerialReplies.{IsIn, in_left, in_right}
 use Rattle.histories.specs.Events.{Event, MachineState, recorded}
 use Rattle.histories.specs.Laws.{AreAscending, IsIdle, IsSerialHistory, ticket_replies}
-use Rattle.histories.specs.Runs.{answered, answered_messages, arrived, arrives, end_state, logged_messages}
+use Rattle.histories.specs.Runs.{answered_messages, arrived, arrives, end_state, logged_messages}
 use Rattle.histories.specs.CoreState.{Entry, Replied, entry}
 use Rattle.incarnations.specs.Machine.{MachineView, machine_of}
 use Rattle.incarnations.specs.DeviceEvents.{DeviceEvent, RecoversForRun, device_after, events_of}
@@ -107,16 +107,13 @@ module _ (g : Geometry) (replies : List (ℕ × Reply)) (log : List Replied) (wh
       → ((e : Entry) → IsIn e (ticketed n (admitted_in g o ++ admitted g ls)) → IsIn e whole)
       → IsKnown g replies n o line → has_answer line ≡ true → IsInHistory g log n o (answer_text line)
   one_kept n None ls NoMessage among k is = refl
-  one_kept n None ls OutOfRange among k is = absurd k
-  one_kept n None ls (Pending t) among k is = absurd k
-  one_kept n None ls (Completed t reply) among k is = absurd k
-  one_kept n (Some m) ls NoMessage among k is = absurd k
   one_kept n (Some m) ls OutOfRange among k is = inl (k, refl)
   one_kept n (Some m) ls (Pending t) among k is = absurd (true≢false (sym is))
   one_kept n (Some m) ls (Completed t reply) among k is =
       let asks : (admitted_in g (Some m) ++ admitted g ls) ≡ m ∷ admitted g ls = ap (λ (b : Bool). (if b then m ∷ [] else []) ++ admitted g ls) k.0 in
       let its = among (n, m) (subst (λ (ms : List Msg). IsIn (n, m) (ticketed n ms)) (sym asks) (inl refl)) in
       inr (k.0, (reply, refl, logged n m reply its (subst (λ (t' : ℕ). Contains replies (t', reply)) k.1 k.2)))
+  one_kept n o ls line among k is = absurd k
 
   are_kept : (n : ℕ) (ls : List (List ℕ)) (sent_lines unsent : List Line) → ((e : Entry) → IsIn e (ticketed n (admitted g ls)) → IsIn e whole)
       → AreKnown g replies n ls (sent_lines ++ unsent) → AllByRecursion (λ line. has_answer line ≡ true) sent_lines → AreInHistory g log n ls (map answer_text sent_lines)

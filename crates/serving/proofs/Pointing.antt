@@ -26,11 +26,7 @@ works_so false o e = refl
 refused_so : (old new : CoreState) (why : Option PointRefusal) (made : Type 0) (refusal : PointRefusal) → IsCheckpointStep old new why made (Err refusal)
     → (why ≡ Some refusal → old.failed ≡ true) → new.failed ≡ true
 refused_so old new why made points.Device h failed = ap (λ (w : CoreState). w.failed) h.1
-refused_so old new why made points.Failed h failed = ap (λ (w : CoreState). w.failed) h.1 ∙ failed h.0
-refused_so old new why made points.Held h failed = ap (λ (w : CoreState). w.failed) h.1 ∙ failed h.0
-refused_so old new why made points.Running h failed = ap (λ (w : CoreState). w.failed) h.1 ∙ failed h.0
-refused_so old new why made points.NotRunning h failed = ap (λ (w : CoreState). w.failed) h.1 ∙ failed h.0
-refused_so old new why made points.Unfinished h failed = ap (λ (w : CoreState). w.failed) h.1 ∙ failed h.0
+refused_so old new why made refusal h failed = ap (λ (w : CoreState). w.failed) h.1 ∙ failed h.0
 
 -- ---- what a session makes of an answer of the core
 

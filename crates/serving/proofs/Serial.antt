@@ -100,10 +100,6 @@ module _ (g : Geometry) (replies : List (ℕ × Reply)) where
   served_line : (x : State) (n : ℕ) (ms : List Msg) (o : Option Msg) (known : Line) → HaveSerialReplies x n (admitted_in g o ++ ms)
       → IsKnown g replies n o known → has_answer known ≡ true → IsServedBy x n ms o known
   served_line x n ms None NoMessage h k done = record { retires = refl; tells = h }
-  served_line x n ms None OutOfRange h k done = absurd k
-  served_line x n ms None (Pending ticket) h k done = absurd k
-  served_line x n ms None (Completed ticket reply) h k done = absurd k
-  served_line x n ms (Some m) NoMessage h k done = absurd k
   served_line x n ms (Some m) OutOfRange h k done =
       let none = none_asked m k in
       let same = out_of_range g x m k in
@@ -121,6 +117,7 @@ module _ (g : Geometry) (replies : List (ℕ × Reply)) where
         retires = ap reply_line (its_reply x n ms m reply on is);
         tells = subst (λ (l : List Msg). HaveSerialReplies (next_state g x m) (next_ticket n l) ms) (sym one) (with_ticket x n ms m on);
       }
+  served_line x n ms o known h k done = absurd k
 
   -- The answers to the lines that were sent are the first lines of the serial server's output.
   module _ (more : List (List ℕ)) (unsent : List Line) where
