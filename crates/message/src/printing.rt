@@ -196,8 +196,8 @@ fn append_digits(n: u32, out: &mut [u8; 1031], at: usize) -> usize
 }
 
 /// Writes `bytes` as hexadecimal digits after the first `at` bytes of `out`, and gives where the
-/// digits end. Zeros at the end of `bytes` are left out, as `shown_size` says. Not inlined: in a larger function the loop over the bytes has
-/// no register for the address of the table of digits, and loads it each time.
+/// digits end. Zeros at the end of `bytes` are left out, as `shown_size` says. Not inlined: in a larger function the loop over the bytes
+/// has no register for the address of the table of digits, and loads it each time.
 #[inline(never)]
 fn append_shown(bytes: &[u8], out: &mut [u8; 1031], at: usize) -> usize
     requires some { 1 ≤ length bytes.now }

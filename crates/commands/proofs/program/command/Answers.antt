@@ -9,7 +9,8 @@ use Rattle.commands.proofs.program.command.Goals as goal
 
 pub returns-in-Err-clause-served_plain : goal.returns-in-Err-clause-served_plain
 returns-in-Err-clause-served_plain g c = λ geometry asks.
-    rw c.report_refusal.ensures (exits_for_memory (map string_bytes c.args.arguments.now) c.in-Err.refusal asks.0 c.in-Err.ensures.err (numbers_fit geometry (map string_bytes c.args.arguments.now) asks.2) (nothing_written geometry _ _))
+    rw c.report_refusal.ensures (exits_for_memory (map string_bytes c.args.arguments.now) c.in-Err.refusal asks.0 c.in-Err.ensures.err
+    (numbers_fit geometry (map string_bytes c.args.arguments.now) asks.2) (nothing_written geometry _ _))
 
 pub returns-in-Ok-run-clause-served_plain : goal.returns-in-Ok-run-clause-served_plain
 returns-in-Ok-run-clause-served_plain g c = λ geometry asks.
@@ -23,7 +24,11 @@ returns-in-Err-run-clause-served_plain g c = λ geometry asks.
 
 pub returns-in-Err-clause-formatted : goal.returns-in-Err-clause-formatted
 returns-in-Err-clause-formatted g c = λ path geometry asks.
-    rw c.report_refusal.ensures (exits_for_memory (map string_bytes c.args.arguments.now) c.in-Err.refusal asks.0 c.in-Err.ensures.err (numbers_fit geometry (map string_bytes c.args.arguments.now) asks.3) refl, refl {a = g.R.Read.remaining c.args.r.now})
+    rw c.report_refusal.ensures (
+      exits_for_memory (map string_bytes c.args.arguments.now) c.in-Err.refusal asks.0 c.in-Err.ensures.err
+          (numbers_fit geometry (map string_bytes c.args.arguments.now) asks.3) refl,
+      refl {a = g.R.Read.remaining c.args.r.now},
+    )
 
 pub returns-in-Ok-run-clause-formatted : goal.returns-in-Ok-run-clause-formatted
 returns-in-Ok-run-clause-formatted g c = λ path geometry asks.
@@ -37,7 +42,11 @@ returns-in-Err-run-clause-formatted g c = λ path geometry asks.
 
 pub returns-in-Err-clause-shown : goal.returns-in-Err-clause-shown
 returns-in-Err-clause-shown g c = λ path asks.
-    rw c.report_refusal.ensures (exits_for_memory (map string_bytes c.args.arguments.now) c.in-Err.refusal asks.0 c.in-Err.ensures.err (λ wrong. wrong.1 asks.1) refl, refl {a = g.R.Read.remaining c.args.r.now})
+    rw c.report_refusal.ensures (
+      exits_for_memory (map string_bytes c.args.arguments.now) c.in-Err.refusal asks.0 c.in-Err.ensures.err
+          (λ wrong. wrong.1 asks.1) refl,
+      refl {a = g.R.Read.remaining c.args.r.now},
+    )
 
 pub returns-in-Ok-run-clause-shown : goal.returns-in-Ok-run-clause-shown
 returns-in-Ok-run-clause-shown g c = λ path asks.
@@ -51,7 +60,8 @@ returns-in-Err-run-clause-shown g c = λ path asks.
 
 pub returns-in-Err-clause-served : goal.returns-in-Err-clause-served
 returns-in-Err-clause-served g c = λ path s asks.
-    rw c.report_refusal.ensures (exits_for_memory (map string_bytes c.args.arguments.now) c.in-Err.refusal asks.0 c.in-Err.ensures.err (λ wrong. wrong.2 asks.1)
+    rw c.report_refusal.ensures (exits_for_memory (map string_bytes c.args.arguments.now) c.in-Err.refusal asks.0 c.in-Err.ensures.err
+    (λ wrong. wrong.2 asks.1)
     (inl (record { why = file.OutOfMemory; ends = refl; unread = refl; unwritten = refl })))
 
 pub returns-in-Ok-run-clause-served : goal.returns-in-Ok-run-clause-served
