@@ -5,7 +5,7 @@ use Rattle.std.proofs.lemmas.Slice.Eq.{bytes_eq-Decides}
 use Rattle.std.proofs.lemmas.Bool.{cases_eq, le-leb}
 use Rattle.std.proofs.lemmas.List.{length-replicate, get_or-take, get_or-drop, get_or-replicate, drop-replicate, take-replicate}
 use Rattle.affinity.specs.declared.geometry.Geometry.{Geometry}
-use Rattle.checkpoint.specs.Formatting.{HasBytesAt, IsAllButFormatByte, IsAllButHeader, HasNoFormatByte}
+use Rattle.checkpoint.specs.Formatting.{HasBytesAt, IsAllButHeader, HasNoFormatByte}
 use Rattle.checkpoint.specs.Header.{header_of, is_header}
 use Rattle.checkpoint.specs.Recovery.{recovered_state, decoding}
 use Rattle.checkpoint.specs.Version.{named_version}
@@ -21,6 +21,11 @@ use Rattle.oplog.specs.Recovery.{named_area, in_force, is_laid_out, run, recover
 use Rattle.oplog.proofs.Slices.{slice_slice}
 use Rattle.meaning.specs.State.{State, empty}
 use Rattle.meaning.proofs.Kept.{empty_is_state}
+
+-- What an empty device needs besides its first byte, the format byte.
+pub record IsAllButFormatByte (g : Geometry) (c : List ℕ) : Type 0 where
+  pub laid : IsAllButHeader g c
+  pub header : HasBytesAt c 1 (drop 1 (header_of g))
 
 -- ---- bytes that lie at an offset (`HasBytesAt`)
 

@@ -4,12 +4,12 @@ use Rattle.std.proofs.lemmas.Bool.{and_parts, cases_Bool, cond-true, cond-false,
 use Rattle.std.proofs.lemmas.Slice.Eq.{bytes_eq-Decides}
 use Rattle.affinity.specs.declared.geometry.Geometry.{Geometry}
 use Rattle.checkpoint.specs.Header.{HasHeader, header_of, is_header}
-use Rattle.checkpoint.specs.Loading.{are_both_chained, image_fault, in_force_fault}
+use Rattle.checkpoint.specs.Loading.{are_both_chained, image_fault}
 use Rattle.checkpoint.specs.Recovery.{recovered_state, decoding}
 use Rattle.checkpoint.specs.Refusals.{refused}
 use Rattle.checkpoint.proofs.Behind.{image_fine}
 use Rattle.checkpoint.proofs.OneGeometry.{laid_where}
-use Rattle.checkpoint.proofs.Refusing.{alone_sound, both_sound, not_refused}
+use Rattle.checkpoint.proofs.Refusing.{in_force_fault, alone_sound, both_sound, not_refused}
 use Rattle.disk.specs.Device.{AreBytes}
 use Rattle.image.specs.Image.{image_state}
 use Rattle.oplog.specs.Front.{chain, front}

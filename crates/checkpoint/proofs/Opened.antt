@@ -1,11 +1,11 @@
 -- The header of a device is written: all behind its first byte, and then that one, the format byte.
 use Rattle.std.proofs.Common.{◌≡◌, ◌⊎◌, ℕ, ◌≤◌, List, [], ◌∷◌, length, drop, get_or, Some, inl, inr, ⊎_elim, sym, ◌∙◌, ap, subst, arith}
 use Rattle.affinity.specs.declared.geometry.Geometry.{Geometry}
-use Rattle.checkpoint.specs.Formatting.{FormatCrashImages, IsAllButFormatByte, IsAllButHeader, HasNoFormatByte, StaysUnformatted}
+use Rattle.checkpoint.specs.Formatting.{FormatCrashImages, IsAllButHeader, HasNoFormatByte, StaysUnformatted}
 use Rattle.checkpoint.specs.Header.{header_of}
 use Rattle.checkpoint.specs.Recovery.{recovered_state}
 use Rattle.checkpoint.specs.Version.{named_version}
-use Rattle.checkpoint.proofs.Laid.{headed, headed_kept, holds_empty, torn_open, version_empty}
+use Rattle.checkpoint.proofs.Laid.{IsAllButFormatByte, headed, headed_kept, holds_empty, torn_open, version_empty}
 use Rattle.checkpoint.proofs.Shut.{shut_unformatted, still_shut}
 use Rattle.disk.specs.Device.{Medium, IsCrashImage, SameOutside}
 use Rattle.disk.specs.Moments.{CrashImagesAre}

@@ -7,7 +7,7 @@ use Rattle.affinity.specs.declared.geometry.Geometry.{Geometry}
 use Rattle.checkpoint.specs.declared.fault.OpenFault.{OpenFault}
 use Rattle.checkpoint.specs.declared.fault.OpenFault.TheVariants.{Device, TooShort, NotFormatted, BadGeometry, OutOfMemory, BadVersion, BadPiece, BadChain, BadRecord}
 use Rattle.checkpoint.specs.Header.{HasHeader, header_of, is_header}
-use Rattle.checkpoint.specs.Loading.{IsConsistentFault, IsOfHalf, IsOfHeader, are_both_chained, image_fault, in_force_fault, records_fault}
+use Rattle.checkpoint.specs.Loading.{IsConsistentFault, IsOfHalf, IsOfHeader, are_both_chained, image_fault, records_fault}
 use Rattle.checkpoint.specs.Recovery.{after_record, recovered_state, decoding}
 use Rattle.checkpoint.specs.Refusals.{HasHeaderAndParts, IsRefused, fault_if, fault_or_later, first_bad_piece, first_bad_record, refused}
 use Rattle.checkpoint.proofs.Replays.{fault_from}
@@ -17,6 +17,14 @@ use Rattle.device_map.specs.Layout.{Layout, layout_of, device_size, header_part,
 use Rattle.oplog.specs.Recovery.{in_force, is_laid_out, named_area, run}
 use Rattle.oplog.proofs.Kept.{run-append}
 use Rattle.meaning.specs.State.{State}
+
+-- with area n named, the records in force are run on state x, one after the other: the fault of the first that can't be run
+abbrev pub in_force_fault : Geometry → State → ℕ → List ℕ → Option OpenFault
+in_force_fault g x n c =
+    let l = layout_of g in
+    fault_or_later (BadRecord n) (first_bad_record g 0 (Some x) (front l n c))
+    (fault_or_later (BadRecord (other n))
+    (first_bad_record g 0 (run (decoding g) (Some x) (front l n c)) (if chain l n c == 1 then front l (other n) c else [])) None)
 
 -- ---- tests
 

@@ -31,8 +31,3 @@ pub record IsAllButHeader (g : Geometry) (c : List ℕ) : Type 0 where
   pub root : HasBytesAt c 64 (replicate (64 + (64 + g.half)) 0)
   pub one : HasBytesAt c (part_at (layout_of g) (half_part 1)) (replicate (64 + g.half) 0)
   pub image : HasBytesAt c (part_at (layout_of g) (image_part 0)) (2 ∷ replicate (image_size g - 1) 0)
-
--- What an empty device needs besides its first byte, the format byte.
-pub record IsAllButFormatByte (g : Geometry) (c : List ℕ) : Type 0 where
-  pub laid : IsAllButHeader g c
-  pub header : HasBytesAt c 1 (drop 1 (header_of g))

@@ -68,14 +68,6 @@ image_fault g bytes = fault_if (not (has_head bytes)) BadVersion (fault_or_later
 abbrev pub are_both_chained : Layout → List ℕ → Bool
 are_both_chained l c = (chain l 0 c == 1) && (chain l 1 c == 1)
 
--- with area n named, the records in force are run on state x, one after the other: the fault of the first that can't be run
-abbrev pub in_force_fault : Geometry → State → ℕ → List ℕ → Option OpenFault
-in_force_fault g x n c =
-    let l = layout_of g in
-    fault_or_later (BadRecord n) (first_bad_record g 0 (Some x) (front l n c))
-    (fault_or_later (BadRecord (other n))
-    (first_bad_record g 0 (run (decoding g) (Some x) (front l n c)) (if chain l n c == 1 then front l (other n) c else [])) None)
-
 -- A device with these bytes has a header of this geometry and all its parts; `area` is its named area, and `chained` says whether the chain
 -- byte of the half there is 1. The image there has no fault, at most one chain byte is 1, and the records of the named half lead from the
 -- state of that image to the state x.

@@ -3,15 +3,21 @@ use Rattle.std.proofs.Common.{◌≡◌, ℕ, true, false, List, [], ◌∷◌, 
 use Rattle.std.specs.Prelude.{replicate}
 use Rattle.affinity.specs.Geometry.{default_geometry}
 use Rattle.affinity.proofs.Numbers.{small}
+use Rattle.affinity.specs.declared.geometry.Geometry.{Geometry}
 use Rattle.language.specs.declared.Block.{Block}
 use Rattle.language.specs.declared.Msg.{Msg}
 use Rattle.language.specs.declared.Msg.TheVariants.{MakeVol, DropVol, Create, Delete, Seal, Unseal, Write, Punch, Read, List as ListFiles, Usage as AskUsage, Summary as AskSummary, SetLabel, Label as AskLabel}
 use Rattle.language.specs.declared.Refusal.TheVariants.{Range, Volume, Exists, Sealed, File, Space}
 use Rattle.language.specs.declared.Reply.{Reply}
 use Rattle.language.specs.declared.Reply.TheVariants.{Done, Hole, Block as Found, Files, Usage, Summary, Refused, Label}
-use Rattle.meaning.specs.State.{empty}
-use Rattle.meaning.specs.Serial.{state_after_all, replies}
+use Rattle.meaning.specs.State.{State, empty}
+use Rattle.meaning.specs.Serial.{reply_to, next_state, state_after_all}
 use Rattle.meaning.specs.Laws.{recorded_of}
+
+-- the reply to each of these messages, from x on
+abbrev replies : Geometry → State → List Msg → List Reply
+replies g x [] = []
+replies g x (m ∷ ms) = reply_to g x m ∷ replies g (next_state g x m) ms
 
 -- what the small server answers, from nothing
 abbrev answers : List Msg → List Reply

@@ -142,11 +142,6 @@ abbrev pub state_after_all : Geometry → State → List Msg → State
 state_after_all g x [] = x
 state_after_all g x (m ∷ ms) = state_after_all g (next_state g x m) ms
 
--- the reply to each of these messages, from x on
-abbrev pub replies : Geometry → State → List Msg → List Reply
-replies g x [] = []
-replies g x (m ∷ ms) = reply_to g x m ∷ replies g (next_state g x m) ms
-
 -- ---- which messages have a record in the log
 
 abbrev pub is_done : Reply → Bool

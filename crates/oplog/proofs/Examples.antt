@@ -6,7 +6,11 @@ use Rattle.disk.proofs.Leaves.{synced_left}
 use Rattle.device_map.specs.Layout.{Layout}
 use Rattle.oplog.specs.Front.{count_open, front}
 use Rattle.oplog.specs.Changes.{HasAppendedPrefix}
-use Rattle.oplog.specs.Recovery.{Decoding, named_area, in_force, current, recovers}
+use Rattle.oplog.specs.Recovery.{Decoding, named_area, current_of, in_force, recovers}
+
+-- the half whose front is the last one in force
+abbrev current : Layout → List ℕ → ℕ
+current l c = current_of l (named_area l c) c
 
 -- ---- the front ends at the first gate that isn't 1
 second_is_not_open : count_open (1 ∷ 77 ∷ 1 ∷ 0 ∷ []) ≡ 1

@@ -20,10 +20,6 @@ in_force l n c = if chain l n c == 1 then front l n c ++ front l (other n) c els
 
 -- ---- with the area that the root zone names
 
--- the half whose front is the last one in force
-abbrev pub current : Layout → List ℕ → ℕ
-current l c = current_of l (named_area l c) c
-
 -- the records in force on a device of this geometry
 abbrev pub records_in : Geometry → List ℕ → List (List ℕ)
 records_in g c = in_force (layout_of g) (named_area (layout_of g) c) c

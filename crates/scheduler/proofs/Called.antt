@@ -16,7 +16,17 @@ use Rattle.histories.specs.declared.outcomes.PointRefusal.TheVariants as points
 use Rattle.histories.specs.declared.outcomes.Step.TheVariants as steps
 use Rattle.language.specs.declared.Msg.{Msg}
 use Rattle.language.specs.declared.Reply.{Reply}
-use Rattle.scheduler.specs.Calls.{IsCallEvent, IsLogStep, IsPieceStep, IsCheckpointStep, answer_outcome, arrive_outcome, log_device_failed, log_outcome, checkpoint_device_failed, step_outcome}
+use Rattle.scheduler.specs.Calls.{IsCallEvent, IsLogStep, IsPieceStep, IsCheckpointStep, answer_outcome, arrive_outcome, log_device_failed, checkpoint_device_failed}
+
+-- the outcome of a step by the result of the core's call of `log`
+abbrev pub log_outcome : Result ℕ CoreFault → Outcome
+log_outcome (Ok count) = outcomes.Logged count
+log_outcome (Err why) = outcomes.LogFault why
+
+-- the outcome of a step of a checkpoint, by the result of the core's call: `made x` if it gave x, else the refusal
+abbrev pub step_outcome : {T : Type 0} → (T → Outcome) → Result T PointRefusal → Outcome
+step_outcome made (Ok x) = made x
+step_outcome made (Err why) = outcomes.PointRefused why
 
 abbrev In : CoreState → List Hand → MachineState
 In w hands = record { core = w; hands = hands }

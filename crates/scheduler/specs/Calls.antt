@@ -93,7 +93,7 @@ abbrev pub IsCallEvent : Geometry → CoreState → CoreState → Step → Outco
 IsCallEvent g old new step outcome device_failed = (hands : List Hand) → IsAllowed g (record { core = old; hands = hands })
     (record { step = step; outcome = outcome; device_failed = device_failed; state_after = record { core = new; hands = hands } })
 
--- the outcome of a step by the result of the core's call: of `arrive`, of `answer` and of `log`
+-- the outcome of a step by the result of the core's call: of `arrive` and of `answer`
 abbrev pub arrive_outcome : Result ℕ ArriveRefusal → Outcome
 arrive_outcome (Ok ticket) = outcomes.Ticket ticket
 arrive_outcome (Err why) = outcomes.ArriveRefused why
@@ -101,15 +101,6 @@ arrive_outcome (Err why) = outcomes.ArriveRefused why
 abbrev pub answer_outcome : Option (ℕ × Reply) → Outcome
 answer_outcome None = outcomes.Idle
 answer_outcome (Some a) = outcomes.Answered a.0 a.1
-
-abbrev pub log_outcome : Result ℕ CoreFault → Outcome
-log_outcome (Ok count) = outcomes.Logged count
-log_outcome (Err why) = outcomes.LogFault why
-
--- the outcome of a step of a checkpoint, by the result of the core's call: `made x` if it gave x, else the refusal
-abbrev pub step_outcome : {T : Type 0} → (T → Outcome) → Result T PointRefusal → Outcome
-step_outcome made (Ok x) = made x
-step_outcome made (Err why) = outcomes.PointRefused why
 
 -- ---- messages that arrive by the lines that encode them
 

@@ -20,12 +20,13 @@ use Rattle.incarnations.specs.Machine.{MachineView, machine_of}
 use Rattle.incarnations.specs.Steps.{IsCoreStep, IsMachineStep}
 use Rattle.incarnations.specs.declared.hands.HandContent.{HandContent}
 use Rattle.language.specs.declared.Reply.{Reply}
-use Rattle.scheduler.specs.Calls.{CountsFailure, IsCallEvent, IsLogStep, log_device_failed, log_outcome, checkpoint_device_failed, step_outcome}
+use Rattle.scheduler.specs.Calls.{CountsFailure, IsCallEvent, IsLogStep, log_device_failed, checkpoint_device_failed}
 use Rattle.scheduler.specs.CoreView.{CoreView, RecoversThroughout, core_state_of}
 use Rattle.serving.specs.Lines.{Line, admitted, ticketed}
 use Rattle.serving.specs.Progress.{ServingProgress}
 use Rattle.serving.specs.Runs.{HandsHaveJobs, IsInternal, RunsBetween}
 use Rattle.serving.proofs.Chain.{passes_on}
+use Rattle.scheduler.proofs.Called.{log_outcome, step_outcome}
 
 counted : (b : Bool) (old new : ℕ) → CountsFailure b old new → new ≡ old + (0 + (if b then 1 else 0))
 counted true old new h = h

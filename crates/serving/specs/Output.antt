@@ -49,9 +49,3 @@ MaySend keeps start sent now bytes = IsSomeAnd start (λ s. MaySendFrom keeps s 
 abbrev pub SendsNoReply : List ℕ → Type 0
 SendsNoReply bytes = (ls : List (List ℕ)) × (bytes ≡ joined ls)
     × AllByRecursion (λ line. (line ≡ no_message) ⊎ (line ≡ reply_line (Refused Range))) ls
-
--- a line that is answered without a reply to a message in range: it is no message, or one that is out of range
-abbrev pub HasNoReply : Line → Type 0
-HasNoReply (Pending ticket) = ⊥
-HasNoReply (Completed ticket reply) = ⊥
-HasNoReply _ = Unit {0}
