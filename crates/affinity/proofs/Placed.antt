@@ -8,7 +8,7 @@ use Rattle.affinity.specs.Geometry.{stripe_of}
 use Rattle.affinity.specs.Interval.{IsPath}
 use Rattle.affinity.specs.Place.{is_in_range, path_of_kind, path_of_numbers}
 use Rattle.affinity.specs.declared.kinds.Kind.{Kind}
-use Rattle.affinity.specs.declared.kinds.Kind.TheVariants.{MakeVol, DropVol, Create, Delete, Seal, Unseal, Write, Punch, Read, List as ListFiles, Usage, Summary, SetLabel, Label}
+use Rattle.affinity.specs.declared.kinds.Kind.TheVariants.{MakeVol, DropVol, Write, Punch, Read, Summary}
 use Rattle.affinity.specs.declared.geometry.Geometry.{Geometry}
 
 -- the number of a block's stripe is below the number of stripes

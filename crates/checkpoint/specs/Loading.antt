@@ -1,5 +1,5 @@
 -- Statement for engineers: Reading a device into a tree: what its steps answer, and what they leave.
-use Rattle.std.specs.Prelude.{◌≡◌, ◌≤◌, ℕ, ◌+◌, Bool, false, not, ◌&&◌, ◌==◌, if◌then◌else◌, List, [], length, Option, Some, None, is_none, Result, Ok, Err}
+use Rattle.std.specs.Prelude.{◌≡◌, ◌≤◌, ℕ, ◌+◌, Bool, false, not, ◌&&◌, ◌==◌, List, length, Option, Some, None, is_none, Result, Ok, Err}
 use Rattle.affinity.specs.declared.geometry.Geometry.{Geometry}
 use Rattle.checkpoint.specs.declared.fault.OpenFault.{OpenFault}
 use Rattle.checkpoint.specs.declared.fault.OpenFault.TheVariants.{Device, TooShort, NotFormatted, BadGeometry, OutOfMemory, BadVersion, BadPiece, BadRecord}
@@ -11,7 +11,7 @@ use Rattle.image.specs.Image.{has_head, image_state}
 use Rattle.oplog.specs.declared.fault.LogFault.{LogFault}
 use Rattle.oplog.specs.declared.fault.LogFault.TheVariants as log
 use Rattle.oplog.specs.Front.{chain, front}
-use Rattle.device_map.specs.Layout.{Layout, device_size, image_part, layout_of, other, part_bytes}
+use Rattle.device_map.specs.Layout.{Layout, device_size, image_part, layout_of, part_bytes}
 use Rattle.oplog.specs.Recovery.{named_area, run}
 use Rattle.meaning.specs.State.{State}
 

@@ -7,7 +7,7 @@ use Rattle.affinity.specs.declared.geometry.Geometry.{Geometry}
 use Rattle.byteorder.specs.Endian.{little_bytes}
 use Rattle.language.specs.declared.Block.{Block}
 use Rattle.language.specs.declared.Msg.{Msg}
-use Rattle.language.specs.declared.Msg.TheVariants.{MakeVol, DropVol, Create, Delete, Seal, Unseal, Write, Punch, Read, List as ListFiles, Usage as AskUsage, Summary as AskSummary, SetLabel, Label as AskLabel}
+use Rattle.language.specs.declared.Msg.TheVariants.{MakeVol, DropVol, Create, Delete, Seal, Unseal, Write, Punch, Read, SetLabel}
 use Rattle.language.specs.declared.Refusal.{Refusal}
 use Rattle.meaning.specs.Serial.{key, effect, reply_and_state, accepted_reply, refusal, next_state, no_label}
 use Rattle.meaning.specs.State.{State, BlockKey, IsState, sum_below, one_if, is_volume, is_file, is_block}

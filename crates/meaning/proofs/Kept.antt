@@ -10,7 +10,7 @@ use Rattle.affinity.specs.Place.{are_below, limits}
 use Rattle.affinity.specs.declared.kinds.Kind.TheVariants as kinds
 use Rattle.language.specs.declared.Block.{Block}
 use Rattle.language.specs.declared.Msg.{Msg}
-use Rattle.language.specs.declared.Msg.TheVariants.{MakeVol, DropVol, Create, Delete, Seal, Unseal, Write, Punch, Read, List as ListFiles, Usage as AskUsage, Summary as AskSummary, SetLabel, Label as AskLabel}
+use Rattle.language.specs.declared.Msg.TheVariants.{MakeVol, DropVol, Create, Delete, Seal, Unseal, Write, Punch, Read, SetLabel}
 use Rattle.language.specs.declared.Refusal.{Refusal}
 use Rattle.language.specs.declared.Refusal.TheVariants.{Space}
 use Rattle.language.specs.Messages.{AreSizedBytes, IsBlock, IsMessage, kind, four_numbers}

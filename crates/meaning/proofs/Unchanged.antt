@@ -4,7 +4,7 @@ use Rattle.std.specs.Prelude.{Some, None, if◌then◌else◌}
 use Rattle.std.proofs.lemmas.Bool.{true≢false}
 use Rattle.affinity.specs.declared.geometry.Geometry.{Geometry}
 use Rattle.language.specs.declared.Msg.{Msg}
-use Rattle.language.specs.declared.Msg.TheVariants.{MakeVol, DropVol, Create, Delete, Seal, Unseal, Write, Punch, Read, List as ListFiles, Usage as AskUsage, Summary as AskSummary, SetLabel, Label as AskLabel}
+use Rattle.language.specs.declared.Msg.TheVariants.{Read, List as ListFiles, Usage as AskUsage, Summary as AskSummary, Label as AskLabel}
 use Rattle.language.specs.declared.Refusal.{Refusal}
 use Rattle.meaning.specs.State.{State}
 use Rattle.meaning.specs.Serial.{refusal, effect, accepted_reply, reply_and_state, reply_to, next_state, state_after_all, is_recorded}
