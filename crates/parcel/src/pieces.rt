@@ -96,7 +96,7 @@ fn write_part(volume: &Vol, g: &Geometry, part: usize, out: &mut [u8])
     }
 }
 
-/// ReadsPiece `bytes` into the tree as piece `n`, in place of what the tree has there. `BadPiece` exactly
+/// Reads `bytes` into the tree as piece `n`, in place of what the tree has there. `BadPiece` exactly
 /// where they differ from the encoding (in version 2 of an image) of what they decode to; then it is
 /// unspecified what the tree holds. Nothing of the tree may be out, and when a volume's own piece is read
 /// the tree must have no block of that volume.
@@ -134,7 +134,7 @@ pub fn read_piece_1(t: &mut Tree, n: usize, bytes: &[u8]) -> Result<(), BadPiece
     read_piece_of_version(t, FIRST_VERSION, n, bytes)
 }
 
-// ReadsPiece bytes into the tree as piece `n` of an image of this version.
+// Reads bytes into the tree as piece `n` of an image of this version.
 fn read_piece_of_version(t: &mut Tree, version: u8, n: usize, bytes: &[u8]) -> Result<(), BadPiece>
     requires { CanReadPiece n bytes.now t.old }
     ensures { ReadsPiece version n bytes.now result t.old t.new }
