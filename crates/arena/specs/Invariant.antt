@@ -1,4 +1,4 @@
--- Inner: How an `Arena` keeps what contracts see of it (`ArenaView`).
+-- Statement for engineers: How an `Arena` keeps what contracts see of it (`ArenaView`).
 use Rattle.std.specs.Prelude.{◌≡◌, ℕ, ◌<◌, List, [], ◌∷◌, length, Option}
 use Rattle.arena.specs.Linked.{Linked}
 use Rattle.arena.specs.ArenaView.{ArenaView, IsPartitioned}

@@ -1,4 +1,4 @@
--- Inner: How two arrays of numbers (each node's next and previous node) keep lists of slots.
+-- Statement for engineers: How two arrays of numbers (each node's next and previous node) keep lists of slots.
 use Rattle.std.specs.Prelude.{◌≡◌, ◌≢◌, ℕ, zero, suc, ◌+◌, ◌-◌, ◌<◌, ◌≤◌, List, [], ◌∷◌, length, nat_lt, nat_le, ◌==◌, if◌then◌else◌, slice_index, slice_index_or}
 use Rattle.std.specs.List.{concat}
 use Rattle.arena.specs.Lists.{count_of}

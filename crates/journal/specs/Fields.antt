@@ -1,4 +1,4 @@
--- Inner: The fields of a journal as contracts see them, and what it keeps true of them between calls.
+-- Statement for engineers: The fields of a journal as contracts see them, and what it keeps true of them between calls.
 use Rattle.std.specs.Prelude.{◌≡◌, ◌≤◌, false, length}
 use Rattle.disk.specs.Device.{Medium}
 use Rattle.image.specs.Pieces.{piece_count}

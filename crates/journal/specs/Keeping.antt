@@ -1,4 +1,4 @@
--- Inner: What a journal keeps true of its device between calls.
+-- Statement for engineers: What a journal keeps true of its device between calls.
 use Rattle.std.specs.Prelude.{◌≡◌, ◌<◌, ◌-◌, ℕ, Bool, true, false, List, length, get_or, Option, Some, None, is_some}
 use Rattle.affinity.specs.declared.geometry.Geometry.{Geometry}
 use Rattle.checkpoint.specs.Recovery.{recovered_state}

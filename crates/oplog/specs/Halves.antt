@@ -1,4 +1,4 @@
--- Inner: The fields of a log as contracts see them, and what it keeps true of them.
+-- Statement for engineers: The fields of a log as contracts see them, and what it keeps true of them.
 use Rattle.std.specs.Prelude.{◌≡◌, ◌*◌, ◌<◌, ◌≤◌, min, vec_len}
 use Rattle.device_map.specs.Layout.{records_per_write, record_size}
 use Rattle.oplog.specs.Log.{Log}

@@ -1,4 +1,4 @@
--- Inner: The fields of a `ReorderBuffer` as contracts see them, and what it keeps true of them.
+-- Statement for engineers: The fields of a `ReorderBuffer` as contracts see them, and what it keeps true of them.
 use Rattle.std.specs.Prelude.{◌≡◌, ◌≤◌, length}
 use Rattle.std.specs.VecDeque.{deque_capacity}
 use Rattle.reorder_buffer.specs.ReorderBuffer.{AreConsecutive, ReorderBufferView, ticketed_among, lines_of}

@@ -1,4 +1,4 @@
--- Inner: The fields of a core as contracts see them, and what it keeps true of them between calls.
+-- Statement for engineers: The fields of a core as contracts see them, and what it keeps true of them between calls.
 use Rattle.std.specs.Prelude.{◌≡◌, ◌≤◌, length, vec_capacity}
 use Rattle.arena.specs.ArenaView.{capacity_of}
 use Rattle.scheduler.specs.CoreView.{CoreView}

@@ -1,4 +1,4 @@
--- Inner: What a core keeps true of its parts between calls.
+-- Statement for engineers: What a core keeps true of its parts between calls.
 use Rattle.std.specs.Prelude.{◌≡◌, ◌+◌, ℕ, Bool, true, false, List, [], ◌||◌, map, length, Some}
 use Rattle.std.specs.List.{AllByRecursion, list_any}
 use Rattle.affinity.specs.Interval.{IsAffinityOf}

@@ -1,4 +1,4 @@
--- Inner: The messages of a core in its slots, by how far each has come.
+-- Statement for engineers: The messages of a core in its slots, by how far each has come.
 use Rattle.std.specs.Prelude.{◌≡◌, ℕ, List, length, map, get_or, unwrap_or}
 use Rattle.arena.specs.ArenaView.{IsPartitioned, ArenaView, chain_at, value_at}
 use Rattle.language.specs.declared.Msg.TheVariants.{Summary}

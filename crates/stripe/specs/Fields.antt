@@ -1,4 +1,4 @@
--- Inner: The fields of a `StripeParcel` as contracts see them, and what it keeps true of them.
+-- Statement for engineers: The fields of a `StripeParcel` as contracts see them, and what it keeps true of them.
 use Rattle.std.specs.Prelude.{◌≤◌, length, vec_capacity}
 use Rattle.stripe.specs.Index.{entries_of, IsStored}
 use Rattle.stripe.specs.Stripe.{StripePart}

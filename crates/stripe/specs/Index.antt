@@ -1,4 +1,4 @@
--- Inner: How a `StripeParcel` keeps its blocks.
+-- Statement for engineers: How a `StripeParcel` keeps its blocks.
 use Rattle.std.specs.Prelude.{◌≡◌, true, ℕ, ◌+◌, ◌<◌, ◌≤◌, List, [], length, map, take, drop, slice_index_or, slice_set, unwrap_or, Option, None, IsTrue}
 use Rattle.std.specs.List.{AllByRecursion}
 use Rattle.language.specs.declared.Block.{Block}

@@ -1,4 +1,4 @@
--- Inner: The content of a cell, from its two vectors.
+-- Statement for engineers: The content of a cell, from its two vectors.
 use Rattle.std.specs.Prelude.{List, [], ◌∷◌, Option, None, Some}
 use Rattle.parcel.specs.Run.{JobView}
 use Rattle.parcel.specs.declared.job.Done.{Done}
