@@ -7,7 +7,7 @@ import unittest
 
 from meaning import options_of
 from program import DEVICE_FAULT, EACH_KIND, MADE, PROGRAM, READ_FAULT, REPLIES, Case, bytes_of, is_beginning, put_bytes, run
-from servers import CHAIN_0, CHAIN_1, GATE_0, GATE_1, IMAGE_0, IMAGE_1, RECORD_0, ROOT, SMALL, Device, File, text_of, with_bytes
+from servers import CHAIN_0, CHAIN_1, GATE_0, GATE_1, GREATEST, IMAGE_0, IMAGE_1, RECORD_0, ROOT, SMALL, Device, File, text_of, with_bytes
 
 TOLD = b"formatted 8840\n"
 CALLS_OF_FORMAT = 13  # the syncs of the new file and of its folder, one more and a read, then six writes and three syncs
@@ -124,6 +124,18 @@ class Formatting(Case):
         end = run(["format", os.path.join(closed, "made"), *options_of(SMALL)], user=user)
         os.chmod(closed, 0o700)
         self.ends("format in a folder that can't be read", end, 0, TOLD, b"")
+
+    def test_a_folder_that_can_not_be_opened(self):
+        """Any other refusal to open the folder is a fault: here the new file takes the last number that a file may have."""
+        words, limited = ["format", self.at("made"), *options_of(SMALL)], 'ulimit -n {} && exec "$0" "$@"'
+        ends = (run(words, program=["sh", "-c", limited.format(most), PROGRAM]) for most in range(4, 64))
+        self.has_ended(next(end for end in ends if os.path.exists(self.at("made"))), 1, b"", DEVICE_FAULT)
+
+    def test_the_calls_of_a_great_format(self):
+        """The image of the greatest device has 8,521,792 bytes: they take 130 writes of 65,536 bytes, and one of the rest."""
+        end, (calls, *_) = self.between("stop.c").counts(self.at("counts"), ["format", self.at("great"), *options_of(GREATEST)])
+        self.has_ended(end, 0, b"formatted 18110848\n", b"")
+        self.assertEqual(calls, CALLS_OF_FORMAT + 130)
 
     def test_faults(self):
         """Each call of the device fails in turn, alone or with all behind it: nothing is printed but the fault."""
