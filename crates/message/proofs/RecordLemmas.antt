@@ -1,5 +1,5 @@
 -- Messages and their records.
-use Rattle.std.proofs.Common.{◌≡◌, ℕ, lit≤, zero, suc, Bool, true, ◌+◌, ◌<◌, List, [], ◌∷◌, ◌++◌, length, length-append, length-drop, length-take-le, get_or, take, drop, replicate, Option, Some, None, refl, ap, sym, subst, ◌∙◌, arith}
+use Rattle.std.proofs.Common.{◌≡◌, ℕ, lit≤, zero, suc, Bool, true, ◌+◌, ◌<◌, ◌≤◌, List, [], ◌∷◌, ◌++◌, length, length-append, length-drop, length-take-le, get_or, take, drop, replicate, Option, Some, None, refl, ap, sym, subst, ◌∙◌, append_assoc, arith}
 use Rattle.std.specs.Prelude.{option_map, slice_index, nat_lt, ◌↔◌, ◌&&◌}
 use Rattle.std.specs.List.{AllByRecursion}
 use Rattle.std.proofs.lemmas.Bool.{and_parts, ltb-true}
@@ -106,6 +106,21 @@ put_together out head bytes k room h d n =
     let front : take 8 (head ++ drop 8 out) ≡ head = take_at head (drop 8 out) 8 h in
     let behind : drop k (drop 8 (head ++ drop 8 out)) ≡ [] = ap (drop k) (drop_at head (drop 8 out) 8 h) ∙ drop-drop k 8 out ∙ drop_all (8 + k) out (omega arith) in
     (λ i. front i ++ (bytes ++ behind i)) ∙ ap (λ (xs : List ℕ). head ++ xs) (append-nil bytes)
+
+-- a label is written behind the head, and then zeros behind the label
+pub put_label : (out head label : List ℕ) → length out ≡ 520 → length head ≡ 8 → length label ≡ 32
+    → put_mid 40 480 (put_mid 8 32 (head ++ post_of 0 8 out) label) (replicate 480 0) ≡ head ++ (label ++ replicate 480 0)
+put_label out head label room h l =
+    let xs = head ++ drop 8 out in
+    let rest = drop 32 (drop 8 xs) in
+    let zeros : List ℕ = replicate 480 0 in
+    let first : put_mid 8 32 xs label ≡ (head ++ label) ++ rest = (λ i. take_at head (drop 8 out) 8 h i ++ (label ++ rest)) ∙ sym (append_assoc head label rest) in
+    let both : length (head ++ label) ≡ 40 = omega (arith, length-append head label, h, l) in
+    let behind_head : drop 8 xs ≡ drop 8 out = drop_at head (drop 8 out) 8 h in
+    let long : length rest ≤ 480 = omega (arith, length-drop 32 (drop 8 xs), ap length behind_head, length-drop 8 out, room) in
+    let front : take 40 ((head ++ label) ++ rest) ≡ head ++ label = take_at (head ++ label) rest 40 both in
+    let behind : drop 480 (drop 40 ((head ++ label) ++ rest)) ≡ [] = ap (drop 480) (drop_at (head ++ label) rest 40 both) ∙ drop_all 480 rest long in
+    ap (λ (ys : List ℕ). put_mid 40 480 ys zeros) first ∙ (λ i. front i ++ (zeros ++ behind i)) ∙ ap (λ (ys : List ℕ). (head ++ label) ++ ys) (append-nil zeros) ∙ append_assoc head label zeros
 
 -- ---- what is decoded is a message
 
@@ -237,6 +252,29 @@ length_behind out head room h =
     let both = length-append head (drop 8 out) in
     let behind = length-drop 8 out in
     length-take-le 512 (drop 8 (head ++ drop 8 out)) (omega arith)
+
+-- the places of a label and of the zeros behind it
+pub length_label : (out head : List ℕ) → length out ≡ 520 → length head ≡ 8 → length (take 32 (drop 8 (head ++ drop 8 out))) ≡ 32
+length_label out head room h =
+    let rest = length-drop 8 (head ++ drop 8 out) in
+    let both = length-append head (drop 8 out) in
+    let behind = length-drop 8 out in
+    length-take-le 32 (drop 8 (head ++ drop 8 out)) (omega arith)
+
+pub length_zeros : (out head label : List ℕ) → length out ≡ 520 → length head ≡ 8 → length label ≡ 32
+    → length (take 480 (drop 40 (put_mid 8 32 (head ++ post_of 0 8 out) label))) ≡ 480
+length_zeros out head label room h l =
+    let xs : List ℕ = head ++ drop 8 out in
+    let all : List ℕ = put_mid 8 32 xs label in
+    let both = length-append head (drop 8 out) in
+    let behind = length-drop 8 out in
+    let front = length-take-le 8 xs (omega (arith, both, behind, room, h)) in
+    let whole = length-append (take 8 xs) (label ++ drop 32 (drop 8 xs)) in
+    let after = length-append label (drop 32 (drop 8 xs)) in
+    let later = length-drop 32 (drop 8 xs) in
+    let sooner = length-drop 8 xs in
+    let rest = length-drop 40 all in
+    length-take-le 480 (drop 40 all) (omega (arith, both, behind, room, h, l, front, whole, after, later, sooner, rest))
 
 -- ---- the head and the data of a record
 

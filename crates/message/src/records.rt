@@ -7,7 +7,7 @@ ghost use Rattle.message.specs.Heads.{has_data};
 ghost use Rattle.message.specs.Records.{FitsRecord, assembled, data_of, message_in_fields, record_head, kind_number, kind_numbered, record_of};
 ghost use Rattle.language.specs.declared.Msg.{Msg};
 
-use affinity::{Geometry, Kind, place_of};
+use affinity::{Geometry, Kind, is_in_range};
 use byteorder::{ByteOrder, LittleEndian};
 use language::{Block, Msg};
 
@@ -20,8 +20,11 @@ pub fn encode(m: &Msg, out: &mut [u8; 520])
     out[..8].copy_from_slice(&head_of(m));
     match m {
         Msg::Write(_, _, _, _, content) => out[8..].copy_from_slice(&content.0),
-        Msg::SetLabel(_, _, label) => out[8..].copy_from_slice(&label_data(label)),
-        _ => out[8..].copy_from_slice(&[0; 512]),
+        Msg::SetLabel(_, _, label) => {
+            out[8..40].copy_from_slice(label);
+            out[40..].fill(0);
+        }
+        _ => out[8..].fill(0),
     }
 }
 
@@ -31,7 +34,9 @@ pub fn decode(bytes: &[u8; 520], g: &Geometry) -> Option<Msg>
     ensures whole { IfSome result IsMessage }
 {
     let m = message_in_fields(bytes)?;
-    place_of(g, m.kind(), m.numbers())?;
+    if !is_in_range(g, m.kind(), m.numbers()) {
+        return None;
+    }
     if has_head_of(bytes, &m) && has_data_of(bytes, &m) {
         Some(m)
     } else {
@@ -69,14 +74,6 @@ fn head_of(m: &Msg) -> [u8; 8]
     let mut head = [kind, aggregate as u8, volume as u8, file as u8, 0, 0, 0, 0];
     LittleEndian::write_u16(&mut head[4..6], block);
     head
-}
-
-fn label_data(label: &[u8; 32]) -> [u8; 512]
-    ensures { result ≡ label.now ++ replicate 480 0 }
-{
-    let mut bytes = [0; 512];
-    bytes[..32].copy_from_slice(label);
-    bytes
 }
 
 /// The message that the fields encode; fields that its kind doesn't use are ignored.

@@ -22,11 +22,12 @@ has_head_of-requires c = room_if_decoded c.args.bytes.now c.in_ok-m.m c.told-byt
 pub returns-in_err-m-clause-exact : goal.returns-in_err-m-clause-exact
 returns-in_err-m-clause-exact c = decodes_none c.args.g.now c.args.bytes.now _ c.from_residual.ensures (λ m says is there. let f : None ≡ Some m = c.in_err-m.ensures ∙ says in cc f)
 
-pub returns-in_err-place_of-clause-exact : goal.returns-in_err-place_of-clause-exact
-returns-in_err-place_of-clause-exact c =
+pub returns-then-not-is_in_range-clause-exact : goal.returns-then-not-is_in_range-clause-exact
+returns-then-not-is_in_range-clause-exact c =
     let g = c.args.g.now in
-    let out = tested g c.in_ok-m.m c.kind.result c.numbers.result false c.kind.ensures c.numbers.ensures c.in_err-place_of.ensures.in_range in
-    decodes_none g c.args.bytes.now _ c.from_residual-in_err-place_of.ensures (λ m says is there.
+    let out = tested g c.in_ok-m.m c.kind.result c.numbers.result c.is_in_range.result c.kind.ensures c.numbers.ensures c.is_in_range.ensures
+    ∙ c.if-not-is_in_range.true in
+    decodes_none g c.args.bytes.now None refl (λ m says is there.
     let same : c.in_ok-m.m ≡ m = same_Some c.in_ok-m.m m (c.in_ok-m.ensures ∙ says) in
     true≢false (sym there ∙ sym (ap (is_in_range g) same) ∙ out))
 
@@ -35,7 +36,8 @@ returns-then-has_data_of-clause-exact c =
     let g = c.args.g.now in
     let bytes = c.args.bytes.now in
     let m = c.in_ok-m.m in
-    let there = tested g m c.kind.result c.numbers.result true c.kind.ensures c.numbers.ensures c.in_ok-place_of.ensures.in_range in
+    let there = tested g m c.kind.result c.numbers.result c.is_in_range.result c.kind.ensures c.numbers.ensures c.is_in_range.ensures
+    ∙ c.if-not-is_in_range.false in
     let head = c.has_head_of.ensures.0 c.if-has_head_of.true in
     decodes_some g bytes m (sym c.in_ok-m.ensures) (record_by_parts bytes m head (c.has_data_of.ensures.0 c.if-has_data_of.true)) there
 
