@@ -8,7 +8,7 @@ ghost use Rattle.language.specs.Replies.{no_message, reply_line};
 ghost use Rattle.message.specs.Waiting.{FitsReply, all_output};
 ghost use Rattle.language.specs.declared.Reply.TheVariants.{Done, Refused, Block as block_reply};
 
-use crate::printing::write_block;
+use crate::printing::{refusal_line, write_block};
 use crate::reading::LineReader;
 use crate::{LONGEST_REPLY, no_message_line, write_reply};
 use language::{Block, Refusal, Reply};
@@ -33,21 +33,6 @@ fn put_line(line: &[u8], bytes: &mut Vec<u8>, at: usize) -> usize
     let end = at + line.len();
     bytes.as_mut_slice()[at..end].copy_from_slice(line);
     end
-}
-
-/// The line of a refusal, its newline included.
-fn refusal_line(why: Refusal) -> &'static [u8]
-    ensures line { result.now ≡ reply_line (Refused why) }
-    ensures bound { length result.now ≤ LONGEST_REPLY }
-{
-    match why {
-        Refusal::Range => b"error range\n",
-        Refusal::Volume => b"error volume\n",
-        Refusal::Exists => b"error exists\n",
-        Refusal::Sealed => b"error sealed\n",
-        Refusal::File => b"error file\n",
-        Refusal::Space => b"error space\n",
-    }
 }
 
 /// Writes the line of a reply to the front of `room`, and gives its length.
@@ -269,6 +254,6 @@ impl ReplyBuffer {
         requires { FitsReply self.old }
         ensures { self.new ≡ self.old ++ no_message }
     {
-        self.len = put_line(no_message_line(), &mut self.bytes, self.len);
+        self.add_line(no_message_line());
     }
 }
