@@ -29,8 +29,8 @@ pub enum Head<'a> {
     WithoutData(Kind, [u16; 4]),
     /// The line is a `write` with these numbers, if these bytes are the digits of a block.
     Writes([u16; 4], &'a [u8]),
-    /// The line is a `setlabel` with the first two of these numbers, if these bytes are the digits of a label. The others are 0: so the
-    /// numbers and the digits of each head lie in the same place, and a head is made without a copy.
+    /// The line is a `setlabel` with the first two of these numbers, if these bytes are the digits of a label. The others say nothing: they
+    /// are there so that the numbers and the digits of each head lie in the same place, and a head is made without a copy.
     SetsLabel([u16; 4], &'a [u8]),
 }
 
