@@ -10,6 +10,7 @@ ghost use Rattle.message.specs.Waiting.{FitsReply, all_output};
 ghost use Rattle.language.specs.Lines.{block_in_word, label_in_word};
 ghost use Rattle.message.specs.Heads.{IsWithoutData, labeling, message_without_data, writing};
 ghost use Rattle.affinity.specs.Kind.{is_changing};
+ghost use Rattle.affinity.specs.declared.kinds.Kind.TheVariants as kinds;
 ghost use Rattle.meaning.specs.Serial.{done_or_refused};
 ghost use Rattle.meaning.specs.State.{State, empty};
 ghost use Rattle.plain.specs.Answering.{AnswersLine};
@@ -63,6 +64,23 @@ fn add_label(a: u16, v: u16, server: &Server, out: &mut ReplyBuffer)
     out.add_reply(&server.label_of(a, v));
 }
 
+/// Answers a `read`.
+fn answer_read(g: &Geometry, numbers: [u16; 4], server: &Server, out: &mut ReplyBuffer)
+    requires asked { IsWithoutData kinds.Read numbers (Some (message_without_data kinds.Read numbers)) }
+    requires sound { IsConsistent g.now server.now }
+    requires room { FitsReply out.old }
+    ensures { AnswersLine g.now (Some (message_without_data kinds.Read numbers)) true server.now server.now out.old out.new }
+{
+    if let Some(content) = server.block_at(g, numbers) {
+        out.add_block(content);
+        return;
+    }
+    match server.refusal_by(g, Kind::Read, numbers) {
+        Some(why) => out.add_refusal(why),
+        None => out.add_reply(&Reply::Hole),
+    }
+}
+
 /// Answers a message that changes nothing.
 #[inline(never)]
 fn answer_question(
@@ -79,8 +97,8 @@ fn answer_question(
     requires room { FitsReply out.old }
     ensures { AnswersLine g.now (Some (message_without_data kind numbers)) true server.now server.now out.old out.new }
 {
-    if let Some(content) = server.block_by(g, kind, numbers) {
-        out.add_block(content);
+    if let Kind::Read = kind {
+        answer_read(g, numbers, server, out);
         return;
     }
     if let Some(why) = server.refusal_by(g, kind, numbers) {
@@ -89,7 +107,6 @@ fn answer_question(
     }
     let [a, v, _, _] = numbers;
     match kind {
-        Kind::Read => out.add_reply(&Reply::Hole),
         Kind::List => out.add_reply(&server.list_files(g, a, v)),
         Kind::Usage => out.add_reply(&server.usage_of(g, a, v)),
         Kind::Summary => add_summary(g, server, out),

@@ -18,9 +18,10 @@ impl Server {
         ensures state { server_state self.new ≡ effect (server_state self.old) (Msg.SetLabel a v bytes.now) }
         ensures counted { (g : Geometry) → HasRightCounts g self.old → HasRightCounts g self.new }
     {
-        if let Some(volume) = self.volumes.get_mut(&(a, v)) {
-            volume.label = *bytes;
-        }
+        let Some(volume) = self.volumes.get_mut(&(a, v)) else {
+            unreachable!()
+        };
+        volume.label = *bytes;
     }
 
     /// Makes a volume that isn't there, with a label of zeros.
@@ -46,9 +47,10 @@ impl Server {
         ensures state { server_state self.new ≡ effect (server_state self.old) (Msg.Create a v f) }
         ensures counted { (g : Geometry) → HasRightCounts g self.old → HasRightCounts g self.new }
     {
-        if let Some(volume) = self.volumes.get_mut(&(a, v)) {
-            volume.files |= 1 << f;
-        }
+        let Some(volume) = self.volumes.get_mut(&(a, v)) else {
+            unreachable!()
+        };
+        volume.files |= 1 << f;
     }
 
     /// Seals or unseals a volume that is made, whether it was sealed or not.
@@ -57,9 +59,10 @@ impl Server {
         ensures state { server_state self.new ≡ effect (server_state self.old) (if sealed then Msg.Seal a v else Msg.Unseal a v) }
         ensures counted { (g : Geometry) → HasRightCounts g self.old → HasRightCounts g self.new }
     {
-        if let Some(volume) = self.volumes.get_mut(&(a, v)) {
-            volume.sealed = sealed;
-        }
+        let Some(volume) = self.volumes.get_mut(&(a, v)) else {
+            unreachable!()
+        };
+        volume.sealed = sealed;
     }
 
     /// Carries out a message without data that passes its checks, by its kind and its numbers.

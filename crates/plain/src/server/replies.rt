@@ -9,7 +9,7 @@ ghost use Rattle.plain.specs.Server.{server_state, IsConsistent};
 
 use super::Server;
 use super::places::Place;
-use affinity::{Geometry, Kind};
+use affinity::Geometry;
 use language::{Block, Reply};
 
 impl Server {
@@ -23,20 +23,15 @@ impl Server {
         }
     }
 
-    /// The block that answers a `read`, by reference. A block that is there has a file and a volume, so
-    /// the read passes its checks, and these needn't be looked up. Where there is no block, the reply
-    /// to a `read` that passes its checks is a hole.
-    pub(crate) fn block_by(&self, g: &Geometry, kind: Kind, numbers: [u16; 4]) -> Option<&Block>
+    /// The block that answers a `read` of these numbers, by reference. A block that is there has a file and a volume, so the read passes
+    /// its checks, and these needn't be looked up. Where there is no block, the reply to a `read` that passes its checks is a hole.
+    pub(crate) fn block_at(&self, g: &Geometry, numbers: [u16; 4]) -> Option<&Block>
         requires sound { IsConsistent g.now self.now }
         ensures shown { IfSome result (λ content.
-            step g.now (server_state self.now) (message_without_data kind numbers) ≡ (shows content.now, server_state self.now)) }
-        ensures hole { IfNone result (kind ≡ kinds.Read
-            → accepted_reply g.now (server_state self.now) (message_without_data kind numbers) ≡ Hole) }
+            step g.now (server_state self.now) (message_without_data kinds.Read numbers) ≡ (shows content.now, server_state self.now)) }
+        ensures hole { IfNone result (accepted_reply g.now (server_state self.now) (message_without_data kinds.Read numbers) ≡ Hole) }
     {
         let [a, v, f, b] = numbers;
-        match kind {
-            Kind::Read => self.blocks.get(&Place { b, f, v, a }),
-            _ => None,
-        }
+        self.blocks.get(&Place { b, f, v, a })
     }
 }

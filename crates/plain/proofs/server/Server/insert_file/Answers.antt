@@ -6,8 +6,8 @@ use Rattle.meaning.proofs.FileBits.{with_bit}
 use Rattle.plain.proofs.Volumes.{new_file_state}
 use Rattle.plain.proofs.server.Server.insert_file.Goals as goal
 
-pub returns-in-Some-clause-state : goal.returns-in-Some-clause-state
-returns-in-Some-clause-state c =
+pub returns-clause-state : goal.returns-clause-state
+returns-clause-state c =
     let was = sym c.in-Some.ensures.value in
     let now = record c.in-Some.volume.now { files = with_bit c.in-Some.volume.now.files c.args.f } in
     new_file_state (map.get volume_order c.args.self.now.volumes) (map.get volume_order (c.get_mut.follows.lender now)) c.args.a c.args.v (Some now)

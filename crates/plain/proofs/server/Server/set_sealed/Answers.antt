@@ -5,8 +5,8 @@ use Rattle.meaning.specs.KeyOrders.{volume_order, block_order}
 use Rattle.plain.proofs.Volumes.{sealed_state}
 use Rattle.plain.proofs.server.Server.set_sealed.Goals as goal
 
-pub returns-in-Some-clause-state : goal.returns-in-Some-clause-state
-returns-in-Some-clause-state c =
+pub returns-clause-state : goal.returns-clause-state
+returns-clause-state c =
     let was = sym c.in-Some.ensures.value in
     let now = record c.in-Some.volume.now { sealed = c.args.sealed } in
     sealed_state (map.get volume_order c.args.self.now.volumes) (map.get volume_order (c.get_mut.follows.lender now)) c.args.a c.args.v (Some now)

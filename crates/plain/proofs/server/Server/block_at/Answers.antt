@@ -3,7 +3,6 @@ use Rattle.std.proofs.Common.{◌≡◌, ℕ, None, Some, Option, Bor, ap, sym, 
 use Rattle.std.specs.Prelude.{IfNone, IfSome}
 use Rattle.std.specs.Option.{option_copied}
 use Rattle.affinity.specs.declared.geometry.Geometry.{Geometry}
-use Rattle.affinity.specs.declared.kinds.Kind.TheVariants as kinds
 use Rattle.language.specs.declared.Block.{Block}
 use Rattle.language.specs.declared.Msg.TheVariants.{Read}
 use Rattle.language.specs.declared.Reply.TheVariants.{Block as shows, Hole}
@@ -11,23 +10,23 @@ use Rattle.meaning.specs.State.{State, IsState}
 use Rattle.meaning.specs.Serial.{accepted_reply, block_reply, step}
 use Rattle.plain.specs.Server.{server_state}
 use Rattle.meaning.proofs.ByKind.{read_told}
-use Rattle.plain.proofs.server.Server.block_by.Goals as goal
+use Rattle.plain.proofs.server.Server.block_at.Goals as goal
 
 looked_up : {g : Geometry} {x : State} → IsState g x → (a v f b : ℕ) (r : Option (Bor Block)) → option_copied r ≡ x.blocks (a, v, f, b)
     → IfSome r (λ content. step g x (Read a v f b) ≡ (shows content.now, x))
 looked_up s a v f b (Some content) h = read_told s a v f b (sym h)
 looked_up s a v f b None h = tt
 
-none_there : (g : Geometry) (x : State) (a v f b : ℕ) (r : Option (Bor Block)) → option_copied r ≡ x.blocks (a, v, f, b) → IfNone r (kinds.Read ≡ kinds.Read → accepted_reply g x (Read a v f b) ≡ Hole)
+none_there : (g : Geometry) (x : State) (a v f b : ℕ) (r : Option (Bor Block)) → option_copied r ≡ x.blocks (a, v, f, b) → IfNone r (accepted_reply g x (Read a v f b) ≡ Hole)
 none_there g x a v f b (Some content) h = tt
-none_there g x a v f b None h = λ _. ap block_reply (sym h)
+none_there g x a v f b None h = ap block_reply (sym h)
 
-pub returns-in-Read-clause-shown : goal.returns-in-Read-clause-shown
-returns-in-Read-clause-shown c =
+pub returns-clause-shown : goal.returns-clause-shown
+returns-clause-shown c =
     let ns = c.args.numbers in
-    rw c.in-Read.is (looked_up c.requires.sound.state (slice_index ns 0) (slice_index ns 1) (slice_index ns 2) (slice_index ns 3) c.get.result c.get.ensures.value)
+    looked_up c.requires.sound.state (slice_index ns 0) (slice_index ns 1) (slice_index ns 2) (slice_index ns 3) c.get.result c.get.ensures.value
 
-pub returns-in-Read-clause-hole : goal.returns-in-Read-clause-hole
-returns-in-Read-clause-hole c =
+pub returns-clause-hole : goal.returns-clause-hole
+returns-clause-hole c =
     let ns = c.args.numbers in
-    rw c.in-Read.is (none_there c.args.g.now (server_state c.args.self.now) (slice_index ns 0) (slice_index ns 1) (slice_index ns 2) (slice_index ns 3) c.get.result c.get.ensures.value)
+    none_there c.args.g.now (server_state c.args.self.now) (slice_index ns 0) (slice_index ns 1) (slice_index ns 2) (slice_index ns 3) c.get.result c.get.ensures.value
