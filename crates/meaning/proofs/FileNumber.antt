@@ -54,6 +54,10 @@ count_bits (suc n) m =
 pub bits_back : (n m : ℕ) → m < 2 ^ n → sum_below n (λ f. if has_file m f then 2 ^ f else 0) ≡ m
 bits_back n m below = sum_bits n m ∙ mod-eq_of_lt below
 
+-- and has as many ones as files are counted below n
+pub count_back : (n m : ℕ) → m < 2 ^ n → count_below n (has_file m) ≡ count_ones m
+count_back n m below = count_bits n m ∙ ap count_ones (mod-eq_of_lt below)
+
 -- the number whose bits below n are those that the test picks
 abbrev pub number_of : ℕ → (ℕ → Bool) → ℕ
 number_of n t = sum_below n (λ f. if t f then 2 ^ f else 0)
@@ -121,4 +125,4 @@ module _ (n m : ℕ) (within : (f : ℕ) → has_file m f ≡ true → f < n) wh
 
   -- as many are set as the number has ones
   pub count_within : count_below n (has_file m) ≡ count_ones m
-  count_within = count_bits n m ∙ ap count_ones (mod-eq_of_lt below_within)
+  count_within = count_back n m below_within

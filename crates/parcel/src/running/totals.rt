@@ -8,7 +8,6 @@ ghost use Rattle.parcel.specs.Totals.{block_total, entry_count, file_total, sum_
 
 use crate::{Aggr, Logical, Root, StripeParcel, Vol};
 use affinity::Geometry;
-use language::has_file;
 
 /// How many volumes are made, and how many files and blocks they have.
 #[derive(Clone, Copy)]
@@ -43,20 +42,15 @@ impl Totals {
     }
 }
 
-// How many files there are.
-fn file_count(files: u64, g: &Geometry) -> u32
-    ensures { result ≡ file_total g.now (has_file files) }
+/// How many files a volume has. None is beyond those of the geometry, so that each bit counts.
+fn file_count(logical: &Logical, g: &Geometry) -> u32
+    requires { FitsLogical g.now logical.now }
+    ensures { result ≡ file_total g.now (has_file logical.now.files) }
 {
-    let mut total = 0;
-    for f in 0..g.files {
-        if has_file(files, f) {
-            total += 1;
-        }
-    }
-    total
+    logical.files.count_ones()
 }
 
-// How many blocks lie in a stripe: none where it is checked out.
+/// How many blocks lie in a stripe: none where it is lent.
 fn entry_count(node: &Option<StripeParcel>) -> u32
     requires { IfSome node.now (λ p. p.quota ≤ 64) }
     ensures count { result ≡ entry_count node.now }
@@ -68,7 +62,7 @@ fn entry_count(node: &Option<StripeParcel>) -> u32
     }
 }
 
-// How many blocks the stripes of a volume have.
+/// How many blocks the stripes of a volume have.
 fn block_count(logical: &Logical, g: &Geometry) -> u32
     requires { FitsLogical g.now logical.now }
     ensures { result ≡ block_total g.now (blocks_of g.now logical.now.stripes.items) }
@@ -86,7 +80,7 @@ pub(crate) fn volume_totals(volume: &Vol, g: &Geometry) -> Totals
     ensures { result ≡ totals_of g.now (volume_facts g.now volume.now) }
 {
     let (files, blocks) = match &volume.logical {
-        Some(logical) => (file_count(logical.files, g), block_count(logical, g)),
+        Some(logical) => (file_count(logical, g), block_count(logical, g)),
         None => (0, 0),
     };
     Totals {
@@ -96,7 +90,7 @@ pub(crate) fn volume_totals(volume: &Vol, g: &Geometry) -> Totals
     }
 }
 
-// How much a volume holds: nothing where it is checked out.
+/// How much a volume holds: nothing where it is lent.
 fn volume_in(node: &Option<Vol>, g: &Geometry) -> Totals
     requires { IfSome node.now (FitsVolume g.now) }
     ensures { result ≡ totals_of g.now (child_facts (volume_facts g.now) node.now) }
@@ -107,7 +101,7 @@ fn volume_in(node: &Option<Vol>, g: &Geometry) -> Totals
     }
 }
 
-// How much the volumes of an aggregate hold.
+/// How much the volumes of an aggregate hold.
 fn aggregate_totals(aggregate: &Aggr, g: &Geometry) -> Totals
     requires { FitsAggregate g.now aggregate.now }
     ensures { result ≡ sum_totals g.now.volumes (λ v. totals_of g.now (aggregate_facts g.now aggregate.now v)) }
@@ -119,7 +113,7 @@ fn aggregate_totals(aggregate: &Aggr, g: &Geometry) -> Totals
     totals
 }
 
-// How much the volumes of an aggregate hold: nothing where it is checked out.
+/// How much the volumes of an aggregate hold: nothing where it is lent.
 fn aggregate_in(node: &Option<Aggr>, g: &Geometry) -> Totals
     requires { IfSome node.now (FitsAggregate g.now) }
     ensures { result ≡ sum_totals g.now.volumes (λ v. totals_of g.now (child_facts (λ r. aggregate_facts g.now r v) node.now)) }

@@ -1,11 +1,7 @@
--- There are at most 64 files, so that their number does not overflow.
-use Rattle.std.proofs.Common.{arith}
-use Rattle.meaning.proofs.Sums.{count_below-le}
-use Rattle.parcel.specs.Shown.{has_file}
+-- No file is beyond those of the geometry, so the bits that are set are the files that are counted.
+use Rattle.std.proofs.Common.{sym}
+use Rattle.meaning.proofs.FileNumber.{count_back}
 use Rattle.parcel.proofs.running.totals.file_count.Goals as goal
 
-pub overflow_add-total : goal.overflow_add-total
-overflow_add-total c =
-    let few = count_below-le c.loop-f.f (has_file c.args.files) in
-    let most = c.args.g.now.files_range.1 in
-    omega (arith, c.loop-f.invariant)
+pub returns : goal.returns
+returns c = sym (count_back c.args.g.now.files c.args.logical.now.files c.requires.files)
