@@ -19,7 +19,7 @@ use crate::{Aggr, Label, Logical, StripeParcel, Vol};
 use affinity::Geometry;
 use language::{Msg, Refusal, Reply};
 
-// Whether the volume at one index is made, and whether it is sealed.
+/// Whether the volume at one index is made, and whether it is sealed.
 fn marks(node: &Option<Vol>) -> (bool, bool)
     ensures made { (g : Geometry) → result.0 ≡ (child_facts (volume_facts g) node.now).made }
     ensures sealed { (g : Geometry) → result.1 ≡ (child_facts (volume_facts g) node.now).sealed }
@@ -30,22 +30,21 @@ fn marks(node: &Option<Vol>) -> (bool, bool)
     }
 }
 
-// Makes the volume at one index, which isn't checked out, with a label of zeros.
+/// Makes the volume at one index, which isn't lent, with a label of zeros.
 fn make(node: &mut Option<Vol>)
     requires { IsWholeChild IsWholeVolume node.old }
     ensures facts { (g : Geometry) → child_facts (volume_facts g) node.new ≡ with_made (child_facts (volume_facts g) node.old) }
     ensures whole { IsWholeChild IsWholeVolume node.new }
     ensures fits { (g : Geometry) → IfSome node.old (FitsVolume g) → IfSome node.new (FitsVolume g) }
 {
-    if let Some(volume) = node {
-        volume.made = true;
-        volume.label = Some(Label {
-            bytes: Some([0; 32]),
-        });
-    }
+    let Some(volume) = node else { unreachable!() };
+    volume.made = true;
+    volume.label = Some(Label {
+        bytes: Some([0; 32]),
+    });
 }
 
-// Removes all blocks from a stripe, unless it is checked out.
+/// Removes all blocks from a stripe, unless it is lent.
 fn clear_in(node: &mut Option<StripeParcel>)
     ensures { Removes (λ i j. true) node.old node.new }
 {
@@ -54,7 +53,7 @@ fn clear_in(node: &mut Option<StripeParcel>)
     }
 }
 
-// Removes all blocks from each stripe that isn't checked out.
+/// Removes all blocks from each stripe that isn't lent.
 fn clear_stripes(stripes: &mut Vec<Option<StripeParcel>>)
     ensures count { vec_len stripes.new ≡ vec_len stripes.old }
     ensures each { (s : ℕ) → s < vec_len stripes.old
@@ -65,7 +64,7 @@ fn clear_stripes(stripes: &mut Vec<Option<StripeParcel>>)
     }
 }
 
-// Removes all files and their blocks.
+/// Removes all files and their blocks.
 fn clear_files(logical: &mut Logical)
     ensures files { logical.new.files ≡ 0 }
     ensures blocks { (g : Geometry) (i j : ℕ) → blocks_of g logical.new.stripes.items i j ≡ None }
@@ -76,24 +75,23 @@ fn clear_files(logical: &mut Logical)
     clear_stripes(&mut logical.stripes);
 }
 
-// Removes the volume at one index, which isn't checked out, with all that it has.
+/// Removes the volume at one index, which isn't lent, with all that it has.
 fn clear(node: &mut Option<Vol>)
     requires { IsWholeChild IsWholeVolume node.old }
     ensures facts { (g : Geometry) → child_facts (volume_facts g) node.new ≡ no_facts }
     ensures whole { IsWholeChild IsWholeVolume node.new }
     ensures fits { (g : Geometry) → IfSome node.old (FitsVolume g) → IfSome node.new (FitsVolume g) }
 {
-    if let Some(volume) = node {
-        volume.made = false;
-        volume.sealed = false;
-        if let Some(logical) = &mut volume.logical {
-            clear_files(logical);
-        }
-        volume.label = Some(Label { bytes: None });
+    let Some(volume) = node else { unreachable!() };
+    volume.made = false;
+    volume.sealed = false;
+    if let Some(logical) = &mut volume.logical {
+        clear_files(logical);
     }
+    volume.label = Some(Label { bytes: None });
 }
 
-// Makes a volume, or refuses to. (`at_aggregate g a r` is the state that has r as aggregate a, and nothing else.)
+/// Makes a volume, or refuses to. (`at_aggregate g a r` is the state that has r as aggregate a, and nothing else.)
 fn make_volume(aggregate: &mut Aggr, g: &Geometry, v: u16) -> Result<(), Refusal>
     requires volume { v < g.now.volumes }
     requires fits { FitsAggregate g.now aggregate.old }
@@ -111,7 +109,7 @@ fn make_volume(aggregate: &mut Aggr, g: &Geometry, v: u16) -> Result<(), Refusal
     Ok(())
 }
 
-// Removes a volume with all that it has, or refuses to.
+/// Removes a volume with all that it has, or refuses to.
 fn drop_volume(aggregate: &mut Aggr, g: &Geometry, v: u16) -> Result<(), Refusal>
     requires volume { v < g.now.volumes }
     requires fits { FitsAggregate g.now aggregate.old }

@@ -16,7 +16,7 @@ use crate::{Standing, StripeParcel};
 use affinity::Geometry;
 use language::{Block, Msg, Refusal, Reply, has_file};
 
-// Whether a block is there already, or there is room for one more.
+/// Whether a block is there already, or there is room for one more.
 fn has_space(stripe: &StripeParcel, g: &Geometry, f: u16, b: u16) -> bool
     ensures room { result ≡ (is_some (content_at stripe.now.entries f b) || nat_lt (length stripe.now.entries) g.now.quota) }
     ensures kept { StripeRule stripe.now }
@@ -24,7 +24,7 @@ fn has_space(stripe: &StripeParcel, g: &Geometry, f: u16, b: u16) -> bool
     stripe.get(f, b).is_some() || stripe.len() < usize::from(g.quota)
 }
 
-// Puts a block into a file.
+/// Puts a block into a file.
 fn write(
     stripe: &mut StripeParcel,
     g: &Geometry,
@@ -40,14 +40,13 @@ fn write(
         (reply_to_change result) (stripe_facts standing stripe.new) }
     ensures fits { FitsStripe g.now (stripe_of g.now f b) stripe.new }
 {
-    let room = has_space(stripe, g, f, b);
     guard_file(standing.made, standing.sealed, standing.files, f)?;
-    guard(room, Refusal::Space)?;
+    guard(has_space(stripe, g, f, b), Refusal::Space)?;
     stripe.set(f, b, content);
     Ok(())
 }
 
-// Removes a block from a file.
+/// Removes a block from a file.
 fn punch(stripe: &mut StripeParcel, standing: Standing, f: u16, b: u16) -> Result<(), Refusal>
     ensures step { (g : Geometry) → IsVolumeStep g (λ a v. Msg.Punch a v f b) (stripe_facts standing stripe.old)
         (reply_to_change result) (stripe_facts standing stripe.new) }
@@ -58,7 +57,7 @@ fn punch(stripe: &mut StripeParcel, standing: Standing, f: u16, b: u16) -> Resul
     Ok(())
 }
 
-// A block of a file, or a hole where it isn't there.
+/// A block of a file, or a hole where it isn't there.
 fn read(stripe: &StripeParcel, standing: Standing, f: u16, b: u16) -> Reply
     ensures { (g : Geometry) → IsVolumeStep g (λ a v. Msg.Read a v f b) (stripe_facts standing stripe.now) result
         (stripe_facts standing stripe.now) }
