@@ -43,7 +43,7 @@ impl<T> Model for Arena<T> {
     ghost invariant = { λ a. ArenaRule a.values.items a.links a.free };
 }
 
-// The value of a slot that has one.
+/// The value of a slot that has one.
 fn value_of<T>(slot: &mut Option<T>) -> &mut T
     requires { IsSome slot.old }
     ensures* lends { sem 𝓛 (option_follows_value T.row slot.entry result) }
@@ -55,7 +55,7 @@ fn value_of<T>(slot: &mut Option<T>) -> &mut T
     }
 }
 
-// Puts a value into a slot that has none.
+/// Puts a value into a slot that has none.
 fn fill<T>(values: &mut Vec<Option<T>>, i: usize, value: T)
     requires is_there { i < vec_len values.old }
     requires empty { slice_index_or values.old.items i None ≡ None }
@@ -138,7 +138,7 @@ impl<T> Arena<T> {
         value_of(&mut self.values[i])
     }
 
-    // Whether a slot holds its value.
+    /// Whether a slot holds its value.
     fn holds(&self, i: usize) -> bool
         ensures answer { result ≡ holds_value self.now i }
         ensures there { IsTrue result → i < capacity_of self.now }
@@ -147,7 +147,7 @@ impl<T> Arena<T> {
         matches!(self.values.get(i), Some(Some(_)))
     }
 
-    // How many chains there are.
+    /// How many chains there are.
     fn chains(&self) -> usize
         ensures { result ≡ length self.now.chains }
     {

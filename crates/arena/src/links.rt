@@ -31,7 +31,7 @@ impl Model for Links {
     ghost invariant = { AreLinks };
 }
 
-// The node after a node in new `Links`.
+/// The node after a node in new `Links`.
 fn next_at_start(slots: usize, node: usize) -> usize
     requires { slots < usize.MAX }
     ensures { result ≡ next_at_start slots node }
@@ -45,7 +45,7 @@ fn next_at_start(slots: usize, node: usize) -> usize
     }
 }
 
-// The node before a node in new `Links`.
+/// The node before a node in new `Links`.
 fn previous_at_start(slots: usize, node: usize) -> usize
     ensures { result ≡ previous_at_start slots node }
 {

@@ -73,8 +73,8 @@ pub fn write_piece(t: &Tree, n: usize, out: &mut [u8])
     }
 }
 
-// Writes the piece of a volume, or of one of its stripes. The bytes depend on this volume's content
-// alone: the clause says so of every state that has it.
+/// Writes the piece of a volume, or of one of its stripes. The bytes depend on this volume's content
+/// alone: the clause says so of every state that has it.
 fn write_part(volume: &Vol, g: &Geometry, part: usize, out: &mut [u8])
     requires fits { FitsVolume g.now volume.now }
     requires whole { IsWholeVolume volume.now }
@@ -134,7 +134,7 @@ pub fn read_piece_1(t: &mut Tree, n: usize, bytes: &[u8]) -> Result<(), BadPiece
     read_piece_of_version(t, FIRST_VERSION, n, bytes)
 }
 
-// Reads bytes into the tree as piece `n` of an image of this version.
+/// Reads bytes into the tree as piece `n` of an image of this version.
 fn read_piece_of_version(t: &mut Tree, version: u8, n: usize, bytes: &[u8]) -> Result<(), BadPiece>
     requires { CanReadPiece n bytes.now t.old }
     ensures { ReadsPiece version n bytes.now result t.old t.new }
@@ -152,7 +152,7 @@ fn read_piece_of_version(t: &mut Tree, version: u8, n: usize, bytes: &[u8]) -> R
     }
 }
 
-// Takes in bytes as the piece of a volume, or of one of its stripes.
+/// Takes in bytes as the piece of a volume, or of one of its stripes.
 fn read_part(volume: &mut Vol, g: &Geometry, part: usize, version: u8, bytes: &[u8]) -> bool
     requires fits { FitsVolume g.now volume.old }
     requires whole { IsWholeVolume volume.old }

@@ -44,7 +44,7 @@ pub fn run(job: Job) -> Done
     }
 }
 
-// Runs a message on the parcels of its place, and gives its reply.
+/// Runs a message on the parcels of its place, and gives its reply.
 #[inline(never)]
 fn run_on(parcels: &mut Parcels, g: &Geometry, standing: Standing, message: &Msg) -> Reply
     requires { IsRunnable g.now message.now parcels.old }

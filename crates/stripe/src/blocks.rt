@@ -16,7 +16,7 @@ pub struct StripeParcel {
     index: Vec<IndexEntry>, // ascending by file, then block
 }
 
-// Where a block of a file lies in the array of buffers.
+/// Where a block of a file lies in the array of buffers.
 #[derive(Clone, Copy)]
 struct IndexEntry {
     file: u16,
@@ -108,7 +108,7 @@ impl StripeParcel {
         self.remove_blocks(0, end);
     }
 
-    // How many blocks come before block `b` of file `f`.
+    /// How many blocks come before block `b` of file `f`.
     fn split(&self, f: usize, b: usize) -> usize
         ensures parts { IsSplit self.now.entries f b result }
         ensures most { length self.now.entries ≤ 64 }
@@ -120,7 +120,7 @@ impl StripeParcel {
         })
     }
 
-    // The position of a block in the index, or as `Err` the one at which it would be inserted.
+    /// The position of a block in the index, or as `Err` the one at which it would be inserted.
     fn find(&self, f: u16, b: u16) -> Result<usize, usize>
         ensures found { MatchResult result (IsAt self.now.entries f b) (IsGap self.now.entries f b) }
         ensures most { length self.now.entries ≤ 64 }
@@ -133,7 +133,7 @@ impl StripeParcel {
         }
     }
 
-    // Puts content into the block at position `n` of the index.
+    /// Puts content into the block at position `n` of the index.
     fn write(&mut self, n: usize, content: &Block)
         requires { n < length self.old.entries }
         ensures { self.new ≡ record self.old { entries = rewritten self.old.entries n content.now } }
@@ -145,7 +145,7 @@ impl StripeParcel {
         }
     }
 
-    // Makes a block, at position `n` of the index.
+    /// Makes a block, at position `n` of the index.
     fn insert(&mut self, n: usize, f: u16, b: u16, content: &Block)
         requires gap { IsGap self.old.entries f b n }
         requires room { length self.old.entries < self.old.quota }
@@ -166,7 +166,7 @@ impl StripeParcel {
         };
     }
 
-    // Removes the blocks from position `from` of the index up to `end`, which stays.
+    /// Removes the blocks from position `from` of the index up to `end`, which stays.
     fn remove_blocks(&mut self, from: usize, end: usize)
         requires order { from ≤ end }
         requires within { end ≤ length self.old.entries }

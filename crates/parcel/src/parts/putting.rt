@@ -9,7 +9,7 @@ use super::standings::{aggregate_mut, logical_mut, volume_mut};
 use super::{Parcels, Root};
 use affinity::{Geometry, Place};
 
-// Puts a part into its slot, unless there is one.
+/// Puts a part into its slot, unless there is one.
 fn put<T: Drop>(slot: &mut Option<T>, part: T) -> Result<(), T>
     ensures { Fills part result slot.old slot.new }
 {

@@ -30,7 +30,7 @@ pub(crate) fn standing_at(root: &Option<Root>, place: Place) -> Standing
     }
 }
 
-// The flags of a volume, and its files.
+/// The flags of a volume, and its files.
 fn standing_in(root: &Option<Root>, a: u16, v: u16) -> Standing
     ensures made { result.made ≡ node_made (child_nodes root_nodes root.now (volume a v)) }
     ensures sealed { result.sealed ≡ node_sealed (child_nodes root_nodes root.now (volume a v)) }
@@ -50,7 +50,7 @@ fn standing_in(root: &Option<Root>, a: u16, v: u16) -> Standing
     }
 }
 
-// The files of a volume, file f as bit f; none if its Volume Logical is out.
+/// The files of a volume, file f as bit f; none if its Volume Logical is out.
 pub(crate) fn files_of(volume: &Vol) -> u64
     ensures { result ≡ node_files (volume_nodes volume.now (0 ∷ [])) }
 {
@@ -97,7 +97,7 @@ pub(super) fn logical_mut(root: &mut Option<Root>, a: usize, v: usize) -> Option
     volume_mut(root, a, v)?.logical.as_mut()
 }
 
-// A child of a row, where it is in.
+/// A child of a row, where it is in.
 fn child_mut<T>(row: &mut Vec<Option<T>>, i: usize) -> Option<&mut T>
     ensures* writes_back { sem 𝓛 (lends_child T.row row.entry i result) }
     ensures value { option_copied_mut result ≡ slice_index_or row.old.items i None }

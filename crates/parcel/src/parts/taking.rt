@@ -10,7 +10,7 @@ use super::whole::Whole;
 use super::{Parcels, Root};
 use affinity::{Geometry, Place};
 
-// Takes what is in a slot, if it is whole.
+/// Takes what is in a slot, if it is whole.
 fn take<T: Whole>(slot: &mut Option<T>) -> Option<T>
     ensures { TakesWhole T.IsWhole result slot.old slot.new }
 {

@@ -48,7 +48,7 @@ pub(super) fn read_stripe(logical: &mut Logical, g: &Geometry, s: usize, bytes: 
     read_at(&mut logical.stripes[s], g, files, s as u16, bytes)
 }
 
-// Replaces the blocks of one stripe by those in `bytes`. The bits of `files` are the files of its volume.
+/// Replaces the blocks of one stripe by those in `bytes`. The bits of `files` are the files of its volume.
 fn read_at(node: &mut Option<StripeParcel>, g: &Geometry, files: u64, s: u16, bytes: &[u8]) -> bool
     requires fits { IfSome node.old (FitsStripe g.now s) }
     requires whole { IsWholeChild (λ (p : StripePart). Unit {0}) node.old }

@@ -12,7 +12,7 @@ use crate::{Label, Standing};
 use affinity::Geometry;
 use language::{Msg, Refusal, Reply};
 
-// Sets the label.
+/// Sets the label.
 fn set_label(
     label: &mut Label,
     g: &Geometry,
@@ -27,7 +27,7 @@ fn set_label(
     Ok(())
 }
 
-// The label.
+/// The label.
 fn get_label(label: &Label, g: &Geometry, standing: Standing) -> Reply
     ensures { IsVolumeStep g.now Msg.Label (label_facts standing label.now) result (label_facts standing label.now) }
 {

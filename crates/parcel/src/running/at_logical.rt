@@ -14,7 +14,7 @@ use crate::{Logical, Standing, StripeParcel};
 use affinity::Geometry;
 use language::{Msg, Refusal, Reply, has_file};
 
-// Makes a file, without blocks.
+/// Makes a file, without blocks.
 fn create(logical: &mut Logical, g: &Geometry, standing: Standing, f: u16) -> Result<(), Refusal>
     requires file { f < g.now.files }
     requires fits { FitsLogical g.now logical.old }
@@ -29,7 +29,7 @@ fn create(logical: &mut Logical, g: &Geometry, standing: Standing, f: u16) -> Re
     Ok(())
 }
 
-// Removes the blocks of a file from a stripe, unless it is checked out.
+/// Removes the blocks of a file from a stripe, unless it is lent.
 fn drop_in(node: &mut Option<StripeParcel>, f: u16)
     ensures { Removes (λ i j. f == i) node.old node.new }
 {
@@ -38,7 +38,7 @@ fn drop_in(node: &mut Option<StripeParcel>, f: u16)
     }
 }
 
-// Removes the blocks of a file from each stripe that isn't checked out.
+/// Removes the blocks of a file from each stripe that isn't lent.
 fn drop_file(stripes: &mut Vec<Option<StripeParcel>>, f: u16)
     ensures count { vec_len stripes.new ≡ vec_len stripes.old }
     ensures each { (s : ℕ) → s < vec_len stripes.old
@@ -49,7 +49,7 @@ fn drop_file(stripes: &mut Vec<Option<StripeParcel>>, f: u16)
     }
 }
 
-// Removes a file and its blocks.
+/// Removes a file and its blocks.
 fn delete(logical: &mut Logical, g: &Geometry, standing: Standing, f: u16) -> Result<(), Refusal>
     requires file { f < g.now.files }
     requires fits { FitsLogical g.now logical.old }
@@ -65,7 +65,7 @@ fn delete(logical: &mut Logical, g: &Geometry, standing: Standing, f: u16) -> Re
     Ok(())
 }
 
-// Which files there are.
+/// Which files there are.
 fn list(logical: &Logical, g: &Geometry, standing: Standing) -> Reply
     requires fits { FitsLogical g.now logical.now }
     ensures { IsVolumeStep g.now Msg.List (logical_facts g.now standing logical.now) result (logical_facts g.now standing logical.now) }

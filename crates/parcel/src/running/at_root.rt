@@ -13,7 +13,7 @@ use crate::Root;
 use affinity::Geometry;
 use language::{Msg, Reply};
 
-// How much all volumes hold, and how many they are.
+/// How much all volumes hold, and how many they are.
 fn summary(root: &Root, g: &Geometry) -> Reply
     requires { FitsRoot g.now root.now }
     ensures { IsSerialStep g.now (state_with (root_facts g.now root.now)) Msg.Summary result (state_with (root_facts g.now root.now)) }

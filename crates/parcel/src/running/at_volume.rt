@@ -16,7 +16,7 @@ use crate::Vol;
 use affinity::Geometry;
 use language::{Msg, Refusal, Reply};
 
-// Seals the volume, whether it was sealed or not.
+/// Seals the volume, whether it was sealed or not.
 fn seal(volume: &mut Vol) -> Result<(), Refusal>
     ensures step { (g : Geometry) → IsVolumeStep g Msg.Seal (volume_facts g volume.old) (reply_to_change result)
         (volume_facts g volume.new) }
@@ -28,7 +28,7 @@ fn seal(volume: &mut Vol) -> Result<(), Refusal>
     Ok(())
 }
 
-// Unseals the volume, whether it was sealed or not.
+/// Unseals the volume, whether it was sealed or not.
 fn unseal(volume: &mut Vol) -> Result<(), Refusal>
     ensures step { (g : Geometry) → IsVolumeStep g Msg.Unseal (volume_facts g volume.old) (reply_to_change result)
         (volume_facts g volume.new) }
@@ -40,7 +40,7 @@ fn unseal(volume: &mut Vol) -> Result<(), Refusal>
     Ok(())
 }
 
-// How much the volume holds, and whether it is sealed.
+/// How much the volume holds, and whether it is sealed.
 fn usage(volume: &Vol, g: &Geometry) -> Reply
     requires fits { FitsVolume g.now volume.now }
     ensures { IsVolumeStep g.now Msg.Usage (volume_facts g.now volume.now) result (volume_facts g.now volume.now) }
