@@ -135,6 +135,5 @@ pub(crate) fn write_extent<D: Disk>(
     for i in 0..n {
         at += extent_size(g, i);
     }
-    write_run(disk, g, area, bytes, at, at + extent_size(g, n))?;
-    Ok(())
+    write_run(disk, g, area, bytes, at, at + extent_size(g, n))
 }

@@ -139,7 +139,7 @@ impl<D: Disk> Journal<D> {
         Ok(())
     }
 
-    /// Writes an image of the committed state, which the tree has (no part of it is checked out), and begins a new log.
+    /// Writes an image of the committed state, which the tree has (no part of it is lent), and begins a new log.
     pub fn point(&mut self, tree: &Tree) -> Result<(), LogFault>
         requires not_failed { self.old.failed ≡ false }
         requires no_cut { self.old.pieces_left ≡ None }
@@ -179,7 +179,7 @@ impl<D: Disk> Journal<D> {
         Ok(())
     }
 
-    /// Begins a checkpoint of a snapshot of the committed state, which the tree has (no part of it is checked out): records go to the other
+    /// Begins a checkpoint of a snapshot of the committed state, which the tree has (no part of it is lent): records go to the other
     /// half from now on, after those in force. As many pieces are left to write as are dirty in the other image.
     pub fn cut(&mut self, tree: &Tree) -> Result<(), LogFault>
         requires not_failed { self.old.failed ≡ false }
@@ -251,9 +251,12 @@ impl<D: Disk> Journal<D> {
         }
         self.pending[n] = false;
         self.next_pending = n + 1;
-        let pieces_left = self.pieces_left.unwrap_or(0).saturating_sub(1);
-        self.pieces_left = Some(pieces_left);
-        Ok(pieces_left)
+        let Some(before) = self.pieces_left else {
+            unreachable!()
+        };
+        let left = before - 1;
+        self.pieces_left = Some(left);
+        Ok(left)
     }
 
     /// Ends a cut of which every piece is written: the image becomes the named one. The records that were in

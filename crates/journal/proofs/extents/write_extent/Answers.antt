@@ -1,6 +1,6 @@
 -- The sizes of the extents before it sum up to its place, and there one write patches the image.
 use Rattle.std.proofs.Common.{◌≡◌, ◌+◌, ◌-◌, ℕ, List, sym, ◌∙◌, ap, arith}
-use Rattle.std.proofs.lemmas.Result.{err_from_is_err_and}
+use Rattle.std.proofs.lemmas.Result.{on_ok_weaker}
 use Rattle.disk.specs.Device.{overlaid}
 use Rattle.journal.specs.Extents.{image_in, extent_at, extent_size}
 use Rattle.journal.proofs.Patches.{image_long, one_patched}
@@ -33,21 +33,18 @@ write_run-requires-clause-inside g c =
     omega (arith, place, inside, c.requires.size, c.extent_size.ensures.size)
 
 pub returns-clause-written : goal.returns-clause-written
-returns-clause-written g c = λ k.
+returns-clause-written g c =
+    on_ok_weaker c.write_run.result
+    (λ written k.
     let last : c.loop-i.i ≡ c.args.n = omega arith in
     let place : c.loop-i.at ≡ extent_at c.args.g.now c.args.n = c.loop-i.invariant ∙ ap (extent_at c.args.g.now) last in
     let count : c.loop-i.at + c.extent_size.result - c.loop-i.at ≡ extent_size c.args.g.now c.args.n = omega (arith, c.extent_size.ensures.size) in
     let old : List ℕ = image_in c.args.g.now c.args.area (g.D.Disk.medium c.args.disk.now) in
     one_patched c.requires.n c.requires.size (image_long c.args.g.now c.args.area (g.D.Disk.medium c.args.disk.now) c.requires.area c.requires.long_enough) place
-    (c.in_ok-write_run.ensures.written k ∙ ap (λ (m : ℕ). overlaid old c.loop-i.at (slice c.args.bytes.now c.loop-i.at m)) count)
-
-pub returns-in_err-write_run-clause-costs : goal.returns-in_err-write_run-clause-costs
-returns-in_err-write_run-clause-costs g c =
-    let p = err_from_is_err_and c.from_residual.result c.from_residual.ensures.1 in
-    let some = extent_some c.args.g.now c.args.n in
-    rw p.1 (λ k. c.in_err-write_run.ensures.costs (omega (arith, some, c.extent_size.ensures.size)) k)
+    (written k ∙ ap (λ (m : ℕ). overlaid old c.loop-i.at (slice c.args.bytes.now c.loop-i.at m)) count))
+    c.write_run.ensures.written
 
 pub returns-clause-costs : goal.returns-clause-costs
 returns-clause-costs g c =
     let some = extent_some c.args.g.now c.args.n in
-    λ k. c.in_ok-write_run.ensures.costs (omega (arith, some, c.extent_size.ensures.size)) k
+    λ k. c.write_run.ensures.costs (omega (arith, some, c.extent_size.ensures.size)) k

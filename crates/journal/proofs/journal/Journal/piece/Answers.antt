@@ -9,13 +9,13 @@ use Rattle.journal.specs.Keeping.{AreCleanBefore, FitsCutState, IsSoundJournal}
 use Rattle.journal.specs.DirtyPieces.{count_dirty}
 use Rattle.journal.proofs.Logging.{beyond_of, fits_of, recoverable_of, sound_of, still_of}
 use Rattle.journal.proofs.Pointing.{other_written}
-use Rattle.journal.proofs.Rows.{clear_set}
+use Rattle.journal.proofs.Rows.{clear_set, count_cleared}
 use Rattle.journal.proofs.Piecing.{IsPieced, piece_counted, piece_left, piece_moments, piece_records, none_due, patches_one, piece_same, piece_some, piece_sound, pieced_along, some_left}
 use Rattle.oplog.proofs.Beyond.{beyond, beyond_none}
 use Rattle.device_map.specs.Layout.{layout_of, other}
 use Rattle.oplog.proofs.Answered.{on_ok}
 use Rattle.journal.proofs.journal.Journal.piece.Given.{Over}
-use Rattle.journal.proofs.journal.Journal.piece.Goals.{After-deref-2, After-unwrap_or, In_default}
+use Rattle.journal.proofs.journal.Journal.piece.Goals.{After-deref-2, In-Some-pieces_left, In_default}
 use Rattle.journal.proofs.journal.Journal.piece.Goals as goal
 
 -- the piece that is written was pending
@@ -44,7 +44,7 @@ counted g c =
     piece_counted c.self.inside.halves c.self.inside.pending.items c.self.inside.pieces_left c.in-Some.n (running g c) (fits_of c.self.invariant c.self.view_is c.requires.not_failed)
     (was_pending g c)
 
-pieced : (g : Over) (c : After-unwrap_or g) → g.D.Disk.keeps → IsPieced c.self.inside.halves.geometry (other c.self.inside.halves.named) c.in-Some.n c.self.inside.snapshot.items
+pieced : (g : Over) (c : In-Some-pieces_left g) → g.D.Disk.keeps → IsPieced c.self.inside.halves.geometry (other c.self.inside.halves.named) c.in-Some.n c.self.inside.snapshot.items
     (g.D.Disk.medium c.self.inside.disk) (g.D.Disk.medium c.write_extent.new.disk)
 pieced g c k =
     pieced_along c.geometry-g.ensures c.named-area.ensures.named c.deref-2.ensures.value
@@ -55,7 +55,7 @@ pieced g c k =
       ready = c.write_extent.ensures.ready k;
     })
 
-kept : (g : Over) (c : After-unwrap_or g) → g.D.Disk.keeps → (left : ℕ)
+kept : (g : Over) (c : In-Some-pieces_left g) → g.D.Disk.keeps → (left : ℕ)
     → IsSoundJournal c.self.inside.halves c.self.inside.snapshot.items c.self.inside.named_dirty.items c.self.inside.other_dirty.items (set c.self.inside.pending.items c.in-Some.n false) (Some left)
     (g.D.Disk.medium c.write_extent.new.disk)
 kept g c k left =
@@ -93,8 +93,15 @@ returns-clause-committed g c = λ k.
     piece_same _ (g.met.D.Disk.bytes c.self.inside.disk) (sound_of c.self.invariant c.self.view_is c.requires.not_failed k) (g.met.D.Disk.bytes c.write_extent.new.disk)
     (other_written _ _ c.geometry-g.ensures c.named-area.ensures.named (c.write_extent.ensures.any_moment k)) ∙ ap committed c.self.view_is
 
+pub overflow_sub-left : goal.overflow_sub-left
+overflow_sub-left g c =
+    let one = count_cleared c.self.inside.pending.items c.in-Some.n (was_pending g (goal.at.overflow_sub-left g c).After-deref-2) in
+    let placed = subst (λ (l : Option ℕ). FitsCutState c.self.inside.halves c.self.inside.pending.items l) c.in-Some-pieces_left.is
+    (fits_of c.self.invariant c.self.view_is c.requires.not_failed) in
+    omega (arith, one, placed.1)
+
 pub returns-clause-recoverable : goal.returns-clause-recoverable
-returns-clause-recoverable g c = λ k. recoverable_of (kept g (goal.at.returns-clause-recoverable g c).After-unwrap_or k c.saturating_sub-pieces_left.result)
+returns-clause-recoverable g c = λ k. recoverable_of (kept g (goal.at.returns-clause-recoverable g c).In-Some-pieces_left k (c.in-Some-pieces_left.before - 1))
 
 pub returns-clause-pieces_left : goal.returns-clause-pieces_left
 returns-clause-pieces_left g c =
@@ -102,15 +109,15 @@ returns-clause-pieces_left g c =
     sym (ap (λ (h : JournalView). option_map (λ (l : ℕ). l - 1) h.pieces_left) c.self.view_is)
     ∙ piece_left c.self.inside.halves c.self.inside.pending.items c.self.inside.pieces_left c.in-Some.n (running g here) (fits_of c.self.invariant c.self.view_is c.requires.not_failed)
     (was_pending g here)
-    (counted g here (c.saturating_sub-pieces_left.ensures ∙ ap (λ (n : ℕ). n - 1) c.unwrap_or.ensures))
+    (counted g here (ap (λ (o : Option ℕ). unwrap_or o 0 - 1) (sym c.in-Some-pieces_left.is)))
 
 pub returns-clause-after : goal.returns-clause-after
 returns-clause-after g c =
     let here = (goal.at.returns-clause-after g c).After-deref-2 in
     let pieces_left = piece_left c.self.inside.halves c.self.inside.pending.items c.self.inside.pieces_left c.in-Some.n (running g here)
     (fits_of c.self.invariant c.self.view_is c.requires.not_failed) (was_pending g here)
-    (counted g here (c.saturating_sub-pieces_left.ensures ∙ ap (λ (n : ℕ). n - 1) c.unwrap_or.ensures)) in
-    ap (λ (h : JournalView). record h { pieces_left = Some c.saturating_sub-pieces_left.result; medium = g.D.Disk.medium c.write_extent.new.disk }) c.self.view_is
+    (counted g here (ap (λ (o : Option ℕ). unwrap_or o 0 - 1) (sym c.in-Some-pieces_left.is))) in
+    ap (λ (h : JournalView). record h { pieces_left = Some (c.in-Some-pieces_left.before - 1); medium = g.D.Disk.medium c.write_extent.new.disk }) c.self.view_is
     ∙ ap (λ (l : Option ℕ). record c.args.self.now { pieces_left = l; medium = g.D.Disk.medium c.write_extent.new.disk })
     (sym pieces_left ∙ ap (λ (h : JournalView). option_map (λ (l : ℕ). l - 1) h.pieces_left) c.self.view_is)
 
@@ -130,7 +137,7 @@ returns-clause-one g c = λ some k.
     let w0 = g.D.Disk.medium c.self.inside.disk in
     let named = ((sound_of c.self.invariant c.self.view_is c.requires.not_failed k).recovers w0.now (itself w0.now w0.unsynced (g.met.D.Disk.bytes c.self.inside.disk))).named in
     subst (λ (h : JournalView). PatchesUnnamed h.geometry h.medium.now (g.D.Disk.medium c.write_extent.new.disk).now) c.self.view_is
-    (patches_one named (pieced g (goal.at.returns-clause-one g c).After-unwrap_or k))
+    (patches_one named (pieced g (goal.at.returns-clause-one g c).In-Some-pieces_left k))
 
 pub invariant_of-self-2 : goal.invariant_of-self-2
 invariant_of-self-2 g c =
@@ -146,8 +153,8 @@ invariant_of-self-2 g c =
       fits_cut_state = λ _.
           let due = some_left c.self.inside.pieces_left (running g here) in
           let placed = subst (λ (l : Option ℕ). FitsCutState c.self.inside.halves c.self.inside.pending.items l) due.1 (fits_of c.self.invariant c.self.view_is c.requires.not_failed) in
-          (placed.0, sym (counted g here (c.saturating_sub-pieces_left.ensures ∙ ap (λ (n : ℕ). n - 1) c.unwrap_or.ensures)));
-      sound = λ _ k. kept g (goal.at.invariant_of-self-2 g c).After-unwrap_or k c.saturating_sub-pieces_left.result;
+          (placed.0, sym (counted g here (ap (λ (o : Option ℕ). unwrap_or o 0 - 1) (sym c.in-Some-pieces_left.is))));
+      sound = λ _ k. kept g (goal.at.invariant_of-self-2 g c).In-Some-pieces_left k (c.in-Some-pieces_left.before - 1);
       next_pending = let long = length-set c.self.inside.pending.items c.in-Some.n false in omega (arith, few, long);
       clean_before = clear_set c.in-Some.n c.self.inside.pending.items few (subst (λ (l : List Bool). AreCleanBefore c.in-Some.n l) c.deref.ensures.value c.in-Some.ensures.clear);
     }
