@@ -49,9 +49,9 @@ fn write_zeros<D: Disk>(disk: &mut D, zeros: &[u8], at: u64, count: usize) -> Re
 {
     let mut done = 0;
     'zeros: while done < count {
-        let some = zeros.len().min(count - done);
-        write(disk, at + done as u64, &zeros[..some])?;
-        done += some;
+        let size = zeros.len().min(count - done);
+        write(disk, at + done as u64, &zeros[..size])?;
+        done += size;
     }
     Ok(())
 }

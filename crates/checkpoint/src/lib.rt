@@ -4,7 +4,7 @@
 //! state by its bytes, and `specs/Refusals.antt` which devices are refused and why. `format` makes a device that recovers to the
 //! empty state, and a crash at any moment of it leaves the old device, one that isn't formatted, or the new one.
 //! `inspect` reports what a device holds, or why it is refused, and only reads it. `step` runs one message on a tree of which no part is
-//! checked out, as a serial server does: the records in force are run by it.
+//! lent, as a serial server does: the records in force are run by it.
 #![tactic(auto)]
 
 mod fault;

@@ -1,4 +1,4 @@
-//! Runs one message on a tree of which no part is checked out.
+//! Runs one message on a tree of which no part is lent.
 ghost use Rattle.std.specs.Prelude.{◌≡◌, true};
 ghost use Rattle.language.specs.Messages.{is_in_range};
 ghost use Rattle.parcel.specs.Tree.{IsWholeTree, state_in};
@@ -10,7 +10,7 @@ use message::know_message;
 use parcel::{Job, Tree, run};
 
 /// Runs a message that is in range on the whole tree, and gives its reply: the serial step of the tree's state. No part of the tree may be
-/// checked out. It takes no memory.
+/// lent. It takes no memory.
 pub fn step(tree: &mut Tree, m: Msg) -> Reply
     requires whole { IsWholeTree tree.old }
     requires range { is_in_range tree.old.geometry m ≡ true }

@@ -50,8 +50,8 @@ pub record AreUnloaded (p : Parts) : Type 0 where
   pub dirty : dirty_pieces_of p ≡ opened_dirty p.tree.geometry
   pub all : AreAllDirty p.tree.geometry p.other_dirty.items
 
--- The parts once a device is loaded: the log hasn't failed, and the half of the named area is current; no part of the tree is checked
--- out; and the other image is dirty in all its pieces, so that it is written whole.
+-- The parts once a device is loaded: the log hasn't failed, and the half of the named area is current; no part of the tree is
+-- lent; and the other image is dirty in all its pieces, so that it is written whole.
 pub record AreLoaded (p : Parts) (m : Medium) : Type 0 where
   pub tree : IsWholeTree p.tree
   pub geometry : p.tree.geometry ≡ p.halves.geometry

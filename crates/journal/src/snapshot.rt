@@ -20,7 +20,7 @@ fn write_head(bytes: &mut [u8])
     bytes[..IMAGE_HEAD_SIZE].copy_from_slice(&head_of(VERSION));
 }
 
-/// Makes `bytes` the image of the state of a tree of which no part is checked out, if its clean pieces have the bytes of that image
+/// Makes `bytes` the image of the state of a tree of which no part is lent, if its clean pieces have the bytes of that image
 /// already: only the head and the dirty pieces are written.
 pub(crate) fn update_snapshot(tree: &Tree, dirty: &[bool], bytes: &mut [u8])
     requires whole { IsWholeTree tree.now }

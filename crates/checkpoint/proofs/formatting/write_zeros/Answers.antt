@@ -18,7 +18,7 @@ zeros-init g c = record {
 pub returns-in_err-write-clause-any_moment : goal.returns-in_err-write-clause-any_moment
 returns-in_err-write-clause-any_moment g c = λ k.
     changed_then (c.zeros.invariant.moments k)
-    (changed_within (omega arith) (omega (arith, c.min-some.ensures, length-take c.min-some.result c.args.zeros.now)) (c.write.ensures.any_moment k))
+    (changed_within (omega arith) (omega (arith, c.min-size.ensures, length-take c.min-size.result c.args.zeros.now)) (c.write.ensures.any_moment k))
 
 pub zeros-preserved : goal.zeros-preserved
 zeros-preserved g c = record {
@@ -27,9 +27,9 @@ zeros-preserved g c = record {
   faults = grind (arith, common_steps);
   moments = λ k.
       changed_then (c.zeros.invariant.moments k)
-      (changed_within (omega arith) (omega (arith, c.min-some.ensures, length-take c.min-some.result c.args.zeros.now)) (c.write.ensures.any_moment k));
+      (changed_within (omega arith) (omega (arith, c.min-size.ensures, length-take c.min-size.result c.args.zeros.now)) (c.write.ensures.any_moment k));
   written = λ k.
       c.in_ok-write.ensures.written k ∙ (λ i. overlaid (c.zeros.invariant.written k i) (c.args.at + c.zeros.done)
-      (some_zeros c.args.zeros.now c.min-some.result c.requires.zeros (omega (arith, c.min-some.ensures)) i))
-      ∙ zeros_more (g.D.Disk.medium c.args.disk.now).now c.args.at c.zeros.done c.min-some.result;
+      (some_zeros c.args.zeros.now c.min-size.result c.requires.zeros (omega (arith, c.min-size.ensures)) i))
+      ∙ zeros_more (g.D.Disk.medium c.args.disk.now).now c.args.at c.zeros.done c.min-size.result;
 }
