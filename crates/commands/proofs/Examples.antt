@@ -1,8 +1,9 @@
 -- What is printed of the small device, which service the arguments of examples ask for, and what is promised to a client that hangs up.
-use Rattle.std.proofs.Common.{◌≡◌, ◌++◌, ℕ, Bool, true, List, [], ◌∷◌, Option, Some, None, Err, inl, inr, codes, ap, arith, drop, length, lit≤, refl, subst, sym, take, ◌∙◌}
+use Rattle.std.proofs.Common.{◌≡◌, ◌≤◌, ◌++◌, ℕ, zero, suc, Bool, true, false, List, [], ◌∷◌, Option, Some, None, Err, inl, inr, codes, ap, arith, drop, length, lit≤, refl, subst, sym, take, ◌∙◌}
 use Rattle.std.proofs.lemmas.Bool.{true≢false}
 use Rattle.std.specs.Io.KnownBytes.{Appends}
 use Rattle.std.specs.Fmt.{digits}
+use Rattle.std.specs.List.{AllByRecursion}
 use Rattle.affinity.proofs.Numbers.{small}
 use Rattle.checkpoint.specs.declared.inspecting.Shown.{Shown}
 use Rattle.language.specs.Grammar.{kind_named, message_of}
@@ -15,7 +16,7 @@ use Rattle.commands.specs.Lines.{formatted_line, shown_lines}
 use Rattle.commands.specs.Promise.{HasRunFrom}
 use Rattle.commands.specs.Services.{AsksServe, within_limits}
 use Rattle.commands.specs.declared.faults.Fault.TheVariants.{Write}
-use Rattle.serving.specs.Restart.{IsClosedPart}
+use Rattle.serving.specs.Restart.{IsClosedPart, are_related_lines}
 use Rattle.arguments.proofs.Examples as given
 
 small_is_formatted : formatted_line small ≡ codes "formatted 8840" ++ 10 ∷ []
@@ -62,8 +63,9 @@ the_volume_is_there : HangsUp (λ now. now.made (0, 0) ≡ true)
 unfolding message_of kind_named number_in_word digits
 the_volume_is_there = record {
   now = state_after_lines small empty (makes ∷ []);
+  left = 0;
   all = Some (codes "done\nsummary 1 0 0\n");
-  written = (codes "done\nsum", codes "mary 1 0 0\n", refl, refl);
+  written = (codes "done\nsum", codes "mary 1 0 0\n", refl, refl, refl);
   recovers = (
     codes "done\nsummary 1 0 0\n",
     refl,
@@ -85,6 +87,14 @@ in_part : (part : List (List ℕ)) → IsClosedPart small part (asks ∷ []) →
 unfolding message_of kind_named number_in_word
 in_part part (inl (rest, is, none)) = subst (λ (p : List (List ℕ)). makes_it (makes ∷ p) ≡ true) (sym (is ∙ ap (λ (r : List (List ℕ)). asks ∷ r) none)) refl
 in_part part (inr (apart, none)) = subst (λ (p : List (List ℕ)). makes_it (makes ∷ p) ≡ true) (sym none) refl
+
+-- A part of no line or of one is a part of one.
+within_one : (left : ℕ) (part others : List (List ℕ)) → left ≤ 1 → IsClosedPart small part (take left others) → IsClosedPart small part (take 1 others)
+within_one zero part [] few closed = closed
+within_one zero part (other ∷ others) few closed =
+    inr (subst (λ (p : List (List ℕ)). AllByRecursion (λ line. are_related_lines small (message_of other) (message_of line) ≡ false) p) (sym closed) tt, closed)
+within_one (suc zero) part others few closed = closed
+within_one (suc (suc n)) part others few closed = absurd (omega (arith, few))
 
 -- It is there after the lines whose answers begin so, whatever part of the others comes after them.
 is_made : (acknowledged others part : List (List ℕ)) (rest : List ℕ) → makes ∷ asks ∷ [] ≡ acknowledged ++ others → IsClosedPart small part (take 1 others)
@@ -109,5 +119,7 @@ it_is_not_lost : HangsUp (λ now. now ≡ empty) → ⊥
 it_is_not_lost h =
     let r = h.recovers.2 in
     let begins = begins_so h.all h.written.0 h.written.1 h.recovers.0 h.written.2 h.written.3 h.recovers.1 in
-    true≢false (sym (is_made r.acknowledged r.unacknowledged r.part h.written.1 r.first r.closed (begins ∙ r.answers))
+    let few = h.written.4 in
+    let closed = within_one h.left r.part r.unacknowledged (omega (arith, few)) r.closed in
+    true≢false (sym (is_made r.acknowledged r.unacknowledged r.part h.written.1 r.first closed (begins ∙ r.answers))
     ∙ ap (λ (x : State). x.made (0, 0)) (sym r.state ∙ h.goes_on))

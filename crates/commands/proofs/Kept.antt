@@ -3,7 +3,8 @@ use Rattle.std.proofs.Common.{ℕ, List, Option, subst}
 use Rattle.std.specs.Prelude.{Result, Err}
 use Rattle.disk.specs.Device.{IsCrashImage, Medium}
 use Rattle.serving.proofs.Logged.{holds_sent}
-use Rattle.serving.specs.Ends.{Exchange, committed_in}
+use Rattle.scheduler.specs.CoreView.{CoreView}
+use Rattle.serving.specs.Ends.{EndsWith, Exchange, committed_in}
 use Rattle.serving.specs.Logged.{HoldsSent}
 use Rattle.serving.specs.Serve.{IsWrittenAtEnd}
 use Rattle.serving.specs.declared.server.ServeFault.{ServeFault}
@@ -20,34 +21,40 @@ use Rattle.commands.specs.declared.serve_options.ServeOptions.{ServeOptions}
 module _ {keeps : Type 0} {s : ServeOptions} {old new : Medium} {end : Result (Unit {0}) ServeFault} {streams : Exchange}
     (h : HasServedBy keeps s old new end streams) where
   -- of all that was to be written
-  pub held : keeps → (c : List ℕ) → IsCrashImage new c → HoldsAcknowledged s.slots old streams.input streams.before h.served.run.all c
+  pub held : keeps → (c : List ℕ) → IsCrashImage new c → HoldsAcknowledged h.served.run.left old streams.input streams.before h.served.run.all c
   held keep c leaves =
       let g = h.start.geometry in
       let x = committed_in h.start in
-      let sent = holds_sent (is_idle s.slots h.start h.fresh) h.served.run.served h.fresh.no_doubt keep c (subst (λ (m : Medium). IsCrashImage m c) h.given_back leaves) in
+      let n = h.served.run.left in
+      let sent = holds_sent (is_idle s.slots h.start h.fresh) h.served.run.served n h.served.run.few h.fresh.no_doubt keep c (subst (λ (m : Medium). IsCrashImage m c) h.given_back leaves) in
       record {
         geometry = g;
         start = x;
         recovered_before = record { header = λ _. h.recovered_before.header keep; recovered_before = λ _. h.recovered_before.recovered_before keep };
-        holds = subst (λ (n : ℕ). HoldsSent g x n 0 streams.input streams.before h.served.run.all c) h.fresh.slots_are
-            (subst (λ (t : ℕ). HoldsSent g x h.start.slots t streams.input streams.before h.served.run.all c) h.fresh.next sent);
+        holds = subst (λ (t : ℕ). HoldsSent g x n t streams.input streams.before h.served.run.all c) h.fresh.next sent;
       }
 
 -- what holds of all that the server was to write, in words of a command
-holds_of_all : (P : Option (List ℕ) → Type 0) (end : Result (Unit {0}) ServeFault) (before written all : Option (List ℕ))
-    → IsWrittenAtEnd end before written all → P all → HoldsOfAll (command_result end) before written P
-holds_of_all P (Err faults.Write) before written all is h = (all, is, h)
-holds_of_all P end before written all is h = (all, is, h)
+module _ (P : ℕ → Option (List ℕ) → Type 0) (slots left : ℕ) (old new : CoreView) (x : Exchange) (all : Option (List ℕ)) where
+  holds_of_all : (end : Result (Unit {0}) ServeFault) → IsWrittenAtEnd end slots left x.before x.written all → EndsWith old new x end → P left all
+      → HoldsOfAll (command_result end) slots x.before x.written P
+  holds_of_all (Err faults.NoWorkers) is ends h = (left, all, (is.0, is.1, ends.2), h)
+  holds_of_all (Err faults.OutOfMemory) is ends h = (left, all, (is.0, is.1, ends.2), h)
+  holds_of_all (Err faults.Write) is ends h = (left, all, is, h)
+  holds_of_all (Err faults.Device) is ends h = (left, all, is, h)
+  holds_of_all end is ends h = (left, all, is, h)
 
 -- what was sent is kept, whatever the end
 pub keeps_acknowledged : {keeps : Type 0} {s : ServeOptions} {old new : Medium} (end : Result (Unit {0}) ServeFault) {x : Exchange} → HasServedBy keeps s old new end x
-    → HoldsOfAll (command_result end) x.before x.written (λ all. keeps → (c : List ℕ) → IsCrashImage new c → HoldsAcknowledged s.slots old x.input x.before all c)
+    → HoldsOfAll (command_result end) s.slots x.before x.written (λ left all. keeps → (c : List ℕ) → IsCrashImage new c → HoldsAcknowledged left old x.input x.before all c)
 keeps_acknowledged {keeps} {s} {old} {new} end {x} h =
-    holds_of_all (λ all. keeps → (c : List ℕ) → IsCrashImage new c → HoldsAcknowledged s.slots old x.input x.before all c) end x.before x.written
-    h.served.run.all h.served.run.written_is (held h)
+    let left = h.served.run.left in
+    let all = h.served.run.all in
+    holds_of_all (λ left all. keeps → (c : List ℕ) → IsCrashImage new c → HoldsAcknowledged left old x.input x.before all c) s.slots left h.start h.now x all end
+    (subst (λ (n : ℕ). IsWrittenAtEnd end n left x.before x.written all) h.fresh.slots_are h.served.run.written_is) h.served.ends (held h)
 
 -- if P implies Q, what has P has Q
-pub all_then : {P Q : Option (List ℕ) → Type 0} (end : Result (Unit {0}) Fault) (before written : Option (List ℕ)) → ((all : Option (List ℕ)) → P all → Q all)
-    → HoldsOfAll end before written P → HoldsOfAll end before written Q
-all_then (Err (ends.Open fault)) before written f h = h
-all_then end before written f h = (h.0, h.1, f h.0 h.2)
+pub all_then : {P Q : ℕ → Option (List ℕ) → Type 0} (end : Result (Unit {0}) Fault) (slots : ℕ) (before written : Option (List ℕ))
+    → ((left : ℕ) (all : Option (List ℕ)) → P left all → Q left all) → HoldsOfAll end slots before written P → HoldsOfAll end slots before written Q
+all_then (Err (ends.Open fault)) slots before written f h = h
+all_then end slots before written f h = (h.0, h.1, h.2, f h.0 h.1 h.3)

@@ -45,8 +45,8 @@ recovered {slots} {input} {before} {written} {c} h = record {
 }
 
 pub leaves_recovered : {keeps : Type 0} {s : ServeOptions} {old new : Medium} (end : Result (Unit {0}) ServeFault) {x : Exchange} → HasServedBy keeps s old new end x
-    → HoldsOfAll (command_result end) x.before x.written (λ all. keeps → (c : List ℕ) → IsCrashImage new c → HoldsRecovered s.slots old x.input x.before all c)
-leaves_recovered end {x} h = all_then (command_result end) x.before x.written (λ all k keep c leaves. recovered (k keep c leaves)) (keeps_acknowledged end h)
+    → HoldsOfAll (command_result end) s.slots x.before x.written (λ left all. keeps → (c : List ℕ) → IsCrashImage new c → HoldsRecovered left old x.input x.before all c)
+leaves_recovered {s} end {x} h = all_then (command_result end) s.slots x.before x.written (λ left all k keep c leaves. recovered (k keep c leaves)) (keeps_acknowledged end h)
 
 -- ---- two incarnations
 
@@ -75,16 +75,16 @@ module _ {keeps : Type 0} (keep : keeps) (g : Geometry) {x : State} (old : Mediu
       (λ bytes out served. served.output ∙ (λ i. serial_output (own.0 i) (own.1 i) bytes)) h.1.3
 
 -- Of the end of a service: the device could not be opened; or P holds of all that was to be written.
-opened_or : (P : Option (List ℕ) → Type 0) (end : Result (Unit {0}) Fault) (before written : Option (List ℕ)) → HoldsOfAll end before written P
-    → ((fault : OpenFault) × (end ≡ Err (ends.Open fault))) ⊎ ((all : Option (List ℕ)) × IsWritten end before written all × P all)
-opened_or P (Err (ends.Open fault)) before written h = inl (fault, refl)
-opened_or P end before written h = inr h
+opened_or : (P : ℕ → Option (List ℕ) → Type 0) (end : Result (Unit {0}) Fault) (slots : ℕ) (before written : Option (List ℕ)) → HoldsOfAll end slots before written P
+    → ((fault : OpenFault) × (end ≡ Err (ends.Open fault))) ⊎ ((left : ℕ) × (all : Option (List ℕ)) × IsWritten end slots left before written all × P left all)
+opened_or P (Err (ends.Open fault)) slots before written h = inl (fault, refl)
+opened_or P end slots before written h = inr h
 
 -- One run, on a device that is synced and recovers to state x, and what a crash leaves of it then.
-module _ {keeps : Type 0} (keep : keeps) (g : Geometry) (slots : ℕ) (old new : Medium) {x : State}
+module _ {keeps : Type 0} (keep : keeps) (g : Geometry) (old new : Medium) {x : State}
     (made : recovered_state g old.now ≡ Some x) (synced : IsSynced old) (c : List ℕ) (leaves : IsCrashImage new c) where
-  left_so : (input before written : Option (List ℕ)) → HoldsRecovered slots old input before written c → BytesRecover g slots x input before written c
-  left_so input before written h =
+  left_so : {slots : ℕ} (input before written : Option (List ℕ)) → HoldsRecovered slots old input before written c → BytesRecover g slots x input before written c
+  left_so {slots} input before written h =
       let own = opened_so tt made h.recovered_before in
       subst (λ (k : Geometry). BytesRecover k slots x input before written c) own.0
       (subst (λ (y : State). BytesRecover h.geometry slots y input before written c) own.1 h.recovered)
@@ -101,32 +101,34 @@ module _ {keeps : Type 0} (keep : keeps) (g : Geometry) (slots : ℕ) (old new :
       (counts_now new (moment_number old) c (let a = h.first.later in let b = past.later.later in omega (arith, a, b)) leaves))) h.rest)
 
   -- where the device could not be opened
-  left_unopened : (input before written : Option (List ℕ)) → OpeningCrashImages old new → written ≡ before → BytesRecover g slots x input before written c
+  left_unopened : (input before written : Option (List ℕ)) → OpeningCrashImages old new → written ≡ before → BytesRecover g 0 x input before written c
   left_unopened input before written opening unwritten =
       record { now = x; holds_now = crashed_so opening; recovers = silent input }
     where
-      silent : (input : Option (List ℕ)) → WritesOutput input before written (RecoversTo g slots x x)
+      silent : (input : Option (List ℕ)) → WritesOutput input before written (RecoversTo g 0 x x)
       silent None = tt
       silent (Some bytes) =
-          ([], subst (λ (w : Option (List ℕ)). Appends before w []) (sym unwritten) (Appends-nil before), none_written g slots x bytes)
+          ([], subst (λ (w : Option (List ℕ)). Appends before w []) (sym unwritten) (Appends-nil before), none_written g 0 x bytes)
 
   module _ (s : ServeOptions) (end : Result (Unit {0}) Fault) (streams : Exchange) where
     run_so : EndsOnDevice keeps s old new end streams → CrashesSafely keeps s old new end streams
-        → HoldsOfAll end streams.before streams.written (λ all. keeps → (c : List ℕ) → IsCrashImage new c → HoldsRecovered slots old streams.input streams.before all c)
-        → HasRunFrom g slots x end streams.input streams.before streams.written (λ now. recovered_state g c ≡ Some now)
+        → HoldsOfAll end s.slots streams.before streams.written (λ left all. keeps → (c : List ℕ) → IsCrashImage new c → HoldsRecovered left old streams.input streams.before all c)
+        → HasRunFrom g s.slots x end streams.input streams.before streams.written (λ now. recovered_state g c ≡ Some now)
     run_so e safe recovers = ⊎_elim
         (λ (why : (fault : OpenFault) × (end ≡ Err (ends.Open fault))).
-        so streams.written (subst (λ (r : Result (Unit {0}) Fault). IsWritten r streams.before streams.written streams.written) (sym why.1) refl)
+        let unwritten = (subst (λ (r : Result (Unit {0}) Fault). EndsOnDevice keeps s old new r streams) why.1 e).2 in
+        so 0 streams.written
+        (subst (λ (r : Result (Unit {0}) Fault). IsWritten r s.slots 0 streams.before streams.written streams.written) (sym why.1) (refl, refl, unwritten))
         (left_unopened streams.input streams.before streams.written
-        (subst (λ (r : Result (Unit {0}) Fault). CrashesSafely keeps s old new r streams) why.1 safe keep)
-        (subst (λ (r : Result (Unit {0}) Fault). EndsOnDevice keeps s old new r streams) why.1 e).2))
-        (λ h. so h.0 h.1 (left_so streams.input streams.before h.0 (h.2 keep c leaves)))
-        (opened_or _ end streams.before streams.written recovers)
+        (subst (λ (r : Result (Unit {0}) Fault). CrashesSafely keeps s old new r streams) why.1 safe keep) unwritten))
+        (λ h. so h.0 h.1 h.2 (left_so streams.input streams.before h.1 (h.3 keep c leaves)))
+        (opened_or _ end s.slots streams.before streams.written recovers)
       where
-        so : (all : Option (List ℕ)) → IsWritten end streams.before streams.written all → BytesRecover g slots x streams.input streams.before all c
-            → HasRunFrom g slots x end streams.input streams.before streams.written (λ now. recovered_state g c ≡ Some now)
-        so all is h = record {
+        so : (left : ℕ) (all : Option (List ℕ)) → IsWritten end s.slots left streams.before streams.written all → BytesRecover g left x streams.input streams.before all c
+            → HasRunFrom g s.slots x end streams.input streams.before streams.written (λ now. recovered_state g c ≡ Some now)
+        so left all is h = record {
           now = h.now;
+          left = left;
           all = all;
           written = is;
           recovers = h.recovers;
@@ -149,17 +151,17 @@ module _ {keeps : Type 0} (keep : keeps) (g : Geometry) (s : ServeOptions) (old 
 module _ {keeps : Type 0} (s : ServeOptions) (old new : Medium) (end : Result (Unit {0}) Fault) (streams : Exchange) where
   -- The service ran from the state that the device held.
   pub leaves_run : AreBytes old.now → EndsOnDevice keeps s old new end streams → CrashesSafely keeps s old new end streams
-      → HoldsOfAll end streams.before streams.written (λ all. keeps → (c : List ℕ) → IsCrashImage new c → HoldsRecovered s.slots old streams.input streams.before all c)
+      → HoldsOfAll end s.slots streams.before streams.written (λ left all. keeps → (c : List ℕ) → IsCrashImage new c → HoldsRecovered left old streams.input streams.before all c)
       → LeavesRun keeps s.slots old new end streams.input streams.before streams.written
   leaves_run bytes e safe recovers keep g x is = (
     opens_so keep g s old new end streams bytes is.0 e,
-    λ c leaves. run_so keep g s.slots old new is.0 is.1 c leaves s end streams e safe recovers,
+    λ c leaves. run_so keep g old new is.0 is.1 c leaves s end streams e safe recovers,
   )
 
 -- What follows a run may be put in other words.
 pub then_so : {g : Geometry} {slots : ℕ} {start : State} {end : Result (Unit {0}) Fault} {input before after : Option (List ℕ)} {P Q : State → Type 0}
     → ((now : State) → P now → Q now) → HasRunFrom g slots start end input before after P → HasRunFrom g slots start end input before after Q
-then_so f h = record { now = h.now; all = h.all; written = h.written; recovers = h.recovers; all_answered = h.all_answered; goes_on = f h.now h.goes_on }
+then_so f h = record { now = h.now; left = h.left; all = h.all; written = h.written; recovers = h.recovers; all_answered = h.all_answered; goes_on = f h.now h.goes_on }
 
 -- A run with this end, of which is not asked what follows.
 pub ends_so : {g : Geometry} {slots : ℕ} {start : State} {end r : Result (Unit {0}) Fault} {input before after : Option (List ℕ)} {P : State → Type 0} → end ≡ r

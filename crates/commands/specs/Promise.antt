@@ -1,6 +1,5 @@
 -- Statement for clients: What a service promises its client over a crash: bytes in, bytes out.
-use Rattle.std.specs.Prelude.{◌≡◌, ◌⊎◌, ℕ, List, ◌++◌, Option, Some, Result, Err, OnOk}
-use Rattle.std.specs.Io.KnownBytes.{Appends}
+use Rattle.std.specs.Prelude.{◌≡◌, ◌⊎◌, ℕ, List, Option, Some, Result, Err, OnOk}
 use Rattle.affinity.specs.declared.geometry.Geometry.{Geometry}
 use Rattle.checkpoint.specs.Recovery.{recovered_state}
 use Rattle.checkpoint.specs.declared.fault.OpenFault.{OpenFault}
@@ -8,20 +7,27 @@ use Rattle.checkpoint.specs.declared.fault.OpenFault.TheVariants as opening
 use Rattle.disk.specs.Device.{IsCrashImage, IsSynced, Medium}
 use Rattle.meaning.specs.Output.{WritesOutput, serial_output}
 use Rattle.meaning.specs.State.{State}
-use Rattle.serving.specs.Restart.{RecoversTo, BytesRecover}
+use Rattle.serving.specs.Restart.{RecoversTo, BytesRecover, WritesBeginning}
 use Rattle.commands.specs.Serving.{RecoveredTo}
 use Rattle.commands.specs.declared.faults.Fault.{Fault}
-use Rattle.commands.specs.declared.faults.Fault.TheVariants.{Write, Open}
+use Rattle.commands.specs.declared.faults.Fault.TheVariants.{Write, Device, NoWorkers, OutOfMemory, Open}
 
--- `all` is what the output holds; where a write failed, what it would hold with all that was to be written: it holds a beginning of that.
-abbrev pub IsWritten : Result (Unit {0}) Fault → Option (List ℕ) → Option (List ℕ) → Option (List ℕ) → Type 0
-IsWritten (Err Write) before after all = (out : List ℕ) × (rest : List ℕ) × Appends before after out × Appends before all (out ++ rest)
-IsWritten _ before after all = after ≡ all
+-- `all` is what the output holds; where a write failed, what it would hold with all that was to be written (`WritesBeginning`). At most
+-- `left` lines that were read are not answered in `all`: where the device failed, as many as there are slots; where neither failed, none.
+-- Where no line was read, nothing was written.
+abbrev pub IsWritten : Result (Unit {0}) Fault → ℕ → ℕ → Option (List ℕ) → Option (List ℕ) → Option (List ℕ) → Type 0
+IsWritten (Err Write) slots left before after all = WritesBeginning slots left before after all
+IsWritten (Err Device) slots left before after all = (after ≡ all) × (left ≡ slots)
+IsWritten (Err NoWorkers) slots left before after all = (after ≡ all) × (left ≡ 0) × (after ≡ before)
+IsWritten (Err OutOfMemory) slots left before after all = (after ≡ all) × (left ≡ 0) × (after ≡ before)
+IsWritten (Err (Open fault)) slots left before after all = (after ≡ all) × (left ≡ 0) × (after ≡ before)
+IsWritten _ slots left before after all = (after ≡ all) × (left ≡ 0)
 
--- P holds of all that was to be written, as `IsWritten` says. If the device could not be opened, nothing was written.
-abbrev pub HoldsOfAll : Result (Unit {0}) Fault → Option (List ℕ) → Option (List ℕ) → (Option (List ℕ) → Type 0) → Type 0
-HoldsOfAll (Err (Open fault)) before after P = after ≡ before
-HoldsOfAll end before after P = (all : Option (List ℕ)) × IsWritten end before after all × P all
+-- P holds of all that was to be written and of how many lines may be unanswered in it, as `IsWritten` says. If the device could not be
+-- opened, nothing was written.
+abbrev pub HoldsOfAll : Result (Unit {0}) Fault → ℕ → Option (List ℕ) → Option (List ℕ) → (ℕ → Option (List ℕ) → Type 0) → Type 0
+HoldsOfAll (Err (Open fault)) slots before after P = after ≡ before
+HoldsOfAll end slots before after P = (left : ℕ) × (all : Option (List ℕ)) × IsWritten end slots left before after all × P left all
 
 -- A server ran from the state `start` on one input and came to this end, and a crash left another state, of which `next` is true. What it
 -- wrote is the serial server's output for the first lines of its input, however it ended. `next` may be that another server ran so from
@@ -30,9 +36,10 @@ pub record HasRunFrom (g : Geometry) (slots : ℕ) (start : State) (end : Result
     (input before after : Option (List ℕ)) (next : State → Type 0) : Type 0 where
   -- the state that the crash left
   pub now : State
+  pub left : ℕ
   pub all : Option (List ℕ)
-  pub written : IsWritten end before after all
-  pub recovers : WritesOutput input before all (RecoversTo g slots start now)
+  pub written : IsWritten end slots left before after all
+  pub recovers : WritesOutput input before all (RecoversTo g left start now)
   -- if the server ended without a fault, all of its input was answered
   pub all_answered : OnOk end (WritesOutput input before after (λ bytes out. out ≡ serial_output g start bytes))
   pub goes_on : next now

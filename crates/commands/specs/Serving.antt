@@ -67,7 +67,8 @@ HasServedNothing keeps old new x = (w : ServedDevice keeps old new) Ã— (w.end â‰
 -- recovered. The device recovers to the last state of that server, with no record in force.
 -- A failed read: exactly the lines that were read whole are answered, and the device recovers to the state after them. No ticket left:
 -- exactly the lines before one whose message is in range are answered, and the device recovers to the state after them.
--- A failed device: the first lines of the serial server's output. A failed write: it is unknown what was written.
+-- A failed device: the first lines of the serial server's output. A failed write: nothing of the output; by
+-- `CrashesSafely` it is a beginning of the run's answers.
 -- No workers, or no memory: nothing was served. A device that can't be opened: no input was read and no output written. The fault is one
 -- that its bytes show, or want of memory, or `Device`: the last exactly if the device failed. `IsLeftByRefusal`: nothing was written to
 -- it, unless it failed, or the bad record is in the half that was not named: then the opening has finished an interrupted cut before.

@@ -72,12 +72,12 @@ pub fn serve_on<T: Threads + Wait + Sync, R: Read, W: Write, D: Disk + Drop>(
         (exchange (R.remaining r.old) (R.remaining r.new) (W.contents w.old) (W.contents w.new)) }
     // Whatever a crash leaves at the end holds what was sent, and recovers to a state with it; where a write failed, all that was to be
     // sent by that, too.
-    ensures kept { HoldsOfAll result.1 (W.contents w.old) (W.contents w.new)
-        (λ all. D.keeps → (c : List ℕ) → IsCrashImage (D.medium result.0) c
-        → HoldsAcknowledged service.slots (D.medium disk) (R.remaining r.old) (W.contents w.old) all c) }
-    ensures recovers { HoldsOfAll result.1 (W.contents w.old) (W.contents w.new)
-        (λ all. D.keeps → (c : List ℕ) → IsCrashImage (D.medium result.0) c
-        → HoldsRecovered service.slots (D.medium disk) (R.remaining r.old) (W.contents w.old) all c) }
+    ensures kept { HoldsOfAll result.1 service.slots (W.contents w.old) (W.contents w.new)
+        (λ left all. D.keeps → (c : List ℕ) → IsCrashImage (D.medium result.0) c
+        → HoldsAcknowledged left (D.medium disk) (R.remaining r.old) (W.contents w.old) all c) }
+    ensures recovers { HoldsOfAll result.1 service.slots (W.contents w.old) (W.contents w.new)
+        (λ left all. D.keeps → (c : List ℕ) → IsCrashImage (D.medium result.0) c
+        → HoldsRecovered left (D.medium disk) (R.remaining r.old) (W.contents w.old) all c) }
     ensures goes_on { LeavesRun D.keeps service.slots (D.medium disk) (D.medium result.0) result.1 (R.remaining r.old) (W.contents w.old)
         (W.contents w.new) }
 {

@@ -35,10 +35,10 @@ fn serve_and_crash<T: Threads + Wait + Sync, R: Read, W: Write>(
     requires bytes { HasPattern torn }
     ensures crashed { HasServedUntilCrash service (medium_of disk) torn (memory_of result.0) result.1
         (exchange (R.remaining r.old) (R.remaining r.new) (W.contents w.old) (W.contents w.new)) }
-    ensures kept { HoldsOfAll result.1 (W.contents w.old) (W.contents w.new) (λ all. HoldsAcknowledged service.slots (medium_of disk)
-        (R.remaining r.old) (W.contents w.old) all (medium_of result.0).now) }
-    ensures recovers { HoldsOfAll result.1 (W.contents w.old) (W.contents w.new) (λ all. HoldsRecovered service.slots (medium_of disk)
-        (R.remaining r.old) (W.contents w.old) all (medium_of result.0).now) }
+    ensures kept { HoldsOfAll result.1 service.slots (W.contents w.old) (W.contents w.new) (λ left all. HoldsAcknowledged left
+        (medium_of disk) (R.remaining r.old) (W.contents w.old) all (medium_of result.0).now) }
+    ensures recovers { HoldsOfAll result.1 service.slots (W.contents w.old) (W.contents w.new) (λ left all. HoldsRecovered left
+        (medium_of disk) (R.remaining r.old) (W.contents w.old) all (medium_of result.0).now) }
     ensures goes_on { (g : Geometry) (start : State) → HoldsState g (medium_of disk) start → HasRunFrom g service.slots start result.1
         (R.remaining r.old) (W.contents w.old) (W.contents w.new) (HoldsState g (medium_of result.0)) }
 {
@@ -63,10 +63,10 @@ pub fn serve_stopped<T: Threads + Wait + Sync, R: Read, W: Write>(
     requires bytes { HasPattern torn }
     ensures crashed { HasServedUntilCrash service (medium_of disk) torn (memory_of result.0) result.1
         (exchange (R.remaining r.old) (R.remaining r.new) (W.contents w.old) (W.contents w.new)) }
-    ensures kept { HoldsOfAll result.1 (W.contents w.old) (W.contents w.new) (λ all. HoldsAcknowledged service.slots (medium_of disk)
-        (R.remaining r.old) (W.contents w.old) all (medium_of result.0).now) }
-    ensures recovers { HoldsOfAll result.1 (W.contents w.old) (W.contents w.new) (λ all. HoldsRecovered service.slots (medium_of disk)
-        (R.remaining r.old) (W.contents w.old) all (medium_of result.0).now) }
+    ensures kept { HoldsOfAll result.1 service.slots (W.contents w.old) (W.contents w.new) (λ left all. HoldsAcknowledged left
+        (medium_of disk) (R.remaining r.old) (W.contents w.old) all (medium_of result.0).now) }
+    ensures recovers { HoldsOfAll result.1 service.slots (W.contents w.old) (W.contents w.new) (λ left all. HoldsRecovered left
+        (medium_of disk) (R.remaining r.old) (W.contents w.old) all (medium_of result.0).now) }
     ensures goes_on { (g : Geometry) (start : State) → HoldsState g (medium_of disk) start → HasRunFrom g service.slots start result.1
         (R.remaining r.old) (W.contents w.old) (W.contents w.new) (HoldsState g (medium_of result.0)) }
 {

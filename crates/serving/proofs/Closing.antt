@@ -1,5 +1,5 @@
 -- A session that reads no more, and what it promises in the end.
-use Rattle.std.proofs.Common.{arith, ◌≡◌, ◌≢◌, ℕ, zero, suc, Bool, true, false, List, [], ◌++◌, Option, Some, None, refl, ap, sym, ◌∙◌, subst, length, map, replicate, append-nil, append_assoc}
+use Rattle.std.proofs.Common.{arith, ◌≡◌, ◌≢◌, ◌≤◌, ◌+◌, ◌-◌, ℕ, zero, suc, Bool, true, false, List, [], ◌++◌, Option, Some, None, refl, ap, sym, ◌∙◌, subst, length, map, replicate, append-nil, append_assoc}
 use Rattle.std.specs.Prelude.{Result, Ok, Err, IfOk, IfSome, MatchResult, OnErr, OnOk, ◌&&◌}
 use Rattle.std.specs.Io.KnownBytes.{Appends}
 use Rattle.std.proofs.KnownBytes.{Appends-trans}
@@ -21,7 +21,8 @@ use Rattle.serving.specs.Lines.{Line, answer_text}
 use Rattle.meaning.specs.Output.{joined}
 use Rattle.reorder_buffer.specs.ReorderBuffer.{ReorderBufferView, can_retire}
 use Rattle.oplog.specs.Recovery.{records_in}
-use Rattle.serving.specs.Serve.{HasRunWith, IsWrittenAtEnd, FailsWithoutWorkers, ServePromise}
+use Rattle.serving.specs.Restart.{WritesBeginning}
+use Rattle.serving.specs.Serve.{HasRunWith, FailsWithoutWorkers, ServePromise}
 use Rattle.serving.specs.Runs.{HandsHaveJobs, lent_hand, machine_with_jobs}
 use Rattle.serving.specs.Session.{EndsBy, EndsOrDeclines, HasFinished, SessionProgress, HasHalted, HasEndedReading, CanBegin, IsServed, SessionInvariant, SessionInvariantFrom, SessionView, ReadsOrHasEnded, machine, IsSent, end_of, reported}
 use Rattle.serving.specs.Output.{Start, start_machine}
@@ -31,6 +32,7 @@ use Rattle.serving.specs.declared.session.ReadEnd.TheVariants as ends_of_reading
 use Rattle.serving.specs.declared.server.ServeFault.{ServeFault}
 use Rattle.serving.specs.declared.server.ServeFault.TheVariants as faults
 use Rattle.workers.specs.Seats.{DispatchSeatView}
+use Rattle.serving.proofs.Newlines.{both as newlines-append, in_answers, newlines}
 use Rattle.serving.proofs.Promises.{no_memory_ran, runs_to_device, runs_to_last_ticket, runs_to_read, runs_to_write, runs_whole}
 use Rattle.serving.proofs.Starting.{holds_at_start, starts}
 use Rattle.serving.proofs.Served.{ends_at_device, ends_at_read, ends_exhausted, ends_whole}
@@ -47,17 +49,34 @@ all_appended None bytes = tt
 all_appended (Some sent) bytes = refl
 
 -- After what was sent whole, the answers that wait were sent in part: that is a beginning of both.
-written_begins : (b : Bool) (before whole sent : Option (List ℕ)) (waiting text : List ℕ) → Appends before whole text → IsSent b waiting whole sent
-    → IsWrittenAtEnd (Err faults.Write) before sent (all_output whole waiting)
-written_begins true before whole sent waiting text grown h = (
-  text ++ h.0,
-  h.1,
-  Appends-trans before whole sent text h.0 grown h.3,
-  subst (λ (l : List ℕ). Appends before (all_output whole waiting) l) (ap (λ (l : List ℕ). text ++ l) h.2 ∙ sym (append_assoc text h.0 h.1))
-      (Appends-trans before whole (all_output whole waiting) text waiting grown (all_appended whole waiting)),
-)
-written_begins false before whole sent waiting text grown h =
-    (text, waiting, subst (λ (w : Option (List ℕ)). Appends before w text) (sym h) grown, Appends-trans before whole (all_output whole waiting) text waiting grown (all_appended whole waiting))
+-- Of n lines whose answers wait, those that end behind that beginning have a slot each, and at least all slots but n are left.
+module _ (before whole sent : Option (List ℕ)) (waiting text : List ℕ) (n slots : ℕ) (grown : Appends before whole text) where
+  written_begins : (b : Bool) → IsSent b waiting whole sent → newlines waiting ≤ n → n ≤ slots
+      → (left : ℕ) × WritesBeginning slots left before sent (all_output whole waiting) × (slots ≤ left + n)
+  written_begins true h few within =
+      let parts = ap (λ (l : List ℕ). newlines l) h.2 ∙ newlines-append h.0 h.1 in (
+        slots - newlines h.1,
+        (
+          text ++ h.0,
+          h.1,
+          Appends-trans before whole sent text h.0 grown h.3,
+          subst (λ (l : List ℕ). Appends before (all_output whole waiting) l) (ap (λ (l : List ℕ). text ++ l) h.2 ∙ sym (append_assoc text h.0 h.1))
+              (Appends-trans before whole (all_output whole waiting) text waiting grown (all_appended whole waiting)),
+          omega (arith, parts, few, within),
+        ),
+        omega (arith, parts, few, within),
+      )
+  written_begins false h few within = (
+    slots - newlines waiting,
+    (
+      text,
+      waiting,
+      subst (λ (w : Option (List ℕ)). Appends before w text) (sym h) grown,
+      Appends-trans before whole (all_output whole waiting) text waiting grown (all_appended whole waiting),
+      omega (arith, few, within),
+    ),
+    omega (arith, few, within),
+  )
 
 -- What a server promises at its end: of the run that led there (given what `know_recovery` ensures of the core), and of that end.
 pub record PromisesAll (keeps : Type 0) (start : MachineView) (new : CoreView) (x : Exchange) (result : Result (Unit {0}) ServeFault) : Type 0 where
@@ -142,10 +161,17 @@ module _ {keeps : Type 0} {s : Start} {p : SessionView} (u : SessionInvariant ke
     write_ends : (p.core.failed ≡ false → p.core.ran ≡ []) → PromisesAll keeps start p.core (exchange s.input p.remaining s.before p.sent) (Err faults.Write)
     write_ends ran =
         let h = (progress_at_end keeps s p p.read_end u.reads).2 in
+        let counted = h.counted in
+        let bounded = h.bounded in
+        let fits = u.fits in
+        let text = joined (map answer_text h.progress.sent_lines) in
+        let few = ap (λ (l : List ℕ). newlines l) h.reply_buffer_is in
+        let each = in_answers h.waiting in
+        let begins = written_begins s.before h.whole p.sent p.reply_buffer text (length h.waiting) s.core.slots h.progress.output p.output_failed h.output
+        (omega (arith, few, each)) (omega (arith, counted, bounded, fits)) in
+        let room = begins.2 in
         record {
-          run = λ no_doubt recovers. runs_to_write u.idle no_doubt recovers (to_reorder_buffer h)
-              (written_begins p.output_failed s.before h.whole p.sent p.reply_buffer (joined (map answer_text h.progress.sent_lines)) h.progress.output h.output)
-              (let a = h.counted in let b = h.bounded in let c = u.fits in omega (arith, a, b, c));
+          run = λ no_doubt recovers. runs_to_write u.idle no_doubt recovers (to_reorder_buffer h) begins.1 (omega (arith, counted, bounded, fits, room));
           ends = (wound_up h.progress, ran);
         }
 

@@ -53,7 +53,7 @@ module _ {keeps : Type 0} {s : Start} {sent later : Option (List ℕ)} {now : Co
 
   pub sent_is_held : keeps → (c : List ℕ) → IsCrashImage now.medium c
       → HoldsSent s.core.geometry (committed_in s.core) s.core.slots s.core.next s.input s.before later c
-  sent_is_held = holds_sent m.idle served_after_sending m.none_in_doubt
+  sent_is_held = holds_sent m.idle served_after_sending s.core.slots served_after_sending.few m.none_in_doubt
 
   -- ---- the same after more events, with more lines read
 
@@ -79,7 +79,7 @@ module _ {keeps : Type 0} {s : Start} {sent later : Option (List ℕ)} {now : Co
         subst (λ (es : List Event). RecoversToHistory g (committed_in s.core) (ticketed s.core.next (admitted g (m.served.consumed ++ lines_since))) (logged_messages w es) c) first_events
         (holds_logged m.idle m.none_in_doubt run kept n c (omega (arith, many))
         (subst (λ (d : Medium). left_since last.medium (moment_number d) c) (sym at_send) left)) in
-        let few = few_answered m.idle h in
+        let few = few_answered m.idle h s.core.slots h.few in
         let read = length-append m.served.consumed lines_since in
         bytes_recover s.core.next (m.served.consumed ++ lines_since) (map answer_text h.sent_lines) run.first h.output (omega (arith, few, read))
         (still_in_history g log s.core.next m.served.consumed lines_since (map answer_text h.sent_lines)

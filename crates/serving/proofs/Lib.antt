@@ -26,6 +26,7 @@ mod Stopping
 mod Invariant
 mod Promises
 mod Closing
+mod Newlines
 mod Silence
 mod SortedLogs
 mod Examples

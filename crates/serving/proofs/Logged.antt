@@ -161,13 +161,12 @@ module _ {keeps : Type 0} {start : MachineView} {new : CoreView} {unsent : List 
       (in_left (ticket, m, reply) (answered_messages w events) (end_state w events).core.logged
       (subst (λ (m' : Msg). IsIn (ticket, m', reply) (answered_messages w events)) same one.1)))
 
-  -- No more consumed lines have no answer than there are slots.
-  pub few_answered : length h.consumed ≤ length (map answer_text h.sent_lines) + start.core.slots
-  few_answered =
+  -- No more consumed lines have no answer than these slots, where no more lines are unsent.
+  pub few_answered : (slots : ℕ) → length unsent ≤ slots → length h.consumed ≤ length (map answer_text h.sent_lines) + slots
+  few_answered slots few =
       let all = as_many start.core.geometry h.run.reply_pairs start.core.next h.consumed (h.sent_lines ++ unsent) h.known in
       let both = length-append h.sent_lines unsent in
       let same = length-map h.sent_lines answer_text in
-      let few = h.few in
       omega (arith, all, both, same, few)
 
   -- Each line that was written is in the history of what the run logged (`AreInHistory`).
@@ -176,9 +175,9 @@ module _ {keeps : Type 0} {start : MachineView} {new : CoreView} {unsent : List 
       (ticketed start.core.next (admitted start.core.geometry h.consumed)) was_logged start.core.next h.consumed h.sent_lines unsent (λ e is. is) h.known h.have_answers
 
   -- Whatever a crash leaves at the end of the run holds what was written.
-  pub holds_sent : start.core.doubt ≡ [] → keeps → (c : List ℕ) → IsCrashImage new.medium c
-      → HoldsSent start.core.geometry (committed_in start.core) start.core.slots start.core.next input before written c
-  holds_sent none kept c leaves =
+  pub holds_sent : (slots : ℕ) → length unsent ≤ slots → start.core.doubt ≡ [] → keeps → (c : List ℕ) → IsCrashImage new.medium c
+      → HoldsSent start.core.geometry (committed_in start.core) slots start.core.next input before written c
+  holds_sent slots few none kept c leaves =
       let g = start.core.geometry in
       let held = holds_all idle none h.run kept c leaves in
       let state = state_after_all g (committed_in start.core) (recorded (run_log ++ held.more)) in
@@ -187,7 +186,7 @@ module _ {keeps : Type 0} {start : MachineView} {new : CoreView} {unsent : List 
         first = h.run.first;
         lines = map answer_text h.sent_lines;
         output = h.output;
-        few = few_answered;
+        few = few_answered slots few;
         history = run_log;
         kept = written_are_kept;
         holds = held;

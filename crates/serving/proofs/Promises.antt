@@ -13,7 +13,8 @@ use Rattle.serving.specs.Progress.{ServingProgress}
 use Rattle.serving.specs.Lines.{Line}
 use Rattle.reorder_buffer.specs.ReorderBuffer.{can_retire}
 use Rattle.serving.specs.Runs.{machine_with_jobs}
-use Rattle.serving.specs.Serve.{HasRunWith, IsWrittenAtEnd}
+use Rattle.serving.specs.Restart.{WritesBeginning}
+use Rattle.serving.specs.Serve.{HasRunWith}
 use Rattle.serving.specs.declared.server.ServeFault.TheVariants as faults
 use Rattle.serving.proofs.Served.{has_served}
 use Rattle.serving.proofs.Starting.{starts}
@@ -36,29 +37,62 @@ module _ {keeps : Type 0} {start now : MachineView} (idle : IsIdle (core_state_o
   unfolding has_served
   runs_whole h at_end = record {
     unsent = [];
+    left = 0;
     all = written;
-    written_is = refl;
+    written_is = (refl, refl);
     served = has_served keeps start now idle no_doubt recovers (omega arith) h;
+    few = omega arith;
     are_unsent = (refl, all_taken input unread ended h.consumed h.takes at_end);
   }
 
   pub runs_to_read : ServingProgress keeps start now [] input unread ended before written
       → HasRunWith keeps start now.core input before written (Err faults.Read)
-  runs_to_read h = record { unsent = []; all = _; written_is = refl; served = has_served keeps start now idle no_doubt recovers (omega arith) h; are_unsent = refl }
+  runs_to_read h = record {
+    unsent = [];
+    left = 0;
+    all = _;
+    written_is = (refl, refl);
+    served = has_served keeps start now idle no_doubt recovers (omega arith) h;
+    few = omega arith;
+    are_unsent = refl;
+  }
 
   pub runs_to_last_ticket : ServingProgress keeps start now [] input unread ended before written
       → HasRunWith keeps start now.core input before written (Err faults.Exhausted)
-  runs_to_last_ticket h = record { unsent = []; all = _; written_is = refl; served = has_served keeps start now idle no_doubt recovers (omega arith) h; are_unsent = refl }
+  runs_to_last_ticket h = record {
+    unsent = [];
+    left = 0;
+    all = _;
+    written_is = (refl, refl);
+    served = has_served keeps start now idle no_doubt recovers (omega arith) h;
+    few = omega arith;
+    are_unsent = refl;
+  }
 
   pub runs_to_device : {unsent : List Line} → ServingProgress keeps start now unsent input unread ended before written → can_retire unsent ≡ false
       → length unsent ≤ start.core.slots → HasRunWith keeps start now.core input before written (Err faults.Device)
-  runs_to_device {unsent} h last few = record { unsent = unsent; all = _; written_is = refl; served = has_served keeps start now idle no_doubt recovers few h; are_unsent = last }
+  runs_to_device {unsent} h last few = record {
+    unsent = unsent;
+    left = start.core.slots;
+    all = _;
+    written_is = (refl, refl);
+    served = has_served keeps start now idle no_doubt recovers few h;
+    few = few;
+    are_unsent = last;
+  }
 
   -- where a write failed: what was written is a beginning of what was to be written
-  pub runs_to_write : {unsent : List Line} {torn : Option (List ℕ)} → ServingProgress keeps start now unsent input unread ended before written
-      → IsWrittenAtEnd (Err faults.Write) before torn written → length unsent ≤ start.core.slots → HasRunWith keeps start now.core input before torn (Err faults.Write)
-  runs_to_write {unsent} h is few =
-      record { unsent = unsent; all = written; written_is = is; served = has_served keeps start now idle no_doubt recovers few h; are_unsent = tt }
+  pub runs_to_write : {unsent : List Line} {torn : Option (List ℕ)} {left : ℕ} → ServingProgress keeps start now unsent input unread ended before written
+      → WritesBeginning start.core.slots left before torn written → length unsent ≤ left → HasRunWith keeps start now.core input before torn (Err faults.Write)
+  runs_to_write {unsent} {left} h is few = record {
+    unsent = unsent;
+    left = left;
+    all = written;
+    written_is = is;
+    served = has_served keeps start now idle no_doubt recovers (let within = is.4 in omega (arith, few, within)) h;
+    few = few;
+    are_unsent = tt;
+  }
 
 -- ---- a server that was refused
 
@@ -70,7 +104,7 @@ module _ (keeps : Type 0) (core : CoreView) (places : ℕ) (idle : IsIdle (core_
       has_served keeps start start idle no_doubt recovers (omega arith) (starts keeps start input before)
 
   pub no_workers_ran : HasRunWith keeps (machine_with_jobs core (replicate places None)) core input before before (Err faults.NoWorkers)
-  no_workers_ran = record { unsent = []; all = _; written_is = refl; served = not_run; are_unsent = refl }
+  no_workers_ran = record { unsent = []; left = 0; all = _; written_is = (refl, refl); served = not_run; few = omega arith; are_unsent = refl }
 
   pub no_memory_ran : HasRunWith keeps (machine_with_jobs core (replicate places None)) core input before before (Err faults.OutOfMemory)
-  no_memory_ran = record { unsent = []; all = _; written_is = refl; served = not_run; are_unsent = refl }
+  no_memory_ran = record { unsent = []; left = 0; all = _; written_is = (refl, refl); served = not_run; few = omega arith; are_unsent = refl }

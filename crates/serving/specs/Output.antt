@@ -10,7 +10,7 @@ use Rattle.language.specs.declared.Reply.TheVariants.{Refused}
 use Rattle.meaning.specs.Output.{joined}
 use Rattle.scheduler.specs.CoreView.{CoreView, core_state_of}
 use Rattle.serving.specs.Ends.{HasServed}
-use Rattle.serving.specs.Lines.{Completed, HaveAnswers, Line, Pending, answer_text}
+use Rattle.serving.specs.Lines.{HaveAnswers, Line, answer_text}
 use Rattle.serving.specs.Runs.{machine_with_jobs}
 
 -- what the call of a server begins with: its core, how many jobs may be lent at once, its input, and what was sent before

@@ -1,5 +1,6 @@
 -- Statement for clients: The state that a restart after a crash recovers, in terms of lines: those acknowledged, and which of the others.
-use Rattle.std.specs.Prelude.{◌≡◌, ◌⊎◌, ℕ, Bool, false, ◌&&◌, List, [], ◌∷◌, ◌++◌, take, Option, Some}
+use Rattle.std.specs.Prelude.{◌≡◌, ◌⊎◌, ℕ, ◌+◌, ◌==◌, Bool, false, ◌&&◌, List, [], ◌∷◌, ◌++◌, count_by, take, Option, Some}
+use Rattle.std.specs.Io.KnownBytes.{Appends}
 use Rattle.std.specs.List.{AllByRecursion}
 use Rattle.affinity.specs.Path.{are_related}
 use Rattle.affinity.specs.declared.geometry.Geometry.{Geometry}
@@ -21,6 +22,12 @@ abbrev pub IsClosedPart : Geometry → List (List ℕ) → List (List ℕ) → T
 IsClosedPart g part [] = part ≡ []
 IsClosedPart g part (line ∷ ls) = ((rest : List (List ℕ)) × (part ≡ line ∷ rest) × IsClosedPart g rest ls)
     ⊎ (AllByRecursion (λ other. are_related_lines g (message_of line) (message_of other) ≡ false) part × IsClosedPart g part ls)
+
+-- A write failed: the output holds `after`, a beginning of what it would hold with all that was to be written, `all`. Each line of that
+-- which ends behind this beginning has one of the slots, and so many others are left.
+abbrev pub WritesBeginning : ℕ → ℕ → Option (List ℕ) → Option (List ℕ) → Option (List ℕ) → Type 0
+WritesBeginning slots left before after all = (out : List ℕ) × (rest : List ℕ) × Appends before after out
+    × Appends before all (out ++ rest) × (count_by (λ b. b == 10) rest + left ≡ slots)
 
 -- The first lines of the input were acknowledged, each by the serial server's answer. The state is the one after these lines and then a
 -- part (`IsClosedPart`) of the lines after them: of no more than there are slots, as no later line was read.

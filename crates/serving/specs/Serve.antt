@@ -1,23 +1,24 @@
 -- Statement for operators: What a call of `serve` promises, by its result.
-use Rattle.std.specs.Prelude.{◌≡◌, ◌≢◌, ℕ, false, List, [], ◌++◌, Option, None, IfSome, Result, Ok, Err, OnOk, replicate}
-use Rattle.std.specs.Io.KnownBytes.{Appends}
+use Rattle.std.specs.Prelude.{◌≡◌, ◌≢◌, ◌≤◌, ℕ, false, List, [], length, Option, None, IfSome, Result, Ok, Err, OnOk, replicate}
 use Rattle.incarnations.specs.Machine.{MachineView}
 use Rattle.language.specs.Lines.{lines}
 use Rattle.oplog.specs.Recovery.{records_in}
 use Rattle.scheduler.specs.CoreView.{CoreView}
 use Rattle.serving.specs.Ends.{EndsWith, Exchange, HasServed}
 use Rattle.serving.specs.Lines.{Line}
+use Rattle.serving.specs.Restart.{WritesBeginning}
 use Rattle.serving.specs.Runs.{machine_with_jobs}
 use Rattle.reorder_buffer.specs.ReorderBuffer.{can_retire}
 use Rattle.serving.specs.declared.server.ServeError.{ServeError}
 use Rattle.serving.specs.declared.server.ServeFault.{ServeFault}
 use Rattle.serving.specs.declared.server.ServeFault.TheVariants as faults
 
--- `all` is what the output holds; where it failed, what it would hold with all that was to be written: it holds a beginning of that.
-abbrev pub IsWrittenAtEnd : Result (Unit {0}) ServeFault → Option (List ℕ) → Option (List ℕ) → Option (List ℕ) → Type 0
-IsWrittenAtEnd (Err faults.Write) before written all =
-    (out : List ℕ) × (rest : List ℕ) × Appends before written out × Appends before all (out ++ rest)
-IsWrittenAtEnd _ before written all = written ≡ all
+-- `all` is what the output holds; where it failed, what it would hold with all that was to be written (`WritesBeginning`). At most `left`
+-- lines that were read have no reply in `all`: where the device failed, as many as there are slots; where nothing failed, none.
+abbrev pub IsWrittenAtEnd : Result (Unit {0}) ServeFault → ℕ → ℕ → Option (List ℕ) → Option (List ℕ) → Option (List ℕ) → Type 0
+IsWrittenAtEnd (Err faults.Write) slots left before written all = WritesBeginning slots left before written all
+IsWrittenAtEnd (Err faults.Device) slots left before written all = (written ≡ all) × (left ≡ slots)
+IsWrittenAtEnd _ slots left before written all = (written ≡ all) × (left ≡ 0)
 
 -- Which of the lines that were consumed have no reply in the output. At `Ok` none, and they are all of the input. Where the device failed,
 -- those from the first line without a reply on. Where the output failed, it is left open which. At any other end none.
@@ -27,13 +28,15 @@ AreUnsent (Err faults.Device) input consumed unsent = can_retire unsent ≡ fals
 AreUnsent (Err faults.Write) input consumed unsent = Unit {0}
 AreUnsent (Err _) input consumed unsent = unsent ≡ []
 
--- A run led to what was written (`IsWrittenAtEnd`).
+-- A run led to what was written (`IsWrittenAtEnd`), and to no more unanswered lines than that allows.
 pub record HasRunWith (keeps : Type 0) (start : MachineView) (new : CoreView) (input before written : Option (List ℕ))
     (end : Result (Unit {0}) ServeFault) : Type 0 where
   pub unsent : List Line
+  pub left : ℕ
   pub all : Option (List ℕ)
-  pub written_is : IsWrittenAtEnd end before written all
+  pub written_is : IsWrittenAtEnd end start.core.slots left before written all
   pub served : HasServed keeps start new unsent input before all
+  pub few : length unsent ≤ left
   pub are_unsent : AreUnsent end input served.consumed unsent
 
 -- The call ends with `NoWorkers` exactly where there are no workers.

@@ -19,4 +19,4 @@ returns-in_err-end-clause-opens g c k start held =
 pub returns-clause-run : goal.returns-clause-run
 returns-clause-run g c k start held =
     let h = ends_so c.in_ok-end.was ((c.serve_on-disk.ensures.goes_on tt k start held).1 _ (itself _ _ c.serve_on-disk.result.0.are_bytes)) in
-    record { now = h.now; all = h.all; written = h.written; recovers = h.recovers; all_answered = search (rules, h.all_answered); goes_on = tt }
+    record { now = h.now; left = h.left; all = h.all; written = h.written; recovers = h.recovers; all_answered = search (rules, h.all_answered); goes_on = tt }

@@ -60,9 +60,11 @@ returns g c =
       ends = given_back (λ m r. EndsOnDevice keeps service old m r streams)
           (ends_on_device end by c.know_recovery.ensures.no_doubt bytes);
       crash_safe = given_back (λ m r. CrashesSafely keeps service old m r streams) (crashes_safely end by);
-      kept = given_back (λ m r. HoldsOfAll r streams.before streams.written (λ all. keeps → (b : List ℕ) → IsCrashImage m b → HoldsAcknowledged service.slots old streams.input streams.before all b))
+      kept = given_back (λ m r. HoldsOfAll r service.slots streams.before streams.written
+          (λ left all. keeps → (b : List ℕ) → IsCrashImage m b → HoldsAcknowledged left old streams.input streams.before all b))
           (keeps_acknowledged end by);
-      recovers = given_back (λ m r. HoldsOfAll r streams.before streams.written (λ all. keeps → (b : List ℕ) → IsCrashImage m b → HoldsRecovered service.slots old streams.input streams.before all b))
+      recovers = given_back (λ m r. HoldsOfAll r service.slots streams.before streams.written
+          (λ left all. keeps → (b : List ℕ) → IsCrashImage m b → HoldsRecovered left old streams.input streams.before all b))
           (leaves_recovered end by);
       goes_on = given_back (λ m r. LeavesRun keeps service.slots old m r streams.input streams.before streams.written)
           (leaves_run service old now.medium (command_result end) streams (g.met.D.Disk.bytes c.args.disk)

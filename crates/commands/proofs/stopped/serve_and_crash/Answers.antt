@@ -19,8 +19,8 @@ returns g c =
         crash = c.crash.ensures.after;
         leaves = c.crash.ensures.may;
       };
-      kept = all_then end before written (λ all k. k tt (medium_of c.crash.result).now c.crash.ensures.may) c.serve_on-disk.ensures.kept;
-      recovers = all_then end before written (λ all k. k tt (medium_of c.crash.result).now c.crash.ensures.may) c.serve_on-disk.ensures.recovers;
+      kept = all_then end c.args.service.slots before written (λ left all k. k tt (medium_of c.crash.result).now c.crash.ensures.may) c.serve_on-disk.ensures.kept;
+      recovers = all_then end c.args.service.slots before written (λ left all k. k tt (medium_of c.crash.result).now c.crash.ensures.may) c.serve_on-disk.ensures.recovers;
       goes_on = λ k start held. then_so (λ now is. (is, subst (λ (m : Memory). IsSynced m.medium) (sym c.crash.ensures.after) refl))
           ((c.serve_on-disk.ensures.goes_on tt k start held).1 (medium_of c.crash.result).now c.crash.ensures.may);
     }

@@ -10,7 +10,7 @@ use Rattle.commands.proofs.stopped.serve_stopped.Goals as goal
 
 pub returns : goal.returns
 returns g c =
-    let left = c.serve_and_crash.result.0 in
+    let torn = c.serve_and_crash.result.0 in
     let end = c.serve_and_crash.result.1 in
     let input = g.R.Read.remaining c.args.r.now in
     let rest = g.R.Read.remaining c.serve_and_crash.new.r in
@@ -18,11 +18,11 @@ returns g c =
     let written = g.W.Write.contents c.serve_and_crash.new.w in
     let same : medium_of c.stop_at.new.self ≡ medium_of c.args.disk = ap (λ (m : Memory). m.medium) c.stop_at.ensures in
     record {
-      crashed = subst (λ (m : Medium). HasServedUntilCrash c.args.service m c.args.torn (memory_of left) end (exchange input rest before written))
+      crashed = subst (λ (m : Medium). HasServedUntilCrash c.args.service m c.args.torn (memory_of torn) end (exchange input rest before written))
           same c.serve_and_crash.ensures.crashed;
-      kept = subst (λ (m : Medium). HoldsOfAll end before written (λ all. HoldsAcknowledged c.args.service.slots m input before all (medium_of left).now))
+      kept = subst (λ (m : Medium). HoldsOfAll end c.args.service.slots before written (λ left all. HoldsAcknowledged left m input before all (medium_of torn).now))
           same c.serve_and_crash.ensures.kept;
-      recovers = subst (λ (m : Medium). HoldsOfAll end before written (λ all. HoldsRecovered c.args.service.slots m input before all (medium_of left).now))
+      recovers = subst (λ (m : Medium). HoldsOfAll end c.args.service.slots before written (λ left all. HoldsRecovered left m input before all (medium_of torn).now))
           same c.serve_and_crash.ensures.recovers;
       goes_on = λ k start held. c.serve_and_crash.ensures.goes_on k start (subst (λ (m : Medium). HoldsState k m start) (sym same) held);
     }
