@@ -24,8 +24,8 @@ EndsInMemory g (Err Write) x = Unit {0}
 EndsInMemory g (Err OutOfMemory) x = WritesOutput x.input x.before x.written (IsBeginning g empty)
 EndsInMemory g (Err _) x = ⊥
 
--- A device was made and its length printed, or it was not made and nothing was printed. After a failed write it is unknown what was
--- printed. What the file holds is unknown.
+-- The length of a device of this geometry was printed, or nothing was. After a failed write it is unknown what was printed. What the file
+-- holds is unknown.
 abbrev pub EndsFormatting : Geometry → Result (Unit {0}) Fault → Option (List ℕ) → Option (List ℕ) → Type 0
 EndsFormatting g (Ok _) old new = Appends old new (formatted_line g)
 EndsFormatting g (Err Write) old new = Unit {0}

@@ -1,13 +1,17 @@
 //! `waffd format`: a device of an empty state, in a file.
-ghost use Rattle.std.specs.Prelude.{◌≡◌, IfOk};
+ghost use Rattle.std.specs.Prelude.{◌≡◌, ◌≤◌, IfOk, OnOk, Some, length};
+ghost use Rattle.checkpoint.specs.Recovery.{recovered_state};
 ghost use Rattle.commands.specs.Ends.{EndsFormatting};
 ghost use Rattle.commands.specs.Lines.{formatted_line};
+ghost use Rattle.device_map.specs.Layout.{device_size, layout_of};
+ghost use Rattle.disk.specs.Device.{IsSynced};
+ghost use Rattle.meaning.specs.State.{empty};
 
 use crate::faults::Fault;
 use crate::lines::{add_line, write_lines};
 use affinity::Geometry;
 use checkpoint::{device_len, format};
-use disk::FileDisk;
+use disk::{Disk, FileDisk};
 use std::alloc::{AllocError, Global};
 use std::fs::File;
 use std::io::Write;
@@ -20,6 +24,26 @@ fn formatted_text(alloc: Global, geometry: &Geometry) -> Result<Vec<u8>, AllocEr
     let mut line = Vec::new(alloc);
     add_line(&mut line, "formatted", &[device_len(geometry)])?;
     Ok(line)
+}
+
+/// Formats a device, and prints its line. The device is given back, formatted if that went well.
+fn format_on<D: Disk, W: Write>(
+    alloc: Global,
+    disk: D,
+    geometry: Geometry,
+    line: &[u8],
+    w: &mut W,
+) -> (D, Result<(), Fault>)
+    requires long { device_size (layout_of geometry) ≤ length (D.medium disk).now }
+    requires line { line.now ≡ formatted_line geometry }
+    ensures made { OnOk result.1 (D.keeps → (recovered_state geometry (D.medium result.0).now ≡ Some empty)
+        × IsSynced (D.medium result.0)) }
+    ensures ends { EndsFormatting geometry result.1 (W.contents w.old) (W.contents w.new) }
+{
+    match format(alloc, disk, geometry) {
+        Ok(disk) => (disk, write_lines(line, w)),
+        Err(error) => (error.disk, Err(Fault::from(error.fault))),
+    }
 }
 
 /// Makes a device of this geometry in the file of this path, which replaces a file that is there, and prints its length on `w`. At any
@@ -36,8 +60,6 @@ pub fn format_device<T: Files<File = File>, W: Write>(
 {
     let line = formatted_text(alloc, &geometry)?;
     let disk = FileDisk::create(rt, path, device_len(&geometry))?;
-    if let Err(error) = format(alloc, disk, geometry) {
-        return Err(Fault::from(error.fault));
-    }
-    write_lines(&line, w)
+    let (_disk, end) = format_on(alloc, disk, geometry, &line, w);
+    end
 }
