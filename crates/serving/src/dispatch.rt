@@ -21,8 +21,11 @@ use std::thread::yield_now;
 use workers::{Bench, DispatchSeat, MOST_PLACES};
 
 /// How many messages may be collected before what ran is logged: the log writes that many records by one write of the records and one of
-/// their gates. At least one for each place: a poll that ends before the last place could wait for a result whose signal it has seen.
+/// their gates.
 const BATCH: usize = MOST_PLACES;
+
+// A poll that ends before the last place could wait for a result whose signal it has seen.
+const _: () = prove!(MOST_PLACES <= BATCH);
 
 /// After this many polls in succession without a result, each of all places, the batch is logged as it is. They take about ten times as
 /// long as a thread takes to wake up. Each result restarts the count, so a reply may wait for as many polls once more for each later
