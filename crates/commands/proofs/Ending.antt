@@ -13,7 +13,7 @@ use Rattle.meaning.specs.Output.{WritesOutput, IsBeginning}
 use Rattle.meaning.specs.State.{empty}
 use Rattle.serving.specs.Ends.{Exchange}
 use Rattle.commands.specs.Ends.{EndsFormatting, EndsInMemory, EndsShowing}
-use Rattle.commands.specs.Serving.{EndsInFile}
+use Rattle.commands.specs.InFile.{EndsInFile}
 use Rattle.commands.specs.declared.serve_options.ServeOptions.{ServeOptions}
 use Rattle.commands.proofs.Services.{service_same}
 use Rattle.commands.specs.Calls.{Ends, Exits, ExitsHelp, ExitsRefused, status_at, status_of_refusal}

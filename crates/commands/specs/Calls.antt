@@ -3,7 +3,8 @@ use Rattle.std.specs.Prelude.{◌≡◌, ◌⊎◌, ℕ, Result, Ok, Err}
 use Rattle.serving.specs.Ends.{Exchange}
 use Rattle.commands.specs.Ends.{EndsFormatting, EndsInMemory, EndsShowing}
 use Rattle.commands.specs.Faults.{status_of}
-use Rattle.commands.specs.Serving.{EndsInFile, options_in_order}
+use Rattle.commands.specs.InFile.{EndsInFile}
+use Rattle.commands.specs.Serving.{options_in_order}
 use Rattle.commands.specs.declared.faults.Fault.{Fault}
 use Rattle.commands.specs.declared.faults.Fault.TheVariants.{Write, GeometryOutOfRange, OutOfMemory}
 use Rattle.commands.specs.declared.serve_options.ServeOptions.{ServeOptions}

@@ -1,6 +1,6 @@
 -- Statement for operators: What it is to serve a device: what was written at its end, what the device recovers to then, and what a crash
 -- meanwhile leaves.
-use Rattle.std.specs.Prelude.{◌≡◌, ◌≢◌, ◌⊎◌, ◌+◌, ◌≤◌, ℕ, List, [], ◌∷◌, length, take, replicate, Some, None, Result, Ok, Err}
+use Rattle.std.specs.Prelude.{◌≡◌, ◌≢◌, ◌+◌, ◌≤◌, ℕ, List, [], ◌∷◌, length, take, replicate, Some, None, Result, Ok, Err}
 use Rattle.std.specs.Io.KnownBytes.{IsAtEnd}
 use Rattle.affinity.specs.declared.geometry.Geometry.{Geometry}
 use Rattle.checkpoint.specs.Header.{HasHeader}
@@ -10,8 +10,6 @@ use Rattle.checkpoint.specs.declared.fault.OpenFault.TheVariants as open_faults
 use Rattle.disk.specs.Device.{IsCrashImage, Medium}
 use Rattle.disk.specs.Memory.{Memory, after_crash}
 use Rattle.disk.specs.Moments.{moment_number}
-use Rattle.disk.specs.RealFile.{FileKeeps}
-use Rattle.disk.specs.declared.fault.FileFault.{FileFault}
 use Rattle.disk.specs.declared.torn.Torn.{Torn}
 use Rattle.journal.specs.Opening.{IsLeftByRefusal, OpeningCrashImages}
 use Rattle.histories.specs.Incarnations.{Ran}
@@ -27,7 +25,7 @@ use Rattle.serving.specs.Runs.{machine_with_jobs}
 use Rattle.oplog.specs.Recovery.{records_in}
 use Rattle.serving.specs.Serve.{ServePromise}
 use Rattle.serving.specs.declared.server.ServeFault.{ServeFault}
-use Rattle.commands.specs.Faults.{command_result, fault_of_file}
+use Rattle.commands.specs.Faults.{command_result}
 use Rattle.commands.specs.declared.faults.Fault.{Fault}
 use Rattle.commands.specs.declared.faults.Fault.TheVariants.{Read, Write, OutOfMemory, Device, NoWorkers, NoTicketLeft, Open}
 use Rattle.commands.specs.declared.serve_options.ServeOptions.{ServeOptions}
@@ -138,23 +136,3 @@ pub record HasServedUntilCrash (s : ServeOptions) (old : Medium) (torn : Torn) (
   pub crash_safe : CrashesSafely (Unit {0}) s old ended.medium end x
   pub crash : crashed ≡ after_crash torn ended
   pub leaves : IsCrashImage ended.medium crashed.medium.now
-
--- ---- a device in a file
-
--- The file could not be opened, or there was no memory for that or for the arguments: no input was read and no output written.
-pub record HasNotBegun (end : Result (Unit {0}) Fault) (x : Exchange) : Type 0 where
-  pub why : FileFault
-  pub ends : end ≡ Err (fault_of_file why)
-  pub unread : x.remaining ≡ x.input
-  pub unwritten : x.written ≡ x.before
-
--- If files keep their bytes as a device does, the service ran on some device: contracts don't know the bytes of a file.
-pub record HasServedFile (s : ServeOptions) (end : Result (Unit {0}) Fault) (x : Exchange) : Type 0 where
-  pub old : Medium
-  pub new : Medium
-  pub ends : EndsOnDevice FileKeeps s old new end x
-  pub crash_safe : CrashesSafely FileKeeps s old new end x
-
--- How a service on the device in a file ends: it did not begin, or it ran on some device.
-abbrev pub EndsInFile : ServeOptions → Result (Unit {0}) Fault → Exchange → Type 0
-EndsInFile s end x = HasNotBegun end x ⊎ HasServedFile s end x

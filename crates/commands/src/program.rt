@@ -7,7 +7,8 @@ ghost use Rattle.commands.specs.Ends.{EndsFormatting, EndsInMemory, EndsShowing}
 ghost use Rattle.commands.specs.Services.{AsksServe, within_limits};
 ghost use Rattle.arguments.specs.Arguments.{AsksFormat, AsksHelp, RunsNoCommand, AsksPlain, AsksShow, AsksVersion, AreRefused, service_numbers};
 ghost use Rattle.affinity.specs.declared.geometry.Geometry.{Geometry};
-ghost use Rattle.commands.specs.Serving.{EndsInFile, options_in_order};
+ghost use Rattle.commands.specs.InFile.{EndsInFile};
+ghost use Rattle.commands.specs.Serving.{options_in_order};
 ghost use Rattle.commands.specs.declared.serve_options.ServeOptions.{ServeOptions};
 
 use crate::faults::Fault;

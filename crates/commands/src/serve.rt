@@ -8,7 +8,8 @@ ghost use Rattle.serving.specs.Serve.{ServePromise};
 ghost use Rattle.commands.specs.Faults.{command_result};
 ghost use Rattle.commands.specs.Acknowledged.{HoldsAcknowledged};
 ghost use Rattle.commands.specs.Promise.{HoldsOfAll, HoldsRecovered, LeavesRun};
-ghost use Rattle.commands.specs.Serving.{EndsInFile, EndsOnDevice, CrashesSafely};
+ghost use Rattle.commands.specs.InFile.{EndsInFile};
+ghost use Rattle.commands.specs.Serving.{EndsOnDevice, CrashesSafely};
 
 use crate::faults::Fault;
 use crate::serve_options::ServeOptions;

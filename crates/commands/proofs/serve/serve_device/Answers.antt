@@ -8,4 +8,7 @@ returns g c = inr (record {
   new = _;
   ends = c.serve_on-disk.ensures.ends;
   crash_safe = c.serve_on-disk.ensures.crash_safe;
+  kept = c.serve_on-disk.ensures.kept;
+  recovers = c.serve_on-disk.ensures.recovers;
+  goes_on = c.serve_on-disk.ensures.goes_on;
 })
