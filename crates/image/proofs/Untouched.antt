@@ -7,10 +7,11 @@ use Rattle.affinity.specs.declared.geometry.Geometry.{Geometry}
 use Rattle.byteorder.specs.Endian.{little_bytes}
 use Rattle.language.specs.declared.Block.{Block}
 use Rattle.language.specs.declared.Msg.{Msg}
-use Rattle.language.specs.declared.Msg.TheVariants.{MakeVol, DropVol, Create, Delete, Seal, Unseal, Write, Punch, Read, SetLabel}
+use Rattle.language.specs.declared.Msg.TheVariants.{MakeVol, DropVol, Create, Delete, Seal, Unseal, Write, Punch, SetLabel}
 use Rattle.language.specs.declared.Refusal.{Refusal}
 use Rattle.meaning.specs.Serial.{key, effect, reply_and_state, accepted_reply, refusal, next_state, no_label}
 use Rattle.meaning.specs.State.{State, BlockKey, IsState, sum_below, one_if, is_volume, is_file, is_block}
+use Rattle.meaning.specs.Subtrees.{Fact, OfMade, OfSealed, OfLabel, OfFile, OfBlock, value}
 use Rattle.stripe.specs.Entries.{stripe_bytes}
 use Rattle.image.specs.Pieces.{aggregate_of, volume_of, part_of, piece_of, part_piece, label_bytes, stripe_piece, entry_if}
 use Rattle.image.specs.Touched.{may_change, may_change_part}
@@ -19,100 +20,36 @@ use Rattle.image.proofs.Agreeing.{entries_same, no_entry_of_none}
 -- ---- another volume
 
 -- States agree on all of a volume.
-record AgreeAt (x y : State) (a v : ℕ) : Type 0 where
-  made : x.made (a, v) ≡ y.made (a, v)
-  sealed : x.sealed (a, v) ≡ y.sealed (a, v)
-  files : (f : ℕ) → x.files (a, v, f) ≡ y.files (a, v, f)
-  blocks : (f b : ℕ) → x.blocks (a, v, f, b) ≡ y.blocks (a, v, f, b)
-  labels : x.labels (a, v) ≡ y.labels (a, v)
+abbrev AgreeAt : State → State → ℕ → ℕ → Type 0
+AgreeAt x y a v = (fact : Fact) → value x a v fact ≡ value y a v fact
 
 agreeing : (version : ℕ) (g : Geometry) (x y : State) (a v : ℕ) → AgreeAt x y a v → (p : ℕ) → part_piece version g x a v p ≡ part_piece version g y a v p
 agreeing version g x y a v same zero = λ i.
-    if same.made i
-    then 1 ∷ one_if (same.sealed i) ∷ [] ++ replicate 6 0 ++ little_bytes 8
-    (sum_below g.files (λ f. if same.files f i then 2 ^ f else 0)) ++ label_bytes version (same.labels i) ++ replicate 16 0
+    if same OfMade i
+    then 1 ∷ one_if (same OfSealed i) ∷ [] ++ replicate 6 0 ++ little_bytes 8
+    (sum_below g.files (λ f. if same (OfFile f) i then 2 ^ f else 0)) ++ label_bytes version (same OfLabel i) ++ replicate 16 0
     else replicate 64 0
 agreeing version g x y a v same (suc s) =
-    ap (stripe_bytes g.quota) (entries_same g x y a v s (λ f b on. (λ i. entry_if (same.files f i) f b (same.blocks f b i))))
-
-other_three : (p q r : Bool) → (p && q) ≡ false → (p && q && r) ≡ false
-other_three true true r off = absurd (true≢false off)
-other_three true false r off = refl
-other_three false q r off = refl
-
-other_four : (p q r s : Bool) → (p && q) ≡ false → (p && q && r && s) ≡ false
-other_four true true r s off = absurd (true≢false off)
-other_four true false r s off = refl
-other_four false q r s off = refl
+    ap (stripe_bytes g.quota) (entries_same g x y a v s (λ f b on. (λ i. entry_if (same (OfFile f) i) f b (same (OfBlock f b) i))))
 
 module _ (x : State) (i j : ℕ) where
   agrees_elsewhere : (m : Msg) → is_volume (key m).0 (key m).1 (i, j) ≡ false → AgreeAt (effect x m) x i j
-  agrees_elsewhere (MakeVol a v) off = record {
-    made = ap (λ (t : Bool). t || x.made (i, j)) off;
-    sealed = refl;
-    files = λ f. refl;
-    blocks = λ f b. refl;
-    labels = ap (λ (t : Bool). if t then Some no_label else x.labels (i, j)) off;
-  }
-  agrees_elsewhere (DropVol a v) off = record {
-    made = ap (λ (t : Bool). not t && x.made (i, j)) off;
-    sealed = ap (λ (t : Bool). not t && x.sealed (i, j)) off;
-    files = λ f. ap (λ (t : Bool). not t && x.files (i, j, f)) off;
-    blocks = λ f b. ap (λ (t : Bool). if t then None else x.blocks (i, j, f, b)) off;
-    labels = ap (λ (t : Bool). if t then None else x.labels (i, j)) off;
-  }
-  agrees_elsewhere (Create a v f) off = record {
-    made = refl;
-    sealed = refl;
-    files = λ k. ap (λ (t : Bool). t || x.files (i, j, k)) (other_three (a == i) (v == j) (f == k) off);
-    blocks = λ k b. refl;
-    labels = refl;
-  }
-  agrees_elsewhere (Delete a v f) off = record {
-    made = refl;
-    sealed = refl;
-    files = λ k. ap (λ (t : Bool). not t && x.files (i, j, k)) (other_three (a == i) (v == j) (f == k) off);
-    blocks = λ k b. ap (λ (t : Bool). if t then None else x.blocks (i, j, k, b)) (other_three (a == i) (v == j) (f == k) off);
-    labels = refl;
-  }
-  agrees_elsewhere (Seal a v) off = record {
-    made = refl;
-    sealed = ap (λ (t : Bool). t || x.sealed (i, j)) off;
-    files = λ f. refl;
-    blocks = λ f b. refl;
-    labels = refl;
-  }
-  agrees_elsewhere (Unseal a v) off = record {
-    made = refl;
-    sealed = ap (λ (t : Bool). not t && x.sealed (i, j)) off;
-    files = λ f. refl;
-    blocks = λ f b. refl;
-    labels = refl;
-  }
-  agrees_elsewhere (Write a v f b content) off = record {
-    made = refl;
-    sealed = refl;
-    files = λ k. refl;
-    blocks = λ k l. ap (λ (t : Bool). if t then Some content else x.blocks (i, j, k, l))
-        (other_four (a == i) (v == j) (f == k) (b == l) off);
-    labels = refl;
-  }
-  agrees_elsewhere (Punch a v f b) off = record {
-    made = refl;
-    sealed = refl;
-    files = λ k. refl;
-    blocks = λ k l. ap (λ (t : Bool). if t then None else x.blocks (i, j, k, l)) (other_four (a == i) (v == j) (f == k) (b == l) off);
-    labels = refl;
-  }
-  agrees_elsewhere (SetLabel a v bytes) off = record {
-    made = refl;
-    sealed = refl;
-    files = λ f. refl;
-    blocks = λ f b. refl;
-    labels = ap (λ (t : Bool). if t then Some bytes else x.labels (i, j)) off;
-  }
-  agrees_elsewhere (Read a v f b) off = record { made = refl; sealed = refl; files = λ k. refl; blocks = λ k l. refl; labels = refl }
-  agrees_elsewhere _ off = record { made = refl; sealed = refl; files = λ k. refl; blocks = λ k l. refl; labels = refl }
+  agrees_elsewhere (MakeVol a v) off OfMade = ap (λ (t : Bool). t || x.made (i, j)) off
+  agrees_elsewhere (MakeVol a v) off OfLabel = ap (λ (t : Bool). if t then Some no_label else x.labels (i, j)) off
+  agrees_elsewhere (DropVol a v) off OfMade = ap (λ (t : Bool). not t && x.made (i, j)) off
+  agrees_elsewhere (DropVol a v) off OfSealed = ap (λ (t : Bool). not t && x.sealed (i, j)) off
+  agrees_elsewhere (DropVol a v) off OfLabel = ap (λ (t : Bool). if t then None else x.labels (i, j)) off
+  agrees_elsewhere (DropVol a v) off (OfFile k) = ap (λ (t : Bool). not t && x.files (i, j, k)) off
+  agrees_elsewhere (DropVol a v) off (OfBlock k l) = ap (λ (t : Bool). if t then None else x.blocks (i, j, k, l)) off
+  agrees_elsewhere (Create a v f) off (OfFile k) = ap (λ (t : Bool). t && (f == k) || x.files (i, j, k)) off
+  agrees_elsewhere (Delete a v f) off (OfFile k) = ap (λ (t : Bool). not (t && (f == k)) && x.files (i, j, k)) off
+  agrees_elsewhere (Delete a v f) off (OfBlock k l) = ap (λ (t : Bool). if t && (f == k) then None else x.blocks (i, j, k, l)) off
+  agrees_elsewhere (Seal a v) off OfSealed = ap (λ (t : Bool). t || x.sealed (i, j)) off
+  agrees_elsewhere (Unseal a v) off OfSealed = ap (λ (t : Bool). not t && x.sealed (i, j)) off
+  agrees_elsewhere (Write a v f b content) off (OfBlock k l) = ap (λ (t : Bool). if t && (f == k) && (b == l) then Some content else x.blocks (i, j, k, l)) off
+  agrees_elsewhere (Punch a v f b) off (OfBlock k l) = ap (λ (t : Bool). if t && (f == k) && (b == l) then None else x.blocks (i, j, k, l)) off
+  agrees_elsewhere (SetLabel a v bytes) off OfLabel = ap (λ (t : Bool). if t then Some bytes else x.labels (i, j)) off
+  agrees_elsewhere _ off fact = refl
 
 -- ---- another part
 

@@ -16,7 +16,7 @@ use Rattle.language.specs.declared.Reply.TheVariants.{Files, Usage, Summary, Lab
 use Rattle.language.specs.Messages.{kind, four_numbers, path_of}
 use Rattle.meaning.specs.State.{State, sum_below, one_if, blocks_in_stripe, sum_over_volumes}
 use Rattle.meaning.specs.Serial.{key, checks, passes, refusal, effect, accepted_reply, reply_and_state, reply_to, next_state, block_reply, no_label}
-use Rattle.meaning.specs.Subtrees.{AgreeOn}
+use Rattle.meaning.specs.Subtrees.{OfMade, OfSealed, OfLabel, OfFile, OfBlock, AgreeOn}
 use Rattle.meaning.specs.Laws.{outside, Commute}
 use Rattle.meaning.proofs.Agree.{agree-refl, agree-sym, agree-trans, agree_within, agree_everywhere, agree_either}
 use Rattle.meaning.proofs.Effects.{effect_agrees, effect_only}
@@ -74,7 +74,7 @@ module _ (g : Geometry) (R : Path → Bool) (x y : State) (h : AgreeOn g R x y) 
   same_in_group : (a v s f b : ℕ) → R (stripe a v s) ≡ true → ((stripe_of g f b == s) && is_some (x.blocks (a, v, f, b))) ≡ ((stripe_of g f b == s) && is_some (y.blocks (a, v, f, b)))
   same_in_group a v s f b r =
       elim (stripe_of g f b == s) as (λ t. (stripe_of g f b == s) ≡ t → (t && is_some (x.blocks (a, v, f, b))) ≡ (t && is_some (y.blocks (a, v, f, b)))) [
-        | true ↦ λ e. ap is_some (h.blocks (a, v, f, b) (ap (λ j. R (stripe a v j)) (eqb-true (stripe_of g f b) s e) ∙ r))
+        | true ↦ λ e. ap is_some (h.same a v (OfBlock f b) (ap (λ j. R (stripe a v j)) (eqb-true (stripe_of g f b) s e) ∙ r))
         | false ↦ λ e. refl
       ] refl
 
@@ -86,26 +86,26 @@ module _ (g : Geometry) (R : Path → Bool) (x y : State) (h : AgreeOn g R x y) 
 
   module _ (m : Msg) (covers : (q : Path) → are_related (path_of g m) q ≡ true → R q ≡ true) where
     same_volume : test x m Volume ≡ test y m Volume
-    same_volume = h.made _ (covers _ (marks_related g m))
+    same_volume = h.same _ _ OfMade (covers _ (marks_related g m))
 
     same_sealed : test x m Sealed ≡ test y m Sealed
-    same_sealed = ap not (h.sealed _ (covers _ (marks_related g m)))
+    same_sealed = ap not (h.same _ _ OfSealed (covers _ (marks_related g m)))
 
     -- of a message that goes to the files
     same_file : is_prefix (0 ∷ []) (in_volume g m) ≡ true → test x m File ≡ test y m File
-    same_file goes = h.files _ (covers _ (related_in_volume g m (0 ∷ []) goes))
+    same_file goes = h.same _ _ (OfFile _) (covers _ (related_in_volume g m (0 ∷ []) goes))
 
     same_space : let n = key m in is_prefix (0 ∷ stripe_of g n.2 n.3 ∷ []) (in_volume g m) ≡ true → test x m Space ≡ test y m Space
     same_space goes =
         let n = key m in
         let r = covers (stripe n.0 n.1 (stripe_of g n.2 n.3)) (related_in_volume g m (0 ∷ stripe_of g n.2 n.3 ∷ []) goes) in
-        λ i. is_some (h.blocks n r i) || nat_lt (same_group_count n.0 n.1 (stripe_of g n.2 n.3) r i) g.quota
+        λ i. is_some (h.same n.0 n.1 (OfBlock n.2 n.3) r i) || nat_lt (same_group_count n.0 n.1 (stripe_of g n.2 n.3) r i) g.quota
 
   -- each check of a message has the same result in both states
   same_tests : (m : Msg) → ((q : Path) → are_related (path_of g m) q ≡ true → R q ≡ true) → AllByRecursion (λ t. test x m t ≡ test y m t) (checks (kind m))
-  same_tests (MakeVol a v) c = (refl, (ap not (h.made (a, v) (c _ (marks_related g (MakeVol a v)))), tt))
+  same_tests (MakeVol a v) c = (refl, (ap not (h.same a v OfMade (c _ (marks_related g (MakeVol a v)))), tt))
   same_tests (DropVol a v) c = (refl, (same_volume (DropVol a v) c, (same_sealed (DropVol a v) c, tt)))
-  same_tests (Create a v f) c = (refl, (same_volume (Create a v f) c, (same_sealed (Create a v f) c, (ap not (h.files (a, v, f) (c _ (related_in_volume g (Create a v f) (0 ∷ []) refl))), tt))))
+  same_tests (Create a v f) c = (refl, (same_volume (Create a v f) c, (same_sealed (Create a v f) c, (ap not (h.same a v (OfFile f) (c _ (related_in_volume g (Create a v f) (0 ∷ []) refl))), tt))))
   same_tests (Delete a v f) c = (refl, (same_volume (Delete a v f) c, (same_sealed (Delete a v f) c, (same_file (Delete a v f) c refl, tt))))
   same_tests (Seal a v) c = (refl, (same_volume (Seal a v) c, tt))
   same_tests (Unseal a v) c = (refl, (same_volume (Unseal a v) c, tt))
@@ -128,19 +128,19 @@ module _ (g : Geometry) (R : Path → Bool) (x y : State) (h : AgreeOn g R x y) 
   same_refusal m covers = same_find (test x m) (test y m) (checks (kind m)) (same_tests m covers)
 
   same_answer : (m : Msg) → ((q : Path) → are_related (path_of g m) q ≡ true → R q ≡ true) → accepted_reply g x m ≡ accepted_reply g y m
-  same_answer (Read a v f b) covers = ap block_reply (h.blocks (a, v, f, b) (covers _ (are_related-refl (stripe a v (stripe_of g f b)))))
-  same_answer (ListFiles a v) covers = λ i. Files (sum_below g.files (λ f. if h.files (a, v, f) (covers (logical a v) (are_related-refl (logical a v))) i then 2 ^ f else 0))
+  same_answer (Read a v f b) covers = ap block_reply (h.same a v (OfBlock f b) (covers _ (are_related-refl (stripe a v (stripe_of g f b)))))
+  same_answer (ListFiles a v) covers = λ i. Files (sum_below g.files (λ f. if h.same a v (OfFile f) (covers (logical a v) (are_related-refl (logical a v))) i then 2 ^ f else 0))
   same_answer (AskUsage a v) covers =
       let below : (q : Path) → R (a ∷ v ∷ q) ≡ true = λ q. covers (a ∷ v ∷ q) (or_left _ _ (one a _ (one v true refl))) in
       λ i. Usage
-      (sum_below g.files (λ f. one_if (h.files (a, v, f) (below (0 ∷ [])) i)))
-      (sum_below g.files (λ f. sum_below g.blocks (λ b. one_if (is_some (h.blocks (a, v, f, b) (below (0 ∷ stripe_of g f b ∷ [])) i)))))
-      (h.sealed (a, v) (below []) i)
+      (sum_below g.files (λ f. one_if (h.same a v (OfFile f) (below (0 ∷ [])) i)))
+      (sum_below g.files (λ f. sum_below g.blocks (λ b. one_if (is_some (h.same a v (OfBlock f b) (below (0 ∷ stripe_of g f b ∷ [])) i)))))
+      (h.same a v OfSealed (below []) i)
   same_answer AskSummary covers = λ i. Summary
-      (sum_over_volumes g (λ a v. one_if (h.made (a, v) (covers (volume a v) refl) i)))
-      (sum_over_volumes g (λ a v. sum_below g.files (λ f. one_if (h.files (a, v, f) (covers (logical a v) refl) i))))
-      (sum_over_volumes g (λ a v. sum_below g.files (λ f. sum_below g.blocks (λ b. one_if (is_some (h.blocks (a, v, f, b) (covers (stripe a v (stripe_of g f b)) refl) i))))))
-  same_answer (AskLabel a v) covers = ap (λ o. Label (unwrap_or o no_label)) (h.labels (a, v) (covers _ (are_related-refl (label a v))))
+      (sum_over_volumes g (λ a v. one_if (h.same a v OfMade (covers (volume a v) refl) i)))
+      (sum_over_volumes g (λ a v. sum_below g.files (λ f. one_if (h.same a v (OfFile f) (covers (logical a v) refl) i))))
+      (sum_over_volumes g (λ a v. sum_below g.files (λ f. sum_below g.blocks (λ b. one_if (is_some (h.same a v (OfBlock f b) (covers (stripe a v (stripe_of g f b)) refl) i))))))
+  same_answer (AskLabel a v) covers = ap (λ o. Label (unwrap_or o no_label)) (h.same a v OfLabel (covers _ (are_related-refl (label a v))))
   same_answer _ covers = refl
 
 -- ---- the two laws

@@ -1,13 +1,14 @@
 -- Subtrees as values: where two states have the same subtree at a path, they agree there and below.
-use Rattle.std.proofs.Common.{◌≡◌, Bool, true, false, Option, refl, ap, sym}
+use Rattle.std.proofs.Common.{◌≡◌, ℕ, Bool, true, false, ◌∷◌, Option, refl, ap, sym}
 use Rattle.std.specs.Prelude.{◌&&◌, ◌||◌, not, if◌then◌else◌, None}
 use Rattle.std.proofs.lemmas.Bool.{and_from, or_left, true≢false}
 use Rattle.affinity.specs.declared.geometry.Geometry.{Geometry}
-use Rattle.affinity.specs.Path.{Path, is_prefix, are_related}
+use Rattle.affinity.specs.Geometry.{stripe_of}
+use Rattle.affinity.specs.Path.{Path, is_prefix, are_related, volume, logical, stripe, label}
 use Rattle.language.specs.declared.Msg.{Msg}
 use Rattle.language.specs.Messages.{path_of}
 use Rattle.meaning.specs.State.{State}
-use Rattle.meaning.specs.Subtrees.{AgreeOn, restricted, subtree, standing, path_of_volume, path_of_file, path_of_block, path_of_label}
+use Rattle.meaning.specs.Subtrees.{Fact, OfMade, OfSealed, OfLabel, OfFile, OfBlock, AgreeOn, restricted, subtree, standing, path_in_volume, value}
 use Rattle.meaning.specs.Laws.{outside, RunAlike}
 use Rattle.meaning.proofs.Agree.{agree_within, agree_everywhere, agree_either}
 use Rattle.meaning.proofs.Frame.{reads_only}
@@ -33,21 +34,22 @@ if_same false o p r h = absurd (true≢false (sym r))
 module _ (g : Geometry) (R : Path → Bool) where
   pub part_from_agree : (x y : State) → AgreeOn g R x y → restricted g R x ≡ restricted g R y
   part_from_agree x y h i = record {
-    made = λ k. same_and (R (path_of_volume k)) _ _ (h.made k) i;
-    sealed = λ k. same_and (R (path_of_volume k)) _ _ (h.sealed k) i;
-    files = λ k. same_and (R (path_of_file k)) _ _ (h.files k) i;
-    blocks = λ k. same_if (R (path_of_block g k)) _ _ (h.blocks k) i;
-    labels = λ k. same_if (R (path_of_label k)) _ _ (h.labels k) i;
+    made = λ k. same_and (R (volume k.0 k.1)) _ _ (h.same k.0 k.1 OfMade) i;
+    sealed = λ k. same_and (R (volume k.0 k.1)) _ _ (h.same k.0 k.1 OfSealed) i;
+    files = λ k. same_and (R (logical k.0 k.1)) _ _ (h.same k.0 k.1 (OfFile k.2)) i;
+    blocks = λ k. same_if (R (stripe k.0 k.1 (stripe_of g k.2 k.3))) _ _ (h.same k.0 k.1 (OfBlock k.2 k.3)) i;
+    labels = λ k. same_if (R (label k.0 k.1)) _ _ (h.same k.0 k.1 OfLabel) i;
   }
 
   pub agree_from_part : (x y : State) → restricted g R x ≡ restricted g R y → AgreeOn g R x y
-  agree_from_part x y e = record {
-    made = λ k r. and_same (R (path_of_volume k)) _ _ r (ap (λ z. z.made k) e);
-    sealed = λ k r. and_same (R (path_of_volume k)) _ _ r (ap (λ z. z.sealed k) e);
-    files = λ k r. and_same (R (path_of_file k)) _ _ r (ap (λ z. z.files k) e);
-    blocks = λ k r. if_same (R (path_of_block g k)) _ _ r (ap (λ z. z.blocks k) e);
-    labels = λ k r. if_same (R (path_of_label k)) _ _ r (ap (λ z. z.labels k) e);
-  }
+  agree_from_part x y e = record { same = by }
+    where
+      by : (a v : ℕ) (fact : Fact) → R (a ∷ v ∷ path_in_volume g fact) ≡ true → value x a v fact ≡ value y a v fact
+      by a v OfMade r = and_same (R (volume a v)) _ _ r (ap (λ z. z.made (a, v)) e)
+      by a v OfSealed r = and_same (R (volume a v)) _ _ r (ap (λ z. z.sealed (a, v)) e)
+      by a v OfLabel r = if_same (R (label a v)) _ _ r (ap (λ z. z.labels (a, v)) e)
+      by a v (OfFile f) r = and_same (R (logical a v)) _ _ r (ap (λ z. z.files (a, v, f)) e)
+      by a v (OfBlock f b) r = if_same (R (stripe a v (stripe_of g f b))) _ _ r (ap (λ z. z.blocks (a, v, f, b)) e)
 
 -- what is at a path or below, and what is above it, is all that is related to it
 shared_or_above : (p q : Path) → are_related p q ≡ true → (is_prefix p q || (is_prefix q p && not (is_prefix p q))) ≡ true

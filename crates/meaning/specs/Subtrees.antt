@@ -1,32 +1,51 @@
 -- Statement for engineers: The subtree of a state at a path, and its standing: what a message there sees of the nodes above.
-use Rattle.std.specs.Prelude.{◌≡◌, Bool, true, not, ◌&&◌, if◌then◌else◌, None}
+use Rattle.std.specs.Prelude.{◌≡◌, ℕ, Bool, true, not, ◌&&◌, List, [], ◌∷◌, if◌then◌else◌, Option, None}
 use Rattle.affinity.specs.declared.geometry.Geometry.{Geometry}
 use Rattle.affinity.specs.Geometry.{stripe_of}
 use Rattle.affinity.specs.Path.{Path, is_prefix, volume, logical, stripe, label}
-use Rattle.meaning.specs.State.{State, VolumeKey, FileKey, BlockKey}
+use Rattle.language.specs.declared.Block.{Block}
+use Rattle.meaning.specs.State.{State}
 
--- Where in the tree each part of the state lies: whether a volume is made and sealed at the volume's node, its files at its Volume Logical,
--- its label at its Volume Label, a block at its stripe.
-abbrev pub path_of_volume : VolumeKey → Path
-path_of_volume k = volume k.0 k.1
+-- One fact of a volume: whether it is made, whether it is sealed, its label, whether it has a file, and a block of a file.
+pub data Fact : Type 0 where
+  OfMade : Fact
+  OfSealed : Fact
+  OfLabel : Fact
+  OfFile : (f : ℕ) → Fact
+  OfBlock : (f b : ℕ) → Fact
 
-abbrev pub path_of_label : VolumeKey → Path
-path_of_label k = label k.0 k.1
+-- what a state says of it, in the volume (a, v)
+abbrev pub Value : Fact → Type 0
+Value OfMade = Bool
+Value OfSealed = Bool
+Value OfLabel = Option (List ℕ)
+Value (OfFile f) = Bool
+Value (OfBlock f b) = Option Block
 
-abbrev pub path_of_file : FileKey → Path
-path_of_file k = logical k.0 k.1
+abbrev pub value : State → ℕ → ℕ → (fact : Fact) → Value fact
+value x a v OfMade = x.made (a, v)
+value x a v OfSealed = x.sealed (a, v)
+value x a v OfLabel = x.labels (a, v)
+value x a v (OfFile f) = x.files (a, v, f)
+value x a v (OfBlock f b) = x.blocks (a, v, f, b)
 
-abbrev pub path_of_block : Geometry → BlockKey → Path
-path_of_block g k = stripe k.0 k.1 (stripe_of g k.2 k.3)
+-- where it lies in the tree, from the volume's node on: whether it is made and sealed at that node, its files at its Volume Logical, its
+-- label at its Volume Label, a block at its stripe
+abbrev pub path_in_volume : Geometry → Fact → Path
+path_in_volume g OfMade = []
+path_in_volume g OfSealed = []
+path_in_volume g OfLabel = 1 ∷ []
+path_in_volume g (OfFile f) = 0 ∷ []
+path_in_volume g (OfBlock f b) = 0 ∷ stripe_of g f b ∷ []
 
 -- the state with nothing but what lies at the selected paths
 abbrev pub restricted : Geometry → (Path → Bool) → State → State
 restricted g selected x = record {
-  made = λ k. selected (path_of_volume k) && x.made k;
-  sealed = λ k. selected (path_of_volume k) && x.sealed k;
-  files = λ k. selected (path_of_file k) && x.files k;
-  blocks = λ k. if selected (path_of_block g k) then x.blocks k else None;
-  labels = λ k. if selected (path_of_label k) then x.labels k else None;
+  made = λ k. selected (volume k.0 k.1) && x.made k;
+  sealed = λ k. selected (volume k.0 k.1) && x.sealed k;
+  files = λ k. selected (logical k.0 k.1) && x.files k;
+  blocks = λ k. if selected (stripe k.0 k.1 (stripe_of g k.2 k.3)) then x.blocks k else None;
+  labels = λ k. if selected (label k.0 k.1) then x.labels k else None;
 }
 
 -- the subtree at a path: all of the state that lies there or below
@@ -39,8 +58,4 @@ standing g p x = restricted g (λ q. is_prefix q p && not (is_prefix p q)) x
 
 -- Two states hold the same at each selected path.
 pub record AgreeOn (g : Geometry) (selected : Path → Bool) (x y : State) : Type 0 where
-  pub made : (k : VolumeKey) → selected (path_of_volume k) ≡ true → x.made k ≡ y.made k
-  pub sealed : (k : VolumeKey) → selected (path_of_volume k) ≡ true → x.sealed k ≡ y.sealed k
-  pub files : (k : FileKey) → selected (path_of_file k) ≡ true → x.files k ≡ y.files k
-  pub blocks : (k : BlockKey) → selected (path_of_block g k) ≡ true → x.blocks k ≡ y.blocks k
-  pub labels : (k : VolumeKey) → selected (path_of_label k) ≡ true → x.labels k ≡ y.labels k
+  pub same : (a v : ℕ) (fact : Fact) → selected (a ∷ v ∷ path_in_volume g fact) ≡ true → value x a v fact ≡ value y a v fact

@@ -12,20 +12,21 @@ use Rattle.device_map.specs.Layout.{slice}
 use Rattle.language.specs.Messages.{AreSizedBytes}
 use Rattle.language.specs.Replies.{has_file}
 use Rattle.stripe.specs.Entries.{IsStripePiece}
-use Rattle.stripe.specs.Stripe.{StripePart}
 use Rattle.image.specs.Pieces.{block_in, piece_count, aggregate_of, volume_of as volume_number}
 use Rattle.image.proofs.Numbers.{in_aggregates, in_volumes}
 use Rattle.parcel.specs.Fits.{FitsLogical, FitsVolume, FitsAggregate, FitsRoot, IsWholeChild, IsWholeLogical, IsWholeVolume, IsWholeAggregate, IsWholeRoot}
 use Rattle.parcel.specs.Lends.{aggregate_of_tree, volume_of_tree}
-use Rattle.parcel.specs.Nodes.{Nodes, child_nodes, stripe_nodes, label_nodes, logical_nodes, volume_nodes, aggregate_nodes, root_nodes, node_made, node_sealed, node_has_file, node_block, node_label, tree_state}
+use Rattle.parcel.specs.Nodes.{Nodes, child_nodes, volume_nodes, aggregate_nodes, root_nodes, tree_state}
 use Rattle.parcel.specs.Pieces.{HasFacts, IsPieceOfVolumeRead, spelled, decoded_piece, volume_with, with_files}
-use Rattle.parcel.specs.Shown.{volume_facts, files_in, blocks_below, blocks_in, blocks_of, shown_label}
+use Rattle.parcel.specs.Shown.{volume_facts, files_in, blocks_below, blocks_of, shown_label}
 use Rattle.parcel.specs.Tree.{TreeView, IsWellFormed, IsWholeTree, IsIn}
-use Rattle.parcel.specs.declared.parts.Label.{Label}
 use Rattle.parcel.specs.declared.parts.Logical.{Logical}
 use Rattle.parcel.specs.declared.parts.Vol.{Vol}
 use Rattle.parcel.specs.declared.parts.Aggr.{Aggr}
 use Rattle.parcel.specs.declared.parts.Root.{Root}
+use Rattle.meaning.specs.Subtrees.{OfFile}
+use Rattle.parcel.proofs.Leaving.{tree_value}
+use Rattle.parcel.proofs.Shows.{holds_same, volume_holds}
 use Rattle.parcel.proofs.ChildRows.{child_whole_at}
 use Rattle.parcel.proofs.StripePieces.{stripe_good, stripe_is_piece}
 use Rattle.parcel.proofs.VolumePieces.{volume_decoded, facts_decoded}
@@ -77,7 +78,7 @@ pub stripe_is_read : {version : ℕ} {g : Geometry} {s : ℕ} {bytes : List ℕ}
 stripe_is_read {g} {s} {bytes} {old} {l} was whole fits now_whole files piece blocks are = record {
   fits = record { logical = fits };
   whole = (now_whole, whole.1);
-  spelled = λ x a v is has. let there : (f : ℕ) → x.files (a, v, f) ≡ has_file l.files f = λ f. has.files f ∙ ap (λ o. files_in o f) was in (
+  spelled = λ x a v is has. let there : (f : ℕ) → x.files (a, v, f) ≡ has_file l.files f = λ f. has (OfFile f) ∙ ap (λ o. files_in o f) was in (
     λ on. stripe_good g x is a v s l.files there bytes are (piece.0 on),
     λ same. piece.1 (stripe_is_piece g x is a v s l.files there bytes are same),
   );
@@ -121,31 +122,10 @@ module _ (g : Geometry) where
       by None = refl
       by (Some r) = refl
 
-  files_same : (o : Option Logical) (f : ℕ) → node_has_file (child_nodes logical_nodes o []) f ≡ files_in o f
-  files_same None f = refl
-  files_same (Some l) f = refl
-
-  stripe_same : (o : Option StripePart) (f b : ℕ) → node_block (child_nodes stripe_nodes o []) f b ≡ blocks_in o f b
-  stripe_same None f b = refl
-  stripe_same (Some p) f b = refl
-
-  blocks_same : (o : Option Logical) (f b : ℕ) → node_block (child_nodes logical_nodes o (stripe_of g f b ∷ [])) f b ≡ blocks_below g o f b
-  blocks_same None f b = refl
-  blocks_same (Some l) f b = stripe_same (slice_index_or l.stripes.items (stripe_of g f b) None) f b
-
-  label_same : (o : Option Label) → node_label (child_nodes label_nodes o []) ≡ shown_label o
-  label_same None = refl
-  label_same (Some l) = refl
-
   -- the state of the nodes has at that volume what the volume has
   pub state_there : (n : Nodes) (a v : ℕ) (w : Vol) → ((q : Path) → n (a ∷ v ∷ q) ≡ volume_nodes w q) → HasFacts (tree_state g n) a v (volume_facts g w)
-  state_there n a v w at = record {
-    made = ap node_made (at []);
-    sealed = ap node_sealed (at []);
-    files = λ f. ap (λ o. node_has_file o f) (at (0 ∷ [])) ∙ files_same w.logical f;
-    blocks = λ f b. ap (λ o. node_block o f b) (at (0 ∷ stripe_of g f b ∷ [])) ∙ blocks_same w.logical f b;
-    label = ap node_label (at (1 ∷ [])) ∙ label_same w.label;
-  }
+  state_there n a v w at fact = tree_value g n a v fact
+      ∙ sym ((holds_same g (λ q. true) (volume_facts g w) (λ q. n (a ∷ v ∷ q)) (volume_nodes w) at (volume_holds g (λ q. true) (Some w))).all fact refl)
 
   -- so has the state of the tree
   pub has_volume : (o : Option Root) (a v : ℕ) {w : Vol} → Some w ≡ volume_of_tree o a v → HasFacts (tree_state g (child_nodes root_nodes o)) a v (volume_facts g w)

@@ -9,7 +9,7 @@ use Rattle.affinity.specs.declared.geometry.Geometry.{Geometry}
 use Rattle.language.specs.Messages.{AreSizedBytes}
 use Rattle.language.specs.Replies.{has_file}
 use Rattle.meaning.specs.Laws.{outside}
-use Rattle.meaning.specs.Subtrees.{AgreeOn}
+use Rattle.meaning.specs.Subtrees.{Fact, OfMade, OfSealed, OfLabel, OfFile, OfBlock, value, path_in_volume, AgreeOn}
 use Rattle.meaning.specs.State.{State, IsState, is_volume}
 use Rattle.meaning.proofs.Agree.{agree-sym, agree-trans}
 use Rattle.meaning.proofs.SubtreeLaws.{agree_in_and_out}
@@ -44,12 +44,8 @@ module _ (g : Geometry) (a v : ℕ) where
 
   pub same_there : (x y : State) (h : VolumeFacts) → HasFacts x a v h → HasFacts y a v h → AgreeOn g (is_prefix (volume a v)) x y
   same_there x y h one two = record {
-    made = λ k r. let s = there_from k.0 k.1 [] r in sym (λ i. x.made (s.0 i, s.1 i)) ∙ one.made ∙ sym two.made ∙ (λ i. y.made (s.0 i, s.1 i));
-    sealed = λ k r. let s = there_from k.0 k.1 [] r in sym (λ i. x.sealed (s.0 i, s.1 i)) ∙ one.sealed ∙ sym two.sealed ∙ (λ i. y.sealed (s.0 i, s.1 i));
-    files = λ k r. let s = there_from k.0 k.1 (0 ∷ []) r in sym (λ i. x.files (s.0 i, s.1 i, k.2)) ∙ one.files k.2 ∙ sym (two.files k.2) ∙ (λ i. y.files (s.0 i, s.1 i, k.2));
-    blocks = λ k r. let s = there_from k.0 k.1 (0 ∷ stripe_of g k.2 k.3 ∷ []) r in sym (λ i. x.blocks (s.0 i, s.1 i, k.2, k.3)) ∙ one.blocks k.2 k.3
-        ∙ sym (two.blocks k.2 k.3) ∙ (λ i. y.blocks (s.0 i, s.1 i, k.2, k.3));
-    labels = λ k r. let s = there_from k.0 k.1 (1 ∷ []) r in sym (λ i. x.labels (s.0 i, s.1 i)) ∙ one.label ∙ sym two.label ∙ (λ i. y.labels (s.0 i, s.1 i));
+    same = λ i j fact r. let s = there_from i j (path_in_volume g fact) r in
+        sym (λ k. value x (s.0 k) (s.1 k) fact) ∙ one fact ∙ sym (two fact) ∙ (λ k. value y (s.0 k) (s.1 k) fact);
   }
 
   here : is_volume a v (a, v) ≡ true
@@ -58,20 +54,12 @@ module _ (g : Geometry) (a v : ℕ) where
   -- what a state with a piece taken in has in the volume of that piece
   pub facts_taken : (version : ℕ) (x : State) (h : VolumeFacts) → HasFacts x a v h → (part : ℕ) (bytes : List ℕ)
       → HasFacts (with_part version g x a v part bytes) a v (facts_with version g h part bytes)
-  facts_taken version x h has zero bytes = record {
-    made = ap (λ (t : Bool). if t then is_made_in bytes else x.made (a, v)) here;
-    sealed = ap (λ (t : Bool). if t then is_sealed_in bytes else x.sealed (a, v)) here;
-    files = λ f. ap (λ (t : Bool). if t then has_file_in bytes f else x.files (a, v, f)) here;
-    blocks = has.blocks;
-    label = ap (λ (t : Bool). if t then decoded_label_in version bytes else x.labels (a, v)) here;
-  }
-  facts_taken version x h has (suc s) bytes = record {
-    made = has.made;
-    sealed = has.sealed;
-    files = has.files;
-    blocks = λ f b. (λ i. if here i && (stripe_of g f b == s) then block_in g bytes f b else has.blocks f b i);
-    label = has.label;
-  }
+  facts_taken version x h has zero bytes OfMade = ap (λ (t : Bool). if t then is_made_in bytes else x.made (a, v)) here
+  facts_taken version x h has zero bytes OfSealed = ap (λ (t : Bool). if t then is_sealed_in bytes else x.sealed (a, v)) here
+  facts_taken version x h has zero bytes OfLabel = ap (λ (t : Bool). if t then decoded_label_in version bytes else x.labels (a, v)) here
+  facts_taken version x h has zero bytes (OfFile f) = ap (λ (t : Bool). if t then has_file_in bytes f else x.files (a, v, f)) here
+  facts_taken version x h has (suc s) bytes (OfBlock f b) = λ i. if here i && (stripe_of g f b == s) then block_in g bytes f b else has (OfBlock f b) i
+  facts_taken version x h has _ bytes fact = has fact
 
   not_there : (x y : ℕ) (q : Path) → outside (volume a v) (x ∷ y ∷ q) ≡ true → is_volume a v (x, y) ≡ false
   not_there x y q off = both (a == x) (v == y) (not-true (is_prefix (volume a v) (x ∷ y ∷ q)) off)
@@ -82,20 +70,15 @@ module _ (g : Geometry) (a v : ℕ) where
       both false t e = refl
 
   pub elsewhere_taken : (version : ℕ) (x : State) (part : ℕ) (bytes : List ℕ) → AgreeOn g (outside (volume a v)) (with_part version g x a v part bytes) x
-  elsewhere_taken version x zero bytes = record {
-    made = λ k r. ap (λ (t : Bool). if t then is_made_in bytes else x.made k) (not_there k.0 k.1 [] r);
-    sealed = λ k r. ap (λ (t : Bool). if t then is_sealed_in bytes else x.sealed k) (not_there k.0 k.1 [] r);
-    files = λ k r. ap (λ (t : Bool). if t then has_file_in bytes k.2 else x.files k) (not_there k.0 k.1 (0 ∷ []) r);
-    blocks = λ k r. refl;
-    labels = λ k r. ap (λ (t : Bool). if t then decoded_label_in version bytes else x.labels k) (not_there k.0 k.1 (1 ∷ []) r);
-  }
-  elsewhere_taken version x (suc s) bytes = record {
-    made = λ k r. refl;
-    sealed = λ k r. refl;
-    files = λ k r. refl;
-    blocks = λ k r. ap (λ (t : Bool). if t && (stripe_of g k.2 k.3 == s) then block_in g bytes k.2 k.3 else x.blocks k) (not_there k.0 k.1 (0 ∷ stripe_of g k.2 k.3 ∷ []) r);
-    labels = λ k r. refl;
-  }
+  elsewhere_taken version x part bytes = record { same = by part }
+    where
+      by : (part i j : ℕ) (fact : Fact) → outside (volume a v) (i ∷ j ∷ path_in_volume g fact) ≡ true → value (with_part version g x a v part bytes) i j fact ≡ value x i j fact
+      by zero i j OfMade r = ap (λ (t : Bool). if t then is_made_in bytes else x.made (i, j)) (not_there i j [] r)
+      by zero i j OfSealed r = ap (λ (t : Bool). if t then is_sealed_in bytes else x.sealed (i, j)) (not_there i j [] r)
+      by zero i j OfLabel r = ap (λ (t : Bool). if t then decoded_label_in version bytes else x.labels (i, j)) (not_there i j (1 ∷ []) r)
+      by zero i j (OfFile f) r = ap (λ (t : Bool). if t then has_file_in bytes f else x.files (i, j, f)) (not_there i j (0 ∷ []) r)
+      by (suc s) i j (OfBlock f b) r = ap (λ (t : Bool). if t && (stripe_of g f b == s) then block_in g bytes f b else x.blocks (i, j, f, b)) (not_there i j (0 ∷ stripe_of g f b ∷ []) r)
+      by _ i j fact r = refl
 
 -- ---- the state stays a valid one of the geometry
 
@@ -110,7 +93,7 @@ part_state version {g} {x} is {a} {v} path w has {part = zero} empty {bytes} are
     volume_state version g bytes (good ∙ volume_decoded version g x a v bytes) x is a v path.0 path.1 (empty refl) are
 part_state version {g} {x} is {a} {v} path w has {part = suc s} empty {bytes} are good =
     let files : ℕ = node_files (child_nodes logical_nodes w.logical []) in
-    let told : (f : ℕ) → x.files (a, v, f) ≡ has_file files f = λ f. has.files f ∙ files_told w.logical f in
+    let told : (f : ℕ) → x.files (a, v, f) ≡ has_file files f = λ f. has (OfFile f) ∙ files_told w.logical f in
     stripe_state g x is a v s files told bytes are (stripe_is_piece g x is a v s files told bytes are good)
 
 -- ---- in the tree

@@ -6,9 +6,9 @@ use Rattle.std.proofs.lemmas.Nat.Bits.{bit_at-zero}
 use Rattle.affinity.specs.declared.geometry.Geometry.{Geometry}
 use Rattle.affinity.specs.Geometry.{stripe_of}
 use Rattle.affinity.specs.Path.{Path, is_prefix, are_related}
-use Rattle.meaning.specs.Subtrees.{AgreeOn}
+use Rattle.meaning.specs.Subtrees.{Fact, OfMade, OfSealed, OfLabel, OfFile, OfBlock, value, path_in_volume, AgreeOn}
 use Rattle.stripe.specs.Stripe.{StripePart}
-use Rattle.parcel.specs.Volume.{VolumeFacts, facts_if, state_with, one_volume}
+use Rattle.parcel.specs.Volume.{VolumeFacts, fact_of, facts_if, state_with, one_volume}
 use Rattle.parcel.specs.Shown.{has_file, blocks_in, stripe_facts, logical_facts, label_facts, files_in, blocks_below, shown_label, volume_facts, child_facts, aggregate_facts, shown_state}
 use Rattle.parcel.specs.Fits.{IsKindOf}
 use Rattle.parcel.specs.Nodes.{Node, Nodes, child_nodes, stripe_nodes, label_nodes, logical_nodes, volume_nodes, aggregate_nodes, root_nodes, parcels_nodes, node_made, node_sealed, node_has_file, node_files, node_block, node_label, tree_state}
@@ -22,25 +22,16 @@ use Rattle.parcel.specs.declared.parts.Aggr.{Aggr}
 use Rattle.parcel.specs.declared.parts.Parcels.{Parcels}
 use Rattle.parcel.specs.declared.parts.Parcels.TheVariants as parcels
 use Rattle.parcel.specs.declared.parts.Standing.{Standing}
+use Rattle.parcel.proofs.Leaving.{node_value, tree_value}
 use Rattle.affinity.proofs.Paths.{related_first, related_rest}
 
 -- The facts of a volume are what its nodes hold, at the paths (from the volume on) that the test R picks.
 pub record HoldsAt (g : Geometry) (R : Path → Bool) (h : VolumeFacts) (n : Nodes) : Type 0 where
-  made : R [] ≡ true → h.made ≡ node_made (n [])
-  sealed : R [] ≡ true → h.sealed ≡ node_sealed (n [])
-  files : (f : ℕ) → R (0 ∷ []) ≡ true → h.files f ≡ node_has_file (n (0 ∷ [])) f
-  blocks : (f b : ℕ) → R (0 ∷ stripe_of g f b ∷ []) ≡ true → h.blocks f b ≡ node_block (n (0 ∷ stripe_of g f b ∷ [])) f b
-  label : R (1 ∷ []) ≡ true → h.label ≡ node_label (n (1 ∷ []))
+  pub all : (fact : Fact) → R (path_in_volume g fact) ≡ true → fact_of h fact ≡ node_value (n (path_in_volume g fact)) fact
 
 module _ (g : Geometry) (R : Path → Bool) where
-  holds_same : (h : VolumeFacts) (m n : Nodes) → ((q : Path) → m q ≡ n q) → HoldsAt g R h n → HoldsAt g R h m
-  holds_same h m n e k = record {
-    made = λ r. k.made r ∙ ap node_made (sym (e []));
-    sealed = λ r. k.sealed r ∙ ap node_sealed (sym (e []));
-    files = λ f r. k.files f r ∙ ap (λ o. node_has_file o f) (sym (e (0 ∷ [])));
-    blocks = λ f b r. k.blocks f b r ∙ ap (λ o. node_block o f b) (sym (e (0 ∷ stripe_of g f b ∷ [])));
-    label = λ r. k.label r ∙ ap node_label (sym (e (1 ∷ [])));
-  }
+  pub holds_same : (h : VolumeFacts) (m n : Nodes) → ((q : Path) → m q ≡ n q) → HoldsAt g R h n → HoldsAt g R h m
+  holds_same h m n e k = record { all = λ fact r. k.all fact r ∙ ap (λ o. node_value o fact) (sym (e (path_in_volume g fact))) }
 
   -- ---- by the parcels of a volume and above
 
@@ -60,31 +51,33 @@ module _ (g : Geometry) (R : Path → Bool) where
   label_text None = refl
   label_text (Some l) = refl
 
-  volume_holds : (x : Option Vol) → HoldsAt g R (child_facts (volume_facts g) x) (child_nodes volume_nodes x)
-  volume_holds None = record { made = λ r. refl; sealed = λ r. refl; files = λ f r. refl; blocks = λ f b r. refl; label = λ r. refl }
-  volume_holds (Some w) = record {
-    made = λ r. refl;
-    sealed = λ r. refl;
-    files = λ f r. logical_files w.logical f;
-    blocks = λ f b r. logical_blocks w.logical f b;
-    label = λ r. label_text w.label;
-  }
+  pub volume_holds : (x : Option Vol) → HoldsAt g R (child_facts (volume_facts g) x) (child_nodes volume_nodes x)
+  volume_holds x = record { all = by x }
+    where
+      by : (x : Option Vol) (fact : Fact) → R (path_in_volume g fact) ≡ true
+          → fact_of (child_facts (volume_facts g) x) fact ≡ node_value (child_nodes volume_nodes x (path_in_volume g fact)) fact
+      by (Some w) (OfFile f) r = logical_files w.logical f
+      by (Some w) (OfBlock f b) r = logical_blocks w.logical f b
+      by (Some w) OfLabel r = label_text w.label
+      by _ _ r = refl
 
   aggregate_holds : (x : Option Aggr) (v : ℕ) → HoldsAt g R (child_facts (λ r. aggregate_facts g r v) x) (λ q. child_nodes aggregate_nodes x (v ∷ q))
-  aggregate_holds None v = record { made = λ r. refl; sealed = λ r. refl; files = λ f r. refl; blocks = λ f b r. refl; label = λ r. refl }
+  aggregate_holds None v = volume_holds None
   aggregate_holds (Some r) v = volume_holds (slice_index_or r.volumes.items v None)
 
 -- ---- from a volume to the state
 
 module _ (g : Geometry) (R : Path → Bool) (n : Nodes) where
+  agree_from : (H : ℕ → ℕ → VolumeFacts) → ((a v : ℕ) (fact : Fact) → R (a ∷ v ∷ path_in_volume g fact) ≡ true → fact_of (H a v) fact ≡ node_value (n (a ∷ v ∷ path_in_volume g fact)) fact)
+      → AgreeOn g R (state_with H) (tree_state g n)
+  agree_from H each = record { same = λ a v fact r. by a v fact ∙ each a v fact r ∙ sym (tree_value g n a v fact) }
+    where
+      by : (a v : ℕ) (fact : Fact) → value (state_with H) a v fact ≡ fact_of (H a v) fact
+      by a v OfMade = refl
+      by a v _ = refl
+
   all_agree : (H : ℕ → ℕ → VolumeFacts) → ((a v : ℕ) → HoldsAt g (λ q. R (a ∷ v ∷ q)) (H a v) (λ q. n (a ∷ v ∷ q))) → AgreeOn g R (state_with H) (tree_state g n)
-  all_agree H each = record {
-    made = λ k r. (each k.0 k.1).made r;
-    sealed = λ k r. (each k.0 k.1).sealed r;
-    files = λ k r. (each k.0 k.1).files k.2 r;
-    blocks = λ k r. (each k.0 k.1).blocks k.2 k.3 r;
-    labels = λ k r. (each k.0 k.1).label r;
-  }
+  all_agree H each = agree_from H (λ a v. (each a v).all)
 
   here : (a v x y : ℕ) (h : VolumeFacts) → a ≡ x → v ≡ y → facts_if ((a == x) && (v == y)) h ≡ h
   here a v x y h d e = ap (λ b. facts_if b h) (and_from (a == x) (v == y) (eq-eqb a x d) (eq-eqb v y e))
@@ -94,28 +87,15 @@ module _ (g : Geometry) (R : Path → Bool) (n : Nodes) where
 
   only_agree : (a v : ℕ) (below : Path → Bool) (h : VolumeFacts) → ((x y : ℕ) (q : Path) → R (x ∷ y ∷ q) ≡ true → (a ≡ x) × (v ≡ y) × (below q ≡ true))
       → HoldsAt g below h (λ q. n (a ∷ v ∷ q)) → AgreeOn g R (one_volume a v h) (tree_state g n)
-  only_agree a v below h step k = record {
-    made = λ (x : ℕ × ℕ) r. let s = step x.0 x.1 [] r in ap (λ z. z.made) (here a v x.0 x.1 h s.0 s.1) ∙ k.made s.2 ∙ ap node_made (moved a v x.0 x.1 [] s.0 s.1);
-    sealed = λ (x : ℕ × ℕ) r. let s = step x.0 x.1 [] r in ap (λ z. z.sealed) (here a v x.0 x.1 h s.0 s.1) ∙ k.sealed s.2 ∙ ap node_sealed (moved a v x.0 x.1 [] s.0 s.1);
-    files = λ (x : ℕ × ℕ × ℕ) r. let s = step x.0 x.1 (0 ∷ []) r in ap (λ z. z.files x.2) (here a v x.0 x.1 h s.0 s.1) ∙ k.files x.2 s.2
-        ∙ ap (λ o. node_has_file o x.2) (moved a v x.0 x.1 (0 ∷ []) s.0 s.1);
-    blocks = λ (x : ℕ × ℕ × ℕ × ℕ) r. let s = step x.0 x.1 (0 ∷ stripe_of g x.2 x.3 ∷ []) r in ap (λ z. z.blocks x.2 x.3) (here a v x.0 x.1 h s.0 s.1)
-        ∙ k.blocks x.2 x.3 s.2 ∙ ap (λ o. node_block o x.2 x.3) (moved a v x.0 x.1 (0 ∷ stripe_of g x.2 x.3 ∷ []) s.0 s.1);
-    labels = λ (x : ℕ × ℕ) r. let s = step x.0 x.1 (1 ∷ []) r in ap (λ z. z.label) (here a v x.0 x.1 h s.0 s.1) ∙ k.label s.2 ∙ ap node_label (moved a v x.0 x.1 (1 ∷ []) s.0 s.1);
-  }
+  only_agree a v below h step k = agree_from _ (λ x y fact r.
+      let s = step x y (path_in_volume g fact) r in
+      ap (λ z. fact_of z fact) (here a v x y h s.0 s.1) ∙ k.all fact s.2 ∙ ap (λ o. node_value o fact) (moved a v x y (path_in_volume g fact) s.0 s.1))
 
   aggregate_agree : (a : ℕ) (H : ℕ → VolumeFacts) → ((x : ℕ) (q : Path) → R (x ∷ q) ≡ true → a ≡ x)
       → ((v : ℕ) → HoldsAt g (λ q. true) (H v) (λ q. n (a ∷ v ∷ q))) → AgreeOn g R (state_with (λ x y. facts_if (a == x) (H y))) (tree_state g n)
-  aggregate_agree a H first each = record {
-    made = λ (x : ℕ × ℕ) r. let e = first x.0 (x.1 ∷ []) r in ap (λ b. (facts_if b (H x.1)).made) (eq-eqb a x.0 e) ∙ (each x.1).made refl ∙ ap (λ i. node_made (n (i ∷ x.1 ∷ []))) e;
-    sealed = λ (x : ℕ × ℕ) r. let e = first x.0 (x.1 ∷ []) r in ap (λ b. (facts_if b (H x.1)).sealed) (eq-eqb a x.0 e) ∙ (each x.1).sealed refl ∙ ap (λ i. node_sealed (n (i ∷ x.1 ∷ []))) e;
-    files = λ (x : ℕ × ℕ × ℕ) r. let e = first x.0 (x.1 ∷ 0 ∷ []) r in ap (λ b. (facts_if b (H x.1)).files x.2) (eq-eqb a x.0 e)
-        ∙ (each x.1).files x.2 refl ∙ ap (λ i. node_has_file (n (i ∷ x.1 ∷ 0 ∷ [])) x.2) e;
-    blocks = λ (x : ℕ × ℕ × ℕ × ℕ) r. let e = first x.0 (x.1 ∷ 0 ∷ stripe_of g x.2 x.3 ∷ []) r
-        in ap (λ b. (facts_if b (H x.1)).blocks x.2 x.3) (eq-eqb a x.0 e) ∙ (each x.1).blocks x.2 x.3 refl
-        ∙ ap (λ i. node_block (n (i ∷ x.1 ∷ 0 ∷ stripe_of g x.2 x.3 ∷ [])) x.2 x.3) e;
-    labels = λ (x : ℕ × ℕ) r. let e = first x.0 (x.1 ∷ 1 ∷ []) r in ap (λ b. (facts_if b (H x.1)).label) (eq-eqb a x.0 e) ∙ (each x.1).label refl ∙ ap (λ i. node_label (n (i ∷ x.1 ∷ 1 ∷ []))) e;
-  }
+  aggregate_agree a H first each = agree_from _ (λ x y fact r.
+      let e = first x (y ∷ path_in_volume g fact) r in
+      ap (λ b. fact_of (facts_if b (H y)) fact) (eq-eqb a x e) ∙ (each y).all fact refl ∙ ap (λ i. node_value (n (i ∷ y ∷ path_in_volume g fact)) fact) e)
 
 -- ---- the standing
 
@@ -127,31 +107,34 @@ pub record StandsAt (R : Path → Bool) (t : Standing) (n : Nodes) : Type 0 wher
 module _ (g : Geometry) (R : Path → Bool) (t : Standing) (n : Nodes) (stands : StandsAt R t n) where
   stripe_holds : (s : ℕ) (part : StripePart) → ((f : ℕ) → R (0 ∷ []) ≡ true → has_file t.files f ≡ node_has_file (n (0 ∷ [])) f)
       → ((i : ℕ) → R (0 ∷ i ∷ []) ≡ true → i ≡ s) → (R (1 ∷ []) ≡ true → ⊥) → n (0 ∷ s ∷ []) ≡ Some (StripeBlocks part) → HoldsAt g R (stripe_facts t part) n
-  stripe_holds s part files one other at = record {
-    made = stands.made;
-    sealed = stands.sealed;
-    files = files;
-    blocks = λ f b r. ap (λ o. node_block o f b) (sym (ap (λ i. n (0 ∷ i ∷ [])) (one (stripe_of g f b) r) ∙ at));
-    label = λ r. absurd (other r);
-  }
+  stripe_holds s part files one other at = record { all = by }
+    where
+      by : (fact : Fact) → R (path_in_volume g fact) ≡ true → fact_of (stripe_facts t part) fact ≡ node_value (n (path_in_volume g fact)) fact
+      by OfMade r = stands.made r
+      by OfSealed r = stands.sealed r
+      by OfLabel r = absurd (other r)
+      by (OfFile f) r = files f r
+      by (OfBlock f b) r = ap (λ o. node_block o f b) (sym (ap (λ i. n (0 ∷ i ∷ [])) (one (stripe_of g f b) r) ∙ at))
 
   logical_holds : (l : Logical) → (R (1 ∷ []) ≡ true → ⊥) → ((q : Path) → n (0 ∷ q) ≡ logical_nodes l q) → HoldsAt g R (logical_facts g t l) n
-  logical_holds l other at = record {
-    made = stands.made;
-    sealed = stands.sealed;
-    files = λ f r. ap (λ o. node_has_file o f) (sym (at []));
-    blocks = λ f b r. stripe_blocks g R (slice_index_or l.stripes.items (stripe_of g f b) None) f b ∙ ap (λ o. node_block o f b) (sym (at (stripe_of g f b ∷ [])));
-    label = λ r. absurd (other r);
-  }
+  logical_holds l other at = record { all = by }
+    where
+      by : (fact : Fact) → R (path_in_volume g fact) ≡ true → fact_of (logical_facts g t l) fact ≡ node_value (n (path_in_volume g fact)) fact
+      by OfMade r = stands.made r
+      by OfSealed r = stands.sealed r
+      by OfLabel r = absurd (other r)
+      by (OfFile f) r = ap (λ o. node_has_file o f) (sym (at []))
+      by (OfBlock f b) r = stripe_blocks g R (slice_index_or l.stripes.items (stripe_of g f b) None) f b ∙ ap (λ o. node_block o f b) (sym (at (stripe_of g f b ∷ [])))
 
   label_holds : (l : Label) → ((q : Path) → R (0 ∷ q) ≡ true → ⊥) → n (1 ∷ []) ≡ Some (LabelBytes l.bytes) → HoldsAt g R (label_facts t l) n
-  label_holds l other at = record {
-    made = stands.made;
-    sealed = stands.sealed;
-    files = λ f r. absurd (other [] r);
-    blocks = λ f b r. absurd (other (stripe_of g f b ∷ []) r);
-    label = λ r. ap node_label (sym at);
-  }
+  label_holds l other at = record { all = by }
+    where
+      by : (fact : Fact) → R (path_in_volume g fact) ≡ true → fact_of (label_facts t l) fact ≡ node_value (n (path_in_volume g fact)) fact
+      by OfMade r = stands.made r
+      by OfSealed r = stands.sealed r
+      by OfLabel r = ap node_label (sym at)
+      by (OfFile f) r = absurd (other [] r)
+      by (OfBlock f b) r = absurd (other (stripe_of g f b ∷ []) r)
 
 pub has_none : (f : ℕ) → has_file 0 f ≡ false
 has_none f = ap (λ n. n == 1) (bit_at-zero f)

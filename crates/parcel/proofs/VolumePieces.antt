@@ -13,6 +13,7 @@ use Rattle.language.specs.Replies.{has_file}
 use Rattle.language.specs.declared.Block.{Block}
 use Rattle.meaning.specs.Serial.{file_bits, no_label}
 use Rattle.meaning.specs.State.{State, VolumeKey, FileKey, BlockKey, IsState, is_volume, sum_below, one_if}
+use Rattle.meaning.specs.Subtrees.{OfMade, OfSealed, OfLabel, OfFile}
 use Rattle.image.specs.Pieces.{volume_piece, label_bytes, is_made_in, is_sealed_in, has_file_in, label_in as decoded_label_in, with_volume_piece}
 use Rattle.parcel.specs.Fits.{FitsLogical, FitsVolume, IsWholeChild, IsWholeLogical, IsWholeVolume}
 use Rattle.parcel.specs.Nodes.{child_nodes, logical_nodes, node_files}
@@ -49,8 +50,8 @@ files_are g x a v (Some l) fits whole has = (λ i. sum_below g.files (λ f. if h
 -- the piece of a volume of the tree is that of volume v of aggregate a in each state in which that volume has the same
 pub volume_written : (g : Geometry) (x : State) (a v : ℕ) (w : Vol) → FitsVolume g w → IsWholeVolume w → HasFacts x a v (volume_facts g w) → volume_piece 2 g x a v ≡ spelled (volume_piece_of w)
 volume_written g x a v w fits whole has =
-    volume_spelled 2 g x (a, v) {p = volume_piece_of w} has.made has.sealed (files_are g x a v w.logical fits.logical whole.0 has.files)
-    (λ on. ap (λ (o : Option (List ℕ)). unwrap_or o no_label) has.label)
+    volume_spelled 2 g x (a, v) {p = volume_piece_of w} (has OfMade) (has OfSealed) (files_are g x a v w.logical fits.logical whole.0 (λ f. has (OfFile f)))
+    (λ on. ap (λ (o : Option (List ℕ)). unwrap_or o no_label) (has OfLabel))
 
 here : (a v : ℕ) → is_volume a v (a, v) ≡ true
 here a v = and_from (a == a) (v == v) (eq-eqb a a refl) (eq-eqb v v refl)

@@ -2,6 +2,7 @@
 use Rattle.std.specs.Prelude.{ℕ, Bool, true, false, ◌&&◌, ◌==◌, List, Option, None}
 use Rattle.language.specs.declared.Block.{Block}
 use Rattle.meaning.specs.State.{State}
+use Rattle.meaning.specs.Subtrees.{Fact, OfMade, OfSealed, OfLabel, OfFile, OfBlock, Value}
 
 -- what one volume has
 pub record VolumeFacts : Type 0 where
@@ -10,6 +11,14 @@ pub record VolumeFacts : Type 0 where
   pub files : ℕ → Bool
   pub blocks : ℕ → ℕ → Option Block
   pub label : Option (List ℕ)
+
+-- what they say of a fact
+abbrev pub fact_of : VolumeFacts → (fact : Fact) → Value fact
+fact_of h OfMade = h.made
+fact_of h OfSealed = h.sealed
+fact_of h OfLabel = h.label
+fact_of h (OfFile f) = h.files f
+fact_of h (OfBlock f b) = h.blocks f b
 
 -- the facts of a volume that isn't made, or that is out
 abbrev pub no_facts : VolumeFacts

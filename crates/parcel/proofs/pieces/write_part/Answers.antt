@@ -1,12 +1,15 @@
 -- The part is the volume itself or one of its stripes.
-use Rattle.std.proofs.Common.{◌≡◌, ℕ, ◌-◌, ◌<◌, length, slice_index_or, sym, ◌∙◌, ap, subst, arith}
+use Rattle.std.proofs.Common.{◌≡◌, ℕ, suc, ◌-◌, ◌<◌, length, slice_index_or, sym, ◌∙◌, ap, subst, arith}
 use Rattle.std.specs.Prelude.{None, IfSome}
 use Rattle.std.proofs.lemmas.List.{get_or_read}
+use Rattle.meaning.specs.Subtrees.{OfBlock}
 use Rattle.image.specs.Pieces.{part_piece}
 use Rattle.parcel.specs.Fits.{FitsLogical, FitsStripe}
+use Rattle.parcel.specs.Shown.{blocks_in, blocks_below}
 use Rattle.parcel.proofs.ChildRows.{fits_in_place}
 use Rattle.parcel.proofs.VolumePieces.{volume_written}
 use Rattle.parcel.proofs.pieces.write_part.Goals as goal
+use Rattle.parcel.proofs.pieces.write_part.Goals.{After-index}
 
 pub returns-then-part-eq0 : goal.returns-then-part-eq0
 returns-then-part-eq0 c =
@@ -15,12 +18,27 @@ returns-then-part-eq0 c =
     c.write_volume.ensures ∙ sym (volume_written g x a v c.args.volume.now c.requires.fits c.requires.whole has)
     ∙ ap (λ (k : ℕ). part_piece 2 g x a v k) (sym c.if-part-eq0.true)
 
+-- the stripe that was found
+found : (c : After-index) → slice_index_or c.in-Some.logical.stripes.items (c.args.part - 1) None ≡ c.index.result.now
+found c =
+    let s : ℕ = c.args.part - 1 in
+    let fits : FitsLogical c.args.g.now c.in-Some.logical = subst (λ o. IfSome o (FitsLogical c.args.g.now)) c.in-Some.is c.requires.fits.logical in
+    let below : s < length c.in-Some.logical.stripes.items = omega (arith, c.requires.part, fits.count, c.if-part-eq0.false) in
+    sym (get_or_read c.in-Some.logical.stripes.items _ _ below c.index.ensures None)
+
 pub write_stripe-requires-clause-fits : goal.write_stripe-requires-clause-fits
 write_stripe-requires-clause-fits c =
     let g = c.args.g.now in
-    let row = c.in-Some.logical.stripes in
-    let s : ℕ = c.args.part - 1 in
     let fits : FitsLogical g c.in-Some.logical = subst (λ o. IfSome o (FitsLogical g)) c.in-Some.is c.requires.fits.logical in
-    let below : s < length row.items = omega (arith, c.requires.part, fits.count, c.if-part-eq0.false) in
-    let at : slice_index_or row.items s None ≡ c.index.result.now = sym (get_or_read row.items _ _ below c.index.ensures None) in
-    subst (λ o. IfSome o (FitsStripe g s)) c.in-Some-index.is (fits_in_place (FitsStripe g) row.items fits.stripes s c.index.result.now at)
+    subst (λ o. IfSome o (FitsStripe g (c.args.part - 1))) c.in-Some-index.is
+    (fits_in_place (FitsStripe g) c.in-Some.logical.stripes.items fits.stripes (c.args.part - 1) c.index.result.now (found (goal.at.write_stripe-requires-clause-fits c).After-index))
+
+pub returns : goal.returns
+returns c x a v is has =
+    let g = c.args.g.now in
+    let row = c.in-Some.logical.stripes.items in
+    let later : suc (c.args.part - 1) ≡ c.args.part = omega (arith, c.if-part-eq0.false) in
+    c.write_stripe.ensures x a v is (λ f b on.
+    has (OfBlock f b) ∙ ap (λ o. blocks_below g o f b) c.in-Some.is ∙ ap (λ (s : ℕ). blocks_in (slice_index_or row s None) f b) on
+    ∙ ap (λ o. blocks_in o f b) (found (goal.at.returns c).After-index ∙ c.in-Some-index.is))
+    ∙ ap (λ (k : ℕ). part_piece 2 g x a v k) later
