@@ -344,18 +344,13 @@ first_at keeps {o} {core} {dispatch_seat} {reorder_buffer} {unread} {input} {sen
     let s : Start = record { core = core; places = places; input = input; before = sent } in
     let start = start_machine s in
     begins_at keeps o s _ r.is (record {
-      idle = r.idle;
-      none_in_doubt = r.none_in_doubt;
+      start = record { idle = r.idle; none_in_doubt = r.none_in_doubt };
       fits = r.fits;
       holds = holds_first core dispatch_seat.lent places unused.none_lent r.idle;
       places = places_first dispatch_seat.lent places unused.none_lent ∙ sym unused.slots;
       knows = λ e. absurd (true≢false (sym e ∙ unused.not_ended));
       reads = record {
-        waiting = [];
-        have_answers = tt;
-        reply_buffer_is = unused.none_waits;
-        counted = omega (arith, ap length r.none);
-        bounded = omega arith;
+        waits = record { waiting = []; have_answers = tt; reply_buffer_is = unused.none_waits; counted = omega (arith, ap length r.none); bounded = omega arith };
         whole = sent;
         output = refl;
         progress = subst (λ (l : List (Option JobView)). ServingProgress keeps start (machine_with_jobs core l) reorder_buffer.lines input unread drained sent sent) (sym unused.none_lent)

@@ -22,7 +22,7 @@ use Rattle.serving.specs.Lines.{HaveAnswers, Completed, Line, NoMessage, OutOfRa
 use Rattle.serving.specs.Reads.{IsTaken}
 use Rattle.reorder_buffer.specs.ReorderBuffer.{AreConsecutive, ReorderBufferView, can_retire, retired_text, with_tickets}
 use Rattle.serving.specs.Runs.{HandsHaveJobs, IsInternal, RunsBetween, machine_with_jobs}
-use Rattle.serving.specs.Session.{SessionProgress, IsReadEnd, SessionInvariant, SessionInvariantFrom, SessionView, ReadsOrHasEnded, machine, IsSent}
+use Rattle.serving.specs.Session.{Waits, SessionProgress, IsReadEnd, SessionInvariant, SessionInvariantFrom, SessionView, ReadsOrHasEnded, machine, IsSent}
 use Rattle.serving.specs.Output.{AppendsBeginning, MaySend, Start, start_machine}
 use Rattle.serving.specs.declared.session.ReadEnd.{ReadEnd}
 use Rattle.serving.specs.declared.session.ReadEnd.TheVariants as ends_of_reading
@@ -94,6 +94,12 @@ pub to_reorder_buffer : {keeps : Type 0} {s : Start} {p : SessionView} {unread :
     (all_output h.whole p.reply_buffer)
 to_reorder_buffer {p} h = sends_on (sends_waiting h.waiting p.reorder_buffer.lines p.reply_buffer h.whole h.have_answers h.reply_buffer_is) h.progress
 
+-- the same answers wait, where as many lines more are outstanding as the reorder buffer has more
+abbrev waits_on : {reply_buffer : List ℕ} {n m : ℕ} {old new : ReorderBufferView} → Waits reply_buffer n old → m + length old.lines ≡ n + length new.lines → m ≤ new.slots → Waits reply_buffer m new
+waits_on w more few =
+    let counted = w.counted in
+    record { waiting = w.waiting; have_answers = w.have_answers; reply_buffer_is = w.reply_buffer_is; counted = omega (arith, counted, more); bounded = few }
+
 module _ (keeps : Type 0) where
   module _ (s : Start) (p : SessionView) where
     -- The reason why no more is read stays true while the next ticket stays the same and a failed device stays failed.
@@ -126,24 +132,25 @@ module _ (keeps : Type 0) where
 
   -- ---- what follows from the invariant
 
+  -- what follows for each start for which the invariant holds
+  ask : {P : Type 0} (o : Option Start) (p : SessionView) → SessionInvariantFrom keeps o p → ((s : Start) → SessionInvariant keeps s p → P) → P
+  ask None p u follows = absurd u
+  ask (Some s) p u follows = follows s u
+
   pub holds_of : (o : Option Start) (p : SessionView) → SessionInvariantFrom keeps o p → HandsHaveJobs (machine p)
-  holds_of None p u = absurd u
-  holds_of (Some s) p u = u.holds
+  holds_of o p u = ask o p u (λ s u. u.holds)
 
   pub places_of : (o : Option Start) (p : SessionView) → SessionInvariantFrom keeps o p → length p.dispatch_seat.lent ≡ p.dispatch_seat.bench.slots
-  places_of None p u = absurd u
-  places_of (Some s) p u = u.places
+  places_of o p u = ask o p u (λ s u. u.places)
 
   pub knows_of : (o : Option Start) (p : SessionView) → SessionInvariantFrom keeps o p → IsTrue p.ended → IsAtEnd p.remaining
-  knows_of None p u = absurd u
-  knows_of (Some s) p u = u.knows
+  knows_of o p u = ask o p u (λ s u. u.knows)
 
   pub idle_of : (o : Option Start) (p : SessionView) → SessionInvariantFrom keeps o p → p.reorder_buffer.lines ≡ [] → IsIdle (core_state_of p.core)
-  idle_of None p u none = absurd u
-  idle_of (Some s) p u none =
+  idle_of o p u none = ask o p u (λ s u.
       let k = progress_at_end s p p.read_end u.reads in
       idle_again u.idle (subst (λ (l : List Line). ServingProgress keeps (start_machine s) (machine p) l s.input k.0 k.1 s.before
-      (all_output k.2.whole p.reply_buffer)) none (to_reorder_buffer k.2))
+      (all_output k.2.whole p.reply_buffer)) none (to_reorder_buffer k.2)))
 
   -- ---- steps
 
@@ -164,19 +171,14 @@ module _ (keeps : Type 0) where
     on_machine core dispatch_seat k bench places =
         let q : SessionView = record p { core = core; dispatch_seat = dispatch_seat } in
         goes_to q (λ s u. record {
-          idle = u.idle;
-          none_in_doubt = u.none_in_doubt;
+          start = u.start;
           fits = u.fits;
           holds = k.holds;
           places = places ∙ u.places ∙ ap (λ (z : _). z.slots) (sym bench);
           knows = u.knows;
           reads = reads_on s p q (passes_next k.segment) (still_failed k.segment)
               (λ unread drained h. record {
-                waiting = h.waiting;
-                have_answers = h.have_answers;
-                reply_buffer_is = h.reply_buffer_is;
-                counted = h.counted;
-                bounded = h.bounded;
+                waits = h.waits;
                 whole = h.whole;
                 output = h.output;
                 progress = quiet_goes_on k.segment h.progress;
@@ -191,19 +193,14 @@ module _ (keeps : Type 0) where
     on_answer core reorder_buffer ticket reply k is slots =
         let q : SessionView = record p { core = core; reorder_buffer = reorder_buffer } in
         goes_to q (λ s u. record {
-          idle = u.idle;
-          none_in_doubt = u.none_in_doubt;
+          start = u.start;
           fits = subst (λ (n : ℕ). n ≤ s.core.slots) (sym slots) u.fits;
           holds = k.0;
           places = u.places;
           knows = u.knows;
           reads = reads_on s p q (passes_next k.1) (still_failed k.1)
               (λ unread drained h. record {
-                waiting = h.waiting;
-                have_answers = h.have_answers;
-                reply_buffer_is = h.reply_buffer_is;
-                counted = let counted = h.counted in omega (arith, counted, ap length is, length-map p.reorder_buffer.lines (complete_one ticket reply));
-                bounded = let bounded = h.bounded in omega (arith, bounded, slots);
+                waits = waits_on h.waits (omega (arith, ap length is, length-map p.reorder_buffer.lines (complete_one ticket reply))) (let bounded = h.bounded in omega (arith, bounded, slots));
                 whole = h.whole;
                 output = h.output;
                 progress = subst (λ (l : List Line). ServingProgress keeps (start_machine s) (machine q) l s.input unread drained s.before h.whole)
@@ -221,20 +218,21 @@ module _ (keeps : Type 0) where
         let one = f.line ∷ [] in
         let q : SessionView = record p { reorder_buffer = buffer; reply_buffer = bytes } in
         goes_to q (λ s u. record {
-          idle = u.idle;
-          none_in_doubt = u.none_in_doubt;
+          start = u.start;
           fits = subst (λ (n : ℕ). n ≤ s.core.slots) (sym slots) u.fits;
           holds = u.holds;
           places = u.places;
           knows = u.knows;
           reads = reads_on s p q refl (λ x. x)
               (λ unread drained h. record {
-                waiting = h.waiting ++ one;
-                have_answers = all_join (λ line. has_answer line ≡ true) h.waiting one h.have_answers (f.answered, tt);
-                reply_buffer_is = added ∙ ap (λ (l : List ℕ). l ++ retired_text p.reorder_buffer.lines) h.reply_buffer_is
-                    ∙ ap (λ (l : List ℕ). joined (map answer_text h.waiting) ++ l) (f.retires ∙ sym (append-nil (answer_text f.line))) ∙ sym (texts_both h.waiting one);
-                counted = let counted = h.counted in omega (arith, counted, ap length f.were, length-append h.waiting one);
-                bounded = let bounded = h.bounded in omega (arith, bounded, slots);
+                waits = record {
+                  waiting = h.waiting ++ one;
+                  have_answers = all_join (λ line. has_answer line ≡ true) h.waiting one h.have_answers (f.answered, tt);
+                  reply_buffer_is = added ∙ ap (λ (l : List ℕ). l ++ retired_text p.reorder_buffer.lines) h.reply_buffer_is
+                      ∙ ap (λ (l : List ℕ). joined (map answer_text h.waiting) ++ l) (f.retires ∙ sym (append-nil (answer_text f.line))) ∙ sym (texts_both h.waiting one);
+                  counted = let counted = h.counted in omega (arith, counted, ap length f.were, length-append h.waiting one);
+                  bounded = let bounded = h.bounded in omega (arith, bounded, slots);
+                };
                 whole = h.whole;
                 output = sent_on p.output_failed p.reply_buffer bytes _ h.whole p.sent added h.output;
                 progress = subst (λ (l : List Line). ServingProgress keeps (start_machine s) (machine p) l s.input unread drained s.before h.whole)
@@ -258,21 +256,20 @@ module _ (keeps : Type 0) where
     on_send reply_buffer sent n works none appends are =
         let q : SessionView = record p { reply_buffer = reply_buffer; sent = sent; outstanding = n } in
         goes_to q (λ s u. record {
-          idle = u.idle;
-          none_in_doubt = u.none_in_doubt;
+          start = u.start;
           fits = u.fits;
           holds = u.holds;
           places = u.places;
           knows = u.knows;
           reads = reads_on s p q refl (λ x. x)
               (λ unread drained h. record {
-                waiting = [];
-                have_answers = tt;
-                reply_buffer_is = none;
-                counted = omega (arith, are);
-                bounded = let counted = h.counted in
-                    let bounded = h.bounded in
-                    omega (arith, are, counted, bounded);
+                waits = record {
+                  waiting = [];
+                  have_answers = tt;
+                  reply_buffer_is = none;
+                  counted = omega (arith, are);
+                  bounded = let w = h.waits in omega (arith, are, w.counted, w.bounded);
+                };
                 whole = sent;
                 output = sent_so p.output_failed reply_buffer sent works;
                 progress = sends_on (record {
@@ -290,19 +287,14 @@ module _ (keeps : Type 0) where
     on_break sent works begins =
         let q : SessionView = record p { sent = sent; output_failed = true } in
         goes_to q (λ s u. record {
-          idle = u.idle;
-          none_in_doubt = u.none_in_doubt;
+          start = u.start;
           fits = u.fits;
           holds = u.holds;
           places = u.places;
           knows = u.knows;
           reads = reads_on s p q refl (λ x. x)
               (λ unread drained h. record {
-                waiting = h.waiting;
-                have_answers = h.have_answers;
-                reply_buffer_is = h.reply_buffer_is;
-                counted = h.counted;
-                bounded = h.bounded;
+                waits = h.waits;
                 whole = h.whole;
                 output = subst (λ (w : Option (List ℕ)). AppendsBeginning w sent p.reply_buffer) (all_sent p.output_failed p.reply_buffer h.whole p.sent works h.output) begins;
                 progress = h.progress;
@@ -341,16 +333,12 @@ module _ (keeps : Type 0) where
     abbrev next : SessionView
     next = record p { core = core; reorder_buffer = reorder_buffer; outstanding = n; unread = unread; drained = drained; ended = ended; remaining = remaining }
 
-    counted_next : (waiting : List Line) → p.outstanding ≡ length waiting + length p.reorder_buffer.lines → n ≡ length waiting + length reorder_buffer.lines
-    counted_next waiting counted = omega (arith, counted, more)
-
     bounded_next : n ≤ reorder_buffer.slots
     bounded_next = omega (arith, few, slots)
 
     reads_next : (s : Start) → SessionInvariant keeps s p → HandsHaveJobs (machine next) → SessionProgress keeps s next unread drained → SessionInvariant keeps s next
     reads_next s u holds progress_at_end = record {
-      idle = u.idle;
-      none_in_doubt = u.none_in_doubt;
+      start = u.start;
       fits = subst (λ (n : ℕ). n ≤ s.core.slots) (sym slots) u.fits;
       holds = holds;
       places = u.places;
@@ -365,50 +353,38 @@ module _ (keeps : Type 0) where
       -- A line is read.
       pub on_line : (o : Option Start) (line : List ℕ) → SessionInvariantFrom keeps o p → IsTaken keeps (machine p) (machine next) (message_of line) known
           → IfSome p.unread (λ bs. GivesLine line bs unread) → SessionInvariantFrom keeps o next
-      on_line None line u t found = absurd u
-      on_line (Some s) line u t found =
+      on_line o line u t found = goes_to o p u next (λ s u.
           let h = reading s p none u in
           reads_next s u t.holds (record {
-            waiting = h.waiting;
-            have_answers = h.have_answers;
-            reply_buffer_is = h.reply_buffer_is;
-            counted = counted_next h.waiting h.counted;
-            bounded = bounded_next;
+            waits = waits_on h.waits more bounded_next;
             whole = h.whole;
             output = h.output;
             progress = subst (λ (l : List Line). ServingProgress keeps (start_machine s) (machine next) l s.input unread drained s.before h.whole)
                 (at_end h.waiting)
                 (line_goes_on u.idle going closes line t found h.progress);
-          })
+          }))
 
       -- A line that is too long is read: it counts as no message.
       pub on_long_line : (o : Option Start) → SessionInvariantFrom keeps o p → IsTaken keeps (machine p) (machine next) None known
           → IfSome p.unread (λ bs. PassesLine bs unread) → SessionInvariantFrom keeps o next
-      on_long_line None u t found = absurd u
-      on_long_line (Some s) u t found =
+      on_long_line o u t found = goes_to o p u next (λ s u.
           let h = reading s p none u in
           reads_next s u t.holds (record {
-            waiting = h.waiting;
-            have_answers = h.have_answers;
-            reply_buffer_is = h.reply_buffer_is;
-            counted = counted_next h.waiting h.counted;
-            bounded = bounded_next;
+            waits = waits_on h.waits more bounded_next;
             whole = h.whole;
             output = h.output;
             progress = subst (λ (l : List Line). ServingProgress keeps (start_machine s) (machine next) l s.input unread drained s.before h.whole)
                 (at_end h.waiting)
                 (long_line_goes_on u.idle going closes t found h.progress);
-          })
+          }))
 
     -- No more is read for this reason.
     pub on_read_end : (o : Option Start) (read_end : ReadEnd) → SessionInvariantFrom keeps o p → IsInternal keeps (machine p) (machine next) → reorder_buffer.lines ≡ p.reorder_buffer.lines
         → IsReadEnd p.core.geometry core p.unread p.drained remaining read_end → SessionInvariantFrom keeps o (record next { read_end = Some read_end })
-    on_read_end None read_end u k same why = absurd u
-    on_read_end (Some s) read_end u k same why =
+    on_read_end o read_end u k same why = goes_to o p u (record next { read_end = Some read_end }) (λ s u.
         let h = reading s p none u in
         record {
-          idle = u.idle;
-          none_in_doubt = u.none_in_doubt;
+          start = u.start;
           fits = subst (λ (n : ℕ). n ≤ s.core.slots) (sym slots) u.fits;
           holds = k.holds;
           places = u.places;
@@ -417,11 +393,7 @@ module _ (keeps : Type 0) where
             unread = p.unread;
             drained = p.drained;
             progress_at_end = record {
-              waiting = h.waiting;
-              have_answers = h.have_answers;
-              reply_buffer_is = h.reply_buffer_is;
-              counted = counted_next h.waiting h.counted;
-              bounded = bounded_next;
+              waits = waits_on h.waits more bounded_next;
               whole = h.whole;
               output = h.output;
               progress = subst (λ (l : List Line). ServingProgress keeps (start_machine s) (machine next) l s.input p.unread p.drained s.before h.whole)
@@ -429,29 +401,25 @@ module _ (keeps : Type 0) where
             };
             why = subst (λ (y : Geometry). IsReadEnd y core p.unread p.drained remaining read_end) h.progress.serving.segment.leads.geometry why;
           };
-        }
+        })
 
   -- The next ticket comes after those of the reorder buffer.
   pub follows : (o : Option Start) (p : SessionView) → p.read_end ≡ None → SessionInvariantFrom keeps o p
       → AreConsecutive (with_tickets p.reorder_buffer.lines ++ Pending p.core.next ∷ [])
-  follows None p none u = absurd u
-  follows (Some s) p none u = next_follows (to_reorder_buffer (reading s p none u)).serving
+  follows o p none u = ask o p u (λ s u. next_follows (to_reorder_buffer (reading s p none u)).serving)
 
   -- Where fewer lines are outstanding than there are slots, the reorder buffer has room for a further one.
   pub has_place : (o : Option Start) (p : SessionView) → SessionInvariantFrom keeps o p → p.outstanding < p.reorder_buffer.slots → length p.reorder_buffer.lines < p.reorder_buffer.slots
-  has_place None p u room = absurd u
-  has_place (Some s) p u room =
-      let k = progress_at_end s p p.read_end u.reads in
-      let counted = k.2.counted in
-      omega (arith, counted, room)
+  has_place o p u room = ask o p u (λ s u.
+      let counted = (progress_at_end s p p.read_end u.reads).2.counted in
+      omega (arith, counted, room))
 
   -- Where the reorder buffer has room for a line, its message isn't refused for want of a slot.
   pub has_slot : (o : Option Start) (p : SessionView) (m : Msg) → p.read_end ≡ None → SessionInvariantFrom keeps o p → length p.reorder_buffer.lines < p.reorder_buffer.slots
       → (arrive p.core.geometry (core_state_of p.core) m).0 ≢ ArriveRefused arrivals.Full
-  has_slot None p m none u room = absurd u
-  has_slot (Some s) p m none u room =
+  has_slot o p m none u room = ask o p u (λ s u.
       let fits = u.fits in
-      finds_a_slot m u.idle (to_reorder_buffer (reading s p none u)) (omega (arith, room, fits))
+      finds_a_slot m u.idle (to_reorder_buffer (reading s p none u)) (omega (arith, room, fits)))
 
 -- ---- where it begins
 

@@ -105,10 +105,6 @@ pub at_end : (unread now_unread : Option (List ℕ)) → IfSome unread (λ bs. I
 at_end None now_unread found = tt
 at_end (Some bs) now_unread found = found.none
 
-pub has_sent_end : (ended none_held : Bool) → (ended && none_held) ≡ true → ended ≡ true
-has_sent_end true none_held e = refl
-has_sent_end false none_held e = e
-
 pub none_left : (unread : Option (List ℕ)) → IfSome unread (λ bs. bs ≡ []) → IsAtEnd unread
 none_left None none = tt
 none_left (Some bs) none = none

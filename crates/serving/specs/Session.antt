@@ -73,18 +73,22 @@ abbrev pub IsSent : Bool → List ℕ → Option (List ℕ) → Option (List ℕ
 IsSent true reply_buffer whole sent = AppendsBeginning whole sent reply_buffer
 IsSent false reply_buffer whole sent = sent ≡ whole
 
--- From the start of the call of `serve` a legal run has led to this session, and `unread` is what is left of the input. The answers that
--- wait are those to the next lines in order, `waiting`; after these lines come those of the reorder buffer.
-pub record SessionProgress (keeps : Type 0) (s : Start) (p : SessionView) (unread : Option (List ℕ)) (drained : Bool) : Type 0 where
+-- The answers that wait are those to the next lines in order, `waiting`; after these lines come those of the reorder buffer.
+pub record Waits (reply_buffer : List ℕ) (outstanding : ℕ) (reorder_buffer : ReorderBufferView) : Type 0 where
   pub waiting : List Line
   pub have_answers : HaveAnswers waiting
-  pub reply_buffer_is : p.reply_buffer ≡ joined (map answer_text waiting)
+  pub reply_buffer_is : reply_buffer ≡ joined (map answer_text waiting)
   -- Outstanding are the lines whose answers wait and those of the reorder buffer. There are never more of them than slots.
-  pub counted : p.outstanding ≡ length waiting + length p.reorder_buffer.lines
-  pub bounded : p.outstanding ≤ p.reorder_buffer.slots
+  pub counted : outstanding ≡ length waiting + length reorder_buffer.lines
+  pub bounded : outstanding ≤ reorder_buffer.slots
+
+-- From the start of the call of `serve` a legal run has led to this session, and `unread` is what is left of the input.
+pub record SessionProgress (keeps : Type 0) (s : Start) (p : SessionView) (unread : Option (List ℕ)) (drained : Bool) : Type 0 where
+  pub waits : Waits p.reply_buffer p.outstanding p.reorder_buffer
+  pub open waits use *
   pub whole : Option (List ℕ)
   pub output : IsSent p.output_failed p.reply_buffer whole p.sent
-  pub progress : ServingProgress keeps (start_machine s) (machine p) (waiting ++ p.reorder_buffer.lines) s.input unread drained
+  pub progress : ServingProgress keeps (start_machine s) (machine p) (waits.waiting ++ p.reorder_buffer.lines) s.input unread drained
       s.before whole
 
 -- A legal run has led to this session, and no more is read, for this reason.
@@ -99,11 +103,16 @@ abbrev pub ReadsOrHasEnded : Type 0 → Start → SessionView → Option ReadEnd
 ReadsOrHasEnded keeps s p None = SessionProgress keeps s p p.unread p.drained
 ReadsOrHasEnded keeps s p (Some read_end) = HasEndedReading keeps s p read_end
 
--- What is true of a session between any two calls of it.
-pub record SessionInvariant (keeps : Type 0) (s : Start) (p : SessionView) : Type 0 where
-  -- no message was in the core or its `doubt` at the start, and the reorder buffer has room for no more lines than the core has slots
+-- No message was in the core or its `doubt` at the start.
+pub record IsIdleStart (s : Start) : Type 0 where
   pub idle : IsIdle (core_state_of s.core)
   pub none_in_doubt : s.core.doubt ≡ []
+
+-- What is true of a session between any two calls of it.
+pub record SessionInvariant (keeps : Type 0) (s : Start) (p : SessionView) : Type 0 where
+  pub start : IsIdleStart s
+  pub open start use *
+  -- the reorder buffer has room for no more lines than the core has slots
   pub fits : p.reorder_buffer.slots ≤ s.core.slots
   -- each hand that isn't empty has the job of a message in flight
   pub holds : HandsHaveJobs (machine p)
