@@ -1,74 +1,60 @@
 -- A line more is a kind more, and where it has a ticket, a line more beside the kinds.
-use Rattle.std.proofs.Common.{◌++◌, ◌∷◌, [], List, ap, arith, length, subst, sym, ◌∙◌}
+use Rattle.std.proofs.Common.{◌≡◌, ◌<◌, ◌≤◌, ◌++◌, ◌∷◌, [], List, ap, arith, length, refl, subst, sym, ◌∙◌}
+use Rattle.std.specs.VecDeque.{deque_capacity}
 use Rattle.std.proofs.lemmas.List.{length_push}
 use Rattle.reorder_buffer.specs.ReorderBuffer.{Line, NoMessage, OutOfRange, AreConsecutive, Ticketed, LineKind, OutOfRangeKind, ReorderBufferView, NoMessageKind, ticketed_among, lines_of, with_tickets}
+use Rattle.reorder_buffer.specs.Fields.{IsReorderBuffer, buffer_view}
+use Rattle.reorder_buffer.specs.declared.reorder_buffer.ReorderBuffer.TheInside.{Inside}
 use Rattle.reorder_buffer.proofs.Order.{ticket_in}
 use Rattle.reorder_buffer.proofs.Lines.{ticketed_among-append, fewer_are_ticketed, kinds_have_room, lines_of-append, lines_of-plain, tickets_of_lines}
 use Rattle.reorder_buffer.proofs.reorder_buffer.ReorderBuffer.push.Goals as goal
 
+-- there is room for a kind where there is for a line, and a line without a ticket is a kind more
+module _ (k : Inside) (was : IsReorderBuffer k) {v : ReorderBufferView} (is : buffer_view k ≡ v) where
+  room : length v.lines < v.slots → length k.kinds.items < k.slots
+  room few = kinds_have_room k.kinds.items k.ticketed.items k.slots v is was.among few
+
+  fits : length v.lines < v.slots → length k.kinds.items < deque_capacity k.kinds
+  fits few = omega (arith, was.room, room few)
+
+  one_kind_more : (n : Inside) (kind : LineKind) → ticketed_among (kind ∷ []) ≡ 0 → length v.lines < v.slots → n.kinds.items ≡ k.kinds.items ++ kind ∷ []
+      → k.slots ≤ deque_capacity n.kinds → IsReorderBuffer (record k { kinds = n.kinds })
+  one_kind_more n kind no_ticket few items capacity =
+      let more = ap (λ (l : List LineKind). length l) items ∙ length_push k.kinds.items kind in
+      let ticketed = ap (λ (l : List LineKind). ticketed_among l) items ∙ ticketed_among-append k.kinds.items (kind ∷ []) in
+      record {
+        room = capacity;
+        room_beside = was.room_beside;
+        most = omega (arith, more, room few);
+        among = omega (arith, ticketed, no_ticket, was.among);
+        consecutive = was.consecutive;
+      }
+
 pub push_back_reserved-requires : goal.push_back_reserved-requires
-push_back_reserved-requires c =
-    let k = c.self.inside in
-    let was = c.self.invariant in
-    let room = kinds_have_room k.kinds.items k.ticketed.items k.slots c.args.self.now c.self.view_is was.among c.requires.room in
-    let ok = k.kinds.ok in
-    omega (arith, was.room, room, ok)
+push_back_reserved-requires c = let ok = c.self.inside.kinds.ok in omega (arith, fits c.self.inside c.self.invariant c.self.view_is c.requires.room, ok)
 
 pub push_back_reserved-requires-in-OutOfRange : goal.push_back_reserved-requires-in-OutOfRange
-push_back_reserved-requires-in-OutOfRange c =
-    let k = c.self.inside in
-    let was = c.self.invariant in
-    let room = kinds_have_room k.kinds.items k.ticketed.items k.slots c.args.self.now c.self.view_is was.among c.requires.room in
-    let ok = k.kinds.ok in
-    omega (arith, was.room, room, ok)
+push_back_reserved-requires-in-OutOfRange c = let ok = c.self.inside.kinds.ok in omega (arith, fits c.self.inside c.self.invariant c.self.view_is c.requires.room, ok)
 
 pub push_back_reserved-requires-in-Pending : goal.push_back_reserved-requires-in-Pending
-push_back_reserved-requires-in-Pending c =
-    let k = c.self.inside in
-    let was = c.self.invariant in
-    let room = kinds_have_room k.kinds.items k.ticketed.items k.slots c.args.self.now c.self.view_is was.among c.requires.room in
-    let ok = k.kinds.ok in
-    omega (arith, was.room, room, ok)
+push_back_reserved-requires-in-Pending c = let ok = c.self.inside.kinds.ok in omega (arith, fits c.self.inside c.self.invariant c.self.view_is c.requires.room, ok)
 
 pub push_back_reserved-requires-in-Pending-2 : goal.push_back_reserved-requires-in-Pending-2
 push_back_reserved-requires-in-Pending-2 c =
     let k = c.self.inside in
     let was = c.self.invariant in
-    let room = kinds_have_room k.kinds.items k.ticketed.items k.slots c.args.self.now c.self.view_is was.among c.requires.room in
     let ok = k.ticketed.ok in
-    omega (arith, was.room_beside, was.among, room, ok, fewer_are_ticketed k.kinds.items)
+    omega (arith, was.room_beside, was.among, room k was c.self.view_is c.requires.room, ok, fewer_are_ticketed k.kinds.items)
 
 pub invariant_of-self : goal.invariant_of-self
-invariant_of-self c =
-    let k = c.self.inside in
-    let was = c.self.invariant in
-    let room = kinds_have_room k.kinds.items k.ticketed.items k.slots c.args.self.now c.self.view_is was.among c.requires.room in
-    let pushed = c.push_back_reserved.ensures in
-    let more = ap (λ (l : List LineKind). length l) pushed.items ∙ length_push k.kinds.items NoMessageKind in
-    let ticketed = ap (λ (l : List LineKind). ticketed_among l) pushed.items ∙ ticketed_among-append k.kinds.items (NoMessageKind ∷ []) in
-    record {
-      room = omega (arith, was.room, pushed.capacity);
-      room_beside = was.room_beside;
-      most = omega (arith, more, room);
-      among = omega (arith, ticketed, was.among);
-      consecutive = was.consecutive;
-    }
+invariant_of-self c = one_kind_more c.self.inside c.self.invariant c.self.view_is (record c.self.inside { kinds = c.push_back_reserved.new.self }) NoMessageKind refl c.requires.room
+    c.push_back_reserved.ensures.items (let was = c.self.invariant in omega (arith, was.room, c.push_back_reserved.ensures.capacity))
 
 pub invariant_of-self-in-OutOfRange : goal.invariant_of-self-in-OutOfRange
 invariant_of-self-in-OutOfRange c =
-    let k = c.self.inside in
-    let was = c.self.invariant in
-    let room = kinds_have_room k.kinds.items k.ticketed.items k.slots c.args.self.now c.self.view_is was.among c.requires.room in
-    let pushed = c.push_back_reserved-in-OutOfRange.ensures in
-    let more = ap (λ (l : List LineKind). length l) pushed.items ∙ length_push k.kinds.items OutOfRangeKind in
-    let ticketed = ap (λ (l : List LineKind). ticketed_among l) pushed.items ∙ ticketed_among-append k.kinds.items (OutOfRangeKind ∷ []) in
-    record {
-      room = omega (arith, was.room, pushed.capacity);
-      room_beside = was.room_beside;
-      most = omega (arith, more, room);
-      among = omega (arith, ticketed, was.among);
-      consecutive = was.consecutive;
-    }
+    let pushed = c.push_back_reserved-in-OutOfRange in
+    one_kind_more c.self.inside c.self.invariant c.self.view_is (record c.self.inside { kinds = pushed.new.self }) OutOfRangeKind refl c.requires.room
+    pushed.ensures.items (let was = c.self.invariant in omega (arith, was.room, pushed.ensures.capacity))
 
 pub returns-in-NoMessage-clause-lines : goal.returns-in-NoMessage-clause-lines
 returns-in-NoMessage-clause-lines c =
@@ -90,7 +76,6 @@ pub invariant_of-self-in-Pending : goal.invariant_of-self-in-Pending
 invariant_of-self-in-Pending c =
     let k = c.self.inside in
     let was = c.self.invariant in
-    let room = kinds_have_room k.kinds.items k.ticketed.items k.slots c.args.self.now c.self.view_is was.among c.requires.room in
     let pushed = c.push_back_reserved-in-Pending.ensures in
     let beside = c.push_back_reserved-in-Pending-2.ensures in
     let more = ap (λ (l : List LineKind). length l) pushed.items ∙ length_push k.kinds.items Ticketed in
@@ -99,7 +84,7 @@ invariant_of-self-in-Pending c =
     let of = ticket_in c.args.line c.in-Pending.is in record {
       room = omega (arith, was.room, pushed.capacity);
       room_beside = omega (arith, was.room_beside, beside.capacity);
-      most = omega (arith, more, room);
+      most = omega (arith, more, room k was c.self.view_is c.requires.room);
       among = omega (arith, kinds, ticketed, was.among);
       consecutive = subst (λ (l : List Line). AreConsecutive l) (sym {A = List Line} beside.items)
           (subst (λ (l : List Line). AreConsecutive (l ++ c.args.line ∷ []))
