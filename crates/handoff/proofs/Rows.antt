@@ -20,7 +20,3 @@ pub emptied : (lent : List (Option JobView)) (k : ℕ) → lent_at (set lent k N
 emptied [] k = refl
 emptied (x ∷ xs) zero = refl
 emptied (x ∷ xs) (suc k) = emptied xs k
-
--- what an offer answers at a place where nothing is lent
-pub taken : (there : Option JobView) (P : Type 0) (Q : JobView → Type 0) → there ≡ None → MatchOption there P Q → P
-taken there P Q none answer = subst (λ (o : Option JobView). MatchOption o P Q) none answer

@@ -1,9 +1,9 @@
 -- The replies in a legal run are those of the serial server to the messages in the order in which they arrived.
 use Rattle.std.proofs.Common.{◌≡◌, ℕ, ◌<◌, ◌≤◌, Bool, false, List, [], ◌∷◌, ◌++◌, refl, ap, sym, ◌∙◌, subst, append_assoc, take, drop, arith}
-use Rattle.std.specs.Prelude.{◌&&◌, ◌||◌, ◌==◌, not, nat_lt, IsPermutation}
+use Rattle.std.specs.Prelude.{◌&&◌, ◌==◌, not, nat_lt, IsPermutation}
 use Rattle.std.specs.List.{AllByRecursion, list_any}
 use Rattle.std.proofs.lemmas.List.{append-nil, take-append-drop}
-use Rattle.std.proofs.lemmas.Bool.{and_parts, or_parts, not-true, lt-ltb, true≢false}
+use Rattle.std.proofs.lemmas.Bool.{and_parts, or_parts, not-true, lt-ltb, true≢false, or_from}
 use Rattle.std.proofs.lemmas.List.Sorted.{IsPermutation-append_left, IsPermutation-append_right, IsPermutation-middle, IsPermutation-refl, IsPermutation-trans}
 use Rattle.affinity.specs.declared.geometry.Geometry.{Geometry}
 use Rattle.language.specs.declared.Reply.{Reply}
@@ -30,16 +30,13 @@ use Rattle.histories.proofs.Runs.{run_follows, run_answers}
 abbrev pub row : CoreState → List Replied → List Entry
 row w past = entries past ++ (entries w.ran ++ (w.in_flight ++ w.waiting))
 
-or_false : (a b : Bool) → a ≡ false → b ≡ false → (a || b) ≡ false
-or_false a b h j = ap (λ a. a || b) h ∙ j
-
 not_any : (p : Entry → Bool) (us : List Entry) → AllByRecursion (λ d. p d ≡ false) us → list_any p us ≡ false
 not_any p [] h = refl
-not_any p (u ∷ us) h = or_false (p u) (list_any p us) h.0 (not_any p us h.1)
+not_any p (u ∷ us) h = or_from (p u) (list_any p us) h.0 (not_any p us h.1)
 
 any_front : (p : Entry → Bool) (us vs : List Entry) → list_any p (us ++ vs) ≡ false → list_any p us ≡ false
 any_front p [] vs h = refl
-any_front p (u ∷ us) vs h = let k = or_parts (p u) (list_any p (us ++ vs)) h in or_false (p u) (list_any p us) k.0 (any_front p us vs k.1)
+any_front p (u ∷ us) vs h = let k = or_parts (p u) (list_any p (us ++ vs)) h in or_from (p u) (list_any p us) k.0 (any_front p us vs k.1)
 
 -- Two lists in step stay so when the same message is put behind each, and when a message of the second moves forward past unrelated ones.
 pub record KeepsInStep (g : Geometry) (AreInStep : List Entry → List Entry → Type 0) : Type 0 where

@@ -30,7 +30,7 @@ module _ {A : Type 0} where
       turned false true c = refl
       turned false false c = refl
 
-or_nothing : (b : Bool) → (b || false) ≡ b
+pub or_nothing : (b : Bool) → (b || false) ≡ b
 or_nothing true = refl
 or_nothing false = refl
 

@@ -62,14 +62,14 @@ all_came g x arrivals log h =
     (recursion_from_All came arrivals (All-contains_itself arrivals)) in
     all_entries came log (all_front came (entries log) h.rest all)
 
-same_turned : (a b : ℕ) → (a == b) ≡ (b == a)
+pub same_turned : (a b : ℕ) → (a == b) ≡ (b == a)
 same_turned a b = ⊎_elim (λ t. t.0 ∙ sym (eq-eqb b a (sym t.1))) (λ f. f.0 ∙ sym (ne_eqb b a (λ e. f.1 (sym e)))) (eqb_tells a b)
 
 -- whether two messages have the same ticket
-abbrev one_ticket : Entry → Entry → Bool
+abbrev pub one_ticket : Entry → Entry → Bool
 one_ticket e d = e.0 == d.0
 
-distinct_ascending : (es : List Entry) → AreAscending es → IsDistinct one_ticket es
+pub distinct_ascending : (es : List Entry) → AreAscending es → IsDistinct one_ticket es
 unfolding IsDistinct
 distinct_ascending [] h = tt
 distinct_ascending (e ∷ es) h = (

@@ -159,7 +159,7 @@ module _ (g : Geometry) where
 
 -- ---- the number of slots
 
-move_slots : (g : Geometry) (old new : CoreState) (p : Passed) → Move g old new p → new.slots ≡ old.slots
+pub move_slots : (g : Geometry) (old new : CoreState) (p : Passed) → Move g old new p → new.slots ≡ old.slots
 move_slots g old new p (Stays s e) = s.slots
 move_slots g old new p (Arrives m fits is e) = ap (λ w. w.slots) is
 move_slots g old new p (Grants found first is e) = ap (λ w. w.slots) is

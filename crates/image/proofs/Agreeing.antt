@@ -1,7 +1,7 @@
 -- What a piece of a state is made of: states that agree there have the same piece.
 use Rattle.std.proofs.Common.{◌≡◌, ℕ, zero, suc, ◌+◌, ◌*◌, ◌-◌, ◌≤◌, Bool, true, false, ◌&&◌, List, [], ◌++◌, replicate, Option, None, refl, sym, ◌∙◌, ap, arith}
 use Rattle.std.specs.Prelude.{◌==◌, if◌then◌else◌}
-use Rattle.std.proofs.lemmas.Bool.{eqb-true}
+use Rattle.std.proofs.lemmas.Bool.{eqb-true, and_right}
 use Rattle.affinity.specs.Geometry.{stripe_of}
 use Rattle.affinity.specs.declared.geometry.Geometry.{Geometry}
 use Rattle.language.specs.declared.Block.{Block}
@@ -88,11 +88,7 @@ module _ (version : ℕ) (g : Geometry) (pieces : ℕ → List ℕ) (n i : ℕ) 
           let number = number_there g i in
           let zeros = zeros_of_volume g pieces n a v (omega (arith, number, part, behind)) in
           unmade version g (decoded_by version g (first_of g pieces n)) a v
-          (not_there (has_volume g (a, v)) (is_made_in (first_of g pieces n (volume_piece_number g a v))) (ap is_made_in zeros))
-        where
-          not_there : (h p : Bool) → p ≡ false → (h && p) ≡ false
-          not_there true p off = off
-          not_there false p off = refl
+          (and_right (has_volume g (a, v)) (is_made_in (first_of g pieces n (volume_piece_number g a v))) (ap is_made_in zeros))
       by (suc s) part =
           let a : ℕ = aggregate_of g i in
           let v : ℕ = volume_of g i in

@@ -2,7 +2,7 @@
 use Rattle.std.proofs.Common.{◌≡◌, ℕ, zero, suc, ◌+◌, ◌*◌, ◌<◌, ◌≤◌, Bool, true, false, ◌&&◌, List, [], ◌∷◌, length, take, drop, get_or, Option, Some, IfSome, is_some, refl, sym, ◌∙◌, ap, arith, ⊎_elim, true≢false, length-take, length-drop}
 use Rattle.std.specs.Prelude.{◌==◌, if◌then◌else◌}
 use Rattle.std.specs.List.{AllByRecursion}
-use Rattle.std.proofs.lemmas.Bool.{cases_lt, cases_eq, ne_eqb, eqb-true, and_parts}
+use Rattle.std.proofs.lemmas.Bool.{cases_lt, cases_eq, ne_eqb, eqb-true, and_parts, and_right}
 use Rattle.affinity.specs.Geometry.{stripe_of}
 use Rattle.affinity.specs.declared.geometry.Geometry.{Geometry}
 use Rattle.language.specs.Messages.{IsBlock}
@@ -68,13 +68,9 @@ picked_none : (n j : ℕ) (p : Bool) → n ≤ j → sum_below n (λ i. one_if (
 picked_none zero j p high = refl
 picked_none (suc n) j p high =
     let rest = picked_none n j p (omega (arith, high)) in
-    let off : (p && (n == j)) ≡ false = no_part p (n == j) (ne_eqb n j (λ same. omega (arith, same, high))) in
+    let off : (p && (n == j)) ≡ false = and_right p (n == j) (ne_eqb n j (λ same. omega (arith, same, high))) in
     let none : one_if (p && (n == j)) ≡ 0 = ap one_if off in
     omega (arith, rest, none)
-  where
-    no_part : (p q : Bool) → q ≡ false → (p && q) ≡ false
-    no_part true q e = e
-    no_part false q e = refl
 
 picked_once : (n j : ℕ) (p : Bool) → sum_below n (λ i. one_if (p && (i == j))) ≤ one_if p
 picked_once n j p =

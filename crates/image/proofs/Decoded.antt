@@ -5,6 +5,7 @@ use Rattle.std.specs.List.{AllByRecursion, flat_map}
 use Rattle.std.proofs.lemmas.Bool.{cases_lt, and_parts, ltb-true}
 use Rattle.std.proofs.Math.Nat.{pow-le-pow_right}
 use Rattle.std.proofs.lemmas.Nat.Bits.{bit_at_above}
+use Rattle.meaning.proofs.Kept.{zeros_are_bytes}
 use Rattle.affinity.specs.Geometry.{stripe_of}
 use Rattle.affinity.specs.declared.geometry.Geometry.{Geometry}
 use Rattle.affinity.proofs.Placed.{group_below}
@@ -23,7 +24,7 @@ use Rattle.image.proofs.Counted.{entries_are_blocks, entries_few, content_is, co
 use Rattle.image.proofs.Cuts.{is_piece, piece_there}
 use Rattle.image.proofs.Numbers.{size_there}
 use Rattle.meaning.proofs.FileNumber.{number_of, number_small}
-use Rattle.image.proofs.Measures.{IsMeasured, all-take, all-drop, all-zeros, all_joined, entries_good, entries_most}
+use Rattle.image.proofs.Measures.{IsMeasured, all-take, all-drop, all_joined, entries_good, entries_most}
 use Rattle.image.proofs.Order.{one_of}
 use Rattle.image.proofs.Reading.{sealed_decoded, number_decoded, eight_bytes}
 
@@ -44,7 +45,7 @@ label_is version bytes are = by (is_made_in bytes) (version == 2)
       omega (arith, are.0, length-drop 16 bytes, length-take 32 (drop 16 bytes)),
       all-take (λ b. b < 256) 32 (drop 16 bytes) (all-drop (λ b. b < 256) 16 bytes are.1),
     )
-    by true false = (refl, all-zeros 32)
+    by true false = (refl, zeros_are_bytes 32)
     by false told = tt
 
 -- ---- the sizes

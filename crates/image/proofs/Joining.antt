@@ -48,7 +48,7 @@ pub whole_image : (g : Geometry) → piece_at g (piece_count g) ≡ image_size g
 unfolding image_size
 whole_image g = length-pieces g
 
-sum_grows : (f : ℕ → ℕ) (n m : ℕ) → n ≤ m → sum_below n f ≤ sum_below m f
+pub sum_grows : (f : ℕ → ℕ) (n m : ℕ) → n ≤ m → sum_below n f ≤ sum_below m f
 sum_grows f n zero few = let same : n ≡ 0 = omega (arith, few) in omega (arith, ap (λ (k : ℕ). sum_below k f) same)
 sum_grows f n (suc m) few =
     ⊎_elim

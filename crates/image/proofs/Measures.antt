@@ -37,10 +37,6 @@ all-drop P zero xs all = all
 all-drop P (suc n) [] all = tt
 all-drop P (suc n) (x ∷ xs) all = all-drop P n xs all.1
 
-pub all-zeros : (n : ℕ) → AllByRecursion (λ b. b < 256) (replicate n 0)
-all-zeros zero = tt
-all-zeros (suc n) = (omega arith, all-zeros n)
-
 pub all_joined : {X : Type 0} (P : X → Type 0) (n : ℕ) (f : ℕ → List X) → ((i : ℕ) → i < n → AllByRecursion P (f i)) → AllByRecursion P (joined_below n f)
 all_joined P zero f each = tt
 all_joined P (suc n) f each = all-append P (joined_below n f) (f n) (all_joined P n f (λ i below. each i (omega (arith, below)))) (each n (omega arith))

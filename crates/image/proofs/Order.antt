@@ -2,7 +2,7 @@
 use Rattle.std.proofs.Common.{◌≡◌, ◌≢◌, ℕ, zero, suc, ◌<◌, Bool, true, false, ◌&&◌, List, [], ◌∷◌, Option, Some, None, refl, sym, ◌∙◌, ap, arith, inl, inr, ⊎_elim}
 use Rattle.std.specs.Prelude.{◌==◌, if◌then◌else◌}
 use Rattle.std.specs.List.{AllByRecursion}
-use Rattle.std.proofs.lemmas.Bool.{eq-eqb, eqb-true, ne_eqb, cases_eq, and_parts}
+use Rattle.std.proofs.lemmas.Bool.{eq-eqb, eqb-true, ne_eqb, cases_eq, and_parts, and_right}
 use Rattle.affinity.specs.Geometry.{stripe_of}
 use Rattle.affinity.specs.declared.geometry.Geometry.{Geometry}
 use Rattle.language.specs.declared.Block.{Block}
@@ -85,13 +85,9 @@ module _ (g : Geometry) (x : State) (is : IsState g x) (a v s f b : ℕ) where
               let parts = and_parts (f == i) (b == j) on in
               let file : f ≡ i = eqb-true f i parts.0 in
               let block : b ≡ j = eqb-true b j parts.1 in
-              let off : (x.files (a, v, i) && (stripe_of g i j == s)) ≡ false = no_part (x.files (a, v, i)) (stripe_of g i j == s)
+              let off : (x.files (a, v, i) && (stripe_of g i j == s)) ≡ false = and_right (x.files (a, v, i)) (stripe_of g i j == s)
               (ne_eqb (stripe_of g i j) s (λ same. other ((λ k. stripe_of g (file k) (block k)) ∙ same))) in
               ap (λ (t : Bool). content_at (entry_if t i j (x.blocks (a, v, i, j))) f b) off
-            where
-              no_part : (p q : Bool) → q ≡ false → (p && q) ≡ false
-              no_part true q e = e
-              no_part false q e = refl
 
 -- Entries that ascend and hold the blocks of a stripe are those that spell it.
 pub spelled : {g : Geometry} {x : State} → IsState g x → (a v s : ℕ) (es : List BlockEntry) → IsAscending es

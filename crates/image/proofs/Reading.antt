@@ -3,7 +3,7 @@ use Rattle.std.proofs.Common.{◌≡◌, ◌≢◌, ℕ, zero, suc, ◌+◌, ◌
 use Rattle.std.specs.Prelude.{◌==◌, nat_lt, if◌then◌else◌}
 use Rattle.std.specs.List.{flat_map}
 use Rattle.std.specs.Str.{bytes_eq}
-use Rattle.std.proofs.lemmas.Bool.{cases_lt, eq-eqb, ne_eqb, and_parts, and_from, lt-ltb, ltb-true, false_from_ne_true}
+use Rattle.std.proofs.lemmas.Bool.{cases_lt, eq-eqb, ne_eqb, and_parts, and_from, lt-ltb, ltb-true, false_from_ne_true, and_right}
 use Rattle.std.proofs.Math.Nat.{pow-le-pow_right}
 use Rattle.std.proofs.lemmas.List.{take_at}
 use Rattle.std.proofs.lemmas.Slice.Eq.{bytes_eq-Decides}
@@ -98,13 +98,13 @@ module _ (g : Geometry) (x : State) (is : IsState g x) where
       ∙ ⊎_elim
       (λ (block : b < g.blocks).
       one_joined f b g.blocks b (row f) (λ j other. elsewhere f b (x.files (a, v, f) && (stripe_of g f j == s)) f j (x.blocks (a, v, f, j))
-      (and_right' (f == f) (b == j) (ne_eqb b j (λ same. other (sym same))))) block
+      (and_right (f == f) (b == j) (ne_eqb b j (λ same. other (sym same))))) block
       ∙ here f b (x.files (a, v, f) && (stripe_of g f b == s)) (x.blocks (a, v, f, b))
       ∙ ap (λ (t : Bool). if x.files (a, v, f) && t then x.blocks (a, v, f, b) else None) (eq-eqb s s refl)
       ∙ only_files a v f b (x.blocks (a, v, f, b)) (x.files (a, v, f)) refl refl)
       (λ (no_block : g.blocks ≤ b).
       none_joined f b g.blocks (row f) (λ j few. elsewhere f b (x.files (a, v, f) && (stripe_of g f j == s)) f j (x.blocks (a, v, f, j))
-      (and_right' (f == f) (b == j) (ne_eqb b j (λ same. omega (arith, same, few, no_block)))))
+      (and_right (f == f) (b == j) (ne_eqb b j (λ same. omega (arith, same, few, no_block)))))
       ∙ none_out (inl (λ small. omega (arith, small, no_block))))
       (cases_lt b g.blocks))
       (λ (no_file : g.files ≤ f).
@@ -114,10 +114,6 @@ module _ (g : Geometry) (x : State) (is : IsState g x) where
       ∙ none_out (inr (λ small. omega (arith, small, no_file))))
       (cases_lt f g.files)
     where
-      and_right' : (p q : Bool) → q ≡ false → (p && q) ≡ false
-      and_right' true q e = e
-      and_right' false q e = refl
-
       absent : (o : Option Block) → x.blocks (a, v, f, b) ≡ o → (b < g.blocks → ⊥) ⊎ (f < g.files → ⊥) → None ≡ o
       absent None has out = refl
       absent (Some content) has out =

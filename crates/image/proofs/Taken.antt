@@ -1,12 +1,13 @@
 -- Pieces that are taken in one after the other decode to the same state as all at once.
-use Rattle.std.proofs.Common.{◌≡◌, ◌≢◌, ℕ, zero, suc, ◌+◌, ◌<◌, ◌≤◌, Bool, true, false, ◌&&◌, List, [], replicate, Option, None, refl, sym, ◌∙◌, ap, arith, ⊎_elim, true≢false}
+use Rattle.std.proofs.Common.{◌≡◌, ◌≢◌, ℕ, zero, suc, ◌+◌, ◌<◌, ◌≤◌, Bool, true, false, ◌&&◌, List, replicate, Option, None, refl, sym, ◌∙◌, ap, arith, ⊎_elim, true≢false}
 use Rattle.std.specs.Prelude.{◌==◌, nat_lt, if◌then◌else◌}
 use Rattle.std.proofs.lemmas.Bool.{cases_lt, and_parts, and_from, lt-ltb, ltb-true, eqb-true, eq-eqb, false_from_ne_true}
+use Rattle.stripe.proofs.EntryBytes.{none_there}
+use Rattle.meaning.proofs.SubtreeLaws.{same_and, same_if}
 use Rattle.affinity.specs.Geometry.{stripe_of}
 use Rattle.affinity.specs.declared.geometry.Geometry.{Geometry}
 use Rattle.affinity.proofs.Placed.{group_below}
 use Rattle.meaning.specs.State.{State, VolumeKey, BlockKey, empty, is_volume, is_block_of}
-use Rattle.stripe.specs.Entries.{entries_in}
 use Rattle.stripe.specs.Stripe.{content_at}
 use Rattle.image.specs.Pieces.{pieces_of_volume, piece_count, piece_size, aggregate_of, volume_of, part_of, volume_piece_number, stripe_piece_number, has_volume, is_made_in, is_sealed_in, has_file_in, label_in, block_in, decoded_by, with_piece, with_part}
 use Rattle.image.specs.Image.{piece_in, decoded_before}
@@ -18,11 +19,6 @@ use Rattle.image.proofs.Decoded.{is_volume_there}
 abbrev pub first_of : Geometry → (ℕ → List ℕ) → ℕ → ℕ → List ℕ
 first_of g pieces n i = if nat_lt i n then pieces i else replicate (piece_size g i) 0
 
-pub no_entries : (n k : ℕ) → entries_in n (replicate k 0) ≡ []
-no_entries zero k = refl
-no_entries (suc n) zero = refl
-no_entries (suc n) (suc k) = refl
-
 module _ (g : Geometry) (pieces : ℕ → List ℕ) (n i : ℕ) where
   pub first_there : i < n → first_of g pieces n i ≡ pieces i
   first_there less = ap (λ (t : Bool). if t then pieces i else replicate (piece_size g i) 0) (lt-ltb i n less)
@@ -32,7 +28,7 @@ module _ (g : Geometry) (pieces : ℕ → List ℕ) (n i : ℕ) where
       (false_from_ne_true (nat_lt i n) (λ on. let less = ltb-true i n on in omega (arith, less, no_less)))
 
   pub no_block_in_zeros : (f b : ℕ) → n ≤ i → block_in g (first_of g pieces n i) f b ≡ None
-  no_block_in_zeros f b behind = ap (λ (l : List ℕ). block_in g l f b) (first_behind behind) ∙ ap (λ es. content_at es f b) (no_entries g.quota (piece_size g i))
+  no_block_in_zeros f b behind = ap (λ (l : List ℕ). block_in g l f b) (first_behind behind) ∙ ap (λ es. content_at es f b) (none_there g.quota (piece_size g i))
 
 -- with one more piece the others are as before
 first_more : (g : Geometry) (pieces : ℕ → List ℕ) (n i : ℕ) → i ≢ n → first_of g pieces n i ≡ first_of g pieces (suc n) i
@@ -51,14 +47,6 @@ zeros_of_volume g pieces n a v behind =
     first_behind g pieces n (volume_piece_number g a v) behind ∙ ap (λ (k : ℕ). replicate k 0) size
 
 -- ---- a field that is decoded where its volume is there
-
-pub and_same : (h p q : Bool) → (h ≡ true → p ≡ q) → (h && p) ≡ (h && q)
-and_same true p q same = same refl
-and_same false p q same = refl
-
-pub if_same : {X : Type 0} (h : Bool) (p q : Option X) → (h ≡ true → p ≡ q) → (if h then p else None) ≡ (if h then q else None)
-if_same true p q same = same refl
-if_same false p q same = refl
 
 none_decoded : (h p : Bool) → p ≡ false → false ≡ (h && p)
 none_decoded true p off = sym off
@@ -137,7 +125,7 @@ module _ (version : ℕ) (g : Geometry) (pieces : ℕ → List ℕ) (n : ℕ) (b
       by : (t : Bool) → is_volume (aggregate_of g n) (volume_of g n) k ≡ t → (if t then F (pieces n) else (has_volume g k && F (first_of g pieces n (volume_piece_number g k.0 k.1))))
           ≡ (has_volume g k && F (first_of g pieces (suc n) (volume_piece_number g k.0 k.1)))
       by true on = sym (λ i. there_is k on i && F ((sym (first_number (suc n) k) ∙ now_there k 0 on part) i))
-      by false off = and_same (has_volume g k) _ _
+      by false off = same_and (has_volume g k) _ _
           (λ there. ap F (sym (first_number n k) ∙ other_volume k 0 (omega arith) off there ∙ first_number (suc n) k))
 
   label_decoded : (k : VolumeKey) → part_of g n ≡ 0 → (if is_volume (aggregate_of g n) (volume_of g n) k then label_in version (pieces n) else
@@ -149,7 +137,7 @@ module _ (version : ℕ) (g : Geometry) (pieces : ℕ → List ℕ) (n : ℕ) (b
           (if has_volume g k then label_in version (first_of g pieces n (volume_piece_number g k.0 k.1)) else None))
           ≡ (if has_volume g k then label_in version (first_of g pieces (suc n) (volume_piece_number g k.0 k.1)) else None)
       by true on = sym (λ i. if there_is k on i then label_in version ((sym (first_number (suc n) k) ∙ now_there k 0 on part) i) else None)
-      by false off = if_same (has_volume g k) _ _
+      by false off = same_if (has_volume g k) _ _
           (λ there. ap (label_in version) (sym (first_number n k) ∙ other_volume k 0 (omega arith) off there ∙ first_number (suc n) k))
 
   block_decoded : (s : ℕ) (k : BlockKey) → part_of g n ≡ suc s → (if is_block_of (aggregate_of g n) (volume_of g n) k && (stripe_of g k.2 k.3 == s) then block_in g (pieces n) k.2 k.3 else
@@ -171,11 +159,11 @@ module _ (version : ℕ) (g : Geometry) (pieces : ℕ → List ℕ) (n : ℕ) (b
           let its : part_of g n ≡ suc (stripe_of g k.2 k.3) = part ∙ sym (ap suc (eqb-true (stripe_of g k.2 k.3) s same)) in
           sym (λ i. if there_is (k.0, k.1) on i then block_in g (now_there (k.0, k.1) (suc (stripe_of g k.2 k.3)) on its i) k.2 k.3 else None)
       by true false on off =
-          if_same (has_volume g (k.0, k.1)) _ _
+          same_if (has_volume g (k.0, k.1)) _ _
           (λ there. ap (λ (l : List ℕ). block_in g l k.2 k.3)
           (other_part k.0 k.1 (suc (stripe_of g k.2 k.3)) few
           (λ same. true≢false (sym (eq-eqb (stripe_of g k.2 k.3) s (omega (arith, same, part))) ∙ off))))
-      by false u off _ = if_same (has_volume g (k.0, k.1)) _ _
+      by false u off _ = same_if (has_volume g (k.0, k.1)) _ _
           (λ there. ap (λ (l : List ℕ). block_in g l k.2 k.3) (other_volume (k.0, k.1) (suc (stripe_of g k.2 k.3)) few off there))
 
   pub one_more_piece : with_piece version g (decoded_by version g (first_of g pieces n)) n (pieces n) ≡ decoded_by version g (first_of g pieces (suc n))

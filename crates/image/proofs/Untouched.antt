@@ -1,7 +1,7 @@
 -- A message changes no piece but those that it touches.
 use Rattle.std.proofs.Common.{◌≡◌, ◌≢◌, ℕ, zero, suc, ◌^◌, Bool, true, false, ◌&&◌, ◌||◌, not, [], ◌∷◌, ◌++◌, replicate, Option, Some, None, is_some, refl, sym, ◌∙◌, ap, true≢false}
 use Rattle.std.specs.Prelude.{◌==◌, if◌then◌else◌}
-use Rattle.std.proofs.lemmas.Bool.{eqb-true, eq-eqb}
+use Rattle.std.proofs.lemmas.Bool.{eqb-true, eq-eqb, or_right}
 use Rattle.affinity.specs.Geometry.{stripe_of}
 use Rattle.affinity.specs.declared.geometry.Geometry.{Geometry}
 use Rattle.byteorder.specs.Endian.{little_bytes}
@@ -60,11 +60,7 @@ module _ (g : Geometry) (x : State) (is : IsState g x) (a v s : ℕ) where
       (entries_same g (effect x (Create i j k)) x a v s (λ f b on. by f b (x.files (a, v, f)) (x.blocks (a, v, f, b)) refl refl))
     where
       by : (f b : ℕ) (t : Bool) (o : Option Block) → x.files (a, v, f) ≡ t → x.blocks (a, v, f, b) ≡ o → entry_if (is_file i j k (a, v, f) || t) f b o ≡ entry_if t f b o
-      by f b true o there has = ap (λ (t : Bool). entry_if t f b o) (or_true (is_file i j k (a, v, f)))
-        where
-          or_true : (p : Bool) → (p || true) ≡ true
-          or_true true = refl
-          or_true false = refl
+      by f b true o there has = ap (λ (t : Bool). entry_if t f b o) (or_right (is_file i j k (a, v, f)) true refl)
       by f b false None out has = no_entry_of_none (is_file i j k (a, v, f) || false) f b
       by f b false (Some content) out has = absurd
           (true≢false (sym (is.blocks (a, v, f, b) (ap (λ (o : Option Block). is_some o) has)).1 ∙ out))

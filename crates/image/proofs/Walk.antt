@@ -1,44 +1,35 @@
 -- An image is read piece by piece, and what is read is a state.
-use Rattle.std.proofs.Common.{◌≡◌, ℕ, zero, suc, ◌+◌, ◌<◌, ◌≤◌, Bool, true, false, ◌↔◌, List, drop, Option, Some, None, is_some, refl, sym, ◌∙◌, ap, subst, arith, ⊎_elim, true≢false, length-take, length-drop}
+use Rattle.std.proofs.Common.{◌≡◌, ℕ, suc, ◌+◌, ◌<◌, ◌≤◌, Bool, true, false, ◌↔◌, List, drop, Option, Some, None, is_some, refl, sym, ◌∙◌, ap, subst, arith, ⊎_elim, true≢false, length-take, length-drop}
 use Rattle.std.specs.Prelude.{if◌then◌else◌}
 use Rattle.std.specs.Str.{bytes_eq}
 use Rattle.std.proofs.lemmas.Bool.{cases_lt, and_parts, and_from}
 use Rattle.std.proofs.lemmas.List.{length-replicate}
 use Rattle.std.proofs.lemmas.Slice.Eq.{bytes_eq-Decides}
+use Rattle.meaning.proofs.Kept.{zeros_are_bytes}
+use Rattle.meaning.proofs.SubtreeLaws.{same_and, same_if}
 use Rattle.affinity.specs.Geometry.{stripe_of}
 use Rattle.affinity.specs.declared.geometry.Geometry.{Geometry}
 use Rattle.affinity.proofs.Placed.{group_below}
 use Rattle.device_map.specs.Layout.{slice}
 use Rattle.language.specs.Messages.{AreSizedBytes}
 use Rattle.language.specs.declared.Block.{Block}
-use Rattle.meaning.specs.State.{State, VolumeKey, IsState, sum_below}
+use Rattle.meaning.specs.State.{State, VolumeKey, IsState}
 use Rattle.image.specs.Pieces.{pieces_of_volume, piece_count, piece_at, piece_size, piece_of, aggregate_of, volume_of, part_of, volume_piece_number, has_volume, is_made_in, is_sealed_in, has_file_in, label_in, block_in, decoded_by, stripe_piece_number}
 use Rattle.image.specs.Image.{image_head, image_of, image_state, is_image, is_version, has_head, version_in, piece_in, decoded_state, decoded_before, is_good, AreGood}
 use Rattle.image.proofs.Agreeing.{piece_same, zero_piece}
 use Rattle.image.proofs.Cuts.{is_piece, piece_again}
-use Rattle.image.proofs.Joining.{by_pieces}
-use Rattle.image.proofs.Measures.{all-take, all-drop, all-zeros}
+use Rattle.image.proofs.Joining.{by_pieces, sum_grows}
+use Rattle.image.proofs.Measures.{all-take, all-drop}
 use Rattle.image.proofs.Numbers.{number_there}
 use Rattle.image.proofs.Decoded.{is_volume_there, is_measured, is_state}
-use Rattle.image.proofs.Taken.{first_of, first_there, first_behind, no_block_in_zeros, and_same, if_same, taken}
+use Rattle.image.proofs.Taken.{first_of, first_there, first_behind, no_block_in_zeros, taken}
 
 -- ---- the bytes of pieces
-
-sum_more : (f : ℕ → ℕ) (n m : ℕ) → n ≤ m → sum_below n f ≤ sum_below m f
-sum_more f n zero few = let none : n ≡ 0 = omega (arith, few) in let same = ap (λ (k : ℕ). sum_below k f) none in omega (arith, same)
-sum_more f n (suc m) few =
-    ⊎_elim
-    (λ (less : n < suc m). let rest = sum_more f n m (omega (arith, less)) in omega (arith, rest))
-    (λ (no_less : suc m ≤ n).
-    let same : n ≡ suc m = omega (arith, few, no_less) in
-    let equal : sum_below n f ≡ sum_below (suc m) f = ap (λ (k : ℕ). sum_below k f) same in
-    omega (arith, equal))
-    (cases_lt n (suc m))
 
 module _ (g : Geometry) (bytes : List ℕ) (are : AreSizedBytes (piece_at g (piece_count g)) bytes) where
   pub piece_bytes : (n : ℕ) → n < piece_count g → AreSizedBytes (piece_size g n) (piece_in g bytes n)
   piece_bytes n below =
-      let most = sum_more (piece_size g) (suc n) (piece_count g) (omega (arith, below)) in
+      let most = sum_grows (piece_size g) (suc n) (piece_count g) (omega (arith, below)) in
       let more : piece_at g n + piece_size g n ≤ piece_at g (piece_count g) = omega (arith, most) in (
         omega (arith, are.0, more, length-take (piece_size g n) (drop (piece_at g n) bytes), length-drop (piece_at g n) bytes),
         all-take (λ b. b < 256) (piece_size g n) (drop (piece_at g n) bytes) (all-drop (λ b. b < 256) (piece_at g n) bytes are.1),
@@ -49,7 +40,7 @@ module _ (g : Geometry) (bytes : List ℕ) (are : AreSizedBytes (piece_at g (pie
       ⊎_elim
       (λ (less : i < n). subst (AreSizedBytes (piece_size g i)) (sym (first_there g (piece_in g bytes) n i less)) (piece_bytes i below))
       (λ (no_less : n ≤ i). subst (AreSizedBytes (piece_size g i)) (sym (first_behind g (piece_in g bytes) n i no_less))
-      (length-replicate (piece_size g i) 0, all-zeros (piece_size g i)))
+      (length-replicate (piece_size g i) 0, zeros_are_bytes (piece_size g i)))
       (cases_lt i n)
 
 -- ---- what the first pieces decode to
@@ -79,14 +70,14 @@ module _ (version : ℕ) (g : Geometry) (bytes : List ℕ) where
   all_taken =
       taken version g bytes (piece_count g) (omega arith)
       ∙ (λ i. record {
-        made = λ k. and_same (has_volume g k) _ _ (λ there. ap is_made_in (first k there)) i;
-        sealed = λ k. and_same (has_volume g k) _ _ (λ there. ap is_sealed_in (first k there)) i;
-        files = λ k. and_same (has_volume g (k.0, k.1)) _ _ (λ there. ap (λ (l : List ℕ). has_file_in l k.2) (first (k.0, k.1) there)) i;
+        made = λ k. same_and (has_volume g k) _ _ (λ there. ap is_made_in (first k there)) i;
+        sealed = λ k. same_and (has_volume g k) _ _ (λ there. ap is_sealed_in (first k there)) i;
+        files = λ k. same_and (has_volume g (k.0, k.1)) _ _ (λ there. ap (λ (l : List ℕ). has_file_in l k.2) (first (k.0, k.1) there)) i;
         blocks = λ k.
-            if_same (has_volume g (k.0, k.1)) _ _
+            same_if (has_volume g (k.0, k.1)) _ _
             (λ there. ap (λ (l : List ℕ). block_in g l k.2 k.3)
             (part (k.0, k.1) (suc (stripe_of g k.2 k.3)) (let below = group_below g k.2 k.3 in omega (arith, below)) there)) i;
-        labels = λ k. if_same (has_volume g k) _ _ (λ there. ap (label_in version) (first k there)) i;
+        labels = λ k. same_if (has_volume g k) _ _ (λ there. ap (label_in version) (first k there)) i;
       })
     where
       part : (k : VolumeKey) (p : ℕ) → p < pieces_of_volume g → has_volume g k ≡ true

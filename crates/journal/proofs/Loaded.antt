@@ -1,5 +1,6 @@
 -- What a device recovers to, once its named area was loaded.
 use Rattle.std.proofs.Common.{◌≡◌, ◌==◌, ◌≤◌, ℕ, Bool, true, false, not, List, [], Option, Some, None, is_some, length, refl, sym, ◌∙◌, ap, subst, true≢false}
+use Rattle.std.proofs.lemmas.Bool.{not-true, not-false}
 use Rattle.affinity.specs.declared.geometry.Geometry.{Geometry}
 use Rattle.checkpoint.specs.Header.{HasHeader}
 use Rattle.checkpoint.specs.Loading.{NamedHolds}
@@ -56,14 +57,6 @@ unfinished_cut log m x bytes is synced is_state spelled = record {
 }
 
 -- ---- a test by the code's negation of it
-
-pub not_on : (t : Bool) → not t ≡ true → t ≡ false
-not_on true is = absurd (true≢false (sym is))
-not_on false is = refl
-
-pub not_off : (t : Bool) → not t ≡ false → t ≡ true
-not_off true is = refl
-not_off false is = absurd (true≢false is)
 
 -- ---- the same by the log's geometry and named half, on the device after it was only read
 

@@ -1,5 +1,6 @@
 -- What a crash leaves while a device is opened, from step to step, and what a refusal leaves.
 use Rattle.std.proofs.Common.{◌≡◌, ◌≢◌, ◌<◌, ◌≤◌, ℕ, Bool, false, replicate, List, [], ◌∷◌, length, Option, Some, None, is_some, Result, Ok, Err, IfOk, IfErr, inl, inr, ⊎_elim, refl, sym, ◌∙◌, ap, subst, arith}
+use Rattle.std.proofs.lemmas.Result.{IfOk-weaker, IfErr-weaker}
 use Rattle.affinity.specs.declared.geometry.Geometry.{Geometry}
 use Rattle.checkpoint.specs.declared.fault.OpenFault.{OpenFault}
 use Rattle.checkpoint.specs.declared.fault.OpenFault.TheVariants.{Device, TooShort, NotFormatted, BadGeometry, OutOfMemory, BadVersion, BadPiece, BadChain, BadRecord}
@@ -240,14 +241,6 @@ alone_finished {log} {w0} {w1} {w2} are still held finished only =
     }
 
 -- ---- the result of a call, from which a weaker fact follows
-
-pub if_ok : {T E : Type 0} (r : Result T E) (P Q : T → Type 0) → ((v : T) → P v → Q v) → IfOk r P → IfOk r Q
-if_ok (Ok v) P Q gives held = gives v held
-if_ok (Err e) P Q gives held = tt
-
-pub if_err : {T E : Type 0} (r : Result T E) (P Q : E → Type 0) → ((e : E) → P e → Q e) → IfErr r P → IfErr r Q
-if_err (Ok v) P Q gives held = tt
-if_err (Err e) P Q gives held = gives e held
 
 -- A cut was finished: the area of half h is named, with the image of what the area named before had by itself, nothing is unsynced,
 -- and the device is refused as it was.

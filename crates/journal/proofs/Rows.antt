@@ -1,7 +1,7 @@
 -- Dirty flags, and what is known of an image by them.
 use Rattle.std.proofs.Common.{◌≡◌, ◌≢◌, ◌↔◌, ⊎_elim, ℕ, zero, suc, ◌+◌, ◌<◌, ◌≤◌, Bool, true, false, ◌&&◌, List, [], ◌∷◌, ◌++◌, length, take, drop, get_or, set, refl, sym, ◌∙◌, ap, subst, arith, true≢false}
 use Rattle.std.specs.List.{AllByRecursion}
-use Rattle.std.proofs.lemmas.Bool.{cases_eq, cases_lt, eqb-true}
+use Rattle.std.proofs.lemmas.Bool.{cases_eq, cases_lt, eqb-true, false_from_ne_true}
 use Rattle.std.specs.Prelude.{◌==◌}
 use Rattle.image.specs.Touched.{may_change, may_change_part}
 use Rattle.image.proofs.Numbers.{in_parts, number_there}
@@ -101,10 +101,6 @@ three_true true true r on = (refl, refl)
 three_true true false r on = absurd (true≢false (sym on))
 three_true false q r on = absurd (true≢false (sym on))
 
-off_unless : (t : Bool) → (t ≡ true → ⊥) → t ≡ false
-off_unless true never = absurd (never refl)
-off_unless false never = refl
-
 -- the number of the first piece of a message's volume
 abbrev pub first_of : Geometry → Msg → ℕ
 first_of g m = volume_piece_number g (key m).0 (key m).1
@@ -121,10 +117,10 @@ touched_inside g m n on =
     (omega (arith, at, there, few), omega (arith, at, there, few))
 
 untouched_before : (g : Geometry) (m : Msg) (n : ℕ) → n < first_of g m → may_change g m n ≡ false
-untouched_before g m n before = off_unless (may_change g m n) (λ on. let inside = touched_inside g m n on in omega (arith, before, inside.0))
+untouched_before g m n before = false_from_ne_true (may_change g m n) (λ on. let inside = touched_inside g m n on in omega (arith, before, inside.0))
 
 untouched_after : (g : Geometry) (m : Msg) (n : ℕ) → first_of g m + pieces_of_volume g ≤ n → may_change g m n ≡ false
-untouched_after g m n after = off_unless (may_change g m n) (λ on. let inside = touched_inside g m n on in omega (arith, after, inside.1))
+untouched_after g m n after = false_from_ne_true (may_change g m n) (λ on. let inside = touched_inside g m n on in omega (arith, after, inside.1))
 
 pub none_looked : (g : Geometry) (m : Msg) (k : ℕ) (old : List Bool) → k ≡ first_of g m → AreMarked g m k old old
 none_looked g m k old first = record {

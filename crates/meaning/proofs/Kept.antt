@@ -2,7 +2,7 @@
 use Rattle.std.proofs.Common.{◌≡◌, ℕ, zero, suc, ◌+◌, ◌<◌, ◌≤◌, Bool, true, false, List, [], ◌∷◌, Option, refl, ap, sym, subst, ◌⊎◌, inl, inr, ⊎_elim, arith, lit<}
 use Rattle.std.specs.Prelude.{◌&&◌, ◌||◌, not, ◌==◌, nat_lt, if◌then◌else◌, cond, Some, None, find, is_some, IfSome, replicate}
 use Rattle.std.specs.List.{AllByRecursion}
-use Rattle.std.proofs.lemmas.Bool.{and_parts, and_from, or_cases, or_right, eqb-true, ltb-true, true≢false, not_from_false}
+use Rattle.std.proofs.lemmas.Bool.{and_parts, and_from, or_cases, or_right, eqb-true, ltb-true, true≢false, not_from_false, and_right}
 use Rattle.affinity.specs.declared.geometry.Geometry.{Geometry}
 use Rattle.affinity.specs.Geometry.{stripe_of}
 use Rattle.affinity.specs.Path.{is_prefix, stripe}
@@ -35,13 +35,9 @@ empty_is_state g = record {
   quota = λ a v s. none a v s;
 }
   where
-    nothing : (b : Bool) → one_if (b && false) ≡ 0
-    nothing true = refl
-    nothing false = refl
-
     none : (a v s : ℕ) → blocks_in_stripe g empty a v s ≤ g.quota
     none a v s =
-        let e : blocks_in_stripe g empty a v s ≡ 0 = sum_below-zero g.files _ (λ f. sum_below-zero g.blocks _ (λ b. nothing (stripe_of g f b == s))) in
+        let e : blocks_in_stripe g empty a v s ≡ 0 = sum_below-zero g.files _ (λ f. sum_below-zero g.blocks _ (λ b. ap one_if (and_right (stripe_of g f b == s) false refl))) in
         omega (arith, e)
 
 -- ---- what is known of a message that passes its checks
@@ -89,7 +85,7 @@ content-cleared : {X : Type 0} (P : X → Type 0) (b : Bool) (o : Option X) → 
 content-cleared P true o old = tt
 content-cleared P false o old = old
 
-zeros_are_bytes : (n : ℕ) → AllByRecursion (λ b. b < 256) (replicate n 0)
+pub zeros_are_bytes : (n : ℕ) → AllByRecursion (λ b. b < 256) (replicate n 0)
 zeros_are_bytes zero = tt
 zeros_are_bytes (suc n) = (lit< tt, zeros_are_bytes n)
 

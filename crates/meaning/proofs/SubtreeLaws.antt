@@ -15,7 +15,7 @@ use Rattle.meaning.proofs.Frame.{reads_only}
 
 -- ---- a part as a value: two states have the same part exactly where they agree on it
 
-same_and : (t b c : Bool) → (t ≡ true → b ≡ c) → (t && b) ≡ (t && c)
+pub same_and : (t b c : Bool) → (t ≡ true → b ≡ c) → (t && b) ≡ (t && c)
 same_and true b c h = h refl
 same_and false b c h = refl
 
@@ -23,7 +23,7 @@ and_same : (t b c : Bool) → t ≡ true → (t && b) ≡ (t && c) → b ≡ c
 and_same true b c r h = h
 and_same false b c r h = absurd (true≢false (sym r))
 
-same_if : {X : Type 0} (t : Bool) (o p : Option X) → (t ≡ true → o ≡ p) → (if t then o else None) ≡ (if t then p else None)
+pub same_if : {X : Type 0} (t : Bool) (o p : Option X) → (t ≡ true → o ≡ p) → (if t then o else None) ≡ (if t then p else None)
 same_if true o p h = h refl
 same_if false o p h = refl
 

@@ -2,7 +2,7 @@
 use Rattle.std.proofs.Common.{◌≡◌, ℕ, ◌+◌, ◌<◌, Bool, true, false, List, [], ◌∷◌, Some, None, refl, ap, sym, ◌∙◌, length, arith, ⊎_elim}
 use Rattle.std.specs.Prelude.{◌&&◌, ◌==◌, if◌then◌else◌, is_some}
 use Rattle.std.specs.List.{AllByRecursion}
-use Rattle.std.proofs.lemmas.Bool.{eqb-true, eq-eqb, ne_eqb, and_parts, false_from_ne_true}
+use Rattle.std.proofs.lemmas.Bool.{eqb-true, eq-eqb, ne_eqb, and_parts, false_from_ne_true, and_right}
 use Rattle.affinity.specs.declared.geometry.Geometry.{Geometry}
 use Rattle.affinity.specs.Geometry.{stripe_of}
 use Rattle.meaning.specs.State.{State, sum_below, one_if, blocks_in_stripe}
@@ -58,11 +58,7 @@ module _ (g : Geometry) (s : ℕ) where
       ((λ i. one_if (in_group i && is_some (if file i && block i then Some e.content else content_at es e.file e.block))) ∙ (λ i. one_if (sym in_group i && is_some (sym absent i)) + 1)))
 
   as_many : (es : List BlockEntry) → IsAscending es → Lies es → all_counted es ≡ length es
-  as_many [] ascending lies = sum_same g.files _ (λ f. 0) (λ f. sum_same g.blocks _ (λ b. 0) (λ b. nothing (stripe_of g f b == s)) ∙ sum_zero g.blocks) ∙ sum_zero g.files
-    where
-      nothing : (t : Bool) → one_if (t && false) ≡ 0
-      nothing true = refl
-      nothing false = refl
+  as_many [] ascending lies = sum_same g.files _ (λ f. 0) (λ f. sum_same g.blocks _ (λ b. 0) (λ b. ap one_if (and_right (stripe_of g f b == s) false refl)) ∙ sum_zero g.blocks) ∙ sum_zero g.files
   as_many (e ∷ es) ascending lies =
       let rest = as_many es ascending.1 (lies_behind e es lies) in
       let one = one_entry e es ascending.0 lies in

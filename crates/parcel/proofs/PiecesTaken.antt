@@ -1,7 +1,8 @@
 -- A piece was read into the tree: the tree's state is the one before, with that piece taken in.
 use Rattle.std.proofs.Common.{◌≡◌, ℕ, zero, suc, Bool, true, false, ◌&&◌, List, [], ◌∷◌, Option, Some, None, is_some, refl, sym, ◌∙◌, ap, subst}
 use Rattle.std.specs.Prelude.{◌↔◌, ◌==◌, if◌then◌else◌, IfSome, IsTrue}
-use Rattle.std.proofs.lemmas.Bool.{and_parts, and_from, eqb-true, eq-eqb, not-true}
+use Rattle.std.proofs.lemmas.Bool.{and_parts, eqb-true, not-true}
+use Rattle.meaning.proofs.Keys.{picks_volume}
 use Rattle.affinity.specs.Geometry.{stripe_of}
 use Rattle.affinity.specs.Interval.{IsPath}
 use Rattle.affinity.specs.Path.{Path, is_prefix, volume}
@@ -48,17 +49,14 @@ module _ (g : Geometry) (a v : ℕ) where
         sym (λ k. value x (s.0 k) (s.1 k) fact) ∙ one fact ∙ sym (two fact) ∙ (λ k. value y (s.0 k) (s.1 k) fact);
   }
 
-  here : is_volume a v (a, v) ≡ true
-  here = and_from (a == a) (v == v) (eq-eqb a a refl) (eq-eqb v v refl)
-
   -- what a state with a piece taken in has in the volume of that piece
   pub facts_taken : (version : ℕ) (x : State) (h : VolumeFacts) → HasFacts x a v h → (part : ℕ) (bytes : List ℕ)
       → HasFacts (with_part version g x a v part bytes) a v (facts_with version g h part bytes)
-  facts_taken version x h has zero bytes OfMade = ap (λ (t : Bool). if t then is_made_in bytes else x.made (a, v)) here
-  facts_taken version x h has zero bytes OfSealed = ap (λ (t : Bool). if t then is_sealed_in bytes else x.sealed (a, v)) here
-  facts_taken version x h has zero bytes OfLabel = ap (λ (t : Bool). if t then decoded_label_in version bytes else x.labels (a, v)) here
-  facts_taken version x h has zero bytes (OfFile f) = ap (λ (t : Bool). if t then has_file_in bytes f else x.files (a, v, f)) here
-  facts_taken version x h has (suc s) bytes (OfBlock f b) = λ i. if here i && (stripe_of g f b == s) then block_in g bytes f b else has (OfBlock f b) i
+  facts_taken version x h has zero bytes OfMade = ap (λ (t : Bool). if t then is_made_in bytes else x.made (a, v)) (picks_volume a v)
+  facts_taken version x h has zero bytes OfSealed = ap (λ (t : Bool). if t then is_sealed_in bytes else x.sealed (a, v)) (picks_volume a v)
+  facts_taken version x h has zero bytes OfLabel = ap (λ (t : Bool). if t then decoded_label_in version bytes else x.labels (a, v)) (picks_volume a v)
+  facts_taken version x h has zero bytes (OfFile f) = ap (λ (t : Bool). if t then has_file_in bytes f else x.files (a, v, f)) (picks_volume a v)
+  facts_taken version x h has (suc s) bytes (OfBlock f b) = λ i. if picks_volume a v i && (stripe_of g f b == s) then block_in g bytes f b else has (OfBlock f b) i
   facts_taken version x h has _ bytes fact = has fact
 
   not_there : (x y : ℕ) (q : Path) → outside (volume a v) (x ∷ y ∷ q) ≡ true → is_volume a v (x, y) ≡ false

@@ -1,10 +1,11 @@
 -- A volume's piece: it encodes what the volume has; and a state stays valid if bytes that encode what they decode to are taken in.
 use Rattle.std.proofs.Common.{◌≡◌, ℕ, zero, ◌%◌, ◌^◌, ◌<◌, ◌≤◌, Bool, true, false, List, [], ◌∷◌, ◌++◌, replicate, unwrap_or, Option, Some, None, IfSome, is_some, refl, sym, ◌∙◌, ap, subst, arith, ⊎_elim, true≢false, mod-lt}
 use Rattle.std.specs.Prelude.{◌==◌, if◌then◌else◌}
-use Rattle.std.proofs.lemmas.Bool.{cases_lt, and_parts, and_from, eqb-true, eq-eqb}
+use Rattle.std.proofs.lemmas.Bool.{cases_lt, and_parts, eqb-true}
 use Rattle.std.proofs.lemmas.Nat.{pow_pos}
 use Rattle.std.proofs.lemmas.Nat.Bits.{bit_at_above}
 use Rattle.std.proofs.Math.Nat.{pow-le-pow_right}
+use Rattle.meaning.proofs.Keys.{picks_volume}
 use Rattle.affinity.specs.declared.geometry.Geometry.{Geometry}
 use Rattle.byteorder.specs.Endian.{little_bytes, little_number}
 use Rattle.device_map.specs.Layout.{slice}
@@ -53,18 +54,15 @@ volume_written g x a v w fits whole has =
     volume_spelled 2 g x (a, v) {p = volume_piece_of w} (has OfMade) (has OfSealed) (files_are g x a v w.logical fits.logical whole.0 (λ f. has (OfFile f)))
     (λ on. ap (λ (o : Option (List ℕ)). unwrap_or o no_label) (has OfLabel))
 
-here : (a v : ℕ) → is_volume a v (a, v) ≡ true
-here a v = and_from (a == a) (v == v) (eq-eqb a a refl) (eq-eqb v v refl)
-
 -- what bytes decode to, spelled in the state that they lead to
 pub volume_decoded : (version : ℕ) (g : Geometry) (x : State) (a v : ℕ) (bytes : List ℕ) → volume_piece version g (with_volume_piece version x a v bytes) a v ≡ spelled (decoded_piece version g bytes)
 volume_decoded version g x a v bytes =
     volume_spelled version g (with_volume_piece version x a v bytes) (a, v) {p = decoded_piece version g bytes}
-    (ap (λ (t : Bool). if t then is_made_in bytes else x.made (a, v)) (here a v))
-    (ap (λ (t : Bool). if t then is_sealed_in bytes else x.sealed (a, v)) (here a v))
-    ((λ i. sum_below g.files (λ f. if (if here a v i then has_file_in bytes f else x.files (a, v, f)) then 2 ^ f else 0)) ∙ sum_bits g.files (little_number 8 (slice bytes 8 8)))
+    (ap (λ (t : Bool). if t then is_made_in bytes else x.made (a, v)) (picks_volume a v))
+    (ap (λ (t : Bool). if t then is_sealed_in bytes else x.sealed (a, v)) (picks_volume a v))
+    ((λ i. sum_below g.files (λ f. if (if picks_volume a v i then has_file_in bytes f else x.files (a, v, f)) then 2 ^ f else 0)) ∙ sum_bits g.files (little_number 8 (slice bytes 8 8)))
     (λ on.
-    ap (λ (t : Bool). label_bytes version (if t then decoded_label_in version bytes else x.labels (a, v))) (here a v)
+    ap (λ (t : Bool). label_bytes version (if t then decoded_label_in version bytes else x.labels (a, v))) (picks_volume a v)
     ∙ ap (λ (t : Bool). label_bytes version (if t then Some (if version == 2 then slice bytes 16 32 else no_label) else None)) on
     ∙ by (version == 2))
   where

@@ -8,6 +8,8 @@ use Rattle.std.specs.BTreeMap as map
 use Rattle.std.specs.BTreeMap.{BTreeMap, is_at}
 use Rattle.std.proofs.lemmas.Bool.{or_left, or_right}
 use Rattle.std.proofs.lemmas.Map.Keys.{IsDistinct-from_sorted, IsDistinct-head, IsDistinct-tail}
+use Rattle.std.proofs.lemmas.Map.Made.{is_some-lookup}
+use Rattle.std.proofs.lemmas.Map.Entries.{length-keys_of}
 use Rattle.affinity.specs.declared.geometry.Geometry.{Geometry}
 use Rattle.meaning.specs.State.{VolumeKey, FileKey, BlockKey, sum_below, one_if, is_volume, is_file, is_block}
 use Rattle.meaning.specs.KeyOrders.{volume_order, block_order}
@@ -99,18 +101,6 @@ module _ {K : Type 0} (same : K → K → Bool) (IsIn : K → Type 0) (whole : (
         let rest = weighed es (IsDistinct-tail same e.0 (keys_of es) d) (λ k is. h k (or_right (same k e.0) (list_any (same k) (keys_of es)) is)) in
         omega (arith, front, split, one, rest)
 
--- the keys of the entries are where a look-up finds something
-found : {K X : Type 0} (test : K → Bool) (es : List (K × X)) → is_some (lookup test es) ≡ list_any test (keys_of es)
-found test [] = refl
-found test (e ∷ es) = elim (test e.0) as (λ t. is_some (cond t (Some e.1) (lookup test es)) ≡ (t || list_any test (keys_of es))) [
-  | true ↦ refl
-  | false ↦ found test es
-]
-
-as_many : {K X : Type 0} (es : List (K × X)) → length (keys_of es) ≡ length es
-as_many [] = refl
-as_many (e ∷ es) = let rest = as_many es in omega (arith, rest)
-
 -- ---- the keys of a server
 
 abbrev pub sum_over_volumes : Geometry → (VolumeKey → ℕ) → ℕ
@@ -164,21 +154,22 @@ module _ (g : Geometry) where
   pub volumes_length : {X : Type 0} (m : BTreeMap VolumeKey X) → map.IsOrdered volume_order m → ((k : VolumeKey) → is_some (map.get volume_order m k) ≡ true → IsVolumeIn g k)
       → sum_over_volumes g (λ k. one_if (is_some (map.get volume_order m k))) ≡ map.btree_map_len m
   volumes_length m o h =
-      (λ i. sum_over_volumes g (λ k. one_if (found (is_at (volume_order k)) m.entries i)))
+      (λ i. sum_over_volumes g (λ k. one_if (is_some-lookup (is_at (volume_order k)) m.entries i)))
       ∙ counted (eq_by_cmp volume_order) (IsVolumeIn g) (sum_over_volumes g) volumes (map.keys m)
-      (IsDistinct-from_sorted volume_order (map.keys m) o) (λ k e. h k (found (is_at (volume_order k)) m.entries ∙ e))
-      ∙ as_many m.entries
+      (IsDistinct-from_sorted volume_order (map.keys m) o) (λ k e. h k (is_some-lookup (is_at (volume_order k)) m.entries ∙ e))
+      ∙ length-keys_of m.entries
 
   pub blocks_length : {X : Type 0} (m : BTreeMap BlockKey X) → map.IsOrdered block_order m → ((k : BlockKey) → is_some (map.get block_order m k) ≡ true → IsBlockIn g k)
       → over_blocks g (λ k. one_if (is_some (map.get block_order m k))) ≡ map.btree_map_len m
   blocks_length m o h =
-      (λ i. over_blocks g (λ k. one_if (found (is_at (block_order k)) m.entries i)))
-      ∙ counted (eq_by_cmp block_order) (IsBlockIn g) (over_blocks g) blocks (map.keys m) (IsDistinct-from_sorted block_order (map.keys m) o) (λ k e. h k (found (is_at (block_order k)) m.entries ∙ e))
-      ∙ as_many m.entries
+      (λ i. over_blocks g (λ k. one_if (is_some-lookup (is_at (block_order k)) m.entries i)))
+      ∙ counted (eq_by_cmp block_order) (IsBlockIn g) (over_blocks g) blocks (map.keys m)
+      (IsDistinct-from_sorted block_order (map.keys m) o) (λ k e. h k (is_some-lookup (is_at (block_order k)) m.entries ∙ e))
+      ∙ length-keys_of m.entries
 
   -- what the values of a map of volumes are worth adds up to what is found at each key
   pub volumes_worth : {X : Type 0} (worth : X → ℕ) (m : BTreeMap VolumeKey X) → map.IsOrdered volume_order m → ((k : VolumeKey) → is_some (map.get volume_order m k) ≡ true → IsVolumeIn g k)
       → sum_over_volumes g (λ k. found_worth worth (map.get volume_order m k)) ≡ total worth (map.values m)
   volumes_worth worth m o h =
       weighed (eq_by_cmp volume_order) (IsVolumeIn g) (sum_over_volumes g) volumes worth m.entries (IsDistinct-from_sorted volume_order (map.keys m) o)
-      (λ k e. h k (found (is_at (volume_order k)) m.entries ∙ e))
+      (λ k e. h k (is_some-lookup (is_at (volume_order k)) m.entries ∙ e))

@@ -2,7 +2,7 @@
 use Rattle.std.proofs.Common.{◌≡◌, ℕ, ◌+◌, ◌<◌, Bool, true, false, cond, Some, refl, ap, sym, ◌∙◌, subst, arith}
 use Rattle.std.specs.Prelude.{◌&&◌, ◌==◌, Option, None, is_some, unwrap_or}
 use Rattle.std.specs.BTreeMap.{is_at}
-use Rattle.std.proofs.lemmas.Bool.{eqb-true, true≢false, false_from_ne_true}
+use Rattle.std.proofs.lemmas.Bool.{eqb-true, true≢false, false_from_ne_true, and_right}
 use Rattle.affinity.specs.declared.geometry.Geometry.{Geometry}
 use Rattle.affinity.specs.Geometry.{stripe_of}
 use Rattle.meaning.specs.State.{State, BlockKey, sum_below, one_if, count_below, blocks_in_stripe, is_block}
@@ -86,8 +86,4 @@ module _ (old new : StripeKey → Option ℕ) (a v s count : ℕ) (updates : (k 
 pub none_counted : (g : Geometry) (x : State) → ((k : BlockKey) → x.blocks k ≡ None) → (a v s : ℕ) → blocks_in_stripe g x a v s ≡ 0
 none_counted g x none a v s =
     sum_same g.files _ (λ f. 0) (λ f. sum_same g.blocks _ (λ b. 0) (λ b. (λ i. one_if ((stripe_of g f b == s) && is_some (none (a, v, f, b) i)))
-    ∙ never (stripe_of g f b == s)) ∙ sum_zero g.blocks) ∙ sum_zero g.files
-  where
-    never : (t : Bool) → one_if (t && false) ≡ 0
-    never true = refl
-    never false = refl
+    ∙ ap one_if (and_right (stripe_of g f b == s) false refl)) ∙ sum_zero g.blocks) ∙ sum_zero g.files

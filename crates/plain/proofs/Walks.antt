@@ -11,7 +11,7 @@ use Rattle.std.specs.declared.ops.Bound.TheVariants.{Included, Excluded}
 use Rattle.std.specs.BTreeMap as map
 use Rattle.std.specs.BTreeMap.{is_at}
 use Rattle.std.specs.BTreeMap.Range.{range_contains, entries_between}
-use Rattle.std.proofs.lemmas.Bool.{and_parts, true≢false, false_from_ne_true}
+use Rattle.std.proofs.lemmas.Bool.{and_parts, true≢false, false_from_ne_true, not-true}
 use Rattle.std.proofs.lemmas.Map.Keys.{IsDistinct-from_sorted, IsDistinct-head, IsDistinct-tail}
 use Rattle.affinity.specs.declared.geometry.Geometry.{Geometry}
 use Rattle.plain.specs.declared.server.Server.{Server}
@@ -31,11 +31,7 @@ total weight (e ∷ es) = weight e + total weight es
 
 not_past : (r s t : Ordering) → (is_le (ordering_then r s) && not (is_le (ordering_then r t))) ≡ true → (is_eq r ≡ true) × (is_le t ≡ false)
 not_past Less s t h = absurd (true≢false (sym h))
-not_past Equal s t h = (refl, is_false (is_le t) (and_parts (is_le s) (not (is_le t)) h).1)
-  where
-    is_false : (b : Bool) → not b ≡ true → b ≡ false
-    is_false true e = absurd (true≢false (sym e))
-    is_false false e = refl
+not_past Equal s t h = (refl, not-true (is_le t) (and_parts (is_le s) (not (is_le t)) h).1)
 not_past Greater s t h = absurd (true≢false (sym h))
 
 tied_not_past : (r s t : Ordering) → is_eq r ≡ true → is_le s ≡ true → is_le t ≡ false → (is_le (ordering_then r s) && not (is_le (ordering_then r t))) ≡ true

@@ -27,7 +27,7 @@ none_late t (d ∷ ts) after =
     let above = after.0 in
     ap (λ b. b || list_any (waits_for t) ts) (not_less t d (λ less. omega (arith, less, above))) ∙ none_late t ts after.1
 
-or_nothing : (b : Bool) → (b || false) ≡ b
+pub or_nothing : (b : Bool) → (b || false) ≡ b
 or_nothing true = refl
 or_nothing false = refl
 

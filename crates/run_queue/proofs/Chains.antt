@@ -21,7 +21,7 @@ use Rattle.run_queue.proofs.Sorting.{ascend-filter, ascend-last, order-come, ord
 
 -- ---- at the start
 
-none_present : (n : ℕ) → present (replicate n None) ≡ []
+pub none_present : (n : ℕ) → present (replicate n None) ≡ []
 none_present zero = refl
 none_present (suc n) = none_present n
 

@@ -1,8 +1,8 @@
 -- Which messages are kept back, by the affinity numbers of those that are held and that wait.
-use Rattle.std.proofs.Common.{◌≡◌, ◌∙◌, ℕ, ◌<◌, Bool, true, false, not, ◌&&◌, ◌||◌, List, [], ◌∷◌, find, Option, Some, None, is_some, refl, ap, sym, subst, inl, inr, arith}
+use Rattle.std.proofs.Common.{◌≡◌, ◌∙◌, ℕ, ◌<◌, Bool, true, false, not, ◌||◌, List, [], ◌∷◌, find, Option, Some, None, is_some, refl, ap, sym, subst, inl, inr, arith}
 use Rattle.std.specs.Prelude.{nat_lt, ◌==◌}
 use Rattle.std.specs.List.{list_any, AllByRecursion}
-use Rattle.std.proofs.lemmas.Bool.{eq-eqb, eqb-true, ltb-true, lt-ltb, cases_Bool, and_parts, and_from, or_cases, or_left, or_right, or_parts, true≢false, false_from_ne_true}
+use Rattle.std.proofs.lemmas.Bool.{eq-eqb, eqb-true, ltb-true, lt-ltb, cases_Bool, and_parts, and_from, or_cases, or_left, or_right, or_parts, true≢false, false_from_ne_true, and_right}
 use Rattle.affinity.specs.Interval.{IsAffinity, contains}
 use Rattle.affinity.specs.declared.geometry.Geometry.{Geometry}
 use Rattle.run_queue.specs.RunQueue.{are_related_intervals, is_free_of, has_number}
@@ -138,12 +138,8 @@ module _ (g : Geometry) (t : QueuedMessage) (above : List ℕ) (are : AreAbove g
       → conflicts_at held waiting t.ticket m ≡ true → is_conflict_free held waiting t ≡ false
   clear-if_not held waiting m held_placed placed close some = elim (or_cases _ _ some) [
     | inl k ↦ rw (barred-held held m held_placed close k) refl
-    | inr k ↦ rw (barred-waiting waiting m placed close k) (false_and (is_free_of held t))
+    | inr k ↦ rw (barred-waiting waiting m placed close k) (and_right (is_free_of held t) false refl)
   ]
-    where
-      false_and : (b : Bool) → (b && false) ≡ false
-      false_and true = refl
-      false_and false = refl
 
 -- ---- among numbers
 

@@ -1,8 +1,8 @@
 -- The message that `next` gives is the earliest of those that may be dispatched at each affinity number.
-use Rattle.std.proofs.Common.{◌≡◌, ◌∙◌, ℕ, zero, suc, ◌+◌, ◌<◌, ◌≤◌, min, Bool, true, false, not, ◌&&◌, ◌||◌, List, [], ◌∷◌, find, Option, Some, None, refl, ap, sym, inl, inr, arith}
+use Rattle.std.proofs.Common.{◌≡◌, ◌∙◌, ℕ, zero, suc, ◌+◌, ◌<◌, ◌≤◌, min, Bool, true, false, ◌&&◌, ◌||◌, List, [], ◌∷◌, find, Option, Some, None, refl, ap, sym, inl, inr, arith}
 use Rattle.std.specs.Prelude.{nat_lt, ◌==◌, if◌then◌else◌}
 use Rattle.std.specs.List.{list_any, AllByRecursion}
-use Rattle.std.proofs.lemmas.Bool.{eq-eqb, ne_eqb, eqb-true, ltb-true, lt-ltb, cases_Bool, cases_eq, and_parts, and_from, or_left, or_right, or_parts, true≢false, false_from_ne_true}
+use Rattle.std.proofs.lemmas.Bool.{eq-eqb, ne_eqb, eqb-true, ltb-true, lt-ltb, cases_Bool, cases_eq, and_parts, and_from, or_left, or_right, or_parts, true≢false, false_from_ne_true, not-true}
 use Rattle.std.proofs.lemmas.Bool.Decides.{leb_tells}
 use Rattle.std.proofs.Math.Nat.{min-eq_left, min-eq_right, min-le_left, min-le_right}
 use Rattle.affinity.specs.Interval.{IsAffinity, contains, affinity_count}
@@ -112,19 +112,11 @@ first_in g t p (d ∷ ts) placed ascends found none = elim (cases_Bool (p d)) [
       find-skip (has_number t.affinity.number) d ts other ∙ first_in g t p ts placed ascends.1 rest parts.1)
 ]
 
-not_true : (b : Bool) → not b ≡ true → b ≡ false
-not_true true h = absurd (true≢false (sym h))
-not_true false h = refl
-
 pub clear-first : (g : Geometry) (held waiting : List QueuedMessage) {t : QueuedMessage} (p : QueuedMessage → Bool) → AllByRecursion (λ d. IsAffinity g d.affinity) waiting
     → Ascend waiting → find p waiting ≡ Some t → is_conflict_free held waiting t ≡ true → find (has_number t.affinity.number) waiting ≡ Some t
 clear-first g held waiting {t} p placed ascends found clear =
     first_in g t p waiting (find-all (λ d. IsAffinity g d.affinity) p waiting t placed found) ascends found
-    (not_true _ (and_parts (is_free_of held t) _ clear).1)
-
-pub false_and_right : (b : Bool) → (b && false) ≡ false
-false_and_right true = refl
-false_and_right false = refl
+    (not-true _ (and_parts (is_free_of held t) _ clear).1)
 
 or_nothing : (b : Bool) → b ≡ (b || false)
 or_nothing true = refl

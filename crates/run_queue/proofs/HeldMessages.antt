@@ -3,6 +3,7 @@ use Rattle.std.proofs.Common.{◌≡◌, ◌∙◌, ℕ, zero, suc, ◌+◌, ◌
 use Rattle.std.specs.Prelude.{slice_set, replicate}
 use Rattle.std.proofs.lemmas.Bool.{eq-eqb, ne_eqb, cases_Bool}
 use Rattle.std.proofs.lemmas.List.{length-set, length-replicate}
+use Rattle.run_queue.proofs.Chains.{none_present}
 use Rattle.run_queue.specs.RunQueue.{has_number, without_number}
 use Rattle.run_queue.specs.Queues.{HeldMessages, present, AreByNumberFrom, HasInserted}
 use Rattle.run_queue.specs.declared.queued_message.QueuedMessage.{QueuedMessage}
@@ -17,13 +18,9 @@ pub start-stand : (n k : ℕ) → AreByNumberFrom k (replicate n None)
 start-stand zero k = tt
 start-stand (suc n) k = start-stand n (suc k)
 
-none_held : (n : ℕ) → present (replicate n None) ≡ []
-none_held zero = refl
-none_held (suc n) = none_held n
-
 pub start-view : (n : ℕ) → ◌≡◌ {A = HeldMessages}
     (record { numbers = length {A = Option QueuedMessage} (replicate n None); messages = present (replicate n None) }) (record { numbers = n; messages = [] })
-start-view n = held-same _ _ _ _ (length-replicate {A = Option QueuedMessage} n None) (none_held n)
+start-view n = held-same _ _ _ _ (length-replicate {A = Option QueuedMessage} n None) (none_present n)
 
 -- ---- the message at a number
 

@@ -2,7 +2,7 @@
 use Rattle.std.proofs.Common.{◌≡◌, ◌∙◌, ℕ, ◌+◌, ◌*◌, ◌<◌, ◌≤◌, Bool, true, false, not, ◌&&◌, List, [], ◌∷◌, ◌++◌, find, Option, Some, None, refl, ap, sym, subst, inl, inr, arith, length}
 use Rattle.std.specs.Prelude.{replicate}
 use Rattle.std.specs.List.{list_any, AllByRecursion}
-use Rattle.std.proofs.lemmas.Bool.{eq-eqb, eqb-true, cases_Bool, and_parts, and_from, true≢false}
+use Rattle.std.proofs.lemmas.Bool.{eq-eqb, eqb-true, cases_Bool, and_parts, and_from, true≢false, not-true}
 use Rattle.std.proofs.lemmas.Bool.Decides.{eqb_tells}
 use Rattle.std.proofs.lemmas.List.{length-replicate}
 use Rattle.std.proofs.lemmas.Nat.{mul-le}
@@ -156,15 +156,11 @@ module _ (g : Geometry) (slots : ℕ) (w : Waiting) (h : HeldMessages) (are : Ar
   pub next-once : count_in_slot t.slot w.messages ≤ 1
   next-once = omega (arith, are.in_slots t.slot, limit-most t.slot slots)
 
-  not_true : (b : Bool) → not b ≡ true → b ≡ false
-  not_true true k = absurd (true≢false (sym k))
-  not_true false k = refl
-
   pub next-free : find (has_number t.affinity.number) h.messages ≡ None
   next-free = by (find (has_number t.affinity.number) h.messages) refl
     where
       none : list_any (λ other. are_related_intervals t.affinity other.affinity) h.messages ≡ false
-      none = not_true _ (and_parts (is_free_of h.messages t) _ next-clear).0
+      none = not-true _ (and_parts (is_free_of h.messages t) _ next-clear).0
 
       by : (o : Option QueuedMessage) → find (has_number t.affinity.number) h.messages ≡ o → find (has_number t.affinity.number) h.messages ≡ None
       by None is = is

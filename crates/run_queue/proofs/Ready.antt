@@ -2,10 +2,11 @@
 use Rattle.std.proofs.Common.{◌≡◌, ◌≢◌, ◌∙◌, ℕ, zero, suc, ◌+◌, ◌<◌, ◌≤◌, Bool, true, false, not, ◌&&◌, ◌||◌, List, [], ◌∷◌, ◌++◌, find, take, Option, Some, None, refl, ap, sym, subst, inl, inr, arith, length, slice_index_or}
 use Rattle.std.specs.Prelude.{nat_lt, if◌then◌else◌, replicate}
 use Rattle.std.specs.List.{list_any, AllByRecursion}
-use Rattle.std.proofs.lemmas.Bool.{ne_eqb, eqb-true, ltb-true, lt-ltb, cases_Bool, cases_eq, and_from, or_left, true≢false, false_from_ne_true}
+use Rattle.std.proofs.lemmas.Bool.{ne_eqb, eqb-true, ltb-true, lt-ltb, cases_Bool, cases_eq, and_from, or_left, true≢false, false_from_ne_true, and_right}
 use Rattle.std.proofs.lemmas.Bool.Decides.{eqb_tells, leb_tells}
 use Rattle.std.proofs.lemmas.List.Folds.{list_any-append}
 use Rattle.std.proofs.lemmas.Option.{none-some}
+use Rattle.run_queue.proofs.ByTicket.{or_nothing}
 use Rattle.affinity.specs.Path.{Path}
 use Rattle.affinity.specs.Interval.{Interval, IsAffinity, contains, interval, affinity_count}
 use Rattle.affinity.specs.declared.geometry.Geometry.{Geometry}
@@ -18,7 +19,7 @@ use Rattle.run_queue.specs.declared.queued_message.QueuedMessage.{QueuedMessage}
 use Rattle.run_queue.proofs.Nearby.{number-below, same_path}
 use Rattle.run_queue.proofs.SlotCounts.{count_in_slot-cons_is, count_in_slot-cons_other}
 use Rattle.run_queue.proofs.Clearing.{find-cons, find-skip, find-all, find-passes, any-found}
-use Rattle.run_queue.proofs.Earliest.{dispatchable_at, none_at, some_at, empty_at, false_and_right}
+use Rattle.run_queue.proofs.Earliest.{dispatchable_at, none_at, some_at, empty_at}
 
 -- ---- what the ready entries show
 
@@ -36,7 +37,7 @@ room-at g room held waiting placed ascends n = by (find (has_number n) waiting) 
             ∙ sym (none_at g room held waiting placed ascends n f is (ap (λ b. b && is_conflict_free held waiting f) full))
       ]
       | inr kept ↦ ap (λ b. if_passes (has_room room) (if b then Some f else None)) kept
-          ∙ sym (none_at g room held waiting placed ascends n f is (ap (λ b. has_room room f && b) kept ∙ false_and_right _))
+          ∙ sym (none_at g room held waiting placed ascends n f is (ap (λ b. has_room room f && b) kept ∙ and_right _ false refl))
     ]
 
 -- an entry stays right if the message that is first at its number stays first, and as conflict-free as it was
@@ -93,10 +94,6 @@ find-last_found p (d ∷ ts) t f found = elim (cases_Bool (p d)) [
   | inl k ↦ find-cons p d (ts ++ t ∷ []) k ∙ sym (find-cons p d ts k)
   | inr k ↦ find-skip p d (ts ++ t ∷ []) k ∙ find-last_found p ts t f (sym (find-skip p d ts k) ∙ found) ∙ sym (find-skip p d ts k)
 ]
-
-or_nothing : (b : Bool) → (b || false) ≡ b
-or_nothing true = refl
-or_nothing false = refl
 
 -- a message t that arrives later than f doesn't keep f back
 later-clear : (held waiting : List QueuedMessage) (t f : QueuedMessage) → f.ticket < t.ticket → is_conflict_free held (waiting ++ t ∷ []) f ≡ is_conflict_free held waiting f
@@ -248,7 +245,7 @@ not_held : (held waiting : List QueuedMessage) (u : QueuedMessage) → list_any 
 not_held held waiting u near = ap (λ b. not b && not (list_any (waits_for u) waiting)) near
 
 not_first : (held waiting : List QueuedMessage) (u : QueuedMessage) → list_any (waits_for u) waiting ≡ true → is_conflict_free held waiting u ≡ false
-not_first held waiting u late = ap (λ b. is_free_of held u && not b) late ∙ false_and_right (is_free_of held u)
+not_first held waiting u late = ap (λ b. is_free_of held u && not b) late ∙ and_right (is_free_of held u) false refl
 
 module _ (held held' waiting : List QueuedMessage) (t : QueuedMessage) (joined : HasInserted t held held') (ascends : Ascend waiting)
     (once : count_in_slot t.slot waiting ≤ 1) (first : find (has_number t.affinity.number) waiting ≡ Some t) (clear : is_conflict_free held waiting t ≡ true) where
@@ -279,7 +276,7 @@ module _ (held held' waiting : List QueuedMessage) (t : QueuedMessage) (joined :
     | inr far ↦ (let same = any-between (λ u. are_related_intervals f.affinity u.affinity) t held held' joined
         ∙ ap (λ b. b || list_any (λ u. are_related_intervals f.affinity u.affinity) held) far in
         let left = any-without (waits_for f) waiting t it_alone
-        (ap (λ b. nat_lt t.ticket f.ticket && b) far ∙ false_and_right (nat_lt t.ticket f.ticket)) in
+        (ap (λ b. nat_lt t.ticket f.ticket && b) far ∙ and_right (nat_lt t.ticket f.ticket) false refl) in
         ap (λ b. not b && not (list_any (waits_for f) (without_slot t.slot waiting))) same
         ∙ ap (λ b. is_free_of held f && not b) left)
   ]

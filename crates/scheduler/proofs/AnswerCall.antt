@@ -2,6 +2,7 @@
 use Rattle.std.proofs.Common.{◌≡◌, ℕ, zero, suc, ◌<◌, List, [], ◌∷◌, map, length, get_or, Some, refl, ap, sym, subst, ◌∙◌, arith, ◌≤◌}
 use Rattle.std.specs.Prelude.{unwrap_or, vec_capacity}
 use Rattle.std.specs.List.{concat}
+use Rattle.std.proofs.lemmas.List.{get_or_default}
 use Rattle.arena.proofs.ArenaLemmas.{chain-front, chained-listed, front-chained}
 use Rattle.arena.proofs.Counts.{count_of-append}
 use Rattle.arena.specs.Lists.{without}
@@ -74,9 +75,3 @@ module _ {D : Type 0} {keeps : Type 0} (core : Inside D) (is : IsSoundCore keeps
   answer_call_state =
       (λ i. (outcomes.Answered taken.ticket (get_or core.replies.items slot Done), core_state_in (after_is i)))
       ∙ ap (answer (core_state_in p)) (sym (answer_front keeps p is.core x behind whole (suc p.free) refl))
-
--- an item within the list is the same whatever the default is
-pub get_or_any : {X : Type 0} (xs : List X) (i : ℕ) (d e : X) → i < length xs → get_or xs i d ≡ get_or xs i e
-get_or_any [] i d e low = absurd (omega (arith, low))
-get_or_any (x ∷ xs) zero d e low = refl
-get_or_any (x ∷ xs) (suc i) d e low = get_or_any xs i d e (omega (arith, low))

@@ -4,6 +4,7 @@ use Rattle.std.specs.Prelude.{◌==◌, ◌||◌, if◌then◌else◌, nat_le, n
 use Rattle.std.specs.List.{AllByRecursion, list_any}
 use Rattle.std.proofs.lemmas.Bool.Decides.{eqb_tells, leb_tells}
 use Rattle.std.proofs.lemmas.List.Folds.{list_any-append}
+use Rattle.std.proofs.lemmas.Bool.{ne_eqb}
 use Rattle.arena.proofs.Counts.{count_of-cons_is, count_of-cons_other}
 use Rattle.arena.specs.Lists.{count_of}
 use Rattle.arena.specs.ArenaView.{IsPartitioned, ArenaView, after_move, after_put, capacity_of, chain_at, put_answer, put_into, slot_from}
@@ -41,10 +42,6 @@ not_among arena replies i (x ∷ xs) none = elim (eqb_tells x i) [
   | inl e ↦ absurd (let some = count_of-cons_is i x xs e.1 in omega (arith, some, none))
   | inr n ↦ (λ z. n.0 z || not_among arena replies i xs (sym (count_of-cons_other i x xs n.1) ∙ none) z)
 ]
-
--- a number that isn't this one
-pub not_this : (n m : ℕ) → (n ≡ m → ⊥) → (n == m) ≡ false
-not_this n m other = elim (eqb_tells n m) [ inl e ↦ absurd (other e.1) | inr e ↦ e.0 ]
 
 came_before : (ticket : ℕ) (ys : List SlotView) → AllByRecursion (λ e. e.0 < ticket) (map entry_of ys) → CameBefore ticket (map queued_of ys)
 came_before ticket [] all = tt

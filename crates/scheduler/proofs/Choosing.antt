@@ -3,9 +3,10 @@ use Rattle.std.proofs.Common.{◌≡◌, ◌<◌, Bool, true, false, List, [], �
 use Rattle.std.specs.Prelude.{◌&&◌, ◌||◌, not, nat_lt, if◌then◌else◌, cond, is_some, option_map}
 use Rattle.std.specs.List.{AllByRecursion, find, list_any}
 use Rattle.std.proofs.Math.Bool.{and_comm}
-use Rattle.std.proofs.lemmas.Bool.{true≢false}
+use Rattle.std.proofs.lemmas.Bool.{true≢false, or_right}
 use Rattle.std.proofs.lemmas.List.Folds.{list_any-append}
 use Rattle.std.proofs.lemmas.Option.{none-some, same_Some}
+use Rattle.histories.proofs.Lists.{all_weaker}
 use Rattle.affinity.proofs.Preorder.{are_related-contains}
 use Rattle.affinity.specs.declared.geometry.Geometry.{Geometry}
 use Rattle.histories.specs.Eligible.{has_room as has_room_for, is_conflict_free as is_clear_in, is_eligible, lacks_only_room, next_eligible, pick}
@@ -32,10 +33,6 @@ any_map f p (x ∷ xs) = ap (λ b. p (f x) || b) (any_map f p xs)
 pub any_same : {X : Type 0} (P : X → Type 0) (f h : X → Bool) → ((x : X) → P x → f x ≡ h x) → (xs : List X) → AllByRecursion P xs → list_any f xs ≡ list_any h xs
 any_same P f h same [] all = refl
 any_same P f h same (x ∷ xs) all = λ i. same x all.0 i || any_same P f h same xs all.1 i
-
-all_of : {X : Type 0} (P Q : X → Type 0) → ((x : X) → P x → Q x) → (xs : List X) → AllByRecursion P xs → AllByRecursion Q xs
-all_of P Q f [] all = tt
-all_of P Q f (x ∷ xs) all = (f x all.0, all_of P Q f xs all.1)
 
 -- ---- queued messages and places
 
@@ -131,14 +128,10 @@ pub some_chosen : (p : QueuedMessage → Bool) (q : Entry → Bool) (ys : List S
 some_chosen p q [] same t h = absurd (none-some t h)
 some_chosen p q (y ∷ ys) same t h = by (some_chosen p q ys same.1 t) (p (queued_of y)) refl h
   where
-    or_true : (b : Bool) → (b || true) ≡ true
-    or_true true = refl
-    or_true false = refl
-
     by : (find p (map queued_of ys) ≡ Some t → list_any q (map entry_of ys) ≡ true) → (b : Bool) → p (queued_of y) ≡ b
         → cond b (Some (queued_of y)) (find p (map queued_of ys)) ≡ Some t → (q (entry_of y) || list_any q (map entry_of ys)) ≡ true
     by deeper true e h = λ i. (sym same.0 ∙ e) i || list_any q (map entry_of ys)
-    by deeper false e h = (λ i. q (entry_of y) || deeper h i) ∙ or_true (q (entry_of y))
+    by deeper false e h = (λ i. q (entry_of y) || deeper h i) ∙ or_right (q (entry_of y)) true refl
 
 abbrev pick_if : Entry → List Entry → Option (Entry × List Entry) → Bool → Option (Entry × List Entry)
 pick_if e es o b = if b then Some (e, es) else option_map (λ (found : Entry × List Entry). (found.0, e ∷ found.1)) o
@@ -177,7 +170,7 @@ module _ (keeps : Type 0) (p : Parts) (k : IsCore keeps p) where
         ∙ ap (λ b. not (queued_of x).changing || b) (is_room ∙ ap (λ n. nat_lt n p.journal.room) k.unlogged_is)
 
     same_test : Same (λ t. has_room room t && is_conflict_free p.queue.held p.queue.waiting t) (is_eligible geometry w) p.phases.waiting
-    same_test = all_of (IsPlaced geometry) _
+    same_test = all_weaker (IsPlaced geometry) _
         (λ x a. (λ i. room_same x i && clear_same x a i) ∙ and_comm (has_room_for w (entry_of x)) (is_clear_in geometry w (entry_of x)))
         p.phases.waiting k.placed.waiting
 
@@ -197,7 +190,7 @@ module _ (keeps : Type 0) (p : Parts) (k : IsCore keeps p) where
   -- ---- why none is dispatched
 
   clear_test : Same (λ t. has_room true t && is_conflict_free p.queue.held p.queue.waiting t) (is_clear_in geometry w) p.phases.waiting
-  clear_test = all_of (IsPlaced geometry) _ (λ x a. clear_same x a) p.phases.waiting k.placed.waiting
+  clear_test = all_weaker (IsPlaced geometry) _ (λ x a. clear_same x a) p.phases.waiting k.placed.waiting
 
   found_clear : next_queued true p.queue.held p.queue.waiting ≡ find (λ t. has_room true t && is_conflict_free p.queue.held p.queue.waiting t) (map queued_of p.phases.waiting)
   found_clear = next_is_first true p.queue.held p.queue.waiting (subst Ascend (sym k.queue_waiting) (ascend_from p.phases.waiting k.sound.ascending))

@@ -46,9 +46,6 @@ pub known_from : (g : Geometry) (ys : List SlotView) → AllByRecursion (IsPlace
 known_from g [] all = tt
 known_from g (y ∷ ys) all = ((all.0.message, all.0.range), known_from g ys all.1)
 
-first_true : (b c : Bool) → (b && c) ≡ true → b ≡ true
-first_true b c e = (and_parts b c e).0
-
 module _ (g : Geometry) where
   pub carried_out : (x : State) (first rest : List Replied) → AreUnrelated g (entries (first ++ rest)) → HaveRepliesAt g x (first ++ rest) → AreKnown g first
       → AreCarriedOut g x (recorded first)
@@ -57,7 +54,7 @@ module _ (g : Geometry) where
       let k = carried_out (next_state g x a.1) first rest apart.1 (still_replied g x a (first ++ rest) apart.0 h.1) known.1 in
       elim (is_recorded a.1 a.2) as (λ b. is_recorded a.1 a.2 ≡ b
       → AreCarriedOut g x (map (λ (a : Replied). a.1) (cond b (a ∷ filter (λ a. is_recorded a.1 a.2) first) (filter (λ a. is_recorded a.1 a.2) first)))) [
-        | true ↦ λ e. (known.0.0, (first_true (is_changing (kind a.1)) _ e, known.0.1), ap (is_recorded a.1) (sym h.0) ∙ e, k)
+        | true ↦ λ e. (known.0.0, ((and_parts (is_changing (kind a.1)) _ e).0, known.0.1), ap (is_recorded a.1) (sym h.0) ∙ e, k)
         | false ↦ λ e. subst (λ y. AreCarriedOut g y (recorded first)) (unrecorded_changes_nothing g x a.1 (ap (is_recorded a.1) (sym h.0) ∙ e)) k
       ] refl
 
@@ -67,7 +64,7 @@ module _ (g : Geometry) where
       let k = each_changes first known.1 in
       elim (is_recorded a.1 a.2) as (λ b. is_recorded a.1 a.2 ≡ b
       → AllByRecursion (λ m. IsChangeInRange g m) (map (λ (a : Replied). a.1) (cond b (a ∷ filter (λ a. is_recorded a.1 a.2) first) (filter (λ a. is_recorded a.1 a.2) first)))) [
-        | true ↦ λ e. ((first_true (is_changing (kind a.1)) _ e, known.0.1), k)
+        | true ↦ λ e. (((and_parts (is_changing (kind a.1)) _ e).0, known.0.1), k)
         | false ↦ λ e. k
       ] refl
 

@@ -2,6 +2,7 @@
 use Rattle.std.proofs.Common.{◌≡◌, ℕ, ◌+◌, ◌-◌, ◌≤◌, Bool, true, false, List, [], ◌∷◌, map, length, Option, Some, None, Result, Ok, Err, refl, ap, sym, subst, ◌∙◌, arith}
 use Rattle.std.specs.Prelude.{if◌then◌else◌, is_some, nat_lt, option_map, OnOk, OnErr}
 use Rattle.std.proofs.lemmas.Bool.{ltb-false, true≢false}
+use Rattle.std.proofs.lemmas.List.{nil_from_length}
 use Rattle.affinity.specs.declared.geometry.Geometry.{Geometry}
 use Rattle.checkpoint.specs.Recovery.{recovered_state}
 use Rattle.disk.specs.Moments.{CrashImagesAre}
@@ -35,10 +36,6 @@ past : (b : Bool) (why : PointRefusal) (o : Option PointRefusal) → (if b then 
 past true why o e = absurd (true≢false (ap is_some e))
 past false why o e = (refl, e)
 
-no_items : {X : Type 0} (xs : List X) → length xs ≡ 0 → xs ≡ []
-no_items [] e = refl
-no_items (x ∷ xs) e = absurd (omega (arith, e))
-
 -- the answer of `Core::point_refusal`, about the parts of the core
 pub not_refused : {inside now : CoreView} {why : Option PointRefusal} → inside ≡ now → why ≡ point_refusal (core_state_of now) → why ≡ None → point_refusal (core_state_of inside) ≡ None
 not_refused view answer none = ap (λ (o : CoreView). point_refusal (core_state_of o)) view ∙ sym answer ∙ none
@@ -58,10 +55,10 @@ module _ (keeps : Type 0) (p : Parts) (k : IsCore keeps p) (why : point_refusal 
       omega (arith, few, count)
 
   none_in_flight : p.phases.in_flight ≡ []
-  none_in_flight = no_items p.phases.in_flight (let none = none_held in omega (arith, none))
+  none_in_flight = nil_from_length p.phases.in_flight (let none = none_held in omega (arith, none))
 
   none_ran : p.phases.ran ≡ []
-  none_ran = no_items p.phases.ran (let none = none_held in omega (arith, none))
+  none_ran = nil_from_length p.phases.ran (let none = none_held in omega (arith, none))
 
   whole_tree : TreeHolds p.journal.geometry nowhere (tree_nodes p.tree) (core_state_in p).committed
   whole_tree =

@@ -3,10 +3,11 @@ use Rattle.std.proofs.Common.{◌≡◌, ℕ, zero, suc, ◌+◌, ◌<◌, Bool,
 use Rattle.std.specs.Vec.{with_item}
 use Rattle.std.specs.Prelude.{◌==◌, ◌||◌, ◌&&◌, not, vec_capacity}
 use Rattle.std.specs.List.{AllByRecursion, Contains, concat, list_any}
-use Rattle.std.proofs.lemmas.Bool.{and_parts, eq-eqb, true≢false}
+use Rattle.std.proofs.lemmas.Bool.{and_parts, eq-eqb, true≢false, not-true, and_right}
 use Rattle.std.proofs.lemmas.Bool.Decides.{eqb_tells}
 use Rattle.std.proofs.lemmas.List.{get_or-set_other, get_or-set_same, length-append, length-set}
 use Rattle.std.proofs.lemmas.List.Folds.{list_any-append}
+use Rattle.histories.proofs.Clearing.{or_nothing}
 use Rattle.affinity.specs.Interval.{Interval, IsAffinityOf, interval}
 use Rattle.affinity.specs.Path.{Path}
 use Rattle.affinity.specs.declared.geometry.Geometry.{Geometry}
@@ -69,28 +70,16 @@ recovers_in e ys h = recovers_at e ys h.0 h.1 h.2
 
 -- ---- which message holds an affinity number
 
-not_false : (b : Bool) → not b ≡ true → b ≡ false
-not_false true e = absurd (true≢false (sym e))
-not_false false e = refl
-
 or_false : (a b : Bool) → a ≡ false → (a || b) ≡ b
 or_false true b e = absurd (true≢false e)
 or_false false b e = refl
-
-and_false : (a b : Bool) → b ≡ false → (a && b) ≡ false
-and_false true b e = e
-and_false false b e = refl
 
 -- if no slot in ys has the affinity number n, none has it together with the slot number given
 none_at : (n slot : ℕ) (ys : List SlotView) → AllByRecursion (λ y. not (has_number n (queued_of y)) ≡ true) ys → list_any (λ y. holds_at n slot (queued_of y)) ys ≡ false
 none_at n slot [] all = refl
 none_at n slot (y ∷ ys) all =
-    or_false (holds_at n slot (queued_of y)) (list_any (λ y. holds_at n slot (queued_of y)) ys) (and_false (has_slot slot (queued_of y)) (has_number n (queued_of y)) (not_false _ all.0))
+    or_false (holds_at n slot (queued_of y)) (list_any (λ y. holds_at n slot (queued_of y)) ys) (and_right (has_slot slot (queued_of y)) (has_number n (queued_of y)) (not-true _ all.0))
     ∙ none_at n slot ys all.1
-
-or_none : (b : Bool) → (b || false) ≡ b
-or_none true = refl
-or_none false = refl
 
 module _ (keeps : Type 0) (p : Parts) (k : IsCore keeps p) (before : List SlotView) (x : SlotView) (behind : List SlotView)
     (whole : p.phases.in_flight ≡ before ++ x ∷ behind) where
@@ -155,7 +144,7 @@ module _ (keeps : Type 0) (p : Parts) (k : IsCore keeps p) (before : List SlotVi
   holder_is slot has =
       let t : SlotView → Bool = λ (y : SlotView). holds_at n slot (queued_of y) in
       let here : t x ≡ true =
-      sym (or_none (t x))
+      sym (or_nothing (t x))
       ∙ ap (λ b. t x || b) (sym (none_at n slot behind others_behind))
       ∙ sym (or_false (list_any t before) (list_any t (x ∷ behind)) (none_at n slot before others_before))
       ∙ sym (list_any-append t before (x ∷ behind))

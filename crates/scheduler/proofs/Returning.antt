@@ -2,7 +2,7 @@
 use Rattle.std.proofs.Common.{◌≡◌, ℕ, ◌+◌, Bool, false, List, [], ◌∷◌, ◌++◌, map, length, Option, Some, refl, ap, sym, subst, ◌∙◌, arith, inl, inr}
 use Rattle.std.specs.Prelude.{◌==◌, if◌then◌else◌, option_map}
 use Rattle.std.specs.List.{AllByRecursion}
-use Rattle.std.proofs.lemmas.Bool.{eq-eqb}
+use Rattle.std.proofs.lemmas.Bool.{eq-eqb, ne_eqb}
 use Rattle.std.proofs.lemmas.Bool.Decides.{eqb_tells}
 use Rattle.std.proofs.lemmas.List.{length-append, map-append}
 use Rattle.histories.proofs.Lists.{all_back, all_front, all_join, before_front, before_one}
@@ -35,11 +35,8 @@ pub picked_at : (before : List Entry) (e : Entry) (behind : List Entry) → AllB
     → pick (λ d. d.0 == e.0) (before ++ e ∷ behind) ≡ Some (e, before ++ behind)
 picked_at [] e behind others = ap (step_pick e behind (pick (λ d. d.0 == e.0) behind)) (eq-eqb e.0 e.0 refl)
 picked_at (d ∷ before) e behind others =
-    ap (step_pick d (before ++ e ∷ behind) (pick (λ d. d.0 == e.0) (before ++ e ∷ behind))) (differs d.0 e.0 others.0)
+    ap (step_pick d (before ++ e ∷ behind) (pick (λ d. d.0 == e.0) (before ++ e ∷ behind))) (ne_eqb d.0 e.0 others.0)
     ∙ ap (λ o. step_pick d (before ++ e ∷ behind) o false) (picked_at before e behind others.1)
-  where
-    differs : (a b : ℕ) → (a ≡ b → ⊥) → (a == b) ≡ false
-    differs a b other = elim (eqb_tells a b) [ inl e ↦ absurd (other e.1) | inr n ↦ n.0 ]
 
 abbrev pub with_return : Parts → List SlotView → SlotView → TreeView → Parts
 with_return p out y tree = record p { phases = record p.phases { in_flight = out; ran = p.phases.ran ++ y ∷ [] }; tree = tree }

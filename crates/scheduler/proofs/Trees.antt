@@ -5,6 +5,7 @@ use Rattle.std.specs.List.{AllByRecursion, list_any}
 use Rattle.std.proofs.lemmas.Bool.{or_cases, true≢false}
 use Rattle.std.proofs.lemmas.List.{take-append-drop}
 use Rattle.std.proofs.lemmas.List.Folds.{list_any-append}
+use Rattle.histories.proofs.Clearing.{or_nothing}
 use Rattle.affinity.proofs.Paths.{unrelated_below, unrelated_turned}
 use Rattle.affinity.specs.Interval.{IsPath}
 use Rattle.affinity.specs.Path.{Path, are_related, is_prefix}
@@ -46,10 +47,6 @@ apart_below g e (d ∷ es) apart q below =
     (unrelated_below (path_of g d.1) (path_of g e.1) q (unrelated_turned (path_of g e.1) (path_of g d.1) apart.0) here))
     (λ there. apart_below g e es apart.1 q there)
     (or_cases (is_prefix (path_of g d.1) q) (is_below g es q) below)
-
-or_nothing : (b : Bool) → (b || false) ≡ b
-or_nothing true = refl
-or_nothing false = refl
 
 or_turned : (a b : Bool) → (a || b) ≡ (b || a)
 or_turned true true = refl

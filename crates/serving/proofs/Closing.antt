@@ -4,7 +4,7 @@ use Rattle.std.specs.Prelude.{Result, Ok, Err, IfOk, IfSome, MatchResult, OnErr,
 use Rattle.std.specs.Io.KnownBytes.{Appends}
 use Rattle.std.proofs.KnownBytes.{Appends-trans}
 use Rattle.message.specs.Waiting.{all_output}
-use Rattle.std.proofs.lemmas.Bool.{true≢false}
+use Rattle.std.proofs.lemmas.Bool.{true≢false, and_left}
 use Rattle.std.proofs.lemmas.List.{length-replicate}
 use Rattle.histories.proofs.Full.{last_none_out}
 use Rattle.histories.proofs.Idle.{idle_sound, none_in_flight}
@@ -301,10 +301,6 @@ serves_as {keeps} {core} {back} {input} {before} {written} {rest} {places} as_ma
     (subst (λ (l : Option (List ℕ)). ServePromise keeps places core back (exchange input l before written)) same h)
 
 -- ---- where it begins
-
--- A reader of lines that has not seen the end of its input is not drained.
-pub not_drained : (ended none_held : Bool) → ended ≡ false → (ended && none_held) ≡ false
-not_drained ended none_held not_ended = ap (λ (b : Bool). b && none_held) not_ended
 
 pub holds_first : (core : CoreView) (lent : List (Option JobView)) (n : ℕ) → lent ≡ replicate n None → IsIdle (core_state_of core) → HandsHaveJobs (machine_with_jobs core lent)
 holds_first core lent n none idle = subst (λ (l : List (Option JobView)). HandsHaveJobs (machine_with_jobs core l)) (sym none)

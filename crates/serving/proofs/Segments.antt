@@ -1,6 +1,7 @@
 -- One step of a run, after those before it.
 use Rattle.std.proofs.Common.{◌≡◌, ℕ, Bool, List, [], ◌∷◌, ◌++◌, Result, Ok, Err, refl, ap, sym, ◌∙◌, subst, take, append-nil, false, true, ◌≤◌, ◌+◌, add-zero, zero, suc, arith, Option}
 use Rattle.std.specs.Prelude.{OnErr, drop, length, if◌then◌else◌}
+use Rattle.std.proofs.lemmas.List.{drop_all}
 use Rattle.affinity.specs.declared.geometry.Geometry.{Geometry}
 use Rattle.histories.proofs.Failures.{failure_lasts}
 use Rattle.histories.specs.Events.{Event, MachineState, batch}
@@ -95,12 +96,6 @@ core_is_quiet {keeps} {old} {new} {hands} step outcome k still none_come none_to
 no_answer_of_log : (r : Result ℕ CoreFault) → answers (log_outcome r) ≡ []
 no_answer_of_log (Ok count) = refl
 no_answer_of_log (Err why) = refl
-
-none_behind_all : {A : Type 0} (n : ℕ) (xs : List A) → length xs ≤ n → drop n xs ≡ []
-none_behind_all zero [] le = refl
-none_behind_all (suc n) [] le = refl
-none_behind_all zero (x ∷ xs) le = absurd (omega (arith, le))
-none_behind_all (suc n) (x ∷ xs) le = none_behind_all n xs (omega (arith, le))
 
 all_in_front : {A : Type 0} (n : ℕ) (xs : List A) → length xs ≤ n → take n xs ≡ xs
 all_in_front zero [] le = refl

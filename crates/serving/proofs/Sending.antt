@@ -55,10 +55,6 @@ nothing_in (Some job) e = absurd (true≢false (sym e))
 pub nothing_there : (lent : List (Option JobView)) (k : ℕ) → position is_none lent ≡ Some k → lent_at lent k ≡ None
 nothing_there lent k first = nothing_in (lent_at lent k) (position-Some is_none lent k None first).1
 
--- what an offer gives at a place where nothing is lent
-pub offered : (o : Option JobView) (P : Type 0) (Q : JobView → Type 0) → o ≡ None → MatchOption o P Q → P
-offered o P Q none h = subst (λ (o : Option JobView). MatchOption o P Q) none h
-
 -- ---- the grant
 
 module _ (keeps : Type 0) (old new : CoreView) (lent : List (Option JobView)) (none : old.failed ≡ false → old.doubt ≡ [])

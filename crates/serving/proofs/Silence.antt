@@ -3,7 +3,7 @@ use Rattle.std.proofs.Common.{◌≡◌, ◌⊎◌, inl, inr, refl, ℕ, ◌+◌
 use Rattle.std.specs.Prelude.{slice_index_or}
 use Rattle.std.specs.List.{AllByRecursion}
 use Rattle.std.proofs.lemmas.Bool.{true≢false}
-use Rattle.std.proofs.lemmas.List.{length-map}
+use Rattle.std.proofs.lemmas.List.{length-map, nil_from_length}
 use Rattle.affinity.specs.declared.geometry.Geometry.{Geometry}
 use Rattle.histories.proofs.Elements.{in_contained}
 use Rattle.histories.specs.CoreState.{Entry}
@@ -52,10 +52,6 @@ all_silent g n (l ∷ ls) (line ∷ sent_lines) next rest k a = all_silent g (ne
 
 -- ---- the answers so far
 
-no_items : {A : Type 0} (xs : List A) → length xs ≡ 0 → xs ≡ []
-no_items [] none = λ i. []
-no_items (x ∷ xs) none = absurd (omega (arith, none))
-
 module _ (keeps : Type 0) (s : Start) (sent : Option (List ℕ)) (now : CoreView) (bytes : List ℕ) (m : MaySendFrom keeps s sent now bytes)
     (all_inside : unanswered (core_state_of now) + s.core.next ≡ now.next) where
   none_answered : m.served.run.reply_pairs ≡ []
@@ -67,7 +63,7 @@ module _ (keeps : Type 0) (s : Start) (sent : Option (List ℕ)) (now : CoreView
       let next = passes_next p in
       let tickets = next_counts s.core.next (messages_of arriving) in
       let many = length-map arriving (λ (e : Entry). e.1) in
-      no_items m.served.run.reply_pairs (omega (arith, all_inside, first, count, next, tickets, many))
+      nil_from_length m.served.run.reply_pairs (omega (arith, all_inside, first, count, next, tickets, many))
 
   pub is_silent : AllByRecursion HasNoReply m.next
   is_silent = all_silent s.core.geometry s.core.next m.served.consumed m.served.sent_lines m.next m.rest

@@ -2,6 +2,7 @@
 use Rattle.std.proofs.Common.{◌≡◌, ◌≢◌, ℕ, ◌+◌, ◌<◌, ◌≤◌, Bool, true, false, List, [], ◌∷◌, ◌++◌, Option, refl, ap, sym, ◌∙◌, length, arith}
 use Rattle.std.specs.Prelude.{if◌then◌else◌, nat_le, not, ◌==◌, ◌^◌, ◌-◌}
 use Rattle.std.proofs.lemmas.Bool.{leb-true}
+use Rattle.histories.proofs.Sound.{move_slots}
 use Rattle.affinity.specs.declared.geometry.Geometry.{Geometry}
 use Rattle.histories.proofs.Moves.{Answers, Arrives, Backs, Grants, Logs, Move, Passed, Stays, moves}
 use Rattle.histories.specs.Events.{Event, MachineState, arrive}
@@ -23,14 +24,6 @@ use Rattle.serving.specs.Lines.{Line}
 use Rattle.serving.specs.Runs.{RunsBetween, unanswered}
 
 -- ---- the number of slots stays the same
-
-move_slots : (g : Geometry) (old new : CoreState) (p : Passed) → Move g old new p → new.slots ≡ old.slots
-move_slots g old new p (Stays s e) = s.slots
-move_slots g old new p (Arrives m fits is e) = ap (λ (w : CoreState). w.slots) is
-move_slots g old new p (Grants found first is e) = ap (λ (w : CoreState). w.slots) is
-move_slots g old new p (Backs ticket found one_out is e) = ap (λ (w : CoreState). w.slots) is
-move_slots g old new p (Logs n is e) = ap (λ (w : CoreState). w.slots) is
-move_slots g old new p (Answers a rest front is e) = ap (λ (w : CoreState). w.slots) is
 
 run_slots : (g : Geometry) (old : MachineState) (events : List Event) → IsLegal g old events → (end_state old events).core.slots ≡ old.core.slots
 run_slots g old [] legal = refl

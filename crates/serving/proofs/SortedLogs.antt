@@ -7,6 +7,7 @@ use Rattle.std.proofs.lemmas.Bool.Decides.{eqb_tells}
 use Rattle.std.proofs.lemmas.List.Elements.{All-contains_itself, recursion_from_All}
 use Rattle.std.proofs.lemmas.List.Sorted.{IsPermutation-sym, IsPermutation-trans}
 use Rattle.std.proofs.lemmas.Map.Keys.{IsDistinct-IsPermutation}
+use Rattle.histories.proofs.SerialHistories.{same_turned, distinct_ascending, one_ticket}
 use Rattle.affinity.specs.declared.geometry.Geometry.{Geometry}
 use Rattle.language.specs.declared.Reply.{Reply}
 use Rattle.meaning.specs.Laws.{AreInOrder}
@@ -128,20 +129,6 @@ same_order (e ∷ es) (d ∷ ds) h k there back =
     (λ c is. in_rest e c es ds h.0 is (subst (λ (f : Entry). IsIn c (f ∷ ds)) (sym same) (there c (inr is))))
     (λ c is. in_rest e c ds es greater is (back c (inr is))) in
     λ i. same i ∷ rest i
-
-abbrev one_ticket : Entry → Entry → Bool
-one_ticket e d = e.0 == d.0
-
-same_turned : (a b : ℕ) → (a == b) ≡ (b == a)
-same_turned a b = ⊎_elim (λ t. t.0 ∙ sym (eq-eqb b a (sym t.1))) (λ f. f.0 ∙ sym (ne_eqb b a (λ e. f.1 (sym e)))) (eqb_tells a b)
-
-distinct_ascending : (es : List Entry) → AreAscending es → IsDistinct one_ticket es
-unfolding IsDistinct
-distinct_ascending [] h = tt
-distinct_ascending (e ∷ es) h = (
-  all_weaker (λ d. e.0 < d.0) (λ d. one_ticket e d ≡ false) (λ d less. ne_eqb e.0 d.0 (λ same. omega (arith, less, same))) es h.0,
-  distinct_ascending es h.1,
-)
 
 ascending_distinct : (es : List Entry) → AreInOrder es → IsDistinct one_ticket es → AreAscending es
 unfolding IsDistinct

@@ -25,7 +25,7 @@ two_bytes b small = omega (arith, small)
 pub entry_again : (e : BlockEntry) → IsSpellable e → entry_in (entry_bytes e) ≡ e
 entry_again e is = λ i. record { file = e.file; block = two_bytes e.block is.small i; content = e.content }
 
-none_there : (n k : ℕ) → entries_in n (replicate k 0) ≡ []
+pub none_there : (n k : ℕ) → entries_in n (replicate k 0) ≡ []
 none_there zero k = refl
 none_there (suc n) zero = refl
 none_there (suc n) (suc k) = refl

@@ -2,7 +2,8 @@
 use Rattle.std.proofs.Common.{◌≡◌, ℕ, ◌<◌, ◌≤◌, Bool, true, false, ◌&&◌, List, [], ◌∷◌, ◌++◌, Option, Some, None, refl, sym, ◌∙◌, ap, arith, ◌⊎◌, inl, inr, ⊎_elim}
 use Rattle.std.specs.Prelude.{◌==◌, if◌then◌else◌}
 use Rattle.std.specs.List.{AllByRecursion}
-use Rattle.std.proofs.lemmas.Bool.{cases_lt, eq-eqb, eqb-true, ne_eqb, and_from, and_parts}
+use Rattle.std.proofs.lemmas.Bool.{cases_lt, eq-eqb, eqb-true, ne_eqb, and_from, and_parts, and_right}
+use Rattle.std.proofs.lemmas.Option.{same_Some}
 use Rattle.stripe.specs.Stripe.{BlockEntry, content_at, ComesBefore, IsAscending, PrecedesBlock}
 
 -- ---- what entries hold
@@ -10,11 +11,7 @@ use Rattle.stripe.specs.Stripe.{BlockEntry, content_at, ComesBefore, IsAscending
 no_block_of : (f b : ℕ) (e : BlockEntry) → PrecedesBlock f b e.file e.block → ((f == e.file) && (b == e.block)) ≡ false
 no_block_of f b e = ⊎_elim
     (λ (file : f < e.file). ap (λ (t : Bool). t && (b == e.block)) (ne_eqb f e.file (λ same. omega (arith, same, file))))
-    (λ (block : (f ≡ e.file) × (b < e.block)). other_half (f == e.file) (b == e.block) (ne_eqb b e.block (λ same. omega (arith, same, block.1))))
-  where
-    other_half : (p q : Bool) → q ≡ false → (p && q) ≡ false
-    other_half true q off = off
-    other_half false q off = refl
+    (λ (block : (f ≡ e.file) × (b < e.block)). and_right (f == e.file) (b == e.block) (ne_eqb b e.block (λ same. omega (arith, same, block.1))))
 
 -- Look-up finds nothing of a block that comes before all entries.
 pub content-before : (f b : ℕ) (es : List BlockEntry) → AllByRecursion (λ e. PrecedesBlock f b e.file e.block) es → content_at es f b ≡ None
@@ -64,9 +61,6 @@ some_is_not_none : {X : Type 0} (x : X) (o : Option X) → o ≡ Some x → o �
 some_is_not_none x None is off = cc
 some_is_not_none x (Some y) is off = cc
 
-some_same : {X : Type 0} (x y : X) → Some x ≡ Some y → x ≡ y
-some_same x y same = cc
-
 -- ---- ascending lists that hold the same are the same
 
 pub ascending_same : (ds es : List BlockEntry) → IsAscending ds → IsAscending es → ((f b : ℕ) → content_at ds f b ≡ content_at es f b) → ds ≡ es
@@ -83,7 +77,7 @@ ascending_same (d ∷ ds) (e ∷ es) up rising same =
     absurd (some_is_not_none e.content (content_at (e ∷ es) e.file e.block) (content-head e es)
     (sym (same e.file e.block) ∙ content-before e.file e.block (d ∷ ds) (second, all_behind e.file e.block d ds second up.0))))
     (λ (both : (d.file ≡ e.file) × (d.block ≡ e.block)).
-    let content : d.content ≡ e.content = some_same d.content e.content (sym (content-head d ds) ∙ same d.file d.block ∙ (λ i. content_at (e ∷ es) (both.0 i) (both.1 i)) ∙ content-head e es) in
+    let content : d.content ≡ e.content = same_Some d.content e.content (sym (content-head d ds) ∙ same d.file d.block ∙ (λ i. content_at (e ∷ es) (both.0 i) (both.1 i)) ∙ content-head e es) in
     let head : d ≡ e = λ i. record { file = both.0 i; block = both.1 i; content = content i } in
     let rest = ascending_same ds es up.1 rising.1 (behind both content) in
     (λ i. head i ∷ rest i)))

@@ -1,6 +1,7 @@
 -- Without a cut in progress the named area holds the state; else the cut is finished, and the records behind it are run.
 use Rattle.std.proofs.Common.{Bool, true, false, refl, sym, ◌∙◌, ap, subst, arith}
 use Rattle.std.proofs.lemmas.Result.{err_from_is_err_and}
+use Rattle.std.proofs.lemmas.Bool.{not-true, not-false}
 use Rattle.affinity.specs.declared.geometry.Geometry.{Geometry}
 use Rattle.checkpoint.specs.Loading.{NamedHolds}
 use Rattle.checkpoint.specs.Recovery.{recovered_state}
@@ -11,7 +12,7 @@ use Rattle.journal.specs.Parts.{IsFaultAfterCut, IsRefusedAlike}
 use Rattle.journal.specs.Steps.{RecoversStill}
 use Rattle.journal.proofs.Costs.{finish_is, no_call}
 use Rattle.checkpoint.proofs.Behind.{alone_fine, alone_holds}
-use Rattle.journal.proofs.Loaded.{are_loaded, alone_recovers, held_after, not_off, not_on}
+use Rattle.journal.proofs.Loaded.{are_loaded, alone_recovers, held_after}
 use Rattle.journal.proofs.Opened.{alike_after, alike_read, all_unwritten, bad_behind, bad_from, bad_synced, still_after, still_read, still_synced, unread}
 use Rattle.oplog.specs.Beyond.{KeepsBeyond}
 use Rattle.device_map.specs.Layout.{layout_of, other}
@@ -47,7 +48,7 @@ held : (g : Over) (c : Then-not-named g) → g.D.Disk.keeps → NamedHolds c.arg
     (state_in c.load_named.new.tree)
 held g c k =
     subst (λ (t : Bool). NamedHolds c.args.parts.now.tree.geometry (g.D.Disk.medium c.args.disk.now).now c.in_ok-named.named.area t (state_in c.load_named.new.tree))
-    (not_on c.in_ok-named.named.chained c.if-not-named.true) (c.in_ok-named.ensures.loaded k)
+    (not-true c.in_ok-named.named.chained c.if-not-named.true) (c.in_ok-named.ensures.loaded k)
 
 pub returns-in_err-named-clause-any_moment : goal.returns-in_err-named-clause-any_moment
 returns-in_err-named-clause-any_moment g c = λ k. still_read c.args.parts.now.tree.geometry _ _ (c.requires.synced k) (c.load_named.ensures.untouched k)
@@ -72,7 +73,7 @@ returns-then-not-named-clause-alone g c = λ k.
     let w1 = g.D.Disk.medium c.load_named.new.disk in
     let only = c.load_named.ensures.untouched k in
     alone_recovers c.load_named.new.log w1 (state_in c.load_named.new.tree)
-    (held_after w0 w1 c.in_ok-named.ensures.log (not_on c.in_ok-named.named.chained c.if-not-named.true) only
+    (held_after w0 w1 c.in_ok-named.ensures.log (not-true c.in_ok-named.named.chained c.if-not-named.true) only
     (c.in_ok-named.ensures.loaded k))
     (still_synced w0 w1 only (c.requires.synced k))
 
@@ -89,7 +90,7 @@ returns-then-not-named-clause-sound g c = λ k.
 pub finish_cut_and_replay-requires-clause-recovers : goal.finish_cut_and_replay-requires-clause-recovers
 finish_cut_and_replay-requires-clause-recovers g c = λ k.
     held_after (g.D.Disk.medium c.args.disk.now) (g.D.Disk.medium c.load_named.new.disk) c.in_ok-named.ensures.log
-    (not_off c.in_ok-named.named.chained c.if-not-named.false) (c.load_named.ensures.untouched k) (c.in_ok-named.ensures.loaded k)
+    (not-false c.in_ok-named.named.chained c.if-not-named.false) (c.load_named.ensures.untouched k) (c.in_ok-named.ensures.loaded k)
 
 pub returns-in_err-finish_cut_and_replay-clause-any_moment : goal.returns-in_err-finish_cut_and_replay-clause-any_moment
 returns-in_err-finish_cut_and_replay-clause-any_moment g c = moments g (goal.at.returns-in_err-finish_cut_and_replay-clause-any_moment g c).After-finish_cut_and_replay
@@ -186,7 +187,7 @@ returns-in_err-named-clause-costs g c =
 pub returns-then-not-named-clause-costs : goal.returns-then-not-named-clause-costs
 returns-then-not-named-clause-costs g c = λ k.
     let none = finish_is c.args.parts.now.tree.geometry (g.D.Disk.medium c.args.disk.now).now c.in_ok-named.named.area c.in_ok-named.named.chained
-    false (state_in c.load_named.new.tree) (not_on c.in_ok-named.named.chained c.if-not-named.true) (c.in_ok-named.ensures.loaded k) in
+    false (state_in c.load_named.new.tree) (not-true c.in_ok-named.named.chained c.if-not-named.true) (c.in_ok-named.ensures.loaded k) in
     omega (arith, no_call (g.D.Disk.medium c.args.disk.now) (g.D.Disk.medium c.load_named.new.disk) (c.load_named.ensures.untouched k), none)
 
 pub returns-in_err-finish_cut_and_replay-clause-costs : goal.returns-in_err-finish_cut_and_replay-clause-costs
@@ -194,11 +195,11 @@ returns-in_err-finish_cut_and_replay-clause-costs g c =
     rw (err_from_is_err_and c.from_residual-in_err-finish_cut_and_replay.result c.from_residual-in_err-finish_cut_and_replay.ensures.1).1
     (λ k.
     let four = finish_is c.args.parts.now.tree.geometry (g.D.Disk.medium c.args.disk.now).now c.in_ok-named.named.area c.in_ok-named.named.chained
-    true (state_in c.load_named.new.tree) (not_off c.in_ok-named.named.chained c.if-not-named.false) (c.in_ok-named.ensures.loaded k) in
+    true (state_in c.load_named.new.tree) (not-false c.in_ok-named.named.chained c.if-not-named.false) (c.in_ok-named.ensures.loaded k) in
     omega (arith, no_call (g.D.Disk.medium c.args.disk.now) (g.D.Disk.medium c.load_named.new.disk) (c.load_named.ensures.untouched k), four, c.in_err-finish_cut_and_replay.ensures.costs k))
 
 pub returns-clause-costs : goal.returns-clause-costs
 returns-clause-costs g c = λ k.
     let four = finish_is c.args.parts.now.tree.geometry (g.D.Disk.medium c.args.disk.now).now c.in_ok-named.named.area c.in_ok-named.named.chained
-    true (state_in c.load_named.new.tree) (not_off c.in_ok-named.named.chained c.if-not-named.false) (c.in_ok-named.ensures.loaded k) in
+    true (state_in c.load_named.new.tree) (not-false c.in_ok-named.named.chained c.if-not-named.false) (c.in_ok-named.ensures.loaded k) in
     omega (arith, no_call (g.D.Disk.medium c.args.disk.now) (g.D.Disk.medium c.load_named.new.disk) (c.load_named.ensures.untouched k), four, c.in_ok-finish_cut_and_replay.ensures.costs k)

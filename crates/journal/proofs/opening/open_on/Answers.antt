@@ -1,11 +1,11 @@
 -- Until the first sync is over, a crash leaves what one before it could; from then on, what it leaves while a synced device is opened.
 use Rattle.std.proofs.Common.{ℕ, List, sym, subst, arith}
-use Rattle.std.proofs.lemmas.Result.{err_from_is_err_and}
+use Rattle.std.proofs.lemmas.Result.{err_from_is_err_and, IfOk-weaker, IfErr-weaker}
 use Rattle.checkpoint.specs.Header.{HasHeader}
 use Rattle.checkpoint.specs.Refusals.{HasHeaderAndParts}
 use Rattle.journal.specs.Parts.{IsMadeOf}
 use Rattle.journal.proofs.Costs.{opening_after}
-use Rattle.journal.proofs.Opened.{if_err, if_ok, never_synced, synced_then, unwritten_from, unwritten_then}
+use Rattle.journal.proofs.Opened.{never_synced, synced_then, unwritten_from, unwritten_then}
 use Rattle.device_map.specs.Layout.{layout_of}
 use Rattle.oplog.proofs.Beyond.{beyond_then}
 use Rattle.journal.proofs.opening.open_on.Goals as goal
@@ -20,7 +20,7 @@ returns-clause-any_moment g c = λ k.
 
 pub returns-clause-made_of : goal.returns-clause-made_of
 returns-clause-made_of g c =
-    if_ok c.open_synced.result _ _
+    IfOk-weaker c.open_synced.result _ _
     (λ p made k. subst (λ (l : List ℕ). IsMadeOf l p (g.D.Disk.medium c.open_synced.new.disk)) (c.first_sync.ensures.now k) (made k))
     c.open_synced.ensures.made_of
 
@@ -29,7 +29,7 @@ returns-clause-unwritten g c =
     let w0 = g.D.Disk.medium c.args.disk.now in
     let w1 = g.D.Disk.medium c.first_sync.new.disk in
     let w2 = g.D.Disk.medium c.open_synced.new.disk in
-    if_err c.open_synced.result _ _
+    IfErr-weaker c.open_synced.result _ _
     (λ e is k.
     unwritten_from e w0 w1 w2 (c.first_sync.ensures.now k) (unwritten_then w0 w1 w2 (g.met.D.Disk.bytes c.args.disk.now) (c.in_ok-first_sync.ensures.synced k)
     (c.first_sync.ensures.now k) (c.first_sync.ensures.any_moment k)) (is k))
@@ -37,7 +37,7 @@ returns-clause-unwritten g c =
 
 pub returns-clause-memory : goal.returns-clause-memory
 returns-clause-memory g c =
-    if_err c.open_synced.result _ _ (λ e told is k. subst (λ (l : List ℕ). HasHeaderAndParts l) (c.first_sync.ensures.now k) (told is k)) c.open_synced.ensures.memory
+    IfErr-weaker c.open_synced.result _ _ (λ e told is k. subst (λ (l : List ℕ). HasHeaderAndParts l) (c.first_sync.ensures.now k) (told is k)) c.open_synced.ensures.memory
 
 pub returns-in_err-first_sync-clause-beyond : goal.returns-in_err-first_sync-clause-beyond
 returns-in_err-first_sync-clause-beyond g c = λ k h head.

@@ -1,6 +1,7 @@
 -- The session's invariant where it begins; and what the call promises, given what `know_recovery` ensures of the core at the end.
 use Rattle.std.proofs.Common.{◌≡◌, List, [], Option, ap, refl, sym, subst, ℕ, ◌∙◌}
 use Rattle.std.specs.Prelude.{OnOk, Result}
+use Rattle.std.proofs.lemmas.Bool.{and_left}
 use Rattle.scheduler.specs.CoreView.{CoreView}
 use Rattle.serving.specs.Ends.{exchange}
 use Rattle.oplog.specs.Recovery.{records_in}
@@ -8,7 +9,7 @@ use Rattle.serving.specs.Serve.{ServePromise}
 use Rattle.serving.specs.Session.{SessionView, reported}
 use Rattle.serving.specs.Output.{Start, start_machine}
 use Rattle.serving.specs.declared.server.ServeFault.{ServeFault}
-use Rattle.serving.proofs.Closing.{PromisesAll, emptied_at_end, ends_or_declines, first_at, not_drained, promises_from, refuses_none}
+use Rattle.serving.proofs.Closing.{PromisesAll, emptied_at_end, ends_or_declines, first_at, promises_from, refuses_none}
 use Rattle.serving.proofs.Invariant.{begun}
 use Rattle.serving.proofs.server.serve_borrowed.Goals as goal
 
@@ -20,7 +21,7 @@ invariant_of-session g c =
       run = first_at g.D.Disk.keeps _ c.requires.can_begin (record {
         none_waits = memory.none_waits;
         all = line_reader.unread;
-        none_read = not_drained _ _ line_reader.open;
+        none_read = and_left _ _ line_reader.open;
         not_ended = line_reader.open;
         slots = ap (λ (b : _). b.slots) memory.at_bench.0;
         none_lent = memory.none_lent;

@@ -1,10 +1,11 @@
 -- The message that was logged first leaves its slot and frees its affinity, with the reply that was kept for it.
 use Rattle.std.proofs.Common.{◌<◌, length, sym, ap, subst, ◌∙◌, arith}
+use Rattle.std.proofs.lemmas.List.{get_or_default}
 use Rattle.arena.specs.ArenaView.{IsPartitioned}
 use Rattle.histories.specs.Events.{answer}
 use Rattle.histories.specs.declared.outcomes.Outcome.TheVariants as outcomes
 use Rattle.language.specs.declared.Reply.TheVariants.{Done}
-use Rattle.scheduler.proofs.AnswerCall.{answer_call, answer_call_state, front_low, get_or_any}
+use Rattle.scheduler.proofs.AnswerCall.{answer_call, answer_call_state, front_low}
 use Rattle.scheduler.specs.CoreView.{CoreView, core_state_of}
 use Rattle.scheduler.specs.Fields.{IsSoundCore, parts}
 use Rattle.scheduler.specs.Parts.{core_state_in}
@@ -31,7 +32,7 @@ returns-clause-state_after g c =
     let size = c.self.invariant.replies in
     let low : c.in_ok-slot.slot < length c.self.inside.replies.items = omega (arith, under, size) in
     (λ i. (
-      outcomes.Answered c.in-Some.taken.ticket ((c.index-reply.ensures ∙ get_or_any c.self.inside.replies.items c.in_ok-slot.slot c.index-reply.result.now Done low) i),
+      outcomes.Answered c.in-Some.taken.ticket ((c.index-reply.ensures ∙ get_or_default c.self.inside.replies.items c.in_ok-slot.slot c.index-reply.result.now Done low) i),
       core_state_in (parts (record c.self.inside { slots = c.take.ensures.arena i; queue = c.free.ensures i })),
     ))
     ∙ answer_call_state c.self.inside c.self.invariant c.in_ok-slot.slot first c.in-Some.taken value

@@ -2,7 +2,7 @@
 use Rattle.std.proofs.Common.{◌≡◌, ◌*◌, ◌+◌, ◌-◌, ◌<◌, ℕ, suc, List, [], ◌∷◌, ◌++◌, length, take, drop, get_or, true, true≢false, arith, ap, sym, ◌∙◌, subst}
 use Rattle.std.specs.Prelude.{◌==◌}
 use Rattle.std.specs.List.{list_all}
-use Rattle.std.proofs.lemmas.List.{take_all, get_or-drop, length-drop, length-append}
+use Rattle.std.proofs.lemmas.List.{get_or-drop, length-append, take_rest}
 use Rattle.stripe.specs.Entries.{entry_in}
 use Rattle.stripe.specs.Index.{IsNextEntry}
 use Rattle.stripe.specs.Stripe.{BlockEntry, StripePart}
@@ -13,16 +13,12 @@ use Rattle.stripe.proofs.blocks.StripeParcel.read_piece.Goals as goal
 first_left : (bytes : List ℕ) (at : ℕ) → get_or (drop at bytes) 0 0 ≡ get_or bytes at 0
 first_left bytes at = get_or-drop at bytes 0 0 ∙ (let same : at + 0 ≡ at = omega arith in ap (λ (k : ℕ). get_or bytes k 0) same)
 
--- all that is left
-all_left : (bytes : List ℕ) (at : ℕ) → take (length bytes - at) (drop at bytes) ≡ drop at bytes
-all_left bytes at = take_all (length bytes - at) (drop at bytes) (omega (arith, length-drop at bytes))
-
 pub returns-then-bytes-at-ne1-clause-good : goal.returns-then-bytes-at-ne1-clause-good
 returns-then-bytes-at-ne1-clause-good c is =
     let bytes : List ℕ = c.args.bytes.now in
     let at : ℕ = c.loop-n.n * 520 in
     let few : c.loop-n.n < c.args.g.now.quota = subst (λ (k : ℕ). c.loop-n.n < k) c.from-n-end.ensures c.loop-n-test.true in
-    let zeros = zeros_by_test (drop at bytes) (sym (ap (λ (l : List ℕ). list_all (λ byte. byte == 0) l) (all_left bytes at)) ∙ sym c.are_zeros.ensures ∙ is) in
+    let zeros = zeros_by_test (drop at bytes) (sym (ap (λ (l : List ℕ). list_all (λ byte. byte == 0) l) (take_rest bytes at)) ∙ sym c.are_zeros.ensures ∙ is) in
     let done = zeros_behind c.args.g.now c.args.files c.args.s bytes c.requires.size c.loop-n.n few c.loop-n.self.entries c.loop-n.invariant.read
     (λ marked. c.if-bytes-at-ne1.true (sym (first_left bytes at) ∙ marked)) zeros in
     (done.0, λ i. record { quota = c.loop-n.invariant.quota i; entries = done.1 i })
@@ -34,7 +30,7 @@ returns-then-bytes-at-ne1-clause-bad c off is =
     let few : c.loop-n.n < c.args.g.now.quota = subst (λ (k : ℕ). c.loop-n.n < k) c.from-n-end.ensures c.loop-n-test.true in
     let zeros = are_zeros c.args.g.now c.args.files c.args.s bytes c.requires.size c.loop-n.n few c.loop-n.self.entries c.loop-n.invariant.read
     (λ marked. c.if-bytes-at-ne1.true (sym (first_left bytes at) ∙ marked)) is in
-    let on : c.are_zeros.result ≡ true = c.are_zeros.ensures ∙ ap (λ (l : List ℕ). list_all (λ byte. byte == 0) l) (all_left bytes at) ∙ test_of_zeros (drop at bytes) zeros in
+    let on : c.are_zeros.result ≡ true = c.are_zeros.ensures ∙ ap (λ (l : List ℕ). list_all (λ byte. byte == 0) l) (take_rest bytes at) ∙ test_of_zeros (drop at bytes) zeros in
     true≢false (sym on ∙ off)
 
 -- an entry as the loop cuts it out
