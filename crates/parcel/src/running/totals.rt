@@ -2,9 +2,9 @@
 
 ghost use Rattle.std.specs.Prelude.{◌≡◌, ◌+◌, ◌<◌, ◌≤◌, ◌^◌, IfSome};
 ghost use Rattle.parcel.specs.Fits.{FitsAggregate, FitsLogical, FitsRoot, FitsVolume};
-ghost use Rattle.parcel.specs.Shown.{blocks_of, aggregate_facts, child_facts, root_facts, volume_facts, has_file};
+ghost use Rattle.parcel.specs.Shown.{blocks_of, aggregate_facts, child_facts, root_facts, volume_facts};
 ghost use Rattle.stripe.specs.Stripe.{StripeRule};
-ghost use Rattle.parcel.specs.Totals.{block_total, entry_count, file_total, sum_totals, totals_of};
+ghost use Rattle.parcel.specs.Totals.{block_total, entry_count, sum_totals, totals_of};
 
 use crate::{Aggr, Logical, Root, StripeParcel, Vol};
 use affinity::Geometry;
@@ -25,9 +25,7 @@ const NOTHING: Totals = Totals {
 
 impl Totals {
     fn plus(self, more: Totals) -> Totals
-        requires volumes { self.volumes + more.volumes < 2 ^ 32 }
-        requires files { self.files + more.files < 2 ^ 32 }
-        requires blocks { self.blocks + more.blocks < 2 ^ 32 }
+        requires { (self.volumes + more.volumes < 2 ^ 32) × (self.files + more.files < 2 ^ 32) × (self.blocks + more.blocks < 2 ^ 32) }
         ensures { result ≡ record {
           volumes = self.volumes + more.volumes;
           files = self.files + more.files;
@@ -40,14 +38,6 @@ impl Totals {
             blocks: self.blocks + more.blocks,
         }
     }
-}
-
-/// How many files a volume has. None is beyond those of the geometry, so that each bit counts.
-fn file_count(logical: &Logical, g: &Geometry) -> u32
-    requires { FitsLogical g.now logical.now }
-    ensures { result ≡ file_total g.now (has_file logical.now.files) }
-{
-    logical.files.count_ones()
 }
 
 /// How many blocks lie in a stripe: none where it is lent.
@@ -80,7 +70,7 @@ pub(crate) fn volume_totals(volume: &Vol, g: &Geometry) -> Totals
     ensures { result ≡ totals_of g.now (volume_facts g.now volume.now) }
 {
     let (files, blocks) = match &volume.logical {
-        Some(logical) => (file_count(logical, g), block_count(logical, g)),
+        Some(logical) => (logical.files.count_ones(), block_count(logical, g)),
         None => (0, 0),
     };
     Totals {

@@ -16,35 +16,16 @@ volume_in-requires c =
     let at : slice_index_or row.items c.loop-v.v None ≡ c.index.result.now = sym (get_or_read row.items _ _ below c.index.ensures None) in
     fits_in_place (λ v. FitsVolume c.args.g.now) row.items c.requires.volumes c.loop-v.v c.index.result.now at
 
-pub plus-totals-requires-clause-volumes : goal.plus-totals-requires-clause-volumes
-plus-totals-requires-clause-volumes c =
+pub plus-totals-requires : goal.plus-totals-requires
+plus-totals-requires c =
     let g = c.args.g.now in
     let so_far : IsFew (c.loop-v.v * 8) c.loop-v.totals = subst (IsFew (c.loop-v.v * 8)) (sym c.loop-v.invariant)
     (few_of_sum c.loop-v.v 1 (λ v. totals_of g (aggregate_facts g c.args.aggregate.now v)) (omega arith)
     (λ v. few_of_one g (aggregate_facts g c.args.aggregate.now v))) in
     let here : IsFew 1 c.volume_in.result = subst (IsFew 1) (sym c.volume_in.ensures) (few_of_one g (child_facts (volume_facts g) c.index.result.now)) in
     let range = g.volumes_range.1 in
-    let row = c.args.aggregate.now.volumes in
-    omega (arith, so_far.volumes, here.volumes, row.ok.0, c.requires.count)
-
-pub plus-totals-requires-clause-files : goal.plus-totals-requires-clause-files
-plus-totals-requires-clause-files c =
-    let g = c.args.g.now in
-    let so_far : IsFew (c.loop-v.v * 8) c.loop-v.totals = subst (IsFew (c.loop-v.v * 8)) (sym c.loop-v.invariant)
-    (few_of_sum c.loop-v.v 1 (λ v. totals_of g (aggregate_facts g c.args.aggregate.now v)) (omega arith)
-    (λ v. few_of_one g (aggregate_facts g c.args.aggregate.now v))) in
-    let here : IsFew 1 c.volume_in.result = subst (IsFew 1) (sym c.volume_in.ensures) (few_of_one g (child_facts (volume_facts g) c.index.result.now)) in
-    let range = g.volumes_range.1 in
-    let row = c.args.aggregate.now.volumes in
-    omega (arith, so_far.files, here.files, row.ok.0, c.requires.count)
-
-pub plus-totals-requires-clause-blocks : goal.plus-totals-requires-clause-blocks
-plus-totals-requires-clause-blocks c =
-    let g = c.args.g.now in
-    let so_far : IsFew (c.loop-v.v * 8) c.loop-v.totals = subst (IsFew (c.loop-v.v * 8)) (sym c.loop-v.invariant)
-    (few_of_sum c.loop-v.v 1 (λ v. totals_of g (aggregate_facts g c.args.aggregate.now v)) (omega arith)
-    (λ v. few_of_one g (aggregate_facts g c.args.aggregate.now v))) in
-    let here : IsFew 1 c.volume_in.result = subst (IsFew 1) (sym c.volume_in.ensures) (few_of_one g (child_facts (volume_facts g) c.index.result.now)) in
-    let range = g.volumes_range.1 in
-    let row = c.args.aggregate.now.volumes in
-    omega (arith, so_far.blocks, here.blocks, row.ok.0, c.requires.count)
+    let row = c.args.aggregate.now.volumes in (
+      omega (arith, so_far.volumes, here.volumes, row.ok.0, c.requires.count),
+      omega (arith, so_far.files, here.files, row.ok.0, c.requires.count),
+      omega (arith, so_far.blocks, here.blocks, row.ok.0, c.requires.count),
+    )

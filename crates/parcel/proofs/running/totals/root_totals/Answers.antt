@@ -8,8 +8,8 @@ use Rattle.parcel.specs.declared.running.totals.Totals.{Totals}
 use Rattle.parcel.proofs.Summing.{IsFew, few_of_one, few_of_sum, few_of_aggregates, sum_totals_step}
 use Rattle.parcel.proofs.running.totals.root_totals.Goals as goal
 
-pub plus-totals-requires-clause-volumes : goal.plus-totals-requires-clause-volumes
-plus-totals-requires-clause-volumes c =
+pub plus-totals-requires : goal.plus-totals-requires
+plus-totals-requires c =
     let g = c.args.g.now in
     let so_far : IsFew (c.loop-a.a * 64) c.loop-a.totals = subst (IsFew (c.loop-a.a * 64)) (sym c.loop-a.invariant) (few_of_aggregates g c.loop-a.a (root_facts g c.args.root.now)) in
     let here : IsFew (g.volumes * 8) c.aggregate_in.result = subst (IsFew (g.volumes * 8)) (sym c.aggregate_in.ensures)
@@ -17,32 +17,11 @@ plus-totals-requires-clause-volumes c =
     (λ v. few_of_one g (child_facts (λ r. aggregate_facts g r v) c.index.result.now))) in
     let few = g.volumes_range.1 in
     let range = g.aggregates_range.1 in
-    let row = c.args.root.now.aggregates in
-    omega (arith, so_far.volumes, here.volumes, row.ok.0, c.requires.count)
-
-pub plus-totals-requires-clause-files : goal.plus-totals-requires-clause-files
-plus-totals-requires-clause-files c =
-    let g = c.args.g.now in
-    let so_far : IsFew (c.loop-a.a * 64) c.loop-a.totals = subst (IsFew (c.loop-a.a * 64)) (sym c.loop-a.invariant) (few_of_aggregates g c.loop-a.a (root_facts g c.args.root.now)) in
-    let here : IsFew (g.volumes * 8) c.aggregate_in.result = subst (IsFew (g.volumes * 8)) (sym c.aggregate_in.ensures)
-    (few_of_sum g.volumes 1 (λ v. totals_of g (child_facts (λ r. aggregate_facts g r v) c.index.result.now)) (omega arith)
-    (λ v. few_of_one g (child_facts (λ r. aggregate_facts g r v) c.index.result.now))) in
-    let few = g.volumes_range.1 in
-    let range = g.aggregates_range.1 in
-    let row = c.args.root.now.aggregates in
-    omega (arith, so_far.files, here.files, row.ok.0, c.requires.count)
-
-pub plus-totals-requires-clause-blocks : goal.plus-totals-requires-clause-blocks
-plus-totals-requires-clause-blocks c =
-    let g = c.args.g.now in
-    let so_far : IsFew (c.loop-a.a * 64) c.loop-a.totals = subst (IsFew (c.loop-a.a * 64)) (sym c.loop-a.invariant) (few_of_aggregates g c.loop-a.a (root_facts g c.args.root.now)) in
-    let here : IsFew (g.volumes * 8) c.aggregate_in.result = subst (IsFew (g.volumes * 8)) (sym c.aggregate_in.ensures)
-    (few_of_sum g.volumes 1 (λ v. totals_of g (child_facts (λ r. aggregate_facts g r v) c.index.result.now)) (omega arith)
-    (λ v. few_of_one g (child_facts (λ r. aggregate_facts g r v) c.index.result.now))) in
-    let few = g.volumes_range.1 in
-    let range = g.aggregates_range.1 in
-    let row = c.args.root.now.aggregates in
-    omega (arith, so_far.blocks, here.blocks, row.ok.0, c.requires.count)
+    let row = c.args.root.now.aggregates in (
+      omega (arith, so_far.volumes, here.volumes, row.ok.0, c.requires.count),
+      omega (arith, so_far.files, here.files, row.ok.0, c.requires.count),
+      omega (arith, so_far.blocks, here.blocks, row.ok.0, c.requires.count),
+    )
 
 pub loop-a-preserved : goal.loop-a-preserved
 loop-a-preserved c =

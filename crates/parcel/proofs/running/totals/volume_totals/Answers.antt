@@ -1,26 +1,32 @@
 -- Files are counted by their bits and blocks by the stripes, where these are in; a volume that is made counts one.
-use Rattle.std.proofs.Common.{◌≡◌, Bool, true, false, refl, ap, sym, ◌∙◌}
-use mir.Val.{bool_byte}
+use Rattle.std.proofs.Common.{◌≡◌, ap, sym, subst, ◌∙◌}
+use Rattle.std.specs.Prelude.{count_ones, IfSome}
+use Rattle.parcel.proofs.PieceBytes.{mark_byte}
+use Rattle.affinity.specs.declared.geometry.Geometry.{Geometry}
 use Rattle.meaning.specs.State.{one_if}
-use Rattle.parcel.specs.Shown.{files_in, blocks_below}
+use Rattle.meaning.proofs.FileNumber.{count_back}
+use Rattle.parcel.specs.Fits.{FitsLogical}
+use Rattle.parcel.specs.Shown.{files_in, blocks_below, has_file}
+use Rattle.parcel.specs.declared.parts.Logical.{Logical}
 use Rattle.parcel.specs.Totals.{file_total, block_total}
 use Rattle.parcel.proofs.StripeTotals.{no_files, no_blocks}
 use Rattle.parcel.proofs.running.totals.volume_totals.Goals as goal
 use Rattle.parcel.proofs.running.totals.volume_totals.Goals.{in-Some, in-None}
 
-byte_is : (t : Bool) → bool_byte t ≡ one_if t
-byte_is true = refl
-byte_is false = refl
+-- the bits of a volume's files are of files that the geometry has
+files_counted : (g : Geometry) (l : Logical) → FitsLogical g l → count_ones l.files ≡ file_total g (has_file l.files)
+files_counted g l fits = sym (count_back g.files l.files fits.files)
 
 pub returns : goal.returns
 returns c =
     let g = c.args.g.now in
     let w = c.args.volume.now in
-    let made : c.from.result ≡ one_if w.made = c.from.ensures ∙ byte_is w.made in
+    let made : c.from.result ≡ one_if w.made = c.from.ensures ∙ mark_byte w.made in
     let both : (c.match-volume.files.0 ≡ file_total g (files_in w.logical)) × (c.match-volume.files.1 ≡ block_total g (blocks_below g w.logical)) =
     elim c.match-volume.branch [
       | in-Some b ↦ (
-        ap (λ p. p.0) b.files-is ∙ b.file_count.ensures ∙ ap (λ o. file_total g (files_in o)) (sym b.in-Some.is),
+        ap (λ p. p.0) b.files-is ∙ files_counted g b.in-Some.logical (subst (λ o. IfSome o (FitsLogical g)) b.in-Some.is c.requires.logical)
+            ∙ ap (λ o. file_total g (files_in o)) (sym b.in-Some.is),
         ap (λ p. p.1) b.files-is ∙ b.block_count.ensures ∙ ap (λ o. block_total g (blocks_below g o)) (sym b.in-Some.is),
       )
       | in-None b ↦ (
