@@ -1,5 +1,5 @@
 -- A fact about each job that is lent, after one place changed; and a place where nothing is lent.
-use Rattle.std.proofs.Common.{◌≡◌, ℕ, zero, suc, List, [], ◌∷◌, set, Option, None, IfSome, MatchOption, refl, subst}
+use Rattle.std.proofs.Common.{◌≡◌, ℕ, zero, suc, List, [], ◌∷◌, set, Option, None, IfSome, refl}
 use Rattle.parcel.specs.Run.{JobView}
 use Rattle.workers.specs.Rule.{lent_at}
 

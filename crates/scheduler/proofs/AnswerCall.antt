@@ -1,8 +1,7 @@
 -- The call that answers, by what its callees give.
-use Rattle.std.proofs.Common.{◌≡◌, ℕ, zero, suc, ◌<◌, List, [], ◌∷◌, map, length, get_or, Some, refl, ap, sym, subst, ◌∙◌, arith, ◌≤◌}
+use Rattle.std.proofs.Common.{◌≡◌, ℕ, suc, ◌<◌, List, ◌∷◌, map, length, get_or, Some, refl, ap, sym, subst, ◌∙◌, arith, ◌≤◌}
 use Rattle.std.specs.Prelude.{unwrap_or, vec_capacity}
 use Rattle.std.specs.List.{concat}
-use Rattle.std.proofs.lemmas.List.{get_or_default}
 use Rattle.arena.proofs.ArenaLemmas.{chain-front, chained-listed, front-chained}
 use Rattle.arena.proofs.Counts.{count_of-append}
 use Rattle.arena.specs.Lists.{without}

@@ -1,7 +1,7 @@
 -- The call that takes back the result of a job, by what its callees give.
 use Rattle.std.proofs.Common.{◌≡◌, ℕ, zero, suc, ◌+◌, ◌<◌, Bool, true, false, List, [], ◌∷◌, ◌++◌, append_assoc, map, length, get_or, slice_set, Option, Some, refl, ap, sym, subst, ◌∙◌, arith, inl, inr, ◌≤◌}
 use Rattle.std.specs.Vec.{with_item}
-use Rattle.std.specs.Prelude.{◌==◌, ◌||◌, ◌&&◌, not, vec_capacity}
+use Rattle.std.specs.Prelude.{◌==◌, ◌||◌, not, vec_capacity}
 use Rattle.std.specs.List.{AllByRecursion, Contains, concat, list_any}
 use Rattle.std.proofs.lemmas.Bool.{and_parts, eq-eqb, true≢false, not-true, and_right}
 use Rattle.std.proofs.lemmas.Bool.Decides.{eqb_tells}

@@ -1,7 +1,6 @@
 -- One step of a run, after those before it.
 use Rattle.std.proofs.Common.{◌≡◌, ℕ, Bool, List, [], ◌∷◌, ◌++◌, Result, Ok, Err, refl, ap, sym, ◌∙◌, subst, take, append-nil, false, true, ◌≤◌, ◌+◌, add-zero, zero, suc, arith, Option}
-use Rattle.std.specs.Prelude.{OnErr, drop, length, if◌then◌else◌}
-use Rattle.std.proofs.lemmas.List.{drop_all}
+use Rattle.std.specs.Prelude.{OnErr, length, if◌then◌else◌}
 use Rattle.affinity.specs.declared.geometry.Geometry.{Geometry}
 use Rattle.histories.proofs.Failures.{failure_lasts}
 use Rattle.histories.specs.Events.{Event, MachineState, batch}

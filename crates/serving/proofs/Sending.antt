@@ -1,6 +1,6 @@
 -- What is dispatched to the bench: the eligible message with the least ticket, to the first place where nothing is lent.
 use Rattle.std.proofs.Common.{◌≡◌, ℕ, ◌+◌, Bool, true, false, List, [], ◌∷◌, Option, Some, None, Result, Ok, Err, refl, ap, sym, ◌∙◌, subst, length, map, set}
-use Rattle.std.specs.Prelude.{MatchOption, if◌then◌else◌, is_none, nat_lt, not, position}
+use Rattle.std.specs.Prelude.{if◌then◌else◌, is_none, nat_lt, not, position}
 use Rattle.std.specs.List.{position_or_len}
 use Rattle.std.proofs.lemmas.List.{length-map}
 use Rattle.std.proofs.lemmas.List.Quantifiers.{position-Some}

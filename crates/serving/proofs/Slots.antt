@@ -4,7 +4,7 @@ use Rattle.std.specs.Prelude.{if◌then◌else◌, nat_le, not, ◌==◌, ◌^�
 use Rattle.std.proofs.lemmas.Bool.{leb-true}
 use Rattle.histories.proofs.Sound.{move_slots}
 use Rattle.affinity.specs.declared.geometry.Geometry.{Geometry}
-use Rattle.histories.proofs.Moves.{Answers, Arrives, Backs, Grants, Logs, Move, Passed, Stays, moves}
+use Rattle.histories.proofs.Moves.{moves}
 use Rattle.histories.specs.Events.{Event, MachineState, arrive}
 use Rattle.histories.specs.Laws.{IsIdle}
 use Rattle.histories.specs.Runs.{IsLegal, end_state}

@@ -1,6 +1,6 @@
 -- Lines that are consumed of the input, each with its message.
-use Rattle.std.proofs.Common.{◌≡◌, ℕ, true, false, Bool, List, [], ◌∷◌, ◌++◌, Option, Some, None, sym, refl, subst}
-use Rattle.std.specs.Prelude.{IfSome, Result, Ok, Err, ◌&&◌}
+use Rattle.std.proofs.Common.{◌≡◌, ℕ, false, Bool, List, [], ◌∷◌, ◌++◌, Option, Some, None, sym, refl, subst}
+use Rattle.std.specs.Prelude.{IfSome, Result, Ok, Err}
 use Rattle.std.specs.Io.KnownBytes.{IsAtEnd}
 use Rattle.histories.specs.Events.{arrive}
 use Rattle.histories.specs.Laws.{IsIdle}
