@@ -1,6 +1,7 @@
 -- The lines of some bytes are the first line and then the lines of the rest; and what holds of a line that is too long.
 use Rattle.std.proofs.Common.{◌≡◌, ◌≢◌, ℕ, ◌<◌, inl, inr, eqb, List, [], ◌∷◌, length, None, refl, sym, ap, ◌∙◌}
 use Rattle.std.proofs.lemmas.Bool.{cond-true, cond-false, eq-eqb, ne_eqb, cases_eq, lt-ltb}
+use Rattle.language.specs.declared.TheConstants.{LONGEST_LINE}
 use Rattle.language.specs.Lines.{lines, in_first}
 use Rattle.language.specs.Grammar.{message_of}
 use Rattle.language.specs.FirstLine.{first_line, behind_first_line}
@@ -40,6 +41,6 @@ lines-first [] some = absurd (some refl)
 lines-first (b ∷ bs) some = lines-cons b bs
 
 -- a line that is too long is no message
-pub too_long : (line : List ℕ) → 1100 < length line → None ≡ message_of line
+pub too_long : (line : List ℕ) → LONGEST_LINE < length line → None ≡ message_of line
 unfolding message_of
-too_long line h = sym (cond-true _ _ _ (lt-ltb 1100 (length line) h))
+too_long line h = sym (cond-true _ _ _ (lt-ltb LONGEST_LINE (length line) h))

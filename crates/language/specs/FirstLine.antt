@@ -1,5 +1,6 @@
 -- Statement for engineers: The first line of some bytes, and what a reader of lines finds in them.
 use Rattle.std.specs.Prelude.{◌≡◌, ◌≢◌, ℕ, ◌<◌, ◌⊎◌, ◌==◌, Bool, true, List, [], ◌∷◌, ◌++◌, length, if◌then◌else◌, Option, Some, IfSome, All, Contains}
+use Rattle.language.specs.declared.TheConstants.{LONGEST_LINE}
 
 -- the bytes before the first newline, or all of them
 abbrev pub first_line : List ℕ → List ℕ
@@ -23,9 +24,9 @@ pub record GivesLine (line bs : List ℕ) (left : Option (List ℕ)) : Type 0 wh
   pub line_is : line ≡ first_line bs
   pub left_is : left ≡ Some (behind_first_line bs)
 
--- A long line was skipped: the first line of the bytes has more than 1,100 bytes, and those after it are left.
+-- A long line was skipped: the first line of the bytes has more bytes than a message may have, and those after it are left.
 pub record PassesLine (bs : List ℕ) (left : Option (List ℕ)) : Type 0 where
-  pub long : 1100 < length (first_line bs)
+  pub long : LONGEST_LINE < length (first_line bs)
   pub left_is : left ≡ Some (behind_first_line bs)
 
 -- The end was found: there are no bytes, and none are left.

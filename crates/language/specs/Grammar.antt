@@ -11,6 +11,7 @@ use Rattle.language.specs.declared.Msg.{Msg}
 use Rattle.language.specs.declared.Msg.TheVariants.{MakeVol, DropVol, Create, Delete, Seal, Unseal, Write, Punch, Read, List as ListFiles, Usage, Summary, SetLabel, Label}
 use Rattle.language.specs.Lines.{words, number_in_word, block_in_word, label_in_word, padded}
 use Rattle.language.specs.Messages.{kind, numbers}
+use Rattle.language.specs.declared.TheConstants.{BLOCK_SIZE, LABEL_SIZE, LONGEST_LINE}
 
 -- ---- by the words of a line: which message they make, if any
 
@@ -133,9 +134,9 @@ of_words (word ∷ arguments) = do
   kind ← kind_named word
   of_kind kind arguments
 
--- The message that a line spells, if it spells one. No line of more than 1,100 bytes does.
+-- The message that a line spells, if it spells one. None of more than `LONGEST_LINE` bytes does.
 unfoldable pub message_of : List ℕ → Option Msg
-message_of line = if nat_lt 1100 (length line) then None else of_words (words line)
+message_of line = if nat_lt LONGEST_LINE (length line) then None else of_words (words line)
 
 -- ---- by the message: how its line is put together
 
@@ -146,8 +147,8 @@ SpellsBytes size digits whole = (bytes : List ℕ) × (decode_of digits ≡ Ok b
 
 -- The words `behind` are what follows the numbers of the message in its line: the digits of its block or label, or no word.
 abbrev pub IsData : Msg → List (List ℕ) → Type 0
-IsData (Write a v f b content) behind = (digits : List ℕ) × (behind ≡ digits ∷ []) × SpellsBytes 512 digits content.0
-IsData (SetLabel a v bytes) behind = (digits : List ℕ) × (behind ≡ digits ∷ []) × SpellsBytes 32 digits bytes
+IsData (Write a v f b content) behind = (digits : List ℕ) × (behind ≡ digits ∷ []) × SpellsBytes BLOCK_SIZE digits content.0
+IsData (SetLabel a v bytes) behind = (digits : List ℕ) × (behind ≡ digits ∷ []) × SpellsBytes LABEL_SIZE digits bytes
 IsData _ behind = behind ≡ []
 
 -- The line spells the message: its keyword, its numbers in decimal and its data, separated by single spaces.
@@ -156,4 +157,4 @@ pub record Spells (line : List ℕ) (m : Msg) : Type 0 where
   pub parts : line ≡ join_with_byte 32 (keyword (kind m) ∷ map decimal (numbers m) ++ words_behind)
   pub fits : AllByRecursion (λ n. n < 65536) (numbers m)
   pub content : IsData m words_behind
-  pub short : length line ≤ 1100
+  pub short : length line ≤ LONGEST_LINE

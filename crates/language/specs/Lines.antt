@@ -5,6 +5,7 @@ use Rattle.std.specs.Str.Parse.{digits_value}
 use Rattle.hex.specs.Hex.{decode_of}
 use Rattle.hex.specs.declared.error.FromHexError.{FromHexError}
 use Rattle.language.specs.declared.Block.{Block}
+use Rattle.language.specs.declared.TheConstants.{BLOCK_SIZE, LABEL_SIZE}
 
 -- the pieces, with this byte in front of the first of them
 abbrev pub in_first : ℕ → List (List ℕ) → List (List ℕ)
@@ -44,8 +45,8 @@ bytes_in_word size word = if nat_le 2 (length word) && nat_le (length word) (2 *
 
 -- the block that a word encodes
 unfoldable pub block_in_word : List ℕ → Option Block
-block_in_word word = option_map (λ bytes. record { 0 = bytes }) (bytes_in_word 512 word)
+block_in_word word = option_map (λ bytes. record { 0 = bytes }) (bytes_in_word BLOCK_SIZE word)
 
 -- the label that a word encodes
 unfoldable pub label_in_word : List ℕ → Option (List ℕ)
-label_in_word word = bytes_in_word 32 word
+label_in_word word = bytes_in_word LABEL_SIZE word

@@ -6,6 +6,7 @@ use Rattle.affinity.specs.declared.kinds.Kind.TheVariants as kinds
 use Rattle.affinity.specs.declared.geometry.Geometry.{Geometry}
 use Rattle.affinity.specs.Place.{is_in_range as numbers_are_in_range, path_of_kind}
 use Rattle.affinity.specs.Path.{Path}
+use Rattle.language.specs.declared.TheConstants.{BLOCK_SIZE, LABEL_SIZE}
 use Rattle.language.specs.declared.Block.{Block}
 use Rattle.language.specs.declared.Msg.{Msg}
 use Rattle.language.specs.declared.Msg.TheVariants.{MakeVol, DropVol, Create, Delete, Seal, Unseal, Write, Punch, Read, List as ListFiles, Usage, Summary, SetLabel, Label}
@@ -67,12 +68,12 @@ path_of g m = path_of_kind g (kind m) (four_numbers m)
 abbrev pub AreSizedBytes : ℕ → List ℕ → Type 0
 AreSizedBytes size bytes = (length bytes ≡ size) × AllByRecursion (λ b. b < 256) bytes
 
--- The block is 512 bytes.
+-- The block is `BLOCK_SIZE` bytes.
 abbrev pub IsBlock : Block → Type 0
-IsBlock content = AreSizedBytes 512 content.0
+IsBlock content = AreSizedBytes BLOCK_SIZE content.0
 
--- The data of the message are bytes: 512 in a block, 32 in a label.
+-- The data of the message are bytes: `BLOCK_SIZE` in a block, `LABEL_SIZE` in a label.
 abbrev pub IsMessage : Msg → Type 0
 IsMessage (Write a v f b content) = IsBlock content
-IsMessage (SetLabel a v bytes) = AreSizedBytes 32 bytes
+IsMessage (SetLabel a v bytes) = AreSizedBytes LABEL_SIZE bytes
 IsMessage _ = Unit {0}

@@ -9,9 +9,27 @@ mod kinds;
 
 pub use files::has_file;
 
+/// The size of a block, in bytes.
+pub const BLOCK_SIZE: usize = 512;
+
+/// The size of a label, in bytes.
+pub const LABEL_SIZE: usize = 32;
+
+/// The size of a message's record in a log: 8 bytes of head, and room for a block.
+pub const RECORD_SIZE: usize = 8 + BLOCK_SIZE;
+
+/// How many bytes a line of the input may have, its newline not counted. A longer one is no message.
+pub const LONGEST_LINE: usize = 1100;
+
+/// How many bytes the longest text of a reply has: `block `, and two digits for each byte of a block.
+pub const LONGEST_TEXT: usize = 6 + 2 * BLOCK_SIZE;
+
+/// How many bytes the longest line of a reply has: its text and a newline.
+pub const LONGEST_REPLY: usize = LONGEST_TEXT + 1;
+
 /// The content of one block of a file.
 #[derive(Clone, Copy, Debug, PartialEq, Eq)]
-pub struct Block(pub [u8; 512]);
+pub struct Block(pub [u8; BLOCK_SIZE]);
 
 /// A message. Its numbers are, in this order and as far as it has them, an aggregate, a volume of it,
 /// a file of that volume and a block of that file.
@@ -42,7 +60,7 @@ pub enum Msg {
     /// Asks how much all volumes hold.
     Summary,
     /// Sets the label of a volume.
-    SetLabel(u16, u16, [u8; 32]),
+    SetLabel(u16, u16, [u8; LABEL_SIZE]),
     /// Asks for the label of a volume.
     Label(u16, u16),
 }
@@ -90,5 +108,5 @@ pub enum Reply {
     /// The message was refused, and changed nothing.
     Refused(Refusal),
     /// The label of the volume.
-    Label([u8; 32]),
+    Label([u8; LABEL_SIZE]),
 }
