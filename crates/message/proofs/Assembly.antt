@@ -4,6 +4,7 @@ use Rattle.std.proofs.lemmas.List.{append_assoc, take_at, drop_at, drop-drop, ap
 use Rattle.std.specs.Prelude.{if◌then◌else◌}
 use Rattle.hex.specs.Hex.{encode_lower, lower_digits}
 use Rattle.hex.proofs.HexLemmas.{length-encode_with}
+use Rattle.language.specs.declared.TheConstants.{LONGEST_REPLY}
 use Rattle.language.specs.Replies.{AppendsText, at_least_one, without_trailing_zeros, shown, has_file, spaced, files_below, files_text}
 use Rattle.std.specs.Int.{bit_at, trailing_zeros, w64}
 use Rattle.std.proofs.Math.Nat.{div-div-eq-div-mul, div-le_self, div-lt_iff_lt-mul, one-mul}
@@ -124,7 +125,7 @@ next_file files from fits some =
 
 -- ---- a whole line
 
-pub line_bound : (old new line : List ℕ) (end : ℕ) → length new ≡ 1031 → AppendsText old new 0 end line → end ≤ 1031
+pub line_bound : (old new line : List ℕ) (end : ℕ) → length new ≡ LONGEST_REPLY → AppendsText old new 0 end line → end ≤ LONGEST_REPLY
 line_bound old new line end size h =
     let ends = h.ends in
     let front : length (take end new) ≡ length line = ap length h.front in

@@ -11,6 +11,7 @@ use Rattle.hex.specs.Hex.{decode_of, decode_sized, is_hex_digit}
 use Rattle.hex.specs.declared.error.FromHexError.{FromHexError}
 use Rattle.hex.proofs.HexLemmas.{decode_of-ok, decode_of-even, decode_of-odd, decode_sized-odd}
 use Rattle.hex.proofs.Pairs.{decode_sized-pairs}
+use Rattle.language.specs.declared.TheConstants.{BLOCK_SIZE, LABEL_SIZE}
 use Rattle.language.specs.declared.Block.{Block}
 use Rattle.language.specs.Lines.{bytes_in_word, block_in_word, label_in_word, padded, padded_with}
 use Rattle.message.proofs.Words.{HasNoSpace}
@@ -50,19 +51,19 @@ block_made (Some bytes) content h = ap Some (ap (λ (b : Block). b.0) (same_Some
 block_made None content h = cc h
 
 -- a block by its bytes
-pub block_bytes : (w : List ℕ) (content : Block) → block_in_word w ≡ Some content → bytes_in_word 512 w ≡ Some content.0
+pub block_bytes : (w : List ℕ) (content : Block) → block_in_word w ≡ Some content → bytes_in_word BLOCK_SIZE w ≡ Some content.0
 unfolding block_in_word
-block_bytes w content h = block_made (bytes_in_word 512 w) content h
+block_bytes w content h = block_made (bytes_in_word BLOCK_SIZE w) content h
 
-pub bytes_block : (w : List ℕ) (content : Block) → bytes_in_word 512 w ≡ Some content.0 → block_in_word w ≡ Some content
+pub bytes_block : (w : List ℕ) (content : Block) → bytes_in_word BLOCK_SIZE w ≡ Some content.0 → block_in_word w ≡ Some content
 unfolding block_in_word
 bytes_block w content h = ap (λ (o : Option (List ℕ)). option_map (λ bytes. record { 0 = bytes }) o) h
 
-pub no_block : (w : List ℕ) → bytes_in_word 512 w ≡ None → block_in_word w ≡ None
+pub no_block : (w : List ℕ) → bytes_in_word BLOCK_SIZE w ≡ None → block_in_word w ≡ None
 unfolding block_in_word
 no_block w h = ap (λ (o : Option (List ℕ)). option_map (λ bytes. record { 0 = bytes }) o) h
 
-pub label_bytes : (w : List ℕ) → label_in_word w ≡ bytes_in_word 32 w
+pub label_bytes : (w : List ℕ) → label_in_word w ≡ bytes_in_word LABEL_SIZE w
 unfolding label_in_word
 label_bytes w = refl
 
@@ -78,10 +79,10 @@ pub bytes_no_space : (size : ℕ) (w whole : List ℕ) → bytes_in_word size w 
 bytes_no_space size w whole h = let p = bytes_parts size w whole h in no_space w (decode_of-ok w p.0 p.1.decoded).1
 
 pub block_no_space : (w : List ℕ) (content : Block) → block_in_word w ≡ Some content → HasNoSpace w
-block_no_space w content h = bytes_no_space 512 w content.0 (block_bytes w content h)
+block_no_space w content h = bytes_no_space BLOCK_SIZE w content.0 (block_bytes w content h)
 
 pub label_no_space : (w bytes : List ℕ) → label_in_word w ≡ Some bytes → HasNoSpace w
-label_no_space w bytes h = bytes_no_space 32 w bytes (sym (label_bytes w) ∙ h)
+label_no_space w bytes h = bytes_no_space LABEL_SIZE w bytes (sym (label_bytes w) ∙ h)
 
 -- ---- decoding into half the length
 

@@ -1,6 +1,7 @@
 -- The digits of a block or a label, as words and by what they encode.
 use Rattle.std.proofs.Common.{◌≡◌, ℕ, List, Some, ap, sym, ◌∙◌, arith}
 use Rattle.hex.proofs.HexLemmas.{decode_of-ok}
+use Rattle.language.specs.declared.TheConstants.{BLOCK_SIZE, LABEL_SIZE}
 use Rattle.language.specs.declared.Block.{Block}
 use Rattle.language.specs.Lines.{bytes_in_word, block_in_word, label_in_word}
 use Rattle.language.specs.Grammar.{SpellsBytes}
@@ -23,14 +24,14 @@ say_bytes size digits whole h =
     let high = h.3 in
     bytes_from size digits h.0 (record { low = omega arith; high = omega arith; decoded = h.1 }) ∙ ap Some (sym h.4)
 
-pub block_says : (digits : List ℕ) (content : Block) → block_in_word digits ≡ Some content → SpellsBytes 512 digits content.0
-block_says digits content h = bytes_say 512 digits content.0 (block_bytes digits content h)
+pub block_says : (digits : List ℕ) (content : Block) → block_in_word digits ≡ Some content → SpellsBytes BLOCK_SIZE digits content.0
+block_says digits content h = bytes_say BLOCK_SIZE digits content.0 (block_bytes digits content h)
 
-pub says_block : (digits : List ℕ) (content : Block) → SpellsBytes 512 digits content.0 → block_in_word digits ≡ Some content
-says_block digits content h = bytes_block digits content (say_bytes 512 digits content.0 h)
+pub says_block : (digits : List ℕ) (content : Block) → SpellsBytes BLOCK_SIZE digits content.0 → block_in_word digits ≡ Some content
+says_block digits content h = bytes_block digits content (say_bytes BLOCK_SIZE digits content.0 h)
 
-pub label_says : (digits bytes : List ℕ) → label_in_word digits ≡ Some bytes → SpellsBytes 32 digits bytes
-label_says digits bytes h = bytes_say 32 digits bytes (sym (label_bytes digits) ∙ h)
+pub label_says : (digits bytes : List ℕ) → label_in_word digits ≡ Some bytes → SpellsBytes LABEL_SIZE digits bytes
+label_says digits bytes h = bytes_say LABEL_SIZE digits bytes (sym (label_bytes digits) ∙ h)
 
-pub says_label : (digits bytes : List ℕ) → SpellsBytes 32 digits bytes → label_in_word digits ≡ Some bytes
-says_label digits bytes h = label_bytes digits ∙ say_bytes 32 digits bytes h
+pub says_label : (digits bytes : List ℕ) → SpellsBytes LABEL_SIZE digits bytes → label_in_word digits ≡ Some bytes
+says_label digits bytes h = label_bytes digits ∙ say_bytes LABEL_SIZE digits bytes h

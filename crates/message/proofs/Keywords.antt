@@ -7,19 +7,20 @@ use Rattle.std.proofs.lemmas.Option.{same_Some}
 use Rattle.std.proofs.lemmas.Slice.Eq.{bytes_eq-Decides}
 use Rattle.affinity.specs.declared.kinds.Kind.{Kind}
 use Rattle.affinity.specs.declared.kinds.Kind.TheVariants.{MakeVol, Summary}
+use Rattle.language.specs.declared.TheConstants.{LONGEST_LINE}
 use Rattle.language.specs.Lines.{words}
 use Rattle.language.specs.Grammar.{message_of, of_words, of_kind, keyword, kind_named, named_among, all_kinds, ◌>>=◌}
 use Rattle.message.proofs.Words.{none_before, words_whole, goes_on}
 
-pub by_words : (line : List ℕ) (ws : List (List ℕ)) → length line ≤ 1100 → words line ≡ ws → message_of line ≡ of_words ws
+pub by_words : (line : List ℕ) (ws : List (List ℕ)) → length line ≤ LONGEST_LINE → words line ≡ ws → message_of line ≡ of_words ws
 unfolding message_of
-by_words line ws h e = cond-false _ _ _ (le-ltb 1100 (length line) h) ∙ ap of_words e
+by_words line ws h e = cond-false _ _ _ (le-ltb LONGEST_LINE (length line) h) ∙ ap of_words e
 
 -- a line whose first word names a kind, or none
-pub with_kind : (line word : List ℕ) (args : List (List ℕ)) (k : Kind) → length line ≤ 1100 → words line ≡ word ∷ args → Some k ≡ kind_named word → message_of line ≡ of_kind k args
+pub with_kind : (line word : List ℕ) (args : List (List ℕ)) (k : Kind) → length line ≤ LONGEST_LINE → words line ≡ word ∷ args → Some k ≡ kind_named word → message_of line ≡ of_kind k args
 with_kind line word args k h e named = by_words line (word ∷ args) h e ∙ ap (λ (o : Option Kind). o >>= (λ k. of_kind k args)) (sym named)
 
-pub without_kind : (line word : List ℕ) (args : List (List ℕ)) → length line ≤ 1100 → words line ≡ word ∷ args → None ≡ kind_named word → message_of line ≡ None
+pub without_kind : (line word : List ℕ) (args : List (List ℕ)) → length line ≤ LONGEST_LINE → words line ≡ word ∷ args → None ≡ kind_named word → message_of line ≡ None
 without_kind line word args h e named = by_words line (word ∷ args) h e ∙ ap (λ (o : Option Kind). o >>= (λ k. of_kind k args)) (sym named)
 
 -- a keyword alone in its line is a message only if it is `summary`
@@ -121,7 +122,7 @@ module _ (line : List ℕ) (none : (k : ℕ) → k ≤ 8 → k < length line →
       words_whole line 9 (omega (arith, short, is)) (none_before line 9 (λ i low high. none i (omega arith) high))
 
   -- a line that is no keyword spells no message: its first word is the whole line, or too long for a keyword
-  pub no_keyword : length line ≤ 1100 → None ≡ kind_named line → message_of line ≡ None
+  pub no_keyword : length line ≤ LONGEST_LINE → None ≡ kind_named line → message_of line ≡ None
   no_keyword fits named = elim (cases_lt 9 (length line)) [
     | inl long ↦
         let first = goes_on line 8 (omega arith) (none_before line 8 (λ i low high. none i (omega arith) high)) (ne_eqb _ 32 (none 8 (omega arith) (omega arith))) in

@@ -11,6 +11,7 @@ use Rattle.std.proofs.lemmas.Slice.{between_is}
 use Rattle.std.proofs.lemmas.Option.{none-some, same_Some}
 use Rattle.std.specs.Prelude.{◌&&◌}
 use Rattle.std.proofs.Math.Seq.{take-add}
+use Rattle.language.specs.declared.TheConstants.{LONGEST_LINE}
 use Rattle.language.proofs.FirstLines.{first_line-newline, first_line-other, behind_first_line-newline, behind_first_line-other}
 use Rattle.language.specs.FirstLine.{first_line, behind_first_line, IsWithinLine, GivesLine, PassesLine, LosesLineStart, HasWholeFirstLine}
 use Rattle.message.specs.Reader.{still_to_come, are_none}
@@ -241,7 +242,7 @@ passed a known buffered rest lost whole is =
     rw is (behind_first_line-later a (prepend_known buffered known) (prepend_known (behind_first_line buffered) known) lost (behind_first_line-buffered buffered known whole))
 
 -- too much of a line is held, so the line is too long
-pub PassesLine-buffered : (buffered : List ℕ) (known left : Option (List ℕ)) → 1100 < length (first_line buffered)
+pub PassesLine-buffered : (buffered : List ℕ) (known left : Option (List ℕ)) → LONGEST_LINE < length (first_line buffered)
     → IfSome (prepend_known buffered known) (λ bs. left ≡ Some (behind_first_line bs)) → IfSome (prepend_known buffered known) (λ bs. PassesLine bs left)
 PassesLine-buffered buffered None left long passed = tt
 PassesLine-buffered buffered (Some ys) left long passed = record { long = omega (arith, length-first_line buffered ys); left_is = passed }

@@ -1,5 +1,5 @@
 -- Messages and their records.
-use Rattle.std.proofs.Common.{◌≡◌, ℕ, lit≤, zero, suc, Bool, true, ◌+◌, ◌<◌, ◌≤◌, List, [], ◌∷◌, ◌++◌, length, length-append, length-drop, length-take-le, get_or, take, drop, replicate, Option, Some, None, refl, ap, sym, subst, ◌∙◌, append_assoc, arith}
+use Rattle.std.proofs.Common.{◌≡◌, ℕ, lit≤, zero, suc, Bool, true, ◌+◌, ◌-◌, ◌<◌, ◌≤◌, List, [], ◌∷◌, ◌++◌, length, length-append, length-drop, length-take-le, get_or, take, drop, replicate, Option, Some, None, refl, ap, sym, subst, ◌∙◌, append_assoc, arith}
 use Rattle.std.specs.Prelude.{option_map, slice_index, nat_lt, ◌↔◌, ◌&&◌}
 use Rattle.std.specs.List.{AllByRecursion}
 use Rattle.std.proofs.lemmas.Bool.{and_parts, ltb-true}
@@ -9,6 +9,7 @@ use Rattle.byteorder.specs.Endian.{little_bytes, little_number}
 use Rattle.affinity.specs.declared.kinds.Kind.{Kind}
 use Rattle.affinity.specs.declared.kinds.Kind.TheVariants as kinds
 use Rattle.affinity.specs.declared.geometry.Geometry.{Geometry}
+use Rattle.language.specs.declared.TheConstants.{BLOCK_SIZE, LABEL_SIZE, RECORD_SIZE}
 use Rattle.language.specs.declared.Block.{Block}
 use Rattle.language.specs.declared.Msg.{Msg}
 use Rattle.language.specs.declared.Msg.TheVariants.{Create, Delete, Write, Punch, Read, Summary, SetLabel}
@@ -71,7 +72,7 @@ kind_again _ = refl
 -- a message is the one that its own kind, numbers and data make
 made_again : (m : Msg) → IsMessage m → assembled (kind m) (get_or (four_numbers m) 0 0) (get_or (four_numbers m) 1 0) (get_or (four_numbers m) 2 0) (get_or (four_numbers m) 3 0) (data_of m) ≡ m
 unfolding data_of
-made_again (SetLabel a v bytes) h = ap (SetLabel a v) (take_at bytes (replicate 480 0) 32 h.0)
+made_again (SetLabel a v bytes) h = ap (SetLabel a v) (take_at bytes (replicate (BLOCK_SIZE - LABEL_SIZE) 0) LABEL_SIZE h.0)
 made_again _ h = refl
 
 low_byte : (b : ℕ) → b < 65536 → little_number 2 (little_bytes 2 b) ≡ b
@@ -95,32 +96,36 @@ record_says g m whole h =
 
 -- ---- a record put together in a buffer
 
-pub zeros_else : (m : Msg) → ((a v f b : ℕ) (content : Block) → m ≡ Write a v f b content → ⊥) → ((a v : ℕ) (bytes : List ℕ) → m ≡ SetLabel a v bytes → ⊥) → data_of m ≡ replicate 512 0
+pub zeros_else : (m : Msg) → ((a v f b : ℕ) (content : Block) → m ≡ Write a v f b content → ⊥) → ((a v : ℕ) (bytes : List ℕ) → m ≡ SetLabel a v bytes → ⊥) → data_of m ≡ replicate BLOCK_SIZE 0
 unfolding data_of
 zeros_else (Write a v f b content) no_write no_setlabel = absurd (no_write a v f b content refl)
 zeros_else (SetLabel a v bytes) no_write no_setlabel = absurd (no_setlabel a v bytes refl)
 zeros_else _ no_write no_setlabel = refl
 
-pub put_together : (out head bytes : List ℕ) (k : ℕ) → length out ≡ 520 → length head ≡ 8 → length bytes ≡ 512 → k ≡ 512 → put_mid 8 k (head ++ post_of 0 8 out) bytes ≡ head ++ bytes
+pub put_together : (out head bytes : List ℕ) (k : ℕ) → length out ≡ RECORD_SIZE → length head ≡ 8 → length bytes ≡ BLOCK_SIZE → k ≡ BLOCK_SIZE
+    → put_mid 8 k (head ++ post_of 0 8 out) bytes ≡ head ++ bytes
 put_together out head bytes k room h d n =
     let front : take 8 (head ++ drop 8 out) ≡ head = take_at head (drop 8 out) 8 h in
     let behind : drop k (drop 8 (head ++ drop 8 out)) ≡ [] = ap (drop k) (drop_at head (drop 8 out) 8 h) ∙ drop-drop k 8 out ∙ drop_all (8 + k) out (omega arith) in
     (λ i. front i ++ (bytes ++ behind i)) ∙ ap (λ (xs : List ℕ). head ++ xs) (append-nil bytes)
 
 -- a label is written behind the head, and then zeros behind the label
-pub put_label : (out head label : List ℕ) → length out ≡ 520 → length head ≡ 8 → length label ≡ 32
-    → put_mid 40 480 (put_mid 8 32 (head ++ post_of 0 8 out) label) (replicate 480 0) ≡ head ++ (label ++ replicate 480 0)
+pub put_label : (out head label : List ℕ) → length out ≡ RECORD_SIZE → length head ≡ 8 → length label ≡ LABEL_SIZE
+    → put_mid (8 + LABEL_SIZE) (BLOCK_SIZE - LABEL_SIZE) (put_mid 8 LABEL_SIZE (head ++ post_of 0 8 out) label) (replicate (BLOCK_SIZE - LABEL_SIZE) 0)
+    ≡ head ++ (label ++ replicate (BLOCK_SIZE - LABEL_SIZE) 0)
 put_label out head label room h l =
     let xs = head ++ drop 8 out in
-    let rest = drop 32 (drop 8 xs) in
-    let zeros : List ℕ = replicate 480 0 in
-    let first : put_mid 8 32 xs label ≡ (head ++ label) ++ rest = (λ i. take_at head (drop 8 out) 8 h i ++ (label ++ rest)) ∙ sym (append_assoc head label rest) in
-    let both : length (head ++ label) ≡ 40 = omega (arith, length-append head label, h, l) in
+    let rest = drop LABEL_SIZE (drop 8 xs) in
+    let zeros : List ℕ = replicate (BLOCK_SIZE - LABEL_SIZE) 0 in
+    let first : put_mid 8 LABEL_SIZE xs label ≡ (head ++ label) ++ rest = (λ i. take_at head (drop 8 out) 8 h i ++ (label ++ rest)) ∙ sym (append_assoc head label rest) in
+    let both : length (head ++ label) ≡ 8 + LABEL_SIZE = omega (arith, length-append head label, h, l) in
     let behind_head : drop 8 xs ≡ drop 8 out = drop_at head (drop 8 out) 8 h in
-    let long : length rest ≤ 480 = omega (arith, length-drop 32 (drop 8 xs), ap length behind_head, length-drop 8 out, room) in
-    let front : take 40 ((head ++ label) ++ rest) ≡ head ++ label = take_at (head ++ label) rest 40 both in
-    let behind : drop 480 (drop 40 ((head ++ label) ++ rest)) ≡ [] = ap (drop 480) (drop_at (head ++ label) rest 40 both) ∙ drop_all 480 rest long in
-    ap (λ (ys : List ℕ). put_mid 40 480 ys zeros) first ∙ (λ i. front i ++ (zeros ++ behind i)) ∙ ap (λ (ys : List ℕ). (head ++ label) ++ ys) (append-nil zeros) ∙ append_assoc head label zeros
+    let long : length rest ≤ BLOCK_SIZE - LABEL_SIZE = omega (arith, length-drop LABEL_SIZE (drop 8 xs), ap length behind_head, length-drop 8 out, room) in
+    let front : take (8 + LABEL_SIZE) ((head ++ label) ++ rest) ≡ head ++ label = take_at (head ++ label) rest (8 + LABEL_SIZE) both in
+    let behind : drop (BLOCK_SIZE - LABEL_SIZE) (drop (8 + LABEL_SIZE) ((head ++ label) ++ rest)) ≡ [] = ap (drop (BLOCK_SIZE - LABEL_SIZE)) (drop_at (head ++ label) rest (8 + LABEL_SIZE) both)
+    ∙ drop_all (BLOCK_SIZE - LABEL_SIZE) rest long in
+    ap (λ (ys : List ℕ). put_mid (8 + LABEL_SIZE) (BLOCK_SIZE - LABEL_SIZE) ys zeros) first ∙ (λ i. front i ++ (zeros ++ behind i))
+    ∙ ap (λ (ys : List ℕ). (head ++ label) ++ ys) (append-nil zeros) ∙ append_assoc head label zeros
 
 -- ---- what is decoded is a message
 
@@ -139,9 +144,9 @@ taken_fit zero bytes h = tt
 taken_fit (suc n) [] h = tt
 taken_fit (suc n) (b ∷ bytes) h = (h.0, taken_fit n bytes h.1)
 
-assembled_whole : (k : Kind) (a v f b : ℕ) (bytes : List ℕ) → AreSizedBytes 512 bytes → IsMessage (assembled k a v f b bytes)
+assembled_whole : (k : Kind) (a v f b : ℕ) (bytes : List ℕ) → AreSizedBytes BLOCK_SIZE bytes → IsMessage (assembled k a v f b bytes)
 assembled_whole kinds.Write a v f b bytes h = h
-assembled_whole kinds.SetLabel a v f b bytes h = (length-take-le 32 bytes (let len = h.0 in omega arith), taken_fit 32 bytes h.1)
+assembled_whole kinds.SetLabel a v f b bytes h = (length-take-le LABEL_SIZE bytes (let len = h.0 in omega arith), taken_fit LABEL_SIZE bytes h.1)
 assembled_whole _ a v f b bytes h = tt
 
 assembled_room : (k : Kind) {a v f : ℕ} (b : ℕ) (bytes : List ℕ) → a < 256 → v < 256 → f < 256 → FitsRecord (assembled k a v f b bytes)
@@ -162,7 +167,7 @@ made : (o : Option Kind) (make : Kind → Msg) (m : Msg) → option_map make o �
 made (Some k) make m h = (k, sym (same_Some _ m h))
 made None make m h = cc h
 
-module _ (bytes : List ℕ) (m : Msg) (size : length bytes ≡ 520) (fit : (i : ℕ) → get_or bytes i 0 < 256) (fields_decoded : message_in_fields bytes ≡ Some m) where
+module _ (bytes : List ℕ) (m : Msg) (size : length bytes ≡ RECORD_SIZE) (fit : (i : ℕ) → get_or bytes i 0 < 256) (fields_decoded : message_in_fields bytes ≡ Some m) where
   its_kind : (k : Kind) × (m ≡ assembled k (slice_index bytes 1) (slice_index bytes 2) (slice_index bytes 3) (little_number 2 (take 2 (drop 4 bytes))) (drop 8 bytes))
   unfolding message_in_fields
   its_kind = made (kind_numbered (slice_index bytes 0)) (λ k. assembled k (slice_index bytes 1) (slice_index bytes 2) (slice_index bytes 3)
@@ -170,7 +175,7 @@ module _ (bytes : List ℕ) (m : Msg) (size : length bytes ≡ 520) (fit : (i : 
 
   pub whole_if_decoded : IsMessage m
   whole_if_decoded =
-      let long : length (drop 8 bytes) ≡ 512 = omega (arith, length-drop 8 bytes) in
+      let long : length (drop 8 bytes) ≡ BLOCK_SIZE = omega (arith, length-drop 8 bytes) in
       subst IsMessage (sym its_kind.1) (assembled_whole its_kind.0 _ _ _ _ (drop 8 bytes) (long, dropped_fit 8 bytes (bytes_fit bytes fit)))
 
   pub room_if_decoded : FitsRecord m
@@ -184,19 +189,19 @@ module _ (bytes : List ℕ) (m : Msg) (size : length bytes ≡ 520) (fit : (i : 
   unfolding data_of
   write_if_decoded is = sym (ap data_of (by_kind kinds.Write is))
 
-  setlabel_if_decoded : kind m ≡ kinds.SetLabel → data_of m ≡ take 32 (drop 8 bytes) ++ replicate 480 0
+  setlabel_if_decoded : kind m ≡ kinds.SetLabel → data_of m ≡ take LABEL_SIZE (drop 8 bytes) ++ replicate (BLOCK_SIZE - LABEL_SIZE) 0
   unfolding data_of
   setlabel_if_decoded is = ap data_of (by_kind kinds.SetLabel is)
 
   -- the bytes behind the head are the data of the `setlabel` exactly if those behind its label are zeros
-  pub label_if_decoded : kind m ≡ kinds.SetLabel → (drop 40 bytes ≡ replicate 480 0) ↔ (drop 8 bytes ≡ data_of m)
+  pub label_if_decoded : kind m ≡ kinds.SetLabel → (drop (8 + LABEL_SIZE) bytes ≡ replicate (BLOCK_SIZE - LABEL_SIZE) 0) ↔ (drop 8 bytes ≡ data_of m)
   label_if_decoded is =
       let rest = drop 8 bytes in
-      let long : length rest ≡ 512 = omega (arith, length-drop 8 bytes) in
-      let behind : drop 32 rest ≡ drop 40 bytes = drop-drop 32 8 bytes in
-      let label : length (take 32 rest) ≡ 32 = length-take-le 32 rest (omega arith) in (
-        (λ zeros. sym (take-append-drop 32 rest) ∙ ap (λ (xs : List ℕ). take 32 rest ++ xs) (behind ∙ zeros) ∙ sym (setlabel_if_decoded is)),
-        (λ there. sym behind ∙ ap (drop 32) (there ∙ setlabel_if_decoded is) ∙ drop_at (take 32 rest) (replicate 480 0) 32 label),
+      let long : length rest ≡ BLOCK_SIZE = omega (arith, length-drop 8 bytes) in
+      let behind : drop LABEL_SIZE rest ≡ drop (8 + LABEL_SIZE) bytes = drop-drop LABEL_SIZE 8 bytes in
+      let label : length (take LABEL_SIZE rest) ≡ LABEL_SIZE = length-take-le LABEL_SIZE rest (omega arith) in (
+        (λ zeros. sym (take-append-drop LABEL_SIZE rest) ∙ ap (λ (xs : List ℕ). take LABEL_SIZE rest ++ xs) (behind ∙ zeros) ∙ sym (setlabel_if_decoded is)),
+        (λ there. sym behind ∙ ap (drop LABEL_SIZE) (there ∙ setlabel_if_decoded is) ∙ drop_at (take LABEL_SIZE rest) (replicate (BLOCK_SIZE - LABEL_SIZE) 0) LABEL_SIZE label),
       )
 
 -- ---- the message in range with a record
@@ -242,39 +247,39 @@ pub data_of_write : (a v f b : ℕ) (content : Block) → data_of (Write a v f b
 unfolding data_of
 data_of_write a v f b content = refl
 
-pub data_of_setlabel : (a v : ℕ) (bytes : List ℕ) → data_of (SetLabel a v bytes) ≡ bytes ++ replicate 480 0
+pub data_of_setlabel : (a v : ℕ) (bytes : List ℕ) → data_of (SetLabel a v bytes) ≡ bytes ++ replicate (BLOCK_SIZE - LABEL_SIZE) 0
 unfolding data_of
 data_of_setlabel a v bytes = refl
 
-pub length_behind : (out head : List ℕ) → length out ≡ 520 → length head ≡ 8 → length (take 512 (drop 8 (head ++ drop 8 out))) ≡ 512
+pub length_behind : (out head : List ℕ) → length out ≡ RECORD_SIZE → length head ≡ 8 → length (take BLOCK_SIZE (drop 8 (head ++ drop 8 out))) ≡ BLOCK_SIZE
 length_behind out head room h =
     let rest = length-drop 8 (head ++ drop 8 out) in
     let both = length-append head (drop 8 out) in
     let behind = length-drop 8 out in
-    length-take-le 512 (drop 8 (head ++ drop 8 out)) (omega arith)
+    length-take-le BLOCK_SIZE (drop 8 (head ++ drop 8 out)) (omega arith)
 
 -- the places of a label and of the zeros behind it
-pub length_label : (out head : List ℕ) → length out ≡ 520 → length head ≡ 8 → length (take 32 (drop 8 (head ++ drop 8 out))) ≡ 32
+pub length_label : (out head : List ℕ) → length out ≡ RECORD_SIZE → length head ≡ 8 → length (take LABEL_SIZE (drop 8 (head ++ drop 8 out))) ≡ LABEL_SIZE
 length_label out head room h =
     let rest = length-drop 8 (head ++ drop 8 out) in
     let both = length-append head (drop 8 out) in
     let behind = length-drop 8 out in
-    length-take-le 32 (drop 8 (head ++ drop 8 out)) (omega arith)
+    length-take-le LABEL_SIZE (drop 8 (head ++ drop 8 out)) (omega arith)
 
-pub length_zeros : (out head label : List ℕ) → length out ≡ 520 → length head ≡ 8 → length label ≡ 32
-    → length (take 480 (drop 40 (put_mid 8 32 (head ++ post_of 0 8 out) label))) ≡ 480
+pub length_zeros : (out head label : List ℕ) → length out ≡ RECORD_SIZE → length head ≡ 8 → length label ≡ LABEL_SIZE
+    → length (take (BLOCK_SIZE - LABEL_SIZE) (drop (8 + LABEL_SIZE) (put_mid 8 LABEL_SIZE (head ++ post_of 0 8 out) label))) ≡ BLOCK_SIZE - LABEL_SIZE
 length_zeros out head label room h l =
     let xs : List ℕ = head ++ drop 8 out in
-    let all : List ℕ = put_mid 8 32 xs label in
+    let all : List ℕ = put_mid 8 LABEL_SIZE xs label in
     let both = length-append head (drop 8 out) in
     let behind = length-drop 8 out in
     let front = length-take-le 8 xs (omega (arith, both, behind, room, h)) in
-    let whole = length-append (take 8 xs) (label ++ drop 32 (drop 8 xs)) in
-    let after = length-append label (drop 32 (drop 8 xs)) in
-    let later = length-drop 32 (drop 8 xs) in
+    let whole = length-append (take 8 xs) (label ++ drop LABEL_SIZE (drop 8 xs)) in
+    let after = length-append label (drop LABEL_SIZE (drop 8 xs)) in
+    let later = length-drop LABEL_SIZE (drop 8 xs) in
     let sooner = length-drop 8 xs in
-    let rest = length-drop 40 all in
-    length-take-le 480 (drop 40 all) (omega (arith, both, behind, room, h, l, front, whole, after, later, sooner, rest))
+    let rest = length-drop (8 + LABEL_SIZE) all in
+    length-take-le (BLOCK_SIZE - LABEL_SIZE) (drop (8 + LABEL_SIZE) all) (omega (arith, both, behind, room, h, l, front, whole, after, later, sooner, rest))
 
 -- ---- the head and the data of a record
 

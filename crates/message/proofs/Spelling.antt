@@ -8,6 +8,7 @@ use Rattle.std.proofs.lemmas.List.{append-nil}
 use Rattle.std.proofs.lemmas.Option.{same_Some}
 use Rattle.affinity.specs.declared.kinds.Kind.{Kind}
 use Rattle.affinity.specs.declared.kinds.Kind.TheVariants as kinds
+use Rattle.language.specs.declared.TheConstants.{BLOCK_SIZE, LABEL_SIZE, LONGEST_LINE}
 use Rattle.language.specs.declared.Block.{Block}
 use Rattle.language.specs.declared.Msg.{Msg}
 use Rattle.language.specs.declared.Msg.TheVariants.{Create, Delete, Write, Punch, Read, Summary, SetLabel}
@@ -73,7 +74,7 @@ block_spelled make _ m h = cc h
 
 data_spelled : (make : ℕ → ℕ → ℕ → ℕ → Block → Msg) (ws : List (List ℕ)) (m : Msg) → of_data make ws ≡ Some m
     → (a : ℕ) × (v : ℕ) × (f : ℕ) × (b : ℕ) × (content : Block) × (digits : List ℕ)
-    × (m ≡ make a v f b content) × (ws ≡ map decimal (a ∷ v ∷ f ∷ b ∷ []) ++ digits ∷ []) × AreSmall (a ∷ v ∷ f ∷ b ∷ []) × SpellsBytes 512 digits content.0
+    × (m ≡ make a v f b content) × (ws ≡ map decimal (a ∷ v ∷ f ∷ b ∷ []) ++ digits ∷ []) × AreSmall (a ∷ v ∷ f ∷ b ∷ []) × SpellsBytes BLOCK_SIZE digits content.0
 data_spelled make (x ∷ y ∷ z ∷ w ∷ u ∷ []) m h =
     let a = bind_some (number_in_word x) _ m h in
     let v = bind_some (number_in_word y) _ m a.2 in
@@ -86,7 +87,7 @@ data_spelled make _ m h = cc h
 
 label_spelled : (make : ℕ → ℕ → List ℕ → Msg) (ws : List (List ℕ)) (m : Msg) → of_label make ws ≡ Some m
     → (a : ℕ) × (v : ℕ) × (bytes : List ℕ) × (digits : List ℕ)
-    × (m ≡ make a v bytes) × (ws ≡ map decimal (a ∷ v ∷ []) ++ digits ∷ []) × AreSmall (a ∷ v ∷ []) × SpellsBytes 32 digits bytes
+    × (m ≡ make a v bytes) × (ws ≡ map decimal (a ∷ v ∷ []) ++ digits ∷ []) × AreSmall (a ∷ v ∷ []) × SpellsBytes LABEL_SIZE digits bytes
 label_spelled make (x ∷ y ∷ z ∷ []) m h =
     let a = bind_some (number_in_word x) _ m h in
     let v = bind_some (number_in_word y) _ m a.2 in
@@ -100,7 +101,7 @@ nothing_spelled m [] n h = (sym (same_Some m n h), says_none)
 nothing_spelled m (w ∷ ws) n h = cc h
 
 -- a line of these words spells its message
-spell : (line : List ℕ) (m : Msg) (behind : List (List ℕ)) → length line ≤ 1100 → words line ≡ keyword (kind m) ∷ map decimal (numbers m) ++ behind
+spell : (line : List ℕ) (m : Msg) (behind : List (List ℕ)) → length line ≤ LONGEST_LINE → words line ≡ keyword (kind m) ∷ map decimal (numbers m) ++ behind
     → AreSmall (numbers m) → IsData m behind → Spells line m
 spell line m behind short e small content = record {
   words_behind = behind;
@@ -116,14 +117,14 @@ record Plain (m : Msg) (k : Kind) (ns : List ℕ) : Type 0 where
   pub numbered : numbers m ≡ ns
   pub no_data : IsData m []
 
-plain_spells : {line : List ℕ} {m : Msg} {k : Kind} {ns : List ℕ} {args : List (List ℕ)} → Plain m k ns → length line ≤ 1100 → words line ≡ keyword k ∷ args → Say args ns → Spells line m
+plain_spells : {line : List ℕ} {m : Msg} {k : Kind} {ns : List ℕ} {args : List (List ℕ)} → Plain m k ns → length line ≤ LONGEST_LINE → words line ≡ keyword k ∷ args → Say args ns → Spells line m
 plain_spells {line} {m} {k} {ns} form short e spelled =
     let all : words line ≡ keyword (kind m) ∷ map decimal (numbers m) ++ [] = e ∙ ap (λ (vs : List (List ℕ)). keyword k ∷ vs) spelled.words ∙ sym (append-nil (keyword k ∷ map decimal ns))
     ∙ (λ i. keyword (sym form.kinded i) ∷ map decimal (sym form.numbered i) ++ []) in
     spell line m [] short all (subst (λ (ks : List ℕ). AreSmall ks) (sym form.numbered) spelled.small) form.no_data
 
 -- a line with the keyword of a kind, and behind it the words of a message
-module _ (line : List ℕ) (args : List (List ℕ)) (m : Msg) (short : length line ≤ 1100) where
+module _ (line : List ℕ) (args : List (List ℕ)) (m : Msg) (short : length line ≤ LONGEST_LINE) where
   volume_spells : (make : ℕ → ℕ → Msg) (k : Kind) → ((a v : ℕ) → Plain (make a v) k (a ∷ v ∷ [])) → words line ≡ keyword k ∷ args → of_volume make args ≡ Some m → Spells line m
   volume_spells make k form e h =
       let s = volume_spelled make args m h in
@@ -166,17 +167,17 @@ module _ (line : List ℕ) (args : List (List ℕ)) (m : Msg) (short : length li
   kind_spells kinds.SetLabel e h = setlabel_spells e h
   kind_spells k e h = volume_spells _ k (λ a v. record { kinded = refl; numbered = refl; no_data = refl }) e h
 
-words_spell : (line : List ℕ) (ws : List (List ℕ)) (m : Msg) → length line ≤ 1100 → words line ≡ ws → of_words ws ≡ Some m → Spells line m
+words_spell : (line : List ℕ) (ws : List (List ℕ)) (m : Msg) → length line ≤ LONGEST_LINE → words line ≡ ws → of_words ws ≡ Some m → Spells line m
 words_spell line [] m short e h = cc h
 words_spell line (word ∷ args) m short e h =
     let k = bind_some (kind_named word) _ m h in
     kind_spells line args m short k.0 (e ∙ ap (λ (w : List ℕ). w ∷ args) (its_keyword word k.0 k.1)) k.2
 
-short_line : (line : List ℕ) (m : Msg) → message_of line ≡ Some m → (length line ≤ 1100) × (of_words (words line) ≡ Some m)
+short_line : (line : List ℕ) (m : Msg) → message_of line ≡ Some m → (length line ≤ LONGEST_LINE) × (of_words (words line) ≡ Some m)
 unfolding message_of
-short_line line m h = elim (cases_lt 1100 (length line)) [
-  | inl long ↦ let none = sym (cond-true (nat_lt 1100 (length line)) None (of_words (words line)) (lt-ltb 1100 (length line) long)) ∙ h in cc none
-  | inr short ↦ (short, sym (cond-false (nat_lt 1100 (length line)) None (of_words (words line)) (le-ltb 1100 (length line) short)) ∙ h)
+short_line line m h = elim (cases_lt LONGEST_LINE (length line)) [
+  | inl long ↦ let none = sym (cond-true (nat_lt LONGEST_LINE (length line)) None (of_words (words line)) (lt-ltb LONGEST_LINE (length line) long)) ∙ h in cc none
+  | inr short ↦ (short, sym (cond-false (nat_lt LONGEST_LINE (length line)) None (of_words (words line)) (le-ltb LONGEST_LINE (length line) short)) ∙ h)
 ]
 
 -- what a line's words make is spelled by it

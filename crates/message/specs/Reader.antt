@@ -2,6 +2,7 @@
 use Rattle.std.specs.Prelude.{ℕ, ◌<◌, ◌⊎◌, ◌&&◌, Bool, true, false, List, [], ◌∷◌, length, slice_range, Option, Result, Ok, Err, IsTrue, IfSome, Contains}
 use Rattle.std.specs.Option.{option_map}
 use Rattle.std.specs.Io.KnownBytes.{prepend_known, IsAtEnd}
+use Rattle.language.specs.declared.TheConstants.{LONGEST_LINE}
 use Rattle.language.specs.FirstLine.{first_line, GivesLine, PassesLine, IsAtEndOf, LosesLineStart, HasWholeFirstLine}
 use Rattle.message.specs.declared.reading.Found.{Found}
 use Rattle.message.specs.declared.reading.Found.TheVariants.{Line, TooLong, End}
@@ -43,7 +44,7 @@ has_ended r = r.ended
 
 -- The next line is found without a read: nothing is to come, a whole line is held, or more of a line than it may have.
 abbrev pub HoldsEnough : {R : Type 0} → LineReader R → Type 0
-HoldsEnough r = IsTrue (has_ended r) ⊎ HoldsLine r ⊎ (1100 < length (first_line (buffered_bytes r.buffered)))
+HoldsEnough r = IsTrue (has_ended r) ⊎ HoldsLine r ⊎ (LONGEST_LINE < length (first_line (buffered_bytes r.buffered)))
 
 -- whether a read has failed
 abbrev pub has_failed : {R : Type 0} → LineReader R → Bool

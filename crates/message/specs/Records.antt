@@ -1,9 +1,10 @@
--- Format for operators: The records of messages: 520 bytes for each.
-use Rattle.std.specs.Prelude.{ℕ, ◌<◌, List, [], ◌∷◌, ◌++◌, take, drop, replicate, slice_index, ◌==◌, if◌then◌else◌, Option, Some, None, option_map}
+-- Format for operators: The records of messages, each of `RECORD_SIZE` bytes.
+use Rattle.std.specs.Prelude.{ℕ, ◌<◌, ◌-◌, List, [], ◌∷◌, ◌++◌, take, drop, replicate, slice_index, ◌==◌, if◌then◌else◌, Option, Some, None, option_map}
 use Rattle.std.specs.List.{AllByRecursion}
 use Rattle.affinity.specs.declared.kinds.Kind.{Kind}
 use Rattle.affinity.specs.declared.kinds.Kind.TheVariants as kinds
 use Rattle.byteorder.specs.Endian.{little_bytes, little_number}
+use Rattle.language.specs.declared.TheConstants.{BLOCK_SIZE, LABEL_SIZE}
 use Rattle.language.specs.declared.Msg.{Msg}
 use Rattle.language.specs.declared.Msg.TheVariants.{MakeVol, DropVol, Create, Delete, Seal, Unseal, Write, Punch, Read, List as ListFiles, Usage, Summary, SetLabel, Label}
 use Rattle.language.specs.Messages.{kind, four_numbers}
@@ -37,10 +38,10 @@ record_head m = head_with (kind_number (kind m)) (four_numbers m)
 -- the data: the block of a `write`, the label of a `setlabel` and zeros after it, and zeros for all others
 unfoldable pub data_of : Msg → List ℕ
 data_of (Write a v f b content) = content.0
-data_of (SetLabel a v bytes) = bytes ++ replicate 480 0
-data_of _ = replicate 512 0
+data_of (SetLabel a v bytes) = bytes ++ replicate (BLOCK_SIZE - LABEL_SIZE) 0
+data_of _ = replicate BLOCK_SIZE 0
 
--- the record of a message: 8 bytes of head, then 512 of data
+-- the record of a message: 8 bytes of head, then data of the size of a block
 abbrev pub record_of : Msg → List ℕ
 record_of m = record_head m ++ data_of m
 
@@ -73,10 +74,10 @@ assembled kinds.Read a v f b bytes = Read a v f b
 assembled kinds.List a v f b bytes = ListFiles a v
 assembled kinds.Usage a v f b bytes = Usage a v
 assembled kinds.Summary a v f b bytes = Summary
-assembled kinds.SetLabel a v f b bytes = SetLabel a v (take 32 bytes)
+assembled kinds.SetLabel a v f b bytes = SetLabel a v (take LABEL_SIZE bytes)
 assembled kinds.Label a v f b bytes = Label a v
 
--- the message that the fields of 520 bytes encode; fields that its kind doesn't use are ignored
+-- the message that the fields of a record encode; fields that its kind doesn't use are ignored
 unfoldable pub message_in_fields : List ℕ → Option Msg
 message_in_fields bytes =
     option_map (λ k. assembled k (slice_index bytes 1) (slice_index bytes 2) (slice_index bytes 3) (little_number 2 (take 2 (drop 4 bytes)))

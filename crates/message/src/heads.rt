@@ -17,9 +17,9 @@ use crate::parsing::{
 };
 use crate::records::assembled;
 use affinity::Kind;
-use language::{Block, Msg};
+use language::{BLOCK_SIZE, Block, LABEL_SIZE, Msg};
 
-/// What a line is, its data not decoded. It is a few bytes, where a `Msg` has 512 for a block.
+/// What a line is, its data not decoded. It is a few bytes, where a `Msg` has room for a block.
 #[derive(Clone, Copy)]
 pub enum Head<'a> {
     /// The line is no message.
@@ -53,7 +53,7 @@ impl Head<'_> {
             Head::WithoutData(kind, numbers) => Some(assembled(kind, numbers, &[])),
             Head::Writes(numbers, digits) => {
                 let [a, v, f, b] = numbers;
-                let mut content = Block([0; 512]);
+                let mut content = Block([0; BLOCK_SIZE]);
                 decode_block(digits, &mut content)?;
                 Some(Msg::Write(a, v, f, b, content))
             }
@@ -135,22 +135,22 @@ fn head_of_label(line: &[u8]) -> Option<Head<'_>>
 }
 
 /// The label that digits encode.
-pub fn decode_label(digits: &[u8]) -> Option<[u8; 32]>
+pub fn decode_label(digits: &[u8]) -> Option<[u8; LABEL_SIZE]>
     ensures { result ≡ label_in_word digits.now }
 {
     bytes_in_word(digits)
 }
 
 /// Decodes digits into a buffer of one block, and fills the rest with zeros.
-fn decode_bytes(digits: &[u8], out: &mut [u8; 512]) -> Option<()>
-    ensures { MatchOption result (bytes_in_word 512 digits.now ≡ None)
-        (λ _. bytes_in_word 512 digits.now ≡ Some out.new) }
+fn decode_bytes(digits: &[u8], out: &mut [u8; BLOCK_SIZE]) -> Option<()>
+    ensures { MatchOption result (bytes_in_word BLOCK_SIZE digits.now ≡ None)
+        (λ _. bytes_in_word BLOCK_SIZE digits.now ≡ Some out.new) }
 {
     let size = digits.len() / 2;
-    if size == 0 || size > 512 {
+    if size == 0 || size > BLOCK_SIZE {
         return None;
     }
-    *out = [0; 512];
+    *out = [0; BLOCK_SIZE];
     decode_to_slice(digits, &mut out[..size])?;
     Some(())
 }

@@ -5,30 +5,28 @@ ghost use Rattle.hex.specs.Hex.{encode_lower};
 ghost use Rattle.language.specs.Replies.{AppendsText, at_least_one, no_message, reply_line, reply_text, shown, spaced, without_trailing_zeros};
 ghost use Rattle.language.specs.declared.Reply.TheVariants.{Block as block_reply, Files as files_reply, Usage as usage_reply, Summary as summary_reply, Refused};
 
-use crate::LONGEST_REPLY;
 use itoa::Buffer;
-use language::{Block, Refusal, Reply};
+use language::{Block, LONGEST_REPLY, LONGEST_TEXT, Refusal, Reply};
 
 /// Writes the line of a reply, its newline included, into the front of `out`, and gives the
-/// line's length in bytes. What lies after the line stays as it was. The longest line has 1,031 bytes: `block `, two digits for
-/// each byte of a block, and the newline.
+/// line's length in bytes. What lies after the line stays as it was. It has at most `LONGEST_REPLY` bytes.
 #[inline(always)]
-pub fn write_reply(reply: &Reply, out: &mut [u8; 1031]) -> usize
+pub fn write_reply(reply: &Reply, out: &mut [u8; LONGEST_REPLY]) -> usize
     ensures length { result ≡ length (reply_line reply.now) }
     ensures line { take result out.new ≡ reply_line reply.now }
     ensures rest { drop result out.new ≡ drop result out.old }
-    ensures bound { result ≤ 1031 }
+    ensures bound { result ≤ LONGEST_REPLY }
 {
     let end = write_text(reply, out);
     append(b"\n", out, end)
 }
 
 /// The same for the reply `Block`, from a borrowed block: no `Reply` is made.
-pub(crate) fn write_block(content: &Block, out: &mut [u8; 1031]) -> usize
+pub(crate) fn write_block(content: &Block, out: &mut [u8; LONGEST_REPLY]) -> usize
     ensures length { result ≡ length (reply_line (block_reply content.now)) }
     ensures line { take result out.new ≡ reply_line (block_reply content.now) }
     ensures rest { drop result out.new ≡ drop result out.old }
-    ensures bound { result ≤ 1031 }
+    ensures bound { result ≤ LONGEST_REPLY }
 {
     let end = write_block_text(content, out);
     append(b"\n", out, end)
@@ -44,9 +42,9 @@ pub fn no_message_line() -> &'static [u8]
 
 /// Writes the text of a reply into the front of `out`, and gives its length.
 #[inline(always)]
-fn write_text(reply: &Reply, out: &mut [u8; 1031]) -> usize
+fn write_text(reply: &Reply, out: &mut [u8; LONGEST_REPLY]) -> usize
     ensures text { AppendsText out.old out.new 0 result (reply_text reply.now) }
-    ensures bound { result ≤ 1030 }
+    ensures bound { result ≤ LONGEST_TEXT }
 {
     match reply {
         Reply::Done => append(b"done", out, 0),
@@ -72,9 +70,9 @@ fn write_text(reply: &Reply, out: &mut [u8; 1031]) -> usize
 }
 
 /// Writes the text of the reply `Block`, and gives its length.
-fn write_block_text(content: &Block, out: &mut [u8; 1031]) -> usize
+fn write_block_text(content: &Block, out: &mut [u8; LONGEST_REPLY]) -> usize
     ensures text { AppendsText out.old out.new 0 result (reply_text (block_reply content.now)) }
-    ensures bound { result ≤ 1030 }
+    ensures bound { result ≤ LONGEST_TEXT }
 {
     let end = append(b"block ", out, 0);
     append_shown(&content.0, out, end)
@@ -99,7 +97,7 @@ pub(crate) fn refusal_line(why: Refusal) -> &'static [u8]
 /// The text of a refusal: its line without the newline.
 fn refusal_text(why: Refusal) -> &'static [u8]
     ensures text { result.now ≡ reply_text (Refused why) }
-    ensures bound { length result.now ≤ 1030 }
+    ensures bound { length result.now ≤ LONGEST_TEXT }
 {
     let line = refusal_line(why);
     &line[..line.len() - 1]
@@ -107,9 +105,9 @@ fn refusal_text(why: Refusal) -> &'static [u8]
 
 /// Writes the text of the reply that lists files, and gives its length. It goes from each file that
 /// there is straight to the next.
-fn write_files(files: u64, out: &mut [u8; 1031]) -> usize
+fn write_files(files: u64, out: &mut [u8; LONGEST_REPLY]) -> usize
     ensures text { AppendsText out.old out.new 0 result (reply_text (files_reply files)) }
-    ensures bound { result ≤ 1030 }
+    ensures bound { result ≤ LONGEST_TEXT }
 {
     let mut end = append(b"files", out, 0);
     let mut from = 0u32;
@@ -125,9 +123,9 @@ fn write_files(files: u64, out: &mut [u8; 1031]) -> usize
     end
 }
 
-fn write_usage(files: u32, blocks: u32, sealed: bool, out: &mut [u8; 1031]) -> usize
+fn write_usage(files: u32, blocks: u32, sealed: bool, out: &mut [u8; LONGEST_REPLY]) -> usize
     ensures text { AppendsText out.old out.new 0 result (reply_text (usage_reply files blocks sealed)) }
-    ensures bound { result ≤ 1030 }
+    ensures bound { result ≤ LONGEST_TEXT }
 {
     let end = append(b"usage", out, 0);
     let end = append_number(files, out, end);
@@ -139,9 +137,9 @@ fn write_usage(files: u32, blocks: u32, sealed: bool, out: &mut [u8; 1031]) -> u
     }
 }
 
-fn write_summary(volumes: u32, files: u32, blocks: u32, out: &mut [u8; 1031]) -> usize
+fn write_summary(volumes: u32, files: u32, blocks: u32, out: &mut [u8; LONGEST_REPLY]) -> usize
     ensures text { AppendsText out.old out.new 0 result (reply_text (summary_reply volumes files blocks)) }
-    ensures bound { result ≤ 1030 }
+    ensures bound { result ≤ LONGEST_TEXT }
 {
     let end = append(b"summary", out, 0);
     let end = append_number(volumes, out, end);
@@ -150,8 +148,8 @@ fn write_summary(volumes: u32, files: u32, blocks: u32, out: &mut [u8; 1031]) ->
 }
 
 /// Writes a text after the first `at` bytes, and gives where it ends.
-fn append(text: &[u8], out: &mut [u8; 1031], at: usize) -> usize
-    requires { at + length text.now ≤ 1031 }
+fn append(text: &[u8], out: &mut [u8; LONGEST_REPLY], at: usize) -> usize
+    requires { at + length text.now ≤ LONGEST_REPLY }
     ensures { AppendsText out.old out.new at result text.now }
 {
     let end = at + text.len();
@@ -160,8 +158,8 @@ fn append(text: &[u8], out: &mut [u8; 1031], at: usize) -> usize
 }
 
 /// Writes a space and a number (of ten digits at most: 11 bytes) after the first `at` bytes, and gives where they end.
-fn append_number(n: u32, out: &mut [u8; 1031], at: usize) -> usize
-    requires { at + 11 ≤ 1031 }
+fn append_number(n: u32, out: &mut [u8; LONGEST_REPLY], at: usize) -> usize
+    requires { at + 11 ≤ LONGEST_REPLY }
     ensures text { AppendsText out.old out.new at result (spaced n) }
     ensures bound { result ≤ at + 11 }
 {
@@ -175,9 +173,9 @@ fn append_number(n: u32, out: &mut [u8; 1031], at: usize) -> usize
 }
 
 /// The same as `append_number` for a number of one digit, as those of the first ten files are.
-fn append_digit(n: u8, out: &mut [u8; 1031], at: usize) -> usize
+fn append_digit(n: u8, out: &mut [u8; LONGEST_REPLY], at: usize) -> usize
     requires digit { n < 10 }
-    requires room { at + 11 ≤ 1031 }
+    requires room { at + 11 ≤ LONGEST_REPLY }
     ensures text { AppendsText out.old out.new at result (spaced n) }
     ensures bound { result ≤ at + 11 }
 {
@@ -185,10 +183,10 @@ fn append_digit(n: u8, out: &mut [u8; 1031], at: usize) -> usize
 }
 
 /// The same as `append_number` for a number of two digits, as those of all other files are.
-fn append_two_digits(n: u8, out: &mut [u8; 1031], at: usize) -> usize
+fn append_two_digits(n: u8, out: &mut [u8; LONGEST_REPLY], at: usize) -> usize
     requires least { 10 ≤ n }
     requires most { n < 100 }
-    requires room { at + 11 ≤ 1031 }
+    requires room { at + 11 ≤ LONGEST_REPLY }
     ensures text { AppendsText out.old out.new at result (spaced n) }
     ensures bound { result ≤ at + 11 }
 {
@@ -196,8 +194,8 @@ fn append_two_digits(n: u8, out: &mut [u8; 1031], at: usize) -> usize
 }
 
 /// The same as `append_number`, for any number.
-fn append_digits(n: u32, out: &mut [u8; 1031], at: usize) -> usize
-    requires { at + 11 ≤ 1031 }
+fn append_digits(n: u32, out: &mut [u8; LONGEST_REPLY], at: usize) -> usize
+    requires { at + 11 ≤ LONGEST_REPLY }
     ensures text { AppendsText out.old out.new at result (spaced n) }
     ensures bound { result ≤ at + 11 }
 {
@@ -208,11 +206,11 @@ fn append_digits(n: u32, out: &mut [u8; 1031], at: usize) -> usize
 
 /// Writes `bytes` as hexadecimal digits after the first `at` bytes of `out`, and gives where the
 /// digits end. Zeros at the end of `bytes` are left out, as `shown_size` says.
-fn append_shown(bytes: &[u8], out: &mut [u8; 1031], at: usize) -> usize
+fn append_shown(bytes: &[u8], out: &mut [u8; LONGEST_REPLY], at: usize) -> usize
     requires some { 1 ≤ length bytes.now }
-    requires room { at + 2 * length bytes.now ≤ 1030 }
+    requires room { at + 2 * length bytes.now ≤ LONGEST_TEXT }
     ensures text { AppendsText out.old out.new at result (shown bytes.now) }
-    ensures bound { result ≤ 1030 }
+    ensures bound { result ≤ LONGEST_TEXT }
 {
     let bytes = &bytes[..shown_size(bytes)];
     let end = at + 2 * bytes.len();

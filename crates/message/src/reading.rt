@@ -5,6 +5,7 @@
 //! nothing left.
 ghost use Rattle.std.specs.Prelude.{◌≡◌, ◌≢◌, ℕ, ◌+◌, ◌-◌, ◌<◌, ◌≤◌, ◌↔◌, ◌⊎◌, [], true, false, length, take, drop, slice_index, IsTrue, IsFalse, IsOk, IsErr, is_err, IfSome, IfOk, OnOk, OnErr, Contains, vec_len};
 ghost use Rattle.std.specs.Io.KnownBytes.{Keeps, Consumes, IsAtEnd, prepend_known};
+ghost use Rattle.language.specs.declared.TheConstants.{LONGEST_LINE};
 
 use crate::LONGEST_LINE;
 use memchr::memchr;
@@ -13,9 +14,9 @@ use std::io::Read;
 /// What was found in an input.
 #[derive(Clone, Copy, Debug, PartialEq, Eq)]
 pub enum Found {
-    /// A line of at most 1,100 bytes.
+    /// A line of at most `LONGEST_LINE` bytes.
     Line,
-    /// A line of more than 1,100 bytes. It was passed over, and nothing after it is lost.
+    /// A line of more than `LONGEST_LINE` bytes. It was passed over, and nothing after it is lost.
     TooLong,
     /// The end of the input.
     End,
@@ -37,7 +38,7 @@ struct Buffered {
     /// Where the first newline of the bytes not yet given is, or `end`.
     newline: usize,
     end: usize,
-    ghost room: { 1101 ≤ vec_len buffer },
+    ghost room: { LONGEST_LINE < vec_len buffer },
     ghost line_ordered: { line_start ≤ line_end },
     ghost line_within: { line_end ≤ vec_len buffer },
     ghost starts_before: { start ≤ newline },
@@ -91,7 +92,7 @@ impl Buffered {
     ghost use Rattle.message.specs.Reader.{buffered_bytes, given_line};
 
     fn new(buffer: Vec<u8>) -> Buffered
-        requires { 1101 ≤ vec_len buffer }
+        requires { LONGEST_LINE < vec_len buffer }
         ensures bytes { buffered_bytes result ≡ [] }
         ensures line { given_line result ≡ [] }
     {
@@ -213,7 +214,7 @@ impl Buffered {
     fn fill<R: Read>(&mut self, reader: &mut R) -> Result<usize, ReadFault>
         requires line { given_line self.old ≡ [] }
         requires within_line { IsWithinLine (buffered_bytes self.old) }
-        requires room { length (buffered_bytes self.old) ≤ 1100 }
+        requires room { length (buffered_bytes self.old) ≤ LONGEST_LINE }
         ensures line { given_line self.new ≡ [] }
         ensures bytes { IfOk result (λ n.
             Keeps (prepend_known (buffered_bytes self.old) (R.remaining reader.old))
@@ -248,10 +249,10 @@ impl<R: Read> LineReader<R> {
     ghost use Rattle.language.specs.FirstLine.{first_line, behind_first_line, IsWithinLine, LosesLineStart, HasWholeFirstLine};
     ghost use Rattle.message.specs.Reader.{buffered_bytes, HoldsEnough, unread, line_of, HoldsLine, has_ended, has_failed, source, Finds, Closes, is_drained, KnowsEnd};
 
-    /// A reader of lines over a reader, before its first read. The buffer has 1,101 bytes at least.
+    /// A reader of lines over a reader, before its first read. The buffer takes the longest line and its newline.
     /// A read fills it as far as the reader gives, so its length is how much is read at a time.
     pub fn new(reader: R, buffer: Vec<u8>) -> LineReader<R>
-        requires { 1101 ≤ vec_len buffer }
+        requires { LONGEST_LINE < vec_len buffer }
         ensures unread { unread R.remaining result ≡ R.remaining reader }
         ensures line { line_of result ≡ [] }
         ensures not_failed { IsFalse (has_failed result) }
@@ -336,7 +337,7 @@ impl<R: Read> LineReader<R> {
     fn wants_more(&self) -> bool
         ensures open { IsTrue result → IsFalse (has_ended self.now) }
         ensures within_line { IsTrue result → IsWithinLine (buffered_bytes self.now.buffered) }
-        ensures room { IsTrue result → length (buffered_bytes self.now.buffered) ≤ 1100 }
+        ensures room { IsTrue result → length (buffered_bytes self.now.buffered) ≤ LONGEST_LINE }
         ensures enough { IsFalse result → HoldsEnough self.now }
     {
         if self.buffered.has_newline() || self.ended {
@@ -351,7 +352,7 @@ impl<R: Read> LineReader<R> {
         requires not_failed { IsFalse (has_failed self.old) }
         requires open { IsFalse (has_ended self.old) }
         requires within_line { IsWithinLine (buffered_bytes self.old.buffered) }
-        requires room { length (buffered_bytes self.old.buffered) ≤ 1100 }
+        requires room { length (buffered_bytes self.old.buffered) ≤ LONGEST_LINE }
         ensures line { line_of self.new ≡ [] }
         ensures bytes { OnOk result
             (Keeps (unread R.remaining self.old) (unread R.remaining self.new)) }
@@ -453,7 +454,7 @@ impl<R: Read> LineReader<R> {
             (line_of self.new) (unread R.remaining self.new) }
         // A line that was found ends with a newline, or with the input.
         ensures closes { Closes result (unread R.remaining self.old) (is_drained self.new) }
-        ensures short { result ≡ Ok Found.Line → length (line_of self.new) ≤ 1100 }
+        ensures short { result ≡ Ok Found.Line → length (line_of self.new) ≤ LONGEST_LINE }
         ensures no_line { result ≢ Ok Found.Line → line_of self.new ≡ [] }
         ensures failed { has_failed self.new ≡ is_err result }
         ensures at_once { HoldsLine self.old → source self.new ≡ source self.old }

@@ -1,6 +1,6 @@
-//! Messages as records of 520 bytes.
+//! Messages as records of a fixed size.
 
-ghost use Rattle.std.specs.Prelude.{◌≡◌, ◌↔◌, ◌++◌, true, Some, take, drop, length, replicate, IfSome, IsTrue, slice_index};
+ghost use Rattle.std.specs.Prelude.{◌≡◌, ◌↔◌, ◌++◌, ◌-◌, true, Some, take, drop, length, replicate, IfSome, IsTrue, slice_index};
 ghost use Rattle.affinity.specs.declared.kinds.Kind.{Kind};
 ghost use Rattle.language.specs.Messages.{IsMessage, is_in_range};
 ghost use Rattle.message.specs.Heads.{has_data};
@@ -9,11 +9,11 @@ ghost use Rattle.language.specs.declared.Msg.{Msg};
 
 use affinity::{Geometry, Kind, is_in_range};
 use byteorder::{ByteOrder, LittleEndian};
-use language::{Block, Msg};
+use language::{BLOCK_SIZE, Block, LABEL_SIZE, Msg, RECORD_SIZE};
 
 /// Writes the record of a message into `out`, all of it. The message's aggregate, volume and file
 /// are at most 255 each.
-pub fn encode(m: &Msg, out: &mut [u8; 520])
+pub fn encode(m: &Msg, out: &mut [u8; RECORD_SIZE])
     requires { FitsRecord m.now }
     ensures { out.new ≡ record_of m.now }
 {
@@ -21,15 +21,15 @@ pub fn encode(m: &Msg, out: &mut [u8; 520])
     match m {
         Msg::Write(_, _, _, _, content) => out[8..].copy_from_slice(&content.0),
         Msg::SetLabel(_, _, label) => {
-            out[8..40].copy_from_slice(label);
-            out[40..].fill(0);
+            out[8..8 + LABEL_SIZE].copy_from_slice(label);
+            out[8 + LABEL_SIZE..].fill(0);
         }
         _ => out[8..].fill(0),
     }
 }
 
 /// The message in range whose record these bytes are; `None` where they are no such message's.
-pub fn decode(bytes: &[u8; 520], g: &Geometry) -> Option<Msg>
+pub fn decode(bytes: &[u8; RECORD_SIZE], g: &Geometry) -> Option<Msg>
     ensures exact { (m : Msg) → IsMessage m → (result ≡ Some m) ↔ ((bytes.now ≡ record_of m) × (is_in_range g.now m ≡ true)) }
     ensures whole { IfSome result IsMessage }
 {
@@ -45,7 +45,7 @@ pub fn decode(bytes: &[u8; 520], g: &Geometry) -> Option<Msg>
 }
 
 /// Whether the first 8 bytes are the head of this message's record, with two zeros at its end.
-fn has_head_of(bytes: &[u8; 520], m: &Msg) -> bool
+fn has_head_of(bytes: &[u8; RECORD_SIZE], m: &Msg) -> bool
     requires { FitsRecord m.now }
     ensures { IsTrue result ↔ (take 8 bytes.now ≡ record_head m.now) }
 {
@@ -53,14 +53,14 @@ fn has_head_of(bytes: &[u8; 520], m: &Msg) -> bool
 }
 
 /// Whether what comes after the head is the data of `m`, which was made of the fields of `bytes`.
-fn has_data_of(bytes: &[u8; 520], m: &Msg) -> bool
+fn has_data_of(bytes: &[u8; RECORD_SIZE], m: &Msg) -> bool
     requires { Some m.now ≡ message_in_fields bytes.now }
     ensures { IsTrue result ↔ (drop 8 bytes.now ≡ data_of m.now) }
 {
     match m {
         Msg::Write(..) => true,
-        Msg::SetLabel(..) => bytes[40..] == [0; 480][..],
-        _ => bytes[8..] == [0; 512][..],
+        Msg::SetLabel(..) => bytes[8 + LABEL_SIZE..] == [0; BLOCK_SIZE - LABEL_SIZE][..],
+        _ => bytes[8..] == [0; BLOCK_SIZE][..],
     }
 }
 
@@ -77,7 +77,7 @@ fn head_of(m: &Msg) -> [u8; 8]
 }
 
 /// The message that the fields encode; fields that its kind doesn't use are ignored.
-fn message_in_fields(bytes: &[u8; 520]) -> Option<Msg>
+fn message_in_fields(bytes: &[u8; RECORD_SIZE]) -> Option<Msg>
     ensures { result ≡ message_in_fields bytes.now }
 {
     let kind = kind_numbered(bytes[0])?;
@@ -93,7 +93,7 @@ fn message_in_fields(bytes: &[u8; 520]) -> Option<Msg>
 /// The message of a kind with these numbers, and with the data that its record has behind the head; a kind without data needs none. It is
 /// built in place: without a block none is copied.
 pub(crate) fn assembled(kind: Kind, numbers: [u16; 4], behind: &[u8]) -> Msg
-    requires { has_data kind ≡ true → length behind.now ≡ 512 }
+    requires { has_data kind ≡ true → length behind.now ≡ BLOCK_SIZE }
     ensures { let n = numbers in result
         ≡ assembled kind (slice_index n 0) (slice_index n 1) (slice_index n 2) (slice_index n 3) behind.now }
 {
@@ -106,7 +106,7 @@ pub(crate) fn assembled(kind: Kind, numbers: [u16; 4], behind: &[u8]) -> Msg
         Kind::Seal => Msg::Seal(a, v),
         Kind::Unseal => Msg::Unseal(a, v),
         Kind::Write => {
-            let mut content = [0; 512];
+            let mut content = [0; BLOCK_SIZE];
             content.copy_from_slice(behind);
             Msg::Write(a, v, f, b, Block(content))
         }
@@ -116,8 +116,8 @@ pub(crate) fn assembled(kind: Kind, numbers: [u16; 4], behind: &[u8]) -> Msg
         Kind::Usage => Msg::Usage(a, v),
         Kind::Summary => Msg::Summary,
         Kind::SetLabel => {
-            let mut label = [0; 32];
-            label.copy_from_slice(&behind[..32]);
+            let mut label = [0; LABEL_SIZE];
+            label.copy_from_slice(&behind[..LABEL_SIZE]);
             Msg::SetLabel(a, v, label)
         }
         Kind::Label => Msg::Label(a, v),

@@ -1,10 +1,10 @@
-//! The sizes of what is in a message, made known to proofs: a block has 512 bytes, a label 32.
+//! The sizes of what is in a message, made known to proofs: of a block and of a label.
 
 ghost use Rattle.language.specs.Messages.{AreSizedBytes, IsBlock, IsMessage};
 
-use language::{Block, Msg};
+use language::{Block, LABEL_SIZE, Msg};
 
-/// Does nothing: it lets a proof know that a block has 512 bytes.
+/// Does nothing: it lets a proof know that a block has `BLOCK_SIZE` bytes.
 pub fn know_block(content: &Block)
     ensures { IsBlock content.now }
 {
@@ -12,16 +12,16 @@ pub fn know_block(content: &Block)
     let _size = bytes.len();
 }
 
-/// Does nothing: it lets a proof know that a label has 32 bytes.
-pub fn know_label(label: &[u8; 32])
-    ensures { AreSizedBytes 32 label.now }
+/// Does nothing: it lets a proof know that a label has `LABEL_SIZE` bytes.
+pub fn know_label(label: &[u8; LABEL_SIZE])
+    ensures { AreSizedBytes LABEL_SIZE label.now }
 {
     let bytes = label.as_slice();
     let _size = bytes.len();
 }
 
-/// Does nothing: it lets a proof know that what a message carries are bytes, 512 of them in a block
-/// and 32 in a label. That follows from the types, but a proof gets it for a `&Msg` only here.
+/// Does nothing: it lets a proof know that what a message carries are bytes, as many as a block or a
+/// label has. That follows from the types, but a proof gets it for a `&Msg` only here.
 pub fn know_message(m: &Msg)
     ensures { IsMessage m.now }
 {

@@ -1,4 +1,4 @@
--- An array of 512 bytes is a block: it has that length, and each byte is below 256.
+-- An array of `BLOCK_SIZE` bytes is a block: it has that length, and each byte is below 256.
 use Rattle.std.proofs.Common.{rules, ◌<◌, subst}
 use Rattle.std.specs.List.{AllByRecursion}
 use Rattle.message.proofs.RecordLemmas.{bytes_fit}

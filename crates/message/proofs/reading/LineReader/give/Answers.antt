@@ -2,6 +2,7 @@
 use Rattle.std.proofs.Common.{◌≡◌, ◌⊎◌, ◌<◌, inl, inr, true, length, arith}
 use Rattle.std.specs.List.{Contains}
 use Rattle.std.proofs.lemmas.Bool.{iff_false}
+use Rattle.language.specs.declared.TheConstants.{LONGEST_LINE}
 use Rattle.language.specs.FirstLine.{first_line}
 use Rattle.message.specs.Reader.{buffered_bytes, still_to_come, unread, given_line}
 use Rattle.message.proofs.ReaderLemmas.{IsWhole-known_end, PassesLine-buffered, GivesLine-buffered, HasWholeFirstLine-buffered}
@@ -10,7 +11,7 @@ use Rattle.message.proofs.reading.LineReader.give.Goals as goal
 pub returns-then-first_len-gt-LONGEST_LINE-clause-found : goal.returns-then-first_len-gt-LONGEST_LINE-clause-found
 returns-then-first_len-gt-LONGEST_LINE-clause-found g c =
     let r = c.args.self.now in
-    let long : 1100 < length (first_line (buffered_bytes r.buffered)) = omega (arith, c.first_len.ensures, c.if-first_len-gt-LONGEST_LINE.true) in
+    let long : LONGEST_LINE < length (first_line (buffered_bytes r.buffered)) = omega (arith, c.first_len.ensures, c.if-first_len-gt-LONGEST_LINE.true) in
     PassesLine-buffered (buffered_bytes r.buffered) (still_to_come r.ended (g.R.Read.remaining r.reader)) (unread g.R.Read.remaining c.skip_line.new.self) long c.in_ok-skip_line.ensures.passed
 
 pub returns-clause-found : goal.returns-clause-found
