@@ -2,6 +2,7 @@
 -- places are in bytes.
 use Rattle.std.specs.Prelude.{ℕ, zero, suc, ◌+◌, ◌-◌, ◌*◌, List, [], ◌∷◌, take, drop, get_or}
 use Rattle.affinity.specs.declared.geometry.Geometry.{Geometry}
+use Rattle.language.specs.declared.TheConstants.{BLOCK_SIZE}
 
 -- ---- the sizes that every device has
 
@@ -15,8 +16,9 @@ root_zone_size = 64
 abbrev pub chain_zone_size : ℕ
 chain_zone_size = 64
 
+-- the record of a message in the log: 8 bytes of head, and room for a block
 abbrev pub record_size : ℕ
-record_size = 520
+record_size = 8 + BLOCK_SIZE
 
 -- the head of an image: its version and zeros
 abbrev pub image_head_size : ℕ
@@ -26,9 +28,9 @@ image_head_size = 64
 abbrev pub volume_piece_size : ℕ
 volume_piece_size = 64
 
--- the entry of a block in the piece of a stripe
+-- the entry of a block in the piece of a stripe: 8 bytes, and the block
 abbrev pub entry_size : ℕ
-entry_size = 520
+entry_size = 8 + BLOCK_SIZE
 
 -- the greatest number of records that are written at a time
 abbrev pub records_per_write : ℕ

@@ -1,9 +1,10 @@
 //! The map of a device: where each of its parts begins and how long it is, all in bytes. The parts lie
 //! in a row: header, root zone, half 0, half 1, image 0, image 1.
-ghost use Rattle.std.specs.Prelude.{◌≡◌, ◌<◌, ◌≤◌};
+ghost use Rattle.std.specs.Prelude.{◌≡◌, ◌<◌, ◌≤◌, ◌+◌, ◌*◌};
 ghost use Rattle.device_map.specs.Layout.{layout_of, part_at, device_size, half_part, half_size, image_part, image_size};
 
 use affinity::Geometry;
+use language::{BLOCK_SIZE, RECORD_SIZE};
 
 /// The size of the header, with which a device begins.
 pub const HEADER_SIZE: usize = 64;
@@ -17,31 +18,28 @@ pub const ROOT_ZONE_AT: u64 = HEADER_SIZE as u64;
 /// The size of what lies before the gates of a half: its chain byte and the 63 bytes after it.
 pub const CHAIN_ZONE_SIZE: usize = 64;
 
-/// The size of a record.
-pub const RECORD_SIZE: usize = 520;
-
 /// The size of what an image begins with.
 pub const IMAGE_HEAD_SIZE: usize = 64;
 
 /// The size of a volume's own piece in an image.
 pub const VOLUME_PIECE_SIZE: usize = 64;
 
-/// The size of a block's entry in the piece of a stripe.
-pub const BLOCK_ENTRY_SIZE: usize = 520;
+/// The size of a block's entry in the piece of a stripe: 8 bytes, and the block.
+pub const BLOCK_ENTRY_SIZE: usize = 8 + BLOCK_SIZE;
 
 /// The size of each half, which holds `g.half` records.
 pub fn half_size(g: &Geometry) -> usize
     ensures size { result ≡ half_size g.now.half }
-    ensures most { result ≤ 533568 }
+    ensures most { result ≤ half_size 1024 }
 {
     let capacity = usize::from(g.half);
     CHAIN_ZONE_SIZE + (capacity + capacity * RECORD_SIZE)
 }
 
-/// The size of each image, at most some 8.5 million.
+/// The size of each image: at most that of 32 volumes with 8 full stripes, some 8.5 million.
 pub fn image_size(g: &Geometry) -> usize
     ensures size { result ≡ image_size g.now }
-    ensures most { result ≤ 8521792 }
+    ensures most { result ≤ IMAGE_HEAD_SIZE + 32 * (VOLUME_PIECE_SIZE + 8 * (64 * BLOCK_ENTRY_SIZE)) }
 {
     let volumes = usize::from(g.aggregates) * usize::from(g.volumes);
     let stripes = usize::from(g.stripes) * (usize::from(g.quota) * BLOCK_ENTRY_SIZE);
