@@ -1,5 +1,5 @@
 -- Statement for operators: Which devices are refused, and why.
-use Rattle.std.specs.Prelude.{◌≡◌, ◌≢◌, ◌⊎◌, ◌<◌, ◌≤◌, ℕ, zero, suc, Bool, not, ◌&&◌, ◌==◌, nat_lt, if◌then◌else◌, List, [], ◌∷◌, length, take, Option, Some, None, is_some}
+use Rattle.std.specs.Prelude.{◌+◌, ◌≡◌, ◌≢◌, ◌⊎◌, ◌<◌, ◌≤◌, ℕ, zero, suc, Bool, not, ◌&&◌, ◌==◌, nat_lt, if◌then◌else◌, List, [], ◌∷◌, length, take, Option, Some, None, is_some}
 use Rattle.affinity.specs.declared.geometry.Geometry.{Geometry}
 use Rattle.checkpoint.specs.declared.fault.OpenFault.{OpenFault}
 use Rattle.checkpoint.specs.declared.fault.OpenFault.TheVariants.{Device, TooShort, NotFormatted, BadGeometry, OutOfMemory, BadVersion, BadPiece, BadChain, BadRecord}
@@ -8,7 +8,7 @@ use Rattle.checkpoint.specs.Recovery.{after_record, decoding}
 use Rattle.image.specs.Image.{has_head, is_good, image_state}
 use Rattle.image.specs.Pieces.{piece_count}
 use Rattle.oplog.specs.Front.{chain, front}
-use Rattle.device_map.specs.Layout.{layout_of, part_bytes, device_size, image_part, other}
+use Rattle.device_map.specs.Layout.{layout_of, part_bytes, device_size, image_part, other, header_size, root_zone_size}
 use Rattle.oplog.specs.Recovery.{named_area, run}
 use Rattle.meaning.specs.State.{State}
 
@@ -52,13 +52,13 @@ refused g c =
     (fault_or_later (BadRecord n) (first_bad_record g 0 (image_state g bytes) (front l n c))
     (fault_or_later (BadRecord (other n)) (first_bad_record g 0 (run (decoding g) (image_state g bytes) (front l n c)) chained) None)))))
 
--- The device is long enough for a header and a root zone (64 bytes each), and doesn't begin with the magic.
+-- The device is long enough for a header and a root zone, and doesn't begin with the magic.
 abbrev pub IsUnformatted : List ℕ → Type 0
-IsUnformatted c = (128 ≤ length c) × (take 8 c ≢ magic)
+IsUnformatted c = (header_size + root_zone_size ≤ length c) × (take 8 c ≢ magic)
 
 -- The device begins with the magic, and no geometry has its header.
 abbrev pub HasNoGeometry : List ℕ → Type 0
-HasNoGeometry c = (128 ≤ length c) × (take 8 c ≡ magic) × ((g : Geometry) → HasHeader g c → ⊥)
+HasNoGeometry c = (header_size + root_zone_size ≤ length c) × (take 8 c ≡ magic) × ((g : Geometry) → HasHeader g c → ⊥)
 
 -- The device has the header of a geometry, and is long enough for all its parts.
 pub record HasHeaderAndParts (c : List ℕ) : Type 0 where
@@ -69,7 +69,7 @@ pub record HasHeaderAndParts (c : List ℕ) : Type 0 where
 -- The device has the header of a geometry, and is refused with this fault.
 pub record IsRefusedWith (c : List ℕ) (fault : OpenFault) : Type 0 where
   pub geometry : Geometry
-  pub long : 128 ≤ length c
+  pub long : header_size + root_zone_size ≤ length c
   pub header : HasHeader geometry c
   pub is : refused geometry c ≡ Some fault
 
@@ -79,7 +79,7 @@ IsRefused c Device = Unit {0}
 IsRefused c OutOfMemory = Unit {0}
 IsRefused c NotFormatted = IsUnformatted c
 IsRefused c BadGeometry = HasNoGeometry c
-IsRefused c TooShort = (length c < 128) ⊎ IsRefusedWith c TooShort
+IsRefused c TooShort = (length c < header_size + root_zone_size) ⊎ IsRefusedWith c TooShort
 IsRefused c BadVersion = IsRefusedWith c BadVersion
 IsRefused c BadChain = IsRefusedWith c BadChain
 IsRefused c (BadPiece n) = IsRefusedWith c (BadPiece n)

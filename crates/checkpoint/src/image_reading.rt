@@ -6,7 +6,7 @@ ghost use Rattle.checkpoint.specs.Refusals.{fault_or_later, first_bad_piece};
 ghost use Rattle.disk.specs.Device.{moments};
 ghost use Rattle.image.specs.Image.{has_head, is_version, image_state, version_in};
 ghost use Rattle.image.specs.Pieces.{aggregate_of, part_of, piece_count, piece_of, piece_size, volume_of, with_piece};
-ghost use Rattle.device_map.specs.Layout.{device_size, image_part, layout_of, part_bytes};
+ghost use Rattle.device_map.specs.Layout.{device_size, image_part, layout_of, part_bytes, entry_size};
 ghost use Rattle.parcel.specs.Tree.{IsWholeTree, state_in};
 ghost use Rattle.meaning.specs.State.{empty};
 
@@ -48,8 +48,8 @@ fn take_piece(tree: &mut Tree, version: u8, n: usize, piece: &[u8]) -> Result<()
 
 /// Reads the pieces of image `number` (0 or 1), which has a head, into a new tree, through a buffer. `BadPiece` exactly where one of them
 /// differs from the encoding of what the image decodes to, with the first such piece; then the tree isn't of use any more. Any other error
-/// is `Device`, which is consistent with any bytes (`IsConsistentFault`). Clause `room` asks that the buffer takes a stripe's piece: 520
-/// bytes, the entry of a block, for each block that a stripe can hold.
+/// is `Device`, which is consistent with any bytes (`IsConsistentFault`). Clause `room` asks that the buffer takes a stripe's piece: the
+/// entry of a block for each block that a stripe can hold.
 pub(crate) fn read_pieces<D: Disk>(
     disk: &mut D,
     tree: &mut Tree,
@@ -66,7 +66,7 @@ pub(crate) fn read_pieces<D: Disk>(
     requires head { D.keeps → has_head
         (part_bytes (layout_of tree.old.geometry) (image_part number) (D.medium disk.old).now) ≡ true }
     requires long_enough { device_size (layout_of tree.old.geometry) ≤ length (D.medium disk.old).now }
-    requires room { tree.old.geometry.quota * 520 ≤ length buffer.old }
+    requires room { tree.old.geometry.quota * entry_size ≤ length buffer.old }
     ensures read { OnOk result (D.keeps → image_state tree.old.geometry
         (part_bytes (layout_of tree.old.geometry) (image_part number) (D.medium disk.old).now) ≡ Some (state_in tree.new)) }
     ensures good { OnOk result (D.keeps → first_bad_piece tree.old.geometry

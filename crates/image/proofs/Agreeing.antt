@@ -4,6 +4,7 @@ use Rattle.std.specs.Prelude.{◌==◌, if◌then◌else◌}
 use Rattle.std.proofs.lemmas.Bool.{eqb-true, and_right}
 use Rattle.affinity.specs.Geometry.{stripe_of}
 use Rattle.affinity.specs.declared.geometry.Geometry.{Geometry}
+use Rattle.device_map.specs.Layout.{entry_size}
 use Rattle.language.specs.declared.Block.{Block}
 use Rattle.meaning.specs.State.{State, empty}
 use Rattle.stripe.specs.Entries.{stripe_bytes}
@@ -101,7 +102,7 @@ module _ (version : ℕ) (g : Geometry) (pieces : ℕ → List ℕ) (n i : ℕ) 
           entries_same g x empty a v s (λ f b on. ap (entry_if (x.files (a, v, f)) f b) (none f b on)
           ∙ no_entry_of_none (x.files (a, v, f)) f b)
           ∙ nothing_joined g.files (λ f. joined_below g.blocks (λ b. [])) (λ f. nothing_joined g.blocks (λ b. []) (λ b. refl)) in
-          let size : g.quota * 520 - 0 ≡ g.quota * 520 = omega arith in
+          let size : g.quota * entry_size - 0 ≡ g.quota * entry_size = omega arith in
           ap (stripe_bytes g.quota) nothing ∙ ap (λ (k : ℕ). replicate k 0) size
         where
           if_none : (h : Bool) (o : Option Block) → o ≡ None → (if h then o else None) ≡ None

@@ -5,6 +5,7 @@ use Rattle.std.specs.List.{AllByRecursion}
 use Rattle.std.proofs.lemmas.Bool.{cases_lt, cases_eq, ne_eqb, eqb-true, and_parts, and_right}
 use Rattle.affinity.specs.Geometry.{stripe_of}
 use Rattle.affinity.specs.declared.geometry.Geometry.{Geometry}
+use Rattle.device_map.specs.Layout.{entry_size}
 use Rattle.language.specs.Messages.{IsBlock}
 use Rattle.language.specs.declared.Block.{Block}
 use Rattle.meaning.specs.State.{sum_below, count_below, one_if}
@@ -15,18 +16,18 @@ use Rattle.image.proofs.Measures.{all-take, all-drop}
 
 -- ---- what bytes decode to are blocks, and not too many
 
-pub entries_are_blocks : (n : ℕ) (bytes : List ℕ) → length bytes ≡ n * 520 → AllByRecursion (λ b. b < 256) bytes → AllByRecursion (λ (e : BlockEntry). IsBlock e.content) (entries_in n bytes)
+pub entries_are_blocks : (n : ℕ) (bytes : List ℕ) → length bytes ≡ n * entry_size → AllByRecursion (λ b. b < 256) bytes → AllByRecursion (λ (e : BlockEntry). IsBlock e.content) (entries_in n bytes)
 entries_are_blocks zero bytes long small = tt
 entries_are_blocks (suc n) bytes long small =
     elim (get_or bytes 0 0 == 1) as (λ t. AllByRecursion (λ (e : BlockEntry). IsBlock e.content)
-    (if t then entry_in (take 520 bytes) ∷ entries_in n (drop 520 bytes) else [])) [
+    (if t then entry_in (take entry_size bytes) ∷ entries_in n (drop entry_size bytes) else [])) [
       | true ↦ (
         (
-          omega (arith, long, length-drop 8 (take 520 bytes), length-take 520 bytes),
-          all-drop (λ b. b < 256) 8 (take 520 bytes)
-              (all-take (λ b. b < 256) 520 bytes small),
+          omega (arith, long, length-drop 8 (take entry_size bytes), length-take entry_size bytes),
+          all-drop (λ b. b < 256) 8 (take entry_size bytes)
+              (all-take (λ b. b < 256) entry_size bytes small),
         ),
-        entries_are_blocks n (drop 520 bytes) (omega (arith, long, length-drop 520 bytes)) (all-drop (λ b. b < 256) 520 bytes small),
+        entries_are_blocks n (drop entry_size bytes) (omega (arith, long, length-drop entry_size bytes)) (all-drop (λ b. b < 256) entry_size bytes small),
       )
       | false ↦ tt
     ]
@@ -34,8 +35,8 @@ entries_are_blocks (suc n) bytes long small =
 pub entries_few : (n : ℕ) (bytes : List ℕ) → length (entries_in n bytes) ≤ n
 entries_few zero bytes = omega arith
 entries_few (suc n) bytes =
-    let rest = entries_few n (drop 520 bytes) in
-    elim (get_or bytes 0 0 == 1) as (λ t. length (if t then entry_in (take 520 bytes) ∷ entries_in n (drop 520 bytes) else []) ≤ suc n) [
+    let rest = entries_few n (drop entry_size bytes) in
+    elim (get_or bytes 0 0 == 1) as (λ t. length (if t then entry_in (take entry_size bytes) ∷ entries_in n (drop entry_size bytes) else []) ≤ suc n) [
       | true ↦ omega (arith, rest)
       | false ↦ omega arith
     ]

@@ -10,7 +10,8 @@ use Rattle.affinity.specs.Geometry.{stripe_of}
 use Rattle.affinity.specs.declared.geometry.Geometry.{Geometry}
 use Rattle.affinity.proofs.Placed.{group_below}
 use Rattle.byteorder.specs.Endian.{little_bytes, little_number}
-use Rattle.device_map.specs.Layout.{slice}
+use Rattle.device_map.specs.Layout.{slice, entry_size}
+use Rattle.language.specs.declared.TheConstants.{LABEL_SIZE}
 use Rattle.language.specs.Messages.{IsBlock, AreSizedBytes}
 use Rattle.language.specs.Replies.{has_file}
 use Rattle.language.specs.declared.Block.{Block}
@@ -37,15 +38,15 @@ if_is : {X : Type 0} (P : X → Type 0) (h : Bool) (o : Option X) → (h ≡ tru
 if_is P true o is = is refl
 if_is P false o is = tt
 
-pub label_is : (version : ℕ) (bytes : List ℕ) → AreSizedBytes 64 bytes → IfSome (label_in version bytes) (AreSizedBytes 32)
+pub label_is : (version : ℕ) (bytes : List ℕ) → AreSizedBytes 64 bytes → IfSome (label_in version bytes) (AreSizedBytes LABEL_SIZE)
 label_is version bytes are = by (is_made_in bytes) (version == 2)
   where
-    by : (made told : Bool) → IfSome (if made then Some (if told then slice bytes 16 32 else no_label) else None) (AreSizedBytes 32)
+    by : (made told : Bool) → IfSome (if made then Some (if told then slice bytes 16 LABEL_SIZE else no_label) else None) (AreSizedBytes LABEL_SIZE)
     by true true = (
-      omega (arith, are.0, length-drop 16 bytes, length-take 32 (drop 16 bytes)),
-      all-take (λ b. b < 256) 32 (drop 16 bytes) (all-drop (λ b. b < 256) 16 bytes are.1),
+      omega (arith, are.0, length-drop 16 bytes, length-take LABEL_SIZE (drop 16 bytes)),
+      all-take (λ b. b < 256) LABEL_SIZE (drop 16 bytes) (all-drop (λ b. b < 256) 16 bytes are.1),
     )
-    by true false = (refl, zeros_are_bytes 32)
+    by true false = (refl, zeros_are_bytes LABEL_SIZE)
     by false told = tt
 
 -- ---- the sizes
@@ -63,7 +64,7 @@ module _ (version : ℕ) (g : Geometry) (pieces : ℕ → List ℕ)
       let first : volume_piece_number g k.0 k.1 + 0 ≡ volume_piece_number g k.0 k.1 = omega arith in
       subst (λ (n : ℕ). AreSizedBytes 64 (pieces n)) first (bytes_of_part k there 0 (omega arith))
 
-  bytes_of_stripe : (k : VolumeKey) → has_volume g k ≡ true → (s : ℕ) → s < g.stripes → AreSizedBytes (g.quota * 520) (pieces (stripe_piece_number g k.0 k.1 s))
+  bytes_of_stripe : (k : VolumeKey) → has_volume g k ≡ true → (s : ℕ) → s < g.stripes → AreSizedBytes (g.quota * entry_size) (pieces (stripe_piece_number g k.0 k.1 s))
   bytes_of_stripe k there s below = bytes_of_part k there (suc s) (omega (arith, below))
 
   blocks_decoded : (a v s f b : ℕ) (t : Bool) → has_volume g (a, v) ≡ t → stripe_of g f b ≡ s → (decoded_by version g pieces).blocks (a, v, f, b)
@@ -98,8 +99,8 @@ module _ (version : ℕ) (g : Geometry) (pieces : ℕ → List ℕ)
       content_is IsBlock k.2 k.3 (entries_in g.quota (pieces (stripe_piece_number g k.0 k.1 s)))
       (entries_are_blocks g.quota (pieces (stripe_piece_number g k.0 k.1 s)) are.0 are.1))
 
-  label_decoded : (k : VolumeKey) → IfSome ((decoded_by version g pieces).labels k) (AreSizedBytes 32)
-  label_decoded k = if_is (AreSizedBytes 32) (has_volume g k) _
+  label_decoded : (k : VolumeKey) → IfSome ((decoded_by version g pieces).labels k) (AreSizedBytes LABEL_SIZE)
+  label_decoded k = if_is (AreSizedBytes LABEL_SIZE) (has_volume g k) _
       (λ there. label_is version (pieces (volume_piece_number g k.0 k.1)) (bytes_of_volume k there))
 
   pub is_measured : IsMeasured g (decoded_by version g pieces)
@@ -196,7 +197,7 @@ module _ (version : ℕ) (g : Geometry) (pieces : ℕ → List ℕ) (sized : (n 
           let entries : entries_in g.quota (pieces (stripe_piece_number g k.0 k.1 s)) ≡ stripe_entries g x k.0 k.1 s =
           ap (λ (l : List ℕ). entries_in g.quota l) (stripe_spelled (k.0, k.1) there s (group_below g k.2 k.3))
           ∙ entries_again (stripe_entries g x k.0 k.1 s) (entries_good g x measured k.0 k.1 s) g.quota
-          (g.quota * 520 - length (flat_map entry_bytes (stripe_entries g x k.0 k.1 s))) (measured.quota k.0 k.1 s) in
+          (g.quota * entry_size - length (flat_map entry_bytes (stripe_entries g x k.0 k.1 s))) (measured.quota k.0 k.1 s) in
           let held : x.blocks k ≡ content_at (stripe_entries g x k.0 k.1 s) k.2 k.3 =
           blocks_decoded version g pieces sized k.0 k.1 s k.2 k.3 true there refl ∙ ap (λ (es : List BlockEntry). content_at es k.2 k.3) entries in
           content_of (λ f b. (b < g.blocks) × (x.files (k.0, k.1, f) ≡ true)) k.2 k.3 (stripe_entries g x k.0 k.1 s)
@@ -208,7 +209,7 @@ module _ (version : ℕ) (g : Geometry) (pieces : ℕ → List ℕ) (sized : (n 
   labels_of_made k = by (has_volume g k) (is_made_in (pieces (volume_piece_number g k.0 k.1)))
     where
       by : (t made : Bool) → is_some (if t then
-          (if made then Some (if version == 2 then slice (pieces (volume_piece_number g k.0 k.1)) 16 32 else no_label) else None) else None) ≡ (t && made)
+          (if made then Some (if version == 2 then slice (pieces (volume_piece_number g k.0 k.1)) 16 LABEL_SIZE else no_label) else None) else None) ≡ (t && made)
       by true true = refl
       by true false = refl
       by false made = refl

@@ -5,7 +5,7 @@ use Rattle.std.proofs.lemmas.List.{take_all}
 use Rattle.std.proofs.Math.Seq.{take-add}
 use Rattle.std.proofs.lemmas.Nat.{mod-mul-add}
 use Rattle.affinity.specs.declared.geometry.Geometry.{Geometry}
-use Rattle.device_map.specs.Layout.{image_size}
+use Rattle.device_map.specs.Layout.{image_size, entry_size}
 use Rattle.meaning.specs.State.{State, sum_below}
 use Rattle.image.specs.Pieces.{pieces_of_volume, piece_count, piece_part_size, piece_size, piece_at, piece_of, joined_below}
 use Rattle.image.specs.Image.{image_head, image_of, piece_in}
@@ -36,11 +36,11 @@ module _ (k : ℕ) (h : ℕ → ℕ) where
       let same : sum_below (suc m * k) (λ n. h (n % k)) ≡ sum_below (m * k + k) (λ n. h (n % k)) = ap (λ (n : ℕ). sum_below n (λ n. h (n % k))) more in
       omega (arith, one, same)
 
-parts_sum : (g : Geometry) (s : ℕ) → sum_below (suc s) (piece_part_size g) ≡ 64 + s * (g.quota * 520)
+parts_sum : (g : Geometry) (s : ℕ) → sum_below (suc s) (piece_part_size g) ≡ 64 + s * (g.quota * entry_size)
 parts_sum g zero = omega arith
 parts_sum g (suc s) = let before = parts_sum g s in omega (arith, before)
 
-pub length-pieces : (g : Geometry) → piece_at g (piece_count g) ≡ 64 + g.aggregates * g.volumes * (64 + g.stripes * (g.quota * 520))
+pub length-pieces : (g : Geometry) → piece_at g (piece_count g) ≡ 64 + g.aggregates * g.volumes * (64 + g.stripes * (g.quota * entry_size))
 length-pieces g =
     ap (λ (n : ℕ). 64 + n) (rounds (pieces_of_volume g) (piece_part_size g) (g.aggregates * g.volumes) ∙ ap (λ (n : ℕ). g.aggregates * g.volumes * n) (parts_sum g g.stripes))
 

@@ -5,6 +5,8 @@ use Rattle.std.specs.List.{AllByRecursion, flat_map}
 use Rattle.std.proofs.lemmas.List.{length-replicate}
 use Rattle.affinity.specs.Geometry.{stripe_of}
 use Rattle.affinity.specs.declared.geometry.Geometry.{Geometry}
+use Rattle.device_map.specs.Layout.{entry_size}
+use Rattle.language.specs.declared.TheConstants.{LABEL_SIZE}
 use Rattle.language.specs.Messages.{IsBlock, AreSizedBytes}
 use Rattle.language.specs.declared.Block.{Block}
 use Rattle.stripe.specs.Stripe.{BlockEntry}
@@ -18,7 +20,7 @@ use Rattle.stripe.proofs.EntryBytes.{IsSpellable, length-entries}
 -- Blocks and labels are of their size, and no stripe has more than its quota, whatever else holds of the state.
 pub record IsMeasured (g : Geometry) (x : State) : Type 0 where
   pub content : (k : BlockKey) → IfSome (x.blocks k) IsBlock
-  pub label_content : (k : VolumeKey) → IfSome (x.labels k) (AreSizedBytes 32)
+  pub label_content : (k : VolumeKey) → IfSome (x.labels k) (AreSizedBytes LABEL_SIZE)
   pub quota : (a v s : ℕ) → length (stripe_entries g x a v s) ≤ g.quota
 
 -- ---- lists of the numbers below n
@@ -80,24 +82,24 @@ state_is_measured g x is = record {
 
 -- ---- the pieces
 
-pub length-stripe_bytes : (quota : ℕ) (es : List BlockEntry) → AllByRecursion IsSpellable es → length es ≤ quota → length (stripe_bytes quota es) ≡ quota * 520
+pub length-stripe_bytes : (quota : ℕ) (es : List BlockEntry) → AllByRecursion IsSpellable es → length es ≤ quota → length (stripe_bytes quota es) ≡ quota * entry_size
 length-stripe_bytes quota es good most =
     let long = length-entries es good in
     omega (
       arith,
       long,
       most,
-      length-append (flat_map entry_bytes es) (replicate (quota * 520 - length (flat_map entry_bytes es)) 0),
-      length-replicate {A = ℕ} (quota * 520 - length (flat_map entry_bytes es)) 0,
+      length-append (flat_map entry_bytes es) (replicate (quota * entry_size - length (flat_map entry_bytes es)) 0),
+      length-replicate {A = ℕ} (quota * entry_size - length (flat_map entry_bytes es)) 0,
     )
 
-length-label : (version : ℕ) (label : Option (List ℕ)) → IfSome label (AreSizedBytes 32) → length (label_bytes version label) ≡ 32
+length-label : (version : ℕ) (label : Option (List ℕ)) → IfSome label (AreSizedBytes LABEL_SIZE) → length (label_bytes version label) ≡ LABEL_SIZE
 length-label version label is =
     let by : (b : Bool) → length (if b then unwrap_or label no_label else no_label)
-    ≡ 32 = λ b. elim b as (λ b. length (if b then unwrap_or label no_label else no_label) ≡ 32) [ true ↦ of_label label is | false ↦ refl ] in
+    ≡ LABEL_SIZE = λ b. elim b as (λ b. length (if b then unwrap_or label no_label else no_label) ≡ LABEL_SIZE) [ true ↦ of_label label is | false ↦ refl ] in
     by (version == 2)
   where
-    of_label : (label : Option (List ℕ)) → IfSome label (AreSizedBytes 32) → length (unwrap_or label no_label) ≡ 32
+    of_label : (label : Option (List ℕ)) → IfSome label (AreSizedBytes LABEL_SIZE) → length (unwrap_or label no_label) ≡ LABEL_SIZE
     of_label None is = refl
     of_label (Some bytes) is = is.0
 

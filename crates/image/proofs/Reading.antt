@@ -10,7 +10,8 @@ use Rattle.std.proofs.lemmas.Slice.Eq.{bytes_eq-Decides}
 use Rattle.affinity.specs.Geometry.{stripe_of}
 use Rattle.affinity.specs.declared.geometry.Geometry.{Geometry}
 use Rattle.byteorder.specs.Endian.{little_bytes, little_number}
-use Rattle.device_map.specs.Layout.{slice}
+use Rattle.device_map.specs.Layout.{slice, entry_size}
+use Rattle.language.specs.declared.TheConstants.{LABEL_SIZE}
 use Rattle.language.specs.Messages.{AreSizedBytes}
 use Rattle.language.specs.Replies.{has_file}
 use Rattle.language.specs.declared.Block.{Block}
@@ -161,12 +162,12 @@ module _ (g : Geometry) (x : State) (a v : ℕ) where
       by true = refl
       by false = refl
 
-  label_there : (label : List ℕ) → length label ≡ 32 → x.made (a, v) ≡ true → x.labels (a, v) ≡ Some label → slice (volume_piece 2 g x a v) 16 32 ≡ label
+  label_there : (label : List ℕ) → length label ≡ LABEL_SIZE → x.made (a, v) ≡ true → x.labels (a, v) ≡ Some label → slice (volume_piece 2 g x a v) 16 LABEL_SIZE ≡ label
   label_there label long made has =
       ap (λ (t : Bool). slice (if t then 1 ∷ one_if (x.sealed (a, v)) ∷ [] ++ replicate 6 0 ++ little_bytes 8 (file_bits g x a v)
-      ++ label_bytes 2 (x.labels (a, v)) ++ replicate 16 0 else replicate 64 0) 16 32) made
-      ∙ ap (λ (o : Option (List ℕ)). take 32 (label_bytes 2 o ++ replicate 16 0)) has
-      ∙ take_at label (replicate 16 0) 32 long
+      ++ label_bytes 2 (x.labels (a, v)) ++ replicate 16 0 else replicate 64 0) 16 LABEL_SIZE) made
+      ∙ ap (λ (o : Option (List ℕ)). take LABEL_SIZE (label_bytes 2 o ++ replicate 16 0)) has
+      ∙ take_at label (replicate 16 0) LABEL_SIZE long
 
 module _ (g : Geometry) (x : State) (is : IsState g x) where
   has : (k : VolumeKey) → x.made k ≡ true → has_volume g k ≡ true
@@ -223,7 +224,7 @@ module _ (g : Geometry) (x : State) (is : IsState g x) where
       (ltb-true k.1 g.volumes parts.1) 2 x (state_is_measured g x is) s (mod-lt (k.2 + k.3 / g.width) g.stripes_range.0))
       ∙ ap (λ (es : List BlockEntry). content_at es k.2 k.3) (entries_again (stripe_entries g x k.0 k.1 s)
       (entries_good g x (state_is_measured g x is) k.0 k.1 s) g.quota
-      (g.quota * 520 - length (flat_map entry_bytes (stripe_entries g x k.0 k.1 s))) ((state_is_measured g x is).quota k.0 k.1 s))
+      (g.quota * entry_size - length (flat_map entry_bytes (stripe_entries g x k.0 k.1 s))) ((state_is_measured g x is).quota k.0 k.1 s))
       ∙ entries_hold g x is k.0 k.1 k.2 k.3)
       (λ some. has (k.0, k.1) (is.files (k.0, k.1, k.2) (is.blocks k some).1).1)
 
@@ -232,14 +233,14 @@ module _ (g : Geometry) (x : State) (is : IsState g x) where
       if_there (has_volume g k) _ (x.labels k)
       (λ there.
       ap (label_in 2) (volume_decoded k there)
-      ∙ ap (λ (t : Bool). if t then Some (slice (volume_piece 2 g x k.0 k.1) 16 32) else None) (made_decoded g x k.0 k.1 2)
+      ∙ ap (λ (t : Bool). if t then Some (slice (volume_piece 2 g x k.0 k.1) 16 LABEL_SIZE) else None) (made_decoded g x k.0 k.1 2)
       ∙ by (x.made k) (x.labels k) refl refl)
       (λ some. has k (sym (is.labels k) ∙ some))
     where
-      by : (t : Bool) (o : Option (List ℕ)) → x.made k ≡ t → x.labels k ≡ o → (if t then Some (slice (volume_piece 2 g x k.0 k.1) 16 32) else None) ≡ o
+      by : (t : Bool) (o : Option (List ℕ)) → x.made k ≡ t → x.labels k ≡ o → (if t then Some (slice (volume_piece 2 g x k.0 k.1) 16 LABEL_SIZE) else None) ≡ o
       by true None made has_none = absurd (true≢false (sym (sym (ap (λ (o : Option (List ℕ)). is_some o) has_none) ∙ is.labels k ∙ made)))
       by true (Some label) made has_one =
-          let long : length label ≡ 32 = (subst (λ (o : Option (List ℕ)). IfSome o (AreSizedBytes 32)) has_one (is.label_content k)).0 in
+          let long : length label ≡ LABEL_SIZE = (subst (λ (o : Option (List ℕ)). IfSome o (AreSizedBytes LABEL_SIZE)) has_one (is.label_content k)).0 in
           ap (λ (l : List ℕ). Some l) (label_there g x k.0 k.1 label long made has_one)
       by false None made has_none = refl
       by false (Some label) made has_one = absurd (true≢false (sym (ap (λ (o : Option (List ℕ)). is_some o) has_one) ∙ is.labels k ∙ made))

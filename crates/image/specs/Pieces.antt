@@ -3,6 +3,7 @@ use Rattle.std.specs.Prelude.{ℕ, zero, suc, ◌+◌, ◌*◌, ◌/◌, ◌%◌
 use Rattle.affinity.specs.Geometry.{stripe_of}
 use Rattle.affinity.specs.declared.geometry.Geometry.{Geometry}
 use Rattle.byteorder.specs.Endian.{little_bytes, little_number}
+use Rattle.language.specs.declared.TheConstants.{LABEL_SIZE}
 use Rattle.language.specs.Replies.{has_file}
 use Rattle.language.specs.declared.Block.{Block}
 use Rattle.device_map.specs.Layout.{entry_size, image_head_size, volume_piece_size, slice}
@@ -108,7 +109,7 @@ abbrev pub has_file_in : List ℕ → ℕ → Bool
 has_file_in bytes f = has_file (little_number 8 (slice bytes 8 8)) f
 
 abbrev pub label_in : ℕ → List ℕ → Option (List ℕ)
-label_in version bytes = if is_made_in bytes then Some (if version == 2 then slice bytes 16 32 else no_label) else None
+label_in version bytes = if is_made_in bytes then Some (if version == 2 then slice bytes 16 LABEL_SIZE else no_label) else None
 
 -- the block that the bytes of a stripe's piece decode to
 abbrev pub block_in : Geometry → List ℕ → ℕ → ℕ → Option Block

@@ -28,7 +28,7 @@ pub fn piece_count(g: &Geometry) -> usize
 pub fn largest_piece(g: &Geometry) -> usize
     ensures size { result ≡ g.now.quota * entry_size }
     ensures some { 0 < result }
-    ensures most { result ≤ 33280 }
+    ensures most { result ≤ 64 * entry_size }
 {
     usize::from(g.quota) * BLOCK_ENTRY_SIZE
 }
@@ -37,7 +37,7 @@ pub fn largest_piece(g: &Geometry) -> usize
 pub fn piece_size(g: &Geometry, n: usize) -> usize
     ensures size { result ≡ piece_size g.now n }
     ensures within { result ≤ g.now.quota * entry_size }
-    ensures most { result ≤ 33280 }
+    ensures most { result ≤ 64 * entry_size }
 {
     if n % (1 + usize::from(g.stripes)) == 0 {
         VOLUME_PIECE_SIZE

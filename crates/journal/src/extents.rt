@@ -1,12 +1,12 @@
 //! An image as the extents in which it is written: its head with the first piece, then each other piece.
-ghost use Rattle.std.specs.Prelude.{◌≡◌, ◌+◌, ◌-◌, ◌<◌, ◌≤◌, ℕ, length, OnOk, IsErrOf};
+ghost use Rattle.std.specs.Prelude.{◌≡◌, ◌+◌, ◌-◌, ◌<◌, ◌≤◌, ◌*◌, ℕ, length, OnOk, IsErrOf};
 ghost use Rattle.disk.specs.Device.{IsDeviceCall, Syncs, overlaid};
 ghost use Rattle.image.specs.Pieces.{piece_count, piece_size};
 ghost use Rattle.journal.specs.Costs.{count_runs};
 ghost use Rattle.journal.specs.Extents.{AgreeOnClean, Imaged, IsPatchedAt, image_in, extent_size};
 ghost use Rattle.disk.specs.Store.{CrashesChangeOnly, Costs};
 ghost use Rattle.oplog.specs.Changes.{IsReady, IsSameBut};
-ghost use Rattle.device_map.specs.Layout.{slice, layout_of, device_size, image_part, image_size};
+ghost use Rattle.device_map.specs.Layout.{slice, layout_of, device_size, image_part, image_size, entry_size, image_head_size};
 
 use affinity::Geometry;
 use device_map::{IMAGE_HEAD_SIZE, image_at};
@@ -14,10 +14,10 @@ use disk::store::write;
 use disk::{Disk, DiskFault};
 use image::layout::piece_size;
 
-/// How many bytes extent `n` of an image has. (`most`: a head, 64 bytes, and the largest piece of any geometry, 64 entries of 520.)
+/// How many bytes extent `n` of an image has. (`most`: a head, and the largest piece of any geometry, 64 entries.)
 fn extent_size(g: &Geometry, n: usize) -> usize
     ensures size { result ≡ extent_size g.now n }
-    ensures most { result ≤ 33344 }
+    ensures most { result ≤ image_head_size + 64 * entry_size }
 {
     if n == 0 {
         IMAGE_HEAD_SIZE + piece_size(g, n)

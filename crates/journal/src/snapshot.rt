@@ -12,9 +12,9 @@ use parcel::{Tree, write_piece};
 
 /// Writes the head of an image.
 fn write_head(bytes: &mut [u8])
-    requires { 64 ≤ length bytes.old }
-    ensures head { take 64 bytes.new ≡ image_head 2 }
-    ensures rest { drop 64 bytes.new ≡ drop 64 bytes.old }
+    requires { IMAGE_HEAD_SIZE ≤ length bytes.old }
+    ensures head { take IMAGE_HEAD_SIZE bytes.new ≡ image_head 2 }
+    ensures rest { drop IMAGE_HEAD_SIZE bytes.new ≡ drop IMAGE_HEAD_SIZE bytes.old }
     ensures size { length bytes.new ≡ length bytes.old }
 {
     bytes[..IMAGE_HEAD_SIZE].copy_from_slice(&head_of(VERSION));

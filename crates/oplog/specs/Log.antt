@@ -9,7 +9,7 @@ use Rattle.oplog.specs.declared.fault.LogFault.TheVariants.{Device, BadRecord}
 use Rattle.device_map.specs.Layout.{Layout, layout_of, other, records_per_write}
 use Rattle.oplog.specs.Changing.{IsNoChangeRecord}
 
--- how many batches of up to 64 records (`records_per_write`) n records make
+-- how many batches of up to `records_per_write` records n records make
 abbrev pub batch_count : ℕ → ℕ
 batch_count n = (n + (records_per_write - 1)) / records_per_write
 

@@ -36,9 +36,9 @@ fn zeros(count: usize) -> &'static [u8]
     &ZEROS[..count]
 }
 
-/// A row of open gates, at most 64.
+/// A row of open gates, at most `RECORDS_PER_WRITE`.
 fn ones(count: usize) -> &'static [u8]
-    requires { count ≤ 64 }
+    requires { count ≤ RECORDS_PER_WRITE }
     ensures { result.now ≡ replicate count 1 }
 {
     &OPEN_GATES[..count]
@@ -72,7 +72,7 @@ impl Half {
     /// Where this gate lies.
     pub(crate) fn gate_at(self, i: usize) -> u64
         requires { i ≤ self.geometry.half }
-        ensures { result ≡ part_at (layout_of self.geometry) (half_part self.number) + (64 + i) }
+        ensures { result ≡ part_at (layout_of self.geometry) (half_part self.number) + (CHAIN_ZONE_SIZE + i) }
     {
         self.start() + (CHAIN_ZONE_SIZE + i) as u64
     }
@@ -81,7 +81,7 @@ impl Half {
     pub(crate) fn record_at(self, i: usize) -> u64
         requires { i ≤ self.geometry.half }
         ensures { result ≡
-            part_at (layout_of self.geometry) (half_part self.number) + (64 + self.geometry.half + i * 520) }
+            part_at (layout_of self.geometry) (half_part self.number) + (CHAIN_ZONE_SIZE + self.geometry.half + i * RECORD_SIZE) }
     {
         self.start() + (CHAIN_ZONE_SIZE + self.capacity() + i * RECORD_SIZE) as u64
     }
@@ -91,10 +91,10 @@ impl Half {
     pub(crate) fn clear<D: Disk>(self, disk: &mut D) -> Result<(), DiskFault>
         requires long_enough { device_size (layout_of self.geometry) ≤ length (D.medium disk.old).now }
         ensures any_moment { D.keeps → CrashesChangeOnly (D.medium disk.old) (D.medium disk.new)
-            (SameOutside (part_at (layout_of self.geometry) (half_part self.number)) (64 + self.geometry.half)) }
+            (SameOutside (part_at (layout_of self.geometry) (half_part self.number)) (CHAIN_ZONE_SIZE + self.geometry.half)) }
         ensures cleared { OnOk result (D.keeps →
             Stored (part_at (layout_of self.geometry) (half_part self.number))
-            (replicate (64 + self.geometry.half) 0) (D.medium disk.old) (D.medium disk.new)) }
+            (replicate (CHAIN_ZONE_SIZE + self.geometry.half) 0) (D.medium disk.old) (D.medium disk.new)) }
         ensures costs { D.keeps → Costs result 2 (D.medium disk.old) (D.medium disk.new) }
         ensures inside { IsErrOf result DiskFault.OutOfRange → ⊥ }
         ensures call { IsDeviceCall result (D.medium disk.old) (D.medium disk.new) }
@@ -104,13 +104,13 @@ impl Half {
 
     /// Sets `count` gates to 1, from gate `first` on, and syncs: then their records are in the front, if all before them are.
     fn open_gates<D: Disk>(self, disk: &mut D, first: usize, count: usize) -> Result<(), DiskFault>
-        requires batch { count ≤ 64 }
+        requires batch { count ≤ RECORDS_PER_WRITE }
         requires room { first + count ≤ self.geometry.half }
         requires long_enough { device_size (layout_of self.geometry) ≤ length (D.medium disk.old).now }
         ensures any_moment { D.keeps → CrashesChangeOnly (D.medium disk.old) (D.medium disk.new)
-            (SameOutside (part_at (layout_of self.geometry) (half_part self.number) + (64 + first)) count) }
+            (SameOutside (part_at (layout_of self.geometry) (half_part self.number) + (CHAIN_ZONE_SIZE + first)) count) }
         ensures opened { OnOk result (D.keeps →
-            Stored (part_at (layout_of self.geometry) (half_part self.number) + (64 + first))
+            Stored (part_at (layout_of self.geometry) (half_part self.number) + (CHAIN_ZONE_SIZE + first))
             (replicate count 1) (D.medium disk.old) (D.medium disk.new)) }
         ensures costs { D.keeps → Costs result 2 (D.medium disk.old) (D.medium disk.new) }
         ensures inside { IsErrOf result DiskFault.OutOfRange → ⊥ }
@@ -128,9 +128,9 @@ impl Half {
         buffer: &mut [u8],
     ) -> Result<(), DiskFault>
         requires changes { AreChangesInRange self.geometry messages.now }
-        requires batch { length messages.now ≤ 64 }
+        requires batch { length messages.now ≤ RECORDS_PER_WRITE }
         requires room { used + length messages.now ≤ self.geometry.half }
-        requires buffer { length messages.now * 520 ≤ length buffer.old }
+        requires buffer { length messages.now * RECORD_SIZE ≤ length buffer.old }
         requires long_enough { device_size (layout_of self.geometry) ≤ length (D.medium disk.old).now }
         // The front has `used` records, all gates behind it are 0, and nothing in this half is unsynced.
         requires ready { D.keeps → IsReady (layout_of self.geometry) self.number used (D.medium disk.old) }
@@ -146,7 +146,7 @@ impl Half {
         self.open_gates(disk, used, messages.len())
     }
 
-    /// Adds these messages, up to 64 at a time, after the first `used` records, which make up the front.
+    /// Adds these messages, up to `RECORDS_PER_WRITE` at a time, after the first `used` records, which make up the front.
     pub(crate) fn append<D: Disk>(
         self,
         disk: &mut D,
@@ -156,7 +156,7 @@ impl Half {
     ) -> Result<(), DiskFault>
         requires changes { AreChangesInRange self.geometry messages.now }
         requires room { used + length messages.now ≤ self.geometry.half }
-        requires buffer { min self.geometry.half 64 * 520 ≤ length buffer.old }
+        requires buffer { min self.geometry.half RECORDS_PER_WRITE * RECORD_SIZE ≤ length buffer.old }
         requires long_enough { device_size (layout_of self.geometry) ≤ length (D.medium disk.old).now }
         // The front has `used` records, all gates behind it are 0, and nothing in this half is unsynced.
         requires ready { D.keeps → IsReady (layout_of self.geometry) self.number used (D.medium disk.old) }

@@ -133,8 +133,8 @@ impl Halves {
         LogFault::Device
     }
 
-    /// Appends these messages to the current half, in order: their records, a sync, their gates, a sync, for up to 64
-    /// of them at a time. With no message the device isn't touched.
+    /// Appends these messages to the current half, in order: their records, a sync, their gates, a sync, for up to
+    /// `RECORDS_PER_WRITE` of them at a time. With no message the device isn't touched.
     pub fn append<D: Disk>(&mut self, disk: &mut D, messages: &[Msg]) -> Result<(), LogFault>
         requires not_failed { self.old.failed ≡ false }
         requires changes { AreChangesInRange self.old.geometry messages.now }
@@ -296,7 +296,7 @@ impl Halves {
 }
 
 /// The changing message in range whose record these bytes are.
-fn change_in_record(g: &Geometry, bytes: &[u8; 520]) -> Option<Msg>
+fn change_in_record(g: &Geometry, bytes: &[u8; RECORD_SIZE]) -> Option<Msg>
     ensures some { IfSome result (λ m. (bytes.now ≡ record_of m) × IsMessage m × IsChangeInRange g.now m) }
     ensures none { IsNone result → IsNoChangeRecord g.now bytes.now }
 {

@@ -3,6 +3,7 @@ use Rattle.std.proofs.Common.{◌≡◌, ℕ, ◌-◌, Bool, true, false, List, 
 use Rattle.std.specs.Prelude.{if◌then◌else◌}
 use Rattle.std.proofs.lemmas.List.{take_at, drop_at, drop_all}
 use Rattle.byteorder.specs.Endian.{little_bytes}
+use Rattle.language.specs.declared.TheConstants.{LABEL_SIZE}
 use Rattle.meaning.specs.State.{one_if}
 use Rattle.parcel.specs.Pieces.{spelled}
 use Rattle.parcel.specs.declared.pieces.volumes.VolumePiece.{VolumePiece}
@@ -14,13 +15,13 @@ put_next at k front rest ys long =
     (λ i. take_at front rest at long i ++ (ys ++ drop k (drop_at front rest at long i))) ∙ sym (append_assoc front ys (drop k rest))
 
 -- flags, files, a label and zeros
-pub four_parts : (out marks files label blank : List ℕ) → length marks ≡ 8 → length files ≡ 8 → length label ≡ 32
-    → let three = put_mid 16 32 (put_mid 8 8 (marks ++ drop 8 out) files) label in put_mid 48 (length three - 48) three blank ≡ ((marks ++ files) ++ label) ++ blank
+pub four_parts : (out marks files label blank : List ℕ) → length marks ≡ 8 → length files ≡ 8 → length label ≡ LABEL_SIZE
+    → let three = put_mid 16 LABEL_SIZE (put_mid 8 8 (marks ++ drop 8 out) files) label in put_mid 48 (length three - 48) three blank ≡ ((marks ++ files) ++ label) ++ blank
 four_parts out marks files label blank m f l =
-    let left : List ℕ = drop 32 (drop 8 (drop 8 out)) in
+    let left : List ℕ = drop LABEL_SIZE (drop 8 (drop 8 out)) in
     let two : put_mid 8 8 (marks ++ drop 8 out) files ≡ (marks ++ files) ++ drop 8 (drop 8 out) = put_next 8 8 marks (drop 8 out) files m in
-    let three : put_mid 16 32 (put_mid 8 8 (marks ++ drop 8 out) files) label ≡ ((marks ++ files) ++ label) ++ left =
-    ap (λ (xs : List ℕ). put_mid 16 32 xs label) two ∙ put_next 16 32 (marks ++ files) (drop 8 (drop 8 out)) label (omega (arith, m, f, length-append marks files)) in
+    let three : put_mid 16 LABEL_SIZE (put_mid 8 8 (marks ++ drop 8 out) files) label ≡ ((marks ++ files) ++ label) ++ left =
+    ap (λ (xs : List ℕ). put_mid 16 LABEL_SIZE xs label) two ∙ put_next 16 LABEL_SIZE (marks ++ files) (drop 8 (drop 8 out)) label (omega (arith, m, f, length-append marks files)) in
     let front : length ((marks ++ files) ++ label) ≡ 48 = omega (arith, m, f, l, length-append marks files, length-append (marks ++ files) label) in
     let k : ℕ = length (((marks ++ files) ++ label) ++ left) - 48 in
     let four : put_mid 48 k (((marks ++ files) ++ label) ++ left) blank ≡ (((marks ++ files) ++ label) ++ blank) ++ drop k left = put_next 48 k ((marks ++ files) ++ label) left blank front in

@@ -9,6 +9,7 @@ use Rattle.meaning.proofs.Keys.{picks_volume}
 use Rattle.affinity.specs.declared.geometry.Geometry.{Geometry}
 use Rattle.byteorder.specs.Endian.{little_bytes, little_number}
 use Rattle.device_map.specs.Layout.{slice}
+use Rattle.language.specs.declared.TheConstants.{LABEL_SIZE}
 use Rattle.language.specs.Messages.{AreSizedBytes}
 use Rattle.language.specs.Replies.{has_file}
 use Rattle.language.specs.declared.Block.{Block}
@@ -63,10 +64,10 @@ volume_decoded version g x a v bytes =
     ((λ i. sum_below g.files (λ f. if (if picks_volume a v i then has_file_in bytes f else x.files (a, v, f)) then 2 ^ f else 0)) ∙ sum_bits g.files (little_number 8 (slice bytes 8 8)))
     (λ on.
     ap (λ (t : Bool). label_bytes version (if t then decoded_label_in version bytes else x.labels (a, v))) (picks_volume a v)
-    ∙ ap (λ (t : Bool). label_bytes version (if t then Some (if version == 2 then slice bytes 16 32 else no_label) else None)) on
+    ∙ ap (λ (t : Bool). label_bytes version (if t then Some (if version == 2 then slice bytes 16 LABEL_SIZE else no_label) else None)) on
     ∙ by (version == 2))
   where
-    by : (t : Bool) → (if t then unwrap_or (Some (if t then slice bytes 16 32 else no_label)) no_label else no_label) ≡ (if t then slice bytes 16 32 else no_label)
+    by : (t : Bool) → (if t then unwrap_or (Some (if t then slice bytes 16 LABEL_SIZE else no_label)) no_label else no_label) ≡ (if t then slice bytes 16 LABEL_SIZE else no_label)
     by true = refl
     by false = refl
 
@@ -196,14 +197,14 @@ module _ (version : ℕ) (g : Geometry) (bytes : List ℕ) (good : bytes ≡ spe
     labels_made : (k : VolumeKey) → is_some (taken.labels k) ≡ taken.made k
     labels_made k = by (is_volume a v k) (is_made_in bytes)
       where
-        by : (t made : Bool) → is_some (if t then (if made then Some (if version == 2 then slice bytes 16 32 else no_label) else None) else x.labels k) ≡ (if t then made else x.made k)
+        by : (t made : Bool) → is_some (if t then (if made then Some (if version == 2 then slice bytes 16 LABEL_SIZE else no_label) else None) else x.labels k) ≡ (if t then made else x.made k)
         by true true = refl
         by true false = refl
         by false made = is.labels k
 
-    label_bounds : (k : VolumeKey) → IfSome (taken.labels k) (AreSizedBytes 32)
+    label_bounds : (k : VolumeKey) → IfSome (taken.labels k) (AreSizedBytes LABEL_SIZE)
     label_bounds k =
-        elim (is_volume a v k) as (λ (t : Bool). IfSome (if t then decoded_label_in version bytes else x.labels k) (AreSizedBytes 32)) [
+        elim (is_volume a v k) as (λ (t : Bool). IfSome (if t then decoded_label_in version bytes else x.labels k) (AreSizedBytes LABEL_SIZE)) [
           | true ↦ label_is version bytes are
           | false ↦ is.label_content k
         ]

@@ -3,9 +3,10 @@ use Rattle.std.specs.Prelude.{◌≡◌, ◌↔◌, ℕ, ◌<◌, Bool, zero, su
 use Rattle.affinity.specs.Geometry.{stripe_of}
 use Rattle.affinity.specs.declared.geometry.Geometry.{Geometry}
 use Rattle.byteorder.specs.Endian.{little_bytes, little_number}
+use Rattle.language.specs.declared.TheConstants.{LABEL_SIZE}
 use Rattle.stripe.specs.Entries.{IsStripePiece}
 use Rattle.stripe.specs.Stripe.{StripePart}
-use Rattle.device_map.specs.Layout.{slice}
+use Rattle.device_map.specs.Layout.{slice, volume_piece_size}
 use Rattle.meaning.specs.State.{State, IsState, one_if}
 use Rattle.meaning.specs.Serial.{no_label}
 use Rattle.meaning.specs.Subtrees.{Fact, value}
@@ -20,16 +21,16 @@ use Rattle.parcel.specs.declared.parts.Logical.{Logical}
 use Rattle.parcel.specs.declared.parts.Vol.{Vol}
 use Rattle.parcel.specs.declared.pieces.volumes.VolumePiece.{VolumePiece}
 
--- the 64 bytes of a volume's piece with these flags, files and label
+-- the bytes of a volume's piece with these flags, files and label
 abbrev pub spelled : VolumePiece → List ℕ
 spelled p =
     if p.made
     then 1 ∷ one_if p.sealed ∷ [] ++ replicate 6 0 ++ little_bytes 8 p.files ++ p.label ++ replicate 16 0
-    else replicate 64 0
+    else replicate volume_piece_size 0
 
 -- the label that bytes decode to: before version 2 there is none, and zeros are given for it
 abbrev pub decoded_label : ℕ → List ℕ → List ℕ
-decoded_label version bytes = if version == 2 then slice bytes 16 32 else no_label
+decoded_label version bytes = if version == 2 then slice bytes 16 LABEL_SIZE else no_label
 
 -- what bytes decode to as a volume's piece; bits of files that the geometry doesn't have are dropped
 abbrev pub decoded_piece : ℕ → Geometry → List ℕ → VolumePiece

@@ -7,6 +7,7 @@ mod taking;
 mod whole;
 
 use crate::StripeParcel;
+use language::LABEL_SIZE;
 pub(crate) use putting::put_at;
 pub(crate) use standings::{files_of, standing_at, volume_at, volume_mut};
 pub(crate) use starting::new_root;
@@ -23,7 +24,7 @@ pub struct Logical {
 /// The label of a volume: none where the volume is not made.
 #[derive(Drop)]
 pub struct Label {
-    pub(crate) bytes: Option<[u8; 32]>,
+    pub(crate) bytes: Option<[u8; LABEL_SIZE]>,
 }
 
 /// A volume: its flags, and below it its files and stripes, and its label.

@@ -58,8 +58,8 @@ fn place_of_piece(g: &Geometry, n: usize) -> PiecePlace
 }
 
 /// Writes piece `n` of the state that the tree holds into `out`, as an image of version 2 has it.
-/// Nothing of the tree may be out. `out` has the size of the piece: 64 bytes for a volume's own, and
-/// 520 for each block that a stripe can hold.
+/// Nothing of the tree may be out. `out` has the size of the piece: that of a volume's own, or
+/// that of an entry for each block that a stripe can hold.
 pub fn write_piece(t: &Tree, n: usize, out: &mut [u8])
     requires whole { IsWholeTree t.now }
     requires piece { n < piece_count t.now.geometry }

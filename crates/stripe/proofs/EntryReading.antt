@@ -7,6 +7,7 @@ use Rattle.std.proofs.lemmas.Grind.{flat_map-append}
 use Rattle.std.proofs.lemmas.List.{take_all, take_at, drop_at, drop-drop, take-append-drop, length-take-le, length-drop}
 use Rattle.std.proofs.Math.Seq.{take-add}
 use Rattle.affinity.specs.declared.geometry.Geometry.{Geometry}
+use Rattle.device_map.specs.Layout.{entry_size}
 use Rattle.stripe.specs.Entries.{entry_bytes, stripe_bytes, entry_in, entries_in, fits_stripe, IsStripePiece}
 use Rattle.stripe.specs.Index.{IsNextEntry}
 use Rattle.stripe.specs.Stripe.{BlockEntry, ComesBefore, IsAscending}
@@ -59,39 +60,39 @@ low l h l_small h_small = omega (arith, l_small, h_small)
 high : (l h : ℕ) → l < 256 → h < 256 → h ≡ (l + 256 * (h + 256 * 0)) / 256 % 256
 high l h l_small h_small = omega (arith, l_small, h_small)
 
-pub row_spelled : (row : List ℕ) → length row ≡ 520 → get_or row 0 0 ≡ 1 → take 4 (drop 4 row) ≡ replicate 4 0 → get_or row 2 0 < 256 → get_or row 3 0 < 256 → row ≡ entry_bytes (entry_in row)
+pub row_spelled : (row : List ℕ) → length row ≡ entry_size → get_or row 0 0 ≡ 1 → take 4 (drop 4 row) ≡ replicate 4 0 → get_or row 2 0 < 256 → get_or row 3 0 < 256 → row ≡ entry_bytes (entry_in row)
 row_spelled (m ∷ f ∷ l ∷ h ∷ p ∷ q ∷ r ∷ t ∷ content) long marked blank l_small h_small =
     λ i. marked i ∷ f ∷ low l h l_small h_small i ∷ high l h l_small h_small i ∷ get_or (blank i) 0 0 ∷ get_or (blank i) 1 0 ∷ get_or (blank i) 2 0 ∷ get_or (blank i) 3 0 ∷ content
 row_spelled _ long marked blank l_small h_small = absurd (omega (arith, long))
 
-length-entry_in : (row : List ℕ) → length row ≡ 520 → length (entry_bytes (entry_in row)) ≡ 520
+length-entry_in : (row : List ℕ) → length row ≡ entry_size → length (entry_bytes (entry_in row)) ≡ entry_size
 length-entry_in row long = omega (arith, length-drop 8 row, long)
 
 -- ---- after some entries were read
 
 abbrev pub row_at : List ℕ → ℕ → List ℕ
-row_at bytes n = take 520 (drop (n * 520) bytes)
+row_at bytes n = take entry_size (drop (n * entry_size) bytes)
 
 -- The first n entries were read, and are `es`: they fill the front of the bytes, and the others are still to be read.
 pub record HasRead (g : Geometry) (files s : ℕ) (bytes : List ℕ) (es : List BlockEntry) (n : ℕ) : Type 0 where
-  pub front : take (n * 520) bytes ≡ flat_map entry_bytes es
+  pub front : take (n * entry_size) bytes ≡ flat_map entry_bytes es
   pub ascending : IsAscending es
   pub fit : AllByRecursion (λ e. fits_stripe g files s e.file e.block ≡ true) es
-  pub rest : es ++ entries_in (g.quota - n) (drop (n * 520) bytes) ≡ entries_in g.quota bytes
+  pub rest : es ++ entries_in (g.quota - n) (drop (n * entry_size) bytes) ≡ entries_in g.quota bytes
 
-module _ (g : Geometry) (files s : ℕ) (bytes : List ℕ) (long : length bytes ≡ g.quota * 520) where
-  length-front : (es : List BlockEntry) (n : ℕ) → n ≤ g.quota → HasRead g files s bytes es n → length (flat_map entry_bytes es) ≡ n * 520
+module _ (g : Geometry) (files s : ℕ) (bytes : List ℕ) (long : length bytes ≡ g.quota * entry_size) where
+  length-front : (es : List BlockEntry) (n : ℕ) → n ≤ g.quota → HasRead g files s bytes es n → length (flat_map entry_bytes es) ≡ n * entry_size
   length-front es n few has =
-      let fits : n * 520 ≤ length bytes = omega (arith, few, long) in
-      ap length (sym has.front) ∙ length-take-le (n * 520) bytes fits
+      let fits : n * entry_size ≤ length bytes = omega (arith, few, long) in
+      ap length (sym has.front) ∙ length-take-le (n * entry_size) bytes fits
 
   -- all entries were read
   pub all_read : (es : List BlockEntry) → HasRead g files s bytes es g.quota → IsStripePiece g files s bytes × (es ≡ entries_in g.quota bytes)
   all_read es has =
       let none : g.quota - g.quota ≡ 0 = omega arith in
-      let same : es ≡ entries_in g.quota bytes = sym (append-nil es) ∙ sym (ap (λ (k : ℕ). es ++ entries_in k (drop (g.quota * 520) bytes)) none) ∙ has.rest in
-      let whole : bytes ≡ flat_map entry_bytes es = sym (take_all (g.quota * 520) bytes (omega (arith, long))) ∙ has.front in
-      let full : g.quota * 520 - length (flat_map entry_bytes es) ≡ 0 = omega (arith, length-front es g.quota (omega arith) has) in (
+      let same : es ≡ entries_in g.quota bytes = sym (append-nil es) ∙ sym (ap (λ (k : ℕ). es ++ entries_in k (drop (g.quota * entry_size) bytes)) none) ∙ has.rest in
+      let whole : bytes ≡ flat_map entry_bytes es = sym (take_all (g.quota * entry_size) bytes (omega (arith, long))) ∙ has.front in
+      let full : g.quota * entry_size - length (flat_map entry_bytes es) ≡ 0 = omega (arith, length-front es g.quota (omega arith) has) in (
         record {
           spelled = whole ∙ sym (append-nil (flat_map entry_bytes es)) ∙ sym (ap (λ (k : ℕ). flat_map entry_bytes es ++ replicate k 0) full) ∙ ap (stripe_bytes g.quota) same;
           ascending = subst IsAscending same has.ascending;
@@ -101,22 +102,23 @@ module _ (g : Geometry) (files s : ℕ) (bytes : List ℕ) (long : length bytes 
       )
 
   module _ (n : ℕ) (few : n < g.quota) (es : List BlockEntry) (has : HasRead g files s bytes es n) where
-    unmarked : get_or (drop (n * 520) bytes) 0 0 ≢ 1 → entries_in (g.quota - n) (drop (n * 520) bytes) ≡ []
+    unmarked : get_or (drop (n * entry_size) bytes) 0 0 ≢ 1 → entries_in (g.quota - n) (drop (n * entry_size) bytes) ≡ []
     unmarked off =
         let more : g.quota - n ≡ suc (g.quota - suc n) = omega (arith, few) in
-        ap (λ (k : ℕ). entries_in k (drop (n * 520) bytes)) more ∙ ap (λ (t : Bool). if t then entry_in (take 520 (drop (n * 520) bytes))
-        ∷ entries_in (g.quota - suc n) (drop 520 (drop (n * 520) bytes)) else []) (ne_eqb (get_or (drop (n * 520) bytes) 0 0) 1 off)
+        ap (λ (k : ℕ). entries_in k (drop (n * entry_size) bytes)) more ∙ ap (λ (t : Bool). if t then entry_in (take entry_size (drop (n * entry_size) bytes))
+        ∷ entries_in (g.quota - suc n) (drop entry_size (drop (n * entry_size) bytes)) else []) (ne_eqb (get_or (drop (n * entry_size) bytes) 0 0) 1 off)
 
-    these : get_or (drop (n * 520) bytes) 0 0 ≢ 1 → es ≡ entries_in g.quota bytes
+    these : get_or (drop (n * entry_size) bytes) 0 0 ≢ 1 → es ≡ entries_in g.quota bytes
     these off = sym (append-nil es) ∙ sym (ap (λ (l : List BlockEntry). es ++ l) (unmarked off)) ∙ has.rest
 
     -- After the last one there may be only zeros.
-    pub zeros_behind : get_or (drop (n * 520) bytes) 0 0 ≢ 1 → AllByRecursion (λ (b : ℕ). b ≡ 0) (drop (n * 520) bytes) → IsStripePiece g files s bytes × (es ≡ entries_in g.quota bytes)
+    pub zeros_behind : get_or (drop (n * entry_size) bytes) 0 0 ≢ 1 → AllByRecursion (λ (b : ℕ). b ≡ 0) (drop (n * entry_size) bytes) → IsStripePiece g files s bytes × (es ≡ entries_in g.quota bytes)
     zeros_behind off all =
         let same = these off in
-        let left : length (drop (n * 520) bytes) ≡ g.quota * 520 - length (flat_map entry_bytes es) = omega (arith, length-drop (n * 520) bytes, long, length-front es n (omega (arith, few)) has) in
+        let left : length (drop (n * entry_size) bytes) ≡ g.quota * entry_size - length (flat_map entry_bytes es) =
+        omega (arith, length-drop (n * entry_size) bytes, long, length-front es n (omega (arith, few)) has) in
         let whole : bytes ≡ stripe_bytes g.quota es =
-        sym (take-append-drop (n * 520) bytes) ∙ (λ i. has.front i ++ all_zeros (drop (n * 520) bytes) all i) ∙ ap (λ (k : ℕ). flat_map entry_bytes es ++ replicate k 0) left in (
+        sym (take-append-drop (n * entry_size) bytes) ∙ (λ i. has.front i ++ all_zeros (drop (n * entry_size) bytes) all i) ∙ ap (λ (k : ℕ). flat_map entry_bytes es ++ replicate k 0) left in (
           record {
             spelled = whole ∙ ap (stripe_bytes g.quota) same;
             ascending = subst IsAscending same has.ascending;
@@ -125,55 +127,56 @@ module _ (g : Geometry) (files s : ℕ) (bytes : List ℕ) (long : length bytes 
           same,
         )
 
-    pub are_zeros : get_or (drop (n * 520) bytes) 0 0 ≢ 1 → IsStripePiece g files s bytes → AllByRecursion (λ (b : ℕ). b ≡ 0) (drop (n * 520) bytes)
+    pub are_zeros : get_or (drop (n * entry_size) bytes) 0 0 ≢ 1 → IsStripePiece g files s bytes → AllByRecursion (λ (b : ℕ). b ≡ 0) (drop (n * entry_size) bytes)
     are_zeros off is =
         let same = these off in
         let spelled : bytes ≡ stripe_bytes g.quota es = is.spelled ∙ sym (ap (stripe_bytes g.quota) same) in
-        let behind : drop (n * 520) bytes ≡ replicate (g.quota * 520 - length (flat_map entry_bytes es)) 0 =
-        ap (drop (n * 520)) spelled ∙ drop_at (flat_map entry_bytes es) (replicate (g.quota * 520 - length (flat_map entry_bytes es)) 0) (n * 520) (length-front es n (omega (arith, few)) has) in
-        subst (AllByRecursion (λ (b : ℕ). b ≡ 0)) (sym behind) (zeros (g.quota * 520 - length (flat_map entry_bytes es)))
+        let behind : drop (n * entry_size) bytes ≡ replicate (g.quota * entry_size - length (flat_map entry_bytes es)) 0 =
+        ap (drop (n * entry_size)) spelled
+        ∙ drop_at (flat_map entry_bytes es) (replicate (g.quota * entry_size - length (flat_map entry_bytes es)) 0) (n * entry_size) (length-front es n (omega (arith, few)) has) in
+        subst (AllByRecursion (λ (b : ℕ). b ≡ 0)) (sym behind) (zeros (g.quota * entry_size - length (flat_map entry_bytes es)))
 
-    next_at : drop 520 (drop (n * 520) bytes) ≡ drop (suc n * 520) bytes
-    next_at = let place : n * 520 + 520 ≡ suc n * 520 = omega arith in drop-drop 520 (n * 520) bytes ∙ ap (λ (k : ℕ). drop k bytes) place
+    next_at : drop entry_size (drop (n * entry_size) bytes) ≡ drop (suc n * entry_size) bytes
+    next_at = let place : n * entry_size + entry_size ≡ suc n * entry_size = omega arith in drop-drop entry_size (n * entry_size) bytes ∙ ap (λ (k : ℕ). drop k bytes) place
 
     -- the entry that comes next
-    marked : get_or (drop (n * 520) bytes) 0 0 ≡ 1 → es ++ entry_in (row_at bytes n) ∷ entries_in (g.quota - suc n) (drop (suc n * 520) bytes) ≡ entries_in g.quota bytes
+    marked : get_or (drop (n * entry_size) bytes) 0 0 ≡ 1 → es ++ entry_in (row_at bytes n) ∷ entries_in (g.quota - suc n) (drop (suc n * entry_size) bytes) ≡ entries_in g.quota bytes
     marked on =
         let more : g.quota - n ≡ suc (g.quota - suc n) = omega (arith, few) in
-        let here : entries_in (g.quota - n) (drop (n * 520) bytes) ≡ entry_in (row_at bytes n) ∷ entries_in (g.quota - suc n) (drop (suc n * 520) bytes) =
-        ap (λ (k : ℕ). entries_in k (drop (n * 520) bytes)) more
-        ∙ ap (λ (t : Bool). if t then entry_in (take 520 (drop (n * 520) bytes))
-        ∷ entries_in (g.quota - suc n) (drop 520 (drop (n * 520) bytes)) else []) (eq-eqb (get_or (drop (n * 520) bytes) 0 0) 1 on)
+        let here : entries_in (g.quota - n) (drop (n * entry_size) bytes) ≡ entry_in (row_at bytes n) ∷ entries_in (g.quota - suc n) (drop (suc n * entry_size) bytes) =
+        ap (λ (k : ℕ). entries_in k (drop (n * entry_size) bytes)) more
+        ∙ ap (λ (t : Bool). if t then entry_in (take entry_size (drop (n * entry_size) bytes))
+        ∷ entries_in (g.quota - suc n) (drop entry_size (drop (n * entry_size) bytes)) else []) (eq-eqb (get_or (drop (n * entry_size) bytes) 0 0) 1 on)
         ∙ ap (λ (l : List ℕ). entry_in (row_at bytes n) ∷ entries_in (g.quota - suc n) l) next_at in
         sym (ap (λ (l : List BlockEntry). es ++ l) here) ∙ has.rest
 
-    pub next_read : get_or (drop (n * 520) bytes) 0 0 ≡ 1 → IsNextEntry g files s es (row_at bytes n) → HasRead g files s bytes (es ++ entry_in (row_at bytes n) ∷ []) (suc n)
+    pub next_read : get_or (drop (n * entry_size) bytes) 0 0 ≡ 1 → IsNextEntry g files s es (row_at bytes n) → HasRead g files s bytes (es ++ entry_in (row_at bytes n) ∷ []) (suc n)
     next_read on next =
         let e : BlockEntry = entry_in (row_at bytes n) in
-        let place : suc n * 520 ≡ n * 520 + 520 = omega arith in
+        let place : suc n * entry_size ≡ n * entry_size + entry_size = omega arith in
         record {
-          front = ap (λ (k : ℕ). take k bytes) place ∙ take-add (n * 520) 520 bytes ∙ (λ i. has.front i ++ next.spelled i)
+          front = ap (λ (k : ℕ). take k bytes) place ∙ take-add (n * entry_size) entry_size bytes ∙ (λ i. has.front i ++ next.spelled i)
               ∙ ap (λ (l : List ℕ). flat_map entry_bytes es ++ l) (sym (append-nil (entry_bytes e))) ∙ sym (flat_map-append entry_bytes es (e ∷ []));
           ascending = ascending-append es (e ∷ []) has.ascending (tt, tt) (all_one e es next.behind);
           fit = all_push (λ e. fits_stripe g files s e.file e.block ≡ true) es e has.fit next.fits;
-          rest = append_assoc es (e ∷ []) (entries_in (g.quota - suc n) (drop (suc n * 520) bytes)) ∙ marked on;
+          rest = append_assoc es (e ∷ []) (entries_in (g.quota - suc n) (drop (suc n * entry_size) bytes)) ∙ marked on;
         }
 
-    pub is_next : get_or (drop (n * 520) bytes) 0 0 ≡ 1 → IsStripePiece g files s bytes → IsNextEntry g files s es (row_at bytes n)
+    pub is_next : get_or (drop (n * entry_size) bytes) 0 0 ≡ 1 → IsStripePiece g files s bytes → IsNextEntry g files s es (row_at bytes n)
     is_next on is =
         let e : BlockEntry = entry_in (row_at bytes n) in
-        let others : List BlockEntry = entries_in (g.quota - suc n) (drop (suc n * 520) bytes) in
+        let others : List BlockEntry = entries_in (g.quota - suc n) (drop (suc n * entry_size) bytes) in
         let all : entries_in g.quota bytes ≡ es ++ e ∷ others = sym (marked on) in
-        let back : List ℕ = replicate (g.quota * 520 - length (flat_map entry_bytes (es ++ e ∷ others))) 0 in
+        let back : List ℕ = replicate (g.quota * entry_size - length (flat_map entry_bytes (es ++ e ∷ others))) 0 in
         let spelled : bytes ≡ flat_map entry_bytes (es ++ e ∷ others) ++ back = is.spelled ∙ ap (stripe_bytes g.quota) all in
         let partitioned : bytes ≡ flat_map entry_bytes es ++ (entry_bytes e ++ (flat_map entry_bytes others ++ back)) =
         spelled ∙ ap (λ (l : List ℕ). l ++ back) (flat_map-append entry_bytes es (e ∷ others)) ∙ append_assoc (flat_map entry_bytes es) (entry_bytes e ++ flat_map entry_bytes others) back
         ∙ ap (λ (l : List ℕ). flat_map entry_bytes es ++ l) (append_assoc (entry_bytes e) (flat_map entry_bytes others) back) in
-        let row_long : length (row_at bytes n) ≡ 520 = length-take-le 520 (drop (n * 520) bytes) (omega (arith, length-drop (n * 520) bytes, long, few)) in
+        let row_long : length (row_at bytes n) ≡ entry_size = length-take-le entry_size (drop (n * entry_size) bytes) (omega (arith, length-drop (n * entry_size) bytes, long, few)) in
         record {
-          spelled = ap (λ (l : List ℕ). take 520 (drop (n * 520) l)) partitioned
-              ∙ ap (take 520) (drop_at (flat_map entry_bytes es) (entry_bytes e ++ (flat_map entry_bytes others ++ back)) (n * 520) (length-front es n (omega (arith, few)) has))
-              ∙ take_at (entry_bytes e) (flat_map entry_bytes others ++ back) 520 (length-entry_in (row_at bytes n) row_long);
+          spelled = ap (λ (l : List ℕ). take entry_size (drop (n * entry_size) l)) partitioned
+              ∙ ap (take entry_size) (drop_at (flat_map entry_bytes es) (entry_bytes e ++ (flat_map entry_bytes others ++ back)) (n * entry_size) (length-front es n (omega (arith, few)) has))
+              ∙ take_at (entry_bytes e) (flat_map entry_bytes others ++ back) entry_size (length-entry_in (row_at bytes n) row_long);
           fits = (all_back (λ e. fits_stripe g files s e.file e.block ≡ true) es (e ∷ others) (subst (AllByRecursion (λ e. fits_stripe g files s e.file e.block ≡ true)) all is.fit)).0;
           behind = ascending_before es others e (subst IsAscending all is.ascending);
         }

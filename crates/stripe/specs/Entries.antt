@@ -1,4 +1,4 @@
--- Format for operators: The blocks of a stripe as bytes: entries of 520 bytes each.
+-- Format for operators: The blocks of a stripe as bytes: an entry of `entry_size` bytes for each.
 use Rattle.std.specs.Prelude.{◌≡◌, ℕ, Bool, true, ◌&&◌, nat_lt, zero, suc, ◌*◌, ◌-◌, ◌==◌, List, [], ◌∷◌, ◌++◌, length, take, drop, get_or, replicate, if◌then◌else◌}
 use Rattle.std.specs.List.{flat_map, AllByRecursion}
 use Rattle.affinity.specs.Geometry.{stripe_of}
@@ -16,7 +16,7 @@ entry_bytes e = 1 ∷ e.file ∷ [] ++ little_bytes 2 e.block ++ 0 ∷ 0 ∷ 0 �
 abbrev pub stripe_bytes : ℕ → List BlockEntry → List ℕ
 stripe_bytes quota es = flat_map entry_bytes es ++ replicate (quota * entry_size - length (flat_map entry_bytes es)) 0
 
--- the entry that 520 bytes decode to
+-- the entry that so many bytes decode to
 abbrev pub entry_in : List ℕ → BlockEntry
 entry_in row = record { file = get_or row 1 0; block = little_number 2 (drop 2 row); content = record { 0 = drop 8 row } }
 

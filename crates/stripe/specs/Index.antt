@@ -60,7 +60,7 @@ pub record IsGap (es : List BlockEntry) (f b n : ℕ) : Type 0 where
 abbrev pub rewritten : List BlockEntry → ℕ → Block → List BlockEntry
 rewritten es n content = slice_set es n (record (slice_index_or es n no_entry) { content = content })
 
--- The 520 bytes are an entry that can be in stripe s after the entries es, in a volume whose files are the bits of `files`.
+-- The row is an entry that can be in stripe s after the entries es, in a volume whose files are the bits of `files`.
 pub record IsNextEntry (g : Geometry) (files s : ℕ) (es : List BlockEntry) (row : List ℕ) : Type 0 where
   pub spelled : row ≡ entry_bytes (entry_in row)
   pub fits : fits_stripe g files s (entry_in row).file (entry_in row).block ≡ true

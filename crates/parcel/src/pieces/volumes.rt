@@ -1,4 +1,4 @@
-//! A volume's piece of an image: its flags, its files and its label, in 64 bytes.
+//! A volume's piece of an image: its flags, its files and its label.
 ghost use Rattle.std.specs.Prelude.{◌≡◌, ◌↔◌, ◌^◌, ◌-◌, length, unwrap_or, if◌then◌else◌, Some, None, IsTrue, IsFalse};
 ghost use Rattle.meaning.specs.Serial.{no_label};
 ghost use Rattle.parcel.specs.Pieces.{volume_piece_of, decoded_label, decoded_piece, spelled, volume_with};
@@ -10,13 +10,14 @@ use affinity::Geometry;
 use byteorder::{ByteOrder, LittleEndian};
 use device_map::VOLUME_PIECE_SIZE;
 use image::layout::VERSION;
+use language::LABEL_SIZE;
 
 /// Where the files and the label are in a volume's piece, and the zeros after them.
 const FILES_AT: usize = 8;
 
 const LABEL_AT: usize = 16;
 
-const ZEROS_AT: usize = 48;
+const ZEROS_AT: usize = LABEL_AT + LABEL_SIZE;
 
 /// What a volume's piece decodes to.
 #[derive(Clone, Copy)]
@@ -25,16 +26,16 @@ pub(crate) struct VolumePiece {
     sealed: bool,
     /// File `f` is bit `f`.
     files: u64,
-    label: [u8; 32],
+    label: [u8; LABEL_SIZE],
 }
 
 /// The label of a volume, or zeros where it has none.
-fn label_of(volume: &Vol) -> [u8; 32]
+fn label_of(volume: &Vol) -> [u8; LABEL_SIZE]
     ensures { result ≡ unwrap_or (shown_label volume.now.label) no_label }
 {
     match &volume.label {
-        Some(label) => label.bytes.unwrap_or([0; 32]),
-        None => [0; 32],
+        Some(label) => label.bytes.unwrap_or([0; LABEL_SIZE]),
+        None => [0; LABEL_SIZE],
     }
 }
 
@@ -46,11 +47,11 @@ fn all_files(g: &Geometry) -> u64
 }
 
 /// The label in the bytes of a volume's piece. Before version 2 there is none, and zeros are given for it.
-fn label_decoded(version: u8, bytes: &[u8]) -> [u8; 32]
-    requires size { length bytes.now ≡ 64 }
+fn label_decoded(version: u8, bytes: &[u8]) -> [u8; LABEL_SIZE]
+    requires size { length bytes.now ≡ VOLUME_PIECE_SIZE }
     ensures { result ≡ decoded_label version bytes.now }
 {
-    let mut label = [0; 32];
+    let mut label = [0; LABEL_SIZE];
     if version == VERSION {
         label.copy_from_slice(&bytes[LABEL_AT..ZEROS_AT]);
     }
@@ -73,7 +74,7 @@ impl VolumePiece {
     /// Decodes a volume's piece. Bytes that no field uses aren't checked here (`read_volume` refuses them
     /// unless they are zero), and bits of files that the geometry doesn't have are dropped.
     fn decoded(g: &Geometry, version: u8, bytes: &[u8]) -> VolumePiece
-        requires size { length bytes.now ≡ 64 }
+        requires size { length bytes.now ≡ VOLUME_PIECE_SIZE }
         ensures { result ≡ decoded_piece version g.now bytes.now }
     {
         VolumePiece {
@@ -86,7 +87,7 @@ impl VolumePiece {
 
     /// Writes the piece: where the volume isn't made, zeros.
     fn write(&self, out: &mut [u8])
-        requires size { length out.old ≡ 64 }
+        requires size { length out.old ≡ VOLUME_PIECE_SIZE }
         ensures { out.new ≡ spelled self.now }
     {
         if !self.made {
@@ -114,7 +115,7 @@ impl VolumePiece {
     }
 
     /// The label, where the volume is made.
-    fn label(&self) -> Option<[u8; 32]>
+    fn label(&self) -> Option<[u8; LABEL_SIZE]>
         ensures { result ≡ (if self.now.made then Some self.now.label else None) }
     {
         if self.made { Some(self.label) } else { None }
@@ -123,7 +124,7 @@ impl VolumePiece {
 
 /// Writes the piece of a volume.
 pub(super) fn write_volume(volume: &Vol, out: &mut [u8])
-    requires size { length out.old ≡ 64 }
+    requires size { length out.old ≡ VOLUME_PIECE_SIZE }
     ensures { out.new ≡ spelled (volume_piece_of volume.now) }
 {
     VolumePiece::of(volume).write(out);
@@ -132,7 +133,7 @@ pub(super) fn write_volume(volume: &Vol, out: &mut [u8])
 /// Reads a volume's piece into the volume. Gives whether the bytes are canonical: the encoding of what they
 /// decode to. Where they aren't, the volume stays as it is.
 pub(super) fn read_volume(volume: &mut Vol, g: &Geometry, version: u8, bytes: &[u8]) -> bool
-    requires size { length bytes.now ≡ 64 }
+    requires size { length bytes.now ≡ VOLUME_PIECE_SIZE }
     ensures good { IsTrue result ↔ (bytes.now ≡ spelled (decoded_piece version g.now bytes.now)) }
     ensures taken { IsTrue result → volume.new ≡ volume_with (decoded_piece version g.now bytes.now) volume.old }
     ensures kept { IsFalse result → volume.new ≡ volume.old }

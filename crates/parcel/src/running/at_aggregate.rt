@@ -17,7 +17,7 @@ ghost use Rattle.parcel.specs.declared.parts.Standing.{Standing};
 use super::refusals::{guard, guard_open, reply_to_change};
 use crate::{Aggr, Label, Logical, StripeParcel, Vol};
 use affinity::Geometry;
-use language::{Msg, Refusal, Reply};
+use language::{LABEL_SIZE, Msg, Refusal, Reply};
 
 /// Whether the volume at one index is made, and whether it is sealed.
 fn marks(node: &Option<Vol>) -> (bool, bool)
@@ -40,7 +40,7 @@ fn make(node: &mut Option<Vol>)
     let Some(volume) = node else { unreachable!() };
     volume.made = true;
     volume.label = Some(Label {
-        bytes: Some([0; 32]),
+        bytes: Some([0; LABEL_SIZE]),
     });
 }
 

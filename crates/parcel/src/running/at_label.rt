@@ -10,14 +10,14 @@ ghost use Rattle.parcel.specs.declared.parts.Parcels.{Parcels};
 use super::refusals::{guard_open, reply_to_change};
 use crate::{Label, Standing};
 use affinity::Geometry;
-use language::{Msg, Refusal, Reply};
+use language::{LABEL_SIZE, Msg, Refusal, Reply};
 
 /// Sets the label.
 fn set_label(
     label: &mut Label,
     g: &Geometry,
     standing: Standing,
-    bytes: &[u8; 32],
+    bytes: &[u8; LABEL_SIZE],
 ) -> Result<(), Refusal>
     ensures { IsVolumeStep g.now (λ a v. Msg.SetLabel a v bytes.now) (label_facts standing label.old) (reply_to_change result)
         (label_facts standing label.new) }
@@ -34,7 +34,7 @@ fn get_label(label: &Label, g: &Geometry, standing: Standing) -> Reply
     if !standing.made {
         return Reply::Refused(Refusal::Volume);
     }
-    Reply::Label(label.bytes.unwrap_or([0; 32]))
+    Reply::Label(label.bytes.unwrap_or([0; LABEL_SIZE]))
 }
 
 /// Runs a message at the label of a volume.

@@ -1,4 +1,4 @@
-//! A stripe as the bytes of its piece in an image: an entry of 520 bytes for each block, and zeros
+//! A stripe as the bytes of its piece in an image: an entry for each block, and zeros
 //! after them.
 ghost use Rattle.std.specs.Prelude.{◌≡◌, ◌↔◌, ◌*◌, ◌<◌, ◌==◌, ◌++◌, ◌∷◌, [], IsTrue, IsFalse, get_or, length, take, drop, replicate, slice_index_or};
 ghost use Rattle.std.specs.List.{list_all, AllByRecursion};
@@ -9,10 +9,10 @@ ghost use Rattle.stripe.specs.Stripe.{PrecedesBlock};
 use super::StripeParcel;
 use affinity::{Geometry, group_of};
 use device_map::BLOCK_ENTRY_SIZE;
-use language::{Block, has_file};
+use language::{BLOCK_SIZE, Block, has_file};
 
 /// How many bytes come before the content of a block in its entry.
-const ENTRY_HEAD: usize = 8;
+const ENTRY_HEAD: usize = BLOCK_ENTRY_SIZE - BLOCK_SIZE;
 
 /// Whether a block can be in stripe `s` of a volume with these files.
 fn fits_stripe(g: &Geometry, files: u64, s: u16, file: u16, block: u16) -> bool
@@ -23,7 +23,7 @@ fn fits_stripe(g: &Geometry, files: u64, s: u16, file: u16, block: u16) -> bool
 
 /// Whether the bytes that an entry doesn't use are zeros.
 fn is_blank_between(row: &[u8]) -> bool
-    requires row { length row.now ≡ 520 }
+    requires row { length row.now ≡ BLOCK_ENTRY_SIZE }
     ensures { IsTrue result ↔ (take 4 (drop 4 row.now) ≡ replicate 4 0) }
 {
     row[4] == 0 && row[5] == 0 && row[6] == 0 && row[7] == 0
@@ -38,7 +38,7 @@ fn are_zeros(bytes: &[u8]) -> bool
 
 /// Writes the entry of a block.
 fn put_entry(row: &mut [u8], file: u16, block: u16, content: &Block)
-    requires row { length row.old ≡ 520 }
+    requires row { length row.old ≡ BLOCK_ENTRY_SIZE }
     requires file { file < 256 }
     ensures { row.new ≡ entry_bytes (record { file = file; block = block; content = content.now }) }
 {
@@ -50,7 +50,7 @@ fn put_entry(row: &mut [u8], file: u16, block: u16, content: &Block)
 impl StripeParcel {
     /// Writes the blocks into `out` in their order, and zeros after them.
     pub fn write_piece(&self, out: &mut [u8])
-        requires size { length out.old ≡ self.now.quota * 520 }
+        requires size { length out.old ≡ self.now.quota * BLOCK_ENTRY_SIZE }
         requires files { AllByRecursion (λ e. e.file < 256) self.now.entries }
         ensures { out.new ≡ stripe_bytes self.now.quota self.now.entries }
     {
@@ -65,7 +65,7 @@ impl StripeParcel {
     /// Writes the entry of the block at position `n` of the index.
     fn write_entry(&self, n: usize, row: &mut [u8])
         requires n { n < length self.now.entries }
-        requires row { length row.old ≡ 520 }
+        requires row { length row.old ≡ BLOCK_ENTRY_SIZE }
         requires file { (slice_index_or self.now.entries n no_entry).file < 256 }
         ensures { row.new ≡ entry_bytes (slice_index_or self.now.entries n no_entry) }
     {
@@ -82,7 +82,7 @@ impl StripeParcel {
     pub fn read_piece(&mut self, g: &Geometry, files: u64, s: u16, bytes: &[u8]) -> bool
         requires empty { self.old.entries ≡ [] }
         requires quota { self.old.quota ≡ g.now.quota }
-        requires size { length bytes.now ≡ g.now.quota * 520 }
+        requires size { length bytes.now ≡ g.now.quota * BLOCK_ENTRY_SIZE }
         ensures good { IsTrue result → IsStripePiece g.now files s bytes.now
             × (self.new ≡ record self.old { entries = entries_in g.now.quota bytes.now }) }
         ensures bad { IsFalse result → IsStripePiece g.now files s bytes.now → ⊥ }
@@ -100,10 +100,10 @@ impl StripeParcel {
         true
     }
 
-    /// Appends the block of an entry, if the 520 bytes are one that can be in stripe `s` and comes after
+    /// Appends the block of an entry, if the row is one that can be in stripe `s` and comes after
     /// all blocks that are there. Returns whether it did.
     fn push(&mut self, g: &Geometry, files: u64, s: u16, row: &[u8]) -> bool
-        requires row { length row.now ≡ 520 }
+        requires row { length row.now ≡ BLOCK_ENTRY_SIZE }
         requires marked { get_or row.now 0 0 ≡ 1 }
         requires room { length self.old.entries < self.old.quota }
         ensures pushed { IsTrue result → IsNextEntry g.now files s self.old.entries row.now
@@ -121,7 +121,7 @@ impl StripeParcel {
         if !self.ends_before(file, block) {
             return false;
         }
-        let mut content = Block([0; 512]);
+        let mut content = Block([0; BLOCK_SIZE]);
         content.0.copy_from_slice(&row[ENTRY_HEAD..]);
         let n = self.len();
         self.insert(n, file, block, &content);
