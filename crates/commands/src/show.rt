@@ -11,7 +11,7 @@ use affinity::Geometry;
 use checkpoint::{Shown, inspect};
 use disk::{Disk, FileDisk};
 use language::Reply;
-use message::write_reply;
+use message::{LONGEST_REPLY, write_reply};
 use std::alloc::{AllocError, Global};
 use std::fs::File;
 use std::io::Write;
@@ -21,7 +21,7 @@ use std::rt::Files;
 fn add_reply(lines: &mut Vec<u8>, reply: &Reply) -> Result<(), AllocError>
     ensures { OnOk result (lines.new.items ≡ lines.old.items ++ reply_line reply.now) }
 {
-    let mut line = [0; 1031]; // the longest line of a reply
+    let mut line = [0; LONGEST_REPLY];
     let length = write_reply(reply, &mut line);
     lines.extend_from_slice(&line[..length])
 }

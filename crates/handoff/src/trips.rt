@@ -4,7 +4,7 @@ ghost use Rattle.handoff.specs.Lent.{AreOfGeometry};
 ghost use Rattle.workers.specs.Rule.{lent_at};
 
 use affinity::{Geometry, place_of};
-use message::{Block, Msg, Reply};
+use message::{BLOCK_SIZE, Block, Msg, Reply};
 use parcel::{Done, Job, Standing, Tree, run};
 use std::alloc::{AllocError, Global};
 use std::sync::Wait;
@@ -34,7 +34,7 @@ fn reading(tree: &mut Tree, k: u16) -> Option<Job>
 {
     let g = tree.geometry();
     let (a, v) = (k / 8, k % 8);
-    let write = Msg::Write(a, v, 0, 0, Block([7; 512]));
+    let write = Msg::Write(a, v, 0, 0, Block([7; BLOCK_SIZE]));
     let place = place_of(&g, write.kind(), write.numbers())?;
     let (_standing, parcels) = tree.lend(place)?;
     let written = run(Job::new(g, 0, write, STANDING, parcels));

@@ -8,6 +8,7 @@ use Rattle.affinity.specs.Geometry.{stripe_of}
 use Rattle.affinity.specs.Path.{is_prefix, stripe}
 use Rattle.affinity.specs.Place.{are_below, limits}
 use Rattle.affinity.specs.declared.kinds.Kind.TheVariants as kinds
+use Rattle.language.specs.declared.TheConstants.{LABEL_SIZE}
 use Rattle.language.specs.declared.Block.{Block}
 use Rattle.language.specs.declared.Msg.{Msg}
 use Rattle.language.specs.declared.Msg.TheVariants.{MakeVol, DropVol, Create, Delete, Seal, Unseal, Write, Punch, Read, SetLabel}
@@ -89,8 +90,8 @@ pub zeros_are_bytes : (n : ℕ) → AllByRecursion (λ b. b < 256) (replicate n 
 zeros_are_bytes zero = tt
 zeros_are_bytes (suc n) = (lit< tt, zeros_are_bytes n)
 
-pub no_label_is_bytes : AreSizedBytes 32 no_label
-no_label_is_bytes = (refl, zeros_are_bytes 32)
+pub no_label_is_bytes : AreSizedBytes LABEL_SIZE no_label
+no_label_is_bytes = (refl, zeros_are_bytes LABEL_SIZE)
 
 -- ---- the quota
 
@@ -180,7 +181,7 @@ effect_kept g x h (MakeVol a v) w p =
       blocks = h.blocks;
       labels = λ k. some-set (is_volume a v k) (x.made k) no_label (x.labels k) (h.labels k);
       content = h.content;
-      label_content = λ k. content-set (AreSizedBytes 32) (is_volume a v k) no_label (x.labels k) no_label_is_bytes (h.label_content k);
+      label_content = λ k. content-set (AreSizedBytes LABEL_SIZE) (is_volume a v k) no_label (x.labels k) no_label_is_bytes (h.label_content k);
       quota = h.quota;
     }
 effect_kept g x h (DropVol a v) w p = record {
@@ -190,7 +191,7 @@ effect_kept g x h (DropVol a v) w p = record {
   blocks = λ k e. let q = not_cleared (is_block_of a v k) (x.blocks k) e in ((h.blocks k q.1).0, and_from (not (is_block_of a v k)) (x.files (k.0, k.1, k.2)) q.0 (h.blocks k q.1).1);
   labels = λ k. some-cleared (is_volume a v k) (x.made k) (x.labels k) (h.labels k);
   content = λ k. content-cleared IsBlock (is_block_of a v k) (x.blocks k) (h.content k);
-  label_content = λ k. content-cleared (AreSizedBytes 32) (is_volume a v k) (x.labels k) (h.label_content k);
+  label_content = λ k. content-cleared (AreSizedBytes LABEL_SIZE) (is_volume a v k) (x.labels k) (h.label_content k);
   quota = quota_fewer g x (effect x (DropVol a v)) h (λ k e. (not_cleared (is_block_of a v k) (x.blocks k) e).1);
 }
 effect_kept g x h (Create a v f) w p =
@@ -251,7 +252,7 @@ effect_kept g x h (SetLabel a v bytes) w p = record {
     | false ↦ λ is. h.labels k
   ] refl;
   content = h.content;
-  label_content = λ k. content-set (AreSizedBytes 32) (is_volume a v k) bytes (x.labels k) w (h.label_content k);
+  label_content = λ k. content-set (AreSizedBytes LABEL_SIZE) (is_volume a v k) bytes (x.labels k) w (h.label_content k);
   quota = h.quota;
 }
 effect_kept g x h (Read a v f b) w p = h

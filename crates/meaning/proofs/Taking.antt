@@ -1,9 +1,10 @@
 -- Lines that are taken of an input, one after the other.
-use Rattle.std.proofs.Common.{◌≡◌, ◌≢◌, ℕ, ◌<◌, ◌⊎◌, inl, inr, Bool, true, false, List, [], ◌∷◌, ◌++◌, length, Option, Some, None, refl, sym, ap, ◌∙◌, arith, subst, append_assoc, ⊎_elim}
+use Rattle.std.proofs.Common.{◌≡◌, suc, ◌≢◌, ℕ, ◌<◌, ◌⊎◌, inl, inr, Bool, true, false, List, [], ◌∷◌, ◌++◌, length, Option, Some, None, refl, sym, ap, ◌∙◌, arith, subst, append_assoc, ⊎_elim}
 use Rattle.std.specs.Prelude.{Contains, IfSome, replicate}
 use Rattle.std.proofs.lemmas.List.{length-replicate}
 use Rattle.std.proofs.lemmas.Option.{none-some, same_Some}
 use Rattle.std.proofs.lemmas.Bool.{true≢false}
+use Rattle.language.specs.declared.TheConstants.{LONGEST_LINE}
 use Rattle.language.specs.Lines.{lines}
 use Rattle.language.specs.Grammar.{message_of}
 use Rattle.language.specs.FirstLine.{first_line, behind_first_line, GivesLine, PassesLine, HasWholeFirstLine}
@@ -57,7 +58,8 @@ pub record TakesNoMessage (input now_left : Option (List ℕ)) (now_ended : Bool
 pub takes_long_line : {input : Option (List ℕ)} (left : Option (List ℕ)) {now_left : Option (List ℕ)} {ended now_ended : Bool} {taken : List (List ℕ)} → TakesLines input left ended taken
     → ended ≡ false → IfSome left (λ bs. PassesLine bs now_left) → HasWholeFirstLine left now_ended → TakesNoMessage input now_left now_ended taken
 takes_long_line {input = None} left t going found closes =
-    record { line = replicate {A = ℕ} 1101 0; no_message = sym (too_long (replicate {A = ℕ} 1101 0) (omega (arith, length-replicate {A = ℕ} 1101 0))); takes = tt }
+    let long : List ℕ = replicate (suc LONGEST_LINE) 0 in
+    record { line = long; no_message = sym (too_long long (omega (arith, length-replicate {A = ℕ} (suc LONGEST_LINE) 0))); takes = tt }
 takes_long_line {input = Some input} None t going found closes = absurd (none-some t.0 t.1)
 takes_long_line {input = Some input} (Some bs) {taken = taken} t going found closes = record {
   line = first_line bs;
@@ -66,5 +68,5 @@ takes_long_line {input = Some input} (Some bs) {taken = taken} t going found clo
       (record { given = record { more = λ e. long_of_none bs found.long e; line_is = refl; left_is = found.left_is }; closed = closes });
 }
   where
-    long_of_none : (bs : List ℕ) → 1100 < length (first_line bs) → bs ≡ [] → ⊥
+    long_of_none : (bs : List ℕ) → LONGEST_LINE < length (first_line bs) → bs ≡ [] → ⊥
     long_of_none bs long e = let short : length (first_line bs) ≡ 0 = ap (λ z. length (first_line z)) e in omega arith

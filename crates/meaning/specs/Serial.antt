@@ -5,6 +5,7 @@ use Rattle.affinity.specs.Geometry.{stripe_of}
 use Rattle.affinity.specs.declared.kinds.Kind.{Kind}
 use Rattle.affinity.specs.declared.kinds.Kind.TheVariants as kinds
 use Rattle.affinity.specs.Kind.{is_changing}
+use Rattle.language.specs.declared.TheConstants.{LABEL_SIZE}
 use Rattle.language.specs.declared.Block.{Block}
 use Rattle.language.specs.declared.Msg.{Msg}
 use Rattle.language.specs.declared.Msg.TheVariants.{MakeVol, DropVol, Create, Delete, Seal, Unseal, Write, Punch, Read, List as ListFiles, Usage as AskUsage, Summary as AskSummary, SetLabel, Label as AskLabel}
@@ -71,7 +72,7 @@ refusal g x m = refusal_by g x (kind m) (four_numbers m)
 
 -- the label of a volume to which none was given
 abbrev pub no_label : List ℕ
-no_label = replicate 32 0
+no_label = replicate LABEL_SIZE 0
 
 -- the state after a message that passes its checks
 abbrev pub effect : State → Msg → State

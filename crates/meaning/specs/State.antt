@@ -2,6 +2,7 @@
 use Rattle.std.specs.Prelude.{◌≡◌, ℕ, zero, suc, ◌+◌, ◌<◌, ◌≤◌, Bool, true, false, not, ◌&&◌, ◌||◌, ◌==◌, List, if◌then◌else◌, Option, Some, None, is_some, IfSome}
 use Rattle.affinity.specs.declared.geometry.Geometry.{Geometry}
 use Rattle.affinity.specs.Geometry.{stripe_of}
+use Rattle.language.specs.declared.TheConstants.{LABEL_SIZE}
 use Rattle.language.specs.declared.Block.{Block}
 use Rattle.language.specs.Messages.{IsBlock, AreSizedBytes}
 
@@ -102,7 +103,7 @@ sum_over_volumes g f = sum_below g.aggregates (λ a. sum_below g.volumes (λ v. 
 -- ---- which states there are
 
 -- All numbers are in range; only volumes that are made are sealed or have files, and each of them has a label; only files have blocks; a
--- block is 512 bytes and a label 32; and no stripe has more blocks than its quota.
+-- block is `BLOCK_SIZE` bytes and a label `LABEL_SIZE`; and no stripe has more blocks than its quota.
 pub record IsState (g : Geometry) (x : State) : Type 0 where
   pub made : (k : VolumeKey) → x.made k ≡ true → (k.0 < g.aggregates) × (k.1 < g.volumes)
   pub sealed : (k : VolumeKey) → x.sealed k ≡ true → x.made k ≡ true
@@ -110,5 +111,5 @@ pub record IsState (g : Geometry) (x : State) : Type 0 where
   pub blocks : (k : BlockKey) → is_some (x.blocks k) ≡ true → (k.3 < g.blocks) × (x.files (k.0, k.1, k.2) ≡ true)
   pub labels : (k : VolumeKey) → is_some (x.labels k) ≡ x.made k
   pub content : (k : BlockKey) → IfSome (x.blocks k) IsBlock
-  pub label_content : (k : VolumeKey) → IfSome (x.labels k) (AreSizedBytes 32)
+  pub label_content : (k : VolumeKey) → IfSome (x.labels k) (AreSizedBytes LABEL_SIZE)
   pub quota : (a v s : ℕ) → blocks_in_stripe g x a v s ≤ g.quota

@@ -2,8 +2,9 @@
 //! followed by the replies that wait; `unread` is what a reader of lines hasn't given yet: the bytes that it holds, followed by what its
 //! source has left (nothing once a read has reported the end).
 
-ghost use Rattle.std.specs.Prelude.{◌≡◌, ◌≤◌, ◌++◌, ℕ, List, [], Option, Some, true, false, is_ok, option_map, IfOk, OnOk, IsErrOf, IsFalse, MatchBool, unwrap_or, vec_len};
+ghost use Rattle.std.specs.Prelude.{◌≡◌, ◌<◌, ◌≤◌, ◌++◌, ℕ, List, [], Option, Some, true, false, is_ok, option_map, IfOk, OnOk, IsErrOf, IsFalse, MatchBool, unwrap_or, vec_len};
 ghost use Rattle.std.specs.Io.KnownBytes.{Appends, IsAtEnd};
+ghost use Rattle.language.specs.declared.TheConstants.{LONGEST_LINE};
 ghost use Rattle.language.specs.Grammar.{message_of};
 ghost use Rattle.message.specs.Reader.{unread, is_drained, source, KnowsEnd};
 ghost use Rattle.message.specs.Waiting.{FitsReply, all_output};
@@ -25,7 +26,7 @@ ghost use Rattle.meaning.specs.Output.{serial_output, AnswersWholeLines, IsBegin
 use crate::PlainFault;
 use crate::server::Server;
 use affinity::{Geometry, Kind, changing};
-use language::{Block, Refusal, Reply};
+use language::{BLOCK_SIZE, Block, Refusal, Reply};
 use message::{
     Found, Head, LentReader, LineReader, Loan, ReplyBuffer, WriteFault, decode_block, decode_label,
     head_of_line,
@@ -302,7 +303,7 @@ fn answer_all<R: Read + Drop, W: Write>(
         (IsBeginning g.now (server_state server.old)) }
 {
     // The one block into which each line's digits are decoded: to make one for each line takes a twentieth of a short line's instructions.
-    let mut content = Block([0; 512]);
+    let mut content = Block([0; BLOCK_SIZE]);
     for _ in 0..u64::MAX {
         if !answer_next(g, lines, &mut content, server, out, w)? {
             return Ok(());
@@ -316,7 +317,7 @@ fn answer_all<R: Read + Drop, W: Write>(
 }
 
 /// Answers each line that a lent reader has left, from the empty state on, leaves the last answers
-/// waiting, and gives the reader back. The buffer has 1,101 bytes at least: the longest line and its newline.
+/// waiting, and gives the reader back. The buffer takes the longest line and its newline.
 pub(crate) fn answer_lent<'a, R: Read, W: Write, L: Loan>(
     alloc: Global,
     g: &Geometry,
@@ -327,7 +328,7 @@ pub(crate) fn answer_lent<'a, R: Read, W: Write, L: Loan>(
     of: PhantomData<L>,
 ) -> (Result<(), PlainFault>, &'a mut R)
     requires name { reader.ghost_name ≡ L.name }
-    requires room { 1101 ≤ vec_len buffer }
+    requires room { LONGEST_LINE < vec_len buffer }
     ensures same { result.1.ghost_name ≡ reader.entry.ghost_name }
     ensures ok { OnOk result.0 (WritesOutput (R.remaining reader.old)
         (all_output (W.contents w.old) out.old) (all_output (W.contents w.new) out.new)

@@ -9,7 +9,7 @@ ghost use Rattle.meaning.specs.Serial.{done_or_refused, reply_to, next_state};
 ghost use Rattle.plain.specs.Server.{server_state, IsConsistent};
 
 use affinity::{Geometry, Kind, is_in_range};
-use language::{Block, Msg, Refusal};
+use language::{Block, LABEL_SIZE, Msg, Refusal};
 use message::{know_block, know_label};
 use std::alloc::{AllocError, Global};
 use std::collections::BTreeMap;
@@ -29,7 +29,7 @@ use places::Place;
 #[derive(Clone, Copy)]
 struct Volume {
     sealed: bool,
-    label: [u8; 32],
+    label: [u8; LABEL_SIZE],
 
     /// File `f` is there where bit `f` is set.
     files: u64,
@@ -119,7 +119,7 @@ impl Server {
         &mut self,
         g: &Geometry,
         numbers: [u16; 4],
-        label: &[u8; 32],
+        label: &[u8; LABEL_SIZE],
     ) -> Option<Refusal>
         requires sound { IsConsistent g.now self.old }
         ensures reply { reply_to g.now (server_state self.old) (labeling numbers label.now) ≡ done_or_refused result }

@@ -7,7 +7,7 @@ ghost use Rattle.scheduler.specs.Calls.{ArrivesByLine};
 use crate::Core;
 use disk::Disk;
 use histories::ArriveRefusal;
-use language::{Block, Msg};
+use language::{BLOCK_SIZE, Block, Msg};
 use message::{Head, decode_block, head_of_line};
 
 impl<D: Disk> Core<D> {
@@ -21,7 +21,7 @@ impl<D: Disk> Core<D> {
         // The head is what the line is, its data not decoded: `digits` are the hex digits of a block, if they are that.
         match head_of_line(line) {
             Head::Writes(numbers, digits) => {
-                let mut content = Block([0; 512]);
+                let mut content = Block([0; BLOCK_SIZE]);
                 let is_block = decode_block(digits, &mut content).is_some();
                 if !is_block {
                     return Ok(None);

@@ -7,10 +7,11 @@
 //! caller chooses (`proofs/server/serve/Invariants.antt`, `serve_to/Invariants.antt`); the callee is proved for any. An `impl .. for Brand`
 //! has to give some values all the same. They are stand-ins: with the start `None` nothing could be served.
 
-ghost use Rattle.std.specs.Prelude.{◌≡◌, ◌≢◌, ◌≤◌, All, false, [], None, IfOk, OnErr, OnOk, Some, replicate, vec_len};
+ghost use Rattle.std.specs.Prelude.{◌≡◌, ◌≢◌, ◌<◌, ◌≤◌, All, false, [], None, IfOk, OnErr, OnOk, Some, replicate, vec_len};
 ghost use Rattle.histories.specs.Laws.{IsIdle};
 ghost use Rattle.scheduler.specs.CoreView.{RecoversNow, core_state_of};
 ghost use Rattle.std.specs.Io.KnownBytes.{Appends};
+ghost use Rattle.language.specs.declared.TheConstants.{LONGEST_LINE};
 ghost use Rattle.serving.specs.Ends.{exchange};
 ghost use Rattle.serving.specs.Output.{AppendsBeginning};
 ghost use Rattle.serving.specs.Serve.{ServePromise, handed_back};
@@ -61,7 +62,7 @@ pub struct ServeError<D: Disk> {
 }
 
 // What a server has before it reads: room for what is read, for the lines that are not retired and for the answers that wait, and a bench
-// with its seats. None of it is used yet. `holds_a_line`: the longest line has 1,100 bytes and its newline.
+// with its seats. None of it is used yet. `holds_a_line`: the longest line and its newline.
 struct Preallocated {
     input: Vec<u8>,
     reorder_buffer: ReorderBuffer,
@@ -69,7 +70,7 @@ struct Preallocated {
     bench: Bench,
     dispatch_seat: DispatchSeat,
     seats: Vec<WorkSeat>,
-    ghost holds_a_line: { 1101 ≤ vec_len input },
+    ghost holds_a_line: { LONGEST_LINE < vec_len input },
     ghost none_read: { reorder_buffer.lines ≡ [] },
     ghost none_waits: { reply_buffer ≡ [] },
     ghost at_bench: { (dispatch_seat.bench ≡ bench) × All (λ w. w ≡ bench) seats.items },

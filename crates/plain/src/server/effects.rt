@@ -9,11 +9,12 @@ ghost use Rattle.plain.specs.Server.{server_state, HasRightCounts, IsConsistent}
 
 use super::{Server, Volume};
 use affinity::{Geometry, Kind};
+use language::LABEL_SIZE;
 use std::alloc::AllocError;
 
 impl Server {
     /// Sets the label of a volume that is made.
-    pub(super) fn set_label(&mut self, a: u16, v: u16, bytes: &[u8; 32])
+    pub(super) fn set_label(&mut self, a: u16, v: u16, bytes: &[u8; LABEL_SIZE])
         requires made { (server_state self.old).made (a, v) ≡ true }
         ensures state { server_state self.new ≡ effect (server_state self.old) (Msg.SetLabel a v bytes.now) }
         ensures counted { (g : Geometry) → HasRightCounts g self.old → HasRightCounts g self.new }
@@ -33,7 +34,7 @@ impl Server {
     {
         let volume = Volume {
             sealed: false,
-            label: [0; 32],
+            label: [0; LABEL_SIZE],
             files: 0,
         };
         self.volumes.insert((a, v), volume)?;

@@ -10,7 +10,7 @@ ghost use Rattle.plain.specs.Server.{server_state, IsConsistent};
 use super::Server;
 use super::places::Place;
 use affinity::Geometry;
-use language::{Block, Reply};
+use language::{Block, LABEL_SIZE, Reply};
 
 impl Server {
     /// The label of a volume.
@@ -19,7 +19,7 @@ impl Server {
     {
         match self.volumes.get(&(a, v)) {
             Some(volume) => Reply::Label(volume.label),
-            None => Reply::Label([0; 32]),
+            None => Reply::Label([0; LABEL_SIZE]),
         }
     }
 
