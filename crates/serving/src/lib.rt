@@ -5,7 +5,8 @@
 //! are in `specs/`, and the laws that they obey are the contracts of the functions of `laws`, which do nothing. `session` has what a server
 //! holds while it serves, and what is always true of it. `input` reads a line. An iteration of `dispatch` dispatches messages, collects
 //! results, logs them and answers them. `output` sends the lines of the reorder buffer that are next in order, under the condition of
-//! `ReplySink`. Checkpoints are made in `checkpoints`, and `event_loop` has the loop from line to line with its ends.
+//! `ReplySink`; `writer` has the one that writes. Checkpoints are made in `checkpoints`, and `event_loop` has the loop from line to line
+//! with its ends.
 #![tactic(auto)]
 
 mod checkpoints;
@@ -17,6 +18,7 @@ pub mod laws;
 mod output;
 mod server;
 mod session;
+mod writer;
 
 pub use output::ReplySink;
 pub use server::{ServeError, ServeFault, serve, serve_to};

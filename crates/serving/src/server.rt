@@ -7,25 +7,24 @@
 //! caller chooses (`proofs/server/serve/Invariants.antt`, `serve_to/Invariants.antt`); the callee is proved for any. An `impl .. for Brand`
 //! has to give some values all the same. They are stand-ins: with the start `None` nothing could be served.
 
-ghost use Rattle.std.specs.Prelude.{◌≡◌, ◌≢◌, ◌<◌, ◌≤◌, All, false, [], None, IfOk, OnErr, OnOk, Some, replicate, vec_len};
+ghost use Rattle.std.specs.Prelude.{◌≡◌, ◌≢◌, ◌<◌, ◌≤◌, All, false, [], None, IfOk, Some, replicate, vec_len};
 ghost use Rattle.histories.specs.Laws.{IsIdle};
 ghost use Rattle.scheduler.specs.CoreView.{RecoversNow, core_state_of};
-ghost use Rattle.std.specs.Io.KnownBytes.{Appends};
 ghost use Rattle.language.specs.declared.TheConstants.{LONGEST_LINE};
 ghost use Rattle.serving.specs.Ends.{exchange};
-ghost use Rattle.serving.specs.Output.{AppendsBeginning};
 ghost use Rattle.serving.specs.Serve.{ServePromise, handed_back};
 ghost use Rattle.serving.specs.Session.{CanBegin, reported};
 
 use crate::checkpoints::CheckpointTrigger;
 use crate::output::ReplySink;
 use crate::session::Session;
+use crate::writer::{Beginning, Output};
 use disk::Disk;
-use message::{LentReader, LineReader, Loan, ReplyBuffer, WriteFault};
+use message::{LentReader, LineReader, Loan, ReplyBuffer};
 use reorder_buffer::ReorderBuffer;
 use scheduler::Core;
 use std::alloc::{AllocError, Global};
-use std::io::{ErrorKind, Read, Write};
+use std::io::{Read, Write};
 use std::marker::{Brand, PhantomData};
 use std::sync::Wait;
 use std::thread::Threads;
@@ -230,73 +229,6 @@ pub fn serve_to<T: Threads + Wait + Sync, R: Read, L: ReplySink<D>, D: Disk + Dr
     // For the proof: the borrow of the reader ends here.
     know_returned(reader);
     (ended, sink)
-}
-
-/// What a call that writes its replies to a writer began with (a `Start`: core, places, input, output), and the name by which proofs know
-/// its borrow of the writer.
-trait Beginning {
-    ghost use Rattle.std.specs.Prelude.{Option};
-    ghost use Rattle.std.specs.Borrow.{GName};
-    ghost use Rattle.serving.specs.Output.{Start};
-
-    /// What it began with; `None` before the call.
-    ghost start: { Option Start };
-
-    /// The loan of the writer.
-    ghost name: { GName };
-}
-
-// For the one call in `serve`, whose proof chooses the start and the loan.
-impl Beginning for Brand {
-    ghost use Rattle.std.specs.Prelude.{None};
-
-    ghost start = { None };
-
-    ghost name = { 0 };
-}
-
-// A writer that is borrowed, to which lines are sent.
-struct Output<'w, W, B: Beginning> {
-    w: &'w mut W,
-    of: PhantomData<B>,
-    ghost same: { w.ghost_name ≡ B.name },
-}
-
-// Writes bytes and flushes them. At a fault some beginning of them was written: `write_all` doesn't say so, its calls of `write` do.
-fn write_in_order<W: Write>(w: &mut W, bytes: &[u8]) -> Result<(), WriteFault>
-    ensures written { OnOk result (Appends (W.contents w.old) (W.contents w.new) bytes.now) }
-    ensures begun { OnErr result (AppendsBeginning (W.contents w.old) (W.contents w.new) bytes.now) }
-{
-    let mut rest = bytes;
-    for _ in 0..u64::MAX {
-        if rest.is_empty() {
-            return if w.flush().is_ok() {
-                Ok(())
-            } else {
-                Err(WriteFault)
-            };
-        }
-        match w.write(rest) {
-            Ok(0) => return Err(WriteFault),
-            Ok(n) => rest = &rest[n..],
-            Err(e) => {
-                if e.kind() != ErrorKind::Interrupted {
-                    return Err(WriteFault);
-                }
-            }
-        }
-    }
-    Err(WriteFault)
-}
-
-impl<'w, D: Disk, W: Write, B: Beginning> ReplySink<D> for Output<'w, W, B> {
-    ghost start = { B.start };
-
-    ghost sent = { λ o. W.contents o.w.now };
-
-    fn send(&mut self, lines: &[u8], _core: &Core<D>) -> Result<(), WriteFault> {
-        write_in_order(self.w, lines)
-    }
 }
 
 // What a server needs beside its core, its input and its output.
