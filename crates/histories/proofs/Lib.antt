@@ -19,5 +19,6 @@ pub mod Full
 pub mod Incarnations
 pub mod Doubts
 pub mod SerialHistories
+pub mod Progress
 -- ---- this crate's own
 mod Examples

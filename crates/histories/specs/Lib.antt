@@ -6,3 +6,4 @@ pub mod Runs
 pub mod Crash
 pub mod Laws
 pub mod Incarnations
+pub mod Progress

@@ -19,6 +19,7 @@ ghost use Rattle.histories.specs.Runs.{IsLegal, answered, answered_changes, answ
 ghost use Rattle.histories.specs.Crash.{IsLeftSince, IsLogAfter, in_doubt};
 ghost use Rattle.histories.specs.Incarnations.{AreLogsOf, AllHoldAnswered, IsLeftByIncarnations, IsLogOf, Incarnation, Ran};
 ghost use Rattle.histories.specs.Laws.{AreUnrelated, AreAscending, HaveDistinctTickets, DoubtOnlyAfterFailure, DoubtIsPrefixOfRan, HasRoom, IsAnswered, IsIdle};
+ghost use Rattle.histories.specs.Progress.{CanGoOn, IsBusy};
 ghost use Rattle.histories.specs.Laws.{IsJoined, IsSerialHistory, IsSoundCoreState, StaysFailed, full_hands, dispatches_or_returns, ticket_replies, reports_failure};
 
 /// A core state in which nothing waits and nothing is held is sound, and each event leads from a sound
@@ -253,4 +254,12 @@ pub fn incarnations_follow_one_another()
     ensures answered { (g : Geometry) (x : State) (incarnations : List Incarnation) (logs : List (List Msg))
         → AreLogsOf g x incarnations logs
         → AllHoldAnswered incarnations logs }
+{}
+
+/// While the device works and something waits or is held, something can be done. Where nothing is held, the waiting message with the
+/// least ticket is conflict-free, so that it lacks at most room in the log, and a checkpoint makes room.
+pub fn something_can_be_done()
+    ensures least { (g : Geometry) (w : CoreState) (e : Entry) (rest : List Entry) → IsSoundCoreState g w → held w ≡ []
+        → w.waiting ≡ e ∷ rest → is_conflict_free g w e ≡ true }
+    ensures next { (g : Geometry) (w : CoreState) → IsSoundCoreState g w → w.failed ≡ false → IsBusy w → CanGoOn g w }
 {}

@@ -1,0 +1,43 @@
+-- Statement for engineers: What can be done next, and how much is left to do.
+use Rattle.std.specs.Prelude.{◌≡◌, ℕ, zero, suc, ◌+◌, ◌<◌, true, length, Option, Some, None, is_some}
+use Rattle.affinity.specs.declared.geometry.Geometry.{Geometry}
+use Rattle.histories.specs.declared.outcomes.Outcome.TheVariants as outcomes
+use Rattle.histories.specs.CoreState.{CoreState, held}
+use Rattle.histories.specs.Eligible.{next_eligible}
+use Rattle.histories.specs.Events.{cut, flip_refusal, grant_refusal, piece_refusal, point, point_refusal}
+
+-- ---- what can be done next
+
+-- Something waits, or is held.
+abbrev pub IsBusy : CoreState → Type 0
+IsBusy w = 0 < length w.waiting + length (held w)
+
+-- No message can be dispatched, and some message lacks only room in the log. A checkpoint may begin, since nothing is held; and once it
+-- was made in one call, or an online one has begun, a message can be dispatched.
+pub record NeedsCheckpoint (g : Geometry) (w : CoreState) : Type 0 where
+  pub none : next_eligible g w ≡ None
+  pub no_room : grant_refusal g w ≡ outcomes.NoRoom
+  pub may_begin : point_refusal w ≡ None
+  pub after_point : is_some (next_eligible g (point g w).1) ≡ true
+  pub after_cut : (n : ℕ) → is_some (next_eligible g (cut g n w).1) ≡ true
+
+-- A checkpoint is in progress, and its next step isn't refused: a piece is written, if any is left; else the checkpoint ends.
+abbrev pub MayGoOn : CoreState → Option ℕ → Type 0
+MayGoOn w None = ⊥
+MayGoOn w (Some zero) = flip_refusal w ≡ None
+MayGoOn w (Some (suc n)) = piece_refusal w ≡ None
+
+-- Something can be done.
+pub data CanGoOn (g : Geometry) (w : CoreState) : Type 0 where
+  -- a job is in flight, which can be given back when it has run
+  CanReturn : (some : 0 < length w.in_flight) → CanGoOn g w
+  -- something ran, and can be logged
+  CanLog : (some : 0 < length w.ran) → CanGoOn g w
+  -- something is logged, and can be answered
+  CanAnswer : (some : 0 < length w.logged) → CanGoOn g w
+  -- a message that waits can be dispatched
+  CanDispatch : (some : is_some (next_eligible g w) ≡ true) → CanGoOn g w
+  -- a checkpoint can be made, and then a message can be dispatched
+  CanMakeRoom : (needs : NeedsCheckpoint g w) → CanGoOn g w
+  -- the checkpoint in progress can go on; when it has ended, the next one can be made, and then a message can be dispatched
+  CanEndCheckpoint : (next : MayGoOn w w.pieces_left) → (needs : NeedsCheckpoint g (record w { pieces_left = None })) → CanGoOn g w
