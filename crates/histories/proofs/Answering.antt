@@ -27,11 +27,11 @@ recorded-append as' bs = ap (map (λ (a : Replied). a.1)) (filter-append (λ (a 
 -- ---- one event
 
 module _ (w : CoreState) where
-  none_answered : (o : Outcome) → answers o ≡ [] → answered_at w o ≡ []
+  pub none_answered : (o : Outcome) → answers o ≡ [] → answered_at w o ≡ []
   none_answered (outcomes.Answered ticket reply) e = cc
   none_answered _ e = refl
 
-  one_answered : (o : Outcome) (reply : ℕ × Reply) → answers o ≡ reply ∷ [] → answered_at w o ≡ take 1 w.logged
+  pub one_answered : (o : Outcome) (reply : ℕ × Reply) → answers o ≡ reply ∷ [] → answered_at w o ≡ take 1 w.logged
   one_answered (outcomes.Answered ticket reply) x e = refl
   one_answered _ x e = cc
 

@@ -56,7 +56,7 @@ module _ (g : Geometry) (e : Entry) where
       ∙ or_nothing (list_any comes_before w.waiting))
 
   -- If e is related to the message that is dispatched, that message has the smaller ticket.
-  goes_first : (w : CoreState) (found : Entry × List Entry) → IsSoundCoreState g w → next_eligible g w ≡ Some found → IsIn e found.1
+  pub goes_first : (w : CoreState) (found : Entry × List Entry) → IsSoundCoreState g w → next_eligible g w ≡ Some found → IsIn e found.1
       → are_related_entries g e found.0 ≡ true → nat_lt found.0.0 e.0 ≡ true
   goes_first w found h first is touching =
       let k = picked (is_eligible g w) w.waiting found first in

@@ -20,5 +20,6 @@ pub mod Incarnations
 pub mod Doubts
 pub mod SerialHistories
 pub mod Progress
+pub mod Keepers
 -- ---- this crate's own
 mod Examples

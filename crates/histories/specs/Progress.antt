@@ -1,8 +1,8 @@
 -- Statement for engineers: What can be done next, and how much is left to do.
-use Rattle.std.specs.Prelude.{◌≡◌, ℕ, zero, suc, ◌+◌, ◌<◌, true, length, Option, Some, None, is_some}
+use Rattle.std.specs.Prelude.{◌≡◌, ℕ, zero, suc, ◌+◌, ◌<◌, true, ◌&&◌, nat_lt, length, count_by, Option, Some, None, is_some}
 use Rattle.affinity.specs.declared.geometry.Geometry.{Geometry}
 use Rattle.histories.specs.declared.outcomes.Outcome.TheVariants as outcomes
-use Rattle.histories.specs.CoreState.{CoreState, held}
+use Rattle.histories.specs.CoreState.{CoreState, Entry, are_related_entries, held}
 use Rattle.histories.specs.Eligible.{next_eligible}
 use Rattle.histories.specs.Events.{cut, flip_refusal, grant_refusal, piece_refusal, point, point_refusal}
 
@@ -41,3 +41,7 @@ pub data CanGoOn (g : Geometry) (w : CoreState) : Type 0 where
   CanMakeRoom : (needs : NeedsCheckpoint g w) → CanGoOn g w
   -- the checkpoint in progress can go on; when it has ended, the next one can be made, and then a message can be dispatched
   CanEndCheckpoint : (next : MayGoOn w w.pieces_left) → (needs : NeedsCheckpoint g (record w { pieces_left = None })) → CanGoOn g w
+
+-- how many messages keep this one back while it waits: held ones at related places, and waiting ones at related places with smaller tickets
+abbrev pub kept_back_by : Geometry → CoreState → Entry → ℕ
+kept_back_by g w e = count_by (are_related_entries g e) (held w) + count_by (λ d. nat_lt d.0 e.0 && are_related_entries g e d) w.waiting

@@ -1,7 +1,7 @@
 //! What holds of every legal run: laws of the definitions alone. No function here does anything; its
 //! contract is the law.
 
-ghost use Rattle.std.specs.Prelude.{◌≡◌, ◌+◌, ◌++◌, ◌≤◌, ℕ, true, false, List, [], ◌∷◌, drop, length, take, IsPermutation};
+ghost use Rattle.std.specs.Prelude.{◌≡◌, ◌+◌, ◌++◌, ◌≤◌, ◌==◌, ℕ, true, false, List, [], ◌∷◌, count_by, drop, length, take, IsPermutation};
 ghost use Rattle.std.specs.List.{AllByRecursion, Contains};
 ghost use Rattle.affinity.specs.declared.geometry.Geometry.{Geometry};
 ghost use Rattle.affinity.specs.Path.{are_related};
@@ -19,7 +19,7 @@ ghost use Rattle.histories.specs.Runs.{IsLegal, answered, answered_changes, answ
 ghost use Rattle.histories.specs.Crash.{IsLeftSince, IsLogAfter, in_doubt};
 ghost use Rattle.histories.specs.Incarnations.{AreLogsOf, AllHoldAnswered, IsLeftByIncarnations, IsLogOf, Incarnation, Ran};
 ghost use Rattle.histories.specs.Laws.{AreUnrelated, AreAscending, HaveDistinctTickets, DoubtOnlyAfterFailure, DoubtIsPrefixOfRan, HasRoom, IsAnswered, IsIdle};
-ghost use Rattle.histories.specs.Progress.{CanGoOn, IsBusy};
+ghost use Rattle.histories.specs.Progress.{CanGoOn, IsBusy, kept_back_by};
 ghost use Rattle.histories.specs.Laws.{IsJoined, IsSerialHistory, IsSoundCoreState, StaysFailed, full_hands, dispatches_or_returns, ticket_replies, reports_failure};
 
 /// A core state in which nothing waits and nothing is held is sound, and each event leads from a sound
@@ -262,4 +262,15 @@ pub fn something_can_be_done()
     ensures least { (g : Geometry) (w : CoreState) (e : Entry) (rest : List Entry) → IsSoundCoreState g w → held w ≡ []
         → w.waiting ≡ e ∷ rest → is_conflict_free g w e ≡ true }
     ensures next { (g : Geometry) (w : CoreState) → IsSoundCoreState g w → w.failed ≡ false → IsBusy w → CanGoOn g w }
+{}
+
+/// A waiting message is conflict-free exactly if no message keeps it back. As long as it waits, those that keep it back are those that did
+/// at first, without those that have been answered: no message that arrives later does.
+pub fn later_messages_keep_none_back()
+    ensures none { (g : Geometry) (w : CoreState) (e : Entry) → is_conflict_free g w e ≡ (kept_back_by g w e == 0) }
+    ensures run { (g : Geometry) (old : MachineState) (events : List Event) (e : Entry) → IsLegal g old events
+        → IsSoundCoreState g old.core → Contains old.core.waiting e
+        → AllByRecursion (λ event. Contains event.state_after.core.waiting e) events
+        → kept_back_by g (end_state old events).core e
+        + count_by (λ a. are_related_entries g e (entry a)) (answered_messages old events) ≡ kept_back_by g old.core e }
 {}

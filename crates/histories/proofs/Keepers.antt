@@ -1,0 +1,178 @@
+-- The messages that keep a waiting one back are those that did before, without the one that is answered.
+use Rattle.std.proofs.Common.{◌≡◌, ℕ, zero, suc, ◌+◌, ◌<◌, Bool, true, false, List, [], ◌∷◌, ◌++◌, Some, refl, ap, sym, ◌∙◌, subst, take, arith}
+use Rattle.std.specs.Prelude.{◌&&◌, ◌||◌, ◌==◌, cond, count_by, not, nat_lt}
+use Rattle.std.specs.List.{AllByRecursion, list_any}
+use Rattle.std.proofs.lemmas.Bool.{eq-eqb, ne_eqb}
+use Rattle.std.proofs.lemmas.List.Sums.{sum_by-append, sum_by-cons}
+use Rattle.affinity.specs.declared.geometry.Geometry.{Geometry}
+use Rattle.meaning.specs.Serial.{reply_to}
+use Rattle.histories.specs.declared.outcomes.Outcome.{Outcome}
+use Rattle.histories.specs.CoreState.{Entry, Replied, CoreState, entry, entries, held, are_related_entries}
+use Rattle.histories.specs.Eligible.{is_conflict_free, is_eligible, next_eligible}
+use Rattle.histories.specs.Events.{MachineState, Event, IsAllowed, find_in_flight, give_back, grant}
+use Rattle.histories.specs.Laws.{IsSoundCoreState}
+use Rattle.histories.specs.Runs.{IsLegal, answered_at, answered_messages, answers, end_state}
+use Rattle.histories.specs.Progress.{kept_back_by}
+use Rattle.histories.proofs.Answering.{none_answered, one_answered}
+use Rattle.histories.proofs.Apart.{entries-append, held_grant, log_held}
+use Rattle.histories.proofs.Clearing.{all_at, goes_first}
+use Rattle.histories.proofs.Lists.{all_back, picked}
+use Rattle.histories.proofs.Moves.{Passed, Move, Stays, Arrives, Grants, Backs, Logs, Answers, moves}
+use Rattle.histories.proofs.Progress.{not_less}
+use Rattle.histories.proofs.SerialReplies.{IsIn}
+use Rattle.histories.proofs.Sound.{event_sound}
+
+-- no element passes a test exactly if none is counted
+none_counted : {A : Type 0} (p : A → Bool) (xs : List A) → not (list_any p xs) ≡ (count_by p xs == 0)
+none_counted p [] = sym (eq-eqb 0 0 refl)
+none_counted p (x ∷ xs) = by (p x) refl (none_counted p xs)
+  where
+    by : (b : Bool) → p x ≡ b → not (list_any p xs) ≡ (count_by p xs == 0) → not (list_any p (x ∷ xs)) ≡ (count_by p (x ∷ xs) == 0)
+    by true e rest =
+        let all = sum_by-cons (λ x. cond (p x) 1 0) x xs in
+        let one : cond (p x) 1 0 ≡ 1 = ap {B = ℕ} (λ b. cond b 1 0) e in
+        ap (λ b. not (b || list_any p xs)) e ∙ sym (ne_eqb (count_by p (x ∷ xs)) 0 (λ none. omega (arith, all, one, none)))
+    by false e rest =
+        let parts = sum_by-cons (λ x. cond (p x) 1 0) x xs in
+        let none : cond (p x) 1 0 ≡ 0 = ap {B = ℕ} (λ b. cond b 1 0) e in
+        let all : count_by p (x ∷ xs) ≡ count_by p xs = omega (arith, parts, none) in
+        ap (λ b. not (b || list_any p xs)) e ∙ rest ∙ ap (λ n. n == 0) (sym all)
+
+both_none : (a b : ℕ) → ((a == 0) && (b == 0)) ≡ ((a + b) == 0)
+both_none zero b = let same : b ≡ 0 + b = omega arith in ap (λ c. c && (b == 0)) (eq-eqb 0 0 refl) ∙ ap (λ n. n == 0) same
+both_none (suc a) b =
+    ap (λ c. c && (b == 0)) (ne_eqb (suc a) 0 (λ e. omega (arith, e))) ∙ sym (ne_eqb (suc a + b) 0 (λ e. omega (arith, e)))
+
+module _ (g : Geometry) (e : Entry) where
+  abbrev related : Entry → Bool
+  related d = are_related_entries g e d
+
+  abbrev earlier : Entry → Bool
+  earlier d = nat_lt d.0 e.0 && are_related_entries g e d
+
+  abbrev one : Entry → ℕ
+  one d = cond (related d) 1 0
+
+  abbrev one_earlier : Entry → ℕ
+  one_earlier d = cond (earlier d) 1 0
+
+  -- a waiting message is conflict-free exactly if nothing keeps it back
+  pub free_if_none : (w : CoreState) → is_conflict_free g w e ≡ (kept_back_by g w e == 0)
+  free_if_none w = (λ i. none_counted related (held w) i && none_counted earlier w.waiting i)
+      ∙ both_none (count_by related (held w)) (count_by earlier w.waiting)
+
+  -- so many of those that kept it back don't do so any more, and no other one does
+  abbrev Fewer : ℕ → CoreState → CoreState → Type 0
+  Fewer n old new = kept_back_by g new e + n ≡ kept_back_by g old e
+
+  arrive_fewer : (w : CoreState) (d : Entry) → e.0 < d.0 → Fewer 0 w (record w { waiting = w.waiting ++ d ∷ []; next = w.next + 1 })
+  arrive_fewer w d later =
+      let all = sum_by-append one_earlier w.waiting (d ∷ []) in
+      let last = sum_by-cons one_earlier d [] in
+      let none : one_earlier d ≡ 0 = ap {B = ℕ} (λ b. cond (b && related d) 1 0) (not_less e.0 d.0 (omega (arith, later))) in
+      omega (arith, all, last, none)
+
+  grant_fewer : (w : CoreState) (found : Entry × List Entry) → IsSoundCoreState g w → next_eligible g w ≡ Some found → IsIn e found.1
+      → Fewer 0 w (grant w found)
+  grant_fewer w found sound first is =
+      let k = picked (is_eligible g w) w.waiting found first in
+      let holds = ap (count_by related) (held_grant w found) ∙ sum_by-append one (held w) (found.0 ∷ []) in
+      let last = sum_by-cons one found.0 [] in
+      let was = ap (count_by earlier) k.whole ∙ sum_by-append one_earlier k.before (found.0 ∷ k.behind) in
+      let mid = sum_by-cons one_earlier found.0 k.behind in
+      let now = ap (count_by earlier) k.rest ∙ sum_by-append one_earlier k.before k.behind in
+      let counted = before (related found.0) refl in
+      omega (arith, holds, last, was, mid, now, counted)
+    where
+      and_false : (b : Bool) → (b && false) ≡ false
+      and_false true = refl
+      and_false false = refl
+
+      -- what is dispatched keeps e back exactly if it did so before
+      before : (b : Bool) → related found.0 ≡ b → one found.0 ≡ one_earlier found.0
+      before true touching =
+          let both : one_earlier found.0 ≡ 1 = λ i. cond (goes_first g e w found sound first is touching i && touching i) 1 0 in
+          let single : one found.0 ≡ 1 = ap {B = ℕ} (λ b. cond b 1 0) touching in
+          omega (arith, both, single)
+      before false apart =
+          let neither : one_earlier found.0 ≡ 0 = ap {B = ℕ} (λ b. cond b 1 0)
+          (ap (λ b. nat_lt found.0.0 e.0 && b) apart ∙ and_false (nat_lt found.0.0 e.0)) in
+          let none : one found.0 ≡ 0 = ap {B = ℕ} (λ b. cond b 1 0) apart in
+          omega (arith, neither, none)
+
+  -- how many of the held messages keep e back
+  held_parts : (w : CoreState) → count_by related (held w) ≡ count_by related (entries w.logged) + (count_by related (entries w.ran) + count_by related w.in_flight)
+  held_parts w =
+      sum_by-append one (entries w.logged) (entries w.ran ++ w.in_flight)
+      ∙ ap (λ n. count_by related (entries w.logged) + n) (sum_by-append one (entries w.ran) w.in_flight)
+
+  back_fewer : (w : CoreState) (ticket : ℕ) (found : Entry × List Entry) → find_in_flight w ticket ≡ Some found → Fewer 0 w (give_back g w found)
+  back_fewer w ticket found one_out =
+      let k = picked (λ d. d.0 == ticket) w.in_flight found one_out in
+      let a : Replied = (found.0.0, found.0.1, reply_to g w.committed found.0.1) in
+      let holds = held_parts (give_back g w found) in
+      let held_before = held_parts w in
+      let ran = ap (count_by related) (entries-append w.ran (a ∷ [])) ∙ sum_by-append one (entries w.ran) (found.0 ∷ []) in
+      let last = sum_by-cons one found.0 [] in
+      let was = ap (count_by related) k.whole ∙ sum_by-append one k.before (found.0 ∷ k.behind) in
+      let mid = sum_by-cons one found.0 k.behind in
+      let now = ap (count_by related) k.rest ∙ sum_by-append one k.before k.behind in
+      omega (arith, holds, held_before, ran, last, was, mid, now)
+
+  answer_fewer : (w : CoreState) (a : Replied) (rest : List Replied) → w.logged ≡ a ∷ rest → Fewer (one (a.0, a.1)) w (record w { logged = rest })
+  answer_fewer w a rest front =
+      let holds = held_parts (record w { logged = rest }) in
+      let held_before = held_parts w in
+      let logged = ap (λ l. count_by related (entries l)) front ∙ sum_by-cons one (a.0, a.1) (entries rest) in
+      omega (arith, holds, held_before, logged)
+
+  -- how many of those that an outcome answers kept e back
+  abbrev answered_of : CoreState → Outcome → ℕ
+  answered_of w o = count_by (λ a. related (entry a)) (answered_at w o)
+
+  silent : (old new : CoreState) (o : Outcome) → answers o ≡ [] → Fewer 0 old new → Fewer (answered_of old o) old new
+  silent old new o nothing h =
+      let none : answered_of old o ≡ 0 = ap (count_by (λ a. related (entry a))) (none_answered old o nothing) in
+      omega (arith, none, h)
+
+  move_fewer : (old new : CoreState) (p : Passed) (o : Outcome) → answers o ≡ p.reply_pairs → Move g old new p → IsSoundCoreState g old
+      → IsIn e old.waiting × IsIn e new.waiting → Fewer (answered_of old o) old new
+  move_fewer old new p o pairs (Stays s passes) sound waits =
+      let same : kept_back_by g new e ≡ kept_back_by g old e =
+      λ i. count_by related (entries (s.logged i) ++ (entries (s.ran i) ++ s.in_flight i)) + count_by earlier (s.waiting i) in
+      silent old new o (pairs ∙ ap (λ p. p.reply_pairs) passes) (omega (arith, same))
+  move_fewer old new p o pairs (Arrives m fits same passes) sound waits =
+      let given = all_at (λ e. e.0 < old.next) old.waiting e (all_back (λ e. e.0 < old.next) old.in_flight old.waiting sound.given) waits.0 in
+      silent old new o (pairs ∙ ap (λ p. p.reply_pairs) passes) (subst (Fewer 0 old) (sym same) (arrive_fewer old (old.next, m) given))
+  move_fewer old new p o pairs (Grants found first same passes) sound waits =
+      silent old new o (pairs ∙ ap (λ p. p.reply_pairs) passes)
+      (subst (Fewer 0 old) (sym same) (grant_fewer old found sound first (subst (λ w. IsIn e w.waiting) same waits.1)))
+  move_fewer old new p o pairs (Backs ticket found one_out same passes) sound waits =
+      silent old new o (pairs ∙ ap (λ p. p.reply_pairs) passes) (subst (Fewer 0 old) (sym same) (back_fewer old ticket found one_out))
+  move_fewer old new p o pairs (Logs n same passes) sound waits =
+      let holds = ap (count_by related) (log_held g old n) in
+      silent old new o (pairs ∙ ap (λ p. p.reply_pairs) passes) (subst (Fewer 0 old) (sym same) (omega (arith, holds)))
+  move_fewer old new p o pairs (Answers a rest front same passes) sound waits =
+      let first = one_answered old o (a.0, a.2) (pairs ∙ ap (λ p. p.reply_pairs) passes) ∙ ap (take 1) front in
+      let counted = ap (count_by (λ a. related (entry a))) first ∙ sum_by-cons (λ (a : Replied). one (entry a)) a [] in
+      let fewer : Fewer (one (a.0, a.1)) old new = subst (Fewer (one (a.0, a.1)) old) (sym same) (answer_fewer old a rest front) in
+      omega (arith, counted, fewer)
+
+pub event_fewer : (g : Geometry) (old : MachineState) (event : Event) (e : Entry) → IsAllowed g old event → IsSoundCoreState g old.core
+    → IsIn e old.core.waiting → IsIn e event.state_after.core.waiting
+    → kept_back_by g event.state_after.core e + count_by (λ a. are_related_entries g e (entry a)) (answered_at old.core event.outcome)
+    ≡ kept_back_by g old.core e
+event_fewer g old event e allowed sound was is =
+    move_fewer g e old.core event.state_after.core _ event.outcome refl (moves g old event allowed) sound (was, is)
+
+pub run_fewer : (g : Geometry) (old : MachineState) (events : List Event) (e : Entry) → IsLegal g old events → IsSoundCoreState g old.core
+    → IsIn e old.core.waiting → AllByRecursion (λ event. IsIn e event.state_after.core.waiting) events
+    → kept_back_by g (end_state old events).core e + count_by (λ a. are_related_entries g e (entry a)) (answered_messages old events)
+    ≡ kept_back_by g old.core e
+run_fewer g old [] e legal sound was waits = omega arith
+run_fewer g old (event ∷ events) e legal sound was waits =
+    let first = event_fewer g old event e legal.0 sound was waits.0 in
+    let rest = run_fewer g event.state_after events e legal.1 (event_sound g old event legal.0 sound) waits.0 waits.1 in
+    let all = sum_by-append (λ (a : Replied). cond (are_related_entries g e (entry a)) 1 0) (answered_at old.core event.outcome)
+    (answered_messages event.state_after events) in
+    omega (arith, first, rest, all)
