@@ -21,5 +21,6 @@ pub mod Doubts
 pub mod SerialHistories
 pub mod Progress
 pub mod Keepers
+pub mod Steps
 -- ---- this crate's own
 mod Examples

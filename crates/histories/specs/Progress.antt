@@ -1,10 +1,11 @@
 -- Statement for engineers: What can be done next, and how much is left to do.
-use Rattle.std.specs.Prelude.{◌≡◌, ℕ, zero, suc, ◌+◌, ◌<◌, true, ◌&&◌, nat_lt, length, count_by, Option, Some, None, is_some}
+use Rattle.std.specs.Prelude.{◌≡◌, ℕ, zero, suc, ◌+◌, ◌*◌, ◌<◌, Bool, true, false, ◌&&◌, nat_lt, List, length, count_by, sum_by, Option, Some, None, is_some}
 use Rattle.affinity.specs.declared.geometry.Geometry.{Geometry}
+use Rattle.histories.specs.declared.outcomes.Outcome.{Outcome}
 use Rattle.histories.specs.declared.outcomes.Outcome.TheVariants as outcomes
 use Rattle.histories.specs.CoreState.{CoreState, Entry, are_related_entries, held}
 use Rattle.histories.specs.Eligible.{next_eligible}
-use Rattle.histories.specs.Events.{cut, flip_refusal, grant_refusal, piece_refusal, point, point_refusal}
+use Rattle.histories.specs.Events.{Event, Hand, Job, MachineState, cut, flip_refusal, grant_refusal, piece_refusal, point, point_refusal}
 
 -- ---- what can be done next
 
@@ -45,3 +46,32 @@ pub data CanGoOn (g : Geometry) (w : CoreState) : Type 0 where
 -- how many messages keep this one back while it waits: held ones at related places, and waiting ones at related places with smaller tickets
 abbrev pub kept_back_by : Geometry → CoreState → Entry → ℕ
 kept_back_by g w e = count_by (are_related_entries g e) (held w) + count_by (λ d. nat_lt d.0 e.0 && are_related_entries g e d) w.waiting
+
+-- ---- how much is left to do
+
+abbrev pub has_job : Hand → Bool
+has_job (Job ticket) = true
+has_job _ = false
+
+-- How many steps are to come until all messages are answered. A message takes five: it is dispatched, runs, is given back, is logged and is
+-- answered.
+abbrev pub steps_to_come : MachineState → ℕ
+steps_to_come w = 5 * length w.core.waiting + (3 * length w.core.in_flight + count_by has_job w.hands) + 2 * length w.core.ran
+    + length w.core.logged
+
+-- how many messages take one of the five steps where the outcome is this one
+abbrev pub steps_at : Outcome → ℕ
+steps_at (outcomes.Granted hand ticket) = 1
+steps_at outcomes.Ran = 1
+steps_at (outcomes.Back ticket) = 1
+steps_at (outcomes.Logged n) = n
+steps_at (outcomes.Answered ticket reply) = 1
+steps_at _ = 0
+
+-- how many of these steps messages take in a run
+abbrev pub steps_in : List Event → ℕ
+steps_in events = sum_by (λ event. steps_at event.outcome) events
+
+-- how many of the events dispatch, run, give back, log or answer at least one message
+abbrev pub useful_events : List Event → ℕ
+useful_events events = count_by (λ event. nat_lt 0 (steps_at event.outcome)) events

@@ -1,7 +1,7 @@
 //! What holds of every legal run: laws of the definitions alone. No function here does anything; its
 //! contract is the law.
 
-ghost use Rattle.std.specs.Prelude.{◌≡◌, ◌+◌, ◌++◌, ◌≤◌, ◌==◌, ℕ, true, false, List, [], ◌∷◌, count_by, drop, length, take, IsPermutation};
+ghost use Rattle.std.specs.Prelude.{◌≡◌, ◌+◌, ◌*◌, ◌++◌, ◌≤◌, ◌==◌, ℕ, true, false, List, [], ◌∷◌, count_by, drop, length, take, IsPermutation};
 ghost use Rattle.std.specs.List.{AllByRecursion, Contains};
 ghost use Rattle.affinity.specs.declared.geometry.Geometry.{Geometry};
 ghost use Rattle.affinity.specs.Path.{are_related};
@@ -19,7 +19,7 @@ ghost use Rattle.histories.specs.Runs.{IsLegal, answered, answered_changes, answ
 ghost use Rattle.histories.specs.Crash.{IsLeftSince, IsLogAfter, in_doubt};
 ghost use Rattle.histories.specs.Incarnations.{AreLogsOf, AllHoldAnswered, IsLeftByIncarnations, IsLogOf, Incarnation, Ran};
 ghost use Rattle.histories.specs.Laws.{AreUnrelated, AreAscending, HaveDistinctTickets, DoubtOnlyAfterFailure, DoubtIsPrefixOfRan, HasRoom, IsAnswered, IsIdle};
-ghost use Rattle.histories.specs.Progress.{CanGoOn, IsBusy, kept_back_by};
+ghost use Rattle.histories.specs.Progress.{CanGoOn, IsBusy, kept_back_by, steps_in, steps_to_come, useful_events};
 ghost use Rattle.histories.specs.Laws.{IsJoined, IsSerialHistory, IsSoundCoreState, StaysFailed, full_hands, dispatches_or_returns, ticket_replies, reports_failure};
 
 /// A core state in which nothing waits and nothing is held is sound, and each event leads from a sound
@@ -273,4 +273,16 @@ pub fn later_messages_keep_none_back()
         → AllByRecursion (λ event. Contains event.state_after.core.waiting e) events
         → kept_back_by g (end_state old events).core e
         + count_by (λ a. are_related_entries g e (entry a)) (answered_messages old events) ≡ kept_back_by g old.core e }
+{}
+
+/// A message takes five steps: it is dispatched, runs, is given back, is logged and is answered. The steps that messages take in a run, and
+/// those to come at its end, are those to come at its start, and five for each message that arrives. So, without arrivals, only so many
+/// events do one of these. From a start with nothing waiting, nothing held and every hand empty there are at most five for each arrival.
+pub fn each_message_takes_five_steps()
+    ensures steps { (g : Geometry) (old : MachineState) (events : List Event) → IsLegal g old events
+        → steps_in events + steps_to_come (end_state old events) ≡ steps_to_come old + 5 * length (arrived events) }
+    ensures events { (g : Geometry) (old : MachineState) (events : List Event) → IsLegal g old events
+        → useful_events events + steps_to_come (end_state old events) ≤ steps_to_come old + 5 * length (arrived events) }
+    ensures idle { (g : Geometry) (old : MachineState) (events : List Event) → IsLegal g old events → IsIdle old.core
+        → full_hands old.hands ≡ 0 → useful_events events ≤ 5 * length (arrived events) }
 {}
