@@ -22,5 +22,6 @@ pub mod SerialHistories
 pub mod Progress
 pub mod Keepers
 pub mod Steps
+pub mod Hands
 -- ---- this crate's own
 mod Examples

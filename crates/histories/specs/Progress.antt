@@ -1,11 +1,11 @@
 -- Statement for engineers: What can be done next, and how much is left to do.
-use Rattle.std.specs.Prelude.{◌≡◌, ℕ, zero, suc, ◌+◌, ◌*◌, ◌<◌, Bool, true, false, ◌&&◌, nat_lt, List, length, count_by, sum_by, Option, Some, None, is_some}
+use Rattle.std.specs.Prelude.{◌≡◌, ℕ, zero, suc, ◌+◌, ◌*◌, ◌<◌, Bool, true, false, ◌&&◌, ◌==◌, nat_lt, List, length, count_by, sum_by, Option, Some, None, is_some}
 use Rattle.affinity.specs.declared.geometry.Geometry.{Geometry}
 use Rattle.histories.specs.declared.outcomes.Outcome.{Outcome}
 use Rattle.histories.specs.declared.outcomes.Outcome.TheVariants as outcomes
 use Rattle.histories.specs.CoreState.{CoreState, Entry, are_related_entries, held}
 use Rattle.histories.specs.Eligible.{next_eligible}
-use Rattle.histories.specs.Events.{Event, Hand, Job, MachineState, cut, flip_refusal, grant_refusal, piece_refusal, point, point_refusal}
+use Rattle.histories.specs.Events.{Event, Hand, Job, Result, MachineState, cut, flip_refusal, grant_refusal, piece_refusal, point, point_refusal}
 
 -- ---- what can be done next
 
@@ -75,3 +75,14 @@ steps_in events = sum_by (λ event. steps_at event.outcome) events
 -- how many of the events dispatch, run, give back, log or answer at least one message
 abbrev pub useful_events : List Event → ℕ
 useful_events events = count_by (λ event. nat_lt 0 (steps_at event.outcome)) events
+
+-- ---- that all is answered in the end
+
+abbrev pub has_ticket : ℕ → Hand → Bool
+has_ticket ticket (Job t) = t == ticket
+has_ticket ticket (Result t) = t == ticket
+has_ticket ticket _ = false
+
+-- The hands have the jobs and results of the messages in flight: each ticket is in as many hands as there are messages in flight with it.
+abbrev pub HandsHold : MachineState → Type 0
+HandsHold w = (ticket : ℕ) → count_by (has_ticket ticket) w.hands ≡ count_by (λ e. e.0 == ticket) w.core.in_flight

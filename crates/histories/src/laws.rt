@@ -19,7 +19,7 @@ ghost use Rattle.histories.specs.Runs.{IsLegal, answered, answered_changes, answ
 ghost use Rattle.histories.specs.Crash.{IsLeftSince, IsLogAfter, in_doubt};
 ghost use Rattle.histories.specs.Incarnations.{AreLogsOf, AllHoldAnswered, IsLeftByIncarnations, IsLogOf, Incarnation, Ran};
 ghost use Rattle.histories.specs.Laws.{AreUnrelated, AreAscending, HaveDistinctTickets, DoubtOnlyAfterFailure, DoubtIsPrefixOfRan, HasRoom, IsAnswered, IsIdle};
-ghost use Rattle.histories.specs.Progress.{CanGoOn, IsBusy, kept_back_by, steps_in, steps_to_come, useful_events};
+ghost use Rattle.histories.specs.Progress.{CanGoOn, HandsHold, IsBusy, kept_back_by, steps_in, steps_to_come, useful_events};
 ghost use Rattle.histories.specs.Laws.{IsJoined, IsSerialHistory, IsSoundCoreState, StaysFailed, full_hands, dispatches_or_returns, ticket_replies, reports_failure};
 
 /// A core state in which nothing waits and nothing is held is sound, and each event leads from a sound
@@ -285,4 +285,12 @@ pub fn each_message_takes_five_steps()
         → useful_events events + steps_to_come (end_state old events) ≤ steps_to_come old + 5 * length (arrived events) }
     ensures idle { (g : Geometry) (old : MachineState) (events : List Event) → IsLegal g old events → IsIdle old.core
         → full_hands old.hands ≡ 0 → useful_events events ≤ 5 * length (arrived events) }
+{}
+
+/// Each ticket is in as many hands as there are messages in flight with it, whatever comes, if it was so before. At a start with nothing in
+/// flight and every hand empty it is so.
+pub fn hands_hold_what_is_in_flight()
+    ensures start { (w : MachineState) → w.core.in_flight ≡ [] → full_hands w.hands ≡ 0 → HandsHold w }
+    ensures event { (g : Geometry) (old : MachineState) (event : Event) → IsAllowed g old event → HandsHold old
+        → HandsHold event.state_after }
 {}
