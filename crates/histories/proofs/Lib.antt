@@ -23,5 +23,6 @@ pub mod Progress
 pub mod Keepers
 pub mod Steps
 pub mod Hands
+pub mod Draining
 -- ---- this crate's own
 mod Examples

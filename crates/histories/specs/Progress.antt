@@ -1,11 +1,15 @@
 -- Statement for engineers: What can be done next, and how much is left to do.
-use Rattle.std.specs.Prelude.{◌≡◌, ℕ, zero, suc, ◌+◌, ◌*◌, ◌<◌, Bool, true, false, ◌&&◌, ◌==◌, nat_lt, List, length, count_by, sum_by, Option, Some, None, is_some}
+use Rattle.std.specs.Prelude.{◌≡◌, ℕ, zero, suc, ◌+◌, ◌*◌, ◌<◌, ◌≤◌, Bool, true, false, ◌&&◌, ◌==◌, cond, nat_lt, List, [], ◌∷◌, ◌++◌, length, count_by, sum_by, Option, Some, None, is_some, IsPermutation}
+use Rattle.std.specs.List.{AllByRecursion}
 use Rattle.affinity.specs.declared.geometry.Geometry.{Geometry}
 use Rattle.histories.specs.declared.outcomes.Outcome.{Outcome}
 use Rattle.histories.specs.declared.outcomes.Outcome.TheVariants as outcomes
-use Rattle.histories.specs.CoreState.{CoreState, Entry, are_related_entries, held}
+use Rattle.histories.specs.declared.outcomes.Step.TheVariants as steps
+use Rattle.histories.specs.CoreState.{CoreState, Entry, are_related_entries, entries, held}
 use Rattle.histories.specs.Eligible.{next_eligible}
-use Rattle.histories.specs.Events.{Event, Hand, Job, Result, MachineState, cut, flip_refusal, grant_refusal, piece_refusal, point, point_refusal}
+use Rattle.histories.specs.Events.{Event, Hand, IsAllowed, Job, Result, MachineState, cut, flip_refusal, grant_refusal, piece_refusal, point, point_refusal}
+use Rattle.histories.specs.Laws.{IsIdle}
+use Rattle.histories.specs.Runs.{IsLegal, answered_messages, arrived, arrives, end_state}
 
 -- ---- what can be done next
 
@@ -86,3 +90,52 @@ has_ticket ticket _ = false
 -- The hands have the jobs and results of the messages in flight: each ticket is in as many hands as there are messages in flight with it.
 abbrev pub HandsHold : MachineState → Type 0
 HandsHold w = (ticket : ℕ) → count_by (has_ticket ticket) w.hands ≡ count_by (λ e. e.0 == ticket) w.core.in_flight
+
+-- how many steps are left of a checkpoint in progress with so many pieces left: these, and its end
+abbrev pub points_left : Option ℕ → ℕ
+points_left None = 0
+points_left (Some n) = n + 1
+
+-- how much is left to do where each checkpoint has n pieces to write: n + 4 for each step to come, one for each step that is left of the
+-- checkpoint in progress, and n + 2 if no message is eligible
+abbrev pub work_left : Geometry → ℕ → MachineState → ℕ
+work_left g n w = (n + 4) * steps_to_come w + points_left w.core.pieces_left + cond (is_some (next_eligible g w.core)) 0 (n + 2)
+
+-- The event makes no checkpoint in one call; if it begins one, that has n pieces to write.
+pub record IsOnline (n : ℕ) (event : Event) : Type 0 where
+  pub no_point : event.step ≡ steps.Point → ⊥
+  pub pieces : event.step ≡ steps.Cut → event.state_after.core.pieces_left ≡ Some n
+
+-- An event that is neither an arrival nor a failure may come, and leaves less to do.
+pub record CanStep (g : Geometry) (n : ℕ) (w : MachineState) : Type 0 where
+  pub event : Event
+  pub allowed : IsAllowed g w event
+  pub none_arrives : arrives event.step event.outcome ≡ []
+  pub none_fails : event.device_failed ≡ false
+  pub online : IsOnline n event
+  pub less : work_left g n event.state_after < work_left g n w
+
+-- Each of the events leaves less to do than there was before it.
+abbrev pub EachLeavesLess : Geometry → ℕ → MachineState → List Event → Type 0
+EachLeavesLess g n w [] = Unit {0}
+EachLeavesLess g n w (event ∷ events) = (work_left g n event.state_after < work_left g n w) × EachLeavesLess g n event.state_after events
+
+-- A legal run without arrivals and failures after which nothing waits and nothing is held, with online checkpoints alone. It has no more
+-- events than work is left.
+pub record CanDrain (g : Geometry) (n : ℕ) (w : MachineState) : Type 0 where
+  pub events : List Event
+  pub legal : IsLegal g w events
+  pub none_arrives : arrived events ≡ []
+  pub none_fails : AllByRecursion (λ event. event.device_failed ≡ false) events
+  pub online : AllByRecursion (IsOnline n) events
+  pub at_most : length events ≤ work_left g n w
+  pub idle : IsIdle (end_state w events).core
+
+-- More events may follow, without arrivals and failures, and then each message that arrived has been answered, once.
+pub record CanAnswerAll (g : Geometry) (n : ℕ) (start : MachineState) (events : List Event) : Type 0 where
+  pub more : List Event
+  pub legal : IsLegal g start (events ++ more)
+  pub none_arrives : arrived more ≡ []
+  pub none_fails : AllByRecursion (λ event. event.device_failed ≡ false) more
+  pub online : AllByRecursion (IsOnline n) more
+  pub each_once : IsPermutation (arrived events) (entries (answered_messages start (events ++ more)))

@@ -1,10 +1,11 @@
 //! What holds of every legal run: laws of the definitions alone. No function here does anything; its
 //! contract is the law.
 
-ghost use Rattle.std.specs.Prelude.{◌≡◌, ◌+◌, ◌*◌, ◌++◌, ◌≤◌, ◌==◌, ℕ, true, false, List, [], ◌∷◌, count_by, drop, length, take, IsPermutation};
+ghost use Rattle.std.specs.Prelude.{◌≡◌, ◌+◌, ◌*◌, ◌++◌, ◌<◌, ◌≤◌, ◌==◌, ℕ, true, false, List, [], ◌∷◌, count_by, drop, length, take, IsPermutation};
 ghost use Rattle.std.specs.List.{AllByRecursion, Contains};
 ghost use Rattle.affinity.specs.declared.geometry.Geometry.{Geometry};
 ghost use Rattle.affinity.specs.Path.{are_related};
+ghost use Rattle.image.specs.Pieces.{piece_count};
 ghost use Rattle.language.specs.declared.Msg.{Msg};
 ghost use Rattle.language.specs.declared.Reply.{Reply};
 ghost use Rattle.language.specs.Messages.{path_of};
@@ -19,7 +20,7 @@ ghost use Rattle.histories.specs.Runs.{IsLegal, answered, answered_changes, answ
 ghost use Rattle.histories.specs.Crash.{IsLeftSince, IsLogAfter, in_doubt};
 ghost use Rattle.histories.specs.Incarnations.{AreLogsOf, AllHoldAnswered, IsLeftByIncarnations, IsLogOf, Incarnation, Ran};
 ghost use Rattle.histories.specs.Laws.{AreUnrelated, AreAscending, HaveDistinctTickets, DoubtOnlyAfterFailure, DoubtIsPrefixOfRan, HasRoom, IsAnswered, IsIdle};
-ghost use Rattle.histories.specs.Progress.{CanGoOn, HandsHold, IsBusy, kept_back_by, steps_in, steps_to_come, useful_events};
+ghost use Rattle.histories.specs.Progress.{CanAnswerAll, CanDrain, CanGoOn, CanStep, EachLeavesLess, HandsHold, IsBusy, kept_back_by, steps_in, steps_to_come, useful_events, work_left};
 ghost use Rattle.histories.specs.Laws.{IsJoined, IsSerialHistory, IsSoundCoreState, StaysFailed, full_hands, dispatches_or_returns, ticket_replies, reports_failure};
 
 /// A core state in which nothing waits and nothing is held is sound, and each event leads from a sound
@@ -293,4 +294,23 @@ pub fn hands_hold_what_is_in_flight()
     ensures start { (w : MachineState) → w.core.in_flight ≡ [] → full_hands w.hands ≡ 0 → HandsHold w }
     ensures event { (g : Geometry) (old : MachineState) (event : Event) → IsAllowed g old event → HandsHold old
         → HandsHold event.state_after }
+{}
+
+/// From a sound machine state whose hands have what is in flight, with at least one hand and a device that works: if anything waits or is
+/// held, some event that is no arrival may come and leaves less to do. Whichever such events come, there are no more than work is left, and
+/// there is another one until nothing waits and nothing is held. Some legal run of them ends so. So whatever has happened since a start
+/// with nothing waiting and nothing held, each message that arrived can be answered, once. Checkpoints are made online, of n pieces each.
+pub fn all_can_be_answered()
+    ensures step { (g : Geometry) (n : ℕ) → n ≤ piece_count g → (w : MachineState) → IsSoundCoreState g w.core
+        → w.core.failed ≡ false → HandsHold w → 0 < length w.hands → IsBusy w.core → CanStep g n w }
+    ensures any { (g : Geometry) (n : ℕ) → n ≤ piece_count g → (w : MachineState) (events : List Event) → IsSoundCoreState g w.core
+        → HandsHold w → 0 < length w.hands → IsLegal g w events → EachLeavesLess g n w events
+        → (end_state w events).core.failed ≡ false
+        → (length events + work_left g n (end_state w events) ≤ work_left g n w)
+        × (IsBusy (end_state w events).core → CanStep g n (end_state w events)) }
+    ensures drain { (g : Geometry) (n : ℕ) → n ≤ piece_count g → (w : MachineState) → IsSoundCoreState g w.core
+        → w.core.failed ≡ false → HandsHold w → 0 < length w.hands → CanDrain g n w }
+    ensures answered { (g : Geometry) (n : ℕ) → n ≤ piece_count g → (start : MachineState) (events : List Event)
+        → IsLegal g start events → IsIdle start.core → full_hands start.hands ≡ 0 → 0 < length start.hands
+        → (end_state start events).core.failed ≡ false → CanAnswerAll g n start events }
 {}
