@@ -21,10 +21,11 @@ use Rattle.histories.specs.declared.outcomes.ArriveRefusal.TheVariants as arriva
 use Rattle.histories.specs.declared.outcomes.CoreFault.TheVariants as faults
 use Rattle.histories.specs.declared.outcomes.PointRefusal.TheVariants as points
 use Rattle.histories.specs.CoreState.{Entry, CoreState}
-use Rattle.histories.specs.Events.{MachineState, Empty, Event, IsAllowed, apply_step, fail_step, recorded, touches_device}
+use Rattle.histories.specs.Events.{MachineState, Empty, Job, Result, Event, IsAllowed, apply_step, fail_step, recorded, touches_device}
 use Rattle.histories.specs.Runs.{IsLegal, appended_messages, end_state, answered_changes}
 use Rattle.histories.specs.Crash.{IsLeftSince, IsLogAfter, in_doubt}
 use Rattle.histories.specs.Laws.{full_hands, DoubtIsPrefixOfRan, IsSerialHistory}
+use Rattle.histories.specs.Progress.{CanGoOn, CanReturn, CanLog, CanAnswer, CanDispatch, CanMakeRoom, CanEndCheckpoint, EachLeavesLess, HandsHold, kept_back_by, steps_in, steps_to_come, useful_events, work_left}
 use Rattle.histories.specs.Incarnations.{Unopened, Ran, IsLeftByIncarnations}
 use Rattle.histories.proofs.Elements.{contains_in, holds_of, in_contained}
 
@@ -308,6 +309,141 @@ what_never_ran_is_not_in_doubt h = by h.some h.is
     by : (n : ℕ) → MakeVol 0 0 ∷ [] ≡ recorded (take n []) → ⊥
     by zero e = cc
     by (suc n) e = cc
+
+-- ---- what can be done next, and how much is left to do
+
+-- the steps that are left, before each of these steps and after the last
+abbrev left_at : MachineState → List Step → List ℕ
+left_at w [] = steps_to_come w ∷ []
+left_at w (s ∷ ss) = steps_to_come w ∷ left_at (apply_step small 3 w s).1 ss
+
+a_message_takes_five_steps : left_at (one_hand 1 empty) (whole (MakeVol 0 0)) ≡ 0 ∷ 5 ∷ 4 ∷ 3 ∷ 2 ∷ 1 ∷ 0 ∷ []
+a_message_takes_five_steps = refl
+
+what_does_nothing_is_no_step : steps_in (events_of (one_hand 1 empty) (steps.Grant ∷ steps.Run 0 ∷ steps.Back 0 ∷ steps.Log 3 ∷ steps.Answer
+    ∷ steps.Point ∷ steps.Cut ∷ steps.Arrive AskSummary ∷ [])) ≡ 0
+what_does_nothing_is_no_step = refl
+
+-- Two messages are logged in one event.
+abbrev two_at_once : (x y : Block) → List Event
+two_at_once x y = events_of (two_hands 2 with_file) (steps.Arrive (Write 0 0 0 0 x) ∷ steps.Arrive (Write 0 0 0 1 y) ∷ steps.Grant ∷ steps.Grant
+    ∷ steps.Run 1 ∷ steps.Run 0 ∷ steps.Back 0 ∷ steps.Back 1 ∷ steps.Log 2 ∷ steps.Answer ∷ steps.Answer ∷ [])
+
+they_take_ten_steps : (x y : Block) → steps_in (two_at_once x y) ≡ 10
+they_take_ten_steps x y = refl
+
+in_nine_events : (x y : Block) → useful_events (two_at_once x y) ≡ 9
+in_nine_events x y = refl
+
+-- One slot: while a message has it, something can be done with that message, and no other one arrives.
+one_slot : answers_of (one_hand 1 empty) (steps.Arrive (MakeVol 0 0) ∷ steps.Arrive AskSummary ∷ steps.Grant ∷ steps.Run 0 ∷ steps.Back 0
+    ∷ steps.Log 1 ∷ steps.Arrive AskSummary ∷ steps.Answer ∷ steps.Arrive AskSummary ∷ [])
+    ≡ outcomes.Ticket 0 ∷ outcomes.ArriveRefused arrivals.Full ∷ outcomes.Granted 0 0 ∷ outcomes.Ran ∷ outcomes.Back 0
+    ∷ outcomes.Logged 1 ∷ outcomes.ArriveRefused arrivals.Full ∷ outcomes.Answered 0 Done ∷ outcomes.Ticket 1 ∷ []
+one_slot = refl
+
+it_can_be_dispatched : CanGoOn small (after (one_hand 1 empty) (take 1 (whole (MakeVol 0 0)))).core
+it_can_be_dispatched = CanDispatch refl
+
+it_can_be_given_back : CanGoOn small (after (one_hand 1 empty) (take 2 (whole (MakeVol 0 0)))).core
+it_can_be_given_back = CanReturn (lit≤ tt)
+
+it_can_be_logged : CanGoOn small (after (one_hand 1 empty) (take 4 (whole (MakeVol 0 0)))).core
+it_can_be_logged = CanLog (lit≤ tt)
+
+it_can_be_answered : CanGoOn small (after (one_hand 1 empty) (take 5 (whole (MakeVol 0 0)))).core
+it_can_be_answered = CanAnswer (lit≤ tt)
+
+-- Where nothing waits and nothing is held, there is nothing to do.
+nothing_to_do : CanGoOn small (opened 1 empty) → ⊥
+nothing_to_do (CanReturn some) = absurd (omega (arith, some))
+nothing_to_do (CanLog some) = absurd (omega (arith, some))
+nothing_to_do (CanAnswer some) = absurd (omega (arith, some))
+nothing_to_do (CanDispatch some) = true≢false (sym some)
+nothing_to_do (CanMakeRoom needs) = true≢false (sym needs.after_point)
+nothing_to_do (CanEndCheckpoint next needs) = next
+
+-- Since a cut, which is in progress still, as many records came as a half of the log takes, and one more write waits.
+abbrev full_log : (x y : Block) → MachineState
+full_log x y = after (one_hand 1 with_file) ((steps.Cut ∷ whole (Write 0 0 0 0 x)) ++ (whole (Write 0 0 0 1 y)
+    ++ (whole (Write 0 0 0 0 y) ++ (whole (Write 0 0 0 1 x) ++ (steps.Arrive (Write 0 0 0 0 x) ∷ [])))))
+
+-- the steps that end that cut
+abbrev end_of_cut : List Step
+end_of_cut = steps.Piece ∷ steps.Piece ∷ steps.Piece ∷ steps.Flip ∷ []
+
+a_full_log_during_a_cut : (x y : Block) → answers_of (full_log x y) (steps.Grant ∷ steps.Point ∷ end_of_cut ++ (steps.Grant ∷ steps.Point
+    ∷ steps.Grant ∷ []))
+    ≡ outcomes.NoRoom ∷ outcomes.PointRefused points.Running ∷ outcomes.Left 2 ∷ outcomes.Left 1 ∷ outcomes.Left 0 ∷ outcomes.Flipped
+    ∷ outcomes.NoRoom ∷ outcomes.Pointed ∷ outcomes.Granted 0 4 ∷ []
+a_full_log_during_a_cut x y = refl
+
+the_cut_can_go_on : (x y : Block) → CanGoOn small (full_log x y).core
+the_cut_can_go_on x y = CanEndCheckpoint refl (record { none = refl; no_room = refl; may_begin = refl; after_point = refl; after_cut = λ n. refl })
+
+the_cut_can_end : (x y : Block) → CanGoOn small (after (full_log x y) (take 3 end_of_cut)).core
+the_cut_can_end x y = CanEndCheckpoint refl (record { none = refl; no_room = refl; may_begin = refl; after_point = refl; after_cut = λ n. refl })
+
+then_a_point_makes_room : (x y : Block) → CanGoOn small (after (full_log x y) end_of_cut).core
+then_a_point_makes_room x y = CanMakeRoom (record { none = refl; no_room = refl; may_begin = refl; after_point = refl; after_cut = λ n. refl })
+
+-- how much is left to do, before each of these steps and after the last
+abbrev work_at : MachineState → List Step → List ℕ
+work_at w [] = work_left small 3 w ∷ []
+work_at w (s ∷ ss) = work_left small 3 w ∷ work_at (apply_step small 3 w s).1 ss
+
+its_work_gets_less : (x y : Block) → work_at (full_log x y) (end_of_cut ++ (steps.Cut ∷ steps.Grant ∷ steps.Run 0 ∷ steps.Back 0
+    ∷ steps.Log 1 ∷ steps.Answer ∷ []))
+    ≡ 44 ∷ 43 ∷ 42 ∷ 41 ∷ 40 ∷ 39 ∷ 37 ∷ 30 ∷ 23 ∷ 16 ∷ 9 ∷ []
+its_work_gets_less x y = refl
+
+each_of_them_leaves_less : (x y : Block) → EachLeavesLess small 3 (full_log x y)
+    (events_of (full_log x y) (steps.Piece ∷ steps.Piece ∷ steps.Piece ∷ steps.Flip ∷ steps.Cut ∷ steps.Grant ∷ []))
+each_of_them_leaves_less x y = (lit≤ tt, (lit≤ tt, (lit≤ tt, (lit≤ tt, (lit≤ tt, (lit≤ tt, tt))))))
+
+a_cut_leaves_more : EachLeavesLess small 3 (one_hand 1 empty) (events_of (one_hand 1 empty) (steps.Cut ∷ [])) → ⊥
+a_cut_leaves_more h = let less = h.0 in absurd (omega (arith, less))
+
+what_does_nothing_leaves_as_much : EachLeavesLess small 3 (one_hand 1 empty) (events_of (one_hand 1 empty) (steps.Point ∷ [])) → ⊥
+what_does_nothing_leaves_as_much h = let less = h.0 in absurd (omega (arith, less))
+
+-- A `summary`, whose place is related to every other one, arrives behind a write.
+abbrev behind_a_write : (x : Block) → MachineState
+behind_a_write x = after (two_hands 2 with_file) (steps.Arrive (Write 0 0 0 0 x) ∷ steps.Arrive AskSummary ∷ [])
+
+a_summary_waits_for_a_write : (x : Block) → answers_of (behind_a_write x) (steps.Grant ∷ steps.Grant ∷ steps.Run 0 ∷ steps.Grant ∷ steps.Back 0
+    ∷ steps.Grant ∷ steps.Log 1 ∷ steps.Grant ∷ steps.Answer ∷ steps.Grant ∷ [])
+    ≡ outcomes.Granted 0 0 ∷ outcomes.NoneEligible ∷ outcomes.Ran ∷ outcomes.NoneEligible ∷ outcomes.Back 0 ∷ outcomes.NoneEligible
+    ∷ outcomes.Logged 1 ∷ outcomes.NoneEligible ∷ outcomes.Answered 0 Done ∷ outcomes.Granted 0 1 ∷ []
+a_summary_waits_for_a_write x = refl
+
+its_steps_are_left : (x : Block) → left_at (behind_a_write x) (steps.Grant ∷ steps.Grant ∷ steps.Run 0 ∷ steps.Back 0 ∷ steps.Log 1 ∷ steps.Answer ∷ [])
+    ≡ 10 ∷ 9 ∷ 9 ∷ 8 ∷ 7 ∷ 6 ∷ 5 ∷ []
+its_steps_are_left x = refl
+
+-- how many messages keep message e back, before each of these steps and after the last
+abbrev keepers_at : MachineState → Entry → List Step → List ℕ
+keepers_at w e [] = kept_back_by small w.core e ∷ []
+keepers_at w e (s ∷ ss) = kept_back_by small w.core e ∷ keepers_at (apply_step small 3 w s).1 e ss
+
+-- A later write doesn't keep the `summary` back; the earlier ones do until they are answered.
+two_writes_keep_a_summary_back : (x y : Block) → keepers_at (after (two_hands 4 with_file) (steps.Arrive (Write 0 0 0 0 x)
+    ∷ steps.Arrive (Write 0 0 0 1 y) ∷ steps.Arrive AskSummary ∷ [])) (2, AskSummary) (steps.Arrive (Write 0 0 0 0 y) ∷ steps.Grant
+    ∷ steps.Grant ∷ steps.Run 1 ∷ steps.Back 1 ∷ steps.Log 1 ∷ steps.Answer ∷ steps.Run 0 ∷ steps.Back 0 ∷ steps.Log 1 ∷ steps.Answer
+    ∷ [])
+    ≡ 2 ∷ 2 ∷ 2 ∷ 2 ∷ 2 ∷ 2 ∷ 2 ∷ 1 ∷ 1 ∷ 1 ∷ 1 ∷ 0 ∷ []
+two_writes_keep_a_summary_back x y = refl
+
+-- ---- what hands have
+
+ran_and_to_run : (x y : Block) → HandsHold (after (three_hands 3 with_file) (two_hands_of_three x y))
+ran_and_to_run x y t = omega arith
+
+no_job_is_lost : HandsHold (record { core = (after (one_hand 1 empty) (take 2 (whole AskSummary))).core; hands = Empty ∷ [] }) → ⊥
+no_job_is_lost h = let same = h 0 in absurd (omega (arith, same))
+
+no_job_is_twice : HandsHold (record { core = (after (one_hand 1 empty) (take 2 (whole AskSummary))).core; hands = Job 0 ∷ Result 0 ∷ [] }) → ⊥
+no_job_is_twice h = let same = h 0 in absurd (omega (arith, same))
 
 -- ---- serial histories
 
