@@ -22,6 +22,11 @@ DAMAGED = (
     ("bad record 0 1", (GATE_0, 1), (RECORD_0, 1), (193, 1), (716, 1)), ("bad chain", (CHAIN_0, 1), (CHAIN_1, 1)))
 
 
+READS = {"not formatted": 1, "bad geometry": 1, "bad version": 3, "bad piece 0": 4, "bad piece 1": 5, "bad piece 2": 6, "bad chain": 8,
+         "bad record 0 0": 9, "bad record 0 1": 10}  # of the device, each of another part, up to the one that is bad
+PIECES = 4 * 8 * (1 + 8)  # of an image of the greatest device
+
+
 class Damage(Case):
     def refuses(self, name, file, data, text):
         """Checks that `serve` refuses a device of these bytes, and leaves them."""
@@ -80,6 +85,28 @@ class Files(Case):
         self.ends("serve on a longer file", file.serve(MADE), 0, REPLIES, b"")
         with self.subTest("leaves what is behind"):
             self.assertEqual(bytes_of(file.path)[8840:], b"more" * 1000)
+
+
+class Calls(Case):
+    def makes(self, name, words, reads, changes=None):
+        """Checks how many reads of the device, and how many writes and syncs, if that is given, a run of these words makes."""
+        with self.subTest(name):
+            _, (calls, changing, *_) = self.between("stop.c").counts(self.at("counts"), words)
+            self.assertEqual((calls - changing, changing), (reads, changing if changes is None else changes))
+
+    def test_refusals(self):
+        """What is refused was read up to its first fault, and `serve` has made two syncs: the file's, and the opening's first."""
+        file = File(self.folder)
+        for text, *changes in DAMAGED:
+            put_bytes(file.path, with_bytes(file.formatted, *changes))
+            for command, syncs in (("show", 0), ("serve", 2)):
+                self.makes(f"{command} where {changes} are set: {READS[text]} reads and {syncs} syncs", [command, file.path], READS[text], syncs)
+
+    def test_each_part_is_read_once(self):
+        """The header, the root byte, an image's head and its pieces, the chain byte and the commit bytes."""
+        run(["format", self.at("great"), *options_of(GREATEST)])
+        for command in ("show", "serve"):
+            self.makes(f"{command} reads each part of the greatest device once", [command, self.at("great")], 5 + PIECES)
 
 
 class DeviceFaults(Case):
