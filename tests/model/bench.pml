@@ -496,13 +496,6 @@ spin:
 #endif
 sleep:
     /* sleep */
-#ifdef BUG_SWAP
-    if
-    :: atomic { !O_EQ(me) -> O_FORGET(me); goto loop }
-    :: O_EQ(me)
-    fi;
-    atomic { SLEEPERS++ };
-#else
 #ifdef BUG_NOCOMPARE
     if
     :: atomic { !O_EQ(me) -> O_FORGET(me); goto loop }
@@ -512,13 +505,10 @@ sleep:
     atomic { st[me] = PARKED; goto parked };
 #else
     atomic { SLEEPERS++ };                                                                              /* worker_16 */
-#ifndef BUG_NOLOOK
     if                                                                                                  /* worker_17 */
     :: atomic { !O_EQ(me) -> goto countout }
     :: O_EQ(me)
     fi;
-#endif
-#endif
 #endif
     if                                                                                                  /* worker_18 */
     :: atomic { O_LOWEQ(me) -> st[me] = PARKED; goto parked }
