@@ -15,3 +15,4 @@ mod slot;
 
 pub use core_calls::Core;
 pub use granted::Granted;
+pub use histories::{ArriveRefusal, CoreFault, Outcome, PointRefusal, Step};
