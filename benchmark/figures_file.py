@@ -7,8 +7,7 @@ from statistics import median
 PATH = pathlib.Path(__file__).resolve().with_name("figures.json")
 
 GEOMETRIES = ("default", "greatest")
-WORKERS = (1, 2, 4)
-OF_WAFFD = tuple(f"waffd {workers}" for workers in WORKERS)
+OF_WAFFD = tuple(f"waffd {workers}" for workers in (1, 2, 4))
 ORDINARY = ("batch", "stripe", "twice")
 SLOTS = {"write": (1, 16, 64, 256), "read": (1, 16, 64, 256, 1024), "mixed": (16, 64)}
 SERVED = [(mix, slots) for mix, all_slots in SLOTS.items() for slots in all_slots]
@@ -38,7 +37,6 @@ def wanted():
         yield from (served(geometry, *of, output) for output, rows in (("file", SERVED), ("pipe", PIPED)) for of in rows)
     yield "every default"
     yield from (f"plain {mix}" for mix in PLAIN)
-    yield from (f"bench {workers}" for workers in WORKERS)
 
 
 def programs_of(row):
@@ -46,7 +44,7 @@ def programs_of(row):
     if row.endswith(" pipe"):
         return "waffd 2", "batch", "twice"
     return {"disk": ("disk",), "opening": (*OF_WAFFD, "floor"), "serve": (*ORDINARY, *OF_WAFFD),
-            "every": tuple(f"every {every}" for every in EVERY), "plain": ("serial", "waffd"), "bench": ("mutex", "waffd")}[row.split()[0]]
+            "every": tuple(f"every {every}" for every in EVERY), "plain": ("serial", "waffd")}[row.split()[0]]
 
 
 class Figures:

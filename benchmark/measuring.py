@@ -138,20 +138,13 @@ class Measuring(Programs):
             finally:
                 child.kill()
 
-    def alone(self, commands, number):
-        """Microseconds of a line or a round trip of programs that have no device."""
-        def run(program):
-            counts = self.counted(commands[program])
-            return {"us": counts["wall"] / number, "cpu us": counts["cpu"] / number}
-
-        return run
-
     def of_plain(self, mix):
         self.write_input([self.build("lines.rs", "plain_lines"), mix, str(self.lines * MORE_READS)])
-        return self.alone({"serial": [self.build("serial.rs", "serial")], "waffd": [PROGRAM, "plain"]}, self.count_lines("input"))
+        commands, lines = {"serial": [self.build("serial.rs", "serial")], "waffd": [PROGRAM, "plain"]}, self.count_lines("input")
 
-    def of_bench(self, workers):
-        self.write_input(["true"])
-        trips = self.lines * 3
-        return self.alone({program: [path, workers, str(trips)] for program, path in (
-            ("mutex", self.build("handoff/plain.rs", "mutex")), ("waffd", self.build_handoff()))}, trips)
+        def run(program):
+            """Microseconds of a line."""
+            counts = self.counted(commands[program])
+            return {"us": counts["wall"] / lines, "cpu us": counts["cpu"] / lines}
+
+        return run

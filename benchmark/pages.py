@@ -5,7 +5,7 @@ import textwrap
 from datetime import date
 from statistics import median
 
-from figures_file import EVERY, GEOMETRIES, MORE_READS, OF_WAFFD, ORDINARY, PATH, PIPED, PLAIN, SERVED, WORKERS, Figures, Missing, served
+from figures_file import EVERY, GEOMETRIES, MORE_READS, OF_WAFFD, ORDINARY, PATH, PIPED, PLAIN, SERVED, Figures, Missing, served
 from targets import targets
 from programs import TOP
 
@@ -77,9 +77,6 @@ def of_table(figures):
 
 def of_others(figures):
     """What the table doesn't show."""
-    def with_ratio(row, what, one, other):
-        return f"{number(figures.median(row, 'waffd', what))} ({figures.ratio(row, one, other, what):.2f})"
-
     openings = [f"opening {geometry}" for geometry in GEOMETRIES]
     floors = listed([number(figures.ratio(row, MAIN, "floor", "ms")) for row in openings])
     sizes = [figures.median(served(geometry, "write", 64), MAIN, "bytes") for geometry in GEOMETRIES]
@@ -88,8 +85,8 @@ def of_others(figures):
              for geometry in GEOMETRIES]
     rates, records, firsts = (listed([number(figures.median("every default", f"every {n}", what)) for n in EVERY])
                               for what in ("lines/s", "records", "ms"))
-    lines = [f"{mix} " + with_ratio(f"plain {mix}", "cpu us", "serial", "waffd") for mix in PLAIN]
-    trips = [with_ratio(f"bench {n}", "us", "waffd", "mutex") for n in WORKERS]
+    lines = [f"{mix} {number(figures.median(f'plain {mix}', 'waffd', 'cpu us'))} "
+             f"({figures.ratio(f'plain {mix}', 'serial', 'waffd', 'cpu us'):.2f})" for mix in PLAIN]
     yield f"- Checkpoints write {parts} bytes a change, with 64 slots; the log takes {LOGGED}."
     yield f"- Peak of memory: {listed(peaks)} MB."
     yield (f"- First reply: after {listed([number(figures.median(row, MAIN, 'ms')) for row in openings])} ms, {floors} times the floor of an "
@@ -98,7 +95,6 @@ def of_others(figures):
            f"{firsts} ms to the next first reply.")
     yield ("- `plain`, processor time a line in microseconds (its speed in multiples of `benchmark/serial.rs`, on the mixes of "
            f"`benchmark/lines.rs`): {listed(lines)}.")
-    yield f"- A job's round trip through the bench with {listed(WORKERS)} workers, microseconds (times that of a mutex): {listed(trips)}."
 
 
 def of_missed(figures):

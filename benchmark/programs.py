@@ -66,14 +66,6 @@ class Programs:
             done([*compiler, "-o", self.at(name), os.path.join(HERE, source)], env={**os.environ, **env})
         return self.at(name)
 
-    def build_handoff(self):
-        """The program of round trips through the bench, which `rt` proves and builds."""
-        folder = os.path.join(TOP, "crates", "handoff")
-        if not os.path.exists(self.at("handoff")):
-            done(["rt", "run", "--", "1", "1"], cwd=folder)
-            shutil.copy(os.path.join(folder, "out", "handoff"), self.at("handoff"))
-        return self.at("handoff")
-
     def write_input(self, words):
         """The lines that a program prints become the next runs' input; their outputs have to be the same."""
         with open(self.stream("input"), "wb") as file:

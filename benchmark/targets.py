@@ -1,5 +1,5 @@
 """The targets: what is wanted of the figures."""
-from figures_file import GEOMETRIES, OF_WAFFD, PLAIN, SERVED, WORKERS, served
+from figures_file import GEOMETRIES, OF_WAFFD, PLAIN, SERVED, served
 
 # Syncs for 1,000 writes, by slots.
 SYNCS = {"default": {1: 2015, 16: 600, 64: 450, 256: 450}, "greatest": {16: 300, 64: 130, 256: 130}}
@@ -56,6 +56,3 @@ def targets(figures):
     for mix in PLAIN:
         ratio = figures.ratio(f"plain {mix}", "serial", "waffd", "cpu us")
         yield f"`plain` against `serial.rs`, {mix}", "≥", PARTS[mix], [(ratio, "")]
-    for what, how in (("us", BY["lines/s"]), ("cpu us", BY["cpu us"])):
-        yield f"round trip of the bench against a mutex's, {how}", "≤", 1, [
-            (figures.ratio(f"bench {workers}", "waffd", "mutex", what), workers_of(f"waffd {workers}")) for workers in WORKERS]

@@ -1,7 +1,0 @@
--- From place to place the seat stays at its bench, and each job that is lent has the geometry.
-use Rattle.std.proofs.Common.{◌≡◌}
-use Rattle.handoff.specs.Lent.{AreOfGeometry}
-use Rattle.handoff.proofs.trips.round.Given as goal
-
-abbrev pub invariant-loop-k : goal.invariant-loop-k
-invariant-loop-k l = (l.dispatch_seat.bench ≡ l.initial.dispatch_seat.bench) × AreOfGeometry l.g l.dispatch_seat.lent

@@ -1,2 +1,0 @@
--- Definitions of what a dispatcher has lent.
-pub mod Lent
