@@ -1,5 +1,6 @@
 -- ---- for the crates above: lemmas on a geometry's numbers, on related paths, on the place of a
--- message, and on affinities as intervals of numbers
+-- message, on affinities as intervals of numbers, and on the elements of a list
+pub mod Elements
 pub mod Numbers
 pub mod Paths
 pub mod Placed

@@ -35,10 +35,12 @@ same_ranges _ = λ r. absurd r
 geometry_of-same : (n m : List ℕ) → n ≡ m → (r : AreInRange n) (s : AreInRange m) → geometry_of n r ≡ geometry_of m s
 geometry_of-same n m e r = subst (λ (m : List ℕ). (s : AreInRange m) → geometry_of n r ≡ geometry_of m s) e (λ s. ap (geometry_of n) (same_ranges n r s))
 
+pub are_in_range : (g : Geometry) → AreInRange (numbers_of g)
+are_in_range g = (g.aggregates_range, g.volumes_range, g.stripes_range, g.width_range, g.files_range, g.blocks_range, g.quota_range, g.half_range)
+
 pub geometry_same : (g h : Geometry) → numbers_of g ≡ numbers_of h → g ≡ h
-geometry_same g h e = geometry_of-same (numbers_of g) (numbers_of h) e
-    (g.aggregates_range, g.volumes_range, g.stripes_range, g.width_range, g.files_range, g.blocks_range, g.quota_range, g.half_range)
-    (h.aggregates_range, h.volumes_range, h.stripes_range, h.width_range, h.files_range, h.blocks_range, h.quota_range, h.half_range)
+unfolding are_in_range
+geometry_same g h e = geometry_of-same (numbers_of g) (numbers_of h) e (are_in_range g) (are_in_range h)
 
 -- a small server for worked examples: one volume of two files of four blocks, in two stripes that hold two blocks each
 abbrev pub small : Geometry

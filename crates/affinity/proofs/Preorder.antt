@@ -58,14 +58,14 @@ among_volumes g a v w p q h k =
     children (2 + a * aggregate_size g) v w (preorder_number g (a ∷ w ∷ q)) (fits_in_volume g a v p h) fits.low (omega arith) same
 
 -- the numbers of a path's aggregate and volume are below their limits
-volume_there : (g : Geometry) (a v : ℕ) (p : Path) → IsPath g (a ∷ v ∷ p) → (a < g.aggregates) × (v < g.volumes)
+pub volume_there : (g : Geometry) (a v : ℕ) (p : Path) → IsPath g (a ∷ v ∷ p) → (a < g.aggregates) × (v < g.volumes)
 volume_there g a v (zero ∷ s ∷ []) h = (h.0, h.1)
 volume_there g a v (zero ∷ s ∷ x ∷ p) h = absurd h
 volume_there g a v (suc zero ∷ x ∷ p) h = absurd h
 volume_there g a v (suc (suc n) ∷ p) h = absurd h
 volume_there g a v _ h = h
 
-aggregate_there : (g : Geometry) (a : ℕ) (p : Path) → IsPath g (a ∷ p) → a < g.aggregates
+pub aggregate_there : (g : Geometry) (a : ℕ) (p : Path) → IsPath g (a ∷ p) → a < g.aggregates
 aggregate_there g a [] h = h
 aggregate_there g a (v ∷ p) h = (volume_there g a v p h).0
 

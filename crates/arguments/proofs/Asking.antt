@@ -7,7 +7,7 @@ use Rattle.affinity.specs.Limits.{AreInRange}
 use Rattle.clap.specs.Words.{IsAmong, Kinds, Row, Text, kind_of}
 use Rattle.clap.specs.declared.error.Error.{Error}
 use Rattle.clap.specs.declared.error.kind.ErrorKind.{ErrorKind}
-use Rattle.arguments.proofs.Options.{in_range}
+use Rattle.affinity.proofs.Numbers.{are_in_range}
 use Rattle.arguments.specs.Arguments.{Asks, AreRefused, IsNamed, IsReason, findings, is_mistake}
 use Rattle.arguments.specs.declared.parsing.Request.{Request}
 use Rattle.arguments.specs.declared.parsing.Request.TheVariants.{Help, Plain, Format, Show, Serve}
@@ -23,8 +23,8 @@ mistake_among (x ∷ xs) k all among = elim among [
 ]
 
 pub ask_for_nothing : (words : List Text) (request : Request) → Asks words request → AreRefused words → ⊥
-ask_for_nothing words (Plain g) asks (inr out_of_range) = out_of_range.3 (subst AreInRange asks.2 (in_range g))
-ask_for_nothing words (Format path g) asks (inr out_of_range) = out_of_range.3 (subst AreInRange asks.3 (in_range g))
+ask_for_nothing words (Plain g) asks (inr out_of_range) = out_of_range.3 (subst AreInRange asks.2 (are_in_range g))
+ask_for_nothing words (Format path g) asks (inr out_of_range) = out_of_range.3 (subst AreInRange asks.3 (are_in_range g))
 ask_for_nothing words (Show path) asks (inr out_of_range) = out_of_range.1 asks.1
 ask_for_nothing words (Serve path s) asks (inr out_of_range) = out_of_range.2 asks.1
 ask_for_nothing words (Help text) asks (inl wrong) =

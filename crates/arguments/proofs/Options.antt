@@ -7,9 +7,6 @@ use Rattle.std.specs.List.{list_all}
 use Rattle.std.specs.Str.Parse.{AllDigits, ParsesUnsigned, digits_value, without_leading_plus}
 use Rattle.std.proofs.lemmas.Bool.{and_parts, not-true}
 use Rattle.std.proofs.lemmas.List.Sums.{fold_more}
-use Rattle.affinity.specs.declared.geometry.Geometry.{Geometry}
-use Rattle.affinity.specs.Geometry.{numbers_of}
-use Rattle.affinity.specs.Limits.{AreInRange}
 use Rattle.clap.specs.Words.{App, Text, new_app, with_rule, with_subcommand}
 use Rattle.clap.specs.Matches.{ReadsOne}
 use Rattle.arguments.specs.Arguments.{device_rule, number_of, rule_within}
@@ -75,11 +72,6 @@ no_number_read E text e h = go (is_number (without_leading_plus text)) refl
         let outer = and_parts _ _ t in
         let inner = and_parts _ _ outer.0 in
         absurd (h ((ltb-true _ _ inner.0, digits_from (without_leading_plus text) inner.1), ltb-true _ _ outer.1))
-
--- ---- the numbers of a geometry
-
-pub in_range : (g : Geometry) → AreInRange (numbers_of g)
-in_range g = (g.aggregates_range, g.volumes_range, g.stripes_range, g.width_range, g.files_range, g.blocks_range, g.quota_range, g.half_range)
 
 -- what a typed getter gives for the text of an option, or for none
 pub got_number : (E : Type 0) (gives : List ℕ → Result ℕ E → Type 0) → ((t : List ℕ) (x : Result ℕ E) → gives t x → ParsesUnsigned 16 10 t x)

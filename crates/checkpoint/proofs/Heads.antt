@@ -6,7 +6,6 @@ use Rattle.std.proofs.lemmas.Grind.{same_number_lists}
 use Rattle.std.proofs.lemmas.List.{get_or-take, take-take, take_all}
 use Rattle.affinity.specs.declared.geometry.Geometry.{Geometry}
 use Rattle.affinity.specs.Geometry.{numbers_of}
-use Rattle.affinity.specs.Limits.{AreInRange}
 use Rattle.byteorder.specs.Endian.{IsRead, little_bytes, little_number}
 use Rattle.checkpoint.specs.Header.{header_of, magic}
 use Rattle.image.specs.Image.{has_head, image_head, is_version, version_in}
@@ -34,9 +33,6 @@ numbers_there g header numbers is size read =
     by g numbers there (suc (suc (suc (suc (suc (suc zero)))))) small few = there 6 few ∙ two_bytes g.quota [] (omega (arith, g.quota_range))
     by g numbers there (suc (suc (suc (suc (suc (suc (suc zero))))))) small few = there 7 few ∙ two_bytes g.half [] (omega (arith, g.half_range))
     by g numbers there (suc (suc (suc (suc (suc (suc (suc (suc k)))))))) small few = absurd (omega (arith, small))
-
-pub are_in_range : (g : Geometry) → AreInRange (numbers_of g)
-are_in_range g = (g.aggregates_range, g.volumes_range, g.stripes_range, g.width_range, g.files_range, g.blocks_range, g.quota_range, g.half_range)
 
 -- geometries with the same numbers have the same header
 pub same_header : (g h : Geometry) → numbers_of g ≡ numbers_of h → header_of g ≡ header_of h

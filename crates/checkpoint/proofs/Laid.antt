@@ -21,6 +21,7 @@ use Rattle.oplog.specs.Recovery.{named_area, in_force, is_laid_out, run, recover
 use Rattle.oplog.proofs.Slices.{slice_slice}
 use Rattle.meaning.specs.State.{State, empty}
 use Rattle.meaning.proofs.Kept.{empty_is_state}
+use Rattle.oplog.proofs.Gates.{open_none}
 
 -- What an empty device needs besides its first byte, the format byte.
 pub record IsAllButFormatByte (g : Geometry) (c : List ℕ) : Type 0 where
@@ -54,10 +55,6 @@ zeros_there c at n i k has few =
     ∙ take-replicate k (n - i) 0 (omega (arith, few))
 
 -- ---- an empty device
-
-open_none : (n : ℕ) → count_open (replicate n 0) ≡ 0
-open_none zero = refl
-open_none (suc n) = refl
 
 pub image_some : (g : Geometry) → 64 ≤ image_size g
 unfolding image_size

@@ -7,7 +7,7 @@ use Rattle.checkpoint.specs.declared.fault.OpenFault.TheVariants as opening
 use Rattle.affinity.specs.declared.geometry.Geometry.{Geometry}
 use Rattle.affinity.specs.Geometry.{numbers_of}
 use Rattle.affinity.specs.Limits.{AreInRange}
-use Rattle.affinity.proofs.Numbers.{geometry_same}
+use Rattle.affinity.proofs.Numbers.{geometry_same, are_in_range}
 use Rattle.clap.specs.Words.{IsAmong, Text, kind_of}
 use Rattle.meaning.specs.Output.{WritesOutput, IsBeginning}
 use Rattle.meaning.specs.State.{empty}
@@ -20,7 +20,6 @@ use Rattle.commands.specs.Calls.{Ends, Exits, ExitsHelp, ExitsRefused, status_at
 use Rattle.commands.specs.Services.{AsksServe, within_limits}
 use Rattle.commands.specs.Faults.{status_of}
 use Rattle.arguments.proofs.Asking.{no_mistake, two_names}
-use Rattle.arguments.proofs.Options.{in_range}
 use Rattle.arguments.specs.Arguments.{Asks, AsksFormat, AsksOutOfRange, RunsNoCommand, AsksPlain, AsksShow, IsReason, command_of, findings, numbers_at}
 use Rattle.commands.specs.declared.faults.Fault.{Fault}
 use Rattle.commands.specs.declared.faults.Fault.TheVariants.{Write, OutOfMemory, Format as ByFormat, Open as ByOpen}
@@ -68,7 +67,7 @@ exits_for_memory arguments refusal.GeometryOutOfRange none reason fits h = absur
 exits_for_memory arguments (refusal.Words error) none reason fits h = absurd (no_mistake arguments error none reason)
 
 pub numbers_fit : (g : Geometry) (arguments : List Text) → numbers_of g ≡ numbers_at (command_of arguments) → AsksOutOfRange arguments → ⊥
-numbers_fit g arguments are wrong = wrong.3 (subst AreInRange are (in_range g))
+numbers_fit g arguments are wrong = wrong.3 (subst AreInRange are (are_in_range g))
 
 -- ---- what the arguments ask for is done
 

@@ -2,6 +2,7 @@
 use Rattle.std.proofs.Common.{◌≡◌, ℕ, zero, suc, ◌+◌, ◌*◌, ◌-◌, ◌≤◌, Bool, true, false, ◌&&◌, List, [], ◌++◌, replicate, Option, None, refl, sym, ◌∙◌, ap, arith}
 use Rattle.std.specs.Prelude.{◌==◌, if◌then◌else◌}
 use Rattle.std.proofs.lemmas.Bool.{eqb-true, and_right}
+use Rattle.std.proofs.Math.Bool.{and-true}
 use Rattle.affinity.specs.Geometry.{stripe_of}
 use Rattle.affinity.specs.declared.geometry.Geometry.{Geometry}
 use Rattle.device_map.specs.Layout.{entry_size}
@@ -21,10 +22,6 @@ pub no_entry_of_none : (p : Bool) (f b : ℕ) → entry_if p f b None ≡ []
 no_entry_of_none true f b = refl
 no_entry_of_none false f b = refl
 
-and_true : (p : Bool) → (p && true) ≡ p
-and_true true = refl
-and_true false = refl
-
 -- the entries of a stripe, by what there is of each block that lies in it
 pub entries_same : (g : Geometry) (x y : State) (a v s : ℕ) → ((f b : ℕ) → stripe_of g f b ≡ s → entry_if (x.files (a, v, f)) f b (x.blocks (a, v, f, b))
     ≡ entry_if (y.files (a, v, f)) f b (y.blocks (a, v, f, b)))
@@ -33,8 +30,8 @@ entries_same g x y a v s same = λ i. joined_below g.files (λ f. joined_below g
   where
     each : (f b : ℕ) (t : Bool) → (stripe_of g f b == s) ≡ t → entry_if (x.files (a, v, f) && t) f b (x.blocks (a, v, f, b)) ≡ entry_if (y.files (a, v, f) && t) f b (y.blocks (a, v, f, b))
     each f b true on =
-        ap (λ (t : Bool). entry_if t f b (x.blocks (a, v, f, b))) (and_true (x.files (a, v, f))) ∙ same f b (eqb-true (stripe_of g f b) s on)
-        ∙ sym (ap (λ (t : Bool). entry_if t f b (y.blocks (a, v, f, b))) (and_true (y.files (a, v, f))))
+        ap (λ (t : Bool). entry_if t f b (x.blocks (a, v, f, b))) (and-true (x.files (a, v, f))) ∙ same f b (eqb-true (stripe_of g f b) s on)
+        ∙ sym (ap (λ (t : Bool). entry_if t f b (y.blocks (a, v, f, b))) (and-true (y.files (a, v, f))))
     each f b false off = no_entry_if (x.files (a, v, f)) f b (x.blocks (a, v, f, b)) ∙ sym (no_entry_if (y.files (a, v, f)) f b (y.blocks (a, v, f, b)))
 
 -- ---- what pieces decode to

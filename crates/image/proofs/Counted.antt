@@ -5,6 +5,7 @@ use Rattle.std.specs.List.{AllByRecursion}
 use Rattle.std.proofs.lemmas.Bool.{cases_lt, cases_eq, ne_eqb, eqb-true, and_parts, and_right}
 use Rattle.affinity.specs.Geometry.{stripe_of}
 use Rattle.affinity.specs.declared.geometry.Geometry.{Geometry}
+use Rattle.affinity.proofs.Elements.{all_take, all_drop}
 use Rattle.device_map.specs.Layout.{entry_size}
 use Rattle.language.specs.Messages.{IsBlock}
 use Rattle.language.specs.declared.Block.{Block}
@@ -12,7 +13,6 @@ use Rattle.meaning.specs.State.{sum_below, count_below, one_if}
 use Rattle.meaning.proofs.Sums.{sum_below-le, sum_below-add, sum_pick}
 use Rattle.stripe.specs.Entries.{entry_in, entries_in}
 use Rattle.stripe.specs.Stripe.{BlockEntry, content_at}
-use Rattle.image.proofs.Measures.{all-take, all-drop}
 
 -- ---- what bytes decode to are blocks, and not too many
 
@@ -24,10 +24,10 @@ entries_are_blocks (suc n) bytes long small =
       | true ↦ (
         (
           omega (arith, long, length-drop 8 (take entry_size bytes), length-take entry_size bytes),
-          all-drop (λ b. b < 256) 8 (take entry_size bytes)
-              (all-take (λ b. b < 256) entry_size bytes small),
+          all_drop (λ b. b < 256) 8 (take entry_size bytes)
+              (all_take (λ b. b < 256) entry_size bytes small),
         ),
-        entries_are_blocks n (drop entry_size bytes) (omega (arith, long, length-drop entry_size bytes)) (all-drop (λ b. b < 256) entry_size bytes small),
+        entries_are_blocks n (drop entry_size bytes) (omega (arith, long, length-drop entry_size bytes)) (all_drop (λ b. b < 256) entry_size bytes small),
       )
       | false ↦ tt
     ]

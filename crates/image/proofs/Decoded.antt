@@ -10,6 +10,7 @@ use Rattle.affinity.specs.Geometry.{stripe_of}
 use Rattle.affinity.specs.declared.geometry.Geometry.{Geometry}
 use Rattle.affinity.proofs.Placed.{group_below}
 use Rattle.byteorder.specs.Endian.{little_bytes, little_number}
+use Rattle.affinity.proofs.Elements.{all_take, all_drop}
 use Rattle.device_map.specs.Layout.{slice, entry_size}
 use Rattle.language.specs.declared.TheConstants.{LABEL_SIZE}
 use Rattle.language.specs.Messages.{IsBlock, AreSizedBytes}
@@ -25,7 +26,7 @@ use Rattle.image.proofs.Counted.{entries_are_blocks, entries_few, content_is, co
 use Rattle.image.proofs.Cuts.{is_piece, piece_there}
 use Rattle.image.proofs.Numbers.{size_there}
 use Rattle.meaning.proofs.FileNumber.{number_of, number_small}
-use Rattle.image.proofs.Measures.{IsMeasured, all-take, all-drop, all_joined, entries_good, entries_most}
+use Rattle.image.proofs.Measures.{IsMeasured, all_joined, entries_good, entries_most}
 use Rattle.image.proofs.Order.{one_of}
 use Rattle.image.proofs.Reading.{sealed_decoded, number_decoded, eight_bytes}
 
@@ -44,7 +45,7 @@ label_is version bytes are = by (is_made_in bytes) (version == 2)
     by : (made told : Bool) → IfSome (if made then Some (if told then slice bytes 16 LABEL_SIZE else no_label) else None) (AreSizedBytes LABEL_SIZE)
     by true true = (
       omega (arith, are.0, length-drop 16 bytes, length-take LABEL_SIZE (drop 16 bytes)),
-      all-take (λ b. b < 256) LABEL_SIZE (drop 16 bytes) (all-drop (λ b. b < 256) 16 bytes are.1),
+      all_take (λ b. b < 256) LABEL_SIZE (drop 16 bytes) (all_drop (λ b. b < 256) 16 bytes are.1),
     )
     by true false = (refl, zeros_are_bytes LABEL_SIZE)
     by false told = tt

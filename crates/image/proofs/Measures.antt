@@ -1,5 +1,5 @@
 -- How long the pieces of a state are, where what it has is of the right size.
-use Rattle.std.proofs.Common.{◌≡◌, ℕ, zero, suc, ◌*◌, ◌-◌, ◌<◌, ◌≤◌, Bool, true, false, ◌&&◌, List, [], ◌∷◌, ◌++◌, length, take, drop, replicate, IfSome, is_some, Option, Some, None, unwrap_or, refl, arith, length-append}
+use Rattle.std.proofs.Common.{◌≡◌, ℕ, zero, suc, ◌*◌, ◌-◌, ◌<◌, ◌≤◌, Bool, true, false, ◌&&◌, List, [], ◌∷◌, ◌++◌, length, replicate, IfSome, is_some, Option, Some, None, unwrap_or, refl, arith, length-append}
 use Rattle.std.specs.Prelude.{◌==◌, if◌then◌else◌}
 use Rattle.std.specs.List.{AllByRecursion, flat_map}
 use Rattle.std.proofs.lemmas.List.{length-replicate}
@@ -11,6 +11,7 @@ use Rattle.language.specs.Messages.{IsBlock, AreSizedBytes}
 use Rattle.language.specs.declared.Block.{Block}
 use Rattle.stripe.specs.Stripe.{BlockEntry}
 use Rattle.byteorder.specs.Endian.{little_bytes}
+use Rattle.affinity.proofs.Elements.{all_join}
 use Rattle.meaning.specs.Serial.{no_label, file_bits}
 use Rattle.meaning.specs.State.{State, VolumeKey, BlockKey, IsState, sum_below, one_if, blocks_in_stripe}
 use Rattle.stripe.specs.Entries.{entry_bytes, stripe_bytes}
@@ -25,23 +26,9 @@ pub record IsMeasured (g : Geometry) (x : State) : Type 0 where
 
 -- ---- lists of the numbers below n
 
-pub all-append : {X : Type 0} (P : X → Type 0) (xs ys : List X) → AllByRecursion P xs → AllByRecursion P ys → AllByRecursion P (xs ++ ys)
-all-append P [] ys first second = second
-all-append P (x ∷ xs) ys first second = (first.0, all-append P xs ys first.1 second)
-
-pub all-take : {X : Type 0} (P : X → Type 0) (n : ℕ) (xs : List X) → AllByRecursion P xs → AllByRecursion P (take n xs)
-all-take P zero xs all = tt
-all-take P (suc n) [] all = tt
-all-take P (suc n) (x ∷ xs) all = (all.0, all-take P n xs all.1)
-
-pub all-drop : {X : Type 0} (P : X → Type 0) (n : ℕ) (xs : List X) → AllByRecursion P xs → AllByRecursion P (drop n xs)
-all-drop P zero xs all = all
-all-drop P (suc n) [] all = tt
-all-drop P (suc n) (x ∷ xs) all = all-drop P n xs all.1
-
 pub all_joined : {X : Type 0} (P : X → Type 0) (n : ℕ) (f : ℕ → List X) → ((i : ℕ) → i < n → AllByRecursion P (f i)) → AllByRecursion P (joined_below n f)
 all_joined P zero f each = tt
-all_joined P (suc n) f each = all-append P (joined_below n f) (f n) (all_joined P n f (λ i below. each i (omega (arith, below)))) (each n (omega arith))
+all_joined P (suc n) f each = all_join P (joined_below n f) (f n) (all_joined P n f (λ i below. each i (omega (arith, below)))) (each n (omega arith))
 
 pub length-joined : {X : Type 0} (n : ℕ) (f : ℕ → List X) (size : ℕ → ℕ) → ((i : ℕ) → i < n → length (f i) ≡ size i) → length (joined_below n f) ≡ sum_below n size
 length-joined zero f size each = refl

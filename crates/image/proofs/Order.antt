@@ -1,10 +1,11 @@
 -- The entries of a stripe ascend, so any ascending list that holds the same blocks is the same list.
-use Rattle.std.proofs.Common.{◌≡◌, ◌≢◌, ℕ, zero, suc, ◌<◌, Bool, true, false, ◌&&◌, List, [], ◌∷◌, Option, Some, None, refl, sym, ◌∙◌, ap, arith, inl, inr, ⊎_elim}
+use Rattle.std.proofs.Common.{◌≡◌, ◌≢◌, ℕ, zero, suc, ◌<◌, Bool, true, false, ◌&&◌, List, Option, Some, None, refl, sym, ◌∙◌, ap, arith, inl, inr, ⊎_elim}
 use Rattle.std.specs.Prelude.{◌==◌, if◌then◌else◌}
 use Rattle.std.specs.List.{AllByRecursion}
 use Rattle.std.proofs.lemmas.Bool.{eq-eqb, eqb-true, ne_eqb, cases_eq, and_parts, and_right}
 use Rattle.affinity.specs.Geometry.{stripe_of}
 use Rattle.affinity.specs.declared.geometry.Geometry.{Geometry}
+use Rattle.affinity.proofs.Elements.{all_weaker}
 use Rattle.language.specs.declared.Block.{Block}
 use Rattle.meaning.specs.State.{State, IsState}
 use Rattle.stripe.specs.Stripe.{BlockEntry, content_at, ComesBefore, IsAscending}
@@ -13,20 +14,16 @@ use Rattle.image.specs.Pieces.{stripe_entries, entry_if, joined_below}
 use Rattle.image.proofs.Measures.{all_joined}
 use Rattle.image.proofs.Reading.{entries_hold, none_joined, elsewhere}
 
-all_map : {X : Type 0} (P Q : X → Type 0) → ((x : X) → P x → Q x) → (xs : List X) → AllByRecursion P xs → AllByRecursion Q xs
-all_map P Q weaker [] all = tt
-all_map P Q weaker (x ∷ xs) all = (weaker x all.0, all_map P Q weaker xs all.1)
-
 -- A list of entries for each number: if entries of a smaller number come before those of a larger, the joined lists ascend.
 module _ (Q : BlockEntry → Type 0) (number : BlockEntry → ℕ) (h : ℕ → List BlockEntry) (of : (n : ℕ) → AllByRecursion (λ e. Q e × (number e ≡ n)) (h n)) (ascend : (n : ℕ) → IsAscending (h n))
     (before : (d e : BlockEntry) → Q d → Q e → number d < number e → ComesBefore d e) where
   all_small : (n : ℕ) → AllByRecursion (λ e. Q e × (number e < n)) (joined_below n h)
-  all_small n = all_joined (λ e. Q e × (number e < n)) n h (λ i few. all_map (λ e. Q e × (number e ≡ i)) (λ e. Q e × (number e < n)) (λ e is. (is.0, omega (arith, is.1, few))) (h i) (of i))
+  all_small n = all_joined (λ e. Q e × (number e < n)) n h (λ i few. all_weaker (λ e. Q e × (number e ≡ i)) (λ e. Q e × (number e < n)) (λ e is. (is.0, omega (arith, is.1, few))) (h i) (of i))
 
   all_before : (n : ℕ) (ds : List BlockEntry) → AllByRecursion (λ e. Q e × (number e < n)) ds → AllByRecursion (λ d. AllByRecursion (ComesBefore d) (h n)) ds
   all_before n =
-      all_map (λ e. Q e × (number e < n)) (λ d. AllByRecursion (ComesBefore d) (h n))
-      (λ d less. all_map (λ e. Q e × (number e ≡ n)) (ComesBefore d) (λ e is. before d e less.0 is.0 (omega (arith, less.1, is.1))) (h n) (of n))
+      all_weaker (λ e. Q e × (number e < n)) (λ d. AllByRecursion (ComesBefore d) (h n))
+      (λ d less. all_weaker (λ e. Q e × (number e ≡ n)) (ComesBefore d) (λ e is. before d e less.0 is.0 (omega (arith, less.1, is.1))) (h n) (of n))
 
   pub rows_ascend : (n : ℕ) → IsAscending (joined_below n h)
   rows_ascend zero = tt

@@ -10,6 +10,7 @@ use Rattle.meaning.proofs.SubtreeLaws.{same_and, same_if}
 use Rattle.affinity.specs.Geometry.{stripe_of}
 use Rattle.affinity.specs.declared.geometry.Geometry.{Geometry}
 use Rattle.affinity.proofs.Placed.{group_below}
+use Rattle.affinity.proofs.Elements.{all_take, all_drop}
 use Rattle.device_map.specs.Layout.{slice}
 use Rattle.language.specs.Messages.{AreSizedBytes}
 use Rattle.language.specs.declared.Block.{Block}
@@ -19,7 +20,6 @@ use Rattle.image.specs.Image.{image_head, image_of, image_state, is_image, is_ve
 use Rattle.image.proofs.Agreeing.{piece_same, zero_piece}
 use Rattle.image.proofs.Cuts.{is_piece, piece_again}
 use Rattle.image.proofs.Joining.{by_pieces, sum_grows}
-use Rattle.image.proofs.Measures.{all-take, all-drop}
 use Rattle.image.proofs.Numbers.{number_there}
 use Rattle.image.proofs.Decoded.{is_volume_there, is_measured, is_state}
 use Rattle.image.proofs.Taken.{first_of, first_there, first_behind, no_block_in_zeros, taken}
@@ -32,7 +32,7 @@ module _ (g : Geometry) (bytes : List ℕ) (are : AreSizedBytes (piece_at g (pie
       let most = sum_grows (piece_size g) (suc n) (piece_count g) (omega (arith, below)) in
       let more : piece_at g n + piece_size g n ≤ piece_at g (piece_count g) = omega (arith, most) in (
         omega (arith, are.0, more, length-take (piece_size g n) (drop (piece_at g n) bytes), length-drop (piece_at g n) bytes),
-        all-take (λ b. b < 256) (piece_size g n) (drop (piece_at g n) bytes) (all-drop (λ b. b < 256) (piece_at g n) bytes are.1),
+        all_take (λ b. b < 256) (piece_size g n) (drop (piece_at g n) bytes) (all_drop (λ b. b < 256) (piece_at g n) bytes are.1),
       )
 
   first_bytes : (n i : ℕ) → i < piece_count g → AreSizedBytes (piece_size g i) (first_of g (piece_in g bytes) n i)

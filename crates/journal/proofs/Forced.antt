@@ -5,13 +5,13 @@ use Rattle.affinity.specs.declared.geometry.Geometry.{Geometry}
 use Rattle.checkpoint.specs.Recovery.{decoding}
 use Rattle.disk.specs.Device.{IsSynced, IsCrashImage, Medium}
 use Rattle.disk.proofs.Leaves.{synced_left}
-use Rattle.journal.proofs.Recovering.{open_by, shut_by, shut_force}
+use Rattle.journal.proofs.Recovering.{open_by, shut_force}
 use Rattle.oplog.specs.Changes.{HasAppended, IsReady, IsSameBut}
 use Rattle.oplog.specs.Crash.{RecoversBy}
 use Rattle.oplog.specs.Front.{chain, front, gates, count_open}
 use Rattle.device_map.specs.Layout.{Layout, half_part, layout_of, other, part_bytes, root_part}
 use Rattle.oplog.specs.Recovery.{in_force, named_area, records_in}
-use Rattle.oplog.proofs.AfterCrash.{named_kept}
+use Rattle.oplog.proofs.AfterCrash.{named_kept, no_chain_by}
 use Rattle.oplog.proofs.Kept.{grown_force, named_area-below, same_forced, same_named}
 use Rattle.oplog.proofs.RecordRows.{length-rows}
 use Rattle.meaning.specs.State.{State}
@@ -20,7 +20,7 @@ use Rattle.meaning.specs.State.{State}
 
 pub forced_alone : (g : Geometry) (n : ℕ) (x : Option State) (c : List ℕ) → n < 2 → RecoversBy (decoding g) (layout_of g) n n x c → records_in g c ≡ front (layout_of g) n c
 forced_alone g n x c is_area recovered_before =
-    ap (λ (k : ℕ). in_force (layout_of g) k c) recovered_before.named ∙ shut_force (layout_of g) n c (shut_by n (eqb (chain (layout_of g) n c) 1) is_area recovered_before.current)
+    ap (λ (k : ℕ). in_force (layout_of g) k c) recovered_before.named ∙ shut_force (layout_of g) n c (no_chain_by n (eqb (chain (layout_of g) n c) 1) is_area recovered_before.current)
 
 pub forced_both : (g : Geometry) (n : ℕ) (x : Option State) (c : List ℕ) → n < 2 → RecoversBy (decoding g) (layout_of g) n (other n) x c
     → records_in g c ≡ front (layout_of g) n c ++ front (layout_of g) (other n) c

@@ -54,10 +54,6 @@ pub open_by : (n : ℕ) (t : Bool) → n < 2 → cond t (other n) n ≡ other n 
 open_by n true is_area is = refl
 open_by n false is_area is = absurd (omega (arith, is, is_area))
 
-pub shut_by : (n : ℕ) (t : Bool) → n < 2 → cond t (other n) n ≡ n → t ≡ false
-shut_by n true is_area is = absurd (omega (arith, is, is_area))
-shut_by n false is_area is = refl
-
 not_both : (a b : Bool) → not (a && b) ≡ true → a ≡ true → b ≡ false
 not_both true true none is = absurd (true≢false (sym none))
 not_both true false none is = refl

@@ -5,11 +5,11 @@ use Rattle.std.proofs.lemmas.Bool.{cases_eq, cases_lt, eqb-true, false_from_ne_t
 use Rattle.std.specs.Prelude.{◌==◌}
 use Rattle.image.specs.Touched.{may_change, may_change_part}
 use Rattle.image.proofs.Numbers.{in_parts, number_there}
-use Rattle.image.proofs.Measures.{all-append}
 use Rattle.language.specs.declared.Msg.{Msg}
 use Rattle.std.proofs.lemmas.List.{ext_get_or, get_or-set_other, get_or-set_same, length-set, take_more, append-nil, drop_all, take_all}
 use Rattle.std.proofs.Math.Seq.{take-add}
 use Rattle.affinity.specs.declared.geometry.Geometry.{Geometry}
+use Rattle.affinity.proofs.Elements.{all_join}
 use Rattle.image.specs.Pieces.{aggregate_of, part_of, piece_count, pieces_of_volume, volume_of, volume_piece_number}
 use Rattle.meaning.specs.Serial.{key}
 use Rattle.meaning.specs.State.{one_if}
@@ -189,7 +189,7 @@ module _ (g : Geometry) (old : List Bool) where
             let before = first.0 after.0 in (
               before.0,
               subst (λ (l : List Msg). AllByRecursion (λ m. may_change g m n ≡ false) l) (sym spelled)
-                  (all-append (λ m. may_change g m n ≡ false) (take i ms) (get_or ms i d ∷ []) before.1 after.1),
+                  (all_join (λ m. may_change g m n ≡ false) (take i ms) (get_or ms i d ∷ []) before.1 after.1),
             )),
         (λ both.
             let parts = all-parts (λ m. may_change g m n ≡ false) (take i ms) (get_or ms i d ∷ []) (subst (λ (l : List Msg). AllByRecursion (λ m. may_change g m n ≡ false) l) spelled both.1) in

@@ -6,6 +6,7 @@ use Rattle.std.proofs.lemmas.Bool.{lt-ltb, ltb-true, ltb-false, true≢false, fa
 use Rattle.std.proofs.lemmas.List.Sorted.{IsPermutation-refl, IsPermutation-cons, IsPermutation-middle, IsPermutation-trans}
 use Rattle.affinity.specs.declared.geometry.Geometry.{Geometry}
 use Rattle.affinity.specs.Path.{are_related}
+use Rattle.affinity.proofs.Elements.{all_weaker}
 use Rattle.language.specs.declared.Msg.{Msg}
 use Rattle.language.specs.Messages.{path_of}
 use Rattle.meaning.specs.State.{State}
@@ -29,11 +30,6 @@ AreAscending [] = Unit {0}
 AreAscending (e ∷ es) = AllByRecursion (λ d. e.0 < d.0) es × AreAscending es
 
 -- ---- the order by ticket is an order, of the same elements
-
-module _ {A : Type 0} where
-  all_weaker : (P Q : A → Type 0) → ((e : A) → P e → Q e) → (es : List A) → AllByRecursion P es → AllByRecursion Q es
-  all_weaker P Q weaker [] h = h
-  all_weaker P Q weaker (e ∷ es) h = (weaker e h.0, all_weaker P Q weaker es h.1)
 
 module _ {A : Type 0} where
   in_order-put : (e : ℕ × A) (ds : List (ℕ × A)) → AreInOrder ds → AreInOrder (inserted_by_ticket e ds)

@@ -1,13 +1,16 @@
 -- The files of a volume as the bits of a number: one file more, one less.
-use Rattle.std.proofs.Common.{◌≡◌, ℕ, zero, suc, ◌*◌, ◌%◌, ◌^◌, ◌<◌, ◌≤◌, ap, sym, ◌∙◌, arith, ⊎_elim, bit_and, bit_or, w64}
+use Rattle.std.proofs.Common.{◌≡◌, ℕ, zero, suc, ◌*◌, ◌%◌, ◌^◌, ◌<◌, ◌≤◌, false, ap, sym, ◌∙◌, arith, ⊎_elim, bit_and, bit_or, w64}
 use Rattle.std.specs.Prelude.{◌==◌, ◌&&◌, ◌||◌, not}
 use Rattle.std.specs.Int.{bit_not}
 use Rattle.std.proofs.lemmas.Bool.{eq-eqb, ne_eqb, cases_eq, cases_lt}
 use Rattle.std.proofs.lemmas.Nat.{one_shl, or_lt, and_le_l}
-use Rattle.std.proofs.lemmas.Nat.Bits.{bit_at_above, bit_at_set_same, bit_at_set_other, bit_at_clear_same, bit_at_clear_other}
+use Rattle.std.proofs.lemmas.Nat.Bits.{bit_at_above, bit_at_set_same, bit_at_set_other, bit_at_clear_same, bit_at_clear_other, bit_at-zero}
 use Rattle.std.proofs.Math.Pow.{pow-lt}
 use Rattle.std.proofs.Math.Nat.{pow-le-pow_right}
 use Rattle.language.specs.Replies.{has_file}
+
+pub has_none : (f : ℕ) → has_file 0 f ≡ false
+has_none f = ap (λ n. n == 1) (bit_at-zero f)
 
 -- ---- one file more, one less
 

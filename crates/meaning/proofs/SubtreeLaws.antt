@@ -2,6 +2,7 @@
 use Rattle.std.proofs.Common.{◌≡◌, ℕ, Bool, true, false, ◌∷◌, Option, refl, ap, sym}
 use Rattle.std.specs.Prelude.{◌&&◌, ◌||◌, not, if◌then◌else◌, None}
 use Rattle.std.proofs.lemmas.Bool.{and_from, or_left, true≢false}
+use Rattle.std.proofs.Math.Bool.{or-not_self}
 use Rattle.affinity.specs.declared.geometry.Geometry.{Geometry}
 use Rattle.affinity.specs.Geometry.{stripe_of}
 use Rattle.affinity.specs.Path.{Path, is_prefix, are_related, volume, logical, stripe, label}
@@ -72,10 +73,6 @@ run_from_subtree g x y m s t =
 
 -- ---- a path and what lies outside it
 
-each : (b : Bool) → (b || not b) ≡ true
-each true = refl
-each false = refl
-
 -- two states that agree at a path and below, and outside it, are one
 pub agree_in_and_out : (g : Geometry) (p : Path) (x y : State) → AgreeOn g (is_prefix p) x y → AgreeOn g (outside p) x y → x ≡ y
-agree_in_and_out g p x y h j = agree_everywhere {g = g} {R = λ q. is_prefix p q || outside p q} (λ q. each (is_prefix p q)) (agree_either h j)
+agree_in_and_out g p x y h j = agree_everywhere {g = g} {R = λ q. is_prefix p q || outside p q} (λ q. or-not_self (is_prefix p q)) (agree_either h j)

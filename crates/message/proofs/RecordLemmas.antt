@@ -16,6 +16,7 @@ use Rattle.language.specs.declared.Msg.TheVariants.{Create, Delete, Write, Punch
 use Rattle.language.specs.Messages.{kind, numbers, filled, four_numbers, is_in_range, AreSizedBytes, IsMessage}
 use Rattle.message.specs.Records.{FitsRecord, assembled, data_of, message_in_fields, head_with, record_head, kind_number, kind_numbered, record_of}
 use borrow.Rule.Slice.PartMut.{put_mid, post_of}
+use Rattle.affinity.proofs.Elements.{all_bytes}
 
 -- ---- the numbers of a message in range
 
@@ -129,11 +130,6 @@ put_label out head label room h l =
 
 -- ---- what is decoded is a message
 
--- bytes that are below 256 at each place are so all
-pub bytes_fit : (bytes : List ℕ) → ((i : ℕ) → get_or bytes i 0 < 256) → AllByRecursion (λ b. b < 256) bytes
-bytes_fit [] h = tt
-bytes_fit (b ∷ bytes) h = (h zero, bytes_fit bytes (λ i. h (suc i)))
-
 dropped_fit : (n : ℕ) (bytes : List ℕ) → AllByRecursion (λ b. b < 256) bytes → AllByRecursion (λ b. b < 256) (drop n bytes)
 dropped_fit zero bytes h = h
 dropped_fit (suc n) [] h = tt
@@ -176,7 +172,7 @@ module _ (bytes : List ℕ) (m : Msg) (size : length bytes ≡ RECORD_SIZE) (fit
   pub whole_if_decoded : IsMessage m
   whole_if_decoded =
       let long : length (drop 8 bytes) ≡ BLOCK_SIZE = omega (arith, length-drop 8 bytes) in
-      subst IsMessage (sym its_kind.1) (assembled_whole its_kind.0 _ _ _ _ (drop 8 bytes) (long, dropped_fit 8 bytes (bytes_fit bytes fit)))
+      subst IsMessage (sym its_kind.1) (assembled_whole its_kind.0 _ _ _ _ (drop 8 bytes) (long, dropped_fit 8 bytes (all_bytes bytes fit)))
 
   pub room_if_decoded : FitsRecord m
   room_if_decoded = subst FitsRecord (sym its_kind.1) (assembled_room its_kind.0 _ (drop 8 bytes) (fit 1) (fit 2) (fit 3))

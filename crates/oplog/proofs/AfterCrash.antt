@@ -12,7 +12,7 @@ use Rattle.oplog.specs.Crash.{RecoversBy, CrashRecovers, AppendRecovers, AllReco
 use Rattle.oplog.proofs.Kept.{same_named, same_chain, grown_as, root_kept, half_kept, image_kept, chain_kept}
 
 -- where the named half is the current one, its chain byte isn't 1
-no_chain_by : (n : ℕ) (t : Bool) → n < 2 → cond t (other n) n ≡ n → t ≡ false
+pub no_chain_by : (n : ℕ) (t : Bool) → n < 2 → cond t (other n) n ≡ n → t ≡ false
 no_chain_by n true is_area is = absurd (omega (arith, is, is_area))
 no_chain_by n false is_area is = refl
 

@@ -1,6 +1,6 @@
 -- ---- For the layer above. The laws of AfterCrash and what keeps what a device recovers to (Kept); a half that is ready
 -- ---- (Ready, Batches); parts of a device, written and read (Slices, Reading); records as rows (RecordRows),
--- ---- and which are bad (BadRecords); a call that is known not to have failed (Answered).
+-- ---- and which are bad (BadRecords); gates (Gates); a call that is known not to have failed (Answered).
 pub mod AfterCrash
 pub mod Kept
 pub mod Ready
@@ -11,12 +11,12 @@ pub mod RecordRows
 pub mod BadRecords
 pub mod Answered
 pub mod Beyond
+pub mod Gates
 -- ---- For this crate alone.
 mod Batch
 mod BatchMoments
 mod Costs
 mod Examples
-mod Gates
 mod InHalf
 mod OneStore
 mod Staged

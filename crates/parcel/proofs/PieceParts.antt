@@ -1,7 +1,6 @@
 -- A piece of a volume is read (part 0: its own, part s + 1: that of stripe s), and the piece's volume is found in the tree.
-use Rattle.std.proofs.Common.{◌≡◌, ℕ, zero, suc, ◌*◌, ◌%◌, ◌^◌, ◌<◌, Bool, true, false, List, [], ◌∷◌, get_or, slice_index_or, Option, Some, None, IfSome, is_some, refl, sym, ◌∙◌, ap, subst, ⊎_elim, arith, true≢false, mod-lt}
+use Rattle.std.proofs.Common.{◌≡◌, ℕ, zero, suc, ◌*◌, ◌%◌, ◌^◌, ◌<◌, Bool, true, false, List, [], ◌∷◌, slice_index_or, Option, Some, None, IfSome, is_some, refl, sym, ◌∙◌, ap, subst, ⊎_elim, arith, true≢false, mod-lt}
 use Rattle.std.specs.Prelude.{◌↔◌, ◌==◌, if◌then◌else◌, IsTrue, IsFalse}
-use Rattle.std.specs.List.{AllByRecursion}
 use Rattle.std.specs.Option.{option_and_then}
 use Rattle.std.proofs.lemmas.Nat.{pow_pos}
 use Rattle.affinity.specs.Geometry.{stripe_of}
@@ -65,10 +64,6 @@ volume_is_read {version} {g} {bytes} {good} {old} {new} fits whole is taken kept
     by_whole false off = subst IsWholeVolume (sym (kept off)) whole
 
 -- ---- the piece of a stripe
-
-pub all_bytes : (bytes : List ℕ) → ((i : ℕ) → get_or bytes i 0 < 256) → AllByRecursion (λ b. b < 256) bytes
-all_bytes [] each = tt
-all_bytes (b ∷ bytes) each = (each 0, all_bytes bytes (λ i. each (suc i)))
 
 pub stripe_is_read : {version : ℕ} {g : Geometry} {s : ℕ} {bytes : List ℕ} {good : Bool} {old : Vol} {l k : Logical} → old.logical ≡ Some l
     → IsWholeVolume old → FitsLogical g k → IsWholeLogical k → k.files ≡ l.files

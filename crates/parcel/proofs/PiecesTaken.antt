@@ -14,6 +14,7 @@ use Rattle.meaning.specs.Subtrees.{Fact, OfMade, OfSealed, OfLabel, OfFile, OfBl
 use Rattle.meaning.specs.State.{State, IsState, is_volume}
 use Rattle.meaning.proofs.Agree.{agree-sym, agree-trans}
 use Rattle.meaning.proofs.SubtreeLaws.{agree_in_and_out}
+use Rattle.meaning.proofs.FileBits.{has_none}
 use Rattle.image.specs.Pieces.{part_piece, piece_part_size, with_part, is_made_in, is_sealed_in, has_file_in, label_in as decoded_label_in, block_in}
 use Rattle.parcel.specs.Fits.{FitsRoot}
 use Rattle.parcel.specs.Lends.{volume_of_tree, with_volume}
@@ -29,7 +30,6 @@ use Rattle.parcel.specs.declared.parts.Parcels.TheVariants as parcels
 use Rattle.parcel.proofs.Leaving.{put_leaves, put_outside}
 use Rattle.parcel.proofs.Lending.{begins_split, put_there, restored_is_in}
 use Rattle.parcel.proofs.PieceParts.{has_volume, state_there}
-use Rattle.parcel.proofs.Shows.{has_none}
 use Rattle.parcel.proofs.StripePieces.{stripe_is_piece, stripe_state}
 use Rattle.parcel.proofs.Slots.{volume_slot}
 use Rattle.parcel.proofs.VolumePieces.{volume_decoded, volume_state}

@@ -1,8 +1,7 @@
 -- Parcels show what the nodes at their path and below it hold, and the standing what the nodes above hold.
-use Rattle.std.proofs.Common.{◌≡◌, ℕ, zero, suc, Bool, true, false, [], ◌∷◌, ◌++◌, Option, refl, sym, ap, ◌∙◌}
+use Rattle.std.proofs.Common.{◌≡◌, ℕ, zero, suc, Bool, true, [], ◌∷◌, ◌++◌, Option, refl, sym, ap, ◌∙◌}
 use Rattle.std.specs.Prelude.{◌&&◌, ◌==◌, None, Some, slice_index_or}
 use Rattle.std.proofs.lemmas.Bool.{and_parts, and_from, eqb-true, eq-eqb, true≢false}
-use Rattle.std.proofs.lemmas.Nat.Bits.{bit_at-zero}
 use Rattle.affinity.specs.declared.geometry.Geometry.{Geometry}
 use Rattle.affinity.specs.Geometry.{stripe_of}
 use Rattle.affinity.specs.Path.{Path, is_prefix, are_related}
@@ -24,6 +23,7 @@ use Rattle.parcel.specs.declared.parts.Parcels.TheVariants as parcels
 use Rattle.parcel.specs.declared.parts.Standing.{Standing}
 use Rattle.parcel.proofs.Leaving.{node_value, tree_value}
 use Rattle.affinity.proofs.Paths.{related_first, related_rest}
+use Rattle.meaning.proofs.FileBits.{has_none}
 
 -- The facts of a volume are what its nodes hold, at the paths (from the volume on) that the test R picks.
 pub record HoldsAt (g : Geometry) (R : Path → Bool) (h : VolumeFacts) (n : Nodes) : Type 0 where
@@ -135,9 +135,6 @@ module _ (g : Geometry) (R : Path → Bool) (t : Standing) (n : Nodes) (stands :
       by OfLabel r = ap node_label (sym at)
       by (OfFile f) r = absurd (other [] r)
       by (OfBlock f b) r = absurd (other (stripe_of g f b ∷ []) r)
-
-pub has_none : (f : ℕ) → has_file 0 f ≡ false
-has_none f = ap (λ n. n == 1) (bit_at-zero f)
 
 bits_have : (o : Option Node) (f : ℕ) → has_file (node_files o) f ≡ node_has_file o f
 bits_have None f = has_none f

@@ -7,6 +7,7 @@ use Rattle.std.proofs.lemmas.Nat.{pow_pos}
 use Rattle.affinity.specs.declared.geometry.Geometry.{Geometry}
 use Rattle.affinity.specs.Geometry.{stripe_of}
 use Rattle.meaning.specs.State.{empty}
+use Rattle.meaning.proofs.FileBits.{has_none}
 use Rattle.stripe.specs.Stripe.{StripePart, content_at}
 use Rattle.parcel.specs.Shown.{has_file}
 use Rattle.parcel.specs.Fits.{EachFits, FitsStripe, FitsLogical, FitsVolume, FitsAggregate, FitsRoot, IsWholeChild, IsWholeLogical, IsWholeVolume, IsWholeAggregate, IsWholeRoot}
@@ -19,7 +20,6 @@ use Rattle.parcel.specs.declared.parts.Vol.{Vol}
 use Rattle.parcel.specs.declared.parts.Aggr.{Aggr}
 use Rattle.parcel.specs.declared.parts.Root.{Root}
 use Rattle.parcel.specs.declared.parts.Parcels.TheVariants as parcels
-use Rattle.parcel.proofs.Shows.{has_none}
 use Rattle.parcel.proofs.Whole.{whole_is_in}
 
 -- ---- lists of children, each of which is new

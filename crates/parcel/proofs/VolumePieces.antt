@@ -25,8 +25,8 @@ use Rattle.parcel.specs.declared.parts.Logical.{Logical}
 use Rattle.parcel.specs.declared.parts.Vol.{Vol}
 use Rattle.parcel.specs.declared.pieces.volumes.VolumePiece.{VolumePiece}
 use Rattle.meaning.proofs.FileNumber.{sum_bits, bits_back}
+use Rattle.meaning.proofs.FileBits.{has_none}
 use Rattle.image.proofs.Decoded.{label_is}
-use Rattle.parcel.proofs.Shows.{has_none}
 
 -- ---- what is spelled
 

@@ -5,6 +5,7 @@ use Rattle.std.specs.List.{AllByRecursion}
 use Rattle.affinity.specs.Interval.{IsPath}
 use Rattle.affinity.specs.Path.{Path, aggregate, volume, logical, stripe, label}
 use Rattle.affinity.specs.declared.geometry.Geometry.{Geometry}
+use Rattle.affinity.proofs.Preorder.{aggregate_there, volume_there}
 use Rattle.stripe.specs.Stripe.{StripePart}
 use Rattle.parcel.specs.Fits.{EachFits, Fits, FitsLogical, FitsVolume, FitsAggregate, FitsRoot, FitsStripe, IsWholeChild, IsWholeLogical, IsWholeVolume, IsWholeAggregate, IsWholeRoot}
 use Rattle.parcel.specs.Nodes.{Nodes, child_nodes, parcels_nodes, stripe_nodes, label_nodes, logical_nodes, volume_nodes, aggregate_nodes, root_nodes}
@@ -19,25 +20,6 @@ use Rattle.parcel.proofs.ChildRows.{child_whole_at, fits_in_place}
 
 module _ (g : Geometry) where
   -- ---- whole: each path is in
-
-  first_below : (a : ℕ) (q : Path) → IsPath g (a ∷ q) → a < g.aggregates
-  first_below a [] h = h
-  first_below a (v ∷ []) h = h.0
-  first_below a (v ∷ zero ∷ []) h = h.0
-  first_below a (v ∷ zero ∷ s ∷ []) h = h.0
-  first_below a (v ∷ zero ∷ s ∷ x ∷ q) h = absurd h
-  first_below a (v ∷ suc zero ∷ []) h = h.0
-  first_below a (v ∷ suc zero ∷ x ∷ q) h = absurd h
-  first_below a (v ∷ suc (suc i) ∷ q) h = absurd h
-
-  second_below : (a v : ℕ) (q : Path) → IsPath g (a ∷ v ∷ q) → v < g.volumes
-  second_below a v [] h = h.1
-  second_below a v (zero ∷ []) h = h.1
-  second_below a v (zero ∷ s ∷ []) h = h.1
-  second_below a v (zero ∷ s ∷ x ∷ q) h = absurd h
-  second_below a v (suc zero ∷ []) h = h.1
-  second_below a v (suc zero ∷ x ∷ q) h = absurd h
-  second_below a v (suc (suc i) ∷ q) h = absurd h
 
   -- The nodes at a path have each path below in.
   abbrev IsAllIn : Path → Nodes → Type 0
@@ -75,14 +57,14 @@ module _ (g : Geometry) where
   aggregate_in a (Some r) f h [] path = refl
   aggregate_in a (Some r) f h (v ∷ q) path =
       volume_in a v (slice_index_or r.volumes.items v None) (fits_in_place (λ v. FitsVolume g) r.volumes.items f.volumes v _ refl)
-      (child_whole_at IsWholeVolume r.volumes.items v (omega (arith, f.count, second_below a v q path)) h) q path
+      (child_whole_at IsWholeVolume r.volumes.items v (omega (arith, f.count, (volume_there g a v q path).1)) h) q path
 
   root_in : (x : Option Root) → IfSome x (FitsRoot g) → IsWholeChild IsWholeRoot x → IsAllIn [] (child_nodes root_nodes x)
   root_in None f h q path = absurd h
   root_in (Some r) f h [] path = refl
   root_in (Some r) f h (a ∷ q) path =
       aggregate_in a (slice_index_or r.aggregates.items a None) (fits_in_place (λ a. FitsAggregate g) r.aggregates.items f.aggregates a _ refl)
-      (child_whole_at IsWholeAggregate r.aggregates.items a (omega (arith, f.count, first_below a q path)) h) q path
+      (child_whole_at IsWholeAggregate r.aggregates.items a (omega (arith, f.count, aggregate_there g a q path)) h) q path
 
   -- Parcels that fit are whole: each path from theirs on is in.
   pub whole_is_in : (p : Path) (l : Parcels) → Fits g p l → IsAllIn p (parcels_nodes l)

@@ -2,7 +2,6 @@
 use Rattle.std.proofs.Common.{◌≡◌, ℕ, ◌<◌, Bool, true, false, cond, List, refl, ap, sym, ◌∙◌}
 use Rattle.std.specs.Prelude.{◌&&◌, ◌||◌, ◌==◌, not, if◌then◌else◌, Option, None, Some, is_some}
 use Rattle.std.specs.BTreeMap.{is_at}
-use Rattle.std.proofs.lemmas.Nat.Bits.{bit_at-zero}
 use Rattle.language.specs.declared.Block.{Block}
 use Rattle.language.specs.declared.Msg.TheVariants.{MakeVol, Create, Seal, Unseal, SetLabel}
 use Rattle.language.specs.Replies.{has_file}
@@ -10,12 +9,9 @@ use Rattle.meaning.specs.State.{Map, VolumeKey, FileKey, BlockKey, dropping, cle
 use Rattle.meaning.specs.Serial.{effect, no_label}
 use Rattle.meaning.specs.KeyOrders.{volume_order}
 use Rattle.meaning.proofs.Keys.{at_volume, the_volume}
-use Rattle.meaning.proofs.FileBits.{with_bit, with_bit_has}
+use Rattle.meaning.proofs.FileBits.{with_bit, with_bit_has, has_none}
 use Rattle.plain.specs.declared.server.Volume.{Volume}
 use Rattle.plain.specs.Server.{volume_is_sealed, volume_has_file, volume_label, state_of}
-
-pub has_none : (f : ℕ) → has_file 0 f ≡ false
-has_none f = ap (λ n. n == 1) (bit_at-zero f)
 
 module _ (m n : Map VolumeKey Volume) (a v : ℕ) (o : Option Volume) (h : (k : VolumeKey) → n k ≡ cond (is_at (volume_order (a, v)) k) o (m k)) where
   -- `ask` of the volume at each key is that of the new one at (a, v), and that of the old one elsewhere

@@ -20,12 +20,11 @@ pub length-entries : (es : List BlockEntry) → AllByRecursion IsSpellable es �
 length-entries [] all = refl
 length-entries (e ∷ es) all = omega (arith, length-append (entry_bytes e) (flat_map entry_bytes es), length-entry e all.0, length-entries es all.1)
 
-two_bytes : (b : ℕ) → b < 65536 → little_number 2 (little_bytes 2 b) ≡ b
-two_bytes b small = omega (arith, small)
-
 -- an entry is read as it was written
 pub entry_again : (e : BlockEntry) → IsSpellable e → entry_in (entry_bytes e) ≡ e
-entry_again e is = λ i. record { file = e.file; block = two_bytes e.block is.small i; content = e.content }
+entry_again e is =
+    let block : little_number 2 (little_bytes 2 e.block) ≡ e.block = omega (arith, is.small) in
+    λ i. record { file = e.file; block = block i; content = e.content }
 
 pub none_there : (n k : ℕ) → entries_in n (replicate k 0) ≡ []
 none_there zero k = refl

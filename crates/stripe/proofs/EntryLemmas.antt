@@ -3,6 +3,7 @@ use Rattle.std.proofs.Common.{◌≡◌, ◌≢◌, ℕ, zero, suc, ◌+◌, ◌
 use Rattle.std.proofs.lemmas.Bool.Decides.{eqb_tells, leb_tells}
 use Rattle.std.proofs.lemmas.List.{length-set}
 use Rattle.std.specs.List.{AllByRecursion}
+use Rattle.affinity.proofs.Elements.{all_take, all_drop, all_join, all_weaker}
 use Rattle.language.specs.declared.Block.{Block}
 use Rattle.stripe.specs.Stripe.{BlockEntry, content_at, ComesBefore, IsAscending, PrecedesBlock}
 use Rattle.stripe.specs.Index.{no_entry, IsSplit, IsAt, IsGap, rewritten}
@@ -31,20 +32,6 @@ before_other i j f b (inr same) file block = omega (arith, same.1)
 -- ---- what holds of all entries
 
 module _ {X : Type 0} (P : X → Type 0) where
-  pub all-take : (n : ℕ) (xs : List X) → AllByRecursion P xs → AllByRecursion P (take n xs)
-  all-take zero xs all = tt
-  all-take (suc n) [] all = tt
-  all-take (suc n) (x ∷ xs) all = (all.0, all-take n xs all.1)
-
-  pub all-drop : (n : ℕ) (xs : List X) → AllByRecursion P xs → AllByRecursion P (drop n xs)
-  all-drop zero xs all = all
-  all-drop (suc n) [] all = tt
-  all-drop (suc n) (x ∷ xs) all = all-drop n xs all.1
-
-  pub all-append : (xs ys : List X) → AllByRecursion P xs → AllByRecursion P ys → AllByRecursion P (xs ++ ys)
-  all-append [] ys first second = second
-  all-append (x ∷ xs) ys first second = (first.0, all-append xs ys first.1 second)
-
   pub all-set : (n : ℕ) (y : X) (xs : List X) → P y → AllByRecursion P xs → AllByRecursion P (slice_set xs n y)
   all-set n y [] here all = tt
   all-set zero y (x ∷ xs) here all = (here, all.1)
@@ -67,7 +54,7 @@ ascending-removed es zero end order up = ascending-drop end es up
 ascending-removed es (suc from) zero order up = absurd (omega arith)
 ascending-removed [] (suc from) (suc end) order up = tt
 ascending-removed (e ∷ es) (suc from) (suc end) order up = (
-  all-append (ComesBefore e) (take from es) (drop end es) (all-take (ComesBefore e) from es up.0) (all-drop (ComesBefore e) end es up.0),
+  all_join (ComesBefore e) (take from es) (drop end es) (all_take (ComesBefore e) from es up.0) (all_drop (ComesBefore e) end es up.0),
   ascending-removed es from end (omega arith) up.1,
 )
 
@@ -91,14 +78,14 @@ pub ascending-inserted : (es : List BlockEntry) (n : ℕ) (d : BlockEntry) → A
 ascending-inserted es zero d before behind up = (behind, up)
 ascending-inserted [] (suc n) d before behind up = (tt, tt)
 ascending-inserted (e ∷ es) (suc n) d before behind up = (
-  all-append (ComesBefore e) (take n es) (d ∷ drop n es) (all-take (ComesBefore e) n es up.0)
-      (before.0, all-drop (ComesBefore e) n es up.0),
+  all_join (ComesBefore e) (take n es) (d ∷ drop n es) (all_take (ComesBefore e) n es up.0)
+      (before.0, all_drop (ComesBefore e) n es up.0),
   ascending-inserted es n d before.1 behind up.1,
 )
 
 -- ---- look-up
 
-content-later : (f b : ℕ) (es : List BlockEntry) → AllByRecursion (λ e. PrecedesBlock f b e.file e.block) es → content_at es f b ≡ None
+pub content-later : (f b : ℕ) (es : List BlockEntry) → AllByRecursion (λ e. PrecedesBlock f b e.file e.block) es → content_at es f b ≡ None
 content-later f b [] later = refl
 content-later f b (e ∷ es) later =
     rw (no_match f b e.file e.block (λ file block. before_other f b e.file e.block later.0 (sym file) (sym block))) (content-later f b es later.1)
@@ -197,13 +184,9 @@ content-cut_none : (es : List BlockEntry) (from end : ℕ) (i j : ℕ)
     → AllByRecursion (λ e. (i ≡ e.file) → (j ≡ e.block) → ⊥) (drop end es)
     → content_at (take from es ++ drop end es) i j ≡ None
 content-cut_none es from end i j first last =
-    nowhere (take from es ++ drop end es) i j (all-append (λ (e : BlockEntry). (i ≡ e.file) → (j ≡ e.block) → ⊥) (take from es) (drop end es) first last)
+    nowhere (take from es ++ drop end es) i j (all_join (λ (e : BlockEntry). (i ≡ e.file) → (j ≡ e.block) → ⊥) (take from es) (drop end es) first last)
 
 module _ {X : Type 0} (P Q : X → Type 0) where
-  all-weaken : ((x : X) → P x → Q x) → (xs : List X) → AllByRecursion P xs → AllByRecursion Q xs
-  all-weaken weaker [] all = tt
-  all-weaken weaker (x ∷ xs) all = (weaker x all.0, all-weaken weaker xs all.1)
-
   both : (xs : List X) → AllByRecursion P xs → AllByRecursion Q xs → AllByRecursion (λ x. P x × Q x) xs
   both [] first second = tt
   both (x ∷ xs) first second = ((first.0, second.0), both xs first.1 second.1)
@@ -211,7 +194,7 @@ module _ {X : Type 0} (P Q : X → Type 0) where
   -- what holds from one index on and what holds up to another hold of those between
   all-between : (from end : ℕ) (xs : List X) → AllByRecursion P (drop from xs) → AllByRecursion Q (take end xs)
       → AllByRecursion (λ x. P x × Q x) (drop from (take end xs))
-  all-between zero end xs first second = both (take end xs) (all-take P end xs first) second
+  all-between zero end xs first second = both (take end xs) (all_take P end xs first) second
   all-between (suc from) zero xs first second = tt
   all-between (suc from) (suc end) [] first second = tt
   all-between (suc from) (suc end) (x ∷ xs) first second = all-between from end xs first second.1
@@ -228,7 +211,7 @@ behind-at (e ∷ es) zero within up = up.0
 behind-at (e ∷ es) (suc n) within up = behind-at es n (omega arith) up.1
 
 alone-at : (P : BlockEntry → Type 0) (es : List BlockEntry) (n : ℕ) → P (slice_index_or es n no_entry) → AllByRecursion P (drop n (take (suc n) es))
-alone-at P [] n here = all-drop P n [] tt
+alone-at P [] n here = all_drop P n [] tt
 alone-at P (e ∷ es) zero here = (here, tt)
 alone-at P (e ∷ es) (suc n) here = alone-at P es n here
 
@@ -239,10 +222,10 @@ content-cleared es f b n up at i j =
     let NotThere = λ (e : BlockEntry). (i ≡ e.file) → (j ≡ e.block) → ⊥ in
     elim (match_tells f b i j) [
       | inl e ↦ rw e.0 (content-cut_none es n (suc n) i j
-          (all-weaken (λ (d : BlockEntry). ComesBefore d here) NotThere
+          (all_weaker (λ (d : BlockEntry). ComesBefore d here) NotThere
           (λ d low file block. before_other d.file d.block here.file here.block low (at.file ∙ e.1 ∙ file) (at.block ∙ e.2 ∙ block))
           (take n es) (before-at es n at.within up))
-          (all-weaken (ComesBefore here) NotThere
+          (all_weaker (ComesBefore here) NotThere
           (λ d high file block. before_other here.file here.block d.file d.block high (sym (at.file ∙ e.1 ∙ file)) (sym (at.block ∙ e.2 ∙ block)))
           (drop (suc n) es) (behind-at es n at.within up)))
       | inr o ↦ rw o.0 (content-cut_other es n (suc n) i j (omega arith)
@@ -272,14 +255,14 @@ content-file es f first end low high i j =
     let Below = λ (e : BlockEntry). PrecedesBlock e.file e.block (f + 1) 0 in
     elim (eqb_tells f i) [
       | inl e ↦ rw e.0 (content-cut_none es first end i j
-          (all-weaken (λ (d : BlockEntry). PrecedesBlock d.file d.block f 0) NotThere
+          (all_weaker (λ (d : BlockEntry). PrecedesBlock d.file d.block f 0) NotThere
           (λ d before file block. let under = IsBefore-start d.file d.block f before in absurd (omega (arith, e.1)))
           (take first es) low.before)
-          (all-weaken (λ (d : BlockEntry). PrecedesBlock d.file d.block (f + 1) 0 → ⊥) NotThere
+          (all_weaker (λ (d : BlockEntry). PrecedesBlock d.file d.block (f + 1) 0 → ⊥) NotThere
           (λ d behind file block. behind (inl (omega (arith, e.1))))
           (drop end es) high.behind))
       | inr n ↦ rw n.0 (content-cut_other es first end i j (run-order es f first end low.within low.before high.behind)
-          (all-weaken (λ (d : BlockEntry). From d × Below d) NotThere
+          (all_weaker (λ (d : BlockEntry). From d × Below d) NotThere
           (λ d in_run file block.
           let under = IsBefore-start d.file d.block (f + 1) in_run.1 in
           in_run.0 (inl (let other : f ≢ i = n.1 in omega arith)))
@@ -324,7 +307,7 @@ behind-first : (es : List BlockEntry) (f b : ℕ) → IsAscending es → AllByRe
 behind-first [] f b up behind other = tt
 behind-first (e ∷ es) f b up behind other =
     let first = apart-behind e.file e.block f b behind.0 (other (omega arith)) in
-    (first, all-weaken (ComesBefore e) (λ d. PrecedesBlock f b d.file d.block) (λ d later. before-before f b e.file e.block d.file d.block first later) es up.0)
+    (first, all_weaker (ComesBefore e) (λ d. PrecedesBlock f b d.file d.block) (λ d later. before-before f b e.file e.block d.file d.block first later) es up.0)
 
 behind-gap : (es : List BlockEntry) (f b n : ℕ) → IsAscending es → AllByRecursion (λ e. PrecedesBlock e.file e.block f b → ⊥) (drop n es)
     → (n < length es → ((slice_index_or es n no_entry).file ≡ f) → ((slice_index_or es n no_entry).block ≡ b) → ⊥)

@@ -2,40 +2,20 @@
 use Rattle.std.proofs.Common.{◌≡◌, ℕ, ◌<◌, ◌≤◌, Bool, true, false, ◌&&◌, List, [], ◌∷◌, ◌++◌, Option, Some, None, refl, sym, ◌∙◌, ap, arith, ◌⊎◌, inl, inr, ⊎_elim}
 use Rattle.std.specs.Prelude.{◌==◌, if◌then◌else◌}
 use Rattle.std.specs.List.{AllByRecursion}
-use Rattle.std.proofs.lemmas.Bool.{cases_lt, eq-eqb, eqb-true, ne_eqb, and_from, and_parts, and_right}
+use Rattle.std.proofs.lemmas.Bool.{cases_lt, eq-eqb, eqb-true, and_from, and_parts}
 use Rattle.std.proofs.lemmas.Option.{same_Some}
 use Rattle.stripe.specs.Stripe.{BlockEntry, content_at, ComesBefore, IsAscending, PrecedesBlock}
+use Rattle.stripe.proofs.EntryLemmas.{before-before, content-later}
 
 -- ---- what entries hold
-
-no_block_of : (f b : ℕ) (e : BlockEntry) → PrecedesBlock f b e.file e.block → ((f == e.file) && (b == e.block)) ≡ false
-no_block_of f b e = ⊎_elim
-    (λ (file : f < e.file). ap (λ (t : Bool). t && (b == e.block)) (ne_eqb f e.file (λ same. omega (arith, same, file))))
-    (λ (block : (f ≡ e.file) × (b < e.block)). and_right (f == e.file) (b == e.block) (ne_eqb b e.block (λ same. omega (arith, same, block.1))))
-
--- Look-up finds nothing of a block that comes before all entries.
-pub content-before : (f b : ℕ) (es : List BlockEntry) → AllByRecursion (λ e. PrecedesBlock f b e.file e.block) es → content_at es f b ≡ None
-content-before f b [] before = refl
-content-before f b (e ∷ es) before = ap (λ (t : Bool). if t then Some e.content else content_at es f b) (no_block_of f b e before.0) ∙ content-before f b es before.1
 
 content-head : (e : BlockEntry) (es : List BlockEntry) → content_at (e ∷ es) e.file e.block ≡ Some e.content
 content-head e es = ap (λ (t : Bool). if t then Some e.content else content_at es e.file e.block)
     (and_from (e.file == e.file) (e.block == e.block) (eq-eqb e.file e.file refl) (eq-eqb e.block e.block refl))
 
-before_both : (f b i j k l : ℕ) → PrecedesBlock f b i j → PrecedesBlock i j k l → PrecedesBlock f b k l
-before_both f b i j k l first second =
-    ⊎_elim
-    (λ (file : f < i). inl (⊎_elim (λ (more : i < k). omega (arith, file, more)) (λ (same : (i ≡ k) × (j < l)). omega (arith, file, same.0)) second))
-    (λ (same : (f ≡ i) × (b < j)).
-    ⊎_elim
-    (λ (more : i < k). inl (omega (arith, same.0, more)))
-    (λ (also : (i ≡ k) × (j < l)). inr (same.0 ∙ also.0, omega (arith, same.1, also.1)))
-    second)
-    first
-
 all_behind : (f b : ℕ) (e : BlockEntry) (es : List BlockEntry) → PrecedesBlock f b e.file e.block → AllByRecursion (ComesBefore e) es → AllByRecursion (λ d. PrecedesBlock f b d.file d.block) es
 all_behind f b e [] before rest = tt
-all_behind f b e (d ∷ es) before rest = (before_both f b e.file e.block d.file d.block before rest.0, all_behind f b e es before rest.1)
+all_behind f b e (d ∷ es) before rest = (before-before f b e.file e.block d.file d.block before rest.0, all_behind f b e es before rest.1)
 
 which_first : (f b i j : ℕ) → PrecedesBlock f b i j ⊎ (PrecedesBlock i j f b ⊎ ((f ≡ i) × (b ≡ j)))
 which_first f b i j =
@@ -71,11 +51,11 @@ ascending_same (d ∷ ds) (e ∷ es) up rising same =
     ⊎_elim
     (λ (first : PrecedesBlock d.file d.block e.file e.block).
     absurd (some_is_not_none d.content (content_at (d ∷ ds) d.file d.block) (content-head d ds)
-    (same d.file d.block ∙ content-before d.file d.block (e ∷ es) (first, all_behind d.file d.block e es first rising.0))))
+    (same d.file d.block ∙ content-later d.file d.block (e ∷ es) (first, all_behind d.file d.block e es first rising.0))))
     (⊎_elim
     (λ (second : PrecedesBlock e.file e.block d.file d.block).
     absurd (some_is_not_none e.content (content_at (e ∷ es) e.file e.block) (content-head e es)
-    (sym (same e.file e.block) ∙ content-before e.file e.block (d ∷ ds) (second, all_behind e.file e.block d ds second up.0))))
+    (sym (same e.file e.block) ∙ content-later e.file e.block (d ∷ ds) (second, all_behind e.file e.block d ds second up.0))))
     (λ (both : (d.file ≡ e.file) × (d.block ≡ e.block)).
     let content : d.content ≡ e.content = same_Some d.content e.content (sym (content-head d ds) ∙ same d.file d.block ∙ (λ i. content_at (e ∷ es) (both.0 i) (both.1 i)) ∙ content-head e es) in
     let head : d ≡ e = λ i. record { file = both.0 i; block = both.1 i; content = content i } in
@@ -94,8 +74,8 @@ ascending_same (d ∷ ds) (e ∷ es) up rising same =
             let parts = and_parts (f == d.file) (b == d.block) on in
             let file : f ≡ d.file = eqb-true f d.file parts.0 in
             let block : b ≡ d.block = eqb-true b d.block parts.1 in
-            (λ i. content_at ds (file i) (block i)) ∙ content-before d.file d.block ds up.0
-            ∙ sym ((λ i. content_at es ((file ∙ both.0) i) ((block ∙ both.1) i)) ∙ content-before e.file e.block es rising.0)
+            (λ i. content_at ds (file i) (block i)) ∙ content-later d.file d.block ds up.0
+            ∙ sym ((λ i. content_at es ((file ∙ both.0) i) ((block ∙ both.1) i)) ∙ content-later e.file e.block es rising.0)
 
 -- ---- joining
 

@@ -3,7 +3,8 @@ use Rattle.std.proofs.Common.{ℕ, List, sym, ◌∙◌, subst}
 use Rattle.affinity.specs.Limits.{AreInRange}
 use Rattle.std.proofs.lemmas.Bool.{false≢true}
 use Rattle.std.proofs.lemmas.Slice.Eq.{bytes_eq-Decides}
-use Rattle.checkpoint.proofs.Heads.{are_in_range, numbers_there, same_header}
+use Rattle.affinity.proofs.Numbers.{are_in_range}
+use Rattle.checkpoint.proofs.Heads.{numbers_there, same_header}
 use Rattle.checkpoint.proofs.header.geometry_in.Goals as goal
 
 pub returns-in_default-clause-none : goal.returns-in_default-clause-none

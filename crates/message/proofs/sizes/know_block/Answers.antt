@@ -1,8 +1,8 @@
 -- An array of `BLOCK_SIZE` bytes is a block: it has that length, and each byte is below 256.
 use Rattle.std.proofs.Common.{rules, ◌<◌, subst}
 use Rattle.std.specs.List.{AllByRecursion}
-use Rattle.message.proofs.RecordLemmas.{bytes_fit}
+use Rattle.affinity.proofs.Elements.{all_bytes}
 use Rattle.message.proofs.sizes.know_block.Goals as goal
 
 pub returns : goal.returns
-returns c = (search rules, subst (AllByRecursion (λ b. b < 256)) c.as_slice-bytes.ensures (bytes_fit c.as_slice-bytes.result.now (λ i. search rules)))
+returns c = (search rules, subst (AllByRecursion (λ b. b < 256)) c.as_slice-bytes.ensures (all_bytes c.as_slice-bytes.result.now (λ i. search rules)))

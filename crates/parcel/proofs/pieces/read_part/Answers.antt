@@ -1,10 +1,11 @@
 -- The part is the volume itself or one of its stripes.
 use Rattle.std.proofs.Common.{◌≡◌, ℕ, suc, ◌-◌, ◌*◌, sym, ap, subst, arith, ◌∙◌, Some}
+use Rattle.affinity.proofs.Elements.{all_bytes}
 use Rattle.device_map.specs.Layout.{entry_size}
 use Rattle.language.specs.Messages.{AreSizedBytes}
 use Rattle.image.specs.Pieces.{piece_part_size}
 use Rattle.parcel.specs.Pieces.{IsPieceOfVolumeRead}
-use Rattle.parcel.proofs.PieceParts.{all_bytes, stripe_is_read, volume_is_read}
+use Rattle.parcel.proofs.PieceParts.{stripe_is_read, volume_is_read}
 use Rattle.parcel.proofs.pieces.read_part.Goals as goal
 
 pub returns-then-part-eq0 : goal.returns-then-part-eq0
