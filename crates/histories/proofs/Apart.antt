@@ -6,13 +6,14 @@ use Rattle.std.proofs.lemmas.Bool.{and_parts, not-true}
 use Rattle.std.proofs.lemmas.List.{length-append, length-map, take-append-drop}
 use Rattle.affinity.specs.declared.geometry.Geometry.{Geometry}
 use Rattle.affinity.proofs.Paths.{unrelated_turned}
+use Rattle.affinity.proofs.Elements.{all_weaker}
 use Rattle.language.specs.Messages.{path_of}
 use Rattle.meaning.specs.Serial.{reply_to}
 use Rattle.histories.specs.CoreState.{Entry, Replied, CoreState, entry, entries, held, are_related_entries}
 use Rattle.histories.specs.Eligible.{is_conflict_free, has_room, is_eligible, next_eligible}
 use Rattle.histories.specs.Events.{grant, give_back, find_in_flight, log}
 use Rattle.histories.specs.Laws.{AreUnrelated}
-use Rattle.histories.proofs.Lists.{all_none, all_weaker, before_push, before_moved, picked}
+use Rattle.histories.proofs.Lists.{all_none, before_push, before_moved, picked}
 
 pub apart_turned : (g : Geometry) (e d : Entry) → are_related_entries g e d ≡ false → are_related_entries g d e ≡ false
 apart_turned g e d h = unrelated_turned (path_of g e.1) (path_of g d.1) h

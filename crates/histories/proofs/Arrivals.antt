@@ -6,6 +6,7 @@ use Rattle.std.proofs.lemmas.List.{append-nil, take-append-drop}
 use Rattle.std.proofs.lemmas.Bool.{and_parts, or_parts, not-true, lt-ltb, true≢false, or_from}
 use Rattle.std.proofs.lemmas.List.Sorted.{IsPermutation-append_left, IsPermutation-append_right, IsPermutation-middle, IsPermutation-refl, IsPermutation-trans}
 use Rattle.affinity.specs.declared.geometry.Geometry.{Geometry}
+use Rattle.affinity.proofs.Elements.{all_join, all_weaker}
 use Rattle.language.specs.declared.Reply.{Reply}
 use Rattle.meaning.specs.State.{State}
 use Rattle.meaning.specs.Serial.{reply_to, state_after_all}
@@ -16,7 +17,7 @@ use Rattle.histories.specs.Eligible.{is_conflict_free, has_room, is_eligible}
 use Rattle.histories.specs.Events.{MachineState, Event, grant, give_back, log}
 use Rattle.histories.specs.Runs.{IsLegal, end_state, logged_at, arrives, logged_messages, arrived, answered}
 use Rattle.histories.specs.Laws.{AreUnrelated, AreAscending, EachBefore, IsSoundCoreState, IsIdle, ticket_replies}
-use Rattle.histories.proofs.Lists.{picked, all_join, all_front, all_none, all_permuted, all_weaker, before_back, before_front, before_moved, before_one, before_past, before_push, before_join}
+use Rattle.histories.proofs.Lists.{picked, all_front, all_none, all_permuted, before_back, before_front, before_moved, before_one, before_past, before_push, before_join}
 use Rattle.histories.proofs.Apart.{apart_turned, entries-append}
 use Rattle.histories.proofs.Moves.{Passed, Move, Stays, Arrives, Grants, Backs, Logs, Answers, moves, passed}
 use Rattle.histories.proofs.SerialReplies.{serial_replies-append, IsIn, in_left, IsAsGood, good_itself, good_on, good_push, good_moved}

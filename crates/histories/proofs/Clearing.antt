@@ -4,7 +4,9 @@ use Rattle.std.specs.Prelude.{◌&&◌, ◌||◌, ◌==◌, not, nat_lt}
 use Rattle.std.specs.List.{AllByRecursion, list_any}
 use Rattle.std.proofs.lemmas.Bool.{and_parts, ltb-true, lt-ltb, not-true, true≢false, false_from_ne_true}
 use Rattle.std.proofs.lemmas.List.Folds.{list_any-append}
+use Rattle.std.proofs.Math.Bool.{or-false}
 use Rattle.affinity.specs.declared.geometry.Geometry.{Geometry}
+use Rattle.affinity.proofs.Elements.{any_moved}
 use Rattle.meaning.specs.Serial.{reply_to}
 use Rattle.histories.specs.CoreState.{Entry, Replied, CoreState, entry, entries, held, are_related_entries}
 use Rattle.histories.specs.Eligible.{is_conflict_free, has_room, is_eligible, next_eligible}
@@ -19,20 +21,6 @@ module _ {A : Type 0} where
   pub all_at : (P : A → Type 0) (xs : List A) (x : A) → AllByRecursion P xs → IsIn x xs → P x
   all_at P [] x h is = absurd is
   all_at P (y ∷ ys) x h is = ⊎_elim (λ e. subst P (sym e) h.0) (λ r. all_at P ys x h.1 r) is
-
-  any_moved : (p : A → Bool) (us : List A) (e : A) (vs : List A) → list_any p (us ++ e ∷ vs) ≡ list_any p (e ∷ (us ++ vs))
-  any_moved p [] e vs = refl
-  any_moved p (u ∷ us) e vs = ap (λ b. p u || b) (any_moved p us e vs) ∙ turned (p u) (p e) (list_any p (us ++ vs))
-    where
-      turned : (a b c : Bool) → (a || (b || c)) ≡ (b || (a || c))
-      turned true true c = refl
-      turned true false c = refl
-      turned false true c = refl
-      turned false false c = refl
-
-pub or_nothing : (b : Bool) → (b || false) ≡ b
-or_nothing true = refl
-or_nothing false = refl
 
 module _ (g : Geometry) (e : Entry) where
   -- whether message d keeps e back if it waits: it has a smaller ticket, and a related place
@@ -53,7 +41,7 @@ module _ (g : Geometry) (e : Entry) where
       ap (λ b. not (list_any (are_related_entries g e) (held w)) && not b)
       (list_any-append comes_before w.waiting (d ∷ []) ∙ ap
       (λ b. list_any comes_before w.waiting || (b || false)) (later d (omega (arith, given, next)))
-      ∙ or_nothing (list_any comes_before w.waiting))
+      ∙ or-false (list_any comes_before w.waiting))
 
   -- If e is related to the message that is dispatched, that message has the smaller ticket.
   pub goes_first : (w : CoreState) (found : Entry × List Entry) → IsSoundCoreState g w → next_eligible g w ≡ Some found → IsIn e found.1

@@ -20,7 +20,7 @@ use Rattle.histories.specs.Laws.{StaysFailed, reports_failure}
 
 -- ---- a step during which the device doesn't fail reports no failure, and one during which it fails reports it
 
-either : {A : Type 0} (P : A → Type 0) (b : Bool) (x y : A) → P x → P y → P (if b then x else y)
+pub either : {A : Type 0} (P : A → Type 0) (b : Bool) (x y : A) → P x → P y → P (if b then x else y)
 either P true x y h j = h
 either P false x y h j = j
 

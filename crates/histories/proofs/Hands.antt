@@ -18,6 +18,7 @@ use Rattle.histories.specs.Progress.{HandsHold, has_ticket}
 use Rattle.histories.specs.Runs.{IsLegal, end_state}
 use Rattle.histories.proofs.Lists.{picked}
 use Rattle.histories.proofs.Outs.{fault_keeps_out, happens_keeps_out}
+use Rattle.histories.proofs.Room.{at_most_one}
 
 -- ---- the hands with a ticket
 
@@ -79,14 +80,10 @@ few_with t (hand ∷ hands) =
     let here = fewer hand in
     omega (arith, rest, with_ticket, full, here)
   where
-    at_most : (b : Bool) → cond b 1 0 ≤ 1
-    at_most true = omega arith
-    at_most false = omega arith
-
     fewer : (hand : Hand) → weight t hand ≤ cond (not (is_empty hand)) 1 0
     fewer Empty = omega arith
-    fewer (Job ticket) = at_most (ticket == t)
-    fewer (Result ticket) = at_most (ticket == t)
+    fewer (Job ticket) = at_most_one (ticket == t)
+    fewer (Result ticket) = at_most_one (ticket == t)
 
 -- Where nothing is in flight and every hand is empty, no ticket is anywhere.
 pub start_holds : (w : MachineState) → w.core.in_flight ≡ [] → full_hands w.hands ≡ 0 → HandsHold w

@@ -4,6 +4,7 @@ use Rattle.std.specs.Prelude.{◌&&◌, ◌||◌, ◌==◌, cond, count_by, not,
 use Rattle.std.specs.List.{AllByRecursion, list_any}
 use Rattle.std.proofs.lemmas.Bool.{eq-eqb, ne_eqb}
 use Rattle.std.proofs.lemmas.List.Sums.{sum_by-append, sum_by-cons}
+use Rattle.std.proofs.Math.Bool.{and-false}
 use Rattle.affinity.specs.declared.geometry.Geometry.{Geometry}
 use Rattle.meaning.specs.Serial.{reply_to}
 use Rattle.histories.specs.declared.outcomes.Outcome.{Outcome}
@@ -84,10 +85,6 @@ module _ (g : Geometry) (e : Entry) where
       let counted = before (related found.0) refl in
       omega (arith, holds, last, was, mid, now, counted)
     where
-      and_false : (b : Bool) → (b && false) ≡ false
-      and_false true = refl
-      and_false false = refl
-
       -- what is dispatched keeps e back exactly if it did so before
       before : (b : Bool) → related found.0 ≡ b → one found.0 ≡ one_earlier found.0
       before true touching =
@@ -96,7 +93,7 @@ module _ (g : Geometry) (e : Entry) where
           omega (arith, both, single)
       before false apart =
           let neither : one_earlier found.0 ≡ 0 = ap {B = ℕ} (λ b. cond b 1 0)
-          (ap (λ b. nat_lt found.0.0 e.0 && b) apart ∙ and_false (nat_lt found.0.0 e.0)) in
+          (ap (λ b. nat_lt found.0.0 e.0 && b) apart ∙ and-false (nat_lt found.0.0 e.0)) in
           let none : one found.0 ≡ 0 = ap {B = ℕ} (λ b. cond b 1 0) apart in
           omega (arith, neither, none)
 

@@ -5,16 +5,13 @@ use Rattle.std.specs.List.{AllByRecursion, list_any}
 use Rattle.std.proofs.lemmas.Bool.{or_parts, true≢false}
 use Rattle.std.proofs.lemmas.List.Elements.{All-from_recursion, recursion_from_All}
 use Rattle.std.proofs.lemmas.List.Sorted.{All-permutation}
+use Rattle.affinity.proofs.Elements.{all_join, all_weaker}
 use Rattle.histories.specs.Eligible.{pick}
 use Rattle.histories.specs.Laws.{EachBefore}
 
 -- ---- what holds of all
 
 module _ {A : Type 0} (P : A → Type 0) where
-  pub all_join : (xs ys : List A) → AllByRecursion P xs → AllByRecursion P ys → AllByRecursion P (xs ++ ys)
-  all_join [] ys h j = j
-  all_join (x ∷ xs) ys h j = (h.0, all_join xs ys h.1 j)
-
   pub all_front : (xs ys : List A) → AllByRecursion P (xs ++ ys) → AllByRecursion P xs
   all_front [] ys h = tt
   all_front (x ∷ xs) ys h = (h.0, all_front xs ys h.1)
@@ -33,10 +30,6 @@ module _ {A : Type 0} (P : A → Type 0) where
 pub all_none : {A : Type 0} (p : A → Bool) (xs : List A) → list_any p xs ≡ false → AllByRecursion (λ x. p x ≡ false) xs
 all_none p [] h = tt
 all_none p (x ∷ xs) h = let k = or_parts (p x) (list_any p xs) h in (k.0, all_none p xs k.1)
-
-pub all_weaker : {A : Type 0} (P Q : A → Type 0) → ((x : A) → P x → Q x) → (xs : List A) → AllByRecursion P xs → AllByRecursion Q xs
-all_weaker P Q f [] h = tt
-all_weaker P Q f (x ∷ xs) h = (f x h.0, all_weaker P Q f xs h.1)
 
 -- What holds of all elements of a list holds of all of a permutation of it.
 pub all_permuted : {A : Type 0} (P : A → Type 0) (xs ys : List A) → IsPermutation xs ys → AllByRecursion P xs → AllByRecursion P ys

@@ -1,6 +1,6 @@
 -- What a message in flight sees of the committed state stays, whatever comes; and which steps leave the messages in flight as they are.
 use Rattle.std.proofs.Common.{◌≡◌, ℕ, ◌+◌, ◌-◌, ◌^◌, Bool, true, false, List, [], ◌∷◌, ◌++◌, Option, Some, None, refl, ap, sym, ◌∙◌, subst, take, drop, length}
-use Rattle.std.specs.Prelude.{map, filter, cond, not, ◌==◌, nat_le, if◌then◌else◌, slice_get, MatchBool}
+use Rattle.std.specs.Prelude.{map, filter, cond, not, ◌==◌, nat_le, slice_get, MatchBool}
 use Rattle.std.proofs.lemmas.Bool.{true≢false}
 use Rattle.std.specs.List.{AllByRecursion}
 use Rattle.std.proofs.lemmas.List.{take-append-drop}
@@ -26,6 +26,7 @@ use Rattle.histories.proofs.Clearing.{all_at}
 use Rattle.histories.proofs.Lists.{all_back, all_front, before_back}
 use Rattle.histories.proofs.Moves.{Passed, Move, Stays, Arrives, Grants, Backs, Logs, Answers, moves}
 use Rattle.histories.proofs.SerialReplies.{IsIn}
+use Rattle.histories.proofs.Failures.{either}
 
 -- `R` holds between each element of xs and an element y that comes later
 pub before_in : {A : Type 0} (R : A → A → Type 0) (xs ys : List A) (y : A) → EachBefore R (xs ++ ys) → IsIn y ys
@@ -94,10 +95,6 @@ module _ (g : Geometry) where
   event_sees old event e allowed sound is = move_sees e old.core event.state_after.core _ (moves g old event allowed) sound is
 
 -- ---- steps that neither dispatch a message nor give one back
-
-either : {A : Type 0} (P : A → Type 0) (b : Bool) (x y : A) → P x → P y → P (if b then x else y)
-either P true x y h j = h
-either P false x y h j = j
 
 module _ (w : CoreState) where
   abbrev KeepsOut : Outcome × CoreState → Type 0

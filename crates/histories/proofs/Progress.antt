@@ -3,6 +3,7 @@ use Rattle.std.proofs.Common.{◌≡◌, ℕ, ◌<◌, ◌≤◌, zero, suc, Boo
 use Rattle.std.specs.Prelude.{◌&&◌, ◌||◌, not, if◌then◌else◌, is_none, is_some, nat_lt}
 use Rattle.std.specs.List.{AllByRecursion, list_any}
 use Rattle.std.proofs.lemmas.Bool.{true≢false, ltb-true, lt-ltb, false_from_ne_true}
+use Rattle.std.proofs.Math.Bool.{or-true}
 use Rattle.affinity.specs.declared.geometry.Geometry.{Geometry}
 use Rattle.histories.specs.declared.outcomes.Outcome.TheVariants as outcomes
 use Rattle.histories.specs.declared.outcomes.PointRefusal.TheVariants as points
@@ -15,10 +16,6 @@ use Rattle.histories.proofs.Idle.{none_in_flight, none_ran}
 
 pub not_less : (a b : ℕ) → a ≤ b → nat_lt b a ≡ false
 not_less a b h = false_from_ne_true (nat_lt b a) (λ e. let less = ltb-true b a e in absurd (omega (arith, h, less)))
-
-or_true : (b : Bool) → (b || true) ≡ true
-or_true true = refl
-or_true false = refl
 
 -- what `pick` finds if the first element passes, and if it finds nothing
 pub pick_first : {A : Type 0} (p : A → Bool) (x : A) (xs : List A) → p x ≡ true → pick p (x ∷ xs) ≡ Some (x, xs)
@@ -58,7 +55,7 @@ module _ (g : Geometry) where
         let fresh : CoreState = record w { room = g.half } in
         let free = least_is_free w e rest sound none front in
         let roomy : has_room fresh e ≡ true = ap (λ n. not (changes e.1) || nat_lt n g.half) (none_unlogged w none)
-        ∙ ap (λ b. not (changes e.1) || b) (lt-ltb 0 g.half (omega (arith, g.half_range.0))) ∙ or_true (not (changes e.1)) in
+        ∙ ap (λ b. not (changes e.1) || b) (lt-ltb 0 g.half (omega (arith, g.half_range.0))) ∙ or-true (not (changes e.1)) in
         let both : is_eligible g fresh e ≡ true = λ i. free i && roomy i in
         ap (λ l. is_some (pick (is_eligible g fresh) l)) front ∙ ap is_some (pick_first (is_eligible g fresh) e rest both)
 

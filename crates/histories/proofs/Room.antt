@@ -22,20 +22,20 @@ out_count es = count_by (λ e. changes e.1) es
 abbrev ran_count : List Replied → ℕ
 ran_count as' = count_by (λ a. changes a.1) as'
 
+pub at_most_one : (b : Bool) → cond b 1 0 ≤ 1
+at_most_one true = omega arith
+at_most_one false = omega arith
+
 -- the messages that get a record are no more than those of a changing kind
 logged_few : (as' : List Replied) → count_by (λ a. is_recorded a.1 a.2) as' ≤ ran_count as'
 logged_few [] = omega arith
 logged_few (a ∷ as') =
     let rest = logged_few as' in
     let here : cond (is_recorded a.1 a.2) 1 0 ≤ one a.1 = elim (changes a.1) as
-    (λ b. cond (b && is_done a.2) 1 0 ≤ cond b 1 0) [ true ↦ small (is_done a.2) | false ↦ omega arith ] in
+    (λ b. cond (b && is_done a.2) 1 0 ≤ cond b 1 0) [ true ↦ at_most_one (is_done a.2) | false ↦ omega arith ] in
     let l = sum_by-cons (λ (a : Replied). cond (is_recorded a.1 a.2) 1 0) a as' in
     let r = sum_by-cons (λ (a : Replied). cond (changes a.1) 1 0) a as' in
     omega (arith, rest, here, l, r)
-  where
-    small : (b : Bool) → cond b 1 0 ≤ 1
-    small true = omega arith
-    small false = omega arith
 
 pub batch_few : (w : CoreState) (n : ℕ) → length (batch w n) ≤ ran_count (take n w.ran)
 batch_few w n =

@@ -10,6 +10,7 @@ use Rattle.std.proofs.lemmas.List.Elements.{All-contains_itself, recursion_from_
 use Rattle.std.proofs.lemmas.List.Sorted.{IsPermutation-append_left}
 use Rattle.std.proofs.lemmas.Map.Keys.{IsDistinct-IsPermutation}
 use Rattle.affinity.specs.declared.geometry.Geometry.{Geometry}
+use Rattle.affinity.proofs.Elements.{all_weaker}
 use Rattle.language.specs.declared.Msg.{Msg}
 use Rattle.meaning.specs.State.{State}
 use Rattle.meaning.specs.Order.{InOrderIfRelated, KeepsOrder, serial_replies}
@@ -25,7 +26,7 @@ use Rattle.histories.proofs.Crashes.{legal_first, went_first}
 use Rattle.histories.proofs.Doubts.{crash_doubts_ran, first_doubts, no_doubts, run_doubts_ran}
 use Rattle.histories.proofs.Elements.{holds_of}
 use Rattle.histories.proofs.Idle.{idle_sound, none_logged}
-use Rattle.histories.proofs.Lists.{all_front, all_permuted, all_weaker, before_across, before_back, before_front, before_join}
+use Rattle.histories.proofs.Lists.{all_front, all_permuted, before_across, before_back, before_front, before_join}
 use Rattle.histories.proofs.Runs.{appended_is_recorded, run_follows}
 use Rattle.histories.proofs.Sound.{last_sound, row_of}
 use Rattle.histories.proofs.SerialReplies.{IsIn, ticket_replies-append, serial_replies-append}

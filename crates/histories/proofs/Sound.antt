@@ -4,13 +4,14 @@ use Rattle.std.specs.Prelude.{◌==◌}
 use Rattle.std.specs.List.{AllByRecursion}
 use Rattle.std.proofs.lemmas.List.{take-append-drop, length-append}
 use Rattle.affinity.specs.declared.geometry.Geometry.{Geometry}
+use Rattle.affinity.proofs.Elements.{all_join, all_weaker}
 use Rattle.meaning.specs.Serial.{reply_to}
 use Rattle.histories.specs.CoreState.{Entry, Replied, CoreState, entries, held}
 use Rattle.histories.specs.Eligible.{is_eligible}
 use Rattle.histories.specs.Events.{MachineState, Event, IsAllowed, grant, give_back, log}
 use Rattle.histories.specs.Runs.{IsLegal, end_state}
 use Rattle.histories.specs.Laws.{AreUnrelated, HaveRepliesAt, AreAscending, HaveDistinctTickets, DoubtOnlyAfterFailure, HasRoom, IsSoundCoreState}
-use Rattle.histories.proofs.Lists.{all_join, all_front, all_back, all_weaker, all_moved, all_without, before_push, before_back, before_front, before_without, before_moved, picked}
+use Rattle.histories.proofs.Lists.{all_front, all_back, all_moved, all_without, before_push, before_back, before_front, before_without, before_moved, picked}
 use Rattle.histories.proofs.Apart.{grant_apart, back_apart, log_held, held_grant, length_held}
 use Rattle.histories.proofs.Moves.{Passed, Move, Stays, Arrives, Grants, Backs, Logs, Answers, moves}
 use Rattle.histories.proofs.SerialReplies.{InARow, in_a_row}

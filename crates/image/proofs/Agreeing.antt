@@ -22,6 +22,10 @@ pub no_entry_of_none : (p : Bool) (f b : ℕ) → entry_if p f b None ≡ []
 no_entry_of_none true f b = refl
 no_entry_of_none false f b = refl
 
+pub if_none : (p : Bool) (o : Option Block) → o ≡ None → (if p then o else None) ≡ None
+if_none true o off = off
+if_none false o off = refl
+
 -- the entries of a stripe, by what there is of each block that lies in it
 pub entries_same : (g : Geometry) (x y : State) (a v s : ℕ) → ((f b : ℕ) → stripe_of g f b ≡ s → entry_if (x.files (a, v, f)) f b (x.blocks (a, v, f, b))
     ≡ entry_if (y.files (a, v, f)) f b (y.blocks (a, v, f, b)))
@@ -101,7 +105,3 @@ module _ (version : ℕ) (g : Geometry) (pieces : ℕ → List ℕ) (n i : ℕ) 
           ∙ nothing_joined g.files (λ f. joined_below g.blocks (λ b. [])) (λ f. nothing_joined g.blocks (λ b. []) (λ b. refl)) in
           let size : g.quota * entry_size - 0 ≡ g.quota * entry_size = omega arith in
           ap (stripe_bytes g.quota) nothing ∙ ap (λ (k : ℕ). replicate k 0) size
-        where
-          if_none : (h : Bool) (o : Option Block) → o ≡ None → (if h then o else None) ≡ None
-          if_none true o off = off
-          if_none false o off = refl

@@ -13,11 +13,10 @@ use Rattle.affinity.proofs.Placed.{group_below}
 use Rattle.affinity.proofs.Elements.{all_take, all_drop}
 use Rattle.device_map.specs.Layout.{slice}
 use Rattle.language.specs.Messages.{AreSizedBytes}
-use Rattle.language.specs.declared.Block.{Block}
 use Rattle.meaning.specs.State.{State, VolumeKey, IsState}
 use Rattle.image.specs.Pieces.{pieces_of_volume, piece_count, piece_at, piece_size, piece_of, aggregate_of, volume_of, part_of, volume_piece_number, has_volume, is_made_in, is_sealed_in, has_file_in, label_in, block_in, decoded_by, stripe_piece_number}
 use Rattle.image.specs.Image.{image_head, image_of, image_state, is_image, is_version, has_head, version_in, piece_in, decoded_state, decoded_before, is_good, AreGood}
-use Rattle.image.proofs.Agreeing.{piece_same, zero_piece}
+use Rattle.image.proofs.Agreeing.{piece_same, zero_piece, if_none}
 use Rattle.image.proofs.Cuts.{is_piece, piece_again}
 use Rattle.image.proofs.Joining.{by_pieces, sum_grows}
 use Rattle.image.proofs.Numbers.{number_there}
@@ -60,10 +59,6 @@ module _ (version : ℕ) (g : Geometry) (bytes : List ℕ) where
       ap (λ (x : State). x.blocks (aggregate_of g n, volume_of g n, f, b)) (taken version g bytes n (omega (arith, below)))
       ∙ if_none (has_volume g (aggregate_of g n, volume_of g n)) _
       (no_block_in_zeros g (piece_in g bytes) n (stripe_piece_number g (aggregate_of g n) (volume_of g n) (stripe_of g f b)) f b (omega (arith, number, part)))
-    where
-      if_none : (h : Bool) (o : Option Block) → o ≡ None → (if h then o else None) ≡ None
-      if_none true o off = off
-      if_none false o off = refl
 
   -- all pieces, taken in one after the other
   all_taken : decoded_before version g bytes (piece_count g) ≡ decoded_state version g bytes

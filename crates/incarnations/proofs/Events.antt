@@ -5,7 +5,7 @@ use Rattle.std.specs.List.{Contains, position_or_len}
 use Rattle.std.proofs.lemmas.Bool.{true≢false}
 use Rattle.std.proofs.lemmas.List.{get_or-set_other, get_or-set_same, length-map, set-get_or}
 use Rattle.std.proofs.lemmas.List.Quantifiers.{position-Some}
-use Rattle.std.proofs.lemmas.Option.{get_or_from_slice_get, slice_get-map, slice_get_past, slice_get_within}
+use Rattle.std.proofs.lemmas.Option.{get_or_from_slice_get, slice_get-map, slice_get_past, slice_get_within, same_Some}
 use Rattle.affinity.specs.declared.geometry.Geometry.{Geometry}
 use Rattle.disk.proofs.Moments.{started}
 use Rattle.disk.specs.Device.{Medium}
@@ -26,7 +26,6 @@ use Rattle.histories.specs.declared.outcomes.Outcome.TheVariants as outcomes
 use Rattle.histories.specs.declared.outcomes.Step.{Step}
 use Rattle.histories.specs.declared.outcomes.Step.TheVariants as steps
 use Rattle.incarnations.proofs.InHands.{granted_is_fresh, granted_stays, hands_stay, holds_set, one_or_other, returned_stays}
-use Rattle.incarnations.proofs.Jobs.{job_ran}
 use Rattle.incarnations.specs.Hands.{IsRunIn, IsTakenFrom}
 use Rattle.incarnations.specs.Machine.{HoldsJobs, IsHandOf, hand_at, hand_of, machine_of, ticket_in}
 use Rattle.incarnations.specs.Steps.{IsCoreStep, IsMachineStep}
@@ -42,6 +41,7 @@ use Rattle.scheduler.proofs.Called.{answer_called, arrive_called}
 use Rattle.scheduler.specs.Calls.{IsGrantOf, IsNoGrant, answer_outcome, arrive_outcome}
 use Rattle.scheduler.specs.Jobs.{IsResultOf}
 use Rattle.scheduler.specs.CoreView.{CoreView, RecoversNow, RecoversThroughout, core_state_of}
+use Rattle.scheduler.proofs.Staying.{ran_gives}
 
 -- ---- what a crash leaves of a device that is left alone
 
@@ -248,15 +248,12 @@ module _ (keeps : Type 0) (old new : CoreView) (hands : List HandContent)
         (granted_stays g (core_state_of old) k.found (ticket, m) out)) in
         subst (λ (y : Geometry). HoldsJobs y (core_state_of new) (set hands hand (has.Job job))) (sym geometry)
         (holds_set g (core_state_of new) hands moved hand within (has.Job job) k.is_job
-        (λ i ticket other is mine. fresh h i ticket (h.each i) is (some_same mine)))
+        (λ i ticket other is mine. fresh h i ticket (h.each i) is (same_Some _ _ mine)))
       where
-        some_same : {a b : ℕ} → ◌≡◌ {A = Option ℕ} (Some a) (Some b) → a ≡ b
-        some_same e = cc
-
         of : (x : HandContent) (ticket : ℕ) → IsHandOf old.geometry (core_state_of old) x → ticket_in x ≡ Some ticket → (m : Msg) × Contains old.in_flight (ticket, m)
         of has.Empty ticket is e = cc
-        of (has.Job j) ticket is e = (j.message, subst (λ (t : ℕ). Contains old.in_flight (t, j.message)) (some_same e) is.in_flight)
-        of (has.Result d) ticket is e = (d.message, subst (λ (t : ℕ). Contains old.in_flight (t, d.message)) (some_same e) is.in_flight)
+        of (has.Job j) ticket is e = (j.message, subst (λ (t : ℕ). Contains old.in_flight (t, j.message)) (same_Some _ _ e) is.in_flight)
+        of (has.Result d) ticket is e = (d.message, subst (λ (t : ℕ). Contains old.in_flight (t, d.message)) (same_Some _ _ e) is.in_flight)
 
         fresh : HoldsJobs old.geometry (core_state_of old) hands → (i ticket : ℕ) → IsHandOf old.geometry (core_state_of old) (hand_at hands i)
             → ticket_in (hand_at hands i) ≡ Some ticket → job.ticket ≡ ticket → ⊥
@@ -341,9 +338,6 @@ module _ (keeps : Type 0) (core : CoreView) (hands : List HandContent) (none : c
       (ap (λ (o : Option Hand). back_from g held_now i (result_in held_now.core o)) (shown hands i (has.Job job) read))
   no_result (has.Result done) new read k = cc
 
-  some_same : {A : Type 0} {a b : A} → ◌≡◌ {A = Option A} (Some a) (Some b) → a ≡ b
-  some_same e = cc
-
   -- a job that runs
   module _ (job : JobView) (done : Done) (read : slice_get hands i ≡ Some (has.Job job)) (run : IsJobRun job done) where
     abbrev ran_hands : List HandContent
@@ -357,7 +351,7 @@ module _ (keeps : Type 0) (core : CoreView) (hands : List HandContent) (none : c
     ran_holds : HoldsJobs g (core_state_of core) ran_hands
     ran_holds =
         let was : IsHandOf g (core_state_of core) (has.Job job) = subst (IsHandOf g (core_state_of core)) (it_has hands i (has.Job job) read) (h.each i) in
-        holds_set g (core_state_of core) hands h i (is_there hands i (has.Job job) read) (has.Result done) (job_ran g (core_state_of core) job done was run)
+        holds_set g (core_state_of core) hands h i (is_there hands i (has.Job job) read) (has.Result done) (ran_gives g (core_state_of core) job done was run)
         (λ k ticket other is mine. other (h.once k i ticket is
         (ap ticket_in (it_has hands i (has.Job job) read) ∙ ap (λ (t : ℕ). Some t) (sym run.ticket) ∙ mine)))
 
@@ -375,7 +369,7 @@ module _ (keeps : Type 0) (core : CoreView) (hands : List HandContent) (none : c
   pub taken : (x new : HandContent) (done : Done) → IsTakenFrom x new (Some done) → (x ≡ has.Result done) × (new ≡ has.Empty)
   taken has.Empty new done k = cc
   taken (has.Job job) new done k = cc
-  taken (has.Result result) new done k = (ap (λ (d : Done). has.Result d) (sym (some_same k.0)), k.1)
+  taken (has.Result result) new done k = (ap (λ (d : Done). has.Result d) (sym (same_Some _ _ k.0)), k.1)
 
   module _ (done : Done) (read : slice_get hands i ≡ Some (has.Result done)) where
     pub was_result : IsResultOf g (core_state_of core) done

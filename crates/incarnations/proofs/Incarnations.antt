@@ -1,6 +1,7 @@
 -- What the incarnations of a device leave.
-use Rattle.std.proofs.Common.{◌≡◌, ◌⊎◌, ℕ, ◌≤◌, List, [], ◌∷◌, ◌++◌, Option, Some, None, refl, ap, sym, ◌∙◌, subst, append_assoc, inl, inr, ⊎_elim}
+use Rattle.std.proofs.Common.{◌≡◌, ◌⊎◌, ℕ, ◌≤◌, List, [], ◌∷◌, ◌++◌, Some, None, refl, ap, sym, ◌∙◌, subst, append_assoc, inl, inr, ⊎_elim}
 use Rattle.std.proofs.lemmas.List.{append-nil}
+use Rattle.std.proofs.lemmas.Option.{same_Some}
 use Rattle.affinity.specs.declared.geometry.Geometry.{Geometry}
 use Rattle.checkpoint.proofs.NotRefused.{is_not_refused, has_header}
 use Rattle.checkpoint.proofs.OneGeometry.{one_geometry}
@@ -33,9 +34,6 @@ module _ (g : Geometry) where
     pub state : State
     pub is : recovered_state g c ≡ Some state
     pub left : IsLeftByIncarnations g incarnations state
-
-  some_same : {x y : State} → ◌≡◌ {A = Option State} (Some x) (Some y) → x ≡ y
-  some_same e = cc
 
   -- ---- one incarnation more
 
@@ -72,7 +70,7 @@ module _ (g : Geometry) where
         let legal = subst (λ (h : Geometry). IsLegal h start events) one run.legal in
         let recovered_before = subst (λ (h : Geometry). recovered_state h l.at_open.now ≡ Some start.core.committed) one run.recovered_before in
         let x = start.core.committed in
-        let same : at_first.state ≡ x = some_same (sym at_first.is ∙ recovered_before) in
+        let same : at_first.state ≡ x = same_Some _ _ (sym at_first.is ∙ recovered_before) in
         let incarnation = incarnation_of_run g start events k ran.state run.idle legal ran.left in
         record {
           state = ran.state;

@@ -1,35 +1,19 @@
 -- A job in flight and its result stay the same while other events come.
-use Rattle.std.proofs.Common.{◌≡◌, ap, sym, subst, ◌∙◌}
+use Rattle.std.proofs.Common.{sym, subst, ◌∙◌}
 use Rattle.std.specs.List.{Contains}
 use Rattle.affinity.specs.Path.{are_related}
 use Rattle.affinity.specs.declared.geometry.Geometry.{Geometry}
-use Rattle.histories.specs.CoreState.{Entry, CoreState}
+use Rattle.histories.specs.CoreState.{CoreState}
 use Rattle.language.specs.Messages.{path_of}
 use Rattle.language.specs.declared.Msg.{Msg}
-use Rattle.parcel.proofs.SerialRuns.{serial_run}
-use Rattle.parcel.specs.Fits.{IsRunnable}
-use Rattle.parcel.specs.Run.{JobView, IsJobRun, Shows}
+use Rattle.parcel.specs.Run.{JobView}
 use Rattle.parcel.specs.declared.job.Done.{Done}
 use Rattle.meaning.proofs.Agree.{agree-sym, agree-trans}
 use Rattle.meaning.proofs.Frame.{reads_only}
-use Rattle.meaning.specs.Serial.{next_state, reply_to}
 use Rattle.meaning.specs.Subtrees.{AgreeOn}
 use Rattle.scheduler.specs.Jobs.{IsJobOf, IsResultOf}
 
 module _ (g : Geometry) where
-  -- A job that runs becomes its result.
-  pub job_ran : (w : CoreState) (job : JobView) (done : Done) → IsJobOf g w job → IsJobRun job done → IsResultOf g w done
-  job_ran w job done h run =
-      let k = serial_run job done w.committed run h.lent in
-      let same : ◌≡◌ {A = Geometry × Msg} (job.geometry, job.message) (g, done.message) = λ i. (h.geometry i, sym run.message i) in
-      record {
-        in_flight = subst (λ (e : Entry). Contains w.in_flight e) (λ i. (sym run.ticket i, sym run.message i)) h.in_flight;
-        runnable = subst (λ (p : Geometry × Msg). IsRunnable p.0 p.1 done.parcels) same run.runnable;
-        reply = k.reply ∙ ap (λ (p : Geometry × Msg). reply_to p.0 w.committed p.1) same;
-        standing = job.standing;
-        shows = subst (λ (p : Geometry × Msg). Shows p.0 (path_of p.0 p.1) job.standing done.parcels (next_state p.0 w.committed p.1)) same k.shows;
-      }
-
   -- The message sees the same in the committed state of both core states.
   abbrev pub SeesSame : CoreState → CoreState → Msg → Type 0
   SeesSame old new m = AgreeOn g (are_related (path_of g m)) new.committed old.committed

@@ -3,6 +3,7 @@ use Rattle.std.proofs.Common.{◌≡◌, ℕ, zero, suc, ◌+◌, ◌*◌, ◌<�
 use Rattle.std.specs.Prelude.{◌==◌, ◌&&◌}
 use Rattle.std.specs.Cmp.{nat_eq_equiv}
 use Rattle.std.proofs.lemmas.Bool.{cases_eq, eq-eqb, eqb-true, false_from_ne_true}
+use Rattle.std.proofs.Math.Bool.{and_comm}
 use Rattle.meaning.specs.State.{sum_below, one_if, count_below}
 
 pub sum_below-le : (n : ℕ) (f h : ℕ → ℕ) → ((i : ℕ) → i < n → f i ≤ h i) → sum_below n f ≤ sum_below n h
@@ -107,11 +108,5 @@ sum_one_more n j f h below others here = let changed = sum_below_changed n j f h
 pub sum_pick : (n j : ℕ) → j < n → (p : Bool) → sum_below n (λ i. one_if (p && (i == j))) ≡ one_if p
 sum_pick n j below p = sum_same n _ _ (λ i. ap one_if (turned p i)) ∙ sum_below_at n j p below
   where
-    swapped : (p q : Bool) → (p && q) ≡ (q && p)
-    swapped true true = refl
-    swapped true false = refl
-    swapped false true = refl
-    swapped false false = refl
-
     turned : (p : Bool) (i : ℕ) → (p && (i == j)) ≡ ((j == i) && p)
-    turned p i = ap (λ t. p && t) (nat_eq_equiv.symm i j) ∙ swapped p (j == i)
+    turned p i = ap (λ t. p && t) (nat_eq_equiv.symm i j) ∙ and_comm p (j == i)

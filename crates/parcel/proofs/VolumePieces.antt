@@ -27,6 +27,7 @@ use Rattle.parcel.specs.declared.pieces.volumes.VolumePiece.{VolumePiece}
 use Rattle.meaning.proofs.FileNumber.{sum_bits, bits_back}
 use Rattle.meaning.proofs.FileBits.{has_none}
 use Rattle.image.proofs.Decoded.{label_is}
+use Rattle.image.proofs.Reading.{eight_bytes}
 
 -- ---- what is spelled
 
@@ -88,16 +89,13 @@ module _ (version : ℕ) (g : Geometry) (bytes : List ℕ) (good : bytes ≡ spe
       good ∙ ap (λ (t : Bool). if t then 1 ∷ one_if (is_sealed_in bytes) ∷ [] ++ replicate 6 0 ++ little_bytes 8 (number % 2 ^ g.files)
       ++ decoded_label version bytes ++ replicate 16 0 else replicate 64 0) off
 
-  eight_again : (n : ℕ) → n < 2 ^ 64 → little_number 8 (little_bytes 8 n) ≡ n
-  eight_again n below = omega (arith, below)
-
   -- the bytes encode no file that the geometry doesn't have
   pub number_whole : number % 2 ^ g.files ≡ number
   number_whole = by (is_made_in bytes) refl
     where
       by : (t : Bool) → is_made_in bytes ≡ t → number % 2 ^ g.files ≡ number
       by true on =
-          sym (eight_again (number % 2 ^ g.files) fits_eight)
+          sym (eight_bytes (number % 2 ^ g.files) fits_eight)
           ∙ sym (ap (λ (l : List ℕ). little_number 8 (slice l 8 8))
           (good ∙ ap (λ (t : Bool). if t then 1 ∷ one_if (is_sealed_in bytes) ∷ [] ++ replicate 6 0 ++ little_bytes 8 (number % 2 ^ g.files)
           ++ decoded_label version bytes ++ replicate 16 0 else replicate 64 0) on))

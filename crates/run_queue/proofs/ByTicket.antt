@@ -1,9 +1,10 @@
 -- Which message is dispatched next, by tickets: where the tickets ascend, the first one that is conflict-free and has room.
-use Rattle.std.proofs.Common.{◌≡◌, ◌∙◌, ℕ, ◌<◌, Bool, true, false, not, ◌&&◌, ◌||◌, List, [], ◌∷◌, ◌++◌, Some, refl, ap, sym, arith, append_assoc}
+use Rattle.std.proofs.Common.{◌≡◌, ◌∙◌, ℕ, ◌<◌, Bool, false, not, ◌&&◌, ◌||◌, List, [], ◌∷◌, ◌++◌, Some, refl, ap, sym, arith, append_assoc}
 use Rattle.std.specs.Prelude.{if◌then◌else◌, nat_lt}
 use Rattle.std.specs.List.{list_any, find, AllByRecursion}
 use Rattle.std.proofs.lemmas.Bool.{ltb-true, lt-ltb, false_from_ne_true}
 use Rattle.std.proofs.lemmas.List.Folds.{list_any-append}
+use Rattle.std.proofs.Math.Bool.{or-false}
 use Rattle.run_queue.specs.RunQueue.{are_related_intervals, is_free_of, has_room, first_dispatchable, next_queued, CameBefore}
 pub use Rattle.run_queue.specs.Order.{Ascend, waits_for, is_conflict_free}
 use Rattle.run_queue.specs.declared.queued_message.QueuedMessage.{QueuedMessage}
@@ -27,17 +28,13 @@ none_late t (d ∷ ts) after =
     let above = after.0 in
     ap (λ b. b || list_any (waits_for t) ts) (not_less t d (λ less. omega (arith, less, above))) ∙ none_late t ts after.1
 
-pub or_nothing : (b : Bool) → (b || false) ≡ b
-or_nothing true = refl
-or_nothing false = refl
-
 only_early : (t : QueuedMessage) (earlier later : List QueuedMessage) → CameBefore t.ticket earlier → AllByRecursion (λ d. t.ticket < d.ticket) later
     → list_any (waits_for t) (earlier ++ t ∷ later) ≡ list_any (λ d. are_related_intervals t.affinity d.affinity) earlier
 only_early t earlier later before after =
     list_any-append (waits_for t) earlier (t ∷ later)
     ∙ ap (λ b. list_any (waits_for t) earlier || (b || list_any (waits_for t) later)) (not_less t t (λ less. omega (arith, less)))
     ∙ ap (λ b. list_any (waits_for t) earlier || b) (none_late t later after)
-    ∙ or_nothing (list_any (waits_for t) earlier)
+    ∙ or-false (list_any (waits_for t) earlier)
     ∙ all_early t earlier before
 
 came_before : (ticket : ℕ) (ts : List QueuedMessage) (t : QueuedMessage) → CameBefore ticket ts → t.ticket < ticket → CameBefore ticket (ts ++ t ∷ [])

@@ -5,6 +5,7 @@ use Rattle.std.specs.List.{list_any, AllByRecursion}
 use Rattle.std.proofs.lemmas.Bool.{eq-eqb, ne_eqb, eqb-true, ltb-true, lt-ltb, cases_Bool, cases_eq, and_parts, and_from, or_left, or_right, or_parts, true≢false, false_from_ne_true, not-true}
 use Rattle.std.proofs.lemmas.Bool.Decides.{leb_tells}
 use Rattle.std.proofs.Math.Nat.{min-eq_left, min-eq_right, min-le_left, min-le_right}
+use Rattle.std.proofs.Math.Bool.{or-false}
 use Rattle.affinity.specs.Interval.{IsAffinity, contains, affinity_count}
 use Rattle.affinity.specs.declared.geometry.Geometry.{Geometry}
 use Rattle.run_queue.specs.RunQueue.{are_related_intervals, is_free_of, has_room, has_number, next_queued}
@@ -118,10 +119,6 @@ clear-first g held waiting {t} p placed ascends found clear =
     first_in g t p waiting (find-all (λ d. IsAffinity g d.affinity) p waiting t placed found) ascends found
     (not-true _ (and_parts (is_free_of held t) _ clear).1)
 
-or_nothing : (b : Bool) → b ≡ (b || false)
-or_nothing true = refl
-or_nothing false = refl
-
 -- the first message that may be dispatched at an affinity number below n
 abbrev pub first_below : Bool → List QueuedMessage → List QueuedMessage → ℕ → Option QueuedMessage
 first_below room held waiting n = find (λ t. nat_lt t.affinity.number n && (has_room room t && is_conflict_free held waiting t)) waiting
@@ -183,7 +180,7 @@ module _ (g : Geometry) (room : Bool) (held waiting : List QueuedMessage) (place
 
   less_suc : (a n : ℕ) (b : Bool) → (nat_lt a (n + 1) && b) ≡ ((nat_lt a n && b) || ((a == n) && b))
   less_suc a n b = elim (leb_tells (suc a) n) [
-    | inl e ↦ rw (e.0, lt-ltb a (n + 1) (omega (arith, e.1)), ne_eqb a n (λ same. omega (arith, same, e.1))) (or_nothing b)
+    | inl e ↦ rw (e.0, lt-ltb a (n + 1) (omega (arith, e.1)), ne_eqb a n (λ same. omega (arith, same, e.1))) (sym (or-false b))
     | inr e ↦ elim (cases_eq a n) [
       | inl same ↦ rw (e.0, lt-ltb a (n + 1) (omega (arith, same)), eq-eqb a n same) refl
       | inr other ↦ rw (

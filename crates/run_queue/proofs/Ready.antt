@@ -6,10 +6,11 @@ use Rattle.std.proofs.lemmas.Bool.{ne_eqb, eqb-true, ltb-true, lt-ltb, cases_Boo
 use Rattle.std.proofs.lemmas.Bool.Decides.{eqb_tells, leb_tells}
 use Rattle.std.proofs.lemmas.List.Folds.{list_any-append}
 use Rattle.std.proofs.lemmas.Option.{none-some}
-use Rattle.run_queue.proofs.ByTicket.{or_nothing}
+use Rattle.std.proofs.Math.Bool.{or-false, or_assoc, or_comm}
 use Rattle.affinity.specs.Path.{Path}
 use Rattle.affinity.specs.Interval.{Interval, IsAffinity, contains, interval, affinity_count}
 use Rattle.affinity.specs.declared.geometry.Geometry.{Geometry}
+use Rattle.affinity.proofs.Elements.{any_moved}
 use Rattle.run_queue.specs.RunQueue.{are_related_intervals, is_free_of, has_room, has_slot, has_number, without_slot, without_number, CameBefore}
 use Rattle.run_queue.specs.Slots.{count_in_slot}
 use Rattle.run_queue.specs.Order.{Ascend, waits_for, is_conflict_free}
@@ -103,7 +104,7 @@ later-clear held waiting t f less =
     ap (λ b. is_free_of held f && not b)
     (list_any-append (waits_for f) waiting (t ∷ [])
     ∙ ap (λ b. list_any (waits_for f) waiting || (b || false)) not_first
-    ∙ or_nothing (list_any (waits_for f) waiting))
+    ∙ or-false (list_any (waits_for f) waiting))
 
 module _ (held waiting : List QueuedMessage) (t : QueuedMessage) (later : CameBefore t.ticket waiting) where
   pub ready-arrived : (n : ℕ) → (find (has_number n) waiting ≡ None → t.affinity.number ≢ n) → ready_at held (waiting ++ t ∷ []) n ≡ ready_at held waiting n
@@ -130,15 +131,11 @@ module _ (held waiting : List QueuedMessage) (t : QueuedMessage) (later : CameBe
 
 -- ---- numbers one by one
 
-or_turned : (a b c : Bool) → (a || (b || c)) ≡ ((a || b) || c)
-or_turned true b c = refl
-or_turned false b c = refl
-
 any-suc : (p : ℕ → Bool) (xs : List ℕ) (i : ℕ) → i < length xs → list_any p (take (suc i) xs) ≡ (list_any p (take i xs) || p (slice_index_or xs i 0))
 any-suc p [] i below = absurd (omega arith)
-any-suc p (x ∷ xs) zero below = or_nothing (p x)
+any-suc p (x ∷ xs) zero below = or-false (p x)
 any-suc p (x ∷ xs) (suc i) below =
-    ap (λ b. p x || b) (any-suc p xs i (omega arith)) ∙ or_turned (p x) (list_any p (take i xs)) (p (slice_index_or xs i 0))
+    ap (λ b. p x || b) (any-suc p xs i (omega arith)) ∙ sym (or_assoc (p x) (list_any p (take i xs)) (p (slice_index_or xs i 0)))
 
 pub any-more : (p : ℕ → Bool) (xs : List ℕ) (i : ℕ) → i < length xs → list_any p (take (i + 1) xs) ≡ (list_any p (take i xs) || p (slice_index_or xs i 0))
 any-more p xs i below = let next : i + 1 ≡ suc i = omega arith in ap (λ j. list_any p (take j xs)) next ∙ any-suc p xs i below
@@ -202,17 +199,11 @@ any-without q (d ∷ ts) t all other = elim (cases_Bool (has_slot t.slot d)) [
   | inr k ↦ rw k (ap (λ b. q d || b) (any-without q ts t all.1 other))
 ]
 
-or_moved : (a b c : Bool) → (a || (b || c)) ≡ (b || (a || c))
-or_moved true true c = refl
-or_moved true false c = refl
-or_moved false b c = refl
-
 any-between : (q : QueuedMessage → Bool) (t : QueuedMessage) (before after : List QueuedMessage) → HasInserted t before after → list_any q after ≡ (q t || list_any q before)
 any-between q t before after h =
     ap (λ (ts : List QueuedMessage). list_any q ts) h.3
-    ∙ list_any-append q h.0 (t ∷ h.1)
-    ∙ or_moved (list_any q h.0) (q t) (list_any q h.1)
-    ∙ ap (λ b. q t || b) (sym (list_any-append q h.0 h.1) ∙ ap (λ (ts : List QueuedMessage). list_any q ts) (sym h.2))
+    ∙ any_moved q h.0 t h.1
+    ∙ ap (λ (ts : List QueuedMessage). list_any q (t ∷ ts)) (sym h.2)
 
 -- those that wait have distinct tickets
 same-ticket : (p q : QueuedMessage → Bool) (ts : List QueuedMessage) {a b : QueuedMessage} → Ascend ts → find p ts ≡ Some a → find q ts ≡ Some b
@@ -232,14 +223,8 @@ same-ticket p q (d ∷ ts) {a} {b} ascends first second same = elim (cases_Bool 
   ])
 ]
 
-or_both : (a b : Bool) → (a || b) ≡ (b || a)
-or_both true true = refl
-or_both true false = refl
-or_both false true = refl
-or_both false false = refl
-
 overlap-both : (a b : Interval) → are_related_intervals a b ≡ are_related_intervals b a
-overlap-both a b = or_both (contains a b.number) (contains b a.number)
+overlap-both a b = or_comm (contains a b.number) (contains b a.number)
 
 not_held : (held waiting : List QueuedMessage) (u : QueuedMessage) → list_any (λ other. are_related_intervals u.affinity other.affinity) held ≡ true → is_conflict_free held waiting u ≡ false
 not_held held waiting u near = ap (λ b. not b && not (list_any (waits_for u) waiting)) near

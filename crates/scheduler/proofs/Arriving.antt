@@ -1,7 +1,7 @@
 -- A core that takes a message in.
 use Rattle.std.proofs.Common.{◌≡◌, ℕ, suc, ◌+◌, ◌<◌, [], ◌∷◌, ◌++◌, map, length, refl, ap, sym, subst, ◌∙◌, arith}
 use Rattle.std.proofs.lemmas.List.{length-append, map-append}
-use Rattle.histories.proofs.Lists.{all_join}
+use Rattle.affinity.proofs.Elements.{all_join}
 use Rattle.histories.proofs.Moves.{Arrives}
 use Rattle.histories.proofs.Sound.{move_sound}
 use Rattle.histories.specs.Laws.{IsSoundCoreState}

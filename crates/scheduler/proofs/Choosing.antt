@@ -6,9 +6,9 @@ use Rattle.std.proofs.Math.Bool.{and_comm}
 use Rattle.std.proofs.lemmas.Bool.{true≢false, or_right}
 use Rattle.std.proofs.lemmas.List.Folds.{list_any-append}
 use Rattle.std.proofs.lemmas.Option.{none-some, same_Some}
-use Rattle.histories.proofs.Lists.{all_weaker}
 use Rattle.affinity.proofs.Preorder.{are_related-contains}
 use Rattle.affinity.specs.declared.geometry.Geometry.{Geometry}
+use Rattle.affinity.proofs.Elements.{all_weaker}
 use Rattle.histories.specs.Eligible.{has_room as has_room_for, is_conflict_free as is_clear_in, is_eligible, lacks_only_room, next_eligible, pick}
 use Rattle.histories.specs.Events.{grant_refusal}
 use Rattle.histories.specs.Laws.{AreAscending}

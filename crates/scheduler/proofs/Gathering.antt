@@ -1,5 +1,5 @@
 -- The changes among the messages that ran, gathered one after the other.
-use Rattle.std.proofs.Common.{◌≡◌, ℕ, zero, suc, ◌+◌, ◌≤◌, ◌<◌, Bool, true, false, List, [], ◌∷◌, ◌++◌, map, length, take, drop, get_or, Option, Some, None, refl, sym, ap, subst, ◌∙◌, arith, inl, inr}
+use Rattle.std.proofs.Common.{◌≡◌, ℕ, zero, suc, ◌+◌, ◌≤◌, ◌<◌, true, false, List, [], ◌∷◌, ◌++◌, map, length, take, drop, get_or, Option, Some, None, refl, sym, ap, subst, ◌∙◌, arith, inl, inr}
 use Rattle.std.specs.Prelude.{cond, filter, slice_index_or, if◌then◌else◌, unwrap_or}
 use Rattle.std.specs.List.{concat}
 use Rattle.std.proofs.lemmas.Bool.{lt-ltb, le-ltb, eq-eqb}
@@ -150,7 +150,3 @@ module _ (arena : ArenaView Slot) (replies : List Reply) (is : HasChains arena) 
 
 pub ran_goes_on : (arena : ArenaView Slot) (n count : ℕ) → n < count → count ≤ length (chain_at arena 2) → first_of (drop n (chain_at arena 2)) ≡ None → ⊥
 ran_goes_on arena n count low few none = some_first (drop n (chain_at arena 2)) (left_over n (chain_at arena 2) (omega (arith, low, few))) none
-
-pub at_most_one : (b : Bool) → cond b 1 0 ≤ 1
-at_most_one true = omega arith
-at_most_one false = omega arith

@@ -8,11 +8,12 @@ use Rattle.std.proofs.lemmas.Bool.Decides.{eqb_tells}
 use Rattle.affinity.specs.Interval.{Interval, IsAffinity, IsAffinityOf}
 use Rattle.affinity.specs.Path.{Path}
 use Rattle.affinity.specs.declared.geometry.Geometry.{Geometry}
+use Rattle.affinity.proofs.Elements.{all_join}
 use Rattle.arena.proofs.ArenaLemmas.{chained-holds, chained-once}
 use Rattle.arena.proofs.Counts.{count_of-append, count_of-cons_is, count_of-cons_other, count_of-cons_same}
 use Rattle.arena.specs.Lists.{count_of}
 use Rattle.arena.specs.ArenaView.{IsPartitioned, ArenaView, after_move, capacity_of, chain_at, value_at}
-use Rattle.histories.proofs.Lists.{all_back, all_join}
+use Rattle.histories.proofs.Lists.{all_back}
 use Rattle.histories.specs.Eligible.{is_eligible}
 use Rattle.histories.specs.Events.{grant}
 use Rattle.histories.specs.CoreState.{Entry, CoreState}

@@ -5,7 +5,8 @@ use Rattle.std.specs.List.{AllByRecursion}
 use Rattle.std.proofs.lemmas.Bool.{eq-eqb}
 use Rattle.std.proofs.lemmas.List.{length-append, map-append}
 use Rattle.std.proofs.lemmas.List.Elements.{filter-append}
-use Rattle.histories.proofs.Lists.{all_back, all_front, all_join}
+use Rattle.affinity.proofs.Elements.{all_join}
+use Rattle.histories.proofs.Lists.{all_back, all_front}
 use Rattle.histories.proofs.Moves.{Grants}
 use Rattle.histories.proofs.Sound.{move_sound}
 use Rattle.histories.specs.Eligible.{next_eligible}

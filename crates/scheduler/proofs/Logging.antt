@@ -7,13 +7,14 @@ use Rattle.std.proofs.lemmas.List.Elements.{All-from_recursion}
 use Rattle.std.proofs.lemmas.List.{drop-map, length-append, map-append, take-append-drop, take-map}
 use Rattle.affinity.specs.Kind.{is_changing}
 use Rattle.affinity.specs.declared.geometry.Geometry.{Geometry}
+use Rattle.affinity.proofs.Elements.{all_join}
 use Rattle.checkpoint.specs.Recovery.{recovered_state}
 use Rattle.disk.proofs.Moments.{leaves_now}
 use Rattle.disk.specs.Device.{IsCrashImage, Medium}
 use Rattle.disk.specs.Moments.{CrashImagesAre}
 use Rattle.journal.specs.Journal.{AreCarriedOut, RecoversWithPrefix, committed}
 use Rattle.journal.specs.DirtyPieces.{DirtyPieces}
-use Rattle.histories.proofs.Lists.{all_back, all_front, all_join, before_back, before_front}
+use Rattle.histories.proofs.Lists.{all_back, all_front, before_back, before_front}
 use Rattle.histories.proofs.Moves.{Logs}
 use Rattle.histories.proofs.Room.{log_has_room}
 use Rattle.histories.proofs.Sound.{move_sound}

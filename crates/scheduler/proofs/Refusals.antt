@@ -3,6 +3,7 @@ use Rattle.std.proofs.Common.{◌≡◌, ◌≤◌, ◌<◌, ℕ, Bool, true, fa
 use Rattle.std.specs.Prelude.{nat_lt}
 use Rattle.std.proofs.lemmas.Bool.{ltb-false}
 use Rattle.std.proofs.lemmas.List.{take-take}
+use Rattle.std.proofs.lemmas.Option.{same_Some}
 use Rattle.affinity.specs.declared.geometry.Geometry.{Geometry}
 use Rattle.checkpoint.proofs.NotRefused.{is_not_refused, has_header}
 use Rattle.checkpoint.proofs.OneGeometry.{same_geometry}
@@ -71,11 +72,8 @@ module _ (c : List ℕ) where
       let whole = ltb-false (length c) (device_size (layout_of g)) (not_first (nat_lt (length c) (device_size (layout_of g))) _ none) in
       omega (arith, whole)
 
-  some_same : (e fault : OpenFault) → ◌≡◌ {A = Option OpenFault} (Some e) (Some fault) → e ≡ fault
-  some_same e fault is = cc
-
   pub one_fault : (e fault : OpenFault) → IsShownByBytes e → IsRefused c e → IsShownByBytes fault → IsRefused c fault → e ≡ fault
-  one_fault e fault shown is also_shown also = some_same e fault (one (Some e) (Some fault) (found e shown is) (found fault also_shown also))
+  one_fault e fault shown is also_shown also = same_Some e fault (one (Some e) (Some fault) (found e shown is) (found fault also_shown also))
 
   pub opened_or_refused : (g : Geometry) (fault : OpenFault) → HasHeader g c → refused g c ≡ None → IsShownByBytes fault → IsRefused c fault → ⊥
   opened_or_refused g fault header none shown is = absurd (none_some fault (one None (Some fault) (With g (long_enough g none) header none) (found fault shown is)))

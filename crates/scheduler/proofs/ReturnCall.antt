@@ -7,7 +7,7 @@ use Rattle.std.proofs.lemmas.Bool.{and_parts, eq-eqb, true≢false, not-true, an
 use Rattle.std.proofs.lemmas.Bool.Decides.{eqb_tells}
 use Rattle.std.proofs.lemmas.List.{get_or-set_other, get_or-set_same, length-append, length-set}
 use Rattle.std.proofs.lemmas.List.Folds.{list_any-append}
-use Rattle.histories.proofs.Clearing.{or_nothing}
+use Rattle.std.proofs.Math.Bool.{or-false}
 use Rattle.affinity.specs.Interval.{Interval, IsAffinityOf, interval}
 use Rattle.affinity.specs.Path.{Path}
 use Rattle.affinity.specs.declared.geometry.Geometry.{Geometry}
@@ -144,7 +144,7 @@ module _ (keeps : Type 0) (p : Parts) (k : IsCore keeps p) (before : List SlotVi
   holder_is slot has =
       let t : SlotView → Bool = λ (y : SlotView). holds_at n slot (queued_of y) in
       let here : t x ≡ true =
-      sym (or_nothing (t x))
+      sym (or-false (t x))
       ∙ ap (λ b. t x || b) (sym (none_at n slot behind others_behind))
       ∙ sym (or_false (list_any t before) (list_any t (x ∷ behind)) (none_at n slot before others_before))
       ∙ sym (list_any-append t before (x ∷ behind))

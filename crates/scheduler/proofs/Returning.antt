@@ -4,7 +4,8 @@ use Rattle.std.specs.Prelude.{◌==◌, if◌then◌else◌, option_map}
 use Rattle.std.specs.List.{AllByRecursion}
 use Rattle.std.proofs.lemmas.Bool.{eq-eqb, ne_eqb}
 use Rattle.std.proofs.lemmas.List.{length-append, map-append}
-use Rattle.histories.proofs.Lists.{all_back, all_front, all_join, before_front, before_one}
+use Rattle.affinity.proofs.Elements.{all_join}
+use Rattle.histories.proofs.Lists.{all_back, all_front, before_front, before_one}
 use Rattle.histories.proofs.Moves.{Backs}
 use Rattle.histories.proofs.Sound.{move_sound}
 use Rattle.histories.specs.Eligible.{pick}

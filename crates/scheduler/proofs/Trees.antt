@@ -1,21 +1,22 @@
 -- The tree of a core beside its core state: what may be lent, what is taken back, and what logging leaves.
-use Rattle.std.proofs.Common.{◌≡◌, ℕ, append_assoc, Bool, true, false, List, [], ◌∷◌, ◌++◌, take, drop, Some, refl, ap, sym, subst, ◌∙◌, ⊎_elim}
+use Rattle.std.proofs.Common.{◌≡◌, ℕ, append_assoc, true, false, List, [], ◌∷◌, ◌++◌, take, drop, Some, refl, ap, sym, subst, ◌∙◌, ⊎_elim}
 use Rattle.std.specs.Prelude.{◌||◌}
-use Rattle.std.specs.List.{AllByRecursion, list_any}
+use Rattle.std.specs.List.{AllByRecursion}
 use Rattle.std.proofs.lemmas.Bool.{or_cases, true≢false}
 use Rattle.std.proofs.lemmas.List.{take-append-drop}
 use Rattle.std.proofs.lemmas.List.Folds.{list_any-append}
-use Rattle.histories.proofs.Clearing.{or_nothing}
+use Rattle.std.proofs.Math.Bool.{or-false, or_comm}
 use Rattle.affinity.proofs.Paths.{unrelated_below, unrelated_turned}
 use Rattle.affinity.specs.Interval.{IsPath}
 use Rattle.affinity.specs.Path.{Path, are_related, is_prefix}
 use Rattle.affinity.specs.declared.geometry.Geometry.{Geometry}
+use Rattle.affinity.proofs.Elements.{all_weaker, any_moved}
 use Rattle.histories.specs.Eligible.{next_eligible}
 use Rattle.histories.specs.Events.{log}
 use Rattle.histories.specs.Laws.{IsSoundCoreState, AreUnrelated}
 use Rattle.histories.specs.CoreState.{Entry, Replied, CoreState, entries, held, are_related_entries}
 use Rattle.histories.proofs.Apart.{apart_turned, entries-append, granted_is_free}
-use Rattle.histories.proofs.Lists.{all_back, all_front, all_weaker, before_back, before_first, before_one}
+use Rattle.histories.proofs.Lists.{all_back, all_front, before_back, before_first, before_one}
 use Rattle.histories.proofs.Outs.{entries_leave}
 use Rattle.histories.proofs.Sound.{row_of}
 use Rattle.histories.proofs.SerialReplies.{state_after_all-append}
@@ -48,29 +49,17 @@ apart_below g e (d ∷ es) apart q below =
     (λ there. apart_below g e es apart.1 q there)
     (or_cases (is_prefix (path_of g d.1) q) (is_below g es q) below)
 
-or_turned : (a b : Bool) → (a || b) ≡ (b || a)
-or_turned true true = refl
-or_turned true false = refl
-or_turned false b = sym (or_nothing b)
-
 -- one place more, and one fewer
 pub below_push : (g : Geometry) (es : List Entry) (e : Entry) (q : Path) → with_place (path_of g e.1) (is_below g es) q ≡ is_below g (es ++ e ∷ []) q
 below_push g es e q =
-    or_turned (is_prefix (path_of g e.1) q) (is_below g es q)
-    ∙ ap (λ b. is_below g es q || b) (sym (or_nothing (is_prefix (path_of g e.1) q)))
+    or_comm (is_prefix (path_of g e.1) q) (is_below g es q)
+    ∙ ap (λ b. is_below g es q || b) (sym (or-false (is_prefix (path_of g e.1) q)))
     ∙ sym (list_any-append (λ (e : Entry). is_prefix (path_of g e.1) q) es (e ∷ []))
-
-or_middle : (a b c : Bool) → (a || (b || c)) ≡ (b || (a || c))
-or_middle true true c = refl
-or_middle true false c = refl
-or_middle false b c = refl
 
 pub below_cut : (g : Geometry) (before : List Entry) (e : Entry) (behind : List Entry) (q : Path)
     → is_below g (before ++ e ∷ behind) q ≡ with_place (path_of g e.1) (is_below g (before ++ behind)) q
 below_cut g before e behind q =
-    let t : Entry → Bool = λ (e : Entry). is_prefix (path_of g e.1) q in
-    list_any-append t before (e ∷ behind) ∙ or_middle (list_any t before) (t e) (list_any t behind)
-    ∙ ap (λ b. t e || b) (sym (list_any-append t before behind))
+    any_moved (λ (e : Entry). is_prefix (path_of g e.1) q) before e behind
 
 -- ---- a message that is dispatched
 

@@ -5,11 +5,11 @@ use Rattle.std.proofs.lemmas.Bool.{true≢false}
 use Rattle.std.proofs.KnownBytes.{Appends-trans}
 use Rattle.std.specs.Io.KnownBytes.{Appends}
 use Rattle.std.specs.List.{AllByRecursion}
+use Rattle.affinity.proofs.Elements.{all_join}
 use Rattle.incarnations.specs.Machine.{MachineView}
 use Rattle.serving.specs.Progress.{ServingProgress}
 use Rattle.serving.specs.Lines.{AreKnown, Line, has_answer, answer_text}
 use Rattle.meaning.specs.Output.{joined}
-use Rattle.histories.proofs.Lists.{all_join}
 
 -- ---- the answers to lines
 

@@ -4,11 +4,11 @@ use Rattle.std.proofs.lemmas.List.{length-append, take-append-le, take-map, take
 use Rattle.std.proofs.KnownBytes.{Appends-trans}
 use Rattle.std.specs.Io.KnownBytes.{Appends}
 use Rattle.affinity.specs.declared.geometry.Geometry.{Geometry}
+use Rattle.affinity.proofs.Elements.{all_join}
 use Rattle.disk.specs.Device.{IsCrashImage, Medium}
 use Rattle.disk.specs.Moments.{left_since, moment_number}
 use Rattle.histories.specs.CoreState.{Replied}
 use Rattle.histories.specs.Events.{Event}
-use Rattle.histories.proofs.Lists.{all_join}
 use Rattle.histories.specs.Runs.{logged_messages}
 use Rattle.incarnations.specs.Machine.{machine_of}
 use Rattle.incarnations.specs.DeviceEvents.{DeviceEvent, device_after, events_of}

@@ -5,7 +5,7 @@ use Rattle.std.specs.Prelude.{IfSome, IsTrue, MatchBool}
 use Rattle.std.specs.Io.KnownBytes.{Appends, IsAtEnd}
 use Rattle.affinity.specs.declared.geometry.Geometry.{Geometry}
 use Rattle.std.proofs.lemmas.Bool.{true≢false}
-use Rattle.histories.proofs.Lists.{all_join}
+use Rattle.affinity.proofs.Elements.{all_join}
 use Rattle.histories.specs.Events.{arrive}
 use Rattle.histories.specs.Laws.{IsIdle}
 use Rattle.histories.specs.declared.outcomes.ArriveRefusal.TheVariants as arrivals

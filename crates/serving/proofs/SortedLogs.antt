@@ -8,6 +8,7 @@ use Rattle.std.proofs.lemmas.List.Sorted.{IsPermutation-sym, IsPermutation-trans
 use Rattle.std.proofs.lemmas.Map.Keys.{IsDistinct-IsPermutation}
 use Rattle.histories.proofs.SerialHistories.{same_turned, distinct_ascending, one_ticket}
 use Rattle.affinity.specs.declared.geometry.Geometry.{Geometry}
+use Rattle.affinity.proofs.Elements.{all_weaker}
 use Rattle.language.specs.declared.Reply.{Reply}
 use Rattle.meaning.specs.Laws.{AreInOrder}
 use Rattle.meaning.specs.Order.{by_ticket, messages_of, inserted_by_ticket, serial_replies, InOrderIfRelated, KeepsOrder}
@@ -20,7 +21,7 @@ use Rattle.histories.specs.Laws.{AreAscending, IsSerialHistory, ticket_replies}
 use Rattle.histories.specs.CoreState.{Entry, Replied, are_related_entries, entries}
 use Rattle.histories.proofs.Apart.{apart_turned}
 use Rattle.histories.proofs.Elements.{holds_of, in_contained}
-use Rattle.histories.proofs.Lists.{all_back, all_front, all_permuted, all_weaker}
+use Rattle.histories.proofs.Lists.{all_back, all_front, all_permuted}
 use Rattle.histories.proofs.SerialReplies.{IsIn}
 
 -- ---- some of a list, in their order

@@ -1,12 +1,12 @@
 -- Where a server begins: nothing is read or written, nothing is lent, and no message is in it.
-use Rattle.std.proofs.Common.{◌≡◌, ℕ, zero, suc, false, List, [], Option, Some, None, refl, ap, sym, ◌∙◌, subst, map, inr, add-zero, append-nil, replicate}
-use Rattle.std.specs.Io.KnownBytes.{Appends}
+use Rattle.std.proofs.Common.{◌≡◌, ℕ, zero, suc, false, List, [], Option, Some, None, refl, ap, sym, ◌∙◌, subst, map, add-zero, replicate}
 use Rattle.std.proofs.lemmas.Option.{none-some}
+use Rattle.std.proofs.KnownBytes.{Appends-nil}
 use Rattle.histories.specs.Laws.{IsSoundCoreState}
 use Rattle.incarnations.proofs.Running.{none_lead}
 use Rattle.incarnations.specs.Machine.{MachineView, IsHandOf, hand_at, ticket_in}
 use Rattle.incarnations.specs.declared.hands.HandContent.TheVariants as has
-use Rattle.meaning.specs.Progress.{TakesLines}
+use Rattle.meaning.proofs.Taking.{takes_nothing}
 use Rattle.scheduler.specs.CoreView.{CoreView, core_state_of}
 use Rattle.serving.specs.Progress.{ServingProgress}
 use Rattle.serving.specs.Runs.{HandsHaveJobs, RunsBetween, lent_hand, machine_with_jobs}
@@ -19,14 +19,6 @@ all_empty (suc n) zero = refl
 all_empty (suc n) (suc i) = all_empty n i
 
 -- ---- nothing has happened
-
-takes_none : (input : Option (List ℕ)) → TakesLines input input false []
-takes_none None = tt
-takes_none (Some input) = (input, refl, record { to_come = refl; are_lines = tt; whole = inr refl })
-
-adds_none : (known : Option (List ℕ)) → Appends known known []
-adds_none None = tt
-adds_none (Some bytes) = sym (append-nil bytes)
 
 module _ (keeps : Type 0) (start : MachineView) where
   pub stays : RunsBetween keeps start start [] []
@@ -42,9 +34,9 @@ module _ (keeps : Type 0) (start : MachineView) where
   starts input before = record {
     consumed = [];
     sent_lines = [];
-    takes = takes_none input;
+    takes = takes_nothing input;
     serving = record { reply_pairs = []; segment = stays; known = tt; answered = tt };
-    output = adds_none before;
+    output = Appends-nil before;
   }
 
 -- ---- what is lent

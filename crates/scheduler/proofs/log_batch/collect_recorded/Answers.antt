@@ -2,7 +2,8 @@
 use Rattle.std.proofs.Common.{sym, ap, ◌∙◌, refl, length, arith}
 use Rattle.std.specs.Prelude.{cond, option_copied}
 use Rattle.affinity.specs.Kind.{is_changing}
-use Rattle.scheduler.proofs.Gathering.{at_most_one, chain_short, changing_more, gathered_more, ran_goes_on, ran_is_there, ran_next}
+use Rattle.histories.proofs.Room.{at_most_one}
+use Rattle.scheduler.proofs.Gathering.{chain_short, changing_more, gathered_more, ran_goes_on, ran_is_there, ran_next}
 use Rattle.scheduler.proofs.log_batch.collect_recorded.Goals as goal
 
 pub loop-init : goal.loop-init
