@@ -3,6 +3,7 @@ use Rattle.std.proofs.Common.{◌≡◌, ◌⊎◌, ℕ, List, [], ◌∷◌, Op
 use Rattle.std.specs.Prelude.{Result, Ok, Err, OnOk}
 use Rattle.std.specs.Io.KnownBytes.{Appends}
 use Rattle.std.proofs.KnownBytes.{Appends-nil}
+use Rattle.std.proofs.lemmas.Option.{same_Some}
 use Rattle.affinity.specs.declared.geometry.Geometry.{Geometry}
 use Rattle.checkpoint.proofs.OneGeometry.{one_geometry}
 use Rattle.checkpoint.specs.Recovery.{recovered_state}
@@ -50,14 +51,11 @@ leaves_recovered {s} end {x} h = all_then (command_result end) s.slots x.before 
 
 -- ---- two incarnations
 
-some_same : {x y : State} → ◌≡◌ {A = Option State} (Some x) (Some y) → x ≡ y
-some_same e = cc
-
 -- A device that recovers to this state was opened with this geometry, and from this state.
 opened_so : {keeps : Type 0} (keep : keeps) {g h : Geometry} {x y : State} {old : Medium} → recovered_state g old.now ≡ Some x → RecoveredTo keeps old h y → (h ≡ g) × (y ≡ x)
 opened_so keep {g} {h} {x} {old} recovers recovered_before =
     let same : h ≡ g = one_geometry h g old.now (recovered_before.header keep) x recovers in
-    (same, some_same (sym (recovered_before.recovered_before keep) ∙ ap (λ (k : Geometry). recovered_state k old.now) same ∙ recovers))
+    (same, same_Some _ _ (sym (recovered_before.recovered_before keep) ∙ ap (λ (k : Geometry). recovered_state k old.now) same ∙ recovers))
 
 written_so : (input before written : Option (List ℕ)) (P Q : List ℕ → List ℕ → Type 0) → ((bytes out : List ℕ) → P bytes out → Q bytes out)
     → WritesOutput input before written P → WritesOutput input before written Q
