@@ -1,6 +1,14 @@
 -- The answers to lines in the output, and what stays true of a session when some of its outstanding lines are sent.
-use Rattle.std.proofs.Common.{◌≡◌, ℕ, Bool, true, false, List, [], ◌∷◌, ◌++◌, Option, None, refl, ap, sym, ◌∙◌, subst, map, append_assoc}
-use Rattle.std.specs.Prelude.{Result, Ok, Err, OnErr, OnOk}
+use Rattle.std.proofs.Common.{◌≡◌, ℕ, ◌-◌, Bool, true, false, List, [], ◌∷◌, ◌++◌, Option, None, refl, ap, sym, ◌∙◌, subst, map, length, take, drop, append-nil, append_assoc, arith}
+use Rattle.std.specs.Prelude.{Result, Ok, Err, IfOk, MatchResult, OnErr, OnOk}
+use Rattle.std.proofs.lemmas.List.{take-append-drop}
+use Rattle.affinity.specs.declared.geometry.Geometry.{Geometry}
+use Rattle.histories.specs.CoreState.{CoreState, Replied}
+use Rattle.histories.specs.Events.{recorded}
+use Rattle.histories.specs.declared.outcomes.CoreFault.{CoreFault}
+use Rattle.meaning.specs.Serial.{state_after_all}
+use Rattle.scheduler.specs.Calls.{IsLogStep}
+use Rattle.serving.specs.declared.session.Halted.{Halted}
 use Rattle.std.proofs.lemmas.Bool.{true≢false}
 use Rattle.std.proofs.KnownBytes.{Appends-trans}
 use Rattle.std.specs.Io.KnownBytes.{Appends}
@@ -16,6 +24,10 @@ use Rattle.meaning.specs.Output.{joined}
 pub texts_both : (sent_lines more : List Line) → joined (map answer_text (sent_lines ++ more)) ≡ joined (map answer_text sent_lines) ++ joined (map answer_text more)
 texts_both [] more = refl
 texts_both (x ∷ sent_lines) more = ap (λ z. answer_text x ++ z) (texts_both sent_lines more) ∙ sym (append_assoc (answer_text x) (joined (map answer_text sent_lines)) (joined (map answer_text more)))
+
+none_long : {A : Type 0} (xs : List A) → length xs ≡ 0 → xs ≡ []
+none_long [] e = refl
+none_long (x ∷ xs) e = absurd (omega (arith, e))
 
 -- ---- fewer lines outstanding
 
@@ -50,6 +62,34 @@ sends_on {start} {rest} {before} {old} {now} sends h =
       output = subst (λ (z : List ℕ). Appends before now z) (sym (texts_both h.sent_lines sends.sent_lines))
           (Appends-trans before old now (joined (map answer_text h.sent_lines)) (joined (map answer_text sends.sent_lines)) h.output sends.output);
     }
+
+-- ---- what is logged
+
+-- Where the log took no message, nothing has changed.
+pub log_of_none : (g : Geometry) (old new : CoreState) (n : ℕ) (r : Result ℕ CoreFault) → IsLogStep g old new n r → IfOk r (λ count. count ≡ 0 → new ≡ old)
+log_of_none g old new n (Ok count) s = λ zero.
+    let none : take n old.ran ≡ [] = none_long (take n old.ran) (sym s.1 ∙ zero) in
+    let same : drop n old.ran ≡ old.ran = ap (λ (l : List Replied). l ++ drop n old.ran) (sym none) ∙ take-append-drop n old.ran in
+    let room : old.room - 0 ≡ old.room = omega arith in
+    s.2 ∙ ap (λ (l : List Replied). record old {
+      ran = drop n old.ran;
+      logged = old.logged ++ l;
+      committed = state_after_all g old.committed (recorded l);
+      room = old.room - length (recorded l);
+    }) none ∙ (λ i. record old { ran = same i; logged = append-nil old.logged i; room = room i })
+log_of_none g old new n (Err e) s = tt
+
+-- what follows at `Ok`
+pub at_ok : {A E : Type 0} (P Q : A → Type 0) (r : Result A E) → ((x : A) → P x → Q x) → IfOk r P → IfOk r Q
+at_ok P Q (Ok x) follows p = follows x p
+at_ok P Q (Err e) follows p = tt
+
+-- What a session makes of an answer of the core: where that is `Ok`, so is its own result.
+pub or_halts : {A E : Type 0} (P : A → Type 0) (answer : Result A E) (result : Result A Halted) → MatchResult answer (λ x. result ≡ Ok x) (λ _. OnOk result ⊥)
+    → IfOk answer P → IfOk result P
+or_halts P (Ok x) result is k = subst (λ (r : Result _ Halted). IfOk r P) (sym is) k
+or_halts P (Err e) (Ok y) is k = absurd is
+or_halts P (Err e) (Err y) is k = tt
 
 -- A call either gives P at `Ok`, or the device has failed at `Err`: so P holds where the device works.
 pub logged_or_failed : {A E P : Type 0} (failed : Bool) (result : Result A E) → OnOk result P → OnErr result (failed ≡ true) → failed ≡ false → P

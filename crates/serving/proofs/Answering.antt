@@ -156,10 +156,14 @@ pub fewer_logged : (w new : CoreState) (logged : List Replied) (p : ℕ × Reply
 fewer_logged w new [] p e = let o : outcomes.Answered p.0 p.1 ≡ outcomes.Idle = ap (λ (x : Outcome × CoreState). x.0) e in cc
 fewer_logged w new (a ∷ as') p e = let left = ap (λ (x : Outcome × CoreState). length x.1.logged) e in omega (arith, left)
 
--- If there was no message to answer, none is logged.
+-- If there was no message to answer, none is logged, and nothing has changed.
 pub none_logged : (w new : CoreState) (logged : List Replied) → (answer_outcome None, new) ≡ answer w logged → w.logged ≡ logged → new.logged ≡ []
 none_logged w new [] e is = ap (λ (x : Outcome × CoreState). x.1.logged) e ∙ is
 none_logged w new (a ∷ as') e is = let o : outcomes.Idle ≡ outcomes.Answered a.0 a.2 = ap (λ (x : Outcome × CoreState). x.0) e in cc
+
+pub none_moved : (w new : CoreState) (logged : List Replied) → (answer_outcome None, new) ≡ answer w logged → new ≡ w
+none_moved w new [] e = ap (λ (x : Outcome × CoreState). x.1) e
+none_moved w new (a ∷ as') e = let o : outcomes.Idle ≡ outcomes.Answered a.0 a.2 = ap (λ (x : Outcome × CoreState). x.0) e in cc
 
 -- If two changes, one after the other, leave all of a core state but which messages are logged, so do both together.
 pub answered_on : (w once now : CoreState) → once ≡ record w { logged = once.logged } → now ≡ record once { logged = now.logged }

@@ -1,17 +1,14 @@
 -- A session that reads no more, and what it promises in the end.
-use Rattle.std.proofs.Common.{arith, ◌≡◌, ◌≢◌, ◌≤◌, ◌+◌, ◌-◌, ℕ, zero, suc, Bool, true, false, List, [], ◌++◌, Option, Some, None, refl, ap, sym, ◌∙◌, subst, length, map, replicate, append-nil, append_assoc}
+use Rattle.std.proofs.Common.{arith, ◌≡◌, ◌≢◌, ◌≤◌, ◌<◌, ◌+◌, ◌-◌, ℕ, zero, suc, Bool, true, false, List, [], ◌++◌, Option, Some, None, refl, ap, sym, ◌∙◌, subst, length, map, replicate, append-nil, append_assoc}
 use Rattle.std.specs.Prelude.{Result, Ok, Err, IfOk, IfSome, MatchResult, OnErr, OnOk}
 use Rattle.std.specs.Io.KnownBytes.{Appends}
 use Rattle.std.proofs.KnownBytes.{Appends-trans}
 use Rattle.message.specs.Waiting.{all_output}
 use Rattle.std.proofs.lemmas.Bool.{true≢false}
 use Rattle.std.proofs.lemmas.List.{length-replicate}
-use Rattle.histories.proofs.Full.{last_none_out}
 use Rattle.histories.proofs.Idle.{idle_sound, none_in_flight}
-use Rattle.histories.specs.Events.{MachineState}
-use Rattle.histories.specs.Laws.{IsIdle, full_hands}
-use Rattle.incarnations.specs.Machine.{MachineView, hand_of as hand_in, machine_of}
-use Rattle.incarnations.specs.DeviceEvents.{events_of}
+use Rattle.histories.specs.Laws.{IsIdle}
+use Rattle.incarnations.specs.Machine.{MachineView}
 use Rattle.parcel.specs.Run.{JobView}
 use Rattle.scheduler.specs.CoreView.{CoreView, RecoversNow, core_state_of}
 use Rattle.serving.specs.Ends.{EndsWith, Exchange, IsQuiesced, exchange}
@@ -23,7 +20,7 @@ use Rattle.reorder_buffer.specs.ReorderBuffer.{ReorderBufferView, can_retire}
 use Rattle.oplog.specs.Recovery.{records_in}
 use Rattle.serving.specs.Restart.{WritesBeginning}
 use Rattle.serving.specs.Serve.{HasRunWith, FailsWithoutWorkers, ServePromise}
-use Rattle.serving.specs.Runs.{HandsHaveJobs, lent_hand, machine_with_jobs}
+use Rattle.serving.specs.Runs.{HandsHaveJobs, machine_with_jobs}
 use Rattle.serving.specs.Session.{EndsBy, EndsOrDeclines, HasFinished, SessionProgress, HasHalted, HasEndedReading, CanBegin, IsServed, SessionInvariant, SessionInvariantFrom, SessionView, ReadsOrHasEnded, machine, IsSent, end_of, reported}
 use Rattle.serving.specs.Output.{Start, start_machine}
 use Rattle.serving.specs.declared.session.Halted.{Halted}
@@ -36,7 +33,7 @@ use Rattle.serving.proofs.Newlines.{both as newlines-append, in_answers, newline
 use Rattle.serving.proofs.Promises.{no_memory_ran, runs_to_device, runs_to_last_ticket, runs_to_read, runs_to_write, runs_whole}
 use Rattle.serving.proofs.Starting.{holds_at_start, starts}
 use Rattle.serving.proofs.Served.{ends_at_device, ends_at_read, ends_exhausted, ends_whole}
-use Rattle.serving.proofs.Invariant.{all_sent, begins_at, progress_at_end, to_reorder_buffer}
+use Rattle.serving.proofs.Invariant.{all_sent, begins_at, none_out, progress_at_end, to_reorder_buffer}
 
 -- ---- what it promises
 
@@ -82,11 +79,6 @@ module _ (before whole sent : Option (List ℕ)) (waiting text : List ℕ) (n sl
 pub record PromisesAll (keeps : Type 0) (start : MachineView) (new : CoreView) (x : Exchange) (result : Result (Unit {0}) ServeFault) : Type 0 where
   pub run : (new.failed ≡ false → new.doubt ≡ []) → (keeps → RecoversNow new) → HasRunWith keeps start new x.input x.before x.written result
   pub ends : EndsWith start.core new x result
-
--- no hand has a job where nothing is lent at any place
-all_empty : (n : ℕ) → full_hands (map hand_in (map lent_hand (replicate n None))) ≡ 0
-all_empty zero = refl
-all_empty (suc n) = all_empty n
 
 module _ {keeps : Type 0} {s : Start} {p : SessionView} (u : SessionInvariant keeps s p) where
   abbrev start : MachineView
@@ -137,15 +129,7 @@ module _ {keeps : Type 0} {s : Start} {p : SessionView} (u : SessionInvariant ke
     wound_up : {unsent : List Line} {unread before torn : Option (List ℕ)} {drained : Bool} → ServingProgress keeps start now unsent s.input unread drained before torn
         → IsQuiesced p.core
     wound_up h =
-        let r = h.serving.segment in
-        let none : full_hands (machine_of now).hands ≡ 0 =
-        ap (λ (l : List (Option JobView)). full_hands (map hand_in (map lent_hand l))) none_lent ∙ all_empty (length p.dispatch_seat.lent) in
-        record {
-          none_in_flight = ap (λ (w : MachineState). w.core.in_flight) (sym r.leads.ends)
-              ∙ last_none_out start.core.geometry (machine_of start) (events_of r.device_events) r.leads.legal (none_in_flight (core_state_of start.core) u.idle)
-              (ap (λ (w : MachineState). full_hands w.hands) r.leads.ends ∙ none);
-          none_logged = answered;
-        }
+        record { none_in_flight = none_out u.idle h.serving.segment none_lent; none_logged = answered }
 
     device_ends : p.core.failed ≡ true → p.output_failed ≡ false → p.reply_buffer ≡ [] → can_retire p.reorder_buffer.lines ≡ false
         → PromisesAll keeps start p.core (exchange s.input p.remaining s.before p.sent) (Err faults.Device)
@@ -309,6 +293,10 @@ holds_first core lent n none idle = subst (λ (l : List (Option JobView)). Hands
 pub places_first : (lent : List (Option JobView)) (n : ℕ) → lent ≡ replicate n None → length lent ≡ n
 places_first lent n none = ap (λ (l : List (Option JobView)). length l) none ∙ length-replicate n None
 
+pub above_zero : (n : ℕ) → n ≢ 0 → 0 < n
+above_zero zero not = absurd (not refl)
+above_zero (suc n) not = omega arith
+
 -- What a call serves with has not been used: no answer waits, all of the input is unread, nothing of it was read, and no job is lent.
 pub record IsUnused (places : ℕ) (input : Option (List ℕ)) (dispatch_seat : DispatchSeatView) (reply_buffer : List ℕ) (unread : Option (List ℕ))
     (drained ended : Bool) : Type 0 where
@@ -318,6 +306,7 @@ pub record IsUnused (places : ℕ) (input : Option (List ℕ)) (dispatch_seat : 
   pub not_ended : ended ≡ false
   pub slots : dispatch_seat.bench.slots ≡ places
   pub none_lent : dispatch_seat.lent ≡ replicate places None
+  pub some_place : 0 < places
 
 -- A call that may begin satisfies the invariant.
 pub first_at : (keeps : Type 0) {o : Option Start} {core : CoreView} {dispatch_seat : DispatchSeatView} {reorder_buffer : ReorderBufferView} {reply_buffer : List ℕ}
@@ -344,6 +333,7 @@ first_at keeps {o} {core} {dispatch_seat} {reorder_buffer} {unread} {input} {sen
       fits = r.fits;
       holds = holds_first core dispatch_seat.lent places unused.none_lent r.idle;
       places = places_first dispatch_seat.lent places unused.none_lent ∙ sym unused.slots;
+      some_place = subst (λ (n : ℕ). 0 < n) (sym unused.slots) unused.some_place;
       knows = λ e. absurd (true≢false (sym e ∙ unused.not_ended));
       reads = record {
         waits = record { waiting = []; have_answers = tt; reply_buffer_is = unused.none_waits; counted = omega (arith, ap length r.none); bounded = omega arith };

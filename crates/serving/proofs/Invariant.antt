@@ -1,13 +1,20 @@
 -- A session keeps its invariant: one lemma for each kind of step, and what follows from the invariant.
-use Rattle.std.proofs.Common.{◌≡◌, ◌≢◌, ◌≤◌, ◌<◌, ◌+◌, ℕ, Bool, true, false, List, [], ◌∷◌, ◌++◌, Option, Some, None, refl, ap, sym, ◌∙◌, subst, length, map, drop, append_assoc, append-nil, arith}
+use Rattle.std.proofs.Common.{◌≡◌, ◌≢◌, ◌≤◌, ◌<◌, ◌+◌, ℕ, Bool, true, false, List, [], ◌∷◌, ◌++◌, Option, Some, None, refl, ap, sym, ◌∙◌, subst, length, map, drop, replicate, zero, suc, append_assoc, append-nil, arith}
 use Rattle.std.proofs.lemmas.List.{length-append, length-map}
 use Rattle.std.specs.Prelude.{IfSome, IsTrue, MatchBool}
 use Rattle.std.specs.Io.KnownBytes.{Appends, IsAtEnd}
 use Rattle.affinity.specs.declared.geometry.Geometry.{Geometry}
+use Rattle.atomic_table.specs.Seated.{TableId}
 use Rattle.std.proofs.lemmas.Bool.{true≢false}
 use Rattle.affinity.proofs.Elements.{all_join}
-use Rattle.histories.specs.Events.{arrive}
-use Rattle.histories.specs.Laws.{IsIdle}
+use Rattle.histories.specs.Events.{MachineState, arrive}
+use Rattle.histories.proofs.Full.{last_none_out}
+use Rattle.histories.proofs.Idle.{none_in_flight}
+use Rattle.histories.specs.CoreState.{Entry}
+use Rattle.histories.specs.Laws.{IsIdle, full_hands}
+use Rattle.incarnations.specs.DeviceEvents.{events_of}
+use Rattle.incarnations.specs.Machine.{MachineView, hand_of as hand_in, machine_of}
+use Rattle.parcel.specs.Run.{JobView}
 use Rattle.histories.specs.declared.outcomes.ArriveRefusal.TheVariants as arrivals
 use Rattle.histories.specs.declared.outcomes.Outcome.TheVariants.{ArriveRefused}
 use Rattle.language.specs.Grammar.{message_of}
@@ -19,9 +26,10 @@ use Rattle.scheduler.specs.CoreView.{CoreView, RecoversNow, core_state_of}
 use Rattle.serving.specs.Progress.{ServingProgress}
 use Rattle.meaning.specs.Output.{joined}
 use Rattle.serving.specs.Lines.{HaveAnswers, Completed, Line, NoMessage, OutOfRange, Pending, complete_one, has_answer, answer_text}
+use Rattle.serving.specs.Lending.{NoneInFlight}
 use Rattle.serving.specs.Reads.{IsTaken}
 use Rattle.reorder_buffer.specs.ReorderBuffer.{AreConsecutive, ReorderBufferView, can_retire, retired_text, with_tickets}
-use Rattle.serving.specs.Runs.{HandsHaveJobs, IsInternal, RunsBetween, machine_with_jobs}
+use Rattle.serving.specs.Runs.{HandsHaveJobs, IsInternal, RunsBetween, lent_hand, machine_with_jobs}
 use Rattle.serving.specs.Session.{Waits, SessionProgress, IsReadEnd, SessionInvariant, SessionInvariantFrom, SessionView, ReadsOrHasEnded, machine, IsSent}
 use Rattle.serving.specs.Output.{AppendsBeginning, MaySend, Start, start_machine}
 use Rattle.serving.specs.declared.session.ReadEnd.{ReadEnd}
@@ -100,6 +108,25 @@ waits_on w more few =
     let counted = w.counted in
     record { waiting = w.waiting; have_answers = w.have_answers; reply_buffer_is = w.reply_buffer_is; counted = omega (arith, counted, more); bounded = few }
 
+-- ---- what is in flight
+
+-- no hand has a job where nothing is lent at any place
+all_empty : (n : ℕ) → full_hands (map hand_in (map lent_hand (replicate n None))) ≡ 0
+all_empty zero = refl
+all_empty (suc n) = all_empty n
+
+-- Where nothing was in flight at the start of a run, and no job is in flight now, no message is.
+pub none_out : {keeps : Type 0} {start : MachineView} {core : CoreView} {lent : List (Option JobView)} {arriving : List Entry} {reply_pairs : List (ℕ × Reply)}
+    → IsIdle (core_state_of start.core) → RunsBetween keeps start (machine_with_jobs core lent) arriving reply_pairs → NoneInFlight lent → core.in_flight ≡ []
+none_out {start} {core} {lent} idle r none_lent =
+    let none : full_hands (machine_of (machine_with_jobs core lent)).hands ≡ 0 =
+    ap (λ (l : List (Option JobView)). full_hands (map hand_in (map lent_hand l))) none_lent ∙ all_empty (length lent) in
+    ap (λ (w : MachineState). w.core.in_flight) (sym r.leads.ends)
+    ∙ last_none_out start.core.geometry (machine_of start) (events_of r.device_events) r.leads.legal (none_in_flight (core_state_of start.core) idle)
+    (ap (λ (w : MachineState). full_hands w.hands) r.leads.ends ∙ none)
+
+-- ---- the invariant
+
 module _ (keeps : Type 0) where
   module _ (s : Start) (p : SessionView) where
     -- The reason why no more is read stays true while the next ticket stays the same and a failed device stays failed.
@@ -133,7 +160,7 @@ module _ (keeps : Type 0) where
   -- ---- what follows from the invariant
 
   -- what follows for each start for which the invariant holds
-  ask : {P : Type 0} (o : Option Start) (p : SessionView) → SessionInvariantFrom keeps o p → ((s : Start) → SessionInvariant keeps s p → P) → P
+  pub ask : {P : Type 0} (o : Option Start) (p : SessionView) → SessionInvariantFrom keeps o p → ((s : Start) → SessionInvariant keeps s p → P) → P
   ask None p u follows = absurd u
   ask (Some s) p u follows = follows s u
 
@@ -175,6 +202,7 @@ module _ (keeps : Type 0) where
           fits = u.fits;
           holds = k.holds;
           places = places ∙ u.places ∙ ap (λ (z : _). z.slots) (sym bench);
+          some_place = subst (λ (z : TableId). 0 < z.slots) (sym bench) u.some_place;
           knows = u.knows;
           reads = reads_on s p q (passes_next k.segment) (still_failed k.segment)
               (λ unread drained h. record {
@@ -197,6 +225,7 @@ module _ (keeps : Type 0) where
           fits = subst (λ (n : ℕ). n ≤ s.core.slots) (sym slots) u.fits;
           holds = k.0;
           places = u.places;
+          some_place = u.some_place;
           knows = u.knows;
           reads = reads_on s p q (passes_next k.1) (still_failed k.1)
               (λ unread drained h. record {
@@ -222,6 +251,7 @@ module _ (keeps : Type 0) where
           fits = subst (λ (n : ℕ). n ≤ s.core.slots) (sym slots) u.fits;
           holds = u.holds;
           places = u.places;
+          some_place = u.some_place;
           knows = u.knows;
           reads = reads_on s p q refl (λ x. x)
               (λ unread drained h. record {
@@ -260,6 +290,7 @@ module _ (keeps : Type 0) where
           fits = u.fits;
           holds = u.holds;
           places = u.places;
+          some_place = u.some_place;
           knows = u.knows;
           reads = reads_on s p q refl (λ x. x)
               (λ unread drained h. record {
@@ -291,6 +322,7 @@ module _ (keeps : Type 0) where
           fits = u.fits;
           holds = u.holds;
           places = u.places;
+          some_place = u.some_place;
           knows = u.knows;
           reads = reads_on s p q refl (λ x. x)
               (λ unread drained h. record {
@@ -342,6 +374,7 @@ module _ (keeps : Type 0) where
       fits = subst (λ (n : ℕ). n ≤ s.core.slots) (sym slots) u.fits;
       holds = holds;
       places = u.places;
+      some_place = u.some_place;
       knows = knows;
       reads = subst (λ (x : Option ReadEnd). ReadsOrHasEnded keeps s next x) (sym none) progress_at_end;
     }
@@ -388,6 +421,7 @@ module _ (keeps : Type 0) where
           fits = subst (λ (n : ℕ). n ≤ s.core.slots) (sym slots) u.fits;
           holds = k.holds;
           places = u.places;
+          some_place = u.some_place;
           knows = knows;
           reads = record {
             unread = p.unread;

@@ -23,7 +23,9 @@ mod Served
 mod Retired
 mod Advancing
 mod Stopping
+mod Unanswered
 mod Invariant
+mod Resting
 mod Promises
 mod Closing
 mod Newlines

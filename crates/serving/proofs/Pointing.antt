@@ -1,6 +1,6 @@
 -- Steps of a checkpoint: what is left of it, and that they fail only where the device does.
 use Rattle.std.proofs.Common.{◌≡◌, ◌≢◌, ℕ, ◌-◌, true, false, List, [], length, Option, Some, None, Result, Ok, Err, refl, ap, sym, subst, ◌∙◌}
-use Rattle.std.specs.Prelude.{Bool, if◌then◌else◌, is_some, nat_lt, IfOk, MatchBool, MatchResult, OnErr, OnOk}
+use Rattle.std.specs.Prelude.{Bool, if◌then◌else◌, is_some, nat_lt, IfOk, IsFalse, MatchBool, MatchResult, OnErr, OnOk}
 use Rattle.std.proofs.lemmas.Bool.{true≢false}
 use Rattle.std.proofs.lemmas.Option.{none-some}
 use Rattle.histories.specs.Events.{pieces_after, point_refusal}
@@ -37,6 +37,17 @@ halts_so (Ok x) (Ok y) same output_works failed is h f = h
 halts_so (Ok x) (Err y) same output_works failed is h f = let o : ◌≡◌ {A = Result (Unit {0}) Halted} (Err y) (Ok x) = is in cc
 halts_so (Err e) (Ok x) same output_works failed is h f = absurd is
 halts_so (Err e) (Err y) same output_works failed is h f = λ _. f
+
+-- Where none has begun, nothing has changed.
+pub stands_still : (A B C asked : Type 0) {K L : Type 0} (result : Result Bool Halted) → IfOk result (λ it. MatchBool it A (B × C))
+    → IfOk result (λ it. IsFalse it → K) → (K → L) → IfOk result (λ it. IsFalse it → L × B × (asked → C))
+stands_still A B C asked (Ok true) begun keeps on = λ e. absurd (true≢false e)
+stands_still A B C asked (Ok false) begun keeps on = λ e. (on (keeps e), begun.0, λ _. begun.1)
+stands_still A B C asked (Err y) begun keeps on = tt
+
+pub where_false : (A B : Type 0) (b : Bool) → MatchBool b A B → b ≡ false → B
+where_false A B true is e = absurd (true≢false e)
+where_false A B false is e = is
 
 -- ---- where a point is to begin and none is in progress
 
@@ -96,6 +107,12 @@ module _ (old : CoreState) (pieces_left : old.pieces_left ≡ None) (new : CoreS
       subst (λ (b : Bool). MatchBool b begun ((new.pieces_left ≡ None) × (held new ≢ []))) (sym w.0)
       (ap (λ (w : CoreState). w.pieces_left) k.1 ∙ pieces_left, λ none_held. none_waits (ap held (sym k.1) ∙ none_held) old.failed k.0)
   waits begun why (Err y) h w = tt
+
+  pub stays : {P : Type 0} (why : PointRefusal) (result : Result Bool Halted) → IsCheckpointStep old new (point_refusal old) made (Err why)
+      → MatchResult result (λ it. (it ≡ false) × (why ≡ points.Held)) (λ _. why ≢ points.Held) → (new ≡ old → P) → IfOk result (λ it. IsFalse it → P)
+  stays why (Ok it) h w follows =
+      let k = subst (λ (r : PointRefusal). IsCheckpointStep old new (point_refusal old) made (Err r)) w.1 h in λ _. follows k.1
+  stays why (Err y) h w follows = tt
 
 -- ---- a point at once
 

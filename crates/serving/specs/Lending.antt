@@ -1,5 +1,5 @@
 -- Inner: What is dispatched to the places of a bench, why nothing is, and when nothing is in flight.
-use Rattle.std.specs.Prelude.{◌≡◌, ℕ, true, List, Option, Some, None, Result, Ok, Err, is_none, length, position, replicate, slice_set}
+use Rattle.std.specs.Prelude.{◌≡◌, ℕ, Bool, true, false, List, Option, Some, None, Result, Ok, Err, is_none, length, position, replicate, slice_set}
 use Rattle.affinity.specs.declared.geometry.Geometry.{Geometry}
 use Rattle.histories.specs.CoreState.{CoreState}
 use Rattle.histories.specs.declared.outcomes.Outcome.TheVariants as outcomes
@@ -14,6 +14,12 @@ IsBlocked g old new lent blocked.NoPlace = (position is_none lent ≡ None) × (
 IsBlocked g old new lent blocked.NoneEligible = IsNoGrant g old new outcomes.NoneEligible
 IsBlocked g old new lent blocked.NoRoom = IsNoGrant g old new outcomes.NoRoom
 IsBlocked g old new lent blocked.Failed = (old.failed ≡ true) × (new ≡ old)
+
+-- whether a checkpoint is to begin, once nothing is held, where no message is dispatched for this reason, or (`None`) since one is due
+abbrev pub asks_for_checkpoint : Option Blocked → Bool
+asks_for_checkpoint None = true
+asks_for_checkpoint (Some blocked.NoRoom) = true
+asks_for_checkpoint _ = false
 
 -- A message of this core state was dispatched as a job, which is lent at place k. Or none was dispatched, for this reason.
 abbrev pub DispatchesTo : Geometry → ℕ → CoreState → List (Option JobView) → CoreState → List (Option JobView) → Result (Unit {0}) Blocked

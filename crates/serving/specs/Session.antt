@@ -1,7 +1,8 @@
 -- Inner: The state of a session, its invariant since its start, and how a call moves it.
-use Rattle.std.specs.Prelude.{◌≡◌, ◌+◌, ◌≤◌, ◌-◌, ◌^◌, ℕ, Bool, true, false, List, [], ◌++◌, length, map, Option, Some, None, IfSome, IsSomeAnd, IsTrue, MatchResult, Result, Ok, Err}
+use Rattle.std.specs.Prelude.{◌≡◌, ◌≢◌, ◌+◌, ◌<◌, ◌≤◌, ◌-◌, ◌^◌, ℕ, Bool, true, false, List, [], ◌++◌, length, map, Option, Some, None, IfSome, IsSomeAnd, IsTrue, MatchResult, Result, Ok, Err}
 use Rattle.std.specs.Io.KnownBytes.{IsAtEnd}
 use Rattle.affinity.specs.declared.geometry.Geometry.{Geometry}
+use Rattle.histories.specs.CoreState.{held}
 use Rattle.histories.specs.Laws.{IsIdle}
 use Rattle.incarnations.specs.Machine.{MachineView}
 use Rattle.language.specs.Grammar.{message_of}
@@ -11,12 +12,13 @@ use Rattle.language.specs.declared.Msg.{Msg}
 use Rattle.meaning.specs.Output.{joined}
 use Rattle.scheduler.specs.CoreView.{CoreView, core_state_of}
 use Rattle.serving.specs.Progress.{ServingProgress}
-use Rattle.serving.specs.Lending.{NoneInFlight}
+use Rattle.serving.specs.Lending.{IsBlocked, NoneInFlight, asks_for_checkpoint}
 use Rattle.serving.specs.Lines.{HaveAnswers, Line, answer_text}
 use Rattle.reorder_buffer.specs.ReorderBuffer.{ReorderBufferView, can_retire}
 use Rattle.serving.specs.Runs.{HandsHaveJobs, machine_with_jobs}
 use Rattle.oplog.specs.Recovery.{records_in}
 use Rattle.serving.specs.Output.{AppendsBeginning, Start, start_machine}
+use Rattle.serving.specs.declared.dispatch.Blocked.{Blocked}
 use Rattle.serving.specs.declared.session.Halted.{Halted}
 use Rattle.serving.specs.declared.session.ReadEnd.{ReadEnd}
 use Rattle.serving.specs.declared.session.ReadEnd.TheVariants as ends_of_reading
@@ -117,6 +119,7 @@ pub record SessionInvariant (keeps : Type 0) (s : Start) (p : SessionView) : Typ
   -- each hand that isn't empty has the job of a message in flight
   pub holds : HandsHaveJobs (machine p)
   pub places : length p.dispatch_seat.lent ≡ p.dispatch_seat.bench.slots
+  pub some_place : 0 < p.dispatch_seat.bench.slots
   pub knows : IsTrue p.ended → IsAtEnd p.remaining
   pub reads : ReadsOrHasEnded keeps s p p.read_end
 
@@ -135,6 +138,10 @@ pub record CanBegin (start : Option Start) (core : CoreView) (places : ℕ) (inp
   pub none : reorder_buffer.lines ≡ []
   pub fits : reorder_buffer.slots ≤ core.slots
 
+-- Each line that was read is retired, and its answer is sent.
+abbrev pub NoneUnanswered : SessionView → Type 0
+NoneUnanswered p = (p.reorder_buffer.lines ≡ []) × (p.reply_buffer ≡ [])
+
 -- ---- how a call moves it
 
 -- Why no more is read, and whether the output has failed, are as before.
@@ -145,6 +152,11 @@ KeepsReadEndAndOutputFailed old new = (new.read_end ≡ old.read_end) × (new.ou
 abbrev pub HasReadNothing : SessionView → SessionView → Type 0
 HasReadNothing old new = (new.unread ≡ old.unread) × (new.remaining ≡ old.remaining)
 
+-- The core state and what is lent are as before.
+abbrev pub KeepsCoreState : SessionView → SessionView → Type 0
+KeepsCoreState old new = (new.core.geometry ≡ old.core.geometry) × (core_state_of new.core ≡ core_state_of old.core)
+    × (new.dispatch_seat ≡ old.dispatch_seat)
+
 -- The output has failed, or else the device.
 abbrev pub HasHalted : SessionView → Type 0
 HasHalted p = p.output_failed ≡ false → p.core.failed ≡ true
@@ -153,6 +165,33 @@ HasHalted p = p.output_failed ≡ false → p.core.failed ≡ true
 abbrev pub IsSessionStep : {A : Type 0} → SessionView → SessionView → Result A Halted → Type 0
 IsSessionStep old new result = (new.read_end ≡ old.read_end)
     × MatchResult result (λ _. new.output_failed ≡ old.output_failed) (λ _. HasHalted new)
+
+-- Nothing had run, and nothing was logged: there was nothing to log or to answer.
+pub record HasLoggedNothing (old new : SessionView) : Type 0 where
+  pub none_ran : new.core.ran ≡ []
+  pub none_logged : new.core.logged ≡ []
+  pub works : new.core.failed ≡ false
+  pub keeps : KeepsCoreState old new
+
+-- The answers that waited are sent, and nothing else has changed. No job is in flight; if a checkpoint is to begin, since no message is
+-- dispatched for this reason (`None`: one is due), a message is held.
+pub record HasOnlySent (old new : SessionView) (why : Option Blocked) : Type 0 where
+  pub flushed : new.reply_buffer ≡ []
+  pub lines : new.reorder_buffer ≡ old.reorder_buffer
+  pub keeps : KeepsCoreState old new
+  pub none_in_flight : NoneInFlight new.dispatch_seat.lent
+  pub none_asked : asks_for_checkpoint why ≡ true → held (core_state_of new.core) ≢ []
+
+-- Nothing is left to do: no message is dispatched, for this reason (`None`: a checkpoint is due), though no job is in flight and no
+-- checkpoint is to begin. Nothing that ran or is logged is left, and the oldest line, if there is one, has no answer.
+pub record IsAtRest (p : SessionView) (why : Option Blocked) : Type 0 where
+  pub blocked : IfSome why (IsBlocked p.core.geometry (core_state_of p.core) (core_state_of p.core) p.dispatch_seat.lent)
+  pub none_asked : asks_for_checkpoint why ≡ true → held (core_state_of p.core) ≢ []
+  pub none_in_flight : NoneInFlight p.dispatch_seat.lent
+  pub none_ran : p.core.ran ≡ []
+  pub none_logged : p.core.logged ≡ []
+  pub works : p.core.failed ≡ false
+  pub last : can_retire p.reorder_buffer.lines ≡ false
 
 -- how many steps a checkpoint takes to its end, by how many of its pieces are left
 abbrev pub steps_left : Option ℕ → ℕ

@@ -1,10 +1,10 @@
 //! Checkpoints of a session: when one is due, how it begins, and how it is carried to its end step by step.
 
-ghost use Rattle.std.specs.Prelude.{◌≡◌, ◌≢◌, ◌+◌, ℕ, [], None, Some, IfOk, IsTrue, MatchBool, MatchResult, false};
+ghost use Rattle.std.specs.Prelude.{◌≡◌, ◌≢◌, ◌+◌, ℕ, [], None, Some, IfOk, IsFalse, IsTrue, MatchBool, MatchResult, false};
 ghost use Rattle.histories.specs.declared.outcomes.PointRefusal.TheVariants.{Held};
 ghost use Rattle.histories.specs.CoreState.{held};
 ghost use Rattle.scheduler.specs.CoreView.{core_state_of};
-ghost use Rattle.serving.specs.Session.{IsSessionStep, steps_left};
+ghost use Rattle.serving.specs.Session.{IsSessionStep, KeepsCoreState, steps_left};
 
 use crate::output::ReplySink;
 use crate::session::{Halted, Session};
@@ -71,6 +71,7 @@ impl<'c, R: Read, D: Disk, L: ReplySink<D>> Session<'c, R, D, L> {
         ensures step { IfOk result
             (λ moved. MatchBool moved (steps_left self.new.core.pieces_left + 1 ≡ steps_left self.old.core.pieces_left)
             ((self.new.core.pieces_left ≡ None) × (self.old.core.pieces_left ≡ None))) }
+        ensures none { IfOk result (λ moved. IsFalse moved → self.new ≡ self.old) }
     {
         let Some(pieces_left) = self.core.pieces_left() else {
             return Ok(false);
@@ -93,6 +94,8 @@ impl<'c, R: Read, D: Disk, L: ReplySink<D>> Session<'c, R, D, L> {
         ensures session_step { IsSessionStep self.old self.new result }
         ensures begun { IfOk result (λ it. MatchBool it ((n : ℕ) × (self.new.core.pieces_left ≡ Some n))
             ((self.new.core.pieces_left ≡ None) × (held (core_state_of self.new.core) ≢ []))) }
+        ensures stays { IfOk result (λ it. IsFalse it → KeepsCoreState self.old self.new) }
+        ensures same { (self.new.reorder_buffer ≡ self.old.reorder_buffer) × (self.new.reply_buffer ≡ self.old.reply_buffer) }
     {
         match self.core.cut() {
             Ok(()) => {
@@ -104,15 +107,18 @@ impl<'c, R: Read, D: Disk, L: ReplySink<D>> Session<'c, R, D, L> {
     }
 
     /// Called where no job is in flight and no message may be dispatched or read. It takes one step of the checkpoint in progress; if there
-    /// is none, it begins one where it is due or a message lacks only room in the log. Returns whether it did either.
-    pub(crate) fn advance_or_begin_checkpoint(&mut self, lacks_room: bool) -> Result<bool, Halted>
+    /// is none, it begins one where it is due or `is_asked_for`. Returns whether it did either.
+    pub(crate) fn advance_or_begin_checkpoint(&mut self, is_asked_for: bool) -> Result<bool, Halted>
         ensures session_step { IsSessionStep self.old self.new result }
         ensures moved { IfOk result (λ it. IsTrue it → steps_left self.new.core.pieces_left ≢ steps_left self.old.core.pieces_left) }
+        ensures same { (self.new.reorder_buffer ≡ self.old.reorder_buffer) × (self.new.reply_buffer ≡ self.old.reply_buffer) }
+        ensures stays { IfOk result (λ it. IsFalse it → KeepsCoreState self.old self.new × (self.new.core.pieces_left ≡ None)
+            × (IsTrue is_asked_for → held (core_state_of self.new.core) ≢ [])) }
     {
         if self.advance_checkpoint()? {
             return Ok(true);
         }
-        if lacks_room || self.trigger.is_due(self.core.pieces_left()) {
+        if is_asked_for || self.trigger.is_due(self.core.pieces_left()) {
             return self.begin_checkpoint();
         }
         Ok(false)

@@ -1,13 +1,16 @@
 //! One iteration of a session. Messages are dispatched; what was collected is logged by one call and answered, with a step of the
 //! checkpoint in progress after each answer. Where nothing else can be done, it waits for a result, or advances or begins a checkpoint.
 
-ghost use Rattle.std.specs.Prelude.{◌≡◌, ◌<◌, ◌≤◌, ◌-◌, ◌↔◌, IsTrue, OnErr, OnOk, Some, [], None, false, is_none, length, position, true};
+ghost use Rattle.std.specs.Prelude.{◌≡◌, ◌<◌, ◌≤◌, ◌-◌, ◌↔◌, IfNone, IfOk, IfSome, IsFalse, Option, IsTrue, OnErr, OnOk, Some, [], None, false, is_none, length, position, true};
 ghost use Rattle.affinity.specs.declared.geometry.Geometry.{Geometry};
 ghost use Rattle.histories.specs.CoreState.{CoreState};
+ghost use Rattle.reorder_buffer.specs.ReorderBuffer.{can_retire};
 ghost use Rattle.scheduler.specs.Calls.{IsGranted};
 ghost use Rattle.scheduler.specs.CoreView.{core_state_of};
-ghost use Rattle.serving.specs.Lending.{DispatchesTo, IsBlocked, NoneInFlight};
-ghost use Rattle.serving.specs.Session.{HasReadNothing, KeepsReadEndAndOutputFailed, IsSessionStep};
+ghost use Rattle.serving.specs.Lending.{DispatchesTo, IsBlocked, NoneInFlight, asks_for_checkpoint};
+ghost use Rattle.serving.specs.Session.{HasLoggedNothing, HasOnlySent, HasReadNothing, IsAtRest, IsSessionStep, KeepsCoreState, KeepsReadEndAndOutputFailed, NoneUnanswered};
+ghost use Rattle.serving.specs.declared.dispatch.Blocked.{Blocked};
+ghost use Rattle.serving.specs.declared.session.Activity.TheVariants as activities;
 
 use crate::gated_runtime::GatedRuntime;
 use crate::output::ReplySink;
@@ -93,6 +96,14 @@ enum Blocked {
     Failed,
 }
 
+/// Whether a checkpoint is to begin once no message is held: `why` says that one is due (`None`), or that a message lacks only room in the
+/// log.
+fn asks_for_checkpoint(why: Option<Blocked>) -> bool
+    ensures { result ≡ asks_for_checkpoint why }
+{
+    matches!(why, None | Some(Blocked::NoRoom))
+}
+
 /// If a job was granted (dispatched by the core), offers it to the workers at place k of the bench, the first free place. Inlined, so that
 /// the job isn't moved once more.
 #[inline(always)]
@@ -157,14 +168,18 @@ impl<'c, R: Read, D: Disk, L: ReplySink<D>> Session<'c, R, D, L> {
         Blocked::NoPlace
     }
 
-    /// Dispatches messages, unless a checkpoint is due by the record count. Returns whether it ended because no message was eligible and
-    /// some message lacked only room in the log. Where the device has failed, none is dispatched: the next call of the core's `log` reports
-    /// the failure.
-    fn dispatch_ready(&mut self) -> bool
+    /// Dispatches messages, unless a checkpoint is due by the record count. Returns why it ended; `None` if one is due. Where the device
+    /// has failed, none is dispatched: the next call of the core's `log` reports the failure.
+    fn dispatch_ready(&mut self) -> Option<Blocked>
         ensures as_before { KeepsReadEndAndOutputFailed self.old self.new }
+        ensures ended { IfSome result (IsBlocked self.new.core.geometry (core_state_of self.new.core) (core_state_of self.new.core)
+            self.new.dispatch_seat.lent) }
     {
-        !self.trigger.is_due(self.core.pieces_left())
-            && matches!(self.dispatch_all(), Blocked::NoRoom)
+        if self.trigger.is_due(self.core.pieces_left()) {
+            None
+        } else {
+            Some(self.dispatch_all())
+        }
     }
 
     /// Collects the result of the job at place k, if it was delivered. Returns whether the job changed something; `None` without a result.
@@ -174,6 +189,7 @@ impl<'c, R: Read, D: Disk, L: ReplySink<D>> Session<'c, R, D, L> {
         ensures unread { HasReadNothing self.old self.new }
         ensures places { length self.new.dispatch_seat.lent ≡ length self.old.dispatch_seat.lent }
         ensures failed { self.new.core.failed ≡ self.old.core.failed }
+        ensures none { IfNone result (self.new ≡ self.old) }
     {
         self.core.know_recovery();
         let Some(done) = self.bench.collect(&mut self.dispatch_seat, k) else {
@@ -191,6 +207,7 @@ impl<'c, R: Read, D: Disk, L: ReplySink<D>> Session<'c, R, D, L> {
         ensures failed { self.new.core.failed ≡ self.old.core.failed }
         ensures budget { batch.new.budget ≤ batch.old.budget }
         ensures less { IsTrue result → batch.new.budget < batch.old.budget }
+        ensures none { IsFalse result → self.new ≡ self.old }
     {
         let mut came = false;
         let mut k = 0;
@@ -202,6 +219,14 @@ impl<'c, R: Read, D: Disk, L: ReplySink<D>> Session<'c, R, D, L> {
             k += 1;
         }
         came
+    }
+
+    /// Waits for a delivery, while a job is in flight: without one no delivery would come.
+    fn wait_for_worker<W: GatedRuntime>(&mut self, rt: &W)
+        requires in_flight { NoneInFlight self.old.dispatch_seat.lent → ⊥ }
+        ensures same { self.new ≡ self.old }
+    {
+        self.bench.wait(rt, &mut self.dispatch_seat);
     }
 
     /// Waits for the jobs in flight, and collects their results. Then no job is in flight.
@@ -218,29 +243,31 @@ impl<'c, R: Read, D: Disk, L: ReplySink<D>> Session<'c, R, D, L> {
             if !is_lent {
                 break;
             }
-            self.bench.wait(rt, &mut self.dispatch_seat);
+            self.wait_for_worker(rt);
         }
     }
 
     /// Dispatches messages and collects results, until the batch is ready to log (`is_ready_to_log`), no job is in flight any more, or
     /// `MAX_POLLS` polls in succession found no result. After a poll that found some, it dispatches more messages. It never blocks.
-    /// Returns what was collected, and whether the last dispatch lacked room in the log (`dispatch_ready`).
-    fn dispatch_and_collect(&mut self) -> (Batch, bool)
+    /// Returns why no further message is dispatched, as `dispatch_ready` does.
+    fn dispatch_and_collect(&mut self) -> Option<Blocked>
         ensures as_before { KeepsReadEndAndOutputFailed self.old self.new }
+        ensures ended { IfSome result (IsBlocked self.new.core.geometry (core_state_of self.new.core) (core_state_of self.new.core)
+            self.new.dispatch_seat.lent) }
     {
-        let mut lacks_room = self.dispatch_ready();
+        let mut why = self.dispatch_ready();
         let mut batch = Batch::new();
         let mut polls = 0;
         while polls < MAX_POLLS && !batch.is_ready_to_log() && self.dispatch_seat.any_lent() {
             if self.collect_delivered(&mut batch) {
-                lacks_room = self.dispatch_ready();
+                why = self.dispatch_ready();
                 polls = 0;
             } else {
                 polls += 1;
                 pause(polls);
             }
         }
-        (batch, lacks_room)
+        why
     }
 
     /// Logs all that ran, by one call of `log`, and returns how many messages these were, reads included. Where nothing ran, it only
@@ -253,6 +280,7 @@ impl<'c, R: Read, D: Disk, L: ReplySink<D>> Session<'c, R, D, L> {
         ensures pieces_left { self.new.core.pieces_left ≡ self.old.core.pieces_left }
         ensures works { OnOk result ((self.old.core.failed ≡ false) × (self.new.core.failed ≡ false)) }
         ensures logged { OnOk result (self.new.core.ran ≡ []) }
+        ensures none { IfOk result (λ count. count ≡ 0 → KeepsCoreState self.old self.new) }
         ensures failed { OnErr result (self.new.core.failed ≡ true) }
     {
         let count = self.core.slots(); // more messages than slots can't have run
@@ -260,19 +288,22 @@ impl<'c, R: Read, D: Disk, L: ReplySink<D>> Session<'c, R, D, L> {
     }
 
     /// Logs what ran in one go, answers it, and retires the lines that are next in order. A checkpoint in progress goes on by one step
-    /// after each answer.
-    fn log_and_reply<W: GatedRuntime>(&mut self, rt: &W) -> Result<(), Halted>
+    /// after each answer. Returns whether anything was logged or answered.
+    fn log_and_reply<W: GatedRuntime>(&mut self, rt: &W) -> Result<bool, Halted>
         ensures session_step { IsSessionStep self.old self.new result }
+        ensures last { OnOk result (can_retire self.new.reorder_buffer.lines ≡ false) }
+        ensures none { IfOk result (λ moved. IsFalse moved → HasLoggedNothing self.old self.new) }
     {
-        self.log_what_ran()?;
+        let mut moved = self.log_what_ran()? > 0;
         while self.answer_first(rt) {
+            moved = true;
             self.advance_checkpoint()?;
         }
         self.retire_ready()?;
         if self.is_half_unsent() {
             self.flush_replies()?;
         }
-        Ok(())
+        Ok(moved)
     }
 
     /// Whether the lines with unsent answers are at least half of those that may be outstanding. The answers are sent then, so that new
@@ -284,22 +315,24 @@ impl<'c, R: Read, D: Disk, L: ReplySink<D>> Session<'c, R, D, L> {
 
     /// Called where nothing was read or collected, or the session has caught up. It sends the answers that wait. If a buffered line may
     /// then be read, it returns. Else, if a job is in flight, it waits for a delivery; if none is, it calls `advance_or_begin_checkpoint`.
+    /// `why` is what `dispatch_ready` gave.
     fn flush_then_wait<W: GatedRuntime>(
         &mut self,
         rt: &W,
-        lacks_room: bool,
+        why: Option<Blocked>,
     ) -> Result<Activity, Halted>
         ensures session_step { IsSessionStep self.old self.new result }
+        ensures idle { IfOk result (λ activity. activity ≡ activities.Idle → HasOnlySent self.old self.new why) }
     {
         self.flush_replies()?;
         if self.can_read() {
             return Ok(Activity::Busy);
         }
         if self.dispatch_seat.any_lent() {
-            self.bench.wait(rt, &mut self.dispatch_seat);
+            self.wait_for_worker(rt);
             return Ok(Activity::Busy);
         }
-        let stepped = self.advance_or_begin_checkpoint(lacks_room)?;
+        let stepped = self.advance_or_begin_checkpoint(asks_for_checkpoint(why))?;
         Ok(if stepped {
             Activity::Busy
         } else {
@@ -307,26 +340,39 @@ impl<'c, R: Read, D: Disk, L: ReplySink<D>> Session<'c, R, D, L> {
         })
     }
 
+    /// Does nothing: its contract states that each line that was read is retired where nothing is left to do.
+    fn know_rest(&self)
+        ensures { (why : Option Blocked) → IsAtRest self.now why → self.now.reorder_buffer.lines ≡ [] }
+    {
+        let _outstanding = self.outstanding; // what a session keeps true is known where a field is read
+    }
+
     /// Whether reading goes on, each line that was read is retired, and no further line is buffered: the client may be waiting for the
     /// answers that are still to be sent.
-    fn has_caught_up(&self) -> bool {
+    fn has_caught_up(&self) -> bool
+        ensures { IsTrue result → self.now.reorder_buffer.lines ≡ [] }
+    {
         self.read_end.is_none() && self.reorder_buffer.len() == 0 && !self.line_reader.holds_line()
     }
 
     /// One iteration. If lines were just read or results came, it returns without waiting, unless the session has caught up
-    /// (`has_caught_up`). Else it flushes, and may wait.
+    /// (`has_caught_up`). Else it flushes, and may wait. It is idle only where no line is unanswered.
     pub(crate) fn advance<W: GatedRuntime>(
         &mut self,
         rt: &W,
         read: Activity,
     ) -> Result<Activity, Halted>
         ensures session_step { IsSessionStep self.old self.new result }
+        ensures idle { IfOk result (λ activity. activity ≡ activities.Idle → NoneUnanswered self.new) }
     {
-        let (batch, lacks_room) = self.dispatch_and_collect();
-        self.log_and_reply(rt)?;
-        if (matches!(read, Activity::Busy) || batch.has_results()) && !self.has_caught_up() {
+        let why = self.dispatch_and_collect();
+        let moved = self.log_and_reply(rt)?;
+        let caught_up = self.has_caught_up();
+        if (moved || matches!(read, Activity::Busy)) && !caught_up {
             return Ok(Activity::Busy);
         }
-        self.flush_then_wait(rt, lacks_room)
+        let activity = self.flush_then_wait(rt, why)?;
+        self.know_rest();
+        Ok(activity)
     }
 }

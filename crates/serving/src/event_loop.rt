@@ -81,7 +81,8 @@ impl<'c, R: Read, D: Disk, L: ReplySink<D>> Session<'c, R, D, L> {
         }
     }
 
-    /// Reads lines and answers them, until no more is read and the reply to each line that was read is sent.
+    /// Reads lines and answers them, until no more is read and the reply to each line that was read is sent. It waits for input only while
+    /// no line is unanswered (`read_more`).
     fn serve_lines<W: GatedRuntime>(&mut self, rt: &W) -> Result<(), Halted>
         ensures served { MatchResult result (λ _. (read_end : ReadEnd) × HasFinished D.keeps self.new read_end) (λ _. HasHalted self.new) }
     {

@@ -7,6 +7,8 @@ ghost use Rattle.serving.specs.Lines.{Pending};
 ghost use Rattle.serving.specs.Reads.{TakesLine};
 ghost use Rattle.reorder_buffer.specs.ReorderBuffer.{AreConsecutive, with_tickets};
 ghost use Rattle.serving.specs.Runs.{HandsHaveJobs};
+ghost use Rattle.serving.specs.Session.{NoneUnanswered};
+ghost use Rattle.serving.specs.declared.session.Activity.TheVariants as activities;
 
 use crate::output::ReplySink;
 use crate::session::{Activity, ReadEnd, Session};
@@ -64,7 +66,8 @@ fn may_read(read_end: Option<ReadEnd>, outstanding: usize, slots: usize) -> bool
 
 impl<'c, R: Read, D: Disk, L: ReplySink<D>> Session<'c, R, D, L> {
     /// Reads the next line, if there is one, and takes it in. Returns whether it did. If it didn't, no more is read from now on, and
-    /// `read_end` says why. It may be called only while fewer lines are outstanding than there are slots.
+    /// `read_end` says why. It may be called only while fewer lines are outstanding than there are slots. It waits for input where no line
+    /// is buffered.
     fn read_next(&mut self) -> bool
         requires reads { self.old.read_end ≡ None }
         requires room { self.old.outstanding < self.old.reorder_buffer.slots }
@@ -116,16 +119,35 @@ impl<'c, R: Read, D: Disk, L: ReplySink<D>> Session<'c, R, D, L> {
             && self.line_reader.holds_line()
     }
 
+    /// Reads a line, unless reading has ended, and waits for input until there is one. No line is unanswered then, so that nobody waits for
+    /// this server while it waits.
+    fn wait_for_line(&mut self) -> Activity
+        requires none_unanswered { NoneUnanswered self.old }
+        ensures output_failed { self.new.output_failed ≡ self.old.output_failed }
+        ensures slots { self.new.reorder_buffer.slots ≡ self.old.reorder_buffer.slots }
+    {
+        if may_read(self.read_end, self.outstanding, self.reorder_buffer.slots())
+            && self.read_next()
+        {
+            Activity::Busy
+        } else {
+            Activity::Idle
+        }
+    }
+
     /// Reads the lines in the input buffer, while fewer lines are outstanding than there are slots. If `last`, what the loop did in its
-    /// last iteration, is `Idle`, one line is read even if none is buffered: this may wait for input. Lines that the same read brings in
-    /// are read too, so that their changes are logged together. None is read once reading has ended.
+    /// last iteration, is `Idle`, it waits for a line first. Lines that the same read brings in are read too, so that their changes are
+    /// logged together. None is read once reading has ended.
     pub(crate) fn read_more(&mut self, last: Activity) -> Activity
+        requires none_unanswered { last ≡ activities.Idle → NoneUnanswered self.old }
         ensures output_failed { self.new.output_failed ≡ self.old.output_failed }
     {
-        let mut read = Activity::Idle;
+        let mut read = match last {
+            Activity::Idle => self.wait_for_line(),
+            Activity::Busy => Activity::Idle,
+        };
         while may_read(self.read_end, self.outstanding, self.reorder_buffer.slots())
-            && (matches!((last, read), (Activity::Idle, Activity::Idle))
-                || self.line_reader.holds_line())
+            && self.line_reader.holds_line()
             && self.read_next()
         {
             read = Activity::Busy;

@@ -4,7 +4,7 @@ ghost use Rattle.std.specs.Prelude.{◌≡◌, ◌+◌, [], false, length, true,
 ghost use Rattle.message.specs.Waiting.{FitsReply};
 ghost use Rattle.scheduler.specs.CoreView.{core_state_of};
 ghost use Rattle.reorder_buffer.specs.ReorderBuffer.{can_retire};
-ghost use Rattle.serving.specs.Session.{HasReadNothing, KeepsReadEndAndOutputFailed, IsSessionStep};
+ghost use Rattle.serving.specs.Session.{HasReadNothing, KeepsCoreState, KeepsReadEndAndOutputFailed, IsSessionStep};
 
 use crate::gated_runtime::GatedRuntime;
 use crate::session::{Halted, Session};
@@ -49,7 +49,7 @@ impl<'c, R: Read, D: Disk, L: ReplySink<D>> Session<'c, R, D, L> {
         ensures dispatch_seat { self.new.dispatch_seat ≡ self.old.dispatch_seat }
         ensures state_after { core_state_of self.new.core ≡ record (core_state_of self.old.core) { logged = self.new.core.logged } }
         ensures fewer { IsTrue result → length self.new.core.logged + 1 ≡ length self.old.core.logged }
-        ensures none { IsFalse result → self.new.core.logged ≡ [] }
+        ensures none { IsFalse result → (self.new.core.logged ≡ []) × KeepsCoreState self.old self.new }
     {
         self.core.know_recovery();
         let first = self.core.answer();

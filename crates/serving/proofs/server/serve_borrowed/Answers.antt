@@ -9,7 +9,7 @@ use Rattle.serving.specs.Serve.{ServePromise}
 use Rattle.serving.specs.Session.{SessionView, reported}
 use Rattle.serving.specs.Output.{Start, start_machine}
 use Rattle.serving.specs.declared.server.ServeFault.{ServeFault}
-use Rattle.serving.proofs.Closing.{PromisesAll, emptied_at_end, ends_or_declines, first_at, promises_from, refuses_none}
+use Rattle.serving.proofs.Closing.{PromisesAll, above_zero, emptied_at_end, ends_or_declines, first_at, promises_from, refuses_none}
 use Rattle.serving.proofs.Invariant.{begun}
 use Rattle.serving.proofs.server.serve_borrowed.Goals as goal
 
@@ -25,6 +25,7 @@ invariant_of-session g c =
         not_ended = line_reader.open;
         slots = ap (λ (b : _). b.slots) memory.at_bench.0;
         none_lent = memory.none_lent;
+        some_place = above_zero _ c.requires.workers;
       });
       bench = memory.at_bench.0;
     }

@@ -1,5 +1,5 @@
 -- The message is answered, and its line completed; and the session keeps its invariant.
-use Rattle.std.proofs.Common.{◌≡◌, ◌+◌, ℕ, Option, ap, length, refl, subst}
+use Rattle.std.proofs.Common.{◌≡◌, ◌+◌, ℕ, Option, ap, length, refl, subst, ◌∙◌}
 use Rattle.histories.specs.Events.{answer}
 use Rattle.incarnations.proofs.Events.{answer_step}
 use Rattle.language.specs.declared.Reply.{Reply}
@@ -7,7 +7,7 @@ use Rattle.scheduler.specs.Calls.{answer_outcome}
 use Rattle.scheduler.specs.CoreView.{core_state_of}
 use Rattle.serving.specs.Runs.{machine_with_jobs}
 use Rattle.serving.specs.Session.{SessionView}
-use Rattle.serving.proofs.Answering.{IsAnswered, answered_state, fewer_logged, is_answered_so, none_answered, none_logged}
+use Rattle.serving.proofs.Answering.{IsAnswered, answered_state, fewer_logged, is_answered_so, none_answered, none_logged, none_moved}
 use Rattle.serving.proofs.Invariant.{holds_of, on_answer, on_machine}
 use Rattle.serving.proofs.session.Session.answer_first.Goals as goal
 
@@ -54,8 +54,14 @@ pub returns-in_default-clause-none : goal.returns-in_default-clause-none
 returns-in_default-clause-none g c is =
     let old = c.self.inside.core in
     let new = c.answer-first.new.self in
-    none_logged (core_state_of old) (core_state_of new) old.logged
-    (subst (λ (o : Option (ℕ × Reply)). (answer_outcome o, core_state_of new) ≡ answer (core_state_of old) old.logged) c.in_default.is c.answer-first.ensures.state_after) refl
+    let none = subst (λ (o : Option (ℕ × Reply)). (answer_outcome o, core_state_of new) ≡ answer (core_state_of old) old.logged) c.in_default.is c.answer-first.ensures.state_after in (
+      none_logged (core_state_of old) (core_state_of new) old.logged none refl,
+      (
+        c.answer-first.ensures.geometry ∙ ap (λ (p : SessionView). p.core.geometry) c.self.view_is,
+        none_moved (core_state_of old) (core_state_of new) old.logged none ∙ ap (λ (p : SessionView). core_state_of p.core) c.self.view_is,
+        ap (λ (p : SessionView). p.dispatch_seat) c.self.view_is,
+      ),
+    )
 
 pub returns-clause-as_before : goal.returns-clause-as_before
 returns-clause-as_before g c = (ap (λ (p : SessionView). p.read_end) c.self.view_is, ap (λ (p : SessionView). p.output_failed) c.self.view_is)

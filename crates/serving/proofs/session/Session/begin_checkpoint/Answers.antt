@@ -4,7 +4,7 @@ use Rattle.histories.specs.CoreState.{CoreState}
 use Rattle.scheduler.proofs.Called.{cut_called}
 use Rattle.scheduler.specs.CoreView.{core_state_of}
 use Rattle.serving.specs.Session.{SessionView}
-use Rattle.serving.proofs.Pointing.{halts, waits}
+use Rattle.serving.proofs.Pointing.{halts, stays, waits}
 use Rattle.serving.proofs.Segments.{cut_is_quiet}
 use Rattle.serving.proofs.Invariant.{holds_of, on_machine}
 use Rattle.serving.proofs.session.Session.begin_checkpoint.Goals as goal
@@ -42,3 +42,14 @@ returns-in-Err-clause-begun g c =
     let old = c.self.inside.core in
     let pieces_left = ap (λ (p : SessionView). p.core.pieces_left) c.self.view_is ∙ c.requires.none in
     waits (core_state_of old) pieces_left (core_state_of c.cut.new.self) (Unit {0}) _ c.in-Err.why c.wait_or_halt.result c.in-Err.ensures.state_after c.wait_or_halt.ensures
+
+pub returns-in-Err-clause-stays : goal.returns-in-Err-clause-stays
+returns-in-Err-clause-stays g c =
+    let old = c.self.inside.core in
+    let pieces_left = ap (λ (p : SessionView). p.core.pieces_left) c.self.view_is ∙ c.requires.none in
+    stays (core_state_of old) pieces_left (core_state_of c.cut.new.self) (Unit {0}) c.in-Err.why c.wait_or_halt.result c.in-Err.ensures.state_after c.wait_or_halt.ensures
+    (λ same. (
+      c.cut.ensures.geometry ∙ ap (λ (p : SessionView). p.core.geometry) c.self.view_is,
+      same ∙ ap (λ (p : SessionView). core_state_of p.core) c.self.view_is,
+      ap (λ (p : SessionView). p.dispatch_seat) c.self.view_is,
+    ))

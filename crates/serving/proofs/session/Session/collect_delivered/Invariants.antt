@@ -1,6 +1,6 @@
 -- What stays so of the session and the batch from place to place; and how many places are still to be polled.
 use Rattle.std.proofs.Common.{◌≡◌, ◌<◌, ◌≤◌, ◌-◌, length}
-use Rattle.std.specs.Prelude.{IsTrue}
+use Rattle.std.specs.Prelude.{IsFalse, IsTrue}
 use Rattle.serving.specs.Session.{HasReadNothing, KeepsReadEndAndOutputFailed}
 use Rattle.serving.proofs.session.Session.collect_delivered.Given as goal
 
@@ -12,6 +12,7 @@ invariant-loop-k g l = record {
   failed : l.self.core.failed ≡ l.initial.self.core.failed;
   budget : l.batch.budget ≤ l.initial.batch.budget;
   less : IsTrue l.came → l.batch.budget < l.initial.batch.budget;
+  none : IsFalse l.came → l.self ≡ l.initial.self;
 }
 
 abbrev pub decreases-loop-k : goal.decreases-loop-k

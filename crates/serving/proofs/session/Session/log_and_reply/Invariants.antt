@@ -1,10 +1,14 @@
 -- What stays so while one message after the other is answered; and how many logged messages are left to answer.
-use Rattle.std.proofs.Common.{length}
-use Rattle.serving.specs.Session.{KeepsReadEndAndOutputFailed}
+use Rattle.std.proofs.Common.{◌≡◌, [], false, length}
+use Rattle.std.specs.Prelude.{IsFalse}
+use Rattle.serving.specs.Session.{KeepsCoreState, KeepsReadEndAndOutputFailed}
 use Rattle.serving.proofs.session.Session.log_and_reply.Given as goal
 
-abbrev pub invariant-loop-self : goal.invariant-loop-self
-invariant-loop-self g l = KeepsReadEndAndOutputFailed l.initial.self l.self
+abbrev pub invariant-loop-moved : goal.invariant-loop-moved
+invariant-loop-moved g l = record {
+  as_before : KeepsReadEndAndOutputFailed l.initial.self l.self;
+  none : IsFalse l.moved → (l.self.core.ran ≡ []) × (l.self.core.failed ≡ false) × KeepsCoreState l.fn.self l.self;
+}
 
-abbrev pub decreases-loop-self : goal.decreases-loop-self
-decreases-loop-self g l = length l.self.core.logged
+abbrev pub decreases-loop-moved : goal.decreases-loop-moved
+decreases-loop-moved g l = length l.self.core.logged

@@ -1,7 +1,9 @@
 -- The session keeps its invariant; and the lemmas on logs.
-use Rattle.std.proofs.Common.{refl}
+use Rattle.std.proofs.Common.{◌≡◌, ap, refl, ◌∙◌}
 use Rattle.scheduler.proofs.Called.{log_called}
 use Rattle.scheduler.specs.CoreView.{core_state_of}
+use Rattle.serving.specs.Session.{SessionView}
+use Rattle.serving.proofs.Advancing.{at_ok, log_of_none, or_halts}
 use Rattle.serving.proofs.Segments.{log_is_quiet}
 use Rattle.serving.proofs.Invariant.{holds_of, on_machine}
 use Rattle.serving.proofs.session.Session.log_what_ran.Goals as goal
@@ -14,3 +16,14 @@ invariant_of-self g c =
     let quiet = log_is_quiet g.D.Disk.keeps old new c.log.ensures.geometry n c.log.result c.log.ensures.any_moment
     (log_called old.geometry (core_state_of old) (core_state_of new) n c.log.result c.log.ensures.state_after) c.log.ensures.counts in
     record { run = on_machine g.D.Disk.keeps _ _ c.self.invariant.run _ _ (quiet _ (holds_of g.D.Disk.keeps _ _ c.self.invariant.run)) refl refl; bench = c.self.invariant.bench }
+
+pub returns-clause-none : goal.returns-clause-none
+returns-clause-none g c =
+    let old = c.self.inside.core in
+    let new = c.log.new.self in
+    or_halts _ c.log.result c.or_halt.result c.or_halt.ensures
+    (at_ok (λ count. count ≡ 0 → core_state_of new ≡ core_state_of old) _ c.log.result (λ count none zero. (
+      c.log.ensures.geometry ∙ ap (λ (p : SessionView). p.core.geometry) c.self.view_is,
+      none zero ∙ ap (λ (p : SessionView). core_state_of p.core) c.self.view_is,
+      ap (λ (p : SessionView). p.dispatch_seat) c.self.view_is,
+    )) (log_of_none old.geometry (core_state_of old) (core_state_of new) c.slots-count.result c.log.result c.log.ensures.state_after))

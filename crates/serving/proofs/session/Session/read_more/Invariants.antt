@@ -2,8 +2,8 @@
 use Rattle.std.proofs.Common.{◌≡◌, ◌-◌}
 use Rattle.serving.proofs.session.Session.read_more.Given as goal
 
-abbrev pub invariant-loop-last : goal.invariant-loop-last
-invariant-loop-last g l = l.self.output_failed ≡ l.initial.self.output_failed
+abbrev pub invariant-loop-self : goal.invariant-loop-self
+invariant-loop-self g l = l.self.output_failed ≡ l.initial.self.output_failed
 
-abbrev pub decreases-loop-last : goal.decreases-loop-last
-decreases-loop-last g l = l.self.reorder_buffer.slots - l.self.outstanding
+abbrev pub decreases-loop-self : goal.decreases-loop-self
+decreases-loop-self g l = l.self.reorder_buffer.slots - l.self.outstanding

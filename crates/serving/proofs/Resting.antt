@@ -1,0 +1,90 @@
+-- Where a session is at rest, nothing waits in its core: the message with the least ticket could be dispatched, or lacks only room in the
+-- log. So each line that was read is retired.
+use Rattle.std.proofs.Common.{◌≡◌, ◌≢◌, ℕ, ◌<◌, zero, suc, Bool, true, false, List, [], ◌∷◌, ◌++◌, Option, Some, None, refl, ap, sym, ◌∙◌, subst, length, replicate, arith}
+use Rattle.std.specs.Prelude.{cond, IfSome, is_none, position}
+use Rattle.std.proofs.lemmas.Bool.{true≢false, lt-ltb}
+use Rattle.std.proofs.lemmas.Option.{none-some}
+use Rattle.affinity.specs.declared.geometry.Geometry.{Geometry}
+use Rattle.histories.proofs.Idle.{none_in_flight}
+use Rattle.histories.proofs.Progress.{needs}
+use Rattle.histories.specs.CoreState.{CoreState, Entry, entries, held}
+use Rattle.histories.specs.Laws.{IsIdle, IsSoundCoreState}
+use Rattle.histories.specs.declared.outcomes.Outcome.TheVariants as outcomes
+use Rattle.reorder_buffer.specs.ReorderBuffer.{ReorderBufferView, can_retire}
+use Rattle.parcel.specs.Run.{JobView}
+use Rattle.scheduler.specs.Calls.{IsNoGrant}
+use Rattle.scheduler.specs.CoreView.{core_state_of}
+use Rattle.serving.specs.Lending.{IsBlocked}
+use Rattle.serving.specs.Session.{IsAtRest, KeepsCoreState, HasLoggedNothing, HasOnlySent, SessionInvariantFrom, SessionView}
+use Rattle.serving.specs.Output.{Start}
+use Rattle.serving.specs.declared.dispatch.Blocked.{Blocked}
+use Rattle.serving.specs.declared.dispatch.Blocked.TheVariants as blocked
+use Rattle.workers.specs.Seats.{DispatchSeatView}
+use Rattle.serving.proofs.Invariant.{ask, none_out, progress_at_end, to_reorder_buffer}
+use Rattle.serving.proofs.Unanswered.{no_line}
+
+-- ---- nothing waits
+
+-- where places are free, some place is the first one
+some_free : (n : ℕ) → 0 < n → position (λ (o : Option JobView). is_none o) (replicate n None) ≢ None
+some_free zero some none = absurd (omega (arith, some))
+some_free (suc n) some none =
+    let first : position (λ (o : Option JobView). is_none o) (None ∷ replicate n None) ≡ Some 0 =
+    ap (λ (b : Bool). cond b (Some 0) None) (lt-ltb 0 (suc (length (replicate {A = Option JobView} n None))) (omega arith)) in
+    none-some 0 (sym none ∙ first)
+
+none_granted : (g : Geometry) (w : CoreState) (waiting : List Entry) → IsSoundCoreState g w → held w ≡ [] → IsNoGrant g w w outcomes.NoneEligible
+    → w.waiting ≡ waiting → w.waiting ≡ []
+none_granted g w [] sound none nothing is = is
+none_granted g w (e ∷ rest) sound none nothing is =
+    let roomless : outcomes.NoRoom ≡ outcomes.NoneEligible = sym (needs g w e rest sound none is nothing.works nothing.none).no_room ∙ nothing.reason in cc
+
+module _ (p : SessionView) (sound : IsSoundCoreState p.core.geometry (core_state_of p.core)) (places : 0 < length p.dispatch_seat.lent)
+    (none_out : p.core.in_flight ≡ []) where
+  none_held : {why : Option Blocked} → IsAtRest p why → held (core_state_of p.core) ≡ []
+  none_held r = λ i. entries (r.none_logged i) ++ (entries (r.none_ran i) ++ none_out i)
+
+  none_waits : (why : Option Blocked) → IsAtRest p why → p.core.waiting ≡ []
+  none_waits None r = absurd (r.none_asked refl (none_held r))
+  none_waits (Some blocked.NoRoom) r = absurd (r.none_asked refl (none_held r))
+  none_waits (Some blocked.NoPlace) r =
+      absurd (some_free (length p.dispatch_seat.lent) places (ap (position (λ (o : Option JobView). is_none o)) (sym r.none_in_flight) ∙ r.blocked.0))
+  none_waits (Some blocked.NoneEligible) r = none_granted p.core.geometry (core_state_of p.core) p.core.waiting sound (none_held r) r.blocked refl
+  none_waits (Some blocked.Failed) r = absurd (true≢false (sym r.blocked.0 ∙ r.works))
+
+  idle_at_rest : (why : Option Blocked) → IsAtRest p why → IsIdle (core_state_of p.core)
+  idle_at_rest why r = record { none_waits = none_waits why r; none_held = none_held r }
+
+pub retired_at_rest : (keeps : Type 0) (o : Option Start) (p : SessionView) → SessionInvariantFrom keeps o p → (why : Option Blocked) → IsAtRest p why
+    → p.reorder_buffer.lines ≡ []
+retired_at_rest keeps o p u why r = ask keeps o p u (λ s u.
+    let h = to_reorder_buffer (progress_at_end keeps s p p.read_end u.reads).2 in
+    let places = u.places in
+    let some = u.some_place in
+    let idle = idle_at_rest p u.holds.sound (omega (arith, places, some)) (none_out u.idle h.serving.segment r.none_in_flight) why r in
+    no_line u.idle idle p.reorder_buffer.lines h r.last)
+
+-- ---- how a session comes to rest
+
+-- Where the core state and what is lent stay as they are, so does the reason for which no message is dispatched.
+pub still_blocked : (p q : SessionView) (why : Option Blocked) → KeepsCoreState p q
+    → IfSome why (IsBlocked p.core.geometry (core_state_of p.core) (core_state_of p.core) p.dispatch_seat.lent)
+    → IfSome why (IsBlocked q.core.geometry (core_state_of q.core) (core_state_of q.core) q.dispatch_seat.lent)
+still_blocked p q why k is =
+    subst (λ (d : DispatchSeatView). IfSome why (IsBlocked q.core.geometry (core_state_of q.core) (core_state_of q.core) d.lent)) (sym k.2)
+    (subst (λ (w : CoreState). IfSome why (IsBlocked q.core.geometry w w p.dispatch_seat.lent)) (sym k.1)
+    (subst (λ (g : Geometry). IfSome why (IsBlocked g (core_state_of p.core) (core_state_of p.core) p.dispatch_seat.lent)) (sym k.0) is))
+
+-- After a dispatch that ended for this reason nothing was logged, answered or begun.
+pub comes_to_rest : (p q r : SessionView) (why : Option Blocked)
+    → IfSome why (IsBlocked p.core.geometry (core_state_of p.core) (core_state_of p.core) p.dispatch_seat.lent) → HasLoggedNothing p q
+    → can_retire q.reorder_buffer.lines ≡ false → HasOnlySent q r why → IsAtRest r why
+comes_to_rest p q r why blocked l last s = record {
+  blocked = still_blocked q r why s.keeps (still_blocked p q why l.keeps blocked);
+  none_asked = s.none_asked;
+  none_in_flight = s.none_in_flight;
+  none_ran = ap (λ (w : CoreState). w.ran) s.keeps.1 ∙ l.none_ran;
+  none_logged = ap (λ (w : CoreState). w.logged) s.keeps.1 ∙ l.none_logged;
+  works = ap (λ (w : CoreState). w.failed) s.keeps.1 ∙ l.works;
+  last = ap (λ (b : ReorderBufferView). can_retire b.lines) s.lines ∙ last;
+}

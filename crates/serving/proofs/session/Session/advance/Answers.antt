@@ -1,0 +1,21 @@
+-- Where the session has caught up, each line is retired. Else nothing was logged or answered, and the session is at rest.
+use Rattle.std.proofs.Common.{ap, sym, ◌∙◌}
+use Rattle.reorder_buffer.specs.ReorderBuffer.{ReorderBufferView}
+use Rattle.serving.proofs.Resting.{comes_to_rest}
+use Rattle.serving.proofs.session.Session.advance.Goals.{else-matches-via-then-matches+else-not-caught_up, else-matches-via-else-matches, then-moved, else-moved+in-Busy, else-moved+in_default}
+use Rattle.serving.proofs.session.Session.advance.Goals as goal
+
+pub returns-clause-idle : goal.returns-clause-idle
+returns-clause-idle g c idle =
+    let sent = c.in_ok-activity.ensures.idle idle in (
+      elim c.else-matches.branch [
+        | else-matches-via-then-matches+else-not-caught_up w ↦ ap (λ (b : ReorderBufferView). b.lines) sent.lines ∙ c.has_caught_up-caught_up.ensures w.if-not-caught_up.false
+        | else-matches-via-else-matches w ↦ c.know_rest.ensures c.dispatch_and_collect-why.result
+            (comes_to_rest _ _ _ _ c.dispatch_and_collect-why.ensures.ended (c.in_ok-moved.ensures.none (elim c.if-moved.branch [
+              | then-moved v ↦ sym v.value-is ∙ w.if-matches.false
+              | else-moved+in-Busy v ↦ v.if-moved.false
+              | else-moved+in_default v ↦ v.if-moved.false
+            ])) c.in_ok-moved.ensures.last sent)
+      ],
+      sent.flushed,
+    )
