@@ -25,6 +25,7 @@ mod Advancing
 mod Stopping
 mod Unanswered
 mod Invariant
+mod Going
 mod Resting
 mod Promises
 mod Closing

@@ -4,7 +4,8 @@ use Rattle.std.specs.Io.KnownBytes.{IsAtEnd}
 use Rattle.affinity.specs.declared.geometry.Geometry.{Geometry}
 use Rattle.histories.specs.CoreState.{held}
 use Rattle.histories.specs.Laws.{IsIdle}
-use Rattle.incarnations.specs.Machine.{MachineView}
+use Rattle.histories.specs.Progress.{steps_to_come}
+use Rattle.incarnations.specs.Machine.{MachineView, machine_of}
 use Rattle.language.specs.Grammar.{message_of}
 use Rattle.language.specs.Messages.{is_in_range}
 use Rattle.language.specs.FirstLine.{GivesLine, LosesLineStart}
@@ -157,6 +158,32 @@ abbrev pub KeepsCoreState : SessionView → SessionView → Type 0
 KeepsCoreState old new = (new.core.geometry ≡ old.core.geometry) × (core_state_of new.core ≡ core_state_of old.core)
     × (new.dispatch_seat ≡ old.dispatch_seat)
 
+-- how many steps a checkpoint takes to its end, by how many of its pieces are left
+abbrev pub steps_left : Option ℕ → ℕ
+steps_left None = 0
+steps_left (Some n) = n + 1
+
+-- how many steps are to come until all messages are answered that the session has read
+abbrev pub steps_ahead : SessionView → ℕ
+steps_ahead p = steps_to_come (machine_of (machine p))
+
+-- No more steps are to come than before, and the checkpoint in progress is as it was.
+abbrev pub HasMoved : SessionView → SessionView → Type 0
+HasMoved old new = (steps_ahead new ≤ steps_ahead old) × (new.core.pieces_left ≡ old.core.pieces_left)
+
+-- How an iteration of the loop has gone on.
+pub data HasGoneOn (old new : SessionView) : Type 0 where
+  -- a message took a step: fewer are to come
+  TookStep : (less : steps_ahead new < steps_ahead old) → HasGoneOn old new
+  -- a checkpoint began, went on or ended
+  MovedCheckpoint : (moved : steps_left new.core.pieces_left ≢ steps_left old.core.pieces_left) → HasGoneOn old new
+  -- it waited while a job was in flight, which still is
+  Waited : (in_flight : NoneInFlight new.dispatch_seat.lent → ⊥) → HasGoneOn old new
+  -- a line can be read
+  CanRead : (reads : new.read_end ≡ None) → (room : new.outstanding < new.reorder_buffer.slots) → HasGoneOn old new
+  -- no line is unanswered
+  Rests : (none : NoneUnanswered new) → HasGoneOn old new
+
 -- The output has failed, or else the device.
 abbrev pub HasHalted : SessionView → Type 0
 HasHalted p = p.output_failed ≡ false → p.core.failed ≡ true
@@ -192,11 +219,6 @@ pub record IsAtRest (p : SessionView) (why : Option Blocked) : Type 0 where
   pub none_logged : p.core.logged ≡ []
   pub works : p.core.failed ≡ false
   pub last : can_retire p.reorder_buffer.lines ≡ false
-
--- how many steps a checkpoint takes to its end, by how many of its pieces are left
-abbrev pub steps_left : Option ℕ → ℕ
-steps_left None = 0
-steps_left (Some n) = n + 1
 
 -- ---- the end
 

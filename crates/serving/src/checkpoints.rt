@@ -1,10 +1,10 @@
 //! Checkpoints of a session: when one is due, how it begins, and how it is carried to its end step by step.
 
-ghost use Rattle.std.specs.Prelude.{◌≡◌, ◌≢◌, ◌+◌, ℕ, [], None, Some, IfOk, IsFalse, IsTrue, MatchBool, MatchResult, false};
+ghost use Rattle.std.specs.Prelude.{◌≡◌, ◌≢◌, ◌+◌, ℕ, [], None, Some, IfOk, IsFalse, IsTrue, MatchBool, MatchResult, OnOk, false};
 ghost use Rattle.histories.specs.declared.outcomes.PointRefusal.TheVariants.{Held};
 ghost use Rattle.histories.specs.CoreState.{held};
 ghost use Rattle.scheduler.specs.CoreView.{core_state_of};
-ghost use Rattle.serving.specs.Session.{IsSessionStep, KeepsCoreState, steps_left};
+ghost use Rattle.serving.specs.Session.{IsSessionStep, KeepsCoreState, steps_ahead, steps_left};
 
 use crate::output::ReplySink;
 use crate::session::{Halted, Session};
@@ -72,6 +72,7 @@ impl<'c, R: Read, D: Disk, L: ReplySink<D>> Session<'c, R, D, L> {
             (λ moved. MatchBool moved (steps_left self.new.core.pieces_left + 1 ≡ steps_left self.old.core.pieces_left)
             ((self.new.core.pieces_left ≡ None) × (self.old.core.pieces_left ≡ None))) }
         ensures none { IfOk result (λ moved. IsFalse moved → self.new ≡ self.old) }
+        ensures steps { OnOk result (steps_ahead self.new ≡ steps_ahead self.old) }
     {
         let Some(pieces_left) = self.core.pieces_left() else {
             return Ok(false);
@@ -95,6 +96,7 @@ impl<'c, R: Read, D: Disk, L: ReplySink<D>> Session<'c, R, D, L> {
         ensures begun { IfOk result (λ it. MatchBool it ((n : ℕ) × (self.new.core.pieces_left ≡ Some n))
             ((self.new.core.pieces_left ≡ None) × (held (core_state_of self.new.core) ≢ []))) }
         ensures stays { IfOk result (λ it. IsFalse it → KeepsCoreState self.old self.new) }
+        ensures steps { OnOk result (steps_ahead self.new ≡ steps_ahead self.old) }
         ensures same { (self.new.reorder_buffer ≡ self.old.reorder_buffer) × (self.new.reply_buffer ≡ self.old.reply_buffer) }
     {
         match self.core.cut() {
@@ -112,6 +114,7 @@ impl<'c, R: Read, D: Disk, L: ReplySink<D>> Session<'c, R, D, L> {
         ensures session_step { IsSessionStep self.old self.new result }
         ensures moved { IfOk result (λ it. IsTrue it → steps_left self.new.core.pieces_left ≢ steps_left self.old.core.pieces_left) }
         ensures same { (self.new.reorder_buffer ≡ self.old.reorder_buffer) × (self.new.reply_buffer ≡ self.old.reply_buffer) }
+        ensures steps { OnOk result (steps_ahead self.new ≡ steps_ahead self.old) }
         ensures stays { IfOk result (λ it. IsFalse it → KeepsCoreState self.old self.new × (self.new.core.pieces_left ≡ None)
             × (IsTrue is_asked_for → held (core_state_of self.new.core) ≢ [])) }
     {

@@ -1,14 +1,14 @@
 //! One iteration of a session. Messages are dispatched; what was collected is logged by one call and answered, with a step of the
 //! checkpoint in progress after each answer. Where nothing else can be done, it waits for a result, or advances or begins a checkpoint.
 
-ghost use Rattle.std.specs.Prelude.{◌≡◌, ◌<◌, ◌≤◌, ◌-◌, ◌↔◌, IfNone, IfOk, IfSome, IsFalse, Option, IsTrue, OnErr, OnOk, Some, [], None, false, is_none, length, position, true};
+ghost use Rattle.std.specs.Prelude.{◌≡◌, ◌+◌, ◌<◌, ◌≤◌, ◌-◌, cond, ◌↔◌, IfNone, IfOk, IfSome, IsFalse, Option, IsTrue, OnErr, OnOk, Some, [], None, false, is_none, length, position, true};
 ghost use Rattle.affinity.specs.declared.geometry.Geometry.{Geometry};
 ghost use Rattle.histories.specs.CoreState.{CoreState};
 ghost use Rattle.reorder_buffer.specs.ReorderBuffer.{can_retire};
 ghost use Rattle.scheduler.specs.Calls.{IsGranted};
 ghost use Rattle.scheduler.specs.CoreView.{core_state_of};
 ghost use Rattle.serving.specs.Lending.{DispatchesTo, IsBlocked, NoneInFlight, asks_for_checkpoint};
-ghost use Rattle.serving.specs.Session.{HasLoggedNothing, HasOnlySent, HasReadNothing, IsAtRest, IsSessionStep, KeepsCoreState, KeepsReadEndAndOutputFailed, NoneUnanswered};
+ghost use Rattle.serving.specs.Session.{HasGoneOn, HasLoggedNothing, HasMoved, HasOnlySent, HasReadNothing, IsAtRest, IsSessionStep, KeepsCoreState, KeepsReadEndAndOutputFailed, NoneUnanswered, steps_ahead};
 ghost use Rattle.serving.specs.declared.dispatch.Blocked.{Blocked};
 ghost use Rattle.serving.specs.declared.session.Activity.TheVariants as activities;
 
@@ -145,6 +145,7 @@ impl<'c, R: Read, D: Disk, L: ReplySink<D>> Session<'c, R, D, L> {
     fn dispatch_to(&mut self, k: usize) -> Result<(), Blocked>
         requires first { position is_none self.old.dispatch_seat.lent ≡ Some k }
         ensures as_before { KeepsReadEndAndOutputFailed self.old self.new }
+        ensures moves { HasMoved self.old self.new }
         ensures geometry { self.new.core.geometry ≡ self.old.core.geometry }
         ensures dispatches { DispatchesTo self.old.core.geometry k (core_state_of self.old.core) self.old.dispatch_seat.lent
             (core_state_of self.new.core) self.new.dispatch_seat.lent result }
@@ -157,6 +158,7 @@ impl<'c, R: Read, D: Disk, L: ReplySink<D>> Session<'c, R, D, L> {
     /// Dispatches eligible messages, the one with the least ticket first, as long as it can. Returns why it ended.
     fn dispatch_all(&mut self) -> Blocked
         ensures as_before { KeepsReadEndAndOutputFailed self.old self.new }
+        ensures moves { HasMoved self.old self.new }
         ensures ended { IsBlocked self.new.core.geometry (core_state_of self.new.core) (core_state_of self.new.core)
             self.new.dispatch_seat.lent result }
     {
@@ -172,6 +174,7 @@ impl<'c, R: Read, D: Disk, L: ReplySink<D>> Session<'c, R, D, L> {
     /// has failed, none is dispatched: the next call of the core's `log` reports the failure.
     fn dispatch_ready(&mut self) -> Option<Blocked>
         ensures as_before { KeepsReadEndAndOutputFailed self.old self.new }
+        ensures moves { HasMoved self.old self.new }
         ensures ended { IfSome result (IsBlocked self.new.core.geometry (core_state_of self.new.core) (core_state_of self.new.core)
             self.new.dispatch_seat.lent) }
     {
@@ -186,6 +189,7 @@ impl<'c, R: Read, D: Disk, L: ReplySink<D>> Session<'c, R, D, L> {
     fn collect_one(&mut self, k: usize) -> Option<bool>
         requires place { k < length self.old.dispatch_seat.lent }
         ensures as_before { KeepsReadEndAndOutputFailed self.old self.new }
+        ensures moves { HasMoved self.old self.new }
         ensures unread { HasReadNothing self.old self.new }
         ensures places { length self.new.dispatch_seat.lent ≡ length self.old.dispatch_seat.lent }
         ensures failed { self.new.core.failed ≡ self.old.core.failed }
@@ -203,6 +207,7 @@ impl<'c, R: Read, D: Disk, L: ReplySink<D>> Session<'c, R, D, L> {
     /// Polls each place once, and collects the results that were delivered, until the batch is full. Returns whether there was a result.
     fn collect_delivered(&mut self, batch: &mut Batch) -> bool
         ensures as_before { KeepsReadEndAndOutputFailed self.old self.new }
+        ensures moves { HasMoved self.old self.new }
         ensures unread { HasReadNothing self.old self.new }
         ensures failed { self.new.core.failed ≡ self.old.core.failed }
         ensures budget { batch.new.budget ≤ batch.old.budget }
@@ -252,6 +257,7 @@ impl<'c, R: Read, D: Disk, L: ReplySink<D>> Session<'c, R, D, L> {
     /// Returns why no further message is dispatched, as `dispatch_ready` does.
     fn dispatch_and_collect(&mut self) -> Option<Blocked>
         ensures as_before { KeepsReadEndAndOutputFailed self.old self.new }
+        ensures moves { HasMoved self.old self.new }
         ensures ended { IfSome result (IsBlocked self.new.core.geometry (core_state_of self.new.core) (core_state_of self.new.core)
             self.new.dispatch_seat.lent) }
     {
@@ -281,6 +287,7 @@ impl<'c, R: Read, D: Disk, L: ReplySink<D>> Session<'c, R, D, L> {
         ensures works { OnOk result ((self.old.core.failed ≡ false) × (self.new.core.failed ≡ false)) }
         ensures logged { OnOk result (self.new.core.ran ≡ []) }
         ensures none { IfOk result (λ count. count ≡ 0 → KeepsCoreState self.old self.new) }
+        ensures steps { IfOk result (λ count. steps_ahead self.new + count ≡ steps_ahead self.old) }
         ensures failed { OnErr result (self.new.core.failed ≡ true) }
     {
         let count = self.core.slots(); // more messages than slots can't have run
@@ -293,6 +300,7 @@ impl<'c, R: Read, D: Disk, L: ReplySink<D>> Session<'c, R, D, L> {
         ensures session_step { IsSessionStep self.old self.new result }
         ensures last { OnOk result (can_retire self.new.reorder_buffer.lines ≡ false) }
         ensures none { IfOk result (λ moved. IsFalse moved → HasLoggedNothing self.old self.new) }
+        ensures steps { IfOk result (λ moved. steps_ahead self.new + cond moved 1 0 ≤ steps_ahead self.old) }
     {
         let mut moved = self.log_what_ran()? > 0;
         while self.answer_first(rt) {
@@ -323,6 +331,8 @@ impl<'c, R: Read, D: Disk, L: ReplySink<D>> Session<'c, R, D, L> {
     ) -> Result<Activity, Halted>
         ensures session_step { IsSessionStep self.old self.new result }
         ensures idle { IfOk result (λ activity. activity ≡ activities.Idle → HasOnlySent self.old self.new why) }
+        ensures steps { OnOk result (steps_ahead self.new ≤ steps_ahead self.old) }
+        ensures goes_on { IfOk result (λ activity. activity ≡ activities.Busy → HasGoneOn self.old self.new) }
     {
         self.flush_replies()?;
         if self.can_read() {
@@ -364,6 +374,7 @@ impl<'c, R: Read, D: Disk, L: ReplySink<D>> Session<'c, R, D, L> {
     ) -> Result<Activity, Halted>
         ensures session_step { IsSessionStep self.old self.new result }
         ensures idle { IfOk result (λ activity. activity ≡ activities.Idle → NoneUnanswered self.new) }
+        ensures goes_on { OnOk result (read ≡ activities.Idle → HasGoneOn self.old self.new) }
     {
         let why = self.dispatch_and_collect();
         let moved = self.log_and_reply(rt)?;

@@ -4,7 +4,7 @@ ghost use Rattle.std.specs.Prelude.{◌≡◌, ◌+◌, [], false, length, true,
 ghost use Rattle.message.specs.Waiting.{FitsReply};
 ghost use Rattle.scheduler.specs.CoreView.{core_state_of};
 ghost use Rattle.reorder_buffer.specs.ReorderBuffer.{can_retire};
-ghost use Rattle.serving.specs.Session.{HasReadNothing, KeepsCoreState, KeepsReadEndAndOutputFailed, IsSessionStep};
+ghost use Rattle.serving.specs.Session.{HasReadNothing, KeepsCoreState, KeepsReadEndAndOutputFailed, IsSessionStep, steps_ahead};
 
 use crate::gated_runtime::GatedRuntime;
 use crate::session::{Halted, Session};
@@ -50,6 +50,7 @@ impl<'c, R: Read, D: Disk, L: ReplySink<D>> Session<'c, R, D, L> {
         ensures state_after { core_state_of self.new.core ≡ record (core_state_of self.old.core) { logged = self.new.core.logged } }
         ensures fewer { IsTrue result → length self.new.core.logged + 1 ≡ length self.old.core.logged }
         ensures none { IsFalse result → (self.new.core.logged ≡ []) × KeepsCoreState self.old self.new }
+        ensures steps { IsTrue result → steps_ahead self.new + 1 ≡ steps_ahead self.old }
     {
         self.core.know_recovery();
         let first = self.core.answer();

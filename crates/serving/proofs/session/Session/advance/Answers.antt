@@ -1,6 +1,7 @@
 -- Where the session has caught up, each line is retired. Else nothing was logged or answered, and the session is at rest.
 use Rattle.std.proofs.Common.{ap, sym, ◌∙◌}
 use Rattle.reorder_buffer.specs.ReorderBuffer.{ReorderBufferView}
+use Rattle.serving.proofs.Going.{has_gone_on}
 use Rattle.serving.proofs.Resting.{comes_to_rest}
 use Rattle.serving.proofs.session.Session.advance.Goals.{else-matches-via-then-matches+else-not-caught_up, else-matches-via-else-matches, then-moved, else-moved+in-Busy, else-moved+in_default}
 use Rattle.serving.proofs.session.Session.advance.Goals as goal
@@ -19,3 +20,7 @@ returns-clause-idle g c idle =
       ],
       sent.flushed,
     )
+
+pub returns-clause-goes_on : goal.returns-clause-goes_on
+returns-clause-goes_on g c _ = has_gone_on _ _ _ _ c.dispatch_and_collect-why.ensures.moves c.in_ok-moved.moved c.in_ok-activity.activity
+    c.in_ok-moved.ensures.steps c.in_ok-moved.ensures.none c.in_ok-activity.ensures.steps c.in_ok-activity.ensures.goes_on (returns-clause-idle g c)

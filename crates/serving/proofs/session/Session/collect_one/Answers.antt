@@ -2,8 +2,9 @@
 use Rattle.std.proofs.Common.{◌<◌, List, Option, None, ap, length, sym, subst, ◌∙◌}
 use Rattle.parcel.specs.Run.{JobView}
 use Rattle.serving.specs.Runs.{IsInternal, machine_with_jobs}
-use Rattle.serving.specs.Session.{SessionView}
+use Rattle.serving.specs.Session.{HasMoved, SessionView}
 use Rattle.serving.proofs.Returning.{came_back, gives_back, set-length}
+use Rattle.serving.proofs.Going.{returned}
 use Rattle.serving.proofs.Invariant.{holds_of, on_machine}
 use Rattle.serving.proofs.session.Session.collect_one.Goals as goal
 
@@ -28,3 +29,12 @@ invariant_of-self-2 g c =
     back.0 back.1 back.2 back.3) in
     let places = ap (λ (l : List (Option JobView)). length l) s.3 ∙ set-length old.dispatch_seat.lent c.args.k None in
     record { run = on_machine g.D.Disk.keeps _ _ c.self.invariant.run _ _ quiet c.in-Some.ensures.bench places; bench = c.in-Some.ensures.bench ∙ c.self.invariant.bench }
+
+pub returns-clause-moves : goal.returns-clause-moves
+returns-clause-moves g c =
+    let s = c.in-Some.ensures.some in
+    let old = c.self.inside in
+    let place = subst (λ (p : SessionView). c.args.k < length p.dispatch_seat.lent) (sym c.self.view_is) c.requires.place in
+    let back = c.give_back.ensures.state_after in
+    subst (λ (p : SessionView). HasMoved p (record p { core = c.give_back.new.self; dispatch_seat = c.collect.new.seat })) c.self.view_is
+    (returned old.core.geometry c.args.k _ _ old.dispatch_seat.lent _ _ back.0 place back.1 back.3 s.3)

@@ -4,12 +4,13 @@ use Rattle.std.proofs.Common.{◌≤◌, ◌+◌, ◌-◌, ◌*◌}
 use Rattle.std.specs.Prelude.{IfSome}
 use Rattle.scheduler.specs.CoreView.{core_state_of}
 use Rattle.serving.specs.Lending.{IsBlocked}
-use Rattle.serving.specs.Session.{KeepsReadEndAndOutputFailed}
+use Rattle.serving.specs.Session.{HasMoved, KeepsReadEndAndOutputFailed}
 use Rattle.serving.proofs.session.Session.dispatch_and_collect.Given as goal
 
 abbrev pub invariant-loop-polls : goal.invariant-loop-polls
 invariant-loop-polls g l = record {
   as_before : KeepsReadEndAndOutputFailed l.fn.self l.self;
+  moves : HasMoved l.fn.self l.self;
   few : l.polls ≤ 16384;
   ended : IfSome l.why (IsBlocked l.self.core.geometry (core_state_of l.self.core) (core_state_of l.self.core) l.self.dispatch_seat.lent);
 }

@@ -5,7 +5,8 @@ use Rattle.std.proofs.lemmas.List.Quantifiers.{position-Some}
 use Rattle.atomic_table.specs.Seated.{TableId}
 use Rattle.scheduler.specs.CoreView.{core_state_of}
 use Rattle.serving.specs.Lending.{DispatchesTo}
-use Rattle.serving.specs.Session.{SessionView}
+use Rattle.serving.specs.Session.{HasMoved, SessionView}
+use Rattle.serving.proofs.Going.{dispatched}
 use Rattle.serving.proofs.Sending.{as_many, sends}
 use Rattle.serving.proofs.Invariant.{holds_of, on_machine, places_of}
 use Rattle.serving.proofs.session.Session.dispatch_to.Goals as goal
@@ -39,3 +40,10 @@ returns-clause-dispatches g c =
     let new = c.grant-granted.new.self in
     subst (λ (p : SessionView). DispatchesTo p.core.geometry c.args.k (core_state_of p.core) p.dispatch_seat.lent (core_state_of new) c.offer_granted.new.dispatch_seat.lent c.offer_granted.result)
     c.self.view_is (c.offer_granted.ensures.dispatches _ _ _ c.grant-granted.ensures.state_after)
+
+pub returns-clause-moves : goal.returns-clause-moves
+returns-clause-moves g c =
+    let old = c.self.inside in
+    let first = ap (λ (p : SessionView). position is_none p.dispatch_seat.lent) c.self.view_is ∙ c.requires.first in
+    subst (λ (p : SessionView). HasMoved p (record p { core = c.grant-granted.new.self; dispatch_seat = c.offer_granted.new.dispatch_seat })) c.self.view_is
+    (dispatched old.core.geometry c.args.k _ _ old.dispatch_seat.lent _ _ first (c.offer_granted.ensures.dispatches _ _ _ c.grant-granted.ensures.state_after))

@@ -1,8 +1,9 @@
 -- The session keeps its invariant; and the lemmas on logs.
-use Rattle.std.proofs.Common.{◌≡◌, ap, refl, ◌∙◌}
+use Rattle.std.proofs.Common.{◌≡◌, ◌+◌, ap, refl, ◌∙◌}
 use Rattle.scheduler.proofs.Called.{log_called}
 use Rattle.scheduler.specs.CoreView.{core_state_of}
-use Rattle.serving.specs.Session.{SessionView}
+use Rattle.serving.specs.Session.{SessionView, steps_ahead}
+use Rattle.serving.proofs.Going.{logged_some, steps}
 use Rattle.serving.proofs.Advancing.{at_ok, log_of_none, or_halts}
 use Rattle.serving.proofs.Segments.{log_is_quiet}
 use Rattle.serving.proofs.Invariant.{holds_of, on_machine}
@@ -27,3 +28,11 @@ returns-clause-none g c =
       none zero ∙ ap (λ (p : SessionView). core_state_of p.core) c.self.view_is,
       ap (λ (p : SessionView). p.dispatch_seat) c.self.view_is,
     )) (log_of_none old.geometry (core_state_of old) (core_state_of new) c.slots-count.result c.log.result c.log.ensures.state_after))
+
+pub returns-clause-steps : goal.returns-clause-steps
+returns-clause-steps g c =
+    let old = c.self.inside in
+    or_halts _ c.log.result c.or_halt.result c.or_halt.ensures
+    (at_ok (λ count. steps (core_state_of c.log.new.self) old.dispatch_seat.lent + count ≡ steps (core_state_of old.core) old.dispatch_seat.lent) _ c.log.result
+    (λ count less. less ∙ ap steps_ahead c.self.view_is)
+    (logged_some old.core.geometry (core_state_of old.core) (core_state_of c.log.new.self) old.dispatch_seat.lent c.slots-count.result c.log.result c.log.ensures.state_after))
