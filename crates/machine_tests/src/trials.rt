@@ -8,7 +8,7 @@ use harness::{
     Ended, OpenedDevice, Progress, Questions, Trial, Wrong, device_with, expected, messages_of,
     sweep,
 };
-use histories::{CoreFault, Outcome, PointRefusal, Step};
+use histories::{ArriveRefusal, CoreFault, Outcome, PointRefusal, Step};
 use std::alloc::Global;
 use std::test::Fail;
 
@@ -95,6 +95,18 @@ fn progress_after(progress: Progress, outcome: &Outcome) -> Progress {
     }
 }
 
+/// Whether a step may have this outcome once the device has failed: it says so, or does nothing. No message is in flight then.
+fn has_failed_before(outcome: &Outcome) -> bool {
+    match outcome {
+        Outcome::Failed
+        | Outcome::Idle
+        | Outcome::ArriveRefused(ArriveRefusal::Failed)
+        | Outcome::LogFault(CoreFault::Failed)
+        | Outcome::PointRefused(PointRefusal::Failed) => true,
+        _ => false,
+    }
+}
+
 impl Trial for Play {
     fn questions(&self) -> &Questions {
         &self.questions
@@ -112,10 +124,17 @@ impl Trial for Play {
                     is_faultless: true,
                     ..UNOPENED
                 };
+                let mut stays_failed = true;
                 for step in self.steps.as_slice() {
-                    progress = progress_after(progress, &one(&mut machine, *step));
+                    let outcome = one(&mut machine, *step);
+                    stays_failed = stays_failed
+                        && (progress.is_faultless || has_failed_before(&outcome));
+                    progress = progress_after(progress, &outcome);
                 }
                 let device = machine.into_core().into_disk();
+                if !stays_failed {
+                    return Err(Wrong::Unfit);
+                }
                 Ok(Ended { device, progress })
             }
             Err((device, OpenFault::Device)) => Ok(Ended {
@@ -149,7 +168,7 @@ const LOG: u64 = 4;
 /// A cut is two writes and two syncs, three pieces, and a sync, a write and a sync at its end.
 const CUT: u64 = 4 + 3 + 3;
 
-/// Whichever call of the device fails, what was logged is there, and what was being logged may be.
+/// Whichever call of the device fails, the steps after it say so; what was logged is there, and what was being logged may be.
 #[test]
 fn a_change_behind_a_cut_survives(rt: HostRuntime) -> Result<(), Fail> {
     // `sweep` makes a run for each call that may fail, and gives how many calls one makes without a fault. `holds` asserts.
