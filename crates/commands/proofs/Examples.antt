@@ -1,21 +1,25 @@
--- What is printed of the small device, which service the arguments of examples ask for, and what is promised to a client that hangs up.
-use Rattle.std.proofs.Common.{◌≡◌, ◌≤◌, ◌++◌, ℕ, zero, suc, Bool, true, false, List, [], ◌∷◌, Option, Some, None, Err, inl, inr, codes, ap, arith, drop, length, lit≤, refl, subst, sym, take, ◌∙◌}
+-- What is printed of the small device, which service the arguments of examples ask for, and what is promised to a client that hangs up, and
+-- over two crashes.
+use Rattle.std.proofs.Common.{◌≡◌, ◌≤◌, ◌++◌, ℕ, zero, suc, Bool, true, false, List, [], ◌∷◌, Option, Some, None, Ok, Err, inl, inr, codes, ap, arith, drop, length, lit≤, refl, subst, sym, take, take_at, drop_at, ◌∙◌}
 use Rattle.std.proofs.lemmas.Bool.{true≢false}
 use Rattle.std.specs.Io.KnownBytes.{Appends}
 use Rattle.std.specs.Fmt.{digits}
 use Rattle.std.specs.List.{AllByRecursion}
+use Rattle.std.specs.Str.{bytes_eq}
 use Rattle.affinity.proofs.Numbers.{small}
 use Rattle.checkpoint.specs.declared.inspecting.Shown.{Shown}
+use Rattle.disk.specs.Device.{Medium}
 use Rattle.language.specs.Grammar.{kind_named, message_of}
 use Rattle.language.specs.Lines.{number_in_word}
 use Rattle.language.specs.declared.Reply.TheVariants.{Summary}
-use Rattle.meaning.specs.Output.{joined, output_lines, state_after_lines}
+use Rattle.meaning.specs.Output.{joined, output_lines, serial_output, state_after_lines}
 use Rattle.meaning.specs.State.{State, empty}
 use Rattle.device_map.specs.Layout.{image_size}
 use Rattle.commands.specs.Lines.{formatted_line, shown_lines}
 use Rattle.commands.specs.Promise.{HasRunFrom}
+use Rattle.commands.specs.Restarts.{CrashedRun, HaveRunFrom}
 use Rattle.commands.specs.Services.{AsksServe, within_limits}
-use Rattle.commands.specs.declared.faults.Fault.TheVariants.{Write}
+use Rattle.commands.specs.declared.faults.Fault.TheVariants.{Device, Write}
 use Rattle.serving.specs.Restart.{IsClosedPart, are_related_lines}
 use Rattle.arguments.proofs.Examples as given
 
@@ -123,3 +127,112 @@ it_is_not_lost h =
     let closed = within_one h.left r.part r.unacknowledged (omega (arith, few)) r.closed in
     true≢false (sym (is_made r.acknowledged r.unacknowledged r.part h.written.1 r.first closed (begins ∙ r.answers))
     ∙ ap (λ (x : State). x.made (0, 0)) (sym r.state ∙ h.goes_on))
+
+-- ---- two servers, one after the other, and a crash behind each
+
+abbrev creates : List ℕ
+creates = codes "create 0 0 0"
+
+abbrev two_lines : List (List ℕ)
+two_lines = makes ∷ creates ∷ []
+
+-- The device of the first one failed when one of two lines was answered. The second one was asked for a summary. No device is looked at.
+abbrev two_servers : Medium → List ℕ → List CrashedRun
+two_servers m summary = record {
+  slots = 2;
+  end = Err Device;
+  input = Some (codes "makevol 0 0\ncreate 0 0 0\n");
+  before = Some [];
+  after = Some (codes "done\n");
+  left = m;
+  crashed = m;
+} ∷ record {
+  slots = 2;
+  end = Ok tt;
+  input = Some (codes "summary\n");
+  before = Some [];
+  after = Some summary;
+  left = m;
+  crashed = m;
+} ∷ []
+
+-- The first crash left the file, too, whose line had no answer, and the second server found it.
+the_file_is_found : (m : Medium) → HaveRunFrom small empty (two_servers m (codes "summary 1 1 0\n"))
+unfolding message_of kind_named number_in_word digits
+the_file_is_found m = (
+  λ fault e. cc e,
+  record {
+    now = state_after_lines small empty two_lines;
+    left = 2;
+    all = Some (codes "done\n");
+    written = (refl, refl);
+    recovers = (
+      codes "done\n",
+      refl,
+      record {
+        acknowledged = makes ∷ [];
+        unacknowledged = creates ∷ [];
+        first = refl;
+        answers = refl;
+        part = creates ∷ [];
+        closed = inl ([], refl, refl);
+        state = refl;
+      },
+    );
+    all_answered = tt;
+    goes_on = (
+      λ fault e. cc e,
+      record {
+        now = state_after_lines small empty two_lines;
+        left = 0;
+        all = Some (codes "summary 1 1 0\n");
+        written = (refl, refl);
+        recovers = (
+          codes "summary 1 1 0\n",
+          refl,
+          record {
+            acknowledged = asks ∷ [];
+            unacknowledged = [];
+            first = refl;
+            answers = refl;
+            part = [];
+            closed = refl;
+            state = refl;
+          },
+        );
+        all_answered = (codes "summary 1 1 0\n", refl, refl);
+        goes_on = tt;
+      },
+    );
+  },
+)
+
+abbrev sums_up : List (List ℕ) → List ℕ
+sums_up ls = serial_output small (state_after_lines small empty ls) (codes "summary\n")
+
+-- behind the lines that are acknowledged so, and whatever part of the others, there is a volume
+has_volume : (n : ℕ) (part : List (List ℕ)) → IsClosedPart small part (take 2 (drop n two_lines)) → codes "done\n" ≡ joined (output_lines small empty (take n two_lines))
+    → bytes_eq (sums_up (take n two_lines ++ part)) (codes "summary 0 0 0\n") ≡ false
+unfolding message_of kind_named number_in_word digits
+has_volume zero part closed answers = absurd (omega (arith, ap (λ (bs : List ℕ). length bs) answers))
+has_volume (suc zero) part (inl (rest, is, none)) answers =
+    subst (λ (p : List (List ℕ)). bytes_eq (sums_up (makes ∷ p)) (codes "summary 0 0 0\n") ≡ false) (sym (is ∙ ap (λ (r : List (List ℕ)). creates ∷ r) none)) refl
+has_volume (suc zero) part (inr (apart, none)) answers =
+    subst (λ (p : List (List ℕ)). bytes_eq (sums_up (makes ∷ p)) (codes "summary 0 0 0\n") ≡ false) (sym none) refl
+has_volume (suc (suc n)) part closed answers = absurd (omega (arith, ap (λ (bs : List ℕ). length bs) answers))
+
+-- A second server that began with an empty state would have lost the volume.
+it_is_not_begun_anew : (m : Medium) → HaveRunFrom small empty (two_servers m (codes "summary 0 0 0\n")) → ⊥
+it_is_not_begun_anew m h =
+    let r = h.1.recovers.2 in
+    let n = length r.acknowledged in
+    let taken : take n two_lines ≡ r.acknowledged = ap (take n) r.first ∙ take_at r.acknowledged r.unacknowledged n refl in
+    let others : drop n two_lines ≡ r.unacknowledged = ap (drop n) r.first ∙ drop_at r.acknowledged r.unacknowledged n refl in
+    let closed = subst (λ (k : ℕ). IsClosedPart small r.part (take k (drop n two_lines))) h.1.written.1
+    (subst (λ (ls : List (List ℕ)). IsClosedPart small r.part (take h.1.left ls)) (sym others) r.closed) in
+    let told = subst (λ (a : Option (List ℕ)). Appends (Some []) a h.1.recovers.0) (sym h.1.written.0) h.1.recovers.1 in
+    let answers = told ∙ r.answers ∙ ap (λ (ls : List (List ℕ)). joined (output_lines small empty ls)) (sym taken) in
+    let next = h.1.goes_on.1.all_answered in
+    let sums = next.1 ∙ next.2 ∙ ap (λ (x : State). serial_output small x (codes "summary\n"))
+    (r.state ∙ ap (λ (ls : List (List ℕ)). state_after_lines small empty (ls ++ r.part)) (sym taken)) in
+    true≢false (ap (λ (bs : List ℕ). bytes_eq bs (codes "summary 0 0 0\n")) sums ∙ has_volume n r.part closed answers)
