@@ -11,6 +11,7 @@ pub mod Zeros
 pub mod Assembly
 pub mod WrittenParts
 pub mod Adding
+pub mod Beginnings
 pub mod Spelling
 pub mod RecordLemmas
 pub mod ReaderLemmas

@@ -5,3 +5,4 @@ pub mod Records
 pub mod Heads
 pub mod Reader
 pub mod Waiting
+pub mod Writing

@@ -10,6 +10,7 @@ mod reading;
 mod records;
 mod reply_buffer;
 mod sizes;
+mod writing;
 
 pub use heads::{Head, decode_block, decode_label, head_of_line, parse_line};
 // A reader that is lent to a `LineReader`; its type parameter, a `Loan`, says which one it is.
@@ -21,5 +22,6 @@ pub use lent_reader::{LentReader, Loan};
 pub use printing::{no_message_line, write_reply};
 pub use reading::{Found, LineReader, ReadFault};
 pub use records::{decode, encode};
-pub use reply_buffer::{REPLY_BUFFER_SIZE, ReplyBuffer, WriteFault};
+pub use reply_buffer::{REPLY_BUFFER_SIZE, ReplyBuffer};
 pub use sizes::{know_block, know_label, know_message};
+pub use writing::{WriteFault, write_in_order};

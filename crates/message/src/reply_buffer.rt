@@ -6,10 +6,12 @@ ghost use Rattle.std.specs.Io.KnownBytes.{Appends};
 ghost use Rattle.message.specs.Reader.{HoldsLine};
 ghost use Rattle.language.specs.Replies.{no_message, reply_line};
 ghost use Rattle.message.specs.Waiting.{FitsReply, all_output};
+ghost use Rattle.message.specs.Writing.{AppendsBeginning};
 ghost use Rattle.language.specs.declared.Reply.TheVariants.{Done, Refused, Block as block_reply};
 
 use crate::printing::{refusal_line, write_block};
 use crate::reading::LineReader;
+use crate::writing::{WriteFault, write_in_order};
 use crate::{LONGEST_REPLY, no_message_line, write_reply};
 use language::{Block, Refusal, Reply};
 use std::alloc::{AllocError, Global};
@@ -18,10 +20,6 @@ use std::marker::Model;
 
 /// How many bytes of replies may wait.
 pub const REPLY_BUFFER_SIZE: usize = 65536;
-
-/// A writer did not take what was to be written, or could not be flushed.
-#[derive(Clone, Copy, Debug, PartialEq, Eq)]
-pub struct WriteFault;
 
 /// Writes a line over the bytes from `at` on, and gives where it ends.
 fn put_line(line: &[u8], bytes: &mut Vec<u8>, at: usize) -> usize
@@ -142,24 +140,19 @@ impl ReplyBuffer {
     ///
     /// # Errors
     ///
-    /// `WriteFault` where the writer fails. All that waited waits still, and it is unspecified how
-    /// much of it was written.
+    /// `WriteFault` where the writer fails. All that waited waits still, and a beginning of it was written.
     pub fn send<W: Write>(&mut self, w: &mut W) -> Result<(), WriteFault>
         ensures none_waits { OnOk result (self.new ≡ []) }
         ensures kept { OnOk result (Appends (all_output (W.contents w.old) self.old)
             (all_output (W.contents w.new) self.new) []) }
         ensures idle { self.old ≡ [] → IsOk result × (w.new ≡ w.old) }
+        ensures begun { AppendsBeginning (W.contents w.old) (W.contents w.new) self.old }
         ensures unchanged { OnErr result (self.new ≡ self.old) }
     {
         if self.len == 0 {
             return Ok(());
         }
-        if w.write_all(self.waiting()).is_err() {
-            return Err(WriteFault);
-        }
-        if w.flush().is_err() {
-            return Err(WriteFault);
-        }
+        write_in_order(w, self.waiting())?;
         self.clear();
         Ok(())
     }
@@ -179,6 +172,7 @@ impl ReplyBuffer {
         ensures kept { OnOk result (Appends (all_output (W.contents w.old) self.old)
             (all_output (W.contents w.new) self.new) []) }
         ensures idle { HoldsLine lines.now → IsOk result × (self.new ≡ self.old) × (w.new ≡ w.old) }
+        ensures begun { AppendsBeginning (W.contents w.old) (W.contents w.new) self.old }
         ensures unchanged { OnErr result (self.new ≡ self.old) }
     {
         if lines.holds_line() {
@@ -198,6 +192,7 @@ impl ReplyBuffer {
         ensures kept { OnOk result (Appends (all_output (W.contents w.old) self.old)
             (all_output (W.contents w.new) self.new) []) }
         ensures idle { FitsReply self.old → IsOk result × (self.new ≡ self.old) × (w.new ≡ w.old) }
+        ensures begun { AppendsBeginning (W.contents w.old) (W.contents w.new) self.old }
         ensures unchanged { OnErr result (self.new ≡ self.old) }
     {
         if self.has_room() {

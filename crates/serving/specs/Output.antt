@@ -1,6 +1,5 @@
 -- Statement for engineers: What a server may send, and when.
 use Rattle.std.specs.Prelude.{◌≡◌, ◌⊎◌, ℕ, List, [], ◌++◌, map, replicate, Option, None, IsSomeAnd}
-use Rattle.std.specs.Io.KnownBytes.{Appends}
 use Rattle.std.specs.List.{AllByRecursion}
 use Rattle.histories.specs.Laws.{IsIdle}
 use Rattle.incarnations.specs.Machine.{MachineView}
@@ -23,10 +22,6 @@ pub record Start : Type 0 where
 -- the machine at the start: the core, with no job lent at any place
 abbrev pub start_machine : Start → MachineView
 start_machine s = machine_with_jobs s.core (replicate s.places None)
-
--- known bytes grow by a beginning of these
-abbrev pub AppendsBeginning : Option (List ℕ) → Option (List ℕ) → List ℕ → Type 0
-AppendsBeginning old new bytes = (begun : List ℕ) × (rest : List ℕ) × (bytes ≡ begun ++ rest) × Appends old new begun
 
 -- These bytes may be sent where this was sent before. Since the start a legal run has led to the core as it is now, and a crash of its
 -- device leaves what holds all that was logged in that run. What was sent are the first answers of the run, to the lines in order, and the

@@ -11,6 +11,7 @@ use Rattle.language.specs.Messages.{is_in_range}
 use Rattle.language.specs.FirstLine.{GivesLine, LosesLineStart}
 use Rattle.language.specs.declared.Msg.{Msg}
 use Rattle.meaning.specs.Output.{joined}
+use Rattle.message.specs.Writing.{AppendsBeginning}
 use Rattle.scheduler.specs.CoreView.{CoreView, core_state_of}
 use Rattle.serving.specs.Progress.{ServingProgress}
 use Rattle.serving.specs.Lending.{IsBlocked, NoneInFlight, asks_for_checkpoint}
@@ -18,7 +19,7 @@ use Rattle.serving.specs.Lines.{HaveAnswers, Line, answer_text}
 use Rattle.reorder_buffer.specs.ReorderBuffer.{ReorderBufferView, can_retire}
 use Rattle.serving.specs.Runs.{HandsHaveJobs, machine_with_jobs}
 use Rattle.oplog.specs.Recovery.{records_in}
-use Rattle.serving.specs.Output.{AppendsBeginning, Start, start_machine}
+use Rattle.serving.specs.Output.{Start, start_machine}
 use Rattle.serving.specs.declared.dispatch.Blocked.{Blocked}
 use Rattle.serving.specs.declared.session.Halted.{Halted}
 use Rattle.serving.specs.declared.session.ReadEnd.{ReadEnd}

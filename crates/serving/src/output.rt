@@ -18,7 +18,8 @@ use std::io::Read;
 pub trait ReplySink<D: Disk> {
     ghost use Rattle.std.specs.Prelude.{List, ℕ, Option, OnErr, OnOk};
     ghost use Rattle.std.specs.Io.KnownBytes.{Appends};
-    ghost use Rattle.serving.specs.Output.{AppendsBeginning, MaySend, Start};
+    ghost use Rattle.message.specs.Writing.{AppendsBeginning};
+    ghost use Rattle.serving.specs.Output.{MaySend, Start};
 
     /// What the `serve` call whose lines are sent began with (its core, places, input and output); `None` before that call.
     ghost start: { Option Start };

@@ -1,14 +1,12 @@
 //! The output of a call that writes to a borrowed writer. Why `Beginning` names the loan: `server`.
 
-ghost use Rattle.std.specs.Prelude.{◌≡◌, OnErr, OnOk};
-ghost use Rattle.std.specs.Io.KnownBytes.{Appends};
-ghost use Rattle.serving.specs.Output.{AppendsBeginning};
+ghost use Rattle.std.specs.Prelude.{◌≡◌};
 
 use crate::output::ReplySink;
 use disk::Disk;
-use message::WriteFault;
+use message::{WriteFault, write_in_order};
 use scheduler::Core;
-use std::io::{ErrorKind, Write};
+use std::io::Write;
 use std::marker::{Brand, PhantomData};
 
 /// What a call that writes its replies to a writer began with (a `Start`: core, places, input, output), and the name by which proofs know
@@ -39,33 +37,6 @@ pub(crate) struct Output<'w, W, B: Beginning> {
     pub(crate) w: &'w mut W,
     pub(crate) of: PhantomData<B>,
     pub(crate) ghost same: { w.ghost_name ≡ B.name },
-}
-
-// Writes bytes and flushes them. At a fault some beginning of them was written: `write_all` doesn't say so, its calls of `write` do.
-fn write_in_order<W: Write>(w: &mut W, bytes: &[u8]) -> Result<(), WriteFault>
-    ensures written { OnOk result (Appends (W.contents w.old) (W.contents w.new) bytes.now) }
-    ensures begun { OnErr result (AppendsBeginning (W.contents w.old) (W.contents w.new) bytes.now) }
-{
-    let mut rest = bytes;
-    for _ in 0..u64::MAX {
-        if rest.is_empty() {
-            return if w.flush().is_ok() {
-                Ok(())
-            } else {
-                Err(WriteFault)
-            };
-        }
-        match w.write(rest) {
-            Ok(0) => return Err(WriteFault),
-            Ok(n) => rest = &rest[n..],
-            Err(e) => {
-                if e.kind() != ErrorKind::Interrupted {
-                    return Err(WriteFault);
-                }
-            }
-        }
-    }
-    Err(WriteFault)
 }
 
 impl<'w, D: Disk, W: Write, B: Beginning> ReplySink<D> for Output<'w, W, B> {

@@ -1,5 +1,5 @@
 -- A record has one message: the one that its fields encode, where head and data are that message's and it is in range.
-use Rattle.std.proofs.Common.{◌≡◌, Bool, List, ℕ, Some, None, true, false, ap, sym, ◌∙◌, refl}
+use Rattle.std.proofs.Common.{◌≡◌, Bool, List, ℕ, Some, None, ap, sym, ◌∙◌, refl}
 use Rattle.std.proofs.lemmas.Bool.{true≢false}
 use Rattle.std.proofs.lemmas.Option.{same_Some}
 use Rattle.affinity.specs.declared.kinds.Kind.{Kind}

@@ -1,7 +1,8 @@
 -- The answers that wait may be sent; and the session keeps its invariant.
 use Rattle.std.proofs.Common.{ℕ, List, subst, sym}
 use Rattle.std.specs.Io.KnownBytes.{Appends}
-use Rattle.serving.specs.Output.{AppendsBeginning, MaySend}
+use Rattle.message.specs.Writing.{AppendsBeginning}
+use Rattle.serving.specs.Output.{MaySend}
 use Rattle.serving.proofs.Invariant.{may_send, on_break, on_send}
 use Rattle.serving.proofs.session.Session.flush_replies.Goals as goal
 

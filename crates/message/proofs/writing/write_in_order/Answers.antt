@@ -2,8 +2,8 @@
 use Rattle.std.proofs.Common.{◌≡◌, ℕ, ◌-◌, List, ◌++◌, length, take, drop, sym, ap, ◌∙◌, append_assoc, take-append-drop, Bor}
 use Rattle.std.proofs.lemmas.List.{take_rest}
 use Rattle.std.proofs.KnownBytes.{Appends-kept, Appends-trans}
-use Rattle.serving.proofs.writer.write_in_order.Goals as goal
-use Rattle.serving.proofs.writer.write_in_order.Goals.{in-Ok, in-Err+else-ne}
+use Rattle.message.proofs.writing.write_in_order.Goals as goal
+use Rattle.message.proofs.writing.write_in_order.Goals.{in-Ok, in-Err+else-ne}
 
 moves_front : (all done rest : List ℕ) (n : ℕ) → all ≡ done ++ rest → all ≡ (done ++ take n rest) ++ take (length rest - n) (drop n rest)
 moves_front all done rest n e =

@@ -1,7 +1,7 @@
 -- What is gone from `rest` was appended.
 use Rattle.std.proofs.Common.{◌≡◌, ℕ, List, ◌++◌}
 use Rattle.std.specs.Io.KnownBytes.{Appends}
-use Rattle.serving.proofs.writer.write_in_order.Given as goal
+use Rattle.message.proofs.writing.write_in_order.Given as goal
 
 abbrev pub invariant-loop : goal.invariant-loop
 invariant-loop g l = (done : List ℕ) × (l.initial.rest ≡ done ++ l.rest) × Appends (g.W.Write.contents l.initial.w) (g.W.Write.contents l.w) done
