@@ -1,5 +1,6 @@
 -- The steps of a session.
 pub mod SessionSteps
+pub mod Beginnings
 -- Messages without data.
 pub mod Asked
 -- The maps of a server.

@@ -2,12 +2,13 @@
 //! followed by the replies that wait; `unread` is what a reader of lines hasn't given yet: the bytes that it holds, followed by what its
 //! source has left (nothing once a read has reported the end).
 
-ghost use Rattle.std.specs.Prelude.{◌≡◌, ◌<◌, ◌≤◌, ◌++◌, ℕ, List, [], Option, Some, true, false, is_ok, option_map, IfOk, OnOk, IsErrOf, IsFalse, MatchBool, unwrap_or, vec_len};
+ghost use Rattle.std.specs.Prelude.{◌≡◌, ◌<◌, ◌≤◌, ◌++◌, ℕ, List, [], Option, Some, true, false, is_ok, option_map, IfOk, IfSome, OnOk, IsErrOf, IsFalse, MatchBool, unwrap_or, vec_len};
 ghost use Rattle.std.specs.Io.KnownBytes.{Appends, IsAtEnd};
 ghost use Rattle.language.specs.declared.TheConstants.{LONGEST_LINE};
 ghost use Rattle.language.specs.Grammar.{message_of};
 ghost use Rattle.message.specs.Reader.{unread, is_drained, source, KnowsEnd};
 ghost use Rattle.message.specs.Waiting.{FitsReply, all_output};
+ghost use Rattle.message.specs.Writing.{AppendsBeginning};
 ghost use Rattle.language.specs.Lines.{block_in_word, label_in_word};
 ghost use Rattle.message.specs.Heads.{IsWithoutData, labeling, message_without_data, writing};
 ghost use Rattle.affinity.specs.Kind.{is_changing};
@@ -222,6 +223,7 @@ fn send_before_line<R: Read, W: Write>(
     ensures room { OnOk result (FitsReply out.new) }
     ensures kept { OnOk result (Appends (all_output (W.contents w.old) out.old)
         (all_output (W.contents w.new) out.new) []) }
+    ensures begun { AppendsBeginning (W.contents w.old) (W.contents w.new) out.old }
 {
     out.send_before_read(lines, w)?;
     out.make_room(w)
@@ -257,6 +259,7 @@ fn answer_next<R: Read + Drop, W: Write>(
         (server_state server.old) before (all_output (W.contents w.old) out.old) →
         IsErrOf result PlainFault.OutOfMemory → WritesOutput input before
         (all_output (W.contents w.new) out.new) (IsBeginning g.now start) }
+    ensures begun { AppendsBeginning (W.contents w.old) (W.contents w.new) out.old }
     // `KnowsEnd`: once a read has reported the end, the reader has nothing left.
     ensures knows { KnowsEnd R.remaining lines.old → KnowsEnd R.remaining lines.new }
     ensures end { KnowsEnd R.remaining lines.old → IfOk result (λ more. IsFalse more → IsAtEnd (R.remaining (source lines.new))) }
@@ -290,6 +293,7 @@ fn answer_all<R: Read + Drop, W: Write>(
     requires sound { IsConsistent g.now server.old }
     requires not_drained { is_drained lines.old ≡ false }
     requires knows { KnowsEnd R.remaining lines.old }
+    requires none_waits { out.old ≡ [] }
     ensures ok { OnOk result (WritesOutput (unread R.remaining lines.old)
         (all_output (W.contents w.old) out.old) (all_output (W.contents w.new) out.new)
         (λ input written. written ≡ serial_output g.now (server_state server.old) input)) }
@@ -301,6 +305,10 @@ fn answer_all<R: Read + Drop, W: Write>(
         WritesOutput (unread R.remaining lines.old)
         (all_output (W.contents w.old) out.old) (all_output (W.contents w.new) out.new)
         (IsBeginning g.now (server_state server.old)) }
+    // What was written is not taken back.
+    ensures written { (written : List ℕ) × Appends (W.contents w.old) (W.contents w.new) written }
+    ensures begun { IsErrOf result PlainFault.Write → IfSome (unread R.remaining lines.old)
+        (λ input. AppendsBeginning (W.contents w.old) (W.contents w.new) (serial_output g.now (server_state server.old) input)) }
 {
     // The one block into which each line's digits are decoded: to make one for each line takes a twentieth of a short line's instructions.
     let mut content = Block([0; BLOCK_SIZE]);
@@ -329,6 +337,7 @@ pub(crate) fn answer_lent<'a, R: Read, W: Write, L: Loan>(
 ) -> (Result<(), PlainFault>, &'a mut R)
     requires name { reader.ghost_name ≡ L.name }
     requires room { LONGEST_LINE < vec_len buffer }
+    requires none_waits { out.old ≡ [] }
     ensures same { result.1.ghost_name ≡ reader.entry.ghost_name }
     ensures ok { OnOk result.0 (WritesOutput (R.remaining reader.old)
         (all_output (W.contents w.old) out.old) (all_output (W.contents w.new) out.new)
@@ -341,6 +350,9 @@ pub(crate) fn answer_lent<'a, R: Read, W: Write, L: Loan>(
         WritesOutput (R.remaining reader.old)
         (all_output (W.contents w.old) out.old) (all_output (W.contents w.new) out.new)
         (IsBeginning g.now empty) }
+    ensures written { (written : List ℕ) × Appends (W.contents w.old) (W.contents w.new) written }
+    ensures begun { IsErrOf result.0 PlainFault.Write → IfSome (R.remaining reader.old)
+        (λ input. AppendsBeginning (W.contents w.old) (W.contents w.new) (serial_output g.now empty input)) }
 {
     let mut lines = LineReader::new(LentReader { reader, of }, buffer);
     let mut server = Server::new(alloc);

@@ -9,7 +9,7 @@ use message::WriteFault;
 pub enum PlainFault {
     /// The input could not be read.
     Read,
-    /// The output could not be written. What was written of it is unknown.
+    /// The output could not be written. A beginning of the answers was.
     Write,
     /// There was no memory, or there were more than 2^64 - 1 lines.
     OutOfMemory,

@@ -1,7 +1,8 @@
 //! The serial server over a reader and a writer.
 
-ghost use Rattle.std.specs.Prelude.{◌≡◌, ℕ, List, Option, IfOk, OnOk, IsErrOf, vec_len};
+ghost use Rattle.std.specs.Prelude.{◌≡◌, ℕ, List, Option, IfOk, IfSome, OnOk, IsErrOf, vec_len};
 ghost use Rattle.std.specs.Io.KnownBytes.{IsAtEnd};
+ghost use Rattle.message.specs.Writing.{AppendsBeginning};
 ghost use Rattle.meaning.specs.State.{empty};
 ghost use Rattle.meaning.specs.Output.{serial_output, AnswersWholeLines, IsBeginning, WritesOutput};
 
@@ -31,7 +32,7 @@ fn read_buffer(alloc: Global) -> Result<Vec<u8>, AllocError>
 /// `PlainFault::Read` where a read fails, also one that was interrupted. The answers to all whole
 /// lines that were taken from the reader are written before. `PlainFault::OutOfMemory` where there
 /// is no memory, or there are more than 2^64 - 1 lines. What was answered until then is written before.
-/// `PlainFault::Write` where the output can't be written, and nothing more is written then.
+/// `PlainFault::Write` where the output can't be written. A beginning of the answers is written then, and nothing more after the fault.
 pub fn serve_from<R: Read, W: Write>(
     alloc: Global,
     g: &Geometry,
@@ -45,6 +46,8 @@ pub fn serve_from<R: Read, W: Write>(
         (W.contents w.new) (AnswersWholeLines g.now empty (R.remaining r.new)) }
     ensures out_of_memory { IsErrOf result PlainFault.OutOfMemory → WritesOutput (R.remaining r.old)
         (W.contents w.old) (W.contents w.new) (IsBeginning g.now empty) }
+    ensures begun { IsErrOf result PlainFault.Write → IfSome (R.remaining r.old)
+        (λ input. AppendsBeginning (W.contents w.old) (W.contents w.new) (serial_output g.now empty input)) }
 {
     let Ok(buffer) = read_buffer(alloc) else {
         return Err(PlainFault::OutOfMemory);
@@ -87,6 +90,8 @@ pub fn serve_plain<R: Read + Drop, W: Write>(
         (λ input written. (left : Option (List ℕ)) × AnswersWholeLines g.now empty left input written) }
     ensures out_of_memory { IsErrOf result PlainFault.OutOfMemory → WritesOutput (R.remaining r)
         (W.contents w.old) (W.contents w.new) (IsBeginning g.now empty) }
+    ensures begun { IsErrOf result PlainFault.Write → IfSome (R.remaining r)
+        (λ input. AppendsBeginning (W.contents w.old) (W.contents w.new) (serial_output g.now empty input)) }
 {
     let mut reader = r;
     serve_from(alloc, g, &mut reader, w)
