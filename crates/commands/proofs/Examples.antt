@@ -69,7 +69,7 @@ the_volume_is_there = record {
   now = state_after_lines small empty (makes ∷ []);
   left = 0;
   all = Some (codes "done\nsummary 1 0 0\n");
-  written = (codes "done\nsum", codes "mary 1 0 0\n", refl, refl, refl);
+  written = (codes "done\nsummary 1 0 0\n", refl, (codes "done\nsum", codes "mary 1 0 0\n", refl, refl), refl);
   recovers = (
     codes "done\nsummary 1 0 0\n",
     refl,
@@ -122,10 +122,11 @@ begins_so (Some all) out rest bytes is whole told = ap (λ (o : List ℕ). o ++ 
 it_is_not_lost : HangsUp (λ now. now ≡ empty) → ⊥
 it_is_not_lost h =
     let r = h.recovers.2 in
-    let begins = begins_so h.all h.written.0 h.written.1 h.recovers.0 h.written.2 h.written.3 h.recovers.1 in
-    let few = h.written.4 in
+    let w = h.written in
+    let begins = begins_so h.all w.2.0 w.2.1 h.recovers.0 w.2.3 (subst (λ (b : List ℕ). Appends (Some []) h.all b) w.2.2 w.1) h.recovers.1 in
+    let few = w.3 in
     let closed = within_one h.left r.part r.unacknowledged (omega (arith, few)) r.closed in
-    true≢false (sym (is_made r.acknowledged r.unacknowledged r.part h.written.1 r.first closed (begins ∙ r.answers))
+    true≢false (sym (is_made r.acknowledged r.unacknowledged r.part w.2.1 r.first closed (begins ∙ r.answers))
     ∙ ap (λ (x : State). x.made (0, 0)) (sym r.state ∙ h.goes_on))
 
 -- ---- two servers, one after the other, and a crash behind each

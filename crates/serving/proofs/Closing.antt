@@ -1,9 +1,11 @@
 -- A session that reads no more, and what it promises in the end.
-use Rattle.std.proofs.Common.{arith, ◌≡◌, ◌≢◌, ◌≤◌, ◌<◌, ◌+◌, ◌-◌, ℕ, zero, suc, Bool, true, false, List, [], ◌++◌, Option, Some, None, refl, ap, sym, ◌∙◌, subst, length, map, replicate, append-nil, append_assoc}
+use Rattle.std.proofs.Common.{arith, ◌≡◌, ◌≢◌, ◌≤◌, ◌<◌, ◌+◌, ◌-◌, ℕ, zero, suc, Bool, true, false, List, [], ◌++◌, Option, Some, None, refl, ap, sym, ◌∙◌, subst, length, map, replicate, append_assoc}
 use Rattle.std.specs.Prelude.{Result, Ok, Err, IfOk, IfSome, MatchResult, OnErr, OnOk}
 use Rattle.std.specs.Io.KnownBytes.{Appends}
-use Rattle.std.proofs.KnownBytes.{Appends-trans}
+use Rattle.std.proofs.KnownBytes.{Appends-nil, Appends-trans}
+use Rattle.message.proofs.Beginnings.{none_waits}
 use Rattle.message.specs.Waiting.{all_output}
+use Rattle.message.specs.Writing.{AppendsBeginning}
 use Rattle.std.proofs.lemmas.Bool.{true≢false}
 use Rattle.std.proofs.lemmas.List.{length-replicate}
 use Rattle.histories.proofs.Idle.{idle_sound, none_in_flight}
@@ -37,43 +39,36 @@ use Rattle.serving.proofs.Invariant.{all_sent, begins_at, none_out, progress_at_
 
 -- ---- what it promises
 
-so_far_none : (contents : Option (List ℕ)) → all_output contents [] ≡ contents
-so_far_none None = refl
-so_far_none (Some bytes) = ap (λ (l : List ℕ). Some l) (append-nil bytes)
-
 all_appended : (whole : Option (List ℕ)) (bytes : List ℕ) → Appends whole (all_output whole bytes) bytes
 all_appended None bytes = tt
 all_appended (Some sent) bytes = refl
+
+sent_begins : (b : Bool) (waiting : List ℕ) (whole sent : Option (List ℕ)) → IsSent b waiting whole sent → AppendsBeginning whole sent waiting
+sent_begins true waiting whole sent h = h
+sent_begins false waiting whole sent h = ([], waiting, refl, subst (λ (w : Option (List ℕ)). Appends whole w []) (sym h) (Appends-nil whole))
 
 -- After what was sent whole, the answers that wait were sent in part: that is a beginning of both.
 -- Of n lines whose answers wait, those that end behind that beginning have a slot each, and at least all slots but n are left.
 module _ (before whole sent : Option (List ℕ)) (waiting text : List ℕ) (n slots : ℕ) (grown : Appends before whole text) where
   written_begins : (b : Bool) → IsSent b waiting whole sent → newlines waiting ≤ n → n ≤ slots
       → (left : ℕ) × WritesBeginning slots left before sent (all_output whole waiting) × (slots ≤ left + n)
-  written_begins true h few within =
-      let parts = ap (λ (l : List ℕ). newlines l) h.2 ∙ newlines-append h.0 h.1 in (
-        slots - newlines h.1,
+  written_begins b h few within =
+      let begins = sent_begins b waiting whole sent h in
+      let parts = ap (λ (l : List ℕ). newlines l) begins.2 ∙ newlines-append begins.0 begins.1 in (
+        slots - newlines begins.1,
         (
-          text ++ h.0,
-          h.1,
-          Appends-trans before whole sent text h.0 grown h.3,
-          subst (λ (l : List ℕ). Appends before (all_output whole waiting) l) (ap (λ (l : List ℕ). text ++ l) h.2 ∙ sym (append_assoc text h.0 h.1))
-              (Appends-trans before whole (all_output whole waiting) text waiting grown (all_appended whole waiting)),
+          text ++ waiting,
+          Appends-trans before whole (all_output whole waiting) text waiting grown (all_appended whole waiting),
+          (
+            text ++ begins.0,
+            begins.1,
+            ap (λ (l : List ℕ). text ++ l) begins.2 ∙ sym (append_assoc text begins.0 begins.1),
+            Appends-trans before whole sent text begins.0 grown begins.3,
+          ),
           omega (arith, parts, few, within),
         ),
         omega (arith, parts, few, within),
       )
-  written_begins false h few within = (
-    slots - newlines waiting,
-    (
-      text,
-      waiting,
-      subst (λ (w : Option (List ℕ)). Appends before w text) (sym h) grown,
-      Appends-trans before whole (all_output whole waiting) text waiting grown (all_appended whole waiting),
-      omega (arith, few, within),
-    ),
-    omega (arith, few, within),
-  )
 
 -- What a server promises at its end: of the run that led there (given what `know_recovery` ensures of the core), and of that end.
 pub record PromisesAll (keeps : Type 0) (start : MachineView) (new : CoreView) (x : Exchange) (result : Result (Unit {0}) ServeFault) : Type 0 where
@@ -92,7 +87,7 @@ module _ {keeps : Type 0} {s : Start} {p : SessionView} (u : SessionInvariant ke
       → p.reply_buffer ≡ [] → ServingProgress keeps start now unsent s.input unread drained s.before p.sent
   written {unsent} {unread} {drained} h is output_works flushed =
       subst (λ (w : Option (List ℕ)). ServingProgress keeps start now unsent s.input unread drained s.before w)
-      (so_far_none h.whole ∙ sym (all_sent p.output_failed p.reply_buffer h.whole p.sent output_works h.output))
+      (none_waits h.whole ∙ sym (all_sent p.output_failed p.reply_buffer h.whole p.sent output_works h.output))
       (subst (λ (o : List ℕ). ServingProgress keeps start now unsent s.input unread drained s.before (all_output h.whole o)) flushed
       (subst (λ (l : List Line). ServingProgress keeps start now l s.input unread drained s.before (all_output h.whole p.reply_buffer)) is (to_reorder_buffer h)))
 

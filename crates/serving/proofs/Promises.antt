@@ -89,7 +89,7 @@ module _ {keeps : Type 0} {start now : MachineView} (idle : IsIdle (core_state_o
     left = left;
     all = written;
     written_is = is;
-    served = has_served keeps start now idle no_doubt recovers (let within = is.4 in omega (arith, few, within)) h;
+    served = has_served keeps start now idle no_doubt recovers (let within = is.3 in omega (arith, few, within)) h;
     few = few;
     are_unsent = tt;
   }

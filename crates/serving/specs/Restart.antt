@@ -9,6 +9,7 @@ use Rattle.language.specs.Grammar.{message_of}
 use Rattle.language.specs.Lines.{lines}
 use Rattle.language.specs.Messages.{is_in_range, path_of}
 use Rattle.language.specs.declared.Msg.{Msg}
+use Rattle.message.specs.Writing.{AppendsBeginning}
 use Rattle.meaning.specs.Output.{WritesOutput, joined, output_lines, state_after_lines}
 use Rattle.meaning.specs.State.{State}
 
@@ -23,11 +24,11 @@ IsClosedPart g part [] = part ≡ []
 IsClosedPart g part (line ∷ ls) = ((rest : List (List ℕ)) × (part ≡ line ∷ rest) × IsClosedPart g rest ls)
     ⊎ (AllByRecursion (λ other. are_related_lines g (message_of line) (message_of other) ≡ false) part × IsClosedPart g part ls)
 
--- A write failed: the output holds `after`, a beginning of what it would hold with all that was to be written, `all`. Each line of that
--- which ends behind this beginning has one of the slots, and so many others are left.
+-- A write failed: the output holds a beginning of what was to be written. `all` is what it would hold with all of that. Each line that ends
+-- behind the beginning has one of the slots, and so many others are left.
 abbrev pub WritesBeginning : ℕ → ℕ → Option (List ℕ) → Option (List ℕ) → Option (List ℕ) → Type 0
-WritesBeginning slots left before after all = (out : List ℕ) × (rest : List ℕ) × Appends before after out
-    × Appends before all (out ++ rest) × (count_by (λ b. b == 10) rest + left ≡ slots)
+WritesBeginning slots left before after all = (bytes : List ℕ) × Appends before all bytes × (b : AppendsBeginning before after bytes)
+    × (count_by (λ c. c == 10) b.1 + left ≡ slots)
 
 -- The first lines of the input were acknowledged, each by the serial server's answer. The state is the one after these lines and then a
 -- part (`IsClosedPart`) of the lines after them: of no more than there are slots, as no later line was read.
