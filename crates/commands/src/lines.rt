@@ -1,12 +1,14 @@
 //! The lines that commands print: a word, and numbers after it.
-ghost use Rattle.std.specs.Prelude.{◌≡◌, ◌++◌, IfErr, OnOk};
+ghost use Rattle.std.specs.Prelude.{◌≡◌, ◌++◌, IfErr, OnErr, OnOk};
 ghost use Rattle.std.specs.Io.KnownBytes.{Appends};
 ghost use Rattle.std.specs.List.{flat_map};
 ghost use Rattle.language.specs.Replies.{spaced};
+ghost use Rattle.message.specs.Writing.{AppendsBeginning};
 ghost use Rattle.commands.specs.Lines.{number_line};
 
 use crate::faults::Fault;
 use itoa::Buffer;
+use message::write_in_order;
 use std::alloc::AllocError;
 use std::io::Write;
 
@@ -31,11 +33,11 @@ pub fn add_line(lines: &mut Vec<u8>, word: &str, numbers: &[u64]) -> Result<(), 
     Ok(())
 }
 
-/// Writes lines, and flushes the writer.
+/// Writes lines, and flushes the writer. At a fault a beginning of them was written.
 pub fn write_lines<W: Write>(lines: &[u8], w: &mut W) -> Result<(), Fault>
     ensures written { OnOk result (Appends (W.contents w.old) (W.contents w.new) lines.now) }
+    ensures begun { OnErr result (AppendsBeginning (W.contents w.old) (W.contents w.new) lines.now) }
     ensures fault { IfErr result (λ fault. fault ≡ Fault.Write) }
 {
-    w.write_all(lines).map_err(|_| Fault::Write)?;
-    w.flush().map_err(|_| Fault::Write)
+    write_in_order(w, lines).map_err(|_| Fault::Write)
 }
