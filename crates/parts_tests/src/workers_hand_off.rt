@@ -2,7 +2,7 @@
 //!
 //! `Bench::open` takes the number of places and that of workers, of which each has one of the `seats`; in clauses `slots` is the number of
 //! places. A gate is a hook: `OpenGate` does nothing, so it holds no job up. `holds` asserts.
-ghost use Rattle.std.specs.Prelude.{◌≡◌, ◌<◌, ◌≤◌, All};
+ghost use Rattle.std.specs.Prelude.{◌≡◌, ◌<◌, ◌≤◌};
 
 use crate::common::holds;
 use affinity::{Geometry, place_of};
@@ -163,120 +163,6 @@ fn a_bench_is_opened_at_the_next_try(rt: HostRuntime) -> Result<(), Fail> {
     Ok(())
 }
 
-#[test]
-fn one_worker_answers_one_job(rt: HostRuntime) -> Result<(), Fail> {
-    let alloc = rt.alloc();
-    let alone = replies_alone(alloc)?;
-    let (bench, dispatch_seat, seats) = Bench::open(alloc, 2, 1)?;
-    let gate = OpenGate;
-    let (runtime, bench, gate) = (&rt, &bench, &gate);
-    let fine = thread::scope(
-        thread::scope_env(),
-        runtime,
-        move |scope| -> Result<bool, Fail>
-            requires dispatch_seat { (dispatch_seat.bench ≡ bench.now) × (bench.now.slots ≡ 2) }
-            requires seats { All (λ w. w ≡ bench.now) seats.items }
-        {
-            let mut dispatch_seat = dispatch_seat;
-            let offered = offers_one(bench, &mut dispatch_seat, alloc);
-            let started = bench
-                .start(runtime, scope, &mut dispatch_seat, seats, gate)
-                .is_ok();
-            let collected = is_answer(collect(bench, &mut dispatch_seat, 0), 11, &alone);
-            bench.stop(&mut dispatch_seat);
-            Ok(offered? && started && collected)
-        },
-    )?;
-    holds(&rt, fine);
-    Ok(())
-}
-
-// A job that is offered at place 0 and collected there.
-#[derive(Drop)]
-struct RoundTrip<'c> {
-    bench: &'c Bench,
-    dispatch_seat: DispatchSeat,
-    alloc: Global,
-}
-
-impl<'c> Model for RoundTrip<'c> {
-    ghost use Rattle.std.specs.Prelude.{◌≡◌, ◌<◌};
-    ghost use Rattle.workers.specs.Seats.{DispatchSeatView};
-
-    ghost Value = { DispatchSeatView };
-
-    ghost view = { λ s. s.dispatch_seat };
-
-    ghost invariant = { λ s. (s.dispatch_seat.bench ≡ s.bench.now) × (0 < s.bench.now.slots) };
-}
-
-impl<'c> DispatcherTask<Result<Option<(u64, Reply)>, Fail>> for RoundTrip<'c> {
-    // It may begin at any time, and nothing is promised of what it gives.
-    ghost can_begin = { λ s. Unit {0} };
-
-    ghost gives = { λ old new end. Unit {0} };
-
-    fn run_task<T: Wait, G: Gate>(
-        &mut self,
-        rt: &T,
-        gate: &G,
-    ) -> Result<Option<(u64, Reply)>, Fail> {
-        let _ = rt;
-        let _ = gate;
-        if offer(self.bench, &mut self.dispatch_seat, self.alloc, 0, 11)? {
-            Ok(collect(self.bench, &mut self.dispatch_seat, 0))
-        } else {
-            Ok(None)
-        }
-    }
-
-    fn stop_workers(&mut self) {
-        self.bench.stop(&mut self.dispatch_seat);
-    }
-}
-
-// If `with_workers` doesn't stop the worker once the task is done, this test doesn't end.
-#[test]
-fn a_task_is_done_beside_a_worker(rt: HostRuntime) -> Result<(), Fail> {
-    let alloc = rt.alloc();
-    let alone = reply_alone(alloc, 11)?;
-    let (bench, dispatch_seat, seats) = Bench::open(alloc, 2, 1)?;
-    let mut trip = RoundTrip {
-        bench: &bench,
-        dispatch_seat,
-        alloc,
-    };
-    let came = bench.with_workers(&rt, &OpenGate, seats, &mut trip)??;
-    let fine = match (came, alone) {
-        (Some((ticket, reply)), Some(alone)) => ticket == 11 && reply == alone,
-        _ => false,
-    };
-    holds(&rt, fine);
-    Ok(())
-}
-
-// Where a thread can't be started, the test returns without a `stop`. The scope waits for the threads that run, so the test ends only if
-// `start` has stopped the bench.
-#[test]
-fn a_bench_with_no_job_starts_and_ends(rt: HostRuntime) -> Result<(), Fail> {
-    let (bench, dispatch_seat, seats) = Bench::open(rt.alloc(), 2, 3)?;
-    let gate = OpenGate;
-    let (runtime, bench, gate) = (&rt, &bench, &gate);
-    thread::scope(
-        thread::scope_env(),
-        runtime,
-        move |scope| -> Result<(), Fail>
-            requires dispatch_seat { dispatch_seat.bench ≡ bench.now }
-            requires seats { All (λ w. w ≡ bench.now) seats.items }
-        {
-            let mut dispatch_seat = dispatch_seat;
-            bench.start(runtime, scope, &mut dispatch_seat, seats, gate)?;
-            bench.stop(&mut dispatch_seat);
-            Ok(())
-        },
-    )
-}
-
 // Of each of many jobs at place 0, one after the other, the result is there when the wait for it returns.
 fn jobs_waited_for<R: Wait>(
     bench: &Bench,
@@ -299,36 +185,6 @@ fn jobs_waited_for<R: Wait>(
                 .is_some_and(|done| done.ticket() == ticket);
     }
     Ok(fine)
-}
-
-#[test]
-fn a_wait_ends_with_the_delivery(rt: HostRuntime) -> Result<(), Fail> {
-    let alloc = rt.alloc();
-    let (bench, dispatch_seat, seats) = Bench::open(alloc, 1, 1)?;
-    let gate = OpenGate;
-    let (runtime, bench, gate) = (&rt, &bench, &gate);
-    let fine = thread::scope(
-        thread::scope_env(),
-        runtime,
-        move |scope| -> Result<bool, Fail>
-            requires dispatch_seat { (dispatch_seat.bench ≡ bench.now) × (bench.now.slots ≡ 1) }
-            requires seats { All (λ w. w ≡ bench.now) seats.items }
-        {
-            let mut dispatch_seat = dispatch_seat;
-            let started = bench
-                .start(runtime, scope, &mut dispatch_seat, seats, gate)
-                .is_ok();
-            let fine = if started {
-                jobs_waited_for(bench, &mut dispatch_seat, alloc, runtime)
-            } else {
-                Ok(false)
-            };
-            bench.stop(&mut dispatch_seat);
-            fine
-        },
-    )?;
-    holds(&rt, fine);
-    Ok(())
 }
 
 // A gate that holds up the job of each even ticket until the result of the next ticket was collected.
@@ -449,48 +305,6 @@ fn first_and_meetings(
     Ok(first && all_meetings(bench, dispatch_seat, alloc, gate, meetings)?)
 }
 
-// Whether two jobs run at once at a bench with two workers, and again in each of the meetings.
-fn two_workers_meet<R: Threads + Wait + Sync>(
-    rt: &R,
-    alloc: Global,
-    meetings: u64,
-) -> Result<bool, Fail> {
-    let (bench, dispatch_seat, seats) = Bench::open(alloc, 2, 2)?;
-    let gate = Delaying::new();
-    let (bench, gate) = (&bench, &gate);
-    thread::scope(
-        thread::scope_env(),
-        rt,
-        move |scope| -> Result<bool, Fail>
-            requires dispatch_seat { (dispatch_seat.bench ≡ bench.now) × (bench.now.slots ≡ 2) }
-            requires seats { All (λ w. w ≡ bench.now) seats.items }
-        {
-            let mut dispatch_seat = dispatch_seat;
-            let started = bench
-                .start(rt, scope, &mut dispatch_seat, seats, gate)
-                .is_ok();
-            let fine = first_and_meetings(bench, &mut dispatch_seat, alloc, gate, meetings);
-            bench.stop(&mut dispatch_seat);
-            Ok(fine? && started)
-        },
-    )
-}
-
-#[test]
-fn two_jobs_run_at_once(rt: HostRuntime) -> Result<(), Fail> {
-    let fine = two_workers_meet(&rt, rt.alloc(), 0)?;
-    holds(&rt, fine);
-    Ok(())
-}
-
-#[test]
-fn a_worker_that_is_held_up_wakes_another(rt: HostRuntime) -> Result<(), Fail> {
-    let meetings = most_rounds(&rt).min(MEETINGS);
-    let fine = two_workers_meet(&rt, rt.alloc(), meetings)?;
-    holds(&rt, fine);
-    Ok(())
-}
-
 // The reply to each kind of message where it runs alone.
 fn replies_alone(alloc: Global) -> Result<Vec<Option<Reply>>, Fail> {
     let mut replies = Vec::new(alloc);
@@ -600,41 +414,171 @@ fn all_jobs<R: Wait>(
     Ok(collect_round(bench, dispatch_seat, rt, places, rounds, &alone))
 }
 
-// Whether all jobs are collected at a bench with as many places as workers.
-fn hands_off_all<R: Threads + Wait + Sync>(
+// What is done at a bench while workers work there.
+#[derive(Clone, Copy)]
+enum Work<'c> {
+    Nothing,
+    // The result of the job with ticket 11 is collected at place 0, and compared with the replies that messages get alone.
+    Collect(&'c [Option<Reply>]),
+    // That job is offered there before.
+    OfferAndCollect(&'c [Option<Reply>]),
+    WaitForJobs,
+    // Two jobs at once, and so many meetings, with this gate.
+    Meet(&'c Delaying, u64),
+    // So many rounds of jobs at all places.
+    HandOff(u64),
+}
+
+// The dispatcher at a bench.
+#[derive(Drop)]
+struct AtBench<'c> {
+    bench: &'c Bench,
+    dispatch_seat: DispatchSeat,
+    places: usize,
+    alloc: Global,
+    work: Work<'c>,
+}
+
+impl<'c> Model for AtBench<'c> {
+    ghost use Rattle.std.specs.Prelude.{◌≡◌};
+    ghost use Rattle.workers.specs.Seats.{DispatchSeatView};
+
+    ghost Value = { DispatchSeatView };
+
+    ghost view = { λ s. s.dispatch_seat };
+
+    ghost invariant = { λ s. (s.dispatch_seat.bench ≡ s.bench.now) × (s.places ≡ s.bench.now.slots) };
+}
+
+impl<'c> DispatcherTask<Result<bool, Fail>> for AtBench<'c> {
+    // It may begin at any time, and nothing is promised of what it gives.
+    ghost can_begin = { λ s. Unit {0} };
+
+    ghost gives = { λ old new end. Unit {0} };
+
+    fn run_task<T: Wait, G: Gate>(&mut self, rt: &T, gate: &G) -> Result<bool, Fail> {
+        let _ = gate;
+        let (bench, places, alloc, work) = (self.bench, self.places, self.alloc, self.work);
+        if places < 1 {
+            return Ok(false);
+        }
+        let seat = &mut self.dispatch_seat;
+        match work {
+            Work::Nothing => Ok(true),
+            Work::Collect(alone) => Ok(is_answer(collect(bench, seat, 0), 11, alone)),
+            Work::OfferAndCollect(alone) => Ok(
+                offer(bench, seat, alloc, 0, 11)? && is_answer(collect(bench, seat, 0), 11, alone),
+            ),
+            Work::WaitForJobs => jobs_waited_for(bench, seat, alloc, rt),
+            Work::Meet(gate, meetings) => {
+                Ok(places > 1 && first_and_meetings(bench, seat, alloc, gate, meetings)?)
+            }
+            Work::HandOff(rounds) => all_jobs(bench, seat, (rt, alloc), places, rounds),
+        }
+    }
+
+    fn stop_workers(&mut self) {
+        self.bench.stop(&mut self.dispatch_seat);
+    }
+}
+
+// Does this at a new bench.
+fn at_bench<R: Threads + Wait + Sync, G: Gate + Sync>(
     rt: &R,
     alloc: Global,
+    gate: &G,
     places: usize,
-    rounds: u64,
+    workers: usize,
+    work: Work<'_>,
 ) -> Result<bool, Fail>
     requires { places ≤ 64 }
 {
-    let (bench, dispatch_seat, seats) = Bench::open(alloc, places, places)?;
-    let gate = OpenGate;
-    let (bench, gate) = (&bench, &gate);
-    thread::scope(
-        thread::scope_env(),
-        rt,
-        move |scope| -> Result<bool, Fail>
-            requires dispatch_seat { (dispatch_seat.bench ≡ bench.now) × (bench.now.slots ≡ places) }
-            requires seats { All (λ w. w ≡ bench.now) seats.items }
-        {
-            let mut dispatch_seat = dispatch_seat;
-            let started = bench
-                .start(rt, scope, &mut dispatch_seat, seats, gate)
-                .is_ok();
-            let fine = all_jobs(bench, &mut dispatch_seat, (rt, alloc), places, rounds);
-            bench.stop(&mut dispatch_seat);
-            Ok(fine? && started)
-        },
-    )
+    let (bench, dispatch_seat, seats) = Bench::open(alloc, places, workers)?;
+    let mut dispatcher = AtBench {
+        bench: &bench,
+        dispatch_seat,
+        places,
+        alloc,
+        work,
+    };
+    bench.with_workers(rt, gate, seats, &mut dispatcher)?
+}
+
+// The job is offered before there are workers.
+#[test]
+fn one_worker_answers_one_job(rt: HostRuntime) -> Result<(), Fail> {
+    let alloc = rt.alloc();
+    let alone = replies_alone(alloc)?;
+    let (bench, mut dispatch_seat, seats) = Bench::open(alloc, 2, 1)?;
+    let offered = offers_one(&bench, &mut dispatch_seat, alloc)?;
+    let mut dispatcher = AtBench {
+        bench: &bench,
+        dispatch_seat,
+        places: 2,
+        alloc,
+        work: Work::Collect(alone.as_slice()),
+    };
+    let collected = bench.with_workers(&rt, &OpenGate, seats, &mut dispatcher)??;
+    holds(&rt, offered && collected);
+    Ok(())
+}
+
+// If `with_workers` doesn't stop the worker once the task is done, this test doesn't end.
+#[test]
+fn a_task_is_done_beside_a_worker(rt: HostRuntime) -> Result<(), Fail> {
+    let alone = replies_alone(rt.alloc())?;
+    let work = Work::OfferAndCollect(alone.as_slice());
+    let fine = at_bench(&rt, rt.alloc(), &OpenGate, 2, 1, work)?;
+    holds(&rt, fine);
+    Ok(())
+}
+
+// Where a thread can't be started, the scope waits for those that run: so the test ends only if `with_workers` has stopped the bench.
+#[test]
+fn a_bench_with_no_job_starts_and_ends(rt: HostRuntime) -> Result<(), Fail> {
+    let fine = at_bench(&rt, rt.alloc(), &OpenGate, 2, 3, Work::Nothing)?;
+    holds(&rt, fine);
+    Ok(())
+}
+
+#[test]
+fn a_wait_ends_with_the_delivery(rt: HostRuntime) -> Result<(), Fail> {
+    let fine = at_bench(&rt, rt.alloc(), &OpenGate, 1, 1, Work::WaitForJobs)?;
+    holds(&rt, fine);
+    Ok(())
+}
+
+// Whether two jobs run at once at a bench with two workers, and again in each of the meetings.
+fn two_workers_meet<R: Threads + Wait + Sync>(
+    rt: &R,
+    alloc: Global,
+    meetings: u64,
+) -> Result<bool, Fail> {
+    let gate = Delaying::new();
+    at_bench(rt, alloc, &gate, 2, 2, Work::Meet(&gate, meetings))
+}
+
+#[test]
+fn two_jobs_run_at_once(rt: HostRuntime) -> Result<(), Fail> {
+    let fine = two_workers_meet(&rt, rt.alloc(), 0)?;
+    holds(&rt, fine);
+    Ok(())
+}
+
+#[test]
+fn a_worker_that_is_held_up_wakes_another(rt: HostRuntime) -> Result<(), Fail> {
+    let meetings = most_rounds(&rt).min(MEETINGS);
+    let fine = two_workers_meet(&rt, rt.alloc(), meetings)?;
+    holds(&rt, fine);
+    Ok(())
 }
 
 #[test]
 fn each_of_100000_jobs_comes_back_once(rt: HostRuntime) -> Result<(), Fail> {
     let most = most_rounds(&rt);
     for (places, rounds) in [(1, 25_000), (2, 12_500), (8, 3_125), (64, 391)] {
-        let fine = hands_off_all(&rt, rt.alloc(), places, most.min(rounds))?;
+        let work = Work::HandOff(most.min(rounds));
+        let fine = at_bench(&rt, rt.alloc(), &OpenGate, places, places, work)?;
         holds(&rt, fine);
     }
     Ok(())
