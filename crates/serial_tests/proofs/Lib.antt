@@ -1,0 +1,2 @@
+-- What is known of new trees.
+mod NewTrees
