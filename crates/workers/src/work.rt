@@ -80,27 +80,6 @@ impl Bench {
         Ok(())
     }
 
-    /// Starts a thread of the scope for each seat, which works until the bench is stopped. Where one
-    /// can't be started it stops the bench, so that those before it end: nothing is left running.
-    pub fn start<'s, E, R: Threads + Wait + Sync, G: Gate + Sync>(
-        &'s self,
-        rt: &'s R,
-        scope: &Scope<'s, E>,
-        dispatch_seat: &mut DispatchSeat,
-        seats: Vec<WorkSeat>,
-        gate: &'s G,
-    ) -> Result<(), AllocError>
-        requires dispatch_seat { dispatch_seat.old.bench ≡ self.now }
-        requires seats { All (λ w. w ≡ self.now) seats.items }
-        ensures { dispatch_seat.new ≡ dispatch_seat.old }
-    {
-        let started = self.start_all(rt, scope, seats, gate);
-        if started.is_err() {
-            self.stop(dispatch_seat);
-        }
-        started
-    }
-
     /// Sleeps until something was delivered since the last wait returned, or since the start.
     pub fn wait<R: Wait>(&self, rt: &R, seat: &mut DispatchSeat)
         requires { seat.old.bench ≡ self.now }
