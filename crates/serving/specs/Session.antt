@@ -253,7 +253,8 @@ EndsBy p (Err faults.Exhausted) = IsServed p × (p.read_end ≡ Some ends_of_rea
 EndsBy p (Err faults.Device) =
     NoneInFlight p.dispatch_seat.lent × (p.core.logged ≡ []) × (p.core.failed ≡ true) × (p.output_failed ≡ false) × (p.reply_buffer ≡ [])
     × (can_retire p.reorder_buffer.lines ≡ false)
-EndsBy p (Err faults.Write) = NoneInFlight p.dispatch_seat.lent × (p.core.logged ≡ []) × (p.core.failed ≡ false → p.core.ran ≡ [])
+EndsBy p (Err faults.Write) =
+    NoneInFlight p.dispatch_seat.lent × (p.core.logged ≡ []) × (p.core.failed ≡ false → p.core.ran ≡ []) × (p.output_failed ≡ true)
 EndsBy p (Err _) = ⊥
 
 -- what is reported: the result of the call, or that there was no memory to start a worker

@@ -1,6 +1,6 @@
 //! Where a server sends its lines, and what it sends: nothing but what a crash of the device can't take back.
 
-ghost use Rattle.std.specs.Prelude.{◌≡◌, ◌+◌, [], false, length, true, IfOk, IsFalse, IsTrue, OnOk};
+ghost use Rattle.std.specs.Prelude.{◌≡◌, ◌+◌, [], false, length, true, IfOk, IsFalse, IsTrue, OnErr, OnOk};
 ghost use Rattle.message.specs.Waiting.{FitsReply};
 ghost use Rattle.scheduler.specs.CoreView.{core_state_of};
 ghost use Rattle.reorder_buffer.specs.ReorderBuffer.{can_retire};
@@ -72,6 +72,7 @@ impl<'c, R: Read, D: Disk, L: ReplySink<D>> Session<'c, R, D, L> {
             × (self.new.dispatch_seat ≡ self.old.dispatch_seat) }
         ensures none_waits { OnOk result (self.new.reply_buffer ≡ []) }
         ensures output_works { OnOk result (self.new.output_failed ≡ false) }
+        ensures output_fails { OnErr result (self.new.output_failed ≡ true) }
     {
         if self.output_failed {
             return Err(Halted);
@@ -100,6 +101,7 @@ impl<'c, R: Read, D: Disk, L: ReplySink<D>> Session<'c, R, D, L> {
         ensures same { (self.new.core ≡ self.old.core) × (self.new.reorder_buffer ≡ self.old.reorder_buffer)
             × (self.new.dispatch_seat ≡ self.old.dispatch_seat) }
         ensures room { OnOk result (FitsReply self.new.reply_buffer) }
+        ensures output_fails { OnErr result (self.new.output_failed ≡ true) }
     {
         if self.reply_buffer.has_room() {
             Ok(())
@@ -116,6 +118,7 @@ impl<'c, R: Read, D: Disk, L: ReplySink<D>> Session<'c, R, D, L> {
         ensures same { (self.new.core ≡ self.old.core) × (self.new.dispatch_seat ≡ self.old.dispatch_seat) }
         ensures fewer { IfOk result (λ it. IsTrue it → length self.new.reorder_buffer.lines + 1 ≡ length self.old.reorder_buffer.lines) }
         ensures last { IfOk result (λ it. IsFalse it → can_retire self.new.reorder_buffer.lines ≡ false) }
+        ensures output_fails { OnErr result (self.new.output_failed ≡ true) }
     {
         self.flush_if_full()?;
         let retired = self.reorder_buffer.retire_front(&mut self.reply_buffer);
@@ -128,6 +131,7 @@ impl<'c, R: Read, D: Disk, L: ReplySink<D>> Session<'c, R, D, L> {
         ensures unread { HasReadNothing self.old self.new }
         ensures same { (self.new.core ≡ self.old.core) × (self.new.dispatch_seat ≡ self.old.dispatch_seat) }
         ensures last { OnOk result (can_retire self.new.reorder_buffer.lines ≡ false) }
+        ensures output_fails { OnErr result (self.new.output_failed ≡ true) }
     {
         while self.retire_first()? {}
         Ok(())
@@ -142,6 +146,7 @@ impl<'c, R: Read, D: Disk, L: ReplySink<D>> Session<'c, R, D, L> {
         ensures none_waits { OnOk result (self.new.reply_buffer ≡ []) }
         ensures output_works { OnOk result (self.new.output_failed ≡ false) }
         ensures last { OnOk result (can_retire self.new.reorder_buffer.lines ≡ false) }
+        ensures output_fails { OnErr result (self.new.output_failed ≡ true) }
     {
         while self.answer_first(rt) {}
         self.retire_ready()?;
