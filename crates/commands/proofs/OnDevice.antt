@@ -123,7 +123,8 @@ ends_on_device (Err faults.Read) h no_doubt bytes = (h.served.no_workers, (went 
 ends_on_device (Err faults.Exhausted) h no_doubt bytes = (h.served.no_workers, (went h no_doubt bytes h.served.run.served.run.segment.leads.geometry h.served.ends.1, h.served.ends.3))
 ends_on_device (Err faults.Device) h no_doubt bytes =
     (h.served.no_workers, (h.start.geometry, committed_in h.start, h.recovered_before, h.served.ends.2))
-ends_on_device (Err faults.Write) h no_doubt bytes = (h.served.no_workers, (h.start.geometry, committed_in h.start, h.recovered_before))
+ends_on_device (Err faults.Write) h no_doubt bytes =
+    (h.served.no_workers, (h.start.geometry, committed_in h.start, h.recovered_before, h.served.ends.2))
 ends_on_device (Err faults.NoWorkers) h no_doubt bytes =
     (h.served.no_workers, served_nothing h no_doubt bytes h.served.ends.0 h.served.ends.1 h.served.ends.2)
 ends_on_device (Err faults.OutOfMemory) h no_doubt bytes =

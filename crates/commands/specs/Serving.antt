@@ -1,6 +1,6 @@
 -- Statement for operators: What it is to serve a device: what was written at its end, what the device recovers to then, and what a crash
 -- meanwhile leaves.
-use Rattle.std.specs.Prelude.{◌≡◌, ◌≢◌, ◌+◌, ◌≤◌, ℕ, List, [], ◌∷◌, length, take, replicate, Some, None, Result, Ok, Err}
+use Rattle.std.specs.Prelude.{◌≡◌, ◌≢◌, ◌+◌, ◌≤◌, ℕ, List, [], ◌∷◌, length, take, replicate, Some, None, IfSome, Result, Ok, Err}
 use Rattle.std.specs.Io.KnownBytes.{IsAtEnd}
 use Rattle.affinity.specs.declared.geometry.Geometry.{Geometry}
 use Rattle.checkpoint.specs.Header.{HasHeader}
@@ -17,7 +17,8 @@ use Rattle.incarnations.specs.Incarnations.{IsRunIncarnation}
 use Rattle.incarnations.specs.Machine.{machine_of}
 use Rattle.incarnations.specs.DeviceEvents.{DeviceEvent, device_after, events_of}
 use Rattle.language.specs.Lines.{lines}
-use Rattle.meaning.specs.Output.{IsBeginning, WritesOutput}
+use Rattle.message.specs.Writing.{AppendsBeginning}
+use Rattle.meaning.specs.Output.{IsBeginning, WritesOutput, serial_output}
 use Rattle.meaning.specs.State.{State}
 use Rattle.scheduler.specs.CoreView.{IsJustOpened, CoreView, RecoversNow}
 use Rattle.serving.specs.Ends.{AreServed, Exchange, ServesLinesBefore, ServesWholeLines, committed_in}
@@ -65,8 +66,7 @@ HasServedNothing keeps old new x = (w : ServedDevice keeps old new) × (w.end �
 -- recovered. The device recovers to the last state of that server, with no record in force.
 -- A failed read: exactly the lines that were read whole are answered, and the device recovers to the state after them. No ticket left:
 -- exactly the lines before one whose message is in range are answered, and the device recovers to the state after them.
--- A failed device: the first lines of the serial server's output. A failed write: nothing of the output; by
--- `CrashesSafely` it is a beginning of the run's answers.
+-- A failed device: the first lines of the serial server's output. A failed write: a beginning of that output.
 -- No workers, or no memory: nothing was served. A device that can't be opened: no input was read and no output written. The fault is one
 -- that its bytes show, or want of memory, or `Device`: the last exactly if the device failed. `IsLeftByRefusal`: nothing was written to
 -- it, unless it failed, or the bad record is in the half that was not named: then the opening has finished an interrupted cut before.
@@ -79,7 +79,8 @@ EndsOnDevice keeps s old new (Err NoTicketLeft) x = (s.workers ≢ 0) × ((w : S
     × WritesOutput x.input x.before x.written (ServesLinesBefore w.geometry w.start w.end))
 EndsOnDevice keeps s old new (Err Device) x = (s.workers ≢ 0) × ((g : Geometry) × (start : State) × RecoveredTo keeps old g start
     × WritesOutput x.input x.before x.written (IsBeginning g start))
-EndsOnDevice keeps s old new (Err Write) x = (s.workers ≢ 0) × ((g : Geometry) × (start : State) × RecoveredTo keeps old g start)
+EndsOnDevice keeps s old new (Err Write) x = (s.workers ≢ 0) × ((g : Geometry) × (start : State) × RecoveredTo keeps old g start
+    × IfSome x.input (λ bytes. AppendsBeginning x.before x.written (serial_output g start bytes)))
 EndsOnDevice keeps s old new (Err NoWorkers) x = (s.workers ≡ 0) × HasServedNothing keeps old new x
 EndsOnDevice keeps s old new (Err OutOfMemory) x = (s.workers ≢ 0) × HasServedNothing keeps old new x
 EndsOnDevice keeps s old new (Err (Open fault)) x =

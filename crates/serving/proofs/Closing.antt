@@ -1,9 +1,9 @@
 -- A session that reads no more, and what it promises in the end.
-use Rattle.std.proofs.Common.{arith, ◌≡◌, ◌≢◌, ◌≤◌, ◌<◌, ◌+◌, ◌-◌, ℕ, zero, suc, Bool, true, false, List, [], ◌++◌, Option, Some, None, refl, ap, sym, ◌∙◌, subst, length, map, replicate, append_assoc}
+use Rattle.std.proofs.Common.{arith, ◌≡◌, ◌≢◌, ◌≤◌, ◌<◌, ◌+◌, ◌-◌, ℕ, zero, suc, Bool, true, false, List, [], ◌++◌, Option, Some, None, refl, ap, sym, ◌∙◌, subst, length, map, replicate, append_assoc, take, drop, take-append-drop}
 use Rattle.std.specs.Prelude.{Result, Ok, Err, IfOk, IfSome, MatchResult, OnErr, OnOk}
 use Rattle.std.specs.Io.KnownBytes.{Appends}
 use Rattle.std.proofs.KnownBytes.{Appends-nil, Appends-trans}
-use Rattle.message.proofs.Beginnings.{none_waits}
+use Rattle.message.proofs.Beginnings.{begins_all, none_waits}
 use Rattle.message.specs.Waiting.{all_output}
 use Rattle.message.specs.Writing.{AppendsBeginning}
 use Rattle.std.proofs.lemmas.Bool.{true≢false}
@@ -13,11 +13,15 @@ use Rattle.histories.specs.Laws.{IsIdle}
 use Rattle.incarnations.specs.Machine.{MachineView}
 use Rattle.parcel.specs.Run.{JobView}
 use Rattle.scheduler.specs.CoreView.{CoreView, RecoversNow, core_state_of}
-use Rattle.serving.specs.Ends.{EndsWith, Exchange, IsQuiesced, exchange}
+use Rattle.serving.specs.Ends.{EndsWith, Exchange, IsQuiesced, committed_in, exchange}
 use Rattle.serving.specs.Progress.{ServingProgress}
 use Rattle.serving.specs.Lending.{NoneInFlight}
 use Rattle.serving.specs.Lines.{Line, answer_text}
-use Rattle.meaning.specs.Output.{joined}
+use Rattle.affinity.specs.declared.geometry.Geometry.{Geometry}
+use Rattle.language.specs.Lines.{lines}
+use Rattle.meaning.proofs.OutputLemmas.{joined-append}
+use Rattle.meaning.specs.Output.{IsBeginning, WritesOutput, joined, output_lines, serial_output}
+use Rattle.meaning.specs.State.{State}
 use Rattle.reorder_buffer.specs.ReorderBuffer.{ReorderBufferView, can_retire}
 use Rattle.oplog.specs.Recovery.{records_in}
 use Rattle.serving.specs.Restart.{WritesBeginning}
@@ -34,7 +38,7 @@ use Rattle.workers.specs.Seats.{DispatchSeatView}
 use Rattle.serving.proofs.Newlines.{both as newlines-append, in_answers, newlines}
 use Rattle.serving.proofs.Promises.{no_memory_ran, runs_to_device, runs_to_last_ticket, runs_to_read, runs_to_write, runs_whole}
 use Rattle.serving.proofs.Starting.{holds_at_start, starts}
-use Rattle.serving.proofs.Served.{ends_at_device, ends_at_read, ends_exhausted, ends_whole}
+use Rattle.serving.proofs.Served.{ends_at_device, ends_at_read, ends_exhausted, ends_whole, first_answered}
 use Rattle.serving.proofs.Invariant.{all_sent, begins_at, none_out, progress_at_end, to_reorder_buffer}
 
 -- ---- what it promises
@@ -46,6 +50,19 @@ all_appended (Some sent) bytes = refl
 sent_begins : (b : Bool) (waiting : List ℕ) (whole sent : Option (List ℕ)) → IsSent b waiting whole sent → AppendsBeginning whole sent waiting
 sent_begins true waiting whole sent h = h
 sent_begins false waiting whole sent h = ([], waiting, refl, subst (λ (w : Option (List ℕ)). Appends whole w []) (sym h) (Appends-nil whole))
+
+-- A beginning of the answers to the first lines is a beginning of the serial output.
+begins_serially : (g : Geometry) (start : State) (input written : List ℕ) (before new : Option (List ℕ)) → IsBeginning g start input written → AppendsBeginning before new written
+    → AppendsBeginning before new (serial_output g start input)
+begins_serially g start input written before new first b =
+    let ls = output_lines g start (lines input) in
+    let rest = joined (drop first.0 ls) in (
+      b.0,
+      b.1 ++ rest,
+      ap joined (sym (take-append-drop first.0 ls)) ∙ joined-append (take first.0 ls) (drop first.0 ls)
+          ∙ ap (λ (l : List ℕ). l ++ rest) (sym first.1 ∙ b.2) ∙ append_assoc b.0 b.1 rest,
+      b.3,
+    )
 
 -- After what was sent whole, the answers that wait were sent in part: that is a beginning of both.
 -- Of n lines whose answers wait, those that end behind that beginning have a slot each, and at least all slots but n are left.
@@ -69,6 +86,12 @@ module _ (before whole sent : Option (List ℕ)) (waiting text : List ℕ) (n sl
         ),
         omega (arith, parts, few, within),
       )
+
+  serially : (g : Geometry) (start : State) (b : Bool) → IsSent b waiting whole sent → (input : Option (List ℕ))
+      → WritesOutput input before (all_output whole waiting) (IsBeginning g start) → IfSome input (λ bytes. AppendsBeginning before sent (serial_output g start bytes))
+  serially g start b h None first = tt
+  serially g start b h (Some bytes) first =
+      begins_serially g start bytes first.0 before sent first.2 (begins_all text waiting first.0 before whole sent grown first.1 (sent_begins b waiting whole sent h))
 
 -- What a server promises at its end: of the run that led there (given what `know_recovery` ensures of the core), and of that end.
 pub record PromisesAll (keeps : Type 0) (start : MachineView) (new : CoreView) (x : Exchange) (result : Result (Unit {0}) ServeFault) : Type 0 where
@@ -151,7 +174,12 @@ module _ {keeps : Type 0} {s : Start} {p : SessionView} (u : SessionInvariant ke
         let room = begins.2 in
         record {
           run = λ no_doubt recovers. runs_to_write u.idle no_doubt recovers (to_reorder_buffer h) begins.1 (omega (arith, counted, bounded, fits, room));
-          ends = (wound_up h.progress, ran);
+          ends = (
+            wound_up h.progress,
+            ran,
+            serially s.before h.whole p.sent p.reply_buffer text (length h.waiting) s.core.slots h.progress.output s.core.geometry (committed_in s.core)
+                p.output_failed h.output s.input (first_answered keeps start now u.idle (to_reorder_buffer h)),
+          );
         }
 
   stopped : {read_end : ReadEnd} → p.read_end ≡ Some read_end → HasEndedReading keeps s p read_end

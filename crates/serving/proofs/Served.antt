@@ -19,7 +19,7 @@ use Rattle.language.specs.Lines.{lines}
 use Rattle.language.specs.FirstLine.{LosesLineStart, behind_first_line}
 use Rattle.language.specs.declared.Reply.{Reply}
 use Rattle.meaning.specs.Order.{by_ticket, messages_of, serial_replies}
-use Rattle.meaning.specs.Output.{AnswersWholeLines, joined, output_lines, state_after_lines, with_newlines}
+use Rattle.meaning.specs.Output.{AnswersWholeLines, IsBeginning, WritesOutput, joined, output_lines, state_after_lines, with_newlines}
 use Rattle.meaning.specs.Progress.{AreTaken, TakesLines}
 use Rattle.meaning.specs.Serial.{state_after_all}
 use Rattle.meaning.specs.State.{State}
@@ -158,14 +158,19 @@ module _ (keeps : Type 0) (start now : MachineView) (idle : IsIdle (core_state_o
         ),
       )
 
+  -- the first lines of the input are answered
+  pub first_answered : {unsent : List Line} {input unread : Option (List ℕ)} {ended : Bool} {before written : Option (List ℕ)}
+      → ServingProgress keeps start now unsent input unread ended before written → WritesOutput input before written (IsBeginning g x)
+  first_answered {input = None} h = tt
+  first_answered {input = Some input} h =
+      let all = begins h.serving (lines h.takes.0)
+      ∙ ap (λ ls. take (length h.sent_lines) (output_lines g x ls)) (sym h.takes.2.to_come) in
+      (joined (map answer_text h.sent_lines), h.output, (length h.sent_lines, ap joined all))
+
   pub ends_at_device : {unsent : List Line} {input unread : Option (List ℕ)} {ended : Bool} {before written : Option (List ℕ)}
       → ServingProgress keeps start now unsent input unread ended before written → now.core.failed ≡ true → IsQuiesced now.core
       → EndsWith start.core now.core (exchange input unread before written) (Err faults.Device)
-  ends_at_device {input = None} h failed wound_up = (failed, wound_up, tt)
-  ends_at_device {input = Some input} h failed wound_up =
-      let all = begins h.serving (lines h.takes.0)
-      ∙ ap (λ ls. take (length h.sent_lines) (output_lines g x ls)) (sym h.takes.2.to_come) in
-      (failed, wound_up, (joined (map answer_text h.sent_lines), h.output, (length h.sent_lines, ap joined all)))
+  ends_at_device h failed wound_up = (failed, wound_up, first_answered h)
 
   pub first_taken : (input unread : Option (List ℕ)) (ended : Bool) (consumed : List (List ℕ)) → TakesLines input unread ended consumed → AreFirst input consumed
   first_taken None unread ended consumed t = tt

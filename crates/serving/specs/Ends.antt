@@ -10,7 +10,8 @@ use Rattle.language.specs.Lines.{lines}
 use Rattle.language.specs.Messages.{is_in_range}
 use Rattle.language.specs.declared.Msg.{Msg}
 use Rattle.language.specs.declared.Reply.{Reply}
-use Rattle.meaning.specs.Output.{AnswersWholeLines, IsBeginning, WritesOutput, joined, output_lines, state_after_lines}
+use Rattle.message.specs.Writing.{AppendsBeginning}
+use Rattle.meaning.specs.Output.{AnswersWholeLines, IsBeginning, WritesOutput, joined, output_lines, serial_output, state_after_lines}
 use Rattle.meaning.specs.State.{State}
 use Rattle.scheduler.specs.CoreView.{CoreView, core_state_of}
 use Rattle.serving.specs.Lines.{AreKnown, HaveAnswers, Line, admitted, answer_text, ticketed}
@@ -96,7 +97,8 @@ pub record IsQuiesced (core : CoreView) : Type 0 where
   pub none_logged : core.logged ≡ []
 
 -- At `Ok`, `Read` and `Exhausted` (no ticket left) each line that was read is answered, nothing waits or is held, and the device works.
--- Where the device or the output has failed, the core is quiesced; and where the output alone has, each message that ran is logged.
+-- Where the device or the output has failed, the core is quiesced; and where the output alone has, each message that ran is logged. What
+-- was written is a beginning of the serial server's output, of whole lines where the output works.
 -- Without workers or memory nothing has changed, been read or been written.
 abbrev pub EndsWith : CoreView → CoreView → Exchange → Result (Unit {0}) ServeFault → Type 0
 EndsWith old new x (Ok _) = IsIdle (core_state_of new) × (new.failed ≡ false) × IsAtEnd x.remaining
@@ -108,5 +110,6 @@ EndsWith old new x (Err faults.Exhausted) = IsIdle (core_state_of new) × (new.f
 EndsWith old new x (Err faults.Device) = (new.failed ≡ true) × IsQuiesced new
     × WritesOutput x.input x.before x.written (IsBeginning old.geometry (committed_in old))
 EndsWith old new x (Err faults.Write) = IsQuiesced new × (new.failed ≡ false → new.ran ≡ [])
+    × IfSome x.input (λ bytes. AppendsBeginning x.before x.written (serial_output old.geometry (committed_in old) bytes))
 EndsWith old new x (Err faults.NoWorkers) = (new ≡ old) × (x.remaining ≡ x.input) × (x.written ≡ x.before)
 EndsWith old new x (Err faults.OutOfMemory) = (new ≡ old) × (x.remaining ≡ x.input) × (x.written ≡ x.before)
