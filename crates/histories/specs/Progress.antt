@@ -40,7 +40,7 @@ pub data CanGoOn (g : Geometry) (w : CoreState) : Type 0 where
   CanLog : (some : 0 < length w.ran) → CanGoOn g w
   -- something is logged, and can be answered
   CanAnswer : (some : 0 < length w.logged) → CanGoOn g w
-  -- a message that waits can be dispatched
+  -- a message that waits is eligible, so that it can be dispatched to an empty hand
   CanDispatch : (some : is_some (next_eligible g w) ≡ true) → CanGoOn g w
   -- a checkpoint can be made, and then a message can be dispatched
   CanMakeRoom : (needs : NeedsCheckpoint g w) → CanGoOn g w

@@ -265,8 +265,8 @@ pub fn something_can_be_done()
     ensures next { (g : Geometry) (w : CoreState) → IsSoundCoreState g w → w.failed ≡ false → IsBusy w → CanGoOn g w }
 {}
 
-/// A waiting message is conflict-free exactly if no message keeps it back. As long as it waits, those that keep it back are those that did
-/// at first, without those that have been answered: no message that arrives later does.
+/// A waiting message is conflict-free exactly if no message keeps it back. As long as it waits, as many keep it back as did at first, less
+/// the related ones that have been answered. This holds for each part of a run, so no message that arrives later keeps it back.
 pub fn later_messages_keep_none_back()
     ensures none { (g : Geometry) (w : CoreState) (e : Entry) → is_conflict_free g w e ≡ (kept_back_by g w e == 0) }
     ensures run { (g : Geometry) (old : MachineState) (events : List Event) (e : Entry) → IsLegal g old events
@@ -299,7 +299,8 @@ pub fn hands_hold_what_is_in_flight()
 /// From a sound machine state whose hands have what is in flight, with at least one hand and a device that works: if anything waits or is
 /// held, some event that is no arrival may come and leaves less to do. Whichever such events come, there are no more than work is left, and
 /// there is another one until nothing waits and nothing is held. Some legal run of them ends so. So whatever has happened since a start
-/// with nothing waiting and nothing held, each message that arrived can be answered, once. Checkpoints are made online, of n pieces each.
+/// with nothing waiting, nothing held and every hand empty, each message that arrived can be answered, once, as long as the device works.
+/// Checkpoints are made online, of n pieces each, for any number n that a cut may have.
 pub fn all_can_be_answered()
     ensures step { (g : Geometry) (n : ℕ) → n ≤ piece_count g → (w : MachineState) → IsSoundCoreState g w.core
         → w.core.failed ≡ false → HandsHold w → 0 < length w.hands → IsBusy w.core → CanStep g n w }
