@@ -1,7 +1,7 @@
 -- The answers to lines in the output, and what stays true of a session when some of its outstanding lines are sent.
 use Rattle.std.proofs.Common.{◌≡◌, ℕ, ◌-◌, Bool, true, false, List, [], ◌∷◌, ◌++◌, Option, None, refl, ap, sym, ◌∙◌, subst, map, length, take, drop, append-nil, append_assoc, arith}
 use Rattle.std.specs.Prelude.{Result, Ok, Err, IfOk, MatchResult, OnErr, OnOk}
-use Rattle.std.proofs.lemmas.List.{take-append-drop}
+use Rattle.std.proofs.lemmas.List.{nil_from_length, take-append-drop}
 use Rattle.affinity.specs.declared.geometry.Geometry.{Geometry}
 use Rattle.histories.specs.CoreState.{CoreState, Replied}
 use Rattle.histories.specs.Events.{recorded}
@@ -24,10 +24,6 @@ use Rattle.meaning.specs.Output.{joined}
 pub texts_both : (sent_lines more : List Line) → joined (map answer_text (sent_lines ++ more)) ≡ joined (map answer_text sent_lines) ++ joined (map answer_text more)
 texts_both [] more = refl
 texts_both (x ∷ sent_lines) more = ap (λ z. answer_text x ++ z) (texts_both sent_lines more) ∙ sym (append_assoc (answer_text x) (joined (map answer_text sent_lines)) (joined (map answer_text more)))
-
-none_long : {A : Type 0} (xs : List A) → length xs ≡ 0 → xs ≡ []
-none_long [] e = refl
-none_long (x ∷ xs) e = absurd (omega (arith, e))
 
 -- ---- fewer lines outstanding
 
@@ -68,7 +64,7 @@ sends_on {start} {rest} {before} {old} {now} sends h =
 -- Where the log took no message, nothing has changed.
 pub log_of_none : (g : Geometry) (old new : CoreState) (n : ℕ) (r : Result ℕ CoreFault) → IsLogStep g old new n r → IfOk r (λ count. count ≡ 0 → new ≡ old)
 log_of_none g old new n (Ok count) s = λ zero.
-    let none : take n old.ran ≡ [] = none_long (take n old.ran) (sym s.1 ∙ zero) in
+    let none : take n old.ran ≡ [] = nil_from_length (take n old.ran) (sym s.1 ∙ zero) in
     let same : drop n old.ran ≡ old.ran = ap (λ (l : List Replied). l ++ drop n old.ran) (sym none) ∙ take-append-drop n old.ran in
     let room : old.room - 0 ≡ old.room = omega arith in
     s.2 ∙ ap (λ (l : List Replied). record old {
