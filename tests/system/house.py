@@ -12,6 +12,7 @@ SCRIPTS = {
     "tests/lint/words": "each public word of the definitions has one meaning",
     "tests/lint/form": "each clause, function and file has the form that it is to have",
     "tests/lint/wrong_bodies": "each wrong body has its edit or test",
+    "tests/lint/refusals": "each must-fail edit names the goal at which it has to be refused",
     "tests/lint/surface": "each public name and each worked row that is fixed is there",
     "tests/lint/model": "the model of the bench has the steps of its sources",
     "tests/lint/believe": "what has to be read is within its budget, and as much as the pages say",
