@@ -333,7 +333,7 @@ pub record IsUnused (places : ℕ) (input : Option (List ℕ)) (dispatch_seat : 
 
 -- A call that may begin satisfies the invariant.
 pub first_at : (keeps : Type 0) {o : Option Start} {core : CoreView} {dispatch_seat : DispatchSeatView} {reorder_buffer : ReorderBufferView} {reply_buffer : List ℕ}
-    {unread input sent : Option (List ℕ)} {drained ended : Bool} {places : ℕ} (remaining : Option (List ℕ)) → CanBegin o core places input sent reorder_buffer
+    {unread input sent : Option (List ℕ)} {drained ended : Bool} {places : ℕ} (remaining : Option (List ℕ)) (holds_line : Bool) → CanBegin o core places input sent reorder_buffer
     → IsUnused places input dispatch_seat reply_buffer unread drained ended → SessionInvariantFrom keeps o (record {
       core = core;
       dispatch_seat = dispatch_seat;
@@ -347,8 +347,9 @@ pub first_at : (keeps : Type 0) {o : Option Start} {core : CoreView} {dispatch_s
       drained = drained;
       ended = ended;
       remaining = remaining;
+      holds_line = holds_line;
     })
-first_at keeps {o} {core} {dispatch_seat} {reorder_buffer} {unread} {input} {sent} {drained} {places} remaining r unused =
+first_at keeps {o} {core} {dispatch_seat} {reorder_buffer} {unread} {input} {sent} {drained} {places} remaining holds_line r unused =
     let s : Start = record { core = core; places = places; input = input; before = sent } in
     let start = start_machine s in
     begins_at keeps o s _ r.is (record {

@@ -360,11 +360,11 @@ module _ (keeps : Type 0) where
   pub reading : (s : Start) (p : SessionView) → p.read_end ≡ None → SessionInvariant keeps s p → SessionProgress keeps s p p.unread p.drained
   reading s p is u = subst (λ (o : Option ReadEnd). ReadsOrHasEnded keeps s p o) is u.reads
 
-  module _ (p : SessionView) (core : CoreView) (reorder_buffer : ReorderBufferView) (n : ℕ) (unread : Option (List ℕ)) (drained ended : Bool)
+  module _ (p : SessionView) (core : CoreView) (reorder_buffer : ReorderBufferView) (n : ℕ) (unread : Option (List ℕ)) (drained ended holds_line : Bool)
       (remaining : Option (List ℕ)) (none : p.read_end ≡ None) (slots : reorder_buffer.slots ≡ p.reorder_buffer.slots)
       (more : n + length p.reorder_buffer.lines ≡ p.outstanding + length reorder_buffer.lines) (few : n ≤ p.reorder_buffer.slots) (knows : IsTrue ended → IsAtEnd remaining) where
     abbrev next : SessionView
-    next = record p { core = core; reorder_buffer = reorder_buffer; outstanding = n; unread = unread; drained = drained; ended = ended; remaining = remaining }
+    next = record p { core = core; reorder_buffer = reorder_buffer; outstanding = n; unread = unread; drained = drained; ended = ended; remaining = remaining; holds_line = holds_line }
 
     bounded_next : n ≤ reorder_buffer.slots
     bounded_next = omega (arith, few, slots)

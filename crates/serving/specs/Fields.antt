@@ -1,9 +1,15 @@
 -- Inner: The fields of a session as contracts see them, and what it keeps true of them between calls.
-use Rattle.std.specs.Prelude.{◌≡◌, ℕ, List, Option}
-use Rattle.message.specs.Reader.{has_ended, is_drained, source, unread}
+use Rattle.std.specs.Prelude.{◌≡◌, ◌==◌, ℕ, Bool, List, Option}
+use Rattle.std.specs.List.{list_any}
+use Rattle.message.specs.declared.reading.LineReader.{LineReader}
+use Rattle.message.specs.Reader.{buffered_bytes, has_ended, is_drained, source, unread}
 use Rattle.serving.specs.Output.{Start}
 use Rattle.serving.specs.Session.{SessionInvariantFrom, SessionView}
 use Rattle.serving.specs.declared.session.Session.TheInside.{Inside}
+
+-- whether the reader of lines holds a whole line, its newline included
+abbrev pub holds_line : {R : Type 0} → LineReader R → Bool
+holds_line r = list_any (λ b. b == 10) (buffered_bytes r.buffered)
 
 module _ {R D L : Type 0} (remaining : R → Option (List ℕ)) (sent : L → Option (List ℕ)) where
   abbrev pub session_view : Inside R D L → SessionView
@@ -20,6 +26,7 @@ module _ {R D L : Type 0} (remaining : R → Option (List ℕ)) (sent : L → Op
     drained = is_drained s.line_reader;
     ended = has_ended s.line_reader;
     remaining = remaining (source s.line_reader);
+    holds_line = holds_line s.line_reader;
   }
 
   -- `keeps`: the device keeps its bytes. `start`: where the call began.

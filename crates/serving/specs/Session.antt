@@ -53,6 +53,8 @@ pub record SessionView : Type 0 where
   pub ended : Bool
   -- what remains in the reader after what is buffered
   pub remaining : Option (List ℕ)
+  -- whether a whole line is buffered
+  pub holds_line : Bool
 
 -- the session's machine: its core, with the lent jobs in its hands
 abbrev pub machine : SessionView → MachineView

@@ -1,6 +1,6 @@
 //! Reading: takes each line into the reorder buffer, and its message into the core.
 
-ghost use Rattle.std.specs.Prelude.{◌≡◌, ◌<◌, ◌↔◌, ◌+◌, ◌++◌, List, [], ◌∷◌, IsTrue, None, OnErr, is_none, length};
+ghost use Rattle.std.specs.Prelude.{◌≡◌, ◌<◌, ◌↔◌, ◌+◌, ◌++◌, List, [], ◌∷◌, IsTrue, None, OnErr, false, is_none, length, true};
 ghost use Rattle.language.specs.Grammar.{message_of};
 ghost use Rattle.incarnations.specs.declared.hands.HandContent.{HandContent};
 ghost use Rattle.serving.specs.Lines.{Pending};
@@ -67,10 +67,11 @@ fn may_read(read_end: Option<ReadEnd>, outstanding: usize, slots: usize) -> bool
 impl<'c, R: Read, D: Disk, L: ReplySink<D>> Session<'c, R, D, L> {
     /// Reads the next line, if there is one, and takes it in. Returns whether it did. If it didn't, no more is read from now on, and
     /// `read_end` says why. It may be called only while fewer lines are outstanding than there are slots. It waits for input where no line
-    /// is buffered.
+    /// is buffered: no line may be unanswered then.
     fn read_next(&mut self) -> bool
         requires reads { self.old.read_end ≡ None }
         requires room { self.old.outstanding < self.old.reorder_buffer.slots }
+        requires none_unanswered { self.old.holds_line ≡ false → NoneUnanswered self.old }
         ensures reads { result ≡ is_none self.new.read_end }
         ensures output_failed { self.new.output_failed ≡ self.old.output_failed }
         ensures slots { self.new.reorder_buffer.slots ≡ self.old.reorder_buffer.slots }
@@ -121,6 +122,13 @@ impl<'c, R: Read, D: Disk, L: ReplySink<D>> Session<'c, R, D, L> {
             && self.line_reader.holds_line()
     }
 
+    /// Whether a line is in the input buffer: it is read without waiting.
+    fn holds_line(&self) -> bool
+        ensures { IsTrue result → self.now.holds_line ≡ true }
+    {
+        self.line_reader.holds_line()
+    }
+
     /// Reads a line, unless reading has ended, and waits for input until there is one. No line is unanswered then, so that nobody waits for
     /// this server while it waits.
     fn wait_for_line(&mut self) -> Activity
@@ -149,7 +157,7 @@ impl<'c, R: Read, D: Disk, L: ReplySink<D>> Session<'c, R, D, L> {
             Activity::Busy => Activity::Idle,
         };
         while may_read(self.read_end, self.outstanding, self.reorder_buffer.slots())
-            && self.line_reader.holds_line()
+            && self.holds_line()
             && self.read_next()
         {
             read = Activity::Busy;
