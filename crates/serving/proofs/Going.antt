@@ -127,7 +127,7 @@ module _ (p q r s : SessionView) (dispatch : HasMoved p q) where
   since_before few nothing (MovedCheckpoint moved) = MovedCheckpoint (λ same.
       moved (same ∙ ap steps_left (sym (ap (λ (w : CoreState). w.pieces_left) nothing.keeps.1 ∙ dispatch.1))))
   since_before few nothing (Waited in_flight) = Waited in_flight
-  since_before few nothing (CanRead reads room) = CanRead reads room
+  since_before few nothing (CanRead reads room buffered) = CanRead reads room buffered
   since_before few nothing (Rests none) = Rests none
 
   pub has_gone_on : (moved : Bool) (activity : Activity) → steps_ahead r + cond moved 1 0 ≤ steps_ahead q → (IsFalse moved → HasLoggedNothing q r)

@@ -182,8 +182,9 @@ pub data HasGoneOn (old new : SessionView) : Type 0 where
   MovedCheckpoint : (moved : steps_left new.core.pieces_left ≢ steps_left old.core.pieces_left) → HasGoneOn old new
   -- it waited while a job was in flight, which still is
   Waited : (in_flight : NoneInFlight new.dispatch_seat.lent → ⊥) → HasGoneOn old new
-  -- a line can be read
-  CanRead : (reads : new.read_end ≡ None) → (room : new.outstanding < new.reorder_buffer.slots) → HasGoneOn old new
+  -- a line is buffered, and can be read
+  CanRead : (reads : new.read_end ≡ None) → (room : new.outstanding < new.reorder_buffer.slots) → (buffered : new.holds_line ≡ true)
+      → HasGoneOn old new
   -- no line is unanswered
   Rests : (none : NoneUnanswered new) → HasGoneOn old new
 

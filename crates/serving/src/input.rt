@@ -116,10 +116,10 @@ impl<'c, R: Read, D: Disk, L: ReplySink<D>> Session<'c, R, D, L> {
 
     /// Whether a line in the input buffer may be read.
     pub(crate) fn can_read(&self) -> bool
-        ensures { IsTrue result → (self.now.read_end ≡ None) × (self.now.outstanding < self.now.reorder_buffer.slots) }
+        ensures { IsTrue result → (self.now.read_end ≡ None) × (self.now.outstanding < self.now.reorder_buffer.slots)
+            × (self.now.holds_line ≡ true) }
     {
-        may_read(self.read_end, self.outstanding, self.reorder_buffer.slots())
-            && self.line_reader.holds_line()
+        may_read(self.read_end, self.outstanding, self.reorder_buffer.slots()) && self.holds_line()
     }
 
     /// Whether a line is in the input buffer: it is read without waiting.
