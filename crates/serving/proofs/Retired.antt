@@ -3,6 +3,7 @@ use Rattle.std.proofs.Common.{◌≡◌, ◌+◌, ℕ, Bool, true, false, List, 
 use Rattle.std.specs.Prelude.{◌==◌, ◌||◌}
 use Rattle.std.specs.List.{Contains, list_any}
 use Rattle.std.proofs.lemmas.Bool.{eq-eqb, true≢false}
+use Rattle.std.proofs.Math.Bool.{or-true}
 use Rattle.histories.proofs.Elements.{in_contained}
 use Rattle.histories.proofs.SerialReplies.{IsIn}
 use Rattle.serving.specs.Lines.{Completed, Line, NoMessage, OutOfRange, Pending, has_answer, answer_text}
@@ -23,15 +24,11 @@ pub silent : (lines : List Line) → can_retire lines ≡ false → retired_text
 silent [] not = refl
 silent (line ∷ lines) not = silent_line line not
 
-or_true : (b : Bool) → (b || true) ≡ true
-or_true true = refl
-or_true false = refl
-
 newline_in : (bytes : List ℕ) → IsIn 10 bytes → list_any (λ b. b == 10) bytes ≡ true
 newline_in [] is = absurd is
 newline_in (b ∷ bytes) is = ⊎_elim
     (λ (here : 10 ≡ b). ap (λ (c : Bool). c || list_any (λ b. b == 10) bytes) (eq-eqb b 10 (sym here)))
-    (λ behind. ap (λ (c : Bool). (b == 10) || c) (newline_in bytes behind) ∙ or_true (b == 10)) is
+    (λ behind. ap (λ (c : Bool). (b == 10) || c) (newline_in bytes behind) ∙ or-true (b == 10)) is
 
 pub has_newline : (bytes : List ℕ) → Contains bytes 10 → list_any (λ b. b == 10) bytes ≡ true
 has_newline bytes contains = newline_in bytes (in_contained bytes 10 contains)
