@@ -23,8 +23,8 @@ use workers::{Bench, DispatchSeat, DispatcherTask, Gate, OpenGate};
 /// blocks, quota, records in a half.
 const SMALL: [u16; 8] = [1, 1, 2, 1, 2, 4, 2, 4];
 
-/// How often a test tries before it gives up.
-const MOST_TRIES: u32 = 1_000_000;
+/// How often a test tries before it gives up: for some ten seconds, as a busy system may run a thread that was woken half a second later.
+const MOST_TRIES: u32 = 30_000_000;
 
 /// How many kinds of message there are.
 const KINDS: u64 = 14;
