@@ -9,7 +9,7 @@ use Rattle.histories.proofs.Full.{length-picked}
 use Rattle.histories.specs.CoreState.{CoreState, Entry}
 use Rattle.histories.specs.Eligible.{is_eligible}
 use Rattle.histories.specs.Events.{Hand, find_in_flight, give_back}
-use Rattle.histories.specs.Progress.{has_job}
+use Rattle.histories.specs.Progress.{has_job, points_left}
 use Rattle.histories.specs.declared.outcomes.CoreFault.{CoreFault}
 use Rattle.incarnations.specs.Machine.{hand_of as hand_in}
 use Rattle.meaning.specs.Serial.{reply_to}
@@ -17,8 +17,7 @@ use Rattle.parcel.specs.Run.{JobView}
 use Rattle.scheduler.specs.Calls.{IsLogStep}
 use Rattle.serving.specs.Lending.{DispatchesTo, IsBlocked}
 use Rattle.serving.specs.Runs.{lent_hand}
-use Rattle.serving.specs.Session.{SessionView, steps_ahead}
-use Rattle.serving.specs.Session.{CanRead, HasGoneOn, HasLoggedNothing, HasMoved, MovedCheckpoint, NoneUnanswered, Rests, SessionView, TookStep, Waited, steps_ahead, steps_left}
+use Rattle.serving.specs.Session.{CanRead, HasGoneOn, HasLoggedNothing, HasMoved, MovedCheckpoint, NoneUnanswered, Rests, SessionView, TookStep, Waited, steps_ahead}
 use Rattle.serving.specs.declared.session.Activity.{Activity}
 use Rattle.serving.specs.declared.session.Activity.TheVariants as activities
 use Rattle.serving.specs.declared.dispatch.Blocked.{Blocked}
@@ -125,7 +124,7 @@ module _ (p q r s : SessionView) (dispatch : HasMoved p q) where
   since_before : steps_ahead r ≤ steps_ahead q → HasLoggedNothing q r → HasGoneOn r s → HasGoneOn p s
   since_before few nothing (TookStep less) = let before = dispatch.0 in TookStep (omega (arith, less, few, before))
   since_before few nothing (MovedCheckpoint moved) = MovedCheckpoint (λ same.
-      moved (same ∙ ap steps_left (sym (ap (λ (w : CoreState). w.pieces_left) nothing.keeps.1 ∙ dispatch.1))))
+      moved (same ∙ ap points_left (sym (ap (λ (w : CoreState). w.pieces_left) nothing.keeps.1 ∙ dispatch.1))))
   since_before few nothing (Waited in_flight) = Waited in_flight
   since_before few nothing (CanRead reads room buffered) = CanRead reads room buffered
   since_before few nothing (Rests none) = Rests none

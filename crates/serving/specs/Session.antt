@@ -4,7 +4,7 @@ use Rattle.std.specs.Io.KnownBytes.{IsAtEnd}
 use Rattle.affinity.specs.declared.geometry.Geometry.{Geometry}
 use Rattle.histories.specs.CoreState.{held}
 use Rattle.histories.specs.Laws.{IsIdle}
-use Rattle.histories.specs.Progress.{steps_to_come}
+use Rattle.histories.specs.Progress.{points_left, steps_to_come}
 use Rattle.incarnations.specs.Machine.{MachineView, machine_of}
 use Rattle.language.specs.Grammar.{message_of}
 use Rattle.language.specs.Messages.{is_in_range}
@@ -161,11 +161,6 @@ abbrev pub KeepsCoreState : SessionView → SessionView → Type 0
 KeepsCoreState old new = (new.core.geometry ≡ old.core.geometry) × (core_state_of new.core ≡ core_state_of old.core)
     × (new.dispatch_seat ≡ old.dispatch_seat)
 
--- how many steps a checkpoint takes to its end, by how many of its pieces are left
-abbrev pub steps_left : Option ℕ → ℕ
-steps_left None = 0
-steps_left (Some n) = n + 1
-
 -- how many steps are to come until all messages are answered that the session has read
 abbrev pub steps_ahead : SessionView → ℕ
 steps_ahead p = steps_to_come (machine_of (machine p))
@@ -179,7 +174,7 @@ pub data HasGoneOn (old new : SessionView) : Type 0 where
   -- a message took a step: fewer are to come
   TookStep : (less : steps_ahead new < steps_ahead old) → HasGoneOn old new
   -- a checkpoint began, went on or ended
-  MovedCheckpoint : (moved : steps_left new.core.pieces_left ≢ steps_left old.core.pieces_left) → HasGoneOn old new
+  MovedCheckpoint : (moved : points_left new.core.pieces_left ≢ points_left old.core.pieces_left) → HasGoneOn old new
   -- it waited while a job was in flight, which still is
   Waited : (in_flight : NoneInFlight new.dispatch_seat.lent → ⊥) → HasGoneOn old new
   -- a line is buffered, and can be read

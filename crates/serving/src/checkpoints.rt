@@ -4,7 +4,8 @@ ghost use Rattle.std.specs.Prelude.{◌≡◌, ◌≢◌, ◌+◌, ℕ, [], None
 ghost use Rattle.histories.specs.declared.outcomes.PointRefusal.TheVariants.{Held};
 ghost use Rattle.histories.specs.CoreState.{held};
 ghost use Rattle.scheduler.specs.CoreView.{core_state_of};
-ghost use Rattle.serving.specs.Session.{IsSessionStep, KeepsCoreState, steps_ahead, steps_left};
+ghost use Rattle.histories.specs.Progress.{points_left};
+ghost use Rattle.serving.specs.Session.{IsSessionStep, KeepsCoreState, steps_ahead};
 
 use crate::output::ReplySink;
 use crate::session::{Halted, Session};
@@ -69,7 +70,7 @@ impl<'c, R: Read, D: Disk, L: ReplySink<D>> Session<'c, R, D, L> {
         ensures same { (self.new.reorder_buffer ≡ self.old.reorder_buffer) × (self.new.reply_buffer ≡ self.old.reply_buffer)
             × (self.new.core.logged ≡ self.old.core.logged) }
         ensures step { IfOk result
-            (λ moved. MatchBool moved (steps_left self.new.core.pieces_left + 1 ≡ steps_left self.old.core.pieces_left)
+            (λ moved. MatchBool moved (points_left self.new.core.pieces_left + 1 ≡ points_left self.old.core.pieces_left)
             ((self.new.core.pieces_left ≡ None) × (self.old.core.pieces_left ≡ None))) }
         ensures none { IfOk result (λ moved. IsFalse moved → self.new ≡ self.old) }
         ensures steps { OnOk result (steps_ahead self.new ≡ steps_ahead self.old) }
@@ -112,7 +113,7 @@ impl<'c, R: Read, D: Disk, L: ReplySink<D>> Session<'c, R, D, L> {
     /// is none, it begins one where it is due or `is_asked_for`. Returns whether it did either.
     pub(crate) fn advance_or_begin_checkpoint(&mut self, is_asked_for: bool) -> Result<bool, Halted>
         ensures session_step { IsSessionStep self.old self.new result }
-        ensures moved { IfOk result (λ it. IsTrue it → steps_left self.new.core.pieces_left ≢ steps_left self.old.core.pieces_left) }
+        ensures moved { IfOk result (λ it. IsTrue it → points_left self.new.core.pieces_left ≢ points_left self.old.core.pieces_left) }
         ensures same { (self.new.reorder_buffer ≡ self.old.reorder_buffer) × (self.new.reply_buffer ≡ self.old.reply_buffer) }
         ensures steps { OnOk result (steps_ahead self.new ≡ steps_ahead self.old) }
         ensures stays { IfOk result (λ it. IsFalse it → KeepsCoreState self.old self.new × (self.new.core.pieces_left ≡ None)
