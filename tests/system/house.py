@@ -18,7 +18,7 @@ SCRIPTS = {
     "tests/lint/believe": "what has to be read is within its budget, and as much as the pages say",
     "docs/pictures/draw --check": "each picture fits what it shows",
     "tests/lint/effort": "the table of what each crate took has its counts",
-    "tests/lint/lemmas": "no lemma is stated twice, nor one of the library again",
+    "tests/lint/lemmas": "no lemma is stated twice, nor one of the library again, and each is used",
     "tests/lint/chain": "the longest chain of crates, which bounds a first build, is within its budget",
     "benchmark/figures --check": "the pages' figures of speed are those of benchmark/figures.json",
     "tests/lint/version": "the version names the kit, the logic and the newest changes",
