@@ -11,6 +11,7 @@ import unittest
 
 TOP = os.path.dirname(os.path.dirname(os.path.dirname(os.path.realpath(__file__))))
 PROGRAM = os.environ.get("PROGRAM", os.path.join(TOP, "crates", "waffd", "out", "waffd"))
+REFERENCE = os.environ.get("REFERENCE", PROGRAM)  # whose `plain` gives the replies that both have to give
 PATIENCE = 10  # seconds to wait for a reply or an end
 LONGEST_RUN = 600  # seconds that a run may take
 MOST_TURNS = 10000  # of calls or requests that fail

@@ -11,8 +11,8 @@ import tempfile
 import threading
 import time
 
-from program import PROGRAM, Case, read_until, run
-from meaning import lines_that_read
+from program import PROGRAM, REFERENCE, Case, read_until, run
+from meaning import lines_that_read, options_of
 from servers import COMMON, GREATEST, NARROW, SMALL, WIDE, Device, Drawing, plain, replies_of, text_of
 
 # Geometry, workers, slots and every.
@@ -115,7 +115,8 @@ LONG_SERVERS = (
 
 class Lines(Case):
     def test_random_lines(self):
-        """Random lines to `serve`, at many geometries, workers, slots and points, beside `plain`, byte for byte."""
+        """Random lines to `serve`, at many geometries, workers, slots and points, beside `plain`, byte for byte; and to `plain` beside that of
+        another compiler's program, if there is a REFERENCE."""
         shares = sum(server[4] for server in LONG_SERVERS)
         for number, (*server, share) in enumerate(LONG_SERVERS):
             device = Device(self.folder, server)
@@ -123,6 +124,8 @@ class Lines(Case):
             with self.subTest(f"{len(lines)} random lines: {device}"):
                 reads = lines_that_read(device.g) if device.g != GREATEST else ["summary"]
                 wanted = plain(device.g, lines + reads)
+                if REFERENCE != PROGRAM:
+                    self.has_ended(run(["plain", *options_of(device.g)], text_of(lines + reads)), 0, text_of(wanted), b"")
                 self.has_ended(run(device.words(), text_of(lines)), 0, text_of(wanted[:len(lines)]), b"")
                 told = replies_of(run(device.words(), text_of(reads)), "the next run")
                 self.assertTrue(told == wanted[len(lines):], "the next run has another state")

@@ -3,7 +3,7 @@ import os
 import random
 import shutil
 
-from program import bytes_of, put_bytes, run
+from program import REFERENCE, bytes_of, put_bytes, run
 from meaning import FIELDS, MOST_DIGITS, Geometry, Search, empty_state, lines_that_make, lines_that_read, options_of, state_of_replies
 
 SMALL = Geometry(1, 1, 2, 1, 2, 4, 2, 4)
@@ -30,8 +30,8 @@ def replies_of(end, what):
 
 
 def plain(g, lines):
-    """What the serial server answers."""
-    return replies_of(run(["plain", *options_of(g)], text_of(lines)), "plain")
+    """What the serial server answers, as the program of reference has it."""
+    return replies_of(run(["plain", *options_of(g)], text_of(lines), program=(REFERENCE,)), "plain")
 
 
 def with_bytes(data, *changes):
