@@ -3,6 +3,7 @@ and with all behind it, and the next run has all that was acknowledged. What `fo
 import os
 import re
 import shutil
+import subprocess
 import unittest
 
 from meaning import options_of
@@ -25,6 +26,21 @@ DAMAGED = (
 READS = {"not formatted": 1, "bad geometry": 1, "bad version": 3, "bad piece 0": 4, "bad piece 1": 5, "bad piece 2": 6, "bad chain": 8,
          "bad record 0 0": 9, "bad record 0 1": 10}  # of the device, each of another part, up to the one that is bad
 PIECES = 4 * 8 * (1 + 8)  # of an image of the greatest device
+
+
+class NoFile(Case):
+    def test_no_file(self):
+        """a folder, a pipe and a block device are no devices"""
+        pipe, image = self.at("pipe"), self.at("image")
+        os.mkfifo(pipe)
+        put_bytes(image, bytes(1 << 20))
+        looped = subprocess.run(["losetup", "--find", "--show", image], capture_output=True, text=True, check=False)
+        if block := looped.stdout.strip():
+            self.addCleanup(subprocess.run, ["losetup", "--detach", block], check=True)
+        for path in filter(None, (self.folder, pipe, block)):
+            for command in ("format", "show", "serve"):
+                self.ends(f"{command} of {path}", run([command, path], MADE), 1, b"", DEVICE_FAULT)
+        self.assertEqual(bytes_of(image), bytes(1 << 20))
 
 
 class Damage(Case):

@@ -37,6 +37,24 @@ fn sync_folder<R: Files<File = File>>(rt: &R, path: &str) -> io::Result<()> {
     }
 }
 
+/// Opens a file that is there, and nothing else: the system also opens a folder to be read, may wait where it opens a pipe, and tells no
+/// length of a block device.
+fn open_existing<R: Files<File = File>>(
+    rt: &R,
+    path: &str,
+    for_writes: bool,
+) -> Result<File, FileFault> {
+    if !rt.metadata(path)?.is_file() {
+        return Err(FileFault::Device);
+    }
+    Ok(
+        OpenOptions::new()
+            .read(true)
+            .write(for_writes)
+            .open(rt, path)?,
+    )
+}
+
 /// A file as a device. No contract states that it keeps its bytes. If it does, a read gives what was written, and what was
 /// synced is there after a crash.
 pub type FileDisk = FileBacked<HostFile<File>>;
@@ -64,11 +82,11 @@ impl FileBacked<HostFile<File>> {
     }
 
     /// Opens an existing file, at the length that it has, and syncs it first, so that all its bytes count as synced. `OutOfMemory` where
-    /// the system has no memory for it, and `Device` where it refuses for anything else.
+    /// the system has no memory for it, and `Device` where it refuses for anything else, or the path names something other than a file.
     pub fn open<R: Files<File = File>>(rt: &R, path: &str) -> Result<FileDisk, FileFault>
         ensures { IfOk result (λ d. file_medium d ≡ fresh_synced (file_medium d).now) }
     {
-        let file = OpenOptions::new().read(true).write(true).open(rt, path)?;
+        let file = open_existing(rt, path, true)?;
         file.sync_data()?;
         let size = file.metadata()?.len();
         Ok(FileBacked::new(HostFile::opened_synced(file, size)))
@@ -80,11 +98,7 @@ impl FileBacked<HostFile<File>> {
     pub fn open_read_only<R: Files<File = File>>(rt: &R, path: &str) -> Result<FileDisk, FileFault>
         ensures { IfOk result (λ d. file_medium d ≡ fresh_unsynced (file_medium d).now) }
     {
-        // The system also opens a folder to be read, and may wait where it opens a pipe.
-        if !rt.metadata(path)?.is_file() {
-            return Err(FileFault::Device);
-        }
-        let file = OpenOptions::new().read(true).open(rt, path)?;
+        let file = open_existing(rt, path, false)?;
         let size = file.metadata()?.len();
         Ok(FileBacked::new(HostFile::opened_unsynced(file, size)))
     }
