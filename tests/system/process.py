@@ -28,7 +28,7 @@ def is_version(text):
     """The version, and what `rt version` prints of the kit, without the letter of its revision, and of the logic."""
     kit = subprocess.run(["rt", "version"], capture_output=True, check=True).stdout.strip()
     kit = re.sub(rb"[a-z]* logic ", b", logic ", kit)
-    return re.fullmatch(rb"waffd \S+ \(proved with " + re.escape(kit) + rb"\)\n", text) is not None
+    return re.fullmatch(rb"waffd \S+ \(" + re.escape(kit) + rb"\)\n", text) is not None
 
 
 def is_of_clap(text):

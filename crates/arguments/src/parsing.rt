@@ -11,9 +11,10 @@ use clap::error::ErrorKind;
 use clap::{Arg, ArgMatches, Command};
 use std::alloc::{AllocError, Global};
 
-/// What `--version` prints behind the program's name: its version, and the kit and the logic with which it is proved. The letter behind the
-/// kit's number, its revision, is left out: revisions differ, and their logic is the same.
-const VERSION: &str = "0.1.0 (proved with rattle-kit-13, logic dac8208d650f15bf)";
+/// What `--version` prints behind the program's name: its version, and the kit and the logic for which it is written. It says nothing of a
+/// proof, as `./try` runs it unproved. The letter behind the kit's number, its revision, is left out: revisions differ, and their logic is
+/// the same.
+const VERSION: &str = "0.1.0 (rattle-kit-13, logic dac8208d650f15bf)";
 
 // What help prints of the commands.
 const PLAIN: &str = "Answers the messages on standard input, one line each, from an empty state on";

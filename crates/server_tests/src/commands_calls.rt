@@ -280,7 +280,7 @@ const HELP: [(&str, &str); 24] = [
     ("waffd help show", "Usage: waffd "),
     ("waffd serve -h", "Usage: waffd "),
     ("waffd help serve", "Usage: waffd "),
-    ("waffd --version", "waffd 0.1.0 (proved with rattle-kit-"),
+    ("waffd --version", "waffd 0.1.0 (rattle-kit-"),
     ("waffd -V", ", logic "),
     (
         "waffd --help",
