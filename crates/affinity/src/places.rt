@@ -2,7 +2,7 @@
 ghost use Rattle.std.specs.Prelude.{◌≡◌, ◌<◌, IfSome, is_some};
 ghost use Rattle.affinity.specs.Geometry.{stripe_of};
 ghost use Rattle.affinity.specs.Interval.{IsAffinityOf};
-ghost use Rattle.affinity.specs.Place.{is_in_range, path, path_of_kind, path_of_numbers};
+ghost use Rattle.affinity.specs.Place.{is_in_range, path, path_of_kind};
 
 use crate::{Affinity, Geometry, Kind};
 

@@ -1,6 +1,6 @@
 //! Messages as records of a fixed size.
 
-ghost use Rattle.std.specs.Prelude.{◌≡◌, ◌↔◌, ◌++◌, ◌-◌, true, Some, take, drop, length, replicate, IfSome, IsTrue, slice_index};
+ghost use Rattle.std.specs.Prelude.{◌≡◌, ◌↔◌, ◌-◌, true, Some, take, drop, length, IfSome, IsTrue, slice_index};
 ghost use Rattle.affinity.specs.declared.kinds.Kind.{Kind};
 ghost use Rattle.language.specs.Messages.{IsMessage, is_in_range};
 ghost use Rattle.message.specs.Heads.{has_data};

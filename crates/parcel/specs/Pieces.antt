@@ -1,4 +1,4 @@
--- Inner: The pieces of one volume of the tree, and what the volume has once one of them was read.
+-- Statement for engineers: The pieces of one volume of the tree, and what the volume has once one of them was read.
 use Rattle.std.specs.Prelude.{◌≡◌, ◌↔◌, ℕ, ◌<◌, Bool, zero, suc, ◌==◌, ◌%◌, ◌^◌, if◌then◌else◌, List, [], ◌∷◌, ◌++◌, length, replicate, unwrap_or, Option, Some, None, IfSome, IsTrue, Result, IsOk, OnOk}
 use Rattle.affinity.specs.Geometry.{stripe_of}
 use Rattle.affinity.specs.declared.geometry.Geometry.{Geometry}

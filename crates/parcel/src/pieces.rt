@@ -1,8 +1,8 @@
 //! The pieces of an image: what the tree holds, written as the bytes of its pieces and taken in from
 //! them, one at a time, without allocating.
-ghost use Rattle.std.specs.Prelude.{◌≡◌, ◌↔◌, ◌<◌, ◌≤◌, ℕ, length, None, IsOk, OnOk};
+ghost use Rattle.std.specs.Prelude.{◌≡◌, ◌<◌, ◌≤◌, ℕ, length, None};
 ghost use Rattle.image.specs.Pieces.{aggregate_of, volume_of, part_of, part_piece, piece_part_size};
-ghost use Rattle.image.specs.Pieces.{piece_count, piece_of, piece_size, with_piece};
+ghost use Rattle.image.specs.Pieces.{piece_count, piece_of, piece_size};
 ghost use Rattle.meaning.specs.State.{State, IsState};
 ghost use Rattle.parcel.specs.Fits.{FitsVolume, IsWholeVolume};
 ghost use Rattle.parcel.specs.Pieces.{HasFacts, IsPieceOfVolumeRead, CanReadPiece, ReadsPiece};
@@ -101,17 +101,8 @@ fn write_part(volume: &Vol, g: &Geometry, part: usize, out: &mut [u8])
 /// unspecified what the tree holds. Nothing of the tree may be out, and when a volume's own piece is read
 /// the tree must have no block of that volume.
 pub fn read_piece(t: &mut Tree, n: usize, bytes: &[u8]) -> Result<(), BadPiece>
-    requires whole { IsWholeTree t.old }
-    requires piece { n < piece_count t.old.geometry }
-    requires size { length bytes.now ≡ piece_size t.old.geometry n }
-    requires empty { part_of t.old.geometry n ≡ 0 → (f b : ℕ)
-        → (state_in t.old).blocks (aggregate_of t.old.geometry n, volume_of t.old.geometry n, f, b) ≡ None }
-    ensures good { IsOk result ↔ (bytes.now
-        ≡ piece_of 2 t.old.geometry (with_piece 2 t.old.geometry (state_in t.old) n bytes.now) n) }
-    ensures taken { OnOk result (state_in t.new
-        ≡ with_piece 2 t.old.geometry (state_in t.old) n bytes.now) }
-    ensures whole { OnOk result (IsWholeTree t.new) }
-    ensures geometry { t.new.geometry ≡ t.old.geometry }
+    requires { CanReadPiece n bytes.now t.old }
+    ensures { ReadsPiece 2 n bytes.now result t.old t.new }
 {
     read_piece_of_version(t, VERSION, n, bytes)
 }
@@ -119,17 +110,8 @@ pub fn read_piece(t: &mut Tree, n: usize, bytes: &[u8]) -> Result<(), BadPiece>
 /// As `read_piece`, for an image of version 1, which has zeros instead of labels: each volume that is
 /// made gets a label of zeros.
 pub fn read_piece_1(t: &mut Tree, n: usize, bytes: &[u8]) -> Result<(), BadPiece>
-    requires whole { IsWholeTree t.old }
-    requires piece { n < piece_count t.old.geometry }
-    requires size { length bytes.now ≡ piece_size t.old.geometry n }
-    requires empty { part_of t.old.geometry n ≡ 0 → (f b : ℕ)
-        → (state_in t.old).blocks (aggregate_of t.old.geometry n, volume_of t.old.geometry n, f, b) ≡ None }
-    ensures good { IsOk result ↔ (bytes.now
-        ≡ piece_of 1 t.old.geometry (with_piece 1 t.old.geometry (state_in t.old) n bytes.now) n) }
-    ensures taken { OnOk result (state_in t.new
-        ≡ with_piece 1 t.old.geometry (state_in t.old) n bytes.now) }
-    ensures whole { OnOk result (IsWholeTree t.new) }
-    ensures geometry { t.new.geometry ≡ t.old.geometry }
+    requires { CanReadPiece n bytes.now t.old }
+    ensures { ReadsPiece 1 n bytes.now result t.old t.new }
 {
     read_piece_of_version(t, FIRST_VERSION, n, bytes)
 }

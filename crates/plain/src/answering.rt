@@ -2,7 +2,7 @@
 //! followed by the replies that wait; `unread` is what a reader of lines hasn't given yet: the bytes that it holds, followed by what its
 //! source has left (nothing once a read has reported the end).
 
-ghost use Rattle.std.specs.Prelude.{◌≡◌, ◌<◌, ◌≤◌, ◌++◌, ℕ, List, [], Option, Some, true, false, is_ok, option_map, IfOk, IfSome, OnOk, IsErrOf, IsFalse, MatchBool, unwrap_or, vec_len};
+ghost use Rattle.std.specs.Prelude.{◌≡◌, ◌<◌, ◌++◌, ℕ, List, [], Option, Some, true, false, is_ok, option_map, IfOk, IfSome, OnOk, IsErrOf, IsFalse, MatchBool, unwrap_or, vec_len};
 ghost use Rattle.std.specs.Io.KnownBytes.{Appends, IsAtEnd};
 ghost use Rattle.language.specs.declared.TheConstants.{LONGEST_LINE};
 ghost use Rattle.language.specs.Grammar.{message_of};

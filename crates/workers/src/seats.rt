@@ -46,7 +46,6 @@ impl Drop for DispatchSeat {
 }
 
 impl Model for DispatchSeat {
-    ghost use Rattle.std.specs.Prelude.{List};
     ghost use Rattle.workers.specs.Seats.{DispatchSeatView, IsDispatchSeat, lent_of};
 
     ghost Value = { DispatchSeatView };

@@ -2,7 +2,7 @@
 //! In clauses `guard passes why later` is the refusal `why` where `passes` is false, else `later`; `guard_open made sealed later` checks
 //! that the volume is made and then that it isn't sealed, before `later`.
 
-ghost use Rattle.std.specs.Prelude.{◌≡◌, not};
+ghost use Rattle.std.specs.Prelude.{◌≡◌};
 ghost use Rattle.language.specs.declared.Refusal.{Refusal};
 ghost use Rattle.language.specs.declared.Refusal.TheVariants.{File};
 ghost use Rattle.parcel.specs.Shown.{has_file};
