@@ -145,7 +145,7 @@ impl ReorderBuffer {
     }
 
     /// The oldest line.
-    pub fn front(&self) -> Option<&Line>
+    fn front(&self) -> Option<&Line>
         ensures { MatchOption result (self.now.lines ≡ []) (λ line. self.now.lines ≡ line.now ∷ drop 1 self.now.lines) }
     {
         match self.kinds.front()? {

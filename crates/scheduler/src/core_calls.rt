@@ -464,13 +464,6 @@ impl<D: Disk> Core<D> {
         let _next = self.next; // what a core keeps true is known where a field is read
     }
 
-    /// The device.
-    pub fn disk(&self) -> &D
-        ensures { D.medium result.now ≡ self.now.medium }
-    {
-        self.journal.disk()
-    }
-
     /// The device, which is handed back.
     pub fn into_disk(self) -> D
         ensures { D.medium result ≡ self.medium }
