@@ -1,36 +1,17 @@
 //! What tests share: a small server with its log and its device, and assertions, called for each row of a test's table.
-ghost use Rattle.std.specs.Prelude.{◌≡◌, ◌<◌, false, length, OnOk, IsTrue};
+ghost use Rattle.std.specs.Prelude.{◌≡◌, ◌<◌, false, length, OnOk};
 ghost use Rattle.disk.specs.Memory.{medium_of};
 ghost use Rattle.oplog.specs.Calls.{IsLongEnough, IsReadyFor};
-ghost use Rattle.oplog.specs.Changing.{AreChangesInRange, IsChangeInRange};
 
-use affinity::{Geometry, changing, place_of};
+use affinity::Geometry;
 use device_map::device_len;
 use disk::{Disk, MemDisk};
-use harness::torn;
+use harness::{are_changes_in_range, torn};
 use message::Msg;
 use oplog::{Halves, LogFault};
 use std::alloc::{AllocError, Global};
 use std::process::Abort;
 use std::test::Fail;
-
-fn is_change_in_range(g: &Geometry, m: &Msg) -> bool
-    ensures { IsTrue result → IsChangeInRange g.now m.now }
-{
-    changing(m.kind()) && place_of(g, m.kind(), m.numbers()).is_some()
-}
-
-/// Whether each of these is a change in range: the log takes no others.
-fn are_changes_in_range(g: &Geometry, messages: &[Msg]) -> bool
-    ensures { IsTrue result → AreChangesInRange g.now messages.now }
-{
-    for m in messages {
-        if !is_change_in_range(g, m) {
-            return false;
-        }
-    }
-    true
-}
 
 /// Clears the half that isn't named, and names it.
 fn change_halves<D: Disk>(disk: &mut D, log: &mut Halves) -> Result<(), LogFault>

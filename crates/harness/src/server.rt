@@ -46,7 +46,7 @@ fn is_change_in_range(g: &Geometry, m: &Msg) -> bool
 }
 
 /// Whether each of these is a change in range: of a kind that may change the state (`changing`), with numbers that the geometry has.
-fn are_changes_in_range(g: &Geometry, messages: &[Msg]) -> bool
+pub fn are_changes_in_range(g: &Geometry, messages: &[Msg]) -> bool
     ensures { IsTrue result → AreChangesInRange g.now messages.now }
 {
     for m in messages {
