@@ -89,8 +89,8 @@ def of_others(figures):
              f"({figures.ratio(f'plain {mix}', 'serial', 'waffd', 'cpu us'):.2f})" for mix in PLAIN]
     yield f"- Checkpoints write {parts} bytes a change, with 64 slots; the log takes {LOGGED}."
     yield f"- Peak of memory: {listed(peaks)} MB."
-    yield (f"- First reply: after {listed([number(figures.median(row, MAIN, 'ms')) for row in openings])} ms, {floors} times the floor of an "
-           "opening: half of the device read, half written, five syncs.")
+    yield (f"- First reply: after {listed([number(figures.median(row, MAIN, 'ms')) for row in openings])} ms, {floors} times what a plain "
+           "program takes to read half of the device, write half and sync five times.")
     yield (f"- `--every` {listed(EVERY)} (writes, default geometry, 16 slots): {rates} lines/s; after a kill {records} records to replay, and "
            f"{firsts} ms to the next first reply.")
     yield ("- `plain`, processor time a line in microseconds (its speed in multiples of `benchmark/serial.rs`, on the mixes of "
