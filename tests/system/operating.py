@@ -1,11 +1,21 @@
-"""What the pages tell whoever uses or operates a server: what a crash leaves of lines in flight."""
+"""What the pages tell whoever uses or operates a server: what a crash leaves of lines in flight; the smallest stack."""
 import os
 import re
 import subprocess
 import time
 
 from program import PROGRAM, TOP, Case, bytes_of, run
-from servers import replies_of, text_of
+from meaning import options_of
+from servers import GREATEST, Drawing, replies_of, text_of
+
+
+class Stack(Case):
+    def test_stack(self):
+        """four workers serve the greatest geometry with a stack of 32 KiB"""
+        run(["format", self.at("great"), *options_of(GREATEST)])
+        words, lines = ["serve", self.at("great"), "--workers", "4", "--slots", "64"], text_of(Drawing(1, GREATEST).lines(20000))
+        small = run(words, lines, program=["sh", "-c", 'ulimit -s 32 && exec "$0" "$@"', PROGRAM])
+        self.has_ended(small, 0, run(["plain", *options_of(GREATEST)], lines)[1], b"")
 
 
 class Crash(Case):
