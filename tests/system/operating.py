@@ -1,14 +1,105 @@
-"""What the pages tell whoever uses or operates a server: what a crash leaves of lines in flight; a copy to another geometry; the least stack."""
+"""What the pages tell whoever operates a server: the unit of examples/service, evaluated by systemd's own tool and its commands run; the copy of a
+device to another geometry; the smallest stack."""
 import os
 import re
+import shlex
+import shutil
+import signal
+import socket
 import subprocess
 import time
+import unittest
 
-from program import PROGRAM, TOP, Case, bytes_of, run
+from program import PATIENCE, PROGRAM, TOP, Case, bytes_of, put_bytes, read_until, run
 from meaning import Geometry, lines_that_read, options_of
 from servers import COMMON, GREATEST, Drawing, replies_of, text_of
 
-COPY = os.path.join(TOP, "examples", "copy", "copy.py")
+SERVICE, COPY = os.path.join(TOP, "examples", "service"), os.path.join(TOP, "examples", "copy", "copy.py")
+FIRST_SYNC_OF_A_CHANGE = 6  # the opening makes five
+LEFT_OUT = "useradd", "systemctl", "sync"  # of the commands of the page
+
+
+class Service(Case):
+    """The unit, with other paths, as systemd would run it."""
+
+    def setUp(self):
+        super().setUp()
+        self.page = self.elsewhere(bytes_of(os.path.join(SERVICE, "README.md")).decode())
+        for command in re.findall(r"^    (.*)", self.page, re.M):
+            if not command.startswith(LEFT_OUT):
+                subprocess.run(command, cwd=TOP, shell=True, check=True, stdout=subprocess.DEVNULL)
+        self.unit = self.at("etc/systemd/system/waffd.service")
+        text = self.elsewhere(bytes_of(self.unit).decode())
+        put_bytes(self.unit, text.encode())
+        self.values = dict(re.findall(r"^(\w+)=(.*)", text.replace("\\\n", ""), re.M))
+        os.mkdir(self.at("run/waffd"))
+
+    def elsewhere(self, text):
+        os.makedirs(self.at("run"), exist_ok=True)
+        text = text.replace("crates/waffd/out/waffd", PROGRAM).replace("runuser -u waffd -- ", "").replace("-o waffd", "")
+        return re.sub(r"(?<=[ =!])/(?=usr/local/|etc/|srv/|run/)", self.folder + "/", text)
+
+    def starts(self, *before):
+        return self.started([*before, *shlex.split(self.values["ExecStart"])], stderr=subprocess.PIPE)
+
+    def connects(self):
+        client = socket.socket(socket.AF_UNIX)
+        self.addCleanup(client.close)
+        client.settimeout(PATIENCE)
+        self.assertTrue(any(client.connect_ex(self.at("run/waffd/socket")) == 0 or time.sleep(0.01) for _ in range(1000)))
+        return client
+
+    def asks(self, client, lines, replies):
+        client.sendall(lines)
+        self.assertEqual(read_until(client, lambda found: len(found) >= len(replies)), replies)
+
+    def may_start(self):
+        """Whether systemd would start the unit now."""
+        asserts = [line for line in bytes_of(self.unit).decode().splitlines() if line.startswith("Assert")]
+        return subprocess.run(["systemd-analyze", "condition", *asserts], capture_output=True, check=False).returncode == 0
+
+    def has_stopped(self, server, status, text=b""):
+        """The server has ended so. Then the unit's last command runs."""
+        self.assertEqual((server.communicate(timeout=PATIENCE)[1], server.returncode), (text, status))
+        command = shlex.split(self.values["ExecStopPost"].lstrip("+").replace("$$", "$"))
+        subprocess.run(command, env={**os.environ, "EXIT_STATUS": str(status)}, check=True)
+
+    @unittest.skipUnless(shutil.which("systemd-analyze"), "systemd-analyze isn't installed")
+    def test_unit(self):
+        """systemd's own tool takes the unit, and lets it start only on a device that is there"""
+        self.has_ended(run(["verify", self.unit], program=["systemd-analyze"]), 0, b"", b"")
+        self.assertTrue(self.may_start())
+        put_bytes(self.at("srv/waffd/device"), b"")
+        self.assertFalse(self.may_start())
+
+    def test_clients(self):
+        """one server answers client after client, also behind one that hangs up; a second one has no lock; SIGTERM ends it in order"""
+        server, first = self.starts(), self.connects()
+        self.asks(first, b"makevol 0 0\ncreate 0 0 0\n", b"done\ndone\n")
+        first.sendall(b"read 0 0 0 0\n" * 1000 + b"summary\nmakevol 0 1")
+        first.close()
+        self.asks(self.connects(), b"usage 0 0\nsummary\n", b"usage 1 0 open\nsummary 1 1 0\n")
+        os.rename(self.at("run/waffd/socket"), self.at("socket"))
+        self.has_stopped(self.starts(), 75)
+        server.send_signal(signal.SIGTERM)
+        self.has_stopped(server, 0)
+        self.assertIn(b"records 0\n", run(["show", self.at("srv/waffd/device")])[1])
+        self.assertFalse(os.path.exists(self.at("run/waffd.fault")))
+
+    @unittest.skipUnless(shutil.which("strace") and shutil.which("systemd-analyze"), "strace or systemd-analyze isn't installed")
+    def test_a_failed_sync(self):
+        """after a failed sync the unit may not start"""
+        inject = f"inject=fdatasync:error=EIO:when={FIRST_SYNC_OF_A_CHANGE}+"
+        server = self.starts("strace", "-f", "-o", self.at("calls"), "-e", "trace=fdatasync", "-e", inject)
+        self.asks(self.connects(), b"makevol 0 0\n", b"")
+        self.has_stopped(server, 1, b"waffd: device fault\n")
+        self.assertIn(b"(INJECTED)", bytes_of(self.at("calls")))
+        self.assertFalse(self.may_start())
+
+    def test_library(self):
+        """the C library that the page names is the one that the program needs"""
+        needed = re.findall(rb"\0GLIBC_2\.(\d+)(?=\0)", bytes_of(PROGRAM))
+        self.assertIn(f"the GNU C library, 2.{max(map(int, needed))} or later", self.page)
 
 
 class Copy(Case):
@@ -53,6 +144,7 @@ class Copy(Case):
 
 
 class Stack(Case):
+    @unittest.skipIf(PROGRAM.endswith(".by-rattle"), "what the other compiler makes takes more")
     def test_stack(self):
         """four workers serve the greatest geometry with a stack of 32 KiB"""
         run(["format", self.at("great"), *options_of(GREATEST)])

@@ -38,7 +38,7 @@ def is_of_clap(text):
 class Statuses(Case):
     def test_help(self):
         for text in HELP:
-            usage = b"Usage: waffd serve" if "serve" in text else b"Usage: waffd"
+            usage = f"Usage: {os.path.basename(PROGRAM)}{' serve' * ('serve' in text)}".encode()
             self.ends("help: " + text, run(text.split(), MADE), 0, lambda output: usage in output, b"")
         for word in ("--version", "-V"):
             self.ends(f"version: {word}", run([word], MADE), 0, is_version, b"")
@@ -283,10 +283,10 @@ class Operating(Case):
     @unittest.skipUnless(shutil.which("flock"), "flock isn't installed")
     def test_one_at_a_time(self):
         """of two servers under flock the second has no lock until the first is gone, and show runs beside it"""
-        lock = ("flock", "--nonblock", "--no-fork", self.device)
+        lock = ("flock", "--nonblock", "--no-fork", "--conflict-exit-code", "75", self.device)
         first = self.serve(*lock)
         self.replies(first, b"summary\n", b"summary 0 0 0\n")
-        self.has_stopped(self.serve(*lock), 1)
+        self.has_stopped(self.serve(*lock), 75)
         self.assertEqual(run(["show", self.device])[::2], (0, b""))
         first.kill()
         first.communicate()
