@@ -15,6 +15,8 @@ import sys
 import threading
 
 NO_SOCKET = 70
+SIZE = 1 << 16  # of what is read at once
+LONGEST = 2000  # bytes of a line that are kept: one of over 1,100 is an error, whatever it says
 
 
 class Client:
@@ -22,27 +24,31 @@ class Client:
 
     def __init__(self, connection, server):
         self.connection, self.server = connection, server
-        self.sent = 0
-        self.news = threading.Semaphore(0)  # one for each line that was sent, and one for their end
+        self.sent, self.has_ended = 0, False
+        self.news = threading.Semaphore(0)  # one each time that lines were sent, and one for their end
 
     def send(self):
-        with contextlib.suppress(OSError, ValueError), self.connection.makefile("rb") as lines:
-            for line in lines:
-                if line.endswith(b"\n"):
-                    self.sent += 1
-                    self.server.stdin.write(line)
-                    self.server.stdin.flush()
+        rest = b""
+        with contextlib.suppress(OSError, ValueError):
+            while piece := self.connection.recv(SIZE):
+                lines, newline, rest = (rest[:LONGEST] + piece).rpartition(b"\n")
+                if newline:
+                    self.sent += lines.count(b"\n") + 1
                     self.news.release()
+                    self.server.stdin.write(lines + newline)
+                    self.server.stdin.flush()
+        self.has_ended = True
         self.news.release()
 
     def answer(self):
         threading.Thread(target=self.send, daemon=True).start()
         replied = 0
-        while self.news.acquire() and replied < self.sent:
-            reply = self.server.stdout.readline()
-            replied += 1
-            with contextlib.suppress(OSError):  # it has gone
-                self.connection.sendall(reply)
+        while not (self.has_ended and replied == self.sent):
+            self.news.acquire()
+            while replied < self.sent and (replies := self.server.stdout.read1(SIZE)):
+                replied += replies.count(b"\n")
+                with contextlib.suppress(OSError):  # it has gone
+                    self.connection.sendall(replies)
 
 
 def answer_all(listener, server):
