@@ -154,6 +154,20 @@ class Stack(Case):
         self.has_ended(small, 0, run(["plain", *options_of(GREATEST)], lines)[1], b"")
 
 
+class Costs(Case):
+    @unittest.skipUnless(shutil.which("strace"), "strace isn't installed")
+    def test_an_empty_session(self):
+        """a session that changes nothing syncs and writes as much as the pages say"""
+        pages = [bytes_of(path).decode() for path in (os.path.join(TOP, "docs", "program.md"), os.path.join(SERVICE, "README.md"))]
+        for g, amount in ((COMMON, "1.07 MB"), (GREATEST, "17 MB")):
+            run(["format", self.at("device"), *options_of(g)])
+            run(["serve", self.at("device")], program=("strace", "-f", "-o", self.at("calls"), "-e", "trace=pwrite64,fsync,fdatasync", PROGRAM))
+            calls = bytes_of(self.at("calls")).decode()
+            size = sum(map(int, re.findall(r"pwrite64\(.* = (\d+)$", calls, re.M)))
+            self.assertEqual((calls.count("sync("), f"{size / 1e6:.3g} MB"), (8, amount))
+            self.assertTrue(all("8 syncs" in page and amount in page for page in pages))
+
+
 class Crash(Case):
     def test_what_a_crash_leaves(self):
         """a kill leaves of the protocol's three lines what the page lists, and never the second without the first"""
