@@ -14,7 +14,7 @@ use Rattle.histories.specs.Events.{MachineState, Event, recorded}
 use Rattle.histories.specs.Runs.{IsLegal, end_state, logged_at, logged_messages, appended_messages, answers, answered, answered_at, answered_messages, answered_changes}
 use Rattle.histories.specs.Crash.{IsLogAfter, in_doubt}
 use Rattle.histories.specs.Laws.{ticket_replies}
-use Rattle.histories.proofs.Moves.{Passed, Move, Stays, Arrives, Grants, Backs, Logs, Answers, moves}
+use Rattle.histories.proofs.Ways.{Passed, Way, nothing, Nothing, Logs, Answers, Points, Fails, ways}
 use Rattle.histories.proofs.SerialReplies.{ticket_replies-append}
 use Rattle.histories.proofs.Runs.{appended_is_recorded}
 use Rattle.histories.proofs.Crashes.{legal_first, appended_first}
@@ -24,61 +24,24 @@ recorded-append as' bs = ap (map (λ (a : Replied). a.1)) (filter-append (λ (a 
     ∙ map-append (λ (a : Replied). a.1) (filter (λ (a : Replied). is_recorded a.1 a.2) as') (filter
     (λ (a : Replied). is_recorded a.1 a.2) bs)
 
--- ---- one event
-
-module _ (w : CoreState) where
-  pub none_answered : (o : Outcome) → answers o ≡ [] → answered_at w o ≡ []
-  none_answered (outcomes.Answered ticket reply) e = cc
-  none_answered _ e = refl
-
-  pub one_answered : (o : Outcome) (reply : ℕ × Reply) → answers o ≡ reply ∷ [] → answered_at w o ≡ take 1 w.logged
-  one_answered (outcomes.Answered ticket reply) x e = refl
-  one_answered _ x e = cc
-
--- An outcome that answers no message, and so gives no reply.
-record Silent (old : CoreState) (o : Outcome) : Type 0 where
-  pub none : answered_at old o ≡ []
-  pub same : ticket_replies (answered_at old o) ≡ answers o
-
-silent : (old : CoreState) (o : Outcome) → answers o ≡ [] → Silent old o
-silent old o e = record { none = none_answered old o e; same = ap ticket_replies (none_answered old o e) ∙ sym e }
-
 -- What was logged before an event, and then what it logs, is the message that it answers, if any, and then what is logged after it.
-pub record Ordered (old new : CoreState) (p : Passed) (o : Outcome) : Type 0 where
-  pub order : old.logged ++ p.gone ≡ answered_at old o ++ new.logged
-  pub same : ticket_replies (answered_at old o) ≡ answers o
+record Ordered (old : CoreState) (logged : List Replied) (p : Passed) (o : Outcome) : Type 0 where
+  order : old.logged ++ p.gone ≡ answered_at old o ++ logged
+  same : ticket_replies (answered_at old o) ≡ p.reply_pairs
 
-quiet : (old new : CoreState) (p : Passed) (o : Outcome) → answers o ≡ p.reply_pairs → p.gone ≡ [] → p.reply_pairs ≡ [] → new.logged ≡ old.logged
-    → Ordered old new p o
-quiet old new p o reply_pairs none quietly still =
-    let k = silent old o (reply_pairs ∙ quietly) in
-    record {
-      order = ap (λ l. old.logged ++ l) none ∙ append-nil old.logged ∙ sym still ∙ ap (λ l. l ++ new.logged) (sym k.none);
-      same = k.same;
-    }
+silent : (w : CoreState) (o : Outcome) → answered_at w o ≡ [] → Ordered w w.logged nothing o
+silent w o none = record { order = append-nil w.logged ∙ ap (λ l. l ++ w.logged) (sym none); same = ap ticket_replies none }
 
-pub move_ordered : (g : Geometry) (old new : CoreState) (p : Passed) (o : Outcome) → answers o ≡ p.reply_pairs → Move g old new p
-    → Ordered old new p o
-move_ordered g old new p o reply_pairs (Stays s e) = quiet old new p o reply_pairs (ap (λ p. p.gone) e) (ap (λ p. p.reply_pairs) e) s.logged
-move_ordered g old new p o reply_pairs (Arrives m fits is e) = quiet old new p o reply_pairs (ap (λ p. p.gone) e) (ap (λ p. p.reply_pairs) e)
-    (ap (λ w. w.logged) is)
-move_ordered g old new p o reply_pairs (Grants found first is e) = quiet old new p o reply_pairs (ap (λ p. p.gone) e) (ap (λ p. p.reply_pairs) e)
-    (ap (λ w. w.logged) is)
-move_ordered g old new p o reply_pairs (Backs ticket found one_out is e) = quiet old new p o reply_pairs (ap (λ p. p.gone) e) (ap (λ p. p.reply_pairs) e)
-    (ap (λ w. w.logged) is)
-move_ordered g old new p o reply_pairs (Logs n is e) =
-    let k = silent old o (reply_pairs ∙ ap (λ p. p.reply_pairs) e) in
-    record {
-      order = ap (λ p. old.logged ++ p.gone) e ∙ sym (ap (λ w. w.logged) is) ∙ ap (λ l. l ++ new.logged) (sym k.none);
-      same = k.same;
-    }
-move_ordered g old new p o reply_pairs (Answers a rest front is e) =
-    let one : answered_at old o ≡ a ∷ [] = one_answered old o (a.0, a.2) (reply_pairs ∙ ap (λ p. p.reply_pairs) e) ∙ ap (take 1) front in
-    record {
-      order = ap (λ p. old.logged ++ p.gone) e ∙ append-nil old.logged ∙ front ∙ ap (λ w. a ∷ w.logged) (sym is)
-          ∙ ap (λ l. l ++ new.logged) (sym one);
-      same = ap ticket_replies one ∙ sym (reply_pairs ∙ ap (λ p. p.reply_pairs) e);
-    }
+way_ordered : {g : Geometry} {old : MachineState} {event : Event} {p : Passed} → Way g old event p → Ordered old.core event.state_after.core.logged p event.outcome
+way_ordered {old = old} (Logs n works) = record { order = refl; same = refl }
+way_ordered {old = old} (Answers a rest front) = record {
+  order = append-nil old.core.logged ∙ front ∙ ap (λ l. take 1 l ++ rest) (sym front);
+  same = ap (λ l. ticket_replies (take 1 l)) front;
+}
+way_ordered {old = old} (Nothing s o quiet) = silent old.core o quiet.0
+way_ordered {old = old} (Points s o room pieces_left works quiet fits) = silent old.core o quiet.0
+way_ordered {old = old} (Fails s o doubt works quiet doubts) = silent old.core o quiet.0
+way_ordered {old = old} _ = record { order = append-nil old.core.logged; same = refl }
 
 -- ---- a run
 
@@ -90,7 +53,7 @@ run_in_order g old (event ∷ events) legal =
     let later = logged_messages event.state_after events in
     let now = answered_at old.core event.outcome in
     sym (append_assoc old.core.logged gone later)
-    ∙ ap (λ l. l ++ later) (move_ordered g old.core event.state_after.core _ event.outcome refl (moves g old event legal.0)).order
+    ∙ ap (λ l. l ++ later) (way_ordered (ways g old event legal.0)).order
     ∙ append_assoc now event.state_after.core.logged later
     ∙ ap (λ l. now ++ l) (run_in_order g event.state_after events legal.1)
     ∙ sym (append_assoc now (answered_messages event.state_after events) (end_state event.state_after events).core.logged)
@@ -99,7 +62,7 @@ pub run_replies : (g : Geometry) (old : MachineState) (events : List Event) → 
     → ticket_replies (answered_messages old events) ≡ answered events
 run_replies g old [] legal = refl
 run_replies g old (event ∷ events) legal =
-    let k = move_ordered g old.core event.state_after.core _ event.outcome refl (moves g old event legal.0) in
+    let k = way_ordered (ways g old event legal.0) in
     ticket_replies-append (answered_at old.core event.outcome) (answered_messages event.state_after events)
     ∙ (λ i. k.same i ++ run_replies g event.state_after events legal.1 i)
 

@@ -1,5 +1,5 @@
 -- The replies in a legal run are those of the serial server to the messages in the order in which they arrived.
-use Rattle.std.proofs.Common.{◌≡◌, ℕ, ◌<◌, ◌≤◌, Bool, false, List, [], ◌∷◌, ◌++◌, refl, ap, sym, ◌∙◌, subst, append_assoc, take, drop, arith}
+use Rattle.std.proofs.Common.{◌≡◌, ℕ, ◌+◌, ◌<◌, ◌≤◌, Bool, false, List, [], ◌∷◌, ◌++◌, Some, refl, ap, sym, ◌∙◌, subst, append_assoc, take, drop, arith}
 use Rattle.std.specs.Prelude.{◌&&◌, ◌==◌, not, nat_lt, IsPermutation}
 use Rattle.std.specs.List.{AllByRecursion, list_any}
 use Rattle.std.proofs.lemmas.List.{append-nil, take-append-drop}
@@ -13,15 +13,15 @@ use Rattle.meaning.specs.Serial.{reply_to, state_after_all}
 use Rattle.meaning.specs.Order.{serial_replies, messages_of, by_ticket, InOrderIfRelated}
 use Rattle.meaning.proofs.ByTicket.{by_ticket-ascending, AreAscending as AreEachLess}
 use Rattle.histories.specs.CoreState.{Entry, Replied, CoreState, entries, held, are_related_entries}
-use Rattle.histories.specs.Eligible.{is_conflict_free, has_room, is_eligible}
-use Rattle.histories.specs.Events.{MachineState, Event, grant, give_back, log}
+use Rattle.histories.specs.Eligible.{is_conflict_free, has_room, is_eligible, next_eligible}
+use Rattle.histories.specs.Events.{Hand, MachineState, Event, find_in_flight, grant, give_back, log}
 use Rattle.histories.specs.Runs.{IsLegal, end_state, logged_at, arrives, logged_messages, arrived, answered}
 use Rattle.histories.specs.Laws.{AreUnrelated, AreAscending, EachBefore, IsSoundCoreState, IsIdle, ticket_replies}
 use Rattle.histories.proofs.Lists.{picked, all_front, all_none, all_permuted, before_back, before_front, before_moved, before_one, before_past, before_push, before_join}
 use Rattle.histories.proofs.Apart.{apart_turned, entries-append}
-use Rattle.histories.proofs.Moves.{Passed, Move, Stays, Arrives, Grants, Backs, Logs, Answers, moves, passed}
+use Rattle.histories.proofs.Ways.{Passed, Way, Arrives, Grants, Backs, Logs, ways}
 use Rattle.histories.proofs.SerialReplies.{serial_replies-append, IsIn, in_left, IsAsGood, good_itself, good_on, good_push, good_moved}
-use Rattle.histories.proofs.Sound.{move_sound}
+use Rattle.histories.proofs.Sound.{event_sound}
 use Rattle.histories.proofs.Idle.{idle_sound, none_in_flight, none_ran, none_logged}
 use Rattle.histories.proofs.Runs.{run_follows, run_answers}
 
@@ -47,13 +47,8 @@ pub record KeepsInStep (g : Geometry) (AreInStep : List Entry → List Entry →
 
 module _ (g : Geometry) (AreInStep : List Entry → List Entry → Type 0) (keeps : KeepsInStep g AreInStep) where
   -- an event that logs no message, and at which none arrives
-  quiet : (new : CoreState) (past : List Replied) (all : List Entry) (gone : List Replied) (come : List Entry) → gone ≡ [] → come ≡ []
-      → AreInStep all (row new past) → AreInStep (all ++ come) (row new (past ++ gone))
-  quiet new past all gone come e f good =
-      subst (λ c. AreInStep (all ++ c) (row new (past ++ gone))) (sym f)
-      (subst (λ d. AreInStep (all ++ []) (row new (past ++ d))) (sym e)
-      (subst (λ l. AreInStep l (row new (past ++ []))) (sym (append-nil all))
-      (subst (λ l. AreInStep all (row new l)) (sym (append-nil past)) good)))
+  quiet : (new : CoreState) (past : List Replied) (all : List Entry) → AreInStep all (row new past) → AreInStep (all ++ []) (row new (past ++ []))
+  quiet new past all good = subst (λ l. AreInStep l (row new (past ++ []))) (sym (append-nil all)) (subst (λ l. AreInStep all (row new l)) (sym (append-nil past)) good)
 
   one_more : (w : CoreState) (past : List Replied) (e : Entry)
       → row w past ++ e ∷ [] ≡ entries past ++ (entries w.ran ++ (w.in_flight ++ (w.waiting ++ e ∷ [])))
@@ -73,86 +68,82 @@ module _ (g : Geometry) (AreInStep : List Entry → List Entry → Type 0) (keep
         clear_of w e us (not_any (λ d. nat_lt d.0 e.0 && are_related_entries g e d) us k.1) j.1,
       )
 
-  move_in_step : (old new : CoreState) (p : Passed) (past : List Replied) (all : List Entry)
-      → Move g old new p → IsSoundCoreState g old → AreInStep all (row old past) → AreInStep (all ++ p.come) (row new (past ++ p.gone))
-  move_in_step old new p past all (Stays s e) h good =
-      quiet new past all p.gone p.come (ap (λ p. p.gone) e) (ap (λ p. p.come) e)
-      (subst (AreInStep all) (λ i. entries past ++ (entries (sym s.ran i) ++ (sym s.in_flight i ++ sym s.waiting i))) good)
-  move_in_step old new p past all (Arrives m fits is e) h good =
-      let one : Entry = (old.next, m) in
-      subst (λ p. AreInStep (all ++ p.come) (row new (past ++ p.gone))) (sym e)
-      (subst (λ l. AreInStep (all ++ one ∷ []) (row new l)) (sym (append-nil past))
-      (subst (λ w. AreInStep (all ++ one ∷ []) (row w past)) (sym is)
-      (subst (AreInStep (all ++ one ∷ [])) (one_more old past one) (keeps.push all (row old past) one good))))
-  move_in_step old new p past all (Grants found first is e) h good =
-      let k = picked (is_eligible g old) old.waiting found first in
-      let one = found.0 in
-      let P = entries past in
-      let R = entries old.ran in
-      let waits_before = λ (d : Entry). nat_lt d.0 one.0 && are_related_entries g one d in
-      let clear = (and_parts (is_conflict_free g old one) (has_room old one) k.passes).0 in
-      let early = (and_parts (not (list_any (are_related_entries g one) (held old))) (not (list_any
-      (λ d. nat_lt d.0 one.0 && are_related_entries g one d) old.waiting)) clear).1 in
-      let none = any_front waits_before k.before (one ∷ k.behind) (ap (list_any waits_before) (sym k.whole) ∙ not-true _ early) in
-      let free = clear_of old one k.before none (before_one (λ e d. e.0 < d.0) k.before one k.behind
-      (subst AreAscending k.whole h.ascending)) in
-      let F = P ++ (R ++ old.in_flight) in
-      let joined : (l : List Entry) → P ++ (R ++ (old.in_flight ++ l)) ≡ F ++ l = λ l. ap (λ m. P ++ m) (sym (append_assoc R old.in_flight l))
-      ∙ sym (append_assoc P (R ++ old.in_flight) l) in
-      let from : row old past ≡ F ++ (k.before ++ one ∷ k.behind) = ap (λ l. P ++ (R ++ (old.in_flight ++ l))) k.whole ∙ joined _ in
-      let to : F ++ one ∷ (k.before ++ k.behind) ≡ row (grant old found) past =
-      sym (joined _) ∙ ap (λ l. P ++ (R ++ l)) (sym (append_assoc old.in_flight (one ∷ []) _) ∙ ap
-      (λ l. (old.in_flight ++ one ∷ []) ++ l) (sym k.rest)) in
-      quiet new past all p.gone p.come (ap (λ p. p.gone) e) (ap (λ p. p.come) e) (subst (λ w. AreInStep all (row w past)) (sym is)
-      (subst (AreInStep all) to (keeps.moved all F k.before one k.behind free
-      (subst (AreInStep all) from good))))
-  move_in_step old new p past all (Backs ticket found one_out is e) h good =
-      let k = picked (λ d. d.0 == ticket) old.in_flight found one_out in
-      let one = found.0 in
-      let P = entries past in
-      let R = entries old.ran in
-      let L = entries old.logged in
-      let whole : held old ≡ (L ++ R) ++ (k.before ++ one ∷ k.behind) = ap (λ o. L ++ (R ++ o)) k.whole ∙ sym (append_assoc L R _) in
-      let free = all_front (λ d. are_related_entries g one d ≡ false) k.before k.behind (before_back
-      (λ e d. are_related_entries g e d ≡ false) (L ++ R) _ (before_moved
-      (λ e d. are_related_entries g e d ≡ false) (apart_turned g) (L ++ R) k.before one k.behind (subst (AreUnrelated g) whole h.apart))).0 in
-      let from : row old past ≡ (P ++ R) ++ (k.before ++ one ∷ (k.behind ++ old.waiting)) =
-      ap (λ o. P ++ (R ++ (o ++ old.waiting))) k.whole ∙ ap (λ l. P ++ (R ++ l)) (append_assoc k.before (one ∷ k.behind) old.waiting)
-      ∙ sym (append_assoc P R _) in
-      let back : R ++ one ∷ [] ≡ entries (old.ran ++ (one.0, one.1, reply_to g old.committed one.1)
-      ∷ []) = sym (entries-append old.ran ((one.0, one.1, reply_to g old.committed one.1) ∷ [])) in
-      let to : (P ++ R) ++ one ∷ (k.before ++ (k.behind ++ old.waiting)) ≡ row (give_back g old found) past =
-      append_assoc P R _ ∙ ap (λ l. P ++ l) (sym (append_assoc R (one ∷ []) _) ∙
-      (λ i. back i ++ (sym (append_assoc k.before k.behind old.waiting) i)) ∙ ap
-      (λ o. entries (old.ran ++ (one.0, one.1, reply_to g old.committed one.1) ∷ []) ++ (o ++ old.waiting)) (sym k.rest)) in
-      quiet new past all p.gone p.come (ap (λ p. p.gone) e) (ap (λ p. p.come) e) (subst (λ w. AreInStep all (row w past)) (sym is)
-      (subst (AreInStep all) to (keeps.moved all (P ++ R) k.before one (k.behind ++ old.waiting) free
-      (subst (AreInStep all) from good))))
-  move_in_step old new p past all (Logs n is e) h good =
-      let rest = old.in_flight ++ old.waiting in
-      let same : row old past ≡ row (log g old n) (past ++ take n old.ran) =
-      ap (λ l. entries past ++ (entries l ++ rest)) (sym (take-append-drop n old.ran))
-      ∙ ap (λ l. entries past ++ l) (ap (λ l. l ++ rest) (entries-append (take n old.ran) (drop n old.ran))
-      ∙ append_assoc (entries (take n old.ran)) (entries (drop n old.ran)) rest)
-      ∙ sym (append_assoc (entries past) (entries (take n old.ran)) _)
-      ∙ ap (λ l. l ++ (entries (drop n old.ran) ++ rest)) (sym (entries-append past (take n old.ran))) in
-      subst (λ p. AreInStep (all ++ p.come) (row new (past ++ p.gone))) (sym e)
-      (subst (λ l. AreInStep l (row new (past ++ take n old.ran))) (sym (append-nil all))
-      (subst (λ w. AreInStep all (row w (past ++ take n old.ran))) (sym is) (subst (AreInStep all) same good)))
-  move_in_step old new p past all (Answers a rest front is e) h good =
-      quiet new past all p.gone p.come (ap (λ p. p.gone) e) (ap (λ p. p.come) e) (subst (λ w. AreInStep all (row w past)) (sym is) good)
+  module _ (old : CoreState) (past : List Replied) (all : List Entry) (h : IsSoundCoreState g old) (good : AreInStep all (row old past)) where
+    grant_in_step : (found : Entry × List Entry) → next_eligible g old ≡ Some found → AreInStep all (row (grant old found) past)
+    grant_in_step found first =
+        let k = picked (is_eligible g old) old.waiting found first in
+        let one = found.0 in
+        let P = entries past in
+        let R = entries old.ran in
+        let waits_before = λ (d : Entry). nat_lt d.0 one.0 && are_related_entries g one d in
+        let clear = (and_parts (is_conflict_free g old one) (has_room old one) k.passes).0 in
+        let early = (and_parts (not (list_any (are_related_entries g one) (held old))) (not (list_any
+        (λ d. nat_lt d.0 one.0 && are_related_entries g one d) old.waiting)) clear).1 in
+        let none = any_front waits_before k.before (one ∷ k.behind) (ap (list_any waits_before) (sym k.whole) ∙ not-true _ early) in
+        let free = clear_of old one k.before none (before_one (λ e d. e.0 < d.0) k.before one k.behind
+        (subst AreAscending k.whole h.ascending)) in
+        let F = P ++ (R ++ old.in_flight) in
+        let joined : (l : List Entry) → P ++ (R ++ (old.in_flight ++ l)) ≡ F ++ l = λ l. ap (λ m. P ++ m) (sym (append_assoc R old.in_flight l))
+        ∙ sym (append_assoc P (R ++ old.in_flight) l) in
+        let from : row old past ≡ F ++ (k.before ++ one ∷ k.behind) = ap (λ l. P ++ (R ++ (old.in_flight ++ l))) k.whole ∙ joined _ in
+        let to : F ++ one ∷ (k.before ++ k.behind) ≡ row (grant old found) past =
+        sym (joined _) ∙ ap (λ l. P ++ (R ++ l)) (sym (append_assoc old.in_flight (one ∷ []) _) ∙ ap
+        (λ l. (old.in_flight ++ one ∷ []) ++ l) (sym k.rest)) in
+        subst (AreInStep all) to (keeps.moved all F k.before one k.behind free (subst (AreInStep all) from good))
+
+    back_in_step : (ticket : ℕ) (found : Entry × List Entry) → find_in_flight old ticket ≡ Some found → AreInStep all (row (give_back g old found) past)
+    back_in_step ticket found one_out =
+        let k = picked (λ d. d.0 == ticket) old.in_flight found one_out in
+        let one = found.0 in
+        let P = entries past in
+        let R = entries old.ran in
+        let L = entries old.logged in
+        let whole : held old ≡ (L ++ R) ++ (k.before ++ one ∷ k.behind) = ap (λ o. L ++ (R ++ o)) k.whole ∙ sym (append_assoc L R _) in
+        let free = all_front (λ d. are_related_entries g one d ≡ false) k.before k.behind (before_back
+        (λ e d. are_related_entries g e d ≡ false) (L ++ R) _ (before_moved
+        (λ e d. are_related_entries g e d ≡ false) (apart_turned g) (L ++ R) k.before one k.behind (subst (AreUnrelated g) whole h.apart))).0 in
+        let from : row old past ≡ (P ++ R) ++ (k.before ++ one ∷ (k.behind ++ old.waiting)) =
+        ap (λ o. P ++ (R ++ (o ++ old.waiting))) k.whole ∙ ap (λ l. P ++ (R ++ l)) (append_assoc k.before (one ∷ k.behind) old.waiting)
+        ∙ sym (append_assoc P R _) in
+        let back : R ++ one ∷ [] ≡ entries (old.ran ++ (one.0, one.1, reply_to g old.committed one.1)
+        ∷ []) = sym (entries-append old.ran ((one.0, one.1, reply_to g old.committed one.1) ∷ [])) in
+        let to : (P ++ R) ++ one ∷ (k.before ++ (k.behind ++ old.waiting)) ≡ row (give_back g old found) past =
+        append_assoc P R _ ∙ ap (λ l. P ++ l) (sym (append_assoc R (one ∷ []) _) ∙
+        (λ i. back i ++ (sym (append_assoc k.before k.behind old.waiting) i)) ∙ ap
+        (λ o. entries (old.ran ++ (one.0, one.1, reply_to g old.committed one.1) ∷ []) ++ (o ++ old.waiting)) (sym k.rest)) in
+        subst (AreInStep all) to (keeps.moved all (P ++ R) k.before one (k.behind ++ old.waiting) free (subst (AreInStep all) from good))
+
+    log_in_step : (n : ℕ) → AreInStep all (row (log g old n) (past ++ take n old.ran))
+    log_in_step n =
+        let rest = old.in_flight ++ old.waiting in
+        let same : row old past ≡ row (log g old n) (past ++ take n old.ran) =
+        ap (λ l. entries past ++ (entries l ++ rest)) (sym (take-append-drop n old.ran))
+        ∙ ap (λ l. entries past ++ l) (ap (λ l. l ++ rest) (entries-append (take n old.ran) (drop n old.ran))
+        ∙ append_assoc (entries (take n old.ran)) (entries (drop n old.ran)) rest)
+        ∙ sym (append_assoc (entries past) (entries (take n old.ran)) _)
+        ∙ ap (λ l. l ++ (entries (drop n old.ran) ++ rest)) (sym (entries-append past (take n old.ran))) in
+        subst (AreInStep all) same good
+
+    way_in_step : {hands : List Hand} {event : Event} {p : Passed} → Way g (record { core = old; hands = hands }) event p
+        → AreInStep (all ++ p.come) (row event.state_after.core (past ++ p.gone))
+    way_in_step (Arrives m works fits) =
+        let one : Entry = (old.next, m) in
+        subst (λ l. AreInStep (all ++ one ∷ []) (row (record old { waiting = old.waiting ++ one ∷ []; next = old.next + 1 }) l)) (sym (append-nil past))
+        (subst (AreInStep (all ++ one ∷ [])) (one_more old past one) (keeps.push all (row old past) one good))
+    way_in_step (Grants hand found works free first) = quiet (grant old found) past all (grant_in_step found first)
+    way_in_step (Backs i ticket found result one_out) = quiet (give_back g old found) past all (back_in_step ticket found one_out)
+    way_in_step (Logs n works) = subst (λ l. AreInStep l (row (log g old n) (past ++ take n old.ran))) (sym (append-nil all)) (log_in_step n)
+    way_in_step _ = quiet old past all good
 
   run_in_step : (old : MachineState) (events : List Event) (past : List Replied) (all : List Entry) → IsLegal g old events
       → IsSoundCoreState g old.core → AreInStep all (row old.core past)
       → AreInStep (all ++ arrived events) (row (end_state old events).core (past ++ logged_messages old events))
-  run_in_step old [] past all legal h good = quiet old.core past all [] [] refl refl good
+  run_in_step old [] past all legal h good = quiet old.core past all good
   run_in_step old (event ∷ events) past all legal h good =
-      let m = moves g old event legal.0 in
-      let p = passed old.core event.step event.outcome event.device_failed in
       let gone = logged_at old.core event.step event.device_failed in
       let come = arrives event.step event.outcome in
-      let k = run_in_step event.state_after events (past ++ gone) (all
-      ++ come) legal.1 (move_sound g old.core event.state_after.core p m h) (move_in_step old.core event.state_after.core p past all m h good) in
+      let k = run_in_step event.state_after events (past ++ gone) (all ++ come) legal.1 (event_sound g old event legal.0 h)
+      (way_in_step old.core past all h good (ways g old event legal.0)) in
       subst (λ l. AreInStep l (row (end_state event.state_after events).core (past
       ++ (gone ++ logged_messages event.state_after events)))) (append_assoc all come (arrived events))
       (subst (λ l. AreInStep ((all ++ come)
@@ -213,20 +204,9 @@ record GivenFrom (old new : CoreState) (come : List Entry) : Type 0 where
   from : AllByRecursion (IsFrom old.next) come
   below : AllByRecursion (λ e. e.0 < new.next) come
 
-none_come : (old new : CoreState) (come : List Entry) → come ≡ [] → new.next ≡ old.next → GivenFrom old new come
-none_come old new come none next = subst (GivenFrom old new) (sym none)
-    (record { grows = omega (arith, next); ascending = tt; from = tt; below = tt })
-
-move_given : (g : Geometry) (old new : CoreState) (p : Passed) → Move g old new p → GivenFrom old new p.come
-move_given g old new p (Stays s e) = none_come old new p.come (ap (λ p. p.come) e) s.next
-move_given g old new p (Arrives m fits is e) =
-    let next = ap (λ w. w.next) is in
-    subst (λ p. GivenFrom old new p.come) (sym e)
-    (record { grows = omega (arith, next); ascending = (tt, tt); from = (omega arith, tt); below = (omega (arith, next), tt) })
-move_given g old new p (Grants found first is e) = none_come old new p.come (ap (λ p. p.come) e) (ap (λ w. w.next) is)
-move_given g old new p (Backs ticket found one_out is e) = none_come old new p.come (ap (λ p. p.come) e) (ap (λ w. w.next) is)
-move_given g old new p (Logs n is e) = none_come old new p.come (ap (λ p. p.come) e) (ap (λ w. w.next) is)
-move_given g old new p (Answers a rest front is e) = none_come old new p.come (ap (λ p. p.come) e) (ap (λ w. w.next) is)
+way_given : {g : Geometry} {old : MachineState} {event : Event} {p : Passed} → Way g old event p → GivenFrom old.core event.state_after.core p.come
+way_given (Arrives m works fits) = record { grows = omega arith; ascending = (tt, tt); from = (omega arith, tt); below = (omega arith, tt) }
+way_given _ = record { grows = omega arith; ascending = tt; from = tt; below = tt }
 
 record ArrivedFrom (n : ℕ) (es : List Entry) : Type 0 where
   ascending : AreAscending es
@@ -236,7 +216,7 @@ run_given : (g : Geometry) (old : MachineState) (events : List Event) → IsLega
 run_given g old [] legal = record { ascending = tt; from = tt }
 run_given g old (event ∷ events) legal =
     let come = arrives event.step event.outcome in
-    let k = move_given g old.core event.state_after.core _ (moves g old event legal.0) in
+    let k = way_given (ways g old event legal.0) in
     let j = run_given g event.state_after events legal.1 in
     let grows = k.grows in
     record {

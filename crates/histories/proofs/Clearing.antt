@@ -14,7 +14,7 @@ use Rattle.histories.specs.Events.{MachineState, Event, IsAllowed, grant, give_b
 use Rattle.histories.specs.Laws.{AreAscending, IsSoundCoreState, IsAnswered}
 use Rattle.histories.proofs.Lists.{all_back, all_none, before_back, before_one, picked}
 use Rattle.histories.proofs.Apart.{apart_turned, entries-append, held_grant, log_held}
-use Rattle.histories.proofs.Moves.{Passed, Move, Stays, Arrives, Grants, Backs, Logs, Answers, moves}
+use Rattle.histories.proofs.Ways.{Passed, Way, Arrives, Grants, Backs, Logs, Answers, ways}
 use Rattle.histories.proofs.SerialReplies.{IsIn, in_left, in_either}
 
 module _ {A : Type 0} where
@@ -110,25 +110,23 @@ module _ (g : Geometry) (e : Entry) where
       (λ b. list_any p L || (list_any p R || b)) (sym (any_moved p k.before one k.behind))
       ∙ sym (parts (k.before ++ one ∷ k.behind)) ∙ ap (list_any p) (sym was)
 
-  move_clears : (old new : CoreState) (p : Passed) → Move g old new p → IsSoundCoreState g old → IsIn e old.waiting → IsIn e new.waiting
-      → ((a : Replied) → IsAnswered old new a → are_related_entries g e (entry a) ≡ false) → is_conflict_free g new e ≡ is_conflict_free g old e
-  move_clears old new p (Stays s passes) h was is off = λ i. free (entries (s.logged i) ++ (entries (s.ran i) ++ s.in_flight i)) (s.waiting i)
-  move_clears old new p (Arrives m fits same passes) h was is off = ap (λ w. is_conflict_free g w e) same
-      ∙ arrive_clears old (old.next, m) h was refl
-  move_clears old new p (Grants found first same passes) h was is off =
-      ap (λ w. is_conflict_free g w e) same ∙ grant_clears old found h first (subst (λ w. IsIn e w.waiting) same is)
-  move_clears old new p (Backs ticket found one_out same passes) h was is off =
-      ap (λ w. is_conflict_free g w e) same ∙ ap (λ b. not b && not (list_any comes_before old.waiting)) (back_clears old ticket found one_out)
-  move_clears old new p (Logs n same passes) h was is off = ap (λ w. is_conflict_free g w e) same ∙ ap (λ l. free l old.waiting) (log_held g old n)
-  move_clears old new p (Answers a rest front same passes) h was is off =
-      let gone = off a (front ∙ ap (λ w. a ∷ w.logged) (sym same)) in
-      ap (λ w. is_conflict_free g w e) same
-      ∙ ap (λ b. not (b || list_any (are_related_entries g e) (entries rest
-      ++ (entries old.ran ++ old.in_flight))) && not (list_any comes_before old.waiting)) (sym gone)
-      ∙ ap (λ l. free (entries l ++ (entries old.ran ++ old.in_flight)) old.waiting) (sym front)
+  way_clears : {old : MachineState} {event : Event} {p : Passed} → Way g old event p → IsSoundCoreState g old.core
+      → IsIn e old.core.waiting → IsIn e event.state_after.core.waiting
+      → ((a : Replied) → IsAnswered old.core event.state_after.core a → are_related_entries g e (entry a) ≡ false)
+      → is_conflict_free g event.state_after.core e ≡ is_conflict_free g old.core e
+  way_clears {old = old} (Arrives m works fits) h was is off = arrive_clears old.core (old.core.next, m) h was refl
+  way_clears {old = old} (Grants hand found works free first) h was is off = grant_clears old.core found h first is
+  way_clears {old = old} (Backs i ticket found result one_out) h was is off =
+      ap (λ b. not b && not (list_any comes_before old.core.waiting)) (back_clears old.core ticket found one_out)
+  way_clears {old = old} (Logs n works) h was is off = ap (λ l. free l old.core.waiting) (log_held g old.core n)
+  way_clears {old = old} (Answers a rest front) h was is off =
+      ap (λ b. not (b || list_any (are_related_entries g e) (entries rest
+      ++ (entries old.core.ran ++ old.core.in_flight))) && not (list_any comes_before old.core.waiting)) (sym (off a front))
+      ∙ ap (λ l. free (entries l ++ (entries old.core.ran ++ old.core.in_flight)) old.core.waiting) (sym front)
+  way_clears _ h was is off = refl
 
 pub event_clears : {g : Geometry} (old : MachineState) (event : Event) (e : Entry) → IsAllowed g old event → IsSoundCoreState g old.core
     → IsIn e old.core.waiting → IsIn e event.state_after.core.waiting
     → ((a : Replied) → IsAnswered old.core event.state_after.core a → are_related_entries g e (entry a) ≡ false)
     → is_conflict_free g event.state_after.core e ≡ is_conflict_free g old.core e
-event_clears {g} old event e allowed h was is off = move_clears g e old.core event.state_after.core _ (moves g old event allowed) h was is off
+event_clears {g} old event e allowed h was is off = way_clears g e (ways g old event allowed) h was is off

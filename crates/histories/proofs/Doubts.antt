@@ -14,7 +14,7 @@ use Rattle.histories.specs.Crash.{in_doubt, next_batch, to_append}
 use Rattle.histories.specs.Laws.{DoubtOnlyAfterFailure, DoubtIsPrefixOfRan}
 use Rattle.histories.proofs.Failures.{failure_lasts}
 use Rattle.histories.proofs.Lists.{first_few}
-use Rattle.histories.proofs.Moves.{Passed, Move, Stays, Arrives, Grants, Backs, Logs, Answers, moves}
+use Rattle.histories.proofs.Ways.{Passed, Way, Fails, ways}
 use Rattle.histories.proofs.Sound.{event_doubts}
 
 -- ---- the changes among the first of those that ran
@@ -73,13 +73,10 @@ first_doubts w h k =
       are = ap recorded (sym (take-take first.some h.some w.ran (omega (arith, first.at_most, long)))) ∙ first.are ∙ ap (take k) (sym h.is);
     }
 
-move_doubts_ran : (g : Geometry) (old new : CoreState) (p : Passed) → Move g old new p → old.doubt ≡ [] → DoubtIsPrefixOfRan new
-move_doubts_ran g old new p (Stays s e) none = s.doubts (no_doubts old none)
-move_doubts_ran g old new p (Arrives m fits is e) none = no_doubts new (ap (λ w. w.doubt) is ∙ none)
-move_doubts_ran g old new p (Grants found first is e) none = no_doubts new (ap (λ w. w.doubt) is ∙ none)
-move_doubts_ran g old new p (Backs ticket found one_out is e) none = no_doubts new (ap (λ w. w.doubt) is ∙ none)
-move_doubts_ran g old new p (Logs n is e) none = no_doubts new (ap (λ w. w.doubt) is ∙ none)
-move_doubts_ran g old new p (Answers a rest front is e) none = no_doubts new (ap (λ w. w.doubt) is ∙ none)
+way_doubts_ran : {g : Geometry} {old : MachineState} {event : Event} {p : Passed} → Way g old event p → old.core.doubt ≡ []
+    → DoubtIsPrefixOfRan event.state_after.core
+way_doubts_ran (Fails s o doubt works quiet doubts) none = doubts none
+way_doubts_ran _ none = no_doubts _ none
 
 -- An event keeps this: if the device had failed before, what ran stays first in `ran`, and `doubt` stays; else nothing was in `doubt`.
 pub event_doubts_ran : (g : Geometry) (old : MachineState) (event : Event) → IsAllowed g old event → DoubtOnlyAfterFailure old.core
@@ -95,7 +92,7 @@ event_doubts_ran g old event allowed only h = by old.core.failed refl
           at_most = omega (arith, h.at_most, long);
           is = s.doubt ∙ h.is ∙ ap recorded (sym (ap (take h.some) s.ran ∙ take-append-le h.some old.core.ran s.back h.at_most));
         }
-    by false sound = move_doubts_ran g old.core event.state_after.core _ (moves g old event allowed) (only sound)
+    by false sound = way_doubts_ran (ways g old event allowed) (only sound)
 
 pub run_doubts_ran : (g : Geometry) (old : MachineState) (events : List Event) → IsLegal g old events → DoubtOnlyAfterFailure old.core
     → DoubtIsPrefixOfRan old.core → DoubtIsPrefixOfRan (end_state old events).core

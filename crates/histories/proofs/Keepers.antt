@@ -3,7 +3,7 @@ use Rattle.std.proofs.Common.{◌≡◌, ℕ, zero, suc, ◌+◌, ◌<◌, Bool,
 use Rattle.std.specs.Prelude.{◌&&◌, ◌||◌, ◌==◌, cond, count_by, not, nat_lt}
 use Rattle.std.specs.List.{AllByRecursion, list_any}
 use Rattle.std.proofs.lemmas.Bool.{eq-eqb, ne_eqb}
-use Rattle.std.proofs.lemmas.List.Sums.{sum_by-append, sum_by-cons}
+use Rattle.std.proofs.lemmas.List.Sums.{sum_by-append, sum_by-cons, sum_by_push}
 use Rattle.std.proofs.Math.Bool.{and-false}
 use Rattle.affinity.specs.declared.geometry.Geometry.{Geometry}
 use Rattle.meaning.specs.Serial.{reply_to}
@@ -14,11 +14,10 @@ use Rattle.histories.specs.Events.{MachineState, Event, IsAllowed, find_in_fligh
 use Rattle.histories.specs.Laws.{IsSoundCoreState}
 use Rattle.histories.specs.Runs.{IsLegal, answered_at, answered_messages, answers, end_state}
 use Rattle.histories.specs.Progress.{kept_back_by}
-use Rattle.histories.proofs.Answering.{none_answered, one_answered}
 use Rattle.histories.proofs.Apart.{entries-append, held_grant, log_held}
 use Rattle.histories.proofs.Clearing.{all_at, goes_first}
-use Rattle.histories.proofs.Lists.{all_back, picked}
-use Rattle.histories.proofs.Moves.{Passed, Move, Stays, Arrives, Grants, Backs, Logs, Answers, moves}
+use Rattle.histories.proofs.Lists.{all_back, sum_by-picked}
+use Rattle.histories.proofs.Ways.{Passed, Way, Nothing, Arrives, Grants, Runs, Backs, Logs, Answers, Points, Fails, ways}
 use Rattle.histories.proofs.Progress.{not_less}
 use Rattle.histories.proofs.SerialReplies.{IsIn}
 use Rattle.histories.proofs.Sound.{event_sound}
@@ -68,34 +67,23 @@ module _ (g : Geometry) (e : Entry) where
 
   arrive_fewer : (w : CoreState) (d : Entry) → e.0 < d.0 → Fewer 0 w (record w { waiting = w.waiting ++ d ∷ []; next = w.next + 1 })
   arrive_fewer w d later =
-      let all = sum_by-append one_earlier w.waiting (d ∷ []) in
-      let last = sum_by-cons one_earlier d [] in
+      let all = sum_by_push one_earlier w.waiting d in
       let none : one_earlier d ≡ 0 = ap {B = ℕ} (λ b. cond (b && related d) 1 0) (not_less e.0 d.0 (omega (arith, later))) in
-      omega (arith, all, last, none)
+      omega (arith, all, none)
 
   grant_fewer : (w : CoreState) (found : Entry × List Entry) → IsSoundCoreState g w → next_eligible g w ≡ Some found → IsIn e found.1
       → Fewer 0 w (grant w found)
   grant_fewer w found sound first is =
-      let k = picked (is_eligible g w) w.waiting found first in
-      let holds = ap (count_by related) (held_grant w found) ∙ sum_by-append one (held w) (found.0 ∷ []) in
-      let last = sum_by-cons one found.0 [] in
-      let was = ap (count_by earlier) k.whole ∙ sum_by-append one_earlier k.before (found.0 ∷ k.behind) in
-      let mid = sum_by-cons one_earlier found.0 k.behind in
-      let now = ap (count_by earlier) k.rest ∙ sum_by-append one_earlier k.before k.behind in
+      let holds = ap (count_by related) (held_grant w found) ∙ sum_by_push one (held w) found.0 in
+      let fewer = sum_by-picked one_earlier _ w.waiting found first in
       let counted = before (related found.0) refl in
-      omega (arith, holds, last, was, mid, now, counted)
+      omega (arith, holds, fewer, counted)
     where
       -- what is dispatched keeps e back exactly if it did so before
       before : (b : Bool) → related found.0 ≡ b → one found.0 ≡ one_earlier found.0
-      before true touching =
-          let both : one_earlier found.0 ≡ 1 = λ i. cond (goes_first g e w found sound first is touching i && touching i) 1 0 in
-          let single : one found.0 ≡ 1 = ap {B = ℕ} (λ b. cond b 1 0) touching in
-          omega (arith, both, single)
+      before true touching = λ i. cond ((touching ∙ sym (λ j. goes_first g e w found sound first is touching j && touching j)) i) 1 0
       before false apart =
-          let neither : one_earlier found.0 ≡ 0 = ap {B = ℕ} (λ b. cond b 1 0)
-          (ap (λ b. nat_lt found.0.0 e.0 && b) apart ∙ and-false (nat_lt found.0.0 e.0)) in
-          let none : one found.0 ≡ 0 = ap {B = ℕ} (λ b. cond b 1 0) apart in
-          omega (arith, neither, none)
+          ap {B = ℕ} (λ b. cond b 1 0) (apart ∙ sym (ap (λ b. nat_lt found.0.0 e.0 && b) apart ∙ and-false (nat_lt found.0.0 e.0)))
 
   -- how many of the held messages keep e back
   held_parts : (w : CoreState) → count_by related (held w) ≡ count_by related (entries w.logged) + (count_by related (entries w.ran) + count_by related w.in_flight)
@@ -105,16 +93,12 @@ module _ (g : Geometry) (e : Entry) where
 
   back_fewer : (w : CoreState) (ticket : ℕ) (found : Entry × List Entry) → find_in_flight w ticket ≡ Some found → Fewer 0 w (give_back g w found)
   back_fewer w ticket found one_out =
-      let k = picked (λ d. d.0 == ticket) w.in_flight found one_out in
       let a : Replied = (found.0.0, found.0.1, reply_to g w.committed found.0.1) in
       let holds = held_parts (give_back g w found) in
       let held_before = held_parts w in
-      let ran = ap (count_by related) (entries-append w.ran (a ∷ [])) ∙ sum_by-append one (entries w.ran) (found.0 ∷ []) in
-      let last = sum_by-cons one found.0 [] in
-      let was = ap (count_by related) k.whole ∙ sum_by-append one k.before (found.0 ∷ k.behind) in
-      let mid = sum_by-cons one found.0 k.behind in
-      let now = ap (count_by related) k.rest ∙ sum_by-append one k.before k.behind in
-      omega (arith, holds, held_before, ran, last, was, mid, now)
+      let ran = ap (count_by related) (entries-append w.ran (a ∷ [])) ∙ sum_by_push one (entries w.ran) found.0 in
+      let fewer = sum_by-picked one _ w.in_flight found one_out in
+      omega (arith, holds, held_before, ran, fewer)
 
   answer_fewer : (w : CoreState) (a : Replied) (rest : List Replied) → w.logged ≡ a ∷ rest → Fewer (one (a.0, a.1)) w (record w { logged = rest })
   answer_fewer w a rest front =
@@ -127,40 +111,27 @@ module _ (g : Geometry) (e : Entry) where
   abbrev answered_of : CoreState → Outcome → ℕ
   answered_of w o = count_by (λ a. related (entry a)) (answered_at w o)
 
-  silent : (old new : CoreState) (o : Outcome) → answers o ≡ [] → Fewer 0 old new → Fewer (answered_of old o) old new
-  silent old new o nothing h =
-      let none : answered_of old o ≡ 0 = ap (count_by (λ a. related (entry a))) (none_answered old o nothing) in
-      omega (arith, none, h)
-
-  move_fewer : (old new : CoreState) (p : Passed) (o : Outcome) → answers o ≡ p.reply_pairs → Move g old new p → IsSoundCoreState g old
-      → IsIn e old.waiting × IsIn e new.waiting → Fewer (answered_of old o) old new
-  move_fewer old new p o pairs (Stays s passes) sound waits =
-      let same : kept_back_by g new e ≡ kept_back_by g old e =
-      λ i. count_by related (entries (s.logged i) ++ (entries (s.ran i) ++ s.in_flight i)) + count_by earlier (s.waiting i) in
-      silent old new o (pairs ∙ ap (λ p. p.reply_pairs) passes) (omega (arith, same))
-  move_fewer old new p o pairs (Arrives m fits same passes) sound waits =
-      let given = all_at (λ e. e.0 < old.next) old.waiting e (all_back (λ e. e.0 < old.next) old.in_flight old.waiting sound.given) waits.0 in
-      silent old new o (pairs ∙ ap (λ p. p.reply_pairs) passes) (subst (Fewer 0 old) (sym same) (arrive_fewer old (old.next, m) given))
-  move_fewer old new p o pairs (Grants found first same passes) sound waits =
-      silent old new o (pairs ∙ ap (λ p. p.reply_pairs) passes)
-      (subst (Fewer 0 old) (sym same) (grant_fewer old found sound first (subst (λ w. IsIn e w.waiting) same waits.1)))
-  move_fewer old new p o pairs (Backs ticket found one_out same passes) sound waits =
-      silent old new o (pairs ∙ ap (λ p. p.reply_pairs) passes) (subst (Fewer 0 old) (sym same) (back_fewer old ticket found one_out))
-  move_fewer old new p o pairs (Logs n same passes) sound waits =
-      let holds = ap (count_by related) (log_held g old n) in
-      silent old new o (pairs ∙ ap (λ p. p.reply_pairs) passes) (subst (Fewer 0 old) (sym same) (omega (arith, holds)))
-  move_fewer old new p o pairs (Answers a rest front same passes) sound waits =
-      let first = one_answered old o (a.0, a.2) (pairs ∙ ap (λ p. p.reply_pairs) passes) ∙ ap (take 1) front in
-      let counted = ap (count_by (λ a. related (entry a))) first ∙ sum_by-cons (λ (a : Replied). one (entry a)) a [] in
-      let fewer : Fewer (one (a.0, a.1)) old new = subst (Fewer (one (a.0, a.1)) old) (sym same) (answer_fewer old a rest front) in
+  way_fewer : {old : MachineState} {event : Event} {p : Passed} → Way g old event p → IsSoundCoreState g old.core
+      → IsIn e old.core.waiting → IsIn e event.state_after.core.waiting → Fewer (answered_of old.core event.outcome) old.core event.state_after.core
+  way_fewer (Nothing s o quiet) sound was is = let none = ap (count_by (λ a. related (entry a))) quiet.0 in omega (arith, none)
+  way_fewer (Points s o room pieces_left works quiet fits) sound was is = let none = ap (count_by (λ a. related (entry a))) quiet.0 in omega (arith, none)
+  way_fewer (Fails s o doubt works quiet doubts) sound was is = let none = ap (count_by (λ a. related (entry a))) quiet.0 in omega (arith, none)
+  way_fewer (Runs i ticket job) sound was is = omega arith
+  way_fewer {old = old} (Arrives m works fits) sound was is = arrive_fewer old.core (old.core.next, m)
+      (all_at (λ e. e.0 < old.core.next) old.core.waiting e (all_back (λ e. e.0 < old.core.next) old.core.in_flight old.core.waiting sound.given) was)
+  way_fewer {old = old} (Grants hand found works free first) sound was is = grant_fewer old.core found sound first is
+  way_fewer {old = old} (Backs i ticket found result one_out) sound was is = back_fewer old.core ticket found one_out
+  way_fewer {old = old} (Logs n works) sound was is = let holds = ap (count_by related) (log_held g old.core n) in omega (arith, holds)
+  way_fewer {old = old} (Answers a rest front) sound was is =
+      let counted = ap (λ l. count_by (λ a. related (entry a)) (take 1 l)) front ∙ sum_by-cons (λ (a : Replied). one (entry a)) a [] in
+      let fewer = answer_fewer old.core a rest front in
       omega (arith, counted, fewer)
 
 pub event_fewer : (g : Geometry) (old : MachineState) (event : Event) (e : Entry) → IsAllowed g old event → IsSoundCoreState g old.core
     → IsIn e old.core.waiting → IsIn e event.state_after.core.waiting
     → kept_back_by g event.state_after.core e + count_by (λ a. are_related_entries g e (entry a)) (answered_at old.core event.outcome)
     ≡ kept_back_by g old.core e
-event_fewer g old event e allowed sound was is =
-    move_fewer g e old.core event.state_after.core _ event.outcome refl (moves g old event allowed) sound (was, is)
+event_fewer g old event e allowed sound was is = way_fewer g e (ways g old event allowed) sound was is
 
 pub run_fewer : (g : Geometry) (old : MachineState) (events : List Event) (e : Entry) → IsLegal g old events → IsSoundCoreState g old.core
     → IsIn e old.core.waiting → AllByRecursion (λ event. IsIn e event.state_after.core.waiting) events

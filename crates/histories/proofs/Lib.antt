@@ -1,6 +1,7 @@
 -- ---- for the crates above: what each event does to the core, and what every core state keeps
 pub mod Lists
 pub mod Apart
+pub mod Ways
 pub mod Moves
 pub mod SerialReplies
 pub mod Room

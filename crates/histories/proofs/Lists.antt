@@ -1,10 +1,11 @@
 -- Lists: what holds of all, what holds between each and those behind it, and what `pick` finds.
-use Rattle.std.proofs.Common.{◌≡◌, ℕ, zero, suc, ◌≤◌, Bool, true, false, List, [], ◌∷◌, ◌++◌, Option, Some, None, refl, ap, sym, subst, length, take, arith}
-use Rattle.std.specs.Prelude.{if◌then◌else◌, option_map, is_some, IsPermutation}
+use Rattle.std.proofs.Common.{◌≡◌, ℕ, zero, suc, ◌+◌, ◌≤◌, Bool, true, false, List, [], ◌∷◌, ◌++◌, Option, Some, None, refl, ap, sym, ◌∙◌, subst, length, take, arith}
+use Rattle.std.specs.Prelude.{if◌then◌else◌, option_map, is_some, IsPermutation, sum_by}
 use Rattle.std.specs.List.{AllByRecursion, list_any}
 use Rattle.std.proofs.lemmas.Bool.{or_parts, true≢false}
 use Rattle.std.proofs.lemmas.List.Elements.{All-from_recursion, recursion_from_All}
 use Rattle.std.proofs.lemmas.List.Sorted.{All-permutation}
+use Rattle.std.proofs.lemmas.List.Sums.{sum_by-append, sum_by-cons}
 use Rattle.affinity.proofs.Elements.{all_join, all_weaker}
 use Rattle.histories.specs.Eligible.{pick}
 use Rattle.histories.specs.Laws.{EachBefore}
@@ -142,3 +143,23 @@ picked {A} p (x ∷ xs) found h =
               (λ l. x ∷ l) k.rest;
           passes = k.passes;
         })
+
+-- A sum over a list is the term of the element that was found, and the sum over what is left.
+pub sum_by-picked : {A : Type 0} (f : A → ℕ) (p : A → Bool) (xs : List A) (found : A × List A) → pick p xs ≡ Some found
+    → sum_by f xs ≡ f found.0 + sum_by f found.1
+sum_by-picked f p xs found e =
+    let k = picked p xs found e in
+    let was = ap (sum_by f) k.whole ∙ sum_by-append f k.before (found.0 ∷ k.behind) in
+    let one = sum_by-cons f found.0 k.behind in
+    let now = ap (sum_by f) k.rest ∙ sum_by-append f k.before k.behind in
+    omega (arith, was, one, now)
+
+-- Where each term is at most another one, so is the sum.
+pub sum_by-each : {A : Type 0} (f k : A → ℕ) → ((x : A) → f x ≤ k x) → (xs : List A) → sum_by f xs ≤ sum_by k xs
+sum_by-each f k h [] = omega arith
+sum_by-each f k h (x ∷ xs) =
+    let rest = sum_by-each f k h xs in
+    let less = sum_by-cons f x xs in
+    let more = sum_by-cons k x xs in
+    let here = h x in
+    omega (arith, rest, less, more, here)

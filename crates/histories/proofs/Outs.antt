@@ -24,9 +24,8 @@ use Rattle.histories.specs.Laws.{EachBefore, IsSoundCoreState, dispatches_or_ret
 use Rattle.histories.proofs.Apart.{apart_turned, entries-append}
 use Rattle.histories.proofs.Clearing.{all_at}
 use Rattle.histories.proofs.Lists.{all_back, all_front, before_back}
-use Rattle.histories.proofs.Moves.{Passed, Move, Stays, Arrives, Grants, Backs, Logs, Answers, moves}
+use Rattle.histories.proofs.Ways.{Passed, Way, Grants, Backs, Logs, ways}
 use Rattle.histories.proofs.SerialReplies.{IsIn}
-use Rattle.histories.proofs.Failures.{either}
 
 -- `R` holds between each element of xs and an element y that comes later
 pub before_in : {A : Type 0} (R : A → A → Type 0) (xs ys : List A) (y : A) → EachBefore R (xs ++ ys) → IsIn y ys
@@ -78,71 +77,21 @@ module _ (g : Geometry) where
     abbrev SeesSame : CoreState → CoreState → Type 0
     SeesSame old new = AgreeOn g (are_related (path_of g e.1)) new.committed old.committed
 
-    same_committed : (old new : CoreState) → new.committed ≡ old.committed → SeesSame old new
-    same_committed old new same = subst (λ x. AgreeOn g (are_related (path_of g e.1)) x old.committed) (sym same) (agree-refl old.committed)
-
-    move_sees : (old new : CoreState) (p : Passed) → Move g old new p → IsSoundCoreState g old → IsIn e old.in_flight → SeesSame old new
-    move_sees old new p (Stays s k) sound is = same_committed old new s.committed
-    move_sees old new p (Arrives m fits moved k) sound is = same_committed old new (ap (λ w. w.committed) moved)
-    move_sees old new p (Grants found first moved k) sound is = same_committed old new (ap (λ w. w.committed) moved)
-    move_sees old new p (Backs ticket found one_out moved k) sound is = same_committed old new (ap (λ w. w.committed) moved)
-    move_sees old new p (Logs n moved k) sound is =
-        subst (λ (w : CoreState). SeesSame old w) (sym moved) (fold_leaves old.committed e.1 (batch old n) (batch_elsewhere old n sound is))
-    move_sees old new p (Answers a rest front moved k) sound is = same_committed old new (ap (λ w. w.committed) moved)
+    way_sees : {old : MachineState} {event : Event} {p : Passed} → Way g old event p → IsSoundCoreState g old.core → IsIn e old.core.in_flight
+        → SeesSame old.core event.state_after.core
+    way_sees {old = old} (Logs n works) sound is = fold_leaves old.core.committed e.1 (batch old.core n) (batch_elsewhere old.core n sound is)
+    way_sees {old = old} _ sound is = agree-refl old.core.committed
 
   pub event_sees : (old : MachineState) (event : Event) (e : Entry) → IsAllowed g old event → IsSoundCoreState g old.core → IsIn e old.core.in_flight
       → AgreeOn g (are_related (path_of g e.1)) event.state_after.core.committed old.core.committed
-  event_sees old event e allowed sound is = move_sees e old.core event.state_after.core _ (moves g old event allowed) sound is
+  event_sees old event e allowed sound is = way_sees e (ways g old event allowed) sound is
 
--- ---- steps that neither dispatch a message nor give one back
-
-module _ (w : CoreState) where
-  abbrev KeepsOut : Outcome × CoreState → Type 0
-  KeepsOut x = x.1.in_flight ≡ w.in_flight
-
-  refused_keeps_out : (why : Option PointRefusal) (made : Outcome × CoreState) → KeepsOut made → KeepsOut (unless_refused w why made)
-  refused_keeps_out None made h = h
-  refused_keeps_out (Some why) made h = refl
-
-  arrive_keeps_out : (g : Geometry) (m : Msg) → KeepsOut (arrive g w m)
-  arrive_keeps_out g m =
-      either KeepsOut w.failed _ _ refl
-      (either KeepsOut (not (is_in_range g m)) _ _ refl
-      (either KeepsOut (w.next == 2 ^ 64 - 1) _ _ refl
-      (either KeepsOut (nat_le w.slots (length w.waiting + length (held w))) _ _ refl refl)))
-
-  answer_keeps_out : (as' : List Replied) → KeepsOut (answer w as')
-  answer_keeps_out [] = refl
-  answer_keeps_out (a ∷ as') = refl
-
-module _ (g : Geometry) (n : ℕ) (w : MachineState) where
-  abbrev KeepsIn : Outcome × MachineState → Type 0
-  KeepsIn x = x.1.core.in_flight ≡ w.core.in_flight
-
-  run_keeps_out : (i : ℕ) (hand : Option Hand) → KeepsIn (run_hand w i hand)
-  run_keeps_out i (Some (Job ticket)) = refl
-  run_keeps_out i _ = refl
-
-  pub happens_keeps_out : (s : Step) → dispatches_or_returns s ≡ false → KeepsIn (apply_step g n w s)
-  happens_keeps_out (steps.Arrive m) e = arrive_keeps_out w.core g m
-  happens_keeps_out steps.Grant e = absurd (true≢false e)
-  happens_keeps_out (steps.Run i) e = run_keeps_out i (slice_get w.hands i)
-  happens_keeps_out (steps.Back i) e = absurd (true≢false e)
-  happens_keeps_out (steps.Log k) e = either (KeepsOut w.core) w.core.failed _ _ refl refl
-  happens_keeps_out steps.Answer e = answer_keeps_out w.core w.core.logged
-  happens_keeps_out steps.Point e = refused_keeps_out w.core (point_refusal w.core) _ refl
-  happens_keeps_out steps.Cut e = refused_keeps_out w.core (point_refusal w.core) _ refl
-  happens_keeps_out steps.Piece e = refused_keeps_out w.core (piece_refusal w.core) _ refl
-  happens_keeps_out steps.Flip e = refused_keeps_out w.core (flip_refusal w.core) _ refl
-
-pub fault_keeps_out : (w : CoreState) (s : Step) → (fail_step w s).1.in_flight ≡ w.in_flight
-fault_keeps_out w (steps.Log k) = refl
-fault_keeps_out w _ = refl
-
+-- Steps that neither dispatch a message nor give one back leave the messages in flight as they are.
 pub event_keeps_out : (g : Geometry) (old : MachineState) (event : Event) → IsAllowed g old event → dispatches_or_returns event.step ≡ false
     → event.state_after.core.in_flight ≡ old.core.in_flight
-event_keeps_out g old event allowed still = by event.device_failed allowed
+event_keeps_out g old event allowed = by (ways g old event allowed)
   where
-    by : (b : Bool) → MatchBool b (IsFault old event) (IsWithoutFault g old event) → event.state_after.core.in_flight ≡ old.core.in_flight
-    by true f = ap (λ (x : Outcome × CoreState). x.1.in_flight) (sym f.core) ∙ fault_keeps_out old.core event.step
-    by false d = ap (λ (x : Outcome × MachineState). x.1.core.in_flight) (sym d.does) ∙ happens_keeps_out g d.to_write old event.step still
+    by : {event : Event} {p : Passed} → Way g old event p → dispatches_or_returns event.step ≡ false → event.state_after.core.in_flight ≡ old.core.in_flight
+    by (Grants hand found works free first) still = absurd (true≢false still)
+    by (Backs i ticket found result one_out) still = absurd (true≢false still)
+    by _ still = refl

@@ -1,5 +1,5 @@
 -- The replies in a legal run, in log order, and the state that it commits.
-use Rattle.std.proofs.Common.{◌≡◌, Bool, true, false, List, [], ◌∷◌, ◌++◌, refl, ap, sym, ◌∙◌, subst, append_assoc, take}
+use Rattle.std.proofs.Common.{◌≡◌, Bool, true, false, List, [], ◌∷◌, ◌++◌, refl, ap, sym, ◌∙◌, append_assoc, take}
 use Rattle.std.specs.Prelude.{◌||◌, if◌then◌else◌, map, filter}
 use Rattle.std.proofs.lemmas.List.{append-nil, map-append}
 use Rattle.std.proofs.lemmas.List.Elements.{filter-append}
@@ -13,7 +13,7 @@ use Rattle.histories.specs.Events.{MachineState, Event, IsAllowed, batch, record
 use Rattle.histories.specs.Runs.{IsLegal, end_state, logged_at, appended_at, answers, logged_messages, appended_messages, answered}
 use Rattle.histories.specs.Laws.{IsSoundCoreState, ticket_replies}
 use Rattle.histories.proofs.Apart.{entries-append}
-use Rattle.histories.proofs.Moves.{Passed, Move, Stays, Arrives, Grants, Backs, Logs, Answers, moves}
+use Rattle.histories.proofs.Ways.{Passed, Way, Logs, Answers, ways}
 use Rattle.histories.proofs.SerialReplies.{state_after_all-append, state_after_all-joined, serial_replies-append, ticket_replies-append}
 use Rattle.histories.proofs.Sound.{row_of, event_sound}
 
@@ -24,22 +24,13 @@ pub record Follows (g : Geometry) (old new : CoreState) (gone : List Replied) : 
   pub reply_pairs : serial_replies g old.committed (entries gone) ≡ ticket_replies gone
   pub committed : new.committed ≡ state_after_all g old.committed (messages_of (entries gone))
 
-quiet : (g : Geometry) (old new : CoreState) (gone : List Replied) → gone ≡ [] → new.committed ≡ old.committed → Follows g old new gone
-quiet g old new gone none committed = subst (Follows g old new) (sym none) (record { reply_pairs = refl; committed = committed })
-
-move_follows : (g : Geometry) (old new : CoreState) (p : Passed) → Move g old new p → IsSoundCoreState g old → Follows g old new p.gone
-move_follows g old new p (Stays s e) h = quiet g old new p.gone (ap (λ p. p.gone) e) s.committed
-move_follows g old new p (Arrives m fits is e) h = quiet g old new p.gone (ap (λ p. p.gone) e) (ap (λ w. w.committed) is)
-move_follows g old new p (Grants found first is e) h = quiet g old new p.gone (ap (λ p. p.gone) e) (ap (λ w. w.committed) is)
-move_follows g old new p (Backs ticket found one_out is e) h = quiet g old new p.gone (ap (λ p. p.gone) e) (ap (λ w. w.committed) is)
-move_follows g old new p (Logs n is e) h =
-    let k = row_of g old n h in
-    subst (λ p. Follows g old new p.gone) (sym e) (record { reply_pairs = k.reply_pairs; committed = ap (λ w. w.committed) is ∙ k.logs })
-move_follows g old new p (Answers a rest front is e) h = quiet g old new p.gone (ap (λ p. p.gone) e) (ap (λ w. w.committed) is)
-
 event_follows : (g : Geometry) (old : MachineState) (event : Event) → IsAllowed g old event → IsSoundCoreState g old.core
     → Follows g old.core event.state_after.core (logged_at old.core event.step event.device_failed)
-event_follows g old event allowed h = move_follows g old.core event.state_after.core _ (moves g old event allowed) h
+event_follows g old event allowed h = by (ways g old event allowed)
+  where
+    by : {event : Event} {p : Passed} → Way g old event p → Follows g old.core event.state_after.core p.gone
+    by (Logs n works) = let k = row_of g old.core n h in record { reply_pairs = k.reply_pairs; committed = k.logs }
+    by _ = record { reply_pairs = refl; committed = refl }
 
 -- The replies of the messages that a run logs are the serial server's, one after the other in log order.
 pub run_follows : (g : Geometry) (old : MachineState) (events : List Event) → IsLegal g old events → IsSoundCoreState g old.core
@@ -60,20 +51,11 @@ run_follows g old (event ∷ events) legal h =
 
 -- ---- what is answered
 
-move_answers : (g : Geometry) (old new : CoreState) (p : Passed) → Move g old new p → ticket_replies old.logged ++ ticket_replies p.gone ≡ p.reply_pairs ++ ticket_replies new.logged
-move_answers g old new p (Stays s e) = ap (λ p. ticket_replies old.logged ++ ticket_replies p.gone) e ∙ append-nil (ticket_replies old.logged)
-    ∙ ap ticket_replies (sym s.logged) ∙ ap (λ p. p.reply_pairs ++ ticket_replies new.logged) (sym e)
-move_answers g old new p (Arrives m fits is e) = ap (λ p. ticket_replies old.logged ++ ticket_replies p.gone) e ∙ append-nil (ticket_replies old.logged) ∙ ap
-    (λ w. ticket_replies w.logged) (sym is) ∙ ap (λ p. p.reply_pairs ++ ticket_replies new.logged) (sym e)
-move_answers g old new p (Grants found first is e) = ap (λ p. ticket_replies old.logged ++ ticket_replies p.gone) e ∙ append-nil (ticket_replies old.logged) ∙ ap
-    (λ w. ticket_replies w.logged) (sym is) ∙ ap (λ p. p.reply_pairs ++ ticket_replies new.logged) (sym e)
-move_answers g old new p (Backs ticket found one_out is e) = ap (λ p. ticket_replies old.logged ++ ticket_replies p.gone) e ∙ append-nil (ticket_replies old.logged)
-    ∙ ap (λ w. ticket_replies w.logged) (sym is) ∙ ap (λ p. p.reply_pairs ++ ticket_replies new.logged) (sym e)
-move_answers g old new p (Logs n is e) = ap (λ p. ticket_replies old.logged ++ ticket_replies p.gone) e ∙ sym (ticket_replies-append old.logged (take n old.ran)) ∙ ap
-    (λ w. ticket_replies w.logged) (sym is) ∙ ap (λ p. p.reply_pairs ++ ticket_replies new.logged) (sym e)
-move_answers g old new p (Answers a rest front is e) =
-    ap (λ p. ticket_replies old.logged ++ ticket_replies p.gone) e ∙ append-nil (ticket_replies old.logged) ∙ ap ticket_replies front ∙ ap
-    (λ w. (a.0, a.2) ∷ ticket_replies w.logged) (sym is) ∙ ap (λ p. p.reply_pairs ++ ticket_replies new.logged) (sym e)
+way_answers : {g : Geometry} {old : MachineState} {event : Event} {p : Passed} → Way g old event p
+    → ticket_replies old.core.logged ++ ticket_replies p.gone ≡ p.reply_pairs ++ ticket_replies event.state_after.core.logged
+way_answers {old = old} (Logs n works) = sym (ticket_replies-append old.core.logged (take n old.core.ran))
+way_answers (Answers a rest front) = append-nil _ ∙ ap ticket_replies front
+way_answers _ = append-nil _
 
 -- The replies of what was logged before a run and in it, in log order, are those that it gives, and then those of what is still logged.
 pub run_answers : (g : Geometry) (old : MachineState) (events : List Event) → IsLegal g old events
@@ -84,7 +66,7 @@ run_answers g old (event ∷ events) legal =
     let later = logged_messages event.state_after events in
     ap (λ l. ticket_replies old.core.logged ++ l) (ticket_replies-append gone later)
     ∙ sym (append_assoc (ticket_replies old.core.logged) (ticket_replies gone) (ticket_replies later))
-    ∙ ap (λ l. l ++ ticket_replies later) (move_answers g old.core event.state_after.core _ (moves g old event legal.0))
+    ∙ ap (λ l. l ++ ticket_replies later) (way_answers (ways g old event legal.0))
     ∙ append_assoc (answers event.outcome) (ticket_replies event.state_after.core.logged) (ticket_replies later)
     ∙ ap (λ l. answers event.outcome ++ l) (run_answers g event.state_after events legal.1)
     ∙ sym (append_assoc (answers event.outcome) (answered events) (ticket_replies (end_state event.state_after events).core.logged))

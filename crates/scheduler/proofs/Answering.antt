@@ -9,8 +9,7 @@ use Rattle.affinity.proofs.Preorder.{are_related-contains}
 use Rattle.affinity.specs.Interval.{contains}
 use Rattle.affinity.specs.declared.geometry.Geometry.{Geometry}
 use Rattle.histories.proofs.Lists.{all_back, all_front}
-use Rattle.histories.proofs.Moves.{Answers}
-use Rattle.histories.proofs.Sound.{move_sound}
+use Rattle.histories.proofs.Sound.{answer_sound}
 use Rattle.histories.specs.Laws.{AreUnrelated}
 use Rattle.histories.specs.CoreState.{Entry, entries, are_related_entries}
 use Rattle.language.specs.Messages.{path_of}
@@ -100,7 +99,7 @@ module _ (keeps : Type 0) (p : Parts) (k : IsCore keeps p) (x : SlotView) (behin
             (other_numbers g x all_logged.0 p.phases.ran k.placed.ran rans)
             (other_numbers g x all_logged.0 p.phases.in_flight k.placed.in_flight outs);
         unlogged_is = k.unlogged_is;
-        sound = move_sound g (core_state_in p) (core_state_in after) _ (Answers (replied_of x) (map replied_of behind) answer_front refl refl) k.sound;
+        sound = answer_sound g (core_state_in p) k.sound (replied_of x) (map replied_of behind) answer_front;
         geometry = k.geometry;
         tree = k.tree;
         is_committed = k.is_committed;

@@ -2,8 +2,7 @@
 use Rattle.std.proofs.Common.{◌≡◌, ℕ, suc, ◌+◌, ◌<◌, [], ◌∷◌, ◌++◌, map, length, refl, ap, sym, subst, ◌∙◌, arith}
 use Rattle.std.proofs.lemmas.List.{length-append, map-append}
 use Rattle.affinity.proofs.Elements.{all_join}
-use Rattle.histories.proofs.Moves.{Arrives}
-use Rattle.histories.proofs.Sound.{move_sound}
+use Rattle.histories.proofs.Sound.{arrive_sound}
 use Rattle.histories.specs.Laws.{IsSoundCoreState}
 use Rattle.histories.specs.CoreState.{held}
 use Rattle.scheduler.proofs.Counting.{messages_counted}
@@ -47,7 +46,7 @@ module _ (keeps : Type 0) (p : Parts) (k : IsCore keeps p) (x : SlotView) (free 
         queue_held = k.queue_held;
         unlogged_is = k.unlogged_is;
         sound = subst (IsSoundCoreState p.journal.geometry) (sym arrival_state)
-            (move_sound p.journal.geometry (core_state_in p) _ _ (Arrives x.1.message has_slot refl refl) k.sound);
+            (arrive_sound p.journal.geometry (core_state_in p) k.sound x.1.message has_slot);
         geometry = k.geometry;
         tree = k.tree;
         is_committed = k.is_committed;

@@ -7,8 +7,7 @@ use Rattle.std.proofs.lemmas.List.{length-append, map-append}
 use Rattle.std.proofs.lemmas.List.Elements.{filter-append}
 use Rattle.affinity.proofs.Elements.{all_join}
 use Rattle.histories.proofs.Lists.{all_back, all_front}
-use Rattle.histories.proofs.Moves.{Grants}
-use Rattle.histories.proofs.Sound.{move_sound}
+use Rattle.histories.proofs.Sound.{grant_sound}
 use Rattle.histories.specs.Eligible.{next_eligible}
 use Rattle.histories.specs.Events.{grant}
 use Rattle.histories.specs.Laws.{IsSoundCoreState}
@@ -94,7 +93,7 @@ module _ (keeps : Type 0) (p : Parts) (k : IsCore keeps p) (before : List SlotVi
         queue_held = λ test. joined test ∙ ap (λ b. test (queued_of x) || b) (k.queue_held test) ∙ any_granted test p.phases (before ++ behind) x;
         unlogged_is = omega (arith, unlogged_was, unlogged_is, out);
         sound = subst (IsSoundCoreState p.journal.geometry) (sym grant_state)
-            (move_sound p.journal.geometry (core_state_in p) _ _ (Grants found first refl refl) k.sound);
+            (grant_sound p.journal.geometry (core_state_in p) k.sound found first);
         geometry = geometry;
         tree = subst (λ es. TreeHolds p.journal.geometry (is_below p.journal.geometry es) (tree_nodes tree) (reached p.journal.geometry (core_state_in p)))
             (sym (map-append entry_of p.phases.in_flight (x ∷ [])))

@@ -15,9 +15,8 @@ use Rattle.disk.specs.Moments.{CrashImagesAre}
 use Rattle.journal.specs.Journal.{AreCarriedOut, RecoversWithPrefix, committed}
 use Rattle.journal.specs.DirtyPieces.{DirtyPieces}
 use Rattle.histories.proofs.Lists.{all_back, all_front, before_back, before_front}
-use Rattle.histories.proofs.Moves.{Logs}
 use Rattle.histories.proofs.Room.{log_has_room}
-use Rattle.histories.proofs.Sound.{move_sound}
+use Rattle.histories.proofs.Sound.{log_sound}
 use Rattle.histories.proofs.SerialReplies.{state_after_all-joined, still_replied}
 use Rattle.histories.specs.Events.{batch, log, recorded}
 use Rattle.histories.specs.Laws.{AreUnrelated, HaveRepliesAt, IsSoundCoreState}
@@ -159,7 +158,7 @@ module _ (keeps : Type 0) (p : Parts) (k : IsCore keeps p) (works : p.journal.fa
           queue_held = λ test. k.queue_held test ∙ any_logged test p.phases (take n p.phases.ran) (drop n p.phases.ran) whole;
           unlogged_is = omega (arith, unlogged_was, unlogged_now, ran, unlogged_is);
           sound = subst (IsSoundCoreState p.journal.geometry) (sym log_state)
-              (move_sound p.journal.geometry (core_state_in p) _ _ (Logs n refl refl) k.sound);
+              (log_sound p.journal.geometry (core_state_in p) k.sound n);
           geometry = k.geometry;
           tree = subst (λ s. TreeHolds p.journal.geometry (is_below p.journal.geometry (map entry_of p.phases.in_flight)) (tree_nodes p.tree) s)
               (sym (log_reaches p.journal.geometry (core_state_in p) n k.sound) ∙ ap (reached p.journal.geometry) (sym log_state)) k.tree;

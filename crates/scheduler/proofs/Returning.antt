@@ -6,8 +6,7 @@ use Rattle.std.proofs.lemmas.Bool.{eq-eqb, ne_eqb}
 use Rattle.std.proofs.lemmas.List.{length-append, map-append}
 use Rattle.affinity.proofs.Elements.{all_join}
 use Rattle.histories.proofs.Lists.{all_back, all_front, before_front, before_one}
-use Rattle.histories.proofs.Moves.{Backs}
-use Rattle.histories.proofs.Sound.{move_sound}
+use Rattle.histories.proofs.Sound.{back_sound}
 use Rattle.histories.specs.Eligible.{pick}
 use Rattle.histories.specs.Events.{give_back, find_in_flight}
 use Rattle.histories.specs.Laws.{HaveDistinctTickets, IsSoundCoreState}
@@ -105,7 +104,7 @@ module _ (keeps : Type 0) (p : Parts) (k : IsCore keeps p) (before : List SlotVi
           queue_held = λ test. k.queue_held test ∙ any_back test p.phases before x y behind whole refl;
           unlogged_is = omega (arith, unlogged_was, unlogged_is, out_was, out_now, ran_now);
           sound = subst (IsSoundCoreState p.journal.geometry) (sym return_state)
-              (move_sound p.journal.geometry (core_state_in p) _ _ (Backs x.1.ticket found returned_is_found refl refl) k.sound);
+              (back_sound p.journal.geometry (core_state_in p) k.sound x.1.ticket found returned_is_found);
           geometry = geometry;
           tree = subst (λ s. TreeHolds p.journal.geometry (is_below p.journal.geometry (map entry_of (before ++ behind))) (tree_nodes tree) s)
               (sym (ap (λ as'. reached p.journal.geometry (record (core_state_in after) { ran = as' })) (map-append replied_of p.phases.ran (y ∷ []))
