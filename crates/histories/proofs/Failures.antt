@@ -3,10 +3,10 @@ use Rattle.std.proofs.Common.{◌≡◌, true, false, List, ◌∷◌, [], ◌++
 use Rattle.std.proofs.lemmas.List.{append-nil}
 use Rattle.affinity.specs.declared.geometry.Geometry.{Geometry}
 use Rattle.meaning.specs.Serial.{reply_to}
-use Rattle.histories.specs.CoreState.{Entry, Replied, CoreState}
+use Rattle.histories.specs.CoreState.{Entry, Replied}
 use Rattle.histories.specs.Events.{MachineState, Event, IsAllowed}
 use Rattle.histories.specs.Laws.{StaysFailed, reports_failure}
-use Rattle.histories.proofs.Ways.{Passed, Way, Nothing, Arrives, Grants, Runs, Backs, Logs, Answers, Points, Fails, ways}
+use Rattle.histories.proofs.Ways.{Passed, Way, Nothing, Arrives, Grants, Backs, Logs, Answers, Points, Fails, ways}
 
 -- An event reports that the device failed exactly where it did.
 pub failure_reported : (g : Geometry) (old : MachineState) (event : Event) → IsAllowed g old event → event.device_failed ≡ reports_failure event.outcome
@@ -26,6 +26,15 @@ failure_fails g old event allowed = by (ways g old event allowed)
     by : {event : Event} {p : Passed} → Way g old event p → event.device_failed ≡ true → event.state_after.core.failed ≡ true
     by (Fails s o doubt works quiet doubts) device_failed = refl
     by _ device_failed = absurd (true≢false (sym device_failed))
+
+-- but after no other one does it fail,
+pub works_on : (g : Geometry) (old : MachineState) (event : Event) → IsAllowed g old event → event.device_failed ≡ false → old.core.failed ≡ false
+    → event.state_after.core.failed ≡ false
+works_on g old event allowed = by (ways g old event allowed)
+  where
+    by : {event : Event} {p : Passed} → Way g old event p → event.device_failed ≡ false → old.core.failed ≡ false → event.state_after.core.failed ≡ false
+    by (Fails s o doubt works quiet doubts) none_fails fine = absurd (true≢false none_fails)
+    by _ none_fails fine = fine
 
 -- and it stays failed.
 pub failure_lasts : (g : Geometry) (old : MachineState) (event : Event) → IsAllowed g old event → old.core.failed ≡ true

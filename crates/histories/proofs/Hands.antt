@@ -1,6 +1,6 @@
 -- Each ticket is in as many hands as there are messages in flight with it, whatever comes.
-use Rattle.std.proofs.Common.{◌≡◌, ℕ, ◌+◌, ◌<◌, ◌≤◌, suc, Bool, true, false, List, [], ◌∷◌, Some, None, refl, ap, ◌∙◌, length, arith}
-use Rattle.std.specs.Prelude.{◌==◌, cond, count_by, position, set, slice_get}
+use Rattle.std.proofs.Common.{◌≡◌, ℕ, ◌<◌, suc, Bool, true, false, List, [], ◌∷◌, Some, None, refl, ap, ◌∙◌, length, arith}
+use Rattle.std.specs.Prelude.{◌==◌, cond, count_by, position, slice_get}
 use Rattle.std.proofs.lemmas.Bool.{eq-eqb, eqb-true, lt-ltb}
 use Rattle.std.proofs.lemmas.List.{length-set}
 use Rattle.std.proofs.lemmas.List.Sums.{sum_by-cons, sum_by_push}
@@ -83,7 +83,7 @@ last_holds g old [] legal h = h
 last_holds g old (event ∷ events) legal h = last_holds g event.state_after events legal.1 (event_holds g old event legal.0 h)
 
 -- No hand comes or goes.
-event_many : (g : Geometry) (old : MachineState) (event : Event) → IsAllowed g old event → length event.state_after.hands ≡ length old.hands
+pub event_many : (g : Geometry) (old : MachineState) (event : Event) → IsAllowed g old event → length event.state_after.hands ≡ length old.hands
 event_many g old event allowed = by (ways g old event allowed)
   where
     by : {event : Event} {p : Passed} → Way g old event p → length event.state_after.hands ≡ length old.hands

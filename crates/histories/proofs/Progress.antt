@@ -109,7 +109,11 @@ module _ (g : Geometry) where
         inr (unheld (next_eligible g w) w.pieces_left e rest refl refl (λ i. entries (l i) ++ (entries (r i) ++ f i)) v)
     by_lists [] [] [] [] l r f v = inl (record { none_waits = v; none_held = λ i. entries (l i) ++ (entries (r i) ++ f i) })
 
+    -- Nothing waits and nothing is held, or something can be done.
+    pub idle_or_goes_on : IsIdle w ⊎ CanGoOn g w
+    idle_or_goes_on = by_lists w.logged w.ran w.in_flight w.waiting refl refl refl refl
+
   pub can_go_on : (w : CoreState) → IsSoundCoreState g w → w.failed ≡ false → IsBusy w → CanGoOn g w
   can_go_on w sound works busy =
       ⊎_elim (λ (idle : IsIdle w). let waits = ap length idle.none_waits in let holds = ap length idle.none_held in absurd (omega (arith, waits, holds, busy)))
-      (λ can. can) (by_lists w sound works w.logged w.ran w.in_flight w.waiting refl refl refl refl)
+      (λ can. can) (idle_or_goes_on w sound works)
