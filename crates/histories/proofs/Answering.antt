@@ -5,13 +5,11 @@ use Rattle.std.proofs.lemmas.List.{append-nil, map-append}
 use Rattle.std.proofs.lemmas.List.Elements.{filter-append}
 use Rattle.affinity.specs.declared.geometry.Geometry.{Geometry}
 use Rattle.language.specs.declared.Msg.{Msg}
-use Rattle.language.specs.declared.Reply.{Reply}
 use Rattle.meaning.specs.Serial.{is_recorded}
 use Rattle.histories.specs.declared.outcomes.Outcome.{Outcome}
-use Rattle.histories.specs.declared.outcomes.Outcome.TheVariants as outcomes
 use Rattle.histories.specs.CoreState.{Replied, CoreState}
 use Rattle.histories.specs.Events.{MachineState, Event, recorded}
-use Rattle.histories.specs.Runs.{IsLegal, end_state, logged_at, logged_messages, appended_messages, answers, answered, answered_at, answered_messages, answered_changes}
+use Rattle.histories.specs.Runs.{IsLegal, end_state, logged_at, logged_messages, appended_messages, answered, answered_at, answered_messages, answered_changes}
 use Rattle.histories.specs.Crash.{IsLogAfter, in_doubt}
 use Rattle.histories.specs.Laws.{ticket_replies}
 use Rattle.histories.proofs.Ways.{Passed, Way, nothing, Nothing, Logs, Answers, Points, Fails, ways}
@@ -65,6 +63,13 @@ run_replies g old (event ∷ events) legal =
     let k = way_ordered (ways g old event legal.0) in
     ticket_replies-append (answered_at old.core event.outcome) (answered_messages event.state_after events)
     ∙ (λ i. k.same i ++ run_replies g event.state_after events legal.1 i)
+
+-- The replies of what was logged before a run and in it, in log order, are those that it gives, and then those of what is still logged.
+pub run_answers : (g : Geometry) (old : MachineState) (events : List Event) → IsLegal g old events
+    → ticket_replies old.core.logged ++ ticket_replies (logged_messages old events) ≡ answered events ++ ticket_replies (end_state old events).core.logged
+run_answers g old events legal =
+    sym (ticket_replies-append old.core.logged (logged_messages old events)) ∙ ap ticket_replies (run_in_order g old events legal)
+    ∙ ticket_replies-append (answered_messages old events) _ ∙ ap (λ l. l ++ ticket_replies (end_state old events).core.logged) (run_replies g old events legal)
 
 -- The changes logged at the start, and then the log that a later crash leaves, begin with all changes that were answered.
 pub answered_left : (g : Geometry) {old : MachineState} {events : List Event} {k after : ℕ} {ms : List Msg} → IsLegal g old events → k ≤ after

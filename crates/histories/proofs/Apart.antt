@@ -1,5 +1,5 @@
 -- No two held messages are at related places: what a dispatch, a return and a log step do to them.
-use Rattle.std.proofs.Common.{◌≡◌, ℕ, ◌+◌, false, List, [], ◌∷◌, ◌++◌, Some, refl, ap, sym, ◌∙◌, subst, append_assoc, length, take, drop}
+use Rattle.std.proofs.Common.{◌≡◌, ℕ, ◌+◌, true, false, List, [], ◌∷◌, ◌++◌, Some, refl, ap, sym, ◌∙◌, subst, append_assoc, length, take, drop}
 use Rattle.std.specs.Prelude.{◌&&◌, ◌==◌, not, nat_lt}
 use Rattle.std.specs.List.{AllByRecursion, list_any}
 use Rattle.std.proofs.lemmas.Bool.{and_parts, not-true}
@@ -26,16 +26,19 @@ pub length_held : (w : CoreState) → length (held w) ≡ length w.logged + (len
 length_held w = length-append (entries w.logged) (entries w.ran ++ w.in_flight)
     ∙ (λ i. length-map w.logged entry i + (length-append (entries w.ran) w.in_flight ∙ ap (λ n. n + length w.in_flight) (length-map w.ran entry)) i)
 
--- what is dispatched is at a place unrelated to those of all that are held
-pub granted_is_free : (g : Geometry) (w : CoreState) (found : Entry × List Entry) → next_eligible g w ≡ Some found
-    → AllByRecursion (λ d. are_related_entries g found.0 d ≡ false) (held w)
-granted_is_free g w found h =
-    let k = picked (is_eligible g w) w.waiting found h in
-    let e = found.0 in
-    let clear = (and_parts (is_conflict_free g w e) (has_room w e) k.passes).0 in
-    let free = (and_parts (not (list_any (are_related_entries g e) (held w))) (not (list_any
-    (λ d. nat_lt d.0 e.0 && are_related_entries g e d) w.waiting)) clear).0 in
-    all_none (are_related_entries g e) (held w) (not-true _ free)
+module _ (g : Geometry) (w : CoreState) (found : Entry × List Entry) (first : next_eligible g w ≡ Some found) where
+  clear : (not (list_any (are_related_entries g found.0) (held w)) ≡ true)
+      × (not (list_any (λ d. nat_lt d.0 found.0.0 && are_related_entries g found.0 d) w.waiting) ≡ true)
+  clear = and_parts (not (list_any (are_related_entries g found.0) (held w))) _
+      (and_parts (is_conflict_free g w found.0) (has_room w found.0) (picked (is_eligible g w) w.waiting found first).passes).0
+
+  -- what is dispatched is at a place unrelated to those of all that are held
+  pub granted_is_free : AllByRecursion (λ d. are_related_entries g found.0 d ≡ false) (held w)
+  granted_is_free = all_none (are_related_entries g found.0) (held w) (not-true _ clear.0)
+
+  -- and to those of the waiting messages with smaller tickets
+  pub granted_is_first : AllByRecursion (λ d. (nat_lt d.0 found.0.0 && are_related_entries g found.0 d) ≡ false) w.waiting
+  granted_is_first = all_none (λ d. nat_lt d.0 found.0.0 && are_related_entries g found.0 d) w.waiting (not-true _ clear.1)
 
 pub held_grant : (w : CoreState) (found : Entry × List Entry) → held (grant w found) ≡ held w ++ found.0 ∷ []
 held_grant w found = ap (λ l. entries w.logged ++ l) (sym (append_assoc (entries w.ran) w.in_flight (found.0 ∷ [])))

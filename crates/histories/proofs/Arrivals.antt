@@ -1,9 +1,9 @@
 -- The replies in a legal run are those of the serial server to the messages in the order in which they arrived.
-use Rattle.std.proofs.Common.{◌≡◌, ℕ, ◌+◌, ◌<◌, ◌≤◌, Bool, false, List, [], ◌∷◌, ◌++◌, Some, refl, ap, sym, ◌∙◌, subst, append_assoc, take, drop, arith}
-use Rattle.std.specs.Prelude.{◌&&◌, ◌==◌, not, nat_lt, IsPermutation}
-use Rattle.std.specs.List.{AllByRecursion, list_any}
+use Rattle.std.proofs.Common.{◌≡◌, ℕ, ◌+◌, ◌<◌, ◌≤◌, false, List, [], ◌∷◌, ◌++◌, Some, ap, sym, ◌∙◌, subst, append_assoc, take, drop, arith}
+use Rattle.std.specs.Prelude.{◌==◌, IsPermutation}
+use Rattle.std.specs.List.{AllByRecursion}
 use Rattle.std.proofs.lemmas.List.{append-nil, take-append-drop}
-use Rattle.std.proofs.lemmas.Bool.{and_parts, or_parts, not-true, lt-ltb, true≢false, or_from}
+use Rattle.std.proofs.lemmas.Bool.{true≢false}
 use Rattle.std.proofs.lemmas.List.Sorted.{IsPermutation-append_left, IsPermutation-append_right, IsPermutation-middle, IsPermutation-refl, IsPermutation-trans}
 use Rattle.affinity.specs.declared.geometry.Geometry.{Geometry}
 use Rattle.affinity.proofs.Elements.{all_join, all_weaker}
@@ -13,31 +13,25 @@ use Rattle.meaning.specs.Serial.{reply_to, state_after_all}
 use Rattle.meaning.specs.Order.{serial_replies, messages_of, by_ticket, InOrderIfRelated}
 use Rattle.meaning.proofs.ByTicket.{by_ticket-ascending, AreAscending as AreEachLess}
 use Rattle.histories.specs.CoreState.{Entry, Replied, CoreState, entries, held, are_related_entries}
-use Rattle.histories.specs.Eligible.{is_conflict_free, has_room, is_eligible, next_eligible}
+use Rattle.histories.specs.Eligible.{is_eligible, next_eligible}
 use Rattle.histories.specs.Events.{Hand, MachineState, Event, find_in_flight, grant, give_back, log}
 use Rattle.histories.specs.Runs.{IsLegal, end_state, logged_at, arrives, logged_messages, arrived, answered}
 use Rattle.histories.specs.Laws.{AreUnrelated, AreAscending, EachBefore, IsSoundCoreState, IsIdle, ticket_replies}
-use Rattle.histories.proofs.Lists.{picked, all_front, all_none, all_permuted, before_back, before_front, before_moved, before_one, before_past, before_push, before_join}
+use Rattle.histories.proofs.Lists.{picked, all_front, all_permuted, before_back, before_front, before_moved, before_one, before_past, before_push, before_join}
 use Rattle.histories.proofs.Apart.{apart_turned, entries-append}
 use Rattle.histories.proofs.Ways.{Passed, Way, Arrives, Grants, Backs, Logs, ways}
 use Rattle.histories.proofs.SerialReplies.{serial_replies-append, IsIn, in_left, IsAsGood, good_itself, good_on, good_push, good_moved}
+use Rattle.histories.proofs.Clearing.{earlier_free}
 use Rattle.histories.proofs.Sound.{event_sound}
 use Rattle.histories.proofs.Idle.{idle_sound, none_in_flight, none_ran, none_logged}
-use Rattle.histories.proofs.Runs.{run_follows, run_answers}
+use Rattle.histories.proofs.Answering.{run_answers}
+use Rattle.histories.proofs.Runs.{run_follows}
 
 -- ---- a run leaves its messages in a list (the row) that is in step with the list of arrivals
 
 -- the row: all that arrived, namely what was logged so far, then what ran, what is in flight and what waits
 abbrev pub row : CoreState → List Replied → List Entry
 row w past = entries past ++ (entries w.ran ++ (w.in_flight ++ w.waiting))
-
-not_any : (p : Entry → Bool) (us : List Entry) → AllByRecursion (λ d. p d ≡ false) us → list_any p us ≡ false
-not_any p [] h = refl
-not_any p (u ∷ us) h = or_from (p u) (list_any p us) h.0 (not_any p us h.1)
-
-any_front : (p : Entry → Bool) (us vs : List Entry) → list_any p (us ++ vs) ≡ false → list_any p us ≡ false
-any_front p [] vs h = refl
-any_front p (u ∷ us) vs h = let k = or_parts (p u) (list_any p (us ++ vs)) h in or_from (p u) (list_any p us) k.0 (any_front p us vs k.1)
 
 -- Two lists in step stay so when the same message is put behind each, and when a message of the second moves forward past unrelated ones.
 pub record KeepsInStep (g : Geometry) (AreInStep : List Entry → List Entry → Type 0) : Type 0 where
@@ -57,17 +51,6 @@ module _ (g : Geometry) (AreInStep : List Entry → List Entry → Type 0) (keep
       ∙ ap (λ l. entries past ++ l) (append_assoc (entries w.ran) _ (e ∷ []) ∙ ap
       (λ l. entries w.ran ++ l) (append_assoc w.in_flight w.waiting (e ∷ [])))
 
-  -- if no message of us is related to e and has a smaller ticket, and all have smaller tickets, none is related to e
-  clear_of : (w : CoreState) (e : Entry) (us : List Entry) → list_any (λ d. nat_lt d.0 e.0 && are_related_entries g e d) us ≡ false
-      → AllByRecursion (λ d. d.0 < e.0) us → AllByRecursion (λ d. are_related_entries g e d ≡ false) us
-  clear_of w e [] h j = tt
-  clear_of w e (u ∷ us) h j =
-      let k = all_none (λ d. nat_lt d.0 e.0 && are_related_entries g e d) (u ∷ us) h in (
-        ap (λ b. b && are_related_entries g e u) (sym (lt-ltb u.0 e.0 j.0))
-            ∙ k.0,
-        clear_of w e us (not_any (λ d. nat_lt d.0 e.0 && are_related_entries g e d) us k.1) j.1,
-      )
-
   module _ (old : CoreState) (past : List Replied) (all : List Entry) (h : IsSoundCoreState g old) (good : AreInStep all (row old past)) where
     grant_in_step : (found : Entry × List Entry) → next_eligible g old ≡ Some found → AreInStep all (row (grant old found) past)
     grant_in_step found first =
@@ -75,13 +58,7 @@ module _ (g : Geometry) (AreInStep : List Entry → List Entry → Type 0) (keep
         let one = found.0 in
         let P = entries past in
         let R = entries old.ran in
-        let waits_before = λ (d : Entry). nat_lt d.0 one.0 && are_related_entries g one d in
-        let clear = (and_parts (is_conflict_free g old one) (has_room old one) k.passes).0 in
-        let early = (and_parts (not (list_any (are_related_entries g one) (held old))) (not (list_any
-        (λ d. nat_lt d.0 one.0 && are_related_entries g one d) old.waiting)) clear).1 in
-        let none = any_front waits_before k.before (one ∷ k.behind) (ap (list_any waits_before) (sym k.whole) ∙ not-true _ early) in
-        let free = clear_of old one k.before none (before_one (λ e d. e.0 < d.0) k.before one k.behind
-        (subst AreAscending k.whole h.ascending)) in
+        let free = earlier_free g old found h first in
         let F = P ++ (R ++ old.in_flight) in
         let joined : (l : List Entry) → P ++ (R ++ (old.in_flight ++ l)) ≡ F ++ l = λ l. ap (λ m. P ++ m) (sym (append_assoc R old.in_flight l))
         ∙ sym (append_assoc P (R ++ old.in_flight) l) in

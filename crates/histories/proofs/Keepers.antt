@@ -1,5 +1,5 @@
 -- The messages that keep a waiting one back are those that did before, without the one that is answered.
-use Rattle.std.proofs.Common.{◌≡◌, ℕ, zero, suc, ◌+◌, ◌<◌, Bool, true, false, List, [], ◌∷◌, ◌++◌, Some, refl, ap, sym, ◌∙◌, subst, take, arith}
+use Rattle.std.proofs.Common.{◌≡◌, ℕ, zero, suc, ◌+◌, ◌<◌, Bool, true, false, List, [], ◌∷◌, ◌++◌, Some, refl, ap, sym, ◌∙◌, take, arith}
 use Rattle.std.specs.Prelude.{◌&&◌, ◌||◌, ◌==◌, cond, count_by, not, nat_lt}
 use Rattle.std.specs.List.{AllByRecursion, list_any}
 use Rattle.std.proofs.lemmas.Bool.{eq-eqb, ne_eqb}
@@ -9,10 +9,10 @@ use Rattle.affinity.specs.declared.geometry.Geometry.{Geometry}
 use Rattle.meaning.specs.Serial.{reply_to}
 use Rattle.histories.specs.declared.outcomes.Outcome.{Outcome}
 use Rattle.histories.specs.CoreState.{Entry, Replied, CoreState, entry, entries, held, are_related_entries}
-use Rattle.histories.specs.Eligible.{is_conflict_free, is_eligible, next_eligible}
+use Rattle.histories.specs.Eligible.{is_conflict_free, next_eligible}
 use Rattle.histories.specs.Events.{MachineState, Event, IsAllowed, find_in_flight, give_back, grant}
-use Rattle.histories.specs.Laws.{IsSoundCoreState}
-use Rattle.histories.specs.Runs.{IsLegal, answered_at, answered_messages, answers, end_state}
+use Rattle.histories.specs.Laws.{IsAnswered, IsSoundCoreState}
+use Rattle.histories.specs.Runs.{IsLegal, answered_at, answered_messages, end_state}
 use Rattle.histories.specs.Progress.{kept_back_by}
 use Rattle.histories.proofs.Apart.{entries-append, held_grant, log_held}
 use Rattle.histories.proofs.Clearing.{all_at, goes_first}
@@ -127,11 +127,34 @@ module _ (g : Geometry) (e : Entry) where
       let fewer = answer_fewer old.core a rest front in
       omega (arith, counted, fewer)
 
+  -- where no message that is answered is related to e, none of those that kept e back is answered
+  way_keeps : {old : MachineState} {event : Event} {p : Passed} → Way g old event p
+      → ((a : Replied) → IsAnswered old.core event.state_after.core a → related (entry a) ≡ false) → answered_of old.core event.outcome ≡ 0
+  way_keeps (Nothing s o quiet) off = ap (count_by (λ a. related (entry a))) quiet.0
+  way_keeps (Points s o room pieces_left works quiet fits) off = ap (count_by (λ a. related (entry a))) quiet.0
+  way_keeps (Fails s o doubt works quiet doubts) off = ap (count_by (λ a. related (entry a))) quiet.0
+  way_keeps (Answers a rest front) off =
+      let counted = ap (λ l. count_by (λ a. related (entry a)) (take 1 l)) front ∙ sum_by-cons (λ (a : Replied). one (entry a)) a [] in
+      let none = ap {B = ℕ} (λ b. cond b 1 0) (off a front) in
+      omega (arith, counted, none)
+  way_keeps _ off = refl
+
 pub event_fewer : (g : Geometry) (old : MachineState) (event : Event) (e : Entry) → IsAllowed g old event → IsSoundCoreState g old.core
     → IsIn e old.core.waiting → IsIn e event.state_after.core.waiting
     → kept_back_by g event.state_after.core e + count_by (λ a. are_related_entries g e (entry a)) (answered_at old.core event.outcome)
     ≡ kept_back_by g old.core e
 event_fewer g old event e allowed sound was is = way_fewer g e (ways g old event allowed) sound was is
+
+-- Only the answer to a message at a related place makes a waiting message conflict-free.
+pub event_clears : {g : Geometry} (old : MachineState) (event : Event) (e : Entry) → IsAllowed g old event → IsSoundCoreState g old.core
+    → IsIn e old.core.waiting → IsIn e event.state_after.core.waiting
+    → ((a : Replied) → IsAnswered old.core event.state_after.core a → are_related_entries g e (entry a) ≡ false)
+    → is_conflict_free g event.state_after.core e ≡ is_conflict_free g old.core e
+event_clears {g} old event e allowed sound was is off =
+    let fewer = event_fewer g old event e allowed sound was is in
+    let none = way_keeps g e (ways g old event allowed) off in
+    let same : kept_back_by g event.state_after.core e ≡ kept_back_by g old.core e = omega (arith, fewer, none) in
+    free_if_none g e event.state_after.core ∙ ap (λ n. n == 0) same ∙ sym (free_if_none g e old.core)
 
 pub run_fewer : (g : Geometry) (old : MachineState) (events : List Event) (e : Entry) → IsLegal g old events → IsSoundCoreState g old.core
     → IsIn e old.core.waiting → AllByRecursion (λ event. IsIn e event.state_after.core.waiting) events

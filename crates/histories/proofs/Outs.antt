@@ -1,25 +1,21 @@
 -- What a message in flight sees of the committed state stays, whatever comes; and which steps leave the messages in flight as they are.
-use Rattle.std.proofs.Common.{◌≡◌, ℕ, ◌+◌, ◌-◌, ◌^◌, Bool, true, false, List, [], ◌∷◌, ◌++◌, Option, Some, None, refl, ap, sym, ◌∙◌, subst, take, drop, length}
-use Rattle.std.specs.Prelude.{map, filter, cond, not, ◌==◌, nat_le, slice_get, MatchBool}
+use Rattle.std.proofs.Common.{◌≡◌, ℕ, true, false, List, [], ◌∷◌, ◌++◌, refl, ap, sym, ◌∙◌, subst, take, drop}
+use Rattle.std.specs.Prelude.{map, filter, cond}
 use Rattle.std.proofs.lemmas.Bool.{true≢false}
 use Rattle.std.specs.List.{AllByRecursion}
 use Rattle.std.proofs.lemmas.List.{take-append-drop}
 use Rattle.affinity.specs.declared.geometry.Geometry.{Geometry}
 use Rattle.affinity.specs.Path.{are_related}
 use Rattle.language.specs.declared.Msg.{Msg}
-use Rattle.language.specs.Messages.{path_of, is_in_range}
+use Rattle.language.specs.Messages.{path_of}
 use Rattle.meaning.specs.Serial.{state_after_all, is_recorded, next_state}
 use Rattle.meaning.specs.Order.{messages_of}
 use Rattle.meaning.specs.Subtrees.{AgreeOn}
 use Rattle.meaning.specs.State.{State}
 use Rattle.meaning.proofs.Agree.{agree-refl, agree-trans}
 use Rattle.meaning.proofs.Frame.{left_alone}
-use Rattle.histories.specs.declared.outcomes.Outcome.{Outcome}
-use Rattle.histories.specs.declared.outcomes.PointRefusal.{PointRefusal}
-use Rattle.histories.specs.declared.outcomes.Step.{Step}
-use Rattle.histories.specs.declared.outcomes.Step.TheVariants as steps
-use Rattle.histories.specs.CoreState.{Entry, Replied, CoreState, entry, entries, held, are_related_entries}
-use Rattle.histories.specs.Events.{Hand, MachineState, Job, Event, IsAllowed, IsWithoutFault, IsFault, answer, arrive, batch, fail_step, flip_refusal, apply_step, recorded, piece_refusal, point_refusal, run_hand, unless_refused}
+use Rattle.histories.specs.CoreState.{Entry, Replied, CoreState, entry, entries, are_related_entries}
+use Rattle.histories.specs.Events.{MachineState, Event, IsAllowed, batch, recorded}
 use Rattle.histories.specs.Laws.{EachBefore, IsSoundCoreState, dispatches_or_returns}
 use Rattle.histories.proofs.Apart.{apart_turned, entries-append}
 use Rattle.histories.proofs.Clearing.{all_at}

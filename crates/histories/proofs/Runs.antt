@@ -1,7 +1,7 @@
 -- The replies in a legal run, in log order, and the state that it commits.
-use Rattle.std.proofs.Common.{◌≡◌, Bool, true, false, List, [], ◌∷◌, ◌++◌, refl, ap, sym, ◌∙◌, append_assoc, take}
+use Rattle.std.proofs.Common.{◌≡◌, Bool, true, false, List, [], ◌∷◌, ◌++◌, refl, ap, sym, ◌∙◌, take}
 use Rattle.std.specs.Prelude.{◌||◌, if◌then◌else◌, map, filter}
-use Rattle.std.proofs.lemmas.List.{append-nil, map-append}
+use Rattle.std.proofs.lemmas.List.{map-append}
 use Rattle.std.proofs.lemmas.List.Elements.{filter-append}
 use Rattle.affinity.specs.declared.geometry.Geometry.{Geometry}
 use Rattle.meaning.specs.Serial.{state_after_all, is_recorded}
@@ -10,10 +10,10 @@ use Rattle.histories.specs.declared.outcomes.Step.{Step}
 use Rattle.histories.specs.declared.outcomes.Step.TheVariants as steps
 use Rattle.histories.specs.CoreState.{Replied, CoreState, entries}
 use Rattle.histories.specs.Events.{MachineState, Event, IsAllowed, batch, recorded}
-use Rattle.histories.specs.Runs.{IsLegal, end_state, logged_at, appended_at, answers, logged_messages, appended_messages, answered}
+use Rattle.histories.specs.Runs.{IsLegal, end_state, logged_at, appended_at, logged_messages, appended_messages}
 use Rattle.histories.specs.Laws.{IsSoundCoreState, ticket_replies}
 use Rattle.histories.proofs.Apart.{entries-append}
-use Rattle.histories.proofs.Ways.{Passed, Way, Logs, Answers, ways}
+use Rattle.histories.proofs.Ways.{Passed, Way, Logs, ways}
 use Rattle.histories.proofs.SerialReplies.{state_after_all-append, state_after_all-joined, serial_replies-append, ticket_replies-append}
 use Rattle.histories.proofs.Sound.{row_of, event_sound}
 
@@ -48,28 +48,6 @@ run_follows g old (event ∷ events) legal h =
       committed = j.committed ∙ ap (λ y. state_after_all g y (messages_of (entries later))) k.committed ∙ sym (state_after_all-append g x (entries gone) (entries later))
           ∙ ap (λ l. state_after_all g x (messages_of l)) (sym (entries-append gone later));
     }
-
--- ---- what is answered
-
-way_answers : {g : Geometry} {old : MachineState} {event : Event} {p : Passed} → Way g old event p
-    → ticket_replies old.core.logged ++ ticket_replies p.gone ≡ p.reply_pairs ++ ticket_replies event.state_after.core.logged
-way_answers {old = old} (Logs n works) = sym (ticket_replies-append old.core.logged (take n old.core.ran))
-way_answers (Answers a rest front) = append-nil _ ∙ ap ticket_replies front
-way_answers _ = append-nil _
-
--- The replies of what was logged before a run and in it, in log order, are those that it gives, and then those of what is still logged.
-pub run_answers : (g : Geometry) (old : MachineState) (events : List Event) → IsLegal g old events
-    → ticket_replies old.core.logged ++ ticket_replies (logged_messages old events) ≡ answered events ++ ticket_replies (end_state old events).core.logged
-run_answers g old [] legal = append-nil (ticket_replies old.core.logged)
-run_answers g old (event ∷ events) legal =
-    let gone = logged_at old.core event.step event.device_failed in
-    let later = logged_messages event.state_after events in
-    ap (λ l. ticket_replies old.core.logged ++ l) (ticket_replies-append gone later)
-    ∙ sym (append_assoc (ticket_replies old.core.logged) (ticket_replies gone) (ticket_replies later))
-    ∙ ap (λ l. l ++ ticket_replies later) (way_answers (ways g old event legal.0))
-    ∙ append_assoc (answers event.outcome) (ticket_replies event.state_after.core.logged) (ticket_replies later)
-    ∙ ap (λ l. answers event.outcome ++ l) (run_answers g event.state_after events legal.1)
-    ∙ sym (append_assoc (answers event.outcome) (answered events) (ticket_replies (end_state event.state_after events).core.logged))
 
 -- ---- what is appended to the log
 

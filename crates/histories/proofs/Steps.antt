@@ -6,7 +6,6 @@ use Rattle.std.proofs.lemmas.List.{length-append, take-append-drop}
 use Rattle.std.proofs.lemmas.List.Sums.{sum_by-cons}
 use Rattle.affinity.specs.declared.geometry.Geometry.{Geometry}
 use Rattle.meaning.specs.Serial.{reply_to}
-use Rattle.histories.specs.CoreState.{Entry}
 use Rattle.histories.specs.Events.{MachineState, Empty, Job, Result, Event, IsAllowed}
 use Rattle.histories.specs.Laws.{IsIdle, full_hands}
 use Rattle.histories.specs.Progress.{has_job, steps_at, steps_in, steps_to_come, useful_events}

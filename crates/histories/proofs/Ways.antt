@@ -1,6 +1,6 @@
 -- The ways that an event can go: one case analysis of the steps, which the lemmas on events share.
 use Rattle.std.proofs.Common.{◌≡◌, ℕ, zero, suc, ◌+◌, ◌-◌, ◌^◌, ◌<◌, ◌≤◌, Bool, true, false, List, [], ◌∷◌, ◌++◌, Option, Some, None, refl, ap, sym, ◌∙◌, subst, take, length, arith}
-use Rattle.std.specs.Prelude.{◌&&◌, ◌||◌, not, if◌then◌else◌, is_none, is_some, nat_lt, nat_le, ◌==◌, MatchBool, get_or, slice_get, set, position}
+use Rattle.std.specs.Prelude.{◌&&◌, not, if◌then◌else◌, is_none, is_some, nat_lt, nat_le, ◌==◌, MatchBool, get_or, slice_get, set, position}
 use Rattle.std.specs.List.{list_any}
 use Rattle.std.proofs.lemmas.Bool.{true≢false, ltb-false, leb-false}
 use Rattle.std.proofs.lemmas.List.Sums.{count_by-le-length}

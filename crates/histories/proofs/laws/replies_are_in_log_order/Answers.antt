@@ -1,6 +1,7 @@
 -- The lemmas on what a run logs and answers.
 use Rattle.std.proofs.Common.{sym}
-use Rattle.histories.proofs.Runs.{run_follows, run_answers}
+use Rattle.histories.proofs.Answering.{run_answers}
+use Rattle.histories.proofs.Runs.{run_follows}
 use Rattle.histories.proofs.laws.replies_are_in_log_order.Goals as goal
 
 pub returns-clause-replied : goal.returns-clause-replied
