@@ -83,11 +83,7 @@ module _ (g : Geometry) (old new : CoreState) where
   point_called (Ok u) h hands = record { to_write = 0; at_most = omega arith; does = carried hands (point_refusal old) outcomes.Pointed _ h.0 h.1 }
   point_called (Err points.Device) h hands =
       record { touched = ap is_none h.0; core = λ i. (outcomes.PointRefused points.Device, sym h.1 i); hands = refl }
-  point_called (Err points.Held) h hands = record { to_write = 0; at_most = omega arith; does = refused hands (point_refusal old) _ points.Held h.0 h.1 }
-  point_called (Err points.Failed) h hands = record { to_write = 0; at_most = omega arith; does = refused hands (point_refusal old) _ points.Failed h.0 h.1 }
-  point_called (Err points.Running) h hands = record { to_write = 0; at_most = omega arith; does = refused hands (point_refusal old) _ points.Running h.0 h.1 }
-  point_called (Err points.NotRunning) h hands = record { to_write = 0; at_most = omega arith; does = refused hands (point_refusal old) _ points.NotRunning h.0 h.1 }
-  point_called (Err points.Unfinished) h hands = record { to_write = 0; at_most = omega arith; does = refused hands (point_refusal old) _ points.Unfinished h.0 h.1 }
+  point_called (Err why) h hands = record { to_write = 0; at_most = omega arith; does = refused hands (point_refusal old) _ why h.0 h.1 }
 
   abbrev HasCut : Type 0
   HasCut = (n : ℕ) × (n ≤ piece_count g) × (new ≡ record old { room = g.half; pieces_left = Some n })
@@ -97,11 +93,7 @@ module _ (g : Geometry) (old new : CoreState) where
   cut_called (Ok u) h hands = record { to_write = h.1.0; at_most = h.1.1; does = carried hands (point_refusal old) outcomes.Cut _ h.0 h.1.2 }
   cut_called (Err points.Device) h hands =
       record { touched = ap is_none h.0; core = λ i. (outcomes.PointRefused points.Device, sym h.1 i); hands = refl }
-  cut_called (Err points.Held) h hands = record { to_write = 0; at_most = omega arith; does = refused hands (point_refusal old) _ points.Held h.0 h.1 }
-  cut_called (Err points.Failed) h hands = record { to_write = 0; at_most = omega arith; does = refused hands (point_refusal old) _ points.Failed h.0 h.1 }
-  cut_called (Err points.Running) h hands = record { to_write = 0; at_most = omega arith; does = refused hands (point_refusal old) _ points.Running h.0 h.1 }
-  cut_called (Err points.NotRunning) h hands = record { to_write = 0; at_most = omega arith; does = refused hands (point_refusal old) _ points.NotRunning h.0 h.1 }
-  cut_called (Err points.Unfinished) h hands = record { to_write = 0; at_most = omega arith; does = refused hands (point_refusal old) _ points.Unfinished h.0 h.1 }
+  cut_called (Err why) h hands = record { to_write = 0; at_most = omega arith; does = refused hands (point_refusal old) _ why h.0 h.1 }
 
   pub piece_called : (r : Result ℕ PointRefusal) → IsPieceStep old new r → IsCallEvent g old new steps.Piece (step_outcome outcomes.Left r) (checkpoint_device_failed r)
   piece_called (Ok n) h hands = record {
@@ -116,19 +108,11 @@ module _ (g : Geometry) (old new : CoreState) where
     core = λ i. (outcomes.PointRefused points.Device, sym h.2 i);
     hands = refl;
   }
-  piece_called (Err points.Held) h hands = record { to_write = 0; at_most = omega arith; does = refused hands (piece_refusal old) _ points.Held h.0 h.1 }
-  piece_called (Err points.Failed) h hands = record { to_write = 0; at_most = omega arith; does = refused hands (piece_refusal old) _ points.Failed h.0 h.1 }
-  piece_called (Err points.Running) h hands = record { to_write = 0; at_most = omega arith; does = refused hands (piece_refusal old) _ points.Running h.0 h.1 }
-  piece_called (Err points.NotRunning) h hands = record { to_write = 0; at_most = omega arith; does = refused hands (piece_refusal old) _ points.NotRunning h.0 h.1 }
-  piece_called (Err points.Unfinished) h hands = record { to_write = 0; at_most = omega arith; does = refused hands (piece_refusal old) _ points.Unfinished h.0 h.1 }
+  piece_called (Err why) h hands = record { to_write = 0; at_most = omega arith; does = refused hands (piece_refusal old) _ why h.0 h.1 }
 
   pub flip_called : (r : Result (Unit {0}) PointRefusal) → IsCheckpointStep old new (flip_refusal old) (new ≡ record old { pieces_left = None }) r
       → IsCallEvent g old new steps.Flip (step_outcome (λ _. outcomes.Flipped) r) (checkpoint_device_failed r)
   flip_called (Ok u) h hands = record { to_write = 0; at_most = omega arith; does = carried hands (flip_refusal old) outcomes.Flipped _ h.0 h.1 }
   flip_called (Err points.Device) h hands =
       record { touched = ap is_none h.0; core = λ i. (outcomes.PointRefused points.Device, sym h.1 i); hands = refl }
-  flip_called (Err points.Held) h hands = record { to_write = 0; at_most = omega arith; does = refused hands (flip_refusal old) _ points.Held h.0 h.1 }
-  flip_called (Err points.Failed) h hands = record { to_write = 0; at_most = omega arith; does = refused hands (flip_refusal old) _ points.Failed h.0 h.1 }
-  flip_called (Err points.Running) h hands = record { to_write = 0; at_most = omega arith; does = refused hands (flip_refusal old) _ points.Running h.0 h.1 }
-  flip_called (Err points.NotRunning) h hands = record { to_write = 0; at_most = omega arith; does = refused hands (flip_refusal old) _ points.NotRunning h.0 h.1 }
-  flip_called (Err points.Unfinished) h hands = record { to_write = 0; at_most = omega arith; does = refused hands (flip_refusal old) _ points.Unfinished h.0 h.1 }
+  flip_called (Err why) h hands = record { to_write = 0; at_most = omega arith; does = refused hands (flip_refusal old) _ why h.0 h.1 }
