@@ -2,8 +2,8 @@
 use Rattle.std.proofs.Common.{◌≡◌, ◌<◌, Bool, true, false, List, [], ◌∷◌, ◌++◌, map, Option, Some, None, refl, ap, sym, subst, ◌∙◌}
 use Rattle.std.specs.Prelude.{◌&&◌, ◌||◌, not, nat_lt, if◌then◌else◌, cond, is_some, option_map}
 use Rattle.std.specs.List.{AllByRecursion, find, list_any}
-use Rattle.std.proofs.Math.Bool.{and_comm}
-use Rattle.std.proofs.lemmas.Bool.{true≢false, or_right}
+use Rattle.std.proofs.Math.Bool.{and_comm, or_comm}
+use Rattle.std.proofs.lemmas.Bool.{true≢false}
 use Rattle.std.proofs.lemmas.List.Folds.{list_any-append}
 use Rattle.std.proofs.lemmas.Option.{none-some, same_Some}
 use Rattle.affinity.proofs.Preorder.{are_related-contains}
@@ -115,23 +115,13 @@ chosen p q (y ∷ ys) same t h = by (chosen p q ys same.1 t) (p (queued_of y)) r
           ∙ ap (λ o. option_map (λ (found : Entry × List Entry). (found.0, entry_of y ∷ found.1)) o) k.picked;
     }
 
-pub none_chosen : (p : QueuedMessage → Bool) (q : Entry → Bool) (ys : List SlotView) → Same p q ys → find p (map queued_of ys) ≡ None → list_any q (map entry_of ys) ≡ false
-none_chosen p q [] same h = refl
-none_chosen p q (y ∷ ys) same h = by (none_chosen p q ys same.1) (p (queued_of y)) refl h
+any_found : (p : QueuedMessage → Bool) (q : Entry → Bool) (ys : List SlotView) → Same p q ys → list_any q (map entry_of ys) ≡ is_some (find p (map queued_of ys))
+any_found p q [] same = refl
+any_found p q (y ∷ ys) same = (λ i. sym same.0 i || any_found p q ys same.1 i) ∙ by (p (queued_of y))
   where
-    by : (find p (map queued_of ys) ≡ None → list_any q (map entry_of ys) ≡ false) → (b : Bool) → p (queued_of y) ≡ b
-        → cond b (Some (queued_of y)) (find p (map queued_of ys)) ≡ None → (q (entry_of y) || list_any q (map entry_of ys)) ≡ false
-    by deeper true e h = absurd (true≢false (ap is_some h))
-    by deeper false e h = (λ i. (sym same.0 ∙ e) i || list_any q (map entry_of ys)) ∙ deeper h
-
-pub some_chosen : (p : QueuedMessage → Bool) (q : Entry → Bool) (ys : List SlotView) → Same p q ys → (t : QueuedMessage) → find p (map queued_of ys) ≡ Some t → list_any q (map entry_of ys) ≡ true
-some_chosen p q [] same t h = absurd (none-some t h)
-some_chosen p q (y ∷ ys) same t h = by (some_chosen p q ys same.1 t) (p (queued_of y)) refl h
-  where
-    by : (find p (map queued_of ys) ≡ Some t → list_any q (map entry_of ys) ≡ true) → (b : Bool) → p (queued_of y) ≡ b
-        → cond b (Some (queued_of y)) (find p (map queued_of ys)) ≡ Some t → (q (entry_of y) || list_any q (map entry_of ys)) ≡ true
-    by deeper true e h = λ i. (sym same.0 ∙ e) i || list_any q (map entry_of ys)
-    by deeper false e h = (λ i. q (entry_of y) || deeper h i) ∙ or_right (q (entry_of y)) true refl
+    by : (b : Bool) → (b || is_some (find p (map queued_of ys))) ≡ is_some (cond b (Some (queued_of y)) (find p (map queued_of ys)))
+    by true = refl
+    by false = refl
 
 abbrev pick_if : Entry → List Entry → Option (Entry × List Entry) → Bool → Option (Entry × List Entry)
 pick_if e es o b = if b then Some (e, es) else option_map (λ (found : Entry × List Entry). (found.0, e ∷ found.1)) o
@@ -158,15 +148,9 @@ module _ (keeps : Type 0) (p : Parts) (k : IsCore keeps p) where
       not ((k.queue_held (λ o. are_related_intervals (queued_of x).affinity o.affinity) ∙ held_touch geometry p.phases k.placed x a) i)
       && not ((ap (list_any (waits_for (queued_of x))) k.queue_waiting ∙ waits_touch geometry p.phases.waiting k.placed.waiting x a) i)
 
-  or_turned : (a b : Bool) → (a || not b) ≡ (not b || a)
-  or_turned true true = refl
-  or_turned true false = refl
-  or_turned false true = refl
-  or_turned false false = refl
-
   module _ (room : Bool) (is_room : room ≡ nat_lt p.unlogged p.journal.room) where
     room_same : (x : SlotView) → has_room room (queued_of x) ≡ has_room_for w (entry_of x)
-    room_same x = or_turned room (queued_of x).changing
+    room_same x = or_comm room (not (queued_of x).changing)
         ∙ ap (λ b. not (queued_of x).changing || b) (is_room ∙ ap (λ n. nat_lt n p.journal.room) k.unlogged_is)
 
     same_test : Same (λ t. has_room room t && is_conflict_free p.queue.held p.queue.waiting t) (is_eligible geometry w) p.phases.waiting
@@ -182,7 +166,7 @@ module _ (keeps : Type 0) (p : Parts) (k : IsCore keeps p) where
     goes_first t h = chosen _ (is_eligible geometry w) p.phases.waiting same_test t (sym found_first ∙ h)
 
     none_any : next_queued room p.queue.held p.queue.waiting ≡ None → list_any (is_eligible geometry w) w.waiting ≡ false
-    none_any h = none_chosen _ (is_eligible geometry w) p.phases.waiting same_test (sym found_first ∙ h)
+    none_any h = any_found _ (is_eligible geometry w) p.phases.waiting same_test ∙ ap is_some (sym found_first ∙ h)
 
     pub none_goes : next_queued room p.queue.held p.queue.waiting ≡ None → next_eligible geometry w ≡ None
     none_goes h = none_picked (is_eligible geometry w) w.waiting (none_any h)
@@ -207,13 +191,9 @@ module _ (keeps : Type 0) (p : Parts) (k : IsCore keeps p) where
       by false r rest h j = j h
 
   module _ (room : Bool) (is_room : room ≡ nat_lt p.unlogged p.journal.room) (none : next_queued room p.queue.held p.queue.waiting ≡ None) where
-    pub lacks_room : (t : QueuedMessage) → next_queued true p.queue.held p.queue.waiting ≡ Some t → grant_refusal geometry w ≡ outcomes.NoRoom
-    lacks_room t h = ap (λ b. if b then outcomes.NoRoom else outcomes.NoneEligible)
-        (lacking w.waiting (none_any room is_room none) ∙ some_chosen _ (is_clear_in geometry w) p.phases.waiting clear_test t (sym found_clear ∙ h))
-
-    pub none_eligible : next_queued true p.queue.held p.queue.waiting ≡ None → grant_refusal geometry w ≡ outcomes.NoneEligible
-    none_eligible h = ap (λ b. if b then outcomes.NoRoom else outcomes.NoneEligible)
-        (lacking w.waiting (none_any room is_room none) ∙ none_chosen _ (is_clear_in geometry w) p.phases.waiting clear_test (sym found_clear ∙ h))
+    reason : grant_refusal geometry w ≡ (if is_some (next_queued true p.queue.held p.queue.waiting) then outcomes.NoRoom else outcomes.NoneEligible)
+    reason = ap (λ b. if b then outcomes.NoRoom else outcomes.NoneEligible)
+        (lacking w.waiting (none_any room is_room none) ∙ any_found _ (is_clear_in geometry w) p.phases.waiting clear_test ∙ ap is_some (sym found_clear))
 
     pub none_is_granted : w.failed ≡ false → (why : Granted)
         → why ≡ (if is_some (next_queued true p.queue.held p.queue.waiting) then granted.NoRoom else granted.NoneEligible)
@@ -222,5 +202,5 @@ module _ (keeps : Type 0) (p : Parts) (k : IsCore keeps p) where
       where
         by : (o : Option QueuedMessage) → next_queued true p.queue.held p.queue.waiting ≡ o
             → IsGranted geometry w w (if is_some o then granted.NoRoom else granted.NoneEligible)
-        by (Some t) h = record { works = works; none = none_goes room is_room none; reason = lacks_room t h; same = refl }
-        by None h = record { works = works; none = none_goes room is_room none; reason = none_eligible h; same = refl }
+        by (Some t) h = record { works = works; none = none_goes room is_room none; reason = reason ∙ ap (λ o. if is_some o then outcomes.NoRoom else outcomes.NoneEligible) h; same = refl }
+        by None h = record { works = works; none = none_goes room is_room none; reason = reason ∙ ap (λ o. if is_some o then outcomes.NoRoom else outcomes.NoneEligible) h; same = refl }
