@@ -1,11 +1,10 @@
 -- The changes among the messages that ran, gathered one after the other.
 use Rattle.std.proofs.Common.{◌≡◌, ℕ, zero, suc, ◌+◌, ◌≤◌, ◌<◌, true, false, List, [], ◌∷◌, ◌++◌, map, length, take, drop, get_or, Option, Some, None, refl, sym, ap, subst, ◌∙◌, arith, inl, inr}
-use Rattle.std.specs.Prelude.{cond, filter, slice_index_or, if◌then◌else◌, unwrap_or}
+use Rattle.std.specs.Prelude.{cond, slice_index_or, if◌then◌else◌, unwrap_or}
 use Rattle.std.specs.List.{concat}
 use Rattle.std.proofs.lemmas.Bool.{lt-ltb, le-ltb, eq-eqb}
 use Rattle.std.proofs.lemmas.Bool.Decides.{eqb_tells}
 use Rattle.std.proofs.lemmas.List.{length-append, map-append}
-use Rattle.std.proofs.lemmas.List.Elements.{filter-append}
 use Rattle.std.proofs.lemmas.List.Sums.{sum_by-append, sum_by-cons}
 use Rattle.std.proofs.lemmas.Option.{none-some, same_Some}
 use Rattle.arena.specs.Lists.{behind, behind_in, first_of, count_of}
@@ -26,6 +25,7 @@ use Rattle.scheduler.specs.Moving.{changing_in, recorded_in}
 use Rattle.scheduler.specs.Parts.{replied_of}
 use Rattle.scheduler.specs.Slots.{HasChains, SlotView, no_slot, slot_view_at}
 use Rattle.scheduler.specs.declared.slot.Slot.{Slot}
+use Rattle.histories.proofs.Answering.{recorded-append}
 
 -- ---- the slot behind one on its chain
 
@@ -97,10 +97,7 @@ gathered_append : (arena : ArenaView Slot) (replies : List Reply) (xs ys : List 
 gathered_append arena replies xs ys =
     ap (λ (l : List SlotView). recorded (map replied_of l)) (map-append (slot_view_at arena replies) xs ys)
     ∙ ap recorded (map-append replied_of (map (slot_view_at arena replies) xs) (map (slot_view_at arena replies) ys))
-    ∙ ap (λ (l : List Replied). map (λ (a : Replied). a.1) l)
-    (filter-append (λ (a : Replied). is_recorded a.1 a.2) (map replied_of (map (slot_view_at arena replies) xs)) (map replied_of (map (slot_view_at arena replies) ys)))
-    ∙ map-append (λ (a : Replied). a.1) (filter (λ (a : Replied). is_recorded a.1 a.2) (map replied_of (map (slot_view_at arena replies) xs)))
-    (filter (λ (a : Replied). is_recorded a.1 a.2) (map replied_of (map (slot_view_at arena replies) ys)))
+    ∙ recorded-append (map replied_of (map (slot_view_at arena replies) xs)) (map replied_of (map (slot_view_at arena replies) ys))
 
 any_ticket : (t u : ℕ) (m : Msg) (r : Reply) → recorded ((t, m, r) ∷ []) ≡ recorded ((u, m, r) ∷ [])
 any_ticket t u m r = elim (is_recorded m r) as (λ b. map (λ (a : Replied). a.1) (cond b ((t, m, r) ∷ []) []) ≡ map (λ (a : Replied). a.1) (cond b ((u, m, r) ∷ []) [])) [

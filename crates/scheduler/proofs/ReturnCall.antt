@@ -7,7 +7,7 @@ use Rattle.std.proofs.lemmas.Bool.{and_parts, eq-eqb, true≢false, not-true, an
 use Rattle.std.proofs.lemmas.Bool.Decides.{eqb_tells}
 use Rattle.std.proofs.lemmas.List.{get_or-set_other, get_or-set_same, length-append, length-set}
 use Rattle.std.proofs.lemmas.List.Folds.{list_any-append}
-use Rattle.std.proofs.Math.Bool.{or-false}
+use Rattle.std.proofs.Math.Bool.{or-false, or-true}
 use Rattle.affinity.specs.Interval.{Interval, IsAffinityOf, interval}
 use Rattle.affinity.specs.Path.{Path}
 use Rattle.affinity.specs.declared.geometry.Geometry.{Geometry}
@@ -166,10 +166,7 @@ module _ (keeps : Type 0) (p : Parts) (k : IsCore keeps p) (before : List SlotVi
       ∙ all_true (list_any t p.phases.logged) (list_any t p.phases.ran) (list_any t before)
     where
       all_true : (a b c : Bool) → (a || (b || (c || true))) ≡ true
-      all_true true b c = refl
-      all_true false true c = refl
-      all_true false false true = refl
-      all_true false false false = refl
+      all_true a b c = simp or-true
 
 -- ---- the call
 

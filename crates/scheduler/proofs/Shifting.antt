@@ -7,10 +7,7 @@ use Rattle.scheduler.proofs.Chains.{chain_joined, chain_left, chain_stays, four_
 use Rattle.scheduler.specs.Moving.{HasLogged}
 use Rattle.scheduler.specs.Slots.{HasChains}
 use Rattle.scheduler.specs.declared.slot.Slot.{Slot}
-
-append_none : {X : Type 0} (xs : List X) → xs ++ [] ≡ xs
-append_none [] = refl
-append_none (x ∷ xs) = ap (λ l. x ∷ l) (append_none xs)
+use Rattle.std.proofs.lemmas.List.{append-nil, length-drop}
 
 -- ---- one more of the first ones
 
@@ -25,16 +22,14 @@ drop_more (suc n) [] = refl
 drop_more (suc n) (x ∷ xs) = drop_more n xs
 
 pub left_over : {X : Type 0} (n : ℕ) (xs : List X) → n < length xs → 0 < length (drop n xs)
-left_over zero xs low = low
-left_over (suc n) [] low = absurd (omega (arith, low))
-left_over (suc n) (x ∷ xs) low = left_over n xs (omega (arith, low))
+left_over n xs low = simp length-drop (omega (arith, low))
 
 -- ---- what ran is logged
 
 pub none_logged : (arena : ArenaView Slot) → HasChains arena → HasLogged 0 arena arena
 none_logged arena is = record {
   ran = refl;
-  logged = sym (append_none (chain_at arena 3));
+  logged = sym (append-nil (chain_at arena 3));
   waiting = refl;
   in_flight = refl;
   values = refl;

@@ -6,29 +6,18 @@ use Rattle.std.proofs.lemmas.List.Folds.{list_any-append}
 use Rattle.scheduler.specs.Parts.{held_any, queued_of}
 use Rattle.scheduler.specs.Slots.{Phases, SlotView}
 use Rattle.run_queue.specs.declared.queued_message.QueuedMessage.{QueuedMessage}
+use Rattle.std.proofs.Math.Bool.{or-false, or-true, or_assoc}
 
 or_last : (t l r o : Bool) → (t || (l || (r || o))) ≡ (l || (r || (o || (t || false))))
-or_last true true r o = refl
-or_last true false true o = refl
-or_last true false false true = refl
-or_last true false false false = refl
-or_last false true r o = refl
-or_last false false true o = refl
-or_last false false false true = refl
-or_last false false false false = refl
+or_last true l r o = simp or-true
+or_last false l r o = simp or-false
 
 or_back : (l r b t c : Bool) → (l || (r || (b || (t || c)))) ≡ (l || ((r || (t || false)) || (b || c)))
-or_back true r b t c = refl
-or_back false true b t c = refl
-or_back false false true true c = refl
-or_back false false true false c = refl
-or_back false false false true c = refl
-or_back false false false false c = refl
+or_back l r true t c = simp or-true
+or_back l r false t c = simp (or-false, or_assoc)
 
 or_logged : (l f s o : Bool) → (l || ((f || s) || o)) ≡ ((l || f) || (s || o))
-or_logged true f s o = refl
-or_logged false true s o = refl
-or_logged false false s o = refl
+or_logged l f s o = simp or_assoc
 
 module _ (test : QueuedMessage → Bool) where
   abbrev t : SlotView → Bool
