@@ -13,6 +13,7 @@ use Rattle.histories.proofs.Sound.{answer_sound}
 use Rattle.histories.specs.Laws.{AreUnrelated}
 use Rattle.histories.specs.CoreState.{Entry, entries, are_related_entries}
 use Rattle.language.specs.Messages.{path_of}
+use Rattle.scheduler.proofs.Counting.{AreClaimed, HasHeld}
 use Rattle.scheduler.proofs.Tests.{any_answered, any_filter}
 use Rattle.scheduler.specs.Parts.{IsCore, IsPlaced, Parts, entry_of, replied_of, queued_of, core_state_in}
 use Rattle.scheduler.specs.Slots.{SlotView}
@@ -86,23 +87,11 @@ module _ (keeps : Type 0) (p : Parts) (k : IsCore keeps p) (x : SlotView) (behin
       let rans = subst (AllByRecursion (λ d. are_related_entries g (entry_of x) d ≡ false)) (entries_of p.phases.ran)
       (all_front (λ d. are_related_entries g (entry_of x) d ≡ false) (entries (map replied_of p.phases.ran)) _ rest) in
       let outs = all_back (λ d. are_related_entries g (entry_of x) d ≡ false) (entries (map replied_of p.phases.ran)) _ rest in
-      record {
-        claimed = omega (arith, count, claimed, is_free);
-        placed = record { waiting = k.placed.waiting; in_flight = k.placed.in_flight; ran = k.placed.ran; logged = all_logged.1 };
-        queue_geometry = k.queue_geometry;
-        queue_slots = k.queue_slots;
-        queue_waiting = k.queue_waiting;
-        queue_held = λ test. any_filter test (λ t. not (has_number x.1.affinity.number t)) p.queue.held
-            ∙ k.queue_held (λ t. not (has_number x.1.affinity.number t) && test t)
-            ∙ any_answered test (λ t. not (has_number x.1.affinity.number t)) p.phases whole (ap not (eq-eqb x.1.affinity.number x.1.affinity.number refl))
-            (other_numbers g x all_logged.0 behind all_logged.1 behinds)
-            (other_numbers g x all_logged.0 p.phases.ran k.placed.ran rans)
-            (other_numbers g x all_logged.0 p.phases.in_flight k.placed.in_flight outs);
-        unlogged_is = k.unlogged_is;
-        sound = answer_sound g (core_state_in p) k.sound (replied_of x) (map replied_of behind) answer_front;
-        geometry = k.geometry;
-        tree = k.tree;
-        is_committed = k.is_committed;
-        recovers = k.recovers;
-        no_doubt = k.no_doubt;
-      }
+      let slots : AreClaimed after = omega (arith, count, claimed, is_free) in
+      let queue_held : HasHeld after = λ test. any_filter test (λ t. not (has_number x.1.affinity.number t)) p.queue.held
+      ∙ k.queue_held (λ t. not (has_number x.1.affinity.number t) && test t)
+      ∙ any_answered test (λ t. not (has_number x.1.affinity.number t)) p.phases whole (ap not (eq-eqb x.1.affinity.number x.1.affinity.number refl))
+      (other_numbers g x all_logged.0 behind all_logged.1 behinds)
+      (other_numbers g x all_logged.0 p.phases.ran k.placed.ran rans)
+      (other_numbers g x all_logged.0 p.phases.in_flight k.placed.in_flight outs) in
+      assumption (slots, all_logged.1, queue_held, answer_sound g (core_state_in p) k.sound (replied_of x) (map replied_of behind) answer_front, k)

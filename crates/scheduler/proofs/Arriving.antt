@@ -1,11 +1,11 @@
 -- A core that takes a message in.
-use Rattle.std.proofs.Common.{◌≡◌, ℕ, suc, ◌+◌, ◌<◌, [], ◌∷◌, ◌++◌, map, length, refl, ap, sym, subst, ◌∙◌, arith}
+use Rattle.std.proofs.Common.{◌≡◌, ℕ, suc, ◌+◌, ◌<◌, [], ◌∷◌, ◌++◌, map, length, ap, sym, subst, ◌∙◌, arith}
 use Rattle.std.proofs.lemmas.List.{length-append, map-append}
 use Rattle.affinity.proofs.Elements.{all_join}
 use Rattle.histories.proofs.Sound.{arrive_sound}
 use Rattle.histories.specs.Laws.{IsSoundCoreState}
 use Rattle.histories.specs.CoreState.{held}
-use Rattle.scheduler.proofs.Counting.{messages_counted}
+use Rattle.scheduler.proofs.Counting.{AreClaimed, messages_counted}
 use Rattle.scheduler.specs.Parts.{IsCore, IsPlaced, Parts, entry_of, queued_of, core_state_in}
 use Rattle.scheduler.specs.Slots.{SlotView}
 
@@ -32,24 +32,9 @@ module _ (keeps : Type 0) (p : Parts) (k : IsCore keeps p) (x : SlotView) (free 
   arrival_core =
       let more = length-append p.phases.waiting (x ∷ []) in
       let claimed = k.claimed in
-      record {
-        claimed = omega (arith, more, claimed, was_free);
-        placed = record {
-          waiting = all_join (IsPlaced p.journal.geometry) p.phases.waiting (x ∷ []) k.placed.waiting (placed, tt);
-          in_flight = k.placed.in_flight;
-          ran = k.placed.ran;
-          logged = k.placed.logged;
-        };
-        queue_geometry = k.queue_geometry;
-        queue_slots = k.queue_slots;
-        queue_waiting = ap (λ ts. ts ++ queued_of x ∷ []) k.queue_waiting ∙ sym (map-append queued_of p.phases.waiting (x ∷ []));
-        queue_held = k.queue_held;
-        unlogged_is = k.unlogged_is;
-        sound = subst (IsSoundCoreState p.journal.geometry) (sym arrival_state)
-            (arrive_sound p.journal.geometry (core_state_in p) k.sound x.1.message has_slot);
-        geometry = k.geometry;
-        tree = k.tree;
-        is_committed = k.is_committed;
-        recovers = k.recovers;
-        no_doubt = k.no_doubt;
-      }
+      let slots : AreClaimed (with_arrival p x free) = omega (arith, more, claimed, was_free) in
+      let waiting = all_join (IsPlaced p.journal.geometry) p.phases.waiting (x ∷ []) k.placed.waiting (placed, tt) in
+      let queue_waiting = ap (λ ts. ts ++ queued_of x ∷ []) k.queue_waiting ∙ sym (map-append queued_of p.phases.waiting (x ∷ [])) in
+      let sound = subst (IsSoundCoreState p.journal.geometry) (sym arrival_state)
+      (arrive_sound p.journal.geometry (core_state_in p) k.sound x.1.message has_slot) in
+      assumption (slots, waiting, queue_waiting, sound, k)

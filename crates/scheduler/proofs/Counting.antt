@@ -1,12 +1,14 @@
 -- How many messages there are, and how many changing ones are in flight or ran.
-use Rattle.std.proofs.Common.{◌≡◌, ℕ, ◌+◌, List, [], ◌∷◌, ◌++◌, map, length, refl, ap, sym, ◌∙◌}
+use Rattle.std.proofs.Common.{◌≡◌, Bool, ℕ, ◌+◌, List, [], ◌∷◌, ◌++◌, map, length, refl, ap, sym, ◌∙◌}
 use Rattle.std.specs.Prelude.{cond, count_by}
 use Rattle.std.proofs.lemmas.List.{length-map}
 use Rattle.std.proofs.lemmas.List.Sums.{sum_by-append, sum_by-cons}
 use Rattle.histories.specs.Eligible.{changes, unlogged_changes}
 use Rattle.histories.specs.CoreState.{Entry, Replied, held}
 use Rattle.histories.proofs.Apart.{length_held}
-use Rattle.scheduler.specs.Parts.{Parts, entry_of, replied_of, core_state_in}
+use Rattle.run_queue.specs.declared.queued_message.QueuedMessage.{QueuedMessage}
+use Rattle.std.specs.List.{list_any}
+use Rattle.scheduler.specs.Parts.{Parts, held_any, entry_of, replied_of, core_state_in}
 use Rattle.scheduler.specs.Slots.{SlotView}
 
 -- how many of the messages in these slots are of a changing kind
@@ -34,6 +36,13 @@ ran_changing (x ∷ xs) = sum_by-cons (λ (a : Replied). cond (changes a.1) 1 0)
 
 pub unlogged_of : (p : Parts) → unlogged_changes (core_state_in p) ≡ changing p.phases.in_flight + changing p.phases.ran
 unlogged_of p = λ i. out_changing p.phases.in_flight i + ran_changing p.phases.ran i
+
+-- what a core keeps true of its slots and of its run queue's held messages
+abbrev pub AreClaimed : Parts → Type 0
+AreClaimed p = p.free + (length p.phases.waiting + (length p.phases.logged + (length p.phases.ran + length p.phases.in_flight))) ≡ p.capacity
+
+abbrev pub HasHeld : Parts → Type 0
+HasHeld p = (test : QueuedMessage → Bool) → list_any test p.queue.held ≡ held_any test p.phases
 
 -- how many messages wait or are held
 pub messages_counted : (p : Parts) → length (core_state_in p).waiting + length (held (core_state_in p))

@@ -6,9 +6,9 @@ use Rattle.std.proofs.lemmas.Bool.{eq-eqb}
 use Rattle.std.proofs.lemmas.List.{length-append, map-append}
 use Rattle.std.proofs.lemmas.List.Elements.{filter-append}
 use Rattle.affinity.proofs.Elements.{all_join}
-use Rattle.histories.proofs.Lists.{all_back, all_front}
+use Rattle.histories.proofs.Lists.{all_back, all_front, all_without}
 use Rattle.histories.proofs.Sound.{grant_sound}
-use Rattle.histories.specs.Eligible.{next_eligible}
+use Rattle.histories.specs.Eligible.{next_eligible, unlogged_changes}
 use Rattle.histories.specs.Events.{grant}
 use Rattle.histories.specs.Laws.{IsSoundCoreState}
 use Rattle.histories.specs.CoreState.{Entry, held}
@@ -17,7 +17,7 @@ use Rattle.parcel.specs.Holding.{TreeHolds}
 use Rattle.parcel.specs.Tree.{LendsAt, TreeView, tree_nodes}
 use Rattle.parcel.specs.declared.parts.Parcels.{Parcels}
 use Rattle.parcel.specs.declared.parts.Standing.{Standing}
-use Rattle.scheduler.proofs.Counting.{changing, changing-append, changing-cons, unlogged_of, one_for}
+use Rattle.scheduler.proofs.Counting.{AreClaimed, HasHeld, changing, changing-append, changing-cons, unlogged_of, one_for}
 use Rattle.scheduler.proofs.Tests.{any_granted}
 use Rattle.scheduler.proofs.Trees.{grant_tree}
 use Rattle.scheduler.specs.Parts.{IsCore, IsPlaced, Parts, entry_of, is_below, reached, queued_of, core_state_in}
@@ -78,27 +78,14 @@ module _ (keeps : Type 0) (p : Parts) (k : IsCore keeps p) (before : List SlotVi
       let unlogged_was = k.unlogged_is ∙ unlogged_of p in
       let unlogged_is = unlogged_of after in
       let out = changing-append p.phases.in_flight (x ∷ []) ∙ ap (λ n. changing p.phases.in_flight + n) (changing-cons x []) in
-      record {
-        claimed = omega (arith, was, now, more, claimed);
-        placed = record {
-          waiting = all_join (IsPlaced p.journal.geometry) before behind (all_front (IsPlaced p.journal.geometry) before (x ∷ behind) all_waiting)
-              (all_back (IsPlaced p.journal.geometry) before (x ∷ behind) all_waiting).1;
-          in_flight = all_join (IsPlaced p.journal.geometry) p.phases.in_flight (x ∷ []) k.placed.in_flight (it_is_placed, tt);
-          ran = k.placed.ran;
-          logged = k.placed.logged;
-        };
-        queue_geometry = k.queue_geometry;
-        queue_slots = k.queue_slots;
-        queue_waiting = refl;
-        queue_held = λ test. joined test ∙ ap (λ b. test (queued_of x) || b) (k.queue_held test) ∙ any_granted test p.phases (before ++ behind) x;
-        unlogged_is = omega (arith, unlogged_was, unlogged_is, out);
-        sound = subst (IsSoundCoreState p.journal.geometry) (sym grant_state)
-            (grant_sound p.journal.geometry (core_state_in p) k.sound found first);
-        geometry = geometry;
-        tree = subst (λ es. TreeHolds p.journal.geometry (is_below p.journal.geometry es) (tree_nodes tree) (reached p.journal.geometry (core_state_in p)))
-            (sym (map-append entry_of p.phases.in_flight (x ∷ [])))
-            (grant_tree p.journal.geometry (core_state_in p) k.sound found first (tree_nodes p.tree) k.tree t l (tree_nodes tree) lent);
-        is_committed = k.is_committed;
-        recovers = k.recovers;
-        no_doubt = k.no_doubt;
-      }
+      let slots : AreClaimed after = omega (arith, was, now, more, claimed) in
+      let waiting = all_without (IsPlaced p.journal.geometry) before x behind all_waiting in
+      let in_flight = all_join (IsPlaced p.journal.geometry) p.phases.in_flight (x ∷ []) k.placed.in_flight (it_is_placed, tt) in
+      let queue_waiting : after.queue.waiting ≡ map queued_of after.phases.waiting = refl in
+      let queue_held : HasHeld after = λ test. joined test ∙ ap (λ b. test (queued_of x) || b) (k.queue_held test) ∙ any_granted test p.phases (before ++ behind) x in
+      let unlogged : after.unlogged ≡ unlogged_changes (core_state_in after) = omega (arith, unlogged_was, unlogged_is, out) in
+      let sound = subst (IsSoundCoreState p.journal.geometry) (sym grant_state) (grant_sound p.journal.geometry (core_state_in p) k.sound found first) in
+      let holds = subst (λ es. TreeHolds p.journal.geometry (is_below p.journal.geometry es) (tree_nodes tree) (reached p.journal.geometry (core_state_in p)))
+      (sym (map-append entry_of p.phases.in_flight (x ∷ [])))
+      (grant_tree p.journal.geometry (core_state_in p) k.sound found first (tree_nodes p.tree) k.tree t l (tree_nodes tree) lent) in
+      assumption (slots, waiting, in_flight, queue_waiting, queue_held, unlogged, sound, geometry, holds, k)

@@ -82,18 +82,9 @@ module _ (keeps : Type 0) (p : Parts) (k : IsCore keeps p) (works : p.journal.fa
     pub step_core : (room : ℕ) (pieces_left : Option ℕ) (failed : Bool) (dirty : DirtyPieces) → IsSoundCoreState g (core_state_in (with_journal p room pieces_left failed dirty medium))
         → (keeps → failed ≡ false → committed (record p.journal { room = room; pieces_left = pieces_left; failed = failed; dirty = dirty; medium = medium }) ≡ committed p.journal)
         → IsCore keeps (with_journal p room pieces_left failed dirty medium)
-    step_core room pieces_left failed dirty sound same = record {
-      claimed = k.claimed;
-      placed = k.placed;
-      queue_geometry = k.queue_geometry;
-      queue_slots = k.queue_slots;
-      queue_waiting = k.queue_waiting;
-      queue_held = k.queue_held;
-      unlogged_is = k.unlogged_is;
-      sound = sound;
-      geometry = k.geometry;
-      tree = k.tree;
-      is_committed = λ keep fine. same keep fine ∙ committed_now keep;
-      recovers = step_recovers room pieces_left failed dirty;
-      no_doubt = λ fine. k.no_doubt works;
-    }
+    step_core room pieces_left failed dirty sound same =
+        let is_committed : keeps → failed ≡ false
+        → committed (record p.journal { room = room; pieces_left = pieces_left; failed = failed; dirty = dirty; medium = medium }) ≡ Some (core_state_in p).committed =
+        λ keep fine. same keep fine ∙ committed_now keep in
+        let no_doubt : failed ≡ false → p.batch ≡ [] = λ fine. k.no_doubt works in
+        assumption (sound, is_committed, step_recovers room pieces_left failed dirty, no_doubt, k)

@@ -173,15 +173,7 @@ module _ {D : Type 0} {keeps : Type 0} (core : Inside D) (is : IsSoundCore keeps
       doubting_is = λ i. record (with_doubt p n new.medium) { journal = broken i; batch = messages_are i }
 
       doubt_sound : IsSoundCoreState core.journal.geometry (core_state_in (with_doubt p n new.medium))
-      doubt_sound = record {
-        apart = is.core.sound.apart;
-        replied = is.core.sound.replied;
-        ascending = is.core.sound.ascending;
-        once = is.core.sound.once;
-        given = is.core.sound.given;
-        room = is.core.sound.room;
-        fits = is.core.sound.fits;
-      }
+      doubt_sound = assumption is.core.sound
 
       pub doubt_call : vec_capacity messages ≡ vec_capacity core.batch → IsSoundCore keeps doubting
       doubt_call same_capacity = record {

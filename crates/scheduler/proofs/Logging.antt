@@ -1,5 +1,5 @@
 -- A core that logs: what it hands to the journal, and what holds afterwards.
-use Rattle.std.proofs.Common.{◌≡◌, ℕ, ◌+◌, ◌-◌, ◌≤◌, true, false, List, [], ◌∷◌, ◌++◌, map, length, take, drop, Some, refl, ap, sym, subst, ◌∙◌, arith}
+use Rattle.std.proofs.Common.{◌≡◌, ℕ, ◌+◌, ◌-◌, ◌≤◌, Bool, true, false, List, [], ◌∷◌, ◌++◌, map, length, take, drop, Some, refl, ap, sym, subst, ◌∙◌, arith}
 use Rattle.std.specs.Prelude.{if◌then◌else◌, cond, filter}
 use Rattle.std.specs.List.{AllByRecursion}
 use Rattle.std.proofs.lemmas.Bool.{and_parts, cond-false, true≢false}
@@ -18,6 +18,7 @@ use Rattle.histories.proofs.Lists.{all_back, all_front, before_back, before_fron
 use Rattle.histories.proofs.Room.{log_has_room}
 use Rattle.histories.proofs.Sound.{log_sound}
 use Rattle.histories.proofs.SerialReplies.{state_after_all-joined, still_replied}
+use Rattle.histories.specs.Eligible.{unlogged_changes}
 use Rattle.histories.specs.Events.{batch, log, recorded}
 use Rattle.histories.specs.Laws.{AreUnrelated, HaveRepliesAt, IsSoundCoreState}
 use Rattle.histories.specs.CoreState.{Replied, CoreState, entries}
@@ -29,11 +30,11 @@ use Rattle.parcel.specs.Tree.{tree_nodes}
 use Rattle.meaning.proofs.Unchanged.{unrecorded_changes_nothing}
 use Rattle.meaning.specs.Serial.{state_after_all, is_recorded, next_state}
 use Rattle.meaning.specs.State.{State}
-use Rattle.scheduler.proofs.Counting.{changing, changing-append, unlogged_of}
+use Rattle.scheduler.proofs.Counting.{AreClaimed, HasHeld, changing, changing-append, unlogged_of}
 use Rattle.scheduler.proofs.Journaling.{with_none}
 use Rattle.scheduler.proofs.Tests.{any_logged}
 use Rattle.scheduler.proofs.Trees.{log_reaches}
-use Rattle.scheduler.specs.CoreView.{CoreView, RecoversThroughout}
+use Rattle.scheduler.specs.CoreView.{CoreView, RecoversNow, RecoversThroughout}
 use Rattle.scheduler.specs.Parts.{IsCore, IsPlaced, Parts, is_below, core_view_of, entry_of, reached, replied_of, core_state_in}
 use Rattle.scheduler.specs.Slots.{SlotView}
 
@@ -143,29 +144,20 @@ module _ (keeps : Type 0) (p : Parts) (k : IsCore keeps p) (works : p.journal.fa
         let unlogged_now = unlogged_of after in
         let ran = ap changing whole ∙ changing-append (take n p.phases.ran) (drop n p.phases.ran) in
         let placed = subst (AllByRecursion (IsPlaced p.journal.geometry)) whole k.placed.ran in
-        record {
-          claimed = omega (arith, counts, more, claimed);
-          placed = record {
-            waiting = k.placed.waiting;
-            in_flight = k.placed.in_flight;
-            ran = all_back (IsPlaced p.journal.geometry) (take n p.phases.ran) (drop n p.phases.ran) placed;
-            logged = all_join (IsPlaced p.journal.geometry) p.phases.logged (take n p.phases.ran) k.placed.logged
-                (all_front (IsPlaced p.journal.geometry) (take n p.phases.ran) (drop n p.phases.ran) placed);
-          };
-          queue_geometry = k.queue_geometry;
-          queue_slots = k.queue_slots;
-          queue_waiting = k.queue_waiting;
-          queue_held = λ test. k.queue_held test ∙ any_logged test p.phases (take n p.phases.ran) (drop n p.phases.ran) whole;
-          unlogged_is = omega (arith, unlogged_was, unlogged_now, ran, unlogged_is);
-          sound = subst (IsSoundCoreState p.journal.geometry) (sym log_state)
-              (log_sound p.journal.geometry (core_state_in p) k.sound n);
-          geometry = k.geometry;
-          tree = subst (λ s. TreeHolds p.journal.geometry (is_below p.journal.geometry (map entry_of p.phases.in_flight)) (tree_nodes p.tree) s)
-              (sym (log_reaches p.journal.geometry (core_state_in p) n k.sound) ∙ ap (reached p.journal.geometry) (sym log_state)) k.tree;
-          is_committed = λ keep fine. is_committed keep;
-          recovers = λ keep c leaves. with_none p.journal.geometry (core_state_in after).committed [] c (recovers keep c leaves ∙ is_committed keep);
-          no_doubt = λ fine. refl;
-        }
+        let slots : AreClaimed after = omega (arith, counts, more, claimed) in
+        let rest = all_back (IsPlaced p.journal.geometry) (take n p.phases.ran) (drop n p.phases.ran) placed in
+        let logged = all_join (IsPlaced p.journal.geometry) p.phases.logged (take n p.phases.ran) k.placed.logged
+        (all_front (IsPlaced p.journal.geometry) (take n p.phases.ran) (drop n p.phases.ran) placed) in
+        let queue_held : HasHeld after = λ test. k.queue_held test ∙ any_logged test p.phases (take n p.phases.ran) (drop n p.phases.ran) whole in
+        let still_unlogged : after.unlogged ≡ unlogged_changes (core_state_in after) = omega (arith, unlogged_was, unlogged_now, ran, unlogged_is) in
+        let sound = subst (IsSoundCoreState p.journal.geometry) (sym log_state) (log_sound p.journal.geometry (core_state_in p) k.sound n) in
+        let holds = subst (λ s. TreeHolds p.journal.geometry (is_below p.journal.geometry (map entry_of p.phases.in_flight)) (tree_nodes p.tree) s)
+        (sym (log_reaches p.journal.geometry (core_state_in p) n k.sound) ∙ ap (reached p.journal.geometry) (sym log_state)) k.tree in
+        let is_committed_now : keeps → p.journal.failed ≡ false → committed after.journal ≡ Some (core_state_in after).committed = λ keep fine. is_committed keep in
+        let recovers_now : keeps → RecoversNow (core_view_of after) =
+        λ keep c leaves. with_none p.journal.geometry (core_state_in after).committed [] c (recovers keep c leaves ∙ is_committed keep) in
+        let no_doubt : p.journal.failed ≡ false → after.batch ≡ [] = λ fine. refl in
+        assumption (slots, rest, logged, queue_held, still_unlogged, sound, holds, is_committed_now, recovers_now, no_doubt, k)
 
   module _ (any : keeps → CrashImagesAre p.journal.medium medium (RecoversWithPrefix p.journal.geometry (core_state_in p).committed (batch_at p n))) where
     -- at each moment of the call
@@ -178,18 +170,9 @@ module _ (keeps : Type 0) (p : Parts) (k : IsCore keeps p) (works : p.journal.fa
 
     -- the device failed
     pub doubt_core : IsSoundCoreState p.journal.geometry (core_state_in (with_doubt p n medium)) → IsCore keeps (with_doubt p n medium)
-    doubt_core sound = record {
-      claimed = k.claimed;
-      placed = k.placed;
-      queue_geometry = k.queue_geometry;
-      queue_slots = k.queue_slots;
-      queue_waiting = k.queue_waiting;
-      queue_held = k.queue_held;
-      unlogged_is = k.unlogged_is;
-      sound = sound;
-      geometry = k.geometry;
-      tree = k.tree;
-      is_committed = λ keep fine. absurd (true≢false fine);
-      recovers = λ keep c leaves. leaves_now p.journal.medium medium _ (any keep) c leaves;
-      no_doubt = λ fine. absurd (true≢false fine);
-    }
+    doubt_core sound =
+        let is_committed : keeps → ◌≡◌ {A = Bool} true false → committed (with_doubt p n medium).journal ≡ Some (core_state_in p).committed =
+        λ keep fine. absurd (true≢false fine) in
+        let recovers : keeps → RecoversNow (core_view_of (with_doubt p n medium)) = λ keep c leaves. leaves_now p.journal.medium medium _ (any keep) c leaves in
+        let no_doubt : ◌≡◌ {A = Bool} true false → batch_at p n ≡ [] = λ fine. absurd (true≢false fine) in
+        assumption (sound, is_committed, recovers, no_doubt, k)

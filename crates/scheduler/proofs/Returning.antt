@@ -5,9 +5,9 @@ use Rattle.std.specs.List.{AllByRecursion}
 use Rattle.std.proofs.lemmas.Bool.{eq-eqb, ne_eqb}
 use Rattle.std.proofs.lemmas.List.{length-append, map-append}
 use Rattle.affinity.proofs.Elements.{all_join}
-use Rattle.histories.proofs.Lists.{all_back, all_front, before_front, before_one}
+use Rattle.histories.proofs.Lists.{all_back, all_without, before_front, before_one}
 use Rattle.histories.proofs.Sound.{back_sound}
-use Rattle.histories.specs.Eligible.{pick}
+use Rattle.histories.specs.Eligible.{pick, unlogged_changes}
 use Rattle.histories.specs.Events.{give_back, find_in_flight}
 use Rattle.histories.specs.Laws.{HaveDistinctTickets, IsSoundCoreState}
 use Rattle.histories.specs.CoreState.{Entry}
@@ -20,7 +20,7 @@ use Rattle.parcel.specs.Tree.{RestoresAt, TreeView, tree_nodes}
 use Rattle.parcel.specs.declared.parts.Parcels.{Parcels}
 use Rattle.parcel.specs.declared.parts.Standing.{Standing}
 use Rattle.meaning.specs.Serial.{next_state, reply_to}
-use Rattle.scheduler.proofs.Counting.{changing, changing-append, changing-cons, unlogged_of}
+use Rattle.scheduler.proofs.Counting.{AreClaimed, HasHeld, changing, changing-append, changing-cons, unlogged_of}
 use Rattle.scheduler.proofs.Tests.{any_back}
 use Rattle.scheduler.proofs.Trees.{back_reaches, back_tree}
 use Rattle.scheduler.specs.Parts.{IsCore, IsPlaced, Parts, entry_of, is_below, reached, replied_of, core_state_in}
@@ -88,32 +88,19 @@ module _ (keeps : Type 0) (p : Parts) (k : IsCore keeps p) (before : List SlotVi
         let out_was = ap changing whole ∙ changing-append before (x ∷ behind) ∙ ap (λ n. changing before + n) (changing-cons x behind) in
         let out_now = changing-append before behind in
         let ran_now = changing-append p.phases.ran (y ∷ []) ∙ ap (λ n. changing p.phases.ran + n) (changing-cons y []) in
-        record {
-          claimed = omega (arith, was, now, more, claimed);
-          placed = record {
-            waiting = k.placed.waiting;
-            in_flight = all_join (IsPlaced p.journal.geometry) before behind (all_front (IsPlaced p.journal.geometry) before (x ∷ behind) all_out)
-                (all_back (IsPlaced p.journal.geometry) before (x ∷ behind) all_out).1;
-            ran = all_join (IsPlaced p.journal.geometry) p.phases.ran (y ∷ []) k.placed.ran
-                (record { affinity = returned_is_placed.affinity; range = returned_is_placed.range; message = returned_is_placed.message }, tt);
-            logged = k.placed.logged;
-          };
-          queue_geometry = k.queue_geometry;
-          queue_slots = k.queue_slots;
-          queue_waiting = k.queue_waiting;
-          queue_held = λ test. k.queue_held test ∙ any_back test p.phases before x y behind whole refl;
-          unlogged_is = omega (arith, unlogged_was, unlogged_is, out_was, out_now, ran_now);
-          sound = subst (IsSoundCoreState p.journal.geometry) (sym return_state)
-              (back_sound p.journal.geometry (core_state_in p) k.sound x.1.ticket found returned_is_found);
-          geometry = geometry;
-          tree = subst (λ s. TreeHolds p.journal.geometry (is_below p.journal.geometry (map entry_of (before ++ behind))) (tree_nodes tree) s)
-              (sym (ap (λ as'. reached p.journal.geometry (record (core_state_in after) { ran = as' })) (map-append replied_of p.phases.ran (y ∷ []))
-              ∙ back_reaches p.journal.geometry (core_state_in p).committed (map replied_of p.phases.ran) (replied_of y)))
-              (subst (λ es. TreeHolds p.journal.geometry (is_below p.journal.geometry es) (tree_nodes tree) (next_state p.journal.geometry (reached p.journal.geometry (core_state_in p)) x.1.message))
-              (sym (map-append entry_of before behind))
-              (back_tree p.journal.geometry (core_state_in p) k.sound (map entry_of before) (entry_of x) (map entry_of behind) out_is (tree_nodes p.tree) k.tree
-              t l (tree_nodes tree) put fits shows returned_is_placed.message));
-          is_committed = k.is_committed;
-          recovers = k.recovers;
-          no_doubt = k.no_doubt;
-        }
+        let placed : IsPlaced p.journal.geometry y = assumption returned_is_placed in
+        let slots : AreClaimed after = omega (arith, was, now, more, claimed) in
+        let in_flight = all_without (IsPlaced p.journal.geometry) before x behind all_out in
+        let ran = all_join (IsPlaced p.journal.geometry) p.phases.ran (y ∷ []) k.placed.ran (placed, tt) in
+        let queue_held : HasHeld after = λ test. k.queue_held test ∙ any_back test p.phases before x y behind whole refl in
+        let unlogged : after.unlogged ≡ unlogged_changes (core_state_in after) = omega (arith, unlogged_was, unlogged_is, out_was, out_now, ran_now) in
+        let sound = subst (IsSoundCoreState p.journal.geometry) (sym return_state)
+        (back_sound p.journal.geometry (core_state_in p) k.sound x.1.ticket found returned_is_found) in
+        let holds = subst (λ s. TreeHolds p.journal.geometry (is_below p.journal.geometry (map entry_of (before ++ behind))) (tree_nodes tree) s)
+        (sym (ap (λ as'. reached p.journal.geometry (record (core_state_in after) { ran = as' })) (map-append replied_of p.phases.ran (y ∷ []))
+        ∙ back_reaches p.journal.geometry (core_state_in p).committed (map replied_of p.phases.ran) (replied_of y)))
+        (subst (λ es. TreeHolds p.journal.geometry (is_below p.journal.geometry es) (tree_nodes tree) (next_state p.journal.geometry (reached p.journal.geometry (core_state_in p)) x.1.message))
+        (sym (map-append entry_of before behind))
+        (back_tree p.journal.geometry (core_state_in p) k.sound (map entry_of before) (entry_of x) (map entry_of behind) out_is (tree_nodes p.tree) k.tree
+        t l (tree_nodes tree) put fits shows returned_is_placed.message)) in
+        assumption (slots, in_flight, ran, queue_held, unlogged, sound, geometry, holds, k)
