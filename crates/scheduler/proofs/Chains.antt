@@ -1,5 +1,5 @@
 -- What the calls of an arena do to the chains of a core, and to the slots on them.
-use Rattle.std.proofs.Common.{◌≡◌, ◌≢◌, ℕ, suc, ◌≤◌, ◌<◌, true, List, [], ◌∷◌, ◌++◌, map, length, get_or, Some, None, refl, sym, ap, subst, ◌∙◌, arith}
+use Rattle.std.proofs.Common.{◌≡◌, ◌≢◌, ℕ, suc, ◌≤◌, ◌<◌, true, List, [], ◌∷◌, ◌++◌, map, length, get_or, Some, None, sym, ap, subst, ◌∙◌, arith}
 use Rattle.std.proofs.lemmas.Bool.{and_from, cond-true, lt-ltb}
 use Rattle.std.proofs.lemmas.List.{get_or-set_other, get_or-set_same, length-map, length-set, map-append}
 use Rattle.std.specs.List.{concat}
@@ -44,93 +44,6 @@ module _ {T : Type 0} (m : ArenaView T) (partitioned : IsPartitioned m) (i from 
 
   pub four_moved : length (after_move m i to).chains ≡ length m.chains
   four_moved = ap (λ (r : ArenaView T). length r.chains) arena_moved ∙ length-moved m.chains i to
-
--- ---- a new slot, on a chain
-
-module _ {T : Type 0} (m : ArenaView T) (partitioned : IsPartitioned m) (i to : ℕ) (rest : List ℕ) (value : T) (there : to < length m.chains) (free : m.free ≡ i ∷ rest) where
-  abbrev put : ArenaView T
-  put = record m { values = slice_set m.values i (Some value); free = rest }
-
-  pub arena_put : after_put m value ≡ put
-  arena_put = ap (λ fs. put_into m fs value) free
-
-  listed_free : 0 < count_of i m.free
-  listed_free = subst (λ fs. 0 < count_of i fs) (sym free) (let e = count_of-cons_same i rest in omega (arith, e))
-
-  unchained : count_of i (concat m.chains) ≡ 0
-  unchained = let all = count_of-append i m.free (concat m.chains) in let once = partitioned.once i in let some = listed_free in omega (arith, all, once, some)
-
-  off_chain : (d : ℕ) → count_of i (chain_at m d) ≡ 0
-  off_chain d = let at = count_of-at i m.chains d in let none = unchained in omega (arith, at, none)
-
-  pub in_arena : i < capacity_of m
-  in_arena = partitioned.within i (let all = count_of-append i m.free (concat m.chains) in let some = listed_free in omega (arith, all, some))
-
-  put_holds : holds_value put i ≡ true
-  put_holds = ap is_some (get_or-set_same m.values i (Some value) None in_arena)
-
-  may_join : can_move put i to ≡ true
-  may_join = and_from (holds_value put i) (nat_lt to (length m.chains)) put_holds (lt-ltb to (length m.chains) there)
-
-  pub arena_joined : after_move put i to ≡ record put { chains = moved m.chains i to }
-  arena_joined = cond-true (can_move put i to) _ _ may_join
-
-  pub new_joined : chain_at (after_move put i to) to ≡ chain_at m to ++ i ∷ []
-  new_joined =
-      ap (λ (r : ArenaView T). chain_at r to) arena_joined ∙ chain-moved_same m.chains i to there ∙ ap (λ xs. xs ++ i ∷ []) (without-absent i (chain_at m to) (off_chain to))
-
-  pub new_stays : (d : ℕ) → d ≢ to → chain_at (after_move put i to) d ≡ chain_at m d
-  new_stays d not_to =
-      ap (λ (r : ArenaView T). chain_at r d) arena_joined ∙ chain-moved_other m.chains i to d not_to ∙ without-absent i (chain_at m d) (off_chain d)
-
-  pub four_joined : length (after_move put i to).chains ≡ length m.chains
-  four_joined = ap (λ (r : ArenaView T). length r.chains) arena_joined ∙ length-moved m.chains i to
-
-  pub size_joined : capacity_of (after_move put i to) ≡ capacity_of m
-  size_joined = ap (λ (r : ArenaView T). capacity_of r) arena_joined ∙ length-set m.values i (Some value)
-
-  pub value_joined : value_at (after_move put i to) i ≡ Some value
-  value_joined = ap (λ (r : ArenaView T). value_at r i) arena_joined ∙ get_or-set_same m.values i (Some value) None in_arena
-
-  pub other_value : (j : ℕ) → j ≢ i → value_at (after_move put i to) j ≡ value_at m j
-  other_value j other = ap (λ (r : ArenaView T). value_at r j) arena_joined ∙ get_or-set_other m.values i j (Some value) None other
-
--- ---- a slot that is taken
-
-module _ {T : Type 0} (m : ArenaView T) (partitioned : IsPartitioned m) (i from : ℕ) (back : List ℕ) (whole : chain_at m from ≡ i ∷ back) where
-  stood : 0 < count_of i (chain_at m from)
-  stood = subst (λ xs. 0 < count_of i xs) (sym whole) (count_of-split i [] back)
-
-  pub arena_taken : after_take m i ≡ record m { values = slice_set m.values i None; free = i ∷ m.free; chains = map (without i) m.chains }
-  arena_taken = cond-true (holds_value m i) _ _ (chained-holds m i from partitioned stood)
-
-  pub chain_taken : chain_at (after_take m i) from ≡ back
-  chain_taken =
-      ap (λ (r : ArenaView T). chain_at r from) arena_taken ∙ chain-without m.chains i from ∙ ap (without i) whole
-      ∙ without-split i [] back (subst (λ xs. count_of i xs ≤ 1) whole (chained-once m i from partitioned))
-
-  pub taken_stays : (d : ℕ) → d ≢ from → chain_at (after_take m i) d ≡ chain_at m d
-  taken_stays d not_from =
-      ap (λ (r : ArenaView T). chain_at r d) arena_taken ∙ chain-without m.chains i d
-      ∙ without-absent i (chain_at m d) (chained-apart m i from d partitioned (λ same. not_from (sym same)) stood)
-
-  pub four_taken : length (after_take m i).chains ≡ length m.chains
-  four_taken = ap (λ (r : ArenaView T). length r.chains) arena_taken ∙ length-map m.chains (without i)
-
-  pub size_taken : capacity_of (after_take m i) ≡ capacity_of m
-  size_taken = ap (λ (r : ArenaView T). capacity_of r) arena_taken ∙ length-set m.values i None
-
-  pub free_taken : length (after_take m i).free ≡ suc (length m.free)
-  free_taken = ap (λ (r : ArenaView T). length r.free) arena_taken
-
-  pub value_taken : (j : ℕ) → j ≢ i → value_at (after_take m i) j ≡ value_at m j
-  value_taken j other = ap (λ (r : ArenaView T). value_at r j) arena_taken ∙ get_or-set_other m.values i j None None other
-
-  pub gone_elsewhere : (d : ℕ) → d ≢ from → count_of i (chain_at m d) ≡ 0
-  gone_elsewhere d not_from = chained-apart m i from d partitioned (λ same. not_from (sym same)) stood
-
-  pub gone_behind : count_of i back ≡ 0
-  gone_behind = let once = subst (λ xs. count_of i xs ≤ 1) whole (chained-once m i from partitioned) in let all = count_of-cons_same i back in omega (arith, once, all)
 
 -- ---- the slots on a chain
 
@@ -230,31 +143,58 @@ module _ (arena : ArenaView Slot) (replies : List Reply) (is : HasChains arena) 
   room_there : to < length arena.chains
   room_there = let four = is.four in omega (arith, four, low)
 
+  abbrev put : ArenaView Slot
+  put = record arena { values = slice_set arena.values i (Some value); free = rest }
+
   abbrev joined_arena : ArenaView Slot
-  joined_arena = after_move (put arena is.partitioned i to rest value room_there free) i to
+  joined_arena = after_move put i to
+
+  listed_free : 0 < count_of i arena.free
+  listed_free = subst (λ fs. 0 < count_of i fs) (sym free) (let e = count_of-cons_same i rest in omega (arith, e))
+
+  off_chain : (d : ℕ) → count_of i (chain_at arena d) ≡ 0
+  off_chain d =
+      let at = count_of-at i arena.chains d in
+      let all = count_of-append i arena.free (concat arena.chains) in
+      let once = is.partitioned.once i in
+      let some = listed_free in
+      omega (arith, at, all, once, some)
+
+  in_arena : i < capacity_of arena
+  in_arena = is.partitioned.within i (let all = count_of-append i arena.free (concat arena.chains) in let some = listed_free in omega (arith, all, some))
+
+  arena_joined : joined_arena ≡ record put { chains = moved arena.chains i to }
+  arena_joined = cond-true (can_move put i to) _ _ (and_from (holds_value put i) (nat_lt to (length arena.chains))
+      (ap is_some (get_or-set_same arena.values i (Some value) None in_arena)) (lt-ltb to (length arena.chains) room_there))
+
+  value_joined : value_at joined_arena i ≡ Some value
+  value_joined = ap (λ (r : ArenaView Slot). value_at r i) arena_joined ∙ get_or-set_same arena.values i (Some value) None in_arena
 
   new_elsewhere : (xs : List ℕ) → count_of i xs ≡ 0 → map (slot_view_at joined_arena replies) xs ≡ map (slot_view_at arena replies) xs
-  new_elsewhere xs none = map_same (slot_view_at arena replies) (slot_view_at joined_arena replies) i xs
-      (λ j not_it z. (j, unwrap_or (other_value arena is.partitioned i to rest value room_there free j not_it z) no_slot, get_or replies j Done)) none
+  new_elsewhere xs none = map_same (slot_view_at arena replies) (slot_view_at joined_arena replies) i xs (λ j not_it z. (
+    j,
+    unwrap_or ((ap (λ (r : ArenaView Slot). value_at r j) arena_joined ∙ get_or-set_other arena.values i j (Some value) None not_it) z) no_slot,
+    get_or replies j Done,
+  )) none
 
   joined_slot : JoinedSlot arena joined_arena replies i to value
   joined_slot = record {
-    joined = ap (map (slot_view_at joined_arena replies)) (new_joined arena is.partitioned i to rest value room_there free)
+    joined = ap (map (slot_view_at joined_arena replies)) (ap (λ (r : ArenaView Slot). chain_at r to) arena_joined ∙ chain-moved_same arena.chains i to room_there
+        ∙ ap (λ xs. xs ++ i ∷ []) (without-absent i (chain_at arena to) (off_chain to)))
         ∙ map-append (slot_view_at joined_arena replies) (chain_at arena to) (i ∷ [])
-        ∙ (λ z. new_elsewhere (chain_at arena to) (off_chain arena is.partitioned i to rest value room_there free to) z
-        ++ (i, unwrap_or (value_joined arena is.partitioned i to rest value room_there free z) no_slot, get_or replies i Done) ∷ []);
-    stays = λ d not_to. ap (map (slot_view_at joined_arena replies)) (new_stays arena is.partitioned i to rest value room_there free d not_to)
-        ∙ new_elsewhere (chain_at arena d) (off_chain arena is.partitioned i to rest value room_there free d);
-    free = ap length free ∙ ap (λ n. suc n) (sym (ap (λ (r : ArenaView Slot). length r.free) (arena_joined arena is.partitioned i to rest value room_there free)));
-    size = size_joined arena is.partitioned i to rest value room_there free;
-    four = four_joined arena is.partitioned i to rest value room_there free;
-    low = in_arena arena is.partitioned i to rest value room_there free;
-    none_had = off_chain arena is.partitioned i to rest value room_there free;
+        ∙ (λ z. new_elsewhere (chain_at arena to) (off_chain to) z ++ (i, unwrap_or (value_joined z) no_slot, get_or replies i Done) ∷ []);
+    stays = λ d not_to. ap (map (slot_view_at joined_arena replies)) (ap (λ (r : ArenaView Slot). chain_at r d) arena_joined ∙ chain-moved_other arena.chains i to d not_to
+        ∙ without-absent i (chain_at arena d) (off_chain d)) ∙ new_elsewhere (chain_at arena d) (off_chain d);
+    free = ap length free ∙ ap (λ n. suc n) (sym (ap (λ (r : ArenaView Slot). length r.free) arena_joined));
+    size = ap (λ (r : ArenaView Slot). capacity_of r) arena_joined ∙ length-set arena.values i (Some value);
+    four = ap (λ (r : ArenaView Slot). length r.chains) arena_joined ∙ length-moved arena.chains i to;
+    low = in_arena;
+    none_had = off_chain;
   }
 
   pub slot_joined : JoinedSlot arena (after_move (after_put arena value) i to) replies i to value
   slot_joined = subst (λ (r : ArenaView Slot). JoinedSlot arena (after_move r i to) replies i to value)
-      (sym (arena_put arena is.partitioned i to rest value room_there free)) joined_slot
+      (sym (ap (λ fs. put_into arena fs value) free)) joined_slot
 
 -- The first slot of a chain was taken out.
 pub record TakenSlot (arena new : ArenaView Slot) (replies : List Reply) (from : ℕ) (behind : List SlotView) : Type 0 where
@@ -264,37 +204,39 @@ pub record TakenSlot (arena new : ArenaView Slot) (replies : List Reply) (from :
   pub size : capacity_of new ≡ capacity_of arena
   pub four : length new.chains ≡ length arena.chains
 
-module _ (arena : ArenaView Slot) (replies : List Reply) (is : HasChains arena) (from : ℕ) (x : SlotView) (behind : List SlotView) (recovers_at : slots_on arena replies from ≡ x ∷ behind) where
-  first_split : MapSplit (slot_view_at arena replies) (chain_at arena from) [] x behind
-  first_split = map_split (slot_view_at arena replies) (chain_at arena from) [] x behind recovers_at
-
-  none_front : first_split.front ≡ []
-  none_front = empty_map first_split.front first_split.before_is
-    where
-      empty_map : (xs : List ℕ) → map (slot_view_at arena replies) xs ≡ [] → xs ≡ []
-      empty_map [] e = refl
-      empty_map (y ∷ xs) e = absurd (cc)
-
-  first_whole : chain_at arena from ≡ first_split.at ∷ first_split.back
-  first_whole = first_split.whole ∙ ap (λ (xs : List ℕ). xs ++ first_split.at ∷ first_split.back) none_front
-
+module _ (arena : ArenaView Slot) (replies : List Reply) (is : HasChains arena) (i from : ℕ) (back : List ℕ) (whole : chain_at arena from ≡ i ∷ back) where
   abbrev taken_arena : ArenaView Slot
-  taken_arena = after_take arena first_split.at
+  taken_arena = after_take arena i
 
-  taken_elsewhere : (xs : List ℕ) → count_of first_split.at xs ≡ 0 → map (slot_view_at taken_arena replies) xs ≡ map (slot_view_at arena replies) xs
-  taken_elsewhere xs none = map_same (slot_view_at arena replies) (slot_view_at taken_arena replies) first_split.at xs
-      (λ j not_it z. (j, unwrap_or (value_taken arena is.partitioned first_split.at from first_split.back first_whole j not_it z) no_slot, get_or replies j Done)) none
+  stood : 0 < count_of i (chain_at arena from)
+  stood = subst (λ xs. 0 < count_of i xs) (sym whole) (count_of-split i [] back)
 
-  taken_slot : TakenSlot arena taken_arena replies from behind
-  taken_slot = record {
-    left = ap (map (slot_view_at taken_arena replies)) (chain_taken arena is.partitioned first_split.at from first_split.back first_whole)
-        ∙ taken_elsewhere first_split.back (gone_behind arena is.partitioned first_split.at from first_split.back first_whole) ∙ first_split.behind_is;
-    stays = λ d not_from. ap (map (slot_view_at taken_arena replies)) (taken_stays arena is.partitioned first_split.at from first_split.back first_whole d not_from)
-        ∙ taken_elsewhere (chain_at arena d) (gone_elsewhere arena is.partitioned first_split.at from first_split.back first_whole d not_from);
-    free = free_taken arena is.partitioned first_split.at from first_split.back first_whole;
-    size = size_taken arena is.partitioned first_split.at from first_split.back first_whole;
-    four = four_taken arena is.partitioned first_split.at from first_split.back first_whole;
-  }
+  arena_taken : taken_arena ≡ record arena { values = slice_set arena.values i None; free = i ∷ arena.free; chains = map (without i) arena.chains }
+  arena_taken = cond-true (holds_value arena i) _ _ (chained-holds arena i from is.partitioned stood)
 
-  pub slot_taken : (i : ℕ) → i ≡ x.0 → TakenSlot arena (after_take arena i) replies from behind
-  slot_taken i same = subst (λ n. TakenSlot arena (after_take arena n) replies from behind) (ap (λ (y : SlotView). y.0) first_split.at_is ∙ sym same) taken_slot
+  once : count_of i (i ∷ back) ≤ 1
+  once = subst (λ xs. count_of i xs ≤ 1) whole (chained-once arena i from is.partitioned)
+
+  gone_elsewhere : (d : ℕ) → d ≢ from → count_of i (chain_at arena d) ≡ 0
+  gone_elsewhere d not_from = chained-apart arena i from d is.partitioned (λ same. not_from (sym same)) stood
+
+  taken_elsewhere : (xs : List ℕ) → count_of i xs ≡ 0 → map (slot_view_at taken_arena replies) xs ≡ map (slot_view_at arena replies) xs
+  taken_elsewhere xs none = map_same (slot_view_at arena replies) (slot_view_at taken_arena replies) i xs (λ j not_it z. (
+    j,
+    unwrap_or ((ap (λ (r : ArenaView Slot). value_at r j) arena_taken ∙ get_or-set_other arena.values i j None None not_it) z) no_slot,
+    get_or replies j Done,
+  )) none
+
+  pub slot_taken : TakenSlot arena taken_arena replies from (map (slot_view_at arena replies) back)
+  slot_taken =
+      let all = count_of-cons_same i back in
+      let few = once in
+      record {
+        left = ap (map (slot_view_at taken_arena replies)) (ap (λ (r : ArenaView Slot). chain_at r from) arena_taken ∙ chain-without arena.chains i from
+            ∙ ap (without i) whole ∙ without-split i [] back once) ∙ taken_elsewhere back (omega (arith, all, few));
+        stays = λ d not_from. ap (map (slot_view_at taken_arena replies)) (ap (λ (r : ArenaView Slot). chain_at r d) arena_taken ∙ chain-without arena.chains i d
+            ∙ without-absent i (chain_at arena d) (gone_elsewhere d not_from)) ∙ taken_elsewhere (chain_at arena d) (gone_elsewhere d not_from);
+        free = ap (λ (r : ArenaView Slot). length r.free) arena_taken;
+        size = ap (λ (r : ArenaView Slot). capacity_of r) arena_taken ∙ length-set arena.values i None;
+        four = ap (λ (r : ArenaView Slot). length r.chains) arena_taken ∙ length-map arena.chains (without i);
+      }
