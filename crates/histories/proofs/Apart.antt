@@ -67,10 +67,15 @@ back_apart g w ticket found h apart =
     (λ i. sym (entries-append w.ran ((e.0, e.1, reply_to g w.committed e.1) ∷ [])) i ++ sym k.rest i)))
     moved
 
+-- The first n of those that ran may stand behind those that come before, or first among those that ran.
+pub entries_split : (past ran : List Replied) (rest : List Entry) (n : ℕ)
+    → entries (past ++ take n ran) ++ (entries (drop n ran) ++ rest) ≡ entries past ++ (entries ran ++ rest)
+entries_split past ran rest n =
+    ap (λ l. l ++ (entries (drop n ran) ++ rest)) (entries-append past (take n ran))
+    ∙ append_assoc (entries past) (entries (take n ran)) _
+    ∙ ap (λ l. entries past ++ l) (sym (append_assoc (entries (take n ran)) (entries (drop n ran)) rest)
+    ∙ ap (λ l. l ++ rest) (sym (entries-append (take n ran) (drop n ran)) ∙ ap entries (take-append-drop n ran)))
+
 -- A log step leaves the list of held messages as it is.
 pub log_held : (g : Geometry) (w : CoreState) (n : ℕ) → held (log g w n) ≡ held w
-log_held g w n =
-    ap (λ l. l ++ (entries (drop n w.ran) ++ w.in_flight)) (entries-append w.logged (take n w.ran))
-    ∙ append_assoc (entries w.logged) (entries (take n w.ran)) _
-    ∙ ap (λ l. entries w.logged ++ l) (sym (append_assoc (entries (take n w.ran)) (entries (drop n w.ran)) w.in_flight)
-    ∙ ap (λ l. l ++ w.in_flight) (sym (entries-append (take n w.ran) (drop n w.ran)) ∙ ap entries (take-append-drop n w.ran)))
+log_held g w n = entries_split w.logged w.ran w.in_flight n

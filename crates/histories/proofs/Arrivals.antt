@@ -1,12 +1,12 @@
 -- The replies in a legal run are those of the serial server to the messages in the order in which they arrived.
-use Rattle.std.proofs.Common.{◌≡◌, ℕ, ◌+◌, ◌<◌, ◌≤◌, false, List, [], ◌∷◌, ◌++◌, Some, ap, sym, ◌∙◌, subst, append_assoc, take, drop, arith}
+use Rattle.std.proofs.Common.{◌≡◌, ℕ, ◌+◌, ◌<◌, ◌≤◌, false, List, [], ◌∷◌, ◌++◌, Some, ap, sym, ◌∙◌, subst, append_assoc, take, arith}
 use Rattle.std.specs.Prelude.{◌==◌, IsPermutation}
 use Rattle.std.specs.List.{AllByRecursion}
-use Rattle.std.proofs.lemmas.List.{append-nil, take-append-drop}
+use Rattle.std.proofs.lemmas.List.{append-nil}
 use Rattle.std.proofs.lemmas.Bool.{true≢false}
 use Rattle.std.proofs.lemmas.List.Sorted.{IsPermutation-append_left, IsPermutation-append_right, IsPermutation-middle, IsPermutation-refl, IsPermutation-trans}
 use Rattle.affinity.specs.declared.geometry.Geometry.{Geometry}
-use Rattle.affinity.proofs.Elements.{all_join, all_weaker}
+use Rattle.affinity.proofs.Elements.{all_weaker}
 use Rattle.language.specs.declared.Reply.{Reply}
 use Rattle.meaning.specs.State.{State}
 use Rattle.meaning.specs.Serial.{reply_to, state_after_all}
@@ -17,8 +17,8 @@ use Rattle.histories.specs.Eligible.{is_eligible, next_eligible}
 use Rattle.histories.specs.Events.{Hand, MachineState, Event, find_in_flight, grant, give_back, log}
 use Rattle.histories.specs.Runs.{IsLegal, end_state, logged_at, arrives, logged_messages, arrived, answered}
 use Rattle.histories.specs.Laws.{AreUnrelated, AreAscending, EachBefore, IsSoundCoreState, IsIdle, ticket_replies}
-use Rattle.histories.proofs.Lists.{picked, all_front, all_permuted, before_back, before_front, before_moved, before_one, before_past, before_push, before_join}
-use Rattle.histories.proofs.Apart.{apart_turned, entries-append}
+use Rattle.histories.proofs.Lists.{picked, all_front, all_permuted, before_back, before_front, before_moved, before_one, before_past, before_push}
+use Rattle.histories.proofs.Apart.{apart_turned, entries-append, entries_split}
 use Rattle.histories.proofs.Ways.{Passed, Way, Arrives, Grants, Backs, Logs, ways}
 use Rattle.histories.proofs.SerialReplies.{serial_replies-append, IsIn, in_left, IsAsGood, good_itself, good_on, good_push, good_moved}
 use Rattle.histories.proofs.Clearing.{earlier_free}
@@ -91,15 +91,7 @@ module _ (g : Geometry) (AreInStep : List Entry → List Entry → Type 0) (keep
         subst (AreInStep all) to (keeps.moved all (P ++ R) k.before one (k.behind ++ old.waiting) free (subst (AreInStep all) from good))
 
     log_in_step : (n : ℕ) → AreInStep all (row (log g old n) (past ++ take n old.ran))
-    log_in_step n =
-        let rest = old.in_flight ++ old.waiting in
-        let same : row old past ≡ row (log g old n) (past ++ take n old.ran) =
-        ap (λ l. entries past ++ (entries l ++ rest)) (sym (take-append-drop n old.ran))
-        ∙ ap (λ l. entries past ++ l) (ap (λ l. l ++ rest) (entries-append (take n old.ran) (drop n old.ran))
-        ∙ append_assoc (entries (take n old.ran)) (entries (drop n old.ran)) rest)
-        ∙ sym (append_assoc (entries past) (entries (take n old.ran)) _)
-        ∙ ap (λ l. l ++ (entries (drop n old.ran) ++ rest)) (sym (entries-append past (take n old.ran))) in
-        subst (AreInStep all) same good
+    log_in_step n = subst (AreInStep all) (sym (entries_split past old.ran (old.in_flight ++ old.waiting) n)) good
 
     way_in_step : {hands : List Hand} {event : Event} {p : Passed} → Way g (record { core = old; hands = hands }) event p
         → AreInStep (all ++ p.come) (row event.state_after.core (past ++ p.gone))
@@ -171,43 +163,31 @@ arrivals_reordered g old events legal idle =
 
 -- ---- tickets are given in order
 
--- The entry's ticket is n or a later one.
-abbrev IsFrom : ℕ → Entry → Type 0
-IsFrom n e = n ≤ e.0
+-- The tickets ascend from n on.
+abbrev AscendFrom : ℕ → List Entry → Type 0
+AscendFrom n [] = Unit {0}
+AscendFrom n (e ∷ es) = (n ≤ e.0) × AscendFrom (e.0 + 1) es
 
-record GivenFrom (old new : CoreState) (come : List Entry) : Type 0 where
-  grows : old.next ≤ new.next
-  ascending : AreAscending come
-  from : AllByRecursion (IsFrom old.next) come
-  below : AllByRecursion (λ e. e.0 < new.next) come
+all_later : (n k : ℕ) (es : List Entry) → AscendFrom n es → k < n → AllByRecursion (λ d. k < d.0) es
+all_later n k [] h less = tt
+all_later n k (e ∷ es) h less = let from = h.0 in (omega (arith, from, less), all_later (e.0 + 1) k es h.1 (omega (arith, from, less)))
 
-way_given : {g : Geometry} {old : MachineState} {event : Event} {p : Passed} → Way g old event p → GivenFrom old.core event.state_after.core p.come
-way_given (Arrives m works fits) = record { grows = omega arith; ascending = (tt, tt); from = (omega arith, tt); below = (omega arith, tt) }
-way_given _ = record { grows = omega arith; ascending = tt; from = tt; below = tt }
+ascend : (n : ℕ) (es : List Entry) → AscendFrom n es → AreAscending es
+ascend n [] h = tt
+ascend n (e ∷ es) h = (all_later (e.0 + 1) e.0 es h.1 (omega arith), ascend (e.0 + 1) es h.1)
 
-record ArrivedFrom (n : ℕ) (es : List Entry) : Type 0 where
-  ascending : AreAscending es
-  from : AllByRecursion (IsFrom n) es
+way_given : {g : Geometry} {old : MachineState} {event : Event} {p : Passed} → Way g old event p → (later : List Entry)
+    → AscendFrom event.state_after.core.next later → AscendFrom old.core.next (p.come ++ later)
+way_given (Arrives m works fits) later h = (omega arith, h)
+way_given _ later h = h
 
-run_given : (g : Geometry) (old : MachineState) (events : List Event) → IsLegal g old events → ArrivedFrom old.core.next (arrived events)
-run_given g old [] legal = record { ascending = tt; from = tt }
-run_given g old (event ∷ events) legal =
-    let come = arrives event.step event.outcome in
-    let k = way_given (ways g old event legal.0) in
-    let j = run_given g event.state_after events legal.1 in
-    let grows = k.grows in
-    record {
-      ascending = before_join (λ e d. e.0 < d.0) come (arrived events) k.ascending j.ascending
-          (all_weaker (λ e. e.0 < event.state_after.core.next) (λ e. AllByRecursion (λ d. e.0 < d.0) (arrived events))
-          (λ e lt. all_weaker (IsFrom event.state_after.core.next) (λ d. e.0 < d.0)
-          (λ d from. omega (arith, lt, from)) (arrived events) j.from) come k.below);
-      from = all_join (IsFrom old.core.next) come (arrived events) k.from
-          (all_weaker (IsFrom event.state_after.core.next) (IsFrom old.core.next) (λ d from. omega (arith, grows, from)) (arrived events) j.from);
-    }
+run_given : (g : Geometry) (old : MachineState) (events : List Event) → IsLegal g old events → AscendFrom old.core.next (arrived events)
+run_given g old [] legal = tt
+run_given g old (event ∷ events) legal = way_given (ways g old event legal.0) (arrived events) (run_given g event.state_after events legal.1)
 
 -- The tickets of the messages that arrive in a run ascend.
 pub run_ascending : (g : Geometry) (old : MachineState) (events : List Event) → IsLegal g old events → AreAscending (arrived events)
-run_ascending g old events legal = (run_given g old events legal).ascending
+run_ascending g old events legal = ascend old.core.next (arrived events) (run_given g old events legal)
 
 each_less : (es : List Entry) → AreAscending es → AreEachLess es
 each_less [] h = tt

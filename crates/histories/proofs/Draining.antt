@@ -1,5 +1,5 @@
 -- All is answered in the end, if nothing more arrives and the device works: a step that lowers what is left, and another one, and so on.
-use Rattle.std.proofs.Common.{◌≡◌, ℕ, zero, suc, ◌+◌, ◌*◌, ◌<◌, ◌≤◌, Bool, true, false, List, [], ◌∷◌, ◌++◌, Option, Some, None, refl, ap, sym, ◌∙◌, subst, take, length, ⊎_elim, true≢false, arith}
+use Rattle.std.proofs.Common.{◌≡◌, ℕ, zero, suc, ◌+◌, ◌<◌, ◌≤◌, Bool, true, false, List, [], ◌∷◌, ◌++◌, Option, Some, None, refl, ap, sym, ◌∙◌, subst, take, length, ⊎_elim, true≢false, arith}
 use Rattle.std.specs.Prelude.{◌&&◌, ◌==◌, cond, count_by, if◌then◌else◌, is_some, IsPermutation, set, slice_get}
 use Rattle.std.proofs.lemmas.Bool.{eq-eqb, eqb-true}
 use Rattle.std.proofs.lemmas.List.{append-nil, length-take}
@@ -40,14 +40,6 @@ pub record CanWork (g : Geometry) (w : MachineState) : Type 0 where
 abbrev none_eligible : Geometry → ℕ → CoreState → ℕ
 none_eligible g n w = cond (is_some (next_eligible g w)) 0 (n + 2)
 
--- less to do by a step of a message, and by one of a checkpoint
-module _ (a b c : ℕ) (more : b + c ≤ a) where
-  less_by_message : (p q x y : ℕ) → q ≡ p → y + 2 ≤ c → b + q + y < a + p + x
-  less_by_message p q x y same few = omega (arith, more, same, few)
-
-less_by_checkpoint : (a p q x y : ℕ) → q + y < p + x → a + q + y < a + p + x
-less_by_checkpoint a p q x y h = omega (arith, h)
-
 module _ (g : Geometry) (n : ℕ) (within : n ≤ piece_count g) where
   at_most : (b : Bool) → cond b 0 (n + 2) ≤ n + 2
   at_most true = omega arith
@@ -73,9 +65,9 @@ module _ (g : Geometry) (n : ℕ) (within : n ≤ piece_count g) where
         let few = ap length nobody in
         let lower : steps_to_come next < steps_to_come w = omega (arith, counted, some, few) in
         let most = at_most (is_some (next_eligible g next.core)) in
-        makes s o next does nobody online (less_by_message ((n + 4) * steps_to_come w) ((n + 4) * steps_to_come next) (n + 4)
-        (column_fits (n + 4) (steps_to_come next) (n + 4) (steps_to_come w) lower (omega arith)) (points_left w.core.pieces_left)
-        (points_left next.core.pieces_left) (none_eligible g n w.core) (none_eligible g n next.core) (ap points_left points) (omega (arith, most)))
+        let column = column_fits (n + 4) (steps_to_come next) (n + 4) (steps_to_come w) lower (omega arith) in
+        let same = ap points_left points in
+        makes s o next does nobody online (omega (arith, column, same, most))
 
     answers_first : (as' : List Replied) → w.core.logged ≡ as' → 0 < length as' → CanStep g n w
     answers_first [] front some = absurd (omega (arith, some))
@@ -130,8 +122,7 @@ module _ (g : Geometry) (n : ℕ) (within : n ≤ piece_count g) where
         (subst (λ r. is_some (next_eligible g (made r).1) ≡ true) needs.may_begin (needs.after_cut n)) in
         makes steps.Cut outcomes.Cut (record w { core = new }) (ap (λ r. in_core w (made r)) needs.may_begin) refl
         (record { no_point = λ e. cc; pieces = λ e. refl })
-        (less_by_checkpoint ((n + 4) * steps_to_come w) (points_left w.core.pieces_left) (n + 1) (none_eligible g n w.core)
-        (none_eligible g n new) (omega (arith, before, after)))
+        (omega (arith, before, after))
 
     -- the next step of a checkpoint in progress
     goes_on : (pieces_left : Option ℕ) → w.core.pieces_left ≡ pieces_left → MayGoOn w.core pieces_left → CanStep g n w
@@ -141,8 +132,7 @@ module _ (g : Geometry) (n : ℕ) (within : n ≤ piece_count g) where
         makes steps.Flip outcomes.Flipped (record w { core = record w.core { pieces_left = None } })
         (ap (λ r. in_core w (unless_refused w.core r (outcomes.Flipped, record w.core { pieces_left = None }))) may) refl
         (record { no_point = λ e. cc; pieces = λ e. cc })
-        (less_by_checkpoint ((n + 4) * steps_to_come w) (points_left w.core.pieces_left) 0 (none_eligible g n w.core)
-        (none_eligible g n w.core) (omega (arith, was)))
+        (omega (arith, was))
     goes_on (Some (suc k)) is may =
         let was = ap points_left is in
         let left = ap pieces_after is in
@@ -150,8 +140,7 @@ module _ (g : Geometry) (n : ℕ) (within : n ≤ piece_count g) where
         makes steps.Piece (outcomes.Left after) (record w { core = record w.core { pieces_left = Some after } })
         (ap (λ r. in_core w (unless_refused w.core r (outcomes.Left after, record w.core { pieces_left = Some after }))) may) refl
         (record { no_point = λ e. cc; pieces = λ e. cc })
-        (less_by_checkpoint ((n + 4) * steps_to_come w) (points_left w.core.pieces_left) (after + 1) (none_eligible g n w.core)
-        (none_eligible g n w.core) (omega (arith, was, left)))
+        (omega (arith, was, left))
 
     goes : (in_flight : List Entry) → w.core.in_flight ≡ in_flight → CanGoOn g w.core → CanStep g n w
     goes (e ∷ es) out on = returns_first e es out

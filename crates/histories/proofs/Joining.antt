@@ -1,5 +1,5 @@
 -- A legal run, and one from where it ended, are together one legal run; what a crash of either may leave, a crash of that one may leave.
-use Rattle.std.proofs.Common.{◌≡◌, ℕ, zero, suc, ◌+◌, ◌≤◌, true, false, List, [], ◌∷◌, ◌++◌, refl, ap, sym, ◌∙◌, subst, append_assoc, length, take, drop, arith}
+use Rattle.std.proofs.Common.{◌≡◌, ℕ, zero, suc, ◌+◌, ◌≤◌, true, false, List, [], ◌∷◌, ◌++◌, refl, rules, ap, sym, ◌∙◌, subst, append_assoc, length, take, drop, arith}
 use Rattle.std.specs.Prelude.{if◌then◌else◌}
 use Rattle.std.proofs.lemmas.List.{drop-append-le, length-append, take-append-le}
 use Rattle.affinity.specs.declared.geometry.Geometry.{Geometry}
@@ -16,14 +16,7 @@ use Rattle.histories.proofs.SerialReplies.{state_after_all-joined}
 
 pub runs_join : (g : Geometry) (old : MachineState) (events more : List Event) → IsLegal g old events → IsLegal g (end_state old events) more
     → IsJoined g old events more
-runs_join g old [] more legal on = record {
-  legal = on;
-  end_state_is = refl;
-  logged_is = refl;
-  appended_is = refl;
-  arrived_is = refl;
-  answered_is = refl;
-}
+runs_join g old [] more legal on = search rules
 runs_join g old (event ∷ events) more legal on =
     let k = runs_join g event.state_after events more legal.1 on in
     record {

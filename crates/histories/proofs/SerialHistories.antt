@@ -5,7 +5,6 @@ use Rattle.std.specs.Prelude.{◌==◌, IsPermutation}
 use Rattle.std.specs.List.{AllByRecursion, Contains, IsDistinct}
 use Rattle.std.proofs.lemmas.Bool.{eq-eqb, eqb-false, ne_eqb}
 use Rattle.std.proofs.lemmas.Bool.Decides.{eqb_tells}
-use Rattle.std.proofs.lemmas.List.{take-append-drop}
 use Rattle.std.proofs.lemmas.List.Elements.{All-contains_itself, recursion_from_All}
 use Rattle.std.proofs.lemmas.List.Sorted.{IsPermutation-append_left}
 use Rattle.std.proofs.lemmas.Map.Keys.{IsDistinct-IsPermutation}
@@ -20,7 +19,7 @@ use Rattle.histories.specs.Runs.{IsLegal, answered_messages, arrived, appended_m
 use Rattle.histories.specs.Crash.{IsLogAfter, in_doubt}
 use Rattle.histories.specs.Laws.{AreAscending, HaveDistinctTickets, EachBefore, IsIdle, IsSerialHistory, ticket_replies}
 use Rattle.histories.proofs.Answering.{recorded-append, run_in_order}
-use Rattle.histories.proofs.Apart.{entries-append}
+use Rattle.histories.proofs.Apart.{entries-append, entries_split}
 use Rattle.histories.proofs.Arrivals.{arrivals_reordered, row, run_ascending}
 use Rattle.histories.proofs.Crashes.{legal_first, went_first}
 use Rattle.histories.proofs.Doubts.{crash_doubts_ran, first_doubts, no_doubts, run_doubts_ran}
@@ -138,16 +137,7 @@ module _ (g : Geometry) (old : MachineState) (events : List Event) (legal : IsLe
   none_lost = (arrivals_reordered g old events legal idle).same
 
   first_in_row : (j : ℕ) → row now (logged_messages old events) ≡ entries (log j) ++ (entries (drop j now.ran) ++ (now.in_flight ++ now.waiting))
-  first_in_row j =
-      let W = entries (logged_messages old events) in
-      let first = entries (take j now.ran) in
-      let rest = entries (drop j now.ran) ++ (now.in_flight ++ now.waiting) in
-      let split : entries now.ran ++ (now.in_flight ++ now.waiting) ≡ first ++ rest =
-      ap (λ l. entries l ++ (now.in_flight ++ now.waiting)) (sym (take-append-drop j now.ran))
-      ∙ ap (λ l. l ++ (now.in_flight ++ now.waiting)) (entries-append (take j now.ran) (drop j now.ran))
-      ∙ append_assoc first (entries (drop j now.ran)) (now.in_flight ++ now.waiting) in
-      ap (λ l. W ++ l) split ∙ sym (append_assoc W first rest)
-      ∙ ap (λ l. l ++ rest) (sym (entries-append (logged_messages old events) (take j now.ran)))
+  first_in_row j = sym (entries_split (logged_messages old events) now.ran (now.in_flight ++ now.waiting) j)
 
   in_order : (j : ℕ) → ticket_replies (log j) ≡ serial_replies g old.core.committed (entries (log j))
   in_order j =

@@ -44,19 +44,14 @@ module _ (g : Geometry) where
         let one : Entry = (old.next, m) in
         let same = sym (append_assoc old.in_flight old.waiting (one ∷ [])) in
         let l = length-append old.waiting (one ∷ []) in
-        record {
-          apart = h.apart;
-          replied = h.replied;
-          ascending = before_push (λ e d. e.0 < d.0) old.waiting one h.ascending (all_back (IsGiven old.next) old.in_flight old.waiting h.given);
-          once = subst HaveDistinctTickets (sym same) (before_push
-              (λ e d. e.0 ≡ d.0 → ⊥) (old.in_flight ++ old.waiting) one h.once (all_weaker (IsGiven old.next) (λ e. e.0 ≡ old.next → ⊥)
-              (λ e lt is. omega (arith, lt, is)) _ h.given));
-          given = subst (AllByRecursion (IsGiven (old.next + 1))) (sym same)
-              (all_join (IsGiven (old.next + 1)) (old.in_flight ++ old.waiting) (one
-              ∷ []) (all_weaker (IsGiven old.next) (IsGiven (old.next + 1)) (λ e lt. omega (arith, lt)) _ h.given) (omega arith, tt));
-          room = h.room;
-          fits = omega (arith, l, fits);
-        }
+        let given = all_weaker (IsGiven old.next) (IsGiven (old.next + 1)) (λ e lt. omega (arith, lt)) (old.in_flight ++ old.waiting) h.given in
+        let still_given = subst (AllByRecursion (IsGiven (old.next + 1))) (sym same)
+        (all_join (IsGiven (old.next + 1)) (old.in_flight ++ old.waiting) (one ∷ []) given (omega arith, tt)) in
+        let ascending = before_push (λ e d. e.0 < d.0) old.waiting one h.ascending (all_back (IsGiven old.next) old.in_flight old.waiting h.given) in
+        let once = subst HaveDistinctTickets (sym same) (before_push (λ e d. e.0 ≡ d.0 → ⊥) (old.in_flight ++ old.waiting) one h.once
+        (all_weaker (IsGiven old.next) (λ e. e.0 ≡ old.next → ⊥) (λ e lt is. omega (arith, lt, is)) _ h.given)) in
+        let few : length (old.waiting ++ one ∷ []) + length (held old) ≤ old.slots = omega (arith, l, fits) in
+        assumption (ascending, once, still_given, few, h)
 
     pub grant_sound : (found : Entry × List Entry) → next_eligible g old ≡ Some found → IsSoundCoreState g (grant old found)
     grant_sound found first =
