@@ -4,7 +4,8 @@ use Rattle.std.specs.Prelude.{if◌then◌else◌, is_none, not}
 use Rattle.std.proofs.lemmas.Bool.{and_from, lt-ltb, not_from_false}
 use Rattle.affinity.specs.declared.geometry.Geometry.{Geometry}
 use Rattle.image.specs.Pieces.{piece_count}
-use Rattle.histories.specs.Events.{Hand, MachineState, answer, arrive, batch, pieces_after, flip_refusal, all_pieces_written, log, piece_refusal, point_refusal, unless_refused}
+use Rattle.histories.specs.declared.outcomes.Step.{Step}
+use Rattle.histories.specs.Events.{IsWithoutFault, apply_step, Hand, MachineState, answer, arrive, batch, pieces_after, flip_refusal, all_pieces_written, log, piece_refusal, point_refusal, unless_refused}
 use Rattle.histories.specs.CoreState.{CoreState}
 use Rattle.histories.specs.declared.outcomes.ArriveRefusal.{ArriveRefusal}
 use Rattle.histories.specs.declared.outcomes.CoreFault.{CoreFault}
@@ -32,25 +33,25 @@ abbrev In : CoreState → List Hand → MachineState
 In w hands = record { core = w; hands = hands }
 
 module _ (g : Geometry) (old new : CoreState) where
+  -- a step that begins no online checkpoint
+  goes : {hands : List Hand} (step : Step) (outcome : Outcome) → apply_step g 0 (In old hands) step ≡ (outcome, In new hands)
+      → IsWithoutFault g (In old hands) (record { step = step; outcome = outcome; device_failed = false; state_after = In new hands })
+  goes step outcome does = record { to_write = 0; at_most = omega arith; does = does }
+
   pub arrive_called : (m : Msg) (r : Result ℕ ArriveRefusal) → (arrive_outcome r, new) ≡ arrive g old m
       → IsCallEvent g old new (steps.Arrive m) (arrive_outcome r) false
-  arrive_called m r e hands =
-      record { to_write = 0; at_most = omega arith; does = ap (λ (x : Outcome × CoreState). (x.0, In x.1 hands)) (sym e) }
+  arrive_called m r e hands = goes (steps.Arrive m) (arrive_outcome r) (ap (λ (x : Outcome × CoreState). (x.0, In x.1 hands)) (sym e))
 
   pub answer_called : (r : Option (ℕ × Reply)) → (answer_outcome r, new) ≡ answer old old.logged → IsCallEvent g old new steps.Answer (answer_outcome r) false
-  answer_called r e hands =
-      record { to_write = 0; at_most = omega arith; does = ap (λ (x : Outcome × CoreState). (x.0, In x.1 hands)) (sym e) }
+  answer_called r e hands = goes steps.Answer (answer_outcome r) (ap (λ (x : Outcome × CoreState). (x.0, In x.1 hands)) (sym e))
 
   -- the outcome of a log step and the core state after it, by whether it is refused (b)
   abbrev log_if : ℕ → Bool → Outcome × CoreState
   log_if n b = if b then (outcomes.LogFault faults.Failed, old) else (outcomes.Logged (length (take n old.ran)), log g old n)
 
   pub log_called : (n : ℕ) (r : Result ℕ CoreFault) → IsLogStep g old new n r → IsCallEvent g old new (steps.Log n) (log_outcome r) (log_device_failed r)
-  log_called n (Ok count) h hands = record {
-    to_write = 0;
-    at_most = omega arith;
-    does = ap (λ (b : Bool). ((log_if n b).0, In (log_if n b).1 hands)) h.0 ∙ (λ i. (outcomes.Logged (sym h.1 i), In (sym h.2 i) hands));
-  }
+  log_called n (Ok count) h hands = goes (steps.Log n) (outcomes.Logged count)
+      (ap (λ (b : Bool). ((log_if n b).0, In (log_if n b).1 hands)) h.0 ∙ (λ i. (outcomes.Logged (sym h.1 i), In (sym h.2 i) hands)))
   log_called n (Err faults.Device) h hands = record {
     touched = and_from (not old.failed) _ (not_from_false old.failed h.0) (lt-ltb 0 (length (batch old n)) (some (length (batch old n)) h.1));
     core = λ i. (outcomes.LogFault faults.Device, sym h.2 i);
@@ -60,11 +61,8 @@ module _ (g : Geometry) (old new : CoreState) where
       some : (k : ℕ) → (k ≡ 0 → ⊥) → 0 < k
       some zero not_none = absurd (not_none refl)
       some (suc k) not_none = omega arith
-  log_called n (Err faults.Failed) h hands = record {
-    to_write = 0;
-    at_most = omega arith;
-    does = ap (λ (b : Bool). ((log_if n b).0, In (log_if n b).1 hands)) h.0 ∙ (λ i. (outcomes.LogFault faults.Failed, In (sym h.1 i) hands));
-  }
+  log_called n (Err faults.Failed) h hands = goes (steps.Log n) (outcomes.LogFault faults.Failed)
+      (ap (λ (b : Bool). ((log_if n b).0, In (log_if n b).1 hands)) h.0 ∙ (λ i. (outcomes.LogFault faults.Failed, In (sym h.1 i) hands)))
 
   -- the event of a step that is refused for a reason, if there is one
   abbrev By : List Hand → Option PointRefusal → Outcome × CoreState → Outcome × MachineState
@@ -96,13 +94,10 @@ module _ (g : Geometry) (old new : CoreState) where
   cut_called (Err why) h hands = record { to_write = 0; at_most = omega arith; does = refused hands (point_refusal old) _ why h.0 h.1 }
 
   pub piece_called : (r : Result ℕ PointRefusal) → IsPieceStep old new r → IsCallEvent g old new steps.Piece (step_outcome outcomes.Left r) (checkpoint_device_failed r)
-  piece_called (Ok n) h hands = record {
-    to_write = 0;
-    at_most = omega arith;
-    does = ap (λ o. By hands o (outcomes.Left (pieces_after old.pieces_left), record old { pieces_left = Some (pieces_after old.pieces_left) })) h.0
-        ∙ (λ i. (outcomes.Left (sym h.1 i), In (record old { pieces_left = Some (sym h.1 i) }) hands))
-        ∙ (λ i. (outcomes.Left n, In (sym h.2 i) hands));
-  }
+  piece_called (Ok n) h hands = goes steps.Piece (outcomes.Left n)
+      (ap (λ o. By hands o (outcomes.Left (pieces_after old.pieces_left), record old { pieces_left = Some (pieces_after old.pieces_left) })) h.0
+      ∙ (λ i. (outcomes.Left (sym h.1 i), In (record old { pieces_left = Some (sym h.1 i) }) hands))
+      ∙ (λ i. (outcomes.Left n, In (sym h.2 i) hands)))
   piece_called (Err points.Device) h hands = record {
     touched = and_from (is_none (piece_refusal old)) _ (ap is_none h.0) (not_from_false (all_pieces_written old.pieces_left) h.1);
     core = λ i. (outcomes.PointRefused points.Device, sym h.2 i);

@@ -148,6 +148,11 @@ module _ (keeps : Type 0) (p : Parts) (k : IsCore keeps p) where
       not ((k.queue_held (λ o. are_related_intervals (queued_of x).affinity o.affinity) ∙ held_touch geometry p.phases k.placed x a) i)
       && not ((ap (list_any (waits_for (queued_of x))) k.queue_waiting ∙ waits_touch geometry p.phases.waiting k.placed.waiting x a) i)
 
+  found_first : (room : Bool) → next_queued room p.queue.held p.queue.waiting
+      ≡ find (λ t. has_room room t && is_conflict_free p.queue.held p.queue.waiting t) (map queued_of p.phases.waiting)
+  found_first room = next_is_first room p.queue.held p.queue.waiting (subst Ascend (sym k.queue_waiting) (ascend_from p.phases.waiting k.sound.ascending))
+      ∙ ap (find (λ t. has_room room t && is_conflict_free p.queue.held p.queue.waiting t)) k.queue_waiting
+
   module _ (room : Bool) (is_room : room ≡ nat_lt p.unlogged p.journal.room) where
     room_same : (x : SlotView) → has_room room (queued_of x) ≡ has_room_for w (entry_of x)
     room_same x = or_comm room (not (queued_of x).changing)
@@ -158,15 +163,11 @@ module _ (keeps : Type 0) (p : Parts) (k : IsCore keeps p) where
         (λ x a. (λ i. room_same x i && clear_same x a i) ∙ and_comm (has_room_for w (entry_of x)) (is_clear_in geometry w (entry_of x)))
         p.phases.waiting k.placed.waiting
 
-    found_first : next_queued room p.queue.held p.queue.waiting ≡ find (λ t. has_room room t && is_conflict_free p.queue.held p.queue.waiting t) (map queued_of p.phases.waiting)
-    found_first = next_is_first room p.queue.held p.queue.waiting (subst Ascend (sym k.queue_waiting) (ascend_from p.phases.waiting k.sound.ascending))
-        ∙ ap (find (λ t. has_room room t && is_conflict_free p.queue.held p.queue.waiting t)) k.queue_waiting
-
     pub goes_first : (t : QueuedMessage) → next_queued room p.queue.held p.queue.waiting ≡ Some t → Chosen (is_eligible geometry w) p.phases.waiting t
-    goes_first t h = chosen _ (is_eligible geometry w) p.phases.waiting same_test t (sym found_first ∙ h)
+    goes_first t h = chosen _ (is_eligible geometry w) p.phases.waiting same_test t (sym (found_first room) ∙ h)
 
     none_any : next_queued room p.queue.held p.queue.waiting ≡ None → list_any (is_eligible geometry w) w.waiting ≡ false
-    none_any h = any_found _ (is_eligible geometry w) p.phases.waiting same_test ∙ ap is_some (sym found_first ∙ h)
+    none_any h = any_found _ (is_eligible geometry w) p.phases.waiting same_test ∙ ap is_some (sym (found_first room) ∙ h)
 
     pub none_goes : next_queued room p.queue.held p.queue.waiting ≡ None → next_eligible geometry w ≡ None
     none_goes h = none_picked (is_eligible geometry w) w.waiting (none_any h)
@@ -175,10 +176,6 @@ module _ (keeps : Type 0) (p : Parts) (k : IsCore keeps p) where
 
   clear_test : Same (λ t. has_room true t && is_conflict_free p.queue.held p.queue.waiting t) (is_clear_in geometry w) p.phases.waiting
   clear_test = all_weaker (IsPlaced geometry) _ (λ x a. clear_same x a) p.phases.waiting k.placed.waiting
-
-  found_clear : next_queued true p.queue.held p.queue.waiting ≡ find (λ t. has_room true t && is_conflict_free p.queue.held p.queue.waiting t) (map queued_of p.phases.waiting)
-  found_clear = next_is_first true p.queue.held p.queue.waiting (subst Ascend (sym k.queue_waiting) (ascend_from p.phases.waiting k.sound.ascending))
-      ∙ ap (find (λ t. has_room true t && is_conflict_free p.queue.held p.queue.waiting t)) k.queue_waiting
 
   lacking : (es : List Entry) → list_any (is_eligible geometry w) es ≡ false → list_any (lacks_only_room geometry w) es ≡ list_any (is_clear_in geometry w) es
   lacking [] h = refl
@@ -193,7 +190,7 @@ module _ (keeps : Type 0) (p : Parts) (k : IsCore keeps p) where
   module _ (room : Bool) (is_room : room ≡ nat_lt p.unlogged p.journal.room) (none : next_queued room p.queue.held p.queue.waiting ≡ None) where
     reason : grant_refusal geometry w ≡ (if is_some (next_queued true p.queue.held p.queue.waiting) then outcomes.NoRoom else outcomes.NoneEligible)
     reason = ap (λ b. if b then outcomes.NoRoom else outcomes.NoneEligible)
-        (lacking w.waiting (none_any room is_room none) ∙ any_found _ (is_clear_in geometry w) p.phases.waiting clear_test ∙ ap is_some (sym found_clear))
+        (lacking w.waiting (none_any room is_room none) ∙ any_found _ (is_clear_in geometry w) p.phases.waiting clear_test ∙ ap is_some (sym (found_first true)))
 
     pub none_is_granted : w.failed ≡ false → (why : Granted)
         → why ≡ (if is_some (next_queued true p.queue.held p.queue.waiting) then granted.NoRoom else granted.NoneEligible)

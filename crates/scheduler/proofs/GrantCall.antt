@@ -91,13 +91,17 @@ module _ {D : Type 0} {keeps : Type 0} (core : Inside D) (is : IsSoundCore keeps
   pub grant_place : IsPlaced core.journal.geometry x
   grant_place = (all_back (IsPlaced core.journal.geometry) chosen.before (x ∷ chosen.behind) (subst (AllByRecursion (IsPlaced core.journal.geometry)) chosen.whole is.core.placed.waiting)).0
 
-  pub grant_affinity : IsAffinity core.tree.geometry queued.affinity
-  grant_affinity = subst (λ (a : Interval). IsAffinity core.tree.geometry a) (ap (λ (t : QueuedMessage). t.affinity) chosen.queued)
-      (path_of core.journal.geometry x.1.message, subst (λ h. IsAffinityOf h (path_of core.journal.geometry x.1.message) x.1.affinity) (sym is.core.geometry) grant_place.affinity)
+  grant_path : IsAffinityOf core.tree.geometry (path_of core.journal.geometry x.1.message) queued.affinity
+  grant_path = subst (λ (a : Interval). IsAffinityOf core.tree.geometry (path_of core.journal.geometry x.1.message) a) (ap (λ (t : QueuedMessage). t.affinity) chosen.queued)
+      (subst (λ (h : Geometry). IsAffinityOf h (path_of core.journal.geometry x.1.message) x.1.affinity) (sym is.core.geometry) grant_place.affinity)
 
-  pub grant_has_room : HasGap core.journal.geometry (path_of core.journal.geometry x.1.message) (tree_nodes core.tree) → ⊥
-  grant_has_room gap = grant_lends core.journal.geometry (core_state_in p) is.core.sound (entry_of x, map entry_of (chosen.before ++ chosen.behind)) chosen.picked (tree_nodes core.tree)
-      is.core.tree gap
+  pub grant_affinity : IsAffinity core.tree.geometry queued.affinity
+  grant_affinity = (path_of core.journal.geometry x.1.message, grant_path)
+
+  pub grant_has_room : ((q : Path) → IsAffinityOf core.tree.geometry q queued.affinity → HasGap core.tree.geometry q (tree_nodes core.tree)) → ⊥
+  grant_has_room none = grant_lends core.journal.geometry (core_state_in p) is.core.sound (entry_of x, map entry_of (chosen.before ++ chosen.behind)) chosen.picked (tree_nodes core.tree)
+      is.core.tree (subst (λ h. HasGap h (path_of core.journal.geometry x.1.message) (tree_nodes core.tree)) is.core.geometry
+      (none (path_of core.journal.geometry x.1.message) grant_path))
 
   once_there : count_of split.at (split.front ++ split.at ∷ split.back) ≤ 1
   once_there = subst (λ xs. count_of split.at xs ≤ 1) split.whole (chained-once core.slots split.at 0 is.chains.partitioned)
@@ -113,10 +117,6 @@ module _ {D : Type 0} {keeps : Type 0} (core : Inside D) (is : IsSoundCore keeps
       (subst (AllByRecursion (λ (y : SlotView). (y.0 == split.at) ≡ false)) split.behind_is (numbers_off core.slots core.replies.items split.at split.back (omega (arith, once, all, same)))))
 
   -- ---- what holds afterwards
-
-  grant_path : IsAffinityOf core.tree.geometry (path_of core.journal.geometry x.1.message) queued.affinity
-  grant_path = subst (λ (a : Interval). IsAffinityOf core.tree.geometry (path_of core.journal.geometry x.1.message) a) (ap (λ (t : QueuedMessage). t.affinity) chosen.queued)
-      (subst (λ (h : Geometry). IsAffinityOf h (path_of core.journal.geometry x.1.message) x.1.affinity) (sym is.core.geometry) grant_place.affinity)
 
   grant_size : capacity_of (after_move core.slots queued.slot 1) ≡ capacity_of core.slots
   grant_size = ap (λ (vs : List (Option Slot)). length vs) granted_slot.values

@@ -7,6 +7,7 @@ use Rattle.scheduler.proofs.Chains.{chain_joined, chain_left, chain_stays, four_
 use Rattle.scheduler.specs.Moving.{HasLogged}
 use Rattle.scheduler.specs.Slots.{HasChains}
 use Rattle.scheduler.specs.declared.slot.Slot.{Slot}
+use Rattle.std.proofs.Common.{rules}
 use Rattle.std.proofs.lemmas.List.{append-nil, length-drop}
 
 -- ---- one more of the first ones
@@ -27,15 +28,7 @@ left_over n xs low = simp length-drop (omega (arith, low))
 -- ---- what ran is logged
 
 pub none_logged : (arena : ArenaView Slot) → HasChains arena → HasLogged 0 arena arena
-none_logged arena is = record {
-  ran = refl;
-  logged = sym (append-nil (chain_at arena 3));
-  waiting = refl;
-  in_flight = refl;
-  values = refl;
-  free = refl;
-  chains = is;
-}
+none_logged arena is = let logged = sym (append-nil (chain_at arena 3)) in search (rules, logged, is)
 
 pub some_first : (xs : List ℕ) → 0 < length xs → first_of xs ≡ None → ⊥
 some_first [] some none = omega (arith, some)

@@ -1,14 +1,11 @@
 -- The chosen message has its slot and nothing related is in flight, so the tree lends the parcels at its affinity, for a job that can run.
 use Rattle.std.proofs.Common.{◌+◌, sym, ap, subst, ◌∙◌}
 use Rattle.std.specs.Prelude.{nat_lt, option_copied}
-use Rattle.affinity.specs.Interval.{IsAffinityOf}
 use Rattle.affinity.specs.declared.geometry.Geometry.{Geometry}
 use Rattle.arena.specs.ArenaView.{IsPartitioned}
-use Rattle.language.specs.Messages.{path_of}
 use Rattle.parcel.specs.Fits.{IsRunnable}
-use Rattle.parcel.specs.Tree.{HasGap, tree_nodes}
 use Rattle.scheduler.proofs.Choosing.{none_is_granted}
-use Rattle.scheduler.proofs.GrantCall.{chosen, grant_affinity, grant_call, grant_call_is, grant_has_room, grant_has_slot, grant_place, grant_suits}
+use Rattle.scheduler.proofs.GrantCall.{grant_affinity, grant_call, grant_call_is, grant_has_room, grant_has_slot, grant_suits}
 use Rattle.scheduler.specs.Calls.{IsGrantOf, IsGranted}
 use Rattle.scheduler.specs.CoreView.{CoreView, core_state_of}
 use Rattle.scheduler.specs.Fields.{IsSoundCore, parts}
@@ -33,13 +30,8 @@ returns-in-Err-clause-state_after g c =
 
 pub unreachable-requires-in_default-lend : goal.unreachable-requires-in_default-lend
 unreachable-requires-in_default-lend g c =
-    let at = chosen c.self.inside c.self.invariant _ (ap (nat_lt c.self.inside.unlogged) c.room.ensures.room) c.in-Ok.queued c.in-Ok.ensures.next in
-    let is = grant_place c.self.inside c.self.invariant _ (ap (nat_lt c.self.inside.unlogged) c.room.ensures.room) c.in-Ok.queued c.in-Ok.ensures.next in
-    let aff = subst (λ a. IsAffinityOf c.self.inside.journal.geometry (path_of c.self.inside.journal.geometry at.at.1.message) a) (ap (λ t. t.affinity) at.queued) is.affinity in
     grant_has_room c.self.inside c.self.invariant _ (ap (nat_lt c.self.inside.unlogged) c.room.ensures.room) c.in-Ok.queued c.in-Ok.ensures.next
-    (subst (λ h. HasGap h (path_of c.self.inside.journal.geometry at.at.1.message) (tree_nodes c.self.inside.tree)) c.self.invariant.core.geometry
-    (c.in_default-lend.ensures.none (path_of c.self.inside.journal.geometry at.at.1.message)
-    (subst (λ h. IsAffinityOf h (path_of c.self.inside.journal.geometry at.at.1.message) c.in-Ok.queued.affinity) (sym c.self.invariant.core.geometry) aff)).0)
+    (λ q at. (c.in_default-lend.ensures.none q at).0)
 
 pub new-requires : goal.new-requires
 new-requires g c = subst (λ (h : Geometry). IsRunnable h c.in-Some.slot.now.message c.in-Some-lend.parcels) (sym c.geometry-g.ensures)
