@@ -31,7 +31,7 @@ use Rattle.meaning.specs.State.{State}
 use Rattle.scheduler.proofs.Counting.{changing, changing-append, changing-cons, unlogged_of}
 use Rattle.scheduler.proofs.Chains.{same_slots}
 use Rattle.scheduler.proofs.Logging.{batch_at, batch_carried, batch_fits, batch_changes, doubt_core, log_core, log_throughout, log_state, same_batch, with_doubt, with_log}
-use Rattle.scheduler.specs.CoreView.{CoreView, RecoversThroughout}
+use Rattle.scheduler.specs.CoreView.{core_state_of, CoreView, RecoversThroughout}
 use Rattle.scheduler.specs.Moving.{HasLogged, changing_in, recorded_in}
 use Rattle.scheduler.specs.declared.core_calls.Core.TheInside.{Inside}
 use Rattle.scheduler.specs.Fields.{IsSoundCore, parts}
@@ -114,19 +114,15 @@ module _ {D : Type 0} {keeps : Type 0} (core : Inside D) (is : IsSoundCore keeps
     logged_changes_same = logged_changes_is ∙ counted core.slots core.replies.items (take count slots)
         ∙ ap (λ (l : List SlotView). changing l) (sym (take-map (slot_view_at core.slots core.replies.items) count slots) ∙ take_is)
 
-    unlogged_is : (core.unlogged - logged_changes) + changing (take n ran_slots) ≡ core.unlogged
-    unlogged_is =
-        let unlogged_was = is.core.unlogged_is ∙ unlogged_of p in
-        let all = ap (λ (l : List SlotView). changing l) (sym (take-append-drop n ran_slots)) ∙ changing-append (take n ran_slots) (drop n ran_slots) in
-        let same = logged_changes_same in
-        omega (arith, unlogged_was, all, same)
-
     pub log_unlogged : logged_changes ≤ core.unlogged
     log_unlogged =
         let unlogged_was = is.core.unlogged_is ∙ unlogged_of p in
         let all = ap (λ (l : List SlotView). changing l) (sym (take-append-drop n ran_slots)) ∙ changing-append (take n ran_slots) (drop n ran_slots) in
         let same = logged_changes_same in
         omega (arith, unlogged_was, all, same)
+
+    unlogged_is : (core.unlogged - logged_changes) + changing (take n ran_slots) ≡ core.unlogged
+    unlogged_is = let enough = log_unlogged in let same = logged_changes_same in omega (arith, enough, same)
 
   messages_are : messages.items ≡ batch_at p n
   messages_are = gathered.gathered ∙ ap (λ (l : List SlotView). recorded (map replied_of l)) (sym (take-map (slot_view_at core.slots core.replies.items) count slots) ∙ take_is)
@@ -157,8 +153,10 @@ module _ {D : Type 0} {keeps : Type 0} (core : Inside D) (is : IsSoundCore keeps
     any_at keep = subst (λ (ms : List Msg). CrashImagesAre core.journal.medium new.medium (RecoversWithPrefix core.journal.geometry (core_state_in p).committed ms)) passed_at
         (any keep (core_state_in p).committed (is.core.is_committed keep gathered.works))
 
-    pub log_call_throughout : (now : CoreView) → now.medium ≡ new.medium → keeps → RecoversThroughout (batch_of (core_state_in p) n) (core_view_of p) now
-    log_call_throughout now same keep = log_throughout keeps p is.core gathered.works n core.unlogged new.dirty new.medium any_at now same keep
+    pub log_call_throughout : {self : CoreView} → core_view_of p ≡ self → keeps
+        → RecoversThroughout (batch_of (core_state_of self) n) self (core_view_of (record p { journal = new }))
+    log_call_throughout view keep = subst (λ (o : CoreView). RecoversThroughout (batch_of (core_state_of o) n) o (core_view_of (record p { journal = new }))) view
+        (log_throughout keeps p is.core gathered.works n core.unlogged new.dirty new.medium any_at (core_view_of (record p { journal = new })) refl keep)
 
     pub log_untouched : (length passed ≡ 0 → new ≡ core.journal) → touches_device (core_state_in p) (steps.Log n) ≡ false → new.medium ≡ core.journal.medium
     log_untouched same quiet = ap (λ (j : JournalView). j.medium) (same (none_passed (none_to_log core.journal.failed (length (batch_of (core_state_in p) n)) gathered.works quiet)))

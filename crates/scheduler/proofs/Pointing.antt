@@ -100,8 +100,9 @@ module _ (keeps : Type 0) (p : Parts) (k : IsCore keeps p) (works : p.journal.fa
   broken_core is sound = subst (λ (j : JournalView). IsCore keeps (record p { journal = j })) (sym is)
       (step_core keeps p k works new.medium any p.journal.room p.journal.pieces_left true p.journal.dirty sound (λ keep fine. absurd (true≢false fine)))
 
-  pub step_moment : keeps → RecoversThroughout [] (core_view_of p) (core_view_of (record p { journal = new }))
-  step_moment = step_throughout keeps p k works new.medium any (core_view_of (record p { journal = new })) refl
+  pub step_moment : {self : CoreView} → core_view_of p ≡ self → keeps → RecoversThroughout [] self (core_view_of (record p { journal = new }))
+  step_moment view keep = subst (λ o. RecoversThroughout [] o (core_view_of (record p { journal = new }))) view
+      (step_throughout keeps p k works new.medium any (core_view_of (record p { journal = new })) refl keep)
 
 module _ (keeps : Type 0) (p : Parts) (k : IsCore keeps p) (new : JournalView)
     (any : keeps → CrashImagesAre p.journal.medium new.medium (λ c. recovered_state p.journal.geometry c ≡ committed p.journal)) where

@@ -1,9 +1,7 @@
 -- No message is held, so the tree is whole and has the committed state; the dirty pieces are left to write.
 use Rattle.std.proofs.Common.{◌≡◌, ℕ, ◌≤◌, [], None, Some, sym, ap, subst, ◌∙◌, rules}
-use Rattle.std.specs.Prelude.{if◌then◌else◌}
-use Rattle.disk.specs.Moments.{CrashImagesAre}
 use Rattle.image.specs.Pieces.{piece_count}
-use Rattle.journal.specs.Journal.{JournalView, RecoversWithPrefix}
+use Rattle.journal.specs.Journal.{JournalView}
 use Rattle.journal.specs.DirtyPieces.{count_dirty}
 use Rattle.histories.specs.CoreState.{CoreState}
 use Rattle.histories.specs.Events.{point_refusal}
@@ -35,10 +33,9 @@ invariant_of-self g c =
     (not_refused c.self.view_is c.point_refusal.ensures c.in_default.is) c.cut.ensures.committed c.cut.ensures.begun c.cut.ensures.few c.cut.ensures.broken)
 
 pub returns-clause-any_moment : goal.returns-clause-any_moment
-returns-clause-any_moment g c = λ keep.
-    subst (λ (o : CoreView). CrashImagesAre o.medium c.cut.new.self.medium (RecoversWithPrefix o.geometry (core_state_of o).committed (if o.failed then o.doubt else []))) c.self.view_is
-    (step_moment g.D.Disk.keeps (parts c.self.inside) c.self.invariant.core (point_works g.D.Disk.keeps (parts c.self.inside) c.self.invariant.core
-    (not_refused c.self.view_is c.point_refusal.ensures c.in_default.is)) c.cut.new.self c.cut.ensures.any_moment keep)
+returns-clause-any_moment g c =
+    step_moment g.D.Disk.keeps (parts c.self.inside) c.self.invariant.core (point_works g.D.Disk.keeps (parts c.self.inside) c.self.invariant.core
+    (not_refused c.self.view_is c.point_refusal.ensures c.in_default.is)) c.cut.new.self c.cut.ensures.any_moment c.self.view_is
 
 pub returns-clause-state_after : goal.returns-clause-state_after
 returns-clause-state_after g c =

@@ -1,16 +1,13 @@
 -- A call that is refused before it reaches the journal touches nothing. The flip ends the online checkpoint, and keeps the committed
 -- state at each moment.
 use Rattle.std.proofs.Common.{[], sym, subst, ◌∙◌}
-use Rattle.std.specs.Prelude.{if◌then◌else◌}
-use Rattle.disk.specs.Moments.{CrashImagesAre}
-use Rattle.journal.specs.Journal.{RecoversWithPrefix}
 use Rattle.oplog.proofs.Beyond.{beyond_none}
 use Rattle.oplog.specs.Beyond.{KeepsBeyond}
 use Rattle.device_map.specs.Layout.{layout_of}
 use Rattle.scheduler.proofs.Journaling.{stands}
 use Rattle.scheduler.proofs.LogCall.{none_taken}
 use Rattle.scheduler.proofs.Pointing.{called_core, flip_core, step_moment}
-use Rattle.scheduler.specs.CoreView.{CoreView, core_state_of}
+use Rattle.scheduler.specs.CoreView.{CoreView}
 use Rattle.scheduler.specs.Fields.{parts}
 use Rattle.scheduler.proofs.core_calls.Core.flip.Goals as goal
 
@@ -30,9 +27,8 @@ invariant_of-self g c =
     c.flip.ensures.after)
 
 pub returns-clause-any_moment : goal.returns-clause-any_moment
-returns-clause-any_moment g c = λ keep.
-    subst (λ (o : CoreView). CrashImagesAre o.medium c.flip.new.self.medium (RecoversWithPrefix o.geometry (core_state_of o).committed (if o.failed then o.doubt else []))) c.self.view_is
-    (step_moment g.D.Disk.keeps (parts c.self.inside) c.self.invariant.core (sym c.failed.ensures ∙ c.if-failed.false) c.flip.new.self c.flip.ensures.any_moment keep)
+returns-clause-any_moment g c =
+    step_moment g.D.Disk.keeps (parts c.self.inside) c.self.invariant.core (sym c.failed.ensures ∙ c.if-failed.false) c.flip.new.self c.flip.ensures.any_moment c.self.view_is
 
 pub returns-then-failed-clause-beyond : goal.returns-then-failed-clause-beyond
 returns-then-failed-clause-beyond g c = λ keep. beyond_none (layout_of c.args.self.now.geometry) c.args.self.now.medium

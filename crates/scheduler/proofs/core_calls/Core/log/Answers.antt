@@ -1,8 +1,6 @@
 -- The changes that ran fit into the log, a crash recovers a prefix of them, and then they are logged.
-use Rattle.std.proofs.Common.{◌≡◌, ℕ, ◌+◌, ◌*◌, ◌-◌, ◌≤◌, length, take, true, false, refl, sym, ap, List, subst, ◌∙◌}
-use Rattle.std.specs.Prelude.{if◌then◌else◌}
-use Rattle.disk.specs.Moments.{CrashImagesAre, moment_number}
-use Rattle.journal.specs.Journal.{RecoversWithPrefix}
+use Rattle.std.proofs.Common.{◌≡◌, ℕ, ◌+◌, ◌*◌, ◌-◌, ◌≤◌, length, take, true, false, sym, ap, List, subst, ◌∙◌}
+use Rattle.disk.specs.Moments.{moment_number}
 use Rattle.histories.specs.Events.{batch, log, touches_device}
 use Rattle.histories.specs.declared.outcomes.Step.TheVariants as steps
 use Rattle.oplog.proofs.Answered.{on_ok}
@@ -13,7 +11,7 @@ use Rattle.device_map.specs.Layout.{layout_of}
 use Rattle.scheduler.proofs.Journaling.{stands}
 use Rattle.scheduler.proofs.LogCall.{Gathers, broken_from, broken_takes, doubt_call, doubt_call_state, log_call, log_call_throughout, log_call_state, log_carried, log_count, log_fits, log_unlogged, log_length, log_changes, log_low, log_untouched, made_from, made_takes, none_taken, some_were_passed}
 use Rattle.scheduler.specs.CoreView.{CoreView, core_state_of}
-use Rattle.scheduler.specs.Fields.{core_view, parts}
+use Rattle.scheduler.specs.Fields.{parts}
 use Rattle.scheduler.specs.Parts.{core_state_in}
 use Rattle.arena.specs.ArenaView.{chain_at}
 use Rattle.language.specs.declared.Reply.{Reply}
@@ -61,11 +59,8 @@ returns-then-is_err-clause-state_after g c =
     )
 
 pub returns-then-is_err-clause-any_moment : goal.returns-then-is_err-clause-any_moment
-returns-then-is_err-clause-any_moment g c = λ keep.
-    subst (λ (o : CoreView). CrashImagesAre o.medium c.log.new.self.medium
-    (RecoversWithPrefix o.geometry (core_state_of o).committed (if o.failed then o.doubt else batch (core_state_of o) c.args.n))) c.self.view_is
-    (log_call_throughout c.self.inside c.self.invariant (gathered g (goal.at.returns-then-is_err-clause-any_moment g c).After-deref-2) c.log.new.self c.log.ensures.any_moment
-    (core_view (record c.self.inside { journal = c.log.new.self })) refl keep)
+returns-then-is_err-clause-any_moment g c =
+    log_call_throughout c.self.inside c.self.invariant (gathered g (goal.at.returns-then-is_err-clause-any_moment g c).After-deref-2) c.log.new.self c.log.ensures.any_moment c.self.view_is
 
 pub returns-then-is_err-clause-untouched : goal.returns-then-is_err-clause-untouched
 returns-then-is_err-clause-untouched g c =
@@ -113,11 +108,8 @@ returns-clause-state_after g c =
     )
 
 pub returns-clause-any_moment : goal.returns-clause-any_moment
-returns-clause-any_moment g c = λ keep.
-    subst (λ (o : CoreView). CrashImagesAre o.medium c.log.new.self.medium
-    (RecoversWithPrefix o.geometry (core_state_of o).committed (if o.failed then o.doubt else batch (core_state_of o) c.args.n))) c.self.view_is
-    (log_call_throughout c.self.inside c.self.invariant (gathered g (goal.at.returns-clause-any_moment g c).After-deref-2) c.log.new.self c.log.ensures.any_moment
-    (core_view (record c.self.inside { journal = c.log.new.self })) refl keep)
+returns-clause-any_moment g c =
+    log_call_throughout c.self.inside c.self.invariant (gathered g (goal.at.returns-clause-any_moment g c).After-deref-2) c.log.new.self c.log.ensures.any_moment c.self.view_is
 
 pub returns-clause-untouched : goal.returns-clause-untouched
 returns-clause-untouched g c =

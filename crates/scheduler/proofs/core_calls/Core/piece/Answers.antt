@@ -1,14 +1,11 @@
 -- A refusal touches nothing; the write of a piece keeps the committed state at each moment.
 use Rattle.std.proofs.Common.{[], sym, subst, ◌∙◌}
-use Rattle.std.specs.Prelude.{if◌then◌else◌}
-use Rattle.disk.specs.Moments.{CrashImagesAre}
-use Rattle.journal.specs.Journal.{RecoversWithPrefix}
 use Rattle.oplog.proofs.Beyond.{beyond_none}
 use Rattle.oplog.specs.Beyond.{KeepsBeyond}
 use Rattle.device_map.specs.Layout.{layout_of}
 use Rattle.scheduler.proofs.Journaling.{stands}
 use Rattle.scheduler.proofs.Pointing.{called_core, piece_core, step_moment}
-use Rattle.scheduler.specs.CoreView.{CoreView, core_state_of}
+use Rattle.scheduler.specs.CoreView.{CoreView}
 use Rattle.scheduler.specs.Fields.{parts}
 use Rattle.scheduler.proofs.core_calls.Core.piece.Goals as goal
 
@@ -26,9 +23,8 @@ invariant_of-self g c =
     c.piece.ensures.after)
 
 pub returns-clause-any_moment : goal.returns-clause-any_moment
-returns-clause-any_moment g c = λ keep.
-    subst (λ (o : CoreView). CrashImagesAre o.medium c.piece.new.self.medium (RecoversWithPrefix o.geometry (core_state_of o).committed (if o.failed then o.doubt else []))) c.self.view_is
-    (step_moment g.D.Disk.keeps (parts c.self.inside) c.self.invariant.core (sym c.failed.ensures ∙ c.if-failed.false) c.piece.new.self c.piece.ensures.any_moment keep)
+returns-clause-any_moment g c =
+    step_moment g.D.Disk.keeps (parts c.self.inside) c.self.invariant.core (sym c.failed.ensures ∙ c.if-failed.false) c.piece.new.self c.piece.ensures.any_moment c.self.view_is
 
 pub returns-then-failed-clause-beyond : goal.returns-then-failed-clause-beyond
 returns-then-failed-clause-beyond g c = λ keep. beyond_none (layout_of c.args.self.now.geometry) c.args.self.now.medium

@@ -1,16 +1,13 @@
 -- No message is held, so the tree is whole and has the committed state, and the point keeps that state.
 use Rattle.std.proofs.Common.{[], subst}
-use Rattle.std.specs.Prelude.{if◌then◌else◌}
-use Rattle.disk.specs.Moments.{CrashImagesAre}
 use Rattle.journal.specs.Costs.{longest_point}
-use Rattle.journal.specs.Journal.{RecoversWithPrefix}
 use Rattle.oplog.proofs.Beyond.{beyond_none}
 use Rattle.oplog.specs.Beyond.{KeepsBeyond}
 use Rattle.device_map.specs.Layout.{layout_of}
 use Rattle.scheduler.proofs.Journaling.{stands}
 use Rattle.scheduler.proofs.LogCall.{none_taken}
 use Rattle.scheduler.proofs.Pointing.{called_core, not_refused, point_core, point_state, point_whole, point_works, step_moment}
-use Rattle.scheduler.specs.CoreView.{CoreView, core_state_of}
+use Rattle.scheduler.specs.CoreView.{CoreView}
 use Rattle.scheduler.specs.Fields.{parts}
 use Rattle.scheduler.proofs.core_calls.Core.point.Goals as goal
 
@@ -30,10 +27,9 @@ invariant_of-self g c =
     (not_refused c.self.view_is c.point_refusal.ensures c.in_default.is) c.point.ensures.committed c.point.ensures.after)
 
 pub returns-clause-any_moment : goal.returns-clause-any_moment
-returns-clause-any_moment g c = λ keep.
-    subst (λ (o : CoreView). CrashImagesAre o.medium c.point.new.self.medium (RecoversWithPrefix o.geometry (core_state_of o).committed (if o.failed then o.doubt else []))) c.self.view_is
-    (step_moment g.D.Disk.keeps (parts c.self.inside) c.self.invariant.core (point_works g.D.Disk.keeps (parts c.self.inside) c.self.invariant.core
-    (not_refused c.self.view_is c.point_refusal.ensures c.in_default.is)) c.point.new.self c.point.ensures.any_moment keep)
+returns-clause-any_moment g c =
+    step_moment g.D.Disk.keeps (parts c.self.inside) c.self.invariant.core (point_works g.D.Disk.keeps (parts c.self.inside) c.self.invariant.core
+    (not_refused c.self.view_is c.point_refusal.ensures c.in_default.is)) c.point.new.self c.point.ensures.any_moment c.self.view_is
 
 pub returns-in-Some-clause-beyond : goal.returns-in-Some-clause-beyond
 returns-in-Some-clause-beyond g c = λ keep. beyond_none (layout_of c.args.self.now.geometry) c.args.self.now.medium
