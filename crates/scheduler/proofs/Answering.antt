@@ -11,7 +11,7 @@ use Rattle.affinity.specs.declared.geometry.Geometry.{Geometry}
 use Rattle.histories.proofs.Lists.{all_back, all_front}
 use Rattle.histories.proofs.Sound.{answer_sound}
 use Rattle.histories.specs.Laws.{AreUnrelated}
-use Rattle.histories.specs.CoreState.{Entry, entries, are_related_entries}
+use Rattle.histories.specs.CoreState.{entries, are_related_entries}
 use Rattle.language.specs.Messages.{path_of}
 use Rattle.scheduler.proofs.Counting.{AreClaimed, HasHeld}
 use Rattle.scheduler.proofs.Tests.{any_answered, any_filter}
@@ -50,6 +50,12 @@ pub entries_of : (ys : List SlotView) → entries (map replied_of ys) ≡ map en
 entries_of [] = refl
 entries_of (y ∷ ys) = ap (λ es. entry_of y ∷ es) (entries_of ys)
 
+pub other_replied : (g : Geometry) (x : SlotView) → IsPlaced g x → (ys : List SlotView) → AllByRecursion (IsPlaced g) ys
+    → AllByRecursion (λ d. are_related_entries g (entry_of x) d ≡ false) (entries (map replied_of ys))
+    → AllByRecursion (λ y. not (has_number x.1.affinity.number (queued_of y)) ≡ true) ys
+other_replied g x a ys all apart =
+    other_numbers g x a ys all (subst (AllByRecursion (λ d. are_related_entries g (entry_of x) d ≡ false)) (entries_of ys) apart)
+
 abbrev pub with_answer : Parts → List SlotView → ℕ → ℕ → Parts
 with_answer p logged free number = record p {
   phases = record p.phases { logged = logged };
@@ -74,24 +80,19 @@ module _ (keeps : Type 0) (p : Parts) (k : IsCore keeps p) (x : SlotView) (behin
   apart_rest : AllByRecursion (λ d. are_related_entries g (entry_of x) d ≡ false) (entries (map replied_of behind) ++ (entries (map replied_of p.phases.ran) ++ map entry_of p.phases.in_flight))
   apart_rest = (subst (λ l. AreUnrelated g (entries l ++ (entries (map replied_of p.phases.ran) ++ map entry_of p.phases.in_flight))) answer_front k.sound.apart).0
 
-  T : Entry → Type 0
-  T d = are_related_entries g (entry_of x) d ≡ false
-
   pub answer_core : IsCore keeps after
   answer_core =
       let count = ap length whole in
       let claimed = k.claimed in
       let rest = all_back (λ d. are_related_entries g (entry_of x) d ≡ false) (entries (map replied_of behind)) _ apart_rest in
-      let behinds = subst (AllByRecursion (λ d. are_related_entries g (entry_of x) d ≡ false)) (entries_of behind)
-      (all_front (λ d. are_related_entries g (entry_of x) d ≡ false) (entries (map replied_of behind)) _ apart_rest) in
-      let rans = subst (AllByRecursion (λ d. are_related_entries g (entry_of x) d ≡ false)) (entries_of p.phases.ran)
-      (all_front (λ d. are_related_entries g (entry_of x) d ≡ false) (entries (map replied_of p.phases.ran)) _ rest) in
+      let behinds = all_front (λ d. are_related_entries g (entry_of x) d ≡ false) (entries (map replied_of behind)) _ apart_rest in
+      let rans = all_front (λ d. are_related_entries g (entry_of x) d ≡ false) (entries (map replied_of p.phases.ran)) _ rest in
       let outs = all_back (λ d. are_related_entries g (entry_of x) d ≡ false) (entries (map replied_of p.phases.ran)) _ rest in
       let slots : AreClaimed after = omega (arith, count, claimed, is_free) in
       let queue_held : HasHeld after = λ test. any_filter test (λ t. not (has_number x.1.affinity.number t)) p.queue.held
       ∙ k.queue_held (λ t. not (has_number x.1.affinity.number t) && test t)
       ∙ any_answered test (λ t. not (has_number x.1.affinity.number t)) p.phases whole (ap not (eq-eqb x.1.affinity.number x.1.affinity.number refl))
-      (other_numbers g x all_logged.0 behind all_logged.1 behinds)
-      (other_numbers g x all_logged.0 p.phases.ran k.placed.ran rans)
+      (other_replied g x all_logged.0 behind all_logged.1 behinds)
+      (other_replied g x all_logged.0 p.phases.ran k.placed.ran rans)
       (other_numbers g x all_logged.0 p.phases.in_flight k.placed.in_flight outs) in
       assumption (slots, all_logged.1, queue_held, answer_sound g (core_state_in p) k.sound (replied_of x) (map replied_of behind) answer_front, k)

@@ -17,7 +17,6 @@ use Rattle.journal.specs.Journal.{after_call, AreCarriedOut, JournalView, Recove
 use Rattle.histories.proofs.SerialReplies.{state_after_all-joined}
 use Rattle.histories.specs.Eligible.{changes}
 use Rattle.histories.specs.Events.{batch as batch_of, log, recorded, touches_device}
-use Rattle.histories.specs.Laws.{IsSoundCoreState}
 use Rattle.histories.specs.declared.outcomes.Step.TheVariants as steps
 use Rattle.language.specs.declared.Msg.{Msg}
 use Rattle.language.specs.declared.Reply.{Reply}
@@ -170,13 +169,10 @@ module _ {D : Type 0} {keeps : Type 0} (core : Inside D) (is : IsSoundCore keeps
       doubting_is : parts doubting ≡ with_doubt p n new.medium
       doubting_is = λ i. record (with_doubt p n new.medium) { journal = broken i; batch = messages_are i }
 
-      doubt_sound : IsSoundCoreState core.journal.geometry (core_state_in (with_doubt p n new.medium))
-      doubt_sound = assumption is.core.sound
-
       pub doubt_call : vec_capacity messages ≡ vec_capacity core.batch → IsSoundCore keeps doubting
       doubt_call same_capacity = record {
         chains = is.chains;
-        core = subst (IsCore keeps) (sym doubting_is) (doubt_core keeps p is.core gathered.works n core.unlogged new.dirty new.medium any_at doubt_sound);
+        core = subst (IsCore keeps) (sym doubting_is) (doubt_core keeps p is.core gathered.works n core.unlogged new.dirty new.medium any_at);
         batch = subst (λ (m : ℕ). capacity_of core.slots ≤ m) (sym same_capacity) is.batch;
         replies = is.replies;
         ran = is.ran;

@@ -169,10 +169,10 @@ module _ (keeps : Type 0) (p : Parts) (k : IsCore keeps p) (works : p.journal.fa
         (same_batch keeps p k n ∙ sym (cond-false p.journal.failed p.batch (batch (core_state_in p) n) works)) (any keep))
 
     -- the device failed
-    pub doubt_core : IsSoundCoreState p.journal.geometry (core_state_in (with_doubt p n medium)) → IsCore keeps (with_doubt p n medium)
-    doubt_core sound =
+    pub doubt_core : IsCore keeps (with_doubt p n medium)
+    doubt_core =
         let is_committed : keeps → ◌≡◌ {A = Bool} true false → committed (with_doubt p n medium).journal ≡ Some (core_state_in p).committed =
         λ keep fine. absurd (true≢false fine) in
         let recovers : keeps → RecoversNow (core_view_of (with_doubt p n medium)) = λ keep c leaves. leaves_now p.journal.medium medium _ (any keep) c leaves in
         let no_doubt : ◌≡◌ {A = Bool} true false → batch_at p n ≡ [] = λ fine. absurd (true≢false fine) in
-        assumption (sound, is_committed, recovers, no_doubt, k)
+        assumption (is_committed, recovers, no_doubt, k)

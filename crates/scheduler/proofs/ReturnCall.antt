@@ -1,12 +1,11 @@
 -- The call that takes back the result of a job, by what its callees give.
-use Rattle.std.proofs.Common.{◌≡◌, ℕ, zero, suc, ◌+◌, ◌<◌, Bool, true, false, List, [], ◌∷◌, ◌++◌, append_assoc, map, length, get_or, slice_set, Option, Some, refl, ap, sym, subst, ◌∙◌, arith, inl, inr, ◌≤◌}
+use Rattle.std.proofs.Common.{◌≡◌, ℕ, zero, suc, ◌+◌, ◌<◌, Bool, true, false, List, [], ◌∷◌, ◌++◌, map, length, get_or, slice_set, Option, Some, refl, ap, sym, subst, ◌∙◌, arith, inl, inr, ◌≤◌}
 use Rattle.std.specs.Vec.{with_item}
 use Rattle.std.specs.Prelude.{◌==◌, ◌||◌, not, vec_capacity}
 use Rattle.std.specs.List.{AllByRecursion, Contains, concat, list_any}
 use Rattle.std.proofs.lemmas.Bool.{and_parts, eq-eqb, true≢false, not-true, and_right}
 use Rattle.std.proofs.lemmas.Bool.Decides.{eqb_tells}
 use Rattle.std.proofs.lemmas.List.{get_or-set_other, get_or-set_same, length-append, length-set}
-use Rattle.std.proofs.lemmas.List.Folds.{list_any-append}
 use Rattle.std.proofs.Math.Bool.{or-false, or-true}
 use Rattle.affinity.specs.Interval.{Interval, IsAffinityOf, interval}
 use Rattle.affinity.specs.Path.{Path}
@@ -15,11 +14,9 @@ use Rattle.arena.proofs.ArenaLemmas.{chained-listed}
 use Rattle.arena.proofs.Counts.{count_of-append}
 use Rattle.arena.specs.Lists.{count_of}
 use Rattle.arena.specs.ArenaView.{IsPartitioned, after_move, capacity_of, chain_at}
-use Rattle.histories.proofs.Apart.{apart_turned}
-use Rattle.histories.proofs.Lists.{all_back, all_front, before_first}
+use Rattle.histories.proofs.Lists.{all_back, all_front, all_without}
 use Rattle.histories.specs.Events.{give_back, find_in_flight}
-use Rattle.histories.specs.Laws.{AreUnrelated}
-use Rattle.histories.specs.CoreState.{Entry, CoreState, held, are_related_entries}
+use Rattle.histories.specs.CoreState.{entries, Entry, CoreState, are_related_entries}
 use Rattle.language.specs.Messages.{path_of}
 use Rattle.language.specs.declared.Msg.{Msg}
 use Rattle.language.specs.declared.Reply.{Reply}
@@ -31,11 +28,13 @@ use Rattle.parcel.specs.Run.{Shows}
 use Rattle.parcel.specs.Tree.{IsOut, RestoresAt, TreeView, tree_nodes}
 use Rattle.parcel.specs.declared.job.Done.{Done as Result}
 use Rattle.meaning.specs.Serial.{next_state, reply_to}
-use Rattle.scheduler.proofs.Answering.{entries_of, other_numbers}
+use Rattle.scheduler.proofs.Answering.{other_numbers, other_replied}
 use Rattle.scheduler.proofs.Chains.{MovedSlot, slot_moved}
 use Rattle.scheduler.proofs.Returning.{out_is, return_core, return_state, returned_is_found, returned_is_placed, with_return}
 use Rattle.scheduler.proofs.Splits.{MapSplit, map_split, count_of-split}
-use Rattle.scheduler.proofs.Trees.{back_is_out}
+use Rattle.scheduler.proofs.Trees.{apart_earlier, apart_others, back_is_out}
+use Rattle.affinity.proofs.Elements.{any_moved}
+use Rattle.std.proofs.lemmas.List.{map-append}
 use Rattle.scheduler.specs.Jobs.{IsResultOf}
 use Rattle.scheduler.specs.declared.core_calls.Core.TheInside.{Inside}
 use Rattle.scheduler.specs.Fields.{IsSoundCore, parts}
@@ -70,16 +69,11 @@ recovers_in e ys h = recovers_at e ys h.0 h.1 h.2
 
 -- ---- which message holds an affinity number
 
-or_false : (a b : Bool) → a ≡ false → (a || b) ≡ b
-or_false true b e = absurd (true≢false e)
-or_false false b e = refl
-
 -- if no slot in ys has the affinity number n, none has it together with the slot number given
 none_at : (n slot : ℕ) (ys : List SlotView) → AllByRecursion (λ y. not (has_number n (queued_of y)) ≡ true) ys → list_any (λ y. holds_at n slot (queued_of y)) ys ≡ false
 none_at n slot [] all = refl
 none_at n slot (y ∷ ys) all =
-    or_false (holds_at n slot (queued_of y)) (list_any (λ y. holds_at n slot (queued_of y)) ys) (and_right (has_slot slot (queued_of y)) (has_number n (queued_of y)) (not-true _ all.0))
-    ∙ none_at n slot ys all.1
+    λ i. and_right (has_slot slot (queued_of y)) (has_number n (queued_of y)) (not-true _ all.0) i || none_at n slot ys all.1 i
 
 module _ (keeps : Type 0) (p : Parts) (k : IsCore keeps p) (before : List SlotView) (x : SlotView) (behind : List SlotView)
     (whole : p.phases.in_flight ≡ before ++ x ∷ behind) where
@@ -89,68 +83,37 @@ module _ (keeps : Type 0) (p : Parts) (k : IsCore keeps p) (before : List SlotVi
   abbrev w : CoreState
   w = core_state_in p
 
-  abbrev us : List Entry
-  us = map entry_of p.phases.logged ++ (map entry_of p.phases.ran ++ map entry_of before)
-
-  held_is : held w ≡ us ++ entry_of x ∷ map entry_of behind
-  held_is =
-      (λ i. entries_of p.phases.logged i ++ (entries_of p.phases.ran i ++ (ap (map entry_of) whole ∙ map_joined before (x ∷ behind)) i))
-      ∙ ap (λ (es : List Entry). map entry_of p.phases.logged ++ es) (sym (append_assoc (map entry_of p.phases.ran) (map entry_of before) (entry_of x ∷ map entry_of behind)))
-      ∙ sym (append_assoc (map entry_of p.phases.logged) (map entry_of p.phases.ran ++ map entry_of before) (entry_of x ∷ map entry_of behind))
-    where
-      map_joined : (xs ys : List SlotView) → map entry_of (xs ++ ys) ≡ map entry_of xs ++ map entry_of ys
-      map_joined [] ys = refl
-      map_joined (x ∷ xs) ys = ap (λ (es : List Entry). entry_of x ∷ es) (map_joined xs ys)
-
-  alone : AllByRecursion (λ d. are_related_entries g (entry_of x) d ≡ false) (us ++ map entry_of behind)
-  alone = (before_first (λ (e d : Entry). are_related_entries g e d ≡ false) (apart_turned g) us (entry_of x) (map entry_of behind) (subst (AreUnrelated g) held_is k.sound.apart)).0
-
   all_out : AllByRecursion (IsPlaced g) (before ++ x ∷ behind)
   all_out = subst (AllByRecursion (IsPlaced g)) whole k.placed.in_flight
 
   abbrev n : ℕ
   n = x.1.affinity.number
 
-  abbrev Other : SlotView → Type 0
-  Other y = not (has_number n (queued_of y)) ≡ true
-
-  apart_us : AllByRecursion (λ d. are_related_entries g (entry_of x) d ≡ false) us
-  apart_us = all_front (λ d. are_related_entries g (entry_of x) d ≡ false) us (map entry_of behind) alone
-
-  apart_rest : AllByRecursion (λ d. are_related_entries g (entry_of x) d ≡ false) (map entry_of p.phases.ran ++ map entry_of before)
-  apart_rest = all_back (λ d. are_related_entries g (entry_of x) d ≡ false) (map entry_of p.phases.logged) (map entry_of p.phases.ran ++ map entry_of before) apart_us
-
   x_placed : IsPlaced g x
   x_placed = (all_back (IsPlaced g) before (x ∷ behind) all_out).0
 
+  earlier : AllByRecursion (λ d. are_related_entries g (entry_of x) d ≡ false) (entries w.logged ++ entries w.ran)
+  earlier = apart_earlier g w k.sound (map entry_of before) (entry_of x) (map entry_of behind) (out_is keeps p k before x behind whole) (tree_nodes p.tree) k.tree
+
   others_logged : AllByRecursion (λ y. not (has_number n (queued_of y)) ≡ true) p.phases.logged
-  others_logged = other_numbers g x x_placed p.phases.logged k.placed.logged
-      (all_front (λ d. are_related_entries g (entry_of x) d ≡ false) (map entry_of p.phases.logged) (map entry_of p.phases.ran ++ map entry_of before) apart_us)
+  others_logged = other_replied g x x_placed p.phases.logged k.placed.logged (all_front _ (entries w.logged) (entries w.ran) earlier)
 
   others_ran : AllByRecursion (λ y. not (has_number n (queued_of y)) ≡ true) p.phases.ran
-  others_ran = other_numbers g x x_placed p.phases.ran k.placed.ran
-      (all_front (λ d. are_related_entries g (entry_of x) d ≡ false) (map entry_of p.phases.ran) (map entry_of before) apart_rest)
+  others_ran = other_replied g x x_placed p.phases.ran k.placed.ran (all_back _ (entries w.logged) (entries w.ran) earlier)
 
-  others_before : AllByRecursion (λ y. not (has_number n (queued_of y)) ≡ true) before
-  others_before = other_numbers g x x_placed before (all_front (IsPlaced g) before (x ∷ behind) all_out)
-      (all_back (λ d. are_related_entries g (entry_of x) d ≡ false) (map entry_of p.phases.ran) (map entry_of before) apart_rest)
-
-  others_behind : AllByRecursion (λ y. not (has_number n (queued_of y)) ≡ true) behind
-  others_behind = other_numbers g x x_placed behind (all_back (IsPlaced g) before (x ∷ behind) all_out).1
-      (all_back (λ d. are_related_entries g (entry_of x) d ≡ false) us (map entry_of behind) alone)
+  others_out : AllByRecursion (λ y. not (has_number n (queued_of y)) ≡ true) (before ++ behind)
+  others_out = other_numbers g x x_placed (before ++ behind) (all_without (IsPlaced g) before x behind all_out)
+      (subst (AllByRecursion (λ d. are_related_entries g (entry_of x) d ≡ false)) (sym (map-append entry_of before behind))
+      (apart_others g w k.sound (map entry_of before) (entry_of x) (map entry_of behind) (out_is keeps p k before x behind whole) (tree_nodes p.tree) k.tree))
 
   -- the slot that holds the affinity number of the message in flight is that message's slot
   pub holder_is : (slot : ℕ) → list_any (holds_at n slot) p.queue.held ≡ true → slot ≡ x.0
   holder_is slot has =
       let t : SlotView → Bool = λ (y : SlotView). holds_at n slot (queued_of y) in
       let here : t x ≡ true =
-      sym (or-false (t x))
-      ∙ ap (λ b. t x || b) (sym (none_at n slot behind others_behind))
-      ∙ sym (or_false (list_any t before) (list_any t (x ∷ behind)) (none_at n slot before others_before))
-      ∙ sym (list_any-append t before (x ∷ behind))
-      ∙ ap (list_any t) (sym whole)
-      ∙ sym (or_false (list_any t p.phases.ran) (list_any t p.phases.in_flight) (none_at n slot p.phases.ran others_ran))
-      ∙ sym (or_false (list_any t p.phases.logged) (list_any t p.phases.ran || list_any t p.phases.in_flight) (none_at n slot p.phases.logged others_logged))
+      sym (or-false (t x)) ∙ ap (λ b. t x || b) (sym (none_at n slot (before ++ behind) others_out))
+      ∙ sym (any_moved t before x behind) ∙ ap (list_any t) (sym whole)
+      ∙ (λ i. sym (none_at n slot p.phases.logged others_logged) i || (sym (none_at n slot p.phases.ran others_ran) i || list_any t p.phases.in_flight))
       ∙ sym (k.queue_held (holds_at n slot)) ∙ has in
       elim (eqb_tells x.0 slot) [
         | inl e ↦ sym e.1
@@ -160,13 +123,9 @@ module _ (keeps : Type 0) (p : Parts) (k : IsCore keeps p) (before : List SlotVi
   pub number_is_held : list_any (has_number n) p.queue.held ≡ true
   number_is_held =
       let t : SlotView → Bool = λ (y : SlotView). has_number n (queued_of y) in
-      k.queue_held (has_number n)
-      ∙ (λ i. list_any t p.phases.logged || (list_any t p.phases.ran || (ap (list_any t) whole ∙ list_any-append t before (x ∷ behind)) i))
-      ∙ (λ i. list_any t p.phases.logged || (list_any t p.phases.ran || (list_any t before || (eq-eqb n n refl i || list_any t behind))))
-      ∙ all_true (list_any t p.phases.logged) (list_any t p.phases.ran) (list_any t before)
-    where
-      all_true : (a b c : Bool) → (a || (b || (c || true))) ≡ true
-      all_true a b c = simp or-true
+      k.queue_held (has_number n) ∙ ap (λ b. list_any t p.phases.logged || (list_any t p.phases.ran || b))
+      (ap (list_any t) whole ∙ any_moved t before x behind ∙ ap (λ b. b || list_any t (before ++ behind)) (eq-eqb n n refl))
+      ∙ ap (λ b. list_any t p.phases.logged || b) (or-true (list_any t p.phases.ran)) ∙ or-true (list_any t p.phases.logged)
 
 -- ---- the call
 

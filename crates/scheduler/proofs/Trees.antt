@@ -101,12 +101,18 @@ module _ (g : Geometry) (w : CoreState) (sound : IsSoundCoreState g w) (before :
       go : (us : List Entry) → AreUnrelated g (us ++ e ∷ behind) → AllByRecursion (λ d. are_related_entries g e d ≡ false) (us ++ behind)
       go us apart = (before_first (λ e d. are_related_entries g e d ≡ false) (apart_turned g) us e behind apart).0
 
-  pub apart_ran : AllByRecursion (λ d. are_related_entries g e d ≡ false) (entries w.ran)
-  apart_ran =
-      let whole : AreUnrelated g (entries w.ran ++ (before ++ e ∷ behind)) = subst (λ o. AreUnrelated g (entries w.ran ++ o)) out (before_back _ (entries w.logged) _ sound.apart) in
-      all_weaker (λ d. are_related_entries g d e ≡ false) (λ d. are_related_entries g e d ≡ false) (λ d. apart_turned g d e) (entries w.ran)
-      (all_front (λ d. are_related_entries g d e ≡ false) (entries w.ran) before
-      (before_one (λ e d. are_related_entries g e d ≡ false) (entries w.ran ++ before) e behind (subst (AreUnrelated g) (sym (append_assoc (entries w.ran) before (e ∷ behind))) whole)))
+  -- the message's place is unrelated to those of the messages that are logged or ran
+  pub apart_earlier : AllByRecursion (λ d. are_related_entries g e d ≡ false) (entries w.logged ++ entries w.ran)
+  apart_earlier =
+      let first = entries w.logged ++ entries w.ran in
+      let whole : held w ≡ (first ++ before) ++ e ∷ behind = ap (λ o. entries w.logged ++ (entries w.ran ++ o)) out
+      ∙ sym (append_assoc (entries w.logged) (entries w.ran) _) ∙ sym (append_assoc first before (e ∷ behind)) in
+      all_weaker (λ d. are_related_entries g d e ≡ false) (λ d. are_related_entries g e d ≡ false) (λ d. apart_turned g d e) first
+      (all_front (λ d. are_related_entries g d e ≡ false) first before
+      (before_one (λ e d. are_related_entries g e d ≡ false) (first ++ before) e behind (subst (AreUnrelated g) whole sound.apart)))
+
+  apart_ran : AllByRecursion (λ d. are_related_entries g e d ≡ false) (entries w.ran)
+  apart_ran = all_back _ (entries w.logged) (entries w.ran) apart_earlier
 
   held_out : TreeHolds g (with_place (path_of g e.1) (is_below g (before ++ behind))) n (reached g w)
   held_out = holds_alike g (is_below g w.in_flight) (with_place (path_of g e.1) (is_below g (before ++ behind))) n (reached g w)
