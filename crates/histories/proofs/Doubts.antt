@@ -38,22 +38,13 @@ first_changes ran zero = none_of ran
 first_changes [] (suc k) = none_of []
 first_changes (a ∷ ran) (suc k) =
     elim (is_recorded a.1 a.2) as (λ b. is_recorded a.1 a.2 ≡ b → AreOfFirst (a ∷ ran) (take (suc k) (picked b ran))) [
-      | true ↦ λ e.
-          let h = first_changes ran k in
-          record {
-            some = suc h.some;
-            at_most = omega (arith, h.at_most);
-            are = ap (λ b. picked b (take h.some ran)) e ∙ ap (λ l. a.1 ∷ l) h.are;
-          }
-      | false ↦ λ e.
-          let h = first_changes ran (suc k) in
-          record {
-            some = suc h.some;
-            at_most = omega (arith, h.at_most);
-            are = ap (λ b. picked b (take h.some ran)) e ∙ h.are;
-          }
+      | true ↦ λ e. let h = first_changes ran k in more h.some h.at_most (ap (λ b. picked b (take h.some ran)) e ∙ ap (λ l. a.1 ∷ l) h.are)
+      | false ↦ λ e. let h = first_changes ran (suc k) in more h.some h.at_most (ap (λ b. picked b (take h.some ran)) e ∙ h.are)
     ] refl
   where
+    more : {ms : List Msg} (n : ℕ) → n ≤ length ran → recorded (take (suc n) (a ∷ ran)) ≡ ms → AreOfFirst (a ∷ ran) ms
+    more n few are = record { some = suc n; at_most = omega (arith, few); are = are }
+
     picked : Bool → List Replied → List Msg
     picked b l = map (λ (a : Replied). a.1) (cond b (a ∷ filter (λ a. is_recorded a.1 a.2) l) (filter (λ a. is_recorded a.1 a.2) l))
 

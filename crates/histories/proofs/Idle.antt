@@ -32,7 +32,7 @@ module _ (w : CoreState) (h : IsIdle w) where
   none_to_come : w.in_flight ++ w.waiting ≡ []
   none_to_come = λ i. none_in_flight i ++ h.none_waits i
 
-  few : unlogged_changes w ≡ 0
+  pub few : unlogged_changes w ≡ 0
   few = λ i. unlogged_changes (record w { in_flight = none_in_flight i; ran = none_ran i })
 
   pub idle_sound : (g : Geometry) → IsSoundCoreState g w

@@ -1,6 +1,6 @@
 -- Lists: what holds of all, what holds between each and those behind it, and what `pick` finds.
 use Rattle.std.proofs.Common.{◌≡◌, ℕ, zero, suc, ◌+◌, ◌≤◌, Bool, true, false, List, [], ◌∷◌, ◌++◌, Option, Some, None, refl, ap, sym, ◌∙◌, subst, length, take, arith}
-use Rattle.std.specs.Prelude.{if◌then◌else◌, option_map, is_some, IsPermutation, sum_by}
+use Rattle.std.specs.Prelude.{◌||◌, if◌then◌else◌, option_map, is_some, IsPermutation, sum_by}
 use Rattle.std.specs.List.{AllByRecursion, list_any}
 use Rattle.std.proofs.lemmas.Bool.{or_parts, true≢false}
 use Rattle.std.proofs.lemmas.List.Elements.{All-from_recursion, recursion_from_All}
@@ -31,6 +31,10 @@ module _ {A : Type 0} (P : A → Type 0) where
 pub all_none : {A : Type 0} (p : A → Bool) (xs : List A) → list_any p xs ≡ false → AllByRecursion (λ x. p x ≡ false) xs
 all_none p [] h = tt
 all_none p (x ∷ xs) h = let k = or_parts (p x) (list_any p xs) h in (k.0, all_none p xs k.1)
+
+pub any_none : {A : Type 0} (p : A → Bool) (xs : List A) → AllByRecursion (λ x. p x ≡ false) xs → list_any p xs ≡ false
+any_none p [] h = refl
+any_none p (x ∷ xs) h = λ i. h.0 i || any_none p xs h.1 i
 
 -- What holds of all elements of a list holds of all of a permutation of it.
 pub all_permuted : {A : Type 0} (P : A → Type 0) (xs ys : List A) → IsPermutation xs ys → AllByRecursion P xs → AllByRecursion P ys
@@ -123,8 +127,7 @@ picked {A} p (x ∷ xs) found h =
             behind = xs;
             whole = ap (λ f. f.0 ∷ xs) same;
             rest = sym (ap (λ f. f.1) same);
-            passes = subst
-                (λ f. p f.0 ≡ true) same e;
+            passes = subst (λ f. p f.0 ≡ true) same e;
           }
       | false ↦ λ e h. deeper (pick p xs) (λ f. picked p xs f) h
     ] refl h
@@ -139,8 +142,7 @@ picked {A} p (x ∷ xs) found h =
           before = x ∷ k.before;
           behind = k.behind;
           whole = ap (λ l. x ∷ l) k.whole;
-          rest = ap
-              (λ l. x ∷ l) k.rest;
+          rest = ap (λ l. x ∷ l) k.rest;
           passes = k.passes;
         })
 

@@ -1,7 +1,7 @@
 -- Something can always be done: if nothing is held, the message with the least ticket lacks at most room in the log.
 use Rattle.std.proofs.Common.{◌≡◌, ℕ, ◌<◌, ◌≤◌, zero, suc, Bool, true, false, List, [], ◌∷◌, ◌++◌, Option, Some, None, refl, ap, sym, ◌∙◌, subst, length, inl, inr, ◌⊎◌, ⊎_elim, arith}
 use Rattle.std.specs.Prelude.{◌&&◌, ◌||◌, not, if◌then◌else◌, is_none, is_some, nat_lt}
-use Rattle.std.specs.List.{AllByRecursion, list_any}
+use Rattle.std.specs.List.{list_any}
 use Rattle.std.proofs.lemmas.Bool.{true≢false, ltb-true, lt-ltb, false_from_ne_true}
 use Rattle.std.proofs.Math.Bool.{or-true}
 use Rattle.affinity.specs.declared.geometry.Geometry.{Geometry}
@@ -12,7 +12,9 @@ use Rattle.histories.specs.Eligible.{changes, has_room, is_conflict_free, is_eli
 use Rattle.histories.specs.Events.{grant_refusal, point_refusal, unfinished_refusal, unless_refused}
 use Rattle.histories.specs.Laws.{AreAscending, IsIdle, IsSoundCoreState}
 use Rattle.histories.specs.Progress.{CanGoOn, CanReturn, CanLog, CanAnswer, CanDispatch, CanMakeRoom, CanEndCheckpoint, IsBusy, MayGoOn, NeedsCheckpoint}
-use Rattle.histories.proofs.Idle.{none_in_flight, none_ran}
+use Rattle.affinity.proofs.Elements.{all_weaker}
+use Rattle.histories.proofs.Lists.{any_none}
+use Rattle.histories.proofs.Idle.{few}
 
 pub not_less : (a b : ℕ) → a ≤ b → nat_lt b a ≡ false
 not_less a b h = false_from_ne_true (nat_lt b a) (λ e. let less = ltb-true b a e in absurd (omega (arith, h, less)))
@@ -25,28 +27,20 @@ pick_none : {A : Type 0} (p : A → Bool) (x : A) (xs : List A) → pick p (x �
 pick_none p x xs h = false_from_ne_true (p x) (λ e. true≢false (ap is_some (sym (pick_first p x xs e) ∙ h)))
 
 module _ (g : Geometry) where
-  none_earlier : (e : Entry) (ds : List Entry) → AllByRecursion (λ d. e.0 < d.0) ds
-      → list_any (λ d. nat_lt d.0 e.0 && are_related_entries g e d) ds ≡ false
-  none_earlier e [] h = refl
-  none_earlier e (d ∷ ds) h = ap (λ b. (b && are_related_entries g e d) || list_any (λ d. nat_lt d.0 e.0 && are_related_entries g e d) ds)
-      (not_less e.0 d.0 (omega (arith, h.0))) ∙ none_earlier e ds h.1
-
   -- The waiting message with the least ticket is conflict-free if nothing is held.
   pub least_is_free : (w : CoreState) (e : Entry) (rest : List Entry) → IsSoundCoreState g w → held w ≡ [] → w.waiting ≡ e ∷ rest
       → is_conflict_free g w e ≡ true
   least_is_free w e rest sound none front =
       let ascending : AreAscending (e ∷ rest) = subst AreAscending front sound.ascending in
       let first = ap (λ b. (b && are_related_entries g e e) || list_any (λ d. nat_lt d.0 e.0 && are_related_entries g e d) rest)
-      (not_less e.0 e.0 (omega arith)) ∙ none_earlier e rest ascending.0 in
+      (not_less e.0 e.0 (omega arith)) ∙ any_none _ rest (all_weaker (λ d. e.0 < d.0) _
+      (λ d less. ap (λ b. b && are_related_entries g e d) (not_less e.0 d.0 (omega (arith, less)))) rest ascending.0) in
       (λ i. not (list_any (are_related_entries g e) (none i)) && not (list_any (λ d. nat_lt d.0 e.0 && are_related_entries g e d) (front i)))
       ∙ ap not first
 
   -- Nothing that is in flight or ran needs a record if nothing is held.
   none_unlogged : (w : CoreState) → held w ≡ [] → unlogged_changes w ≡ 0
-  none_unlogged w none =
-      let alone : CoreState = record w { waiting = [] } in
-      let idle : IsIdle alone = record { none_waits = refl; none_held = none } in
-      λ i. unlogged_changes (record w { in_flight = none_in_flight alone idle i; ran = none_ran alone idle i })
+  none_unlogged w none = few (record w { waiting = [] }) (record { none_waits = refl; none_held = none })
 
   module _ (w : CoreState) (e : Entry) (rest : List Entry) (sound : IsSoundCoreState g w) (none : held w ≡ []) (front : w.waiting ≡ e ∷ rest) where
     -- with a half of the log free, the message with the least ticket is eligible

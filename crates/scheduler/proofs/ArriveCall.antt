@@ -2,19 +2,17 @@
 use Rattle.std.proofs.Common.{◌≡◌, ℕ, ◌+◌, ◌-◌, ◌^◌, ◌<◌, true, false, List, [], ◌∷◌, ◌++◌, map, length, get_or, Ok, Err, refl, ap, sym, subst, ◌∙◌, arith, inl, inr, ◌≤◌}
 use Rattle.std.specs.Prelude.{◌==◌, ◌||◌, if◌then◌else◌, nat_le, not, vec_capacity}
 use Rattle.std.specs.List.{AllByRecursion, list_any}
-use Rattle.std.proofs.lemmas.Bool.Decides.{eqb_tells, leb_tells}
+use Rattle.std.proofs.lemmas.Bool.Decides.{leb_tells}
 use Rattle.std.proofs.lemmas.List.Folds.{list_any-append}
-use Rattle.arena.proofs.Counts.{count_of-cons_is, count_of-cons_other}
-use Rattle.arena.specs.Lists.{count_of}
-use Rattle.arena.specs.ArenaView.{IsPartitioned, ArenaView, after_move, after_put, capacity_of, chain_at, put_answer, put_into, slot_from}
-use Rattle.histories.proofs.Lists.{all_back}
+use Rattle.arena.specs.ArenaView.{IsPartitioned, after_move, after_put, capacity_of, chain_at, put_answer, put_into, slot_from}
+use Rattle.scheduler.proofs.GrantCall.{numbers_off}
+use Rattle.histories.proofs.Lists.{all_back, any_none}
 use Rattle.histories.specs.Events.{arrive}
 use Rattle.histories.specs.CoreState.{Entry, held}
 use Rattle.histories.specs.declared.outcomes.ArriveRefusal.TheVariants as arrivals
 use Rattle.histories.specs.declared.outcomes.Outcome.TheVariants as outcomes
 use Rattle.language.specs.Messages.{is_in_range}
 use Rattle.language.specs.declared.Msg.{Msg}
-use Rattle.language.specs.declared.Reply.{Reply}
 use Rattle.language.specs.declared.Reply.TheVariants.{Done}
 use Rattle.scheduler.proofs.Arriving.{arrival_core, arrival_state, has_slot, with_arrival}
 use Rattle.scheduler.proofs.Choosing.{any_map}
@@ -23,7 +21,7 @@ use Rattle.scheduler.proofs.Chains.{JoinedSlot, slot_joined}
 use Rattle.scheduler.specs.declared.core_calls.Core.TheInside.{Inside}
 use Rattle.scheduler.specs.Fields.{IsSoundCore, parts}
 use Rattle.scheduler.specs.Parts.{IsCore, IsPlaced, Parts, entry_of, queued_of, core_state_in}
-use Rattle.scheduler.specs.Slots.{SlotView, slots_on, slot_view_at}
+use Rattle.scheduler.specs.Slots.{SlotView, slots_on}
 use Rattle.scheduler.specs.declared.slot.Slot.{Slot}
 use Rattle.run_queue.specs.RunQueue.{CameBefore, RunQueueView, has_slot as has_slot_of}
 
@@ -34,13 +32,6 @@ none_free (i ∷ rest) value back e = absurd (cc)
 first_free : (free : List ℕ) (value : Slot) (i : ℕ) → slot_from free value ≡ Ok i → (rest : List ℕ) × (free ≡ i ∷ rest)
 first_free [] value i e = absurd (cc)
 first_free (j ∷ rest) value i e = (rest, ap (λ (n : ℕ). n ∷ rest) (let same : j ≡ i = cc in same))
-
-not_among : (arena : ArenaView Slot) (replies : List Reply) (i : ℕ) (xs : List ℕ) → count_of i xs ≡ 0 → list_any (λ y. y.0 == i) (map (slot_view_at arena replies) xs) ≡ false
-not_among arena replies i [] none = refl
-not_among arena replies i (x ∷ xs) none = elim (eqb_tells x i) [
-  | inl e ↦ absurd (let some = count_of-cons_is i x xs e.1 in omega (arith, some, none))
-  | inr n ↦ (λ z. n.0 z || not_among arena replies i xs (sym (count_of-cons_other i x xs n.1) ∙ none) z)
-]
 
 came_before : (ticket : ℕ) (ys : List SlotView) → AllByRecursion (λ e. e.0 < ticket) (map entry_of ys) → CameBefore ticket (map queued_of ys)
 came_before ticket [] all = tt
@@ -96,7 +87,7 @@ module _ {D : Type 0} {keeps : Type 0} (core : Inside D) (is : IsSoundCore keeps
     arrive_slot = let low = joined_slot.low in let queue_slots = is.core.queue_slots in omega (arith, low, queue_slots)
 
     none_there : (c : ℕ) → list_any (λ (y : SlotView). y.0 == slot) (slots_on core.slots core.replies.items c) ≡ false
-    none_there c = not_among core.slots core.replies.items slot (chain_at core.slots c) (joined_slot.none_had c)
+    none_there c = any_none _ _ (numbers_off core.slots core.replies.items slot (chain_at core.slots c) (joined_slot.none_had c))
 
     pub arrive_new : list_any (has_slot_of slot) (core.queue.waiting ++ core.queue.held) ≡ false
     arrive_new =

@@ -24,18 +24,13 @@ changing-append xs ys = sum_by-append (λ (x : SlotView). cond (changes x.1.mess
 pub changing-cons : (x : SlotView) (xs : List SlotView) → changing (x ∷ xs) ≡ one_for x + changing xs
 changing-cons x xs = sum_by-cons (λ (x : SlotView). cond (changes x.1.message) 1 0) x xs
 
-out_changing : (xs : List SlotView) → count_by (λ (e : Entry). changes e.1) (map entry_of xs) ≡ changing xs
-out_changing [] = refl
-out_changing (x ∷ xs) = sum_by-cons (λ (e : Entry). cond (changes e.1) 1 0) (entry_of x) (map entry_of xs)
-    ∙ ap (λ n. one_for x + n) (out_changing xs) ∙ sym (changing-cons x xs)
-
-ran_changing : (xs : List SlotView) → count_by (λ (a : Replied). changes a.1) (map replied_of xs) ≡ changing xs
-ran_changing [] = refl
-ran_changing (x ∷ xs) = sum_by-cons (λ (a : Replied). cond (changes a.1) 1 0) (replied_of x) (map replied_of xs)
-    ∙ ap (λ n. one_for x + n) (ran_changing xs) ∙ sym (changing-cons x xs)
+pub count-map : {X Y : Type 0} (p : Y → Bool) (f : X → Y) (xs : List X) → count_by p (map f xs) ≡ count_by (λ x. p (f x)) xs
+count-map p f [] = refl
+count-map p f (x ∷ xs) = sum_by-cons (λ y. cond (p y) 1 0) (f x) (map f xs)
+    ∙ ap (λ n. cond (p (f x)) 1 0 + n) (count-map p f xs) ∙ sym (sum_by-cons (λ x. cond (p (f x)) 1 0) x xs)
 
 pub unlogged_of : (p : Parts) → unlogged_changes (core_state_in p) ≡ changing p.phases.in_flight + changing p.phases.ran
-unlogged_of p = λ i. out_changing p.phases.in_flight i + ran_changing p.phases.ran i
+unlogged_of p = λ i. count-map (λ (e : Entry). changes e.1) entry_of p.phases.in_flight i + count-map (λ (a : Replied). changes a.1) replied_of p.phases.ran i
 
 -- what a core keeps true of its slots and of its run queue's held messages
 abbrev pub AreClaimed : Parts → Type 0

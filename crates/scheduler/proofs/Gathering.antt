@@ -5,7 +5,7 @@ use Rattle.std.specs.List.{concat}
 use Rattle.std.proofs.lemmas.Bool.{lt-ltb, le-ltb, eq-eqb}
 use Rattle.std.proofs.lemmas.Bool.Decides.{eqb_tells}
 use Rattle.std.proofs.lemmas.List.{length-append, map-append}
-use Rattle.std.proofs.lemmas.List.Sums.{sum_by-append, sum_by-cons}
+use Rattle.std.proofs.lemmas.List.Sums.{sum_by_push}
 use Rattle.std.proofs.lemmas.Option.{none-some, same_Some}
 use Rattle.arena.specs.Lists.{behind, behind_in, first_of, count_of}
 use Rattle.arena.specs.ArenaView.{ArenaView, IsPartitioned, capacity_of, chain_at, next_of, value_at}
@@ -130,11 +130,7 @@ module _ (arena : ArenaView Slot) (replies : List Reply) (is : HasChains arena) 
         ∙ ap (changing_in arena) (sym (take_one n i xs first))
       where
         one_changing : (ys : List ℕ) → changing_in arena ys + cond (changes (unwrap_or (value_at arena i) no_slot).message) 1 0 ≡ changing_in arena (ys ++ i ∷ [])
-        one_changing ys =
-            let f : ℕ → ℕ = λ (j : ℕ). cond (changes (unwrap_or (value_at arena j) no_slot).message) 1 0 in
-            let all : changing_in arena (ys ++ i ∷ []) ≡ changing_in arena ys + changing_in arena (i ∷ []) = sum_by-append f ys (i ∷ []) in
-            let one : changing_in arena (i ∷ []) ≡ cond (changes (unwrap_or (value_at arena i) no_slot).message) 1 0 + 0 = sum_by-cons f i [] in
-            omega (arith, all, one)
+        one_changing ys = sym (sum_by_push (λ (j : ℕ). cond (changes (unwrap_or (value_at arena j) no_slot).message) 1 0) ys i)
 
     pub gathered_more : (reply : Reply) → get_or replies i Done ≡ reply → (old : List Msg) → old ≡ recorded_in arena replies (take n xs)
         → old ++ recorded ((0, slot.message, reply) ∷ []) ≡ recorded_in arena replies (take (n + 1) xs)

@@ -42,7 +42,7 @@ use Rattle.run_queue.specs.RunQueue.{HasJoined, RunQueueView, next_queued, witho
 use Rattle.run_queue.specs.declared.queued_message.QueuedMessage.{QueuedMessage}
 
 -- if i is none of these numbers, the slots with these numbers all have other numbers than i
-numbers_off : (arena : ArenaView Slot) (replies : List Reply) (i : ℕ) (xs : List ℕ) → count_of i xs ≡ 0 → AllByRecursion (λ y. (y.0 == i) ≡ false) (map (slot_view_at arena replies) xs)
+pub numbers_off : (arena : ArenaView Slot) (replies : List Reply) (i : ℕ) (xs : List ℕ) → count_of i xs ≡ 0 → AllByRecursion (λ y. (y.0 == i) ≡ false) (map (slot_view_at arena replies) xs)
 numbers_off arena replies i [] none = tt
 numbers_off arena replies i (x ∷ xs) none = elim (eqb_tells x i) [
   | inl e ↦ absurd (let some = count_of-cons_is i x xs e.1 in omega (arith, some, none))

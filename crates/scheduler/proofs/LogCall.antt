@@ -1,15 +1,14 @@
 -- The call that logs, by what its callees give.
-use Rattle.std.proofs.Common.{◌≡◌, ℕ, ◌+◌, ◌-◌, ◌≤◌, Bool, true, false, List, [], ◌∷◌, ◌++◌, map, length, take, drop, get_or, Option, Some, None, Result, Ok, Err, refl, ap, sym, subst, ◌∙◌, arith}
+use Rattle.std.proofs.Common.{◌≡◌, ℕ, ◌+◌, ◌-◌, ◌≤◌, Bool, true, false, List, [], ◌++◌, map, length, take, drop, get_or, Option, Some, None, Result, Ok, Err, refl, ap, sym, subst, ◌∙◌, arith}
 use Rattle.std.specs.Global.{Global}
 use Rattle.std.specs.declared.vec.Vec.{Vec}
 use Rattle.scheduler.specs.History.{HistoryView}
-use Rattle.std.specs.Prelude.{◌&&◌, cond, is_err, min, nat_lt, not, option_map, slice_index_or, unwrap_or, vec_capacity}
+use Rattle.std.specs.Prelude.{◌&&◌, is_err, min, nat_lt, not, option_map, slice_index_or, unwrap_or, vec_capacity}
 use Rattle.std.proofs.Math.Nat.{min-le_right}
 use Rattle.std.proofs.lemmas.Bool.{ltb-false, true≢false}
 use Rattle.std.proofs.lemmas.List.{drop-map, drop_min, length-drop, length-map, length-take, map-append, take-append-drop, take-map, take_min}
-use Rattle.std.proofs.lemmas.List.Sums.{sum_by-cons}
 use Rattle.std.proofs.lemmas.Option.{same_Some}
-use Rattle.arena.specs.ArenaView.{ArenaView, IsPartitioned, capacity_of, chain_at, value_at}
+use Rattle.arena.specs.ArenaView.{ArenaView, IsPartitioned, capacity_of, chain_at}
 use Rattle.checkpoint.specs.Recovery.{recovered_state}
 use Rattle.disk.specs.Device.{IsCrashImage, Medium}
 use Rattle.disk.specs.Moments.{CrashImagesAre, moment_number}
@@ -19,7 +18,6 @@ use Rattle.histories.specs.Eligible.{changes}
 use Rattle.histories.specs.Events.{batch as batch_of, log, recorded, touches_device}
 use Rattle.histories.specs.declared.outcomes.Step.TheVariants as steps
 use Rattle.language.specs.declared.Msg.{Msg}
-use Rattle.language.specs.declared.Reply.{Reply}
 use Rattle.language.specs.declared.Reply.TheVariants.{Done}
 use Rattle.disk.specs.Store.{Costs}
 use Rattle.oplog.specs.Changing.{AreChangesInRange}
@@ -27,7 +25,7 @@ use Rattle.oplog.specs.declared.fault.LogFault.{LogFault}
 use Rattle.parcel.specs.Tree.{state_in}
 use Rattle.meaning.specs.Serial.{state_after_all}
 use Rattle.meaning.specs.State.{State}
-use Rattle.scheduler.proofs.Counting.{changing, changing-append, changing-cons, unlogged_of}
+use Rattle.scheduler.proofs.Counting.{count-map, changing, changing-append, unlogged_of}
 use Rattle.scheduler.proofs.Chains.{same_slots}
 use Rattle.scheduler.proofs.Logging.{batch_at, batch_carried, batch_fits, batch_changes, doubt_core, log_core, log_throughout, log_state, same_batch, with_doubt, with_log}
 use Rattle.scheduler.specs.CoreView.{core_state_of, CoreView, RecoversThroughout}
@@ -63,14 +61,6 @@ none_taken w n = omega arith
 none_to_log : (failed : Bool) (many : ℕ) → failed ≡ false → (not failed && nat_lt 0 many) ≡ false → many ≡ 0
 none_to_log true many works quiet = absurd (true≢false works)
 none_to_log false many works quiet = let few = ltb-false 0 many quiet in omega (arith, few)
-
--- `changing_in`, by the numbers of slots, and `changing`, of the slots themselves, count the same
-counted : (arena : ArenaView Slot) (replies : List Reply) (ys : List ℕ) → changing_in arena ys ≡ changing (map (slot_view_at arena replies) ys)
-counted arena replies [] = refl
-counted arena replies (y ∷ ys) =
-    sum_by-cons (λ (j : ℕ). cond (changes (unwrap_or (value_at arena j) no_slot).message) 1 0) y ys
-    ∙ ap (λ (m : ℕ). cond (changes (unwrap_or (value_at arena y) no_slot).message) 1 0 + m) (counted arena replies ys)
-    ∙ sym (changing-cons (slot_view_at arena replies y) (map (slot_view_at arena replies) ys))
 
 -- what a call gathered while the device works: the changes that the first `count` messages recorded, which are passed to the journal
 pub record Gathers {D : Type 0} (core : Inside D) (n count : ℕ) (messages : Vec Msg Global) (passed : List Msg) : Type 0 where
@@ -110,7 +100,7 @@ module _ {D : Type 0} {keeps : Type 0} (core : Inside D) (is : IsSoundCore keeps
 
   module _ (logged_changes : ℕ) (logged_changes_is : logged_changes ≡ changing_in core.slots (take count slots)) where
     logged_changes_same : logged_changes ≡ changing (take n ran_slots)
-    logged_changes_same = logged_changes_is ∙ counted core.slots core.replies.items (take count slots)
+    logged_changes_same = logged_changes_is ∙ sym (count-map (λ (y : SlotView). changes y.1.message) (slot_view_at core.slots core.replies.items) (take count slots))
         ∙ ap (λ (l : List SlotView). changing l) (sym (take-map (slot_view_at core.slots core.replies.items) count slots) ∙ take_is)
 
     pub log_unlogged : logged_changes ≤ core.unlogged

@@ -14,7 +14,7 @@ use Rattle.arena.proofs.ArenaLemmas.{chained-listed}
 use Rattle.arena.proofs.Counts.{count_of-append}
 use Rattle.arena.specs.Lists.{count_of}
 use Rattle.arena.specs.ArenaView.{IsPartitioned, after_move, capacity_of, chain_at}
-use Rattle.histories.proofs.Lists.{all_back, all_front, all_without}
+use Rattle.histories.proofs.Lists.{all_back, all_front, all_without, any_none}
 use Rattle.histories.specs.Events.{give_back, find_in_flight}
 use Rattle.histories.specs.CoreState.{entries, Entry, CoreState, are_related_entries}
 use Rattle.language.specs.Messages.{path_of}
@@ -33,7 +33,7 @@ use Rattle.scheduler.proofs.Chains.{MovedSlot, slot_moved}
 use Rattle.scheduler.proofs.Returning.{out_is, return_core, return_state, returned_is_found, returned_is_placed, with_return}
 use Rattle.scheduler.proofs.Splits.{MapSplit, map_split, count_of-split}
 use Rattle.scheduler.proofs.Trees.{apart_earlier, apart_others, back_is_out}
-use Rattle.affinity.proofs.Elements.{any_moved}
+use Rattle.affinity.proofs.Elements.{all_weaker, any_moved}
 use Rattle.std.proofs.lemmas.List.{map-append}
 use Rattle.scheduler.specs.Jobs.{IsResultOf}
 use Rattle.scheduler.specs.declared.core_calls.Core.TheInside.{Inside}
@@ -71,9 +71,8 @@ recovers_in e ys h = recovers_at e ys h.0 h.1 h.2
 
 -- if no slot in ys has the affinity number n, none has it together with the slot number given
 none_at : (n slot : ℕ) (ys : List SlotView) → AllByRecursion (λ y. not (has_number n (queued_of y)) ≡ true) ys → list_any (λ y. holds_at n slot (queued_of y)) ys ≡ false
-none_at n slot [] all = refl
-none_at n slot (y ∷ ys) all =
-    λ i. and_right (has_slot slot (queued_of y)) (has_number n (queued_of y)) (not-true _ all.0) i || none_at n slot ys all.1 i
+none_at n slot ys all = any_none _ ys (all_weaker (λ y. not (has_number n (queued_of y)) ≡ true) _
+    (λ y other. and_right (has_slot slot (queued_of y)) (has_number n (queued_of y)) (not-true _ other)) ys all)
 
 module _ (keeps : Type 0) (p : Parts) (k : IsCore keeps p) (before : List SlotView) (x : SlotView) (behind : List SlotView)
     (whole : p.phases.in_flight ≡ before ++ x ∷ behind) where
