@@ -63,15 +63,11 @@ module _ (g : Geometry) where
         let fewer = length-picked (is_eligible g old) old.waiting found first in
         let holds = ap length (held_grant old found) ∙ length-append (held old) (one ∷ []) in
         let fits = h.fits in
-        record {
-          apart = grant_apart g old found first h.apart;
-          replied = h.replied;
-          ascending = subst AreAscending (sym k.rest) (before_without _ k.before one k.behind (subst AreAscending k.whole h.ascending));
-          once = subst HaveDistinctTickets to (before_moved _ once_turned old.in_flight k.before one k.behind (subst HaveDistinctTickets from h.once));
-          given = subst (AllByRecursion (IsGiven old.next)) to (moved k.before one k.behind (subst (AllByRecursion (IsGiven old.next)) from h.given));
-          room = grant_room g old h.room found first;
-          fits = omega (arith, fewer, holds, fits);
-        }
+        let ascending = subst AreAscending (sym k.rest) (before_without _ k.before one k.behind (subst AreAscending k.whole h.ascending)) in
+        let once = subst HaveDistinctTickets to (before_moved _ once_turned old.in_flight k.before one k.behind (subst HaveDistinctTickets from h.once)) in
+        let given = subst (AllByRecursion (IsGiven old.next)) to (moved k.before one k.behind (subst (AllByRecursion (IsGiven old.next)) from h.given)) in
+        let few : length found.1 + length (held (grant old found)) ≤ old.slots = omega (arith, fewer, holds, fits) in
+        assumption (grant_apart g old found first h.apart, ascending, once, given, grant_room g old h.room found first, few, h)
       where
         moved : (us : List Entry) (e : Entry) (vs : List Entry) → AllByRecursion (IsGiven old.next) (old.in_flight ++ (us ++ e ∷ vs))
             → AllByRecursion (IsGiven old.next) (old.in_flight ++ e ∷ (us ++ vs))
@@ -92,16 +88,12 @@ module _ (g : Geometry) where
         let held_was = length_held old in
         let held_now = length_held (give_back g old found) in
         let fits = h.fits in
-        record {
-          apart = back_apart g old ticket found one_out h.apart;
-          replied = all_join (λ a. a.2 ≡ reply_to g old.committed a.1) old.ran _ h.replied (refl, tt);
-          ascending = h.ascending;
-          once = subst HaveDistinctTickets to (before_without _ k.before one (k.behind ++ old.waiting) (subst HaveDistinctTickets from h.once));
-          given = subst (AllByRecursion (IsGiven old.next)) to (all_without (IsGiven old.next) k.before one (k.behind ++ old.waiting)
-              (subst (AllByRecursion (IsGiven old.next)) from h.given));
-          room = back_room g old h.room ticket found one_out;
-          fits = omega (arith, fewer, more, held_was, held_now, fits);
-        }
+        let replied = all_join (λ a. a.2 ≡ reply_to g old.committed a.1) old.ran (a ∷ []) h.replied (refl, tt) in
+        let once = subst HaveDistinctTickets to (before_without _ k.before one (k.behind ++ old.waiting) (subst HaveDistinctTickets from h.once)) in
+        let given = subst (AllByRecursion (IsGiven old.next)) to (all_without (IsGiven old.next) k.before one (k.behind ++ old.waiting)
+        (subst (AllByRecursion (IsGiven old.next)) from h.given)) in
+        let few : length old.waiting + length (held (give_back g old found)) ≤ old.slots = omega (arith, fewer, more, held_was, held_now, fits) in
+        assumption (back_apart g old ticket found one_out h.apart, replied, once, given, back_room g old h.room ticket found one_out, few, h)
 
     pub log_sound : (n : ℕ) → IsSoundCoreState g (log g old n)
     log_sound n =
