@@ -1,6 +1,5 @@
 -- What a message in flight sees of the committed state stays, whatever comes; and which steps leave the messages in flight as they are.
-use Rattle.std.proofs.Common.{◌≡◌, ℕ, true, false, List, [], ◌∷◌, ◌++◌, refl, ap, sym, ◌∙◌, subst, take, drop}
-use Rattle.std.specs.Prelude.{map, filter, cond}
+use Rattle.std.proofs.Common.{◌≡◌, ℕ, false, List, [], ◌∷◌, ◌++◌, refl, ap, sym, ◌∙◌, subst, take, drop}
 use Rattle.std.proofs.lemmas.Bool.{true≢false}
 use Rattle.std.specs.List.{AllByRecursion}
 use Rattle.std.proofs.lemmas.List.{take-append-drop}
@@ -8,7 +7,7 @@ use Rattle.affinity.specs.declared.geometry.Geometry.{Geometry}
 use Rattle.affinity.specs.Path.{are_related}
 use Rattle.language.specs.declared.Msg.{Msg}
 use Rattle.language.specs.Messages.{path_of}
-use Rattle.meaning.specs.Serial.{state_after_all, is_recorded, next_state}
+use Rattle.meaning.specs.Serial.{state_after_all, next_state}
 use Rattle.meaning.specs.Order.{messages_of}
 use Rattle.meaning.specs.Subtrees.{AgreeOn}
 use Rattle.meaning.specs.State.{State}
@@ -17,7 +16,8 @@ use Rattle.meaning.proofs.Frame.{left_alone}
 use Rattle.histories.specs.CoreState.{Entry, Replied, CoreState, entry, entries, are_related_entries}
 use Rattle.histories.specs.Events.{MachineState, Event, IsAllowed, batch, recorded}
 use Rattle.histories.specs.Laws.{EachBefore, IsSoundCoreState, dispatches_or_returns}
-use Rattle.histories.proofs.Apart.{apart_turned, entries-append}
+use Rattle.affinity.proofs.Elements.{all_weaker}
+use Rattle.histories.proofs.Apart.{all_entries, all_recorded, apart_turned, entries-append}
 use Rattle.histories.proofs.Clearing.{all_at}
 use Rattle.histories.proofs.Lists.{all_back, all_front, before_back}
 use Rattle.histories.proofs.Ways.{Passed, Way, Grants, Backs, Logs, ways}
@@ -52,14 +52,8 @@ module _ (g : Geometry) where
 
     logged_elsewhere : (as' : List Replied) → AllByRecursion (λ d. are_related_entries g d e ≡ false) (entries as')
         → AllByRecursion Elsewhere (recorded as')
-    logged_elsewhere [] apart = tt
-    logged_elsewhere (a ∷ as') apart =
-        let k = logged_elsewhere as' apart.1 in
-        elim (is_recorded a.1 a.2) as (λ b. AllByRecursion Elsewhere (map (λ (a : Replied). a.1)
-        (cond b (a ∷ filter (λ a. is_recorded a.1 a.2) as') (filter (λ a. is_recorded a.1 a.2) as')))) [
-          | true ↦ (apart_turned g (entry a) e apart.0, k)
-          | false ↦ k
-        ]
+    logged_elsewhere as' apart = all_recorded Elsewhere as' (all_weaker (λ a. are_related_entries g (entry a) e ≡ false) _
+        (λ a free made. apart_turned g (entry a) e free) as' (all_entries (λ d. are_related_entries g d e ≡ false) as' apart))
 
     batch_elsewhere : (w : CoreState) (n : ℕ) → IsSoundCoreState g w → IsIn e w.in_flight → AllByRecursion Elsewhere (batch w n)
     batch_elsewhere w n sound is =

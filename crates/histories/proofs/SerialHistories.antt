@@ -19,7 +19,7 @@ use Rattle.histories.specs.Runs.{IsLegal, answered_messages, arrived, appended_m
 use Rattle.histories.specs.Crash.{IsLogAfter, in_doubt}
 use Rattle.histories.specs.Laws.{AreAscending, HaveDistinctTickets, EachBefore, IsIdle, IsSerialHistory, ticket_replies}
 use Rattle.histories.proofs.Answering.{recorded-append, run_in_order}
-use Rattle.histories.proofs.Apart.{entries-append, entries_split}
+use Rattle.histories.proofs.Apart.{all_entries, entries-append, entries_split}
 use Rattle.histories.proofs.Arrivals.{arrivals_reordered, row, run_ascending}
 use Rattle.histories.proofs.Crashes.{legal_first, went_first}
 use Rattle.histories.proofs.Doubts.{crash_doubts_ran, first_doubts, no_doubts, run_doubts_ran}
@@ -48,10 +48,6 @@ one_message (e ∷ es) h a b in_a in_b same =
     (λ both. one_message es h.1 a b rest both same) in_b) in_a
 
 -- ---- what a serial history is
-
-all_entries : (P : Entry → Type 0) (log : List Replied) → AllByRecursion P (entries log) → AllByRecursion (λ a. P (entry a)) log
-all_entries P [] h = tt
-all_entries P (a ∷ log) h = (h.0, all_entries P log h.1)
 
 -- Each message of a serial history (here `log`) arrived.
 pub all_came : (g : Geometry) (x : State) (arrivals : List Entry) (log : List Replied) → IsSerialHistory g x arrivals log

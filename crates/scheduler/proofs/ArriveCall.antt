@@ -1,8 +1,7 @@
 -- The call that takes a message in, by what its callees give.
-use Rattle.std.proofs.Common.{◌≡◌, ℕ, ◌+◌, ◌-◌, ◌^◌, ◌<◌, true, false, List, [], ◌∷◌, ◌++◌, map, length, get_or, Ok, Err, refl, ap, sym, subst, ◌∙◌, arith, inl, inr, ◌≤◌}
+use Rattle.std.proofs.Common.{Bool, ◌≡◌, ℕ, ◌+◌, ◌-◌, ◌^◌, ◌<◌, true, false, List, [], ◌∷◌, ◌++◌, map, length, get_or, Ok, Err, refl, ap, sym, subst, ◌∙◌, arith, ◌≤◌}
 use Rattle.std.specs.Prelude.{◌==◌, ◌||◌, if◌then◌else◌, nat_le, not, vec_capacity}
 use Rattle.std.specs.List.{AllByRecursion, list_any}
-use Rattle.std.proofs.lemmas.Bool.Decides.{leb_tells}
 use Rattle.std.proofs.lemmas.List.Folds.{list_any-append}
 use Rattle.arena.specs.ArenaView.{IsPartitioned, after_move, after_put, capacity_of, chain_at, put_answer, put_into, slot_from}
 use Rattle.scheduler.proofs.GrantCall.{numbers_off}
@@ -24,6 +23,7 @@ use Rattle.scheduler.specs.Parts.{IsCore, IsPlaced, Parts, entry_of, queued_of, 
 use Rattle.scheduler.specs.Slots.{SlotView, slots_on}
 use Rattle.scheduler.specs.declared.slot.Slot.{Slot}
 use Rattle.run_queue.specs.RunQueue.{CameBefore, RunQueueView, has_slot as has_slot_of}
+use Rattle.std.proofs.lemmas.Bool.{le-leb, lt-leb}
 
 none_free : (free : List ℕ) (value back : Slot) → slot_from free value ≡ Err back → free ≡ []
 none_free [] value back e = refl
@@ -46,14 +46,14 @@ module _ {D : Type 0} {keeps : Type 0} (core : Inside D) (is : IsSoundCore keeps
 
   -- where the message is refused neither for the device, nor for its numbers, nor for want of tickets
   tested : core.journal.failed ≡ false → is_in_range core.journal.geometry m ≡ true → (core.next == 2 ^ 64 - 1) ≡ false
-      → arrive core.journal.geometry (core_state_in p) m ≡ (if nat_le (capacity_of core.slots) (length (core_state_in p).waiting + length (held (core_state_in p)))
-      then (outcomes.ArriveRefused arrivals.Full, core_state_in p)
+      → (b : Bool) → nat_le (capacity_of core.slots) (length (core_state_in p).waiting + length (held (core_state_in p))) ≡ b
+      → arrive core.journal.geometry (core_state_in p) m ≡ (if b then (outcomes.ArriveRefused arrivals.Full, core_state_in p)
       else (outcomes.Ticket core.next, record (core_state_in p) { waiting = (core_state_in p).waiting ++ (core.next, m) ∷ []; next = core.next + 1 }))
-  tested works range more = λ i.
+  tested works range more b full = λ i.
       if works i then (outcomes.ArriveRefused arrivals.Failed, core_state_in p)
       else if not (range i) then (outcomes.ArriveRefused arrivals.Range, core_state_in p)
       else if more i then (outcomes.ArriveRefused arrivals.Exhausted, core_state_in p)
-      else if nat_le (capacity_of core.slots) (length (core_state_in p).waiting + length (held (core_state_in p))) then (outcomes.ArriveRefused arrivals.Full, core_state_in p)
+      else if full i then (outcomes.ArriveRefused arrivals.Full, core_state_in p)
       else (outcomes.Ticket core.next, record (core_state_in p) { waiting = (core_state_in p).waiting ++ (core.next, m) ∷ []; next = core.next + 1 })
 
   module _ (back : Slot) (full : put_answer core.slots value ≡ Err back) where
@@ -62,15 +62,11 @@ module _ {D : Type 0} {keeps : Type 0} (core : Inside D) (is : IsSoundCore keeps
 
     pub full_state : core.journal.failed ≡ false → is_in_range core.journal.geometry m ≡ true → (core.next == 2 ^ 64 - 1) ≡ false
         → (outcomes.ArriveRefused arrivals.Full, core_state_in p) ≡ arrive core.journal.geometry (core_state_in p) m
-    full_state works range more = sym (tested works range more ∙ (λ i. if filled i then (outcomes.ArriveRefused arrivals.Full, core_state_in p)
-        else (outcomes.Ticket core.next, record (core_state_in p) { waiting = (core_state_in p).waiting ++ (core.next, m) ∷ []; next = core.next + 1 })))
-      where
-        filled : nat_le (capacity_of core.slots) (length (core_state_in p).waiting + length (held (core_state_in p))) ≡ true
-        filled = elim (leb_tells (capacity_of core.slots) (length (core_state_in p).waiting + length (held (core_state_in p)))) [
-          | inl e ↦ e.0
-          | inr n ↦ absurd (let short = n.1 in let count = messages_counted p in let claimed = is.core.claimed
-              in let none = ap length (none_free core.slots.free value back full) in omega (arith, short, count, claimed, none))
-        ]
+    full_state works range more =
+        let count = messages_counted p in
+        let claimed = is.core.claimed in
+        let none = ap length (none_free core.slots.free value back full) in
+        sym (tested works range more true (le-leb (capacity_of core.slots) _ (omega (arith, count, claimed, none))))
 
   module _ (slot : ℕ) (put : put_answer core.slots value ≡ Ok slot) where
     split : (rest : List ℕ) × (core.slots.free ≡ slot ∷ rest)
@@ -132,11 +128,4 @@ module _ {D : Type 0} {keeps : Type 0} (core : Inside D) (is : IsSoundCore keeps
           → (outcomes.Ticket core.next, core_state_in (parts arrived)) ≡ arrive core.journal.geometry (core_state_in p) m
       arrive_state works range more =
           (λ i. (outcomes.Ticket core.next, (ap core_state_in after_is ∙ arrival_state keeps p is.core x new_free ticket placed joined_slot.free) i))
-          ∙ sym (tested works range more ∙ (λ i. if fits i then (outcomes.ArriveRefused arrivals.Full, core_state_in p)
-          else (outcomes.Ticket core.next, record (core_state_in p) { waiting = (core_state_in p).waiting ++ (core.next, m) ∷ []; next = core.next + 1 })))
-        where
-          fits : nat_le (capacity_of core.slots) (length (core_state_in p).waiting + length (held (core_state_in p))) ≡ false
-          fits = elim (leb_tells (capacity_of core.slots) (length (core_state_in p).waiting + length (held (core_state_in p)))) [
-            | inl e ↦ absurd (let some = has_slot keeps p is.core x new_free ticket placed joined_slot.free in let few = e.1 in omega (arith, some, few))
-            | inr n ↦ n.0
-          ]
+          ∙ sym (tested works range more false (lt-leb (capacity_of core.slots) _ (has_slot keeps p is.core x new_free ticket placed joined_slot.free)))

@@ -7,7 +7,8 @@ use Rattle.std.proofs.lemmas.List.Elements.{All-from_recursion}
 use Rattle.std.proofs.lemmas.List.{drop-map, length-append, map-append, take-append-drop, take-map}
 use Rattle.affinity.specs.Kind.{is_changing}
 use Rattle.affinity.specs.declared.geometry.Geometry.{Geometry}
-use Rattle.affinity.proofs.Elements.{all_join}
+use Rattle.affinity.proofs.Elements.{all_join, all_weaker}
+use Rattle.histories.proofs.Apart.{all_recorded}
 use Rattle.checkpoint.specs.Recovery.{recovered_state}
 use Rattle.disk.proofs.Moments.{leaves_now}
 use Rattle.disk.specs.Device.{IsCrashImage, Medium}
@@ -60,14 +61,8 @@ module _ (g : Geometry) where
       ] refl
 
   pub each_changes : (first : List Replied) → AreKnown g first → AllByRecursion (λ m. IsChangeInRange g m) (recorded first)
-  each_changes [] known = tt
-  each_changes (a ∷ first) known =
-      let k = each_changes first known.1 in
-      elim (is_recorded a.1 a.2) as (λ b. is_recorded a.1 a.2 ≡ b
-      → AllByRecursion (λ m. IsChangeInRange g m) (map (λ (a : Replied). a.1) (cond b (a ∷ filter (λ a. is_recorded a.1 a.2) first) (filter (λ a. is_recorded a.1 a.2) first)))) [
-        | true ↦ λ e. (((and_parts (is_changing (kind a.1)) _ e).0, known.0.1), k)
-        | false ↦ λ e. k
-      ] refl
+  each_changes first known = all_recorded (λ m. IsChangeInRange g m) first (all_weaker (λ a. IsMessage a.1 × (is_in_range g a.1 ≡ true)) _
+      (λ a is made. ((and_parts (is_changing (kind a.1)) _ made).0, is.1)) first known)
 
 -- the changes that a log step of n hands to the journal, as they are in the slots
 abbrev pub batch_at : Parts → ℕ → List Msg
