@@ -1,5 +1,5 @@
 -- Each ticket is in as many hands as there are messages in flight with it, whatever comes.
-use Rattle.std.proofs.Common.{◌≡◌, ℕ, ◌<◌, suc, Bool, true, false, List, [], ◌∷◌, Some, None, refl, ap, ◌∙◌, length, arith}
+use Rattle.std.proofs.Common.{◌≡◌, ℕ, ◌<◌, suc, true, false, List, [], ◌∷◌, Some, None, refl, ap, ◌∙◌, length, arith}
 use Rattle.std.specs.Prelude.{◌==◌, cond, count_by, position, slice_get}
 use Rattle.std.proofs.lemmas.Bool.{eq-eqb, eqb-true, lt-ltb}
 use Rattle.std.proofs.lemmas.List.{length-set}
@@ -26,31 +26,27 @@ out_with t es = count_by (λ e. e.0 == t) es
 pub hand_with : (t : ℕ) (hands : List Hand) → 0 < count_by (has_ticket t) hands
     → (i : ℕ) × (hand : Hand) × (slice_get hands i ≡ Some hand) × (has_ticket t hand ≡ true)
 hand_with t [] some = absurd (omega (arith, some))
-hand_with t (hand ∷ hands) some = by (has_ticket t hand) refl (λ more. hand_with t hands more)
-  where
-    by : (b : Bool) → has_ticket t hand ≡ b
-        → (0 < count_by (has_ticket t) hands → (i : ℕ) × (found : Hand) × (slice_get hands i ≡ Some found) × (has_ticket t found ≡ true))
-        → (i : ℕ) × (found : Hand) × (slice_get (hand ∷ hands) i ≡ Some found) × (has_ticket t found ≡ true)
-    by true e behind = (0, hand, refl, e)
-    by false e behind =
-        let here : weight t hand ≡ 0 = ap (λ b. cond b 1 0) e in
-        let all = sum_by-cons (weight t) hand hands in
-        let k = behind (omega (arith, some, here, all)) in
-        (suc k.0, k.1, k.2, k.3)
+hand_with t (hand ∷ hands) some = elim (has_ticket t hand) as (λ b. has_ticket t hand ≡ b
+    → (i : ℕ) × (found : Hand) × (slice_get (hand ∷ hands) i ≡ Some found) × (has_ticket t found ≡ true)) [
+      | true ↦ λ e. (0, hand, refl, e)
+      | false ↦ λ e.
+          let here = ap {B = ℕ} (λ b. cond b 1 0) e in
+          let all = sum_by-cons (weight t) hand hands in
+          let k = hand_with t hands (omega (arith, some, here, all)) in
+          (suc k.0, k.1, k.2, k.3)
+    ] refl
+
+taken : (t : ℕ) (hand : Hand) (hands : List Hand) → has_ticket t hand ≡ true → count_by (has_ticket t) (hand ∷ hands) ≡ 0 → ⊥
+taken t hand hands has none =
+    let here = ap {B = ℕ} (λ b. cond b 1 0) has in let all = sum_by-cons (weight t) hand hands in omega (arith, none, here, all)
 
 -- where no ticket is in a hand, the first hand is empty
 pub hand_free : (hands : List Hand) → 0 < length hands → ((t : ℕ) → count_by (has_ticket t) hands ≡ 0)
     → (i : ℕ) × (position is_empty hands ≡ Some i)
 hand_free [] some none = absurd (omega (arith, some))
 hand_free (Empty ∷ hands) some none = (0, ap (λ b. cond b (Some 0) None) (lt-ltb 0 (suc (length hands)) (omega arith)))
-hand_free (Job t ∷ hands) some none =
-    let here : weight t (Job t) ≡ 1 = ap (λ b. cond b 1 0) (eq-eqb t t refl) in
-    let all = sum_by-cons (weight t) (Job t) hands in
-    absurd (omega (arith, none t, here, all))
-hand_free (Result t ∷ hands) some none =
-    let here : weight t (Result t) ≡ 1 = ap (λ b. cond b 1 0) (eq-eqb t t refl) in
-    let all = sum_by-cons (weight t) (Result t) hands in
-    absurd (omega (arith, none t, here, all))
+hand_free (Job t ∷ hands) some none = absurd (taken t (Job t) hands (eq-eqb t t refl) (none t))
+hand_free (Result t ∷ hands) some none = absurd (taken t (Result t) hands (eq-eqb t t refl) (none t))
 
 -- Where nothing is in flight and every hand is empty, no ticket is anywhere.
 pub start_holds : (w : MachineState) → w.core.in_flight ≡ [] → full_hands w.hands ≡ 0 → HandsHold w

@@ -22,26 +22,20 @@ use Rattle.histories.proofs.Progress.{not_less}
 use Rattle.histories.proofs.SerialReplies.{IsIn}
 use Rattle.histories.proofs.Sound.{event_sound}
 
--- no element passes a test exactly if none is counted
-none_counted : {A : Type 0} (p : A → Bool) (xs : List A) → not (list_any p xs) ≡ (count_by p xs == 0)
-none_counted p [] = sym (eq-eqb 0 0 refl)
-none_counted p (x ∷ xs) = by (p x) refl (none_counted p xs)
-  where
-    by : (b : Bool) → p x ≡ b → not (list_any p xs) ≡ (count_by p xs == 0) → not (list_any p (x ∷ xs)) ≡ (count_by p (x ∷ xs) == 0)
-    by true e rest =
-        let all = sum_by-cons (λ x. cond (p x) 1 0) x xs in
-        let one : cond (p x) 1 0 ≡ 1 = ap {B = ℕ} (λ b. cond b 1 0) e in
-        ap (λ b. not (b || list_any p xs)) e ∙ sym (ne_eqb (count_by p (x ∷ xs)) 0 (λ none. omega (arith, all, one, none)))
-    by false e rest =
-        let parts = sum_by-cons (λ x. cond (p x) 1 0) x xs in
-        let none : cond (p x) 1 0 ≡ 0 = ap {B = ℕ} (λ b. cond b 1 0) e in
-        let all : count_by p (x ∷ xs) ≡ count_by p xs = omega (arith, parts, none) in
-        ap (λ b. not (b || list_any p xs)) e ∙ rest ∙ ap (λ n. n == 0) (sym all)
-
 both_none : (a b : ℕ) → ((a == 0) && (b == 0)) ≡ ((a + b) == 0)
 both_none zero b = let same : b ≡ 0 + b = omega arith in ap (λ c. c && (b == 0)) (eq-eqb 0 0 refl) ∙ ap (λ n. n == 0) same
 both_none (suc a) b =
     ap (λ c. c && (b == 0)) (ne_eqb (suc a) 0 (λ e. omega (arith, e))) ∙ sym (ne_eqb (suc a + b) 0 (λ e. omega (arith, e)))
+
+-- no element passes a test exactly if none is counted
+none_counted : {A : Type 0} (p : A → Bool) (xs : List A) → not (list_any p xs) ≡ (count_by p xs == 0)
+none_counted p [] = sym (eq-eqb 0 0 refl)
+none_counted p (x ∷ xs) = by (p x) ∙ ap (λ b. (cond (p x) 1 0 == 0) && b) (none_counted p xs) ∙ both_none (cond (p x) 1 0) (count_by p xs)
+    ∙ ap (λ n. n == 0) (sym (sum_by-cons (λ x. cond (p x) 1 0) x xs))
+  where
+    by : (b : Bool) → not (b || list_any p xs) ≡ ((cond b 1 0 == 0) && not (list_any p xs))
+    by true = refl
+    by false = refl
 
 module _ (g : Geometry) (e : Entry) where
   abbrev related : Entry → Bool
