@@ -77,6 +77,9 @@ ascend_from (y ∷ ys) h = (later y ys h.0, ascend_from ys h.1)
     later y [] h = tt
     later y (z ∷ ys) h = (h.0, later y ys h.1)
 
+abbrev pub pick_if : Entry → List Entry → Option (Entry × List Entry) → Bool → Option (Entry × List Entry)
+pick_if e es o b = if b then Some (e, es) else option_map (λ (found : Entry × List Entry). (found.0, e ∷ found.1)) o
+
 -- The slots ys are `before`, `at` and `behind`; `at` is that of message t, and its entry is the first that passes the test q.
 pub record Chosen (q : Entry → Bool) (ys : List SlotView) (t : QueuedMessage) : Type 0 where
   pub before : List SlotView
@@ -91,29 +94,26 @@ Same p q ys = AllByRecursion (λ y. p (queued_of y) ≡ q (entry_of y)) ys
 
 pub chosen : (p : QueuedMessage → Bool) (q : Entry → Bool) (ys : List SlotView) → Same p q ys → (t : QueuedMessage) → find p (map queued_of ys) ≡ Some t → Chosen q ys t
 chosen p q [] same t h = absurd (none-some t h)
-chosen p q (y ∷ ys) same t h = by (chosen p q ys same.1 t) (p (queued_of y)) refl h
-  where
-    by : (find p (map queued_of ys) ≡ Some t → Chosen q ys t) → (b : Bool) → p (queued_of y) ≡ b
-        → cond b (Some (queued_of y)) (find p (map queued_of ys)) ≡ Some t → Chosen q (y ∷ ys) t
-    by deeper true e h = record {
-      before = [];
-      at = y;
-      behind = ys;
-      whole = refl;
-      queued = same_Some (queued_of y) t h;
-      picked = ap (λ b. if b then Some (entry_of y, map entry_of ys) else option_map (λ (found : Entry × List Entry). (found.0, entry_of y ∷ found.1)) (pick q (map entry_of ys)))
-          (sym same.0 ∙ e);
-    }
-    by deeper false e h = let k = deeper h in record {
-      before = y ∷ k.before;
-      at = k.at;
-      behind = k.behind;
-      whole = ap (λ l. y ∷ l) k.whole;
-      queued = k.queued;
-      picked = ap (λ b. if b then Some (entry_of y, map entry_of ys) else option_map (λ (found : Entry × List Entry). (found.0, entry_of y ∷ found.1)) (pick q (map entry_of ys)))
-          (sym same.0 ∙ e)
-          ∙ ap (λ o. option_map (λ (found : Entry × List Entry). (found.0, entry_of y ∷ found.1)) o) k.picked;
-    }
+chosen p q (y ∷ ys) same t h = elim (p (queued_of y)) as
+    (λ b. p (queued_of y) ≡ b → cond b (Some (queued_of y)) (find p (map queued_of ys)) ≡ Some t → Chosen q (y ∷ ys) t) [
+      | true ↦ λ e h. record {
+        before = [];
+        at = y;
+        behind = ys;
+        whole = refl;
+        queued = same_Some (queued_of y) t h;
+        picked = ap (pick_if (entry_of y) (map entry_of ys) (pick q (map entry_of ys))) (sym same.0 ∙ e);
+      }
+      | false ↦ λ e h. let k = chosen p q ys same.1 t h in record {
+        before = y ∷ k.before;
+        at = k.at;
+        behind = k.behind;
+        whole = ap (λ l. y ∷ l) k.whole;
+        queued = k.queued;
+        picked = ap (pick_if (entry_of y) (map entry_of ys) (pick q (map entry_of ys))) (sym same.0 ∙ e)
+            ∙ ap (λ o. pick_if (entry_of y) (map entry_of ys) o false) k.picked;
+      }
+    ] refl h
 
 any_found : (p : QueuedMessage → Bool) (q : Entry → Bool) (ys : List SlotView) → Same p q ys → list_any q (map entry_of ys) ≡ is_some (find p (map queued_of ys))
 any_found p q [] same = refl
@@ -122,9 +122,6 @@ any_found p q (y ∷ ys) same = (λ i. sym same.0 i || any_found p q ys same.1 i
     by : (b : Bool) → (b || is_some (find p (map queued_of ys))) ≡ is_some (cond b (Some (queued_of y)) (find p (map queued_of ys)))
     by true = refl
     by false = refl
-
-abbrev pick_if : Entry → List Entry → Option (Entry × List Entry) → Bool → Option (Entry × List Entry)
-pick_if e es o b = if b then Some (e, es) else option_map (λ (found : Entry × List Entry). (found.0, e ∷ found.1)) o
 
 pub none_picked : (q : Entry → Bool) (es : List Entry) → list_any q es ≡ false → pick q es ≡ None
 none_picked q [] h = refl

@@ -1,5 +1,5 @@
 -- A core whose journal was called: what holds afterwards, and at each moment.
-use Rattle.std.proofs.Common.{◌≡◌, ℕ, ◌≤◌, Bool, true, false, List, [], take, Option, Some, refl, ap, sym, subst, ◌∙◌, arith}
+use Rattle.std.proofs.Common.{◌≡◌, ℕ, Bool, true, false, List, [], take, Option, Some, refl, ap, sym, subst, ◌∙◌, arith}
 use Rattle.std.specs.Prelude.{if◌then◌else◌}
 use Rattle.std.proofs.lemmas.Bool.{cond-false, cond-true}
 use Rattle.affinity.specs.declared.geometry.Geometry.{Geometry}
@@ -26,10 +26,8 @@ pub with_none : (g : Geometry) (x : State) (ms : List Msg) (c : List ℕ) → re
 with_none g x ms c is = record { added = 0; at_most = omega arith; is = is }
 
 pub from_none : (g : Geometry) (x : State) (ms : List Msg) (c : List ℕ) → RecoversWithPrefix g x [] c → RecoversWithPrefix g x ms c
-from_none g x ms c h = record { added = 0; at_most = omega arith; is = h.is ∙ ap (λ k. Some (state_after_all g x (take k []))) (none h.added h.at_most) }
-  where
-    none : (k : ℕ) → k ≤ 0 → k ≡ 0
-    none k few = omega (arith, few)
+from_none g x ms c h = let few = h.at_most in let none : h.added ≡ 0 = omega (arith, few) in
+    record { added = 0; at_most = omega arith; is = h.is ∙ ap (λ k. Some (state_after_all g x (take k []))) none }
 
 -- a crash during a call that leaves the device alone leaves what a crash before it may leave
 pub still_standing : (keeps : Type 0) (p : Parts) → IsCore keeps p → keeps → (ms : List Msg) (new : CoreView) → new.medium ≡ p.journal.medium

@@ -1,6 +1,6 @@
 -- A core that takes back the result of a job.
-use Rattle.std.proofs.Common.{◌≡◌, ◌+◌, Bool, false, List, [], ◌∷◌, ◌++◌, map, length, Option, Some, refl, ap, sym, subst, ◌∙◌, arith}
-use Rattle.std.specs.Prelude.{◌==◌, if◌then◌else◌, option_map}
+use Rattle.std.proofs.Common.{◌≡◌, ◌+◌, false, List, [], ◌∷◌, ◌++◌, map, length, Some, refl, ap, sym, subst, ◌∙◌, arith}
+use Rattle.std.specs.Prelude.{◌==◌}
 use Rattle.std.specs.List.{AllByRecursion}
 use Rattle.std.proofs.lemmas.Bool.{eq-eqb, ne_eqb}
 use Rattle.std.proofs.lemmas.List.{length-append, map-append}
@@ -20,22 +20,20 @@ use Rattle.parcel.specs.Tree.{RestoresAt, TreeView, tree_nodes}
 use Rattle.parcel.specs.declared.parts.Parcels.{Parcels}
 use Rattle.parcel.specs.declared.parts.Standing.{Standing}
 use Rattle.meaning.specs.Serial.{next_state, reply_to}
+use Rattle.scheduler.proofs.Choosing.{pick_if}
 use Rattle.scheduler.proofs.Counting.{AreClaimed, HasHeld, changing, changing-append, changing-cons, unlogged_of}
 use Rattle.scheduler.proofs.Tests.{any_back}
 use Rattle.scheduler.proofs.Trees.{back_reaches, back_tree}
 use Rattle.scheduler.specs.Parts.{IsCore, IsPlaced, Parts, entry_of, is_below, reached, replied_of, core_state_in}
 use Rattle.scheduler.specs.Slots.{SlotView}
 
--- `find_in_flight` finds the entry with a ticket, if no other entry has that ticket; `step_pick` is one step of the search
-abbrev step_pick : Entry → List Entry → Option (Entry × List Entry) → Bool → Option (Entry × List Entry)
-step_pick e es o b = if b then Some (e, es) else option_map (λ (found : Entry × List Entry). (found.0, e ∷ found.1)) o
-
+-- `find_in_flight` finds the entry with a ticket, if no other entry has that ticket
 pub picked_at : (before : List Entry) (e : Entry) (behind : List Entry) → AllByRecursion (λ d. d.0 ≡ e.0 → ⊥) before
     → pick (λ d. d.0 == e.0) (before ++ e ∷ behind) ≡ Some (e, before ++ behind)
-picked_at [] e behind others = ap (step_pick e behind (pick (λ d. d.0 == e.0) behind)) (eq-eqb e.0 e.0 refl)
+picked_at [] e behind others = ap (pick_if e behind (pick (λ d. d.0 == e.0) behind)) (eq-eqb e.0 e.0 refl)
 picked_at (d ∷ before) e behind others =
-    ap (step_pick d (before ++ e ∷ behind) (pick (λ d. d.0 == e.0) (before ++ e ∷ behind))) (ne_eqb d.0 e.0 others.0)
-    ∙ ap (λ o. step_pick d (before ++ e ∷ behind) o false) (picked_at before e behind others.1)
+    ap (pick_if d (before ++ e ∷ behind) (pick (λ d. d.0 == e.0) (before ++ e ∷ behind))) (ne_eqb d.0 e.0 others.0)
+    ∙ ap (λ o. pick_if d (before ++ e ∷ behind) o false) (picked_at before e behind others.1)
 
 abbrev pub with_return : Parts → List SlotView → SlotView → TreeView → Parts
 with_return p out y tree = record p { phases = record p.phases { in_flight = out; ran = p.phases.ran ++ y ∷ [] }; tree = tree }

@@ -39,10 +39,7 @@ use Rattle.scheduler.specs.Parts.{is_below, reached}
 
 -- a message's place that is unrelated to the places of other messages is unrelated to all nodes at or below these
 pub apart_below : (g : Geometry) (e : Entry) (es : List Entry) → AllByRecursion (λ d. are_related_entries g e d ≡ false) es → IsApart (path_of g e.1) (is_below g es)
-apart_below g e [] apart q below = absurd (false_is below)
-  where
-    false_is : false ≡ true → ⊥
-    false_is h = true≢false (sym h)
+apart_below g e [] apart q below = absurd (true≢false (sym below))
 apart_below g e (d ∷ es) apart q below =
     ⊎_elim (λ (here : is_prefix (path_of g d.1) q ≡ true). unrelated_turned q (path_of g e.1)
     (unrelated_below (path_of g d.1) (path_of g e.1) q (unrelated_turned (path_of g e.1) (path_of g d.1) apart.0) here))
@@ -96,10 +93,7 @@ module _ (g : Geometry) (w : CoreState) (sound : IsSoundCoreState g w) (before :
   apart_out = subst (AreUnrelated g) out (before_back _ (entries w.ran) w.in_flight (before_back _ (entries w.logged) _ sound.apart))
 
   pub apart_others : AllByRecursion (λ d. are_related_entries g e d ≡ false) (before ++ behind)
-  apart_others = (go before apart_out)
-    where
-      go : (us : List Entry) → AreUnrelated g (us ++ e ∷ behind) → AllByRecursion (λ d. are_related_entries g e d ≡ false) (us ++ behind)
-      go us apart = (before_first (λ e d. are_related_entries g e d ≡ false) (apart_turned g) us e behind apart).0
+  apart_others = (before_first (λ e d. are_related_entries g e d ≡ false) (apart_turned g) before e behind apart_out).0
 
   -- the message's place is unrelated to those of the messages that are logged or ran
   pub apart_earlier : AllByRecursion (λ d. are_related_entries g e d ≡ false) (entries w.logged ++ entries w.ran)
