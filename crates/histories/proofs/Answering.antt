@@ -30,7 +30,8 @@ record Ordered (old : CoreState) (logged : List Replied) (p : Passed) (o : Outco
 silent : (w : CoreState) (o : Outcome) → answered_at w o ≡ [] → Ordered w w.logged nothing o
 silent w o none = record { order = append-nil w.logged ∙ ap (λ l. l ++ w.logged) (sym none); same = ap ticket_replies none }
 
-way_ordered : {g : Geometry} {old : MachineState} {event : Event} {p : Passed} → Way g old event p → Ordered old.core event.state_after.core.logged p event.outcome
+way_ordered : {g : Geometry} {old : MachineState} {event : Event} {p : Passed} → Way g old event p
+    → Ordered old.core event.state_after.core.logged p event.outcome
 way_ordered {old = old} (Logs n works) = record { order = refl; same = refl }
 way_ordered {old = old} (Answers a rest front) = record {
   order = append-nil old.core.logged ∙ front ∙ ap (λ l. take 1 l ++ rest) (sym front);

@@ -42,7 +42,8 @@ pub record KeepsInStep (g : Geometry) (AreInStep : List Entry → List Entry →
 module _ (g : Geometry) (AreInStep : List Entry → List Entry → Type 0) (keeps : KeepsInStep g AreInStep) where
   -- an event that logs no message, and at which none arrives
   quiet : (new : CoreState) (past : List Replied) (all : List Entry) → AreInStep all (row new past) → AreInStep (all ++ []) (row new (past ++ []))
-  quiet new past all good = subst (λ l. AreInStep l (row new (past ++ []))) (sym (append-nil all)) (subst (λ l. AreInStep all (row new l)) (sym (append-nil past)) good)
+  quiet new past all good = subst (λ l. AreInStep l (row new (past ++ []))) (sym (append-nil all))
+      (subst (λ l. AreInStep all (row new l)) (sym (append-nil past)) good)
 
   one_more : (w : CoreState) (past : List Replied) (e : Entry)
       → row w past ++ e ∷ [] ≡ entries past ++ (entries w.ran ++ (w.in_flight ++ (w.waiting ++ e ∷ [])))

@@ -62,6 +62,7 @@ failure_lasts g old event allowed failed = by (ways g old event allowed)
     by (Points s o room pieces_left works quiet fits) = absurd (true≢false (sym failed ∙ works))
     by (Fails s o doubt works quiet doubts) = absurd (true≢false (sym failed ∙ works))
     by (Backs i ticket found result one_out) =
-        let a : Replied = (found.0.0, found.0.1, reply_to g old.core.committed found.0.1) in stays found.1 (old.core.ran ++ a ∷ []) old.core.logged (a ∷ []) refl
+        let a : Replied = (found.0.0, found.0.1, reply_to g old.core.committed found.0.1) in
+        stays found.1 (old.core.ran ++ a ∷ []) old.core.logged (a ∷ []) refl
     by (Answers a rest front) = stays old.core.in_flight old.core.ran rest [] (sym (append-nil old.core.ran))
     by _ = stays old.core.in_flight old.core.ran old.core.logged [] (sym (append-nil old.core.ran))

@@ -110,7 +110,8 @@ module _ (g : Geometry) where
         let fewer : length old.waiting + length (held (record old { logged = rest })) ≤ old.slots = omega (arith, fits) in
         assumption (apart, fewer, h)
 
-    way_sound : {hands : List Hand} {event : Event} {p : Passed} → Way g (record { core = old; hands = hands }) event p → IsSoundCoreState g event.state_after.core
+    way_sound : {hands : List Hand} {event : Event} {p : Passed} → Way g (record { core = old; hands = hands }) event p
+        → IsSoundCoreState g event.state_after.core
     way_sound (way.Arrives m works fits) = arrive_sound m fits
     way_sound (way.Grants hand found works free first) = grant_sound found first
     way_sound (way.Backs i ticket found result one_out) = back_sound ticket found one_out

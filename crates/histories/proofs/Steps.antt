@@ -54,7 +54,8 @@ run_counts g old (event ∷ events) legal =
 
 -- the events that do something are no more than the steps that messages take in them
 useful_few : (events : List Event) → useful_events events ≤ steps_in events
-useful_few events = sum_by-each _ _ (λ (event : Event). at_most (steps_at event.outcome) (nat_lt 0 (steps_at event.outcome)) (ltb-true 0 (steps_at event.outcome))) events
+useful_few events = sum_by-each _ _ (λ (event : Event). at_most (steps_at event.outcome) (nat_lt 0 (steps_at event.outcome))
+    (ltb-true 0 (steps_at event.outcome))) events
   where
     at_most : (n : ℕ) (b : Bool) → (b ≡ true → 0 < n) → cond b 1 0 ≤ n
     at_most n true h = let less = h refl in omega (arith, less)

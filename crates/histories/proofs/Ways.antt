@@ -154,7 +154,9 @@ module _ (g : Geometry) (w : MachineState) where
           either By (is_some w.core.pieces_left) _ _ (λ e. refuse points.Running refl) (λ e.
           either By (nat_lt 0 (length (held w.core))) _ _ (λ e. refuse points.Held refl) (λ e.
           let none = ltb-false 0 (length (held w.core)) e in
-          does works (omega (arith, none, length_held w.core, count_by-le-length (λ e. changes e.1) w.core.in_flight, count_by-le-length (λ a. changes a.1) w.core.ran)))))
+          let out = count_by-le-length (λ (e : Entry). changes e.1) w.core.in_flight in
+          let ran = count_by-le-length (λ (a : Replied). changes a.1) w.core.ran in
+          does works (omega (arith, none, length_held w.core, out, ran)))))
 
       piece_ways : (w.core.failed ≡ false → By None) → By (piece_refusal w.core)
       piece_ways does =
@@ -182,7 +184,8 @@ module _ (g : Geometry) (w : MachineState) where
   step_ways n steps.Cut = begin_ways steps.Cut _ (λ why e. Nothing steps.Cut (outcomes.PointRefused why) (refl, refl, e))
       (λ works none. Points steps.Cut outcomes.Cut g.half (Some n) works (refl, refl, refl) (λ h. omega (arith, none)))
   step_ways n steps.Piece = piece_ways steps.Piece _ (λ why e. Nothing steps.Piece (outcomes.PointRefused why) (refl, refl, e))
-      (λ works. Points steps.Piece (outcomes.Left (pieces_after w.core.pieces_left)) w.core.room (Some (pieces_after w.core.pieces_left)) works (refl, refl, refl) (λ h. h))
+      (λ works. Points steps.Piece (outcomes.Left (pieces_after w.core.pieces_left)) w.core.room (Some (pieces_after w.core.pieces_left)) works
+      (refl, refl, refl) (λ h. h))
   step_ways n steps.Flip = flip_ways steps.Flip _ (λ why e. Nothing steps.Flip (outcomes.PointRefused why) (refl, refl, e))
       (λ works. Points steps.Flip outcomes.Flipped w.core.room None works (refl, refl, refl) (λ h. h))
 

@@ -41,7 +41,8 @@ module _ {D : Type 0} {keeps : Type 0} (core : Inside D) (is : IsSoundCore keeps
       ∙ (λ i. (slot, unwrap_or (value i) no_slot, get_or core.replies.items slot Done) ∷ behind)
 
   taken_slot : TakenSlot core.slots (after_take core.slots slot) core.replies.items 3 behind
-  taken_slot = slot_taken core.slots core.replies.items is.chains slot 3 (without slot (chain_at core.slots 3)) (chain-front core.slots slot 3 is.chains.partitioned first)
+  taken_slot = slot_taken core.slots core.replies.items is.chains slot 3 (without slot (chain_at core.slots 3))
+      (chain-front core.slots slot 3 is.chains.partitioned first)
 
   abbrev turned : RunQueueView
   turned = record core.queue { held = without_number taken.affinity.number core.queue.held }

@@ -1,8 +1,9 @@
 -- A core that answers.
-use Rattle.std.proofs.Common.{◌≡◌, ℕ, suc, Bool, true, false, List, [], ◌∷◌, ◌++◌, map, length, refl, ap, sym, subst, ◌∙◌, arith, inl, inr}
+use Rattle.std.proofs.Common.{◌≡◌, ℕ, suc, true, false, List, [], ◌∷◌, ◌++◌, map, length, refl, ap, sym, subst, ◌∙◌, arith, inl, inr}
 use Rattle.std.specs.Prelude.{◌||◌, ◌&&◌, not}
 use Rattle.std.specs.List.{AllByRecursion}
 use Rattle.std.proofs.lemmas.Bool.{eq-eqb, or_left, true≢false}
+use Rattle.std.proofs.Math.Bool.{or_self}
 use Rattle.std.proofs.lemmas.Bool.Decides.{eqb_tells}
 use Rattle.affinity.proofs.Paths.{are_related-refl}
 use Rattle.affinity.proofs.Preorder.{are_related-contains}
@@ -26,12 +27,9 @@ same_number g x y a b same =
     ∙ (λ i. contains x.1.affinity (same i) || contains y.1.affinity (sym same i))
     ∙ or_left (contains x.1.affinity x.1.affinity.number) (contains y.1.affinity y.1.affinity.number) itself
   where
-    turned : (b : Bool) → (b || b) ≡ true → b ≡ true
-    turned true e = refl
-    turned false e = e
-
     itself : contains x.1.affinity x.1.affinity.number ≡ true
-    itself = turned _ (are_related-contains g (path_of g x.1.message) (path_of g x.1.message) x.1.affinity x.1.affinity a.affinity a.affinity ∙ are_related-refl (path_of g x.1.message))
+    itself = sym (or_self _) ∙ are_related-contains g (path_of g x.1.message) (path_of g x.1.message) x.1.affinity x.1.affinity a.affinity a.affinity
+        ∙ are_related-refl (path_of g x.1.message)
 
 other_number : (g : Geometry) (x y : SlotView) → IsPlaced g x → IsPlaced g y → are_related_entries g (entry_of x) (entry_of y) ≡ false → not (has_number x.1.affinity.number (queued_of y)) ≡ true
 other_number g x y a b apart = elim (eqb_tells y.1.affinity.number x.1.affinity.number) [

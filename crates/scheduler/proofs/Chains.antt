@@ -179,11 +179,13 @@ module _ (arena : ArenaView Slot) (replies : List Reply) (is : HasChains arena) 
 
   joined_slot : JoinedSlot arena joined_arena replies i to value
   joined_slot = record {
-    joined = ap (map (slot_view_at joined_arena replies)) (ap (λ (r : ArenaView Slot). chain_at r to) arena_joined ∙ chain-moved_same arena.chains i to room_there
+    joined = ap (map (slot_view_at joined_arena replies)) (ap (λ (r : ArenaView Slot). chain_at r to) arena_joined
+        ∙ chain-moved_same arena.chains i to room_there
         ∙ ap (λ xs. xs ++ i ∷ []) (without-absent i (chain_at arena to) (off_chain to)))
         ∙ map-append (slot_view_at joined_arena replies) (chain_at arena to) (i ∷ [])
         ∙ (λ z. new_elsewhere (chain_at arena to) (off_chain to) z ++ (i, unwrap_or (value_joined z) no_slot, get_or replies i Done) ∷ []);
-    stays = λ d not_to. ap (map (slot_view_at joined_arena replies)) (ap (λ (r : ArenaView Slot). chain_at r d) arena_joined ∙ chain-moved_other arena.chains i to d not_to
+    stays = λ d not_to. ap (map (slot_view_at joined_arena replies)) (ap (λ (r : ArenaView Slot). chain_at r d) arena_joined
+        ∙ chain-moved_other arena.chains i to d not_to
         ∙ without-absent i (chain_at arena d) (off_chain d)) ∙ new_elsewhere (chain_at arena d) (off_chain d);
     free = ap length free ∙ ap (λ n. suc n) (sym (ap (λ (r : ArenaView Slot). length r.free) arena_joined));
     size = ap (λ (r : ArenaView Slot). capacity_of r) arena_joined ∙ length-set arena.values i (Some value);
@@ -234,7 +236,8 @@ module _ (arena : ArenaView Slot) (replies : List Reply) (is : HasChains arena) 
       record {
         left = ap (map (slot_view_at taken_arena replies)) (ap (λ (r : ArenaView Slot). chain_at r from) arena_taken ∙ chain-without arena.chains i from
             ∙ ap (without i) whole ∙ without-split i [] back once) ∙ taken_elsewhere back (omega (arith, all, few));
-        stays = λ d not_from. ap (map (slot_view_at taken_arena replies)) (ap (λ (r : ArenaView Slot). chain_at r d) arena_taken ∙ chain-without arena.chains i d
+        stays = λ d not_from. ap (map (slot_view_at taken_arena replies)) (ap (λ (r : ArenaView Slot). chain_at r d) arena_taken
+            ∙ chain-without arena.chains i d
             ∙ without-absent i (chain_at arena d) (gone_elsewhere d not_from)) ∙ taken_elsewhere (chain_at arena d) (gone_elsewhere d not_from);
         free = ap (λ (r : ArenaView Slot). length r.free) arena_taken;
         size = ap (λ (r : ArenaView Slot). capacity_of r) arena_taken ∙ length-set arena.values i None;

@@ -115,7 +115,8 @@ chosen p q (y ∷ ys) same t h = elim (p (queued_of y)) as
       }
     ] refl h
 
-any_found : (p : QueuedMessage → Bool) (q : Entry → Bool) (ys : List SlotView) → Same p q ys → list_any q (map entry_of ys) ≡ is_some (find p (map queued_of ys))
+any_found : (p : QueuedMessage → Bool) (q : Entry → Bool) (ys : List SlotView) → Same p q ys
+    → list_any q (map entry_of ys) ≡ is_some (find p (map queued_of ys))
 any_found p q [] same = refl
 any_found p q (y ∷ ys) same = (λ i. sym same.0 i || any_found p q ys same.1 i) ∙ by (p (queued_of y))
   where
@@ -187,7 +188,8 @@ module _ (keeps : Type 0) (p : Parts) (k : IsCore keeps p) where
   module _ (room : Bool) (is_room : room ≡ nat_lt p.unlogged p.journal.room) (none : next_queued room p.queue.held p.queue.waiting ≡ None) where
     reason : grant_refusal geometry w ≡ (if is_some (next_queued true p.queue.held p.queue.waiting) then outcomes.NoRoom else outcomes.NoneEligible)
     reason = ap (λ b. if b then outcomes.NoRoom else outcomes.NoneEligible)
-        (lacking w.waiting (none_any room is_room none) ∙ any_found _ (is_clear_in geometry w) p.phases.waiting clear_test ∙ ap is_some (sym (found_first true)))
+        (lacking w.waiting (none_any room is_room none) ∙ any_found _ (is_clear_in geometry w) p.phases.waiting clear_test
+        ∙ ap is_some (sym (found_first true)))
 
     pub none_is_granted : w.failed ≡ false → (why : Granted)
         → why ≡ (if is_some (next_queued true p.queue.held p.queue.waiting) then granted.NoRoom else granted.NoneEligible)
@@ -196,5 +198,7 @@ module _ (keeps : Type 0) (p : Parts) (k : IsCore keeps p) where
       where
         by : (o : Option QueuedMessage) → next_queued true p.queue.held p.queue.waiting ≡ o
             → IsGranted geometry w w (if is_some o then granted.NoRoom else granted.NoneEligible)
-        by (Some t) h = record { works = works; none = none_goes room is_room none; reason = reason ∙ ap (λ o. if is_some o then outcomes.NoRoom else outcomes.NoneEligible) h; same = refl }
-        by None h = record { works = works; none = none_goes room is_room none; reason = reason ∙ ap (λ o. if is_some o then outcomes.NoRoom else outcomes.NoneEligible) h; same = refl }
+        by (Some t) h = let told = reason ∙ ap (λ o. if is_some o then outcomes.NoRoom else outcomes.NoneEligible) h in
+            record { works = works; none = none_goes room is_room none; reason = told; same = refl }
+        by None h = let told = reason ∙ ap (λ o. if is_some o then outcomes.NoRoom else outcomes.NoneEligible) h in
+            record { works = works; none = none_goes room is_room none; reason = told; same = refl }

@@ -99,7 +99,8 @@ module _ {D : Type 0} {keeps : Type 0} (core : Inside D) (is : IsSoundCore keeps
   grant_affinity = (path_of core.journal.geometry x.1.message, grant_path)
 
   pub grant_has_room : ((q : Path) → IsAffinityOf core.tree.geometry q queued.affinity → HasGap core.tree.geometry q (tree_nodes core.tree)) → ⊥
-  grant_has_room none = grant_lends core.journal.geometry (core_state_in p) is.core.sound (entry_of x, map entry_of (chosen.before ++ chosen.behind)) chosen.picked (tree_nodes core.tree)
+  grant_has_room none = grant_lends core.journal.geometry (core_state_in p) is.core.sound
+      (entry_of x, map entry_of (chosen.before ++ chosen.behind)) chosen.picked (tree_nodes core.tree)
       is.core.tree (subst (λ h. HasGap h (path_of core.journal.geometry x.1.message) (tree_nodes core.tree)) is.core.geometry
       (none (path_of core.journal.geometry x.1.message) grant_path))
 

@@ -82,7 +82,8 @@ module _ (keeps : Type 0) (p : Parts) (k : IsCore keeps p) (before : List SlotVi
       let waiting = all_without (IsPlaced p.journal.geometry) before x behind all_waiting in
       let in_flight = all_join (IsPlaced p.journal.geometry) p.phases.in_flight (x ∷ []) k.placed.in_flight (it_is_placed, tt) in
       let queue_waiting : after.queue.waiting ≡ map queued_of after.phases.waiting = refl in
-      let queue_held : HasHeld after = λ test. joined test ∙ ap (λ b. test (queued_of x) || b) (k.queue_held test) ∙ any_granted test p.phases (before ++ behind) x in
+      let queue_held : HasHeld after = λ test. joined test ∙ ap (λ b. test (queued_of x) || b) (k.queue_held test)
+      ∙ any_granted test p.phases (before ++ behind) x in
       let unlogged : after.unlogged ≡ unlogged_changes (core_state_in after) = omega (arith, unlogged_was, unlogged_is, out) in
       let sound = subst (IsSoundCoreState p.journal.geometry) (sym grant_state) (grant_sound p.journal.geometry (core_state_in p) k.sound found first) in
       let holds = subst (λ es. TreeHolds p.journal.geometry (is_below p.journal.geometry es) (tree_nodes tree) (reached p.journal.geometry (core_state_in p)))

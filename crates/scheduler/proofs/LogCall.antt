@@ -100,7 +100,8 @@ module _ {D : Type 0} {keeps : Type 0} (core : Inside D) (is : IsSoundCore keeps
 
   module _ (logged_changes : ℕ) (logged_changes_is : logged_changes ≡ changing_in core.slots (take count slots)) where
     logged_changes_same : logged_changes ≡ changing (take n ran_slots)
-    logged_changes_same = logged_changes_is ∙ sym (count-map (λ (y : SlotView). changes y.1.message) (slot_view_at core.slots core.replies.items) (take count slots))
+    logged_changes_same = logged_changes_is ∙ sym (count-map (λ (y : SlotView). changes y.1.message) (slot_view_at core.slots core.replies.items)
+        (take count slots))
         ∙ ap (λ (l : List SlotView). changing l) (sym (take-map (slot_view_at core.slots core.replies.items) count slots) ∙ take_is)
 
     pub log_unlogged : logged_changes ≤ core.unlogged
@@ -144,7 +145,8 @@ module _ {D : Type 0} {keeps : Type 0} (core : Inside D) (is : IsSoundCore keeps
 
     pub log_call_throughout : {self : CoreView} → core_view_of p ≡ self → keeps
         → RecoversThroughout (batch_of (core_state_of self) n) self (core_view_of (record p { journal = new }))
-    log_call_throughout view keep = subst (λ (o : CoreView). RecoversThroughout (batch_of (core_state_of o) n) o (core_view_of (record p { journal = new }))) view
+    log_call_throughout view keep = subst (λ (o : CoreView). RecoversThroughout (batch_of (core_state_of o) n) o
+        (core_view_of (record p { journal = new }))) view
         (log_throughout keeps p is.core gathered.works n core.unlogged new.dirty new.medium any_at (core_view_of (record p { journal = new })) refl keep)
 
     pub log_untouched : (length passed ≡ 0 → new ≡ core.journal) → touches_device (core_state_in p) (steps.Log n) ≡ false → new.medium ≡ core.journal.medium

@@ -148,7 +148,8 @@ module _ (keeps : Type 0) (p : Parts) (k : IsCore keeps p) (works : p.journal.fa
         let sound = subst (IsSoundCoreState p.journal.geometry) (sym log_state) (log_sound p.journal.geometry (core_state_in p) k.sound n) in
         let holds = subst (λ s. TreeHolds p.journal.geometry (is_below p.journal.geometry (map entry_of p.phases.in_flight)) (tree_nodes p.tree) s)
         (sym (log_reaches p.journal.geometry (core_state_in p) n k.sound) ∙ ap (reached p.journal.geometry) (sym log_state)) k.tree in
-        let is_committed_now : keeps → p.journal.failed ≡ false → committed after.journal ≡ Some (core_state_in after).committed = λ keep fine. is_committed keep in
+        let is_committed_now : keeps → p.journal.failed ≡ false → committed after.journal ≡ Some
+        (core_state_in after).committed = λ keep fine. is_committed keep in
         let recovers_now : keeps → RecoversNow (core_view_of after) =
         λ keep c leaves. with_none p.journal.geometry (core_state_in after).committed [] c (recovers keep c leaves ∙ is_committed keep) in
         let no_doubt : p.journal.failed ≡ false → after.batch ≡ [] = λ fine. refl in

@@ -125,20 +125,23 @@ module _ (keeps : Type 0) (p : Parts) (k : IsCore keeps p) (new : JournalView)
       (cut_called g w (record w { room = g.half; pieces_left = Some n }) (Ok tt) (why, (n, few, refl))) k.sound
 
   -- however many pieces are left to write, the core state stays sound
-  left_sound : (pieces_left : Option ℕ) (dirty : DirtyPieces) → IsSoundCoreState g (core_state_in (with_journal p p.journal.room pieces_left p.journal.failed dirty new.medium))
+  left_sound : (pieces_left : Option ℕ) (dirty : DirtyPieces)
+      → IsSoundCoreState g (core_state_in (with_journal p p.journal.room pieces_left p.journal.failed dirty new.medium))
   left_sound pieces_left dirty = assumption k.sound
 
-  settled : {T : Type 0} (result : Result T LogFault) → p.journal.failed ≡ false → OnOk result (keeps → committed new ≡ committed p.journal)
-      → (room : ℕ) (pieces_left : Option ℕ) (dirty : DirtyPieces) → IsSoundCoreState g (core_state_in (with_journal p room pieces_left p.journal.failed dirty new.medium))
+  made_or_broken : {T : Type 0} (result : Result T LogFault) → p.journal.failed ≡ false → OnOk result (keeps → committed new ≡ committed p.journal)
+      → (room : ℕ) (pieces_left : Option ℕ) (dirty : DirtyPieces)
+      → IsSoundCoreState g (core_state_in (with_journal p room pieces_left p.journal.failed dirty new.medium))
       → new ≡ after_call result (record p.journal { room = room; pieces_left = pieces_left; dirty = dirty; medium = new.medium }) p.journal
       → IsCore keeps (record p { journal = new })
-  settled (Ok x) works same room pieces_left dirty sound is = made_core keeps p k works new any room pieces_left dirty is same sound
-  settled (Err e) works same room pieces_left dirty sound is = broken_core keeps p k works new any is failed_sound
+  made_or_broken (Ok x) works same room pieces_left dirty sound is = made_core keeps p k works new any room pieces_left dirty is same sound
+  made_or_broken (Err e) works same room pieces_left dirty sound is = broken_core keeps p k works new any is failed_sound
 
   module _ (result : Result (Unit {0}) LogFault) (why : point_refusal (core_state_in p) ≡ None) (settles : OnOk result (keeps → committed new ≡ committed p.journal)) where
     pub point_core : new ≡ after_call result (record p.journal { room = p.journal.geometry.half; dirty = pointed_dirty p.journal.dirty; medium = new.medium }) p.journal
         → IsCore keeps (record p { journal = new })
-    point_core is = settled result (point_works keeps p k why) settles g.half p.journal.pieces_left (pointed_dirty p.journal.dirty) (pointed_sound why) is
+    point_core is = made_or_broken result (point_works keeps p k why) settles g.half p.journal.pieces_left (pointed_dirty p.journal.dirty)
+        (pointed_sound why) is
 
     abbrev pub cut_journal : JournalView
     cut_journal = record p.journal { room = g.half; pieces_left = Some (count_dirty p.journal.dirty.other); dirty = cut_dirty p.journal.dirty; medium = new.medium }
@@ -159,9 +162,10 @@ module _ (keeps : Type 0) (p : Parts) (k : IsCore keeps p) (new : JournalView)
       (settles : OnOk result (keeps → committed new ≡ committed p.journal)) where
     pub piece_core : new ≡ after_call result (record p.journal { pieces_left = option_map (λ l. l - 1) p.journal.pieces_left; medium = new.medium }) p.journal
         → IsCore keeps (record p { journal = new })
-    piece_core is = settled result works settles p.journal.room (option_map (λ l. l - 1) p.journal.pieces_left) p.journal.dirty (left_sound _ p.journal.dirty) is
+    piece_core is = made_or_broken result works settles p.journal.room (option_map (λ l. l - 1) p.journal.pieces_left) p.journal.dirty
+        (left_sound _ p.journal.dirty) is
 
   module _ (result : Result (Unit {0}) LogFault) (works : p.journal.failed ≡ false)
       (settles : OnOk result (keeps → committed new ≡ committed p.journal)) where
     pub flip_core : new ≡ after_call result (record p.journal { pieces_left = None; dirty = flipped_dirty p.journal.dirty; medium = new.medium }) p.journal → IsCore keeps (record p { journal = new })
-    flip_core is = settled result works settles p.journal.room None (flipped_dirty p.journal.dirty) (left_sound None (flipped_dirty p.journal.dirty)) is
+    flip_core is = made_or_broken result works settles p.journal.room None (flipped_dirty p.journal.dirty) (left_sound None (flipped_dirty p.journal.dirty)) is

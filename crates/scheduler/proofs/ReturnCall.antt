@@ -92,7 +92,8 @@ module _ (keeps : Type 0) (p : Parts) (k : IsCore keeps p) (before : List SlotVi
   x_placed = (all_back (IsPlaced g) before (x ∷ behind) all_out).0
 
   earlier : AllByRecursion (λ d. are_related_entries g (entry_of x) d ≡ false) (entries w.logged ++ entries w.ran)
-  earlier = apart_earlier g w k.sound (map entry_of before) (entry_of x) (map entry_of behind) (out_is keeps p k before x behind whole) (tree_nodes p.tree) k.tree
+  earlier = apart_earlier g w k.sound (map entry_of before) (entry_of x) (map entry_of behind) (out_is keeps p k before x behind whole)
+      (tree_nodes p.tree) k.tree
 
   others_logged : AllByRecursion (λ y. not (has_number n (queued_of y)) ≡ true) p.phases.logged
   others_logged = other_replied g x x_placed p.phases.logged k.placed.logged (all_front _ (entries w.logged) (entries w.ran) earlier)

@@ -60,7 +60,8 @@ returns-then-is_err-clause-state_after g c =
 
 pub returns-then-is_err-clause-any_moment : goal.returns-then-is_err-clause-any_moment
 returns-then-is_err-clause-any_moment g c =
-    log_call_throughout c.self.inside c.self.invariant (gathered g (goal.at.returns-then-is_err-clause-any_moment g c).After-deref-2) c.log.new.self c.log.ensures.any_moment c.self.view_is
+    log_call_throughout c.self.inside c.self.invariant (gathered g (goal.at.returns-then-is_err-clause-any_moment g c).After-deref-2)
+    c.log.new.self c.log.ensures.any_moment c.self.view_is
 
 pub returns-then-is_err-clause-untouched : goal.returns-then-is_err-clause-untouched
 returns-then-is_err-clause-untouched g c =
@@ -109,7 +110,8 @@ returns-clause-state_after g c =
 
 pub returns-clause-any_moment : goal.returns-clause-any_moment
 returns-clause-any_moment g c =
-    log_call_throughout c.self.inside c.self.invariant (gathered g (goal.at.returns-clause-any_moment g c).After-deref-2) c.log.new.self c.log.ensures.any_moment c.self.view_is
+    log_call_throughout c.self.inside c.self.invariant (gathered g (goal.at.returns-clause-any_moment g c).After-deref-2)
+    c.log.new.self c.log.ensures.any_moment c.self.view_is
 
 pub returns-clause-untouched : goal.returns-clause-untouched
 returns-clause-untouched g c =
