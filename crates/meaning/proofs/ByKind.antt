@@ -1,11 +1,11 @@
 -- What is asked of a block that is there, and what is written over it, passes all checks.
-use Rattle.std.proofs.Common.{◌≡◌, ℕ, true, false, Bool, List, [], ◌∷◌, None, Some, refl, ap, ◌∙◌}
+use Rattle.std.proofs.Common.{◌≡◌, ℕ, true, Bool, List, [], ◌∷◌, None, Some, refl, ap, ◌∙◌}
 use Rattle.std.specs.Prelude.{not, find, is_some}
 use Rattle.std.specs.List.{AllByRecursion}
-use Rattle.std.proofs.lemmas.Bool.{and_from, or_left, lt-ltb}
+use Rattle.std.proofs.lemmas.Bool.{and_from, lt-ltb}
 use Rattle.affinity.specs.declared.geometry.Geometry.{Geometry}
 use Rattle.affinity.specs.declared.kinds.Kind.TheVariants as kinds
-use Rattle.language.specs.declared.Msg.TheVariants.{Write, Read}
+use Rattle.language.specs.declared.Msg.TheVariants.{Read}
 use Rattle.language.specs.declared.Block.{Block}
 use Rattle.language.specs.declared.Refusal.{Refusal}
 use Rattle.language.specs.declared.Reply.TheVariants.{Block as shows}
@@ -25,14 +25,6 @@ block_in_range {g} s a v f b there =
     let file = s.files (a, v, f) block.1 in
     let made = s.made (a, v) file.1 in
     and_from _ _ (lt-ltb a g.aggregates made.0) (and_from _ _ (lt-ltb v g.volumes made.1) (and_from _ _ (lt-ltb f g.files file.0) (and_from _ _ (lt-ltb b g.blocks block.0) refl)))
-
--- a block may be written where one is, unless its volume is sealed
-pub write_passes : {g : Geometry} {x : State} → IsState g x → (a v f b : ℕ) (content : Block) → x.sealed (a, v) ≡ false
-    → is_some (x.blocks (a, v, f, b)) ≡ true → refusal g x (Write a v f b content) ≡ None
-write_passes {g} {x} s a v f b content unsealed there =
-    let block = s.blocks (a, v, f, b) there in
-    let file = s.files (a, v, f) block.1 in
-    none_fails (passes g x kinds.Write (a ∷ v ∷ f ∷ b ∷ [])) (checks kinds.Write) (block_in_range s a v f b there, (file.1, (ap not unsealed, (block.1, (or_left _ _ there, tt)))))
 
 -- a block that is there has a file and a volume, and its numbers are in range
 pub read_passes : {g : Geometry} {x : State} → IsState g x → (a v f b : ℕ) → is_some (x.blocks (a, v, f, b)) ≡ true → refusal g x (Read a v f b) ≡ None

@@ -1,6 +1,6 @@
 -- How great the counts of a state can get, and how they add up.
-use Rattle.std.proofs.Common.{◌≡◌, ℕ, zero, suc, ◌*◌, ◌^◌, ◌<◌, ◌≤◌, Bool, sym, ◌∙◌, arith}
-use Rattle.std.specs.Prelude.{◌&&◌, ◌==◌, if◌then◌else◌, is_some}
+use Rattle.std.proofs.Common.{◌≡◌, ℕ, ◌*◌, ◌≤◌, sym, ◌∙◌}
+use Rattle.std.specs.Prelude.{◌&&◌, ◌==◌, is_some}
 use Rattle.affinity.specs.declared.geometry.Geometry.{Geometry}
 use Rattle.affinity.specs.Geometry.{stripe_of}
 use Rattle.affinity.proofs.Placed.{group_below}
@@ -17,11 +17,6 @@ block_count-le g x a v = sum_below-le_times g.files g.blocks _ (λ f lt. count_b
 
 pub sum_over_volumes-le : (g : Geometry) (c : ℕ) (f : ℕ → ℕ → ℕ) → ((a v : ℕ) → f a v ≤ c) → sum_over_volumes g f ≤ g.aggregates * (g.volumes * c)
 sum_over_volumes-le g c f each = sum_below-le_times g.aggregates (g.volumes * c) _ (λ a lt. sum_below-le_times g.volumes c _ (λ v lt. each a v))
-
--- a number of n bits
-pub bits-lt : (n : ℕ) (has : ℕ → Bool) → sum_below n (λ i. if has i then 2 ^ i else 0) < 2 ^ n
-bits-lt zero has = omega arith
-bits-lt (suc n) has = grind (arith, bits-lt n has)
 
 -- ---- the blocks of a volume lie in its stripes
 

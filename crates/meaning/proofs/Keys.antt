@@ -1,13 +1,13 @@
 -- The orders of the keys, and the tests that pick them.
-use Rattle.std.proofs.Common.{◌≡◌, ℕ, Bool, true, false, cond, Some, None, refl, ap, sym, ◌∙◌}
-use Rattle.std.specs.Prelude.{◌&&◌, ◌||◌, ◌==◌, not}
+use Rattle.std.proofs.Common.{◌≡◌, ℕ, true, false, cond, Some, None, refl, ap, sym, ◌∙◌}
+use Rattle.std.specs.Prelude.{◌&&◌, ◌==◌}
 use Rattle.std.specs.Ordering.{ordering_then, is_eq}
 use Rattle.std.specs.declared.cmp.Ordering.{Ordering}
 use Rattle.std.specs.declared.cmp.Ordering.TheVariants.{Less, Equal, Greater}
 use Rattle.std.specs.Cmp.{unsigned_tied}
 use Rattle.std.specs.BTreeMap.{is_at}
 use Rattle.std.proofs.lemmas.Bool.{and_parts, eqb-true, eq-eqb, false_from_ne_true}
-use Rattle.meaning.specs.State.{VolumeKey, FileKey, BlockKey, Set, Map, adding, dropping, setting, clearing, is_volume, is_file, is_block}
+use Rattle.meaning.specs.State.{VolumeKey, FileKey, BlockKey, Map, setting, clearing, is_volume, is_file, is_block}
 use Rattle.meaning.specs.KeyOrders.{volume_order, file_order, block_order}
 
 then_eq : (r s : Ordering) → is_eq (ordering_then r s) ≡ (is_eq r && is_eq s)
@@ -63,37 +63,9 @@ other_place a v f b k ne = false_from_ne_true _ (λ e. ne (ap (λ (q : BlockKey)
 
 -- ---- a set or map whose look-ups are those after an insert or a removal is the old one with the key put in or taken out
 
-or_cond : (b c : Bool) → cond b true c ≡ (b || c)
-or_cond true c = refl
-or_cond false c = refl
-
-pub and_cond : (b c : Bool) → cond b false c ≡ (not b && c)
-and_cond true c = refl
-and_cond false c = refl
-
-pub one_volume : (s t : Set VolumeKey) (a v : ℕ) → ((k : VolumeKey) → t k ≡ cond (is_at (volume_order (a, v)) k) true (s k)) → t ≡ adding (is_volume a v) s
-one_volume s t a v h i k = (h k ∙ ap (λ b. cond b true (s k)) (at_volume a v k) ∙ or_cond (is_volume a v k) (s k)) i
-
-pub no_volume : (s t : Set VolumeKey) (a v : ℕ) → ((k : VolumeKey) → t k ≡ cond (is_at (volume_order (a, v)) k) false (s k)) → t ≡ dropping (is_volume a v) s
-no_volume s t a v h i k = (h k ∙ ap (λ b. cond b false (s k)) (at_volume a v k) ∙ and_cond (is_volume a v k) (s k)) i
-
-pub one_file : (s t : Set FileKey) (a v f : ℕ) → ((k : FileKey) → t k ≡ cond (is_at (file_order (a, v, f)) k) true (s k)) → t ≡ adding (is_file a v f) s
-one_file s t a v f h i k = (h k ∙ ap (λ b. cond b true (s k)) (at_file a v f k) ∙ or_cond (is_file a v f k) (s k)) i
-
 pub no_block : {X : Type 0} (m n : Map BlockKey X) (a v f b : ℕ) → ((k : BlockKey) → n k ≡ cond (is_at (block_order (a, v, f, b)) k) None (m k)) → n ≡ clearing (is_block a v f b) m
 no_block m n a v f b h i k = (h k ∙ ap (λ t. cond t None (m k)) (at_block a v f b k)) i
 
 pub one_block : {X : Type 0} (m n : Map BlockKey X) (a v f b : ℕ) (value : X)
     → ((k : BlockKey) → n k ≡ cond (is_at (block_order (a, v, f, b)) k) (Some value) (m k)) → n ≡ setting (is_block a v f b) value m
 one_block m n a v f b value h i k = (h k ∙ ap (λ t. cond t (Some value) (m k)) (at_block a v f b k)) i
-
--- a new key that is taken out again leaves the set that was
-pub volume_taken_back : (s t u : Set VolumeKey) (a v : ℕ) → t ≡ adding (is_volume a v) s → u ≡ dropping (is_volume a v) t → s (a, v) ≡ false → u ≡ s
-volume_taken_back s t u a v added dropped absent i k = at k i
-  where
-    at : (k : VolumeKey) → u k ≡ s k
-    at k = ap (λ r. r k) dropped ∙ ap (λ r. not (is_volume a v k) && r k) added
-        ∙ elim (is_volume a v k) as (λ p. is_volume a v k ≡ p → (not p && (p || s k)) ≡ s k) [
-          | true ↦ λ is. sym absent ∙ ap s (the_volume a v k is)
-          | false ↦ λ e. refl
-        ] refl

@@ -4,7 +4,7 @@ use Rattle.std.specs.Prelude.{◌==◌, if◌then◌else◌}
 use Rattle.std.specs.List.{AllByRecursion, flat_map, list_all}
 use Rattle.std.proofs.lemmas.Bool.{eq-eqb, eqb-true, ne_eqb, and_parts, and_from}
 use Rattle.std.proofs.lemmas.Grind.{flat_map-append}
-use Rattle.std.proofs.lemmas.List.{take_all, take_at, drop_at, drop-drop, take-append-drop, length-take-le, length-drop}
+use Rattle.std.proofs.lemmas.List.{take_at, drop_at, drop-drop, take-append-drop, length-take-le, length-drop}
 use Rattle.std.proofs.Math.Seq.{take-add}
 use Rattle.affinity.specs.declared.geometry.Geometry.{Geometry}
 use Rattle.device_map.specs.Layout.{entry_size}
@@ -85,21 +85,6 @@ module _ (g : Geometry) (files s : ℕ) (bytes : List ℕ) (long : length bytes 
   length-front es n few has =
       let fits : n * entry_size ≤ length bytes = omega (arith, few, long) in
       ap length (sym has.front) ∙ length-take-le (n * entry_size) bytes fits
-
-  -- all entries were read
-  pub all_read : (es : List BlockEntry) → HasRead g files s bytes es g.quota → IsStripePiece g files s bytes × (es ≡ entries_in g.quota bytes)
-  all_read es has =
-      let none : g.quota - g.quota ≡ 0 = omega arith in
-      let same : es ≡ entries_in g.quota bytes = sym (append-nil es) ∙ sym (ap (λ (k : ℕ). es ++ entries_in k (drop (g.quota * entry_size) bytes)) none) ∙ has.rest in
-      let whole : bytes ≡ flat_map entry_bytes es = sym (take_all (g.quota * entry_size) bytes (omega (arith, long))) ∙ has.front in
-      let full : g.quota * entry_size - length (flat_map entry_bytes es) ≡ 0 = omega (arith, length-front es g.quota (omega arith) has) in (
-        record {
-          spelled = whole ∙ sym (append-nil (flat_map entry_bytes es)) ∙ sym (ap (λ (k : ℕ). flat_map entry_bytes es ++ replicate k 0) full) ∙ ap (stripe_bytes g.quota) same;
-          ascending = subst IsAscending same has.ascending;
-          fit = subst (AllByRecursion (λ e. fits_stripe g files s e.file e.block ≡ true)) same has.fit;
-        },
-        same,
-      )
 
   module _ (n : ℕ) (few : n < g.quota) (es : List BlockEntry) (has : HasRead g files s bytes es n) where
     unmarked : get_or (drop (n * entry_size) bytes) 0 0 ≢ 1 → entries_in (g.quota - n) (drop (n * entry_size) bytes) ≡ []
