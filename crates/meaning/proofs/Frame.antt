@@ -216,8 +216,4 @@ same_state g x m n h = agree_everywhere {g = g} {R = λ q. (is_prefix (path_of g
     (agree-trans (elsewhere g x m n) (agree-sym (agree_within (swapped_outside g m n) (elsewhere g x n m)))))
 
 pub commute : (g : Geometry) (x : State) (m n : Msg) → are_related (path_of g m) (path_of g n) ≡ false → Commute g x m n
-commute g x m n h = record {
-  first = same_reply g x m n h;
-  second = same_reply g x n m (unrelated_turned (path_of g m) (path_of g n) h);
-  state = same_state g x m n h;
-}
+commute g x m n h = assumption (same_reply g x m n h, same_reply g x n m (unrelated_turned (path_of g m) (path_of g n) h), same_state g x m n h)

@@ -80,11 +80,7 @@ pub ran_goes_back : (job : JobView) (done : Done) (old lent : Nodes) → LendsJo
 ran_goes_back job done old lent h ran =
     let g = job.geometry in
     let p = path_of g job.message in
-    record {
-      out = lent_is_out g p job.standing job.parcels old lent (place_is_path g job.message ran.runnable.range) h;
-      kind = kind_of g p done.parcels ran.runnable.fits;
-      fits = ran.runnable.fits;
-    }
+    assumption (lent_is_out g p _ _ old lent (place_is_path g job.message ran.runnable.range) h, kind_of g p _ ran.runnable.fits, ran.runnable)
 
 -- ---- where nothing is out
 
@@ -167,9 +163,6 @@ module _ (g : Geometry) (out : Path → Bool) (p : Path) (apart : IsApart p out)
     changes : AgreeOn g (outside p) (next_state g x m) x
     changes = subst (λ (r : Path). AgreeOn g (outside r) (next_state g x m) x) at (changes_only g x m)
 
-    still : (q : Path) → is_prefix p q ≡ false → out q ≡ false → (is_prefix p q || out q) ≡ false
-    still q e d = ap (λ b. b || out q) e ∙ d
-
     elsewhere : AgreeOn g (λ q. not (with_place p out q)) (tree_state g new) (next_state g x m)
     elsewhere =
         let beside : (q : Path) → not (with_place p out q) ≡ true → outside p q
@@ -216,11 +209,7 @@ pub job_goes_back : (out : Path → Bool) (job : JobView) (done : Done) (n : Nod
 job_goes_back out job done n x h ran =
     let g = job.geometry in
     let p = path_of g job.message in
-    record {
-      out = place_is_out g out p h.apart n x (place_is_path g job.message ran.runnable.range) h.holds;
-      kind = kind_of g p done.parcels ran.runnable.fits;
-      fits = ran.runnable.fits;
-    }
+    assumption (place_is_out g out p h.apart n x (place_is_path g job.message ran.runnable.range) h.holds, kind_of g p _ ran.runnable.fits, ran.runnable)
 
 pub job_reply : (out : Path → Bool) (job : JobView) (done : Done) (n : Nodes) (x : State) → IsJobOut out job n x → IsJobRun job done → done.reply ≡ reply_to job.geometry x job.message
 job_reply out job done n x h ran = (serial_run job done x ran h.shows).reply

@@ -121,16 +121,7 @@ module _ (g : Geometry) (x : State) (is : IsState g x) (a v s files : ℕ) (has 
         by false off some = is.blocks k some
 
     pub stripe_state : IsState g taken
-    stripe_state = record {
-      made = is.made;
-      sealed = is.sealed;
-      files = is.files;
-      blocks = blocks_range;
-      labels = is.labels;
-      content = content_held;
-      label_content = is.label_content;
-      quota = few;
-    }
+    stripe_state = assumption (is, blocks_range, content_held, few)
 
     pub stripe_good : bytes ≡ stripe_piece g taken a v s
     stripe_good = piece.spelled ∙ ap (stripe_bytes g.quota) (stripe_spelled stripe_state a v s es piece.ascending holds)

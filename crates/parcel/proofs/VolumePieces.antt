@@ -208,13 +208,4 @@ module _ (version : ℕ) (g : Geometry) (bytes : List ℕ) (good : bytes ≡ spe
         ]
 
     pub volume_state : IsState g taken
-    volume_state = record {
-      made = made_range;
-      sealed = sealed_made;
-      files = files_range;
-      blocks = blocks_range;
-      labels = labels_made;
-      content = is.content;
-      label_content = label_bounds;
-      quota = is.quota;
-    }
+    volume_state = assumption (made_range, sealed_made, files_range, blocks_range, labels_made, is, label_bounds)

@@ -318,11 +318,7 @@ behind-gap (e ∷ es) f b (suc n) up behind other = behind-gap es f b n up.1 beh
 
 pub gap-from_split : (es : List BlockEntry) (f b n : ℕ) → IsAscending es → IsSplit es f b n
     → (n < length es → ((slice_index_or es n no_entry).file ≡ f) → ((slice_index_or es n no_entry).block ≡ b) → ⊥) → IsGap es f b n
-gap-from_split es f b n up split other = record {
-  within = split.within;
-  before = split.before;
-  behind = behind-gap es f b n up split.behind other;
-}
+gap-from_split es f b n up split other = assumption (behind-gap es f b n up split.behind other, split)
 
 pub length-rewritten : (es : List BlockEntry) (n : ℕ) (content : Block) → length (rewritten es n content) ≡ length es
 length-rewritten es n content = length-set es n (record (slice_index_or es n no_entry) { content = content })

