@@ -68,10 +68,8 @@ content_of Q f b (e ∷ es) all some = by ((f == e.file) && (b == e.block)) refl
 picked_none : (n j : ℕ) (p : Bool) → n ≤ j → sum_below n (λ i. one_if (p && (i == j))) ≡ 0
 picked_none zero j p high = refl
 picked_none (suc n) j p high =
-    let rest = picked_none n j p (omega (arith, high)) in
     let off : (p && (n == j)) ≡ false = and_right p (n == j) (ne_eqb n j (λ same. omega (arith, same, high))) in
-    let none : one_if (p && (n == j)) ≡ 0 = ap one_if off in
-    omega (arith, rest, none)
+    omega (arith, picked_none n j p (omega (arith, high)), ap one_if off)
 
 picked_once : (n j : ℕ) (p : Bool) → sum_below n (λ i. one_if (p && (i == j))) ≤ one_if p
 picked_once n j p =
@@ -82,11 +80,7 @@ picked_once n j p =
 
 -- one block is counted at most once
 block_once : (n m i j : ℕ) → sum_below n (λ f. sum_below m (λ b. one_if ((f == i) && (b == j)))) ≤ 1
-block_once n m i j =
-    let rows : sum_below n (λ f. sum_below m (λ b. one_if ((f == i) && (b == j)))) ≤ sum_below n (λ f. one_if (f == i)) =
-    sum_below-le n _ _ (λ f below. picked_once m j (f == i)) in
-    let row : sum_below n (λ f. one_if (f == i)) ≤ 1 = picked_once n i true in
-    omega (arith, rows, row)
+block_once n m i j = omega (arith, sum_below-le n _ _ (λ f below. picked_once m j (f == i)), picked_once n i true)
 
 one_more : (t : Bool) (content : Block) (o : Option Block) → one_if (is_some (if t then Some content else o)) ≤ one_if t + one_if (is_some o)
 one_more true content o = omega arith

@@ -16,8 +16,7 @@ module _ (k : ℕ) (h : ℕ → ℕ) where
   part_of_a_round : (m : ℕ) → sum_below (m * k) (λ n. h (n % k)) ≡ m * sum_below k h → (j : ℕ) → j ≤ k → sum_below (m * k + j) (λ n. h (n % k)) ≡ m * sum_below k h + sum_below j h
   part_of_a_round m whole zero few =
       let none : m * k + 0 ≡ m * k = omega arith in
-      let same : sum_below (m * k + 0) (λ n. h (n % k)) ≡ sum_below (m * k) (λ n. h (n % k)) = ap (λ (n : ℕ). sum_below n (λ n. h (n % k))) none in
-      omega (arith, whole, same)
+      omega (arith, ap (λ (n : ℕ). sum_below n (λ n. h (n % k))) none, whole)
   part_of_a_round m whole (suc j) few =
       let next : m * k + suc j ≡ suc (m * k + j) = omega arith in
       let before = part_of_a_round m whole j (omega (arith, few)) in
@@ -28,13 +27,10 @@ module _ (k : ℕ) (h : ℕ → ℕ) where
   pub rounds : (m : ℕ) → sum_below (m * k) (λ n. h (n % k)) ≡ m * sum_below k h
   rounds zero =
       let none : 0 * k ≡ 0 = omega arith in
-      let same : sum_below (0 * k) (λ n. h (n % k)) ≡ 0 = ap (λ (n : ℕ). sum_below n (λ n. h (n % k))) none in
-      omega (arith, same)
+      omega (arith, ap (λ (n : ℕ). sum_below n (λ n. h (n % k))) none)
   rounds (suc m) =
       let more : suc m * k ≡ m * k + k = omega arith in
-      let one = part_of_a_round m (rounds m) k (omega arith) in
-      let same : sum_below (suc m * k) (λ n. h (n % k)) ≡ sum_below (m * k + k) (λ n. h (n % k)) = ap (λ (n : ℕ). sum_below n (λ n. h (n % k))) more in
-      omega (arith, one, same)
+      omega (arith, part_of_a_round m (rounds m) k (omega arith), ap (λ (n : ℕ). sum_below n (λ n. h (n % k))) more)
 
 parts_sum : (g : Geometry) (s : ℕ) → sum_below (suc s) (piece_part_size g) ≡ 64 + s * (g.quota * entry_size)
 parts_sum g zero = omega arith

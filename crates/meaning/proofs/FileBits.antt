@@ -53,9 +53,7 @@ with_bit_below k n f small lt most =
     or_lt k n (1 * 2 ^ f % 2 ^ 64) small (omega (arith, alone, below))
 
 pub without_bit_below : (k n f : ℕ) → n < 2 ^ k → without_bit n f < 2 ^ k
-without_bit_below k n f small =
-    let left : without_bit n f ≤ n = and_le_l n (bit_not w64 (1 * 2 ^ f % 2 ^ 64)) in
-    omega (arith, left, small)
+without_bit_below k n f small = omega (arith, and_le_l n (bit_not w64 (1 * 2 ^ f % 2 ^ 64)), small)
 
 -- a number of at most 64 bits
 pub few_bits : (k n : ℕ) → n < 2 ^ k → k ≤ 64 → n < 2 ^ 64

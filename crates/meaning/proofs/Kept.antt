@@ -37,9 +37,7 @@ empty_is_state g = record {
 }
   where
     none : (a v s : ℕ) → blocks_in_stripe g empty a v s ≤ g.quota
-    none a v s =
-        let e : blocks_in_stripe g empty a v s ≡ 0 = sum_below-zero g.files _ (λ f. sum_below-zero g.blocks _ (λ b. ap one_if (and_right (stripe_of g f b == s) false refl))) in
-        omega (arith, e)
+    none a v s = omega (arith, sum_below-zero g.files _ (λ f. sum_below-zero g.blocks _ (λ b. ap one_if (and_right (stripe_of g f b == s) false refl))))
 
 -- ---- what is known of a message that passes its checks
 

@@ -8,10 +8,7 @@ use Rattle.meaning.specs.State.{sum_below, one_if, count_below}
 
 pub sum_below-le : (n : ℕ) (f h : ℕ → ℕ) → ((i : ℕ) → i < n → f i ≤ h i) → sum_below n f ≤ sum_below n h
 sum_below-le zero f h each = omega arith
-sum_below-le (suc n) f h each =
-    let rest : sum_below n f ≤ sum_below n h = sum_below-le n f h (λ i lt. each i (omega arith)) in
-    let here : f n ≤ h n = each n (omega arith) in
-    omega (arith, rest, here)
+sum_below-le (suc n) f h each = omega (arith, sum_below-le n f h (λ i lt. each i (omega arith)), each n (omega arith))
 
 -- where one summand grows by one at most, and no other does
 pub sum_below_one_more : (n j : ℕ) (f h : ℕ → ℕ) → ((i : ℕ) → (i ≡ j → ⊥) → h i ≤ f i) → h j ≤ f j + 1 → sum_below n h ≤ sum_below n f + 1
@@ -44,10 +41,7 @@ one_if_from false b h = omega arith
 
 pub sum_below-le_times : (n c : ℕ) (f : ℕ → ℕ) → ((i : ℕ) → i < n → f i ≤ c) → sum_below n f ≤ n * c
 sum_below-le_times zero c f each = omega arith
-sum_below-le_times (suc n) c f each =
-    let rest : sum_below n f ≤ n * c = sum_below-le_times n c f (λ i lt. each i (omega arith)) in
-    let here : f n ≤ c = each n (omega arith) in
-    grind (arith, rest, here)
+sum_below-le_times (suc n) c f each = grind (arith, sum_below-le_times n c f (λ i lt. each i (omega arith)), each n (omega arith))
 
 pub count_below-le : (n : ℕ) (p : ℕ → Bool) → count_below n p ≤ n
 count_below-le zero p = omega arith

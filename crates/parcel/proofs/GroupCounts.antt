@@ -59,10 +59,7 @@ module _ (g : Geometry) (s : ℕ) where
 
   as_many : (es : List BlockEntry) → IsAscending es → Lies es → all_counted es ≡ length es
   as_many [] ascending lies = sum_same g.files _ (λ f. 0) (λ f. sum_same g.blocks _ (λ b. 0) (λ b. ap one_if (and_right (stripe_of g f b == s) false refl)) ∙ sum_zero g.blocks) ∙ sum_zero g.files
-  as_many (e ∷ es) ascending lies =
-      let rest = as_many es ascending.1 (lies_behind e es lies) in
-      let one = one_entry e es ascending.0 lies in
-      omega (arith, rest, one)
+  as_many (e ∷ es) ascending lies = omega (arith, as_many es ascending.1 (lies_behind e es lies), one_entry e es ascending.0 lies)
 
   -- where a state has the blocks of the stripe
   pub count_is_length : (x : State) (a v : ℕ) (p : StripePart) → StripeRule p → FitsStripe g s p

@@ -89,9 +89,7 @@ module _ (g : Geometry) (x : State) (is : IsState g x) (a v s files : ℕ) (has 
 
       by : (q t : Bool) → is_block_of a v (c, w, 0, 0) ≡ q → (r == s) ≡ t → blocks_in_stripe g taken c w r ≤ g.quota
       by true true volume stripe =
-          let counted = few_of_stripe g r (λ f b. taken.blocks (c, w, f, b)) es (at true true volume stripe) in
-          let most = entries_few g.quota bytes in
-          omega (arith, counted, most)
+          omega (arith, few_of_stripe g r (λ f b. taken.blocks (c, w, f, b)) es (at true true volume stripe), entries_few g.quota bytes)
       by true false volume stripe = as_before (at true false volume stripe)
       by false t volume stripe = as_before (at false t volume stripe)
 

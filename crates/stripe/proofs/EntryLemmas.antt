@@ -244,8 +244,7 @@ run-order es f zero end within before behind = omega arith
 run-order [] f (suc first) end within before behind = absurd (omega arith)
 run-order (e ∷ es) f (suc first) zero within before behind =
     let low = IsBefore-start e.file e.block f before.0 in absurd (behind.0 (inl (omega arith)))
-run-order (e ∷ es) f (suc first) (suc end) within before behind =
-    let rest = run-order es f first end (omega arith) before.1 behind in omega arith
+run-order (e ∷ es) f (suc first) (suc end) within before behind = omega (arith, run-order es f first end (omega arith) before.1 behind)
 
 pub content-file : (es : List BlockEntry) (f first end : ℕ) → IsSplit es f 0 first → IsSplit es (f + 1) 0 end → (i j : ℕ)
     → content_at (take first es ++ drop end es) i j ≡ (if f == i then None else content_at es i j)

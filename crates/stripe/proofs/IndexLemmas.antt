@@ -100,8 +100,7 @@ length-entries values [] = refl
 length-entries values (p ∷ index) = ap (λ n. suc n) (length-entries values index)
 
 pub length-stored : (arena : ArenaView Block) (index : List IndexEntry) → IsStored arena index → length (entries_of arena.values index) ≤ 64
-length-stored arena index stored =
-    let same = length-entries arena.values index in let count = stored.free in let small = stored.small in omega arith
+length-stored arena index stored = omega (arith, length-entries arena.values index, stored.free, stored.small)
 
 pub split-from_point : (values : List (Option Block)) (index : List IndexEntry) (f b n : ℕ) → n ≤ length index
     → IsPartitionPoint (λ p. is_before p f b ≡ true) (λ p. is_before p f b ≡ false) index n → IsSplit (entries_of values index) f b n
@@ -121,12 +120,8 @@ index_entry-entry values (q ∷ index) (suc n) p within here = index_entry-entry
 
 count_of-place : (index : List IndexEntry) (n : ℕ) (p : IndexEntry) → n < length index → p ≡ slice_index_or index n p → 0 < count_of p.slot (slots_of index)
 count_of-place [] n p within here = absurd (omega arith)
-count_of-place (q ∷ index) zero p within here =
-    let more = count_of-cons_is p.slot q.slot (slots_of index) (ap (λ (r : IndexEntry). r.slot) (sym here)) in omega arith
-count_of-place (q ∷ index) (suc n) p within here =
-    let more = count_of-tail p.slot q.slot (slots_of index) in
-    let rest = count_of-place index n p (omega arith) here in
-    omega arith
+count_of-place (q ∷ index) zero p within here = omega (arith, count_of-cons_is p.slot q.slot (slots_of index) (ap (λ (r : IndexEntry). r.slot) (sym here)))
+count_of-place (q ∷ index) (suc n) p within here = omega (arith, count_of-tail p.slot q.slot (slots_of index), count_of-place index n p (omega arith) here)
 
 unwrapped : (o : Option Block) (d : Block) → is_some o ≡ true → o ≡ Some (unwrap_or o d)
 unwrapped None d there = absurd (cc)

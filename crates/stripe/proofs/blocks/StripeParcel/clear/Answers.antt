@@ -4,10 +4,7 @@ use Rattle.stripe.proofs.EntryLemmas.{content-cleared, content-gap, content-miss
 use Rattle.stripe.proofs.blocks.StripeParcel.clear.Goals as goal
 
 pub overflow_add-n : goal.overflow_add-n
-overflow_add-n c =
-    let low : c.in-Ok.n < length c.args.self.now.entries = c.in-Ok.ensures.found.within in
-    let most : length c.args.self.now.entries ≤ 64 = c.in-Ok.ensures.most in
-    omega arith
+overflow_add-n c = omega (arith, c.in-Ok.ensures.found.within, c.in-Ok.ensures.most)
 
 pub returns-in-Ok-clause-holds : goal.returns-in-Ok-clause-holds
 returns-in-Ok-clause-holds c =

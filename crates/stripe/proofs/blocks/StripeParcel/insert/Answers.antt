@@ -9,8 +9,7 @@ use Rattle.stripe.proofs.blocks.StripeParcel.insert.Goals as goal
 pub overflow_cast-index_entry : goal.overflow_cast-index_entry
 overflow_cast-index_entry c =
     let answer : put_answer c.self.inside.blocks c.args.content.now ≡ Ok c.in-Ok.slot = sym c.in-Ok.ensures.answer in
-    let small = slot-small c.self.inside.blocks c.self.inside.index.items c.in-Ok.slot c.args.content.now c.self.invariant.stored answer in
-    omega arith
+    omega (arith, slot-small c.self.inside.blocks c.self.inside.index.items c.in-Ok.slot c.args.content.now c.self.invariant.stored answer)
 
 pub invariant_of-self : goal.invariant_of-self
 invariant_of-self c =
