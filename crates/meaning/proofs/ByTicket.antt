@@ -1,8 +1,8 @@
 -- In any order that keeps related messages in ticket order, each gets the reply that it gets in ticket order, and the state is the same.
-use Rattle.std.proofs.Common.{◌≡◌, ℕ, ◌<◌, ◌≤◌, true, false, List, [], ◌∷◌, refl, ap, sym, ◌∙◌, arith}
+use Rattle.std.proofs.Common.{◌≡◌, ℕ, ◌<◌, true, false, List, [], ◌∷◌, refl, ap, sym, ◌∙◌, arith}
 use Rattle.std.specs.Prelude.{nat_lt, if◌then◌else◌, IsPermutation}
 use Rattle.std.specs.List.{AllByRecursion}
-use Rattle.std.proofs.lemmas.Bool.{lt-ltb, ltb-true, ltb-false, true≢false, false_from_ne_true}
+use Rattle.std.proofs.lemmas.Bool.{lt-ltb, true≢false, false_from_ne_true}
 use Rattle.std.proofs.lemmas.List.Sorted.{IsPermutation-refl, IsPermutation-cons, IsPermutation-middle, IsPermutation-trans}
 use Rattle.affinity.specs.declared.geometry.Geometry.{Geometry}
 use Rattle.affinity.specs.Path.{are_related}
@@ -34,13 +34,7 @@ AreAscending (e ∷ es) = AllByRecursion (λ d. e.0 < d.0) es × AreAscending es
 module _ {A : Type 0} where
   in_order-put : (e : ℕ × A) (ds : List (ℕ × A)) → AreInOrder ds → AreInOrder (inserted_by_ticket e ds)
   in_order-put e [] h = (tt, tt)
-  in_order-put e (d ∷ ds) h =
-      elim (nat_lt e.0 d.0) as (λ b. nat_lt e.0 d.0 ≡ b → AreInOrder (if b then e ∷ d ∷ ds else d ∷ inserted_by_ticket e ds)) [
-        | true ↦ λ first.
-            let less : e.0 < d.0 = ltb-true e.0 d.0 first in
-            ((omega (arith, less), all_weaker (λ c. d.0 ≤ c.0) (λ c. e.0 ≤ c.0) (λ c le. omega (arith, less, le)) ds h.0), h)
-        | false ↦ λ late. (all-put (λ c. d.0 ≤ c.0) e ds (ltb-false e.0 d.0 late) h.0, in_order-put e ds h.1)
-      ] refl
+  in_order-put e (d ∷ ds) h = grind (arith, in_order-put e ds h.1, all_weaker, all-put)
 
   pub in_order-by_ticket : (es : List (ℕ × A)) → AreInOrder (by_ticket es)
   in_order-by_ticket [] = tt

@@ -1,7 +1,8 @@
 -- An effect changes single facts of the state, and only those at its message's path and below.
+use Rattle.std.proofs.Common.{arith}
 use Rattle.std.proofs.Common.{◌≡◌, ℕ, Bool, true, false, [], ◌∷◌, refl, ap, sym, ◌∙◌}
 use Rattle.std.specs.Prelude.{◌&&◌, ◌||◌, not, ◌==◌, if◌then◌else◌, Some, None}
-use Rattle.std.proofs.lemmas.Bool.{and_parts, and_from, eqb-true, eq-eqb, not-true, true≢false}
+use Rattle.std.proofs.lemmas.Bool.{and_parts, and_from, not-true, true≢false}
 use Rattle.affinity.specs.declared.geometry.Geometry.{Geometry}
 use Rattle.affinity.specs.Geometry.{stripe_of}
 use Rattle.affinity.specs.Path.{Path, is_prefix, aggregate, logical, stripe}
@@ -48,19 +49,13 @@ in_aggregate : (a v x y : ℕ) (rest : Path) → ((a == x) && (v == y)) ≡ true
 in_aggregate a v x y rest e = and_from (a == x) true (and_parts (a == x) (v == y) e).0 refl
 
 in_volume : (a v x y : ℕ) (p q : Path) → is_prefix p q ≡ true → ((a == x) && (v == y)) ≡ true → is_prefix (a ∷ v ∷ p) (x ∷ y ∷ q) ≡ true
-in_volume a v x y p q below e =
-    let s = and_parts (a == x) (v == y) e in
-    and_from (a == x) ((v == y) && is_prefix p q) s.0 (and_from (v == y) (is_prefix p q) s.1 below)
+in_volume a v x y p q below e = grind arith
 
 in_logical : (a v f : ℕ) (k : FileKey) (q : Path) → is_prefix (0 ∷ []) q ≡ true → is_file a v f k ≡ true → is_prefix (logical a v) (k.0 ∷ k.1 ∷ q) ≡ true
 in_logical a v f k q below e = in_volume a v k.0 k.1 (0 ∷ []) q below (and_parts ((a == k.0) && (v == k.1)) (f == k.2) e).0
 
 in_stripe : (g : Geometry) (a v f b : ℕ) (k : BlockKey) → is_block a v f b k ≡ true → is_prefix (stripe a v (stripe_of g f b)) (stripe k.0 k.1 (stripe_of g k.2 k.3)) ≡ true
-in_stripe g a v f b k e =
-    let p = and_parts ((a == k.0) && (v == k.1) && (f == k.2)) (b == k.3) e in
-    let q = and_parts ((a == k.0) && (v == k.1)) (f == k.2) p.0 in
-    let same : stripe_of g f b ≡ stripe_of g k.2 k.3 = λ i. stripe_of g (eqb-true f k.2 q.1 i) (eqb-true b k.3 p.1 i) in
-    in_volume a v k.0 k.1 (0 ∷ stripe_of g f b ∷ []) (0 ∷ stripe_of g k.2 k.3 ∷ []) (and_from (stripe_of g f b == stripe_of g k.2 k.3) true (eq-eqb _ _ same) refl) q.0
+in_stripe g a v f b k e = grind arith
 
 pub effect_only : (g : Geometry) (x : State) (m : Msg) → AgreeOn g (outside (path_of g m)) (effect x m) x
 effect_only g x m = record { same = by m }

@@ -3,7 +3,7 @@ use Rattle.std.proofs.Common.{◌≡◌, ℕ, zero, suc, ◌*◌, ◌%◌, ◌^�
 use Rattle.std.specs.Prelude.{◌==◌, ◌&&◌, ◌||◌, not}
 use Rattle.std.specs.Int.{bit_not}
 use Rattle.std.proofs.lemmas.Bool.{eq-eqb, ne_eqb, cases_eq, cases_lt}
-use Rattle.std.proofs.lemmas.Nat.{one_shl, or_lt, and_le_l}
+use Rattle.std.proofs.lemmas.Nat.{or_lt, and_le_l}
 use Rattle.std.proofs.lemmas.Nat.Bits.{bit_at_above, bit_at_set_same, bit_at_set_other, bit_at_clear_same, bit_at_clear_other, bit_at-zero}
 use Rattle.std.proofs.Math.Pow.{pow-lt}
 use Rattle.std.proofs.Math.Nat.{pow-le-pow_right}
@@ -47,10 +47,7 @@ without_bit_has n f lt fits i =
     (cases_eq i f)
 
 pub with_bit_below : (k n f : ℕ) → n < 2 ^ k → f < k → k ≤ 64 → with_bit n f < 2 ^ k
-with_bit_below k n f small lt most =
-    let alone : 1 * 2 ^ f % 2 ^ 64 ≡ 2 ^ f = one_shl f 64 (omega arith) in
-    let below : 2 ^ f < 2 ^ k = pow-lt lt in
-    or_lt k n (1 * 2 ^ f % 2 ^ 64) small (omega (arith, alone, below))
+with_bit_below k n f small lt most = grind (arith, pow-lt lt, or_lt)
 
 pub without_bit_below : (k n f : ℕ) → n < 2 ^ k → without_bit n f < 2 ^ k
 without_bit_below k n f small = omega (arith, and_le_l n (bit_not w64 (1 * 2 ^ f % 2 ^ 64)), small)

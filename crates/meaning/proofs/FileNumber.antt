@@ -1,54 +1,28 @@
 -- The files of a volume as the bits of a number, and back; and how many they are.
-use Rattle.std.proofs.Common.{◌≡◌, ℕ, zero, suc, ◌+◌, ◌*◌, ◌%◌, ◌^◌, ◌<◌, ◌≤◌, Bool, true, false, refl, sym, ◌∙◌, ap, arith, ⊎_elim, mod-lt}
+use Rattle.std.proofs.Common.{◌≡◌, ℕ, zero, suc, ◌+◌, ◌%◌, ◌^◌, ◌<◌, ◌≤◌, Bool, true, false, refl, sym, ◌∙◌, ap, arith, ⊎_elim, mod-lt}
 use Rattle.std.specs.Prelude.{◌==◌, if◌then◌else◌, count_ones}
 use Rattle.std.specs.Int.{bit_at}
 use Rattle.std.proofs.lemmas.Bool.{cases_lt, cases_eq, eq-eqb, ne_eqb, eqb-true, eqb-false}
 use Rattle.std.proofs.lemmas.Nat.{mod-pow-add, ones_cat, ones_le_self, zero_from_ones}
 use Rattle.std.proofs.lemmas.Nat.Bits.{bit_at_above, bit_at-lt, same_from_bits}
-use Rattle.std.proofs.Math.Nat.{pow-succ', mod-eq_of_lt}
+use Rattle.std.proofs.Math.Nat.{mod-eq_of_lt}
 use Rattle.language.specs.Replies.{has_file}
 use Rattle.meaning.specs.State.{sum_below, count_below, one_if}
 use Rattle.meaning.proofs.FileBits.{none_below}
 
 pub sum_bits : (n m : ℕ) → sum_below n (λ f. if has_file m f then 2 ^ f else 0) ≡ m % 2 ^ n
 sum_bits zero m = omega arith
-sum_bits (suc n) m =
-    let before = sum_bits n m in
-    let high : m % 2 ^ (1 + n) ≡ bit_at m n * 2 ^ n + m % 2 ^ n = mod-pow-add m 1 n in
-    let same : 1 + n ≡ suc n = omega arith in
-    ⊎_elim
-    (λ e.
-    let one : (if has_file m n then 2 ^ n else 0) ≡ 2 ^ n = ap (λ b. if b then 2 ^ n else 0) (eq-eqb (bit_at m n) 1 e) in
-    let times : bit_at m n * 2 ^ n ≡ 1 * 2 ^ n = ap (λ b. b * 2 ^ n) e in
-    let goal : sum_below n (λ f. if has_file m f then 2 ^ f else 0) + (if has_file m n then 2 ^ n else 0) ≡ m % 2 ^ (1 + n) = omega (arith, before, high, one, times) in
-    goal ∙ ap (λ k. m % 2 ^ k) same)
-    (λ ne.
-    let none : (if has_file m n then 2 ^ n else 0) ≡ 0 = ap (λ b. if b then 2 ^ n else 0) (ne_eqb (bit_at m n) 1 ne) in
-    let zero' : bit_at m n ≡ 0 = omega (arith, ne, bit_at-lt m n) in
-    let times : bit_at m n * 2 ^ n ≡ 0 * 2 ^ n = ap (λ b. b * 2 ^ n) zero' in
-    let goal : sum_below n (λ f. if has_file m f then 2 ^ f else 0) + (if has_file m n then 2 ^ n else 0) ≡ m % 2 ^ (1 + n) = omega (arith, before, high, none, times) in
-    goal ∙ ap (λ k. m % 2 ^ k) same)
-    (cases_eq (bit_at m n) 1)
+sum_bits (suc n) m = grind (arith, sum_bits n m, mod-pow-add m 1 n)
 
 one_bit : (b : ℕ) → b < 2 → one_if (b == 1) ≡ count_ones b
 one_bit zero low = let few = ones_le_self 0 in omega (arith, few)
-one_bit (suc zero) low =
-    ⊎_elim
-    (λ (none : count_ones 1 ≡ 0). let wrong = zero_from_ones 1 none in absurd (omega (arith, wrong)))
-    (λ (some : count_ones 1 ≡ 0 → ⊥). let few = ones_le_self 1 in omega (arith, few, some))
-    (cases_eq (count_ones 1) 0)
+one_bit (suc zero) low = grind (arith, ones_le_self 1, zero_from_ones)
 one_bit (suc (suc b)) low = absurd (omega (arith, low))
 
 count_bits : (n m : ℕ) → count_below n (has_file m) ≡ count_ones (m % 2 ^ n)
 count_bits zero m = let few = ones_le_self (m % 2 ^ 0) in omega (arith, few)
 count_bits (suc n) m =
-    let before = count_bits n m in
-    let high : m % 2 ^ (1 + n) ≡ bit_at m n * 2 ^ n + m % 2 ^ n = mod-pow-add m 1 n in
-    let both = ones_cat n (bit_at m n) (m % 2 ^ n) (mod-lt m (none_below n)) in
-    let bit = one_bit (bit_at m n) (bit_at-lt m n) in
-    let same : 1 + n ≡ suc n = omega arith in
-    let goal : count_below n (has_file m) + one_if (has_file m n) ≡ count_ones (m % 2 ^ (1 + n)) = omega (arith, before, ap count_ones high, both, bit) in
-    goal ∙ ap (λ k. count_ones (m % 2 ^ k)) same
+    grind (arith, count_bits n m, mod-pow-add m 1 n, ones_cat n (bit_at m n) (m % 2 ^ n) (mod-lt m (none_below n)), one_bit (bit_at m n) (bit_at-lt m n))
 
 -- a number below 2 ^ n is the sum of its bits
 pub bits_back : (n m : ℕ) → m < 2 ^ n → sum_below n (λ f. if has_file m f then 2 ^ f else 0) ≡ m
@@ -64,9 +38,7 @@ number_of n t = sum_below n (λ f. if t f then 2 ^ f else 0)
 
 pub number_small : (n : ℕ) (t : ℕ → Bool) → number_of n t < 2 ^ n
 number_small zero t = omega arith
-number_small (suc n) t =
-    let one : (b : Bool) → (if b then 2 ^ n else 0) ≤ 2 ^ n = λ b. elim b as (λ b. (if b then 2 ^ n else 0) ≤ 2 ^ n) [ true ↦ omega arith | false ↦ omega arith ] in
-    omega (arith, number_small n t, one (t n), pow-succ' 2 n)
+number_small (suc n) t = grind (arith, number_small n t)
 
 -- equal numbers of n + 1 bits have the same bit n
 one_same : (n : ℕ) (s t : ℕ → Bool) (b c : Bool) → number_of n s + (if b then 2 ^ n else 0) ≡ number_of n t + (if c then 2 ^ n else 0) → b ≡ c

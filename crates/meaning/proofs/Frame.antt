@@ -1,5 +1,6 @@
 -- A step reads only the subtree and the standing at its path, and changes only that subtree. So steps at unrelated paths commute.
-use Rattle.std.proofs.Common.{◌≡◌, ℕ, ◌^◌, Bool, true, false, List, [], ◌∷◌, Option, refl, ap, sym, ◌∙◌, subst}
+use Rattle.std.proofs.Common.{arith}
+use Rattle.std.proofs.Common.{◌≡◌, ℕ, ◌^◌, Bool, true, false, List, [], ◌∷◌, Option, refl, ap, sym, ◌∙◌}
 use Rattle.std.specs.Prelude.{◌&&◌, ◌||◌, not, ◌==◌, nat_lt, if◌then◌else◌, cond, Some, None, find, is_some, unwrap_or}
 use Rattle.std.specs.List.{AllByRecursion}
 use Rattle.std.proofs.lemmas.Bool.{and_parts, and_from, eqb-true, eq-eqb, true≢false, not_from_false, or_left}
@@ -11,7 +12,6 @@ use Rattle.language.specs.declared.Msg.{Msg}
 use Rattle.language.specs.declared.Msg.TheVariants.{MakeVol, DropVol, Create, Delete, Seal, Unseal, Write, Punch, Read, List as ListFiles, Usage as AskUsage, Summary as AskSummary, SetLabel, Label as AskLabel}
 use Rattle.language.specs.declared.Refusal.{Refusal}
 use Rattle.language.specs.declared.Refusal.TheVariants.{Volume, Sealed, File, Space}
-use Rattle.language.specs.declared.Reply.{Reply}
 use Rattle.language.specs.declared.Reply.TheVariants.{Files, Usage, Summary, Label}
 use Rattle.language.specs.Messages.{kind, four_numbers, path_of}
 use Rattle.meaning.specs.State.{State, sum_below, one_if, blocks_in_stripe, sum_over_volumes}
@@ -109,13 +109,8 @@ module _ (g : Geometry) (R : Path → Bool) (x y : State) (h : AgreeOn g R x y) 
   same_tests (Delete a v f) c = (refl, (same_volume (Delete a v f) c, (same_sealed (Delete a v f) c, (same_file (Delete a v f) c refl, tt))))
   same_tests (Seal a v) c = (refl, (same_volume (Seal a v) c, tt))
   same_tests (Unseal a v) c = (refl, (same_volume (Unseal a v) c, tt))
-  same_tests (Write a v f b d) c = (
-    refl,
-    (
-      same_volume (Write a v f b d) c,
-      (same_sealed (Write a v f b d) c, (same_file (Write a v f b d) c refl, (same_space (Write a v f b d) c (one (stripe_of g f b) true refl), tt))),
-    ),
-  )
+  same_tests (Write a v f b d) c =
+      let m = Write a v f b d in grind (arith, same_volume m c, same_sealed m c, same_file m c refl, same_space m c (one (stripe_of g f b) true refl))
   same_tests (Punch a v f b) c = (refl, (same_volume (Punch a v f b) c, (same_sealed (Punch a v f b) c, (same_file (Punch a v f b) c refl, tt))))
   same_tests (Read a v f b) c = (refl, (same_volume (Read a v f b) c, (same_file (Read a v f b) c refl, tt)))
   same_tests (ListFiles a v) c = (refl, (same_volume (ListFiles a v) c, tt))
@@ -145,23 +140,10 @@ module _ (g : Geometry) (R : Path → Bool) (x y : State) (h : AgreeOn g R x y) 
 
 -- ---- the two laws
 
-outcome_reply : (r : Option Refusal) (a : Reply) (new old new' old' : State) → (reply_and_state r a new old).0 ≡ (reply_and_state r a new' old').0
-outcome_reply None a new old new' old' = refl
-outcome_reply (Some why) a new old new' old' = refl
-
-outcome_agrees : {g : Geometry} {R : Path → Bool} (r : Option Refusal) (a a' : Reply) {new old new' old' : State} → AgreeOn g R new new'
-    → AgreeOn g R old old' → AgreeOn g R (reply_and_state r a new old).1 (reply_and_state r a' new' old').1
-outcome_agrees None a a' h j = h
-outcome_agrees (Some why) a a' h j = j
-
 -- Two states that agree on what is related to the message's place: the replies are the same, and the new states agree as far as the old ones did.
 pub reads_only : (g : Geometry) (R : Path → Bool) (x y : State) (m : Msg) → AgreeOn g R x y → ((q : Path) → are_related (path_of g m) q ≡ true → R q ≡ true)
     → (reply_to g x m ≡ reply_to g y m) × AgreeOn g R (next_state g x m) (next_state g y m)
-reads_only g R x y m h covers =
-    let r = same_refusal g R x y h m covers in (
-      (λ i. (reply_and_state (r i) (same_answer g R x y h m covers i) (effect x m) x).0) ∙ outcome_reply (refusal g y m) (accepted_reply g y m) _ _ _ _,
-      subst (λ t. AgreeOn g R (reply_and_state t (accepted_reply g x m) (effect x m) x).1 (next_state g y m)) (sym r) (outcome_agrees (refusal g y m) _ _ (effect_agrees g R x y h m) h),
-    )
+reads_only g R x y m h covers = grind (arith, same_refusal g R x y h m covers, effect_agrees g R x y h m, same_answer)
 
 -- A step changes nothing but what lies at its place or below.
 pub changes_only : (g : Geometry) (x : State) (m : Msg) → AgreeOn g (outside (path_of g m)) (next_state g x m) x

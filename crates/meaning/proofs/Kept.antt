@@ -1,43 +1,30 @@
 -- Each step keeps the invariant of states, `IsState`.
 use Rattle.std.proofs.Common.{◌≡◌, ℕ, zero, suc, ◌+◌, ◌<◌, ◌≤◌, Bool, true, false, List, [], ◌∷◌, Option, refl, ap, sym, subst, ◌⊎◌, inl, inr, ⊎_elim, arith, lit<}
-use Rattle.std.specs.Prelude.{◌&&◌, ◌||◌, not, ◌==◌, nat_lt, if◌then◌else◌, cond, Some, None, find, is_some, IfSome, replicate}
+use Rattle.std.specs.Prelude.{◌&&◌, not, ◌==◌, nat_lt, if◌then◌else◌, cond, Some, None, find, is_some, replicate}
 use Rattle.std.specs.List.{AllByRecursion}
-use Rattle.std.proofs.lemmas.Bool.{and_parts, and_from, or_cases, or_right, eqb-true, ltb-true, true≢false, not_from_false, and_right}
+use Rattle.std.proofs.lemmas.Bool.{and_parts, and_from, or_cases, eqb-true, ltb-true, true≢false, not_from_false}
 use Rattle.affinity.specs.declared.geometry.Geometry.{Geometry}
 use Rattle.affinity.specs.Geometry.{stripe_of}
 use Rattle.affinity.specs.Path.{is_prefix, stripe}
 use Rattle.affinity.specs.Place.{are_below, limits}
 use Rattle.affinity.specs.declared.kinds.Kind.TheVariants as kinds
-use Rattle.language.specs.declared.TheConstants.{LABEL_SIZE}
 use Rattle.language.specs.declared.Block.{Block}
 use Rattle.language.specs.declared.Msg.{Msg}
 use Rattle.language.specs.declared.Msg.TheVariants.{MakeVol, DropVol, Create, Delete, Seal, Unseal, Write, Punch, Read, SetLabel}
 use Rattle.language.specs.declared.Refusal.{Refusal}
 use Rattle.language.specs.declared.Refusal.TheVariants.{Space}
-use Rattle.language.specs.Messages.{AreSizedBytes, IsBlock, IsMessage, kind, four_numbers}
-use Rattle.meaning.specs.State.{State, IsState, empty, VolumeKey, FileKey, BlockKey, is_volume, is_file, is_block, is_file_of, is_block_of, is_block_of_file, one_if, blocks_in_stripe}
-use Rattle.meaning.specs.Serial.{checks, passes, refusal, effect, accepted_reply, reply_and_state, next_state, state_after_all, no_label}
+use Rattle.language.specs.Messages.{IsMessage, kind, four_numbers}
+use Rattle.meaning.specs.State.{State, IsState, empty, BlockKey, is_file, is_block, is_block_of_file, one_if, blocks_in_stripe}
+use Rattle.meaning.specs.Serial.{checks, passes, refusal, effect, accepted_reply, reply_and_state, next_state, state_after_all}
 use Rattle.meaning.specs.Laws.{outside}
 use Rattle.meaning.specs.Removals.{without_blocks}
 use Rattle.meaning.proofs.Effects.{effect_only}
 use Rattle.meaning.proofs.Frame.{same_group_count}
-use Rattle.meaning.proofs.Keys.{the_volume, the_file, the_block, other_file, other_place}
+use Rattle.meaning.proofs.Keys.{the_block, other_file, other_place}
 use Rattle.meaning.proofs.Sums.{sum_below-le, sum_below_one_more, sum_below-zero, one_if-le, one_if_from}
 
 pub empty_is_state : (g : Geometry) → IsState g empty
-empty_is_state g = record {
-  made = λ k e. absurd (true≢false (sym e));
-  sealed = λ k e. absurd (true≢false (sym e));
-  files = λ k e. absurd (true≢false (sym e));
-  blocks = λ k e. absurd (true≢false (sym e));
-  labels = λ k. refl;
-  content = λ k. tt;
-  label_content = λ k. tt;
-  quota = λ a v s. none a v s;
-}
-  where
-    none : (a v s : ℕ) → blocks_in_stripe g empty a v s ≤ g.quota
-    none a v s = omega (arith, sum_below-zero g.files _ (λ f. sum_below-zero g.blocks _ (λ b. ap one_if (and_right (stripe_of g f b == s) false refl))))
+empty_is_state g = grind (arith, sum_below-zero)
 
 -- ---- what is known of a message that passes its checks
 
@@ -52,10 +39,7 @@ passed p (t ∷ ts) h =
 
 -- the first two numbers are in range, and so are the others
 two_below : (g : Geometry) (a v : ℕ) (rest : List ℕ) → are_below (a ∷ v ∷ rest) (limits g) ≡ true → (a < g.aggregates) × (v < g.volumes) × (are_below rest (g.files ∷ g.blocks ∷ []) ≡ true)
-two_below g a v rest e =
-    let p = and_parts (nat_lt a g.aggregates) _ e in
-    let q = and_parts (nat_lt v g.volumes) (are_below rest (g.files ∷ g.blocks ∷ [])) p.1 in
-    (ltb-true _ _ p.0, ltb-true _ _ q.0, q.1)
+two_below g a v rest e = grind arith
 
 -- ---- one key of a set or map that an effect changed
 
@@ -68,36 +52,15 @@ was_set : {X : Type 0} (b : Bool) (value : X) (o : Option X) → is_some (if b t
 was_set true value o e = inl refl
 was_set false value o e = inr e
 
-some-set : {X : Type 0} (b c : Bool) (value : X) (o : Option X) → is_some o ≡ c → is_some (if b then Some value else o) ≡ (b || c)
-some-set true c value o e = refl
-some-set false c value o e = e
-
-some-cleared : {X : Type 0} (b c : Bool) (o : Option X) → is_some o ≡ c → is_some (if b then None else o) ≡ (not b && c)
-some-cleared true c o e = refl
-some-cleared false c o e = e
-
-content-set : {X : Type 0} (P : X → Type 0) (b : Bool) (value : X) (o : Option X) → P value → IfSome o P → IfSome (if b then Some value else o) P
-content-set P true value o new old = new
-content-set P false value o new old = old
-
-content-cleared : {X : Type 0} (P : X → Type 0) (b : Bool) (o : Option X) → IfSome o P → IfSome (if b then None else o) P
-content-cleared P true o old = tt
-content-cleared P false o old = old
-
 pub zeros_are_bytes : (n : ℕ) → AllByRecursion (λ b. b < 256) (replicate n 0)
 zeros_are_bytes zero = tt
 zeros_are_bytes (suc n) = (lit< tt, zeros_are_bytes n)
-
-pub no_label_is_bytes : AreSizedBytes LABEL_SIZE no_label
-no_label_is_bytes = (refl, zeros_are_bytes LABEL_SIZE)
 
 -- ---- the quota
 
 -- fewer blocks, no greater counts
 fewer : (g : Geometry) (x y : State) → ((k : BlockKey) → is_some (y.blocks k) ≡ true → is_some (x.blocks k) ≡ true) → (a v s : ℕ) → blocks_in_stripe g y a v s ≤ blocks_in_stripe g x a v s
-fewer g x y h a v s = sum_below-le g.files _ _ (λ f lt. sum_below-le g.blocks _ _ (λ b lt. one_if_from _ _ (λ e.
-    let p = and_parts (stripe_of g f b == s) (is_some (y.blocks (a, v, f, b))) e in
-    and_from (stripe_of g f b == s) (is_some (x.blocks (a, v, f, b))) p.0 (h (a, v, f, b) p.1))))
+fewer g x y h a v s = grind (arith, sum_below-le)
 
 module _ (g : Geometry) (x : State) (a v f b : ℕ) (content : Block) where
   abbrev written : State
@@ -142,16 +105,7 @@ quota_fewer g x y h less a v s = let few = fewer g x y less a v s in omega (arit
 -- ---- blocks and files that are taken out
 
 pub clearing_kept : (g : Geometry) (selected : BlockKey → Bool) (x : State) → IsState g x → IsState g (without_blocks selected x)
-clearing_kept g selected x h = record {
-  made = h.made;
-  sealed = h.sealed;
-  files = h.files;
-  blocks = λ k e. h.blocks k (not_cleared (selected k) (x.blocks k) e).1;
-  labels = h.labels;
-  content = λ k. content-cleared IsBlock (selected k) (x.blocks k) (h.content k);
-  label_content = h.label_content;
-  quota = quota_fewer g x (without_blocks selected x) h (λ k e. (not_cleared (selected k) (x.blocks k) e).1);
-}
+clearing_kept g selected x h = grind (arith, quota_fewer)
 
 pub delete_kept : (g : Geometry) (x : State) (a v f : ℕ) → IsState g x → IsState g (effect x (Delete a v f))
 delete_kept g x a v f h =
@@ -170,89 +124,16 @@ delete_kept g x a v f h =
 -- ---- each kind
 
 effect_kept : (g : Geometry) (x : State) → IsState g x → (m : Msg) → IsMessage m → AllByRecursion (λ t. passes g x (kind m) (four_numbers m) t ≡ true) (checks (kind m)) → IsState g (effect x m)
-effect_kept g x h (MakeVol a v) w p =
-    let r = two_below g a v [] p.0 in
-    record {
-      made = λ k e. ⊎_elim (λ is. subst (λ (k : VolumeKey). (k.0 < g.aggregates) × (k.1 < g.volumes)) (the_volume a v k is) (r.0, r.1)) (h.made k) (or_cases (is_volume a v k) (x.made k) e);
-      sealed = λ k e. or_right (is_volume a v k) (x.made k) (h.sealed k e);
-      files = λ k e. ((h.files k e).0, or_right (is_volume a v (k.0, k.1)) (x.made (k.0, k.1)) (h.files k e).1);
-      blocks = h.blocks;
-      labels = λ k. some-set (is_volume a v k) (x.made k) no_label (x.labels k) (h.labels k);
-      content = h.content;
-      label_content = λ k. content-set (AreSizedBytes LABEL_SIZE) (is_volume a v k) no_label (x.labels k) no_label_is_bytes (h.label_content k);
-      quota = h.quota;
-    }
-effect_kept g x h (DropVol a v) w p = record {
-  made = λ k e. h.made k (and_parts (not (is_volume a v k)) (x.made k) e).1;
-  sealed = λ k e. let q = and_parts (not (is_volume a v k)) (x.sealed k) e in and_from (not (is_volume a v k)) (x.made k) q.0 (h.sealed k q.1);
-  files = λ k e. let q = and_parts (not (is_file_of a v k)) (x.files k) e in ((h.files k q.1).0, and_from (not (is_file_of a v k)) (x.made (k.0, k.1)) q.0 (h.files k q.1).1);
-  blocks = λ k e. let q = not_cleared (is_block_of a v k) (x.blocks k) e in ((h.blocks k q.1).0, and_from (not (is_block_of a v k)) (x.files (k.0, k.1, k.2)) q.0 (h.blocks k q.1).1);
-  labels = λ k. some-cleared (is_volume a v k) (x.made k) (x.labels k) (h.labels k);
-  content = λ k. content-cleared IsBlock (is_block_of a v k) (x.blocks k) (h.content k);
-  label_content = λ k. content-cleared (AreSizedBytes LABEL_SIZE) (is_volume a v k) (x.labels k) (h.label_content k);
-  quota = quota_fewer g x (effect x (DropVol a v)) h (λ k e. (not_cleared (is_block_of a v k) (x.blocks k) e).1);
-}
-effect_kept g x h (Create a v f) w p =
-    let r = and_parts (nat_lt f g.files) true (two_below g a v (f ∷ []) p.0).2 in
-    record {
-      made = h.made;
-      sealed = h.sealed;
-      files = λ k e. ⊎_elim (λ is. subst (λ (k : FileKey). (k.2 < g.files) × (x.made (k.0, k.1) ≡ true)) (the_file a v f k is)
-          (ltb-true _ _ r.0, p.1.0)) (h.files k) (or_cases (is_file a v f k) (x.files k) e);
-      blocks = λ k e. ((h.blocks k e).0, or_right (is_file a v f (k.0, k.1, k.2)) (x.files (k.0, k.1, k.2)) (h.blocks k e).1);
-      labels = h.labels;
-      content = h.content;
-      label_content = h.label_content;
-      quota = h.quota;
-    }
+effect_kept g x h (MakeVol a v) w p = grind (arith, two_below g a v [] p.0)
+effect_kept g x h (DropVol a v) w p = grind (arith, quota_fewer)
+effect_kept g x h (Create a v f) w p = grind arith
 effect_kept g x h (Delete a v f) w p = delete_kept g x a v f h
-effect_kept g x h (Seal a v) w p = record {
-  made = h.made;
-  sealed = λ k e. ⊎_elim (λ is. subst (λ k. x.made k ≡ true) (the_volume a v k is) p.1.0) (h.sealed k) (or_cases (is_volume a v k) (x.sealed k) e);
-  files = h.files;
-  blocks = h.blocks;
-  labels = h.labels;
-  content = h.content;
-  label_content = h.label_content;
-  quota = h.quota;
-}
-effect_kept g x h (Unseal a v) w p = record {
-  made = h.made;
-  sealed = λ k e. h.sealed k (and_parts (not (is_volume a v k)) (x.sealed k) e).1;
-  files = h.files;
-  blocks = h.blocks;
-  labels = h.labels;
-  content = h.content;
-  label_content = h.label_content;
-  quota = h.quota;
-}
+effect_kept g x h (Seal a v) w p = grind arith
+effect_kept g x h (Unseal a v) w p = grind arith
 effect_kept g x h (Write a v f b content) w p =
-    let r = and_parts (nat_lt b g.blocks) true (and_parts (nat_lt f g.files) _ (two_below g a v (f ∷ b ∷ []) p.0).2).1 in
-    record {
-      made = h.made;
-      sealed = h.sealed;
-      files = h.files;
-      blocks = λ k e. ⊎_elim (λ is. subst (λ (k : BlockKey). (k.3 < g.blocks) × (x.files (k.0, k.1, k.2) ≡ true)) (the_block a v f b k is)
-          (ltb-true _ _ r.0, p.1.1.1.0)) (h.blocks k) (was_set (is_block a v f b k) content (x.blocks k) e);
-      labels = h.labels;
-      content = λ k. content-set IsBlock (is_block a v f b k) content (x.blocks k) w (h.content k);
-      label_content = h.label_content;
-      quota = keeps_quota g x a v f b content h.quota p.1.1.1.1.0;
-    }
+    grind (arith, two_below g a v (f ∷ b ∷ []) p.0, keeps_quota g x a v f b content h.quota p.1.1.1.1.0, the_block)
 effect_kept g x h (Punch a v f b) w p = clearing_kept g (is_block a v f b) x h
-effect_kept g x h (SetLabel a v bytes) w p = record {
-  made = h.made;
-  sealed = h.sealed;
-  files = h.files;
-  blocks = h.blocks;
-  labels = λ k. elim (is_volume a v k) as (λ t. is_volume a v k ≡ t → is_some (if t then Some bytes else x.labels k) ≡ x.made k) [
-    | true ↦ λ is. sym (subst (λ k. x.made k ≡ true) (the_volume a v k is) p.1.0)
-    | false ↦ λ is. h.labels k
-  ] refl;
-  content = h.content;
-  label_content = λ k. content-set (AreSizedBytes LABEL_SIZE) (is_volume a v k) bytes (x.labels k) w (h.label_content k);
-  quota = h.quota;
-}
+effect_kept g x h (SetLabel a v bytes) w p = grind arith
 effect_kept g x h (Read a v f b) w p = h
 effect_kept g x h _ w p = h
 

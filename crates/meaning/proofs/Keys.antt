@@ -1,4 +1,5 @@
 -- The orders of the keys, and the tests that pick them.
+use Rattle.std.proofs.Common.{arith}
 use Rattle.std.proofs.Common.{◌≡◌, ℕ, true, false, cond, Some, None, refl, ap, sym, ◌∙◌}
 use Rattle.std.specs.Prelude.{◌&&◌, ◌==◌}
 use Rattle.std.specs.Ordering.{ordering_then, is_eq}
@@ -32,16 +33,10 @@ pub the_volume : (a v : ℕ) (k : VolumeKey) → is_volume a v k ≡ true → (a
 the_volume a v k e = let p = and_parts (a == k.0) (v == k.1) e in λ i. (eqb-true a k.0 p.0 i, eqb-true v k.1 p.1 i)
 
 pub the_file : (a v f : ℕ) (k : FileKey) → is_file a v f k ≡ true → (a, v, f) ≡ k
-the_file a v f k e =
-    let p = and_parts ((a == k.0) && (v == k.1)) (f == k.2) e in
-    let q = the_volume a v (k.0, k.1) p.0 in
-    λ i. ((q i).0, (q i).1, eqb-true f k.2 p.1 i)
+the_file a v f k e = grind arith
 
 pub the_block : (a v f b : ℕ) (k : BlockKey) → is_block a v f b k ≡ true → (a, v, f, b) ≡ k
-the_block a v f b k e =
-    let p = and_parts ((a == k.0) && (v == k.1) && (f == k.2)) (b == k.3) e in
-    let q = the_file a v f (k.0, k.1, k.2) p.0 in
-    λ i. ((q i).0, (q i).1, (q i).2, eqb-true b k.3 p.1 i)
+the_block a v f b k e = grind arith
 
 pub itself : (n : ℕ) → (n == n) ≡ true
 itself n = eq-eqb n n refl

@@ -1,7 +1,8 @@
 -- Subtrees as values: where two states have the same subtree at a path, they agree there and below.
+use Rattle.std.proofs.Common.{arith}
 use Rattle.std.proofs.Common.{◌≡◌, ℕ, Bool, true, false, ◌∷◌, Option, refl, ap, sym}
 use Rattle.std.specs.Prelude.{◌&&◌, ◌||◌, not, if◌then◌else◌, None}
-use Rattle.std.proofs.lemmas.Bool.{and_from, or_left, true≢false}
+use Rattle.std.proofs.lemmas.Bool.{or_left, true≢false}
 use Rattle.std.proofs.Math.Bool.{or-not_self}
 use Rattle.affinity.specs.declared.geometry.Geometry.{Geometry}
 use Rattle.affinity.specs.Geometry.{stripe_of}
@@ -54,10 +55,7 @@ module _ (g : Geometry) (R : Path → Bool) where
 
 -- what is at a path or below, and what is above it, is all that is related to it
 shared_or_above : (p q : Path) → are_related p q ≡ true → (is_prefix p q || (is_prefix q p && not (is_prefix p q))) ≡ true
-shared_or_above p q h = elim (is_prefix p q) as (λ b. (b || is_prefix q p) ≡ true → (b || (is_prefix q p && not b)) ≡ true) [
-  | true ↦ λ h. refl
-  | false ↦ λ h. and_from (is_prefix q p) true h refl
-] h
+shared_or_above p q h = grind arith
 
 -- Two states with the same subtree and the same standing at a path agree at all that is related to it.
 pub agree_from_subtree : (g : Geometry) (p : Path) (x y : State) → subtree g p x ≡ subtree g p y → standing g p x ≡ standing g p y → AgreeOn g (are_related p) x y

@@ -1,9 +1,7 @@
 -- Sums over the numbers below a bound.
 use Rattle.std.proofs.Common.{◌≡◌, ℕ, zero, suc, ◌+◌, ◌*◌, ◌<◌, ◌≤◌, Bool, true, false, refl, ap, sym, ◌∙◌, ⊎_elim, arith}
 use Rattle.std.specs.Prelude.{◌==◌, ◌&&◌}
-use Rattle.std.specs.Cmp.{nat_eq_equiv}
 use Rattle.std.proofs.lemmas.Bool.{cases_eq, eq-eqb, eqb-true, false_from_ne_true}
-use Rattle.std.proofs.Math.Bool.{and_comm}
 use Rattle.meaning.specs.State.{sum_below, one_if, count_below}
 
 pub sum_below-le : (n : ℕ) (f h : ℕ → ℕ) → ((i : ℕ) → i < n → f i ≤ h i) → sum_below n f ≤ sum_below n h
@@ -13,17 +11,7 @@ sum_below-le (suc n) f h each = omega (arith, sum_below-le n f h (λ i lt. each 
 -- where one summand grows by one at most, and no other does
 pub sum_below_one_more : (n j : ℕ) (f h : ℕ → ℕ) → ((i : ℕ) → (i ≡ j → ⊥) → h i ≤ f i) → h j ≤ f j + 1 → sum_below n h ≤ sum_below n f + 1
 sum_below_one_more zero j f h others here = omega arith
-sum_below_one_more (suc n) j f h others here =
-    ⊎_elim
-    (λ e.
-    let rest : sum_below n h ≤ sum_below n f = sum_below-le n h f (λ i lt. others i (λ is. omega (arith, is, e, lt))) in
-    let bump : h n ≤ f n + 1 = rw e here in
-    omega (arith, rest, bump))
-    (λ ne.
-    let rest : sum_below n h ≤ sum_below n f + 1 = sum_below_one_more n j f h others here in
-    let same : h n ≤ f n = others n ne in
-    omega (arith, rest, same))
-    (cases_eq n j)
+sum_below_one_more (suc n) j f h others here = grind (arith, sum_below_one_more n j f h others here, sum_below-le)
 
 pub sum_below-zero : (n : ℕ) (f : ℕ → ℕ) → ((i : ℕ) → f i ≡ 0) → sum_below n f ≡ 0
 sum_below-zero zero f z = refl
@@ -100,7 +88,4 @@ sum_one_more n j f h below others here = let changed = sum_below_changed n j f h
 
 -- one number below n is j
 pub sum_pick : (n j : ℕ) → j < n → (p : Bool) → sum_below n (λ i. one_if (p && (i == j))) ≡ one_if p
-sum_pick n j below p = sum_same n _ _ (λ i. ap one_if (turned p i)) ∙ sum_below_at n j p below
-  where
-    turned : (p : Bool) (i : ℕ) → (p && (i == j)) ≡ ((j == i) && p)
-    turned p i = ap (λ t. p && t) (nat_eq_equiv.symm i j) ∙ and_comm p (j == i)
+sum_pick n j below p = grind (arith, sum_below_at n j p below)
