@@ -2,7 +2,6 @@
 use Rattle.std.proofs.Common.{◌≡◌, ℕ, zero, suc, ◌*◌, ◌<◌, ◌≤◌, List, [], ◌∷◌, ◌++◌, length, take, drop, replicate, refl, ◌∙◌, ap, arith, length-append}
 use Rattle.std.specs.List.{AllByRecursion, flat_map}
 use Rattle.std.proofs.lemmas.List.{take_at, drop_at, append_assoc}
-use Rattle.byteorder.specs.Endian.{little_bytes, little_number}
 use Rattle.device_map.specs.Layout.{entry_size}
 use Rattle.language.specs.declared.TheConstants.{BLOCK_SIZE}
 use Rattle.stripe.specs.Stripe.{BlockEntry}
@@ -22,9 +21,7 @@ length-entries (e ∷ es) all = omega (arith, length-append (entry_bytes e) (fla
 
 -- an entry is read as it was written
 pub entry_again : (e : BlockEntry) → IsSpellable e → entry_in (entry_bytes e) ≡ e
-entry_again e is =
-    let block : little_number 2 (little_bytes 2 e.block) ≡ e.block = omega (arith, is.small) in
-    λ i. record { file = e.file; block = block i; content = e.content }
+entry_again e is = grind arith
 
 pub none_there : (n k : ℕ) → entries_in n (replicate k 0) ≡ []
 none_there zero k = refl

@@ -1,6 +1,6 @@
 -- What look-up finds in ascending entries, before and after an edit of them.
 use Rattle.std.proofs.Common.{◌≡◌, ◌≢◌, ℕ, zero, suc, ◌+◌, ◌<◌, ◌≤◌, true, false, ◌&&◌, ◌||◌, ◌==◌, nat_lt, if◌then◌else◌, List, [], ◌∷◌, ◌++◌, length, take, drop, length-drop, refl, sym, ap, ◌∙◌, inl, inr, ◌⊎◌, arith, Option, Some, None, is_some, slice_index_or, slice_set}
-use Rattle.std.proofs.lemmas.Bool.Decides.{eqb_tells, leb_tells}
+use Rattle.std.proofs.lemmas.Bool.Decides.{eqb_tells}
 use Rattle.std.proofs.lemmas.List.{length-set}
 use Rattle.std.specs.List.{AllByRecursion}
 use Rattle.affinity.proofs.Elements.{all_take, all_drop, all_join, all_weaker}
@@ -11,13 +11,7 @@ use Rattle.stripe.specs.Index.{no_entry, IsSplit, IsAt, IsGap, rewritten}
 -- ---- whether two blocks are the same one
 
 pub match_tells : (f b i j : ℕ) → ((((f == i) && (b == j)) ≡ true) × (f ≡ i) × (b ≡ j)) ⊎ ((((f == i) && (b == j)) ≡ false) × ((f ≡ i) → (b ≡ j) → ⊥))
-match_tells f b i j = elim (eqb_tells f i) [
-  | inl e ↦ elim (eqb_tells b j) [
-    | inl d ↦ inl (rw (e.0, d.0) refl, e.1, d.1)
-    | inr n ↦ inr (rw (e.0, n.0) refl, λ _ same. n.1 same)
-  ]
-  | inr n ↦ inr (rw n.0 refl, λ same _. n.1 same)
-]
+match_tells f b i j = grind arith
 
 no_match : (f b i j : ℕ) → ((f ≡ i) → (b ≡ j) → ⊥) → ((f == i) && (b == j)) ≡ false
 no_match f b i j other = elim (match_tells f b i j) [ inl e ↦ absurd (other e.1 e.2) | inr n ↦ n.0 ]
@@ -87,8 +81,7 @@ ascending-inserted (e ∷ es) (suc n) d before behind up = (
 
 pub content-later : (f b : ℕ) (es : List BlockEntry) → AllByRecursion (λ e. PrecedesBlock f b e.file e.block) es → content_at es f b ≡ None
 content-later f b [] later = refl
-content-later f b (e ∷ es) later =
-    rw (no_match f b e.file e.block (λ file block. before_other f b e.file e.block later.0 (sym file) (sym block))) (content-later f b es later.1)
+content-later f b (e ∷ es) later = grind (arith, content-later f b es later.1)
 
 pub content-gap : (es : List BlockEntry) (f b n : ℕ) → AllByRecursion (λ e. PrecedesBlock e.file e.block f b) (take n es)
     → AllByRecursion (λ e. PrecedesBlock f b e.file e.block) (drop n es) → content_at es f b ≡ None
@@ -102,9 +95,7 @@ pub content-here : (es : List BlockEntry) (n : ℕ) → n < length es → IsAsce
 content-here [] n within up = absurd (omega arith)
 content-here (e ∷ es) zero within up = rw (is_match e.file e.block e.file e.block refl refl) refl
 content-here (e ∷ es) (suc n) within up =
-    let at = slice_index_or es n no_entry in
-    let first = all-at (ComesBefore e) n no_entry es (omega arith) up.0 in
-    rw (no_match at.file at.block e.file e.block (before_other e.file e.block at.file at.block first)) (content-here es n (omega arith) up.1)
+    grind (arith, all-at (ComesBefore e) n no_entry es (omega arith) up.0, content-here es n (omega arith) up.1)
 
 pub content-at : (es : List BlockEntry) (f b n : ℕ) → IsAscending es → IsAt es f b n → content_at es f b ≡ Some (slice_index_or es n no_entry).content
 content-at es f b n up at = rw (← at.file, ← at.block) (content-here es n at.within up)
@@ -130,10 +121,7 @@ same-inserted (e ∷ es) (suc n) d before =
 
 pub content-inserted : (es : List BlockEntry) (n : ℕ) (d : BlockEntry) → AllByRecursion (λ e. ComesBefore e d) (take n es) → (i j : ℕ)
     → content_at (take n es ++ d ∷ drop n es) i j ≡ (if (d.file == i) && (d.block == j) then Some d.content else content_at es i j)
-content-inserted es n d before i j = elim (match_tells d.file d.block i j) [
-  | inl e ↦ rw (e.0, ← e.1, ← e.2) (same-inserted es n d before)
-  | inr o ↦ rw o.0 (other-inserted es n d i j (λ file block. o.1 (sym file) (sym block)))
-]
+content-inserted es n d before i j = grind (arith, same-inserted es n d before, other-inserted)
 
 other-rewritten : (es : List BlockEntry) (n : ℕ) (content : Block) (i j : ℕ) → n < length es
     → ((i ≡ (slice_index_or es n no_entry).file) → (j ≡ (slice_index_or es n no_entry).block) → ⊥)
@@ -147,16 +135,11 @@ same-rewritten : (es : List BlockEntry) (n : ℕ) (content : Block) → n < leng
 same-rewritten [] n content within up = absurd (omega arith)
 same-rewritten (e ∷ es) zero content within up = rw (is_match e.file e.block e.file e.block refl refl) refl
 same-rewritten (e ∷ es) (suc n) content within up =
-    let at = slice_index_or es n no_entry in
-    let first = all-at (ComesBefore e) n no_entry es (omega arith) up.0 in
-    rw (no_match at.file at.block e.file e.block (before_other e.file e.block at.file at.block first)) (same-rewritten es n content (omega arith) up.1)
+    grind (arith, all-at (ComesBefore e) n no_entry es (omega arith) up.0, same-rewritten es n content (omega arith) up.1)
 
 pub content-rewritten : {es : List BlockEntry} {f b n : ℕ} (content : Block) → IsAscending es → IsAt es f b n → (i j : ℕ)
     → content_at (rewritten es n content) i j ≡ (if (f == i) && (b == j) then Some content else content_at es i j)
-content-rewritten {es} {f} {b} {n} content up at i j = elim (match_tells f b i j) [
-  | inl e ↦ rw (e.0, ← e.1, ← e.2, ← at.file, ← at.block) (same-rewritten es n content at.within up)
-  | inr o ↦ rw o.0 (other-rewritten es n content i j at.within (λ file block. o.1 (sym (file ∙ at.file)) (sym (block ∙ at.block))))
-]
+content-rewritten {es} {f} {b} {n} content up at i j = grind (arith, same-rewritten es n content at.within up, other-rewritten)
 
 -- ---- a run (entries next to each other) is cut out
 
@@ -183,8 +166,7 @@ content-cut_none : (es : List BlockEntry) (from end : ℕ) (i j : ℕ)
     → AllByRecursion (λ e. (i ≡ e.file) → (j ≡ e.block) → ⊥) (take from es)
     → AllByRecursion (λ e. (i ≡ e.file) → (j ≡ e.block) → ⊥) (drop end es)
     → content_at (take from es ++ drop end es) i j ≡ None
-content-cut_none es from end i j first last =
-    nowhere (take from es ++ drop end es) i j (all_join (λ (e : BlockEntry). (i ≡ e.file) → (j ≡ e.block) → ⊥) (take from es) (drop end es) first last)
+content-cut_none es from end i j first last = grind (arith, nowhere, all_join)
 
 module _ {X : Type 0} (P Q : X → Type 0) where
   both : (xs : List X) → AllByRecursion P xs → AllByRecursion Q xs → AllByRecursion (λ x. P x × Q x) xs
@@ -242,8 +224,7 @@ pub run-order : (es : List BlockEntry) (f first end : ℕ) → first ≤ length 
     → AllByRecursion (λ e. PrecedesBlock e.file e.block (f + 1) 0 → ⊥) (drop end es) → first ≤ end
 run-order es f zero end within before behind = omega arith
 run-order [] f (suc first) end within before behind = absurd (omega arith)
-run-order (e ∷ es) f (suc first) zero within before behind =
-    let low = IsBefore-start e.file e.block f before.0 in absurd (behind.0 (inl (omega arith)))
+run-order (e ∷ es) f (suc first) zero within before behind = grind arith
 run-order (e ∷ es) f (suc first) (suc end) within before behind = omega (arith, run-order es f first end (omega arith) before.1 behind)
 
 pub content-file : (es : List BlockEntry) (f first end : ℕ) → IsSplit es f 0 first → IsSplit es (f + 1) 0 end → (i j : ℕ)
@@ -270,29 +251,7 @@ content-file es f first end low high i j =
 
 -- ---- where a block is missing
 
-pub content-missing : (es : List BlockEntry) (f b : ℕ) → content_at es f b ≡ None → (i j : ℕ)
-    → content_at es i j ≡ (if (f == i) && (b == j) then None else content_at es i j)
-content-missing es f b none i j = elim (match_tells f b i j) [
-  | inl e ↦ rw (e.0, ← e.1, ← e.2) none
-  | inr o ↦ rw o.0 refl
-]
-
 -- ---- a gap: the position at which a block would be inserted
-
-apart-behind : (i j f b : ℕ) → (PrecedesBlock i j f b → ⊥) → ((i ≡ f) → (j ≡ b) → ⊥) → PrecedesBlock f b i j
-apart-behind i j f b unordered other = elim (leb_tells (suc f) i) [
-  | inl e ↦ inl e.1
-  | inr n ↦ elim (eqb_tells i f) [
-    | inl d ↦ elim (leb_tells (suc b) j) [
-      | inl l ↦ inr (sym d.1, l.1)
-      | inr m ↦ elim (eqb_tells j b) [
-        | inl same ↦ absurd (other d.1 same.1)
-        | inr less ↦ (let apart : j ≢ b = less.1 in absurd (unordered (inr (d.1, omega arith))))
-      ]
-    ]
-    | inr m ↦ (let apart : i ≢ f = m.1 in absurd (unordered (inl (omega arith))))
-  ]
-]
 
 pub before-before : (i j k l f b : ℕ) → PrecedesBlock i j k l → PrecedesBlock k l f b → PrecedesBlock i j f b
 before-before i j k l f b (inl low) (inl high) = inl (omega arith)
@@ -304,9 +263,7 @@ behind-first : (es : List BlockEntry) (f b : ℕ) → IsAscending es → AllByRe
     → (0 < length es → ((slice_index_or es 0 no_entry).file ≡ f) → ((slice_index_or es 0 no_entry).block ≡ b) → ⊥)
     → AllByRecursion (λ e. PrecedesBlock f b e.file e.block) es
 behind-first [] f b up behind other = tt
-behind-first (e ∷ es) f b up behind other =
-    let first = apart-behind e.file e.block f b behind.0 (other (omega arith)) in
-    (first, all_weaker (ComesBefore e) (λ d. PrecedesBlock f b d.file d.block) (λ d later. before-before f b e.file e.block d.file d.block first later) es up.0)
+behind-first (e ∷ es) f b up behind other = grind (arith, all_weaker)
 
 behind-gap : (es : List BlockEntry) (f b n : ℕ) → IsAscending es → AllByRecursion (λ e. PrecedesBlock e.file e.block f b → ⊥) (drop n es)
     → (n < length es → ((slice_index_or es n no_entry).file ≡ f) → ((slice_index_or es n no_entry).block ≡ b) → ⊥)
@@ -329,7 +286,4 @@ length-inserted (e ∷ es) (suc n) d = ap (λ k. suc k) (length-inserted es n d)
 
 -- room for a block that is missing
 pub room-missing : (o : Option Block) (n quota : ℕ) → o ≡ None → (is_some o || nat_lt n quota) ≡ true → n < quota
-room-missing o n quota none room = elim (leb_tells (suc n) quota) [
-  | inl e ↦ e.1
-  | inr m ↦ absurd (let wrong = rw (none, m.0) at room in cc)
-]
+room-missing o n quota none room = grind arith

@@ -1,8 +1,8 @@
 -- Ascending entries are determined by what they hold of each block; and how entries that ascend are joined.
-use Rattle.std.proofs.Common.{◌≡◌, ℕ, ◌<◌, ◌≤◌, Bool, true, false, ◌&&◌, List, [], ◌∷◌, ◌++◌, Option, Some, None, refl, sym, ◌∙◌, ap, arith, ◌⊎◌, inl, inr, ⊎_elim}
+use Rattle.std.proofs.Common.{◌≡◌, ℕ, Bool, true, false, ◌&&◌, List, [], ◌∷◌, ◌++◌, Option, Some, None, refl, sym, ◌∙◌, ap, arith, ◌⊎◌, ⊎_elim}
 use Rattle.std.specs.Prelude.{◌==◌, if◌then◌else◌}
 use Rattle.std.specs.List.{AllByRecursion}
-use Rattle.std.proofs.lemmas.Bool.{cases_lt, eq-eqb, eqb-true, and_from, and_parts}
+use Rattle.std.proofs.lemmas.Bool.{eqb-true, and_parts}
 use Rattle.std.proofs.lemmas.Option.{same_Some}
 use Rattle.stripe.specs.Stripe.{BlockEntry, content_at, ComesBefore, IsAscending, PrecedesBlock}
 use Rattle.stripe.proofs.EntryLemmas.{before-before, content-later}
@@ -10,32 +10,14 @@ use Rattle.stripe.proofs.EntryLemmas.{before-before, content-later}
 -- ---- what entries hold
 
 content-head : (e : BlockEntry) (es : List BlockEntry) → content_at (e ∷ es) e.file e.block ≡ Some e.content
-content-head e es = ap (λ (t : Bool). if t then Some e.content else content_at es e.file e.block)
-    (and_from (e.file == e.file) (e.block == e.block) (eq-eqb e.file e.file refl) (eq-eqb e.block e.block refl))
+content-head e es = grind arith
 
 all_behind : (f b : ℕ) (e : BlockEntry) (es : List BlockEntry) → PrecedesBlock f b e.file e.block → AllByRecursion (ComesBefore e) es → AllByRecursion (λ d. PrecedesBlock f b d.file d.block) es
 all_behind f b e [] before rest = tt
 all_behind f b e (d ∷ es) before rest = (before-before f b e.file e.block d.file d.block before rest.0, all_behind f b e es before rest.1)
 
 which_first : (f b i j : ℕ) → PrecedesBlock f b i j ⊎ (PrecedesBlock i j f b ⊎ ((f ≡ i) × (b ≡ j)))
-which_first f b i j =
-    ⊎_elim
-    (λ (less : f < i). inl (inl less))
-    (λ (no_less : i ≤ f).
-    ⊎_elim
-    (λ (more : i < f). inr (inl (inl more)))
-    (λ (no_more : f ≤ i).
-    let same : f ≡ i = omega (arith, no_less, no_more) in
-    ⊎_elim
-    (λ (below : b < j). inl (inr (same, below)))
-    (λ (no_below : j ≤ b).
-    ⊎_elim
-    (λ (above : j < b). inr (inl (inr (sym same, above))))
-    (λ (no_above : b ≤ j). inr (inr (same, omega (arith, no_below, no_above))))
-    (cases_lt j b))
-    (cases_lt b j))
-    (cases_lt i f))
-    (cases_lt f i)
+which_first f b i j = grind arith
 
 some_is_not_none : {X : Type 0} (x : X) (o : Option X) → o ≡ Some x → o ≡ None → ⊥
 some_is_not_none x None is off = cc

@@ -1,8 +1,9 @@
 -- Entries as they are read from a piece, one after the other.
-use Rattle.std.proofs.Common.{◌≡◌, ◌≢◌, ℕ, zero, suc, ◌+◌, ◌*◌, ◌-◌, ◌<◌, ◌≤◌, Bool, true, List, [], ◌∷◌, ◌++◌, length, take, drop, get_or, replicate, ◌/◌, ◌%◌, refl, sym, ◌∙◌, ap, subst, arith, append_assoc, append-nil}
+use Rattle.std.proofs.lemmas.Bool.Decides.{nat_tests}
+use Rattle.std.proofs.Common.{◌≡◌, ◌≢◌, ℕ, zero, suc, ◌+◌, ◌*◌, ◌-◌, ◌<◌, ◌≤◌, Bool, true, List, [], ◌∷◌, ◌++◌, length, take, drop, get_or, replicate, refl, sym, ◌∙◌, ap, subst, arith, append_assoc, append-nil}
 use Rattle.std.specs.Prelude.{◌==◌, if◌then◌else◌}
 use Rattle.std.specs.List.{AllByRecursion, flat_map, list_all}
-use Rattle.std.proofs.lemmas.Bool.{eq-eqb, eqb-true, ne_eqb, and_parts, and_from}
+use Rattle.std.proofs.lemmas.Bool.{eq-eqb, eqb-true, and_parts, and_from}
 use Rattle.std.proofs.lemmas.Grind.{flat_map-append}
 use Rattle.std.proofs.lemmas.List.{take_at, drop_at, drop-drop, take-append-drop, length-take-le, length-drop}
 use Rattle.std.proofs.Math.Seq.{take-add}
@@ -54,15 +55,8 @@ test_of_zeros (b ∷ bytes) all = and_from (b == 0) (list_all (λ byte. byte == 
 
 -- ---- one entry
 
-low : (l h : ℕ) → l < 256 → h < 256 → l ≡ (l + 256 * (h + 256 * 0)) % 256
-low l h l_small h_small = omega (arith, l_small, h_small)
-
-high : (l h : ℕ) → l < 256 → h < 256 → h ≡ (l + 256 * (h + 256 * 0)) / 256 % 256
-high l h l_small h_small = omega (arith, l_small, h_small)
-
 pub row_spelled : (row : List ℕ) → length row ≡ entry_size → get_or row 0 0 ≡ 1 → take 4 (drop 4 row) ≡ replicate 4 0 → get_or row 2 0 < 256 → get_or row 3 0 < 256 → row ≡ entry_bytes (entry_in row)
-row_spelled (m ∷ f ∷ l ∷ h ∷ p ∷ q ∷ r ∷ t ∷ content) long marked blank l_small h_small =
-    λ i. marked i ∷ f ∷ low l h l_small h_small i ∷ high l h l_small h_small i ∷ get_or (blank i) 0 0 ∷ get_or (blank i) 1 0 ∷ get_or (blank i) 2 0 ∷ get_or (blank i) 3 0 ∷ content
+row_spelled (m ∷ f ∷ l ∷ h ∷ p ∷ q ∷ r ∷ t ∷ content) long marked blank l_small h_small = grind arith
 row_spelled _ long marked blank l_small h_small = absurd (omega (arith, long))
 
 length-entry_in : (row : List ℕ) → length row ≡ entry_size → length (entry_bytes (entry_in row)) ≡ entry_size
@@ -82,16 +76,11 @@ pub record HasRead (g : Geometry) (files s : ℕ) (bytes : List ℕ) (es : List 
 
 module _ (g : Geometry) (files s : ℕ) (bytes : List ℕ) (long : length bytes ≡ g.quota * entry_size) where
   length-front : (es : List BlockEntry) (n : ℕ) → n ≤ g.quota → HasRead g files s bytes es n → length (flat_map entry_bytes es) ≡ n * entry_size
-  length-front es n few has =
-      let fits : n * entry_size ≤ length bytes = omega (arith, few, long) in
-      ap length (sym has.front) ∙ length-take-le (n * entry_size) bytes fits
+  length-front es n few has = grind (arith, length-take-le)
 
   module _ (n : ℕ) (few : n < g.quota) (es : List BlockEntry) (has : HasRead g files s bytes es n) where
     unmarked : get_or (drop (n * entry_size) bytes) 0 0 ≢ 1 → entries_in (g.quota - n) (drop (n * entry_size) bytes) ≡ []
-    unmarked off =
-        let more : g.quota - n ≡ suc (g.quota - suc n) = omega (arith, few) in
-        ap (λ (k : ℕ). entries_in k (drop (n * entry_size) bytes)) more ∙ ap (λ (t : Bool). if t then entry_in (take entry_size (drop (n * entry_size) bytes))
-        ∷ entries_in (g.quota - suc n) (drop entry_size (drop (n * entry_size) bytes)) else []) (ne_eqb (get_or (drop (n * entry_size) bytes) 0 0) 1 off)
+    unmarked off = grind (arith, nat_tests)
 
     these : get_or (drop (n * entry_size) bytes) 0 0 ≢ 1 → es ≡ entries_in g.quota bytes
     these off = sym (append-nil es) ∙ sym (ap (λ (l : List BlockEntry). es ++ l) (unmarked off)) ∙ has.rest

@@ -1,6 +1,6 @@
 -- What an index and an array of buffers keep, and what an edit of both makes of the entries.
 use Rattle.std.proofs.Common.{◌≡◌, ◌≢◌, ℕ, zero, suc, ◌+◌, ◌-◌, ◌<◌, ◌≤◌, Bool, true, false, ◌&&◌, ◌||◌, ◌==◌, nat_lt, List, [], ◌∷◌, ◌++◌, map, length, take, drop, length-drop, length-take, add-one, refl, sym, ap, ◌∙◌, inl, inr, arith, Option, Some, None, Ok, is_some, unwrap_or, slice_index_or, slice_set}
-use Rattle.std.proofs.lemmas.Bool.Decides.{eqb_tells, leb_tells}
+use Rattle.std.proofs.lemmas.Bool.Decides.{eqb_tells}
 use Rattle.std.specs.List.{AllByRecursion, concat}
 use Rattle.std.specs.List.Sorted.{IsPartitionedBy, IsPartitionPoint}
 use Rattle.language.specs.declared.Block.{Block}
@@ -12,7 +12,7 @@ use Rattle.arena.specs.ArenaView.{ArenaView, value_at, holds_value, IsPartitione
 use Rattle.stripe.specs.declared.blocks.IndexEntry.{IndexEntry}
 use Rattle.stripe.specs.Stripe.{BlockEntry, StripePart, content_at, ComesBefore, IsAscending, PrecedesBlock}
 use Rattle.stripe.specs.Index.{no_block, entry_at, entries_of, slots_of, IsStored, no_entry, IsSplit, IsAt, IsGap, rewritten}
-use Rattle.stripe.proofs.EntryLemmas.{before-before, content-at, ascending-rewritten, ascending-inserted, ascending-removed}
+use Rattle.stripe.proofs.EntryLemmas.{content-at, ascending-rewritten, ascending-inserted, ascending-removed}
 
 -- ---- the search
 
@@ -21,36 +21,10 @@ abbrev pub is_before : IndexEntry → ℕ → ℕ → Bool
 is_before p f b = nat_lt p.file f || ((p.file == f) && nat_lt p.block b)
 
 is_before-true : (p : IndexEntry) (f b : ℕ) → is_before p f b ≡ true → PrecedesBlock p.file p.block f b
-is_before-true p f b passes = elim (leb_tells (suc p.file) f) [
-  | inl e ↦ inl e.1
-  | inr n ↦ elim (eqb_tells p.file f) [
-    | inl d ↦ elim (leb_tells (suc p.block) b) [
-      | inl l ↦ inr (d.1, l.1)
-      | inr m ↦ absurd (let wrong = rw (n.0, d.0, m.0) at passes in cc)
-    ]
-    | inr m ↦ absurd (let wrong = rw (n.0, m.0) at passes in cc)
-  ]
-]
+is_before-true p f b passes = grind arith
 
 is_before-from : (p : IndexEntry) (f b : ℕ) → PrecedesBlock p.file p.block f b → is_before p f b ≡ true
-is_before-from p f b before = elim (leb_tells (suc p.file) f) [
-  | inl e ↦ rw e.0 refl
-  | inr n ↦ elim (eqb_tells p.file f) [
-    | inl d ↦ elim (leb_tells (suc p.block) b) [
-      | inl l ↦ rw (n.0, d.0, l.0) refl
-      | inr m ↦ absurd (no_way n.1 m.1 before)
-    ]
-    | inr m ↦ absurd (apart n.1 m.1 before)
-  ]
-]
-  where
-    no_way : f < suc p.file → b < suc p.block → PrecedesBlock p.file p.block f b → ⊥
-    no_way high over (inl low) = omega arith
-    no_way high over (inr same) = omega (arith, same.1)
-
-    apart : f < suc p.file → p.file ≢ f → PrecedesBlock p.file p.block f b → ⊥
-    apart high other (inl low) = omega arith
-    apart high other (inr same) = other same.0
+is_before-from p f b before = grind arith
 
 is_before-not : (p : IndexEntry) (f b : ℕ) → is_before p f b ≡ false → PrecedesBlock p.file p.block f b → ⊥
 is_before-not p f b fails before = let passes = is_before-from p f b before in let lost : true ≡ false = sym passes ∙ fails in cc
@@ -66,9 +40,7 @@ pub is_before-partitioned : (values : List (Option Block)) (index : List IndexEn
 is_before-partitioned values [] f b up i j d order within passes = absurd (omega arith)
 is_before-partitioned values (p ∷ index) f b up zero zero d order within passes = passes
 is_before-partitioned values (p ∷ index) f b up zero (suc j) d order within passes =
-    let q = slice_index_or index j d in
-    is_before-from p f b
-    (before-before p.file p.block q.file q.block f b (all-index values (ComesBefore (entry_at values p)) index j d (omega arith) up.0) (is_before-true q f b passes))
+    grind (arith, all-index values (ComesBefore (entry_at values p)) index j d (omega arith) up.0)
 is_before-partitioned values (p ∷ index) f b up (suc i) zero d order within passes = absurd (omega arith)
 is_before-partitioned values (p ∷ index) f b up (suc i) (suc j) d order within passes =
     is_before-partitioned values index f b up.1 i j d (omega arith) (omega arith) passes
@@ -135,12 +107,7 @@ held-content arena index n p stored within here =
 pub found-value : {arena : ArenaView Block} {index : List IndexEntry} {es : List BlockEntry} {f b n : ℕ} {p : IndexEntry} → IsStored arena index
     → entries_of arena.values index ≡ es → IsAt es f b n → p ≡ slice_index_or index n p → value_at arena p.slot ≡ content_at es f b
 found-value {arena} {index} {es} {f} {b} {n} {p} stored same at here =
-    let within : n < length (entries_of arena.values index) = rw (← same) at at.within in
-    let up : IsAscending es = rw same at stored.ascending in
-    let there : slice_index_or es n no_entry ≡ entry_at arena.values p = rw (← same) (index_entry-entry arena.values index n p within here) in
-    held-content arena index n p stored (let long = length-entries arena.values index in omega arith) here
-    ∙ ap (λ (e : BlockEntry). Some e.content) (sym there)
-    ∙ sym (content-at es f b n up at)
+    grind (arith, length-entries arena.values index, index_entry-entry, held-content, content-at)
 
 -- ---- a write to a value
 
@@ -150,13 +117,11 @@ part_same q r ds es quota entries = rw (quota, entries) refl
 
 entry-written : (values : List (Option Block)) (q : IndexEntry) (slot : ℕ) (content : Block) → q.slot ≡ slot → slot < length values
     → entry_at (slice_set values slot (Some content)) q ≡ record { file = q.file; block = q.block; content = content }
-entry-written values q slot content same within =
-    rw same (ap (λ (o : Option Block). record { file = q.file; block = q.block; content = unwrap_or o no_block }) (value-same values slot (Some content) within))
+entry-written values q slot content same within = grind (arith, value-same values slot (Some content) within)
 
 entry-other : (values : List (Option Block)) (q : IndexEntry) (slot : ℕ) (w : Option Block) → q.slot ≢ slot
     → entry_at (slice_set values slot w) q ≡ entry_at values q
-entry-other values q slot w other =
-    ap (λ (o : Option Block). record { file = q.file; block = q.block; content = unwrap_or o no_block }) (value-other values slot q.slot w other)
+entry-other values q slot w other = grind (arith, value-other values slot q.slot w other)
 
 both_same : (d e : BlockEntry) (ds es : List BlockEntry) → d ≡ e → ds ≡ es → d ∷ ds ≡ e ∷ es
 both_same d e ds es head tail = cc
@@ -174,11 +139,7 @@ pub entries-written : (values : List (Option Block)) (index : List IndexEntry) (
     → ((i : ℕ) → count_of i (slots_of index) ≤ 1) → n < length index → p ≡ slice_index_or index n p → p.slot < length values
     → entries_of (slice_set values p.slot (Some content)) index ≡ rewritten (entries_of values index) n content
 entries-written values [] n content once within here fits = absurd (omega arith)
-entries-written values (q ∷ index) zero {p} content once within here fits =
-    let same : q.slot ≡ p.slot = ap (λ (r : IndexEntry). r.slot) (sym here) in
-    both_same _ _ _ _ (entry-written values q p.slot content same fits)
-    (entries-other values p.slot (Some content) index
-    (let more = count_of-cons_is p.slot q.slot (slots_of index) same in let most = once p.slot in omega arith))
+entries-written values (q ∷ index) zero {p} content once within here fits = grind (arith, entry-written, entries-other)
 entries-written values (q ∷ index) (suc n) {p} content once within here fits =
     let later = count_of-place index n p (omega arith) here in
     both_same _ _ _ _
@@ -216,19 +177,13 @@ under_times : (i x : ℕ) (xs ys : List ℕ) → count_of i xs ≡ count_of i ys
 under_times i x xs ys same = elim (eqb_tells x i) [ inl e ↦ rw e.0 (ap (λ n. suc n) same) | inr n ↦ rw n.0 same ]
 
 count_of-swapped : (i x y : ℕ) (xs : List ℕ) → count_of i (x ∷ y ∷ xs) ≡ count_of i (y ∷ x ∷ xs)
-count_of-swapped i x y xs = elim (eqb_tells x i) [
-  | inl e ↦ elim (eqb_tells y i) [ inl d ↦ rw (e.0, d.0) refl | inr n ↦ rw (e.0, n.0) refl ]
-  | inr n ↦ elim (eqb_tells y i) [ inl d ↦ rw (n.0, d.0) refl | inr m ↦ rw (n.0, m.0) refl ]
-]
+count_of-swapped i x y xs = grind arith
 
 count_of-inserted : (i : ℕ) (index : List IndexEntry) (n : ℕ) (p : IndexEntry)
     → count_of i (slots_of (take n index ++ p ∷ drop n index)) ≡ count_of i (p.slot ∷ slots_of index)
 count_of-inserted i index zero p = refl
 count_of-inserted i [] (suc n) p = refl
-count_of-inserted i (q ∷ index) (suc n) p =
-    let rest = count_of-inserted i index n p in
-    let rows = count_of-swapped i q.slot p.slot (slots_of index) in
-    under_times i q.slot (slots_of (take n index ++ p ∷ drop n index)) (p.slot ∷ slots_of index) rest ∙ rows
+count_of-inserted i (q ∷ index) (suc n) p = grind (arith, count_of-inserted i index n p)
 
 entries-inserted : (values : List (Option Block)) (index : List IndexEntry) (n : ℕ) (p : IndexEntry) (content : Block) → count_of p.slot (slots_of index) ≡ 0
     → p.slot < length values
@@ -250,10 +205,7 @@ length-index_inserted (q ∷ index) (suc n) p = ap (λ k. suc k) (length-index_i
 
 -- a free slot holds nothing, so no index entry has it
 unclaimed : (arena : ArenaView Block) (index : List IndexEntry) (i : ℕ) → IsStored arena index → 0 < count_of i arena.free → count_of i (slots_of index) ≡ 0
-unclaimed arena index i stored some = elim (leb_tells 1 (count_of i (slots_of index))) [
-  | inl e ↦ absurd (let held = stored.hold i e.1 in let empty = stored.partitioned.free_empty i some in let lost : false ≡ true = sym (ap is_some empty) ∙ held in cc)
-  | inr n ↦ omega arith
-]
+unclaimed arena index i stored some = grind arith
 
 first-free : (free : List ℕ) (slot : ℕ) (content : Block) → slot_from free content ≡ Ok slot → (rest : List ℕ) × (free ≡ slot ∷ rest)
 first-free [] slot content answer = absurd (cc)
@@ -265,9 +217,7 @@ after_put-is arena slot content rest first = ap (λ (xs : List ℕ). put_into ar
 
 module _ (arena : ArenaView Block) (index : List IndexEntry) (slot : ℕ) (content : Block) (stored : IsStored arena index) (answer : put_answer arena content ≡ Ok slot) where
   slot-some : 0 < count_of slot arena.free
-  slot-some =
-      let first = first-free arena.free slot content answer in
-      rw first.1 (let more = count_of-cons_same slot first.0 in omega arith)
+  slot-some = grind arith
 
   slot-fits : slot < length arena.values
   slot-fits = stored.partitioned.within slot (let all = count_of-append slot arena.free (concat arena.chains) in let some = slot-some in omega arith)
@@ -335,12 +285,7 @@ taken-none arena run partitioned = record { partitioned = partitioned; free = om
 count_of-taken : (i : ℕ) (run : List IndexEntry) (k : ℕ) → count_of i (slots_of (take k run)) ≤ count_of i (slots_of run)
 count_of-taken i run zero = omega arith
 count_of-taken i [] (suc k) = omega arith
-count_of-taken i (q ∷ run) (suc k) =
-    let rest = count_of-taken i run k in
-    elim (eqb_tells q.slot i) [
-      | inl e ↦ omega (arith, count_of-cons_is i q.slot (slots_of run) e.1, count_of-cons_is i q.slot (slots_of (take k run)) e.1)
-      | inr n ↦ omega (arith, count_of-cons_other i q.slot (slots_of run) n.1, count_of-cons_other i q.slot (slots_of (take k run)) n.1)
-    ]
+count_of-taken i (q ∷ run) (suc k) = grind (arith, count_of-taken i run k)
 
 count_of-next : (i : ℕ) (run : List IndexEntry) (k : ℕ) (p : IndexEntry) → k < length run → p ≡ slice_index_or run k p
     → count_of i (slots_of (take (suc k) run)) ≡ count_of i (p.slot ∷ slots_of (take k run))
@@ -382,24 +327,14 @@ taken-more {before} {now} {run} {k} {p} taken once hold within here partitioned 
 count_of-split : (i : ℕ) (index : List IndexEntry) (m : ℕ) → count_of i (slots_of index) ≡ count_of i (slots_of (drop m index)) + count_of i (slots_of (take m index))
 count_of-split i index zero = omega arith
 count_of-split i [] (suc m) = omega arith
-count_of-split i (q ∷ index) (suc m) =
-    let rest = count_of-split i index m in
-    elim (eqb_tells q.slot i) [
-      | inl e ↦ omega (arith, count_of-cons_is i q.slot (slots_of index) e.1, count_of-cons_is i q.slot (slots_of (take m index)) e.1)
-      | inr n ↦ omega (arith, count_of-cons_other i q.slot (slots_of index) n.1, count_of-cons_other i q.slot (slots_of (take m index)) n.1)
-    ]
+count_of-split i (q ∷ index) (suc m) = grind (arith, count_of-split i index m)
 
 pub count_of-cut : (i : ℕ) (index : List IndexEntry) (from m end : ℕ) → end ≡ from + m
     → count_of i (slots_of index) ≡ count_of i (slots_of (take from index ++ drop end index)) + count_of i (slots_of (take m (drop from index)))
 count_of-cut i index zero m end sum = let same : end ≡ m = omega arith in rw same (count_of-split i index m)
 count_of-cut i [] (suc from) zero (suc end) sum = omega arith
 count_of-cut i [] (suc from) (suc m) (suc end) sum = omega arith
-count_of-cut i (q ∷ index) (suc from) m (suc end) sum =
-    let rest = count_of-cut i index from m end (omega arith) in
-    elim (eqb_tells q.slot i) [
-      | inl e ↦ omega (arith, count_of-cons_is i q.slot (slots_of index) e.1, count_of-cons_is i q.slot (slots_of (take from index ++ drop end index)) e.1)
-      | inr n ↦ omega (arith, count_of-cons_other i q.slot (slots_of index) n.1, count_of-cons_other i q.slot (slots_of (take from index ++ drop end index)) n.1)
-    ]
+count_of-cut i (q ∷ index) (suc from) m (suc end) sum = grind (arith, count_of-cut i index from m end (omega arith))
 count_of-cut i _ (suc from) _ zero sum = absurd (omega arith)
 
 length-cut : (index : List IndexEntry) (from m end : ℕ) → end ≡ from + m → end ≤ length index → length (take from index ++ drop end index) + m ≡ length index

@@ -1,17 +1,13 @@
 -- The block at its index is cut out, and where it isn't there nothing changes.
-use Rattle.std.proofs.Common.{◌+◌, ◌<◌, ◌≤◌, length, refl, arith, add-one}
-use Rattle.stripe.proofs.EntryLemmas.{content-cleared, content-gap, content-missing, ascending-removed, length-removed}
+use Rattle.std.proofs.Common.{◌+◌, ◌≤◌, length, arith}
+use Rattle.stripe.proofs.EntryLemmas.{content-cleared, content-gap, ascending-removed, length-removed}
 use Rattle.stripe.proofs.blocks.StripeParcel.clear.Goals as goal
 
 pub overflow_add-n : goal.overflow_add-n
 overflow_add-n c = omega (arith, c.in-Ok.ensures.found.within, c.in-Ok.ensures.most)
 
 pub returns-in-Ok-clause-holds : goal.returns-in-Ok-clause-holds
-returns-in-Ok-clause-holds c =
-    rw c.remove_blocks.ensures (record {
-      quota = refl;
-      content = λ i j. rw add-one (content-cleared c.args.self.now.entries c.args.f c.args.b c.in-Ok.n c.in-Ok.ensures.kept.ascending c.in-Ok.ensures.found i j);
-    })
+returns-in-Ok-clause-holds c = grind (arith, content-cleared)
 
 pub returns-in-Ok-clause-kept : goal.returns-in-Ok-clause-kept
 returns-in-Ok-clause-kept c =
@@ -23,6 +19,4 @@ returns-in-Ok-clause-kept c =
     })
 
 pub returns-in_default-clause-holds : goal.returns-in_default-clause-holds
-returns-in_default-clause-holds c =
-    let gap = c.in_default.ensures.found in
-    assumption (content-missing c.args.self.now.entries c.args.f c.args.b (content-gap c.args.self.now.entries c.args.f c.args.b c.in_default.field-0 gap.before gap.behind))
+returns-in_default-clause-holds c = grind (arith, content-gap)

@@ -1,5 +1,5 @@
 -- The blocks of a file are next to each other in the index; they are cut out, and no other block.
-use Rattle.std.proofs.Common.{◌+◌, ◌≤◌, length, refl, arith}
+use Rattle.std.proofs.Common.{◌+◌, ◌≤◌, length, arith}
 use Rattle.stripe.specs.Index.{IsSplit}
 use Rattle.stripe.proofs.EntryLemmas.{run-order, content-file, ascending-removed, length-removed}
 use Rattle.stripe.proofs.blocks.StripeParcel.drop_file.Goals as goal
@@ -11,13 +11,7 @@ remove_blocks-requires-clause-order c =
     run-order c.args.self.now.entries c.args.f c.split-first.result c.split-end.result low.within low.before high.behind
 
 pub returns-clause-holds : goal.returns-clause-holds
-returns-clause-holds c =
-    let low : IsSplit c.args.self.now.entries c.args.f 0 c.split-first.result = rw c.from.ensures at c.split-first.ensures.parts in
-    let high : IsSplit c.args.self.now.entries (c.args.f + 1) 0 c.split-end.result = rw c.from-2.ensures at c.split-end.ensures.parts in
-    rw c.remove_blocks.ensures (record {
-      quota = refl;
-      content = content-file c.args.self.now.entries c.args.f c.split-first.result c.split-end.result low high;
-    })
+returns-clause-holds c = grind (arith, content-file)
 
 pub returns-clause-kept : goal.returns-clause-kept
 returns-clause-kept c =

@@ -7,9 +7,5 @@ use Rattle.stripe.proofs.blocks.StripeParcel.new.Goals as goal
 
 pub invariant_of-result : goal.invariant_of-result
 invariant_of-result c =
-    record {
-      stored = rw (c.in_ok-index.ensures.items, c.in_ok-blocks.ensures.arena)
-          (stored-empty c.args.quota 0 c.requires.most (rw c.in_ok-blocks.ensures.arena at c.in_ok-blocks.ensures.partitioned));
-      room = rw c.in_ok-blocks.ensures.arena
-          (let long = length-replicate {A = Option Block} c.args.quota None in let room = c.in_ok-index.ensures.capacity in omega arith);
-    }
+    let stored = stored-empty c.args.quota 0 c.requires.most (rw c.in_ok-blocks.ensures.arena at c.in_ok-blocks.ensures.partitioned) in
+    grind (arith, stored, length-replicate {A = Option Block} c.args.quota None)

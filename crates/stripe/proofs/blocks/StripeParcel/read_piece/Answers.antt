@@ -1,5 +1,5 @@
 -- What was read so far, with what comes next.
-use Rattle.std.proofs.Common.{◌≡◌, ◌*◌, ◌+◌, ◌-◌, ◌<◌, ℕ, suc, List, [], ◌∷◌, ◌++◌, length, take, drop, get_or, true, true≢false, arith, ap, sym, ◌∙◌, subst}
+use Rattle.std.proofs.Common.{◌≡◌, ◌*◌, ◌+◌, ◌-◌, ◌<◌, ℕ, suc, List, [], ◌∷◌, ◌++◌, length, take, drop, get_or, arith, ap, sym, ◌∙◌, subst}
 use Rattle.std.specs.Prelude.{◌==◌}
 use Rattle.std.specs.List.{list_all}
 use Rattle.std.proofs.lemmas.List.{get_or-drop, length-append, take_rest}
@@ -25,26 +25,14 @@ returns-then-bytes-at-ne1-clause-good c is =
     (done.0, λ i. record { quota = c.loop-n.invariant.quota i; entries = done.1 i })
 
 pub returns-then-bytes-at-ne1-clause-bad : goal.returns-then-bytes-at-ne1-clause-bad
-returns-then-bytes-at-ne1-clause-bad c off is =
-    let bytes : List ℕ = c.args.bytes.now in
-    let at : ℕ = c.loop-n.n * entry_size in
-    let few : c.loop-n.n < c.args.g.now.quota = subst (λ (k : ℕ). c.loop-n.n < k) c.from-n-end.ensures c.loop-n-test.true in
-    let zeros = are_zeros c.args.g.now c.args.files c.args.s bytes c.requires.size c.loop-n.n few c.loop-n.self.entries c.loop-n.invariant.read
-    (λ marked. c.if-bytes-at-ne1.true (sym (first_left bytes at) ∙ marked)) is in
-    let on : c.are_zeros.result ≡ true = c.are_zeros.ensures ∙ ap (λ (l : List ℕ). list_all (λ byte. byte == 0) l) (take_rest bytes at) ∙ test_of_zeros (drop at bytes) zeros in
-    true≢false (sym on ∙ off)
+returns-then-bytes-at-ne1-clause-bad c off is = grind (arith, are_zeros, first_left, take_rest, test_of_zeros)
 
 -- an entry as the loop cuts it out
 one_row : (bytes : List ℕ) (at : ℕ) → take (at + entry_size - at) (drop at bytes) ≡ take entry_size (drop at bytes)
 one_row bytes at = let width : at + entry_size - at ≡ entry_size = omega arith in ap (λ (k : ℕ). take k (drop at bytes)) width
 
 pub returns-then-not-push-clause-bad : goal.returns-then-not-push-clause-bad
-returns-then-not-push-clause-bad c off is =
-    let bytes : List ℕ = c.args.bytes.now in
-    let at : ℕ = c.loop-n.n * entry_size in
-    let few : c.loop-n.n < c.args.g.now.quota = subst (λ (k : ℕ). c.loop-n.n < k) c.from-n-end.ensures c.loop-n-test.true in
-    let next = is_next c.args.g.now c.args.files c.args.s bytes c.requires.size c.loop-n.n few c.loop-n.self.entries c.loop-n.invariant.read (first_left bytes at ∙ c.if-bytes-at-ne1.false) is in
-    (c.push.ensures.refused c.if-not-push.true).1 (subst (IsNextEntry c.args.g.now c.args.files c.args.s c.loop-n.self.entries) (sym (one_row bytes at)) next)
+returns-then-not-push-clause-bad c off is = grind (arith, is_next, first_left, one_row)
 
 pub loop-n-preserved : goal.loop-n-preserved
 loop-n-preserved c =

@@ -1,20 +1,12 @@
 -- The slot of the block gets the content, and the other slots stay.
 use Rattle.std.proofs.Common.{◌<◌, length, ap, Some, arith}
 use Rattle.std.proofs.lemmas.List.{length-set}
-use Rattle.arena.specs.ArenaView.{value_at}
 use Rattle.stripe.specs.Stripe.{StripePart}
 use Rattle.stripe.proofs.IndexLemmas.{held-content, entries-written, stored-written, slot-within, length-entries, part_same}
 use Rattle.stripe.proofs.blocks.StripeParcel.write.Goals as goal
 
 pub unreachable-requires : goal.unreachable-requires
-unreachable-requires c =
-    let same = ap (λ (s : StripePart). s.entries) c.self.view_is in
-    let within : c.args.n < length c.self.inside.index.items =
-    (let full = rw (← same) at c.requires in let long = length-entries c.self.inside.blocks.values c.self.inside.index.items in omega arith) in
-    let held = held-content c.self.inside.blocks c.self.inside.index.items c.args.n c.index.result.now c.self.invariant.stored within c.index.ensures in
-    let empty = c.in-None.ensures.value in
-    let slot = ap (value_at c.self.inside.blocks) c.from-slot.ensures in
-    cc
+unreachable-requires c = grind (arith, length-entries c.self.inside.blocks.values c.self.inside.index.items, held-content)
 
 pub invariant_of-self : goal.invariant_of-self
 invariant_of-self c =
