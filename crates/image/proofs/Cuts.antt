@@ -53,8 +53,7 @@ module _ (g : Geometry) (a v : ℕ) (in_aggregates : a < g.aggregates) (in_volum
 
   pub volume_again : (version : ℕ) (x : State) → IsMeasured g x → piece_in g (image_of version g x) (volume_piece_number g a v) ≡ volume_piece version g x a v
   volume_again version x is =
-      let first : volume_piece_number g a v ≡ (a * g.volumes + v) * pieces_of_volume g + 0 = omega arith in
-      ap (piece_in g (image_of version g x)) first ∙ piece_again version g x is ((a * g.volumes + v) * pieces_of_volume g + 0) (is_piece 0 (omega arith)) ∙ piece_there version x 0 (omega arith)
+      grind (arith, piece_again version g x is ((a * g.volumes + v) * pieces_of_volume g + 0) (is_piece 0 (omega arith)), piece_there version x 0 (omega arith))
 
   pub stripe_again : (version : ℕ) (x : State) → IsMeasured g x → (s : ℕ) → s < g.stripes → piece_in g (image_of version g x) (stripe_piece_number g a v s) ≡ stripe_piece g x a v s
   stripe_again version x is s below =

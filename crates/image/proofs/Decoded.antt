@@ -1,8 +1,8 @@
 -- What pieces decode to has blocks and labels of the right size and keeps the quotas; it is a valid state if each piece is its encoding.
-use Rattle.std.proofs.Common.{◌≡◌, ℕ, suc, ◌+◌, ◌*◌, ◌-◌, ◌^◌, ◌<◌, ◌≤◌, Bool, true, false, ◌&&◌, List, [], length, drop, Option, Some, None, is_some, IfSome, refl, sym, ◌∙◌, ap, subst, arith, ⊎_elim, true≢false, length-take, length-drop}
-use Rattle.std.specs.Prelude.{◌==◌, nat_lt, if◌then◌else◌}
+use Rattle.std.proofs.Common.{◌≡◌, ℕ, suc, ◌+◌, ◌*◌, ◌-◌, ◌^◌, ◌<◌, ◌≤◌, Bool, true, false, ◌&&◌, List, [], length, drop, Option, Some, None, is_some, IfSome, refl, sym, ◌∙◌, ap, subst, arith, true≢false, length-take, length-drop}
+use Rattle.std.specs.Prelude.{◌==◌, if◌then◌else◌}
 use Rattle.std.specs.List.{AllByRecursion, flat_map}
-use Rattle.std.proofs.lemmas.Bool.{cases_lt, and_parts, ltb-true}
+use Rattle.std.proofs.lemmas.Bool.{and_parts}
 use Rattle.std.proofs.Math.Nat.{pow-le-pow_right}
 use Rattle.std.proofs.lemmas.Nat.Bits.{bit_at_above}
 use Rattle.meaning.proofs.Kept.{zeros_are_bytes}
@@ -21,19 +21,17 @@ use Rattle.meaning.specs.State.{State, VolumeKey, FileKey, BlockKey, IsState, bl
 use Rattle.stripe.specs.Entries.{entry_bytes, entries_in}
 use Rattle.stripe.specs.Stripe.{BlockEntry, content_at}
 use Rattle.stripe.proofs.EntryBytes.{entries_again}
-use Rattle.image.specs.Pieces.{piece_count, pieces_of_volume, piece_size, piece_of, decoded_by, has_volume, volume_piece_number, stripe_piece_number, volume_piece, stripe_piece, part_piece, piece_part_size, stripe_entries, entry_if, is_made_in, is_sealed_in, has_file_in, label_in, block_in}
+use Rattle.image.specs.Pieces.{piece_count, pieces_of_volume, piece_size, piece_of, decoded_by, has_volume, volume_piece_number, stripe_piece_number, volume_piece, stripe_piece, part_piece, piece_part_size, stripe_entries, entry_if, is_made_in, has_file_in, label_in}
 use Rattle.image.proofs.Counted.{entries_are_blocks, entries_few, content_is, content_of, few_of_stripe}
 use Rattle.image.proofs.Cuts.{is_piece, piece_there}
 use Rattle.image.proofs.Numbers.{size_there}
 use Rattle.meaning.proofs.FileNumber.{number_of, number_small}
 use Rattle.image.proofs.Measures.{IsMeasured, all_joined, entries_good, entries_most}
 use Rattle.image.proofs.Order.{one_of}
-use Rattle.image.proofs.Reading.{sealed_decoded, number_decoded, eight_bytes}
+use Rattle.image.proofs.Reading.{number_decoded, eight_bytes}
 
 pub is_volume_there : (g : Geometry) (k : VolumeKey) → has_volume g k ≡ true → (k.0 < g.aggregates) × (k.1 < g.volumes)
-is_volume_there g k there =
-    let parts = and_parts (nat_lt k.0 g.aggregates) (nat_lt k.1 g.volumes) there in
-    (ltb-true k.0 g.aggregates parts.0, ltb-true k.1 g.volumes parts.1)
+is_volume_there g k there = grind arith
 
 if_is : {X : Type 0} (P : X → Type 0) (h : Bool) (o : Option X) → (h ≡ true → IfSome o P) → IfSome (if h then o else None) P
 if_is P true o is = is refl
@@ -61,20 +59,15 @@ module _ (version : ℕ) (g : Geometry) (pieces : ℕ → List ℕ)
       (sized (volume_piece_number g k.0 k.1 + p) (is_piece g k.0 k.1 within.0 within.1 p part))
 
   bytes_of_volume : (k : VolumeKey) → has_volume g k ≡ true → AreSizedBytes 64 (pieces (volume_piece_number g k.0 k.1))
-  bytes_of_volume k there =
-      let first : volume_piece_number g k.0 k.1 + 0 ≡ volume_piece_number g k.0 k.1 = omega arith in
-      subst (λ (n : ℕ). AreSizedBytes 64 (pieces n)) first (bytes_of_part k there 0 (omega arith))
+  bytes_of_volume k there = grind (arith, bytes_of_part k there 0 (omega arith))
 
   bytes_of_stripe : (k : VolumeKey) → has_volume g k ≡ true → (s : ℕ) → s < g.stripes → AreSizedBytes (g.quota * entry_size) (pieces (stripe_piece_number g k.0 k.1 s))
   bytes_of_stripe k there s below = bytes_of_part k there (suc s) (omega (arith, below))
 
   blocks_decoded : (a v s f b : ℕ) (t : Bool) → has_volume g (a, v) ≡ t → stripe_of g f b ≡ s → (decoded_by version g pieces).blocks (a, v, f, b)
       ≡ content_at (if t then entries_in g.quota (pieces (stripe_piece_number g a v s)) else []) f b
-  blocks_decoded a v s f b true there on =
-      ap (λ (t : Bool). if t then block_in g (pieces (stripe_piece_number g a v (stripe_of g f b))) f b else None) there
-      ∙ ap (λ (j : ℕ). block_in g (pieces (stripe_piece_number g a v j)) f b) on
-  blocks_decoded a v s f b false out on = ap (λ (t : Bool).
-      if t then block_in g (pieces (stripe_piece_number g a v (stripe_of g f b))) f b else None) out
+  blocks_decoded a v s f b true there on = grind arith
+  blocks_decoded a v s f b false out on = grind arith
 
   few_blocks : (a v s : ℕ) → blocks_in_stripe g (decoded_by version g pieces) a v s ≤ g.quota
   few_blocks a v s = by (has_volume g (a, v)) refl
@@ -105,34 +98,21 @@ module _ (version : ℕ) (g : Geometry) (pieces : ℕ → List ℕ)
       (λ there. label_is version (pieces (volume_piece_number g k.0 k.1)) (bytes_of_volume k there))
 
   pub is_measured : IsMeasured g (decoded_by version g pieces)
-  is_measured = record {
-    content = content_decoded;
-    label_content = label_decoded;
-    quota = λ a v s. let most = entries_most g (decoded_by version g pieces) a v s in let few = few_blocks a v s in omega (arith, most, few);
-  }
+  is_measured = grind (arith, content_decoded, label_decoded, entries_most, few_blocks)
 
 -- ---- pieces that spell what they decode to
 
 -- if a number has n bits, each file that it encodes is below n
 bit_within : (n : ℕ) (t : ℕ → Bool) (f : ℕ) → has_file (number_of n t) f ≡ true → f < n
-bit_within n t f on =
-    ⊎_elim
-    (λ (less : f < n). less)
-    (λ (no_less : n ≤ f). absurd (true≢false (sym on ∙ ap (λ b. b == 1) (bit_at_above (number_of n t) n f (number_small n t) no_less))))
-    (cases_lt f n)
+bit_within n t f on = grind (arith, number_of n t, number_small n t, bit_at_above)
 
 module _ (version : ℕ) (g : Geometry) (pieces : ℕ → List ℕ) (sized : (n : ℕ) → n < piece_count g → AreSizedBytes (piece_size g n) (pieces n))
     (good : (n : ℕ) → n < piece_count g → pieces n ≡ piece_of version g (decoded_by version g pieces) n) where
   part_spelled : (k : VolumeKey) → has_volume g k ≡ true → (p : ℕ) → p < pieces_of_volume g → pieces (volume_piece_number g k.0 k.1 + p) ≡ part_piece version g (decoded_by version g pieces) k.0 k.1 p
-  part_spelled k there p part =
-      let within = is_volume_there g k there in
-      good (volume_piece_number g k.0 k.1 + p) (is_piece g k.0 k.1 within.0 within.1 p part)
-      ∙ piece_there g k.0 k.1 within.0 within.1 version (decoded_by version g pieces) p part
+  part_spelled k there p part = grind (arith, is_volume_there g k there, piece_there)
 
   volume_spelled : (k : VolumeKey) → has_volume g k ≡ true → pieces (volume_piece_number g k.0 k.1) ≡ volume_piece version g (decoded_by version g pieces) k.0 k.1
-  volume_spelled k there =
-      let first : volume_piece_number g k.0 k.1 ≡ volume_piece_number g k.0 k.1 + 0 = omega arith in
-      ap pieces first ∙ part_spelled k there 0 (omega arith)
+  volume_spelled k there = grind (arith, part_spelled k there 0 (omega arith))
 
   stripe_spelled : (k : VolumeKey) → has_volume g k ≡ true → (s : ℕ) → s < g.stripes → pieces (stripe_piece_number g k.0 k.1 s) ≡ stripe_piece g (decoded_by version g pieces) k.0 k.1 s
   stripe_spelled k there s below = part_spelled k there (suc s) (omega (arith, below))
@@ -141,12 +121,7 @@ module _ (version : ℕ) (g : Geometry) (pieces : ℕ → List ℕ) (sized : (n 
   made_in_range k made = is_volume_there g k (and_parts (has_volume g k) (is_made_in (pieces (volume_piece_number g k.0 k.1))) made).0
 
   sealed_is_made : (k : VolumeKey) → (decoded_by version g pieces).sealed k ≡ true → (decoded_by version g pieces).made k ≡ true
-  sealed_is_made k sealed =
-      let x : State = decoded_by version g pieces in
-      let parts = and_parts (has_volume g k) (is_sealed_in (pieces (volume_piece_number g k.0 k.1))) sealed in
-      let spelled : (x.made k && x.sealed k) ≡ true =
-      sym (ap is_sealed_in (volume_spelled k parts.0) ∙ sealed_decoded g x k.0 k.1 version) ∙ parts.1 in
-      (and_parts (x.made k) (x.sealed k) spelled).0
+  sealed_is_made k sealed = grind (arith, volume_spelled)
 
   files_in_range : (k : FileKey) → (decoded_by version g pieces).files k ≡ true → (k.2 < g.files) × ((decoded_by version g pieces).made (k.0, k.1) ≡ true)
   files_in_range k there =
@@ -207,13 +182,7 @@ module _ (version : ℕ) (g : Geometry) (pieces : ℕ → List ℕ) (sized : (n 
       by false out = absurd (true≢false (sym some ∙ ap (λ (o : Option Block). is_some o) (blocks_decoded version g pieces sized k.0 k.1 (stripe_of g k.2 k.3) k.2 k.3 false out refl)))
 
   labels_of_made : (k : VolumeKey) → is_some ((decoded_by version g pieces).labels k) ≡ (decoded_by version g pieces).made k
-  labels_of_made k = by (has_volume g k) (is_made_in (pieces (volume_piece_number g k.0 k.1)))
-    where
-      by : (t made : Bool) → is_some (if t then
-          (if made then Some (if version == 2 then slice (pieces (volume_piece_number g k.0 k.1)) 16 LABEL_SIZE else no_label) else None) else None) ≡ (t && made)
-      by true true = refl
-      by true false = refl
-      by false made = refl
+  labels_of_made k = grind arith
 
   pub is_state : IsState g (decoded_by version g pieces)
   is_state = record {

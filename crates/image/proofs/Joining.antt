@@ -14,9 +14,7 @@ use Rattle.image.specs.Image.{image_head, image_of, piece_in}
 
 module _ (k : ℕ) (h : ℕ → ℕ) where
   part_of_a_round : (m : ℕ) → sum_below (m * k) (λ n. h (n % k)) ≡ m * sum_below k h → (j : ℕ) → j ≤ k → sum_below (m * k + j) (λ n. h (n % k)) ≡ m * sum_below k h + sum_below j h
-  part_of_a_round m whole zero few =
-      let none : m * k + 0 ≡ m * k = omega arith in
-      omega (arith, ap (λ (n : ℕ). sum_below n (λ n. h (n % k))) none, whole)
+  part_of_a_round m whole zero few = grind arith
   part_of_a_round m whole (suc j) few =
       let next : m * k + suc j ≡ suc (m * k + j) = omega arith in
       let before = part_of_a_round m whole j (omega (arith, few)) in
@@ -25,20 +23,15 @@ module _ (k : ℕ) (h : ℕ → ℕ) where
       omega (arith, before, last, same)
 
   pub rounds : (m : ℕ) → sum_below (m * k) (λ n. h (n % k)) ≡ m * sum_below k h
-  rounds zero =
-      let none : 0 * k ≡ 0 = omega arith in
-      omega (arith, ap (λ (n : ℕ). sum_below n (λ n. h (n % k))) none)
-  rounds (suc m) =
-      let more : suc m * k ≡ m * k + k = omega arith in
-      omega (arith, part_of_a_round m (rounds m) k (omega arith), ap (λ (n : ℕ). sum_below n (λ n. h (n % k))) more)
+  rounds zero = grind arith
+  rounds (suc m) = grind (arith, part_of_a_round m (rounds m) k (omega arith))
 
 parts_sum : (g : Geometry) (s : ℕ) → sum_below (suc s) (piece_part_size g) ≡ 64 + s * (g.quota * entry_size)
 parts_sum g zero = omega arith
 parts_sum g (suc s) = let before = parts_sum g s in omega (arith, before)
 
 pub length-pieces : (g : Geometry) → piece_at g (piece_count g) ≡ 64 + g.aggregates * g.volumes * (64 + g.stripes * (g.quota * entry_size))
-length-pieces g =
-    ap (λ (n : ℕ). 64 + n) (rounds (pieces_of_volume g) (piece_part_size g) (g.aggregates * g.volumes) ∙ ap (λ (n : ℕ). g.aggregates * g.volumes * n) (parts_sum g g.stripes))
+length-pieces g = grind (arith, rounds (pieces_of_volume g) (piece_part_size g) (g.aggregates * g.volumes), parts_sum g g.stripes)
 
 pub whole_image : (g : Geometry) → piece_at g (piece_count g) ≡ image_size g
 unfolding image_size

@@ -1,6 +1,6 @@
 -- How long the pieces of a state are, where what it has is of the right size.
-use Rattle.std.proofs.Common.{◌≡◌, ℕ, zero, suc, ◌*◌, ◌-◌, ◌<◌, ◌≤◌, Bool, true, false, ◌&&◌, List, [], ◌∷◌, ◌++◌, length, replicate, IfSome, is_some, Option, Some, None, unwrap_or, refl, arith, length-append}
-use Rattle.std.specs.Prelude.{◌==◌, if◌then◌else◌}
+use Rattle.std.proofs.Common.{◌≡◌, ℕ, zero, suc, ◌*◌, ◌-◌, ◌<◌, ◌≤◌, Bool, true, false, ◌&&◌, List, length, replicate, IfSome, Option, Some, None, refl, arith, length-append}
+use Rattle.std.specs.Prelude.{◌==◌}
 use Rattle.std.specs.List.{AllByRecursion, flat_map}
 use Rattle.std.proofs.lemmas.List.{length-replicate}
 use Rattle.affinity.specs.Geometry.{stripe_of}
@@ -10,10 +10,8 @@ use Rattle.language.specs.declared.TheConstants.{LABEL_SIZE}
 use Rattle.language.specs.Messages.{IsBlock, AreSizedBytes}
 use Rattle.language.specs.declared.Block.{Block}
 use Rattle.stripe.specs.Stripe.{BlockEntry}
-use Rattle.byteorder.specs.Endian.{little_bytes}
 use Rattle.affinity.proofs.Elements.{all_join}
-use Rattle.meaning.specs.Serial.{no_label, file_bits}
-use Rattle.meaning.specs.State.{State, VolumeKey, BlockKey, IsState, sum_below, one_if, blocks_in_stripe}
+use Rattle.meaning.specs.State.{State, VolumeKey, BlockKey, IsState, sum_below, blocks_in_stripe}
 use Rattle.stripe.specs.Entries.{entry_bytes, stripe_bytes}
 use Rattle.image.specs.Pieces.{joined_below, entry_if, stripe_entries, volume_piece, label_bytes, part_piece, piece_part_size, piece_of, piece_size, part_of, aggregate_of, volume_of}
 use Rattle.stripe.proofs.EntryBytes.{IsSpellable, length-entries}
@@ -40,14 +38,8 @@ length-joined-le (suc n) f most each = omega (arith, length-append (joined_below
 
 -- ---- the entries of a stripe
 
-one_entry : (p q : Bool) (f b : ℕ) (o : Option Block) → length (entry_if (p && q) f b o) ≤ one_if (q && is_some o)
-one_entry true true f b (Some content) = omega arith
-one_entry _ _ f b _ = omega arith
-
 pub entries_most : (g : Geometry) (x : State) (a v s : ℕ) → length (stripe_entries g x a v s) ≤ blocks_in_stripe g x a v s
-entries_most g x a v s =
-    length-joined-le g.files _ _
-    (λ f. length-joined-le g.blocks _ _ (λ b. one_entry (x.files (a, v, f)) (stripe_of g f b == s) f b (x.blocks (a, v, f, b))))
+entries_most g x a v s = grind (arith, length-joined-le)
 
 good_entry : (g : Geometry) (p : Bool) (f b : ℕ) (o : Option Block) → b < g.blocks → IfSome o IsBlock → AllByRecursion IsSpellable (entry_if p f b o)
 good_entry g true f b (Some content) below is = let most = g.blocks_range.1 in (record { long = is.0; small = omega (arith, below, most) }, tt)
@@ -80,23 +72,9 @@ length-stripe_bytes quota es good most =
       length-replicate {A = ℕ} (quota * entry_size - length (flat_map entry_bytes es)) 0,
     )
 
-length-label : (version : ℕ) (label : Option (List ℕ)) → IfSome label (AreSizedBytes LABEL_SIZE) → length (label_bytes version label) ≡ LABEL_SIZE
-length-label version label is =
-    let by : (b : Bool) → length (if b then unwrap_or label no_label else no_label)
-    ≡ LABEL_SIZE = λ b. elim b as (λ b. length (if b then unwrap_or label no_label else no_label) ≡ LABEL_SIZE) [ true ↦ of_label label is | false ↦ refl ] in
-    by (version == 2)
-  where
-    of_label : (label : Option (List ℕ)) → IfSome label (AreSizedBytes LABEL_SIZE) → length (unwrap_or label no_label) ≡ LABEL_SIZE
-    of_label None is = refl
-    of_label (Some bytes) is = is.0
-
 pub length-volume_piece : (version : ℕ) (g : Geometry) (x : State) → IsMeasured g x → (a v : ℕ) → length (volume_piece version g x a v) ≡ 64
-length-volume_piece version g x is a v = by (x.made (a, v))
-  where
-    by : (b : Bool) → length (if b then 1 ∷ one_if (x.sealed (a, v)) ∷ [] ++ replicate 6 0 ++ little_bytes 8 (file_bits g x a v)
-        ++ label_bytes version (x.labels (a, v)) ++ replicate 16 0 else replicate 64 0) ≡ 64
-    by true = omega (arith, length-append (label_bytes version (x.labels (a, v))) (replicate 16 0), length-label version (x.labels (a, v)) (is.label_content (a, v)))
-    by false = refl
+length-volume_piece version g x is a v =
+    grind (arith, length-append (label_bytes version (x.labels (a, v))) (replicate 16 0))
 
 pub length-piece : (version : ℕ) (g : Geometry) (x : State) → IsMeasured g x → (n : ℕ) → length (piece_of version g x n) ≡ piece_size g n
 length-piece version g x is n = by (part_of g n)

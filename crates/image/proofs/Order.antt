@@ -1,8 +1,7 @@
 -- The entries of a stripe ascend, so any ascending list that holds the same blocks is the same list.
-use Rattle.std.proofs.Common.{◌≡◌, ◌≢◌, ℕ, zero, suc, ◌<◌, Bool, true, false, ◌&&◌, List, Option, Some, None, refl, sym, ◌∙◌, ap, arith, inl, inr, ⊎_elim}
+use Rattle.std.proofs.Common.{◌≡◌, ℕ, zero, suc, ◌<◌, Bool, true, false, ◌&&◌, List, Option, Some, None, refl, sym, ◌∙◌, arith, inl, inr}
 use Rattle.std.specs.Prelude.{◌==◌, if◌then◌else◌}
 use Rattle.std.specs.List.{AllByRecursion}
-use Rattle.std.proofs.lemmas.Bool.{eq-eqb, eqb-true, ne_eqb, cases_eq, and_parts, and_right}
 use Rattle.affinity.specs.Geometry.{stripe_of}
 use Rattle.affinity.specs.declared.geometry.Geometry.{Geometry}
 use Rattle.affinity.proofs.Elements.{all_weaker}
@@ -12,7 +11,7 @@ use Rattle.stripe.specs.Stripe.{BlockEntry, content_at, ComesBefore, IsAscending
 use Rattle.stripe.proofs.EntryOrder.{ascending_same, ascending-append}
 use Rattle.image.specs.Pieces.{stripe_entries, entry_if, joined_below}
 use Rattle.image.proofs.Measures.{all_joined}
-use Rattle.image.proofs.Reading.{entries_hold, none_joined, elsewhere}
+use Rattle.image.proofs.Reading.{entries_hold, none_joined}
 
 -- A list of entries for each number: if entries of a smaller number come before those of a larger, the joined lists ascend.
 module _ (Q : BlockEntry → Type 0) (number : BlockEntry → ℕ) (h : ℕ → List BlockEntry) (of : (n : ℕ) → AllByRecursion (λ e. Q e × (number e ≡ n)) (h n)) (ascend : (n : ℕ) → IsAscending (h n))
@@ -21,9 +20,7 @@ module _ (Q : BlockEntry → Type 0) (number : BlockEntry → ℕ) (h : ℕ → 
   all_small n = all_joined (λ e. Q e × (number e < n)) n h (λ i few. all_weaker (λ e. Q e × (number e ≡ i)) (λ e. Q e × (number e < n)) (λ e is. (is.0, omega (arith, is.1, few))) (h i) (of i))
 
   all_before : (n : ℕ) (ds : List BlockEntry) → AllByRecursion (λ e. Q e × (number e < n)) ds → AllByRecursion (λ d. AllByRecursion (ComesBefore d) (h n)) ds
-  all_before n =
-      all_weaker (λ e. Q e × (number e < n)) (λ d. AllByRecursion (ComesBefore d) (h n))
-      (λ d less. all_weaker (λ e. Q e × (number e ≡ n)) (ComesBefore d) (λ e is. before d e less.0 is.0 (omega (arith, less.1, is.1))) (h n) (of n))
+  all_before n = grind (arith, all_weaker)
 
   pub rows_ascend : (n : ℕ) → IsAscending (joined_below n h)
   rows_ascend zero = tt
@@ -63,28 +60,7 @@ module _ (g : Geometry) (x : State) (a v s : ℕ) where
 -- what the entries of a stripe hold for a given block
 module _ (g : Geometry) (x : State) (is : IsState g x) (a v s f b : ℕ) where
   pub stripe_holds : content_at (stripe_entries g x a v s) f b ≡ (if stripe_of g f b == s then x.blocks (a, v, f, b) else None)
-  stripe_holds =
-      ⊎_elim
-      (λ (same : stripe_of g f b ≡ s).
-      ap (λ (k : ℕ). content_at (stripe_entries g x a v k) f b) (sym same) ∙ entries_hold g x is a v f b
-      ∙ sym (ap (λ (t : Bool). if t then x.blocks (a, v, f, b) else None) (eq-eqb (stripe_of g f b) s same)))
-      (λ (other : stripe_of g f b ≢ s).
-      none_joined f b g.files (λ i. joined_below g.blocks (row g x a v s i)) (λ i few. none_joined f b g.blocks (row g x a v s i) (λ j below. not_here i j other))
-      ∙ sym (ap (λ (t : Bool). if t then x.blocks (a, v, f, b) else None) (ne_eqb (stripe_of g f b) s other)))
-      (cases_eq (stripe_of g f b) s)
-    where
-      not_here : (i j : ℕ) → stripe_of g f b ≢ s → content_at (row g x a v s i j) f b ≡ None
-      not_here i j other = by ((f == i) && (b == j)) refl
-        where
-          by : (t : Bool) → ((f == i) && (b == j)) ≡ t → content_at (row g x a v s i j) f b ≡ None
-          by false off = elsewhere f b (x.files (a, v, i) && (stripe_of g i j == s)) i j (x.blocks (a, v, i, j)) off
-          by true on =
-              let parts = and_parts (f == i) (b == j) on in
-              let file : f ≡ i = eqb-true f i parts.0 in
-              let block : b ≡ j = eqb-true b j parts.1 in
-              let off : (x.files (a, v, i) && (stripe_of g i j == s)) ≡ false = and_right (x.files (a, v, i)) (stripe_of g i j == s)
-              (ne_eqb (stripe_of g i j) s (λ same. other ((λ k. stripe_of g (file k) (block k)) ∙ same))) in
-              ap (λ (t : Bool). content_at (entry_if t i j (x.blocks (a, v, i, j))) f b) off
+  stripe_holds = grind (arith, entries_hold g x is a v f b, none_joined)
 
 -- Entries that ascend and hold the blocks of a stripe are those that spell it.
 pub spelled : {g : Geometry} {x : State} → IsState g x → (a v s : ℕ) (es : List BlockEntry) → IsAscending es

@@ -2,7 +2,6 @@
 use Rattle.std.proofs.Common.{◌≡◌, ◌≢◌, ℕ, zero, suc, ◌+◌, ◌*◌, ◌-◌, ◌/◌, ◌^◌, ◌<◌, ◌≤◌, Bool, true, false, ◌&&◌, List, [], ◌∷◌, ◌++◌, length, take, get_or, replicate, Option, Some, None, is_some, IfSome, refl, sym, ◌∙◌, ap, subst, arith, ◌⊎◌, inl, inr, ⊎_elim, true≢false, mod-lt}
 use Rattle.std.specs.Prelude.{◌==◌, nat_lt, if◌then◌else◌}
 use Rattle.std.specs.List.{flat_map}
-use Rattle.std.specs.Str.{bytes_eq}
 use Rattle.std.proofs.lemmas.Bool.{cases_lt, eq-eqb, ne_eqb, and_parts, and_from, lt-ltb, ltb-true, false_from_ne_true, and_right}
 use Rattle.std.proofs.Math.Nat.{pow-le-pow_right}
 use Rattle.std.proofs.lemmas.List.{take_at}
@@ -21,7 +20,7 @@ use Rattle.stripe.specs.Entries.{entry_bytes, entries_in}
 use Rattle.stripe.specs.Stripe.{BlockEntry, content_at}
 use Rattle.stripe.proofs.EntryBytes.{entries_again}
 use Rattle.image.specs.Pieces.{has_volume, volume_piece_number, volume_piece, stripe_entries, entry_if, joined_below, label_bytes, label_in}
-use Rattle.image.specs.Image.{image_of, decoded_state, image_state, is_image, is_version, version_in, piece_in}
+use Rattle.image.specs.Image.{image_of, decoded_state, image_state, version_in, piece_in}
 use Rattle.image.proofs.Cuts.{volume_again, stripe_again}
 use Rattle.meaning.proofs.FileNumber.{number_small, bits_there}
 use Rattle.image.proofs.Measures.{entries_good, state_is_measured}
@@ -35,11 +34,7 @@ or_else (Some content) other = Some content
 content-append : (f b : ℕ) (xs ys : List BlockEntry) → content_at (xs ++ ys) f b ≡ or_else (content_at xs f b) (content_at ys f b)
 unfolding or_else
 content-append f b [] ys = refl
-content-append f b (e ∷ xs) ys =
-    elim ((f == e.file) && (b == e.block)) as (λ t. (if t then Some e.content else content_at (xs ++ ys) f b) ≡ or_else (if t then Some e.content else content_at xs f b) (content_at ys f b)) [
-      | true ↦ refl
-      | false ↦ content-append f b xs ys
-    ]
+content-append f b (e ∷ xs) ys = grind (arith, content-append f b xs ys)
 
 none_or : (o : Option Block) → or_else o None ≡ o
 unfolding or_else
@@ -138,29 +133,13 @@ if_there false o (Some content) same needs = absurd (true≢false (sym (needs re
 
 module _ (g : Geometry) (x : State) (a v : ℕ) where
   pub made_decoded : (version : ℕ) → (get_or (volume_piece version g x a v) 0 0 == 1) ≡ x.made (a, v)
-  made_decoded version = by (x.made (a, v))
-    where
-      by : (t : Bool) → (get_or (if t then 1 ∷ one_if (x.sealed (a, v)) ∷ [] ++ replicate 6 0 ++ little_bytes 8 (file_bits g x a v)
-          ++ label_bytes version (x.labels (a, v)) ++ replicate 16 0 else replicate 64 0) 0 0 == 1) ≡ t
-      by true = refl
-      by false = refl
+  made_decoded version = grind arith
 
   pub sealed_decoded : (version : ℕ) → (get_or (volume_piece version g x a v) 1 0 == 1) ≡ (x.made (a, v) && x.sealed (a, v))
-  sealed_decoded version = by (x.made (a, v)) (x.sealed (a, v))
-    where
-      by : (t u : Bool) → (get_or (if t then 1 ∷ one_if u ∷ [] ++ replicate 6 0 ++ little_bytes 8 (file_bits g x a v)
-          ++ label_bytes version (x.labels (a, v)) ++ replicate 16 0 else replicate 64 0) 1 0 == 1) ≡ (t && u)
-      by true true = refl
-      by true false = refl
-      by false u = refl
+  sealed_decoded version = grind arith
 
   pub number_decoded : (version : ℕ) → slice (volume_piece version g x a v) 8 8 ≡ little_bytes 8 (if x.made (a, v) then file_bits g x a v else 0)
-  number_decoded version = by (x.made (a, v))
-    where
-      by : (t : Bool) → slice (if t then 1 ∷ one_if (x.sealed (a, v)) ∷ [] ++ replicate 6 0 ++ little_bytes 8 (file_bits g x a v)
-          ++ label_bytes version (x.labels (a, v)) ++ replicate 16 0 else replicate 64 0) 8 8 ≡ little_bytes 8 (if t then file_bits g x a v else 0)
-      by true = refl
-      by false = refl
+  number_decoded version = grind arith
 
   label_there : (label : List ℕ) → length label ≡ LABEL_SIZE → x.made (a, v) ≡ true → x.labels (a, v) ≡ Some label → slice (volume_piece 2 g x a v) 16 LABEL_SIZE ≡ label
   label_there label long made has =
@@ -179,20 +158,10 @@ module _ (g : Geometry) (x : State) (is : IsState g x) where
       volume_again g k.0 k.1 (ltb-true k.0 g.aggregates parts.0) (ltb-true k.1 g.volumes parts.1) 2 x (state_is_measured g x is)
 
   made_again : (k : VolumeKey) → (decoded_state 2 g (image_of 2 g x)).made k ≡ x.made k
-  made_again k =
-      and_there (has_volume g k) _ (x.made k)
-      (λ there. ap (λ (l : List ℕ). get_or l 0 0 == 1) (volume_decoded k there) ∙ made_decoded g x k.0 k.1 2)
-      (has k)
+  made_again k = grind (arith, made_decoded g x k.0 k.1 2, has k, volume_decoded)
 
   sealed_again : (k : VolumeKey) → (decoded_state 2 g (image_of 2 g x)).sealed k ≡ x.sealed k
-  sealed_again k =
-      and_there (has_volume g k) _ (x.sealed k)
-      (λ there. ap (λ (l : List ℕ). get_or l 1 0 == 1) (volume_decoded k there) ∙ sealed_decoded g x k.0 k.1 2 ∙ both (x.made k) (x.sealed k) (is.sealed k))
-      (λ e. has k (is.sealed k e))
-    where
-      both : (t u : Bool) → (u ≡ true → t ≡ true) → (t && u) ≡ u
-      both true u needs = refl
-      both false u needs = sym (false_from_ne_true u (λ e. true≢false (sym (needs e))))
+  sealed_again k = grind (arith, sealed_decoded g x k.0 k.1 2, and_there, volume_decoded)
 
   files_again : (k : FileKey) → (decoded_state 2 g (image_of 2 g x)).files k ≡ x.files k
   files_again k =
@@ -246,32 +215,11 @@ module _ (g : Geometry) (x : State) (is : IsState g x) where
       by false (Some label) made has_one = absurd (true≢false (sym (ap (λ (o : Option (List ℕ)). is_some o) has_one) ∙ is.labels k ∙ made))
 
   pub decoded_again : decoded_state 2 g (image_of 2 g x) ≡ x
-  decoded_again = λ i. record {
-    made = λ k. made_again k i;
-    sealed = λ k. sealed_again k i;
-    files = λ k. files_again k i;
-    blocks = λ k. blocks_again k i;
-    labels = λ k. labels_again k i;
-  }
+  decoded_again = grind (arith, made_again, sealed_again, files_again, blocks_again, labels_again)
 
   pub read_again : image_state g (image_of 2 g x) ≡ Some x
-  read_again =
-      let same = (bytes_eq-Decides (image_of 2 g x) (image_of 2 g (decoded_state 2 g (image_of 2 g x)))).1 (ap (image_of 2 g) (sym decoded_again)) in
-      ap (λ (t : Bool). if t then Some (decoded_state 2 g (image_of 2 g x)) else None) same ∙ ap (λ (y : State). Some y) decoded_again
+  read_again = grind (arith, bytes_eq-Decides (image_of 2 g x) (image_of 2 g (decoded_state 2 g (image_of 2 g x))), decoded_again)
 
 -- bytes that are read as a state are its image
 pub spelling : (g : Geometry) (bytes : List ℕ) (x : State) → image_state g bytes ≡ Some x → bytes ≡ image_of (version_in bytes) g x
-spelling g bytes x is = by (is_image g bytes) refl is
-  where
-    by : (t : Bool) → is_image g bytes ≡ t → (if t then Some (decoded_state (version_in bytes) g bytes) else None) ≡ Some x → bytes ≡ image_of (version_in bytes) g x
-    by false off same = absurd (none_is_not_some same)
-      where
-        none_is_not_some : None ≡ Some x → ⊥
-        none_is_not_some e = cc
-    by true on same =
-        let parts = and_parts (is_version (version_in bytes)) (bytes_eq bytes (image_of (version_in bytes) g (decoded_state (version_in bytes) g bytes))) on in
-        let spelled = (bytes_eq-Decides bytes (image_of (version_in bytes) g (decoded_state (version_in bytes) g bytes))).0 parts.1 in
-        spelled ∙ ap (image_of (version_in bytes) g) (one_value same)
-      where
-        one_value : Some (decoded_state (version_in bytes) g bytes) ≡ Some x → decoded_state (version_in bytes) g bytes ≡ x
-        one_value e = cc
+spelling g bytes x is = grind (arith, bytes_eq-Decides bytes (image_of (version_in bytes) g (decoded_state (version_in bytes) g bytes)))

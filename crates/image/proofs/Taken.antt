@@ -1,17 +1,17 @@
 -- Pieces that are taken in one after the other decode to the same state as all at once.
-use Rattle.std.proofs.Common.{◌≡◌, ◌≢◌, ℕ, zero, suc, ◌+◌, ◌<◌, ◌≤◌, Bool, true, false, ◌&&◌, List, replicate, Option, None, refl, sym, ◌∙◌, ap, arith, ⊎_elim, true≢false}
+use Rattle.std.proofs.Common.{◌≡◌, ◌≢◌, ℕ, zero, suc, ◌+◌, ◌<◌, ◌≤◌, Bool, true, false, ◌&&◌, List, replicate, Option, None, refl, sym, ◌∙◌, ap, arith, true≢false}
 use Rattle.std.specs.Prelude.{◌==◌, nat_lt, if◌then◌else◌}
-use Rattle.std.proofs.lemmas.Bool.{cases_lt, and_parts, and_from, lt-ltb, ltb-true, eqb-true, eq-eqb, false_from_ne_true}
+use Rattle.std.proofs.lemmas.Bool.{and_from, lt-ltb, eqb-true, eq-eqb}
 use Rattle.stripe.proofs.EntryBytes.{none_there}
-use Rattle.meaning.proofs.SubtreeLaws.{same_and, same_if}
+use Rattle.meaning.proofs.SubtreeLaws.{same_if}
 use Rattle.affinity.specs.Geometry.{stripe_of}
 use Rattle.affinity.specs.declared.geometry.Geometry.{Geometry}
 use Rattle.affinity.proofs.Placed.{group_below}
-use Rattle.meaning.specs.State.{State, VolumeKey, BlockKey, empty, is_volume, is_block_of}
+use Rattle.meaning.specs.State.{VolumeKey, BlockKey, empty, is_volume, is_block_of}
 use Rattle.stripe.specs.Stripe.{content_at}
 use Rattle.image.specs.Pieces.{pieces_of_volume, piece_count, piece_size, aggregate_of, volume_of, part_of, volume_piece_number, stripe_piece_number, has_volume, is_made_in, is_sealed_in, has_file_in, label_in, block_in, decoded_by, with_piece, with_part}
 use Rattle.image.specs.Image.{piece_in, decoded_before}
-use Rattle.image.proofs.Numbers.{part_there, size_there, aggregate_there, volume_there, number_there, in_volumes, in_aggregates}
+use Rattle.image.proofs.Numbers.{part_there, size_there, aggregate_there, volume_there, number_there, in_aggregates}
 use Rattle.meaning.proofs.FileNumber.{bits_there}
 use Rattle.image.proofs.Decoded.{is_volume_there}
 
@@ -24,27 +24,19 @@ module _ (g : Geometry) (pieces : ℕ → List ℕ) (n i : ℕ) where
   first_there less = ap (λ (t : Bool). if t then pieces i else replicate (piece_size g i) 0) (lt-ltb i n less)
 
   pub first_behind : n ≤ i → first_of g pieces n i ≡ replicate (piece_size g i) 0
-  first_behind no_less = ap (λ (t : Bool). if t then pieces i else replicate (piece_size g i) 0)
-      (false_from_ne_true (nat_lt i n) (λ on. let less = ltb-true i n on in omega (arith, less, no_less)))
+  first_behind no_less = grind arith
 
   pub no_block_in_zeros : (f b : ℕ) → n ≤ i → block_in g (first_of g pieces n i) f b ≡ None
   no_block_in_zeros f b behind = ap (λ (l : List ℕ). block_in g l f b) (first_behind behind) ∙ ap (λ es. content_at es f b) (none_there g.quota (piece_size g i))
 
 -- with one more piece the others are as before
 first_more : (g : Geometry) (pieces : ℕ → List ℕ) (n i : ℕ) → i ≢ n → first_of g pieces n i ≡ first_of g pieces (suc n) i
-first_more g pieces n i other =
-    ⊎_elim
-    (λ (less : i < n). first_there g pieces n i less ∙ sym (first_there g pieces (suc n) i (omega (arith, less))))
-    (λ (no_less : n ≤ i). first_behind g pieces n i no_less ∙ sym (first_behind g pieces (suc n) i (omega (arith, no_less, other))))
-    (cases_lt i n)
+first_more g pieces n i other = grind arith
 
 -- ---- zeros decode to nothing
 
 pub zeros_of_volume : (g : Geometry) (pieces : ℕ → List ℕ) (n a v : ℕ) → n ≤ volume_piece_number g a v → first_of g pieces n (volume_piece_number g a v) ≡ replicate 64 0
-zeros_of_volume g pieces n a v behind =
-    let first : volume_piece_number g a v ≡ volume_piece_number g a v + 0 = omega arith in
-    let size : piece_size g (volume_piece_number g a v) ≡ 64 = ap (piece_size g) first ∙ size_there g a v 0 (omega arith) in
-    first_behind g pieces n (volume_piece_number g a v) behind ∙ ap (λ (k : ℕ). replicate k 0) size
+zeros_of_volume g pieces n a v behind = grind (arith, size_there g a v 0 (omega arith))
 
 -- ---- a field that is decoded where its volume is there
 
@@ -76,23 +68,16 @@ none_before version g pieces = λ i. record {
 module _ (version : ℕ) (g : Geometry) (pieces : ℕ → List ℕ) (n : ℕ) (below : n < piece_count g) where
   -- the key of the volume of piece n
   same_volume : (k : VolumeKey) → is_volume (aggregate_of g n) (volume_of g n) k ≡ true → (aggregate_of g n ≡ k.0) × (volume_of g n ≡ k.1)
-  same_volume k on =
-      let parts = and_parts (aggregate_of g n == k.0) (volume_of g n == k.1) on in
-      (eqb-true (aggregate_of g n) k.0 parts.0, eqb-true (volume_of g n) k.1 parts.1)
+  same_volume k on = grind arith
 
   pub its_volume : has_volume g (aggregate_of g n, volume_of g n) ≡ true
-  its_volume = and_from _ _ (lt-ltb (aggregate_of g n) g.aggregates (in_aggregates g n below))
-      (lt-ltb (volume_of g n) g.volumes (in_volumes g n))
+  its_volume = grind (arith, in_aggregates g n below)
 
   there_is : (k : VolumeKey) → is_volume (aggregate_of g n) (volume_of g n) k ≡ true → has_volume g k ≡ true
   there_is k on = let same = same_volume k on in sym (λ i. has_volume g (same.0 i, same.1 i)) ∙ its_volume
 
   now_there : (k : VolumeKey) (p : ℕ) → is_volume (aggregate_of g n) (volume_of g n) k ≡ true → part_of g n ≡ p → first_of g pieces (suc n) (volume_piece_number g k.0 k.1 + p) ≡ pieces n
-  now_there k p on part =
-      let same = same_volume k on in
-      let number : volume_piece_number g k.0 k.1 + p ≡ n =
-      sym (λ i. volume_piece_number g (same.0 i) (same.1 i) + part i) ∙ number_there g n in
-      ap (first_of g pieces (suc n)) number ∙ first_there g pieces (suc n) n (omega arith)
+  now_there k p on part = grind (arith, same_volume k on, number_there g n)
 
   -- with piece n, other parts of a volume are as before
   other_part : (a v p : ℕ) → p < pieces_of_volume g → part_of g n ≢ p → first_of g pieces n (volume_piece_number g a v + p) ≡ first_of g pieces (suc n) (volume_piece_number g a v + p)
@@ -125,8 +110,7 @@ module _ (version : ℕ) (g : Geometry) (pieces : ℕ → List ℕ) (n : ℕ) (b
       by : (t : Bool) → is_volume (aggregate_of g n) (volume_of g n) k ≡ t → (if t then F (pieces n) else (has_volume g k && F (first_of g pieces n (volume_piece_number g k.0 k.1))))
           ≡ (has_volume g k && F (first_of g pieces (suc n) (volume_piece_number g k.0 k.1)))
       by true on = sym (λ i. there_is k on i && F ((sym (first_number (suc n) k) ∙ now_there k 0 on part) i))
-      by false off = same_and (has_volume g k) _ _
-          (λ there. ap F (sym (first_number n k) ∙ other_volume k 0 (omega arith) off there ∙ first_number (suc n) k))
+      by false off = grind (arith, first_number n k, first_number (suc n) k, other_volume)
 
   label_decoded : (k : VolumeKey) → part_of g n ≡ 0 → (if is_volume (aggregate_of g n) (volume_of g n) k then label_in version (pieces n) else
       (if has_volume g k then label_in version (first_of g pieces n (volume_piece_number g k.0 k.1)) else None))
@@ -137,8 +121,7 @@ module _ (version : ℕ) (g : Geometry) (pieces : ℕ → List ℕ) (n : ℕ) (b
           (if has_volume g k then label_in version (first_of g pieces n (volume_piece_number g k.0 k.1)) else None))
           ≡ (if has_volume g k then label_in version (first_of g pieces (suc n) (volume_piece_number g k.0 k.1)) else None)
       by true on = sym (λ i. if there_is k on i then label_in version ((sym (first_number (suc n) k) ∙ now_there k 0 on part) i) else None)
-      by false off = same_if (has_volume g k) _ _
-          (λ there. ap (label_in version) (sym (first_number n k) ∙ other_volume k 0 (omega arith) off there ∙ first_number (suc n) k))
+      by false off = grind (arith, first_number n k, first_number (suc n) k, other_volume)
 
   block_decoded : (s : ℕ) (k : BlockKey) → part_of g n ≡ suc s → (if is_block_of (aggregate_of g n) (volume_of g n) k && (stripe_of g k.2 k.3 == s) then block_in g (pieces n) k.2 k.3 else
       (if has_volume g (k.0, k.1) then block_in g
@@ -196,6 +179,4 @@ module _ (version : ℕ) (g : Geometry) (pieces : ℕ → List ℕ) (n : ℕ) (b
 -- what the first n pieces decode to, taken in one after the other
 pub taken : (version : ℕ) (g : Geometry) (bytes : List ℕ) (n : ℕ) → n ≤ piece_count g → decoded_before version g bytes n ≡ decoded_by version g (first_of g (piece_in g bytes) n)
 taken version g bytes zero few = none_before version g (piece_in g bytes)
-taken version g bytes (suc n) few =
-    ap (λ (x : State). with_piece version g x n (piece_in g bytes n)) (taken version g bytes n (omega (arith, few)))
-    ∙ one_more_piece version g (piece_in g bytes) n few
+taken version g bytes (suc n) few = grind (arith, taken version g bytes n (omega (arith, few)), one_more_piece version g (piece_in g bytes) n few)

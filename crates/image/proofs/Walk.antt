@@ -1,5 +1,6 @@
 -- An image is read piece by piece, and what is read is a state.
-use Rattle.std.proofs.Common.{◌≡◌, ℕ, suc, ◌+◌, ◌<◌, ◌≤◌, Bool, true, false, ◌↔◌, List, drop, Option, Some, None, is_some, refl, sym, ◌∙◌, ap, subst, arith, ⊎_elim, true≢false, length-take, length-drop}
+use Rattle.std.proofs.lemmas.Bool.Decides.{nat_tests}
+use Rattle.std.proofs.Common.{◌≡◌, ℕ, suc, ◌+◌, ◌<◌, ◌≤◌, Bool, true, false, ◌↔◌, List, drop, Some, None, is_some, refl, sym, ◌∙◌, ap, subst, arith, ⊎_elim, true≢false, length-take, length-drop}
 use Rattle.std.specs.Prelude.{if◌then◌else◌}
 use Rattle.std.specs.Str.{bytes_eq}
 use Rattle.std.proofs.lemmas.Bool.{cases_lt, and_parts, and_from}
@@ -17,7 +18,7 @@ use Rattle.meaning.specs.State.{State, VolumeKey, IsState}
 use Rattle.image.specs.Pieces.{pieces_of_volume, piece_count, piece_at, piece_size, piece_of, aggregate_of, volume_of, part_of, volume_piece_number, has_volume, is_made_in, is_sealed_in, has_file_in, label_in, block_in, decoded_by, stripe_piece_number}
 use Rattle.image.specs.Image.{image_head, image_of, image_state, is_image, is_version, has_head, version_in, piece_in, decoded_state, decoded_before, is_good, AreGood}
 use Rattle.image.proofs.Agreeing.{piece_same, zero_piece, if_none}
-use Rattle.image.proofs.Cuts.{is_piece, piece_again}
+use Rattle.image.proofs.Cuts.{piece_again}
 use Rattle.image.proofs.Joining.{by_pieces, sum_grows}
 use Rattle.image.proofs.Numbers.{number_there}
 use Rattle.image.proofs.Decoded.{is_volume_there, is_measured, is_state}
@@ -78,16 +79,12 @@ module _ (version : ℕ) (g : Geometry) (bytes : List ℕ) where
       part : (k : VolumeKey) (p : ℕ) → p < pieces_of_volume g → has_volume g k ≡ true
           → first_of g (piece_in g bytes) (piece_count g) (volume_piece_number g k.0 k.1 + p)
           ≡ piece_in g bytes (volume_piece_number g k.0 k.1 + p)
-      part k p few there =
-          let within = is_volume_there g k there in
-          first_there g (piece_in g bytes) (piece_count g) (volume_piece_number g k.0 k.1 + p) (is_piece g k.0 k.1 within.0 within.1 p few)
+      part k p few there = grind (arith, nat_tests, is_volume_there g k there)
 
       first : (k : VolumeKey) → has_volume g k ≡ true
           → first_of g (piece_in g bytes) (piece_count g) (volume_piece_number g k.0 k.1)
           ≡ piece_in g bytes (volume_piece_number g k.0 k.1)
-      first k there =
-          let same : volume_piece_number g k.0 k.1 + 0 ≡ volume_piece_number g k.0 k.1 = omega arith in
-          sym (ap (first_of g (piece_in g bytes) (piece_count g)) same) ∙ part k 0 (omega arith) there ∙ ap (piece_in g bytes) same
+      first k there = grind (arith, part k 0 (omega arith) there)
 
 module _ (g : Geometry) (bytes : List ℕ) where
   pub good_is_seen : (n : ℕ) → n < piece_count g
@@ -152,10 +149,4 @@ module _ (g : Geometry) (bytes : List ℕ) where
           )
 
   pub read_is_a_state : AreSizedBytes (piece_at g (piece_count g)) bytes → (x : State) → image_state g bytes ≡ Some x → IsState g x
-  read_is_a_state are x is =
-      let good = read_is_good are (ap (λ (o : Option State). is_some o) is) in
-      subst (IsState g) (one_value (sym (good_is_read are good.0 good.1) ∙ is)) (first_are_a_state are (piece_count g) (omega arith) good.1)
-    where
-      one_value : Some (decoded_before (version_in bytes) g bytes (piece_count g)) ≡ Some x
-          → decoded_before (version_in bytes) g bytes (piece_count g) ≡ x
-      one_value e = cc
+  read_is_a_state are x is = grind (arith, read_is_good, good_is_read, first_are_a_state)
