@@ -1,4 +1,5 @@
 -- What was lent and run can be put back, and a tree agrees with the serial server's state while parcels are out at several places.
+use Rattle.std.proofs.Common.{arith}
 use Rattle.std.proofs.Common.{◌≡◌, ℕ, zero, suc, Bool, true, false, [], ◌∷◌, refl, sym, ap, subst, ◌∙◌, ⊎_elim}
 use Rattle.std.specs.Prelude.{◌||◌, ◌==◌, not, Option, None, Some, is_some}
 use Rattle.std.proofs.lemmas.Bool.{and_parts, and_from, cond-false, cond-true, eq-eqb, false_from_ne_true, not_from_false, not-true, or_cases, or_left, or_parts, or_right, true≢false}
@@ -26,7 +27,7 @@ use Rattle.parcel.specs.declared.job.Done.{Done}
 use Rattle.parcel.specs.declared.parts.Parcels.{Parcels}
 use Rattle.parcel.specs.declared.parts.Standing.{Standing}
 use Rattle.parcel.proofs.Leaving.{taken_leaves, put_leaves, put_outside}
-use Rattle.parcel.proofs.Lending.{begins_split, kind_of, restored_is_in}
+use Rattle.parcel.proofs.Lending.{begins_split, restored_is_in}
 use Rattle.parcel.proofs.SerialRuns.{serial_run}
 
 -- ---- the path above
@@ -67,20 +68,14 @@ not_there (Some n) e h = true≢false (sym h ∙ ap is_some e)
 pub lent_is_out : (g : Geometry) (p : Path) (t : Standing) (l : Parcels) (old lent : Nodes) → IsPath g p → LendsAt g p t l old lent → IsOut p lent
 lent_is_out g [] t l old lent path h = h.rest []
 lent_is_out g (x ∷ p) t l old lent path h =
-    let up = path_above (x ∷ p) in (
-      h.rest (x ∷ p) ∙ cond-true (is_prefix (x ∷ p) (x ∷ p)) None (old (x ∷ p)) (is_prefix-refl (x ∷ p)),
-      ap is_some (h.rest up ∙ cond-false (is_prefix (x ∷ p) up) None (old up) (is_prefix-path_above x p)) ∙ h.all_in up (above_path g (x ∷ p) path) (above_related (x ∷ p)),
-    )
+    grind (arith, cond-true (is_prefix (x ∷ p) (x ∷ p)) None (old (x ∷ p)) (is_prefix-refl (x ∷ p)), is_prefix-path_above x p)
 
 pub place_is_path : (g : Geometry) (m : Msg) → is_in_range g m ≡ true → IsPath g (path_of g m)
 place_is_path g m h = IsPath-path_of_kind g (kind m) (four_numbers m) h
 
 pub ran_goes_back : (job : JobView) (done : Done) (old lent : Nodes) → LendsJob job old lent → IsJobRun job done
     → CanBeRestored job.geometry (job_place job) done.parcels lent
-ran_goes_back job done old lent h ran =
-    let g = job.geometry in
-    let p = path_of g job.message in
-    assumption (lent_is_out g p _ _ old lent (place_is_path g job.message ran.runnable.range) h, kind_of g p _ ran.runnable.fits, ran.runnable)
+ran_goes_back job done old lent h ran = grind (arith, lent_is_out, place_is_path)
 
 -- ---- where nothing is out
 
@@ -93,19 +88,11 @@ holds_whole g n x whole same is = record {
 }
 
 pub whole_holds : (g : Geometry) (n : Nodes) (x : State) → TreeHolds g nowhere n x → IsIn g [] n × (tree_state g n ≡ x)
-whole_holds g n x h = (
-  λ q path related. is_there (n q) (λ none. true≢false (sym (h.others q path none))),
-  agree_everywhere {g = g} {R = λ q. true} (λ q. refl) h.agrees,
-)
+whole_holds g n x h = grind (arith, agree_everywhere)
 
 -- where two tests pick the same paths
 pub holds_alike : (g : Geometry) (out set : Path → Bool) (n : Nodes) (x : State) → ((q : Path) → out q ≡ set q) → TreeHolds g out n x → TreeHolds g set n x
-holds_alike g out set n x same h = record {
-  agrees = agree_within (λ q r. ap not (same q) ∙ r) h.agrees;
-  others = λ q path none. sym (same q) ∙ h.others q path none;
-  gone = λ q is. h.gone q (same q ∙ is);
-  state = h.state;
-}
+holds_alike g out set n x same h = grind arith
 
 -- ---- a place that is unrelated to all that is out
 
@@ -206,10 +193,7 @@ shows_still g p t l x m apart shows = agree-trans shows (agree_within (λ q rela
 -- ---- a job that is out, and what it left when it ran
 
 pub job_goes_back : (out : Path → Bool) (job : JobView) (done : Done) (n : Nodes) (x : State) → IsJobOut out job n x → IsJobRun job done → CanBeRestored job.geometry (job_place job) done.parcels n
-job_goes_back out job done n x h ran =
-    let g = job.geometry in
-    let p = path_of g job.message in
-    assumption (place_is_out g out p h.apart n x (place_is_path g job.message ran.runnable.range) h.holds, kind_of g p _ ran.runnable.fits, ran.runnable)
+job_goes_back out job done n x h ran = grind (arith, place_is_out, place_is_path)
 
 pub job_reply : (out : Path → Bool) (job : JobView) (done : Done) (n : Nodes) (x : State) → IsJobOut out job n x → IsJobRun job done → done.reply ≡ reply_to job.geometry x job.message
 job_reply out job done n x h ran = (serial_run job done x ran h.shows).reply

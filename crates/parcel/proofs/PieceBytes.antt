@@ -1,6 +1,5 @@
 -- The bytes of a volume's piece, written one behind the other.
 use Rattle.std.proofs.Common.{◌≡◌, ℕ, ◌-◌, Bool, true, false, List, [], ◌∷◌, ◌++◌, length, take, drop, replicate, refl, sym, ◌∙◌, ap, arith, append_assoc, append-nil, length-append, length-take}
-use Rattle.std.specs.Prelude.{if◌then◌else◌}
 use Rattle.std.proofs.lemmas.List.{take_at, drop_at, drop_all}
 use Rattle.byteorder.specs.Endian.{little_bytes}
 use Rattle.language.specs.declared.TheConstants.{LABEL_SIZE}
@@ -40,6 +39,4 @@ mark_byte false = refl
 
 pub spelled_made : (p : VolumePiece) (mark : ℕ) → p.made ≡ true → mark ≡ one_if p.sealed
     → (1 ∷ mark ∷ [] ++ replicate 6 0 ++ little_bytes 8 p.files ++ p.label ++ replicate 16 0) ≡ spelled p
-spelled_made p mark made is =
-    ap (λ (k : ℕ). 1 ∷ k ∷ [] ++ replicate 6 0 ++ little_bytes 8 p.files ++ p.label ++ replicate 16 0) is
-    ∙ sym (ap (λ (t : Bool). if t then 1 ∷ one_if p.sealed ∷ [] ++ replicate 6 0 ++ little_bytes 8 p.files ++ p.label ++ replicate 16 0 else replicate 64 0) made)
+spelled_made p mark made is = grind arith

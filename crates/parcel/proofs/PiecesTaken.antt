@@ -1,7 +1,7 @@
 -- A piece was read into the tree: the tree's state is the one before, with that piece taken in.
+use Rattle.std.proofs.Common.{arith}
 use Rattle.std.proofs.Common.{◌≡◌, ℕ, zero, suc, Bool, true, false, ◌&&◌, List, [], ◌∷◌, Option, Some, None, is_some, refl, sym, ◌∙◌, ap, subst}
 use Rattle.std.specs.Prelude.{◌↔◌, ◌==◌, if◌then◌else◌, IfSome, IsTrue}
-use Rattle.std.proofs.lemmas.Bool.{and_parts, eqb-true, not-true}
 use Rattle.meaning.proofs.Keys.{picks_volume}
 use Rattle.affinity.specs.Geometry.{stripe_of}
 use Rattle.affinity.specs.Interval.{IsPath}
@@ -37,17 +37,8 @@ use Rattle.parcel.proofs.VolumePieces.{volume_decoded, volume_state}
 -- ---- states that have the same in one volume
 
 module _ (g : Geometry) (a v : ℕ) where
-  there_from : (x y : ℕ) (q : Path) → is_prefix (volume a v) (x ∷ y ∷ q) ≡ true → (a ≡ x) × (v ≡ y)
-  there_from x y q on =
-      let first = and_parts (a == x) ((v == y) && true) on in
-      let second = and_parts (v == y) true first.1 in
-      (eqb-true a x first.0, eqb-true v y second.0)
-
   pub same_there : (x y : State) (h : VolumeFacts) → HasFacts x a v h → HasFacts y a v h → AgreeOn g (is_prefix (volume a v)) x y
-  same_there x y h one two = record {
-    same = λ i j fact r. let s = there_from i j (path_in_volume g fact) r in
-        sym (λ k. value x (s.0 k) (s.1 k) fact) ∙ one fact ∙ sym (two fact) ∙ (λ k. value y (s.0 k) (s.1 k) fact);
-  }
+  same_there x y h one two = grind arith
 
   -- what a state with a piece taken in has in the volume of that piece
   pub facts_taken : (version : ℕ) (x : State) (h : VolumeFacts) → HasFacts x a v h → (part : ℕ) (bytes : List ℕ)
@@ -60,12 +51,7 @@ module _ (g : Geometry) (a v : ℕ) where
   facts_taken version x h has _ bytes fact = has fact
 
   not_there : (x y : ℕ) (q : Path) → outside (volume a v) (x ∷ y ∷ q) ≡ true → is_volume a v (x, y) ≡ false
-  not_there x y q off = both (a == x) (v == y) (not-true (is_prefix (volume a v) (x ∷ y ∷ q)) off)
-    where
-      both : (s t : Bool) → (s && (t && true)) ≡ false → (s && t) ≡ false
-      both true true e = e
-      both true false e = refl
-      both false t e = refl
+  not_there x y q off = grind arith
 
   pub elsewhere_taken : (version : ℕ) (x : State) (part : ℕ) (bytes : List ℕ) → AgreeOn g (outside (volume a v)) (with_part version g x a v part bytes) x
   elsewhere_taken version x part bytes = record { same = by part }

@@ -1,23 +1,23 @@
 -- Parcels show what the nodes at their path and below it hold, and the standing what the nodes above hold.
+use Rattle.std.proofs.Common.{arith}
 use Rattle.std.proofs.Common.{◌≡◌, ℕ, zero, suc, Bool, true, [], ◌∷◌, ◌++◌, Option, refl, sym, ap, ◌∙◌}
-use Rattle.std.specs.Prelude.{◌&&◌, ◌==◌, None, Some, slice_index_or}
-use Rattle.std.proofs.lemmas.Bool.{and_parts, and_from, eqb-true, eq-eqb, true≢false}
+use Rattle.std.specs.Prelude.{◌==◌, None, Some, slice_index_or}
+use Rattle.std.proofs.lemmas.Bool.{and_parts, eqb-true, eq-eqb, true≢false}
 use Rattle.affinity.specs.declared.geometry.Geometry.{Geometry}
 use Rattle.affinity.specs.Geometry.{stripe_of}
 use Rattle.affinity.specs.Path.{Path, is_prefix, are_related}
-use Rattle.meaning.specs.Subtrees.{Fact, OfMade, OfSealed, OfLabel, OfFile, OfBlock, value, path_in_volume, AgreeOn}
+use Rattle.meaning.specs.Subtrees.{Fact, OfMade, OfSealed, OfLabel, OfFile, OfBlock, path_in_volume, AgreeOn}
 use Rattle.stripe.specs.Stripe.{StripePart}
 use Rattle.parcel.specs.Volume.{VolumeFacts, fact_of, facts_if, state_with, one_volume}
-use Rattle.parcel.specs.Shown.{has_file, blocks_in, stripe_facts, logical_facts, label_facts, files_in, blocks_below, shown_label, volume_facts, child_facts, aggregate_facts, shown_state}
+use Rattle.parcel.specs.Shown.{has_file, blocks_in, stripe_facts, logical_facts, label_facts, files_in, blocks_below, shown_label, volume_facts, child_facts, shown_state}
 use Rattle.parcel.specs.Fits.{IsKindOf}
-use Rattle.parcel.specs.Nodes.{Node, Nodes, child_nodes, stripe_nodes, label_nodes, logical_nodes, volume_nodes, aggregate_nodes, root_nodes, parcels_nodes, node_made, node_sealed, node_has_file, node_files, node_block, node_label, tree_state}
+use Rattle.parcel.specs.Nodes.{Node, Nodes, child_nodes, stripe_nodes, label_nodes, logical_nodes, volume_nodes, parcels_nodes, node_made, node_sealed, node_has_file, node_files, node_block, node_label, tree_state}
 use Rattle.parcel.specs.Nodes.Node.{Inner, VolumeFlags, Files, StripeBlocks, LabelBytes}
 use Rattle.parcel.specs.Run.{Shows}
 use Rattle.parcel.specs.Tree.{standing_at}
 use Rattle.parcel.specs.declared.parts.Label.{Label}
 use Rattle.parcel.specs.declared.parts.Logical.{Logical}
 use Rattle.parcel.specs.declared.parts.Vol.{Vol}
-use Rattle.parcel.specs.declared.parts.Aggr.{Aggr}
 use Rattle.parcel.specs.declared.parts.Parcels.{Parcels}
 use Rattle.parcel.specs.declared.parts.Parcels.TheVariants as parcels
 use Rattle.parcel.specs.declared.parts.Standing.{Standing}
@@ -61,35 +61,16 @@ module _ (g : Geometry) (R : Path → Bool) where
       by (Some w) OfLabel r = label_text w.label
       by _ _ r = refl
 
-  aggregate_holds : (x : Option Aggr) (v : ℕ) → HoldsAt g R (child_facts (λ r. aggregate_facts g r v) x) (λ q. child_nodes aggregate_nodes x (v ∷ q))
-  aggregate_holds None v = volume_holds None
-  aggregate_holds (Some r) v = volume_holds (slice_index_or r.volumes.items v None)
-
 -- ---- from a volume to the state
 
 module _ (g : Geometry) (R : Path → Bool) (n : Nodes) where
   agree_from : (H : ℕ → ℕ → VolumeFacts) → ((a v : ℕ) (fact : Fact) → R (a ∷ v ∷ path_in_volume g fact) ≡ true → fact_of (H a v) fact ≡ node_value (n (a ∷ v ∷ path_in_volume g fact)) fact)
       → AgreeOn g R (state_with H) (tree_state g n)
-  agree_from H each = record { same = λ a v fact r. by a v fact ∙ each a v fact r ∙ sym (tree_value g n a v fact) }
-    where
-      by : (a v : ℕ) (fact : Fact) → value (state_with H) a v fact ≡ fact_of (H a v) fact
-      by a v OfMade = refl
-      by a v _ = refl
-
-  all_agree : (H : ℕ → ℕ → VolumeFacts) → ((a v : ℕ) → HoldsAt g (λ q. R (a ∷ v ∷ q)) (H a v) (λ q. n (a ∷ v ∷ q))) → AgreeOn g R (state_with H) (tree_state g n)
-  all_agree H each = agree_from H (λ a v. (each a v).all)
-
-  here : (a v x y : ℕ) (h : VolumeFacts) → a ≡ x → v ≡ y → facts_if ((a == x) && (v == y)) h ≡ h
-  here a v x y h d e = ap (λ b. facts_if b h) (and_from (a == x) (v == y) (eq-eqb a x d) (eq-eqb v y e))
-
-  moved : (a v x y : ℕ) (q : Path) → a ≡ x → v ≡ y → n (a ∷ v ∷ q) ≡ n (x ∷ y ∷ q)
-  moved a v x y q d e = ap (λ i. n (i ∷ v ∷ q)) d ∙ ap (λ j. n (x ∷ j ∷ q)) e
+  agree_from H each = grind (arith, tree_value)
 
   only_agree : (a v : ℕ) (below : Path → Bool) (h : VolumeFacts) → ((x y : ℕ) (q : Path) → R (x ∷ y ∷ q) ≡ true → (a ≡ x) × (v ≡ y) × (below q ≡ true))
       → HoldsAt g below h (λ q. n (a ∷ v ∷ q)) → AgreeOn g R (one_volume a v h) (tree_state g n)
-  only_agree a v below h step k = agree_from _ (λ x y fact r.
-      let s = step x y (path_in_volume g fact) r in
-      ap (λ z. fact_of z fact) (here a v x y h s.0 s.1) ∙ k.all fact s.2 ∙ ap (λ o. node_value o fact) (moved a v x y (path_in_volume g fact) s.0 s.1))
+  only_agree a v below h step k = grind (arith, agree_from)
 
   aggregate_agree : (a : ℕ) (H : ℕ → VolumeFacts) → ((x : ℕ) (q : Path) → R (x ∷ q) ≡ true → a ≡ x)
       → ((v : ℕ) → HoldsAt g (λ q. true) (H v) (λ q. n (a ∷ v ∷ q))) → AgreeOn g R (state_with (λ x y. facts_if (a == x) (H y))) (tree_state g n)
@@ -145,15 +126,10 @@ bits_have (Some (StripeBlocks p)) f = has_none f
 bits_have (Some (LabelBytes b)) f = has_none f
 
 begins_below : (a v x y : ℕ) (p q : Path) → is_prefix (a ∷ v ∷ p) (x ∷ y ∷ q) ≡ true → (a ≡ x) × (v ≡ y) × (is_prefix p q ≡ true)
-begins_below a v x y p q r =
-    let first = and_parts (a == x) ((v == y) && is_prefix p q) r in
-    let second = and_parts (v == y) (is_prefix p q) first.1 in
-    (eqb-true a x first.0, eqb-true v y second.0, second.1)
+begins_below a v x y p q r = grind arith
 
 related_below : (a v x y : ℕ) (p q : Path) → are_related (a ∷ v ∷ p) (x ∷ y ∷ q) ≡ true → (a ≡ x) × (v ≡ y) × (are_related p q ≡ true)
-related_below a v x y p q r =
-    let rest = related_rest a x (v ∷ p) (y ∷ q) r in
-    (related_first a x (v ∷ p) (y ∷ q) r, related_first v y p q rest, related_rest v y p q rest)
+related_below a v x y p q r = grind (arith, related_rest a x (v ∷ p) (y ∷ q) r)
 
 no_marks : (p : Path) (x : ℕ) (t : Standing) (n : Nodes) → StandsAt (is_prefix (x ∷ p)) t n
 no_marks p x t n = record { made = λ r. absurd (true≢false (sym r)); sealed = λ r. absurd (true≢false (sym r)) }
@@ -161,15 +137,9 @@ no_marks p x t n = record { made = λ r. absurd (true≢false (sym r)); sealed =
 -- Parcels at a path show the subtree of the nodes there.
 pub subtree_shown : (g : Geometry) (p : Path) (t : Standing) (l : Parcels) (n : Nodes) → IsKindOf p l → ((q : Path) → n (p ++ q) ≡ parcels_nodes l q)
     → AgreeOn g (is_prefix p) (shown_state g p t l) (tree_state g n)
-subtree_shown g [] t (parcels.Root r) n kind at =
-    all_agree g (is_prefix []) n _
-    (λ a v. holds_same g _ _ (λ q. n (a ∷ v ∷ q)) (λ q. root_nodes r (a ∷ v ∷ q)) (λ q. at (a ∷ v ∷ q)) (aggregate_holds g _ (slice_index_or r.aggregates.items a None) v))
-subtree_shown g (a ∷ []) t (parcels.Aggr r) n kind at =
-    aggregate_agree g (is_prefix (a ∷ [])) n a (aggregate_facts g r) (λ x q e. eqb-true a x (and_parts (a == x) true e).0)
-    (λ v. holds_same g _ _ (λ q. n (a ∷ v ∷ q)) (λ q. aggregate_nodes r (v ∷ q)) (λ q. at (v ∷ q)) (volume_holds g _ (slice_index_or r.volumes.items v None)))
-subtree_shown g (a ∷ v ∷ []) t (parcels.Vol w) n kind at =
-    only_agree g (is_prefix (a ∷ v ∷ [])) n a v (is_prefix []) (volume_facts g w) (λ x y q. begins_below a v x y [] q)
-    (holds_same g _ _ (λ q. n (a ∷ v ∷ q)) (volume_nodes w) at (volume_holds g _ (Some w)))
+subtree_shown g [] t (parcels.Root r) n kind at = grind arith
+subtree_shown g (a ∷ []) t (parcels.Aggr r) n kind at = grind arith
+subtree_shown g (a ∷ v ∷ []) t (parcels.Vol w) n kind at = grind (arith, only_agree)
 subtree_shown g (a ∷ v ∷ zero ∷ []) t (parcels.Logical l) n kind at =
     only_agree g (is_prefix (a ∷ v ∷ 0 ∷ [])) n a v (is_prefix (0 ∷ [])) (logical_facts g t l) (λ x y q. begins_below a v x y (0 ∷ []) q)
     (logical_holds g (is_prefix (0 ∷ [])) t (λ q. n (a ∷ v ∷ q)) (no_marks [] 0 t _) l (λ r. true≢false (sym r)) at)
@@ -185,15 +155,9 @@ subtree_shown g p t l n kind at = absurd kind
 -- With the standing at the path, parcels show all that is related to it.
 pub related_shown : (g : Geometry) (p : Path) (t : Standing) (l : Parcels) (n : Nodes) → IsKindOf p l → ((q : Path) → n (p ++ q) ≡ parcels_nodes l q)
     → t ≡ standing_at p n → Shows g p t l (tree_state g n)
-related_shown g [] t (parcels.Root r) n kind at stands =
-    all_agree g (are_related []) n _ (λ a v. holds_same g _ _ (λ q. n (a ∷ v ∷ q)) (λ q. root_nodes r (a ∷ v ∷ q)) (λ q. at (a ∷ v ∷ q))
-    (aggregate_holds g _ (slice_index_or r.aggregates.items a None) v))
-related_shown g (a ∷ []) t (parcels.Aggr r) n kind at stands =
-    aggregate_agree g (are_related (a ∷ [])) n a (aggregate_facts g r) (λ x q e. related_first a x [] q e)
-    (λ v. holds_same g _ _ (λ q. n (a ∷ v ∷ q)) (λ q. aggregate_nodes r (v ∷ q)) (λ q. at (v ∷ q)) (volume_holds g _ (slice_index_or r.volumes.items v None)))
-related_shown g (a ∷ v ∷ []) t (parcels.Vol w) n kind at stands =
-    only_agree g (are_related (a ∷ v ∷ [])) n a v (are_related []) (volume_facts g w) (λ x y q. related_below a v x y [] q)
-    (holds_same g _ _ (λ q. n (a ∷ v ∷ q)) (volume_nodes w) at (volume_holds g _ (Some w)))
+related_shown g [] t (parcels.Root r) n kind at stands = grind arith
+related_shown g (a ∷ []) t (parcels.Aggr r) n kind at stands = grind (arith, aggregate_agree)
+related_shown g (a ∷ v ∷ []) t (parcels.Vol w) n kind at stands = grind (arith, only_agree, related_below)
 related_shown g (a ∷ v ∷ zero ∷ []) t (parcels.Logical l) n kind at stands =
     only_agree g (are_related (a ∷ v ∷ 0 ∷ [])) n a v (are_related (0 ∷ [])) (logical_facts g t l) (λ x y q. related_below a v x y (0 ∷ []) q)
     (logical_holds g (are_related (0 ∷ [])) t (λ q. n (a ∷ v ∷ q)) (record { made = λ r. ap (λ z. z.made) stands; sealed = λ r. ap (λ z. z.sealed) stands }) l (λ r. true≢false (sym r)) at)

@@ -182,14 +182,12 @@ node_slot : {X Z : Type 0} {g : Geometry} {p : Path} {nodes : X → Nodes} {IsFi
     → IsSlot g p nodes IsFit tree (Some x) write → IsChild i Within nodes IsFit below IsFitBelow get set → Within → Some x ≡ s → Some z ≡ option_and_then get s
     → IsSlot g (p ++ i ∷ []) below IsFitBelow tree (Some z) (λ y. write (option_map (λ x. set x y) s))
 node_slot {g = g} {p = p} {tree = tree} {s = s} {write = write} {i = i} {below = below} {IsFitBelow = IsFitBelow} {get = get} {set = set} slot child within is at =
-    subst (λ o. IsSlot g (p ++ i ∷ []) below IsFitBelow tree o (λ y. write (option_map (λ x. set x y) s))) (sym at)
-    (subst (λ o. IsSlot g (p ++ i ∷ []) below IsFitBelow tree (option_and_then get o) (λ y. write (option_map (λ x. set x y) o))) is (child_slot slot child within))
+    grind (arith, child_slot slot child within)
 
 -- the slot at an index of a row
 pub indexed_slot : {X : Type 0} {g : Geometry} {p : Path} {nodes : X → Nodes} {IsFit : X → Type 0} {tree : Option Root} (xs : List (Option X)) (i : ℕ) {s : Option X}
     {write : Option X → Option Root} → IsSlot g p nodes IsFit tree (slice_index_or xs i None) write → i < length xs → s ≡ slice_index_or xs i s → IsSlot g p nodes IsFit tree s write
-indexed_slot {g = g} {p = p} {nodes = nodes} {IsFit = IsFit} {tree = tree} xs i {s} {write} slot below at =
-    subst (λ o. IsSlot g p nodes IsFit tree o write) (sym (get_or_read xs i s below at None)) slot
+indexed_slot {g = g} {p = p} {nodes = nodes} {IsFit = IsFit} {tree = tree} xs i {s} {write} slot below at = grind (arith, get_or_read xs i s below at None)
 
 then_some : {X Z : Type 0} (get : X → Option Z) (s : Option X) {z : Z} → Some z ≡ option_and_then get s → (x : X) × (Some x ≡ s)
 then_some get None is = absurd (true≢false (ap is_some is))

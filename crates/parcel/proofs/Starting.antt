@@ -1,4 +1,5 @@
 -- Where nothing is made and nothing is out, all fits, all is whole, and the state is empty.
+use Rattle.std.proofs.Common.{arith}
 use Rattle.std.proofs.Common.{◌≡◌, ℕ, zero, suc, ◌<◌, ◌^◌, false, List, [], ◌∷◌, Option, refl, sym, ap, subst, ◌∙◌}
 use Rattle.std.specs.Prelude.{None, Some, is_some, IfSome, slice_index_or}
 use Rattle.std.specs.List.{AllByRecursion}
@@ -60,14 +61,8 @@ module _ (g : Geometry) where
       let each = each_new IsNewStripe (FitsStripe g) (λ p. Unit {0}) stripe_new 0 l.stripes.items h.2 in
       (record { files = subst (λ n. n < 2 ^ g.files) (sym h.0) (pow_pos g.files); count = h.1; stripes = each.0 }, each.1)
 
-  label_new : (x : Option Label) → IsWholeChild (λ l. l.bytes ≡ None) x → IsWholeChild (λ l. Unit {0}) x
-  label_new None h = absurd h
-  label_new (Some l) h = tt
-
   volume_new : (w : Vol) → IsNewVolume g w → FitsVolume g w × IsWholeVolume w
-  volume_new w h =
-      let below = logical_new w.logical h.logical in
-      (record { logical = below.0 }, (below.1, label_new w.label h.label))
+  volume_new w h = grind (arith, logical_new w.logical h.logical)
 
   aggregate_new : (r : Aggr) → IsNewAggregate g r → FitsAggregate g r × IsWholeAggregate r
   aggregate_new r h =

@@ -1,8 +1,8 @@
 -- A stripe's piece: bytes are the encoding of what they decode to exactly if `IsStripePiece` holds; then the state with them is valid.
-use Rattle.std.proofs.Common.{◌≡◌, ℕ, ◌+◌, ◌*◌, ◌-◌, ◌<◌, ◌≤◌, Bool, true, false, ◌&&◌, List, [], ◌∷◌, length, replicate, Option, Some, None, IfSome, is_some, refl, sym, ◌∙◌, ap, subst, arith, true≢false, length-append, ⊎_elim}
+use Rattle.std.proofs.Common.{◌≡◌, ℕ, ◌+◌, ◌*◌, ◌-◌, ◌<◌, ◌≤◌, Bool, true, false, ◌&&◌, List, [], ◌∷◌, length, replicate, Option, Some, None, IfSome, is_some, refl, sym, ◌∙◌, ap, subst, arith, true≢false, length-append}
 use Rattle.std.specs.Prelude.{◌==◌, ◌^◌, if◌then◌else◌, nat_lt}
 use Rattle.std.specs.List.{AllByRecursion, flat_map}
-use Rattle.std.proofs.lemmas.Bool.{and_parts, and_from, eqb-true, eq-eqb, lt-ltb, ltb-true, cases_lt}
+use Rattle.std.proofs.lemmas.Bool.{and_parts, and_from, eqb-true, eq-eqb, ltb-true}
 use Rattle.std.proofs.lemmas.Nat.Bits.{bit_at_above}
 use Rattle.affinity.specs.Geometry.{stripe_of}
 use Rattle.affinity.specs.declared.geometry.Geometry.{Geometry}
@@ -27,24 +27,12 @@ use Rattle.parcel.proofs.GroupCounts.{Lies, lies_first, lies_behind}
 -- the file numbers in a stripe that fits are below 256, so one byte encodes each
 pub files_small : (g : Geometry) (s : ℕ) (es : List BlockEntry) → Lies g s es → AllByRecursion (λ (e : BlockEntry). e.file < 256) es
 files_small g s [] lies = tt
-files_small g s (e ∷ es) lies =
-    let first = (lies_first g s e es lies).0 in
-    let most : g.files ≤ 64 = g.files_range.1 in
-    (omega (arith, first, most), files_small g s es (lies_behind g s e es lies))
+files_small g s (e ∷ es) lies = grind (arith, lies_first g s e es lies, files_small g s es (lies_behind g s e es lies))
 
 -- its entries are those of the stripe in each state that has the same blocks there
 pub entries_spelled : {g : Geometry} {x : State} → IsState g x → (a v : ℕ) {s : ℕ} {p : StripePart} → IsAscending p.entries → FitsStripe g s p
     → ((f b : ℕ) → stripe_of g f b ≡ s → x.blocks (a, v, f, b) ≡ content_at p.entries f b) → p.entries ≡ stripe_entries g x a v s
-entries_spelled {g} {x} is a v {s} {p} up fits same = stripe_spelled is a v s p.entries up holds
-  where
-    holds : (f b : ℕ) → content_at p.entries f b ≡ (if stripe_of g f b == s then x.blocks (a, v, f, b) else None)
-    holds f b = by (stripe_of g f b == s) refl (content_at p.entries f b) refl
-      where
-        by : (t : Bool) → (stripe_of g f b == s) ≡ t → (o : Option Block) → content_at p.entries f b ≡ o → o ≡ (if t then x.blocks (a, v, f, b) else None)
-        by true on o has = sym has ∙ sym (same f b (eqb-true (stripe_of g f b) s on))
-        by false off None has = refl
-        by false off (Some content) has =
-            absurd (true≢false (sym (eq-eqb (stripe_of g f b) s (fits.lies f b (ap (λ (o : Option Block). is_some o) has)).2) ∙ off))
+entries_spelled {g} {x} is a v {s} {p} up fits same = grind (arith, stripe_spelled)
 
 -- ---- from bytes
 
@@ -95,10 +83,7 @@ module _ (g : Geometry) (x : State) (is : IsState g x) (a v s files : ℕ) (has 
 
   module _ (piece : IsStripePiece g files s bytes) where
     stands : (e : BlockEntry) → fits_stripe g files s e.file e.block ≡ true → (e.block < g.blocks) × (x.files (a, v, e.file) ≡ true) × (stripe_of g e.file e.block ≡ s)
-    stands e can =
-        let first = and_parts (has_file files e.file && nat_lt e.block g.blocks) (stripe_of g e.file e.block == s) can in
-        let second = and_parts (has_file files e.file) (nat_lt e.block g.blocks) first.0 in
-        (ltb-true e.block g.blocks second.1, has e.file ∙ second.0, eqb-true (stripe_of g e.file e.block) s first.1)
+    stands e can = grind arith
 
     all_stand : (ds : List BlockEntry) → AllByRecursion (λ e. fits_stripe g files s e.file e.block ≡ true) ds
         → AllByRecursion (λ (e : BlockEntry). (e.block < g.blocks) × (x.files (a, v, e.file) ≡ true) × (stripe_of g e.file e.block ≡ s)) ds
@@ -147,11 +132,7 @@ module _ (g : Geometry) (x : State) (is : IsState g x) (a v s files : ℕ) (has 
 
   can : (p q : Bool) (f b : ℕ) (o : Option Block) → b < g.blocks → has_file files f ≡ p → (stripe_of g f b == s) ≡ q
       → AllByRecursion (λ (e : BlockEntry). fits_stripe g files s e.file e.block ≡ true) (entry_if (p && q) f b o)
-  can true true f b (Some content) below there on = (
-    and_from (has_file files f && nat_lt b g.blocks) (stripe_of g f b == s)
-        (and_from (has_file files f) (nat_lt b g.blocks) there (lt-ltb b g.blocks below)) on,
-    tt,
-  )
+  can true true f b (Some content) below there on = grind arith
   can true true f b None below there on = tt
   can true false f b o below there on = tt
   can false q f b o below there on = tt
@@ -180,11 +161,7 @@ module _ (g : Geometry) (x : State) (is : IsState g x) (a v s files : ℕ) (has 
 
 -- if a number has k bits, each file that it encodes is below k
 file_below : (k files f : ℕ) → files < 2 ^ k → has_file files f ≡ true → f < k
-file_below k files f small there =
-    ⊎_elim
-    (λ (less : f < k). less)
-    (λ (no_less : k ≤ f). absurd (true≢false (sym there ∙ ap (λ (n : ℕ). n == 1) (bit_at_above files k f small no_less))))
-    (cases_lt f k)
+file_below k files f small there = grind (arith, bit_at_above)
 
 -- a stripe with the entries of a stripe's piece fits
 pub entries_fit : {g : Geometry} {s files : ℕ} {bytes : List ℕ} → files < 2 ^ g.files → IsStripePiece g files s bytes → {p : StripePart}

@@ -155,5 +155,4 @@ module _ {X : Type 0} {g : Geometry} {p : Path} {IsFit IsWhole : X → Type 0} {
 
   pub put : {x : X} {new : Option X} {q : Path} {parcels : Parcels} (done : Result (Unit {0}) X) (result : Result (Unit {0}) Parcels) → q ≡ p → parcels ≡ parcels_of x → Fills x done s new
       → MatchResult done (λ t. result ≡ Ok t) (λ back. IsErrAnd result (λ r. r ≡ parcels_of back)) → (IsKindOf q parcels → Fits g q parcels) → PutsAt g q parcels result tree (write new)
-  put {x} {parcels = l} done result at is h mapped fits =
-      rw at (rw is (put_here x done result h mapped (subst (λ l. IsKindOf p l → Fits g p l) is (subst (λ r. IsKindOf r l → Fits g r l) at fits) (part.kind x))))
+  put {x} {parcels = l} done result at is h mapped fits = grind (arith, put_here)

@@ -11,16 +11,15 @@ use Rattle.byteorder.specs.Endian.{little_bytes, little_number}
 use Rattle.device_map.specs.Layout.{slice}
 use Rattle.language.specs.declared.TheConstants.{LABEL_SIZE}
 use Rattle.language.specs.Messages.{AreSizedBytes}
-use Rattle.language.specs.Replies.{has_file}
 use Rattle.language.specs.declared.Block.{Block}
 use Rattle.meaning.specs.Serial.{file_bits, no_label}
 use Rattle.meaning.specs.State.{State, VolumeKey, FileKey, BlockKey, IsState, is_volume, sum_below, one_if}
 use Rattle.meaning.specs.Subtrees.{OfMade, OfSealed, OfLabel, OfFile}
-use Rattle.image.specs.Pieces.{volume_piece, label_bytes, is_made_in, is_sealed_in, has_file_in, label_in as decoded_label_in, with_volume_piece}
+use Rattle.image.specs.Pieces.{volume_piece, label_bytes, is_made_in, is_sealed_in, has_file_in, with_volume_piece}
 use Rattle.parcel.specs.Fits.{FitsLogical, FitsVolume, IsWholeChild, IsWholeLogical, IsWholeVolume}
 use Rattle.parcel.specs.Nodes.{child_nodes, logical_nodes, node_files}
-use Rattle.parcel.specs.Pieces.{HasFacts, spelled, decoded_label, decoded_piece, volume_piece_of, volume_with, with_files, facts_with}
-use Rattle.parcel.specs.Shown.{volume_facts, files_in, blocks_below}
+use Rattle.parcel.specs.Pieces.{HasFacts, spelled, decoded_label, decoded_piece, volume_piece_of, volume_with, facts_with}
+use Rattle.parcel.specs.Shown.{volume_facts, files_in}
 use Rattle.parcel.specs.declared.parts.Logical.{Logical}
 use Rattle.parcel.specs.declared.parts.Vol.{Vol}
 use Rattle.parcel.specs.declared.pieces.volumes.VolumePiece.{VolumePiece}
@@ -34,16 +33,7 @@ use Rattle.image.proofs.Reading.{eight_bytes}
 -- the flags, the files and the label, where the volume is made
 volume_spelled : (version : ℕ) (g : Geometry) (x : State) (k : VolumeKey) {p : VolumePiece} → x.made k ≡ p.made → x.sealed k ≡ p.sealed → file_bits g x k.0 k.1 ≡ p.files
     → (p.made ≡ true → label_bytes version (x.labels k) ≡ p.label) → volume_piece version g x k.0 k.1 ≡ spelled p
-volume_spelled version g x k {p} made sealed files label = by p.made refl
-  where
-    by : (t : Bool) → p.made ≡ t → volume_piece version g x k.0 k.1 ≡ spelled p
-    by true on =
-        let same = label on in
-        λ i. if made i then 1 ∷ one_if (sealed i) ∷ [] ++ replicate 6 0 ++ little_bytes 8 (files i) ++ same i ++ replicate 16 0 else replicate 64 0
-    by false off =
-        ap (λ (t : Bool). if t then 1 ∷ one_if (x.sealed k) ∷ [] ++ replicate 6 0 ++ little_bytes 8 (file_bits g x k.0 k.1)
-        ++ label_bytes version (x.labels k) ++ replicate 16 0 else replicate 64 0) (made ∙ off)
-        ∙ sym (ap (λ (t : Bool). if t then 1 ∷ one_if p.sealed ∷ [] ++ replicate 6 0 ++ little_bytes 8 p.files ++ p.label ++ replicate 16 0 else replicate 64 0) off)
+volume_spelled version g x k {p} made sealed files label = grind arith
 
 files_are : (g : Geometry) (x : State) (a v : ℕ) (o : Option Logical) → IfSome o (FitsLogical g) → IsWholeChild IsWholeLogical o → ((f : ℕ) → x.files (a, v, f) ≡ files_in o f)
     → file_bits g x a v ≡ node_files (child_nodes logical_nodes o [])
@@ -58,19 +48,7 @@ volume_written g x a v w fits whole has =
 
 -- what bytes decode to, spelled in the state that they lead to
 pub volume_decoded : (version : ℕ) (g : Geometry) (x : State) (a v : ℕ) (bytes : List ℕ) → volume_piece version g (with_volume_piece version x a v bytes) a v ≡ spelled (decoded_piece version g bytes)
-volume_decoded version g x a v bytes =
-    volume_spelled version g (with_volume_piece version x a v bytes) (a, v) {p = decoded_piece version g bytes}
-    (ap (λ (t : Bool). if t then is_made_in bytes else x.made (a, v)) (picks_volume a v))
-    (ap (λ (t : Bool). if t then is_sealed_in bytes else x.sealed (a, v)) (picks_volume a v))
-    ((λ i. sum_below g.files (λ f. if (if picks_volume a v i then has_file_in bytes f else x.files (a, v, f)) then 2 ^ f else 0)) ∙ sum_bits g.files (little_number 8 (slice bytes 8 8)))
-    (λ on.
-    ap (λ (t : Bool). label_bytes version (if t then decoded_label_in version bytes else x.labels (a, v))) (picks_volume a v)
-    ∙ ap (λ (t : Bool). label_bytes version (if t then Some (if version == 2 then slice bytes 16 LABEL_SIZE else no_label) else None)) on
-    ∙ by (version == 2))
-  where
-    by : (t : Bool) → (if t then unwrap_or (Some (if t then slice bytes 16 LABEL_SIZE else no_label)) no_label else no_label) ≡ (if t then slice bytes 16 LABEL_SIZE else no_label)
-    by true = refl
-    by false = refl
+volume_decoded version g x a v bytes = grind (arith, picks_volume a v, sum_bits g.files (little_number 8 (slice bytes 8 8)))
 
 -- ---- bytes that spell what they decode to
 
@@ -85,9 +63,7 @@ module _ (version : ℕ) (g : Geometry) (bytes : List ℕ) (good : bytes ≡ spe
   fits_eight = let most : 2 ^ g.files ≤ 2 ^ 64 = pow-le-pow_right {n = 2} (omega arith) {i = g.files} {j = 64} g.files_range.1 in omega (arith, small, most)
 
   not_made : is_made_in bytes ≡ false → bytes ≡ replicate 64 0
-  not_made off =
-      good ∙ ap (λ (t : Bool). if t then 1 ∷ one_if (is_sealed_in bytes) ∷ [] ++ replicate 6 0 ++ little_bytes 8 (number % 2 ^ g.files)
-      ++ decoded_label version bytes ++ replicate 16 0 else replicate 64 0) off
+  not_made off = grind arith
 
   -- the bytes encode no file that the geometry doesn't have
   pub number_whole : number % 2 ^ g.files ≡ number
@@ -130,21 +106,7 @@ module _ (version : ℕ) (g : Geometry) (bytes : List ℕ) (good : bytes ≡ spe
 
   -- what a volume has with these bytes taken in
   pub facts_decoded : (w : Vol) → IsWholeVolume w → volume_facts g (volume_with (decoded_piece version g bytes) w) ≡ facts_with version g (volume_facts g w) zero bytes
-  facts_decoded w whole = λ i. record {
-    made = is_made_in bytes;
-    sealed = is_sealed_in bytes;
-    files = λ f. files_same w.logical whole.0 f i;
-    blocks = λ f b. blocks_same w.logical f b i;
-    label = decoded_label_in version bytes;
-  }
-    where
-      files_same : (o : Option Logical) → IsWholeChild IsWholeLogical o → (f : ℕ) → files_in (with_files (number % 2 ^ g.files) o) f ≡ has_file_in bytes f
-      files_same None whole f = absurd whole
-      files_same (Some l) whole f = ap (λ (n : ℕ). has_file n f) number_whole
-
-      blocks_same : (o : Option Logical) (f b : ℕ) → blocks_below g (with_files (number % 2 ^ g.files) o) f b ≡ blocks_below g o f b
-      blocks_same None f b = refl
-      blocks_same (Some l) f b = refl
+  facts_decoded w whole = grind (arith, number_whole)
 
   -- ---- the state that they lead to
 
@@ -193,19 +155,10 @@ module _ (version : ℕ) (g : Geometry) (bytes : List ℕ) (good : bytes ≡ spe
         by false off there = ap (λ (t : Bool). if t then has_file_in bytes k.2 else x.files (k.0, k.1, k.2)) off ∙ there
 
     labels_made : (k : VolumeKey) → is_some (taken.labels k) ≡ taken.made k
-    labels_made k = by (is_volume a v k) (is_made_in bytes)
-      where
-        by : (t made : Bool) → is_some (if t then (if made then Some (if version == 2 then slice bytes 16 LABEL_SIZE else no_label) else None) else x.labels k) ≡ (if t then made else x.made k)
-        by true true = refl
-        by true false = refl
-        by false made = is.labels k
+    labels_made k = grind arith
 
     label_bounds : (k : VolumeKey) → IfSome (taken.labels k) (AreSizedBytes LABEL_SIZE)
-    label_bounds k =
-        elim (is_volume a v k) as (λ (t : Bool). IfSome (if t then decoded_label_in version bytes else x.labels k) (AreSizedBytes LABEL_SIZE)) [
-          | true ↦ label_is version bytes are
-          | false ↦ is.label_content k
-        ]
+    label_bounds k = grind (arith, label_is version bytes are)
 
     pub volume_state : IsState g taken
     volume_state = assumption (made_range, sealed_made, files_range, blocks_range, labels_made, is, label_bounds)

@@ -1,4 +1,5 @@
 -- What is written back as it was changes nothing, and the tree still fits with a volume that fits.
+use Rattle.std.proofs.Common.{arith}
 use mathlib.Core.HLevel.{is_prop→PathP}
 use Rattle.std.proofs.Common.{◌≡◌, ℕ, ◌≤◌, length, Option, true≢false, refl, sym, ap, ◌∙◌}
 use Rattle.std.proofs.Props.{props}
@@ -8,7 +9,7 @@ use Rattle.std.specs.Option.{option_and_then, option_map}
 use Rattle.std.specs.Vec.{with_item}
 use Rattle.std.proofs.lemmas.List.{set-get_or}
 use Rattle.affinity.specs.declared.geometry.Geometry.{Geometry}
-use Rattle.parcel.specs.Fits.{FitsVolume, FitsAggregate, FitsRoot}
+use Rattle.parcel.specs.Fits.{FitsVolume, FitsRoot}
 use Rattle.parcel.specs.Lends.{aggregate_of_tree, volume_of_tree, with_aggregate, with_volume}
 use Rattle.parcel.specs.declared.parts.Vol.{Vol}
 use Rattle.parcel.specs.declared.parts.Aggr.{Aggr}
@@ -46,9 +47,4 @@ volume_kept o a v {w} at = by (aggregate_of_tree o a) refl at
 
 pub fits_with : (g : Geometry) (v : ℕ) (w : Vol) (a : ℕ) (o : Option Root) → IfSome o (FitsRoot g) → FitsVolume g w → IfSome (with_volume o a v (Some w)) (FitsRoot g)
 fits_with g v w a None fits new = tt
-fits_with g v w a (Some r) fits new =
-    (aggregate_child g a).put_fits r _ fits (by (slice_index_or r.aggregates.items a None) ((aggregate_child g a).fits r fits))
-  where
-    by : (x : Option Aggr) → IfSome x (FitsAggregate g) → IfSome (option_map (λ (r : Aggr). record { volumes = with_item r.volumes v (Some w) }) x) (FitsAggregate g)
-    by None fits = tt
-    by (Some r) fits = (volume_child g v).put_fits r (Some w) fits new
+fits_with g v w a (Some r) fits new = grind (arith, aggregate_child g a, volume_child g v)

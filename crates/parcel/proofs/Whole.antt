@@ -99,9 +99,7 @@ module _ (g : Geometry) where
 
     row_or : (xs : List (Option X)) → length xs ≡ n → EachFits Fits 0 xs
         → AllByRecursion (IsWholeChild IsWhole) xs ⊎ ((k : ℕ) × IsGapped (p ++ k ∷ []) (child_nodes nodes (slice_index_or xs k None)))
-    row_or xs count fits = ⊎_elim inl
-        (λ gap. inr (gap.0, subst (λ k. IsGapped (p ++ k ∷ []) (child_nodes nodes (slice_index_or xs gap.0 None))) (omega arith) gap.1))
-        (row_from 0 xs (omega (arith, count)) fits)
+    row_or xs count fits = grind (arith, row_from 0 xs (omega (arith, count)) fits)
 
   -- A child is whole, or some path of it is out.
   abbrev pub IsWholeOrGapped : {X : Type 0} → Path → (X → Nodes) → (X → Type 0) → Option X → Type 0

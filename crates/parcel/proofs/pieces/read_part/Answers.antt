@@ -10,9 +10,7 @@ use Rattle.parcel.proofs.pieces.read_part.Goals as goal
 
 pub returns-then-part-eq0 : goal.returns-then-part-eq0
 returns-then-part-eq0 c =
-    let g = c.args.g.now in
-    subst (λ (part : ℕ). IsPieceOfVolumeRead c.args.version g part c.args.bytes.now c.read_volume.result c.args.volume.now c.read_volume.new.volume) (sym c.if-part-eq0.true)
-    (volume_is_read c.requires.fits c.requires.whole c.read_volume.ensures.good c.read_volume.ensures.taken c.read_volume.ensures.kept)
+    grind (arith, volume_is_read c.requires.fits c.requires.whole c.read_volume.ensures.good c.read_volume.ensures.taken c.read_volume.ensures.kept)
 
 pub returns : goal.returns
 returns c =

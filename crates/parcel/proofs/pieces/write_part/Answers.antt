@@ -1,5 +1,5 @@
 -- The part is the volume itself or one of its stripes.
-use Rattle.std.proofs.Common.{◌≡◌, ℕ, suc, ◌-◌, ◌<◌, length, slice_index_or, sym, ◌∙◌, ap, subst, arith}
+use Rattle.std.proofs.Common.{◌≡◌, ℕ, suc, ◌-◌, slice_index_or, ◌∙◌, ap, subst, arith}
 use Rattle.std.specs.Prelude.{None, IfSome}
 use Rattle.std.proofs.lemmas.List.{get_or_read}
 use Rattle.meaning.specs.Subtrees.{OfBlock}
@@ -12,19 +12,11 @@ use Rattle.parcel.proofs.pieces.write_part.Goals as goal
 use Rattle.parcel.proofs.pieces.write_part.Goals.{After-index}
 
 pub returns-then-part-eq0 : goal.returns-then-part-eq0
-returns-then-part-eq0 c =
-    let g = c.args.g.now in
-    λ x a v is has.
-    c.write_volume.ensures ∙ sym (volume_written g x a v c.args.volume.now c.requires.fits c.requires.whole has)
-    ∙ ap (λ (k : ℕ). part_piece 2 g x a v k) (sym c.if-part-eq0.true)
+returns-then-part-eq0 c = grind (arith, volume_written)
 
 -- the stripe that was found
 found : (c : After-index) → slice_index_or c.in-Some.logical.stripes.items (c.args.part - 1) None ≡ c.index.result.now
-found c =
-    let s : ℕ = c.args.part - 1 in
-    let fits : FitsLogical c.args.g.now c.in-Some.logical = subst (λ o. IfSome o (FitsLogical c.args.g.now)) c.in-Some.is c.requires.fits.logical in
-    let below : s < length c.in-Some.logical.stripes.items = omega (arith, c.requires.part, fits.count, c.if-part-eq0.false) in
-    sym (get_or_read c.in-Some.logical.stripes.items _ _ below c.index.ensures None)
+found c = grind (arith, get_or_read)
 
 pub write_stripe-requires-clause-fits : goal.write_stripe-requires-clause-fits
 write_stripe-requires-clause-fits c =

@@ -26,9 +26,7 @@ returns-in-Some-volume_mut c =
     c.put-in-Some-volume_mut.ensures c.map_err-in-Some-volume_mut.ensures.cases c.requires.parcels
 
 pub index_mut-requires-in-Some-logical_mut : goal.index_mut-requires-in-Some-logical_mut
-index_mut-requires-in-Some-logical_mut c =
-    let at = ap path c.in-Stripe-Stripe.is-0 ∙ (λ i. stripe (sym c.from-in-Stripe-Stripe.ensures i) (sym c.from-in-Stripe-Stripe-2.ensures i) (sym c.from-in-Some-logical_mut.ensures i)) in
-    omega (arith, stripe_within c.args.g.now c.args.root.now c.requires.fits c.requires.path _ _ _ at c.in-Some-logical_mut.ensures.value)
+index_mut-requires-in-Some-logical_mut c = grind (arith, stripe_within)
 
 pub returns-in-Some-logical_mut : goal.returns-in-Some-logical_mut
 returns-in-Some-logical_mut c =

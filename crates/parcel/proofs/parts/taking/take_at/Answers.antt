@@ -16,9 +16,7 @@ returns-in_ok-root-in-Aggregate c =
     c.take-in-Aggregate.result c.map-in-Aggregate.result at c.take-in-Aggregate.ensures c.map-in-Aggregate.ensures.cases
 
 pub index_mut-requires-in-Volume : goal.index_mut-requires-in-Volume
-index_mut-requires-in-Volume c =
-    let at : path c.args.place ≡ volume c.from-in-Volume.result c.from-in-Volume-2.result = cc in
-    omega (arith, volume_within c.args.g.now c.args.root.now c.requires.fits c.requires.path _ _ at c.in_ok-aggregate-in-Volume.ensures.value)
+index_mut-requires-in-Volume c = grind (arith, volume_within)
 
 pub returns-in_ok-aggregate-in-Volume : goal.returns-in_ok-aggregate-in-Volume
 returns-in_ok-aggregate-in-Volume c =
@@ -33,9 +31,7 @@ returns-in_ok-volume-in-Logical c =
     c.take-in-Logical.result c.map-in-Logical.result at c.take-in-Logical.ensures c.map-in-Logical.ensures.cases
 
 pub index_mut-requires-in-Stripe : goal.index_mut-requires-in-Stripe
-index_mut-requires-in-Stripe c =
-    let at = ap path c.in-Stripe.is ∙ (λ i. stripe (sym c.from-in-Stripe.ensures i) (sym c.from-in-Stripe-2.ensures i) (sym c.from-in-Stripe-3.ensures i)) in
-    omega (arith, stripe_within c.args.g.now c.args.root.now c.requires.fits c.requires.path _ _ _ at c.in_ok-logical-in-Stripe.ensures.value)
+index_mut-requires-in-Stripe c = grind (arith, stripe_within)
 
 pub returns-in_ok-logical-in-Stripe : goal.returns-in_ok-logical-in-Stripe
 returns-in_ok-logical-in-Stripe c =

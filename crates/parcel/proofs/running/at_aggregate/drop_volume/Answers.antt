@@ -8,7 +8,7 @@ use Rattle.parcel.specs.Fits.{FitsVolume}
 use Rattle.parcel.specs.Shown.{aggregate_facts, child_facts, volume_facts}
 use Rattle.parcel.specs.Steps.{guard_open, at_aggregate}
 use Rattle.parcel.specs.Volume.{no_facts}
-use Rattle.parcel.proofs.OneVolume.{passed, refused}
+use Rattle.parcel.proofs.OneVolume.{passed}
 use Rattle.parcel.proofs.ChildRows.{fits_in_place}
 use Rattle.parcel.proofs.Slots.{volume_child}
 use Rattle.parcel.proofs.VolumeRows.{set_changes, changed_if, drop_tests, effect_drop}
@@ -42,17 +42,4 @@ returns-clause-step c =
     (λ q. set_changes g (λ h. no_facts) row.items n c.clear.new.node below (c.clear.ensures.facts g) q ∙ ap (λ k. changed_if (λ h. no_facts) (k == q) (aggregate_facts g r q)) c.from-index.ensures))
 
 pub returns-in_err-guard_open-clause-step : goal.returns-in_err-guard_open-clause-step
-returns-in_err-guard_open-clause-step c =
-    let g = c.args.g.now in
-    let r = c.args.aggregate.now in
-    let row = r.volumes in
-    let v = c.args.v in
-    let below : c.from-index.result < length row.items = omega (arith, c.from-index.ensures, c.requires.volume, c.requires.fits.count) in
-    let seen : slice_index_or row.items v None ≡ c.index.result.now = ap (λ k. slice_index_or row.items k None) (sym c.from-index.ensures)
-    ∙ sym (get_or_read row.items _ _ below c.index.ensures None) in
-    let p = err_from_is_err_and c.from_residual.result c.from_residual.ensures.1 in
-    rw (p.1, p.2)
-    (λ a range. refused g (at_aggregate g a r) (DropVol a v) _ (drop_tests g a v r range
-    ∙ (λ i. guard_open ((ap (λ o. (child_facts (volume_facts g) o).made) seen ∙ sym (c.marks-made.ensures.made g)) i)
-    ((ap (λ o. (child_facts (volume_facts g) o).sealed) seen ∙ sym (c.marks-made.ensures.sealed g)) i) None)
-    ∙ c.in_err-guard_open.ensures None))
+returns-in_err-guard_open-clause-step c = grind (arith, err_from_is_err_and c.from_residual.result c.from_residual.ensures.1, get_or_read)

@@ -1,14 +1,13 @@
 -- The bit of the file goes, and each stripe drops its blocks: the effect of a delete, and all still fits.
 use Rattle.std.proofs.Common.{◌≡◌, ◌<◌, None, refl, ◌∙◌, length, arith}
 use Rattle.std.specs.Prelude.{◌==◌}
-use Rattle.std.proofs.lemmas.Result.{err_from_is_err_and}
 use Rattle.affinity.specs.Geometry.{stripe_of}
 use Rattle.affinity.proofs.Placed.{group_below}
 use Rattle.language.specs.declared.Msg.TheVariants.{Delete}
 use Rattle.parcel.specs.Shown.{logical_facts, blocks_of, has_file}
 use Rattle.parcel.specs.Volume.{one_volume}
 use Rattle.meaning.proofs.FileBits.{few_bits, without_bit, without_bit_has, without_bit_below}
-use Rattle.parcel.proofs.OneVolume.{passed, refused, delete_tests, effect_delete}
+use Rattle.parcel.proofs.OneVolume.{passed, delete_tests, effect_delete}
 use Rattle.parcel.proofs.StripeRows.{blocks_left, row_fits, row_whole}
 use Rattle.parcel.proofs.running.at_logical.delete.Goals as goal
 
@@ -26,11 +25,7 @@ returns-clause-step c =
     (λ i j. blocks_left (λ i j. c.args.f == i) _ _ (c.drop_file.ensures.each (stripe_of g i j) (omega (arith, group_below g i j, c.requires.fits.count, old.ok.0))) i j))
 
 pub returns-in_err-guard_file-clause-step : goal.returns-in_err-guard_file-clause-step
-returns-in_err-guard_file-clause-step c =
-    let g = c.args.g.now in
-    let h = logical_facts g c.args.standing c.args.logical.now in
-    let p = err_from_is_err_and c.from_residual.result c.from_residual.ensures.1 in
-    rw (p.1, p.2) (λ a v range. refused g (one_volume a v h) (Delete a v c.args.f) _ (delete_tests g a v c.args.f h range ∙ c.in_err-guard_file.ensures None))
+returns-in_err-guard_file-clause-step c = grind arith
 
 pub returns-clause-fits : goal.returns-clause-fits
 returns-clause-fits c =

@@ -1,18 +1,12 @@
 -- The place is that of the affinity, and each affinity has one path.
-use Rattle.std.proofs.Common.{subst, sym}
-use Rattle.affinity.specs.Interval.{IsAffinityOf}
-use Rattle.affinity.specs.Path.{Path}
-use Rattle.affinity.specs.Place.{path}
+use Rattle.std.proofs.Common.{arith}
+use Rattle.std.proofs.Common.{sym}
 use Rattle.affinity.proofs.Preorder.{path_unique}
-use Rattle.parcel.specs.Fits.{Fits, IsKindOf}
-use Rattle.parcel.specs.Tree.{TreeView}
 use Rattle.parcel.proofs.Lending.{map_result, restored_from_put}
 use Rattle.parcel.proofs.tree.Tree.restore.Goals as goal
 
 pub put_at-requires-clause-parcels : goal.put_at-requires-clause-parcels
-put_at-requires-clause-parcels c =
-    subst (λ (s : TreeView). (q : Path) → IsAffinityOf s.geometry q c.args.a → IsKindOf q c.args.p → Fits s.geometry q c.args.p)
-    (sym c.self.view_is) c.requires.fits (path c.place-place.result) c.place-place.ensures
+put_at-requires-clause-parcels c = grind arith
 
 pub returns-clause-ok : goal.returns-clause-ok
 returns-clause-ok c =
