@@ -48,4 +48,4 @@ unmade version g x a v off = rw off refl
 module _ (version : ℕ) (g : Geometry) (pieces : ℕ → List ℕ) (n i : ℕ) (behind : n ≤ i) where
   pub zero_piece : piece_of version g (decoded_by version g (first_of g pieces n)) i ≡ replicate (piece_size g i) 0
   zero_piece =
-      grind (arith, first_of g pieces n, number_there g i, zeros_of_volume, unmade, first_of, if_none, no_block_in_zeros, entries_same, nothing_joined)
+      grind (arith, number_there g i, zeros_of_volume, no_block_in_zeros, entries_same, nothing_joined)

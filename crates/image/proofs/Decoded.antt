@@ -104,7 +104,7 @@ module _ (version : ℕ) (g : Geometry) (pieces : ℕ → List ℕ)
 
 -- if a number has n bits, each file that it encodes is below n
 bit_within : (n : ℕ) (t : ℕ → Bool) (f : ℕ) → has_file (number_of n t) f ≡ true → f < n
-bit_within n t f on = grind (arith, number_of n t, number_small n t, bit_at_above)
+bit_within n t f on = grind (arith, number_small n t, bit_at_above)
 
 module _ (version : ℕ) (g : Geometry) (pieces : ℕ → List ℕ) (sized : (n : ℕ) → n < piece_count g → AreSizedBytes (piece_size g n) (pieces n))
     (good : (n : ℕ) → n < piece_count g → pieces n ≡ piece_of version g (decoded_by version g pieces) n) where

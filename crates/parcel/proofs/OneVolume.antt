@@ -56,11 +56,6 @@ module _ (g : Geometry) (a v : ℕ) where
 -- ---- effects
 
 module _ (h : VolumeFacts) where
-  -- a part that both have
-  same : {A : Type 0} (part : VolumeFacts → A) (k : VolumeFacts) → part k ≡ part h → (t : Bool) → part (facts_if t k) ≡ part (facts_if t h)
-  same part k e true = e
-  same part k e false = refl
-
   -- the volume gets other blocks, and keeps the rest
   module _ (a v : ℕ) (blocks' : ℕ → ℕ → Option Block) where
     abbrev with_blocks : VolumeFacts

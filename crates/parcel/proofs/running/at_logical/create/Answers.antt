@@ -5,7 +5,7 @@ use Rattle.parcel.proofs.OneVolume.{passed}
 use Rattle.parcel.proofs.running.at_logical.create.Goals as goal
 
 pub returns-clause-step : goal.returns-clause-step
-returns-clause-step c = grind (arith, with_bit c.args.logical.now.files c.args.f, passed, with_bit_has)
+returns-clause-step c = grind (arith, passed, with_bit_has)
 
 pub returns-in_err-guard_open-clause-step : goal.returns-in_err-guard_open-clause-step
 returns-in_err-guard_open-clause-step c = grind arith
