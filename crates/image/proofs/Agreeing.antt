@@ -42,9 +42,6 @@ nothing_joined : (n : ℕ) (h : ℕ → List BlockEntry) → ((i : ℕ) → h i 
 nothing_joined zero h none = refl
 nothing_joined (suc n) h none = λ i. nothing_joined n h none i ++ none n i
 
-unmade : (version : ℕ) (g : Geometry) (x : State) (a v : ℕ) → x.made (a, v) ≡ false → volume_piece version g x a v ≡ replicate 64 0
-unmade version g x a v off = rw off refl
-
 module _ (version : ℕ) (g : Geometry) (pieces : ℕ → List ℕ) (n i : ℕ) (behind : n ≤ i) where
   pub zero_piece : piece_of version g (decoded_by version g (first_of g pieces n)) i ≡ replicate (piece_size g i) 0
   zero_piece =

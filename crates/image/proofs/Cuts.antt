@@ -1,8 +1,7 @@
 -- An image is cut again into the pieces that it was joined of.
-use Rattle.std.proofs.Common.{◌≡◌, ℕ, zero, suc, ◌+◌, ◌*◌, ◌<◌, ◌≤◌, List, [], ◌++◌, length, take, drop, refl, sym, ◌∙◌, ap, subst, arith, ⊎_elim, mul_comm}
+use Rattle.std.proofs.Common.{◌≡◌, ℕ, zero, suc, ◌+◌, ◌*◌, ◌<◌, ◌≤◌, List, [], ◌++◌, length, take, drop, refl, sym, ◌∙◌, ap, subst, arith, ⊎_elim}
 use Rattle.std.proofs.lemmas.Bool.{cases_lt}
 use Rattle.std.proofs.lemmas.List.{take_at, drop_at, drop-drop, append_assoc, append-nil}
-use Rattle.std.proofs.lemmas.Nat.{mul-add-lt}
 use Rattle.affinity.specs.declared.geometry.Geometry.{Geometry}
 use Rattle.meaning.specs.State.{State, sum_below}
 use Rattle.image.specs.Pieces.{pieces_of_volume, piece_count, volume_piece_number, stripe_piece_number, piece_size, piece_of, part_piece, volume_piece, stripe_piece, joined_below}
@@ -41,12 +40,7 @@ piece_again version g x is n below =
 
 module _ (g : Geometry) (a v : ℕ) (in_aggregates : a < g.aggregates) (in_volumes : v < g.volumes) where
   pub is_piece : (p : ℕ) → p < pieces_of_volume g → (a * g.volumes + v) * pieces_of_volume g + p < piece_count g
-  is_piece p part =
-      let volume : a * g.volumes + v < g.volumes * g.aggregates = mul-add-lt a g.volumes v g.aggregates in_aggregates in_volumes in
-      let piece : (a * g.volumes + v) * pieces_of_volume g + p < pieces_of_volume g * (g.volumes * g.aggregates) = mul-add-lt (a * g.volumes + v)
-      (pieces_of_volume g) p (g.volumes * g.aggregates) volume part in
-      subst (λ (k : ℕ). (a * g.volumes + v) * pieces_of_volume g + p < k)
-      (mul_comm (pieces_of_volume g) (g.volumes * g.aggregates) ∙ ap (λ (k : ℕ). k * pieces_of_volume g) (mul_comm g.volumes g.aggregates)) piece
+  is_piece p part = grind arith
 
   pub piece_there : (version : ℕ) (x : State) (p : ℕ) → p < pieces_of_volume g → piece_of version g x ((a * g.volumes + v) * pieces_of_volume g + p) ≡ part_piece version g x a v p
   piece_there version x p part = λ i. part_piece version g x (aggregate_there g a v p part in_volumes i) (volume_there g a v p part in_volumes i) (part_there g a v p part i)

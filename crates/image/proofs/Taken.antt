@@ -98,9 +98,7 @@ module _ (version : ℕ) (g : Geometry) (pieces : ℕ → List ℕ) (n : ℕ) (b
       true≢false (sym on ∙ off))
 
   first_number : (l : ℕ) (k : VolumeKey) → first_of g pieces l (volume_piece_number g k.0 k.1 + 0) ≡ first_of g pieces l (volume_piece_number g k.0 k.1)
-  first_number l k =
-      let same : volume_piece_number g k.0 k.1 + 0 ≡ volume_piece_number g k.0 k.1 = omega arith in
-      ap (first_of g pieces l) same
+  first_number l k = grind arith
 
   mark_decoded : (F : List ℕ → Bool) (k : VolumeKey) → part_of g n ≡ 0 → (if is_volume (aggregate_of g n) (volume_of g n) k then F (pieces n) else
       (has_volume g k && F (first_of g pieces n (volume_piece_number g k.0 k.1))))

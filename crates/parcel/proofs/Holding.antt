@@ -1,12 +1,12 @@
 -- What was lent and run can be put back, and a tree agrees with the serial server's state while parcels are out at several places.
 use Rattle.std.proofs.Common.{arith}
-use Rattle.std.proofs.Common.{◌≡◌, ℕ, zero, suc, Bool, true, false, [], ◌∷◌, refl, sym, ap, subst, ◌∙◌, ⊎_elim}
-use Rattle.std.specs.Prelude.{◌||◌, ◌==◌, not, Option, None, Some, is_some}
-use Rattle.std.proofs.lemmas.Bool.{and_parts, and_from, cond-false, cond-true, eq-eqb, false_from_ne_true, not_from_false, not-true, or_cases, or_left, or_parts, or_right, true≢false}
+use Rattle.std.proofs.Common.{◌≡◌, Bool, true, false, [], ◌∷◌, refl, sym, ap, subst, ◌∙◌, ⊎_elim}
+use Rattle.std.specs.Prelude.{◌||◌, not, Option, None, Some, is_some}
+use Rattle.std.proofs.lemmas.Bool.{cond-false, cond-true, false_from_ne_true, not_from_false, not-true, or_cases, or_left, or_parts, or_right, true≢false}
 use Rattle.affinity.specs.declared.geometry.Geometry.{Geometry}
 use Rattle.affinity.specs.Interval.{IsPath}
 use Rattle.affinity.specs.Path.{Path, is_prefix, are_related}
-use Rattle.affinity.proofs.Paths.{is_prefix-refl, unrelated_below, unrelated_turned}
+use Rattle.affinity.proofs.Paths.{unrelated_below, unrelated_turned}
 use Rattle.affinity.proofs.Placed.{IsPath-path_of_kind}
 use Rattle.language.specs.declared.Msg.{Msg}
 use Rattle.language.specs.Messages.{path_of, is_in_range, kind, four_numbers, IsMessage}
@@ -14,7 +14,7 @@ use Rattle.meaning.specs.State.{State, IsState}
 use Rattle.meaning.specs.Serial.{reply_to, next_state}
 use Rattle.meaning.specs.Subtrees.{AgreeOn}
 use Rattle.meaning.specs.Laws.{outside}
-use Rattle.meaning.proofs.Agree.{agree-refl, agree-sym, agree-trans, agree_either, agree_everywhere, agree_within}
+use Rattle.meaning.proofs.Agree.{agree-sym, agree-trans, agree_either, agree_everywhere, agree_within}
 use Rattle.meaning.proofs.Frame.{changes_only}
 use Rattle.meaning.proofs.Kept.{step_kept}
 use Rattle.parcel.specs.Fits.{Fits}
@@ -22,7 +22,7 @@ use Rattle.parcel.specs.Holding.{TreeHolds, IsApart, IsJobOut, nowhere, with_pla
 use Rattle.parcel.specs.Nodes.{Node, Nodes, parcels_nodes, tree_state}
 use Rattle.parcel.specs.Run.{JobView, IsJobRun, Shows}
 use Rattle.parcel.specs.RunLaws.{CanBeRestored, LendsJob, job_place}
-use Rattle.parcel.specs.Tree.{IsIn, HasGap, IsOut, LendsAt, RestoresAt, path_above}
+use Rattle.parcel.specs.Tree.{IsIn, HasGap, IsOut, LendsAt, RestoresAt}
 use Rattle.parcel.specs.declared.job.Done.{Done}
 use Rattle.parcel.specs.declared.parts.Parcels.{Parcels}
 use Rattle.parcel.specs.declared.parts.Standing.{Standing}
@@ -32,33 +32,6 @@ use Rattle.parcel.proofs.SerialRuns.{serial_run}
 
 -- ---- the path above
 
-above_path : (g : Geometry) (p : Path) → IsPath g p → IsPath g (path_above p)
-above_path g [] h = tt
-above_path g (a ∷ []) h = tt
-above_path g (a ∷ v ∷ []) h = h.0
-above_path g (a ∷ v ∷ zero ∷ []) h = h
-above_path g (a ∷ v ∷ zero ∷ s ∷ []) h = (h.0, h.1)
-above_path g (a ∷ v ∷ zero ∷ s ∷ x ∷ p) h = absurd h
-above_path g (a ∷ v ∷ suc zero ∷ []) h = h
-above_path g (a ∷ v ∷ suc zero ∷ x ∷ p) h = absurd h
-above_path g (a ∷ v ∷ suc (suc i) ∷ p) h = absurd h
-
-above_begins : (p : Path) → is_prefix (path_above p) p ≡ true
-above_begins [] = refl
-above_begins (x ∷ []) = refl
-above_begins (x ∷ y ∷ p) = and_from (x == x) _ (eq-eqb x x refl) (above_begins (y ∷ p))
-
-is_prefix-path_above : (x : ℕ) (p : Path) → is_prefix (x ∷ p) (path_above (x ∷ p)) ≡ false
-is_prefix-path_above x [] = refl
-is_prefix-path_above x (y ∷ p) = false_from_ne_true _ (λ e. true≢false (sym (and_parts (x == x) (is_prefix (y ∷ p) (path_above (y ∷ p))) e).1 ∙ is_prefix-path_above y p))
-
-above_related : (p : Path) → are_related p (path_above p) ≡ true
-above_related p = or_right (is_prefix p (path_above p)) (is_prefix (path_above p) p) (above_begins p)
-
-is_there : (o : Option Node) → (o ≡ None → ⊥) → is_some o ≡ true
-is_there None h = absurd (h refl)
-is_there (Some n) h = refl
-
 not_there : (o : Option Node) → o ≡ None → is_some o ≡ true → ⊥
 not_there None e h = true≢false (sym h)
 not_there (Some n) e h = true≢false (sym h ∙ ap is_some e)
@@ -67,8 +40,7 @@ not_there (Some n) e h = true≢false (sym h ∙ ap is_some e)
 
 pub lent_is_out : (g : Geometry) (p : Path) (t : Standing) (l : Parcels) (old lent : Nodes) → IsPath g p → LendsAt g p t l old lent → IsOut p lent
 lent_is_out g [] t l old lent path h = h.rest []
-lent_is_out g (x ∷ p) t l old lent path h =
-    grind (arith, cond-true (is_prefix (x ∷ p) (x ∷ p)) None (old (x ∷ p)) (is_prefix-refl (x ∷ p)), is_prefix-path_above x p)
+lent_is_out g (x ∷ p) t l old lent path h = grind arith
 
 pub place_is_path : (g : Geometry) (m : Msg) → is_in_range g m ≡ true → IsPath g (path_of g m)
 place_is_path g m h = IsPath-path_of_kind g (kind m) (four_numbers m) h
@@ -80,12 +52,7 @@ ran_goes_back job done old lent h ran = grind (arith, lent_is_out, place_is_path
 -- ---- where nothing is out
 
 pub holds_whole : (g : Geometry) (n : Nodes) (x : State) → IsIn g [] n → tree_state g n ≡ x → IsState g x → TreeHolds g nowhere n x
-holds_whole g n x whole same is = record {
-  agrees = subst (λ (y : State). AgreeOn g (λ q. not (nowhere q)) (tree_state g n) y) same (agree-refl (tree_state g n));
-  others = λ q path none. absurd (not_there (n q) none (whole q path refl));
-  gone = λ q r. absurd (true≢false (sym r));
-  state = is;
-}
+holds_whole g n x whole same is = grind arith
 
 pub whole_holds : (g : Geometry) (n : Nodes) (x : State) → TreeHolds g nowhere n x → IsIn g [] n × (tree_state g n ≡ x)
 whole_holds g n x h = grind (arith, agree_everywhere)
@@ -128,19 +95,7 @@ module _ (g : Geometry) (out : Path → Bool) (p : Path) (apart : IsApart p out)
   -- ---- that place is out as well, and its parcels come back
 
   pub place_is_out : (n : Nodes) (x : State) → IsPath g p → TreeHolds g (with_place p out) n x → IsOut p n
-  place_is_out n x path h = by p path (is_prefix-refl p) (λ q. apart q) h
-    where
-      by : (r : Path) → IsPath g r → is_prefix r r ≡ true → IsApart r out → TreeHolds g (with_place r out) n x → IsOut r n
-      by [] path self far h = h.gone [] refl
-      by (y ∷ r) path self far h =
-          let up = path_above (y ∷ r) in
-          let stays : out up ≡ false = false_from_ne_true (out up) (λ is. true≢false (sym (above_related (y ∷ r)) ∙ far up is)) in (
-            h.gone (y ∷ r) (or_left (is_prefix (y ∷ r) (y ∷ r)) (out (y ∷ r)) self),
-            is_there (n up) (λ none. ⊎_elim
-                (λ is. true≢false (sym is ∙ is_prefix-path_above y r))
-                (λ is. true≢false (sym is ∙ stays))
-                (or_cases (is_prefix (y ∷ r) up) (out up) (h.others up (above_path g (y ∷ r) path) none))),
-          )
+  place_is_out n x path h = grind arith
 
   module _ (m : Msg) (at : path_of g m ≡ p) (t : Standing) (l : Parcels) (n new : Nodes) (x : State) (h : TreeHolds g (with_place p out) n x) (put : RestoresAt g p l n new)
       (fits : Fits g p l) (shows : Shows g p t l (next_state g x m)) (message : IsMessage m) where

@@ -36,8 +36,6 @@ begins_split (x ∷ p) (y ∷ q) h =
     let rest = begins_split p q both.1 in
     (rest.0, sym (ap (λ z. z ∷ q) (eqb-true x y both.0)) ∙ ap (λ r. x ∷ r) rest.1)
 
--- ---- the nodes above one that is in are in
-
 -- ---- what was taken out was lent, and what was put back was restored
 
 pub lent_from_taken : {g : Geometry} {p : Path} {t : Standing} {l : Parcels} (o : Option Root) {new : Nodes} → IsPath g p → TakesParcels g p l (child_nodes root_nodes o) new

@@ -11,7 +11,6 @@ use Rattle.language.specs.declared.Msg.TheVariants.{Delete, Write, List as ListF
 use Rattle.language.specs.declared.Refusal.{Refusal}
 use Rattle.language.specs.declared.Refusal.TheVariants.{Range, Volume, File, Space}
 use Rattle.language.specs.declared.Reply.{Reply}
-use Rattle.language.specs.declared.Reply.TheVariants.{Refused}
 use Rattle.language.specs.Messages.{is_in_range}
 use Rattle.meaning.specs.State.{State, blocks_in_stripe}
 use Rattle.meaning.specs.Serial.{refusal, effect, accepted_reply}
@@ -20,9 +19,6 @@ use Rattle.parcel.specs.Steps.{guard, guard_open}
 use Rattle.parcel.specs.Volume.{VolumeFacts, facts_if, one_volume}
 
 -- ---- a step, by its refusal
-
-pub refused : (g : Geometry) (x : State) (m : Msg) (why : Refusal) → refusal g x m ≡ Some why → IsSerialStep g x m (Refused why) x
-refused g x m why e = grind arith
 
 pub passed : (g : Geometry) (x : State) (m : Msg) (given : Reply) (y : State) → refusal g x m ≡ None → given ≡ accepted_reply g x m → y ≡ effect x m → IsSerialStep g x m given y
 passed g x m given y e same new = grind arith

@@ -15,7 +15,7 @@ use Rattle.image.specs.Pieces.{block_in, piece_count, aggregate_of, volume_of as
 use Rattle.image.proofs.Numbers.{in_aggregates, in_volumes}
 use Rattle.parcel.specs.Fits.{FitsLogical, FitsVolume, FitsAggregate, FitsRoot, IsWholeChild, IsWholeLogical, IsWholeVolume, IsWholeAggregate, IsWholeRoot}
 use Rattle.parcel.specs.Lends.{aggregate_of_tree, volume_of_tree}
-use Rattle.parcel.specs.Nodes.{Nodes, child_nodes, volume_nodes, aggregate_nodes, root_nodes, tree_state}
+use Rattle.parcel.specs.Nodes.{Nodes, child_nodes, volume_nodes, root_nodes, tree_state}
 use Rattle.parcel.specs.Pieces.{HasFacts, IsPieceOfVolumeRead, spelled, decoded_piece, volume_with, with_files}
 use Rattle.parcel.specs.Shown.{volume_facts, files_in, blocks_below, blocks_of, shown_label}
 use Rattle.parcel.specs.Tree.{TreeView, IsWellFormed, IsWholeTree, IsIn}
@@ -111,11 +111,7 @@ module _ (g : Geometry) where
 
   nodes_there : (a v : ℕ) (o : Option Root) (q : Path) → child_nodes root_nodes o (a ∷ v ∷ q) ≡ child_nodes volume_nodes (volume_of_tree o a v) q
   nodes_there a v None q = refl
-  nodes_there a v (Some r) q = by (slice_index_or r.aggregates.items a None)
-    where
-      by : (x : Option Aggr) → child_nodes aggregate_nodes x (v ∷ q) ≡ child_nodes volume_nodes (option_and_then (λ r. slice_index_or r.volumes.items v None) x) q
-      by None = refl
-      by (Some r) = refl
+  nodes_there a v (Some r) q = grind arith
 
   -- the state of the nodes has at that volume what the volume has
   pub state_there : (n : Nodes) (a v : ℕ) (w : Vol) → ((q : Path) → n (a ∷ v ∷ q) ≡ volume_nodes w q) → HasFacts (tree_state g n) a v (volume_facts g w)

@@ -5,13 +5,13 @@ use Rattle.std.specs.Prelude.{◌↔◌, ◌==◌, if◌then◌else◌, IfSome, 
 use Rattle.meaning.proofs.Keys.{picks_volume}
 use Rattle.affinity.specs.Geometry.{stripe_of}
 use Rattle.affinity.specs.Interval.{IsPath}
-use Rattle.affinity.specs.Path.{Path, is_prefix, volume}
+use Rattle.affinity.specs.Path.{is_prefix, volume}
 use Rattle.affinity.specs.declared.geometry.Geometry.{Geometry}
 use Rattle.language.specs.Messages.{AreSizedBytes}
 use Rattle.language.specs.Replies.{has_file}
 use Rattle.meaning.specs.Laws.{outside}
-use Rattle.meaning.specs.Subtrees.{Fact, OfMade, OfSealed, OfLabel, OfFile, OfBlock, value, path_in_volume, AgreeOn}
-use Rattle.meaning.specs.State.{State, IsState, is_volume}
+use Rattle.meaning.specs.Subtrees.{OfMade, OfSealed, OfLabel, OfFile, OfBlock, AgreeOn}
+use Rattle.meaning.specs.State.{State, IsState}
 use Rattle.meaning.proofs.Agree.{agree-sym, agree-trans}
 use Rattle.meaning.proofs.SubtreeLaws.{agree_in_and_out}
 use Rattle.meaning.proofs.FileBits.{has_none}
@@ -50,19 +50,8 @@ module _ (g : Geometry) (a v : ℕ) where
   facts_taken version x h has (suc s) bytes (OfBlock f b) = λ i. if picks_volume a v i && (stripe_of g f b == s) then block_in g bytes f b else has (OfBlock f b) i
   facts_taken version x h has _ bytes fact = has fact
 
-  not_there : (x y : ℕ) (q : Path) → outside (volume a v) (x ∷ y ∷ q) ≡ true → is_volume a v (x, y) ≡ false
-  not_there x y q off = grind arith
-
   pub elsewhere_taken : (version : ℕ) (x : State) (part : ℕ) (bytes : List ℕ) → AgreeOn g (outside (volume a v)) (with_part version g x a v part bytes) x
-  elsewhere_taken version x part bytes = record { same = by part }
-    where
-      by : (part i j : ℕ) (fact : Fact) → outside (volume a v) (i ∷ j ∷ path_in_volume g fact) ≡ true → value (with_part version g x a v part bytes) i j fact ≡ value x i j fact
-      by zero i j OfMade r = ap (λ (t : Bool). if t then is_made_in bytes else x.made (i, j)) (not_there i j [] r)
-      by zero i j OfSealed r = ap (λ (t : Bool). if t then is_sealed_in bytes else x.sealed (i, j)) (not_there i j [] r)
-      by zero i j OfLabel r = ap (λ (t : Bool). if t then decoded_label_in version bytes else x.labels (i, j)) (not_there i j (1 ∷ []) r)
-      by zero i j (OfFile f) r = ap (λ (t : Bool). if t then has_file_in bytes f else x.files (i, j, f)) (not_there i j (0 ∷ []) r)
-      by (suc s) i j (OfBlock f b) r = ap (λ (t : Bool). if t && (stripe_of g f b == s) then block_in g bytes f b else x.blocks (i, j, f, b)) (not_there i j (0 ∷ stripe_of g f b ∷ []) r)
-      by _ i j fact r = refl
+  elsewhere_taken version x part bytes = grind arith
 
 -- ---- the state stays a valid one of the geometry
 

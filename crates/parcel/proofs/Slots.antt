@@ -1,9 +1,9 @@
 -- A slot of the tree holds a node, or `None` where it is out: what it is at its path, and what another value of it is to the tree.
-use Rattle.std.proofs.Common.{◌≡◌, ℕ, zero, suc, ◌<◌, Bool, true, false, List, [], ◌∷◌, ◌++◌, length, Option, refl, sym, ap, subst, ◌∙◌, append_assoc, arith, rules}
+use Rattle.std.proofs.Common.{◌≡◌, ℕ, ◌<◌, Bool, true, false, List, [], ◌∷◌, ◌++◌, length, Option, refl, sym, ap, subst, ◌∙◌, append_assoc, arith}
 use Rattle.std.specs.Prelude.{◌==◌, ◌&&◌, None, Some, is_some, IfSome, slice_index_or, if◌then◌else◌}
 use Rattle.std.specs.Option.{option_and_then, option_map}
 use Rattle.std.specs.Vec.{with_item}
-use Rattle.std.proofs.lemmas.Bool.{cond-false, eqb-true, true≢false}
+use Rattle.std.proofs.lemmas.Bool.{eqb-true, true≢false}
 use Rattle.std.proofs.lemmas.List.{append-nil, get_or_read, length-set}
 use Rattle.affinity.specs.Path.{Path, is_prefix, aggregate, volume, logical}
 use Rattle.affinity.specs.Interval.{IsPath}
@@ -13,7 +13,6 @@ use Rattle.parcel.specs.Lends.{aggregate_of_tree, volume_of_tree, logical_of_tre
 use Rattle.parcel.specs.Nodes.{Nodes, child_nodes, stripe_nodes, label_nodes, logical_nodes, volume_nodes, aggregate_nodes, root_nodes, put_at, PutsBack}
 use Rattle.parcel.specs.Nodes.Node.{Inner, Files}
 use Rattle.parcel.specs.Tree.{IsOut, path_above}
-use Rattle.parcel.specs.declared.parts.Label.{Label}
 use Rattle.parcel.specs.declared.parts.Logical.{Logical}
 use Rattle.parcel.specs.declared.parts.Vol.{Vol}
 use Rattle.parcel.specs.declared.parts.Aggr.{Aggr}
@@ -102,39 +101,11 @@ module _ (g : Geometry) where
     };
   }
 
-  logical_put : (w : Vol) (y : Option Logical) → PutsBack (0 ∷ []) (child_nodes logical_nodes y) (volume_nodes w) (volume_nodes (record w { logical = y }))
-  logical_put w y [] = refl
-  logical_put w y (zero ∷ q) = refl
-  logical_put w y (suc zero ∷ q) = refl
-  logical_put w y (suc (suc i) ∷ q) = sym (cond-false (0 == suc (suc i)) _ _ (search rules))
-
   pub logical_child : IsChild 0 (Unit {0}) volume_nodes (FitsVolume g) logical_nodes (FitsLogical g) (λ w. w.logical) (λ w y. record w { logical = y })
-  logical_child = record {
-    own = λ w. refl;
-    at = λ w q. refl;
-    put = λ w y within fits. logical_put w y;
-    fits = λ w fits. fits.logical;
-    put_fits = λ w y fits new. record { logical = new };
-  }
-
-  label_put : (w : Vol) (y : Option Label) → PutsBack (1 ∷ []) (child_nodes label_nodes y) (volume_nodes w) (volume_nodes (record w { label = y }))
-  label_put w y [] = refl
-  label_put w y (zero ∷ q) = refl
-  label_put w y (suc zero ∷ q) = refl
-  label_put w y (suc (suc i) ∷ q) = sym (cond-false (1 == suc (suc i)) _ _ (search rules))
-
-  any : {X : Type 0} (o : Option X) → IfSome o (λ x. Unit {0})
-  any None = tt
-  any (Some x) = tt
+  logical_child = grind arith
 
   pub label_child : IsChild 1 (Unit {0}) volume_nodes (FitsVolume g) label_nodes (λ l. Unit {0}) (λ w. w.label) (λ w y. record w { label = y })
-  label_child = record {
-    own = λ w. refl;
-    at = λ w q. refl;
-    put = λ w y within fits. label_put w y;
-    fits = λ w fits. any w.label;
-    put_fits = λ w y fits new. record { logical = fits.logical };
-  }
+  label_child = grind arith
 
 -- ---- slots
 

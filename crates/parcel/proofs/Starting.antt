@@ -1,9 +1,8 @@
 -- Where nothing is made and nothing is out, all fits, all is whole, and the state is empty.
 use Rattle.std.proofs.Common.{arith}
 use Rattle.std.proofs.Common.{◌≡◌, ℕ, zero, suc, ◌<◌, ◌^◌, false, List, [], ◌∷◌, Option, refl, sym, ap, subst, ◌∙◌}
-use Rattle.std.specs.Prelude.{None, Some, is_some, IfSome, slice_index_or}
+use Rattle.std.specs.Prelude.{None, Some, IfSome, slice_index_or}
 use Rattle.std.specs.List.{AllByRecursion}
-use Rattle.std.proofs.lemmas.Bool.{true≢false}
 use Rattle.std.proofs.lemmas.Nat.{pow_pos}
 use Rattle.affinity.specs.declared.geometry.Geometry.{Geometry}
 use Rattle.affinity.specs.Geometry.{stripe_of}
@@ -50,10 +49,7 @@ module _ (g : Geometry) where
   no_content p f b h = ap (λ z. content_at z.entries f b) h
 
   stripe_new : (s : ℕ) (p : StripePart) → IsNewStripe p → FitsStripe g s p × Unit {0}
-  stripe_new s p h = (
-    record { quota = ap (λ z. z.quota) h; lies = λ f b there. absurd (true≢false (sym there ∙ ap is_some (no_content p f b h))) },
-    tt,
-  )
+  stripe_new s p h = grind arith
 
   logical_new : (x : Option Logical) → IsWholeChild (IsNewLogical g) x → IfSome x (FitsLogical g) × IsWholeChild IsWholeLogical x
   logical_new None h = absurd h

@@ -2,7 +2,7 @@
 use Rattle.std.proofs.Common.{◌≡◌, ℕ, ◌+◌, ◌*◌, ◌-◌, ◌<◌, ◌≤◌, Bool, true, false, ◌&&◌, List, [], ◌∷◌, length, replicate, Option, Some, None, IfSome, is_some, refl, sym, ◌∙◌, ap, subst, arith, true≢false, length-append}
 use Rattle.std.specs.Prelude.{◌==◌, ◌^◌, if◌then◌else◌, nat_lt}
 use Rattle.std.specs.List.{AllByRecursion, flat_map}
-use Rattle.std.proofs.lemmas.Bool.{and_parts, and_from, eqb-true, eq-eqb, ltb-true}
+use Rattle.std.proofs.lemmas.Bool.{and_parts, eqb-true, eq-eqb, ltb-true}
 use Rattle.std.proofs.lemmas.Nat.Bits.{bit_at_above}
 use Rattle.affinity.specs.Geometry.{stripe_of}
 use Rattle.affinity.specs.declared.geometry.Geometry.{Geometry}
@@ -45,9 +45,7 @@ module _ (g : Geometry) (x : State) (is : IsState g x) (a v s files : ℕ) (has 
   taken = with_stripe_piece g x a v s bytes
 
   held : (f b : ℕ) → stripe_of g f b ≡ s → taken.blocks (a, v, f, b) ≡ content_at es f b
-  held f b on =
-      ap (λ (t : Bool). if t then content_at es f b else x.blocks (a, v, f, b))
-      (and_from (is_block_of a v (a, v, f, b)) (stripe_of g f b == s) (and_from (a == a) (v == v) (eq-eqb a a refl) (eq-eqb v v refl)) (eq-eqb (stripe_of g f b) s on))
+  held f b on = grind arith
 
   content_held : (k : BlockKey) → IfSome (taken.blocks k) IsBlock
   content_held k =

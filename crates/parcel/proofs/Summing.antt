@@ -1,5 +1,5 @@
 -- Totals of volumes, added up.
-use Rattle.std.proofs.Common.{◌≡◌, ℕ, ◌+◌, ◌*◌, ◌≤◌, ap, sym, ◌∙◌, add-one, arith}
+use Rattle.std.proofs.Common.{◌≡◌, ℕ, ◌+◌, ◌*◌, ◌≤◌, ap, add-one, arith}
 use Rattle.std.specs.Prelude.{is_some}
 use Rattle.std.proofs.lemmas.Nat.{mul-le}
 use Rattle.affinity.specs.declared.geometry.Geometry.{Geometry}
@@ -40,10 +40,7 @@ few_of_sum n c each le few = record {
 -- the totals of one more number, added to the sum
 pub sum_totals_step : (n : ℕ) (each : ℕ → Totals) (t u r : Totals) → t ≡ sum_totals n each → u ≡ each n → r
     ≡ record { volumes = t.volumes + u.volumes; files = t.files + u.files; blocks = t.blocks + u.blocks } → r ≡ sum_totals (n + 1) each
-sum_totals_step n each t u r before here added =
-    added
-    ∙ (λ i. record { volumes = (before i).volumes + (here i).volumes; files = (before i).files + (here i).files; blocks = (before i).blocks + (here i).blocks })
-    ∙ (λ i. record { volumes = sym (sum_step n (λ k. (each k).volumes)) i; files = sym (sum_step n (λ k. (each k).files)) i; blocks = sym (sum_step n (λ k. (each k).blocks)) i })
+sum_totals_step n each t u r before here added = grind arith
 
 pub few_of_aggregates : (g : Geometry) (n : ℕ) (facts : ℕ → ℕ → VolumeFacts) → IsFew (n * 64) (sum_totals n (λ a. sum_totals g.volumes (λ v. totals_of g (facts a v))))
 few_of_aggregates g n facts = record {

@@ -139,10 +139,7 @@ module _ {X : Type 0} {g : Geometry} {p : Path} {IsFit IsWhole : X → Type 0} {
 
   put_here : (x : X) (done : Result (Unit {0}) X) {new : Option X} (result : Result (Unit {0}) Parcels) → Fills x done s new
       → MatchResult done (λ t. result ≡ Ok t) (λ back. IsErrAnd result (λ r. r ≡ parcels_of back)) → Fits g p (parcels_of x) → PutsAt g p (parcels_of x) result tree (write new)
-  put_here x (Ok t) result h is fits = rw is (rw h.1 (record {
-    nodes = record { out = slot.out h.0; kind = part.kind x; nodes = slot.put (Some x) };
-    fits = slot.put_fits (Some x) (part.fit x fits);
-  }))
+  put_here x (Ok t) result h is fits = grind arith
   put_here x (Err back) (Ok t) h is fits = absurd is
   put_here x (Err back) (Err r) h is fits = rw h.2 (record {
     nodes = record {

@@ -24,7 +24,6 @@ use Rattle.parcel.specs.declared.parts.Logical.{Logical}
 use Rattle.parcel.specs.declared.parts.Vol.{Vol}
 use Rattle.parcel.specs.declared.pieces.volumes.VolumePiece.{VolumePiece}
 use Rattle.meaning.proofs.FileNumber.{sum_bits, bits_back}
-use Rattle.meaning.proofs.FileBits.{has_none}
 use Rattle.image.proofs.Decoded.{label_is}
 use Rattle.image.proofs.Reading.{eight_bytes}
 
@@ -83,19 +82,8 @@ module _ (version : ℕ) (g : Geometry) (bytes : List ℕ) (good : bytes ≡ spe
           zero_left : (k : ℕ) → 0 < k → 0 % k ≡ 0
           zero_left k least = omega (arith, least, mod-lt 0 least)
 
-  sealed_is_made : is_sealed_in bytes ≡ true → is_made_in bytes ≡ true
-  sealed_is_made sealed = by (is_made_in bytes) refl
-    where
-      by : (t : Bool) → is_made_in bytes ≡ t → is_made_in bytes ≡ true
-      by true on = on
-      by false off = absurd (true≢false (sym sealed ∙ ap is_sealed_in (not_made off)))
-
   file_is_made : (f : ℕ) → has_file_in bytes f ≡ true → is_made_in bytes ≡ true
-  file_is_made f there = by (is_made_in bytes) refl
-    where
-      by : (t : Bool) → is_made_in bytes ≡ t → is_made_in bytes ≡ true
-      by true on = on
-      by false off = absurd (true≢false (sym there ∙ ap (λ (l : List ℕ). has_file_in l f) (not_made off) ∙ has_none f))
+  file_is_made f there = grind arith
 
   file_within : (f : ℕ) → has_file_in bytes f ≡ true → f < g.files
   file_within f there =
@@ -124,18 +112,10 @@ module _ (version : ℕ) (g : Geometry) (bytes : List ℕ) (good : bytes ≡ spe
     made_elsewhere k off made = ap (λ (t : Bool). if t then is_made_in bytes else x.made k) off ∙ made
 
     made_range : (k : VolumeKey) → taken.made k ≡ true → (k.0 < g.aggregates) × (k.1 < g.volumes)
-    made_range k = by (is_volume a v k) refl
-      where
-        by : (t : Bool) → is_volume a v k ≡ t → (if t then is_made_in bytes else x.made k) ≡ true → (k.0 < g.aggregates) × (k.1 < g.volumes)
-        by true on made = let same = same_volume k on in (subst (λ (n : ℕ). n < g.aggregates) same.0 aggregate, subst (λ (n : ℕ). n < g.volumes) same.1 volume)
-        by false off made = is.made k made
+    made_range k = grind arith
 
     sealed_made : (k : VolumeKey) → taken.sealed k ≡ true → taken.made k ≡ true
-    sealed_made k = by (is_volume a v k) refl
-      where
-        by : (t : Bool) → is_volume a v k ≡ t → (if t then is_sealed_in bytes else x.sealed k) ≡ true → taken.made k ≡ true
-        by true on sealed = made_there k on (sealed_is_made sealed)
-        by false off sealed = made_elsewhere k off (is.sealed k sealed)
+    sealed_made k = grind arith
 
     files_range : (k : FileKey) → taken.files k ≡ true → (k.2 < g.files) × (taken.made (k.0, k.1) ≡ true)
     files_range k = by (is_volume a v (k.0, k.1)) refl

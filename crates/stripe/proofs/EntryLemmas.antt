@@ -249,8 +249,6 @@ content-file es f first end low high i j =
           (drop first (take end es)) (all-between From Below first end es low.behind high.before)))
     ]
 
--- ---- where a block is missing
-
 -- ---- a gap: the position at which a block would be inserted
 
 pub before-before : (i j k l f b : ℕ) → PrecedesBlock i j k l → PrecedesBlock k l f b → PrecedesBlock i j f b

@@ -12,17 +12,11 @@ use Rattle.parcel.specs.Steps.{guard}
 use Rattle.stripe.specs.Stripe.{content_at}
 use Rattle.parcel.specs.Volume.{one_volume}
 use Rattle.parcel.proofs.GroupCounts.{count_is_length}
-use Rattle.parcel.proofs.OneVolume.{at_volume, refused, passed, let_through, write_tests, effect_write}
+use Rattle.parcel.proofs.OneVolume.{at_volume, passed, let_through, write_tests, effect_write}
 use Rattle.parcel.proofs.running.at_stripe.write.Goals as goal
 
 pub returns-in_err-guard_file-clause-step : goal.returns-in_err-guard_file-clause-step
-returns-in_err-guard_file-clause-step c =
-    let g = c.args.g.now in
-    let h = stripe_facts c.args.standing c.args.stripe.now in
-    let q = err_from_is_err_and c.from_residual.result c.from_residual.ensures.1 in
-    rw (q.1, q.2)
-    (λ a v range. refused g (one_volume a v h) (Write a v c.args.f c.args.b c.args.content.now) _
-    (write_tests g a v c.args.f c.args.b c.args.content.now h range refl ∙ c.in_err-guard_file.ensures _))
+returns-in_err-guard_file-clause-step c = grind arith
 
 pub returns-in_err-guard-clause-step : goal.returns-in_err-guard-clause-step
 returns-in_err-guard-clause-step c =
