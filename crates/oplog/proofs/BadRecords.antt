@@ -23,8 +23,7 @@ byte_at : (bytes : List ℕ) → AreBytes bytes → (i : ℕ) → get_or bytes i
 byte_at bytes are i =
     ⊎_elim
     (λ (inside : i < length bytes). byte-get_or bytes i 0 inside are)
-    (λ (beyond : length bytes ≤ i). subst (λ (b : ℕ). b < 256) (sym (get_or_past bytes i 0 beyond)) (omega arith))
-    (cases_lt i (length bytes))
+    (λ (beyond : length bytes ≤ i). rw (get_or_past bytes i 0 beyond) (omega arith)) (cases_lt i (length bytes))
 
 pub no_record_says_none : BadRecordIsOfNoChange
 no_record_says_none g bytes size are none m said logged is = none m (whole_if_decoded bytes m size (byte_at bytes are) said) logged is

@@ -58,10 +58,7 @@ module _ (g : Layout) (h k : ℕ) (more : List (List ℕ)) (is_half : h < 2) (si
   -- ---- the gates
   module _ (bodies : Stored (part_at g (half_part h) + body_at g.capacity k) (concat more) w0 w1) where
     put : SameOutside (part_at g (half_part h) + body_at g.capacity k) (length more * record_size) w0.now w1.now
-    put =
-        subst (λ (l : List ℕ). SameOutside (part_at g (half_part h) + body_at g.capacity k) (length more * record_size) w0.now l) (sym bodies.now)
-        (subst (λ (m : ℕ). SameOutside (part_at g (half_part h) + body_at g.capacity k) m w0.now (overlaid w0.now (part_at g (half_part h) + body_at g.capacity k) (concat more))) bytes
-        (overlaid_outside w0.now (part_at g (half_part h) + body_at g.capacity k) (concat more)))
+    put = rw (bodies.now, ← bytes) (overlaid_outside w0.now (part_at g (half_part h) + body_at g.capacity k) (concat more))
 
     stand : slice (part_bytes g (half_part h) w1.now) (body_at g.capacity k) (length more * record_size) ≡ concat more
     stand =
@@ -115,8 +112,7 @@ module _ (g : Layout) (h k : ℕ) (more : List (List ℕ)) (is_half : h < 2) (si
             ready.used ready.shut bodies_in stand gates_in_half open_in
 
     pub second : (c : List ℕ) → After w1 (SameOutside {X = ℕ} (part_at g (half_part h) + (64 + k)) (length more)) c → HasAppendedPrefix g h more w0 c
-    second c after =
-        grew c (subst (λ (l : List ℕ). SameOutside (part_at g (half_part h) + (64 + k)) (length more) l c) (synced_left w1 after.old bodies.synced after.left) after.change)
+    second c after = grew c (rw (← (synced_left w1 after.old bodies.synced after.left)) after.change)
 
     module _ (w2 : Medium) (gates : Stored (part_at g (half_part h) + (64 + k)) (replicate (length more) 1) w1 w2) where
       long : length w1.now ≡ length w0.now

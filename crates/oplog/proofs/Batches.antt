@@ -111,6 +111,5 @@ module _ (g : Layout) (h k m n : ℕ) (messages : List Msg) (inside : m + n ≤ 
 
       pub messages_more : HasAppendedAll g h (k + m) (records_of (take n (drop m messages))) w w' → SoFar g h k (records_of (take (m + n) messages)) (records_of messages) w0 w'
       messages_more has =
-          let more = batch_more g h k _ _ _ w0 w w' so_far' moments (subst (λ (j : ℕ). HasAppendedAll g h (k + j) (records_of (take n (drop m messages))) w w') (sym count) has) in
-          subst (λ (l : List (List ℕ)). SoFar g h k l (records_of messages) w0 w') joined
-          (subst (λ (l : List (List ℕ)). SoFar g h k (records_of (take m messages) ++ records_of (take n (drop m messages))) l w0 w') parted more)
+          let more = batch_more g h k _ _ _ w0 w w' so_far' moments (rw count has) in
+          rw (← joined, ← parted) more

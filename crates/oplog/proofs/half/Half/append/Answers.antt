@@ -53,8 +53,7 @@ loop-done-preserved g c = record {
       omega (arith, one, c.loop-done.invariant.takes k, c.in_ok-append_batch.ensures.costs k);
   so_far = λ k.
       let end : c.loop-done.done + (c.min-end.result - c.loop-done.done) ≡ c.min-end.result = omega arith in
-      subst (λ (j : ℕ). SoFar (layout_of c.args.self.geometry) c.args.self.number c.args.used (records_of (take j c.args.messages.now))
-      (records_of c.args.messages.now) (g.D.Disk.medium c.args.disk.now) (g.D.Disk.medium c.append_batch.new.disk)) end
+      rw (← end)
       (messages_more (layout_of c.args.self.geometry) c.args.self.number c.args.used c.loop-done.done (c.min-end.result - c.loop-done.done) c.args.messages.now (omega arith)
       (g.D.Disk.medium c.args.disk.now) (g.D.Disk.medium c.loop-done.disk) (g.D.Disk.medium c.append_batch.new.disk)
       (c.loop-done.invariant.so_far k) (c.append_batch.ensures.any_moment k) (c.in_ok-append_batch.ensures.added k));

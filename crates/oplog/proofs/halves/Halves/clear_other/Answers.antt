@@ -10,17 +10,14 @@ use Rattle.oplog.proofs.halves.Halves.clear_other.Goals as goal
 
 pub returns-then-is_err-clause-any_moment : goal.returns-then-is_err-clause-any_moment
 returns-then-is_err-clause-any_moment g c = λ k.
-    subst (λ (log : Log). Clears log (g.D.Disk.medium c.args.disk.now) (g.D.Disk.medium c.clear.new.disk)) c.self.view_is
-    (clear_moments (layout_of c.self.inside.geometry) (other c.self.inside.named) (omega arith) _ _ (c.clear.ensures.any_moment k))
+    rw (← c.self.view_is) (clear_moments (layout_of c.self.inside.geometry) (other c.self.inside.named) (omega arith) _ _ (c.clear.ensures.any_moment k))
 
 pub returns-clause-any_moment : goal.returns-clause-any_moment
 returns-clause-any_moment g c = λ k.
-    subst (λ (log : Log). Clears log (g.D.Disk.medium c.args.disk.now) (g.D.Disk.medium c.clear.new.disk)) c.self.view_is
-    (clear_moments (layout_of c.self.inside.geometry) (other c.self.inside.named) (omega arith) _ _ (c.clear.ensures.any_moment k))
+    rw (← c.self.view_is) (clear_moments (layout_of c.self.inside.geometry) (other c.self.inside.named) (omega arith) _ _ (c.clear.ensures.any_moment k))
 
 pub returns-clause-cleared : goal.returns-clause-cleared
 returns-clause-cleared g c = λ k.
     let whole = subst (λ (log : Log). IsLongEnough log (g.D.Disk.medium c.args.disk.now)) (sym c.self.view_is) c.requires.long_enough in
-    subst (λ (log : Log). Cleared (layout_of_log log) (other log.named) (g.D.Disk.medium c.args.disk.now) (g.D.Disk.medium c.clear.new.disk)) c.self.view_is
-    (cleared (layout_of c.self.inside.geometry) (other c.self.inside.named) (omega arith) _ _ whole
+    rw (← c.self.view_is) (cleared (layout_of c.self.inside.geometry) (other c.self.inside.named) (omega arith) _ _ whole
     (on_ok c.clear.result _ (sym c.is_err.ensures.value ∙ c.if-is_err.false) c.clear.ensures.cleared k))

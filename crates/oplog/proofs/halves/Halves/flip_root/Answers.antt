@@ -10,17 +10,14 @@ use Rattle.oplog.proofs.halves.Halves.flip_root.Goals as goal
 
 pub returns-then-is_err-clause-any_moment : goal.returns-then-is_err-clause-any_moment
 returns-then-is_err-clause-any_moment g c = λ k.
-    subst (λ (log : Log). Flips log (g.D.Disk.medium c.args.disk.now) (g.D.Disk.medium c.store.new.disk)) c.self.view_is
-    (root_moments (layout_of c.self.inside.geometry) (other c.self.inside.named) _ _ (c.store.ensures.any_moment k))
+    rw (← c.self.view_is) (root_moments (layout_of c.self.inside.geometry) (other c.self.inside.named) _ _ (c.store.ensures.any_moment k))
 
 pub returns-clause-any_moment : goal.returns-clause-any_moment
 returns-clause-any_moment g c = λ k.
-    subst (λ (log : Log). Flips log (g.D.Disk.medium c.args.disk.now) (g.D.Disk.medium c.store.new.disk)) c.self.view_is
-    (root_moments (layout_of c.self.inside.geometry) (other c.self.inside.named) _ _ (c.store.ensures.any_moment k))
+    rw (← c.self.view_is) (root_moments (layout_of c.self.inside.geometry) (other c.self.inside.named) _ _ (c.store.ensures.any_moment k))
 
 pub returns-clause-flipped : goal.returns-clause-flipped
 returns-clause-flipped g c = λ k.
     let whole = subst (λ (log : Log). IsLongEnough log (g.D.Disk.medium c.args.disk.now)) (sym c.self.view_is) c.requires.long_enough in
-    subst (λ (log : Log). Flipped (layout_of_log log) (other log.named) (g.D.Disk.medium c.args.disk.now) (g.D.Disk.medium c.store.new.disk)) c.self.view_is
-    (named (layout_of c.self.inside.geometry) (other c.self.inside.named) _ _ (omega arith) whole
+    rw (← c.self.view_is) (named (layout_of c.self.inside.geometry) (other c.self.inside.named) _ _ (omega arith) whole
     (on_ok c.store.result _ (sym c.is_err.ensures.value ∙ c.if-is_err.false) c.store.ensures.stored k))

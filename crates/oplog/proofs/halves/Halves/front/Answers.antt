@@ -5,5 +5,4 @@ use Rattle.oplog.specs.Log.{Log}
 use Rattle.oplog.proofs.halves.Halves.front.Goals as goal
 
 pub returns-in-Ok-clause-front : goal.returns-in-Ok-clause-front
-returns-in-Ok-clause-front g c = λ k.
-    subst (λ (log : Log). HasFront log c.args.half c.in-Ok.count (g.D.Disk.medium c.args.disk.now)) c.self.view_is (c.in-Ok.ensures.front k)
+returns-in-Ok-clause-front g c = λ k. rw (← c.self.view_is) (c.in-Ok.ensures.front k)

@@ -14,14 +14,12 @@ at_half g named number start begins same = begins ∙ ap (λ (n : ℕ). part_at 
 
 pub returns-then-is_err-clause-any_moment : goal.returns-then-is_err-clause-any_moment
 returns-then-is_err-clause-any_moment g c = λ k.
-    subst (λ (log : Log). Chains log (g.D.Disk.medium c.args.disk.now) (g.D.Disk.medium c.store.new.disk)) c.self.view_is
-    (chain_moments (layout_of c.self.inside.geometry) c.self.inside.named c.start.result c.self.invariant.named
+    rw (← c.self.view_is) (chain_moments (layout_of c.self.inside.geometry) c.self.inside.named c.start.result c.self.invariant.named
     (at_half _ _ _ _ c.start.ensures (omega (arith, c.self.invariant.named))) _ _ (c.store.ensures.any_moment k))
 
 pub returns-clause-any_moment : goal.returns-clause-any_moment
 returns-clause-any_moment g c = λ k.
-    subst (λ (log : Log). Chains log (g.D.Disk.medium c.args.disk.now) (g.D.Disk.medium c.store.new.disk)) c.self.view_is
-    (chain_moments (layout_of c.self.inside.geometry) c.self.inside.named c.start.result c.self.invariant.named
+    rw (← c.self.view_is) (chain_moments (layout_of c.self.inside.geometry) c.self.inside.named c.start.result c.self.invariant.named
     (at_half _ _ _ _ c.start.ensures (omega (arith, c.self.invariant.named))) _ _ (c.store.ensures.any_moment k))
 
 pub returns-clause-chained : goal.returns-clause-chained
