@@ -90,8 +90,7 @@ module _ (g : Geometry) (c : List ℕ) (n : ℕ) (x : State) (is : NamedHolds g 
 -- ---- the same by an equal geometry, on the device before it was only read
 
 pub held_before : {g h : Geometry} {n : ℕ} {t : Bool} {x : State} → (w0 w1 : Medium) → h ≡ g → moments w1 ≡ moments w0 → NamedHolds h w1.now n t x → NamedHolds g w0.now n t x
-held_before {h = h} {n = n} {t = t} {x = x} w0 w1 same only held =
-    subst (λ (d : Geometry). NamedHolds d w0.now n t x) same (subst (λ (c : List ℕ). NamedHolds h c n t x) (same_bytes w0 w1 only) held)
+held_before {h = h} {n = n} {t = t} {x = x} w0 w1 same only held = rw (← same, ← (same_bytes w0 w1 only)) held
 
 -- ---- all records in force, once they were run
 

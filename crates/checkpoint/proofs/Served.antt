@@ -29,9 +29,7 @@ module _ {g : Geometry} {m : Msg} {s : Standing} {l : Parcels} {job : JobView} (
     {h : Geometry} (same : g ≡ h) (took : (p : Path) → IsAffinityOf h p a → LendsAt h p s l old lent) where
   -- what was lent, by a geometry equal to the tree's
   lends : LendsJob job old lent
-  lends =
-      subst (λ (j : JobView). LendsJob j old lent) (sym is)
-      (subst (λ (i : Geometry). (p : Path) → IsAffinityOf i p a → LendsAt i p s l old lent) (sym same) took (path_of g m) there)
+  lends = rw is (subst (λ (i : Geometry). (p : Path) → IsAffinityOf i p a → LendsAt i p s l old lent) (sym same) took (path_of g m) there)
 
   -- the parcels can be restored after the run
   pub goes_back : CanBeRestored g (path_of g m) done.parcels lent
@@ -45,8 +43,7 @@ module _ {g : Geometry} {m : Msg} {s : Standing} {l : Parcels} {job : JobView} (
 
     -- so restoring them can't be refused
     pub goes : ((q : Path) → IsAffinityOf k q a → IsOut q lent → IsKindOf q r → ⊥) → ⊥
-    goes refused =
-        refused (path_of g m) (subst (λ (i : Geometry). IsAffinityOf i (path_of g m) a) alike there) goes_back.out (subst (λ (x : Parcels). IsKindOf (path_of g m) x) (sym is_done) goes_back.kind)
+    goes refused = refused (path_of g m) (rw (← alike) there) goes_back.out (rw is_done goes_back.kind)
 
     -- lend, run and restore
     module _ {new : Nodes} (put : (q : Path) → IsAffinityOf k q a → RestoresAt k q r lent new) where
@@ -54,9 +51,7 @@ module _ {g : Geometry} {m : Msg} {s : Standing} {l : Parcels} {job : JobView} (
       served = record {
         taken = lends;
         ran = ran;
-        put = subst (λ (j : JobView). RestoresAt j.geometry (job_place j) done.parcels lent new) (sym is)
-            (subst (λ (x : Parcels). RestoresAt g (path_of g m) x lent new) is_done
-            (subst (λ (i : Geometry). (q : Path) → IsAffinityOf i q a → RestoresAt i q r lent new) (sym alike) put (path_of g m) there));
+        put = rw (is, ← is_done) (subst (λ (i : Geometry). (q : Path) → IsAffinityOf i q a → RestoresAt i q r lent new) (sym alike) put (path_of g m) there);
       }
 
       pub stepped : IsSerialStep h (tree_state h old) m done.reply (tree_state h new)

@@ -140,8 +140,7 @@ module _ {g h : Geometry} (same : h ≡ g) (number n : ℕ) {at size : ℕ} (buf
 module _ {g h : Geometry} (same : h ≡ g) (bytes : List ℕ) (n : ℕ) {version : ℕ} (ver : version ≡ version_in bytes) (below : n < piece_count g)
     {x : State} (so_far : x ≡ decoded_before (version_in bytes) g bytes n) {out : List ℕ} (there : out ≡ piece_in g bytes n) where
   pub good_queued : out ≡ piece_of version h (with_piece version h x n out) n → AreGood g bytes n → AreGood g bytes (n + 1)
-  good_queued here good =
-      good_next g bytes n good (is_good_here g bytes n ver below so_far there (subst (λ (k : Geometry). out ≡ piece_of version k (with_piece version k x n out) n) same here))
+  good_queued here good = good_next g bytes n good (is_good_here g bytes n ver below so_far there (rw (← same) here))
 
   pub decoded_turn : {y : State} → y ≡ with_piece version h x n out → y ≡ decoded_before (version_in bytes) g bytes (n + 1)
   decoded_turn is = is ∙ ap (λ (k : Geometry). with_piece version k x n out) same ∙ decoded_next g bytes n ver below so_far there
@@ -149,8 +148,7 @@ module _ {g h : Geometry} (same : h ≡ g) (bytes : List ℕ) (n : ℕ) {version
   pub bad_queued : (out ≡ piece_of version h (with_piece version h x n out) n → false ≡ true) → AreGood g bytes n → (e : OpenFault) → e ≡ BadPiece n
       → IsConsistentFault (fault_or_later BadPiece (first_bad_piece g bytes) None) e
   bad_queued bad good e is =
-      subst (λ (f : OpenFault). IsConsistentFault (fault_or_later BadPiece (first_bad_piece g bytes) None) f) (sym is)
-      (ap (λ (o : Option ℕ). fault_or_later BadPiece o None)
+      rw is (ap (λ (o : Option ℕ). fault_or_later BadPiece o None)
       (bad_piece g bytes n below good
       (is_bad_here g bytes n ver below so_far there
       (λ here. false≢true (bad (subst (λ (k : Geometry). out ≡ piece_of version k (with_piece version k x n out) n) (sym same) here))))))

@@ -21,9 +21,7 @@ pub returns-clause-any_moment : goal.returns-clause-any_moment
 returns-clause-any_moment g c = λ k.
     opened_moments c.args.g.now _ c.requires.long_enough _ _ (c.clear_format_byte.ensures.any_moment k) (c.in_ok-clear_format_byte.ensures.unformatted k) 64 _ (omega arith)
     (c.lay_out.ensures.any_moment k) _
-    (subst (λ (n : ℕ). CrashImagesAre (g.D.Disk.medium c.lay_out.new.disk) (g.D.Disk.medium c.write_header.new.disk)
-    (λ l. HasNoFormatByte n l ⊎ (recovered_state c.args.g.now l ≡ Some empty))) (c.lay_out.ensures.call.1 ∙ c.clear_format_byte.ensures.call.1)
-    (c.write_header.ensures.any_moment k))
+    (rw (← (c.lay_out.ensures.call.1 ∙ c.clear_format_byte.ensures.call.1)) (c.write_header.ensures.any_moment k))
 
 pub returns-in_err-clear_format_byte-clause-beyond : goal.returns-in_err-clear_format_byte-clause-beyond
 returns-in_err-clear_format_byte-clause-beyond g c = λ k. c.clear_format_byte.ensures.beyond k (layout_of c.args.g.now)

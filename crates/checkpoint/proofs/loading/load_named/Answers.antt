@@ -111,7 +111,6 @@ returns-in_err-chained-clause-half g c =
 pub returns-in_err-records-clause-half : goal.returns-in_err-records-clause-half
 returns-in_err-records-clause-half g c =
     let p = err_from_is_err_and c.from_residual-in_err-records.result c.from_residual-in_err-records.ensures.1 in
-    rw (p.1, p.2)
-    (λ k.
+    rw (p.1, p.2) (λ k.
     let names = c.in_ok-area.ensures.area k ∙ ap (λ (h : Geometry). named_area (layout_of h) (g.D.Disk.medium c.args.disk.now).now) c.geometry-g.ensures in
-    subst (λ (n : ℕ). IsOfHalf n c.in_err-records.field-0.0) names (records_half c.in_ok-area.area _ _ (c.in_err-records.ensures.refused k)))
+    rw (← names) (records_half c.in_ok-area.area _ _ (c.in_err-records.ensures.refused k)))

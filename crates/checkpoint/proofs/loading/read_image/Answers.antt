@@ -14,23 +14,17 @@ use Rattle.checkpoint.proofs.loading.read_image.Goals as goal
 pub returns-in_err-version-clause-refused : goal.returns-in_err-version-clause-refused
 returns-in_err-version-clause-refused g c =
     let p = err_from_is_err_and c.from_residual.result c.from_residual.ensures.1 in
-    rw (p.1, p.2)
-    (λ k.
+    rw (p.1, p.2) (λ k.
     let now = (g.D.Disk.medium c.args.disk.now).now in
     head_refused c.args.tree.now.geometry (part_bytes (layout_of c.args.tree.now.geometry) (image_part c.args.area) now) _
-    (subst (λ (h : Geometry). IsConsistentFault (fault_if (not (has_head (part_bytes (layout_of h) (image_part c.args.area) now))) BadVersion None)
-    c.in_err-version.field-0.0) c.geometry.ensures (c.in_err-version.ensures.refused k)))
+    (rw (← c.geometry.ensures) (c.in_err-version.ensures.refused k)))
 
 pub returns-in_err-read_pieces-clause-refused : goal.returns-in_err-read_pieces-clause-refused
 returns-in_err-read_pieces-clause-refused g c =
     let p = err_from_is_err_and c.from_residual-in_err-read_pieces.result c.from_residual-in_err-read_pieces.ensures.1 in
-    rw (p.1, p.2)
-    (λ k.
+    rw (p.1, p.2) (λ k.
     let now = (g.D.Disk.medium c.args.disk.now).now in
     let same = same_bytes (g.D.Disk.medium c.args.disk.now) (g.D.Disk.medium c.version_of.new.disk) (c.version_of.ensures.untouched k) in
     pieces_refused c.args.tree.now.geometry (part_bytes (layout_of c.args.tree.now.geometry) (image_part c.args.area) now)
     (sym (ap (λ (h : Geometry). has_head (part_bytes (layout_of h) (image_part c.args.area) now)) c.geometry.ensures) ∙ c.in_ok-version.ensures.head k) _
-    (subst (λ (bytes : List ℕ). IsConsistentFault (fault_or_later BadPiece
-    (first_bad_piece c.args.tree.now.geometry (part_bytes (layout_of c.args.tree.now.geometry) (image_part c.args.area) bytes)) None)
-    c.in_err-read_pieces.field-0.0)
-    same (c.in_err-read_pieces.ensures.refused k)))
+    (rw (← same) (c.in_err-read_pieces.ensures.refused k)))

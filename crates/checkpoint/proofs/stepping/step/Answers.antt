@@ -28,8 +28,7 @@ returns-clause-reply c =
 pub returns-clause-state : goal.returns-clause-state
 returns-clause-state c =
     let same = c.restore.ensures.geometry ∙ c.lend.ensures.geometry in
-    subst (λ (i : Geometry). tree_state i (tree_nodes c.restore.new.self) ≡ next_state c.args.tree.now.geometry (tree_state c.args.tree.now.geometry (tree_nodes c.args.tree.now)) c.args.m) (sym same)
-    (stepped c.new.ensures (placed c.args.m c.kind.ensures c.numbers.ensures c.in-Some.ensures.placed) c.run-done.ensures c.geometry-g.ensures
+    rw same (stepped c.new.ensures (placed c.args.m c.kind.ensures c.numbers.ensures c.in-Some.ensures.placed) c.run-done.ensures c.geometry-g.ensures
     c.in-Some-lend.ensures.some (c.geometry-g.ensures ∙ sym c.lend.ensures.geometry) c.into_parcels.ensures c.in-Ok.ensures.ok).state
 
 pub returns-clause-whole : goal.returns-clause-whole
