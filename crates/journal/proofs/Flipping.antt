@@ -6,7 +6,7 @@ use Rattle.disk.specs.Device.{AreBytes, Medium}
 use Rattle.disk.proofs.Leaves.{itself}
 use Rattle.image.specs.Image.{version_in}
 use Rattle.image.specs.Pieces.{piece_count}
-use Rattle.journal.specs.Keeping.{IsUpToDate, FitsCutState, IsSoundJournal}
+use Rattle.journal.specs.Keeping.{FitsCutState, IsSoundJournal}
 use Rattle.journal.specs.Steps.{IsFlipped, IsCutWritten, RecoversByArea, flipped_log}
 use Rattle.journal.specs.Extents.{image_in}
 use Rattle.journal.proofs.Cutting.{named_below}
@@ -18,7 +18,6 @@ use Rattle.oplog.specs.Calls.{IsLongEnough}
 use Rattle.oplog.specs.Changes.{IsReady}
 use Rattle.device_map.specs.Layout.{layout_of, image_size, other}
 use Rattle.oplog.specs.Log.{Log}
-use Rattle.meaning.specs.State.{State}
 
 module _ {log : Log} {snapshot : List ℕ} {named others pending : List Bool} {pieces_left : Option ℕ} {w0 : Medium} (none_left : pieces_left ≡ Some 0) where
   pub flip_asks : IsLongEnough log w0 → length snapshot ≡ image_size log.geometry → length pending ≡ piece_count log.geometry → AreBytes w0.now
@@ -47,22 +46,14 @@ module _ {log : Log} {snapshot : List ℕ} {named others pending : List Bool} {p
       let back : other (other log.named) ≡ log.named = omega (arith, is_area) in
       record {
         some = ap is_some same ∙ sound.some;
-        recovers =
-            subst (λ (h : ℕ). RecoversByArea log.geometry (other log.named) h (recovered_state log.geometry w1.now) w1) (sym placed.0)
-            (subst (λ (o : Option State). RecoversByArea log.geometry (other log.named) (other log.named) o w1) (sym same) flipped.at.recovers);
-        ready = subst (λ (h : ℕ). IsReady (layout_of log.geometry) h log.used w1) (sym placed.0) flipped.at.ready;
+        recovers = rw (placed.0, same) flipped.at.recovers;
+        ready = rw placed.0 flipped.at.ready;
         same_records = forced_synced log.geometry w1 flipped.at.synced;
         count = λ none. ap length flipped.alone ∙ front_count (layout_of log.geometry) (other log.named) log.used w1 flipped.at.ready;
         state = λ x is. sound.state x (sym same ∙ is);
-        named_up_to_date =
-            subst (λ (o : Option State). IsUpToDate log.geometry o others (image_in log.geometry (other log.named) w1)) (sym same)
-            (subst (λ (l : List ℕ). IsUpToDate log.geometry (recovered_state log.geometry w0.now) others l) (sym (flipped.images (other log.named) (omega arith) ∙ written.is))
-            sound'.other_up_to_date);
-        snapshot_up_to_date = λ none. subst (λ (o : Option State). IsUpToDate log.geometry o others snapshot) (sym same) sound'.other_up_to_date;
-        other_up_to_date =
-            subst (λ (o : Option State). IsUpToDate log.geometry o named (image_in log.geometry (other (other log.named)) w1)) (sym same)
-            (subst (λ (n : ℕ). IsUpToDate log.geometry (recovered_state log.geometry w0.now) named (image_in log.geometry n w1)) (sym back)
-            (subst (λ (l : List ℕ). IsUpToDate log.geometry (recovered_state log.geometry w0.now) named l) (sym (flipped.images log.named is_area)) sound.named_up_to_date));
+        named_up_to_date = rw (same, flipped.images (other log.named) (omega arith) ∙ written.is) sound'.other_up_to_date;
+        snapshot_up_to_date = λ none. rw same sound'.other_up_to_date;
+        other_up_to_date = rw (same, back, flipped.images log.named is_area) sound.named_up_to_date;
         by_cut = tt;
       }
 

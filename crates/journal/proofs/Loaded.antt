@@ -64,9 +64,7 @@ loaded_log g n = with_half_named n (new_log g)
 
 pub held_after : {g : Geometry} {log : Log} {n : ℕ} {t u : Bool} {x : State} → (w0 w1 : Medium) → log ≡ loaded_log g n → t ≡ u → moments w1
     ≡ moments w0 → NamedHolds g w0.now n t x → NamedHolds log.geometry w1.now log.named u x
-held_after {g} {n} {t} {u} {x} w0 w1 is chained only held =
-    subst (λ (l : Log). NamedHolds l.geometry w1.now l.named u x) (sym is)
-    (subst (λ (b : Bool). NamedHolds g w1.now n b x) chained (subst (λ (c : List ℕ). NamedHolds g c n t x) (sym (same_bytes w0 w1 only)) held))
+held_after {g} {n} {t} {u} {x} w0 w1 is chained only held = rw (is, ← chained, same_bytes w0 w1 only) held
 
 -- ---- the parts
 
@@ -115,9 +113,7 @@ made {p} {q} {r} {w3} taken same room loaded room' tree log long =
       not_failed = ap (λ (l : Log). l.failed) log ∙ loaded.not_failed;
       current_is_named = ap (λ (l : Log). l.current) log ∙ sym (ap (λ (l : Log). l.named) log);
       used = ap (λ (l : Log). l.used) log;
-      long_enough =
-          subst (λ (h : Geometry). device_size (layout_of h) ≤ length w3.now) (sym is)
-          (subst (λ (n : ℕ). device_size (layout_of q.halves.geometry) ≤ n) (sym long) loaded.long_enough);
+      long_enough = rw (is, long) loaded.long_enough;
       snapshot = kept.snapshot ∙ taken.snapshot ∙ sym (ap image_size (is ∙ same));
       named_dirty = (λ i. length (kept.named_dirty i).items) ∙ taken.named_dirty ∙ sym (ap piece_count (is ∙ same));
       other_dirty = (λ i. length (kept.other_dirty i).items) ∙ taken.other_dirty ∙ sym (ap piece_count (is ∙ same));

@@ -30,7 +30,6 @@ use Rattle.language.specs.Messages.{is_in_range}
 use Rattle.message.specs.Records.{message_in_fields, record_of}
 use Rattle.message.proofs.RecordLemmas.{record_says}
 use Rattle.oplog.specs.Calls.{Grows, HasAdded}
-use Rattle.oplog.specs.Changes.{IsReady}
 use Rattle.oplog.specs.Front.{chain, front}
 use Rattle.device_map.specs.Layout.{layout_of, image_part, other}
 use Rattle.oplog.specs.Log.{Log}
@@ -219,26 +218,24 @@ module _ {log : Log} {snapshot : List ℕ} {named others pending : List Bool} {p
         let used : log.used + length (records_of ms) ≡ log.used + length ms = ap (λ (n : ℕ). log.used + n) (length-map ms record_of) in
         record {
           some = ap is_some log_committed;
-          recovers = subst (λ (o : Option State). RecoversByArea log.geometry log.named log.current o w1) (sym log_committed) recovers;
-          ready = subst (λ (n : ℕ). IsReady (layout_of log.geometry) log.current n w1) used has.ready;
+          recovers = rw log_committed recovers;
+          ready = rw (← used) has.ready;
           same_records = log_forced has;
           count = log_count has;
-          state = λ z is'. subst (λ (s : State). IsState log.geometry s) (ap (λ (o : Option State). unwrap_or o x) (sym log_committed ∙ is')) (carried_state log.geometry x ms (sound.state x is) out);
+          state = λ z is'. rw (← ap (λ (o : Option State). unwrap_or o x) (sym log_committed ∙ is'))
+              (carried_state log.geometry x ms (sound.state x is) out);
           named_up_to_date =
-              subst (λ (o : Option State). IsUpToDate log.geometry o named' (image_in log.geometry log.named w1)) (sym log_committed)
-              (fresh_more ms named named' (image_in log.geometry log.named w1) (sound.state x is) out touched.named
+              rw log_committed (fresh_more ms named named' (image_in log.geometry log.named w1) (sound.state x is) out touched.named
               (subst (λ (l : List ℕ). IsUpToDate log.geometry (Some x) named l) (sym (images log.named is_area))
               (subst (λ (o : Option State). IsUpToDate log.geometry o named (image_in log.geometry log.named w0)) is sound.named_up_to_date)));
           snapshot_up_to_date = λ none.
-              subst (λ (o : Option State). IsUpToDate log.geometry o named' snapshot) (sym log_committed)
-              (fresh_more ms named named' snapshot (sound.state x is) out touched.named
+              rw log_committed (fresh_more ms named named' snapshot (sound.state x is) out touched.named
               (subst (λ (o : Option State). IsUpToDate log.geometry o named snapshot) is (sound.snapshot_up_to_date none)));
           other_up_to_date =
-              subst (λ (l : List ℕ). IsUpToDate log.geometry (recovered_state log.geometry w1.now) others' l) (sym (coming_used log (log.used + length ms) snapshot pieces_left w1))
-              (subst (λ (o : Option State). IsUpToDate log.geometry o others' (image_after_cut log snapshot pieces_left w1)) (sym log_committed)
+              rw (coming_used log (log.used + length ms) snapshot pieces_left w1, log_committed)
               (fresh_more ms others others' (image_after_cut log snapshot pieces_left w1) (sound.state x is) out touched.other
               (subst (λ (l : List ℕ). IsUpToDate log.geometry (Some x) others l) (sym (still_coming pieces_left))
-              (subst (λ (o : Option State). IsUpToDate log.geometry o others (image_after_cut log snapshot pieces_left w0)) is sound.other_up_to_date))));
+              (subst (λ (o : Option State). IsUpToDate log.geometry o others (image_after_cut log snapshot pieces_left w0)) is sound.other_up_to_date)));
           by_cut = cut_used log (log.used + length ms) snapshot pending pieces_left w1 (cut_more pieces_left placed sound.by_cut);
         }
 
@@ -249,8 +246,7 @@ placed_used log used pending None placed = placed
 placed_used log used pending (Some k) placed = placed
 
 pub touched_along : {g g' : Geometry} → (ms : List Msg) → {old old' new new' : List Bool} → g ≡ g' → old ≡ old' → new' ≡ new → DirtiesTouched g ms old new → DirtiesTouched g' ms old' new'
-touched_along {g} ms {old} {old'} {new'} same was is touched =
-    subst (λ (x : Geometry). DirtiesTouched x ms old' new') same (subst (λ (l : List Bool). DirtiesTouched g ms l new') was (subst (λ (l : List Bool). DirtiesTouched g ms old l) (sym is) touched))
+touched_along {g} ms {old} {old'} {new'} same was is touched = rw (← same, ← was, is) touched
 
 pub log_kept : {log : Log} {snapshot : List ℕ} {named others pending named' others' : List Bool} {pieces_left : Option ℕ} → (ms : List Msg) → {w0 w1 : Medium} → AreBytes w0.now
     → AreBytes w1.now → IsSoundJournal log snapshot named others pending pieces_left w0

@@ -125,8 +125,7 @@ patch_synced {g} {area} {bytes} {w0} {w} is_area size whole so_far syncs =
     })
 
 pub along_patch : {g : Geometry} {area from from' : ℕ} {bytes : List ℕ} {w0 w w' : Medium} → from' ≡ from → w' ≡ w → IsPatched g area from bytes w0 w → IsPatched g area from' bytes w0 w'
-along_patch {g} {area} {from'} {bytes} {w0} {w} same still so_far =
-    subst (λ (m : Medium). IsPatched g area from' bytes w0 m) (sym still) (subst (λ (n : ℕ). IsPatched g area n bytes w0 w) (sym same) so_far)
+along_patch {g} {area} {from'} {bytes} {w0} {w} same still so_far = rw (still, same) so_far
 
 -- ---- one extent
 

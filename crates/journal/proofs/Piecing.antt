@@ -9,8 +9,8 @@ use Rattle.disk.specs.Moments.{CrashImagesAre}
 use Rattle.disk.proofs.Leaves.{itself}
 use Rattle.disk.proofs.Moments.{leaves_now}
 use Rattle.image.specs.Image.{image_state}
-use Rattle.journal.specs.Images.{PatchesAt, PatchesUnnamed}
-use Rattle.journal.specs.Keeping.{IsUpToDate, FitsCutState, IsSoundJournal}
+use Rattle.journal.specs.Images.{PatchesUnnamed}
+use Rattle.journal.specs.Keeping.{FitsCutState, IsSoundJournal}
 use Rattle.journal.specs.DirtyPieces.{count_dirty}
 use Rattle.journal.specs.Steps.{RecoversByArea, run_on}
 use Rattle.journal.specs.Extents.{IsPatchedAt, image_in, extent_in}
@@ -26,7 +26,6 @@ use Rattle.oplog.specs.Recovery.{named_area, records_in}
 use Rattle.device_map.specs.Layout.{layout_of, half_part, image_part, other}
 use Rattle.oplog.specs.Log.{Log}
 use Rattle.oplog.proofs.AfterCrash.{image_by_area}
-use Rattle.meaning.specs.State.{State}
 
 -- ---- how many are left
 
@@ -65,8 +64,7 @@ pub record IsPieced (g : Geometry) (area n : ℕ) (bytes : List ℕ) (old new : 
 
 pub pieced_along : {g g' : Geometry} {a a' n : ℕ} {bytes bytes' : List ℕ} {w0 w1 : Medium} → g ≡ g' → a ≡ a' → bytes ≡ bytes'
     → IsPieced g (other a) n bytes w0 w1 → IsPieced g' (other a') n bytes' w0 w1
-pieced_along {g'} {a} {a'} {n} {bytes} {w0} {w1} same same' are held =
-    subst (λ (l : List ℕ). IsPieced g' (other a') n l w0 w1) are (subst (λ (b : ℕ). IsPieced g' (other b) n bytes w0 w1) same' (subst (λ (x : Geometry). IsPieced x (other a) n bytes w0 w1) same held))
+pieced_along {g'} {a} {a'} {n} {bytes} {w0} {w1} same same' are held = rw (← are, ← same', ← same) held
 
 module _ {log : Log} {snapshot : List ℕ} {named others pending : List Bool} {pieces_left : Option ℕ} {w0 : Medium} (w1 : Medium) (are : AreBytes w0.now)
     (sound : IsSoundJournal log snapshot named others pending pieces_left w0) where
@@ -106,17 +104,14 @@ module _ {log : Log} {snapshot : List ℕ} {named others pending : List Bool} {p
         let other_half = half_same (layout_of log.geometry) (other log.named) w0.now w1.now (pieced.same.others (half_part (other log.named)) (λ is. omega (arith, is))) in
         record {
           some = ap is_some same ∙ sound.some;
-          recovers = subst (λ (o : Option State). RecoversByArea log.geometry log.named log.current o w1) (sym same) (recovers pieced.moments);
+          recovers = rw same (recovers pieced.moments);
           ready = pieced.ready log.current log.used (half_below log.geometry log.named log.current (recovered_state log.geometry w0.now) w0 are sound.recovers) sound.ready;
           same_records = λ c left. each_forced pieced.moments c left ∙ sym (piece_records pieced.moments);
           count = λ none. absurd (true≢false (ap is_some none));
           state = λ x is. sound.state x (sym same ∙ is);
-          named_up_to_date =
-              subst (λ (o : Option State). IsUpToDate log.geometry o named (image_in log.geometry log.named w1)) (sym same)
-              (subst (λ (l : List ℕ). IsUpToDate log.geometry (recovered_state log.geometry w0.now) named l)
-              (sym (pieced.same.others (image_part log.named) (λ is. omega (arith, is, is_area)))) sound.named_up_to_date);
+          named_up_to_date = rw (same, pieced.same.others (image_part log.named) (λ is. omega (arith, is, is_area))) sound.named_up_to_date;
           snapshot_up_to_date = λ none. absurd (true≢false (ap is_some none));
-          other_up_to_date = subst (λ (o : Option State). IsUpToDate log.geometry o others snapshot) (sym same) sound'.other_up_to_date;
+          other_up_to_date = rw same sound'.other_up_to_date;
           by_cut = record {
             behind = ap (λ (rs : List (List ℕ)). run_on log.geometry (image_state log.geometry snapshot) rs) other_half.0 ∙ sound'.by_cut.behind ∙ sym same;
             written = λ i few' clean.
@@ -132,8 +127,7 @@ module _ {log : Log} {snapshot : List ℕ} {named others pending : List Bool} {p
 -- the write changes one piece of the image that isn't named, in the words of contracts
 pub patches_one : {g : Geometry} {n k : ℕ} {bytes : List ℕ} {w0 w1 : Medium} → named_area (layout_of g) w0.now ≡ n → IsPieced g (other n) k bytes w0 w1
     → PatchesUnnamed g w0.now w1.now
-patches_one {g} {k} {w0} {w1} named pieced =
-    subst (λ (m : ℕ). PatchesAt g (other m) w0.now w1.now) (sym named) (record { piece = k; same = pieced.same; others = pieced.is.others })
+patches_one {g} {k} {w0} {w1} named pieced = rw named (record { piece = k; same = pieced.same; others = pieced.is.others })
 
 pub some_left : (o : Option ℕ) → is_some o ≡ true → (l : ℕ) × (o ≡ Some l)
 some_left None some = absurd (true≢false (sym some))

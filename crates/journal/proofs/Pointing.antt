@@ -1,5 +1,5 @@
 -- What a crash leaves at each moment of a point, and what is on the device at its end.
-use Rattle.std.proofs.Common.{◌≡◌, ◌<◌, ◌≤◌, ℕ, Bool, false, eqb, List, [], length, Option, refl, sym, ◌∙◌, ap, subst, arith}
+use Rattle.std.proofs.Common.{◌≡◌, ◌<◌, ◌≤◌, ℕ, Bool, false, eqb, List, [], length, Option, refl, ◌∙◌, ap, subst, arith}
 use Rattle.affinity.specs.declared.geometry.Geometry.{Geometry}
 use Rattle.checkpoint.specs.Recovery.{recovered_state, decoding}
 use Rattle.disk.specs.Device.{AreBytes, Medium}
@@ -125,8 +125,7 @@ module _ (log : Log) (is_area : log.named < 2) (w0 w1 : Medium) (alone : Recover
 -- extents that are on the device before the other half is cleared are there afterwards
 pub still_clean : (g : Geometry) (n : ℕ) (dirty : List Bool) (bytes : List ℕ) → {h : ℕ} {w0 w1 : Medium} → h < 2 → Cleared (layout_of g) h w0 w1
     → AgreeOnClean g dirty (image_in g n w0) bytes → AgreeOnClean g dirty (image_in g n w1) bytes
-still_clean g n dirty bytes is_half cleared agree =
-    subst (λ (l : List ℕ). AgreeOnClean g dirty l bytes) (sym (cleared.same.same.others (image_part n) (λ is. omega (arith, is, is_half)))) agree
+still_clean g n dirty bytes is_half cleared agree = rw (cleared.same.same.others (image_part n) (λ is. omega (arith, is, is_half))) agree
 
 -- what was written of the image that isn't named, in the words of the log
 pub other_written : {g g' : Geometry} {n n' : ℕ} → (w0 w1 : Medium) → g' ≡ g → n' ≡ n → CrashesChangeOnly w0 w1 (IsSameBut (layout_of g') (image_part (other n')))

@@ -1,5 +1,5 @@
 -- Dirty flags, and what is known of an image by them.
-use Rattle.std.proofs.Common.{◌≡◌, ◌≢◌, ◌↔◌, ⊎_elim, ℕ, zero, suc, ◌+◌, ◌<◌, ◌≤◌, Bool, true, false, ◌&&◌, List, [], ◌∷◌, ◌++◌, length, take, drop, get_or, set, refl, sym, ◌∙◌, ap, subst, arith, true≢false}
+use Rattle.std.proofs.Common.{◌≡◌, ◌≢◌, ◌↔◌, ⊎_elim, ℕ, zero, suc, ◌+◌, ◌<◌, ◌≤◌, Bool, true, false, ◌&&◌, List, [], ◌∷◌, ◌++◌, length, take, drop, get_or, set, refl, sym, ◌∙◌, ap, arith, true≢false}
 use Rattle.std.specs.List.{AllByRecursion}
 use Rattle.std.proofs.lemmas.Bool.{cases_eq, cases_lt, eqb-true, false_from_ne_true}
 use Rattle.std.specs.Prelude.{◌==◌}
@@ -188,11 +188,10 @@ module _ (g : Geometry) (old : List Bool) where
             let after = last.0 clean in
             let before = first.0 after.0 in (
               before.0,
-              subst (λ (l : List Msg). AllByRecursion (λ m. may_change g m n ≡ false) l) (sym spelled)
-                  (all_join (λ m. may_change g m n ≡ false) (take i ms) (get_or ms i d ∷ []) before.1 after.1),
+              rw spelled (all_join (λ m. may_change g m n ≡ false) (take i ms) (get_or ms i d ∷ []) before.1 after.1),
             )),
         (λ both.
-            let parts = all-parts (λ m. may_change g m n ≡ false) (take i ms) (get_or ms i d ∷ []) (subst (λ (l : List Msg). AllByRecursion (λ m. may_change g m n ≡ false) l) spelled both.1) in
+            let parts = all-parts (λ m. may_change g m n ≡ false) (take i ms) (get_or ms i d ∷ []) (rw (← spelled) both.1) in
             last.1 (first.1 (both.0, parts.0), parts.1)),
       )
     where

@@ -48,8 +48,7 @@ module _ (g : Geometry) (x : Option State) (y : State) (snapshot : List ℕ) (is
 
 -- where all pieces are dirty, no piece has to be that of the state
 pub all_right : (g h : Geometry) (y : State) (dirty : List Bool) (bytes : List ℕ) → g ≡ h → AreAllDirty h dirty → AreCleanExtentsOf g y dirty bytes
-all_right g h y dirty bytes same all =
-    subst (λ (z : Geometry). AreCleanExtentsOf z y dirty bytes) (sym same) (λ n few clean. absurd (true≢false (sym (all n few) ∙ clean)))
+all_right g h y dirty bytes same all = rw same (λ n few clean. absurd (true≢false (sym (all n few) ∙ clean)))
 
 -- ---- of a journal with no cut in progress
 
@@ -57,9 +56,7 @@ all_right g h y dirty bytes same all =
 pub snapshot_right : {log : Log} {snapshot : List ℕ} {named others pending : List Bool} {pieces_left : Option ℕ} {w0 : Medium} {y : State} {g : Geometry} {dirty : List Bool} {bytes : List ℕ}
     → pieces_left ≡ None → IsSoundJournal log snapshot named others pending pieces_left w0 → recovered_state log.geometry w0.now ≡ Some y
     → g ≡ log.geometry → dirty ≡ named → bytes ≡ snapshot → AreCleanExtentsOf g y dirty bytes
-snapshot_right {log} {named} {y} {dirty} {bytes} alone sound is same same' same'' =
-    subst (λ (h : Geometry). AreCleanExtentsOf h y dirty bytes) (sym same) (subst (λ (row : List Bool). AreCleanExtentsOf log.geometry y row bytes) (sym same')
-    (subst (λ (l : List ℕ). AreCleanExtentsOf log.geometry y named l) (sym same'') (sound.snapshot_up_to_date alone y is)))
+snapshot_right {log} {named} {y} {dirty} {bytes} alone sound is same same' same'' = rw (same, same', same'') (sound.snapshot_up_to_date alone y is)
 
 -- What `point` and `cut` ask of a journal and of the tree.
 pub record AsksToSave (self : JournalView) (tree : TreeView) : Type 0 where
@@ -123,23 +120,16 @@ module _ {log : Log} {snapshot snapshot' : List ℕ} {named others pending : Lis
         let back : other (other log.named) ≡ log.named = omega (arith, is_area) in
         record {
           some = ap is_some same ∙ f.sound.some;
-          recovers = subst (λ (o : Option State). RecoversByArea log.geometry (other log.named) (other log.named) o w1) (sym same) made.at.recovers;
+          recovers = rw same made.at.recovers;
           ready = made.at.ready;
           same_records = forced_synced log.geometry w1 made.at.synced;
           count = λ none. ap length made.emptied;
           state = λ x is'. f.sound.state x (sym same ∙ is');
           named_up_to_date =
-              subst (λ (o : Option State). IsUpToDate log.geometry o named' (image_in log.geometry (other log.named) w1)) (sym same)
-              (subst (λ (l : List ℕ). IsUpToDate log.geometry (recovered_state log.geometry w0.now) named' l) (sym made.is)
-              (snapshot_up_to_date log.geometry (recovered_state log.geometry w0.now) y snapshot' f.is f.is_state f.spelled named'));
+              rw (same, made.is) (snapshot_up_to_date log.geometry (recovered_state log.geometry w0.now) y snapshot' f.is f.is_state f.spelled named');
           snapshot_up_to_date = λ none.
-              subst (λ (o : Option State). IsUpToDate log.geometry o named' snapshot') (sym same)
-              (snapshot_up_to_date log.geometry (recovered_state log.geometry w0.now) y snapshot' f.is f.is_state f.spelled named');
-          other_up_to_date =
-              subst (λ (o : Option State). IsUpToDate log.geometry o others' (image_in log.geometry (other (other log.named)) w1)) (sym same)
-              (subst (λ (n : ℕ). IsUpToDate log.geometry (recovered_state log.geometry w0.now) others' (image_in log.geometry n w1)) (sym back)
-              (subst (λ (l : List ℕ). IsUpToDate log.geometry (recovered_state log.geometry w0.now) others' l) (sym made.kept)
-              (subst (λ (row : List Bool). IsUpToDate log.geometry (recovered_state log.geometry w0.now) row (image_in log.geometry log.named w0)) (sym same_dirty) f.sound.named_up_to_date)));
+              rw same (snapshot_up_to_date log.geometry (recovered_state log.geometry w0.now) y snapshot' f.is f.is_state f.spelled named');
+          other_up_to_date = rw (same, back, made.kept, same_dirty) f.sound.named_up_to_date;
           by_cut = tt;
         }
 
@@ -151,23 +141,18 @@ module _ {log : Log} {snapshot snapshot' : List ℕ} {named others pending : Lis
         let same = cut_committed begun in
         record {
           some = ap is_some same ∙ f.sound.some;
-          recovers = subst (λ (o : Option State). RecoversByArea log.geometry log.named (other log.named) o w1) (sym same) begun.at.recovers;
+          recovers = rw same begun.at.recovers;
           ready = begun.at.ready;
           same_records = forced_synced log.geometry w1 begun.at.synced;
           count = λ none. absurd (true≢false (ap is_some none));
           state = λ x is'. f.sound.state x (sym same ∙ is');
-          named_up_to_date =
-              subst (λ (o : Option State). IsUpToDate log.geometry o named (image_in log.geometry log.named w1)) (sym same)
-              (subst (λ (l : List ℕ). IsUpToDate log.geometry (recovered_state log.geometry w0.now) named l) (sym (begun.images log.named is_area)) f.sound.named_up_to_date);
+          named_up_to_date = rw (same, begun.images log.named is_area) f.sound.named_up_to_date;
           snapshot_up_to_date = λ none. absurd (true≢false (ap is_some none));
-          other_up_to_date = subst (λ (o : Option State). IsUpToDate log.geometry o others' snapshot') (sym same)
-              (snapshot_up_to_date log.geometry (recovered_state log.geometry w0.now) y snapshot' f.is f.is_state f.spelled others');
+          other_up_to_date = rw same (snapshot_up_to_date log.geometry (recovered_state log.geometry w0.now) y snapshot' f.is f.is_state f.spelled others');
           by_cut = record {
             behind = ap (λ (rs : List (List ℕ)). run_on log.geometry (image_state log.geometry snapshot') rs) begun.none
                 ∙ run_none log.geometry (image_state log.geometry snapshot') ∙ reads ∙ sym same;
-            written =
-                subst (λ (row : List Bool). AgreeOnClean log.geometry row (image_in log.geometry (other log.named) w1) snapshot') (sym same_dirty)
-                (subst (λ (l : List ℕ). AgreeOnClean log.geometry others l snapshot') (sym (begun.images (other log.named) (omega arith))) agrees);
+            written = rw (same_dirty, begun.images (other log.named) (omega arith)) agrees;
             version = ap version_in f.spelled;
           };
         }
@@ -194,18 +179,15 @@ opened_sound {log} {snapshot} {named} {w0} {w1} {y} held spelled all are made =
     let same = holds_now log.geometry (other log.named) (other log.named) (recovered_state log.geometry w0.now) w1 are made.at.recovers in
     record {
       some = ap is_some same ∙ held.alone.some;
-      recovers = subst (λ (o : Option State). RecoversByArea log.geometry (other log.named) (other log.named) o w1) (sym same) made.at.recovers;
+      recovers = rw same made.at.recovers;
       ready = made.at.ready;
       same_records = forced_synced log.geometry w1 made.at.synced;
       count = λ none. ap length made.emptied;
-      state = λ x is. subst (λ (s : State). IsState log.geometry s) (ap (λ (o : Option State). unwrap_or o y) (sym held.is ∙ sym same ∙ is)) held.state;
+      state = λ x is. rw (← ap (λ (o : Option State). unwrap_or o y) (sym held.is ∙ sym same ∙ is)) held.state;
       named_up_to_date =
-          subst (λ (o : Option State). IsUpToDate log.geometry o named (image_in log.geometry (other log.named) w1)) (sym same)
-          (subst (λ (l : List ℕ). IsUpToDate log.geometry (recovered_state log.geometry w0.now) named l) (sym made.is)
-          (snapshot_up_to_date log.geometry (recovered_state log.geometry w0.now) y snapshot held.is held.state spelled named));
+          rw (same, made.is) (snapshot_up_to_date log.geometry (recovered_state log.geometry w0.now) y snapshot held.is held.state spelled named);
       snapshot_up_to_date = λ none.
-          subst (λ (o : Option State). IsUpToDate log.geometry o named snapshot) (sym same)
-          (snapshot_up_to_date log.geometry (recovered_state log.geometry w0.now) y snapshot held.is held.state spelled named);
+          rw same (snapshot_up_to_date log.geometry (recovered_state log.geometry w0.now) y snapshot held.is held.state spelled named);
       other_up_to_date = λ z is' n few clean. absurd (true≢false (sym (all n few) ∙ clean));
       by_cut = tt;
     }

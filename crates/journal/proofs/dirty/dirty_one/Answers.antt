@@ -1,7 +1,7 @@
 -- All pieces of the message's volume are looked at, and it changes none of another volume.
-use Rattle.std.proofs.Common.{◌≡◌, ◌+◌, ◌<◌, Bool, false, List, length, sym, ◌∙◌, subst, arith}
+use Rattle.std.proofs.Common.{◌≡◌, ◌<◌, false, length, sym, ◌∙◌, arith}
 use Rattle.image.specs.Touched.{may_change}
-use Rattle.journal.proofs.Rows.{AreMarked, all_looked, none_looked, one_passed, one_touched}
+use Rattle.journal.proofs.Rows.{all_looked, none_looked, one_passed, one_touched}
 use Rattle.journal.proofs.dirty.dirty_one.Goals as goal
 use Rattle.journal.proofs.dirty.dirty_one.Goals.{then-touched, else-touched}
 
@@ -13,12 +13,11 @@ loop-n-preserved c =
     let few : c.loop-n.n < length c.loop-n.dirty = omega (arith, c.loop-n-test.true, c.loop-n.invariant.size) in
     elim c.if-touched.branch [
       | then-touched w ↦
-          subst (λ (l : List Bool). AreMarked c.args.g.now c.args.m.now (c.loop-n.n + 1) c.args.dirty.now l) (sym w.dirty-is)
+          rw w.dirty-is
           (one_touched c.args.g.now c.args.m.now c.loop-n.n c.args.dirty.now c.loop-n.dirty few (sym c.touched.ensures ∙ w.if-touched.true) c.loop-n.invariant)
       | else-touched w ↦
           let off : may_change c.args.g.now c.args.m.now c.loop-n.n ≡ false = sym c.touched.ensures ∙ w.if-touched.false in
-          subst (λ (l : List Bool). AreMarked c.args.g.now c.args.m.now (c.loop-n.n + 1) c.args.dirty.now l) (sym w.dirty-is)
-          (one_passed c.args.g.now c.args.m.now c.loop-n.n c.args.dirty.now c.loop-n.dirty off c.loop-n.invariant)
+          rw w.dirty-is (one_passed c.args.g.now c.args.m.now c.loop-n.n c.args.dirty.now c.loop-n.dirty off c.loop-n.invariant)
     ]
 
 pub returns-clause-touched : goal.returns-clause-touched

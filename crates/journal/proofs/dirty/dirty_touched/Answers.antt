@@ -1,9 +1,7 @@
 -- Each message adds its flags to those of the messages before it.
-use Rattle.std.proofs.Common.{◌∙◌, List, refl, subst, arith}
+use Rattle.std.proofs.Common.{◌∙◌, refl, arith}
 use Rattle.std.proofs.lemmas.List.{take_all}
-use Rattle.journal.specs.DirtyPieces.{DirtiesTouched}
 use Rattle.journal.proofs.Rows.{message_more, no_message}
-use Rattle.language.specs.declared.Msg.{Msg}
 use Rattle.journal.proofs.dirty.dirty_touched.Goals as goal
 
 pub loop-m-init : goal.loop-m-init
@@ -16,5 +14,4 @@ loop-m-preserved c = record {
 }
 
 pub returns-clause-touched : goal.returns-clause-touched
-returns-clause-touched c =
-    subst (λ (l : List Msg). DirtiesTouched c.args.g.now l c.args.dirty.now c.loop-m.dirty) (take_all c.loop-m.m-index c.args.messages.now (omega arith)) c.loop-m.invariant.touched
+returns-clause-touched c = rw (← take_all c.loop-m.m-index c.args.messages.now (omega arith)) c.loop-m.invariant.touched

@@ -11,7 +11,6 @@ use Rattle.disk.proofs.Leaves.{itself}
 use Rattle.disk.proofs.Moments.{leaves_now, same}
 use Rattle.image.specs.Image.{image_state}
 use Rattle.journal.specs.Opening.{area_state}
-use Rattle.journal.specs.Steps.{RecoversByNamedAlone}
 use Rattle.journal.proofs.Costs.{no_call}
 use Rattle.checkpoint.proofs.Behind.{behind_fine, behind_holds, behind_refused}
 use Rattle.journal.proofs.Loaded.{are_loaded}
@@ -88,8 +87,7 @@ returns-clause-alike g c = λ k. same _ _ _ _ (c.finish_cut.ensures.alike k) (c.
 pub returns-clause-alone : goal.returns-clause-alone
 returns-clause-alone g c = λ k.
     let more = sym (begins (λ h x b rs. run (decoding h) (Some x) rs) g (goal.at.returns-clause-alone g c).After-replay k) ∙ c.in_ok-replay.ensures.done k in
-    subst (λ (l : Log). RecoversByNamedAlone l (g.D.Disk.medium c.replay.new.disk)) (sym (c.in_ok-replay.ensures.log ∙ c.in_ok-finish_cut.ensures.log))
-    (alone_finished (g.met.D.Disk.bytes c.replay.new.disk)
+    rw (c.in_ok-replay.ensures.log ∙ c.in_ok-finish_cut.ensures.log) (alone_finished (g.met.D.Disk.bytes c.replay.new.disk)
     (same _ _ _ _ (c.finish_cut.ensures.any_moment k) (c.replay.ensures.untouched k)) (behind_holds c.args.parts.now.halves.geometry (g.D.Disk.medium c.args.disk.now).now
     c.args.parts.now.halves.named (state_in c.args.parts.now.tree) (c.requires.recovers k) (state_in c.replay.new.tree) more) (c.in_ok-finish_cut.ensures.finished k) (c.replay.ensures.untouched k))
 

@@ -1,8 +1,7 @@
 -- Without a cut in progress the named area holds the state; else the cut is finished, and the records behind it are run.
-use Rattle.std.proofs.Common.{Bool, true, false, refl, sym, ◌∙◌, ap, subst, arith}
+use Rattle.std.proofs.Common.{true, false, refl, sym, ◌∙◌, ap, subst, arith}
 use Rattle.std.proofs.lemmas.Result.{err_from_is_err_and}
 use Rattle.std.proofs.lemmas.Bool.{not-true, not-false}
-use Rattle.affinity.specs.declared.geometry.Geometry.{Geometry}
 use Rattle.checkpoint.specs.Loading.{NamedHolds}
 use Rattle.checkpoint.specs.Recovery.{recovered_state}
 use Rattle.checkpoint.specs.Refusals.{refused}
@@ -27,28 +26,23 @@ moments : (g : Over) (c : After-finish_cut_and_replay g) → g.D.Disk.keeps
     → RecoversStill c.args.parts.now.tree.geometry (g.D.Disk.medium c.args.disk.now) (g.D.Disk.medium c.finish_cut_and_replay.new.disk)
 moments g c k =
     still_after c.args.parts.now.tree.geometry _ (g.D.Disk.medium c.load_named.new.disk) _ (c.requires.synced k) (c.load_named.ensures.untouched k)
-    (subst (λ (h : Geometry). RecoversStill h (g.D.Disk.medium c.load_named.new.disk) (g.D.Disk.medium c.finish_cut_and_replay.new.disk)) (ap (λ (l : Log). l.geometry) c.in_ok-named.ensures.log)
-    (c.finish_cut_and_replay.ensures.any_moment k))
+    (rw (← ap (λ (l : Log). l.geometry) c.in_ok-named.ensures.log) (c.finish_cut_and_replay.ensures.any_moment k))
 
 alike : (g : Over) (c : After-finish_cut_and_replay g) → g.D.Disk.keeps
     → CrashImagesAre (g.D.Disk.medium c.args.disk.now) (g.D.Disk.medium c.finish_cut_and_replay.new.disk) (IsRefusedAlike c.args.parts.now.tree.geometry (g.D.Disk.medium c.args.disk.now).now)
 alike g c k =
     alike_after c.args.parts.now.tree.geometry _ (g.D.Disk.medium c.load_named.new.disk) _ (c.requires.header k) (c.requires.synced k) (c.load_named.ensures.untouched k)
-    (subst (λ (h : Geometry). CrashImagesAre (g.D.Disk.medium c.load_named.new.disk) (g.D.Disk.medium c.finish_cut_and_replay.new.disk)
-    (IsRefusedAlike h (g.D.Disk.medium c.load_named.new.disk).now)) (ap (λ (l : Log). l.geometry) c.in_ok-named.ensures.log) (c.finish_cut_and_replay.ensures.alike k))
+    (rw (← ap (λ (l : Log). l.geometry) c.in_ok-named.ensures.log) (c.finish_cut_and_replay.ensures.alike k))
 
 stays : (g : Over) (c : After-finish_cut_and_replay g) → g.D.Disk.keeps
     → KeepsBeyond (layout_of c.args.parts.now.tree.geometry) (g.D.Disk.medium c.args.disk.now) (g.D.Disk.medium c.finish_cut_and_replay.new.disk)
 stays g c k =
     beyond_then (layout_of c.args.parts.now.tree.geometry) _ (g.D.Disk.medium c.load_named.new.disk) _ (beyond_read (layout_of c.args.parts.now.tree.geometry) _ _ (c.load_named.ensures.untouched k))
-    (subst (λ (h : Geometry). KeepsBeyond (layout_of h) (g.D.Disk.medium c.load_named.new.disk) (g.D.Disk.medium c.finish_cut_and_replay.new.disk))
-    (ap (λ (l : Log). l.geometry) c.in_ok-named.ensures.log) (c.finish_cut_and_replay.ensures.beyond k))
+    (rw (← ap (λ (l : Log). l.geometry) c.in_ok-named.ensures.log) (c.finish_cut_and_replay.ensures.beyond k))
 
 held : (g : Over) (c : Then-not-named g) → g.D.Disk.keeps → NamedHolds c.args.parts.now.tree.geometry (g.D.Disk.medium c.args.disk.now).now c.in_ok-named.named.area false
     (state_in c.load_named.new.tree)
-held g c k =
-    subst (λ (t : Bool). NamedHolds c.args.parts.now.tree.geometry (g.D.Disk.medium c.args.disk.now).now c.in_ok-named.named.area t (state_in c.load_named.new.tree))
-    (not-true c.in_ok-named.named.chained c.if-not-named.true) (c.in_ok-named.ensures.loaded k)
+held g c k = rw (← not-true c.in_ok-named.named.chained c.if-not-named.true) (c.in_ok-named.ensures.loaded k)
 
 pub returns-in_err-named-clause-any_moment : goal.returns-in_err-named-clause-any_moment
 returns-in_err-named-clause-any_moment g c = λ k. still_read c.args.parts.now.tree.geometry _ _ (c.requires.synced k) (c.load_named.ensures.untouched k)

@@ -3,9 +3,7 @@
 use Rattle.std.proofs.Common.{◌≡◌, ◌≤◌, Bool, List, ℕ, length, sym, ◌∙◌, ap, subst, arith}
 use Rattle.std.proofs.lemmas.Result.{err_from_is_err_and}
 use Rattle.affinity.specs.declared.geometry.Geometry.{Geometry}
-use Rattle.checkpoint.specs.declared.fault.OpenFault.{OpenFault}
 use Rattle.checkpoint.specs.Header.{HasHeader}
-use Rattle.checkpoint.specs.Loading.{IsOfHalf}
 use Rattle.checkpoint.specs.Recovery.{recovered_state}
 use Rattle.checkpoint.specs.Refusals.{refused}
 use Rattle.checkpoint.proofs.OneGeometry.{same_geometry}
@@ -13,7 +11,6 @@ use Rattle.checkpoint.proofs.Refusing.{behind_header, header_half, never_out_of_
 use Rattle.checkpoint.proofs.Replays.{same_bytes}
 use Rattle.journal.specs.Costs.{finish_cost}
 use Rattle.journal.specs.Parts.{IsMadeOf}
-use Rattle.journal.specs.Steps.{RecoversStill}
 use Rattle.journal.specs.Extents.{AreAllDirty}
 use Rattle.journal.proofs.Costs.{finish_few, no_call}
 use Rattle.journal.proofs.Loaded.{made, made_of}
@@ -22,7 +19,6 @@ use Rattle.oplog.specs.Beyond.{KeepsBeyond}
 use Rattle.device_map.specs.Layout.{device_size, layout_of}
 use Rattle.oplog.specs.Log.{Log}
 use Rattle.oplog.proofs.Beyond.{beyond_read, beyond_then}
-use Rattle.oplog.specs.Recovery.{named_area}
 use Rattle.parcel.specs.Tree.{TreeView, state_in}
 use Rattle.meaning.specs.State.{IsState}
 use Rattle.disk.specs.Moments.{CrashImagesAre}
@@ -40,23 +36,19 @@ moments g c k =
     let only = c.read_header.ensures.untouched k in
     let fine = sym (ap (λ (l : List ℕ). refused c.in_ok-parts.parts.tree.geometry l) (same_bytes (g.D.Disk.medium c.args.disk.now) (g.D.Disk.medium c.read_header.new.disk) only)) ∙
     c.in_ok-load_in_order.ensures.sound k in
-    as_still c.in_ok-parts.parts.tree.geometry _ _ (headed g c k) (subst (λ (h : Geometry). device_size (layout_of h) ≤ length (g.D.Disk.medium c.args.disk.now).now)
-    (sym c.in_ok-parts.ensures.geometry) c.in_ok-g.ensures.long_enough) fine
+    as_still c.in_ok-parts.parts.tree.geometry _ _ (headed g c k) (rw c.in_ok-parts.ensures.geometry c.in_ok-g.ensures.long_enough) fine
     (still_after c.in_ok-parts.parts.tree.geometry _ (g.D.Disk.medium c.read_header.new.disk) _ (c.requires.synced k) only
     (still_then c.in_ok-parts.parts.tree.geometry _ (g.D.Disk.medium c.load_in_order.new.disk) _ (g.met.D.Disk.bytes c.load_in_order.new.disk) (c.load_in_order.ensures.any_moment k)
-    (subst (λ (h : Geometry). RecoversStill h (g.D.Disk.medium c.load_in_order.new.disk) (g.D.Disk.medium c.checkpoint_recovered.new.disk)) c.in_ok-load_in_order.ensures.geometry
-    (c.checkpoint_recovered.ensures.any_moment k))))
+    (rw (← c.in_ok-load_in_order.ensures.geometry) (c.checkpoint_recovered.ensures.any_moment k))))
 
 stays : (g : Over) (c : After-checkpoint_recovered g) → g.D.Disk.keeps → (h : Geometry) → HasHeader h (g.D.Disk.medium c.args.disk.now).now
     → KeepsBeyond (layout_of h) (g.D.Disk.medium c.args.disk.now) (g.D.Disk.medium c.checkpoint_recovered.new.disk)
 stays g c k h head =
     let l = layout_of c.in_ok-parts.parts.tree.geometry in
-    subst (λ (x : Geometry). KeepsBeyond (layout_of x) (g.D.Disk.medium c.args.disk.now) (g.D.Disk.medium c.checkpoint_recovered.new.disk))
-    (same_geometry c.in_ok-parts.parts.tree.geometry h (sym (headed g c k) ∙ head))
+    rw (← same_geometry c.in_ok-parts.parts.tree.geometry h (sym (headed g c k) ∙ head))
     (beyond_then l _ (g.D.Disk.medium c.read_header.new.disk) _ (beyond_read l _ _ (c.read_header.ensures.untouched k))
     (beyond_then l _ (g.D.Disk.medium c.load_in_order.new.disk) _ (c.load_in_order.ensures.beyond k)
-    (subst (λ (x : Geometry). KeepsBeyond (layout_of x) (g.D.Disk.medium c.load_in_order.new.disk) (g.D.Disk.medium c.checkpoint_recovered.new.disk)) c.in_ok-load_in_order.ensures.geometry
-    (c.checkpoint_recovered.ensures.beyond k))))
+    (rw (← c.in_ok-load_in_order.ensures.geometry) (c.checkpoint_recovered.ensures.beyond k))))
 
 pub returns-in_err-g-clause-any_moment : goal.returns-in_err-g-clause-any_moment
 returns-in_err-g-clause-any_moment g c = λ k. as_before _ _ (c.requires.synced k) (c.read_header.ensures.untouched k)
@@ -72,10 +64,9 @@ returns-in_err-parts-clause-any_moment g c = λ k. as_before _ _ (c.requires.syn
 pub returns-in_err-parts-clause-unwritten : goal.returns-in_err-parts-clause-unwritten
 returns-in_err-parts-clause-unwritten g c =
     let p = err_from_is_err_and c.from_residual-in_err-parts.result c.from_residual-in_err-parts.ensures.1 in
-    rw (p.1, p.2)
-    (λ k.
+    rw (p.1, p.2) (λ k.
     all_unwritten _ _ _ (unread _ _ (c.read_header.ensures.untouched k))
-    (λ h. subst (λ (e : OpenFault). IsOfHalf (named_area (layout_of h) (g.D.Disk.medium c.args.disk.now).now) e) (sym c.in_err-parts.ensures.fault) tt))
+    (λ h. rw c.in_err-parts.ensures.fault tt))
 
 pub returns-in_err-load_in_order-clause-any_moment : goal.returns-in_err-load_in_order-clause-any_moment
 returns-in_err-load_in_order-clause-any_moment g c = λ k.
@@ -182,8 +173,7 @@ returns-in_err-parts-clause-beyond g c = λ k h head. beyond_read (layout_of h) 
 pub returns-in_err-load_in_order-clause-beyond : goal.returns-in_err-load_in_order-clause-beyond
 returns-in_err-load_in_order-clause-beyond g c = λ k h head.
     let own = subst (λ (h : Geometry). HasHeader h (g.D.Disk.medium c.args.disk.now).now) (sym c.in_ok-parts.ensures.geometry) (c.in_ok-g.ensures.header k) in
-    subst (λ (x : Geometry). KeepsBeyond (layout_of x) (g.D.Disk.medium c.args.disk.now) (g.D.Disk.medium c.load_in_order.new.disk))
-    (same_geometry c.in_ok-parts.parts.tree.geometry h (sym own ∙ head))
+    rw (← same_geometry c.in_ok-parts.parts.tree.geometry h (sym own ∙ head))
     (beyond_then (layout_of c.in_ok-parts.parts.tree.geometry) _ (g.D.Disk.medium c.read_header.new.disk) _
     (beyond_read (layout_of c.in_ok-parts.parts.tree.geometry) _ _ (c.read_header.ensures.untouched k)) (c.load_in_order.ensures.beyond k))
 

@@ -7,7 +7,7 @@ use Rattle.meaning.specs.State.{IsState}
 use Rattle.image.specs.Pieces.{piece_count, piece_of}
 use Rattle.journal.specs.Extents.{AreCleanExtentsOf}
 use Rattle.image.proofs.Joining.{piece_inside, whole_image}
-use Rattle.journal.proofs.SnapshotBytes.{IsSnapshotTo, all_put, headed, none_behind, pass_one, put_one}
+use Rattle.journal.proofs.SnapshotBytes.{all_put, headed, none_behind, pass_one, put_one}
 use Rattle.affinity.specs.declared.geometry.Geometry.{Geometry}
 use Rattle.device_map.specs.Layout.{image_size}
 use Rattle.parcel.specs.Tree.{state_in}
@@ -68,15 +68,13 @@ loop-n-preserved c =
           let is_state = subst (λ (g : Geometry). IsState g x) (sym same) c.requires.whole.state in
           let long : length w.write_piece.new.out ≡ c.piece_size.result = ap length piece
           ∙ length-piece 2 c.geometry-g.result x (state_is_measured c.geometry-g.result x is_state) c.loop-n.n ∙ sym c.piece_size.ensures.size in
-          subst (λ (k : ℕ). IsSnapshotTo c.geometry-g.result x c.args.dirty.now first (c.loop-n.n + 1) k c.if-is_dirty.bytes) (sym w.at-is)
-          (subst (λ (l : List ℕ). IsSnapshotTo c.geometry-g.result x c.args.dirty.now first (c.loop-n.n + 1) (c.loop-n.at + c.piece_size.result) l) (sym w.bytes-is)
+          rw (w.at-is, w.bytes-is)
           (put_one c.geometry-g.result x c.args.dirty.now first c.loop-n.n c.loop-n.at c.piece_size.result c.loop-n.bytes size few
-          c.piece_size.ensures.size c.loop-n.invariant (c.loop-n.at + c.piece_size.result - c.loop-n.at) w.write_piece.new.out over long piece))
+          c.piece_size.ensures.size c.loop-n.invariant (c.loop-n.at + c.piece_size.result - c.loop-n.at) w.write_piece.new.out over long piece)
       | else-is_dirty w ↦
-          subst (λ (k : ℕ). IsSnapshotTo c.geometry-g.result x c.args.dirty.now first (c.loop-n.n + 1) k c.if-is_dirty.bytes) (sym w.at-is)
-          (subst (λ (l : List ℕ). IsSnapshotTo c.geometry-g.result x c.args.dirty.now first (c.loop-n.n + 1) (c.loop-n.at + c.piece_size.result) l) (sym w.bytes-is)
+          rw (w.at-is, w.bytes-is)
           (pass_one c.geometry-g.result x c.args.dirty.now first c.loop-n.n c.loop-n.at c.piece_size.result c.loop-n.bytes size few c.piece_size.ensures.size c.loop-n.invariant
-          (grind (arith, common_steps))))
+          (grind (arith, common_steps)))
     ]
 
 pub returns-clause-image : goal.returns-clause-image

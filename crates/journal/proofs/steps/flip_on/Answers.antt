@@ -4,7 +4,6 @@ use Rattle.disk.specs.Device.{Medium}
 use Rattle.oplog.specs.Log.{layout_of_log}
 use Rattle.oplog.proofs.Answered.{on_ok}
 use Rattle.oplog.proofs.Beyond.{beyond, beyond_sync, beyond_then}
-use Rattle.oplog.specs.Calls.{Flips}
 use Rattle.oplog.specs.Changes.{IsSameButRoot, Flipped}
 use Rattle.device_map.specs.Layout.{layout_of, other}
 use Rattle.journal.proofs.Cutting.{name_moments, named, named_below, sync_moments}
@@ -24,9 +23,8 @@ is_area g c k = named_below c.args.halves.now.geometry c.args.halves.now.named _
 moments : (g : Over) (c : After-flip_root g) → g.D.Disk.keeps → RecoversStill c.args.halves.now.geometry (g.D.Disk.medium c.args.disk.now) (g.D.Disk.medium c.flip_root.new.disk)
 moments g c k =
     name_moments c.args.halves.now (g.D.Disk.medium c.args.disk.now) c.args.bytes.now (c.requires.written k) (is_area g c k) _ (g.met.D.Disk.bytes c.args.disk.now)
-    (subst (λ (m : Medium). RecoversStill c.args.halves.now.geometry (g.D.Disk.medium c.args.disk.now) m) (syncs g c k)
-    (sync_moments c.args.halves.now _ c.args.bytes.now (c.requires.written k) _ c.sync_image.result (c.sync_image.ensures.syncs k)))
-    (subst (λ (m : Medium). Flips c.args.halves.now m (g.D.Disk.medium c.flip_root.new.disk)) (syncs g c k) (c.flip_root.ensures.any_moment k))
+    (rw (← syncs g c k) (sync_moments c.args.halves.now _ c.args.bytes.now (c.requires.written k) _ c.sync_image.result (c.sync_image.ensures.syncs k)))
+    (rw (← syncs g c k) (c.flip_root.ensures.any_moment k))
 
 stays : (g : Over) (c : After-flip_root g) → g.D.Disk.keeps → KeepsBeyond (layout_of c.args.halves.now.geometry) (g.D.Disk.medium c.args.disk.now) (g.D.Disk.medium c.flip_root.new.disk)
 stays g c k =

@@ -1,11 +1,10 @@
 -- A snapshot of the committed state is made, the log goes on in the other half, and the other image's dirty pieces are left to write.
-use Rattle.std.proofs.Common.{◌≡◌, ◌-◌, Bool, false, Some, ℕ, List, length, replicate, refl, sym, ◌∙◌, ap, subst, arith}
+use Rattle.std.proofs.Common.{◌≡◌, ◌-◌, Bool, false, Some, ℕ, List, length, replicate, refl, sym, ◌∙◌, ap, arith}
 use Rattle.std.proofs.lemmas.List.{length-replicate}
 use Rattle.affinity.specs.declared.geometry.Geometry.{Geometry}
 use Rattle.checkpoint.specs.Recovery.{recovered_state}
 use Rattle.image.specs.Pieces.{piece_count}
 use Rattle.journal.specs.Journal.{JournalView, records, committed}
-use Rattle.journal.specs.Images.{KeepsImages}
 use Rattle.journal.specs.Keeping.{journal_view_of}
 use Rattle.journal.specs.DirtyPieces.{all_clean, count_dirty, cut_dirty}
 use Rattle.journal.proofs.Logging.{beyond_of, recoverable_of, sound_along, still_of}
@@ -74,8 +73,7 @@ returns-clause-records g c = λ k.
     ap (λ (x : Geometry). records_in x (g.D.Disk.medium c.cut_on.new.disk).now) c.cut_on.ensures.geometry ∙ (c.in_ok-cut_on.ensures.begun k).same_records ∙ ap records c.self.view_is
 
 pub returns-clause-images : goal.returns-clause-images
-returns-clause-images g c = λ k.
-    subst (λ (h : JournalView). KeepsImages h.geometry h.medium.now (g.D.Disk.medium c.cut_on.new.disk).now) c.self.view_is (c.in_ok-cut_on.ensures.begun k).images
+returns-clause-images g c = λ k. rw (← c.self.view_is) (c.in_ok-cut_on.ensures.begun k).images
 
 pub invariant_of-self-2 : goal.invariant_of-self-2
 invariant_of-self-2 g c =

@@ -1,11 +1,10 @@
 -- What a crash leaves names the old area or the new one, and the device recovers to the committed state by either.
-use Rattle.std.proofs.Common.{◌≡◌, Option, ℕ, List, ◌++◌, length, refl, sym, ◌∙◌, ap, subst, arith}
+use Rattle.std.proofs.Common.{Option, ℕ, List, ◌++◌, length, refl, sym, ◌∙◌, ap, subst, arith}
 use Rattle.std.proofs.lemmas.Result.{err_from_is_err_and}
 use Rattle.affinity.specs.declared.geometry.Geometry.{Geometry}
 use Rattle.checkpoint.specs.Recovery.{recovered_state}
 use Rattle.disk.specs.Moments.{moment_number}
-use Rattle.journal.specs.Journal.{JournalView, records, committed}
-use Rattle.journal.specs.Images.{KeepsImages}
+use Rattle.journal.specs.Journal.{JournalView}
 use Rattle.journal.specs.Keeping.{FitsCutState}
 use Rattle.journal.specs.Steps.{IsCutWritten}
 use Rattle.checkpoint.specs.Version.{named_version}
@@ -39,8 +38,7 @@ returns-clause-any_moment g c = λ k. still_of c.self.view_is (c.flip_on.ensures
 
 pub returns-clause-committed : goal.returns-clause-committed
 returns-clause-committed g c = λ k.
-    subst (λ (h : JournalView). recovered_state c.flip_on.new.halves.geometry (g.D.Disk.medium c.flip_on.new.disk).now ≡ committed h) c.self.view_is
-    (ap (λ (x : _). recovered_state x (g.D.Disk.medium c.flip_on.new.disk).now) c.flip_on.ensures.geometry
+    rw (← c.self.view_is) (ap (λ (x : _). recovered_state x (g.D.Disk.medium c.flip_on.new.disk).now) c.flip_on.ensures.geometry
     ∙ holds_now c.self.inside.halves.geometry _ _ (recovered_state c.self.inside.halves.geometry (g.D.Disk.medium c.self.inside.disk).now)
     (g.D.Disk.medium c.flip_on.new.disk) (g.met.D.Disk.bytes c.flip_on.new.disk) (c.in_ok-flip_on.ensures.flipped k).at.recovers)
 
@@ -58,8 +56,7 @@ returns-clause-records g c = λ k.
     let w1 = g.D.Disk.medium c.flip_on.new.disk in
     let flipped = c.in_ok-flip_on.ensures.flipped k in
     let first = front (layout_of c.self.inside.halves.geometry) c.self.inside.halves.named w0.now in
-    subst (λ (h : JournalView). (rs : List (List ℕ)) × (records h ≡ rs ++ records_in c.flip_on.new.halves.geometry w1.now)) c.self.view_is
-    (first, flipped.before ∙ ap (λ (x : Geometry). first ++ records_in x w1.now) (sym c.flip_on.ensures.geometry))
+    rw (← c.self.view_is) (first, flipped.before ∙ ap (λ (x : Geometry). first ++ records_in x w1.now) (sym c.flip_on.ensures.geometry))
 
 pub returns-clause-version : goal.returns-clause-version
 returns-clause-version g c = λ k.
@@ -68,8 +65,7 @@ returns-clause-version g c = λ k.
     (written g (goal.at.returns-clause-version g c).After-deref k) (sound_of c.self.invariant c.self.view_is c.requires.not_failed k) (c.in_ok-flip_on.ensures.flipped k)
 
 pub returns-clause-images : goal.returns-clause-images
-returns-clause-images g c = λ k.
-    subst (λ (h : JournalView). KeepsImages h.geometry h.medium.now (g.D.Disk.medium c.flip_on.new.disk).now) c.self.view_is (c.in_ok-flip_on.ensures.flipped k).images
+returns-clause-images g c = λ k. rw (← c.self.view_is) (c.in_ok-flip_on.ensures.flipped k).images
 
 pub invariant_of-self-2 : goal.invariant_of-self-2
 invariant_of-self-2 g c =

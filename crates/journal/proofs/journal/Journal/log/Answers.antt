@@ -1,21 +1,18 @@
 -- What a crash leaves recovers to the committed state with the first m of the messages run on it; all that they touch is dirty.
-use Rattle.std.proofs.Common.{◌≡◌, ℕ, ◌+◌, ◌++◌, Some, length, option_map, refl, sym, ◌∙◌, ap, subst, arith}
+use Rattle.std.proofs.Common.{◌≡◌, ℕ, ◌+◌, Some, length, refl, sym, ◌∙◌, ap, subst, arith}
 use Rattle.affinity.specs.declared.geometry.Geometry.{Geometry}
 use Rattle.checkpoint.specs.Recovery.{recovered_state}
 use Rattle.disk.specs.Moments.{CrashImagesAre}
 use Rattle.image.specs.Pieces.{piece_count}
-use Rattle.journal.specs.Journal.{AreCarriedOut, JournalView, RecoversWithPrefix, records, committed}
+use Rattle.journal.specs.Journal.{AreCarriedOut, JournalView, RecoversWithPrefix, committed}
 use Rattle.journal.specs.Keeping.{FitsCutState, journal_view_of}
-use Rattle.journal.specs.DirtyPieces.{AreBothTouched}
 use Rattle.journal.proofs.Logging.{beyond_of, fits_of, sound_of, log_kept, log_moments, log_records, log_told, placed_used, recoverable_of, sound_along, touched_along}
-use Rattle.journal.proofs.Rows.{same_dirty, whole_items, whole_put}
+use Rattle.journal.proofs.Rows.{same_dirty, whole_put}
 use Rattle.disk.proofs.Moments.{weaker}
 use Rattle.oplog.specs.Beyond.{KeepsBeyond}
 use Rattle.device_map.specs.Layout.{device_size, image_size, layout_of}
 use Rattle.oplog.specs.Log.{Log, layout_of_log}
-use Rattle.oplog.specs.Changing.{records_of}
 use Rattle.oplog.specs.Recovery.{records_in}
-use Rattle.meaning.specs.Serial.{state_after_all}
 use Rattle.meaning.specs.State.{State}
 use Rattle.journal.proofs.journal.Journal.log.Given.{Over}
 use Rattle.journal.proofs.journal.Journal.log.Goals.{After-append}
@@ -45,9 +42,7 @@ returns-clause-any_moment g c = moments g (goal.at.returns-clause-any_moment g c
 
 pub returns-clause-committed : goal.returns-clause-committed
 returns-clause-committed g c = λ k.
-    subst (λ (h : JournalView). recovered_state c.append.new.self.geometry (g.D.Disk.medium c.append.new.disk).now ≡ option_map
-    (λ x. state_after_all h.geometry x c.args.messages.now) (committed h)) c.self.view_is
-    (ap (λ (l : Log). recovered_state l.geometry (g.D.Disk.medium c.append.new.disk).now) c.in_ok-append.ensures.log
+    rw (← c.self.view_is) (ap (λ (l : Log). recovered_state l.geometry (g.D.Disk.medium c.append.new.disk).now) c.in_ok-append.ensures.log
     ∙ log_told c.args.messages.now (g.met.D.Disk.bytes c.self.inside.disk)
     (g.met.D.Disk.bytes c.append.new.disk) (sound_of c.self.invariant c.self.view_is c.requires.not_failed k) (out g (goal.at.returns-clause-committed g c).After-append k)
     (c.in_ok-append.ensures.added k))
@@ -67,8 +62,7 @@ returns-clause-recoverable g c = λ k.
 
 pub returns-clause-records : goal.returns-clause-records
 returns-clause-records g c = λ k.
-    subst (λ (h : JournalView). records_in c.append.new.self.geometry (g.D.Disk.medium c.append.new.disk).now ≡ records h ++ records_of c.args.messages.now) c.self.view_is
-    (ap (λ (l : Log). records_in l.geometry (g.D.Disk.medium c.append.new.disk).now) c.in_ok-append.ensures.log
+    rw (← c.self.view_is) (ap (λ (l : Log). records_in l.geometry (g.D.Disk.medium c.append.new.disk).now) c.in_ok-append.ensures.log
     ∙ log_records c.args.messages.now (g.D.Disk.medium c.append.new.disk) (g.met.D.Disk.bytes c.self.inside.disk) (sound_of c.self.invariant c.self.view_is c.requires.not_failed k)
     (c.in_ok-append.ensures.added k))
 
@@ -77,10 +71,7 @@ returns-clause-dirties g c =
     let same : c.geometry-g.result ≡ c.self.inside.halves.geometry = c.geometry-g.ensures ∙ ap (λ (l : Log). l.geometry) c.in_ok-append.ensures.log in
     let first = whole_put c.dirty_touched.new.dirty c.dirty_touched.ensures.size c.deref_mut.ensures.value c.deref_mut.ensures.len in
     let second = whole_put c.dirty_touched-2.new.dirty c.dirty_touched-2.ensures.size c.deref_mut-2.ensures.value c.deref_mut-2.ensures.len in
-    subst (λ (h : JournalView). AreBothTouched h.geometry c.args.messages.now h.dirty (record {
-      named = whole_items c.self.inside.named_dirty.len c.dirty_touched.new.dirty c.self.inside.named_dirty.items;
-      other = whole_items c.self.inside.other_dirty.len c.dirty_touched-2.new.dirty c.self.inside.other_dirty.items;
-    })) c.self.view_is
+    rw (← c.self.view_is)
     (record {
       named = touched_along c.args.messages.now same c.deref_mut.ensures.value first c.dirty_touched.ensures.touched;
       other = touched_along c.args.messages.now same c.deref_mut-2.ensures.value second c.dirty_touched-2.ensures.touched;

@@ -4,7 +4,6 @@ use Rattle.std.proofs.lemmas.List.{length-set}
 use Rattle.disk.proofs.Leaves.{itself}
 use Rattle.disk.proofs.Moments.{started}
 use Rattle.journal.specs.Journal.{JournalView, IsRecoverable, records, committed}
-use Rattle.journal.specs.Images.{PatchesUnnamed}
 use Rattle.journal.specs.Keeping.{AreCleanBefore, FitsCutState, IsSoundJournal}
 use Rattle.journal.specs.DirtyPieces.{count_dirty}
 use Rattle.journal.proofs.Logging.{beyond_of, fits_of, recoverable_of, sound_of, still_of}
@@ -136,8 +135,7 @@ pub returns-clause-one : goal.returns-clause-one
 returns-clause-one g c = λ some k.
     let w0 = g.D.Disk.medium c.self.inside.disk in
     let named = ((sound_of c.self.invariant c.self.view_is c.requires.not_failed k).recovers w0.now (itself w0.now w0.unsynced (g.met.D.Disk.bytes c.self.inside.disk))).named in
-    subst (λ (h : JournalView). PatchesUnnamed h.geometry h.medium.now (g.D.Disk.medium c.write_extent.new.disk).now) c.self.view_is
-    (patches_one named (pieced g (goal.at.returns-clause-one g c).In-Some-pieces_left k))
+    rw (← c.self.view_is) (patches_one named (pieced g (goal.at.returns-clause-one g c).In-Some-pieces_left k))
 
 pub invariant_of-self-2 : goal.invariant_of-self-2
 invariant_of-self-2 g c =

@@ -1,5 +1,5 @@
 -- The snapshot is the image of the committed state, and the clean pieces are on the device: what a crash leaves recovers to it.
-use Rattle.std.proofs.Common.{◌≡◌, false, Option, None, ℕ, Bool, List, length, refl, sym, ◌∙◌, ap, subst, arith}
+use Rattle.std.proofs.Common.{◌≡◌, false, Option, None, ℕ, List, length, refl, sym, ◌∙◌, ap, subst, arith}
 use Rattle.std.proofs.lemmas.List.{length-replicate}
 use Rattle.std.proofs.lemmas.Result.{err_from_is_err_and}
 use Rattle.affinity.specs.declared.geometry.Geometry.{Geometry}
@@ -11,13 +11,12 @@ use Rattle.journal.specs.Costs.{point_cost}
 use Rattle.journal.specs.Journal.{JournalView, committed}
 use Rattle.journal.specs.Keeping.{FitsCutState}
 use Rattle.journal.specs.Steps.{IsPointed}
-use Rattle.journal.specs.Extents.{AgreeOnClean, image_in}
 use Rattle.journal.proofs.Costs.{few_runs}
 use Rattle.journal.proofs.Logging.{beyond_of, recoverable_of, sound_along, still_of}
 use Rattle.journal.proofs.Rows.{whole_put}
 use Rattle.checkpoint.specs.Version.{named_version}
 use Rattle.journal.proofs.Saving.{agrees, is_alone, point_committed, point_sound, pointed_version, reads, Saves, saves}
-use Rattle.device_map.specs.Layout.{device_size, image_size, other}
+use Rattle.device_map.specs.Layout.{device_size, image_size}
 use Rattle.oplog.specs.Log.{Log, layout_of_log}
 use Rattle.oplog.specs.Recovery.{records_in}
 use Rattle.parcel.specs.Tree.{state_in}
@@ -51,11 +50,7 @@ pub point_on-requires-clause-clean : goal.point_on-requires-clause-clean
 point_on-requires-clause-clean g c = λ k.
     let snapshot = whole_put c.update_snapshot.new.bytes c.update_snapshot.ensures.size c.deref_mut.ensures.value c.deref_mut.ensures.len in
     let w0 = g.D.Disk.medium c.self.inside.disk in
-    subst (λ (l : List ℕ). AgreeOnClean c.self.inside.halves.geometry c.deref-3.result.now
-    (image_in c.self.inside.halves.geometry (other c.self.inside.halves.named) w0) l) (sym (c.deref-2.ensures.value ∙ snapshot))
-    (subst (λ (l : List Bool). AgreeOnClean c.self.inside.halves.geometry l
-    (image_in c.self.inside.halves.geometry (other c.self.inside.halves.named) w0) c.update_snapshot.new.bytes) (sym c.deref-3.ensures.value)
-    (agrees (saved g c k)))
+    rw (c.deref-2.ensures.value ∙ snapshot, c.deref-3.ensures.value) (agrees (saved g c k))
 
 pub returns-in_err-point_on-clause-any_moment : goal.returns-in_err-point_on-clause-any_moment
 returns-in_err-point_on-clause-any_moment g c = λ k. still_of c.self.view_is (c.point_on.ensures.any_moment k)
