@@ -1,5 +1,5 @@
 -- For which records in force a device is refused, if the image of its named area has no fault.
-use Rattle.std.proofs.Common.{◌≡◌, ◌+◌, ◌<◌, ◌≤◌, ◌==◌, ◌&&◌, ℕ, Bool, true, false, not, List, [], length, Option, Some, None, is_some, refl, sym, ◌∙◌, ap, subst, arith}
+use Rattle.std.proofs.Common.{◌≡◌, ◌+◌, ◌<◌, ◌≤◌, ◌==◌, ◌&&◌, ℕ, Bool, true, false, not, List, [], length, Option, Some, None, is_some, refl, sym, ◌∙◌, ap, arith}
 use Rattle.std.specs.Prelude.{nat_le}
 use Rattle.std.proofs.lemmas.Bool.{le-leb}
 use Rattle.std.proofs.lemmas.Slice.Eq.{bytes_eq-Decides}
@@ -90,7 +90,7 @@ module _ (g : Geometry) (c : List ℕ) (n : ℕ) (x : State) (is : NamedHolds g 
 -- ---- the same by an equal geometry, on the device before it was only read
 
 pub held_before : {g h : Geometry} {n : ℕ} {t : Bool} {x : State} → (w0 w1 : Medium) → h ≡ g → moments w1 ≡ moments w0 → NamedHolds h w1.now n t x → NamedHolds g w0.now n t x
-held_before {h = h} {n = n} {t = t} {x = x} w0 w1 same only held = rw (← same, ← (same_bytes w0 w1 only)) held
+held_before {h = h} {n = n} {t = t} {x = x} w0 w1 same only held = rw (← same, ← same_bytes w0 w1 only) held
 
 -- ---- all records in force, once they were run
 

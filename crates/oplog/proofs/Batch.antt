@@ -112,7 +112,7 @@ module _ (g : Layout) (h k : ℕ) (more : List (List ℕ)) (is_half : h < 2) (si
             ready.used ready.shut bodies_in stand gates_in_half open_in
 
     pub second : (c : List ℕ) → After w1 (SameOutside {X = ℕ} (part_at g (half_part h) + (64 + k)) (length more)) c → HasAppendedPrefix g h more w0 c
-    second c after = grew c (rw (← (synced_left w1 after.old bodies.synced after.left)) after.change)
+    second c after = grew c (rw (← synced_left w1 after.old bodies.synced after.left) after.change)
 
     module _ (w2 : Medium) (gates : Stored (part_at g (half_part h) + (64 + k)) (replicate (length more) 1) w1 w2) where
       long : length w1.now ≡ length w0.now

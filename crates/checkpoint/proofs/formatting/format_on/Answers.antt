@@ -1,9 +1,5 @@
 -- Clear the format byte, lay out the rest, write the header: a crash leaves the old device, one that isn't formatted, or the new one.
-use Rattle.std.proofs.Common.{◌≡◌, ◌⊎◌, Some, ◌∙◌, subst, arith, ℕ}
-use Rattle.checkpoint.specs.Formatting.{HasNoFormatByte}
-use Rattle.checkpoint.specs.Recovery.{recovered_state}
-use Rattle.disk.specs.Moments.{CrashImagesAre}
-use Rattle.meaning.specs.State.{empty}
+use Rattle.std.proofs.Common.{◌∙◌, arith}
 use Rattle.checkpoint.proofs.Opened.{shut_moments, laid_moments, opened_moments}
 use Rattle.device_map.specs.Layout.{layout_of}
 use Rattle.oplog.proofs.Beyond.{beyond_then, beyond_write}
@@ -21,7 +17,7 @@ pub returns-clause-any_moment : goal.returns-clause-any_moment
 returns-clause-any_moment g c = λ k.
     opened_moments c.args.g.now _ c.requires.long_enough _ _ (c.clear_format_byte.ensures.any_moment k) (c.in_ok-clear_format_byte.ensures.unformatted k) 64 _ (omega arith)
     (c.lay_out.ensures.any_moment k) _
-    (rw (← (c.lay_out.ensures.call.1 ∙ c.clear_format_byte.ensures.call.1)) (c.write_header.ensures.any_moment k))
+    (rw (← c.lay_out.ensures.call.1 ∙ c.clear_format_byte.ensures.call.1) (c.write_header.ensures.any_moment k))
 
 pub returns-in_err-clear_format_byte-clause-beyond : goal.returns-in_err-clear_format_byte-clause-beyond
 returns-in_err-clear_format_byte-clause-beyond g c = λ k. c.clear_format_byte.ensures.beyond k (layout_of c.args.g.now)

@@ -4,7 +4,7 @@ use Rattle.std.proofs.lemmas.Result.{err_from_is_err_and}
 use Rattle.affinity.specs.declared.geometry.Geometry.{Geometry}
 use Rattle.checkpoint.specs.declared.fault.OpenFault.{OpenFault}
 use Rattle.checkpoint.specs.declared.fault.OpenFault.TheVariants.{BadChain}
-use Rattle.checkpoint.specs.Loading.{IsConsistentFault, IsOfHalf, are_both_chained, image_fault, records_fault}
+use Rattle.checkpoint.specs.Loading.{IsConsistentFault, are_both_chained, image_fault, records_fault}
 use Rattle.checkpoint.specs.Recovery.{decoding}
 use Rattle.checkpoint.specs.Refusals.{fault_if}
 use Rattle.image.specs.Image.{image_state}

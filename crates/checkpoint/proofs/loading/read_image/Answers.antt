@@ -1,10 +1,7 @@
 -- A bad head is refused before the first bad piece, which is refused where the head is good.
-use Rattle.std.proofs.Common.{List, ℕ, None, sym, ◌∙◌, ap, subst, not}
+use Rattle.std.proofs.Common.{sym, ◌∙◌, ap}
 use Rattle.std.proofs.lemmas.Result.{err_from_is_err_and}
 use Rattle.affinity.specs.declared.geometry.Geometry.{Geometry}
-use Rattle.checkpoint.specs.declared.fault.OpenFault.TheVariants.{BadPiece, BadVersion}
-use Rattle.checkpoint.specs.Loading.{IsConsistentFault}
-use Rattle.checkpoint.specs.Refusals.{fault_if, fault_or_later, first_bad_piece}
 use Rattle.image.specs.Image.{has_head}
 use Rattle.device_map.specs.Layout.{image_part, layout_of, part_bytes}
 use Rattle.checkpoint.proofs.Refusing.{head_refused, pieces_refused}

@@ -1,10 +1,9 @@
 -- Nothing of the tree is out, so the parcels at the message's affinity are lent; after the run they are restored, and the state has made
 -- the serial step.
-use Rattle.std.proofs.Common.{◌≡◌, [], sym, ◌∙◌, subst}
+use Rattle.std.proofs.Common.{[], sym, ◌∙◌, subst}
 use Rattle.affinity.specs.declared.geometry.Geometry.{Geometry}
 use Rattle.parcel.specs.Nodes.{tree_state}
 use Rattle.parcel.specs.Tree.{IsIn, tree_nodes}
-use Rattle.meaning.specs.Serial.{next_state}
 use Rattle.meaning.specs.State.{IsState}
 use Rattle.checkpoint.proofs.Served.{placed, fits_there, goes, stepped, all_in_again, state_again}
 use Rattle.checkpoint.proofs.stepping.step.Goals as goal

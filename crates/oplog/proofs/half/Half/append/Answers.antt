@@ -1,5 +1,5 @@
 -- A crash in the next batch leaves a prefix of all messages, since the batches before it are in the front.
-use Rattle.std.proofs.Common.{◌≡◌, ◌∙◌, ℕ, ◌+◌, ◌-◌, ◌*◌, ap, length, take, subst, arith, refl}
+use Rattle.std.proofs.Common.{◌≡◌, ◌∙◌, ℕ, ◌+◌, ◌-◌, ◌*◌, ap, length, arith, refl}
 use Rattle.std.proofs.lemmas.Result.{err_from_is_err_and}
 use Rattle.disk.specs.Moments.{moment_number}
 use Rattle.oplog.specs.Log.{batch_count}
@@ -7,7 +7,7 @@ use Rattle.oplog.proofs.Costs.{batch_left, one_batch, whole_batch}
 use Rattle.std.proofs.lemmas.Grind.{common_steps}
 use Rattle.device_map.specs.Layout.{layout_of}
 use Rattle.oplog.specs.Changing.{records_of}
-use Rattle.oplog.proofs.Batches.{SoFar, begun, messages_moments, messages_more}
+use Rattle.oplog.proofs.Batches.{begun, messages_moments, messages_more}
 use Rattle.oplog.proofs.half.Half.append.Goals as goal
 
 pub loop-done-init : goal.loop-done-init

@@ -1,9 +1,8 @@
 -- The zeros cover the chain byte of the other half, the bytes beside it and its gates, and nothing else changes.
 use Rattle.std.proofs.Common.{sym, ◌∙◌, subst, arith}
-use Rattle.oplog.specs.Changes.{Cleared}
-use Rattle.oplog.specs.Calls.{IsLongEnough, Clears}
+use Rattle.oplog.specs.Calls.{IsLongEnough}
 use Rattle.device_map.specs.Layout.{layout_of, other}
-use Rattle.oplog.specs.Log.{Log, layout_of_log}
+use Rattle.oplog.specs.Log.{Log}
 use Rattle.oplog.proofs.Answered.{on_ok}
 use Rattle.oplog.proofs.OneStore.{clear_moments, cleared}
 use Rattle.oplog.proofs.halves.Halves.clear_other.Goals as goal

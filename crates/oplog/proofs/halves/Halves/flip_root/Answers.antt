@@ -1,9 +1,8 @@
 -- One byte is stored, the root byte, and no other changes at any moment.
 use Rattle.std.proofs.Common.{sym, ◌∙◌, subst, arith}
-use Rattle.oplog.specs.Changes.{Flipped}
-use Rattle.oplog.specs.Calls.{IsLongEnough, Flips}
+use Rattle.oplog.specs.Calls.{IsLongEnough}
 use Rattle.device_map.specs.Layout.{layout_of, other}
-use Rattle.oplog.specs.Log.{Log, layout_of_log}
+use Rattle.oplog.specs.Log.{Log}
 use Rattle.oplog.proofs.Answered.{on_ok}
 use Rattle.oplog.proofs.OneStore.{root_moments, named}
 use Rattle.oplog.proofs.halves.Halves.flip_root.Goals as goal

@@ -1,7 +1,4 @@
 -- The half is one of the log's, so its open gates are those of the log's front there.
-use Rattle.std.proofs.Common.{subst}
-use Rattle.oplog.specs.Calls.{HasFront}
-use Rattle.oplog.specs.Log.{Log}
 use Rattle.oplog.proofs.halves.Halves.front.Goals as goal
 
 pub returns-in-Ok-clause-front : goal.returns-in-Ok-clause-front

@@ -1,7 +1,7 @@
 -- One byte is stored, the chain byte of the named half, and no other changes at any moment.
 use Rattle.std.proofs.Common.{◌≡◌, ℕ, ap, arith, sym, ◌∙◌, subst}
 use Rattle.oplog.specs.Changes.{Chained}
-use Rattle.oplog.specs.Calls.{IsLongEnough, Chains}
+use Rattle.oplog.specs.Calls.{IsLongEnough}
 use Rattle.device_map.specs.Layout.{Layout, layout_of, part_at, half_part}
 use Rattle.oplog.specs.Log.{Log, layout_of_log}
 use Rattle.oplog.proofs.Answered.{on_ok}
