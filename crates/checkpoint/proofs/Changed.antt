@@ -24,11 +24,9 @@ changed_then {w0} {w1} {w2} {a} {k} first second =
 overlaid-more : (xs : List ℕ) (at place : ℕ) (ys zs : List ℕ) → place ≡ at + length ys → overlaid (overlaid xs at ys) place zs ≡ overlaid xs at (ys ++ zs)
 overlaid-more [] at place ys zs is = refl
 overlaid-more (x ∷ xs) zero zero [] zs is = refl
-overlaid-more (x ∷ xs) zero (suc place) [] zs is = absurd (omega (arith, is))
-overlaid-more (x ∷ xs) zero zero (y ∷ ys) zs is = absurd (omega (arith, is))
 overlaid-more (x ∷ xs) zero (suc place) (y ∷ ys) zs is = ap (λ (l : List ℕ). y ∷ l) (overlaid-more xs zero place ys zs (omega (arith, is)))
-overlaid-more (x ∷ xs) (suc at) zero ys zs is = absurd (omega (arith, is))
 overlaid-more (x ∷ xs) (suc at) (suc place) ys zs is = ap (λ (l : List ℕ). x ∷ l) (overlaid-more xs at place ys zs (omega (arith, is)))
+overlaid-more xs at place ys zs is = absurd (omega (arith, is))
 
 pub zeros_more : (xs : List ℕ) (at done more : ℕ) → overlaid (overlaid xs at (replicate done 0)) (at + done) (replicate more 0) ≡ overlaid xs at (replicate (done + more) 0)
 zeros_more xs at done more =
@@ -38,11 +36,6 @@ zeros_more xs at done more =
 -- before the first call
 pub nothing_changed : (m : Medium) (at n : ℕ) → CrashesChangeOnly m m (SameOutside at n)
 nothing_changed m at n = started m _ (λ c left. record { old = c; left = left; change = same_all at n c })
-
-pub nothing_over : (xs : List ℕ) (at : ℕ) → overlaid xs at [] ≡ xs
-nothing_over [] at = refl
-nothing_over (x ∷ xs) zero = refl
-nothing_over (x ∷ xs) (suc at) = ap (λ (l : List ℕ). x ∷ l) (nothing_over xs at)
 
 -- the first of a row of zeros
 pub some_zeros : (zeros : List ℕ) (n : ℕ) → zeros ≡ replicate (length zeros) 0 → n ≤ length zeros → take n zeros ≡ replicate n 0

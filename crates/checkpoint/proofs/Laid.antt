@@ -15,6 +15,7 @@ use Rattle.disk.proofs.Outside.{same_before, same_behind}
 use Rattle.disk.proofs.Overlays.{overlaid_outside, length-overlaid, range-overlaid}
 use Rattle.image.specs.Image.{image_of, image_state, version_in}
 use Rattle.image.proofs.Reading.{read_again}
+use Rattle.oplog.proofs.Slices.{nothing_over}
 use Rattle.oplog.specs.Front.{chain, front, gates, count_open, rows}
 use Rattle.device_map.specs.Layout.{Layout, slice, layout_of, part_bytes, part_at, device_size, half_part, half_size, header_part, image_part, image_size, record_size}
 use Rattle.oplog.specs.Recovery.{named_area, in_force, is_laid_out, run, recovers_by_area}
@@ -141,16 +142,12 @@ torn_open g c torn long headed same =
     (λ (shut : get_or torn 0 0 ≢ 1). inl (record { size = same.size; first_byte = shut }))
     (cases_eq (get_or torn 0 0) 1)
 
-nothing_over : (c : List ℕ) → overlaid c 0 [] ≡ c
-nothing_over [] = refl
-nothing_over (x ∷ c) = refl
-
 -- one byte written over the first of a row of zeros
 version_put : (n : ℕ) (c : List ℕ) (at : ℕ) → at + suc n ≤ length c → HasBytesAt c at (replicate (suc n) 0) → HasBytesAt (overlaid c at (2 ∷ [])) at (2 ∷ replicate n 0)
 version_put n [] at inside has = absurd (omega (arith, inside))
 version_put n (x ∷ c) zero inside has =
     let behind : take (length (replicate {A = ℕ} n 0)) c ≡ replicate n 0 = ap (λ (l : List ℕ). drop 1 l) has in
-    ap (λ (l : List ℕ). 2 ∷ take (length (replicate {A = ℕ} n 0)) l) (nothing_over c) ∙ ap (λ (l : List ℕ). 2 ∷ l) behind
+    ap (λ (l : List ℕ). 2 ∷ take (length (replicate {A = ℕ} n 0)) l) (nothing_over c 0) ∙ ap (λ (l : List ℕ). 2 ∷ l) behind
 version_put n (x ∷ c) (suc at) inside has = version_put n c at (omega (arith, inside)) has
 
 version_there : (g : Geometry) (c : List ℕ) (at : ℕ) → at + image_size g ≤ length c → HasBytesAt c at (replicate (image_size g) 0)

@@ -134,10 +134,7 @@ refused_with g c head long OutOfMemory is = tt
 refused_with g c head long NotFormatted is = absurd is
 refused_with g c head long BadGeometry is = absurd is
 refused_with g c head long TooShort is = inr (record { geometry = g; long = long; header = head; is = is })
-refused_with g c head long BadVersion is = record { geometry = g; long = long; header = head; is = is }
-refused_with g c head long (BadPiece n) is = record { geometry = g; long = long; header = head; is = is }
-refused_with g c head long BadChain is = record { geometry = g; long = long; header = head; is = is }
-refused_with g c head long (BadRecord h i) is = record { geometry = g; long = long; header = head; is = is }
+refused_with g c head long e is = record { geometry = g; long = long; header = head; is = is }
 
 module _ (g : Geometry) (c : List ℕ) (head : HasHeader g c) (long : device_size (layout_of g) ≤ length c) (n : ℕ) (names : n ≡ named_area (layout_of g) c) where
   abbrev bytes : List ℕ
@@ -210,27 +207,13 @@ pub image_half : (n : ℕ) (t : Bool) (o : Option ℕ) (e : OpenFault) → IsCon
 image_half n true o (BadRecord h i) is = cc
 image_half n false None (BadRecord h i) is = cc
 image_half n false (Some k) (BadRecord h i) is = cc
-image_half n t o Device is = tt
-image_half n t o OutOfMemory is = tt
-image_half n t o NotFormatted is = tt
-image_half n t o BadGeometry is = tt
-image_half n t o TooShort is = tt
-image_half n t o BadVersion is = tt
-image_half n t o (BadPiece k) is = tt
-image_half n t o BadChain is = tt
+image_half n t o e is = tt
 
 -- nor is the fault of the chain bytes
 pub chain_half : (n : ℕ) (t : Bool) (e : OpenFault) → IsConsistentFault (fault_if t BadChain None) e → IsOfHalf n e
 chain_half n true (BadRecord h i) is = cc
 chain_half n false (BadRecord h i) is = cc
-chain_half n t Device is = tt
-chain_half n t OutOfMemory is = tt
-chain_half n t NotFormatted is = tt
-chain_half n t BadGeometry is = tt
-chain_half n t TooShort is = tt
-chain_half n t BadVersion is = tt
-chain_half n t (BadPiece k) is = tt
-chain_half n t BadChain is = tt
+chain_half n t e is = tt
 
 -- a fault of the records of half n is of a record of half n
 pub records_half : (n : ℕ) (o : Option ℕ) (e : OpenFault) → IsConsistentFault (fault_or_later (BadRecord n) o None) e → IsOfHalf n e
@@ -240,40 +223,18 @@ records_half n (Some k) (BadRecord h i) is = sym (ap half_in is)
     half_in : Option OpenFault → ℕ
     half_in (Some (BadRecord k j)) = k
     half_in _ = n
-records_half n o Device is = tt
-records_half n o OutOfMemory is = tt
-records_half n o NotFormatted is = tt
-records_half n o BadGeometry is = tt
-records_half n o TooShort is = tt
-records_half n o BadVersion is = tt
-records_half n o (BadPiece k) is = tt
-records_half n o BadChain is = tt
+records_half n o e is = tt
 
 -- the faults of the header name no record
 pub header_half : (n : ℕ) (e : OpenFault) → IsOfHeader e → IsOfHalf n e
-header_half n Device is = tt
-header_half n OutOfMemory is = tt
-header_half n NotFormatted is = tt
-header_half n BadGeometry is = tt
-header_half n TooShort is = tt
-header_half n BadVersion is = tt
-header_half n (BadPiece k) is = tt
-header_half n BadChain is = tt
 header_half n (BadRecord h i) is = absurd is
+header_half n e is = tt
 
 -- ---- no memory
 
 -- No fault of reading the header is `OutOfMemory`: that takes no memory.
 pub never_out_of_memory : (e : OpenFault) → IsOfHeader e → e ≢ OutOfMemory
-never_out_of_memory Device is same = cc
-never_out_of_memory OutOfMemory is same = is
-never_out_of_memory NotFormatted is same = cc
-never_out_of_memory BadGeometry is same = cc
-never_out_of_memory TooShort is same = cc
-never_out_of_memory BadVersion is same = is
-never_out_of_memory (BadPiece k) is same = is
-never_out_of_memory BadChain is same = is
-never_out_of_memory (BadRecord h i) is same = is
+never_out_of_memory e is same = rw same at is
 
 -- Once the header was read, the device is known to have all its parts, even if memory lacks then.
 pub behind_header : {T : Type 0} (r : Result T OpenFault) (keeps : Type 0) (c : List ℕ) → (keeps → HasHeaderAndParts c) → IfErr r (λ e. e ≡ OutOfMemory → keeps → HasHeaderAndParts c)

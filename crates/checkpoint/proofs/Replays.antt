@@ -34,11 +34,7 @@ fault_from o p gives Device is = tt
 fault_from o p gives OutOfMemory is = tt
 fault_from o p gives NotFormatted is = absurd is
 fault_from o p gives BadGeometry is = absurd is
-fault_from o p gives TooShort is = gives TooShort is
-fault_from o p gives BadVersion is = gives BadVersion is
-fault_from o p gives (BadPiece n) is = gives (BadPiece n) is
-fault_from o p gives BadChain is = gives BadChain is
-fault_from o p gives (BadRecord h i) is = gives (BadRecord h i) is
+fault_from o p gives e is = gives e is
 
 -- ---- one record of several
 

@@ -119,14 +119,8 @@ unread w0 w1 only = record {
 
 pub all_unwritten : (e : OpenFault) (w0 w1 : Medium) → IsUnwritten w0 w1 → ((g : Geometry) → IsOfHalf (named_area (layout_of g) w0.now) e) → IsLeftByRefusal w0 e w1
 all_unwritten Device w0 w1 is own = tt
-all_unwritten TooShort w0 w1 is own = is
-all_unwritten NotFormatted w0 w1 is own = is
-all_unwritten BadGeometry w0 w1 is own = is
-all_unwritten OutOfMemory w0 w1 is own = is
-all_unwritten BadVersion w0 w1 is own = is
-all_unwritten (BadPiece n) w0 w1 is own = is
-all_unwritten BadChain w0 w1 is own = is
 all_unwritten (BadRecord h i) w0 w1 is own = λ g head. ((λ named. is), (λ behind. absurd (behind (own g))))
+all_unwritten e w0 w1 is own = is
 
 -- what a bad record after a cut leaves of w1 (`IsBadAfterCut`), it leaves of w0, which has the same bytes
 pub behind_from : (g : Geometry) (h i : ℕ) (w0 w1 w2 : Medium) → w1.now ≡ w0.now → IsBadAfterCut g h i w1 w2 → IsBadAfterCut g h i w0 w2
@@ -142,13 +136,7 @@ behind_from g h i w0 w1 w2 now b = record {
 pub bad_from : (g : Geometry) (h : ℕ) (e : OpenFault) (w0 w1 w2 : Medium) → w1.now ≡ w0.now → IsFaultAfterCut g h w1 w2 e → IsFaultAfterCut g h w0 w2 e
 bad_from g h Device w0 w1 w2 now bad = tt
 bad_from g h (BadRecord k i) w0 w1 w2 now bad = (bad.0, behind_from g k i w0 w1 w2 now bad.1)
-bad_from g h TooShort w0 w1 w2 now bad = bad
-bad_from g h NotFormatted w0 w1 w2 now bad = bad
-bad_from g h BadGeometry w0 w1 w2 now bad = bad
-bad_from g h OutOfMemory w0 w1 w2 now bad = bad
-bad_from g h BadVersion w0 w1 w2 now bad = bad
-bad_from g h (BadPiece n) w0 w1 w2 now bad = bad
-bad_from g h BadChain w0 w1 w2 now bad = bad
+bad_from g h e w0 w1 w2 now bad = bad
 
 -- a fault after a cut leaves what a refusal may leave (`IsLeftByRefusal`)
 pub bad_behind : {n : ℕ} → (e : OpenFault) (w0 w1 : Medium) (g : Geometry) → n < 2 → n ≡ named_area (layout_of g) w0.now → HasHeader g w0.now → IsFaultAfterCut g (other n) w0 w1 e
@@ -156,36 +144,17 @@ pub bad_behind : {n : ℕ} → (e : OpenFault) (w0 w1 : Medium) (g : Geometry) �
 bad_behind Device w0 w1 g is_area named head bad = tt
 bad_behind (BadRecord h i) w0 w1 g is_area named head bad =
     λ k head'. ((λ here. absurd (omega (arith, is_area, bad.0, here, named))), (λ behind. subst (λ (x : Geometry). IsBadAfterCut x h i w0 w1) (same_geometry g k (sym head ∙ head')) bad.1))
-bad_behind TooShort w0 w1 g is_area named head bad = absurd bad
-bad_behind NotFormatted w0 w1 g is_area named head bad = absurd bad
-bad_behind BadGeometry w0 w1 g is_area named head bad = absurd bad
-bad_behind OutOfMemory w0 w1 g is_area named head bad = absurd bad
-bad_behind BadVersion w0 w1 g is_area named head bad = absurd bad
-bad_behind (BadPiece k) w0 w1 g is_area named head bad = absurd bad
-bad_behind BadChain w0 w1 g is_area named head bad = absurd bad
+bad_behind e w0 w1 g is_area named head bad = absurd bad
 
 -- after a fault that follows a cut nothing is unsynced, unless the device failed
 pub bad_synced : (g : Geometry) (h : ℕ) (e : OpenFault) (w0 w1 : Medium) → e ≢ Device → IsFaultAfterCut g h w0 w1 e → IsSynced w1
 bad_synced g h Device w0 w1 other bad = absurd (other refl)
 bad_synced g h (BadRecord k i) w0 w1 other bad = bad.1.synced
-bad_synced g h TooShort w0 w1 other bad = absurd bad
-bad_synced g h NotFormatted w0 w1 other bad = absurd bad
-bad_synced g h BadGeometry w0 w1 other bad = absurd bad
-bad_synced g h OutOfMemory w0 w1 other bad = absurd bad
-bad_synced g h BadVersion w0 w1 other bad = absurd bad
-bad_synced g h (BadPiece n) w0 w1 other bad = absurd bad
-bad_synced g h BadChain w0 w1 other bad = absurd bad
+bad_synced g h e w0 w1 other bad = absurd bad
 
 -- what a refusal leaves of w1 (`IsLeftByRefusal`), it leaves of w0, which has the same bytes, if `IsUnwritten` is handed on so
 pub unwritten_from : (e : OpenFault) (w0 w1 w2 : Medium) → w1.now ≡ w0.now → (IsUnwritten w1 w2 → IsUnwritten w0 w2) → IsLeftByRefusal w1 e w2 → IsLeftByRefusal w0 e w2
 unwritten_from Device w0 w1 w2 now from is = tt
-unwritten_from TooShort w0 w1 w2 now from is = from is
-unwritten_from NotFormatted w0 w1 w2 now from is = from is
-unwritten_from BadGeometry w0 w1 w2 now from is = from is
-unwritten_from OutOfMemory w0 w1 w2 now from is = from is
-unwritten_from BadVersion w0 w1 w2 now from is = from is
-unwritten_from (BadPiece n) w0 w1 w2 now from is = from is
-unwritten_from BadChain w0 w1 w2 now from is = from is
 unwritten_from (BadRecord h i) w0 w1 w2 now from is =
     λ g head.
     let at_first = is g (subst (λ (c : List ℕ). HasHeader g c) (sym now) head) in
@@ -193,6 +162,7 @@ unwritten_from (BadRecord h i) w0 w1 w2 now from is =
       (λ here. from (at_first.0 (here ∙ sym names))),
       (λ behind. behind_from g h i w0 w1 w2 now (at_first.1 (λ here. behind (here ∙ names)))),
     )
+unwritten_from e w0 w1 w2 now from is = from is
 
 pub unwritten_then : (w0 w1 w2 : Medium) → AreBytes w0.now → IsSynced w1 → w1.now ≡ w0.now → CrashImagesAre w0 w1 (IsCrashImage w0) → IsUnwritten w1 w2 → IsUnwritten w0 w2
 unwritten_then w0 w1 w2 are synced now first is = record {
@@ -255,16 +225,6 @@ pub bad_half : {g : Geometry} {h : ℕ} → (o : Option ℕ) → {w0 w2 : Medium
     → IsConsistentFault (fault_or_later (BadRecord h) o None) e → HasHeader g w0.now → IsRefused w0.now e → FinishedAndRefused g h w0 w2 → IsFaultAfterCut g h w0 w2 e
 bad_half o Device some is head why done = tt
 bad_half o OutOfMemory some is head why done = absurd (some refl)
-bad_half o NotFormatted some is head why done = absurd is
-bad_half o BadGeometry some is head why done = absurd is
-bad_half None TooShort some is head why done = cc
-bad_half (Some i) TooShort some is head why done = cc
-bad_half None BadVersion some is head why done = cc
-bad_half (Some i) BadVersion some is head why done = cc
-bad_half None (BadPiece n) some is head why done = cc
-bad_half (Some i) (BadPiece n) some is head why done = cc
-bad_half None BadChain some is head why done = cc
-bad_half (Some i) BadChain some is head why done = cc
 bad_half {g} {h} o {w0} {w2} (BadRecord k j) some is head why done =
     let own : k ≡ h = records_half h o (BadRecord k j) is in (
       own,
@@ -276,3 +236,5 @@ bad_half {g} {h} o {w0} {w2} (BadRecord k j) some is head why done =
         refused = done.alike.refused ∙ ap (λ (x : Geometry). refused x w0.now) (same_geometry g why.geometry (sym head ∙ why.header)) ∙ why.is;
       },
     )
+bad_half None e some is head why done = first_of (cc, assumption)
+bad_half (Some i) e some is head why done = first_of (cc, assumption)

@@ -52,11 +52,10 @@ count_most (false ∷ xs) = let most = count_most xs in omega (arith, most)
 
 -- clearing a set flag takes one from the count
 pub count_cleared : (xs : List Bool) (n : ℕ) → get_or xs n false ≡ true → suc (count_dirty (set xs n false)) ≡ count_dirty xs
-count_cleared [] n is = absurd (true≢false (sym is))
 count_cleared (true ∷ xs) zero is = refl
-count_cleared (false ∷ xs) zero is = absurd (true≢false (sym is))
 count_cleared (true ∷ xs) (suc n) is = let fewer = count_cleared xs n is in omega (arith, fewer)
 count_cleared (false ∷ xs) (suc n) is = count_cleared xs n is
+count_cleared xs n is = absurd (true≢false (sym is))
 
 pub no_dirty : (xs : List Bool) (n : ℕ) → count_dirty xs ≡ 0 → n < length xs → get_or xs n true ≡ false
 no_dirty [] n none few = absurd (omega (arith, few))

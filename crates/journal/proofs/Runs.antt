@@ -9,7 +9,7 @@ use Rattle.disk.specs.Store.{CrashesChangeOnly, TouchesOnly}
 use Rattle.oplog.specs.Changes.{IsReady, IsSameBut}
 use Rattle.device_map.specs.Layout.{Layout, slice, layout_of, part_bytes, part_at, image_part, device_size, image_size}
 use Rattle.oplog.proofs.Ready.{ready_beside}
-use Rattle.oplog.proofs.Slices.{LiesIn, same_but, same_but_both, same_but_none, image_sized, part_overlaid}
+use Rattle.oplog.proofs.Slices.{nothing_over, LiesIn, same_but, same_but_both, same_but_none, image_sized, part_overlaid}
 
 -- the bytes of a run
 pub run_long : (bytes : List ℕ) (from end : ℕ) → from ≤ end → end ≤ length bytes → length (slice bytes from (end - from)) ≡ end - from
@@ -58,9 +58,4 @@ module _ (g : Geometry) (area : ℕ) {start : ℕ} (is_area : area < 2) (place :
 
 -- an empty run
 pub nothing_written : (xs : List ℕ) (from n : ℕ) (bytes : List ℕ) → n ≡ 0 → xs ≡ overlaid xs from (slice bytes from n)
-nothing_written xs from n bytes none = subst (λ (k : ℕ). xs ≡ overlaid xs from (slice bytes from k)) (sym none) (nothing_over xs from)
-  where
-    nothing_over : (xs : List ℕ) (at : ℕ) → xs ≡ overlaid xs at []
-    nothing_over [] at = refl
-    nothing_over (x ∷ xs) zero = refl
-    nothing_over (x ∷ xs) (suc at) = ap (λ (l : List ℕ). x ∷ l) (nothing_over xs at)
+nothing_written xs from n bytes none = subst (λ (k : ℕ). xs ≡ overlaid xs from (slice bytes from k)) (sym none) (sym (nothing_over xs from))

@@ -1,6 +1,7 @@
 -- While a cut that was in progress is finished, a device that is refused is refused in the same way.
-use Rattle.std.proofs.Common.{◌≡◌, ◌⊎◌, ◌<◌, ◌≤◌, ◌==◌, ◌&&◌, ℕ, zero, suc, Bool, true, false, List, length, get_or, Some, is_some, inl, inr, ⊎_elim, refl, sym, ◌∙◌, ap, subst, arith, true≢false}
+use Rattle.std.proofs.Common.{◌≡◌, ◌≢◌, ◌⊎◌, ◌<◌, ◌≤◌, ◌==◌, ◌&&◌, ℕ, zero, suc, Bool, true, false, List, length, get_or, Some, is_some, inl, inr, ⊎_elim, refl, sym, ◌∙◌, ap, subst, arith, true≢false}
 use Rattle.std.specs.Prelude.{if◌then◌else◌}
+use Rattle.std.proofs.lemmas.Bool.{cases_eq}
 use Rattle.affinity.specs.declared.geometry.Geometry.{Geometry}
 use Rattle.checkpoint.specs.Loading.{NamedHolds, are_both_chained, image_fault, records_fault}
 use Rattle.checkpoint.specs.Recovery.{decoding}
@@ -53,11 +54,8 @@ module _ (g : Geometry) (n : ℕ) (is_area : n < 2) (a c : List ℕ) (same : Are
 
 shut_other : (n : ℕ) (a b : Bool) → n < 2 → (a && b) ≡ false → (if n == 0 then a else b) ≡ true → (if n == 0 then b else a) ≡ false
 shut_other zero true b is_area one here = one
-shut_other zero false b is_area one here = absurd (true≢false (sym here))
-shut_other (suc zero) true true is_area one here = absurd (true≢false one)
-shut_other (suc zero) true false is_area one here = absurd (true≢false (sym here))
 shut_other (suc zero) false b is_area one here = refl
-shut_other (suc (suc n)) a b is_area one here = absurd (omega (arith, is_area))
+shut_other n a b is_area one here = absurd (first_of (cc, omega arith))
 
 other_shut : (g : Geometry) (n : ℕ) (c : List ℕ) → n < 2 → are_both_chained (layout_of g) c ≡ false → (chain (layout_of g) n c == 1) ≡ true → (chain (layout_of g) (other n) c == 1) ≡ false
 other_shut g zero c is_area one here = shut_other 0 (chain (layout_of g) 0 c == 1) (chain (layout_of g) 1 c == 1) is_area one here
@@ -65,13 +63,7 @@ other_shut g (suc zero) c is_area one here = shut_other 1 (chain (layout_of g) 0
 other_shut g (suc (suc n)) c is_area one here = absurd (omega (arith, is_area))
 
 this_or_other : (n k : ℕ) → n < 2 → k < 2 → (k ≡ n) ⊎ (k ≡ other n)
-this_or_other zero zero is_area below = inl refl
-this_or_other zero (suc zero) is_area below = inr refl
-this_or_other (suc zero) zero is_area below = inr refl
-this_or_other (suc zero) (suc zero) is_area below = inl refl
-this_or_other (suc (suc n)) k is_area below = absurd (omega (arith, is_area))
-this_or_other zero (suc (suc k)) is_area below = absurd (omega (arith, below))
-this_or_other (suc zero) (suc (suc k)) is_area below = absurd (omega (arith, below))
+this_or_other n k is_area below = ⊎_elim (λ (same : k ≡ n). inl same) (λ (differs : k ≢ n). inr (omega (arith, is_area, below, differs))) (cases_eq k n)
 
 module _ (g : Geometry) (n : ℕ) (is_area : n < 2) (x : State) (w0 w1 : Medium) (synced : IsSynced w0) (is : NamedHolds g w0.now n true x) where
   beside : (a c : List ℕ) → IsSameBut (layout_of g) (image_part (other n)) a c → AreSame g n a c

@@ -54,6 +54,12 @@ ends_below (s ∷ ss) (suc p) = omega (arith, ends_below ss p)
 pub part_inside : (g : Layout) (p : ℕ) → part_at g p + part_size g p ≤ device_size g
 part_inside g p = ends_below (sizes g) p
 
+-- no item, written anywhere
+pub nothing_over : (xs : List ℕ) (at : ℕ) → overlaid xs at [] ≡ xs
+nothing_over [] at = refl
+nothing_over (x ∷ xs) zero = refl
+nothing_over (x ∷ xs) (suc at) = ap (λ (l : List ℕ). x ∷ l) (nothing_over xs at)
+
 -- The n items from `at` on are those from place i of part p on.
 pub record LiesIn (g : Layout) (p i n at : ℕ) : Type 0 where
   pub place : at ≡ part_at g p + i
