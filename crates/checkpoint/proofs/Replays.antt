@@ -4,7 +4,7 @@ use Rattle.std.specs.Prelude.{if◌then◌else◌}
 use Rattle.std.proofs.lemmas.List.{drop_more}
 use Rattle.affinity.specs.declared.geometry.Geometry.{Geometry}
 use Rattle.checkpoint.specs.declared.fault.OpenFault.{OpenFault}
-use Rattle.checkpoint.specs.declared.fault.OpenFault.TheVariants.{Device, TooShort, NotFormatted, BadGeometry, OutOfMemory, BadVersion, BadPiece, BadChain, BadRecord}
+use Rattle.checkpoint.specs.declared.fault.OpenFault.TheVariants.{Device, NotFormatted, BadGeometry, OutOfMemory, BadRecord}
 use Rattle.checkpoint.specs.Loading.{IsConsistentFault, record_fault, records_fault}
 use Rattle.checkpoint.specs.Recovery.{after_record, decoding}
 use Rattle.checkpoint.specs.Refusals.{fault_if, fault_or_later, first_bad_record}

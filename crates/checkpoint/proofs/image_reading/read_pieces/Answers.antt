@@ -1,6 +1,6 @@
 -- A piece is read from its place in the image; one that can't be taken in is the first bad one.
 use Rattle.std.proofs.Common.{◌≡◌, ℕ, ◌+◌, ◌<◌, ◌≤◌, length, refl, ◌∙◌, ap, arith}
-use Rattle.std.proofs.lemmas.Result.{err_from_is_err_and}
+use Rattle.oplog.proofs.Answered.{err_is}
 use Rattle.affinity.specs.declared.geometry.Geometry.{Geometry}
 use Rattle.image.specs.Pieces.{piece_count}
 use Rattle.device_map.specs.Layout.{image_part, layout_of, part_bytes, part_at}
@@ -41,9 +41,7 @@ overflow_add-at-in-loop-n g c =
 
 pub returns-in_err-take_piece-clause-refused : goal.returns-in_err-take_piece-clause-refused
 returns-in_err-take_piece-clause-refused g c =
-    let p = err_from_is_err_and c.from_residual-in_err-take_piece.result c.from_residual-in_err-take_piece.ensures.1 in
-    rw (p.1, p.2)
-    (λ k.
+    rw (err_is c.from_residual-in_err-take_piece.ensures.1) (λ k.
     let now = (g.D.Disk.medium c.args.disk.now).now in
     let below : c.loop-n.n < piece_count c.args.tree.now.geometry = omega (arith, c.loop-n-test.true, c.piece_count-n-end.ensures.count ∙ ap piece_count c.geometry-g.ensures) in
     let few : c.piece_size.result ≤ length c.loop-n.buffer =

@@ -1,6 +1,6 @@
 -- The records in force are those of the named half, and where it is chained those of the other half behind them.
 use Rattle.std.proofs.Common.{◌≡◌, ◌+◌, ◌≤◌, Bool, ℕ, length, Some, sym, ◌∙◌, ap, subst, arith}
-use Rattle.std.proofs.lemmas.Result.{err_from_is_err_and}
+use Rattle.oplog.proofs.Answered.{err_is}
 use Rattle.affinity.specs.declared.geometry.Geometry.{Geometry}
 use Rattle.checkpoint.specs.Loading.{IsConsistentFault, NamedHolds, records_fault}
 use Rattle.checkpoint.specs.Recovery.{decoding}
@@ -25,9 +25,7 @@ returns-in_err-tree-clause-memory g c =
 
 pub returns-in_err-more-clause-refused : goal.returns-in_err-more-clause-refused
 returns-in_err-more-clause-refused g c =
-    let p = err_from_is_err_and c.from_residual-in_err-more.result c.from_residual-in_err-more.ensures.1 in
-    rw (p.1, p.2)
-    (λ k.
+    rw (err_is c.from_residual-in_err-more.ensures.1) (λ k.
     let w0 = g.D.Disk.medium c.args.disk.now in
     let area = c.in_ok-named.named.area in
     let x = state_in c.load_named.new.tree in

@@ -1,10 +1,10 @@
 -- The image is read and the records of its half are run; a fault is the first in the order of the checks.
 use Rattle.std.proofs.Common.{◌≡◌, ℕ, ◌==◌, List, length, None, Option, Some, sym, ◌∙◌, ap, subst}
-use Rattle.std.proofs.lemmas.Result.{err_from_is_err_and}
+use Rattle.oplog.proofs.Answered.{err_is}
 use Rattle.affinity.specs.declared.geometry.Geometry.{Geometry}
 use Rattle.checkpoint.specs.declared.fault.OpenFault.{OpenFault}
 use Rattle.checkpoint.specs.declared.fault.OpenFault.TheVariants.{BadChain}
-use Rattle.checkpoint.specs.Loading.{IsConsistentFault, are_both_chained, image_fault, records_fault}
+use Rattle.checkpoint.specs.Loading.{IsConsistentFault, IsOfHalf, are_both_chained, image_fault, records_fault}
 use Rattle.checkpoint.specs.Recovery.{decoding}
 use Rattle.checkpoint.specs.Refusals.{fault_if}
 use Rattle.image.specs.Image.{image_state}
@@ -19,9 +19,7 @@ use Rattle.checkpoint.proofs.loading.load_named.Goals as goal
 
 pub returns-in_err-version-clause-refused : goal.returns-in_err-version-clause-refused
 returns-in_err-version-clause-refused g c =
-    let p = err_from_is_err_and c.from_residual-in_err-version.result c.from_residual-in_err-version.ensures.1 in
-    rw (p.1, p.2)
-    (λ k.
+    rw (err_is c.from_residual-in_err-version.ensures.1) (λ k.
     let geometry = c.args.tree.now.geometry in
     let now = (g.D.Disk.medium c.args.disk.now).now in
     let first = same_bytes (g.D.Disk.medium c.args.disk.now) (g.D.Disk.medium c.named_area.new.disk) (c.named_area.ensures.untouched k) in
@@ -32,9 +30,7 @@ returns-in_err-version-clause-refused g c =
 
 pub returns-in_err-chained-clause-refused : goal.returns-in_err-chained-clause-refused
 returns-in_err-chained-clause-refused g c =
-    let p = err_from_is_err_and c.from_residual-in_err-chained.result c.from_residual-in_err-chained.ensures.1 in
-    rw (p.1, p.2)
-    (λ k.
+    rw (err_is c.from_residual-in_err-chained.ensures.1) (λ k.
     let geometry = c.args.tree.now.geometry in
     let now = (g.D.Disk.medium c.args.disk.now).now in
     let first = same_bytes (g.D.Disk.medium c.args.disk.now) (g.D.Disk.medium c.named_area.new.disk) (c.named_area.ensures.untouched k) in
@@ -47,9 +43,7 @@ returns-in_err-chained-clause-refused g c =
 
 pub returns-in_err-records-clause-refused : goal.returns-in_err-records-clause-refused
 returns-in_err-records-clause-refused g c =
-    let p = err_from_is_err_and c.from_residual-in_err-records.result c.from_residual-in_err-records.ensures.1 in
-    rw (p.1, p.2)
-    (λ k.
+    rw (err_is c.from_residual-in_err-records.ensures.1) (λ k.
     let geometry = c.args.tree.now.geometry in
     let now = (g.D.Disk.medium c.args.disk.now).now in
     let first = same_bytes (g.D.Disk.medium c.args.disk.now) (g.D.Disk.medium c.named_area.new.disk) (c.named_area.ensures.untouched k) in
@@ -100,17 +94,14 @@ returns-clause-records g c = λ k.
 
 pub returns-in_err-version-clause-half : goal.returns-in_err-version-clause-half
 returns-in_err-version-clause-half g c =
-    let p = err_from_is_err_and c.from_residual-in_err-version.result c.from_residual-in_err-version.ensures.1 in
-    rw (p.1, p.2) (λ k. image_half _ _ _ _ (c.in_err-version.ensures.refused k))
+    rw (err_is c.from_residual-in_err-version.ensures.1) (λ k. image_half _ _ _ _ (c.in_err-version.ensures.refused k))
 
 pub returns-in_err-chained-clause-half : goal.returns-in_err-chained-clause-half
 returns-in_err-chained-clause-half g c =
-    let p = err_from_is_err_and c.from_residual-in_err-chained.result c.from_residual-in_err-chained.ensures.1 in
-    rw (p.1, p.2) (λ k. chain_half _ _ _ (c.in_err-chained.ensures.refused k))
+    rw (err_is c.from_residual-in_err-chained.ensures.1) (λ k. chain_half _ _ _ (c.in_err-chained.ensures.refused k))
 
 pub returns-in_err-records-clause-half : goal.returns-in_err-records-clause-half
 returns-in_err-records-clause-half g c =
-    let p = err_from_is_err_and c.from_residual-in_err-records.result c.from_residual-in_err-records.ensures.1 in
-    rw (p.1, p.2) (λ k.
+    rw (err_is c.from_residual-in_err-records.ensures.1) (λ k.
     let names = c.in_ok-area.ensures.area k ∙ ap (λ (h : Geometry). named_area (layout_of h) (g.D.Disk.medium c.args.disk.now).now) c.geometry-g.ensures in
-    rw (← names) (records_half c.in_ok-area.area _ _ (c.in_err-records.ensures.refused k)))
+    subst (λ (n : ℕ). IsOfHalf n c.in_err-records.field-0.0) names (records_half c.in_ok-area.area _ _ (c.in_err-records.ensures.refused k)))

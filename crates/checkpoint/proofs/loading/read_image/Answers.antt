@@ -1,6 +1,6 @@
 -- A bad head is refused before the first bad piece, which is refused where the head is good.
 use Rattle.std.proofs.Common.{sym, ◌∙◌, ap}
-use Rattle.std.proofs.lemmas.Result.{err_from_is_err_and}
+use Rattle.oplog.proofs.Answered.{err_is}
 use Rattle.affinity.specs.declared.geometry.Geometry.{Geometry}
 use Rattle.image.specs.Image.{has_head}
 use Rattle.device_map.specs.Layout.{image_part, layout_of, part_bytes}
@@ -10,16 +10,14 @@ use Rattle.checkpoint.proofs.loading.read_image.Goals as goal
 
 pub returns-in_err-version-clause-refused : goal.returns-in_err-version-clause-refused
 returns-in_err-version-clause-refused g c =
-    let p = err_from_is_err_and c.from_residual.result c.from_residual.ensures.1 in
-    rw (p.1, p.2) (λ k.
+    rw (err_is c.from_residual.ensures.1) (λ k.
     let now = (g.D.Disk.medium c.args.disk.now).now in
     head_refused c.args.tree.now.geometry (part_bytes (layout_of c.args.tree.now.geometry) (image_part c.args.area) now) _
     (rw (← c.geometry.ensures) (c.in_err-version.ensures.refused k)))
 
 pub returns-in_err-read_pieces-clause-refused : goal.returns-in_err-read_pieces-clause-refused
 returns-in_err-read_pieces-clause-refused g c =
-    let p = err_from_is_err_and c.from_residual-in_err-read_pieces.result c.from_residual-in_err-read_pieces.ensures.1 in
-    rw (p.1, p.2) (λ k.
+    rw (err_is c.from_residual-in_err-read_pieces.ensures.1) (λ k.
     let now = (g.D.Disk.medium c.args.disk.now).now in
     let same = same_bytes (g.D.Disk.medium c.args.disk.now) (g.D.Disk.medium c.version_of.new.disk) (c.version_of.ensures.untouched k) in
     pieces_refused c.args.tree.now.geometry (part_bytes (layout_of c.args.tree.now.geometry) (image_part c.args.area) now)

@@ -1,6 +1,6 @@
 -- Counting only reads the device. All records before this one were run, so one that can't be is the first bad one; else the run goes on.
 use Rattle.std.proofs.Common.{refl, sym, ◌∙◌, arith}
-use Rattle.std.proofs.lemmas.Result.{err_from_is_err_and}
+use Rattle.oplog.proofs.Answered.{err_is}
 use Rattle.oplog.specs.Log.{layout_of_log}
 use Rattle.parcel.specs.Tree.{state_in}
 use Rattle.checkpoint.proofs.Replays.{apply_same, at_first, at_next, bad_at, record_fault_same, same_bytes}
@@ -19,9 +19,7 @@ loop-i-init g c = record {
 
 pub returns-in_err-replay_record-clause-refused : goal.returns-in_err-replay_record-clause-refused
 returns-in_err-replay_record-clause-refused g c =
-    let p = err_from_is_err_and c.from_residual-in_err-replay_record.result c.from_residual-in_err-replay_record.ensures.1 in
-    rw (p.1, p.2)
-    (λ k.
+    rw (err_is c.from_residual-in_err-replay_record.ensures.1) (λ k.
     bad_at c.args.tree.now.geometry (layout_of_log c.args.log.now) c.args.half (g.D.Disk.medium c.args.disk.now).now (state_in c.args.tree.now) c.loop-i.i (state_in c.loop-i.tree)
     (omega (arith, c.loop-i-test.true, c.in_ok-count.ensures.front k)) (c.loop-i.invariant.at k) _
     (record_fault_same c.loop-i.invariant.log (same_bytes (g.D.Disk.medium c.args.disk.now) (g.D.Disk.medium c.loop-i.disk) (c.loop-i.invariant.untouched k)) c.args.half

@@ -1,6 +1,6 @@
 -- A record's bytes encode one message or none. The record is run if there is a message whose reply is `Done`; otherwise it is bad.
 use Rattle.std.proofs.Common.{Some, sym, ◌∙◌, ap, subst}
-use Rattle.std.proofs.lemmas.Result.{err_from_is_err_and}
+use Rattle.oplog.proofs.Answered.{err_is}
 use Rattle.affinity.specs.declared.geometry.Geometry.{Geometry}
 use Rattle.oplog.specs.Log.{layout_of_log}
 use Rattle.oplog.specs.Changing.{IsChangeInRange}
@@ -11,9 +11,7 @@ use Rattle.checkpoint.proofs.replaying.replay_record.Goals as goal
 
 pub returns-in_err-m-clause-refused : goal.returns-in_err-m-clause-refused
 returns-in_err-m-clause-refused g c =
-    let p = err_from_is_err_and c.from_residual.result c.from_residual.ensures.1 in
-    rw (p.1, p.2)
-    (λ k.
+    rw (err_is c.from_residual.ensures.1) (λ k.
     let bytes = records_are_bytes (layout_of_log c.args.log.now) c.args.half c.args.i (g.D.Disk.medium c.args.disk.now).now c.requires.half c.requires.i
     c.requires.long_enough (g.met.D.Disk.bytes c.args.disk.now) in
     read_fault c.requires.geometry (state_in c.args.tree.now) c.args.half c.args.i _ bytes.0 bytes.1

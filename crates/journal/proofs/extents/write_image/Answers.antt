@@ -1,7 +1,7 @@
 -- A clean extent ends a run, which is written; the clean ones are on the device, so the whole image is there.
 use Rattle.std.proofs.Common.{◌≡◌, ◌+◌, ◌<◌, true, false, length, get_or, refl, sym, ◌∙◌, ap, arith}
 use Rattle.std.proofs.lemmas.Grind.{common_steps}
-use Rattle.std.proofs.lemmas.Result.{err_from_is_err_and}
+use Rattle.oplog.proofs.Answered.{err_is}
 use Rattle.disk.specs.Moments.{moment_number}
 use Rattle.disk.proofs.Calls.{after_sync}
 use Rattle.image.specs.Pieces.{piece_count}
@@ -108,22 +108,19 @@ returns-clause-written g c = λ k.
 
 pub returns-in_err-write_run-clause-costs : goal.returns-in_err-write_run-clause-costs
 returns-in_err-write_run-clause-costs g c =
-    rw (err_from_is_err_and c.from_residual.result c.from_residual.ensures.1).1
-    (λ k.
+    rw (err_is c.from_residual.ensures.1) (λ k.
     run_failed _ (c.loop-n.invariant.runs k) (λ some. c.in_err-write_run.ensures.costs some k)
     (λ none. ap (λ d. moment_number (g.D.Disk.medium d)) (c.write_run.ensures.none none)))
 
 pub returns-in_err-write_run-2-clause-costs : goal.returns-in_err-write_run-2-clause-costs
 returns-in_err-write_run-2-clause-costs g c =
-    rw (err_from_is_err_and c.from_residual-in_err-write_run-2.result c.from_residual-in_err-write_run-2.ensures.1).1
-    (λ k.
+    rw (err_is c.from_residual-in_err-write_run-2.ensures.1) (λ k.
     run_failed _ (c.loop-n.invariant.runs k) (λ some. c.in_err-write_run-2.ensures.costs some k)
     (λ none. ap (λ d. moment_number (g.D.Disk.medium d)) (c.write_run-2.ensures.none none)))
 
 pub returns-in_err-sync_image-clause-costs : goal.returns-in_err-sync_image-clause-costs
 returns-in_err-sync_image-clause-costs g c =
-    rw (err_from_is_err_and c.from_residual-in_err-sync_image.result c.from_residual-in_err-sync_image.ensures.1).1
-    (λ k.
+    rw (err_is c.from_residual-in_err-sync_image.ensures.1) (λ k.
     let all : c.loop-n.n ≡ piece_count c.args.g.now = grind (arith, common_steps) in
     let ended =
     run_ended (c.loop-n.invariant.runs k) (omega (arith, all, c.requires.dirty)) (λ some. c.in_ok-write_run-2.ensures.costs some k)

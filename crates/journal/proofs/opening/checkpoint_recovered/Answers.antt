@@ -1,6 +1,6 @@
 -- All pieces are dirty, so the snapshot is the image of the whole state, and is written in one run.
 use Rattle.std.proofs.Common.{Bool, List, sym, ◌∙◌, ap, subst, arith, true≢false}
-use Rattle.std.proofs.lemmas.Result.{err_from_is_err_and}
+use Rattle.oplog.proofs.Answered.{err_is}
 use Rattle.affinity.specs.declared.geometry.Geometry.{Geometry}
 use Rattle.image.specs.Image.{image_of, image_state}
 use Rattle.image.proofs.Reading.{read_again}
@@ -32,8 +32,7 @@ point_on-requires-clause-clean g c = λ k n few clean.
 
 pub returns-in_err-point_on-clause-costs : goal.returns-in_err-point_on-clause-costs
 returns-in_err-point_on-clause-costs g c =
-    rw (err_from_is_err_and c.from_residual.result c.from_residual.ensures.1).1
-    (λ k.
+    rw (err_is c.from_residual.ensures.1) (λ k.
     let one = ap count_runs c.deref-3.ensures.value ∙ one_run c.args.parts.now.halves.geometry c.args.parts.now.other_dirty.items c.requires.loaded.other_dirty c.requires.loaded.all in
     omega (arith, one, c.in_err-point_on.ensures.costs k))
 

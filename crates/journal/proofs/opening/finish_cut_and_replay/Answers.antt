@@ -1,6 +1,6 @@
 -- The cut is finished, and then the records behind it are run; if one is bad, the device is refused for it, as it was before.
 use Rattle.std.proofs.Common.{◌≡◌, ℕ, List, Option, Some, refl, sym, ◌∙◌, ap, subst, arith}
-use Rattle.std.proofs.lemmas.Result.{err_from_is_err_and}
+use Rattle.oplog.proofs.Answered.{err_is}
 use Rattle.affinity.specs.declared.geometry.Geometry.{Geometry}
 use Rattle.checkpoint.specs.declared.fault.OpenFault.{OpenFault}
 use Rattle.checkpoint.specs.Loading.{IsConsistentFault, records_fault}
@@ -46,9 +46,7 @@ returns-in_err-replay-clause-alike g c = λ k. same _ _ _ _ (c.finish_cut.ensure
 
 pub returns-in_err-replay-clause-refused : goal.returns-in_err-replay-clause-refused
 returns-in_err-replay-clause-refused g c =
-    let p = err_from_is_err_and c.from_residual-in_err-replay.result c.from_residual-in_err-replay.ensures.1 in
-    rw (p.1, p.2)
-    (λ k.
+    rw (err_is c.from_residual-in_err-replay.ensures.1) (λ k.
     let fault = subst (λ (o : Option OpenFault). IsConsistentFault o c.in_err-replay.field-0.0) (begins records_fault g (goal.at.returns-in_err-replay-clause-refused g c).After-replay k)
     (c.in_err-replay.ensures.refused k) in
     behind_refused c.args.parts.now.halves.geometry (g.D.Disk.medium c.args.disk.now).now c.args.parts.now.halves.named (state_in c.args.parts.now.tree) (c.requires.recovers k)
@@ -56,9 +54,7 @@ returns-in_err-replay-clause-refused g c =
 
 pub returns-in_err-replay-clause-behind : goal.returns-in_err-replay-clause-behind
 returns-in_err-replay-clause-behind g c =
-    let p = err_from_is_err_and c.from_residual-in_err-replay.result c.from_residual-in_err-replay.ensures.1 in
-    rw (p.1, p.2)
-    (λ k.
+    rw (err_is c.from_residual-in_err-replay.ensures.1) (λ k.
     let w0 = g.D.Disk.medium c.args.disk.now in
     let w2 = g.D.Disk.medium c.replay.new.disk in
     let finished = c.in_ok-finish_cut.ensures.finished k in
@@ -134,12 +130,11 @@ returns-clause-beyond g c = λ k.
 
 pub returns-in_err-finish_cut-clause-costs : goal.returns-in_err-finish_cut-clause-costs
 returns-in_err-finish_cut-clause-costs g c =
-    rw (err_from_is_err_and c.from_residual.result c.from_residual.ensures.1).1 (λ k. c.in_err-finish_cut.ensures.costs k)
+    rw (err_is c.from_residual.ensures.1) (λ k. c.in_err-finish_cut.ensures.costs k)
 
 pub returns-in_err-replay-clause-costs : goal.returns-in_err-replay-clause-costs
 returns-in_err-replay-clause-costs g c =
-    rw (err_from_is_err_and c.from_residual-in_err-replay.result c.from_residual-in_err-replay.ensures.1).1
-    (λ k. omega (arith, no_call (g.D.Disk.medium c.finish_cut.new.disk) (g.D.Disk.medium c.replay.new.disk) (c.replay.ensures.untouched k), c.in_ok-finish_cut.ensures.costs k))
+    rw (err_is c.from_residual-in_err-replay.ensures.1) (λ k. omega (arith, no_call (g.D.Disk.medium c.finish_cut.new.disk) (g.D.Disk.medium c.replay.new.disk) (c.replay.ensures.untouched k), c.in_ok-finish_cut.ensures.costs k))
 
 pub returns-clause-costs : goal.returns-clause-costs
 returns-clause-costs g c = λ k.

@@ -1,6 +1,6 @@
 -- Without a cut in progress the named area holds the state; else the cut is finished, and the records behind it are run.
 use Rattle.std.proofs.Common.{true, false, refl, sym, ◌∙◌, ap, subst, arith}
-use Rattle.std.proofs.lemmas.Result.{err_from_is_err_and}
+use Rattle.oplog.proofs.Answered.{err_is}
 use Rattle.std.proofs.lemmas.Bool.{not-true, not-false}
 use Rattle.checkpoint.specs.Loading.{NamedHolds}
 use Rattle.checkpoint.specs.Recovery.{recovered_state}
@@ -52,8 +52,7 @@ returns-in_err-named-clause-alike g c = λ k. alike_read c.args.parts.now.tree.g
 
 pub returns-in_err-named-clause-unwritten : goal.returns-in_err-named-clause-unwritten
 returns-in_err-named-clause-unwritten g c =
-    let p = err_from_is_err_and c.from_residual.result c.from_residual.ensures.1 in
-    rw (p.1, p.2) (λ k. all_unwritten _ _ _ (unread _ _ (c.load_named.ensures.untouched k)) (λ h. c.in_err-named.ensures.half k))
+    rw (err_is c.from_residual.ensures.1) (λ k. all_unwritten _ _ _ (unread _ _ (c.load_named.ensures.untouched k)) (λ h. c.in_err-named.ensures.half k))
 
 pub returns-then-not-named-clause-any_moment : goal.returns-then-not-named-clause-any_moment
 returns-then-not-named-clause-any_moment g c = λ k. still_read c.args.parts.now.tree.geometry _ _ (c.requires.synced k) (c.load_named.ensures.untouched k)
@@ -94,9 +93,7 @@ returns-in_err-finish_cut_and_replay-clause-alike g c = alike g (goal.at.returns
 
 pub returns-in_err-finish_cut_and_replay-clause-unwritten : goal.returns-in_err-finish_cut_and_replay-clause-unwritten
 returns-in_err-finish_cut_and_replay-clause-unwritten g c =
-    let p = err_from_is_err_and c.from_residual-in_err-finish_cut_and_replay.result c.from_residual-in_err-finish_cut_and_replay.ensures.1 in
-    rw (p.1, p.2)
-    (λ k.
+    rw (err_is c.from_residual-in_err-finish_cut_and_replay.ensures.1) (λ k.
     let w2 = g.D.Disk.medium c.finish_cut_and_replay.new.disk in
     let w0 = g.D.Disk.medium c.args.disk.now in
     let w1 = g.D.Disk.medium c.load_named.new.disk in
@@ -149,14 +146,11 @@ returns-clause-room g c =
 
 pub returns-in_err-named-clause-synced : goal.returns-in_err-named-clause-synced
 returns-in_err-named-clause-synced g c =
-    rw (err_from_is_err_and c.from_residual.result c.from_residual.ensures.1).1
-    (λ not_device k. still_synced (g.D.Disk.medium c.args.disk.now) (g.D.Disk.medium c.load_named.new.disk) (c.load_named.ensures.untouched k) (c.requires.synced k))
+    rw (err_is c.from_residual.ensures.1) (λ not_device k. still_synced (g.D.Disk.medium c.args.disk.now) (g.D.Disk.medium c.load_named.new.disk) (c.load_named.ensures.untouched k) (c.requires.synced k))
 
 pub returns-in_err-finish_cut_and_replay-clause-synced : goal.returns-in_err-finish_cut_and_replay-clause-synced
 returns-in_err-finish_cut_and_replay-clause-synced g c =
-    let p = err_from_is_err_and c.from_residual-in_err-finish_cut_and_replay.result c.from_residual-in_err-finish_cut_and_replay.ensures.1 in
-    rw (p.1, p.2)
-    (λ not_device k.
+    rw (err_is c.from_residual-in_err-finish_cut_and_replay.ensures.1) (λ not_device k.
     let log = c.load_named.new.log in
     bad_synced log.geometry (other log.named) c.in_err-finish_cut_and_replay.field-0.0 (g.D.Disk.medium c.load_named.new.disk)
     (g.D.Disk.medium c.finish_cut_and_replay.new.disk) not_device (c.in_err-finish_cut_and_replay.ensures.behind k))
@@ -175,8 +169,7 @@ returns-clause-beyond g c = stays g (goal.at.returns-clause-beyond g c).After-fi
 
 pub returns-in_err-named-clause-costs : goal.returns-in_err-named-clause-costs
 returns-in_err-named-clause-costs g c =
-    rw (err_from_is_err_and c.from_residual.result c.from_residual.ensures.1).1
-    (λ k. omega (arith, no_call (g.D.Disk.medium c.args.disk.now) (g.D.Disk.medium c.load_named.new.disk) (c.load_named.ensures.untouched k)))
+    rw (err_is c.from_residual.ensures.1) (λ k. omega (arith, no_call (g.D.Disk.medium c.args.disk.now) (g.D.Disk.medium c.load_named.new.disk) (c.load_named.ensures.untouched k)))
 
 pub returns-then-not-named-clause-costs : goal.returns-then-not-named-clause-costs
 returns-then-not-named-clause-costs g c = λ k.
@@ -186,8 +179,7 @@ returns-then-not-named-clause-costs g c = λ k.
 
 pub returns-in_err-finish_cut_and_replay-clause-costs : goal.returns-in_err-finish_cut_and_replay-clause-costs
 returns-in_err-finish_cut_and_replay-clause-costs g c =
-    rw (err_from_is_err_and c.from_residual-in_err-finish_cut_and_replay.result c.from_residual-in_err-finish_cut_and_replay.ensures.1).1
-    (λ k.
+    rw (err_is c.from_residual-in_err-finish_cut_and_replay.ensures.1) (λ k.
     let four = finish_is c.args.parts.now.tree.geometry (g.D.Disk.medium c.args.disk.now).now c.in_ok-named.named.area c.in_ok-named.named.chained
     true (state_in c.load_named.new.tree) (not-false c.in_ok-named.named.chained c.if-not-named.false) (c.in_ok-named.ensures.loaded k) in
     omega (arith, no_call (g.D.Disk.medium c.args.disk.now) (g.D.Disk.medium c.load_named.new.disk) (c.load_named.ensures.untouched k), four, c.in_err-finish_cut_and_replay.ensures.costs k))

@@ -1,6 +1,7 @@
 -- Until the first sync is over, a crash leaves what one before it could; from then on, what it leaves while a synced device is opened.
 use Rattle.std.proofs.Common.{ℕ, List, sym, subst, arith}
-use Rattle.std.proofs.lemmas.Result.{err_from_is_err_and, IfOk-weaker, IfErr-weaker}
+use Rattle.std.proofs.lemmas.Result.{IfOk-weaker, IfErr-weaker}
+use Rattle.oplog.proofs.Answered.{err_is}
 use Rattle.checkpoint.specs.Header.{HasHeader}
 use Rattle.checkpoint.specs.Refusals.{HasHeaderAndParts}
 use Rattle.journal.specs.Parts.{IsMadeOf}
@@ -53,7 +54,7 @@ returns-clause-beyond g c = λ k h head.
 
 pub returns-in_err-first_sync-clause-costs : goal.returns-in_err-first_sync-clause-costs
 returns-in_err-first_sync-clause-costs g c =
-    rw (err_from_is_err_and c.from_residual.result c.from_residual.ensures.1).1 (λ k. omega (arith, c.in_err-first_sync.ensures.costs k))
+    rw (err_is c.from_residual.ensures.1) (λ k. omega (arith, c.in_err-first_sync.ensures.costs k))
 
 pub returns-clause-costs : goal.returns-clause-costs
 returns-clause-costs g c = λ k.

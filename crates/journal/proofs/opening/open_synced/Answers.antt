@@ -1,7 +1,7 @@
 -- Header, memory, load and last point, one after the other: a refusal is one that the bytes show, and what a crash leaves
 -- recovers to the same, or is refused alike.
 use Rattle.std.proofs.Common.{◌≡◌, ◌≤◌, Bool, List, ℕ, length, sym, ◌∙◌, ap, subst, arith}
-use Rattle.std.proofs.lemmas.Result.{err_from_is_err_and}
+use Rattle.oplog.proofs.Answered.{err_is}
 use Rattle.affinity.specs.declared.geometry.Geometry.{Geometry}
 use Rattle.checkpoint.specs.Header.{HasHeader}
 use Rattle.checkpoint.specs.Recovery.{recovered_state}
@@ -55,16 +55,14 @@ returns-in_err-g-clause-any_moment g c = λ k. as_before _ _ (c.requires.synced 
 
 pub returns-in_err-g-clause-unwritten : goal.returns-in_err-g-clause-unwritten
 returns-in_err-g-clause-unwritten g c =
-    let p = err_from_is_err_and c.from_residual.result c.from_residual.ensures.1 in
-    rw (p.1, p.2) (λ k. all_unwritten _ _ _ (unread _ _ (c.read_header.ensures.untouched k)) (λ h. header_half _ _ c.in_err-g.ensures.by_header))
+    rw (err_is c.from_residual.ensures.1) (λ k. all_unwritten _ _ _ (unread _ _ (c.read_header.ensures.untouched k)) (λ h. header_half _ _ c.in_err-g.ensures.by_header))
 
 pub returns-in_err-parts-clause-any_moment : goal.returns-in_err-parts-clause-any_moment
 returns-in_err-parts-clause-any_moment g c = λ k. as_before _ _ (c.requires.synced k) (c.read_header.ensures.untouched k)
 
 pub returns-in_err-parts-clause-unwritten : goal.returns-in_err-parts-clause-unwritten
 returns-in_err-parts-clause-unwritten g c =
-    let p = err_from_is_err_and c.from_residual-in_err-parts.result c.from_residual-in_err-parts.ensures.1 in
-    rw (p.1, p.2) (λ k.
+    rw (err_is c.from_residual-in_err-parts.ensures.1) (λ k.
     all_unwritten _ _ _ (unread _ _ (c.read_header.ensures.untouched k))
     (λ h. rw c.in_err-parts.ensures.fault tt))
 
@@ -78,9 +76,7 @@ returns-in_err-load_in_order-clause-any_moment g c = λ k.
 
 pub returns-in_err-load_in_order-clause-unwritten : goal.returns-in_err-load_in_order-clause-unwritten
 returns-in_err-load_in_order-clause-unwritten g c =
-    let p = err_from_is_err_and c.from_residual-in_err-load_in_order.result c.from_residual-in_err-load_in_order.ensures.1 in
-    rw (p.1, p.2)
-    (λ k.
+    rw (err_is c.from_residual-in_err-load_in_order.ensures.1) (λ k.
     let w0 = g.D.Disk.medium c.args.disk.now in
     let w1 = g.D.Disk.medium c.read_header.new.disk in
     let w2 = g.D.Disk.medium c.load_in_order.new.disk in
@@ -134,8 +130,7 @@ returns-clause-made_of g c = λ k.
 
 pub returns-in_err-g-clause-memory : goal.returns-in_err-g-clause-memory
 returns-in_err-g-clause-memory g c =
-    let p = err_from_is_err_and c.from_residual.result c.from_residual.ensures.1 in
-    rw (p.1, p.2) (λ is. absurd (never_out_of_memory c.in_err-g.field-0.0 c.in_err-g.ensures.by_header is))
+    rw (err_is c.from_residual.ensures.1) (λ is. absurd (never_out_of_memory c.in_err-g.field-0.0 c.in_err-g.ensures.by_header is))
 
 pub returns-in_err-parts-clause-memory : goal.returns-in_err-parts-clause-memory
 returns-in_err-parts-clause-memory g c =
@@ -151,18 +146,15 @@ returns-in_err-checkpoint_recovered-clause-memory g c =
 
 pub returns-in_err-g-clause-synced : goal.returns-in_err-g-clause-synced
 returns-in_err-g-clause-synced g c =
-    rw (err_from_is_err_and c.from_residual.result c.from_residual.ensures.1).1
-    (λ other k. still_synced (g.D.Disk.medium c.args.disk.now) (g.D.Disk.medium c.read_header.new.disk) (c.read_header.ensures.untouched k) (c.requires.synced k))
+    rw (err_is c.from_residual.ensures.1) (λ other k. still_synced (g.D.Disk.medium c.args.disk.now) (g.D.Disk.medium c.read_header.new.disk) (c.read_header.ensures.untouched k) (c.requires.synced k))
 
 pub returns-in_err-parts-clause-synced : goal.returns-in_err-parts-clause-synced
 returns-in_err-parts-clause-synced g c =
-    rw (err_from_is_err_and c.from_residual-in_err-parts.result c.from_residual-in_err-parts.ensures.1).1
-    (λ other k. still_synced (g.D.Disk.medium c.args.disk.now) (g.D.Disk.medium c.read_header.new.disk) (c.read_header.ensures.untouched k) (c.requires.synced k))
+    rw (err_is c.from_residual-in_err-parts.ensures.1) (λ other k. still_synced (g.D.Disk.medium c.args.disk.now) (g.D.Disk.medium c.read_header.new.disk) (c.read_header.ensures.untouched k) (c.requires.synced k))
 
 pub returns-in_err-checkpoint_recovered-clause-synced : goal.returns-in_err-checkpoint_recovered-clause-synced
 returns-in_err-checkpoint_recovered-clause-synced g c =
-    let p = err_from_is_err_and c.from_residual-in_err-checkpoint_recovered.result c.from_residual-in_err-checkpoint_recovered.ensures.1 in
-    rw (p.1, p.2) (λ other k. absurd (other c.in_err-checkpoint_recovered.ensures.device))
+    rw (err_is c.from_residual-in_err-checkpoint_recovered.ensures.1) (λ other k. absurd (other c.in_err-checkpoint_recovered.ensures.device))
 
 pub returns-in_err-g-clause-beyond : goal.returns-in_err-g-clause-beyond
 returns-in_err-g-clause-beyond g c = λ k h head. beyond_read (layout_of h) _ _ (c.read_header.ensures.untouched k)
@@ -185,25 +177,21 @@ returns-clause-beyond g c = stays g (goal.at.returns-clause-beyond g c).After-ch
 
 pub returns-in_err-g-clause-costs : goal.returns-in_err-g-clause-costs
 returns-in_err-g-clause-costs g c =
-    rw (err_from_is_err_and c.from_residual.result c.from_residual.ensures.1).1
-    (λ k. omega (arith, no_call (g.D.Disk.medium c.args.disk.now) (g.D.Disk.medium c.read_header.new.disk) (c.read_header.ensures.untouched k)))
+    rw (err_is c.from_residual.ensures.1) (λ k. omega (arith, no_call (g.D.Disk.medium c.args.disk.now) (g.D.Disk.medium c.read_header.new.disk) (c.read_header.ensures.untouched k)))
 
 pub returns-in_err-parts-clause-costs : goal.returns-in_err-parts-clause-costs
 returns-in_err-parts-clause-costs g c =
-    rw (err_from_is_err_and c.from_residual-in_err-parts.result c.from_residual-in_err-parts.ensures.1).1
-    (λ k. omega (arith, no_call (g.D.Disk.medium c.args.disk.now) (g.D.Disk.medium c.read_header.new.disk) (c.read_header.ensures.untouched k)))
+    rw (err_is c.from_residual-in_err-parts.ensures.1) (λ k. omega (arith, no_call (g.D.Disk.medium c.args.disk.now) (g.D.Disk.medium c.read_header.new.disk) (c.read_header.ensures.untouched k)))
 
 pub returns-in_err-load_in_order-clause-costs : goal.returns-in_err-load_in_order-clause-costs
 returns-in_err-load_in_order-clause-costs g c =
-    rw (err_from_is_err_and c.from_residual-in_err-load_in_order.result c.from_residual-in_err-load_in_order.ensures.1).1
-    (λ k.
+    rw (err_is c.from_residual-in_err-load_in_order.ensures.1) (λ k.
     let few = finish_few c.in_ok-parts.parts.tree.geometry (g.D.Disk.medium c.read_header.new.disk).now in
     omega (arith, no_call (g.D.Disk.medium c.args.disk.now) (g.D.Disk.medium c.read_header.new.disk) (c.read_header.ensures.untouched k), few, c.in_err-load_in_order.ensures.costs k))
 
 pub returns-in_err-checkpoint_recovered-clause-costs : goal.returns-in_err-checkpoint_recovered-clause-costs
 returns-in_err-checkpoint_recovered-clause-costs g c =
-    rw (err_from_is_err_and c.from_residual-in_err-checkpoint_recovered.result c.from_residual-in_err-checkpoint_recovered.ensures.1).1
-    (λ k.
+    rw (err_is c.from_residual-in_err-checkpoint_recovered.ensures.1) (λ k.
     let few = finish_few c.in_ok-parts.parts.tree.geometry (g.D.Disk.medium c.read_header.new.disk).now in
     omega (
       arith,
@@ -226,5 +214,4 @@ returns-clause-costs g c = λ k.
 
 pub returns-in_err-load_in_order-clause-synced : goal.returns-in_err-load_in_order-clause-synced
 returns-in_err-load_in_order-clause-synced g c =
-    let p = err_from_is_err_and c.from_residual-in_err-load_in_order.result c.from_residual-in_err-load_in_order.ensures.1 in
-    rw (p.1, p.2) (λ other k. c.in_err-load_in_order.ensures.synced other k)
+    rw (err_is c.from_residual-in_err-load_in_order.ensures.1) (λ other k. c.in_err-load_in_order.ensures.synced other k)

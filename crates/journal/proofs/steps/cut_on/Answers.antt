@@ -1,6 +1,6 @@
 -- The other half is cleared, and then put in force while it is empty: what a crash leaves recovers to the same. Records go there next.
 use Rattle.std.proofs.Common.{◌<◌, subst, arith}
-use Rattle.std.proofs.lemmas.Result.{err_from_is_err_and}
+use Rattle.oplog.proofs.Answered.{err_is}
 use Rattle.oplog.specs.Calls.{Chains}
 use Rattle.oplog.specs.Changes.{Chained}
 use Rattle.device_map.specs.Layout.{layout_of}
@@ -58,4 +58,4 @@ returns-clause-begun g c = λ k.
 
 pub returns-in_err-clear_other-clause-costs : goal.returns-in_err-clear_other-clause-costs
 returns-in_err-clear_other-clause-costs g c =
-    rw (err_from_is_err_and c.from_residual.result c.from_residual.ensures.1).1 (λ k. omega (arith, c.in_err-clear_other.ensures.costs k))
+    rw (err_is c.from_residual.ensures.1) (λ k. omega (arith, c.in_err-clear_other.ensures.costs k))

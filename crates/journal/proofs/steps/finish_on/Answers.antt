@@ -1,7 +1,7 @@
 -- A cut is finished: the other area gets the image of what the named one holds without the other half's records, which are in force
 -- before and after.
 use Rattle.std.proofs.Common.{◌≡◌, ◌<◌, sym, ◌∙◌, subst, arith, true≢false}
-use Rattle.std.proofs.lemmas.Result.{err_from_is_err_and}
+use Rattle.oplog.proofs.Answered.{err_is}
 use Rattle.affinity.specs.declared.geometry.Geometry.{Geometry}
 use Rattle.image.specs.Pieces.{piece_count}
 use Rattle.journal.specs.Extents.{Imaged}
@@ -104,8 +104,7 @@ returns-then-is_err-clause-costs g c = λ k.
 
 pub returns-in_err-flip_root-clause-costs : goal.returns-in_err-flip_root-clause-costs
 returns-in_err-flip_root-clause-costs g c =
-    rw (err_from_is_err_and c.from_residual.result c.from_residual.ensures.1).1
-    (λ k.
+    rw (err_is c.from_residual.ensures.1) (λ k.
     let one = one_run c.args.halves.now.geometry c.args.dirty.now c.requires.dirty c.requires.all in
     let wrote = takes_all c.write_image.result _ _ _ (sym c.is_err.ensures.value ∙ c.if-is_err.false) (c.write_image.ensures.costs k) in
     omega (arith, one, wrote, c.in_err-flip_root.ensures.costs k))

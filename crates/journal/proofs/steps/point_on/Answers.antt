@@ -1,6 +1,6 @@
 -- While the other area is cleared and written, recovery reads the named one alone; once it is written, both areas recover to the same.
 use Rattle.std.proofs.Common.{◌<◌, sym, ◌∙◌, subst, arith}
-use Rattle.std.proofs.lemmas.Result.{err_from_is_err_and}
+use Rattle.oplog.proofs.Answered.{err_is}
 use Rattle.journal.specs.Extents.{AgreeOnClean, Imaged, image_in}
 use Rattle.journal.proofs.Costs.{takes_all, takes_most}
 use Rattle.journal.proofs.Pointing.{clear_moments, flip_moments, image_moments, still_clean}
@@ -86,7 +86,7 @@ returns-clause-pointed g c = λ k.
 
 pub returns-in_err-clear_other-clause-costs : goal.returns-in_err-clear_other-clause-costs
 returns-in_err-clear_other-clause-costs g c =
-    rw (err_from_is_err_and c.from_residual.result c.from_residual.ensures.1).1 (λ k. omega (arith, c.in_err-clear_other.ensures.costs k))
+    rw (err_is c.from_residual.ensures.1) (λ k. omega (arith, c.in_err-clear_other.ensures.costs k))
 
 pub returns-then-is_err-clause-costs : goal.returns-then-is_err-clause-costs
 returns-then-is_err-clause-costs g c = λ k.
@@ -95,8 +95,7 @@ returns-then-is_err-clause-costs g c = λ k.
 
 pub returns-in_err-flip_root-clause-costs : goal.returns-in_err-flip_root-clause-costs
 returns-in_err-flip_root-clause-costs g c =
-    rw (err_from_is_err_and c.from_residual-in_err-flip_root.result c.from_residual-in_err-flip_root.ensures.1).1
-    (λ k.
+    rw (err_is c.from_residual-in_err-flip_root.ensures.1) (λ k.
     let wrote = takes_all c.write_image.result _ _ _ (sym c.is_err.ensures.value ∙ c.if-is_err.false) (c.write_image.ensures.costs k) in
     omega (arith, wrote, c.in_ok-clear_other.ensures.costs k, c.in_err-flip_root.ensures.costs k))
 

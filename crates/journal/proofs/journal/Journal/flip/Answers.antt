@@ -1,6 +1,6 @@
 -- What a crash leaves names the old area or the new one, and the device recovers to the committed state by either.
 use Rattle.std.proofs.Common.{Option, ℕ, List, ◌++◌, length, refl, sym, ◌∙◌, ap, subst, arith}
-use Rattle.std.proofs.lemmas.Result.{err_from_is_err_and}
+use Rattle.oplog.proofs.Answered.{err_is}
 use Rattle.affinity.specs.declared.geometry.Geometry.{Geometry}
 use Rattle.checkpoint.specs.Recovery.{recovered_state}
 use Rattle.disk.specs.Moments.{moment_number}
@@ -98,7 +98,6 @@ returns-clause-beyond g c = λ k. beyond_of c.self.view_is (c.flip_on.ensures.be
 
 pub returns-in_err-flip_on-clause-costs : goal.returns-in_err-flip_on-clause-costs
 returns-in_err-flip_on-clause-costs g c =
-    rw (err_from_is_err_and c.from_residual.result c.from_residual.ensures.1).1
-    (λ k.
+    rw (err_is c.from_residual.ensures.1) (λ k.
     let start = ap (λ (h : JournalView). moment_number h.medium) c.self.view_is in
     omega (arith, start, c.in_err-flip_on.ensures.costs k))

@@ -1,7 +1,7 @@
 -- The snapshot is the image of the committed state, and the clean pieces are on the device: what a crash leaves recovers to it.
 use Rattle.std.proofs.Common.{◌≡◌, false, Option, None, ℕ, List, length, refl, sym, ◌∙◌, ap, subst, arith}
 use Rattle.std.proofs.lemmas.List.{length-replicate}
-use Rattle.std.proofs.lemmas.Result.{err_from_is_err_and}
+use Rattle.oplog.proofs.Answered.{err_is}
 use Rattle.affinity.specs.declared.geometry.Geometry.{Geometry}
 use Rattle.checkpoint.specs.Recovery.{recovered_state}
 use Rattle.disk.specs.Moments.{moment_number}
@@ -111,8 +111,7 @@ returns-clause-beyond g c = λ k. beyond_of c.self.view_is (c.point_on.ensures.b
 
 pub returns-in_err-point_on-clause-costs : goal.returns-in_err-point_on-clause-costs
 returns-in_err-point_on-clause-costs g c =
-    rw (err_from_is_err_and c.from_residual.result c.from_residual.ensures.1).1
-    (λ k.
+    rw (err_is c.from_residual.ensures.1) (λ k.
     let dirty = ap point_cost c.deref-3.ensures.value ∙ ap (λ (h : JournalView). point_cost h.dirty.other) c.self.view_is in
     let start = ap (λ (h : JournalView). moment_number h.medium) c.self.view_is in
     omega (arith, dirty, start, c.in_err-point_on.ensures.costs k))
