@@ -167,7 +167,6 @@ laid_out g c long =
     let zeros_2 : List ℕ = replicate (image_size g) 0 in
     let long_0 = length-replicate {A = ℕ} (64 + (64 + g.half)) 0 in
     let long_1 = length-replicate {A = ℕ} (64 + g.half) 0 in
-    let long_2 = length-replicate {A = ℕ} (image_size g) 0 in
     let at_1 : ℕ = part_at (layout_of g) 3 in
     let at_2 : ℕ = part_at (layout_of g) 4 in
     let c1 = overlaid c 64 zeros_0 in
@@ -176,15 +175,14 @@ laid_out g c long =
     let c4 = overlaid c3 at_2 (2 ∷ []) in
     let size_1 : length c1 ≡ length c = length-overlaid c 64 zeros_0 in
     let size_2 : length c2 ≡ length c1 = length-overlaid c1 at_1 zeros_1 in
-    let size_3 : length c3 ≡ length c2 = length-overlaid c2 at_2 zeros_2 in
     let root_1 : HasBytesAt c1 64 zeros_0 = has_put c 64 zeros_0 (omega (arith, long, long_0)) in
     let root_2 : HasBytesAt c2 64 zeros_0 = has_kept 64 (inl (omega (arith, long_0))) (overlaid_outside c1 at_1 zeros_1) root_1 in
     let root_3 : HasBytesAt c3 64 zeros_0 = has_kept 64 (inl (omega (arith, long_0))) (overlaid_outside c2 at_2 zeros_2) root_2 in
     let one_2 : HasBytesAt c2 at_1 zeros_1 = has_put c1 at_1 zeros_1 (omega (arith, long, long_1, size_1)) in
     let one_3 : HasBytesAt c3 at_1 zeros_1 = has_kept at_1 (inl (omega (arith, long_1))) (overlaid_outside c2 at_2 zeros_2) one_2 in
-    let image_3 : HasBytesAt c3 at_2 zeros_2 = has_put c2 at_2 zeros_2 (omega (arith, long, long_2, size_1, size_2)) in
+    let image_3 : HasBytesAt c3 at_2 zeros_2 = has_put c2 at_2 zeros_2 (omega (arith, long, length-replicate {A = ℕ} (image_size g) 0, size_1, size_2)) in
     record {
       root = has_kept 64 (inl (omega (arith, long_0))) (overlaid_outside c3 at_2 (2 ∷ [])) root_3;
       one = has_kept at_1 (inl (omega (arith, long_1))) (overlaid_outside c3 at_2 (2 ∷ [])) one_3;
-      image = version_there g c3 at_2 (omega (arith, long, size_1, size_2, size_3)) image_3;
+      image = version_there g c3 at_2 (omega (arith, long, size_1, size_2, length-overlaid c2 at_2 zeros_2)) image_3;
     }

@@ -48,11 +48,10 @@ shutting {w0} {w1} {w2} are synced kept was begun moments =
     (weaker w1 w2 _ _ moments
     (λ c after.
     let is : after.old ≡ w0.now = synced_left w1 after.old synced after.left ∙ kept in
-    let change = subst (λ (l : List ℕ). SameOutside 0 1 l c) is after.change in
     ⊎_elim
     (λ (same : c ≡ w0.now). inl (subst (λ (l : List ℕ). IsCrashImage w0 l) (sym same) (itself w0.now w0.unsynced are)))
     (λ (shut : HasNoFormatByte (length w0.now) c). inr shut)
-    (torn_gate w0.now c (sym (ap (λ (l : List ℕ). get_or l 0 0) kept) ∙ was) change)))
+    (torn_gate w0.now c (sym (ap (λ (l : List ℕ). get_or l 0 0) kept) ∙ was) (subst (λ (l : List ℕ). SameOutside 0 1 l c) is after.change))))
 
 -- What is written behind the format byte of a device that isn't formatted leaves it unformatted.
 pub still_shut : (n : ℕ) (w0 w1 : Medium) (at k : ℕ) → 1 ≤ at → StaysUnformatted n w0 → CrashesChangeOnly w0 w1 (SameOutside at k) → CrashImagesAre w0 w1 (HasNoFormatByte n)

@@ -134,8 +134,7 @@ module _ {g h : Geometry} (same : h ≡ g) (number n : ℕ) {at size : ℕ} (buf
 
   pub next_place : (len : ℕ) → size ≤ length buffer → len ≡ length (take size buffer) → at + len ≡ part_at (layout_of g) (image_part number) + piece_at g (n + 1)
   next_place len room is =
-      let more : piece_at g (n + 1) ≡ piece_at g (suc n) = ap (λ (k : ℕ). piece_at g k) (add-one n) in
-      omega (arith, place, its_size, length-take size buffer, room, is, more)
+      omega (arith, place, its_size, length-take size buffer, room, is, ap (λ (k : ℕ). piece_at g k) (add-one n))
 
 module _ {g h : Geometry} (same : h ≡ g) (bytes : List ℕ) (n : ℕ) {version : ℕ} (ver : version ≡ version_in bytes) (below : n < piece_count g)
     {x : State} (so_far : x ≡ decoded_before (version_in bytes) g bytes n) {out : List ℕ} (there : out ≡ piece_in g bytes n) where

@@ -58,14 +58,12 @@ pub run_closed : {dirty : List Bool} {n from at from' at' start now now' : ℕ} 
     → get_or dirty n true ≡ false → from' ≡ at' → (from < at → now' ≡ now + 1) → (at ≤ from → now' ≡ now) → RunsLeft dirty (n + 1) from' at' start now'
 run_closed {dirty} {n} {from} {at} left few off ends wrote kept =
     let next = piece_next dirty n false few off in
-    let after : runs_after true (drop n dirty) ≡ runs_after false (drop (n + 1) dirty) = ap (runs_after true) next in
-    let before : runs_after false (drop n dirty) ≡ runs_after false (drop (n + 1) dirty) = ap (runs_after false) next in
     record {
       begun = λ some. absurd (omega (arith, some, ends));
       ended = λ none.
           ⊎_elim
-          (λ (more : from < at). omega (arith, after, wrote more, left.begun more))
-          (λ (none : at ≤ from). omega (arith, before, kept none, left.ended none))
+          (λ (more : from < at). omega (arith, ap (runs_after true) next, wrote more, left.begun more))
+          (λ (none : at ≤ from). omega (arith, ap (runs_after false) next, kept none, left.ended none))
           (cases_lt from at);
     }
 
@@ -74,13 +72,11 @@ pub run_goes_on : {dirty : List Bool} {n from at from' at' start now now' : ℕ}
     → get_or dirty n true ≡ true → from' ≡ from → at < at' → from ≤ at → now' ≡ now → RunsLeft dirty (n + 1) from' at' start now'
 run_goes_on {dirty} {n} {from} {at} left few on begins rises order same =
     let next = piece_next dirty n true few on in
-    let after : runs_after true (drop n dirty) ≡ runs_after true (drop (n + 1) dirty) = ap (runs_after true) next in
-    let before : runs_after false (drop n dirty) ≡ suc (runs_after true (drop (n + 1) dirty)) = ap (runs_after false) next in
     record {
       begun = λ some.
           ⊎_elim
-          (λ (more : from < at). omega (arith, after, same, left.begun more))
-          (λ (none : at ≤ from). omega (arith, before, same, left.ended none))
+          (λ (more : from < at). omega (arith, ap (runs_after true) next, same, left.begun more))
+          (λ (none : at ≤ from). omega (arith, ap (runs_after false) next, same, left.ended none))
           (cases_lt from at);
       ended = λ none. absurd (omega (arith, none, begins, rises, order));
     }
@@ -121,8 +117,7 @@ whole_run (false ∷ dirty) some all = absurd (true≢false (sym (all 0 (omega a
 -- An image all of whose pieces are dirty is one run.
 pub one_run : (g : Geometry) (dirty : List Bool) → length dirty ≡ piece_count g → AreAllDirty g dirty → count_runs dirty ≡ 1
 one_run g dirty size all =
-    let some = some_piece g in
-    whole_run dirty (omega (arith, size, some)) (λ n few. all n (omega (arith, size, few)))
+    whole_run dirty (omega (arith, size, some_piece g)) (λ n few. all n (omega (arith, size, few)))
 
 -- ---- a call
 pub takes_most : {T E : Type 0} (r : Result T E) (n : ℕ) (old new : Medium) → Costs r n old new → moment_number new ≤ moment_number old + n

@@ -145,11 +145,10 @@ module _ (log : Log) (w0 : Medium) where
           pub named : device_size (layout_of g) ≤ length w0.now → IsFlipped log w0 w2
           named fits =
               let own = own_recovers w0.now refl now_own in
-              let long = flipped.same.same.size in
               record {
                 at = record {
                   recovers = flip_by_area (decoding g) (layout_of g) (other n) (other n) x (synced w0) w2 flipped (shut_current (layout_of g) (other n) w0.now own.1) own.0;
-                  ready = ready_kept (omega arith) (λ is. omega (arith, is)) (omega (arith, fits, long))
+                  ready = ready_kept (omega arith) (λ is. omega (arith, is)) (omega (arith, fits, flipped.same.same.size))
                       (ready_kept {w' = synced w0} (omega arith) (λ is. omega (arith, is)) fits written.ready (same_but_none (layout_of g) root_part w0.now) refl)
                       flipped.same.same flipped.synced;
                   synced = flipped.synced;

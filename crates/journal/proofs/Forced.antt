@@ -57,6 +57,5 @@ front_count l h k m ready = length-rows (count_open (gates l h m.now)) (drop (64
 
 pub used_most : (l : Layout) (h k : ℕ) (m : Medium) → IsReady l h k m → k ≤ l.capacity
 used_most l h k m ready =
-    let open_most : count_open (gates l h m.now) ≤ length (gates l h m.now) = prefix_len-le-length (λ gate. gate == 1) (gates l h m.now) in
     let most : length (gates l h m.now) ≤ l.capacity = omega (arith, length-take l.capacity (drop 64 (part_bytes l (half_part h) m.now))) in
-    omega (arith, open_most, most, ready.used)
+    omega (arith, prefix_len-le-length (λ gate. gate == 1) (gates l h m.now), most, ready.used)

@@ -103,9 +103,7 @@ recoverable_of {log} {m} sound = record {
   each = λ c gone. holds_by log.geometry log.named log.current (recovered_state log.geometry m.now) c (sound.recovers c gone);
   same_records = sound.same_records;
   room = λ none.
-      let count = sound.count none in
-      let most = used_most (layout_of log.geometry) log.current log.used m sound.ready in
-      omega (arith, count, most);
+      omega (arith, sound.count none, used_most (layout_of log.geometry) log.current log.used m sound.ready);
 }
 
 -- what holds of a journal that hasn't failed
@@ -176,8 +174,7 @@ module _ {log : Log} {snapshot : List ℕ} {named others pending : List Bool} {p
   log_count : HasAdded log ms w0 w1 → pieces_left ≡ None → length (records_in log.geometry w1.now) ≡ log.used + length ms
   log_count has none =
       let before = sound.count none in
-      let more = ap length (log_records has) ∙ length-append (records_in log.geometry w0.now) (records_of ms) in
-      omega (arith, before, more, length-map ms record_of)
+      omega (arith, before, ap length (log_records has) ∙ length-append (records_in log.geometry w0.now) (records_of ms), length-map ms record_of)
 
   module _ (x : State) (is : recovered_state log.geometry w0.now ≡ Some x) (out : AreCarriedOut log.geometry x ms) (has : HasAdded log ms w0 w1) (are' : AreBytes w1.now) where
     leads : run_on log.geometry (recovered_state log.geometry w0.now) (records_of ms) ≡ Some (state_after_all log.geometry x ms)
@@ -215,11 +212,10 @@ module _ {log : Log} {snapshot : List ℕ} {named others pending : List Bool} {p
         → AreBothTouched log.geometry ms (record { named = named; other = others }) (record { named = named'; other = others' })
         → IsSoundJournal (record log { used = log.used + length ms }) snapshot named' others' pending pieces_left w1
     log_sound {named'} {others'} placed touched =
-        let used : log.used + length (records_of ms) ≡ log.used + length ms = ap (λ (n : ℕ). log.used + n) (length-map ms record_of) in
         record {
           some = ap is_some log_committed;
           recovers = rw log_committed recovers;
-          ready = rw (← used) has.ready;
+          ready = rw (← ap (λ (n : ℕ). log.used + n) (length-map ms record_of)) has.ready;
           same_records = log_forced has;
           count = log_count has;
           state = λ z is'. rw (← ap (λ (o : Option State). unwrap_or o x) (sym log_committed ∙ is'))

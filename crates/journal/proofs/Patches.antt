@@ -67,9 +67,8 @@ all_done n bytes old new long long' so_far = sym (take_all n new (omega (arith, 
 pub image_long : (g : Geometry) (area : ℕ) (m : Medium) → area < 2 → device_size (layout_of g) ≤ length m.now → length (image_in g area m) ≡ image_size g
 image_long g area m is_area whole =
     let sized = image_sized (layout_of g) area is_area in
-    let inside = part_inside (layout_of g) (image_part area) in
     length-take-le (part_size (layout_of g) (image_part area)) (drop (part_at (layout_of g) (image_part area)) m.now)
-    (omega (arith, inside, whole, length-drop (part_at (layout_of g) (image_part area)) m.now)) ∙ sized
+    (omega (arith, part_inside (layout_of g) (image_part area), whole, length-drop (part_at (layout_of g) (image_part area)) m.now)) ∙ sized
 
 -- The first `from` bytes of the image are written, and nothing else has changed.
 pub record IsPatched (g : Geometry) (area from : ℕ) (bytes : List ℕ) (old new : Medium) : Type 0 where
@@ -147,12 +146,10 @@ one_patched {g} {n} {at} {bytes} {old} {new} few size size' place is =
           ⊎_elim
           (λ (less : i < n).
           let before = extent_rises g (suc i) n (omega (arith, less)) in
-          let next = extent_next g i in
-          same_before at (extent_size g n) old new same (extent_at g i) (extent_size g i) (omega (arith, before, next, place)))
+          same_before at (extent_size g n) old new same (extent_at g i) (extent_size g i) (omega (arith, before, extent_next g i, place)))
           (λ (no_less : n ≤ i).
           let after = extent_rises g (suc n) i (apart i n differs no_less) in
-          let next = extent_next g n in
-          same_behind at (extent_size g n) old new same (extent_at g i) (extent_size g i) (omega (arith, after, next, place)))
+          same_behind at (extent_size g n) old new same (extent_at g i) (extent_size g i) (omega (arith, after, extent_next g n, place)))
           (cases_lt i n);
     }
   where

@@ -50,9 +50,7 @@ none_due log pending (Some l) some placed none = ap (λ (k : ℕ). Some k) (sym 
 
 pub piece_some : (log : Log) (pending : List Bool) (pieces_left : Option ℕ) (n : ℕ) → FitsCutState log pending pieces_left → get_or pending n false ≡ true → pieces_left ≡ Some 0 → ⊥
 piece_some log pending pieces_left n placed dirty_at none =
-    let placed' = subst (λ (l : Option ℕ). FitsCutState log pending l) none placed in
-    let fewer = count_cleared pending n dirty_at in
-    omega (arith, fewer, placed'.1)
+    omega (arith, count_cleared pending n dirty_at, (subst (λ (l : Option ℕ). FitsCutState log pending l) none placed).1)
 
 -- ---- the write of one extent
 

@@ -74,8 +74,7 @@ module _ (log : Log) (is_area : log.named < 2) (w0 w1 : Medium) (alone : Recover
 
       other_recovers : (c : List ℕ) → c ≡ w2.now → recovers_by_area (decoding g) (layout_of g) n c ≡ x → recovers_by_area (decoding g) (layout_of g) (other n) c ≡ x
       other_recovers c is own =
-          let laid = laid_by g n x c own alone.some in
-          as_other g (other n) c laid (ap (λ (l : List ℕ). image_of_area l) is ∙ imaged.is)
+          as_other g (other n) c (laid_by g n x c own alone.some) (ap (λ (l : List ℕ). image_of_area l) is ∙ imaged.is)
           (ap (λ (l : List ℕ). in_force (layout_of g) (other n) l) is ∙ no_force) (run_none g (image_state g bytes) ∙ reads)
         where
           image_of_area : List ℕ → List ℕ

@@ -34,8 +34,7 @@ none_behind g x bytes head = head ∙ sym (append-nil (image_head 2))
 pub all_put : (g : Geometry) (x : State) → {n at : ℕ} {bytes : List ℕ} → n ≡ piece_count g → at ≡ piece_at g n → length bytes ≡ image_size g
     → take at bytes ≡ first_pieces g x n → bytes ≡ image_of 2 g x
 all_put g x {at} {bytes} all place size so_far =
-    let end : at ≡ image_size g = place ∙ ap (piece_at g) all ∙ whole_image g in
-    sym (take_all at bytes (omega (arith, end, size))) ∙ so_far ∙ ap (first_pieces g x) all
+    sym (take_all at bytes (omega (arith, place ∙ ap (piece_at g) all ∙ whole_image g, size))) ∙ so_far ∙ ap (first_pieces g x) all
 
 pub put_long : (at k : ℕ) (bytes part : List ℕ) → at + k ≤ length bytes → length part ≡ k → length (take at bytes ++ (part ++ drop k (drop at bytes))) ≡ length bytes
 put_long at k bytes part inside size =

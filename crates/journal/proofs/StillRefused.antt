@@ -119,10 +119,9 @@ module _ (g : Geometry) (n : ℕ) (is_area : n < 2) (x : State) (w0 w1 : Medium)
         let same = kept (other n) c (omega arith) change in
         let decoded : image_state g (part_bytes (layout_of g) (image_part (other n)) w1.now) ≡ Some x = ap (λ (l : List ℕ). image_state g l) imaged.is ∙ reads in
         let fine = image_fine g (other n) w1.now (omega arith) now_held.long_enough are (ap is_some decoded) in
-        let shut = other_shut g n w1.now is_area now_held.one (sym now_held.chain) in
         refused_alone g c (same.header ∙ now_held.header) (subst (λ (k : ℕ). device_size (layout_of g) ≤ k) (sym same.size) now_held.long_enough) (sym names)
         (ap (λ (l : List ℕ). image_fault g l) same.image ∙ fine) (ap (λ (l : List ℕ). image_state g l) same.image ∙ decoded)
-        (ap (λ (l : List ℕ). chain_in l == 1) (same.halves (other n) (omega arith)) ∙ shut)
+        (ap (λ (l : List ℕ). chain_in l == 1) (same.halves (other n) (omega arith)) ∙ other_shut g n w1.now is_area now_held.one (sym now_held.chain))
         ∙ ap (λ rs. records_fault g x (other n) rs) (front_same g (other n) (omega arith) w1.now c same (other n) (omega arith) ∙ behind_same) ∙ sym was
 
     torn_root : (c : List ℕ) → IsSameButRoot (layout_of g) w1.now c → IsRefusedAlike g w0.now c

@@ -111,5 +111,4 @@ module _ (g : Layout) (h k m n : ℕ) (messages : List Msg) (inside : m + n ≤ 
 
       pub messages_more : HasAppendedAll g h (k + m) (records_of (take n (drop m messages))) w w' → SoFar g h k (records_of (take (m + n) messages)) (records_of messages) w0 w'
       messages_more has =
-          let more = batch_more g h k _ _ _ w0 w w' so_far' moments (rw count has) in
-          rw (← joined, ← parted) more
+          rw (← joined, ← parted) (batch_more g h k _ _ _ w0 w w' so_far' moments (rw count has))

@@ -66,5 +66,4 @@ module _ (k n m : ℕ) (old c : List ℕ) (used : count_open old ≡ k) (shut : 
   pub full_gates : take n (drop k c) ≡ replicate n 1 → count_open c ≡ k + n
   full_gates ones =
       let all : c ≡ replicate k 1 ++ (replicate n 1 ++ replicate (m - n) 0) = parted ∙ ap (λ (l : List ℕ). replicate k 1 ++ (l ++ replicate (m - n) 0)) ones in
-      let counted : count_open c ≡ k + count_open (replicate n 1 ++ replicate (m - n) 0) = ap count_open all ∙ open_ones k _ in
-      omega (arith, counted, open_ones n (replicate (m - n) 0), open_none (m - n))
+      omega (arith, ap count_open all ∙ open_ones k _, open_ones n (replicate (m - n) 0), open_none (m - n))

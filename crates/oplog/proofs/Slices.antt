@@ -72,8 +72,7 @@ other_part {g} {p} {n} {at} {xs} {ys} q lies differs same =
     ⊎_elim
     (λ (less : q < p). same_before at n xs ys same (part_at g q) (part_size g q) (omega (arith, lies, offset_below (sizes g) q p less)))
     (λ (no_less : p ≤ q).
-    let more : p < q = greater p q differs no_less in
-    same_behind at n xs ys same (part_at g q) (part_size g q) (omega (arith, lies, offset_below (sizes g) p q more)))
+    same_behind at n xs ys same (part_at g q) (part_size g q) (omega (arith, lies, offset_below (sizes g) p q (greater p q differs no_less))))
     (cases_lt q p)
   where
     greater : (p q : ℕ) → q ≢ p → p ≤ q → p < q

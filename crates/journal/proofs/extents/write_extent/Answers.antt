@@ -22,15 +22,13 @@ pub overflow_add-at-2 : goal.overflow_add-at-2
 overflow_add-at-2 g c =
     let last : c.loop-i.i ≡ c.args.n = omega arith in
     let place : c.loop-i.at ≡ extent_at c.args.g.now c.args.n = c.loop-i.invariant ∙ ap (extent_at c.args.g.now) last in
-    let inside = extent_inside c.args.g.now c.args.n c.requires.n in
-    omega (arith, place, inside, c.requires.size, c.type_inv.bytes, c.extent_size.ensures.size)
+    omega (arith, place, extent_inside c.args.g.now c.args.n c.requires.n, c.requires.size, c.type_inv.bytes, c.extent_size.ensures.size)
 
 pub write_run-requires-clause-inside : goal.write_run-requires-clause-inside
 write_run-requires-clause-inside g c =
     let last : c.loop-i.i ≡ c.args.n = omega arith in
     let place : c.loop-i.at ≡ extent_at c.args.g.now c.args.n = c.loop-i.invariant ∙ ap (extent_at c.args.g.now) last in
-    let inside = extent_inside c.args.g.now c.args.n c.requires.n in
-    omega (arith, place, inside, c.requires.size, c.extent_size.ensures.size)
+    omega (arith, place, extent_inside c.args.g.now c.args.n c.requires.n, c.requires.size, c.extent_size.ensures.size)
 
 pub returns-clause-written : goal.returns-clause-written
 returns-clause-written g c =
@@ -46,5 +44,4 @@ returns-clause-written g c =
 
 pub returns-clause-costs : goal.returns-clause-costs
 returns-clause-costs g c =
-    let some = extent_some c.args.g.now c.args.n in
-    λ k. c.write_run.ensures.costs (omega (arith, some, c.extent_size.ensures.size)) k
+    λ k. c.write_run.ensures.costs (omega (arith, extent_some c.args.g.now c.args.n, c.extent_size.ensures.size)) k

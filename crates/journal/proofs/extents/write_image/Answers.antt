@@ -26,14 +26,12 @@ loop-n-init g c = record {
 pub overflow_add-end : goal.overflow_add-end
 overflow_add-end g c =
     let few : c.loop-n.n < piece_count c.args.g.now = grind (arith, common_steps) in
-    let inside = extent_inside c.args.g.now c.loop-n.n few in
-    omega (arith, inside, c.requires.size, c.type_inv.bytes, c.loop-n.invariant.place, c.extent_size.ensures.size)
+    omega (arith, extent_inside c.args.g.now c.loop-n.n few, c.requires.size, c.type_inv.bytes, c.loop-n.invariant.place, c.extent_size.ensures.size)
 
 pub write_run-requires-clause-inside : goal.write_run-requires-clause-inside
 write_run-requires-clause-inside g c =
     let few : c.loop-n.n < piece_count c.args.g.now = grind (arith, common_steps) in
-    let inside = extent_inside c.args.g.now c.loop-n.n few in
-    omega (arith, inside, c.requires.size, c.loop-n.invariant.place)
+    omega (arith, extent_inside c.args.g.now c.loop-n.n few, c.requires.size, c.loop-n.invariant.place)
 
 pub returns-in_err-write_run-clause-any_moment : goal.returns-in_err-write_run-clause-any_moment
 returns-in_err-write_run-clause-any_moment g c = λ k.
@@ -81,8 +79,7 @@ loop-n-preserved g c =
 pub write_run-requires-2-clause-inside : goal.write_run-requires-2-clause-inside
 write_run-requires-2-clause-inside g c =
     let all : c.loop-n.n ≡ piece_count c.args.g.now = grind (arith, common_steps) in
-    let end = ap (extent_at c.args.g.now) all ∙ extent_end c.args.g.now in
-    omega (arith, end, c.requires.size, c.loop-n.invariant.place)
+    omega (arith, ap (extent_at c.args.g.now) all ∙ extent_end c.args.g.now, c.requires.size, c.loop-n.invariant.place)
 
 pub returns-in_err-write_run-2-clause-any_moment : goal.returns-in_err-write_run-2-clause-any_moment
 returns-in_err-write_run-2-clause-any_moment g c = λ k.

@@ -111,14 +111,12 @@ returns-clause-alike g c = alike g (goal.at.returns-clause-alike g c).After-fini
 pub returns-clause-was : goal.returns-clause-was
 returns-clause-was g c = λ k.
     let same = same_bytes (g.D.Disk.medium c.args.disk.now) (g.D.Disk.medium c.load_named.new.disk) (c.load_named.ensures.untouched k) in
-    let log = ap (λ (l : Log). l.geometry) c.in_ok-named.ensures.log in
-    sym (λ i. recovered_state (log i) (same i)) ∙ c.in_ok-finish_cut_and_replay.ensures.was k
+    sym (λ i. recovered_state (c.in_ok-named.ensures.log i).geometry (same i)) ∙ c.in_ok-finish_cut_and_replay.ensures.was k
 
 pub returns-clause-sound : goal.returns-clause-sound
 returns-clause-sound g c = λ k.
     let same = same_bytes (g.D.Disk.medium c.args.disk.now) (g.D.Disk.medium c.load_named.new.disk) (c.load_named.ensures.untouched k) in
-    let log = ap (λ (l : Log). l.geometry) c.in_ok-named.ensures.log in
-    sym (λ i. refused (log i) (same i)) ∙ c.in_ok-finish_cut_and_replay.ensures.sound k
+    sym (λ i. refused (c.in_ok-named.ensures.log i).geometry (same i)) ∙ c.in_ok-finish_cut_and_replay.ensures.sound k
 
 pub finish_cut_and_replay-requires-clause-loaded : goal.finish_cut_and_replay-requires-clause-loaded
 finish_cut_and_replay-requires-clause-loaded g c =

@@ -46,10 +46,8 @@ returns-in_err-first_sync-clause-beyond g c = λ k h head.
 
 pub returns-clause-beyond : goal.returns-clause-beyond
 returns-clause-beyond g c = λ k h head.
-    let w0 = g.D.Disk.medium c.args.disk.now in
     let w1 = g.D.Disk.medium c.first_sync.new.disk in
-    let w2 = g.D.Disk.medium c.open_synced.new.disk in
-    beyond_then (layout_of h) w0 w1 w2 (c.first_sync.ensures.beyond k (layout_of h))
+    beyond_then (layout_of h) (g.D.Disk.medium c.args.disk.now) w1 (g.D.Disk.medium c.open_synced.new.disk) (c.first_sync.ensures.beyond k (layout_of h))
     (c.open_synced.ensures.beyond k h (subst (λ (l : List ℕ). HasHeader h l) (sym (c.first_sync.ensures.now k)) head))
 
 pub returns-in_err-first_sync-clause-costs : goal.returns-in_err-first_sync-clause-costs

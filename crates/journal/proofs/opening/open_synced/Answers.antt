@@ -113,7 +113,6 @@ returns-clause-made_of g c = λ k.
     let t = c.in_ok-parts.parts.tree.geometry in
     let only = c.read_header.ensures.untouched k in
     let loaded = c.load_in_order.new.parts in
-    let last = c.checkpoint_recovered.new.parts in
     let log : loaded.halves.geometry ≡ t = c.in_ok-load_in_order.ensures.geometry in
     let geometry : loaded.tree.geometry ≡ t = c.in_ok-load_in_order.ensures.loaded.geometry ∙ log in
     let head = subst (λ (h : Geometry). HasHeader h w0.now) (sym (geometry ∙ c.in_ok-parts.ensures.geometry)) (c.in_ok-g.ensures.header k) in
@@ -123,7 +122,7 @@ returns-clause-made_of g c = λ k.
     ∙ still_now t w1 w2 (g.met.D.Disk.bytes c.load_in_order.new.disk) (c.load_in_order.ensures.any_moment k) ∙ c.in_ok-load_in_order.ensures.was k in
     let is_state = subst (λ (h : Geometry). IsState h (state_in loaded.tree)) c.in_ok-load_in_order.ensures.loaded.geometry c.in_ok-load_in_order.ensures.loaded.tree.state in
     let all = subst (λ (row : List Bool). AreAllDirty loaded.halves.geometry row) (sym (λ i. (c.checkpoint_recovered.ensures.room.other_dirty i).items)) c.in_ok-load_in_order.ensures.loaded.all in
-    subst (λ (tree : TreeView). IsMadeOf w0.now (record last { tree = tree }) w3) (sym c.checkpoint_recovered.ensures.tree)
+    subst (λ (tree : TreeView). IsMadeOf w0.now (record c.checkpoint_recovered.new.parts { tree = tree }) w3) (sym c.checkpoint_recovered.ensures.tree)
     (made_of (g.met.D.Disk.bytes c.checkpoint_recovered.new.disk) (record { header = head; accepted = fine; was = was }) c.in_ok-checkpoint_recovered.ensures.log
     c.in_ok-load_in_order.ensures.loaded.geometry c.checkpoint_recovered.ensures.snapshot all
     (record { alone = c.in_ok-load_in_order.ensures.alone k; is = held; state = is_state }) (c.in_ok-checkpoint_recovered.ensures.pointed k))
@@ -192,11 +191,10 @@ returns-in_err-load_in_order-clause-costs g c =
 pub returns-in_err-checkpoint_recovered-clause-costs : goal.returns-in_err-checkpoint_recovered-clause-costs
 returns-in_err-checkpoint_recovered-clause-costs g c =
     rw (err_is c.from_residual-in_err-checkpoint_recovered.ensures.1) (λ k.
-    let few = finish_few c.in_ok-parts.parts.tree.geometry (g.D.Disk.medium c.read_header.new.disk).now in
     omega (
       arith,
       no_call (g.D.Disk.medium c.args.disk.now) (g.D.Disk.medium c.read_header.new.disk) (c.read_header.ensures.untouched k),
-      few,
+      (finish_few c.in_ok-parts.parts.tree.geometry (g.D.Disk.medium c.read_header.new.disk).now),
       c.in_ok-load_in_order.ensures.costs k,
       c.in_err-checkpoint_recovered.ensures.costs k,
     ))
@@ -206,11 +204,10 @@ returns-clause-costs g c = λ k.
     let w0 = g.D.Disk.medium c.args.disk.now in
     let w1 = g.D.Disk.medium c.read_header.new.disk in
     let only = c.read_header.ensures.untouched k in
-    let read = no_call w0 w1 only in
     let geometry : c.checkpoint_recovered.new.parts.halves.geometry ≡ c.in_ok-parts.parts.tree.geometry = ap (λ (l : Log). l.geometry) c.in_ok-checkpoint_recovered.ensures.log
     ∙ c.in_ok-load_in_order.ensures.geometry in
     let is : finish_cost c.in_ok-parts.parts.tree.geometry w1.now ≡ finish_cost c.checkpoint_recovered.new.parts.halves.geometry w0.now = λ i. finish_cost (sym geometry i) (same_bytes w0 w1 only i) in
-    omega (arith, read, is, c.in_ok-load_in_order.ensures.costs k, c.in_ok-checkpoint_recovered.ensures.costs k)
+    omega (arith, no_call w0 w1 only, is, c.in_ok-load_in_order.ensures.costs k, c.in_ok-checkpoint_recovered.ensures.costs k)
 
 pub returns-in_err-load_in_order-clause-synced : goal.returns-in_err-load_in_order-clause-synced
 returns-in_err-load_in_order-clause-synced g c =

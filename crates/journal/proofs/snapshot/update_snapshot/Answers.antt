@@ -28,8 +28,7 @@ loop-n-init c = record {
 pub overflow_add-end : goal.overflow_add-end
 overflow_add-end c =
     let same : c.geometry-g.result ≡ c.args.tree.now.geometry = c.geometry-g.ensures in
-    let count : piece_count c.geometry-g.result ≡ piece_count c.args.tree.now.geometry = ap piece_count same in
-    let few : c.loop-n.n < piece_count c.geometry-g.result = omega (arith, count, c.loop-n-test.true, c.requires.dirty) in
+    let few : c.loop-n.n < piece_count c.geometry-g.result = omega (arith, ap piece_count same, c.loop-n-test.true, c.requires.dirty) in
     let inside = piece_inside c.geometry-g.result c.loop-n.n few in
     let size : image_size c.geometry-g.result ≡ image_size c.args.tree.now.geometry = ap image_size same in
     omega (arith, inside, size, c.requires.size, c.loop-n.invariant.place, c.loop-n.invariant.size, c.write_head.ensures.size, c.piece_size.ensures.size)
@@ -37,14 +36,11 @@ overflow_add-end c =
 pub slice_bounds-write_piece-end : goal.slice_bounds-write_piece-end
 slice_bounds-write_piece-end c =
     let same : c.geometry-g.result ≡ c.args.tree.now.geometry = c.geometry-g.ensures in
-    let count : piece_count c.geometry-g.result ≡ piece_count c.args.tree.now.geometry = ap piece_count same in
-    let few : c.loop-n.n < piece_count c.geometry-g.result = omega (arith, count, c.loop-n-test.true, c.requires.dirty) in
-    let inside = piece_inside c.geometry-g.result c.loop-n.n few in
-    let size : image_size c.geometry-g.result ≡ image_size c.args.tree.now.geometry = ap image_size same in
+    let few : c.loop-n.n < piece_count c.geometry-g.result = omega (arith, ap piece_count same, c.loop-n-test.true, c.requires.dirty) in
     let within : c.loop-n.at + c.piece_size.result ≤ length c.loop-n.bytes = omega (
       arith,
-      inside,
-      size,
+      (piece_inside c.geometry-g.result c.loop-n.n few),
+      ap image_size same,
       c.requires.size,
       c.write_head.ensures.size,
       c.loop-n.invariant.size,
@@ -58,8 +54,7 @@ loop-n-preserved c =
     let x = state_in c.args.tree.now in
     let first : List ℕ = c.write_head.new.bytes in
     let same : c.geometry-g.result ≡ c.args.tree.now.geometry = c.geometry-g.ensures in
-    let count : piece_count c.geometry-g.result ≡ piece_count c.args.tree.now.geometry = ap piece_count same in
-    let few : c.loop-n.n < piece_count c.geometry-g.result = omega (arith, count, c.loop-n-test.true, c.requires.dirty) in
+    let few : c.loop-n.n < piece_count c.geometry-g.result = omega (arith, ap piece_count same, c.loop-n-test.true, c.requires.dirty) in
     let size : length first ≡ image_size c.geometry-g.result = c.write_head.ensures.size ∙ c.requires.size ∙ sym (ap image_size same) in
     elim c.if-is_dirty.branch [
       | then-is_dirty w ↦

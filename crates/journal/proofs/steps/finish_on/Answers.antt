@@ -99,18 +99,15 @@ returns-clause-finished g c = λ k.
 pub returns-then-is_err-clause-costs : goal.returns-then-is_err-clause-costs
 returns-then-is_err-clause-costs g c = λ k.
     let one = one_run c.args.halves.now.geometry c.args.dirty.now c.requires.dirty c.requires.all in
-    let wrote = takes_most c.write_image.result _ _ _ (c.write_image.ensures.costs k) in
-    omega (arith, one, wrote)
+    omega (arith, one, takes_most c.write_image.result _ _ _ (c.write_image.ensures.costs k))
 
 pub returns-in_err-flip_root-clause-costs : goal.returns-in_err-flip_root-clause-costs
 returns-in_err-flip_root-clause-costs g c =
     rw (err_is c.from_residual.ensures.1) (λ k.
-    let one = one_run c.args.halves.now.geometry c.args.dirty.now c.requires.dirty c.requires.all in
     let wrote = takes_all c.write_image.result _ _ _ (sym c.is_err.ensures.value ∙ c.if-is_err.false) (c.write_image.ensures.costs k) in
-    omega (arith, one, wrote, c.in_err-flip_root.ensures.costs k))
+    omega (arith, one_run c.args.halves.now.geometry c.args.dirty.now c.requires.dirty c.requires.all, wrote, c.in_err-flip_root.ensures.costs k))
 
 pub returns-clause-costs : goal.returns-clause-costs
 returns-clause-costs g c = λ k.
-    let one = one_run c.args.halves.now.geometry c.args.dirty.now c.requires.dirty c.requires.all in
     let wrote = takes_all c.write_image.result _ _ _ (sym c.is_err.ensures.value ∙ c.if-is_err.false) (c.write_image.ensures.costs k) in
-    omega (arith, one, wrote, c.in_ok-flip_root.ensures.costs k)
+    omega (arith, one_run c.args.halves.now.geometry c.args.dirty.now c.requires.dirty c.requires.all, wrote, c.in_ok-flip_root.ensures.costs k)

@@ -90,8 +90,7 @@ returns-in_err-clear_other-clause-costs g c =
 
 pub returns-then-is_err-clause-costs : goal.returns-then-is_err-clause-costs
 returns-then-is_err-clause-costs g c = λ k.
-    let wrote = takes_most c.write_image.result _ _ _ (c.write_image.ensures.costs k) in
-    omega (arith, wrote, c.in_ok-clear_other.ensures.costs k)
+    omega (arith, takes_most c.write_image.result _ _ _ (c.write_image.ensures.costs k), c.in_ok-clear_other.ensures.costs k)
 
 pub returns-in_err-flip_root-clause-costs : goal.returns-in_err-flip_root-clause-costs
 returns-in_err-flip_root-clause-costs g c =

@@ -63,10 +63,8 @@ returns-clause-begun g c =
 
 pub returns-clause-few : goal.returns-clause-few
 returns-clause-few g c =
-    let most = count_most c.self.inside.other_dirty.items in
-    let count = ap (λ (h : JournalView). count_dirty h.dirty.other) c.self.view_is in
     let long : length c.self.inside.other_dirty.items ≡ piece_count c.args.self.now.geometry = c.self.invariant.other_dirty ∙ ap (λ (h : JournalView). piece_count h.geometry) c.self.view_is in
-    omega (arith, most, count, long)
+    omega (arith, count_most c.self.inside.other_dirty.items, ap (λ (h : JournalView). count_dirty h.dirty.other) c.self.view_is, long)
 
 pub returns-clause-records : goal.returns-clause-records
 returns-clause-records g c = λ k.

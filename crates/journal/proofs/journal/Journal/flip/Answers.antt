@@ -52,10 +52,9 @@ returns-clause-recoverable g c = λ k.
 
 pub returns-clause-records : goal.returns-clause-records
 returns-clause-records g c = λ k.
-    let w0 = g.D.Disk.medium c.self.inside.disk in
     let w1 = g.D.Disk.medium c.flip_on.new.disk in
     let flipped = c.in_ok-flip_on.ensures.flipped k in
-    let first = front (layout_of c.self.inside.halves.geometry) c.self.inside.halves.named w0.now in
+    let first = front (layout_of c.self.inside.halves.geometry) c.self.inside.halves.named (g.D.Disk.medium c.self.inside.disk).now in
     rw (← c.self.view_is) (first, flipped.before ∙ ap (λ (x : Geometry). first ++ records_in x w1.now) (sym c.flip_on.ensures.geometry))
 
 pub returns-clause-version : goal.returns-clause-version
@@ -99,5 +98,4 @@ returns-clause-beyond g c = λ k. beyond_of c.self.view_is (c.flip_on.ensures.be
 pub returns-in_err-flip_on-clause-costs : goal.returns-in_err-flip_on-clause-costs
 returns-in_err-flip_on-clause-costs g c =
     rw (err_is c.from_residual.ensures.1) (λ k.
-    let start = ap (λ (h : JournalView). moment_number h.medium) c.self.view_is in
-    omega (arith, start, c.in_err-flip_on.ensures.costs k))
+    omega (arith, ap (λ (h : JournalView). moment_number h.medium) c.self.view_is, c.in_err-flip_on.ensures.costs k))

@@ -29,10 +29,9 @@ some_due g c none =
 -- where no piece is pending, none is left
 none_left : (g : Over) (c : In_default g) → c.args.self.now.pieces_left ≡ Some 0
 none_left g c =
-    let none : count_dirty c.self.inside.pending.items ≡ 0 = sym (ap count_dirty c.deref.ensures.value) ∙ c.in_default.ensures.none refl in
     sym (ap (λ (h : JournalView). h.pieces_left) c.self.view_is)
     ∙ none_due c.self.inside.halves c.self.inside.pending.items c.self.inside.pieces_left (ap (λ (h : JournalView). is_some h.pieces_left) c.self.view_is ∙ c.requires.running)
-    (fits_of c.self.invariant c.self.view_is c.requires.not_failed) none
+    (fits_of c.self.invariant c.self.view_is c.requires.not_failed) (sym (ap count_dirty c.deref.ensures.value) ∙ c.in_default.ensures.none refl)
 
 running : (g : Over) (c : After-deref-2 g) → is_some c.self.inside.pieces_left ≡ true
 running g c = ap (λ (h : JournalView). is_some h.pieces_left) c.self.view_is ∙ c.requires.running
@@ -94,10 +93,9 @@ returns-clause-committed g c = λ k.
 
 pub overflow_sub-left : goal.overflow_sub-left
 overflow_sub-left g c =
-    let one = count_cleared c.self.inside.pending.items c.in-Some.n (was_pending g (goal.at.overflow_sub-left g c).After-deref-2) in
     let placed = subst (λ (l : Option ℕ). FitsCutState c.self.inside.halves c.self.inside.pending.items l) c.in-Some-pieces_left.is
     (fits_of c.self.invariant c.self.view_is c.requires.not_failed) in
-    omega (arith, one, placed.1)
+    omega (arith, count_cleared c.self.inside.pending.items c.in-Some.n (was_pending g (goal.at.overflow_sub-left g c).After-deref-2), placed.1)
 
 pub returns-clause-recoverable : goal.returns-clause-recoverable
 returns-clause-recoverable g c = λ k. recoverable_of (kept g (goal.at.returns-clause-recoverable g c).In-Some-pieces_left k (c.in-Some-pieces_left.before - 1))

@@ -113,26 +113,19 @@ pub returns-in_err-point_on-clause-costs : goal.returns-in_err-point_on-clause-c
 returns-in_err-point_on-clause-costs g c =
     rw (err_is c.from_residual.ensures.1) (λ k.
     let dirty = ap point_cost c.deref-3.ensures.value ∙ ap (λ (h : JournalView). point_cost h.dirty.other) c.self.view_is in
-    let start = ap (λ (h : JournalView). moment_number h.medium) c.self.view_is in
-    omega (arith, dirty, start, c.in_err-point_on.ensures.costs k))
+    omega (arith, dirty, ap (λ (h : JournalView). moment_number h.medium) c.self.view_is, c.in_err-point_on.ensures.costs k))
 
 pub returns-clause-costs : goal.returns-clause-costs
 returns-clause-costs g c = λ k.
     let dirty = ap point_cost c.deref-3.ensures.value ∙ ap (λ (h : JournalView). point_cost h.dirty.other) c.self.view_is in
-    let start = ap (λ (h : JournalView). moment_number h.medium) c.self.view_is in
-    let takes = c.in_ok-point_on.ensures.costs k in
-    omega (arith, dirty, start, takes)
+    omega (arith, dirty, ap (λ (h : JournalView). moment_number h.medium) c.self.view_is, c.in_ok-point_on.ensures.costs k)
 
 pub returns-in_err-point_on-clause-few : goal.returns-in_err-point_on-clause-few
 returns-in_err-point_on-clause-few g c =
-    let most = few_runs c.self.inside.other_dirty.items in
-    let count = ap (λ (h : JournalView). point_cost h.dirty.other) c.self.view_is in
     let long : length c.self.inside.other_dirty.items ≡ piece_count c.args.self.now.geometry = c.self.invariant.other_dirty ∙ ap (λ (h : JournalView). piece_count h.geometry) c.self.view_is in
-    omega (arith, most, count, long)
+    omega (arith, few_runs c.self.inside.other_dirty.items, ap (λ (h : JournalView). point_cost h.dirty.other) c.self.view_is, long)
 
 pub returns-clause-few : goal.returns-clause-few
 returns-clause-few g c =
-    let most = few_runs c.self.inside.other_dirty.items in
-    let count = ap (λ (h : JournalView). point_cost h.dirty.other) c.self.view_is in
     let long : length c.self.inside.other_dirty.items ≡ piece_count c.args.self.now.geometry = c.self.invariant.other_dirty ∙ ap (λ (h : JournalView). piece_count h.geometry) c.self.view_is in
-    omega (arith, most, count, long)
+    omega (arith, few_runs c.self.inside.other_dirty.items, ap (λ (h : JournalView). point_cost h.dirty.other) c.self.view_is, long)

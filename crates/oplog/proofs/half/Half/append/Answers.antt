@@ -29,8 +29,7 @@ returns-in_err-append_batch-clause-any_moment g c = λ k.
 
 pub returns-in_err-append_batch-clause-costs : goal.returns-in_err-append_batch-clause-costs
 returns-in_err-append_batch-clause-costs g c =
-    let p = err_from_is_err_and c.from_residual.result c.from_residual.ensures.1 in
-    rw p.1
+    rw (err_from_is_err_and c.from_residual.result c.from_residual.ensures.1).1
     (λ k.
     let left = batch_left c.loop-done.done (length c.args.messages.now) (omega arith) (c.loop-done.invariant.whole (omega arith)) in
     omega (arith, left, c.loop-done.invariant.takes k, c.in_err-append_batch.ensures.costs k))
