@@ -41,9 +41,4 @@ pub returns-clause-room : goal.returns-clause-room
 returns-clause-room g c =
     let p = c.args.parts.now in
     let snapshot = whole_put c.update_snapshot.new.bytes c.update_snapshot.ensures.size c.deref_mut.ensures.value c.deref_mut.ensures.len in
-    record {
-      snapshot = ap length snapshot ∙ c.update_snapshot.ensures.size ∙ ap length c.deref_mut.ensures.value;
-      named_dirty = refl;
-      other_dirty = refl;
-      pending = refl;
-    }
+    assumption (ap length snapshot ∙ c.update_snapshot.ensures.size ∙ ap length c.deref_mut.ensures.value)
