@@ -1,5 +1,5 @@
 -- What a device recovers to, once its named area was loaded.
-use Rattle.std.proofs.Common.{◌≡◌, ◌==◌, ◌≤◌, ℕ, Bool, true, false, List, [], Option, Some, None, is_some, length, refl, sym, ◌∙◌, ap, subst}
+use Rattle.std.proofs.Common.{◌≡◌, ◌==◌, ◌≤◌, ℕ, Bool, true, false, List, [], Option, Some, None, is_some, length, refl, sym, ◌∙◌, ap, subst, true≢false}
 use Rattle.affinity.specs.declared.geometry.Geometry.{Geometry}
 use Rattle.checkpoint.specs.Header.{HasHeader}
 use Rattle.checkpoint.specs.Loading.{NamedHolds}
@@ -22,7 +22,7 @@ use Rattle.journal.specs.Parts.{AreLoaded, AreUnloaded, IsMade, IsMadeOf, KeepsB
 use Rattle.journal.specs.Steps.{RecoversByNamedAlone, IsPointed, IsCutUnfinished, pointed_log, run_on}
 use Rattle.journal.specs.Extents.{AreAllDirty}
 use Rattle.journal.proofs.Logging.{recoverable_of, sound_along}
-use Rattle.journal.proofs.Saving.{HoldsAlone, opened_sound, pointed_version}
+use Rattle.journal.proofs.Saving.{HoldsAlone, pointed_sound, pointed_version}
 use Rattle.journal.proofs.Recovering.{holds_now, shut_current}
 use Rattle.oplog.specs.Front.{chain, front}
 use Rattle.device_map.specs.Layout.{layout_of, device_size, image_size, other}
@@ -153,5 +153,5 @@ made_of {p} {log} {w2} {w3} are before is_log geometry spelled all alone made =
       is = ap (λ (g : Geometry). recovered_state g w3.now) same ∙ holds_now log.geometry (other log.named) (other log.named) (recovered_state log.geometry w2.now) w3 are made.at.recovers ∙ alone.is;
       version = ap (λ (g : Geometry). named_version g w3.now) same ∙ pointed_version log p.snapshot.items w2 w3 (state_in p.tree) are spelled' made;
       emptied = subst (λ (g : Geometry). records_in g w3.now ≡ []) (sym same) made.emptied;
-      sound = sound_along is_log refl refl refl refl (opened_sound alone spelled' all are made);
+      sound = sound_along is_log refl refl refl refl (pointed_sound alone spelled' are made (λ z is n few clean. absurd (true≢false (sym (all n few) ∙ clean))));
     }

@@ -124,13 +124,7 @@ all_unwritten e w0 w1 is own = is
 
 -- what a bad record after a cut leaves of w1 (`IsBadAfterCut`), it leaves of w0, which has the same bytes
 pub behind_from : (g : Geometry) (h i : ℕ) (w0 w1 w2 : Medium) → w1.now ≡ w0.now → IsBadAfterCut g h i w1 w2 → IsBadAfterCut g h i w0 w2
-behind_from g h i w0 w1 w2 now b = record {
-  named = b.named;
-  image = b.image ∙ ap (λ (c : List ℕ). area_state g (named_area (layout_of g) c) c) now;
-  synced = b.synced;
-  header = b.header;
-  refused = b.refused;
-}
+behind_from g h i w0 w1 w2 now b = assumption (b.image ∙ ap (λ (c : List ℕ). area_state g (named_area (layout_of g) c) c) now, b)
 
 -- the same of any fault after a cut (`IsFaultAfterCut`)
 pub bad_from : (g : Geometry) (h : ℕ) (e : OpenFault) (w0 w1 w2 : Medium) → w1.now ≡ w0.now → IsFaultAfterCut g h w1 w2 e → IsFaultAfterCut g h w0 w2 e

@@ -55,20 +55,17 @@ open_by n true is_area is = refl
 open_by n false is_area is = absurd (omega (arith, is, is_area))
 
 not_both : (a b : Bool) → not (a && b) ≡ true → a ≡ true → b ≡ false
-not_both true true none is = absurd (true≢false (sym none))
-not_both true false none is = refl
-not_both false b none is = absurd (true≢false (sym is))
+not_both true true none is = cc
+not_both a b none is = cc
 
 not_both' : (a b : Bool) → not (a && b) ≡ true → b ≡ true → a ≡ false
-not_both' true true none is = absurd (true≢false (sym none))
-not_both' true false none is = absurd (true≢false (sym is))
+not_both' true true none is = cc
+not_both' true false none is = cc
 not_both' false b none is = refl
 
 and_last : (a b c : Bool) → (a && b && c) ≡ true → c ≡ true
-and_last true true true is = refl
-and_last true true false is = is
-and_last true false c is = absurd (true≢false (sym is))
-and_last false b c is = absurd (true≢false (sym is))
+and_last true true c is = is
+and_last a b c is = cc
 
 -- where the chain byte of the named half is 1, that of the other half isn't
 pub chain_other : (g : Geometry) (n : ℕ) (c : List ℕ) → n < 2 → is_laid_out (decoding g) (layout_of g) c ≡ true → current_of (layout_of g) n c ≡ other n → eqb (chain (layout_of g) (other n) c) 1

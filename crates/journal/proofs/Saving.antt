@@ -1,5 +1,5 @@
 -- What a point and the beginning of a cut ask of a journal, and what the journal keeps after them.
-use Rattle.std.proofs.Common.{◌≡◌, ◌<◌, ℕ, zero, suc, Bool, true, false, List, ◌++◌, length, Option, Some, None, is_some, get_or, unwrap_or, refl, sym, ◌∙◌, ap, subst, arith, true≢false}
+use Rattle.std.proofs.Common.{◌≡◌, ◌<◌, ℕ, zero, suc, Bool, false, List, ◌++◌, length, Option, Some, None, is_some, unwrap_or, refl, sym, ◌∙◌, ap, subst, arith, true≢false}
 use Rattle.std.proofs.lemmas.List.{take_at}
 use Rattle.std.proofs.Math.Seq.{take-add}
 use Rattle.affinity.specs.declared.geometry.Geometry.{Geometry}
@@ -46,9 +46,39 @@ module _ (g : Geometry) (x : Option State) (y : State) (snapshot : List ℕ) (is
   pub snapshot_agrees : (dirty : List Bool) (bytes : List ℕ) → IsUpToDate g x dirty bytes → AgreeOnClean g dirty bytes snapshot
   snapshot_agrees dirty bytes fresh n few clean = fresh y is n few clean ∙ sym (snapshot_is g y is_state n few) ∙ sym (ap (λ (l : List ℕ). extent_in g l n) spelled)
 
--- where all pieces are dirty, no piece has to be that of the state
-pub all_right : (g h : Geometry) (y : State) (dirty : List Bool) (bytes : List ℕ) → g ≡ h → AreAllDirty h dirty → AreCleanExtentsOf g y dirty bytes
-all_right g h y dirty bytes same all = rw same (λ n few clean. absurd (true≢false (sym (all n few) ∙ clean)))
+-- where all pieces are dirty, no piece has to be that of the state: the snapshot is made anew, and is the whole image
+pub whole_again : {g h : Geometry} {row dirty : List Bool} {new items : List ℕ} → (x : State) (old : List ℕ) → g ≡ h → AreAllDirty h row → dirty ≡ row
+    → (AreCleanExtentsOf g x dirty old → new ≡ image_of 2 g x) → items ≡ new → items ≡ image_of 2 h x
+whole_again x old same all is image put =
+    put ∙ image (rw (same, is) (λ n few clean. absurd (true≢false (sym (all n few) ∙ clean)))) ∙ ap (λ (z : Geometry). image_of 2 z x) same
+
+-- ---- a point
+
+-- A device recovers to this state by the named area and its half alone.
+pub record HoldsAlone (log : Log) (x : State) (m : Medium) : Type 0 where
+  pub alone : RecoversByNamedAlone log m
+  pub is : recovered_state log.geometry m.now ≡ Some x
+  pub state : IsState log.geometry x
+
+-- What a point leaves is sound, if the other image's clean pieces are those of the state.
+pub pointed_sound : {log : Log} {snapshot : List ℕ} {named others pending : List Bool} {w0 w1 : Medium} {y : State} → HoldsAlone log y w0 → snapshot ≡ image_of 2 log.geometry y
+    → AreBytes w1.now → IsPointed log snapshot w0 w1 → IsUpToDate log.geometry (recovered_state log.geometry w0.now) others (image_in log.geometry (other (other log.named)) w1)
+    → IsSoundJournal (pointed_log log) snapshot named others pending None w1
+pointed_sound {log} {snapshot} {named} {w0} {w1} {y} held spelled are made others_right =
+    let same = holds_now log.geometry (other log.named) (other log.named) (recovered_state log.geometry w0.now) w1 are made.at.recovers in
+    let fresh = snapshot_up_to_date log.geometry (recovered_state log.geometry w0.now) y snapshot held.is held.state spelled named in
+    record {
+      some = ap is_some same ∙ held.alone.some;
+      recovers = rw same made.at.recovers;
+      ready = made.at.ready;
+      same_records = forced_synced log.geometry w1 made.at.synced;
+      count = λ none. ap length made.emptied;
+      state = λ x is. rw (← ap (λ (o : Option State). unwrap_or o y) (sym held.is ∙ sym same ∙ is)) held.state;
+      named_up_to_date = rw (same, made.is) fresh;
+      snapshot_up_to_date = λ none. rw same fresh;
+      other_up_to_date = rw same others_right;
+      by_cut = tt;
+    }
 
 -- ---- of a journal with no cut in progress
 
@@ -115,23 +145,9 @@ module _ {log : Log} {snapshot snapshot' : List ℕ} {named others pending : Lis
     point_committed made = holds_now log.geometry (other log.named) (other log.named) (recovered_state log.geometry w0.now) w1 are' made.at.recovers
 
     pub point_sound : {named' others' : List Bool} → others' ≡ named → IsPointed log snapshot' w0 w1 → IsSoundJournal (pointed_log log) snapshot' named' others' pending None w1
-    point_sound {named'} {others'} same_dirty made =
-        let same = point_committed made in
+    point_sound same_dirty made =
         let back : other (other log.named) ≡ log.named = omega (arith, is_area) in
-        record {
-          some = ap is_some same ∙ f.sound.some;
-          recovers = rw same made.at.recovers;
-          ready = made.at.ready;
-          same_records = forced_synced log.geometry w1 made.at.synced;
-          count = λ none. ap length made.emptied;
-          state = λ x is'. f.sound.state x (sym same ∙ is');
-          named_up_to_date =
-              rw (same, made.is) (snapshot_up_to_date log.geometry (recovered_state log.geometry w0.now) y snapshot' f.is f.is_state f.spelled named');
-          snapshot_up_to_date = λ none.
-              rw same (snapshot_up_to_date log.geometry (recovered_state log.geometry w0.now) y snapshot' f.is f.is_state f.spelled named');
-          other_up_to_date = rw (same, back, made.kept, same_dirty) f.sound.named_up_to_date;
-          by_cut = tt;
-        }
+        pointed_sound (record { alone = is_alone; is = f.is; state = f.is_state }) f.spelled are' made (rw (back, made.kept, same_dirty) f.sound.named_up_to_date)
 
     pub cut_committed : IsCutBegun log w0 w1 → recovered_state log.geometry w1.now ≡ recovered_state log.geometry w0.now
     cut_committed begun = holds_now log.geometry log.named (other log.named) (recovered_state log.geometry w0.now) w1 are' begun.at.recovers
@@ -163,31 +179,3 @@ pub pointed_version : (log : Log) (bytes : List ℕ) (w0 w1 : Medium) (y : State
 pointed_version log bytes w0 w1 y are spelled made =
     ap (λ (n : ℕ). version_in (image_in log.geometry n w1)) (made.at.recovers w1.now (itself w1.now w1.unsynced are)).named
     ∙ ap version_in (made.is ∙ spelled)
-
--- ---- of a device that is opened
-
--- A device recovers to this state by the named area and its half alone.
-pub record HoldsAlone (log : Log) (x : State) (m : Medium) : Type 0 where
-  pub alone : RecoversByNamedAlone log m
-  pub is : recovered_state log.geometry m.now ≡ Some x
-  pub state : IsState log.geometry x
-
--- The last point of an opening wrote the whole image; nothing is known of the other one, whose pieces are all dirty.
-pub opened_sound : {log : Log} {snapshot : List ℕ} {named others pending : List Bool} {w0 w1 : Medium} {y : State} → HoldsAlone log y w0 → snapshot ≡ image_of 2 log.geometry y
-    → ((n : ℕ) → n < piece_count log.geometry → get_or others n true ≡ true) → AreBytes w1.now → IsPointed log snapshot w0 w1 → IsSoundJournal (pointed_log log) snapshot named others pending None w1
-opened_sound {log} {snapshot} {named} {w0} {w1} {y} held spelled all are made =
-    let same = holds_now log.geometry (other log.named) (other log.named) (recovered_state log.geometry w0.now) w1 are made.at.recovers in
-    record {
-      some = ap is_some same ∙ held.alone.some;
-      recovers = rw same made.at.recovers;
-      ready = made.at.ready;
-      same_records = forced_synced log.geometry w1 made.at.synced;
-      count = λ none. ap length made.emptied;
-      state = λ x is. rw (← ap (λ (o : Option State). unwrap_or o y) (sym held.is ∙ sym same ∙ is)) held.state;
-      named_up_to_date =
-          rw (same, made.is) (snapshot_up_to_date log.geometry (recovered_state log.geometry w0.now) y snapshot held.is held.state spelled named);
-      snapshot_up_to_date = λ none.
-          rw same (snapshot_up_to_date log.geometry (recovered_state log.geometry w0.now) y snapshot held.is held.state spelled named);
-      other_up_to_date = λ z is' n few clean. absurd (true≢false (sym (all n few) ∙ clean));
-      by_cut = tt;
-    }

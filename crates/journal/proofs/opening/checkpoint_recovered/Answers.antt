@@ -1,29 +1,21 @@
 -- All pieces are dirty, so the snapshot is the image of the whole state, and is written in one run.
 use Rattle.std.proofs.Common.{Bool, List, sym, ◌∙◌, ap, subst, arith, true≢false}
 use Rattle.oplog.proofs.Answered.{err_is}
-use Rattle.affinity.specs.declared.geometry.Geometry.{Geometry}
-use Rattle.image.specs.Image.{image_of, image_state}
+use Rattle.image.specs.Image.{image_state}
 use Rattle.image.proofs.Reading.{read_again}
 use Rattle.journal.specs.Costs.{count_runs}
 use Rattle.journal.specs.Extents.{AreAllDirty}
 use Rattle.journal.proofs.Costs.{one_run}
 use Rattle.journal.proofs.Rows.{whole_put}
-use Rattle.journal.proofs.Saving.{all_right}
+use Rattle.journal.proofs.Saving.{whole_again}
 use Rattle.parcel.specs.Tree.{state_in}
-use Rattle.meaning.specs.State.{IsState}
 use Rattle.journal.proofs.opening.checkpoint_recovered.Goals as goal
 
 pub point_on-requires-clause-image : goal.point_on-requires-clause-image
 point_on-requires-clause-image g c = λ k.
-    let p = c.args.parts.now in
-    let x = state_in p.tree in
-    let geometry = p.halves.geometry in
-    let all = subst (λ (l : List Bool). AreAllDirty geometry l) (sym c.deref.ensures.value) c.requires.loaded.all in
-    let right = all_right p.tree.geometry geometry x c.deref.result.now c.deref_mut.result.now c.requires.loaded.geometry all in
-    let snapshot = whole_put c.update_snapshot.new.bytes c.update_snapshot.ensures.size c.deref_mut.ensures.value c.deref_mut.ensures.len in
-    let spelled = c.deref-2.ensures.value ∙ snapshot ∙ c.update_snapshot.ensures.image right ∙ ap (λ (h : Geometry). image_of 2 h x) c.requires.loaded.geometry in
-    ap (image_state geometry) spelled ∙ read_again geometry x (subst (λ (h : Geometry). IsState h x) c.requires.loaded.geometry c.requires.loaded.tree.state)
-    ∙ sym (c.requires.recovers k)
+    let spelled = whole_again (state_in c.args.parts.now.tree) _ c.requires.loaded.geometry c.requires.loaded.all c.deref.ensures.value c.update_snapshot.ensures.image
+    (c.deref-2.ensures.value ∙ whole_put c.update_snapshot.new.bytes c.update_snapshot.ensures.size c.deref_mut.ensures.value c.deref_mut.ensures.len) in
+    ap (image_state c.args.parts.now.halves.geometry) spelled ∙ read_again c.args.parts.now.halves.geometry (state_in c.args.parts.now.tree) (rw (← c.requires.loaded.geometry) c.requires.loaded.tree.state) ∙ sym (c.requires.recovers k)
 
 pub point_on-requires-clause-clean : goal.point_on-requires-clause-clean
 point_on-requires-clause-clean g c = λ k n few clean.
