@@ -105,4 +105,5 @@ alone_in_force g c n x is = record { accepted = alone_fine g c n x is; held = al
 
 pub both_in_force : (g : Geometry) (c : List ℕ) (n : ℕ) (x : State) → NamedHolds g c n true x → (y : State) → run (decoding g) (Some x) (front (layout_of g) (other n) c) ≡ Some y
     → HoldsInForce g c n (length (front (layout_of g) n c) + length (front (layout_of g) (other n) c)) y
-both_in_force g c n x is y more = assumption (behind_fine g c n x is y more, behind_holds g c n x is y more, both_count g is.first n c x is.ran (sym is.chain) y more)
+both_in_force g c n x is y more =
+    assumption (behind_fine g c n x is y more, behind_holds g c n x is y more, both_count g is.first n c x is.ran (sym is.chain) y more)

@@ -7,7 +7,7 @@ use Rattle.std.proofs.lemmas.List.{drop_all, drop_more}
 use Rattle.affinity.specs.declared.geometry.Geometry.{Geometry}
 use Rattle.checkpoint.specs.declared.fault.OpenFault.{OpenFault}
 use Rattle.checkpoint.specs.Loading.{NamedHolds}
-use Rattle.disk.specs.Device.{Medium, Moment, moments}
+use Rattle.disk.specs.Device.{Medium}
 use Rattle.disk.specs.Moments.{moment_number}
 use Rattle.image.specs.Pieces.{piece_count}
 use Rattle.journal.specs.declared.opening.Parts.{Parts}
@@ -128,10 +128,6 @@ pub takes_all : {T E : Type 0} (r : Result T E) (n : ℕ) (old new : Medium) →
 takes_all (Ok x) n old new fine takes = takes
 takes_all (Err e) n old new fine takes = absurd (true≢false fine)
 
--- a call that only reads adds no moment
-pub no_call : (old new : Medium) → moments new ≡ moments old → moment_number new ≡ moment_number old
-no_call old new same = let all = ap (λ (ms : List Moment). length ms) same in omega (arith, all)
-
 -- ---- an opening
 pub finish_few : (g : Geometry) (c : List ℕ) → finish_cost g c ≤ 4
 finish_few g c = few (chain (layout_of g) (named_area (layout_of g) c) c == 1)
@@ -141,8 +137,9 @@ finish_few g c = few (chain (layout_of g) (named_area (layout_of g) c) c == 1)
     few false = omega arith
 
 -- whether an opening finishes a cut is what loading the named area has reported
-pub finish_is : (g : Geometry) (c : List ℕ) (area : ℕ) (told chained : Bool) (x : State) → told ≡ chained → NamedHolds g c area told x → finish_cost g c ≡ if chained then 4 else 0
-finish_is g c area told chained x is held =
+pub finish_is : {g : Geometry} {c : List ℕ} {area : ℕ} {told chained : Bool} {x : State} → told ≡ chained
+    → NamedHolds g c area told x → finish_cost g c ≡ if chained then 4 else 0
+finish_is {g} {c} is held =
     sym (ap (λ (b : Bool). if b then 4 else 0) (held.chain ∙ ap (λ (n : ℕ). chain (layout_of g) n c == 1) held.named)) ∙ ap (λ (b : Bool). if b then 4 else 0) is
 
 -- after the first sync

@@ -69,7 +69,13 @@ held_after {g} {n} {t} {u} {x} w0 w1 is chained only held = rw (is, ← chained,
 -- ---- the parts
 
 pub kept_then : (p q r : Parts) → KeepsBuffers p q → KeepsBuffers q r → KeepsBuffers p r
-kept_then p q r first second = assumption (second.snapshot ∙ first.snapshot, second.named_dirty ∙ first.named_dirty, second.other_dirty ∙ first.other_dirty, second.pending ∙ first.pending)
+kept_then p q r first second =
+    assumption (
+      second.snapshot ∙ first.snapshot,
+      second.named_dirty ∙ first.named_dirty,
+      second.other_dirty ∙ first.other_dirty,
+      second.pending ∙ first.pending,
+    )
 
 -- Room for an image of this geometry, and flags for each of its pieces, of which those of the other image are set.
 pub record HasRoom (g : Geometry) (p : Parts) : Type 0 where
@@ -153,5 +159,6 @@ made_of {p} {log} {w2} {w3} are before is_log geometry spelled all alone made =
       is = ap (λ (g : Geometry). recovered_state g w3.now) same ∙ holds_now log.geometry (other log.named) (other log.named) (recovered_state log.geometry w2.now) w3 are made.at.recovers ∙ alone.is;
       version = ap (λ (g : Geometry). named_version g w3.now) same ∙ pointed_version log p.snapshot.items w2 w3 (state_in p.tree) are spelled' made;
       emptied = subst (λ (g : Geometry). records_in g w3.now ≡ []) (sym same) made.emptied;
-      sound = sound_along is_log refl refl refl refl (pointed_sound alone spelled' are made (λ z is n few clean. absurd (true≢false (sym (all n few) ∙ clean))));
+      sound = sound_along is_log refl refl refl refl
+          (pointed_sound alone spelled' are made (λ z is n few clean. absurd (true≢false (sym (all n few) ∙ clean))));
     }

@@ -77,7 +77,8 @@ pub record IsPatched (g : Geometry) (area from : ℕ) (bytes : List ℕ) (old ne
   pub up_to : UpTo from bytes (image_in g area old) (image_in g area new)
 
 pub patch_begun : (g : Geometry) (area : ℕ) (bytes : List ℕ) (m : Medium) → IsPatched g area 0 bytes m m
-patch_begun g area bytes m = assumption (part_begun (layout_of g) (image_part area) m, same_but_none (layout_of g) (image_part area) m.now, none_yet bytes (image_in g area m))
+patch_begun g area bytes m =
+    assumption (part_begun (layout_of g) (image_part area) m, same_but_none (layout_of g) (image_part area) m.now, none_yet bytes (image_in g area m))
 
 module _ {g : Geometry} {area from : ℕ} {bytes : List ℕ} {w0 w w1 : Medium} (so_far : IsPatched g area from bytes w0 w)
     (moments : CrashesChangeOnly w w1 (IsSameBut (layout_of g) (image_part area))) where

@@ -61,8 +61,10 @@ pub record HoldsAlone (log : Log) (x : State) (m : Medium) : Type 0 where
   pub state : IsState log.geometry x
 
 -- What a point leaves is sound, if the other image's clean pieces are those of the state.
-pub pointed_sound : {log : Log} {snapshot : List ℕ} {named others pending : List Bool} {w0 w1 : Medium} {y : State} → HoldsAlone log y w0 → snapshot ≡ image_of 2 log.geometry y
-    → AreBytes w1.now → IsPointed log snapshot w0 w1 → IsUpToDate log.geometry (recovered_state log.geometry w0.now) others (image_in log.geometry (other (other log.named)) w1)
+pub pointed_sound : {log : Log} {snapshot : List ℕ} {named others pending : List Bool} {w0 w1 : Medium} {y : State} → HoldsAlone log y w0
+    → snapshot ≡ image_of 2 log.geometry y
+    → AreBytes w1.now → IsPointed log snapshot w0 w1
+    → IsUpToDate log.geometry (recovered_state log.geometry w0.now) others (image_in log.geometry (other (other log.named)) w1)
     → IsSoundJournal (pointed_log log) snapshot named others pending None w1
 pointed_sound {log} {snapshot} {named} {w0} {w1} {y} held spelled are made others_right =
     let same = holds_now log.geometry (other log.named) (other log.named) (recovered_state log.geometry w0.now) w1 are made.at.recovers in
@@ -147,7 +149,8 @@ module _ {log : Log} {snapshot snapshot' : List ℕ} {named others pending : Lis
     pub point_sound : {named' others' : List Bool} → others' ≡ named → IsPointed log snapshot' w0 w1 → IsSoundJournal (pointed_log log) snapshot' named' others' pending None w1
     point_sound same_dirty made =
         let back : other (other log.named) ≡ log.named = omega (arith, is_area) in
-        pointed_sound (record { alone = is_alone; is = f.is; state = f.is_state }) f.spelled are' made (rw (back, made.kept, same_dirty) f.sound.named_up_to_date)
+        pointed_sound (record { alone = is_alone; is = f.is; state = f.is_state }) f.spelled are' made
+        (rw (back, made.kept, same_dirty) f.sound.named_up_to_date)
 
     pub cut_committed : IsCutBegun log w0 w1 → recovered_state log.geometry w1.now ≡ recovered_state log.geometry w0.now
     cut_committed begun = holds_now log.geometry log.named (other log.named) (recovered_state log.geometry w0.now) w1 are' begun.at.recovers

@@ -13,9 +13,10 @@ use Rattle.journal.proofs.opening.checkpoint_recovered.Goals as goal
 
 pub point_on-requires-clause-image : goal.point_on-requires-clause-image
 point_on-requires-clause-image g c = λ k.
-    let spelled = whole_again (state_in c.args.parts.now.tree) _ c.requires.loaded.geometry c.requires.loaded.all c.deref.ensures.value c.update_snapshot.ensures.image
-    (c.deref-2.ensures.value ∙ whole_put c.update_snapshot.new.bytes c.update_snapshot.ensures.size c.deref_mut.ensures.value c.deref_mut.ensures.len) in
-    ap (image_state c.args.parts.now.halves.geometry) spelled ∙ read_again c.args.parts.now.halves.geometry (state_in c.args.parts.now.tree) (rw (← c.requires.loaded.geometry) c.requires.loaded.tree.state) ∙ sym (c.requires.recovers k)
+    let spelled = whole_again (state_in c.args.parts.now.tree) _ c.requires.loaded.geometry c.requires.loaded.all c.deref.ensures.value
+    c.update_snapshot.ensures.image (c.deref-2.ensures.value ∙ whole_put _ c.update_snapshot.ensures.size c.deref_mut.ensures.value c.deref_mut.ensures.len) in
+    ap (image_state c.args.parts.now.halves.geometry) spelled
+    ∙ read_again c.args.parts.now.halves.geometry _ (rw (← c.requires.loaded.geometry) c.requires.loaded.tree.state) ∙ sym (c.requires.recovers k)
 
 pub point_on-requires-clause-clean : goal.point_on-requires-clause-clean
 point_on-requires-clause-clean g c = λ k n few clean.

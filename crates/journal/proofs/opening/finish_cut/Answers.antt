@@ -16,15 +16,15 @@ finish_on-requires-clause-all g c = subst (λ (l : List Bool). AreAllDirty c.arg
 pub finish_on-requires-clause-unfinished : goal.finish_on-requires-clause-unfinished
 finish_on-requires-clause-unfinished g c = λ k.
     unfinished_cut c.args.parts.now.halves _ _ _ (c.requires.recovers k) (c.requires.synced k) (rw (← c.requires.loaded.geometry) c.requires.loaded.tree.state)
-    (whole_again (state_in c.args.parts.now.tree) _ c.requires.loaded.geometry c.requires.loaded.all c.deref.ensures.value c.update_snapshot.ensures.image
-    (c.deref-2.ensures.value ∙ whole_put c.update_snapshot.new.bytes c.update_snapshot.ensures.size c.deref_mut.ensures.value c.deref_mut.ensures.len))
+    (whole_again (state_in c.args.parts.now.tree) _ c.requires.loaded.geometry c.requires.loaded.all c.deref.ensures.value
+    c.update_snapshot.ensures.image (c.deref-2.ensures.value ∙ whole_put _ c.update_snapshot.ensures.size c.deref_mut.ensures.value c.deref_mut.ensures.len))
 
 pub returns-clause-alike : goal.returns-clause-alike
 returns-clause-alike g c = λ k.
-    let spelled = whole_again (state_in c.args.parts.now.tree) _ c.requires.loaded.geometry c.requires.loaded.all c.deref.ensures.value c.update_snapshot.ensures.image
-    (c.deref-2.ensures.value ∙ whole_put c.update_snapshot.new.bytes c.update_snapshot.ensures.size c.deref_mut.ensures.value c.deref_mut.ensures.len) in
-    c.finish_on.ensures.alike k _ (ap (image_state c.args.parts.now.halves.geometry) spelled ∙ read_again c.args.parts.now.halves.geometry (state_in c.args.parts.now.tree) (rw (← c.requires.loaded.geometry) c.requires.loaded.tree.state))
-    (c.requires.recovers k)
+    let spelled = whole_again (state_in c.args.parts.now.tree) _ c.requires.loaded.geometry c.requires.loaded.all c.deref.ensures.value
+    c.update_snapshot.ensures.image (c.deref-2.ensures.value ∙ whole_put _ c.update_snapshot.ensures.size c.deref_mut.ensures.value c.deref_mut.ensures.len) in
+    c.finish_on.ensures.alike k _ (ap (image_state c.args.parts.now.halves.geometry) spelled
+    ∙ read_again c.args.parts.now.halves.geometry _ (rw (← c.requires.loaded.geometry) c.requires.loaded.tree.state)) (c.requires.recovers k)
 
 pub returns-clause-room : goal.returns-clause-room
 returns-clause-room g c =

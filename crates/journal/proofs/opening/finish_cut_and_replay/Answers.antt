@@ -1,5 +1,5 @@
 -- The cut is finished, and then the records behind it are run; if one is bad, the device is refused for it, as it was before.
-use Rattle.std.proofs.Common.{◌≡◌, ℕ, List, Option, Some, refl, sym, ◌∙◌, ap, subst, arith}
+use Rattle.std.proofs.Common.{length, ◌≡◌, ℕ, List, Option, Some, refl, sym, ◌∙◌, ap, subst, arith}
 use Rattle.oplog.proofs.Answered.{err_is}
 use Rattle.affinity.specs.declared.geometry.Geometry.{Geometry}
 use Rattle.checkpoint.specs.declared.fault.OpenFault.{OpenFault}
@@ -11,7 +11,6 @@ use Rattle.disk.proofs.Leaves.{itself}
 use Rattle.disk.proofs.Moments.{leaves_now, same}
 use Rattle.image.specs.Image.{image_state}
 use Rattle.journal.specs.Opening.{area_state}
-use Rattle.journal.proofs.Costs.{no_call}
 use Rattle.checkpoint.proofs.Behind.{behind_fine, behind_holds, behind_refused}
 use Rattle.journal.proofs.Loaded.{are_loaded}
 use Rattle.journal.proofs.Opened.{alone_finished, bad_half, still_synced}
@@ -49,8 +48,7 @@ returns-in_err-replay-clause-refused g c =
     rw (err_is c.from_residual-in_err-replay.ensures.1) (λ k.
     let fault = subst (λ (o : Option OpenFault). IsConsistentFault o c.in_err-replay.field-0.0) (begins records_fault g (goal.at.returns-in_err-replay-clause-refused g c).After-replay k)
     (c.in_err-replay.ensures.refused k) in
-    behind_refused c.args.parts.now.halves.geometry (g.D.Disk.medium c.args.disk.now).now c.args.parts.now.halves.named (state_in c.args.parts.now.tree) (c.requires.recovers k)
-    c.in_err-replay.field-0.0 fault)
+    behind_refused _ _ _ _ (c.requires.recovers k) _ fault)
 
 pub returns-in_err-replay-clause-behind : goal.returns-in_err-replay-clause-behind
 returns-in_err-replay-clause-behind g c =
@@ -64,8 +62,7 @@ returns-in_err-replay-clause-behind g c =
     (c.in_err-replay.ensures.refused k) in
     bad_half (first_bad_record c.args.parts.now.halves.geometry 0 (Some (state_in c.args.parts.now.tree))
     (front (layout_of c.args.parts.now.halves.geometry) (other c.args.parts.now.halves.named) w0.now)) _ c.in_err-replay.ensures.never_out_of_memory fault
-    (c.requires.recovers k).header (behind_refused c.args.parts.now.halves.geometry (g.D.Disk.medium c.args.disk.now).now c.args.parts.now.halves.named (state_in c.args.parts.now.tree)
-    (c.requires.recovers k) c.in_err-replay.field-0.0 fault)
+    (c.requires.recovers k).header (behind_refused _ _ _ _ (c.requires.recovers k) c.in_err-replay.field-0.0 fault)
     (record {
       alike = leaves_now w0 w2 _ (same _ _ _ _ (c.finish_cut.ensures.alike k) only) w2.now (itself w2.now w2.unsynced (g.met.D.Disk.bytes c.replay.new.disk));
       named = ap (λ (l : List ℕ). named_area (layout_of c.args.parts.now.halves.geometry) l) bytes ∙ finished.named;
@@ -84,36 +81,28 @@ pub returns-clause-alone : goal.returns-clause-alone
 returns-clause-alone g c = λ k.
     let more = sym (begins (λ h x b rs. run (decoding h) (Some x) rs) g (goal.at.returns-clause-alone g c).After-replay k) ∙ c.in_ok-replay.ensures.done k in
     rw (c.in_ok-replay.ensures.log ∙ c.in_ok-finish_cut.ensures.log) (alone_finished (g.met.D.Disk.bytes c.replay.new.disk)
-    (same _ _ _ _ (c.finish_cut.ensures.any_moment k) (c.replay.ensures.untouched k)) (behind_holds c.args.parts.now.halves.geometry (g.D.Disk.medium c.args.disk.now).now
-    c.args.parts.now.halves.named (state_in c.args.parts.now.tree) (c.requires.recovers k) (state_in c.replay.new.tree) more) (c.in_ok-finish_cut.ensures.finished k) (c.replay.ensures.untouched k))
+    (same _ _ _ _ (c.finish_cut.ensures.any_moment k) (c.replay.ensures.untouched k)) (behind_holds _ _ _ _ (c.requires.recovers k) _ more)
+    (c.in_ok-finish_cut.ensures.finished k) (c.replay.ensures.untouched k))
 
 pub returns-clause-was : goal.returns-clause-was
 returns-clause-was g c = λ k.
-    let more = sym (begins (λ h x b rs. run (decoding h) (Some x) rs) g (goal.at.returns-clause-was g c).After-replay k) ∙ c.in_ok-replay.ensures.done k in
-    behind_holds c.args.parts.now.halves.geometry (g.D.Disk.medium c.args.disk.now).now c.args.parts.now.halves.named (state_in c.args.parts.now.tree) (c.requires.recovers k)
-    (state_in c.replay.new.tree) more
+    behind_holds _ _ _ _ (c.requires.recovers k) _
+    (sym (begins (λ h x b rs. run (decoding h) (Some x) rs) g (goal.at.returns-clause-was g c).After-replay k) ∙ c.in_ok-replay.ensures.done k)
 
 pub returns-clause-sound : goal.returns-clause-sound
 returns-clause-sound g c = λ k.
-    let more = sym (begins (λ h x b rs. run (decoding h) (Some x) rs) g (goal.at.returns-clause-sound g c).After-replay k) ∙ c.in_ok-replay.ensures.done k in
-    behind_fine c.args.parts.now.halves.geometry (g.D.Disk.medium c.args.disk.now).now c.args.parts.now.halves.named (state_in c.args.parts.now.tree) (c.requires.recovers k)
-    (state_in c.replay.new.tree) more
+    behind_fine _ _ _ _ (c.requires.recovers k) _
+    (sym (begins (λ h x b rs. run (decoding h) (Some x) rs) g (goal.at.returns-clause-sound g c).After-replay k) ∙ c.in_ok-replay.ensures.done k)
 
 pub returns-clause-loaded : goal.returns-clause-loaded
 returns-clause-loaded g c =
-    let before = c.requires.loaded in
-    let log = c.in_ok-replay.ensures.log ∙ c.in_ok-finish_cut.ensures.log in
-    let geometry = c.in_ok-replay.ensures.geometry ∙ (λ i. (c.finish_cut.ensures.tree i).geometry) ∙ before.geometry in
-    let room = c.finish_cut.ensures.room in
-    are_loaded {p = c.args.parts.now} log before.not_failed refl c.in_ok-replay.ensures.whole geometry
-    (record { snapshot = room.snapshot; named_dirty = room.named_dirty; other_dirty = room.other_dirty; pending = room.pending })
-    (record { snapshot = before.snapshot; named_dirty = before.named_dirty; other_dirty = before.other_dirty; all = before.all })
-    (omega (arith, before.long_enough, c.finish_cut.ensures.call.1, c.replay.ensures.call.1))
+    are_loaded {p = c.args.parts.now} (c.in_ok-replay.ensures.log ∙ c.in_ok-finish_cut.ensures.log) c.requires.loaded.not_failed refl
+    c.in_ok-replay.ensures.whole (c.in_ok-replay.ensures.geometry ∙ (λ i. (c.finish_cut.ensures.tree i).geometry) ∙ c.requires.loaded.geometry)
+    (assumption c.finish_cut.ensures.room) (assumption c.requires.loaded)
+    (omega (arith, c.requires.loaded.long_enough, c.finish_cut.ensures.call.1, c.replay.ensures.call.1))
 
 pub returns-clause-room : goal.returns-clause-room
-returns-clause-room g c =
-    let room = c.finish_cut.ensures.room in
-    record { snapshot = room.snapshot; named_dirty = room.named_dirty; other_dirty = room.other_dirty; pending = room.pending }
+returns-clause-room g c = assumption c.finish_cut.ensures.room
 
 pub returns-clause-geometry : goal.returns-clause-geometry
 returns-clause-geometry g c = ap (λ (l : Log). l.geometry) (c.in_ok-replay.ensures.log ∙ c.in_ok-finish_cut.ensures.log)
@@ -134,8 +123,8 @@ returns-in_err-finish_cut-clause-costs g c =
 
 pub returns-in_err-replay-clause-costs : goal.returns-in_err-replay-clause-costs
 returns-in_err-replay-clause-costs g c =
-    rw (err_is c.from_residual-in_err-replay.ensures.1) (λ k. omega (arith, no_call (g.D.Disk.medium c.finish_cut.new.disk) (g.D.Disk.medium c.replay.new.disk) (c.replay.ensures.untouched k), c.in_ok-finish_cut.ensures.costs k))
+    rw (err_is c.from_residual-in_err-replay.ensures.1) (λ k. omega (arith, ap length (c.replay.ensures.untouched k), c.in_ok-finish_cut.ensures.costs k))
 
 pub returns-clause-costs : goal.returns-clause-costs
 returns-clause-costs g c = λ k.
-    no_call (g.D.Disk.medium c.finish_cut.new.disk) (g.D.Disk.medium c.replay.new.disk) (c.replay.ensures.untouched k) ∙ c.in_ok-finish_cut.ensures.costs k
+    omega (arith, ap length (c.replay.ensures.untouched k), c.in_ok-finish_cut.ensures.costs k)

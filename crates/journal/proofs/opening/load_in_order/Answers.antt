@@ -1,5 +1,5 @@
 -- Without a cut in progress the named area holds the state; else the cut is finished, and the records behind it are run.
-use Rattle.std.proofs.Common.{true, false, refl, sym, ◌∙◌, ap, subst, arith}
+use Rattle.std.proofs.Common.{length, false, refl, sym, ◌∙◌, ap, subst, arith}
 use Rattle.oplog.proofs.Answered.{err_is}
 use Rattle.std.proofs.lemmas.Bool.{not-true, not-false}
 use Rattle.checkpoint.specs.Loading.{NamedHolds}
@@ -9,7 +9,7 @@ use Rattle.checkpoint.proofs.Replays.{same_bytes}
 use Rattle.disk.specs.Moments.{CrashImagesAre}
 use Rattle.journal.specs.Parts.{IsFaultAfterCut, IsRefusedAlike}
 use Rattle.journal.specs.Steps.{RecoversStill}
-use Rattle.journal.proofs.Costs.{finish_is, no_call}
+use Rattle.journal.proofs.Costs.{finish_is}
 use Rattle.checkpoint.proofs.Behind.{alone_fine, alone_holds}
 use Rattle.journal.proofs.Loaded.{are_loaded, alone_recovers, held_after}
 use Rattle.journal.proofs.Opened.{alike_after, alike_read, all_unwritten, bad_behind, bad_from, bad_synced, still_after, still_read, still_synced, unread}
@@ -64,21 +64,17 @@ pub returns-then-not-named-clause-alone : goal.returns-then-not-named-clause-alo
 returns-then-not-named-clause-alone g c = λ k.
     let w0 = g.D.Disk.medium c.args.disk.now in
     let w1 = g.D.Disk.medium c.load_named.new.disk in
-    let only = c.load_named.ensures.untouched k in
     alone_recovers c.load_named.new.log w1 (state_in c.load_named.new.tree)
-    (held_after w0 w1 c.in_ok-named.ensures.log (not-true c.in_ok-named.named.chained c.if-not-named.true) only
-    (c.in_ok-named.ensures.loaded k))
-    (still_synced w0 w1 only (c.requires.synced k))
+    (held_after w0 w1 c.in_ok-named.ensures.log (not-true c.in_ok-named.named.chained c.if-not-named.true) (c.load_named.ensures.untouched k)
+    (c.in_ok-named.ensures.loaded k)) (still_synced w0 w1 (c.load_named.ensures.untouched k) (c.requires.synced k))
 
 pub returns-then-not-named-clause-was : goal.returns-then-not-named-clause-was
 returns-then-not-named-clause-was g c = λ k.
-    alone_holds c.args.parts.now.tree.geometry (g.D.Disk.medium c.args.disk.now).now c.in_ok-named.named.area (state_in c.load_named.new.tree)
-    (held g (goal.at.returns-then-not-named-clause-was g c).Then-not-named k)
+    alone_holds _ _ _ _ (held g (goal.at.returns-then-not-named-clause-was g c).Then-not-named k)
 
 pub returns-then-not-named-clause-sound : goal.returns-then-not-named-clause-sound
 returns-then-not-named-clause-sound g c = λ k.
-    alone_fine c.args.parts.now.tree.geometry (g.D.Disk.medium c.args.disk.now).now c.in_ok-named.named.area (state_in c.load_named.new.tree)
-    (held g (goal.at.returns-then-not-named-clause-sound g c).Then-not-named k)
+    alone_fine _ _ _ _ (held g (goal.at.returns-then-not-named-clause-sound g c).Then-not-named k)
 
 pub finish_cut_and_replay-requires-clause-recovers : goal.finish_cut_and_replay-requires-clause-recovers
 finish_cut_and_replay-requires-clause-recovers g c = λ k.
@@ -120,31 +116,24 @@ returns-clause-sound g c = λ k.
 
 pub finish_cut_and_replay-requires-clause-loaded : goal.finish_cut_and_replay-requires-clause-loaded
 finish_cut_and_replay-requires-clause-loaded g c =
-    let taken = c.requires.taken in
-    are_loaded {p = c.args.parts.now} c.in_ok-named.ensures.log refl refl c.in_ok-named.ensures.whole c.in_ok-named.ensures.geometry
-    (record { snapshot = refl; named_dirty = refl; other_dirty = refl; pending = refl })
-    (record { snapshot = taken.snapshot; named_dirty = taken.named_dirty; other_dirty = taken.other_dirty; all = taken.all })
-    (omega (arith, c.requires.long_enough, c.load_named.ensures.call.1))
+    are_loaded {p = c.args.parts.now} c.in_ok-named.ensures.log refl refl c.in_ok-named.ensures.whole c.in_ok-named.ensures.geometry (assumption)
+    (assumption c.requires.taken) (omega (arith, c.requires.long_enough, c.load_named.ensures.call.1))
 
 pub returns-then-not-named-clause-loaded : goal.returns-then-not-named-clause-loaded
 returns-then-not-named-clause-loaded g c =
-    let taken = c.requires.taken in
-    are_loaded {p = c.args.parts.now} c.in_ok-named.ensures.log refl refl c.in_ok-named.ensures.whole c.in_ok-named.ensures.geometry
-    (record { snapshot = refl; named_dirty = refl; other_dirty = refl; pending = refl })
-    (record { snapshot = taken.snapshot; named_dirty = taken.named_dirty; other_dirty = taken.other_dirty; all = taken.all })
-    (omega (arith, c.requires.long_enough, c.load_named.ensures.call.1))
+    are_loaded {p = c.args.parts.now} c.in_ok-named.ensures.log refl refl c.in_ok-named.ensures.whole c.in_ok-named.ensures.geometry (assumption)
+    (assumption c.requires.taken) (omega (arith, c.requires.long_enough, c.load_named.ensures.call.1))
 
 pub returns-then-not-named-clause-room : goal.returns-then-not-named-clause-room
 returns-then-not-named-clause-room g c = record { snapshot = refl; named_dirty = refl; other_dirty = refl; pending = refl }
 
 pub returns-clause-room : goal.returns-clause-room
-returns-clause-room g c =
-    let room = c.in_ok-finish_cut_and_replay.ensures.room in
-    record { snapshot = room.snapshot; named_dirty = room.named_dirty; other_dirty = room.other_dirty; pending = room.pending }
+returns-clause-room g c = assumption c.in_ok-finish_cut_and_replay.ensures.room
 
 pub returns-in_err-named-clause-synced : goal.returns-in_err-named-clause-synced
 returns-in_err-named-clause-synced g c =
-    rw (err_is c.from_residual.ensures.1) (λ not_device k. still_synced (g.D.Disk.medium c.args.disk.now) (g.D.Disk.medium c.load_named.new.disk) (c.load_named.ensures.untouched k) (c.requires.synced k))
+    rw (err_is c.from_residual.ensures.1) (λ not_device k.
+    still_synced (g.D.Disk.medium c.args.disk.now) (g.D.Disk.medium c.load_named.new.disk) (c.load_named.ensures.untouched k) (c.requires.synced k))
 
 pub returns-in_err-finish_cut_and_replay-clause-synced : goal.returns-in_err-finish_cut_and_replay-clause-synced
 returns-in_err-finish_cut_and_replay-clause-synced g c =
@@ -167,23 +156,23 @@ returns-clause-beyond g c = stays g (goal.at.returns-clause-beyond g c).After-fi
 
 pub returns-in_err-named-clause-costs : goal.returns-in_err-named-clause-costs
 returns-in_err-named-clause-costs g c =
-    rw (err_is c.from_residual.ensures.1) (λ k. omega (arith, no_call (g.D.Disk.medium c.args.disk.now) (g.D.Disk.medium c.load_named.new.disk) (c.load_named.ensures.untouched k)))
+    rw (err_is c.from_residual.ensures.1) (λ k. omega (arith, ap length (c.load_named.ensures.untouched k)))
 
 pub returns-then-not-named-clause-costs : goal.returns-then-not-named-clause-costs
 returns-then-not-named-clause-costs g c = λ k.
-    let none = finish_is c.args.parts.now.tree.geometry (g.D.Disk.medium c.args.disk.now).now c.in_ok-named.named.area c.in_ok-named.named.chained
-    false (state_in c.load_named.new.tree) (not-true c.in_ok-named.named.chained c.if-not-named.true) (c.in_ok-named.ensures.loaded k) in
-    omega (arith, no_call (g.D.Disk.medium c.args.disk.now) (g.D.Disk.medium c.load_named.new.disk) (c.load_named.ensures.untouched k), none)
+    omega (
+      arith,
+      ap length (c.load_named.ensures.untouched k),
+      finish_is (not-true c.in_ok-named.named.chained c.if-not-named.true) (c.in_ok-named.ensures.loaded k),
+    )
 
 pub returns-in_err-finish_cut_and_replay-clause-costs : goal.returns-in_err-finish_cut_and_replay-clause-costs
 returns-in_err-finish_cut_and_replay-clause-costs g c =
     rw (err_is c.from_residual-in_err-finish_cut_and_replay.ensures.1) (λ k.
-    let four = finish_is c.args.parts.now.tree.geometry (g.D.Disk.medium c.args.disk.now).now c.in_ok-named.named.area c.in_ok-named.named.chained
-    true (state_in c.load_named.new.tree) (not-false c.in_ok-named.named.chained c.if-not-named.false) (c.in_ok-named.ensures.loaded k) in
-    omega (arith, no_call (g.D.Disk.medium c.args.disk.now) (g.D.Disk.medium c.load_named.new.disk) (c.load_named.ensures.untouched k), four, c.in_err-finish_cut_and_replay.ensures.costs k))
+    let four = finish_is (not-false c.in_ok-named.named.chained c.if-not-named.false) (c.in_ok-named.ensures.loaded k) in
+    omega (arith, ap length (c.load_named.ensures.untouched k), four, c.in_err-finish_cut_and_replay.ensures.costs k))
 
 pub returns-clause-costs : goal.returns-clause-costs
 returns-clause-costs g c = λ k.
-    let four = finish_is c.args.parts.now.tree.geometry (g.D.Disk.medium c.args.disk.now).now c.in_ok-named.named.area c.in_ok-named.named.chained
-    true (state_in c.load_named.new.tree) (not-false c.in_ok-named.named.chained c.if-not-named.false) (c.in_ok-named.ensures.loaded k) in
-    omega (arith, no_call (g.D.Disk.medium c.args.disk.now) (g.D.Disk.medium c.load_named.new.disk) (c.load_named.ensures.untouched k), four, c.in_ok-finish_cut_and_replay.ensures.costs k)
+    let four = finish_is (not-false c.in_ok-named.named.chained c.if-not-named.false) (c.in_ok-named.ensures.loaded k) in
+    omega (arith, ap length (c.load_named.ensures.untouched k), four, c.in_ok-finish_cut_and_replay.ensures.costs k)

@@ -12,7 +12,7 @@ use Rattle.checkpoint.proofs.Replays.{same_bytes}
 use Rattle.journal.specs.Costs.{finish_cost}
 use Rattle.journal.specs.Parts.{IsMadeOf}
 use Rattle.journal.specs.Extents.{AreAllDirty}
-use Rattle.journal.proofs.Costs.{finish_few, no_call}
+use Rattle.journal.proofs.Costs.{finish_few}
 use Rattle.journal.proofs.Loaded.{made, made_of}
 use Rattle.journal.proofs.Opened.{all_unwritten, alike_after, as_alike, as_before, as_still, still_after, still_now, still_synced, still_then, unread, unwritten_from, unwritten_then}
 use Rattle.oplog.specs.Beyond.{KeepsBeyond}
@@ -55,7 +55,8 @@ returns-in_err-g-clause-any_moment g c = λ k. as_before _ _ (c.requires.synced 
 
 pub returns-in_err-g-clause-unwritten : goal.returns-in_err-g-clause-unwritten
 returns-in_err-g-clause-unwritten g c =
-    rw (err_is c.from_residual.ensures.1) (λ k. all_unwritten _ _ _ (unread _ _ (c.read_header.ensures.untouched k)) (λ h. header_half _ _ c.in_err-g.ensures.by_header))
+    rw (err_is c.from_residual.ensures.1) (λ k.
+    all_unwritten _ _ _ (unread _ _ (c.read_header.ensures.untouched k)) (λ h. header_half _ _ c.in_err-g.ensures.by_header))
 
 pub returns-in_err-parts-clause-any_moment : goal.returns-in_err-parts-clause-any_moment
 returns-in_err-parts-clause-any_moment g c = λ k. as_before _ _ (c.requires.synced k) (c.read_header.ensures.untouched k)
@@ -145,11 +146,13 @@ returns-in_err-checkpoint_recovered-clause-memory g c =
 
 pub returns-in_err-g-clause-synced : goal.returns-in_err-g-clause-synced
 returns-in_err-g-clause-synced g c =
-    rw (err_is c.from_residual.ensures.1) (λ other k. still_synced (g.D.Disk.medium c.args.disk.now) (g.D.Disk.medium c.read_header.new.disk) (c.read_header.ensures.untouched k) (c.requires.synced k))
+    rw (err_is c.from_residual.ensures.1) (λ other k.
+    still_synced (g.D.Disk.medium c.args.disk.now) (g.D.Disk.medium c.read_header.new.disk) (c.read_header.ensures.untouched k) (c.requires.synced k))
 
 pub returns-in_err-parts-clause-synced : goal.returns-in_err-parts-clause-synced
 returns-in_err-parts-clause-synced g c =
-    rw (err_is c.from_residual-in_err-parts.ensures.1) (λ other k. still_synced (g.D.Disk.medium c.args.disk.now) (g.D.Disk.medium c.read_header.new.disk) (c.read_header.ensures.untouched k) (c.requires.synced k))
+    rw (err_is c.from_residual-in_err-parts.ensures.1) (λ other k.
+    still_synced (g.D.Disk.medium c.args.disk.now) (g.D.Disk.medium c.read_header.new.disk) (c.read_header.ensures.untouched k) (c.requires.synced k))
 
 pub returns-in_err-checkpoint_recovered-clause-synced : goal.returns-in_err-checkpoint_recovered-clause-synced
 returns-in_err-checkpoint_recovered-clause-synced g c =
@@ -176,38 +179,32 @@ returns-clause-beyond g c = stays g (goal.at.returns-clause-beyond g c).After-ch
 
 pub returns-in_err-g-clause-costs : goal.returns-in_err-g-clause-costs
 returns-in_err-g-clause-costs g c =
-    rw (err_is c.from_residual.ensures.1) (λ k. omega (arith, no_call (g.D.Disk.medium c.args.disk.now) (g.D.Disk.medium c.read_header.new.disk) (c.read_header.ensures.untouched k)))
+    rw (err_is c.from_residual.ensures.1) (λ k. omega (arith, ap length (c.read_header.ensures.untouched k)))
 
 pub returns-in_err-parts-clause-costs : goal.returns-in_err-parts-clause-costs
 returns-in_err-parts-clause-costs g c =
-    rw (err_is c.from_residual-in_err-parts.ensures.1) (λ k. omega (arith, no_call (g.D.Disk.medium c.args.disk.now) (g.D.Disk.medium c.read_header.new.disk) (c.read_header.ensures.untouched k)))
+    rw (err_is c.from_residual-in_err-parts.ensures.1) (λ k. omega (arith, ap length (c.read_header.ensures.untouched k)))
 
 pub returns-in_err-load_in_order-clause-costs : goal.returns-in_err-load_in_order-clause-costs
 returns-in_err-load_in_order-clause-costs g c =
     rw (err_is c.from_residual-in_err-load_in_order.ensures.1) (λ k.
     let few = finish_few c.in_ok-parts.parts.tree.geometry (g.D.Disk.medium c.read_header.new.disk).now in
-    omega (arith, no_call (g.D.Disk.medium c.args.disk.now) (g.D.Disk.medium c.read_header.new.disk) (c.read_header.ensures.untouched k), few, c.in_err-load_in_order.ensures.costs k))
+    omega (arith, ap length (c.read_header.ensures.untouched k), few, c.in_err-load_in_order.ensures.costs k))
 
 pub returns-in_err-checkpoint_recovered-clause-costs : goal.returns-in_err-checkpoint_recovered-clause-costs
 returns-in_err-checkpoint_recovered-clause-costs g c =
     rw (err_is c.from_residual-in_err-checkpoint_recovered.ensures.1) (λ k.
-    omega (
-      arith,
-      no_call (g.D.Disk.medium c.args.disk.now) (g.D.Disk.medium c.read_header.new.disk) (c.read_header.ensures.untouched k),
-      (finish_few c.in_ok-parts.parts.tree.geometry (g.D.Disk.medium c.read_header.new.disk).now),
-      c.in_ok-load_in_order.ensures.costs k,
-      c.in_err-checkpoint_recovered.ensures.costs k,
-    ))
+    let few = finish_few c.in_ok-parts.parts.tree.geometry (g.D.Disk.medium c.read_header.new.disk).now in
+    omega (arith, ap length (c.read_header.ensures.untouched k), few, c.in_ok-load_in_order.ensures.costs k, c.in_err-checkpoint_recovered.ensures.costs k))
 
 pub returns-clause-costs : goal.returns-clause-costs
 returns-clause-costs g c = λ k.
     let w0 = g.D.Disk.medium c.args.disk.now in
     let w1 = g.D.Disk.medium c.read_header.new.disk in
     let only = c.read_header.ensures.untouched k in
-    let geometry : c.checkpoint_recovered.new.parts.halves.geometry ≡ c.in_ok-parts.parts.tree.geometry = ap (λ (l : Log). l.geometry) c.in_ok-checkpoint_recovered.ensures.log
-    ∙ c.in_ok-load_in_order.ensures.geometry in
+    let geometry = ap (λ (l : Log). l.geometry) c.in_ok-checkpoint_recovered.ensures.log ∙ c.in_ok-load_in_order.ensures.geometry in
     let is : finish_cost c.in_ok-parts.parts.tree.geometry w1.now ≡ finish_cost c.checkpoint_recovered.new.parts.halves.geometry w0.now = λ i. finish_cost (sym geometry i) (same_bytes w0 w1 only i) in
-    omega (arith, no_call w0 w1 only, is, c.in_ok-load_in_order.ensures.costs k, c.in_ok-checkpoint_recovered.ensures.costs k)
+    omega (arith, ap length only, is, c.in_ok-load_in_order.ensures.costs k, c.in_ok-checkpoint_recovered.ensures.costs k)
 
 pub returns-in_err-load_in_order-clause-synced : goal.returns-in_err-load_in_order-clause-synced
 returns-in_err-load_in_order-clause-synced g c =
