@@ -116,16 +116,8 @@ module _ {g h : Geometry} (same : h ≡ g) (number n : ℕ) {at size : ℕ} (buf
 
   pub room_left : (len : ℕ) → device_size (layout_of g) ≤ len → at + length (take size buffer) ≤ len
   room_left len long =
-      omega (
-        arith,
-        place,
-        its_size,
-        length-take size buffer,
-        piece_inside g n below,
-        image_sized (layout_of g) number is_image,
-        part_inside (layout_of g) (image_part number),
-        long,
-      )
+      let inside = piece_inside g n below in
+      omega (arith, its_size, length-take size buffer, inside, image_sized (layout_of g) number is_image, part_inside (layout_of g) (image_part number))
 
   pub read_there : {now seen out : List ℕ} → size ≤ length buffer → seen ≡ now → out ≡ slice seen at (length (take size buffer)) → out ≡ piece_in g (part_bytes (layout_of g) (image_part number) now) n
   read_there {now} room are is =

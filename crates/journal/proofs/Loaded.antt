@@ -70,12 +70,8 @@ held_after {g} {n} {t} {u} {x} w0 w1 is chained only held = rw (is, ← chained,
 
 pub kept_then : (p q r : Parts) → KeepsBuffers p q → KeepsBuffers q r → KeepsBuffers p r
 kept_then p q r first second =
-    assumption (
-      second.snapshot ∙ first.snapshot,
-      second.named_dirty ∙ first.named_dirty,
-      second.other_dirty ∙ first.other_dirty,
-      second.pending ∙ first.pending,
-    )
+    let snapshot = second.snapshot ∙ first.snapshot in
+    assumption (snapshot, second.named_dirty ∙ first.named_dirty, second.other_dirty ∙ first.other_dirty, second.pending ∙ first.pending)
 
 -- Room for an image of this geometry, and flags for each of its pieces, of which those of the other image are set.
 pub record HasRoom (g : Geometry) (p : Parts) : Type 0 where

@@ -38,16 +38,7 @@ all_put g x {at} {bytes} all place size so_far =
 
 pub put_long : (at k : ℕ) (bytes part : List ℕ) → at + k ≤ length bytes → length part ≡ k → length (take at bytes ++ (part ++ drop k (drop at bytes))) ≡ length bytes
 put_long at k bytes part inside size =
-    omega (
-      arith,
-      inside,
-      size,
-      length-append (take at bytes) (part ++ drop k (drop at bytes)),
-      length-append part (drop k (drop at bytes)),
-      length-take-le at bytes (omega (arith, inside)),
-      length-drop k (drop at bytes),
-      length-drop at bytes,
-    )
+    omega (arith, length-append {A = ℕ}, length-drop {A = ℕ}, length-take-le at bytes (omega arith))
 
 -- ---- a piece that is there already
 

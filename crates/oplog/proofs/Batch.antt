@@ -5,13 +5,14 @@ use Rattle.std.proofs.lemmas.List.{length-replicate}
 use Rattle.std.specs.List.{concat}
 use Rattle.disk.specs.Device.{AreBytes, Medium, SameOutside, overlaid}
 use Rattle.disk.proofs.Leaves.{itself, synced_left, synced_range, range_kept}
-use Rattle.disk.proofs.Overlays.{overlaid_outside, range-overlaid, length-overlaid}
+use Rattle.disk.proofs.Overlays.{range-overlaid, length-overlaid}
 use Rattle.device_map.specs.Layout.{Layout, slice, part_bytes, part_at, part_size, half_part, half_size, device_size, record_size}
 use Rattle.oplog.specs.Front.{gates_in, count_open}
 use Rattle.oplog.specs.Changes.{IsSameBut, HasAppended, HasAppendedPrefix, IsReady, HasAppendedAll}
 use Rattle.disk.specs.Store.{After, Stored}
 use Rattle.oplog.proofs.Slices.{within, slice_slice, same_but, same_but_both, half_sized, half_inside}
 use Rattle.oplog.proofs.RecordRows.{AreRows, length-concat}
+use Rattle.oplog.proofs.OneStore.{changed}
 use Rattle.oplog.proofs.InHalf.{HasMoreIn, body_at, bodies_written, gates_torn, gates_written, now_used, now_shut}
 
 -- These records are added to half h behind k others. Places in the half count from its first byte.
@@ -58,7 +59,7 @@ module _ (g : Layout) (h k : ℕ) (more : List (List ℕ)) (is_half : h < 2) (si
   -- ---- the gates
   module _ (bodies : Stored (part_at g (half_part h) + body_at g.capacity k) (concat more) w0 w1) where
     put : SameOutside (part_at g (half_part h) + body_at g.capacity k) (length more * record_size) w0.now w1.now
-    put = rw (bodies.now, ← bytes) (overlaid_outside w0.now (part_at g (half_part h) + body_at g.capacity k) (concat more))
+    put = rw (← bytes) (changed w0 w1 _ _ bodies)
 
     stand : slice (part_bytes g (half_part h) w1.now) (body_at g.capacity k) (length more * record_size) ≡ concat more
     stand =
@@ -84,8 +85,7 @@ module _ (g : Layout) (h k : ℕ) (more : List (List ℕ)) (is_half : h < 2) (si
 
       torn : (j : ℕ) × (j ≤ length more) × HasAppended g h (take j more) w0.now c
       torn =
-          let t = gates_torn g.capacity k more sized room (part_bytes g (half_part h) w0.now) (part_bytes g (half_part h) w1.now) (part_bytes g (half_part h) c) ready.used ready.shut bodies_in stand
-          gates_in_half in
+          let t = gates_torn g.capacity k more sized room _ _ _ ready.used ready.shut bodies_in stand gates_in_half in
           (t.0, t.1, grown (take t.0 more) w0.now c all_same t.2)
 
       pub grew : HasAppendedPrefix g h more w0 c
@@ -100,16 +100,13 @@ module _ (g : Layout) (h k : ℕ) (more : List (List ℕ)) (is_half : h < 2) (si
         open_in = slice_slice c (part_at g (half_part h)) (part_size g (half_part h)) (64 + k) (length more) (omega (arith, gate_room, size)) ∙ ones
 
         pub has_all : HasAppended g h more w0.now c
-        has_all = grown more w0.now c all_same (gates_written g.capacity k more sized room (part_bytes g (half_part h) w0.now)
-            (part_bytes g (half_part h) w1.now) (part_bytes g (half_part h) c) ready.used ready.shut bodies_in stand gates_in_half open_in)
+        has_all = grown more w0.now c all_same (gates_written g.capacity k more sized room _ _ _ ready.used ready.shut bodies_in stand gates_in_half open_in)
 
         pub used_all : count_open (gates_in g.capacity (part_bytes g (half_part h) c)) ≡ k + length more
-        used_all = now_used g.capacity k more sized room (part_bytes g (half_part h) w0.now) (part_bytes g (half_part h) w1.now) (part_bytes g (half_part h) c)
-            ready.used ready.shut bodies_in stand gates_in_half open_in
+        used_all = now_used g.capacity k more sized room _ _ _ ready.used ready.shut bodies_in stand gates_in_half open_in
 
         pub shut_all : drop (k + length more) (gates_in g.capacity (part_bytes g (half_part h) c)) ≡ replicate (g.capacity - (k + length more)) 0
-        shut_all = now_shut g.capacity k more sized room (part_bytes g (half_part h) w0.now) (part_bytes g (half_part h) w1.now) (part_bytes g (half_part h) c)
-            ready.used ready.shut bodies_in stand gates_in_half open_in
+        shut_all = now_shut g.capacity k more sized room _ _ _ ready.used ready.shut bodies_in stand gates_in_half open_in
 
     pub second : (c : List ℕ) → After w1 (SameOutside {X = ℕ} (part_at g (half_part h) + (64 + k)) (length more)) c → HasAppendedPrefix g h more w0 c
     second c after = grew c (rw (← synced_left w1 after.old bodies.synced after.left) after.change)
@@ -122,10 +119,7 @@ module _ (g : Layout) (h k : ℕ) (more : List (List ℕ)) (is_half : h < 2) (si
       wide = length-replicate (length more) 1
 
       put_gates : SameOutside (part_at g (half_part h) + (64 + k)) (length more) w1.now w2.now
-      put_gates =
-          subst (λ (l : List ℕ). SameOutside (part_at g (half_part h) + (64 + k)) (length more) w1.now l) (sym gates.now)
-          (subst (λ (m : ℕ). SameOutside (part_at g (half_part h) + (64 + k)) m w1.now (overlaid w1.now (part_at g (half_part h) + (64 + k)) (replicate (length more) 1))) wide
-          (overlaid_outside w1.now (part_at g (half_part h) + (64 + k)) (replicate (length more) 1)))
+      put_gates = rw (← wide) (changed w1 w2 _ _ gates)
 
       are_ones : slice w2.now (part_at g (half_part h) + (64 + k)) (length more) ≡ replicate (length more) 1
       are_ones =

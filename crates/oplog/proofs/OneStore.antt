@@ -15,7 +15,7 @@ use Rattle.oplog.proofs.Slices.{LiesIn, within, same_but, half_sized, half_insid
 use Rattle.oplog.proofs.Gates.{open_none}
 
 -- a store changes bytes of its range alone
-changed : (w0 w1 : Medium) (at : ℕ) (bytes : List ℕ) → Stored at bytes w0 w1 → SameOutside at (length bytes) w0.now w1.now
+pub changed : (w0 w1 : Medium) (at : ℕ) (bytes : List ℕ) → Stored at bytes w0 w1 → SameOutside at (length bytes) w0.now w1.now
 changed w0 w1 at bytes stored = subst (λ (l : List ℕ). SameOutside at (length bytes) w0.now l) (sym stored.now) (overlaid_outside w0.now at bytes)
 
 -- ---- zeros over what lies before the records of half h

@@ -31,13 +31,9 @@ read-requires g c =
 pub overflow_add-at-in-loop-n : goal.overflow_add-at-in-loop-n
 overflow_add-at-in-loop-n g c =
     let below : c.loop-n.n < piece_count c.args.tree.now.geometry = omega (arith, c.loop-n-test.true, c.piece_count-n-end.ensures.count ∙ ap piece_count c.geometry-g.ensures) in
-    omega (
-      arith,
-      c.read.auto.out,
-      g.met.D.Disk.fits c.args.disk.now,
-      room_left c.geometry-g.ensures c.args.number c.loop-n.n c.loop-n.buffer c.requires.number below c.loop-n.invariant.at c.piece_size.ensures.size
-          (length (g.D.Disk.medium c.args.disk.now).now) c.requires.long_enough,
-    )
+    let room = room_left c.geometry-g.ensures c.args.number c.loop-n.n c.loop-n.buffer c.requires.number below c.loop-n.invariant.at c.piece_size.ensures.size
+    (length (g.D.Disk.medium c.args.disk.now).now) c.requires.long_enough in
+    omega (arith, c.read.auto.out, g.met.D.Disk.fits c.args.disk.now, room)
 
 pub returns-in_err-take_piece-clause-refused : goal.returns-in_err-take_piece-clause-refused
 returns-in_err-take_piece-clause-refused g c =

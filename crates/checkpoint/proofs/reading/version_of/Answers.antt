@@ -11,14 +11,8 @@ use Rattle.checkpoint.proofs.reading.version_of.Goals as goal
 
 pub read-requires : goal.read-requires
 read-requires g c =
-    omega (
-      arith,
-      c.image_at.ensures,
-      part_inside (layout_of c.args.g.now) (image_part c.args.number),
-      image_sized (layout_of c.args.g.now) c.args.number c.requires.number,
-      image_some c.args.g.now,
-      c.requires.long_enough,
-    )
+    let l = layout_of c.args.g.now in
+    omega (arith, part_inside l (image_part c.args.number), image_sized l c.args.number c.requires.number, image_some c.args.g.now)
 
 pub returns-then-not-has_head-clause-refused : goal.returns-then-not-has_head-clause-refused
 returns-then-not-has_head-clause-refused g c = λ k.

@@ -23,13 +23,4 @@ loop-n-preserved c =
 pub returns-clause-touched : goal.returns-clause-touched
 returns-clause-touched c =
     all_looked c.args.g.now c.args.m.now c.loop-n.n c.args.dirty.now c.loop-n.dirty
-    (λ n few after. omega (
-      arith,
-      few,
-      after,
-      c.loop-n-test.false,
-      c.min-end.ensures,
-      c.from.ensures,
-      c.first_piece-first.ensures.first,
-      c.requires.size,
-    )) c.loop-n.invariant
+    (λ n few after. omega arith) c.loop-n.invariant

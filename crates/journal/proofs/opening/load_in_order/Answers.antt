@@ -160,11 +160,8 @@ returns-in_err-named-clause-costs g c =
 
 pub returns-then-not-named-clause-costs : goal.returns-then-not-named-clause-costs
 returns-then-not-named-clause-costs g c = λ k.
-    omega (
-      arith,
-      ap length (c.load_named.ensures.untouched k),
-      finish_is (not-true c.in_ok-named.named.chained c.if-not-named.true) (c.in_ok-named.ensures.loaded k),
-    )
+    let none = finish_is (not-true c.in_ok-named.named.chained c.if-not-named.true) (c.in_ok-named.ensures.loaded k) in
+    omega (arith, ap length (c.load_named.ensures.untouched k), none)
 
 pub returns-in_err-finish_cut_and_replay-clause-costs : goal.returns-in_err-finish_cut_and_replay-clause-costs
 returns-in_err-finish_cut_and_replay-clause-costs g c =

@@ -45,13 +45,9 @@ counted g c =
 pieced : (g : Over) (c : In-Some-pieces_left g) → g.D.Disk.keeps → IsPieced c.self.inside.halves.geometry (other c.self.inside.halves.named) c.in-Some.n c.self.inside.snapshot.items
     (g.D.Disk.medium c.self.inside.disk) (g.D.Disk.medium c.write_extent.new.disk)
 pieced g c k =
+    let is = on_ok c.write_extent.result _ (sym c.is_err.ensures.value ∙ c.if-is_err.false) c.write_extent.ensures.written k in
     pieced_along c.geometry-g.ensures c.named-area.ensures.named c.deref-2.ensures.value
-    (assumption (
-      c.write_extent.ensures.any_moment k,
-      c.write_extent.ensures.same k,
-      on_ok c.write_extent.result _ (sym c.is_err.ensures.value ∙ c.if-is_err.false) c.write_extent.ensures.written k,
-      c.write_extent.ensures.ready k,
-    ))
+    (assumption (c.write_extent.ensures.any_moment k, c.write_extent.ensures.same k, is, c.write_extent.ensures.ready k))
 
 kept : (g : Over) (c : In-Some-pieces_left g) → g.D.Disk.keeps → (left : ℕ)
     → IsSoundJournal c.self.inside.halves c.self.inside.snapshot.items c.self.inside.named_dirty.items c.self.inside.other_dirty.items (set c.self.inside.pending.items c.in-Some.n false) (Some left)
