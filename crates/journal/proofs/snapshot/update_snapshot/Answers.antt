@@ -37,7 +37,8 @@ pub slice_bounds-write_piece-end : goal.slice_bounds-write_piece-end
 slice_bounds-write_piece-end c =
     let same : c.geometry-g.result ≡ c.args.tree.now.geometry = c.geometry-g.ensures in
     let few : c.loop-n.n < piece_count c.geometry-g.result = omega (arith, ap piece_count same, c.loop-n-test.true, c.requires.dirty) in
-    let within : c.loop-n.at + c.piece_size.result ≤ length c.loop-n.bytes = omega (arith, piece_inside c.geometry-g.result c.loop-n.n few, ap image_size same) in
+    let within : c.loop-n.at + c.piece_size.result ≤ length c.loop-n.bytes =
+    omega (arith, piece_inside c.geometry-g.result c.loop-n.n few, ap image_size same) in
     search rules
 
 pub loop-n-preserved : goal.loop-n-preserved
