@@ -75,9 +75,8 @@ loop-n-preserved g c =
 
 pub returns-clause-read : goal.returns-clause-read
 returns-clause-read g c = λ k.
-    let all : c.loop-n.n ≡ piece_count c.args.tree.now.geometry = omega (arith, c.loop-n-test.false, c.loop-n.auto.n-end, c.piece_count-n-end.ensures.count ∙ ap piece_count c.geometry-g.ensures) in
     all_read c.args.tree.now.geometry c.args.number (g.D.Disk.medium c.args.disk.now).now c.requires.number c.requires.long_enough (g.met.D.Disk.bytes c.args.disk.now) (c.requires.head k)
-    all (c.loop-n.invariant.decoded k) (c.loop-n.invariant.good k)
+    (omega (arith, c.piece_count-n-end.ensures.count ∙ ap piece_count c.geometry-g.ensures)) (c.loop-n.invariant.decoded k) (c.loop-n.invariant.good k)
 
 pub returns-clause-good : goal.returns-clause-good
 returns-clause-good g c = λ k.

@@ -1,8 +1,8 @@
 -- The records in force are those of the named half, and where it is chained those of the other half behind them.
-use Rattle.std.proofs.Common.{◌≡◌, ◌+◌, ◌≤◌, Bool, ℕ, length, Some, sym, ◌∙◌, ap, subst, arith}
+use Rattle.std.proofs.Common.{◌≡◌, ◌+◌, ◌≤◌, ℕ, length, Some, sym, ◌∙◌, ap, subst, arith}
 use Rattle.oplog.proofs.Answered.{err_is}
 use Rattle.affinity.specs.declared.geometry.Geometry.{Geometry}
-use Rattle.checkpoint.specs.Loading.{IsConsistentFault, NamedHolds, records_fault}
+use Rattle.checkpoint.specs.Loading.{IsConsistentFault, records_fault}
 use Rattle.checkpoint.specs.Recovery.{decoding}
 use Rattle.device_map.specs.Layout.{image_part, layout_of, other, part_bytes}
 use Rattle.image.specs.Image.{version_in}
@@ -34,9 +34,8 @@ returns-in_err-more-clause-refused g c =
     let trees = c.in_ok-named.ensures.geometry ∙ c.in_ok-tree.ensures.geometry in
     let logs = ap (λ (l : Log). l.geometry) c.in_ok-named.ensures.log ∙ c.in_ok-tree.ensures.geometry in
     let bytes = same_bytes w0 (g.D.Disk.medium c.load_named.new.disk) (c.load_named.ensures.untouched k ∙ c.read_header.ensures.untouched k) in
-    behind_refused c.in_ok-geometry.geometry w0.now area x (subst (λ (t : Bool). NamedHolds c.in_ok-geometry.geometry w0.now area t x) c.if-named.true holds) _
-    (subst (λ o. IsConsistentFault o c.in_err-more.field-0.0)
-    (λ i. records_fault (trees i) x (other area) (front (layout_of (logs i)) (other area) (bytes i)))
+    behind_refused _ _ _ _ (rw c.if-named.true at holds) _
+    (subst (λ o. IsConsistentFault o c.in_err-more.field-0.0) (λ i. records_fault (trees i) x (other area) (front (layout_of (logs i)) (other area) (bytes i)))
     (c.in_err-more.ensures.refused k)))
 
 pub overflow_add-result : goal.overflow_add-result
@@ -65,13 +64,10 @@ returns-clause-shown g c = λ k.
       | then-named+in_ok-more w ↦ (
           let more = w.in_ok-more.ensures.count k ∙ (λ i. length (front (layout_of (logs i)) (other area) (bytes i))) in
           let done = sym (λ i. run (decoding (trees i)) (Some x) (front (layout_of (logs i)) (other area) (bytes i))) ∙ w.in_ok-more.ensures.done k in
-          subst (λ (y : TreeView). HoldsInForce geometry w0.now area (c.in_ok-named.named.records + c.if-named.more) (state_in y)) (sym w.tree-is)
-          (subst (λ (n : ℕ). HoldsInForce geometry w0.now area n (state_in w.replay.new.tree)) (sym (λ i. records i + (w.more-is ∙ more) i))
-          (both_in_force geometry w0.now area x (subst (λ (t : Bool). NamedHolds geometry w0.now area t x) w.if-named.true holds) (state_in w.replay.new.tree) done)))
+          rw (w.tree-is, records, w.more-is, more) (both_in_force geometry w0.now area x (rw w.if-named.true at holds) (state_in w.replay.new.tree) done))
       | else-named w ↦ (
-          subst (λ (y : TreeView). HoldsInForce geometry w0.now area (c.in_ok-named.named.records + c.if-named.more) (state_in y)) (sym w.tree-is)
-          (subst (λ (n : ℕ). HoldsInForce geometry w0.now area n x) (omega (arith, records, w.more-is))
-          (alone_in_force geometry w0.now area x (subst (λ (t : Bool). NamedHolds geometry w0.now area t x) w.if-named.false holds))))
+          rw w.tree-is (subst (λ (n : ℕ). HoldsInForce geometry w0.now area n x) (omega (arith, records, w.more-is))
+          (alone_in_force geometry w0.now area x (rw w.if-named.false at holds))))
     ] in
     let kept : c.if-named.tree.geometry ≡ geometry = elim c.if-named.branch [
       | then-named+in_ok-more w ↦ ap (λ (y : TreeView). y.geometry) w.tree-is ∙ w.in_ok-more.ensures.geometry ∙ trees

@@ -23,9 +23,8 @@ returns-then-not-has_head-clause-refused g c = λ k.
 
 pub returns-clause-version : goal.returns-clause-version
 returns-clause-version g c = λ k.
-    let now = (g.D.Disk.medium c.args.disk.now).now in
-    ap version_in (head_there c.args.g.now c.args.number c.image_at.result now c.read.new.out c.requires.number c.image_at.ensures (c.in_ok-read.ensures.bytes k))
-    ∙ version_first (part_bytes (layout_of c.args.g.now) (image_part c.args.number) now)
+    ap version_in (head_there c.args.g.now c.args.number c.image_at.result _ c.read.new.out c.requires.number c.image_at.ensures (c.in_ok-read.ensures.bytes k))
+    ∙ version_first (part_bytes (layout_of c.args.g.now) (image_part c.args.number) (g.D.Disk.medium c.args.disk.now).now)
 
 pub returns-clause-head : goal.returns-clause-head
 returns-clause-head g c = λ k.
