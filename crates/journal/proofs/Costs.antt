@@ -94,12 +94,10 @@ run_failed {from} {at} new left wrote kept =
 pub run_ended : {dirty : List Bool} {n from at start now new : ℕ} → RunsLeft dirty n from at start now → length dirty ≤ n
     → (from < at → new ≡ now + 1) → (at ≤ from → new ≡ now) → new ≡ start + count_runs dirty
 run_ended {dirty} {n} {from} {at} left all wrote kept =
-    let none : drop n dirty ≡ [] = drop_all n dirty all in
-    let after : runs_after true (drop n dirty) ≡ 0 = ap (runs_after true) none in
-    let before : runs_after false (drop n dirty) ≡ 0 = ap (runs_after false) none in
+    let nothing : drop n dirty ≡ [] = drop_all n dirty all in
     ⊎_elim
-    (λ (more : from < at). omega (arith, after, wrote more, left.begun more))
-    (λ (none : at ≤ from). omega (arith, before, kept none, left.ended none))
+    (λ (more : from < at). omega (arith, ap (runs_after true) nothing, wrote more, left.begun more))
+    (λ (none : at ≤ from). omega (arith, ap (runs_after false) nothing, kept none, left.ended none))
     (cases_lt from at)
 
 -- ---- the whole image

@@ -173,8 +173,7 @@ module _ {log : Log} {snapshot : List ℕ} {named others pending : List Bool} {p
 
   log_count : HasAdded log ms w0 w1 → pieces_left ≡ None → length (records_in log.geometry w1.now) ≡ log.used + length ms
   log_count has none =
-      let before = sound.count none in
-      omega (arith, before, ap length (log_records has) ∙ length-append (records_in log.geometry w0.now) (records_of ms), length-map ms record_of)
+      omega (arith, sound.count none, ap length (log_records has) ∙ length-append (records_in log.geometry w0.now) (records_of ms), length-map ms record_of)
 
   module _ (x : State) (is : recovered_state log.geometry w0.now ≡ Some x) (out : AreCarriedOut log.geometry x ms) (has : HasAdded log ms w0 w1) (are' : AreBytes w1.now) where
     leads : run_on log.geometry (recovered_state log.geometry w0.now) (records_of ms) ≡ Some (state_after_all log.geometry x ms)

@@ -13,10 +13,9 @@ loop-i-preserved g c = (λ j. c.loop-i.invariant j + c.extent_size-at.ensures.si
 
 pub overflow_add-at : goal.overflow_add-at
 overflow_add-at g c =
-    let next = extent_after c.args.g.now c.loop-i.i in
     let rises = extent_rises c.args.g.now (c.loop-i.i + 1) c.args.n (omega arith) in
     let inside = extent_inside c.args.g.now c.args.n c.requires.n in
-    omega (arith, next, rises, inside, c.requires.size, c.type_inv.bytes, c.loop-i.invariant, c.extent_size-at.ensures.size)
+    omega (arith, extent_after c.args.g.now c.loop-i.i, rises, inside, c.requires.size, c.type_inv.bytes, c.loop-i.invariant, c.extent_size-at.ensures.size)
 
 pub overflow_add-at-2 : goal.overflow_add-at-2
 overflow_add-at-2 g c =

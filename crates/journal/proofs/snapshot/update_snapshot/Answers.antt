@@ -68,8 +68,7 @@ pub returns-clause-image : goal.returns-clause-image
 returns-clause-image c = λ right.
     let x = state_in c.args.tree.now in
     let same : c.geometry-g.result ≡ c.args.tree.now.geometry = c.geometry-g.ensures in
-    let count : piece_count c.geometry-g.result ≡ piece_count c.args.tree.now.geometry = ap piece_count same in
-    let all : c.loop-n.n ≡ piece_count c.geometry-g.result = omega (arith, count, c.loop-n-test.false, c.loop-n.auto.n-end, c.requires.dirty) in
+    let all : c.loop-n.n ≡ piece_count c.geometry-g.result = omega (arith, ap piece_count same, c.loop-n-test.false, c.loop-n.auto.n-end, c.requires.dirty) in
     let size : length c.loop-n.bytes ≡ image_size c.geometry-g.result = c.loop-n.invariant.size ∙ c.write_head.ensures.size ∙ c.requires.size ∙ sym (ap image_size same) in
     let right' = headed c.geometry-g.result x c.args.dirty.now c.args.bytes.now c.write_head.new.bytes c.write_head.ensures.head c.write_head.ensures.rest
     (subst (λ (g : Geometry). AreCleanExtentsOf g x c.args.dirty.now c.args.bytes.now) (sym same) right) in
