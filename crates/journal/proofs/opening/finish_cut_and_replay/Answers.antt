@@ -126,5 +126,4 @@ returns-in_err-replay-clause-costs g c =
     rw (err_is c.from_residual-in_err-replay.ensures.1) (λ k. omega (arith, ap length (c.replay.ensures.untouched k), c.in_ok-finish_cut.ensures.costs k))
 
 pub returns-clause-costs : goal.returns-clause-costs
-returns-clause-costs g c = λ k.
-    omega (arith, ap length (c.replay.ensures.untouched k), c.in_ok-finish_cut.ensures.costs k)
+returns-clause-costs g c = λ k. omega (arith, ap length (c.replay.ensures.untouched k), c.in_ok-finish_cut.ensures.costs k)

@@ -1,5 +1,4 @@
 -- A sync changes no byte, so until it is over a crash leaves what one before it could.
-use Rattle.disk.specs.Device.{IsCrashImage}
 use Rattle.disk.proofs.Calls.{after_sync}
 use Rattle.disk.proofs.Moments.{started}
 use Rattle.oplog.proofs.Beyond.{beyond_sync}
@@ -7,18 +6,14 @@ use Rattle.journal.proofs.opening.first_sync.Goals as goal
 
 pub returns-then-is_err-clause-any_moment : goal.returns-then-is_err-clause-any_moment
 returns-then-is_err-clause-any_moment g c = λ k.
-    let m = g.D.Disk.medium c.args.disk.now in
-    after_sync m m (g.D.Disk.medium c.sync.new.self) (IsCrashImage m) (started m (IsCrashImage m) (λ c' left. left)) c.sync.result (c.sync.ensures.syncs k)
+    after_sync _ _ _ _ (started _ _ (λ c' left. left)) c.sync.result (c.sync.ensures.syncs k)
 
 pub returns-clause-any_moment : goal.returns-clause-any_moment
 returns-clause-any_moment g c = λ k.
-    let m = g.D.Disk.medium c.args.disk.now in
-    after_sync m m (g.D.Disk.medium c.sync.new.self) (IsCrashImage m) (started m (IsCrashImage m) (λ c' left. left)) c.sync.result (c.sync.ensures.syncs k)
+    after_sync _ _ _ _ (started _ _ (λ c' left. left)) c.sync.result (c.sync.ensures.syncs k)
 
 pub returns-then-is_err-clause-beyond : goal.returns-then-is_err-clause-beyond
-returns-then-is_err-clause-beyond g c = λ k l.
-    beyond_sync l _ _ c.sync.result (c.sync.ensures.syncs k)
+returns-then-is_err-clause-beyond g c = λ k l. beyond_sync l _ _ c.sync.result (c.sync.ensures.syncs k)
 
 pub returns-clause-beyond : goal.returns-clause-beyond
-returns-clause-beyond g c = λ k l.
-    beyond_sync l _ _ c.sync.result (c.sync.ensures.syncs k)
+returns-clause-beyond g c = λ k l. beyond_sync l _ _ c.sync.result (c.sync.ensures.syncs k)

@@ -41,8 +41,7 @@ returns-clause-memory g c =
     IfErr-weaker c.open_synced.result _ _ (λ e told is k. subst (λ (l : List ℕ). HasHeaderAndParts l) (c.first_sync.ensures.now k) (told is k)) c.open_synced.ensures.memory
 
 pub returns-in_err-first_sync-clause-beyond : goal.returns-in_err-first_sync-clause-beyond
-returns-in_err-first_sync-clause-beyond g c = λ k h head.
-    c.first_sync.ensures.beyond k (layout_of h)
+returns-in_err-first_sync-clause-beyond g c = λ k h head. c.first_sync.ensures.beyond k (layout_of h)
 
 pub returns-clause-beyond : goal.returns-clause-beyond
 returns-clause-beyond g c = λ k h head.
