@@ -1,6 +1,6 @@
 -- The answers to lines in the output, and what stays true of a session when some of its outstanding lines are sent.
-use Rattle.std.proofs.Common.{◌≡◌, ℕ, ◌-◌, Bool, true, false, List, [], ◌∷◌, ◌++◌, Option, None, refl, ap, sym, ◌∙◌, subst, map, length, take, drop, append-nil, append_assoc, arith}
-use Rattle.std.specs.Prelude.{Result, Ok, Err, IfOk, MatchResult, OnErr, OnOk}
+use Rattle.std.proofs.Common.{◌≡◌, ℕ, ◌-◌, Bool, true, List, [], ◌∷◌, ◌++◌, Option, refl, ap, sym, ◌∙◌, subst, map, length, take, drop, append-nil, append_assoc, arith}
+use Rattle.std.specs.Prelude.{Result, Ok, Err, IfOk, MatchResult, OnOk}
 use Rattle.std.proofs.lemmas.List.{nil_from_length, take-append-drop}
 use Rattle.affinity.specs.declared.geometry.Geometry.{Geometry}
 use Rattle.histories.specs.CoreState.{CoreState, Replied}
@@ -9,7 +9,6 @@ use Rattle.histories.specs.declared.outcomes.CoreFault.{CoreFault}
 use Rattle.meaning.specs.Serial.{state_after_all}
 use Rattle.scheduler.specs.Calls.{IsLogStep}
 use Rattle.serving.specs.declared.session.Halted.{Halted}
-use Rattle.std.proofs.lemmas.Bool.{true≢false}
 use Rattle.std.proofs.KnownBytes.{Appends-trans}
 use Rattle.std.specs.Io.KnownBytes.{Appends}
 use Rattle.std.specs.List.{AllByRecursion}
@@ -33,10 +32,6 @@ pub record Sends (old new : List Line) (before written : Option (List ℕ)) : Ty
   pub were : old ≡ sent_lines ++ new
   pub have_answers : AllByRecursion (λ line. has_answer line ≡ true) sent_lines
   pub output : Appends before written (joined (map answer_text sent_lines))
-
-pub forgets : {keeps : Type 0} {start now : MachineView} {unsent : List Line} {input unread : Option (List ℕ)} {ended : Bool} {before written : Option (List ℕ)}
-    → ServingProgress keeps start now unsent input unread ended before written → ServingProgress keeps start now unsent input unread ended None None
-forgets h = record { consumed = h.consumed; sent_lines = h.sent_lines; takes = h.takes; serving = h.serving; output = tt }
 
 -- The first of the lines that were not sent are sent now: the others are outstanding still.
 pub sends_on : {keeps : Type 0} {start m : MachineView} {unsent rest : List Line} {input unread : Option (List ℕ)} {ended : Bool} {before old now : Option (List ℕ)}
@@ -86,8 +81,3 @@ pub or_halts : {A E : Type 0} (P : A → Type 0) (answer : Result A E) (result :
 or_halts P (Ok x) result is k = subst (λ (r : Result _ Halted). IfOk r P) (sym is) k
 or_halts P (Err e) (Ok y) is k = absurd is
 or_halts P (Err e) (Err y) is k = tt
-
--- A call either gives P at `Ok`, or the device has failed at `Err`: so P holds where the device works.
-pub logged_or_failed : {A E P : Type 0} (failed : Bool) (result : Result A E) → OnOk result P → OnErr result (failed ≡ true) → failed ≡ false → P
-logged_or_failed failed (Ok x) all fails works = all
-logged_or_failed failed (Err e) all fails works = absurd (true≢false (sym fails ∙ works))

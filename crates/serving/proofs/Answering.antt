@@ -1,5 +1,5 @@
 -- A message that is answered: what changes in its line in the reorder buffer, and in the core state.
-use Rattle.std.proofs.Common.{◌≡◌, ◌+◌, ℕ, true, false, List, [], ◌∷◌, ◌++◌, Option, Some, None, refl, ap, sym, ◌∙◌, subst, map, inl, append-nil, arith, length, suc, Bool, ◌⊎◌, inr, ⊎_elim}
+use Rattle.std.proofs.Common.{◌≡◌, ◌+◌, ℕ, true, false, List, [], ◌∷◌, ◌++◌, Option, Some, None, refl, ap, sym, ◌∙◌, subst, map, inl, append-nil, arith, length, Bool, ◌⊎◌, inr, ⊎_elim}
 use Rattle.std.specs.Prelude.{if◌then◌else◌, ◌==◌}
 use Rattle.std.specs.List.{AllByRecursion, Contains}
 use Rattle.std.proofs.lemmas.Bool.{eq-eqb, eqb-true, true≢false}
@@ -123,18 +123,6 @@ is_answered_so keeps old new (Some a) k hands h =
 
 -- ---- what is logged
 
--- One message was answered: the others are still logged, and nothing else has changed.
-pub one_answered : (w new : CoreState) (logged : List Replied) (reply_pairs : ℕ × Reply) → (answer_outcome (Some reply_pairs), new) ≡ answer w logged
-    → (new ≡ record w { logged = new.logged }) × (length logged ≡ suc (length new.logged))
-one_answered w new [] reply_pairs e =
-    let idle : outcomes.Answered reply_pairs.0 reply_pairs.1 ≡ outcomes.Idle = ap (λ (x : Outcome × CoreState). x.0) e in cc
-one_answered w new (a ∷ as') reply_pairs e =
-    let is : new ≡ record w { logged = as' } = ap (λ (x : Outcome × CoreState). x.1) e in
-    let rest : new.logged ≡ as' = ap (λ (x : CoreState). x.logged) is in (
-      is ∙ ap (λ (l : List Replied). record w { logged = l }) (sym rest),
-      ap (λ (l : List Replied). suc (length l)) (sym rest),
-    )
-
 -- where no message was answered
 pub none_answered : (keeps : Type 0) (old new : MachineView) (r : Option (ℕ × Reply)) → ((reply_pairs : ℕ × Reply) → r ≡ Some reply_pairs → ⊥)
     → IsAnswered keeps old new r → IsInternal keeps old new
@@ -164,12 +152,3 @@ none_logged w new (a ∷ as') e is = let o : outcomes.Idle ≡ outcomes.Answered
 pub none_moved : (w new : CoreState) (logged : List Replied) → (answer_outcome None, new) ≡ answer w logged → new ≡ w
 none_moved w new [] e = ap (λ (x : Outcome × CoreState). x.1) e
 none_moved w new (a ∷ as') e = let o : outcomes.Idle ≡ outcomes.Answered a.0 a.2 = ap (λ (x : Outcome × CoreState). x.0) e in cc
-
--- If two changes, one after the other, leave all of a core state but which messages are logged, so do both together.
-pub answered_on : (w once now : CoreState) → once ≡ record w { logged = once.logged } → now ≡ record once { logged = now.logged }
-    → now ≡ record w { logged = now.logged }
-answered_on w once now before one = one ∙ ap (λ (x : CoreState). record x { logged = now.logged }) before
-
-pub all_answered : (w once now : CoreState) → once ≡ record w { logged = once.logged } → now ≡ record once { logged = now.logged } → now.logged ≡ []
-    → now ≡ record w { logged = [] }
-all_answered w once now before one none = answered_on w once now before one ∙ ap (λ (l : List Replied). record w { logged = l }) none

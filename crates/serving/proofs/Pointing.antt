@@ -1,13 +1,13 @@
 -- Steps of a checkpoint: what is left of it, and that they fail only where the device does.
-use Rattle.std.proofs.Common.{◌≡◌, ◌≢◌, ℕ, ◌-◌, true, false, List, [], length, Option, Some, None, Result, Ok, Err, refl, ap, sym, subst, ◌∙◌}
+use Rattle.std.proofs.Common.{◌≡◌, ◌≢◌, ℕ, true, false, List, [], length, Option, Some, None, Result, Ok, Err, refl, ap, sym, subst, ◌∙◌}
 use Rattle.std.specs.Prelude.{Bool, if◌then◌else◌, is_some, nat_lt, IfOk, IsFalse, MatchBool, MatchResult, OnErr, OnOk}
 use Rattle.std.proofs.lemmas.Bool.{true≢false}
 use Rattle.std.proofs.lemmas.Option.{none-some}
-use Rattle.histories.specs.Events.{pieces_after, point_refusal}
+use Rattle.histories.specs.Events.{point_refusal}
 use Rattle.histories.specs.CoreState.{Entry, CoreState, held}
 use Rattle.histories.specs.declared.outcomes.PointRefusal.{PointRefusal}
 use Rattle.histories.specs.declared.outcomes.PointRefusal.TheVariants as points
-use Rattle.scheduler.specs.Calls.{IsPieceStep, IsCheckpointStep}
+use Rattle.scheduler.specs.Calls.{IsCheckpointStep}
 use Rattle.serving.specs.declared.session.Halted.{Halted}
 
 -- ---- why a step is refused
@@ -16,10 +16,6 @@ failed_so : (b : Bool) (o : Option PointRefusal) (why : PointRefusal) → (if b 
     → (o ≡ Some why → b ≡ true) → b ≡ true
 failed_so true o why e not_else = refl
 failed_so false o why e not_else = not_else e
-
-works_so : (b : Bool) (o : Option PointRefusal) → (if b then Some points.Failed else o) ≡ None → b ≡ false
-works_so true o e = absurd (none-some points.Failed (sym e))
-works_so false o e = refl
 
 -- If the step's own condition (`why`) gives this refusal only where the device had failed before, then the device has failed after the
 -- refusal.
@@ -113,19 +109,3 @@ module _ (old : CoreState) (pieces_left : old.pieces_left ≡ None) (new : CoreS
   stays why (Ok it) h w follows =
       let k = subst (λ (r : PointRefusal). IsCheckpointStep old new (point_refusal old) made (Err r)) w.1 h in λ _. follows k.1
   stays why (Err y) h w follows = tt
-
--- ---- a point at once
-
-pub point_works : (old new : CoreState) (room : ℕ) (r : Result (Unit {0}) PointRefusal)
-    → IsCheckpointStep old new (point_refusal old) (new ≡ record old { room = room }) r → OnOk r (new.failed ≡ false)
-point_works old new room (Ok x) h = ap (λ (w : CoreState). w.failed) h.1
-    ∙ works_so old.failed (if is_some old.pieces_left then Some points.Running else if nat_lt 0 (length (held old)) then Some points.Held else None) h.0
-point_works old new room (Err why) h = tt
-
--- ---- a piece
-
--- one piece less is left to write
-pub piece_left : (old new : CoreState) (r : Result ℕ PointRefusal) (n : ℕ) → IsPieceStep old new r → old.pieces_left ≡ Some n
-    → OnOk r (new.pieces_left ≡ Some (n - 1))
-piece_left old new (Ok k) n h e = ap (λ (w : CoreState). w.pieces_left) h.2 ∙ ap Some (h.1 ∙ ap pieces_after e)
-piece_left old new (Err why) n h e = tt

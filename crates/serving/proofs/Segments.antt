@@ -1,12 +1,12 @@
 -- One step of a run, after those before it.
-use Rattle.std.proofs.Common.{◌≡◌, ℕ, Bool, List, [], ◌∷◌, ◌++◌, Result, Ok, Err, refl, ap, sym, ◌∙◌, subst, take, append-nil, false, true, ◌≤◌, ◌+◌, add-zero, zero, suc, arith, Option}
-use Rattle.std.specs.Prelude.{OnErr, length, if◌then◌else◌}
+use Rattle.std.proofs.Common.{◌≡◌, ℕ, Bool, List, [], ◌∷◌, ◌++◌, Result, Ok, Err, refl, ap, sym, ◌∙◌, subst, append-nil, false, true, ◌+◌, add-zero, Option}
+use Rattle.std.specs.Prelude.{if◌then◌else◌}
 use Rattle.affinity.specs.declared.geometry.Geometry.{Geometry}
 use Rattle.histories.proofs.Failures.{failure_lasts}
 use Rattle.histories.specs.Events.{Event, MachineState, batch}
 use Rattle.histories.specs.Laws.{dispatches_or_returns}
 use Rattle.histories.specs.Runs.{IsLegal, answers, arrives, end_state}
-use Rattle.histories.specs.CoreState.{Entry, CoreState}
+use Rattle.histories.specs.CoreState.{Entry}
 use Rattle.histories.specs.declared.outcomes.CoreFault.{CoreFault}
 use Rattle.histories.specs.declared.outcomes.CoreFault.TheVariants as faults
 use Rattle.histories.specs.declared.outcomes.Outcome.{Outcome}
@@ -20,7 +20,7 @@ use Rattle.incarnations.specs.Machine.{MachineView, machine_of}
 use Rattle.incarnations.specs.Steps.{IsCoreStep, IsMachineStep}
 use Rattle.incarnations.specs.declared.hands.HandContent.{HandContent}
 use Rattle.language.specs.declared.Reply.{Reply}
-use Rattle.scheduler.specs.Calls.{CountsFailure, IsCallEvent, IsLogStep, log_device_failed, checkpoint_device_failed}
+use Rattle.scheduler.specs.Calls.{CountsFailure, IsCallEvent, log_device_failed, checkpoint_device_failed}
 use Rattle.scheduler.specs.CoreView.{CoreView, RecoversThroughout, core_state_of}
 use Rattle.serving.specs.Lines.{Line, admitted, ticketed}
 use Rattle.serving.specs.Progress.{ServingProgress}
@@ -95,17 +95,6 @@ core_is_quiet {keeps} {old} {new} {hands} step outcome k still none_come none_to
 no_answer_of_log : (r : Result ℕ CoreFault) → answers (log_outcome r) ≡ []
 no_answer_of_log (Ok count) = refl
 no_answer_of_log (Err why) = refl
-
-all_in_front : {A : Type 0} (n : ℕ) (xs : List A) → length xs ≤ n → take n xs ≡ xs
-all_in_front zero [] le = refl
-all_in_front (suc n) [] le = refl
-all_in_front zero (x ∷ xs) le = absurd (omega (arith, le))
-all_in_front (suc n) (x ∷ xs) le = ap (λ l. x ∷ l) (all_in_front n xs (omega (arith, le)))
-
-pub log_fails : (g : Geometry) (old new : CoreState) (n : ℕ) (r : Result ℕ CoreFault) → IsLogStep g old new n r → OnErr r (new.failed ≡ true)
-log_fails g old new n (Ok count) h = tt
-log_fails g old new n (Err faults.Device) h = ap (λ (w : CoreState). w.failed) h.2
-log_fails g old new n (Err faults.Failed) h = ap (λ (w : CoreState). w.failed) h.1 ∙ h.0
 
 -- ---- steps of a point
 
