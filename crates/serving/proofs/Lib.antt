@@ -20,7 +20,6 @@ mod Counting
 mod Inside
 mod Slots
 mod Served
-mod Retired
 mod Advancing
 mod Stopping
 mod Unanswered
