@@ -1,11 +1,11 @@
 -- A line that is read, and its message, which arrives if it takes a ticket.
-use Rattle.std.proofs.Common.{◌≡◌, ◌≢◌, ℕ, ◌+◌, true, false, List, [], ◌∷◌, ◌++◌, Option, refl, ap, sym, ◌∙◌, subst, append_assoc, append-nil, arith, Some, None}
-use Rattle.std.specs.Prelude.{Bool, Result, Ok, Err, if◌then◌else◌, not, nat_le, ◌==◌, ◌^◌, ◌-◌, length}
+use Rattle.std.proofs.Common.{◌≡◌, ◌≢◌, ℕ, true, false, List, [], ◌∷◌, ◌++◌, Option, refl, ap, sym, ◌∙◌, subst, append_assoc, append-nil, arith, Some, None}
+use Rattle.std.specs.Prelude.{Result, Ok, Err}
 use Rattle.affinity.specs.declared.geometry.Geometry.{Geometry}
 use Rattle.histories.proofs.Elements.{in_contained}
 use Rattle.histories.specs.Events.{arrive}
 use Rattle.histories.specs.Laws.{IsIdle}
-use Rattle.histories.specs.CoreState.{Entry, CoreState, held}
+use Rattle.histories.specs.CoreState.{CoreState}
 use Rattle.histories.specs.declared.outcomes.ArriveRefusal.{ArriveRefusal}
 use Rattle.histories.specs.declared.outcomes.ArriveRefusal.TheVariants as arrivals
 use Rattle.histories.specs.declared.outcomes.Outcome.{Outcome}
@@ -29,6 +29,7 @@ use Rattle.serving.proofs.Chain.{passes_on}
 use Rattle.serving.proofs.Serial.{admitted-append, messages-ticketed}
 use Rattle.serving.proofs.Served.{ticket_before}
 use Rattle.serving.proofs.Segments.{core_is_quiet, step_passes}
+use Rattle.serving.proofs.Stopping.{Shows, shows}
 use Rattle.serving.proofs.Tickets.{next-append, passes_next, ticketed-append}
 
 -- ---- one line more
@@ -64,16 +65,12 @@ module _ {keeps : Type 0} {start old : MachineView} {consumed : List (List ℕ)}
       ap (λ (n : ℕ). arriving ++ ticketed n one) next_is ∙ sym (ticketed-append start.core.next (admitted g consumed) one)
       ∙ ap (λ (ms : List Msg). ticketed start.core.next (admitted g consumed ++ ms)) (sym (append-nil one))
       ∙ ap (ticketed start.core.next) (sym (admitted-append g consumed (line ∷ []))) in
-      record {
-        reply_pairs = s.reply_pairs;
-        segment = subst (λ (es : List Entry). RunsBetween keeps start new es s.reply_pairs) all
-            (subst (λ (l : List (ℕ × Reply)). RunsBetween keeps start new (arriving ++ ticketed old.core.next one) l) (append-nil s.reply_pairs)
-            (passes_on s.segment p));
-        known = subst (λ (l : List Line). AreKnown g s.reply_pairs start.core.next (consumed ++ line ∷ []) l) (append_assoc sent_lines unsent (known ∷ []))
-            (known_push g s.reply_pairs line known start.core.next consumed (sent_lines ++ unsent) s.known
-            (subst (λ (n : ℕ). IsKnown g s.reply_pairs n (message_of line) known) next_is k));
-        answered = s.answered;
-      }
+      search (
+        rw (all, append-nil s.reply_pairs) at (passes_on s.segment p),
+        rw (append_assoc sent_lines unsent (known ∷ [])) at
+            (known_push g s.reply_pairs line known start.core.next consumed (sent_lines ++ unsent) s.known (rw next_is at k)),
+        s,
+      )
 
 -- What is known of a line while there are no replies is known with these replies, too, if none of them is to its ticket n.
 known_anyway : (g : Geometry) (reply_pairs : List (ℕ × Reply)) (n : ℕ) (o : Option Msg) (known : Line) → NoneIsTo reply_pairs n → IsKnown g [] n o known
@@ -101,34 +98,6 @@ serves_taken {keeps} {start} {old} {new} {known} line idle t s =
 
 -- ---- what follows from a ticket and from a refusal
 
-module _ (k : ℕ) (w x : CoreState) where
-  abbrev result : Bool → Bool → Bool → Bool → Outcome × CoreState
-  result failed fits none full =
-      if failed then (outcomes.ArriveRefused arrivals.Failed, w)
-      else if not fits then (outcomes.ArriveRefused arrivals.Range, w)
-      else if none then (outcomes.ArriveRefused arrivals.Exhausted, w)
-      else if full then (outcomes.ArriveRefused arrivals.Full, w)
-      else (outcomes.Ticket k, x)
-
-  abbrev ticket_of : Outcome → ℕ → ℕ
-  ticket_of (outcomes.Ticket t) d = t
-  ticket_of _ d = d
-
-  pub gives_ticket : (failed fits none full : Bool) (t : ℕ) (new : CoreState) → (outcomes.Ticket t, new) ≡ result failed fits none full
-      → (fits ≡ true) × (t ≡ k)
-  gives_ticket true fits none full t new e = let o : outcomes.Ticket t ≡ outcomes.ArriveRefused arrivals.Failed = ap (λ (z : Outcome × CoreState). z.0) e in cc
-  gives_ticket false false none full t new e = let o : outcomes.Ticket t ≡ outcomes.ArriveRefused arrivals.Range = ap (λ (z : Outcome × CoreState). z.0) e in cc
-  gives_ticket false true true full t new e = let o : outcomes.Ticket t ≡ outcomes.ArriveRefused arrivals.Exhausted = ap (λ (z : Outcome × CoreState). z.0) e in cc
-  gives_ticket false true false true t new e = let o : outcomes.Ticket t ≡ outcomes.ArriveRefused arrivals.Full = ap (λ (z : Outcome × CoreState). z.0) e in cc
-  gives_ticket false true false false t new e = (refl, ap (λ (z : Outcome × CoreState). ticket_of z.0 0) e)
-
-  is_refused : (failed fits none full : Bool) (new : CoreState) → (outcomes.ArriveRefused arrivals.Range, new) ≡ result failed fits none full → fits ≡ false
-  is_refused true fits none full new e = let o : outcomes.ArriveRefused arrivals.Range ≡ outcomes.ArriveRefused arrivals.Failed = ap (λ (z : Outcome × CoreState). z.0) e in cc
-  is_refused false false none full new e = refl
-  is_refused false true true full new e = let o : outcomes.ArriveRefused arrivals.Range ≡ outcomes.ArriveRefused arrivals.Exhausted = ap (λ (z : Outcome × CoreState). z.0) e in cc
-  is_refused false true false true new e = let o : outcomes.ArriveRefused arrivals.Range ≡ outcomes.ArriveRefused arrivals.Full = ap (λ (z : Outcome × CoreState). z.0) e in cc
-  is_refused false true false false new e = let o : outcomes.ArriveRefused arrivals.Range ≡ outcomes.Ticket k = ap (λ (z : Outcome × CoreState). z.0) e in cc
-
 module _ (keeps : Type 0) (old new : CoreView) (m : Msg) (hands : List HandContent) (h : HandsHaveJobs (record { core = old; hands = hands })) where
   abbrev was : MachineView
   was = record { core = old; hands = hands }
@@ -138,28 +107,17 @@ module _ (keeps : Type 0) (old new : CoreView) (m : Msg) (hands : List HandConte
 
   with_ticket : (t : ℕ) → IsCoreStep keeps old new (steps.Arrive m) (outcomes.Ticket t) → is_in_range old.geometry m ≡ true → t ≡ old.next
       → IsTaken keeps was now (Some m) (Pending t)
-  with_ticket t step fits is_next =
-      let one : admitted_in old.geometry (Some m) ≡ m ∷ [] = ap (λ (b : Bool). if b then m ∷ [] else []) fits in
-      let arriving : ◌≡◌ {A = List Entry} ((t, m) ∷ []) (ticketed old.next (admitted_in old.geometry (Some m))) =
-      (λ i. (is_next i, m) ∷ []) ∙ ap (ticketed old.next) (sym one) in
-      record {
-        holds = core_holds keeps old new hands (steps.Arrive m) (outcomes.Ticket t) h step refl;
-        segment = subst (λ (es : List Entry). RunsBetween keeps was now es []) arriving
-            (step_passes (core_step keeps old new hands (steps.Arrive m) (outcomes.Ticket t) h step));
-        is_known = (fits, is_next, λ reply there. absurd (in_contained [] (t, reply) there));
-      }
+  with_ticket t step fits is_next = record {
+    holds = core_holds keeps old new hands (steps.Arrive m) (outcomes.Ticket t) h step refl;
+    segment = rw fits (rw is_next at (step_passes (core_step keeps old new hands (steps.Arrive m) (outcomes.Ticket t) h step)));
+    is_known = (fits, is_next, λ reply there. absurd (in_contained [] (t, reply) there));
+  }
 
   out_of_range : IsCoreStep keeps old new (steps.Arrive m) (outcomes.ArriveRefused arrivals.Range) → is_in_range old.geometry m ≡ false
       → IsTaken keeps was now (Some m) OutOfRange
   out_of_range step out =
-      let outcome = outcomes.ArriveRefused arrivals.Range in
-      let none : admitted_in old.geometry (Some m) ≡ [] = ap (λ (b : Bool). if b then m ∷ [] else []) out in
-      record {
-        holds = core_holds keeps old new hands (steps.Arrive m) outcome h step refl;
-        segment = subst (λ (es : List Entry). RunsBetween keeps was now es []) (ap (ticketed old.next) (sym none))
-            (step_passes (core_step keeps old new hands (steps.Arrive m) outcome h step));
-        is_known = out;
-      }
+      let quiet = core_is_quiet (steps.Arrive m) (outcomes.ArriveRefused arrivals.Range) step refl refl refl h in
+      record { holds = quiet.holds; segment = rw out quiet.segment; is_known = out }
 
   refused : (why : ArriveRefusal) → why ≢ arrivals.Range → IsCoreStep keeps old new (steps.Arrive m) (outcomes.ArriveRefused why)
       → (outcomes.ArriveRefused why, core_state_of new) ≡ arrive old.geometry (core_state_of old) m → IsRefusedLine keeps was now m why
@@ -169,6 +127,9 @@ module _ (keeps : Type 0) (old new : CoreView) (m : Msg) (hands : List HandConte
     not_range = not_range;
   }
 
+  shows_of : {o : Outcome} → (o, core_state_of new) ≡ arrive old.geometry (core_state_of old) m → Shows old.geometry (core_state_of old) m o
+  shows_of e = shows old.geometry (core_state_of old) m (sym (ap (λ (x : Outcome × CoreState). x.0) e))
+
   -- By the result of the arrival: the message's line is consumed, or the message is refused.
   abbrev pub ArrivesSo : Result ℕ ArriveRefusal → Type 0
   ArrivesSo (Ok t) = IsTaken keeps was now (Some m) (Pending t)
@@ -177,19 +138,9 @@ module _ (keeps : Type 0) (old new : CoreView) (m : Msg) (hands : List HandConte
 
   pub arrives_so : (r : Result ℕ ArriveRefusal) → IsCoreStep keeps old new (steps.Arrive m) (arrived_so r)
       → (arrived_so r, core_state_of new) ≡ arrive old.geometry (core_state_of old) m → ArrivesSo r
-  arrives_so (Ok t) step e =
-      let w = core_state_of old in
-      let k = gives_ticket w.next w (record w { waiting = w.waiting ++ (w.next, m) ∷ []; next = w.next + 1 }) w.failed (is_in_range old.geometry m)
-      (w.next == 2 ^ 64 - 1) (nat_le w.slots (length w.waiting + length (held w))) t (core_state_of new) e in
-      with_ticket t step k.0 k.1
-  arrives_so (Err arrivals.Range) step e =
-      let w = core_state_of old in
-      out_of_range step (is_refused w.next w (record w { waiting = w.waiting ++ (w.next, m) ∷ []; next = w.next + 1 }) w.failed (is_in_range old.geometry m)
-      (w.next == 2 ^ 64 - 1) (nat_le w.slots (length w.waiting + length (held w))) (core_state_of new) e)
-  arrives_so (Err arrivals.Full) step e = refused arrivals.Full (λ same. let o : arrivals.Full ≡ arrivals.Range = same in cc) step e
-  arrives_so (Err arrivals.Exhausted) step e = refused arrivals.Exhausted (λ same. let o : arrivals.Exhausted ≡ arrivals.Range = same in cc) step e
-  arrives_so (Err arrivals.Failed) step e = refused arrivals.Failed (λ same. let o : arrivals.Failed ≡ arrivals.Range = same in cc) step e
+  arrives_so (Ok t) step e = let so = shows_of e in with_ticket t step so.0 so.1
+  arrives_so (Err arrivals.Range) step e = out_of_range step (shows_of e)
+  arrives_so (Err why) step e = refused why (λ same. cc) step e
 
 pub ticket_is_next : (g : Geometry) (w new : CoreState) (m : Msg) (t : ℕ) → (outcomes.Ticket t, new) ≡ arrive g w m → t ≡ w.next
-ticket_is_next g w new m t e = (gives_ticket w.next w (record w { waiting = w.waiting ++ (w.next, m) ∷ []; next = w.next + 1 }) w.failed
-    (is_in_range g m) (w.next == 2 ^ 64 - 1) (nat_le w.slots (length w.waiting + length (held w))) t new e).1
+ticket_is_next g w new m t e = (shows g w m (sym (ap (λ (x : Outcome × CoreState). x.0) e))).1

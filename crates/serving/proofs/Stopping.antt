@@ -1,10 +1,10 @@
--- Why no more lines are read.
-use Rattle.std.proofs.Common.{◌≡◌, ◌≢◌, ℕ, ◌-◌, ◌^◌, ◌+◌, Bool, true, false, List, [], ◌∷◌, ◌++◌, Option, Some, None, refl, ◌∙◌, length}
-use Rattle.std.specs.Prelude.{IfSome, if◌then◌else◌, not, nat_le, ◌==◌}
-use Rattle.std.proofs.lemmas.Bool.{eqb-true}
+-- What the outcome of an arrival shows, and why no more lines are read.
+use Rattle.std.proofs.Common.{◌≡◌, ◌≢◌, ◌≤◌, ℕ, ◌-◌, ◌^◌, Bool, true, false, List, Option, Some, None, refl, subst, ◌∙◌}
+use Rattle.std.specs.Prelude.{IfSome, not, nat_le, ◌==◌}
+use Rattle.std.proofs.lemmas.Bool.{cond_both, eqb-true, leb-true, not-false, not-true}
 use Rattle.affinity.specs.declared.geometry.Geometry.{Geometry}
 use Rattle.histories.specs.Events.{arrive}
-use Rattle.histories.specs.CoreState.{CoreState, held}
+use Rattle.histories.specs.CoreState.{CoreState}
 use Rattle.histories.specs.declared.outcomes.ArriveRefusal.{ArriveRefusal}
 use Rattle.histories.specs.declared.outcomes.ArriveRefusal.TheVariants as arrivals
 use Rattle.histories.specs.declared.outcomes.Outcome.{Outcome}
@@ -16,47 +16,36 @@ use Rattle.language.specs.FirstLine.{GivesLine}
 use Rattle.language.specs.declared.Msg.{Msg}
 use Rattle.scheduler.specs.CoreView.{core_state_of}
 use Rattle.serving.specs.Reads.{IsRefusedLine, read_end_of}
+use Rattle.serving.specs.Runs.{unanswered}
 use Rattle.serving.specs.Session.{IsReadEnd}
 use Rattle.serving.proofs.Tickets.{passes_next}
 use Rattle.serving.proofs.Segments.{still_failed}
 
--- ---- why a message is refused
-
-abbrev outcome_of : Outcome × CoreState → Outcome
-outcome_of x = x.0
+-- ---- what the outcome of an arrival shows
 
 module _ (g : Geometry) (w : CoreState) (m : Msg) where
-  abbrev arrives : Bool → Bool → Bool → Bool → Outcome
-  arrives failed fits none full =
-      outcome_of (if failed then (outcomes.ArriveRefused arrivals.Failed, w)
-      else if not fits then (outcomes.ArriveRefused arrivals.Range, w)
-      else if none then (outcomes.ArriveRefused arrivals.Exhausted, w)
-      else if full then (outcomes.ArriveRefused arrivals.Full, w)
-      else (outcomes.Ticket w.next, record w { waiting = w.waiting ++ (w.next, m) ∷ []; next = w.next + 1 }))
+  abbrev pub Shows : Outcome → Type 0
+  Shows (outcomes.Ticket t) = (is_in_range g m ≡ true) × (t ≡ w.next)
+  Shows (outcomes.ArriveRefused arrivals.Failed) = w.failed ≡ true
+  Shows (outcomes.ArriveRefused arrivals.Range) = is_in_range g m ≡ false
+  Shows (outcomes.ArriveRefused arrivals.Exhausted) = (is_in_range g m ≡ true) × (w.next ≡ 2 ^ 64 - 1)
+  Shows (outcomes.ArriveRefused arrivals.Full) = w.slots ≤ unanswered w
+  Shows _ = ⊥
 
-  none_left : (failed fits none full : Bool) → arrives failed fits none full ≡ outcomes.ArriveRefused arrivals.Exhausted
-      → (fits ≡ true) × (none ≡ true)
-  none_left true fits none full e = let o : outcomes.ArriveRefused arrivals.Failed ≡ outcomes.ArriveRefused arrivals.Exhausted = e in cc
-  none_left false false none full e = let o : outcomes.ArriveRefused arrivals.Range ≡ outcomes.ArriveRefused arrivals.Exhausted = e in cc
-  none_left false true true full e = (refl, refl)
-  none_left false true false true e = let o : outcomes.ArriveRefused arrivals.Full ≡ outcomes.ArriveRefused arrivals.Exhausted = e in cc
-  none_left false true false false e = let o : outcomes.Ticket w.next ≡ outcomes.ArriveRefused arrivals.Exhausted = e in cc
+  abbrev Given : Outcome × CoreState → Type 0
+  Given x = Shows x.0
 
-  fails : (failed fits none full : Bool) → arrives failed fits none full ≡ outcomes.ArriveRefused arrivals.Failed → failed ≡ true
-  fails true fits none full e = refl
-  fails false false none full e = let o : outcomes.ArriveRefused arrivals.Range ≡ outcomes.ArriveRefused arrivals.Failed = e in cc
-  fails false true true full e = let o : outcomes.ArriveRefused arrivals.Exhausted ≡ outcomes.ArriveRefused arrivals.Failed = e in cc
-  fails false true false true e = let o : outcomes.ArriveRefused arrivals.Full ≡ outcomes.ArriveRefused arrivals.Failed = e in cc
-  fails false true false false e = let o : outcomes.Ticket w.next ≡ outcomes.ArriveRefused arrivals.Failed = e in cc
+  arrival_shows : Given (arrive g w m)
+  arrival_shows =
+      cond_both w.failed _ _ Given (λ failed. failed) (λ _.
+      cond_both (not (is_in_range g m)) _ _ Given (λ out. not-true (is_in_range g m) out) (λ fits.
+      cond_both (w.next == 2 ^ 64 - 1) _ _ Given (λ none. (not-false (is_in_range g m) fits, eqb-true w.next (2 ^ 64 - 1) none)) (λ _.
+      cond_both (nat_le w.slots (unanswered w)) _ _ Given (λ full. leb-true w.slots (unanswered w) full) (λ _.
+      (not-false (is_in_range g m) fits, refl)))))
 
-  -- A message that is refused for want of a ticket is in range, and no ticket is left.
-  exhausted_so : (arrive g w m).0 ≡ outcomes.ArriveRefused arrivals.Exhausted → (is_in_range g m ≡ true) × (w.next ≡ 2 ^ 64 - 1)
-  exhausted_so e =
-      let k = none_left w.failed (is_in_range g m) (w.next == 2 ^ 64 - 1) (nat_le w.slots (length w.waiting + length (held w))) e in
-      (k.0, eqb-true w.next (2 ^ 64 - 1) k.1)
-
-  failed_so : (arrive g w m).0 ≡ outcomes.ArriveRefused arrivals.Failed → w.failed ≡ true
-  failed_so e = fails w.failed (is_in_range g m) (w.next == 2 ^ 64 - 1) (nat_le w.slots (length w.waiting + length (held w))) e
+  -- of an arrival with this outcome
+  pub shows : {o : Outcome} → (arrive g w m).0 ≡ o → Shows o
+  shows is = subst Shows is arrival_shows
 
 -- ---- a line whose message is refused
 
@@ -75,7 +64,7 @@ pub stops_at_refusal : {keeps : Type 0} {old new : MachineView} {m : Msg} {why :
 stops_at_refusal {why = arrivals.Range} unread remaining drained line is found r fits = absurd (r.not_range refl)
 stops_at_refusal {why = arrivals.Full} unread remaining drained line is found r fits = absurd (fits r.refused)
 stops_at_refusal {old} {m} {why = arrivals.Exhausted} unread remaining drained line is found r fits =
-    let so = exhausted_so old.core.geometry (core_state_of old.core) m r.refused in
+    let so = shows old.core.geometry (core_state_of old.core) m r.refused in
     (passes_next r.quiet.segment ∙ so.1, (line, m, found, is, so.0))
 stops_at_refusal {old} {m} {why = arrivals.Failed} unread remaining drained line is found r fits =
-    still_failed r.quiet.segment (failed_so old.core.geometry (core_state_of old.core) m r.refused)
+    still_failed r.quiet.segment (shows old.core.geometry (core_state_of old.core) m r.refused)

@@ -54,9 +54,7 @@ module _ (keeps : Type 0) (old new : CoreView) (none : old.failed ≡ false → 
   comes_so (Some m) (Ok None) e = absurd e
   comes_so (Some m) (Ok (Some ticket)) e = so m (Ok ticket) e
   comes_so (Some m) (Err arrivals.Range) e = so m (Err arrivals.Range) e
-  comes_so (Some m) (Err arrivals.Full) e = (m, refl, so m (Err arrivals.Full) e)
-  comes_so (Some m) (Err arrivals.Exhausted) e = (m, refl, so m (Err arrivals.Exhausted) e)
-  comes_so (Some m) (Err arrivals.Failed) e = (m, refl, so m (Err arrivals.Failed) e)
+  comes_so (Some m) (Err why) e = (m, refl, so m (Err why) e)
 
   pub comes_as : (o : Option Msg) (r s : Result (Option ℕ) ArriveRefusal) → ArrivesByLine old new o r → r ≡ s → ComesSo o s
   comes_as o r s e is = subst (ComesSo o) is (comes_so o r e)
@@ -78,13 +76,8 @@ module _ {keeps : Type 0} {start old new : MachineView} {unsent : List Line} {kn
   pub line_goes_on : (line : List ℕ) → IsTaken keeps old new (message_of line) known → IfSome unread (λ bs. GivesLine line bs now_unread)
       → ServingProgress keeps start old unsent input unread ended before written
       → ServingProgress keeps start new (unsent ++ known ∷ []) input now_unread now_ended before written
-  line_goes_on line t found h = record {
-    consumed = h.consumed ++ line ∷ [];
-    sent_lines = h.sent_lines;
-    takes = takes_line input h.consumed h.takes going (record { given = found; closed = closes });
-    serving = serves_taken line idle t h.serving;
-    output = h.output;
-  }
+  line_goes_on line t found h =
+      search (takes_line input h.consumed h.takes going (record { given = found; closed = closes }), serves_taken line idle t h.serving, h)
 
   -- The next line was too long: it was skipped, and is consumed as no message.
   pub long_line_goes_on : IsTaken keeps old new None known → IfSome unread (λ bs. PassesLine bs now_unread)
@@ -92,13 +85,11 @@ module _ {keeps : Type 0} {start old new : MachineView} {unsent : List Line} {kn
       → ServingProgress keeps start new (unsent ++ known ∷ []) input now_unread now_ended before written
   long_line_goes_on t found h =
       let l = takes_long_line unread h.takes going found closes in
-      record {
-        consumed = h.consumed ++ l.line ∷ [];
-        sent_lines = h.sent_lines;
-        takes = l.takes;
-        serving = serves_taken l.line idle (subst (λ (o : Option Msg). IsTaken keeps old new o known) (sym l.no_message) t) h.serving;
-        output = h.output;
-      }
+      search (
+        l.takes,
+        serves_taken l.line idle (subst (λ (o : Option Msg). IsTaken keeps old new o known) (sym l.no_message) t) h.serving,
+        h,
+      )
 
 -- The input has ended.
 pub at_end : (unread now_unread : Option (List ℕ)) → IfSome unread (λ bs. IsAtEndOf bs now_unread) → IsAtEnd unread
