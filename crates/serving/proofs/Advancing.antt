@@ -15,7 +15,7 @@ use Rattle.std.specs.List.{AllByRecursion}
 use Rattle.affinity.proofs.Elements.{all_join}
 use Rattle.incarnations.specs.Machine.{MachineView}
 use Rattle.serving.specs.Progress.{ServingProgress}
-use Rattle.serving.specs.Lines.{AreKnown, Line, has_answer, answer_text}
+use Rattle.serving.specs.Lines.{Line, has_answer, answer_text}
 use Rattle.meaning.specs.Output.{joined}
 
 -- ---- the answers to lines
@@ -36,23 +36,15 @@ pub record Sends (old new : List Line) (before written : Option (List ℕ)) : Ty
 -- The first of the lines that were not sent are sent now: the others are outstanding still.
 pub sends_on : {keeps : Type 0} {start m : MachineView} {unsent rest : List Line} {input unread : Option (List ℕ)} {ended : Bool} {before old now : Option (List ℕ)}
     → Sends unsent rest old now → ServingProgress keeps start m unsent input unread ended before old → ServingProgress keeps start m rest input unread ended before now
-sends_on {start} {rest} {before} {old} {now} sends h =
-    let g = start.core.geometry in
+sends_on {rest} {before} {old} {now} sends h =
     let s = h.serving in
-    record {
-      consumed = h.consumed;
-      sent_lines = h.sent_lines ++ sends.sent_lines;
-      takes = h.takes;
-      serving = record {
-        reply_pairs = s.reply_pairs;
-        segment = s.segment;
-        known = subst (λ (l : List Line). AreKnown g s.reply_pairs start.core.next h.consumed l) (sym (append_assoc h.sent_lines sends.sent_lines rest))
-            (subst (λ (l : List Line). AreKnown g s.reply_pairs start.core.next h.consumed (h.sent_lines ++ l)) sends.were s.known);
-        answered = all_join (λ line. has_answer line ≡ true) h.sent_lines sends.sent_lines s.answered sends.have_answers;
-      };
-      output = subst (λ (z : List ℕ). Appends before now z) (sym (texts_both h.sent_lines sends.sent_lines))
-          (Appends-trans before old now (joined (map answer_text h.sent_lines)) (joined (map answer_text sends.sent_lines)) h.output sends.output);
-    }
+    search (
+      rw (sends.were, ← append_assoc h.sent_lines sends.sent_lines rest) at s.known,
+      all_join (λ line. has_answer line ≡ true) h.sent_lines sends.sent_lines s.answered sends.have_answers,
+      rw (← texts_both h.sent_lines sends.sent_lines) at
+          (Appends-trans before old now (joined (map answer_text h.sent_lines)) (joined (map answer_text sends.sent_lines)) h.output sends.output),
+      h,
+    )
 
 -- ---- what is logged
 

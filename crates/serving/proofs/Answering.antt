@@ -7,7 +7,7 @@ use Rattle.affinity.specs.declared.geometry.Geometry.{Geometry}
 use Rattle.histories.proofs.Elements.{contains_in, in_contained}
 use Rattle.histories.proofs.SerialReplies.{IsIn, in_left, in_right}
 use Rattle.histories.specs.Events.{answer}
-use Rattle.histories.specs.CoreState.{Entry, Replied, CoreState}
+use Rattle.histories.specs.CoreState.{Replied, CoreState}
 use Rattle.histories.specs.declared.outcomes.Outcome.{Outcome}
 use Rattle.histories.specs.declared.outcomes.Outcome.TheVariants as outcomes
 use Rattle.histories.specs.declared.outcomes.Step.TheVariants as steps
@@ -90,23 +90,15 @@ pub answered_goes_on : {keeps : Type 0} {start old new : MachineView} {ticket : 
     {input unread : Option (List ℕ)} {ended : Bool} {before written : Option (List ℕ)} → RunsBetween keeps old new [] ((ticket, reply) ∷ [])
     → ServingProgress keeps start old unsent input unread ended before written
     → ServingProgress keeps start new (map (complete_one ticket reply) unsent) input unread ended before written
-answered_goes_on {keeps} {start} {new} {ticket} {reply} {unsent} p h =
+answered_goes_on {start} {ticket} {reply} {unsent} p h =
     let g = start.core.geometry in
     let arriving = ticketed start.core.next (admitted g h.consumed) in
     let s = h.serving in
-    let reply_pairs = s.reply_pairs ++ (ticket, reply) ∷ [] in
-    record {
-      consumed = h.consumed;
-      sent_lines = h.sent_lines;
-      takes = h.takes;
-      serving = record {
-        reply_pairs = reply_pairs;
-        segment = subst (λ (es : List Entry). RunsBetween keeps start new es reply_pairs) (append-nil arriving) (passes_on s.segment p);
-        known = lines_answered g s.reply_pairs ticket reply start.core.next h.consumed h.sent_lines unsent s.answered s.known;
-        answered = s.answered;
-      };
-      output = h.output;
-    }
+    search (
+      rw (append-nil arriving) at (passes_on s.segment p),
+      lines_answered g s.reply_pairs ticket reply start.core.next h.consumed h.sent_lines unsent s.answered s.known,
+      h,
+    )
 
 -- The message with this ticket was answered with this reply; or (`None`) no message was answered.
 abbrev pub IsAnswered : Type 0 → MachineView → MachineView → Option (ℕ × Reply) → Type 0

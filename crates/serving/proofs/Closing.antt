@@ -8,7 +8,7 @@ use Rattle.message.specs.Waiting.{all_output}
 use Rattle.message.specs.Writing.{AppendsBeginning}
 use Rattle.std.proofs.lemmas.Bool.{true≢false}
 use Rattle.std.proofs.lemmas.List.{length-replicate}
-use Rattle.histories.proofs.Idle.{idle_sound, none_in_flight}
+use Rattle.histories.proofs.Idle.{idle_sound}
 use Rattle.histories.specs.Laws.{IsIdle}
 use Rattle.incarnations.specs.Machine.{MachineView}
 use Rattle.parcel.specs.Run.{JobView}
@@ -22,7 +22,7 @@ use Rattle.language.specs.Lines.{lines}
 use Rattle.meaning.proofs.OutputLemmas.{joined-append}
 use Rattle.meaning.specs.Output.{IsBeginning, WritesOutput, joined, output_lines, serial_output}
 use Rattle.meaning.specs.State.{State}
-use Rattle.reorder_buffer.specs.ReorderBuffer.{ReorderBufferView, can_retire}
+use Rattle.reorder_buffer.specs.ReorderBuffer.{can_retire}
 use Rattle.oplog.specs.Recovery.{records_in}
 use Rattle.serving.specs.Restart.{WritesBeginning}
 use Rattle.serving.specs.Serve.{HasRunWith, FailsWithoutWorkers, ServePromise}
@@ -34,12 +34,11 @@ use Rattle.serving.specs.declared.session.ReadEnd.{ReadEnd}
 use Rattle.serving.specs.declared.session.ReadEnd.TheVariants as ends_of_reading
 use Rattle.serving.specs.declared.server.ServeFault.{ServeFault}
 use Rattle.serving.specs.declared.server.ServeFault.TheVariants as faults
-use Rattle.workers.specs.Seats.{DispatchSeatView}
 use Rattle.serving.proofs.Newlines.{both as newlines-append, in_answers, newlines}
 use Rattle.serving.proofs.Promises.{no_memory_ran, runs_to_device, runs_to_last_ticket, runs_to_read, runs_to_write, runs_whole}
 use Rattle.serving.proofs.Starting.{holds_at_start, starts}
 use Rattle.serving.proofs.Served.{ends_at_device, ends_at_read, ends_exhausted, ends_whole, first_answered}
-use Rattle.serving.proofs.Invariant.{all_sent, begins_at, none_out, progress_at_end, to_reorder_buffer}
+use Rattle.serving.proofs.Invariant.{all_sent, begins_at, sent_so, none_out, progress_at_end, to_reorder_buffer}
 
 -- ---- what it promises
 
@@ -108,11 +107,8 @@ module _ {keeps : Type 0} {s : Start} {p : SessionView} (u : SessionInvariant ke
   -- how far the server has come, with all that was sent as its output, where the output works and no answer waits
   written : {unsent : List Line} {unread : Option (List ℕ)} {drained : Bool} → SessionProgress keeps s p unread drained → p.reorder_buffer.lines ≡ unsent → p.output_failed ≡ false
       → p.reply_buffer ≡ [] → ServingProgress keeps start now unsent s.input unread drained s.before p.sent
-  written {unsent} {unread} {drained} h is output_works flushed =
-      subst (λ (w : Option (List ℕ)). ServingProgress keeps start now unsent s.input unread drained s.before w)
-      (none_waits h.whole ∙ sym (all_sent p.output_failed p.reply_buffer h.whole p.sent output_works h.output))
-      (subst (λ (o : List ℕ). ServingProgress keeps start now unsent s.input unread drained s.before (all_output h.whole o)) flushed
-      (subst (λ (l : List Line). ServingProgress keeps start now l s.input unread drained s.before (all_output h.whole p.reply_buffer)) is (to_reorder_buffer h)))
+  written h is output_works flushed =
+      rw (is, flushed, none_waits h.whole, ← all_sent p.output_failed p.reply_buffer h.whole p.sent output_works h.output) at (to_reorder_buffer h)
 
   module _ (k : IsServed p) where
     all_lines_answered : {unread : Option (List ℕ)} {drained : Bool} → SessionProgress keeps s p unread drained → ServingProgress keeps start now [] s.input unread drained s.before p.sent
@@ -155,25 +151,18 @@ module _ {keeps : Type 0} {s : Start} {p : SessionView} (u : SessionInvariant ke
         let h = (progress_at_end keeps s p p.read_end u.reads).2 in
         let g = written h refl output_works flushed in
         record {
-          run = λ no_doubt recovers. runs_to_device u.idle no_doubt recovers g last
-              (let a = h.counted in let b = h.bounded in let c = u.fits in omega (arith, a, b, c));
+          run = λ no_doubt recovers. runs_to_device u.idle no_doubt recovers g last (omega (arith, h.counted, h.bounded, u.fits));
           ends = ends_at_device keeps start now u.idle g failed (wound_up g);
         }
 
     write_ends : (p.core.failed ≡ false → p.core.ran ≡ []) → PromisesAll keeps start p.core (exchange s.input p.remaining s.before p.sent) (Err faults.Write)
     write_ends ran =
         let h = (progress_at_end keeps s p p.read_end u.reads).2 in
-        let counted = h.counted in
-        let bounded = h.bounded in
-        let fits = u.fits in
         let text = joined (map answer_text h.progress.sent_lines) in
-        let few = ap (λ (l : List ℕ). newlines l) h.reply_buffer_is in
-        let each = in_answers h.waiting in
         let begins = written_begins s.before h.whole p.sent p.reply_buffer text (length h.waiting) s.core.slots h.progress.output p.output_failed h.output
-        (omega (arith, few, each)) (omega (arith, counted, bounded, fits)) in
-        let room = begins.2 in
+        (omega (arith, ap (λ (l : List ℕ). newlines l) h.reply_buffer_is, in_answers h.waiting)) (omega (arith, h.counted, h.bounded, u.fits)) in
         record {
-          run = λ no_doubt recovers. runs_to_write u.idle no_doubt recovers (to_reorder_buffer h) begins.1 (omega (arith, counted, bounded, fits, room));
+          run = λ no_doubt recovers. runs_to_write u.idle no_doubt recovers (to_reorder_buffer h) begins.1 (omega (arith, h.counted, h.bounded, u.fits, begins.2));
           ends = (
             wound_up h.progress,
             ran,
@@ -193,8 +182,7 @@ module _ {keeps : Type 0} {s : Start} {p : SessionView} (u : SessionInvariant ke
   promises_by (Err faults.Exhausted) e = exhausted e.0 (stopped e.1)
   promises_by (Err faults.Device) e = device_ends e.0 e.1 e.2 e.3 e.4 e.5
   promises_by (Err faults.Write) e = write_ends e.0 e.1 e.2
-  promises_by (Err faults.NoWorkers) e = absurd e
-  promises_by (Err faults.OutOfMemory) e = absurd e
+  promises_by result e = absurd e
 
 -- A session is as at its start: nothing was read or sent since, and its core has not changed.
 pub record IsAtStart (s : Start) (p : SessionView) : Type 0 where
@@ -218,13 +206,8 @@ declined {keeps} {s} {p} idle at =
 -- A session promises what a server does if it has ended, or is as at its start.
 promises_or_declines : {keeps : Type 0} {s : Start} {old p : SessionView} → SessionInvariant keeps s p → IsAtStart s old → (result : Result (Unit {0}) ServeFault)
     → EndsOrDeclines old p result → PromisesAll keeps (start_machine s) p.core (exchange s.input p.remaining s.before p.sent) result
-promises_or_declines u at (Ok tt) e = promises_by u (Ok tt) e
 promises_or_declines {s} u at (Err faults.OutOfMemory) e = declined u.idle (subst (IsAtStart s) (sym e) at)
-promises_or_declines u at (Err faults.Read) e = promises_by u (Err faults.Read) e
-promises_or_declines u at (Err faults.Exhausted) e = promises_by u (Err faults.Exhausted) e
-promises_or_declines u at (Err faults.Device) e = promises_by u (Err faults.Device) e
-promises_or_declines u at (Err faults.Write) e = promises_by u (Err faults.Write) e
-promises_or_declines u at (Err faults.NoWorkers) e = absurd e
+promises_or_declines u at result e = promises_by u result e
 
 -- The same, with what is known of the session's end given for `now`, which equals it.
 pub promises_from : {keeps : Type 0} {s : Start} {old p now : SessionView} → SessionInvariant keeps s p → p ≡ now → IsAtStart s old
@@ -236,16 +219,12 @@ promises_from {old} u is at result e = promises_or_declines u at result (subst (
 ended_for : (keeps : Type 0) (o : Option Start) (p : SessionView) → SessionInvariantFrom keeps o p → IsServed p → (read_end : ReadEnd) → p.read_end ≡ Some read_end
     → EndsBy p (end_of read_end)
 ended_for keeps None p u served read_end is = absurd u
-ended_for keeps (Some s) p u served ends_of_reading.EndOfInput is = (served, is)
-ended_for keeps (Some s) p u served ends_of_reading.ReadFailed is = (served, is)
-ended_for keeps (Some s) p u served ends_of_reading.TicketsExhausted is = (served, is)
 ended_for keeps (Some s) p u served ends_of_reading.DeviceFailed is = absurd (true≢false (sym (stopped u is).why ∙ served.works))
+ended_for keeps (Some s) p u served read_end is = (served, is)
 
 empties_for : (read_end : ReadEnd) (P : Type 0) → (read_end ≡ ends_of_reading.EndOfInput → P) → OnOk (end_of read_end) P
 empties_for ends_of_reading.EndOfInput P emptied = emptied refl
-empties_for ends_of_reading.ReadFailed P emptied = tt
-empties_for ends_of_reading.TicketsExhausted P emptied = tt
-empties_for ends_of_reading.DeviceFailed P emptied = tt
+empties_for read_end P emptied = tt
 
 -- By the result of `finish`: the session has finished, or it has halted.
 module _ (keeps : Type 0) (p : SessionView) (same : Type 0) where
@@ -320,53 +299,41 @@ pub above_zero : (n : ℕ) → n ≢ 0 → 0 < n
 above_zero zero not = absurd (not refl)
 above_zero (suc n) not = omega arith
 
--- What a call serves with has not been used: no answer waits, all of the input is unread, nothing of it was read, and no job is lent.
-pub record IsUnused (places : ℕ) (input : Option (List ℕ)) (dispatch_seat : DispatchSeatView) (reply_buffer : List ℕ) (unread : Option (List ℕ))
-    (drained ended : Bool) : Type 0 where
-  pub none_waits : reply_buffer ≡ []
-  pub all : unread ≡ input
-  pub none_read : drained ≡ false
-  pub not_ended : ended ≡ false
-  pub slots : dispatch_seat.bench.slots ≡ places
-  pub none_lent : dispatch_seat.lent ≡ replicate places None
+-- A session that has not begun: no answer waits, all of the input is unread, nothing of it was read, and no job is lent.
+pub record IsUnused (places : ℕ) (input : Option (List ℕ)) (p : SessionView) : Type 0 where
+  pub none_waits : p.reply_buffer ≡ []
+  pub none_outstanding : p.outstanding ≡ 0
+  pub output_works : p.output_failed ≡ false
+  pub reads : p.read_end ≡ None
+  pub all : p.unread ≡ input
+  pub none_read : p.drained ≡ false
+  pub not_ended : p.ended ≡ false
+  pub slots : p.dispatch_seat.bench.slots ≡ places
+  pub none_lent : p.dispatch_seat.lent ≡ replicate places None
   pub some_place : 0 < places
 
 -- A call that may begin satisfies the invariant.
-pub first_at : (keeps : Type 0) {o : Option Start} {core : CoreView} {dispatch_seat : DispatchSeatView} {reorder_buffer : ReorderBufferView} {reply_buffer : List ℕ}
-    {unread input sent : Option (List ℕ)} {drained ended : Bool} {places : ℕ} (remaining : Option (List ℕ)) (holds_line : Bool) → CanBegin o core places input sent reorder_buffer
-    → IsUnused places input dispatch_seat reply_buffer unread drained ended → SessionInvariantFrom keeps o (record {
-      core = core;
-      dispatch_seat = dispatch_seat;
-      reorder_buffer = reorder_buffer;
-      reply_buffer = reply_buffer;
-      sent = sent;
-      outstanding = 0;
-      output_failed = false;
-      read_end = None;
-      unread = unread;
-      drained = drained;
-      ended = ended;
-      remaining = remaining;
-      holds_line = holds_line;
-    })
-first_at keeps {o} {core} {dispatch_seat} {reorder_buffer} {unread} {input} {sent} {drained} {places} remaining holds_line r unused =
-    let s : Start = record { core = core; places = places; input = input; before = sent } in
-    let start = start_machine s in
-    begins_at keeps o s _ r.is (record {
+pub first_at : (keeps : Type 0) {o : Option Start} {p : SessionView} {places : ℕ} {input : Option (List ℕ)} → CanBegin o p.core places input p.sent p.reorder_buffer
+    → IsUnused places input p → SessionInvariantFrom keeps o p
+first_at keeps {o} {p} {places} {input} r unused =
+    let s : Start = record { core = p.core; places = places; input = input; before = p.sent } in
+    begins_at keeps o s p r.is (record {
       start = record { idle = r.idle; none_in_doubt = r.none_in_doubt };
       fits = r.fits;
-      holds = holds_first core dispatch_seat.lent places unused.none_lent r.idle;
-      places = places_first dispatch_seat.lent places unused.none_lent ∙ sym unused.slots;
+      holds = holds_first p.core p.dispatch_seat.lent places unused.none_lent r.idle;
+      places = places_first p.dispatch_seat.lent places unused.none_lent ∙ sym unused.slots;
       some_place = subst (λ (n : ℕ). 0 < n) (sym unused.slots) unused.some_place;
       knows = λ e. absurd (true≢false (sym e ∙ unused.not_ended));
-      reads = record {
-        waits = record { waiting = []; have_answers = tt; reply_buffer_is = unused.none_waits; counted = omega (arith, ap length r.none); bounded = omega arith };
-        whole = sent;
-        output = refl;
-        progress = subst (λ (l : List (Option JobView)). ServingProgress keeps start (machine_with_jobs core l) reorder_buffer.lines input unread drained sent sent) (sym unused.none_lent)
-            (subst (λ (l : List Line). ServingProgress keeps start start l input unread drained sent sent) (sym r.none)
-            (subst (λ (d : Bool). ServingProgress keeps start start [] input unread d sent sent) (sym unused.none_read)
-            (subst (λ (l : Option (List ℕ)). ServingProgress keeps start start [] input l false sent sent) (sym unused.all)
-            (starts keeps start input sent))));
-      };
+      reads = rw unused.reads (record {
+        waits = record {
+          waiting = [];
+          have_answers = tt;
+          reply_buffer_is = unused.none_waits;
+          counted = omega (arith, ap length r.none, unused.none_outstanding);
+          bounded = omega (arith, unused.none_outstanding);
+        };
+        whole = p.sent;
+        output = sent_so p.output_failed p.reply_buffer p.sent unused.output_works;
+        progress = rw (unused.none_lent, r.none, unused.none_read, unused.all) (starts keeps (start_machine s) input p.sent);
+      });
     })

@@ -16,7 +16,7 @@ use Rattle.language.specs.Grammar.{message_of}
 use Rattle.meaning.specs.Output.{joined}
 use Rattle.scheduler.specs.CoreView.{CoreView}
 use Rattle.serving.specs.Ends.{HasRunLines, HasServed, committed_in}
-use Rattle.serving.specs.Lines.{AreKnown, Line, admitted, admitted_in, has_answer, answer_text, next_ticket, ticketed}
+use Rattle.serving.specs.Lines.{admitted, admitted_in, has_answer, answer_text, next_ticket, ticketed}
 use Rattle.serving.specs.Logged.{AreInHistory, HoldsSent, RecoversToHistory}
 use Rattle.serving.specs.Output.{MaySendFrom, Start, start_machine}
 use Rattle.serving.specs.Restart.{BytesRecover}
@@ -42,13 +42,11 @@ module _ {keeps : Type 0} {s : Start} {sent later : Option (List ℕ)} {now : Co
         consumed = h.consumed;
         run = h.run;
         sent_lines = h.sent_lines ++ m.next;
-        known = subst (λ (l : List Line). AreKnown s.core.geometry h.run.reply_pairs s.core.next h.consumed l)
-            (sym (append_assoc h.sent_lines m.next m.rest)) h.known;
+        known = rw (← append_assoc h.sent_lines m.next m.rest) at h.known;
         have_answers = all_join (λ line. has_answer line ≡ true) h.sent_lines m.next h.have_answers m.have_answers;
-        few = let n = length-append m.next m.rest in let a = h.few in omega (arith, n, a);
-        output = subst (λ (z : List ℕ). Appends s.before later z) (sym (texts_both h.sent_lines m.next))
-            (Appends-trans s.before sent later (joined (map answer_text h.sent_lines)) (joined (map answer_text m.next)) h.output
-            (subst (λ (z : List ℕ). Appends sent later z) m.bytes_are appends));
+        few = omega (arith, length-append m.next m.rest, h.few);
+        output = rw (← texts_both h.sent_lines m.next) at
+            (Appends-trans s.before sent later (joined (map answer_text h.sent_lines)) (joined (map answer_text m.next)) h.output (rw m.bytes_are at appends));
       }
 
   pub sent_is_held : keeps → (c : List ℕ) → IsCrashImage now.medium c

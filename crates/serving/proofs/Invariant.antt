@@ -30,7 +30,7 @@ use Rattle.serving.specs.Lending.{NoneInFlight}
 use Rattle.serving.specs.Reads.{IsTaken}
 use Rattle.reorder_buffer.specs.ReorderBuffer.{AreConsecutive, ReorderBufferView, can_retire, retired_text, with_tickets}
 use Rattle.serving.specs.Runs.{HandsHaveJobs, IsInternal, RunsBetween, lent_hand, machine_with_jobs}
-use Rattle.serving.specs.Session.{Waits, SessionProgress, IsReadEnd, SessionInvariant, SessionInvariantFrom, SessionView, ReadsOrHasEnded, machine, IsSent}
+use Rattle.serving.specs.Session.{Waits, SessionProgress, HasEndedReading, IsReadEnd, SessionInvariant, SessionInvariantFrom, SessionView, ReadsOrHasEnded, machine, IsSent}
 use Rattle.message.specs.Writing.{AppendsBeginning}
 use Rattle.serving.specs.Output.{MaySend, Start, start_machine}
 use Rattle.serving.specs.declared.session.ReadEnd.{ReadEnd}
@@ -61,7 +61,7 @@ all_sent true reply_buffer whole sent works h = absurd (true≢false works)
 all_sent false reply_buffer whole sent works h = h
 
 -- where no send has failed
-sent_so : (b : Bool) (reply_buffer : List ℕ) (sent : Option (List ℕ)) → b ≡ false → IsSent b reply_buffer sent sent
+pub sent_so : (b : Bool) (reply_buffer : List ℕ) (sent : Option (List ℕ)) → b ≡ false → IsSent b reply_buffer sent sent
 sent_so true reply_buffer sent works = absurd (true≢false works)
 sent_so false reply_buffer sent works = refl
 
@@ -146,12 +146,8 @@ module _ (keeps : Type 0) where
         → ((unread : Option (List ℕ)) (drained : Bool) → SessionProgress keeps s p unread drained → SessionProgress keeps s (reading_at q) unread drained)
         → (read_end : Option ReadEnd) → ReadsOrHasEnded keeps s p read_end → ReadsOrHasEnded keeps s (reading_at q) read_end
     reads_on q next failed progress None h = progress p.unread p.drained h
-    reads_on q next failed progress (Some read_end) h = record {
-      unread = h.unread;
-      drained = h.drained;
-      progress_at_end = progress h.unread h.drained h.progress_at_end;
-      why = why_on q.core h.unread h.drained read_end next failed h.why;
-    }
+    reads_on q next failed progress (Some read_end) h =
+        search (progress h.unread h.drained h.progress_at_end, why_on q.core h.unread h.drained read_end next failed h.why)
 
     -- how far the session has come, whether it still reads or not
     pub progress_at_end : (read_end : Option ReadEnd) → ReadsOrHasEnded keeps s p read_end → (unread : Option (List ℕ)) × (drained : Bool) × SessionProgress keeps s p unread drained
@@ -198,21 +194,13 @@ module _ (keeps : Type 0) where
         → SessionInvariantFrom keeps o (record p { core = core; dispatch_seat = dispatch_seat })
     on_machine core dispatch_seat k bench places =
         let q : SessionView = record p { core = core; dispatch_seat = dispatch_seat } in
-        goes_to q (λ s u. record {
-          start = u.start;
-          fits = u.fits;
-          holds = k.holds;
-          places = places ∙ u.places ∙ ap (λ (z : _). z.slots) (sym bench);
-          some_place = subst (λ (z : TableId). 0 < z.slots) (sym bench) u.some_place;
-          knows = u.knows;
-          reads = reads_on s p q (passes_next k.segment) (still_failed k.segment)
-              (λ unread drained h. record {
-                waits = h.waits;
-                whole = h.whole;
-                output = h.output;
-                progress = quiet_goes_on k.segment h.progress;
-              }) p.read_end u.reads;
-        })
+        goes_to q (λ s u. assumption (
+          k.holds,
+          places ∙ u.places ∙ ap (λ (z : _). z.slots) (sym bench),
+          subst (λ (z : TableId). 0 < z.slots) (sym bench) u.some_place,
+          reads_on s p q (passes_next k.segment) (still_failed k.segment) (λ unread drained h. search (quiet_goes_on k.segment h.progress, h)) p.read_end u.reads,
+          u,
+        ))
 
     -- A message is answered, and its line in the reorder buffer is completed.
     pub on_answer : (core : CoreView) (reorder_buffer : ReorderBufferView) (ticket : ℕ) (reply : Reply)
@@ -221,23 +209,17 @@ module _ (keeps : Type 0) where
         → SessionInvariantFrom keeps o (record p { core = core; reorder_buffer = reorder_buffer })
     on_answer core reorder_buffer ticket reply k is slots =
         let q : SessionView = record p { core = core; reorder_buffer = reorder_buffer } in
-        goes_to q (λ s u. record {
-          start = u.start;
-          fits = subst (λ (n : ℕ). n ≤ s.core.slots) (sym slots) u.fits;
-          holds = k.0;
-          places = u.places;
-          some_place = u.some_place;
-          knows = u.knows;
-          reads = reads_on s p q (passes_next k.1) (still_failed k.1)
-              (λ unread drained h. record {
-                waits = waits_on h.waits (omega (arith, ap length is, length-map p.reorder_buffer.lines (complete_one ticket reply))) (let bounded = h.bounded in omega (arith, bounded, slots));
-                whole = h.whole;
-                output = h.output;
-                progress = subst (λ (l : List Line). ServingProgress keeps (start_machine s) (machine q) l s.input unread drained s.before h.whole)
-                    (are_left ticket reply h.waiting p.reorder_buffer.lines h.have_answers ∙ ap (λ (l : List Line). h.waiting ++ l) (sym is))
-                    (answered_goes_on k.1 h.progress);
-              }) p.read_end u.reads;
-        })
+        goes_to q (λ s u. assumption (
+          subst (λ (n : ℕ). n ≤ s.core.slots) (sym slots) u.fits,
+          k.0,
+          reads_on s p q (passes_next k.1) (still_failed k.1) (λ unread drained h. record {
+            waits = waits_on h.waits (omega (arith, ap length is, length-map p.reorder_buffer.lines (complete_one ticket reply))) (omega (arith, h.bounded, slots));
+            whole = h.whole;
+            output = h.output;
+            progress = rw (are_left ticket reply h.waiting p.reorder_buffer.lines h.have_answers, ← is) at (answered_goes_on k.1 h.progress);
+          }) p.read_end u.reads,
+          u,
+        ))
 
     -- The oldest line of the reorder buffer is retired: its answer waits to be sent.
     on_add_text : (buffer : ReorderBufferView) (bytes : List ℕ) → buffer.lines ≡ drop 1 p.reorder_buffer.lines → can_retire p.reorder_buffer.lines ≡ true
@@ -247,29 +229,23 @@ module _ (keeps : Type 0) where
         let f = fronts p.reorder_buffer.lines buffer.lines is next in
         let one = f.line ∷ [] in
         let q : SessionView = record p { reorder_buffer = buffer; reply_buffer = bytes } in
-        goes_to q (λ s u. record {
-          start = u.start;
-          fits = subst (λ (n : ℕ). n ≤ s.core.slots) (sym slots) u.fits;
-          holds = u.holds;
-          places = u.places;
-          some_place = u.some_place;
-          knows = u.knows;
-          reads = reads_on s p q refl (λ x. x)
-              (λ unread drained h. record {
-                waits = record {
-                  waiting = h.waiting ++ one;
-                  have_answers = all_join (λ line. has_answer line ≡ true) h.waiting one h.have_answers (f.answered, tt);
-                  reply_buffer_is = added ∙ ap (λ (l : List ℕ). l ++ retired_text p.reorder_buffer.lines) h.reply_buffer_is
-                      ∙ ap (λ (l : List ℕ). joined (map answer_text h.waiting) ++ l) (f.retires ∙ sym (append-nil (answer_text f.line))) ∙ sym (texts_both h.waiting one);
-                  counted = let counted = h.counted in omega (arith, counted, ap length f.were, length-append h.waiting one);
-                  bounded = let bounded = h.bounded in omega (arith, bounded, slots);
-                };
-                whole = h.whole;
-                output = sent_on p.output_failed p.reply_buffer bytes _ h.whole p.sent added h.output;
-                progress = subst (λ (l : List Line). ServingProgress keeps (start_machine s) (machine p) l s.input unread drained s.before h.whole)
-                    (ap (λ (l : List Line). h.waiting ++ l) f.were ∙ sym (append_assoc h.waiting one buffer.lines)) h.progress;
-              }) p.read_end u.reads;
-        })
+        goes_to q (λ s u. assumption (
+          subst (λ (n : ℕ). n ≤ s.core.slots) (sym slots) u.fits,
+          reads_on s p q refl (λ x. x) (λ unread drained h. record {
+            waits = record {
+              waiting = h.waiting ++ one;
+              have_answers = all_join (λ line. has_answer line ≡ true) h.waiting one h.have_answers (f.answered, tt);
+              reply_buffer_is = added ∙ ap (λ (l : List ℕ). l ++ retired_text p.reorder_buffer.lines) h.reply_buffer_is
+                  ∙ ap (λ (l : List ℕ). joined (map answer_text h.waiting) ++ l) (f.retires ∙ sym (append-nil (answer_text f.line))) ∙ sym (texts_both h.waiting one);
+              counted = omega (arith, h.counted, ap length f.were, length-append h.waiting one);
+              bounded = omega (arith, h.bounded, slots);
+            };
+            whole = h.whole;
+            output = sent_on p.output_failed p.reply_buffer bytes _ h.whole p.sent added h.output;
+            progress = rw (f.were, ← append_assoc h.waiting one buffer.lines) at h.progress;
+          }) p.read_end u.reads,
+          u,
+        ))
 
     -- The oldest line is retired if it has its answer, and else nothing changes.
     pub on_retire_front : (buffer : ReorderBufferView) (bytes : List ℕ) (retired : Bool) → retired ≡ can_retire p.reorder_buffer.lines
@@ -286,53 +262,38 @@ module _ (keeps : Type 0) where
         → SessionInvariantFrom keeps o (record p { reply_buffer = reply_buffer; sent = sent; outstanding = n })
     on_send reply_buffer sent n works none appends are =
         let q : SessionView = record p { reply_buffer = reply_buffer; sent = sent; outstanding = n } in
-        goes_to q (λ s u. record {
-          start = u.start;
-          fits = u.fits;
-          holds = u.holds;
-          places = u.places;
-          some_place = u.some_place;
-          knows = u.knows;
-          reads = reads_on s p q refl (λ x. x)
-              (λ unread drained h. record {
-                waits = record {
-                  waiting = [];
-                  have_answers = tt;
-                  reply_buffer_is = none;
-                  counted = omega (arith, are);
-                  bounded = let w = h.waits in omega (arith, are, w.counted, w.bounded);
-                };
-                whole = sent;
-                output = sent_so p.output_failed reply_buffer sent works;
-                progress = sends_on (record {
-                  sent_lines = h.waiting;
-                  were = refl;
-                  have_answers = h.have_answers;
-                  output = subst (λ (w : Option (List ℕ)). Appends w sent (joined (map answer_text h.waiting))) (all_sent p.output_failed p.reply_buffer h.whole p.sent works h.output)
-                      (subst (λ (l : List ℕ). Appends p.sent sent l) h.reply_buffer_is appends);
-                }) h.progress;
-              }) p.read_end u.reads;
-        })
+        goes_to q (λ s u. assumption (
+          reads_on s p q refl (λ x. x) (λ unread drained h. record {
+            waits = record {
+              waiting = [];
+              have_answers = tt;
+              reply_buffer_is = none;
+              counted = omega (arith, are);
+              bounded = omega (arith, are, h.counted, h.bounded);
+            };
+            whole = sent;
+            output = sent_so p.output_failed reply_buffer sent works;
+            progress = sends_on (record {
+              sent_lines = h.waiting;
+              were = refl;
+              have_answers = h.have_answers;
+              output = rw (all_sent p.output_failed p.reply_buffer h.whole p.sent works h.output, h.reply_buffer_is) at appends;
+            }) h.progress;
+          }) p.read_end u.reads,
+          u,
+        ))
 
     -- The answers could not be sent, but for a beginning of them: the output has failed.
     pub on_break : (sent : Option (List ℕ)) → p.output_failed ≡ false → AppendsBeginning p.sent sent p.reply_buffer → SessionInvariantFrom keeps o (record p { sent = sent; output_failed = true })
     on_break sent works begins =
         let q : SessionView = record p { sent = sent; output_failed = true } in
-        goes_to q (λ s u. record {
-          start = u.start;
-          fits = u.fits;
-          holds = u.holds;
-          places = u.places;
-          some_place = u.some_place;
-          knows = u.knows;
-          reads = reads_on s p q refl (λ x. x)
-              (λ unread drained h. record {
-                waits = h.waits;
-                whole = h.whole;
-                output = subst (λ (w : Option (List ℕ)). AppendsBeginning w sent p.reply_buffer) (all_sent p.output_failed p.reply_buffer h.whole p.sent works h.output) begins;
-                progress = h.progress;
-              }) p.read_end u.reads;
-        })
+        goes_to q (λ s u. assumption (
+          reads_on s p q refl (λ x. x) (λ unread drained h. search (
+            subst (λ (w : Option (List ℕ)). AppendsBeginning w sent p.reply_buffer) (all_sent p.output_failed p.reply_buffer h.whole p.sent works h.output) begins,
+            h,
+          )) p.read_end u.reads,
+          u,
+        ))
 
   -- The answers that wait may be sent, given what `know_recovery` ensures of the core.
   pub may_send : (o : Option Start) (p : SessionView) → SessionInvariantFrom keeps o p → p.output_failed ≡ false → (p.core.failed ≡ false → p.core.doubt ≡ [])
@@ -347,9 +308,8 @@ module _ (keeps : Type 0) where
         next = h.waiting;
         rest = p.reorder_buffer.lines;
         served = has_served keeps (start_machine s) (machine p) u.idle none recovers
-            (let n = length-append h.waiting p.reorder_buffer.lines in let a = h.counted in let b = h.bounded in let c = u.fits in omega (arith, n, a, b, c))
-            (subst (λ (w : Option (List ℕ)). ServingProgress keeps (start_machine s) (machine p) (h.waiting ++ p.reorder_buffer.lines) s.input k.0 k.1 s.before w)
-            (sym (all_sent p.output_failed p.reply_buffer h.whole p.sent output_works h.output)) h.progress);
+            (omega (arith, length-append h.waiting p.reorder_buffer.lines, h.counted, h.bounded, u.fits))
+            (rw (← all_sent p.output_failed p.reply_buffer h.whole p.sent output_works h.output) at h.progress);
         have_answers = h.have_answers;
         bytes_are = h.reply_buffer_is;
       }
@@ -370,73 +330,52 @@ module _ (keeps : Type 0) where
     bounded_next = omega (arith, few, slots)
 
     reads_next : (s : Start) → SessionInvariant keeps s p → HandsHaveJobs (machine next) → SessionProgress keeps s next unread drained → SessionInvariant keeps s next
-    reads_next s u holds progress_at_end = record {
-      start = u.start;
-      fits = subst (λ (n : ℕ). n ≤ s.core.slots) (sym slots) u.fits;
-      holds = holds;
-      places = u.places;
-      some_place = u.some_place;
-      knows = knows;
-      reads = subst (λ (x : Option ReadEnd). ReadsOrHasEnded keeps s next x) (sym none) progress_at_end;
-    }
+    reads_next s u holds progress_at_end = assumption (
+      subst (λ (n : ℕ). n ≤ s.core.slots) (sym slots) u.fits,
+      subst (λ (x : Option ReadEnd). ReadsOrHasEnded keeps s next x) (sym none) progress_at_end,
+      u,
+    )
 
     module _ (known : Line) (pushed : reorder_buffer.lines ≡ p.reorder_buffer.lines ++ known ∷ []) (going : p.drained ≡ false) (closes : HasWholeFirstLine p.unread drained) where
-      at_end : (waiting : List Line) → (waiting ++ p.reorder_buffer.lines) ++ known ∷ [] ≡ waiting ++ reorder_buffer.lines
-      at_end waiting = append_assoc waiting p.reorder_buffer.lines (known ∷ []) ∙ ap (λ (l : List Line). waiting ++ l) (sym pushed)
+      on_read : (o : Option Start) → SessionInvariantFrom keeps o p → HandsHaveJobs (machine next) → ((s : Start) (unsent : List Line) (whole : Option (List ℕ)) → IsIdle (core_state_of s.core)
+          → ServingProgress keeps (start_machine s) (machine p) unsent s.input p.unread p.drained s.before whole
+          → ServingProgress keeps (start_machine s) (machine next) (unsent ++ known ∷ []) s.input unread drained s.before whole) → SessionInvariantFrom keeps o next
+      on_read o u holds read = goes_to o p u next (λ s u.
+          let h = reading s p none u in
+          reads_next s u holds (record {
+            waits = waits_on h.waits more bounded_next;
+            whole = h.whole;
+            output = h.output;
+            progress = rw (append_assoc h.waiting p.reorder_buffer.lines (known ∷ []), ← pushed) at (read s _ h.whole u.idle h.progress);
+          }))
 
       -- A line is read.
       pub on_line : (o : Option Start) (line : List ℕ) → SessionInvariantFrom keeps o p → IsTaken keeps (machine p) (machine next) (message_of line) known
           → IfSome p.unread (λ bs. GivesLine line bs unread) → SessionInvariantFrom keeps o next
-      on_line o line u t found = goes_to o p u next (λ s u.
-          let h = reading s p none u in
-          reads_next s u t.holds (record {
-            waits = waits_on h.waits more bounded_next;
-            whole = h.whole;
-            output = h.output;
-            progress = subst (λ (l : List Line). ServingProgress keeps (start_machine s) (machine next) l s.input unread drained s.before h.whole)
-                (at_end h.waiting)
-                (line_goes_on u.idle going closes line t found h.progress);
-          }))
+      on_line o line u t found = on_read o u t.holds (λ s unsent whole idle h. line_goes_on idle going closes line t found h)
 
       -- A line that is too long is read: it counts as no message.
       pub on_long_line : (o : Option Start) → SessionInvariantFrom keeps o p → IsTaken keeps (machine p) (machine next) None known
           → IfSome p.unread (λ bs. PassesLine bs unread) → SessionInvariantFrom keeps o next
-      on_long_line o u t found = goes_to o p u next (λ s u.
-          let h = reading s p none u in
-          reads_next s u t.holds (record {
-            waits = waits_on h.waits more bounded_next;
-            whole = h.whole;
-            output = h.output;
-            progress = subst (λ (l : List Line). ServingProgress keeps (start_machine s) (machine next) l s.input unread drained s.before h.whole)
-                (at_end h.waiting)
-                (long_line_goes_on u.idle going closes t found h.progress);
-          }))
+      on_long_line o u t found = on_read o u t.holds (λ s unsent whole idle h. long_line_goes_on idle going closes t found h)
 
     -- No more is read for this reason.
     pub on_read_end : (o : Option Start) (read_end : ReadEnd) → SessionInvariantFrom keeps o p → IsInternal keeps (machine p) (machine next) → reorder_buffer.lines ≡ p.reorder_buffer.lines
         → IsReadEnd p.core.geometry core p.unread p.drained remaining read_end → SessionInvariantFrom keeps o (record next { read_end = Some read_end })
     on_read_end o read_end u k same why = goes_to o p u (record next { read_end = Some read_end }) (λ s u.
         let h = reading s p none u in
-        record {
-          start = u.start;
-          fits = subst (λ (n : ℕ). n ≤ s.core.slots) (sym slots) u.fits;
-          holds = k.holds;
-          places = u.places;
-          some_place = u.some_place;
-          knows = knows;
-          reads = record {
-            unread = p.unread;
-            drained = p.drained;
-            progress_at_end = record {
-              waits = waits_on h.waits more bounded_next;
-              whole = h.whole;
-              output = h.output;
-              progress = subst (λ (l : List Line). ServingProgress keeps (start_machine s) (machine next) l s.input p.unread p.drained s.before h.whole)
-                  (ap (λ (l : List Line). h.waiting ++ l) (sym same)) (quiet_goes_on k.segment h.progress);
-            };
-            why = subst (λ (y : Geometry). IsReadEnd y core p.unread p.drained remaining read_end) h.progress.serving.segment.leads.geometry why;
+        let reads : HasEndedReading keeps s (record next { read_end = Some read_end }) read_end = record {
+          unread = p.unread;
+          drained = p.drained;
+          progress_at_end = record {
+            waits = waits_on h.waits more bounded_next;
+            whole = h.whole;
+            output = h.output;
+            progress = simp (← same) at (quiet_goes_on k.segment h.progress);
           };
-        })
+          why = subst (λ (y : Geometry). IsReadEnd y core p.unread p.drained remaining read_end) h.progress.serving.segment.leads.geometry why;
+        } in
+        assumption (subst (λ (n : ℕ). n ≤ s.core.slots) (sym slots) u.fits, k.holds, reads, u))
 
   -- The next ticket comes after those of the reorder buffer.
   pub follows : (o : Option Start) (p : SessionView) → p.read_end ≡ None → SessionInvariantFrom keeps o p

@@ -363,11 +363,7 @@ pub bytes_recover : {g : Geometry} {slots : ℕ} {x : State} {input before writt
     (consumed answers : List (List ℕ)) → AreFirst input consumed → Appends before written (joined answers)
     → length consumed ≤ length answers + slots → AreInHistory g log n consumed answers
     → RecoversToHistory g x (ticketed n (admitted g consumed)) log bytes → BytesRecover g slots x input before written bytes
-bytes_recover {g} {slots} {x} {input} {before} {written} {log} n consumed answers first output few kept h = record {
-  now = state_after_all g x (recorded (log ++ h.more));
-  holds_now = h.recovers;
-  recovers = so input first;
-}
+bytes_recover {g} {slots} {x} {input} {before} {written} {log} n consumed answers first output few kept h = search (so input first, h.recovers)
   where
     so : (input : Option (List ℕ)) → AreFirst input consumed
         → WritesOutput input before written (RecoversTo g slots x (state_after_all g x (recorded (log ++ h.more))))

@@ -1,11 +1,10 @@
 -- Where a session is at rest, nothing waits in its core: the message with the least ticket could be dispatched, or lacks only room in the
 -- log. So each line that was read is retired.
-use Rattle.std.proofs.Common.{◌≡◌, ◌≢◌, ℕ, ◌<◌, zero, suc, Bool, true, false, List, [], ◌∷◌, ◌++◌, Option, Some, None, refl, ap, sym, ◌∙◌, subst, length, replicate, arith}
+use Rattle.std.proofs.Common.{◌≡◌, ◌≢◌, ℕ, ◌<◌, zero, suc, Bool, false, List, [], ◌∷◌, ◌++◌, Option, Some, None, refl, ap, sym, ◌∙◌, subst, length, replicate, arith}
 use Rattle.std.specs.Prelude.{cond, IfSome, is_none, position}
 use Rattle.std.proofs.lemmas.Bool.{true≢false, lt-ltb}
 use Rattle.std.proofs.lemmas.Option.{none-some}
 use Rattle.affinity.specs.declared.geometry.Geometry.{Geometry}
-use Rattle.histories.proofs.Idle.{none_in_flight}
 use Rattle.histories.proofs.Progress.{needs}
 use Rattle.histories.specs.CoreState.{CoreState, Entry, entries, held}
 use Rattle.histories.specs.Laws.{IsIdle, IsSoundCoreState}
@@ -79,12 +78,11 @@ still_blocked p q why k is =
 pub comes_to_rest : (p q r : SessionView) (why : Option Blocked)
     → IfSome why (IsBlocked p.core.geometry (core_state_of p.core) (core_state_of p.core) p.dispatch_seat.lent) → HasLoggedNothing p q
     → can_retire q.reorder_buffer.lines ≡ false → HasOnlySent q r why → IsAtRest r why
-comes_to_rest p q r why blocked l last s = record {
-  blocked = still_blocked q r why s.keeps (still_blocked p q why l.keeps blocked);
-  none_asked = s.none_asked;
-  none_in_flight = s.none_in_flight;
-  none_ran = ap (λ (w : CoreState). w.ran) s.keeps.1 ∙ l.none_ran;
-  none_logged = ap (λ (w : CoreState). w.logged) s.keeps.1 ∙ l.none_logged;
-  works = ap (λ (w : CoreState). w.failed) s.keeps.1 ∙ l.works;
-  last = ap (λ (b : ReorderBufferView). can_retire b.lines) s.lines ∙ last;
-}
+comes_to_rest p q r why blocked l last s = assumption (
+  still_blocked q r why s.keeps (still_blocked p q why l.keeps blocked),
+  ap (λ (w : CoreState). w.ran) s.keeps.1 ∙ l.none_ran,
+  ap (λ (w : CoreState). w.logged) s.keeps.1 ∙ l.none_logged,
+  ap (λ (w : CoreState). w.failed) s.keeps.1 ∙ l.works,
+  ap (λ (b : ReorderBufferView). can_retire b.lines) s.lines ∙ last,
+  s,
+)

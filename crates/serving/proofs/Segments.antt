@@ -1,5 +1,5 @@
 -- One step of a run, after those before it.
-use Rattle.std.proofs.Common.{◌≡◌, ℕ, Bool, List, [], ◌∷◌, ◌++◌, Result, Ok, Err, refl, ap, sym, ◌∙◌, subst, append-nil, false, true, ◌+◌, add-zero, Option}
+use Rattle.std.proofs.Common.{◌≡◌, ℕ, Bool, List, [], ◌∷◌, Result, Ok, Err, refl, ap, sym, ◌∙◌, subst, append-nil, false, true, ◌+◌, add-zero, Option}
 use Rattle.std.specs.Prelude.{if◌then◌else◌}
 use Rattle.affinity.specs.declared.geometry.Geometry.{Geometry}
 use Rattle.histories.proofs.Failures.{failure_lasts}
@@ -8,14 +8,13 @@ use Rattle.histories.specs.Laws.{dispatches_or_returns}
 use Rattle.histories.specs.Runs.{IsLegal, answers, arrives, end_state}
 use Rattle.histories.specs.CoreState.{Entry}
 use Rattle.histories.specs.declared.outcomes.CoreFault.{CoreFault}
-use Rattle.histories.specs.declared.outcomes.CoreFault.TheVariants as faults
 use Rattle.histories.specs.declared.outcomes.Outcome.{Outcome}
 use Rattle.histories.specs.declared.outcomes.Outcome.TheVariants as outcomes
 use Rattle.histories.specs.declared.outcomes.PointRefusal.{PointRefusal}
 use Rattle.histories.specs.declared.outcomes.Step.{Step}
 use Rattle.histories.specs.declared.outcomes.Step.TheVariants as steps
 use Rattle.incarnations.proofs.Events.{core_holds, core_step}
-use Rattle.incarnations.proofs.Running.{one_leads, step_event}
+use Rattle.incarnations.proofs.Running.{one_leads}
 use Rattle.incarnations.specs.Machine.{MachineView, machine_of}
 use Rattle.incarnations.specs.Steps.{IsCoreStep, IsMachineStep}
 use Rattle.incarnations.specs.declared.hands.HandContent.{HandContent}
@@ -35,13 +34,7 @@ counted false old new h = h ∙ sym (add-zero old)
 module _ {keeps : Type 0} {old new : MachineView} {step : Step} {outcome : Outcome} (k : IsMachineStep keeps old new step outcome) where
   -- A step is a segment of a run.
   pub step_passes : RunsBetween keeps old new (arrives step outcome) (answers outcome)
-  step_passes = record {
-    device_events = step_event k ∷ [];
-    leads = one_leads k;
-    arrived_are = append-nil (arrives step outcome);
-    reply_pairs_are = append-nil (answers outcome);
-    failures = counted k.device_failed old.core.medium.faults new.core.medium.faults k.failures;
-  }
+  step_passes = search (one_leads k, append-nil (arrives step outcome), append-nil (answers outcome), counted k.device_failed old.core.medium.faults new.core.medium.faults k.failures)
 
 -- A segment in which no message arrives and none is answered leaves what is known of the lines as it was.
 pub quiet_goes_on : {keeps : Type 0} {start old new : MachineView} {unsent : List Line} {input unread : Option (List ℕ)} {ended : Bool}
@@ -49,21 +42,8 @@ pub quiet_goes_on : {keeps : Type 0} {start old new : MachineView} {unsent : Lis
     → ServingProgress keeps start new unsent input unread ended before written
 quiet_goes_on {keeps} {start} {new} p h =
     let arriving = ticketed start.core.next (admitted start.core.geometry h.consumed) in
-    let s = h.serving in
-    record {
-      consumed = h.consumed;
-      sent_lines = h.sent_lines;
-      takes = h.takes;
-      serving = record {
-        reply_pairs = s.reply_pairs;
-        segment = subst (λ (es : List Entry). RunsBetween keeps start new es s.reply_pairs) (append-nil arriving)
-            (subst (λ (l : List (ℕ × Reply)). RunsBetween keeps start new (arriving ++ []) l) (append-nil s.reply_pairs)
-            (passes_on s.segment p));
-        known = s.known;
-        answered = s.answered;
-      };
-      output = h.output;
-    }
+    let reply_pairs = h.serving.reply_pairs in
+    search (rw (append-nil arriving, append-nil reply_pairs) at (passes_on h.serving.segment p), h)
 
 -- A failed device stays failed.
 run_fails : (g : Geometry) (old : MachineState) (events : List Event) → IsLegal g old events → old.core.failed ≡ true

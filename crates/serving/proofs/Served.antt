@@ -179,19 +179,18 @@ module _ (keeps : Type 0) (start now : MachineView) (idle : IsIdle (core_state_o
   unfoldable pub has_served : {unsent : List Line} {input unread : Option (List ℕ)} {ended : Bool} {before written : Option (List ℕ)}
       → (now.core.failed ≡ false → now.core.doubt ≡ []) → (keeps → RecoversNow now.core) → length unsent ≤ start.core.slots
       → ServingProgress keeps start now unsent input unread ended before written → HasServed keeps start now.core unsent input before written
-  has_served {unsent} {input} {unread} {ended} none recovers few h =
-      record {
-        consumed = h.consumed;
-        run = record {
-          first = first_taken input unread ended h.consumed h.takes;
-          hands = now.hands;
-          reply_pairs = h.serving.reply_pairs;
-          segment = h.serving.segment;
-          crash = left_since_event h.serving.segment.leads sound none recovers;
-        };
-        sent_lines = h.sent_lines;
-        known = h.serving.known;
-        have_answers = h.serving.answered;
-        output = h.output;
-        few = few;
-      }
+  has_served {input} {unread} {ended} none recovers few h = record {
+    consumed = h.consumed;
+    run = record {
+      first = first_taken input unread ended h.consumed h.takes;
+      hands = now.hands;
+      reply_pairs = h.serving.reply_pairs;
+      segment = h.serving.segment;
+      crash = left_since_event h.serving.segment.leads sound none recovers;
+    };
+    sent_lines = h.sent_lines;
+    known = h.serving.known;
+    have_answers = h.serving.answered;
+    output = h.output;
+    few = few;
+  }

@@ -18,7 +18,10 @@ invariant_of-session g c =
     let memory = c.args.memory in
     let line_reader = c.new.ensures in
     record {
-      run = first_at g.D.Disk.keeps _ _ c.requires.can_begin (record {
+      run = first_at g.D.Disk.keeps c.requires.can_begin (record {
+        none_outstanding = refl;
+        output_works = refl;
+        reads = refl;
         none_waits = memory.none_waits;
         all = line_reader.unread;
         none_read = and_left _ _ line_reader.open;
