@@ -104,11 +104,7 @@ module _ (g : Geometry) where
 
   begun : (formatted : Medium) → recovered_state g formatted.now ≡ Some empty → IsSynced formatted
       → (c : List ℕ) → left_since formatted (moment_number formatted) c → Recovers [] c
-  begun formatted recovered_before synced c since = record {
-    state = empty;
-    is = ap (recovered_state g) (synced_left formatted c synced (only_now formatted c since)) ∙ recovered_before;
-    left = no_incarnation g;
-  }
+  begun formatted recovered_before synced c since = search (ap (recovered_state g) (synced_left formatted c synced (only_now formatted c since)) ∙ recovered_before, no_incarnation g)
 
   pub incarnations_agree : (formatted : Medium) (ls : List DeviceIncarnation) → recovered_state g formatted.now ≡ Some empty → IsSynced formatted
       → HasIncarnations formatted (moment_number formatted) ls → HaveGeometry g ls

@@ -28,10 +28,4 @@ module _ (g : Geometry) where
       → Contains new.in_flight (done.ticket, done.message) → IsResultOf g new done
   result_stays old new done h same out =
       let k = reads_only g (are_related (path_of g done.message)) new.committed old.committed done.message same (λ q r. r) in
-      record {
-        in_flight = out;
-        runnable = h.runnable;
-        reply = h.reply ∙ sym k.0;
-        standing = h.standing;
-        shows = agree-trans h.shows (agree-sym k.1);
-      }
+      search (h.reply ∙ sym k.0, agree-trans h.shows (agree-sym k.1), out, h)

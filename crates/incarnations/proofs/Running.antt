@@ -98,14 +98,7 @@ module _ (g : Geometry) where
       record {
         state = state_after_all g (end_state w first).core.committed (take h.recovers.added doubt);
         is = h.recovers.is;
-        left = record {
-          after = h.at;
-          since = h.since;
-          within = h.within;
-          log = log;
-          is_log = is_log;
-          state = sym (left_is_committed g w events h.at log legal sound is_log);
-        };
+        left = search (sym (left_is_committed g w events h.at log legal sound is_log), h, is_log);
       }
 
   -- ---- events behind others
