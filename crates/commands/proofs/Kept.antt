@@ -5,7 +5,6 @@ use Rattle.disk.specs.Device.{IsCrashImage, Medium}
 use Rattle.serving.proofs.Logged.{holds_sent}
 use Rattle.scheduler.specs.CoreView.{CoreView}
 use Rattle.serving.specs.Ends.{EndsWith, Exchange, committed_in}
-use Rattle.serving.specs.Logged.{HoldsSent}
 use Rattle.serving.specs.Serve.{IsWrittenAtEnd}
 use Rattle.serving.specs.declared.server.ServeFault.{ServeFault}
 use Rattle.serving.specs.declared.server.ServeFault.TheVariants as faults
@@ -13,7 +12,7 @@ use Rattle.commands.proofs.OnDevice.{is_idle}
 use Rattle.commands.specs.Faults.{command_result}
 use Rattle.commands.specs.Acknowledged.{HoldsAcknowledged}
 use Rattle.commands.specs.Promise.{HoldsOfAll}
-use Rattle.commands.specs.Serving.{HasServedBy}
+use Rattle.commands.specs.Serving.{HasServedBy, RecoveredTo}
 use Rattle.commands.specs.declared.faults.Fault.{Fault}
 use Rattle.commands.specs.declared.faults.Fault.TheVariants as ends
 use Rattle.commands.specs.declared.serve_options.ServeOptions.{ServeOptions}
@@ -23,16 +22,11 @@ module _ {keeps : Type 0} {s : ServeOptions} {old new : Medium} {end : Result (U
   -- of all that was to be written
   pub held : keeps → (c : List ℕ) → IsCrashImage new c → HoldsAcknowledged h.served.run.left old streams.input streams.before h.served.run.all c
   held keep c leaves =
-      let g = h.start.geometry in
-      let x = committed_in h.start in
       let n = h.served.run.left in
-      let sent = holds_sent (is_idle s.slots h.start h.fresh) h.served.run.served n h.served.run.few h.fresh.no_doubt keep c (subst (λ (m : Medium). IsCrashImage m c) h.given_back leaves) in
-      record {
-        geometry = g;
-        start = x;
-        recovered_before = record { header = λ _. h.recovered_before.header keep; recovered_before = λ _. h.recovered_before.recovered_before keep };
-        holds = subst (λ (t : ℕ). HoldsSent g x n t streams.input streams.before h.served.run.all c) h.fresh.next sent;
-      }
+      let sent = holds_sent (is_idle s.slots h.start h.fresh) h.served.run.served n h.served.run.few h.fresh.no_doubt keep c (rw h.given_back at leaves) in
+      let before : RecoveredTo (Unit {0}) old h.start.geometry (committed_in h.start) =
+      record { header = λ _. h.recovered_before.header keep; recovered_before = λ _. h.recovered_before.recovered_before keep } in
+      search (before, rw h.fresh.next at sent)
 
 -- what holds of all that the server was to write, in words of a command
 module _ (P : ℕ → Option (List ℕ) → Type 0) (slots left : ℕ) (old new : CoreView) (x : Exchange) (all : Option (List ℕ)) where
@@ -40,8 +34,6 @@ module _ (P : ℕ → Option (List ℕ) → Type 0) (slots left : ℕ) (old new 
       → HoldsOfAll (command_result end) slots x.before x.written P
   holds_of_all (Err faults.NoWorkers) is ends h = (left, all, (is.0, is.1, ends.2), h)
   holds_of_all (Err faults.OutOfMemory) is ends h = (left, all, (is.0, is.1, ends.2), h)
-  holds_of_all (Err faults.Write) is ends h = (left, all, is, h)
-  holds_of_all (Err faults.Device) is ends h = (left, all, is, h)
   holds_of_all end is ends h = (left, all, is, h)
 
 -- what was sent is kept, whatever the end

@@ -1,5 +1,5 @@
 -- What a service on a device has done, from what its server promises.
-use Rattle.std.proofs.Common.{◌≡◌, ◌∙◌, ℕ, List, [], Some, None, false, refl, sym, ap, subst, take, replicate, arith}
+use Rattle.std.proofs.Common.{◌≡◌, ◌∙◌, ℕ, List, [], Some, None, false, refl, ap, take, replicate, arith}
 use Rattle.std.specs.Prelude.{Result, Ok, Err}
 use Rattle.std.proofs.lemmas.List.{take_all}
 use Rattle.affinity.specs.declared.geometry.Geometry.{Geometry}
@@ -88,9 +88,7 @@ module _ {keeps : Type 0} {s : ServeOptions} {old new : Medium} {end : Result (U
     (bytes : AreBytes new.now) where
   recovers_so : h.now.geometry ≡ h.start.geometry → h.now.failed ≡ false → RecoversDurably keeps new h.start.geometry (committed_in h.now)
   recovers_so same works =
-      let own = recovers_for keeps h.now (no_doubt works) h.leaves (subst (λ (m : Medium). AreBytes m.now) h.given_back bytes) in
-      subst (λ (m : Medium). RecoversDurably keeps m h.start.geometry (committed_in h.now)) (sym h.given_back)
-      (subst (λ (g : Geometry). RecoversDurably keeps h.now.medium g (committed_in h.now)) same own)
+      rw (h.given_back, ← same) (recovers_for keeps h.now (no_doubt works) h.leaves (rw h.given_back at bytes))
 
   abbrev went : h.now.geometry ≡ h.start.geometry → h.now.failed ≡ false → ServedDevice keeps old new
   went same works = record {
@@ -121,11 +119,9 @@ ends_on_device {new} (Ok _) h no_doubt bytes =
     )
 ends_on_device (Err faults.Read) h no_doubt bytes = (h.served.no_workers, (went h no_doubt bytes h.served.run.served.run.segment.leads.geometry h.served.ends.1, h.served.ends.2))
 ends_on_device (Err faults.Exhausted) h no_doubt bytes = (h.served.no_workers, (went h no_doubt bytes h.served.run.served.run.segment.leads.geometry h.served.ends.1, h.served.ends.3))
-ends_on_device (Err faults.Device) h no_doubt bytes =
-    (h.served.no_workers, (h.start.geometry, committed_in h.start, h.recovered_before, h.served.ends.2))
-ends_on_device (Err faults.Write) h no_doubt bytes =
-    (h.served.no_workers, (h.start.geometry, committed_in h.start, h.recovered_before, h.served.ends.2))
 ends_on_device (Err faults.NoWorkers) h no_doubt bytes =
     (h.served.no_workers, served_nothing h no_doubt bytes h.served.ends.0 h.served.ends.1 h.served.ends.2)
 ends_on_device (Err faults.OutOfMemory) h no_doubt bytes =
     (h.served.no_workers, served_nothing h no_doubt bytes h.served.ends.0 h.served.ends.1 h.served.ends.2)
+ends_on_device (Err fault) h no_doubt bytes =
+    (h.served.no_workers, (h.start.geometry, committed_in h.start, h.recovered_before, h.served.ends.2))

@@ -38,12 +38,7 @@ use Rattle.commands.specs.declared.serve_options.ServeOptions.{ServeOptions}
 -- A device that holds all that was sent recovers to the state from which a restart goes on.
 pub recovered : {slots : ℕ} {old : Medium} {input before written : Option (List ℕ)} {c : List ℕ} → HoldsAcknowledged slots old input before written c
     → HoldsRecovered slots old input before written c
-recovered {slots} {input} {before} {written} {c} h = record {
-  geometry = h.geometry;
-  start = h.start;
-  recovered_before = h.recovered_before;
-  recovered = bytes_recover 0 h.holds.consumed h.holds.lines h.holds.first h.holds.output h.holds.few h.holds.kept h.holds.holds;
-}
+recovered {slots} {input} {before} {written} {c} h = search (bytes_recover 0 h.holds.consumed h.holds.lines h.holds.first h.holds.output h.holds.few h.holds.kept h.holds.holds, h)
 
 pub leaves_recovered : {keeps : Type 0} {s : ServeOptions} {old new : Medium} (end : Result (Unit {0}) ServeFault) {x : Exchange} → HasServedBy keeps s old new end x
     → HoldsOfAll (command_result end) s.slots x.before x.written (λ left all. keeps → (c : List ℕ) → IsCrashImage new c → HoldsRecovered left old x.input x.before all c)
@@ -84,8 +79,7 @@ module _ {keeps : Type 0} (keep : keeps) (g : Geometry) (old new : Medium) {x : 
   left_so : {slots : ℕ} (input before written : Option (List ℕ)) → HoldsRecovered slots old input before written c → BytesRecover g slots x input before written c
   left_so {slots} input before written h =
       let own = opened_so tt made h.recovered_before in
-      subst (λ (k : Geometry). BytesRecover k slots x input before written c) own.0
-      (subst (λ (y : State). BytesRecover h.geometry slots y input before written c) own.1 h.recovered)
+      rw (own.0, own.1) at h.recovered
 
   -- A crash while the device is opened leaves what recovers to the same state.
   crashed_so : OpeningCrashImages old new → recovered_state g c ≡ Some x
@@ -124,15 +118,7 @@ module _ {keeps : Type 0} (keep : keeps) (g : Geometry) (old new : Medium) {x : 
       where
         so : (left : ℕ) (all : Option (List ℕ)) → IsWritten end s.slots left streams.before streams.written all → BytesRecover g left x streams.input streams.before all c
             → HasRunFrom g s.slots x end streams.input streams.before streams.written (λ now. recovered_state g c ≡ Some now)
-        so left all is h = record {
-          now = h.now;
-          left = left;
-          all = all;
-          written = is;
-          recovers = h.recovers;
-          all_answered = serves_so keep g old made s new end streams e;
-          goes_on = h.holds_now;
-        }
+        so left all is h = search (serves_so keep g old made s new end streams e, h, is)
 
 module _ {keeps : Type 0} (keep : keeps) (g : Geometry) (s : ServeOptions) (old new : Medium) (end : Result (Unit {0}) Fault) (streams : Exchange) where
   -- A device that recovers to a state is opened, unless it fails or memory is wanting.
