@@ -1,5 +1,5 @@
 -- What a core leaves when a run has ended holds all that was answered in it.
-use Rattle.std.proofs.Common.{◌≡◌, ℕ, false, List, [], ◌++◌, ap, sym, ◌∙◌, subst, length, drop, arith}
+use Rattle.std.proofs.Common.{◌≡◌, ℕ, false, List, [], ◌++◌, ap, sym, ◌∙◌, length, arith}
 use Rattle.std.proofs.lemmas.List.{drop_all, take_all}
 use Rattle.affinity.specs.declared.geometry.Geometry.{Geometry}
 use Rattle.disk.specs.Device.{IsCrashImage}
@@ -29,19 +29,14 @@ module _ (start : MachineView) (new : CoreView) (hands : List HandContent) (even
   w = machine_of start
 
   base : RecoversWithPrefix g (end_state w events).core.committed (in_doubt (end_state w events).core []) c
-  base = subst (λ (x : MachineState). RecoversWithPrefix g x.core.committed (in_doubt x.core []) c) (sym ends)
-      (subst (λ (y : Geometry). RecoversWithPrefix y (core_state_of new).committed (in_doubt (core_state_of new) []) c) same
-      (some_of new.geometry (core_state_of new).committed new.failed new.doubt [] c none (recovers c left)))
+  base = rw (ends, ← same) (some_of new.geometry (core_state_of new).committed new.failed new.doubt [] c none (recovers c left))
 
   since : RecoversSince g w events (length events) c
   since = record {
     at = length events;
     since = omega arith;
     within = omega arith;
-    recovers = subst (λ (es : List Event). RecoversWithPrefix g (end_state w es).core.committed (in_doubt (end_state w es).core (drop (length events) events)) c)
-        (sym (take_all (length events) events (omega arith)))
-        (subst (λ (ds : List Event). RecoversWithPrefix g (end_state w events).core.committed (in_doubt (end_state w events).core ds) c)
-        (sym (drop_all (length events) events (omega arith))) base);
+    recovers = rw (take_all (length events) events (omega arith), drop_all (length events) events (omega arith)) base;
   }
 
   pub ended_so : RecoversForRun g w events (length events) c

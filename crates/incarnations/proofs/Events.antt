@@ -1,9 +1,10 @@
 -- Each step of a machine is an event, and a crash meanwhile leaves what it may.
-use Rattle.std.proofs.Common.{◌≡◌, ◌≢◌, ◌+◌, ℕ, zero, suc, ◌<◌, ◌≤◌, Bool, true, false, List, [], ◌∷◌, Option, Some, None, Result, refl, ap, sym, ◌∙◌, subst, length, take, set, map, ⊎_elim, arith}
+use Rattle.std.proofs.Common.{◌≡◌, ◌≢◌, ◌+◌, ℕ, ◌<◌, ◌≤◌, Bool, true, false, List, [], ◌∷◌, Option, Some, None, Result, refl, ap, sym, ◌∙◌, subst, length, set, map, ⊎_elim, arith}
 use Rattle.std.specs.Prelude.{◌&&◌, not, if◌then◌else◌, option_map, position, slice_get, nat_lt}
 use Rattle.std.specs.List.{Contains, position_or_len}
 use Rattle.std.proofs.lemmas.Bool.{true≢false}
-use Rattle.std.proofs.lemmas.List.{get_or-set_other, get_or-set_same, length-map, set-get_or}
+use Rattle.std.proofs.lemmas.List.{get_or-set_other, get_or-set_same, length-map, map-set, set-get_or}
+use Rattle.std.proofs.Math.Seq.{take-nil}
 use Rattle.std.proofs.lemmas.List.Quantifiers.{position-Some}
 use Rattle.std.proofs.lemmas.Option.{get_or_from_slice_get, slice_get-map, slice_get_past, slice_get_within, same_Some}
 use Rattle.affinity.specs.declared.geometry.Geometry.{Geometry}
@@ -16,7 +17,7 @@ use Rattle.histories.proofs.Outs.{event_keeps_out, event_sees}
 use Rattle.histories.proofs.Sound.{event_sound}
 use Rattle.histories.specs.Crash.{to_append}
 use Rattle.histories.specs.Eligible.{next_eligible}
-use Rattle.histories.specs.Events.{Event, Hand, MachineState, IsAllowed, answer, arrive, back_from, give_back, grant, grant_hand, grant_to, apply_step, is_empty, grant_refusal, find_in_flight, result_in, run_hand}
+use Rattle.histories.specs.Events.{Event, Hand, MachineState, IsAllowed, answer, arrive, back_from, give_back, grant_hand, grant_to, apply_step, is_empty, find_in_flight, result_in, run_hand}
 use Rattle.histories.specs.Events.{Job as JobIn, Result as ResultIn}
 use Rattle.histories.specs.Laws.{dispatches_or_returns}
 use Rattle.histories.specs.CoreState.{Entry, CoreState}
@@ -38,16 +39,12 @@ use Rattle.parcel.specs.declared.job.Done.{Done}
 use Rattle.meaning.specs.Serial.{state_after_all}
 use Rattle.meaning.specs.State.{State}
 use Rattle.scheduler.proofs.Called.{answer_called, arrive_called}
-use Rattle.scheduler.specs.Calls.{IsGrantOf, IsNoGrant, answer_outcome, arrive_outcome}
+use Rattle.scheduler.specs.Calls.{IsCallEvent, IsGrantOf, IsNoGrant, answer_outcome, arrive_outcome}
 use Rattle.scheduler.specs.Jobs.{IsResultOf}
 use Rattle.scheduler.specs.CoreView.{CoreView, RecoversNow, RecoversThroughout, core_state_of}
 use Rattle.scheduler.proofs.Staying.{ran_gives}
 
 -- ---- what a crash leaves of a device that is left alone
-
-take_none : {A : Type 0} (n : ℕ) → ◌≡◌ {A = List A} (take n []) []
-take_none zero = refl
-take_none (suc n) = refl
 
 -- If the device hasn't failed, `doubt` is empty, so the bytes recover to the state with none of the messages ms, whatever these are.
 pub some_of : (g : Geometry) (x : State) (failed : Bool) (doubt ms : List Msg) (c : List ℕ) → (failed ≡ false → doubt ≡ [])
@@ -55,7 +52,7 @@ pub some_of : (g : Geometry) (x : State) (failed : Bool) (doubt ms : List Msg) (
 some_of g x true doubt ms c none h = h
 some_of g x false doubt ms c none h =
     let k = subst (λ (l : List Msg). RecoversWithPrefix g x l c) (none refl) h in
-    record { added = 0; at_most = omega arith; is = k.is ∙ ap (λ (l : List Msg). Some (state_after_all g x l)) (take_none k.added) }
+    record { added = 0; at_most = omega arith; is = k.is ∙ ap (λ (l : List Msg). Some (state_after_all g x l)) (take-nil k.added) }
 
 pub quiet_moments : (old new : CoreView) (ms : List Msg) → (old.failed ≡ false → old.doubt ≡ []) → RecoversNow old
     → new.medium ≡ old.medium → RecoversThroughout ms old new
@@ -67,25 +64,22 @@ quiet_moments old new ms none recovers same =
 -- The calls that leave the device alone.
 module _ (keeps : Type 0) (old new : CoreView) (none : old.failed ≡ false → old.doubt ≡ []) (recovers : keeps → RecoversNow old)
     (geometry : new.geometry ≡ old.geometry) (same : new.medium ≡ old.medium) where
-  pub arrive_step : (m : Msg) (r : Result ℕ ArriveRefusal) → (arrive_outcome r, core_state_of new) ≡ arrive old.geometry (core_state_of old) m
-      → IsCoreStep keeps old new (steps.Arrive m) (arrive_outcome r)
-  arrive_step m r e = record {
+  quiet_call : (step : Step) (outcome : Outcome) → IsCallEvent old.geometry (core_state_of old) (core_state_of new) step outcome false → IsCoreStep keeps old new step outcome
+  quiet_call step outcome called = record {
     device_failed = false;
-    called = arrive_called old.geometry (core_state_of old) (core_state_of new) m r e;
+    called = called;
     geometry = geometry;
     failures = ap (λ (m : Medium). m.faults) same;
-    any_moment = λ kept. quiet_moments old new [] none (recovers kept) same;
+    any_moment = λ kept. quiet_moments old new (to_append (core_state_of old) step) none (recovers kept) same;
   }
+
+  pub arrive_step : (m : Msg) (r : Result ℕ ArriveRefusal) → (arrive_outcome r, core_state_of new) ≡ arrive old.geometry (core_state_of old) m
+      → IsCoreStep keeps old new (steps.Arrive m) (arrive_outcome r)
+  arrive_step m r e = quiet_call (steps.Arrive m) (arrive_outcome r) (arrive_called old.geometry (core_state_of old) (core_state_of new) m r e)
 
   pub answer_step : (r : Option (ℕ × Reply)) → (answer_outcome r, core_state_of new) ≡ answer (core_state_of old) old.logged
       → IsCoreStep keeps old new steps.Answer (answer_outcome r)
-  answer_step r e = record {
-    device_failed = false;
-    called = answer_called old.geometry (core_state_of old) (core_state_of new) r e;
-    geometry = geometry;
-    failures = ap (λ (m : Medium). m.faults) same;
-    any_moment = λ kept. quiet_moments old new [] none (recovers kept) same;
-  }
+  answer_step r e = quiet_call steps.Answer (answer_outcome r) (answer_called old.geometry (core_state_of old) (core_state_of new) r e)
 
 -- ---- steps of the core
 
@@ -132,22 +126,16 @@ module _ (keeps : Type 0) (old new : CoreView) (hands after : List HandContent) 
     any_moment = λ keeps. quiet_moments old new (to_append (core_state_of old) step) none (recovers keeps) same;
   }
 
-map-set : (hands : List HandContent) (i : ℕ) (h : HandContent) → map hand_of (set hands i h) ≡ set (map hand_of hands) i (hand_of h)
-map-set [] zero h = refl
-map-set [] (suc i) h = refl
-map-set (x ∷ hands) zero h = refl
-map-set (x ∷ hands) (suc i) h = ap (λ (l : List Hand). hand_of x ∷ l) (map-set hands i h)
-
--- the first empty hand is the same by the definitions and in the machine
-position_map : (hands : List HandContent) → position is_empty (map hand_of hands) ≡ position (λ h. is_empty (hand_of h)) hands
-position_map hands = λ i. of (at hands i) (length-map hands hand_of i)
+-- A test of the images of a list's elements passes first where a test of the elements does, if the two give the same answers.
+pub position_map : {A B : Type 0} (f : A → B) (p : B → Bool) (q : A → Bool) → ((x : A) → p (f x) ≡ q x) → (xs : List A) → position p (map f xs) ≡ position q xs
+position_map {A} f p q same xs = λ i. of (at xs i) (length-map xs f i)
   where
     of : ℕ → ℕ → Option ℕ
     of n m = if nat_lt n m then Some n else None
 
-    at : (hands : List HandContent) → position_or_len is_empty (map hand_of hands) ≡ position_or_len (λ h. is_empty (hand_of h)) hands
+    at : (xs : List A) → position_or_len p (map f xs) ≡ position_or_len q xs
     at [] = refl
-    at (x ∷ hands) = ap (λ (n : ℕ). if not (is_empty (hand_of x)) then 1 + n else 0) (at hands)
+    at (x ∷ xs) = λ i. if not (same x i) then 1 + at xs i else 0
 
 pub position_within : (hands : List HandContent) (hand : ℕ) → position (λ h. is_empty (hand_of h)) hands ≡ Some hand → hand < length hands
 position_within hands hand at = (position-Some (λ h. is_empty (hand_of h)) hands hand has.Empty at).0
@@ -165,23 +153,7 @@ module _ (g : Geometry) (n : ℕ) (w : MachineState) where
   -- A hand is empty, and the core has failed or not.
   grant_at : (hand : ℕ) (b : Bool) → position is_empty w.hands ≡ Some hand → w.core.failed ≡ b
       → apply_step g n w steps.Grant ≡ (if b && true then (outcomes.Failed, w) else grant_to g w (Some hand) (next_eligible g w.core))
-  grant_at hand b at failed = ap (λ (hand : Option ℕ). grant_hand g w hand) at
-      ∙ ap (λ (b : Bool). if b && true then (outcomes.Failed, w) else grant_to g w (Some hand) (next_eligible g w.core)) failed
-
-  grant_failed : (hand : ℕ) → position is_empty w.hands ≡ Some hand → w.core.failed ≡ true
-      → apply_step g n w steps.Grant ≡ (outcomes.Failed, w)
-  grant_failed hand at failed = grant_at hand true at failed
-
-  grant_none : (hand : ℕ) (why : Outcome) → position is_empty w.hands ≡ Some hand → w.core.failed ≡ false
-      → next_eligible g w.core ≡ None → grant_refusal g w.core ≡ why → apply_step g n w steps.Grant ≡ (why, w)
-  grant_none hand why at works none reason = grant_at hand false at works ∙ ap (grant_to g w (Some hand)) none
-      ∙ ap (λ (o : Outcome). (o, w)) reason
-
-  grant_one : (hand : ℕ) (found : Entry × List Entry) → position is_empty w.hands ≡ Some hand → w.core.failed ≡ false
-      → next_eligible g w.core ≡ Some found
-      → apply_step g n w steps.Grant
-      ≡ (outcomes.Granted hand found.0.0, record { core = grant w.core found; hands = set w.hands hand (JobIn found.0.0) })
-  grant_one hand found at works first = grant_at hand false at works ∙ ap (grant_to g w (Some hand)) first
+  grant_at hand b at failed = rw (at, failed) refl
 
 module _ (keeps : Type 0) (old new : CoreView) (hands : List HandContent)
     (none : old.failed ≡ false → old.doubt ≡ []) (recovers : keeps → RecoversNow old) (geometry : new.geometry ≡ old.geometry)
@@ -196,7 +168,7 @@ module _ (keeps : Type 0) (old new : CoreView) (hands : List HandContent)
   w = machine_of (record { core = old; hands = hands })
 
   at_hand : (hand : ℕ) → position (λ h. is_empty (hand_of h)) hands ≡ Some hand → position is_empty w.hands ≡ Some hand
-  at_hand hand at = position_map hands ∙ at
+  at_hand hand at = position_map hand_of is_empty _ (λ x. refl) hands ∙ at
 
   -- the same core state, with the same hands
   unmoved : (step : Step) (outcome : Outcome) → apply_step old.geometry 0 w step ≡ (outcome, w) → core_state_of new ≡ core_state_of old
@@ -205,28 +177,27 @@ module _ (keeps : Type 0) (old new : CoreView) (hands : List HandContent)
       (does ∙ (λ i. (outcome, record { core = sym still i; hands = map hand_of hands })))
 
   pub still_holds : HoldsJobs old.geometry (core_state_of old) hands → core_state_of new ≡ core_state_of old → Holds hands
-  still_holds h still = subst (λ (y : Geometry). HoldsJobs y (core_state_of new) hands) (sym geometry)
-      (subst (λ (x : CoreState). HoldsJobs old.geometry x hands) (sym still) h)
+  still_holds h still = rw (still, geometry) h
 
   pub no_hand : position (λ h. is_empty (hand_of h)) hands ≡ None → core_state_of new ≡ core_state_of old → StepsTo hands steps.Grant outcomes.Idle
-  no_hand at still = unmoved steps.Grant outcomes.Idle (grant_idle old.geometry 0 w (position_map hands ∙ at)) still
+  no_hand at still = unmoved steps.Grant outcomes.Idle (grant_idle old.geometry 0 w (position_map hand_of is_empty _ (λ x. refl) hands ∙ at)) still
 
   pub no_grant_step : (hand : ℕ) (why : Outcome) → position (λ h. is_empty (hand_of h)) hands ≡ Some hand
       → IsNoGrant old.geometry (core_state_of old) (core_state_of new) why → StepsTo hands steps.Grant why
   no_grant_step hand why at k = unmoved steps.Grant why
-      (grant_none old.geometry 0 w hand why (at_hand hand at) k.works k.none k.reason) k.same
+      (grant_at old.geometry 0 w hand false (at_hand hand at) k.works ∙ ap (grant_to old.geometry w (Some hand)) k.none ∙ ap (λ (o : Outcome). (o, w)) k.reason) k.same
 
   pub failed_step : (hand : ℕ) → position (λ h. is_empty (hand_of h)) hands ≡ Some hand → old.failed ≡ true
       → core_state_of new ≡ core_state_of old → StepsTo hands steps.Grant outcomes.Failed
-  failed_step hand at failed still = unmoved steps.Grant outcomes.Failed (grant_failed old.geometry 0 w hand (at_hand hand at) failed) still
+  failed_step hand at failed still = unmoved steps.Grant outcomes.Failed (grant_at old.geometry 0 w hand true (at_hand hand at) failed) still
 
   module _ (hand : ℕ) (at : position (λ h. is_empty (hand_of h)) hands ≡ Some hand) (job : JobView)
       (k : IsGrantOf old.geometry (core_state_of old) (core_state_of new) job) where
     granted : apply_step old.geometry 0 w steps.Grant
         ≡ (outcomes.Granted hand job.ticket, machine_of (record { core = new; hands = set hands hand (has.Job job) }))
-    granted = grant_one old.geometry 0 w hand k.found (at_hand hand at) k.works k.first
+    granted = grant_at old.geometry 0 w hand false (at_hand hand at) k.works ∙ ap (grant_to old.geometry w (Some hand)) k.first
         ∙ (λ i. (outcomes.Granted hand (k.entry_is i).0, record { core = sym k.state_after i; hands = set (map hand_of hands) hand (JobIn (k.entry_is i).0) }))
-        ∙ (λ i. (outcomes.Granted hand job.ticket, record { core = core_state_of new; hands = sym (map-set hands hand (has.Job job)) i }))
+        ∙ (λ i. (outcomes.Granted hand job.ticket, record { core = core_state_of new; hands = sym (map-set hand_of hands hand (has.Job job)) i }))
 
     pub grant_step : StepsTo (set hands hand (has.Job job)) steps.Grant (outcomes.Granted hand job.ticket)
     grant_step = quiet_step keeps old new hands (set hands hand (has.Job job)) steps.Grant _ none recovers geometry same granted
@@ -264,31 +235,23 @@ module _ (keeps : Type 0) (old new : CoreView) (hands : List HandContent)
 
 -- ---- a hand that isn't there
 
-module _ (g : Geometry) (n : ℕ) (core : CoreState) (hands : List HandContent) (i : ℕ) where
-  abbrev at_i : MachineState
-  at_i = record { core = core; hands = map hand_of hands }
-
-  past : length hands ≤ i → slice_get (map hand_of hands) i ≡ None
-  past over = slice_get_past (map hand_of hands) i (subst (λ (k : ℕ). k ≤ i) (sym (length-map hands hand_of)) over)
-
-  run_past : length hands ≤ i → apply_step g n at_i (steps.Run i) ≡ (outcomes.Idle, at_i)
-  run_past over = ap (run_hand at_i i) (past over)
-
-  back_past : length hands ≤ i → apply_step g n at_i (steps.Back i) ≡ (outcomes.Idle, at_i)
-  back_past over = ap (λ (h : Option Hand). back_from g at_i i (result_in core h)) (past over)
-
 module _ (keeps : Type 0) (core : CoreView) (hands : List HandContent) (none : core.failed ≡ false → core.doubt ≡ []) (recovers : keeps → RecoversNow core)
     (i : ℕ) where
+  abbrev at_i : MachineState
+  at_i = machine_of (record { core = core; hands = hands })
+
   abbrev StaysAt : Step → Type 0
   StaysAt step = IsMachineStep keeps (record { core = core; hands = hands }) (record { core = core; hands = hands }) step outcomes.Idle
 
+  past : length hands ≤ i → slice_get (map hand_of hands) i ≡ None
+  past over = slice_get_past (map hand_of hands) i (omega (arith, length-map hands hand_of, over))
+
   pub run_nowhere : length hands ≤ i → StaysAt (steps.Run i)
-  run_nowhere over = quiet_step keeps core core hands hands (steps.Run i) outcomes.Idle none recovers refl refl
-      (run_past core.geometry 0 (core_state_of core) hands i over)
+  run_nowhere over = quiet_step keeps core core hands hands (steps.Run i) outcomes.Idle none recovers refl refl (ap (run_hand at_i i) (past over))
 
   pub back_nowhere : length hands ≤ i → StaysAt (steps.Back i)
   back_nowhere over = quiet_step keeps core core hands hands (steps.Back i) outcomes.Idle none recovers refl refl
-      (back_past core.geometry 0 (core_state_of core) hands i over)
+      (ap (λ (h : Option Hand). back_from core.geometry at_i i (result_in at_i.core h)) (past over))
 
 -- ---- in one hand
 
@@ -346,7 +309,7 @@ module _ (keeps : Type 0) (core : CoreView) (hands : List HandContent) (none : c
     ran_does : apply_step g 0 held_now (steps.Run i) ≡ (outcomes.Ran, machine_of (record { core = core; hands = ran_hands }))
     ran_does = ap (run_hand held_now i) (shown hands i (has.Job job) read)
         ∙ (λ j. (outcomes.Ran, record { core = core_state_of core; hands = set (map hand_of hands) i (ResultIn (sym run.ticket j)) }))
-        ∙ (λ j. (outcomes.Ran, record { core = core_state_of core; hands = sym (map-set hands i (has.Result done)) j }))
+        ∙ (λ j. (outcomes.Ran, record { core = core_state_of core; hands = sym (map-set hand_of hands i (has.Result done)) j }))
 
     ran_holds : HoldsJobs g (core_state_of core) ran_hands
     ran_holds =
@@ -384,7 +347,7 @@ module _ (keeps : Type 0) (core : CoreView) (hands : List HandContent) (none : c
       back_does : apply_step g 0 held_now (steps.Back i) ≡ (outcomes.Back done.ticket, machine_of (record { core = new; hands = emptied }))
       back_does = ap (λ (o : Option Hand). back_from g held_now i (result_in held_now.core o)) (shown hands i (has.Result done) read)
           ∙ ap (back_from g held_now i) one_out
-          ∙ (λ j. (outcomes.Back (entry_is j).0, record { core = sym is j; hands = sym (map-set hands i has.Empty) j }))
+          ∙ (λ j. (outcomes.Back (entry_is j).0, record { core = sym is j; hands = sym (map-set hand_of hands i has.Empty) j }))
 
       pub back_step : IsMachineStep keeps (record { core = core; hands = hands }) (record { core = new; hands = emptied }) (steps.Back i)
           (outcomes.Back done.ticket)

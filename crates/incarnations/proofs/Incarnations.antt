@@ -16,9 +16,7 @@ use Rattle.journal.specs.Opening.{IsPastSync, OpeningCrashImages, RecoversAsBefo
 use Rattle.histories.proofs.Incarnations.{all_answered, incarnation_of_run, next_incarnation, no_incarnation}
 use Rattle.histories.specs.Events.{Event, MachineState}
 use Rattle.histories.specs.Incarnations.{IsLeftByIncarnations, Incarnation, Ran, Unopened}
-use Rattle.histories.specs.Runs.{IsLegal}
 use Rattle.incarnations.specs.Incarnations.{DeviceIncarnation, HasIncarnations, HaveGeometry, IsIncarnationOf, IsOfGeometry, IsPassedOn, IsRunIncarnation, LeftByLast, RecoversForIncarnations, incarnations_of}
-use Rattle.incarnations.specs.DeviceEvents.{RecoversForRun}
 use Rattle.meaning.specs.State.{State, empty}
 
 -- What a crash leaves while a device is opened, it might have left before, or it recovers to the same.
@@ -66,18 +64,12 @@ module _ (g : Geometry) where
         → Recovers (incarnations ++ Ran start events k ∷ []) c
     run_left start events k run c since =
         let one = run_geometry start events k run in
-        let ran = subst (λ (h : Geometry). RecoversForRun h start events k c) one (run.crash c since) in
-        let legal = subst (λ (h : Geometry). IsLegal h start events) one run.legal in
-        let recovered_before = subst (λ (h : Geometry). recovered_state h l.at_open.now ≡ Some start.core.committed) one run.recovered_before in
+        let ran = rw one at (run.crash c since) in
         let x = start.core.committed in
-        let same : at_first.state ≡ x = same_Some _ _ (sym at_first.is ∙ recovered_before) in
-        let incarnation = incarnation_of_run g start events k ran.state run.idle legal ran.left in
-        record {
-          state = ran.state;
-          is = ran.is;
-          left = subst (IsLeftByIncarnations g (incarnations ++ Ran start events k ∷ [])) (sym incarnation.2)
-              (next_incarnation g incarnations (Ran start events k) x incarnation.0 (subst (IsLeftByIncarnations g incarnations) same at_first.left) incarnation.1);
-        }
+        let same : at_first.state ≡ x = same_Some _ _ (sym at_first.is ∙ rw one at run.recovered_before) in
+        let incarnation = incarnation_of_run g start events k ran.state run.idle (rw one at run.legal) ran.left in
+        let left = next_incarnation g incarnations (Ran start events k) x incarnation.0 (subst (IsLeftByIncarnations g incarnations) same at_first.left) incarnation.1 in
+        record { state = ran.state; is = ran.is; left = rw incarnation.2 left }
 
     one_more : (incarnation : Incarnation) → IsIncarnationOf l incarnation → (c : List ℕ) → left_since l.at_end l.earliest_crash c → Recovers (incarnations ++ incarnation ∷ []) c
     one_more Unopened h c since = nothing_more c (⊎_elim (at_once c)

@@ -135,8 +135,7 @@ one_leads k = record { legal = (k.allowed, tt); ends = refl; geometry = k.geomet
 module _ {keeps : Type 0} {old mid new : MachineView} {xs ys : List DeviceEvent} (h : LeadTo keeps old mid xs) (k : LeadTo keeps mid new ys) where
   pub events_join : IsJoined old.core.geometry (machine_of old) (events_of xs) (events_of ys)
   events_join = runs_join old.core.geometry (machine_of old) (events_of xs) (events_of ys) h.legal
-      (subst (λ (x : MachineState). IsLegal old.core.geometry x (events_of ys)) (sym h.ends)
-      (subst (λ (y : Geometry). IsLegal y (machine_of mid) (events_of ys)) h.geometry k.legal))
+      (rw (h.ends, ← h.geometry) k.legal)
 
   pub lead_on : LeadTo keeps old new (xs ++ ys)
   lead_on =
@@ -149,9 +148,7 @@ module _ {keeps : Type 0} {old mid new : MachineView} {xs ys : List DeviceEvent}
         geometry = k.geometry ∙ h.geometry;
         device = after-append old.core.medium xs ys ∙ ap (λ (m : Medium). device_after m ys) h.device ∙ k.device;
         any_moment = λ kept. safe-append g w old.core.medium xs ys (h.any_moment kept)
-            (subst (λ (x : MachineState). AreSafe g x (device_after old.core.medium xs) ys) (sym h.ends)
-            (subst (λ (m : Medium). AreSafe g (machine_of mid) m ys) (sym h.device)
-            (subst (λ (y : Geometry). AreSafe y (machine_of mid) mid.core.medium ys) h.geometry (k.any_moment kept))));
+            (rw (h.ends, h.device, ← h.geometry) (k.any_moment kept));
       }
 
 pub no_device_events : (keeps : Type 0) (m : MachineView) → HasDeviceEvents keeps m m [] []
@@ -172,7 +169,7 @@ more_device_events {old} {new} {step} {outcome} h k quiet =
       with_outcomes = ap (map (λ (e : Event). e.outcome)) pushed ∙ map-append (λ (e : Event). e.outcome) events (device_event.event ∷ [])
           ∙ ap (λ (l : List Outcome). l ++ outcome ∷ []) h.with_outcomes;
       agrees = agrees-push (machine_of old) old.core.medium h.device_events device_event h.agrees
-          (subst (λ (m : Medium). CountsFailure k.device_failed m.faults new.core.medium.faults) (sym h.leads.device) k.failures)
+          (rw h.leads.device k.failures)
           (λ none. quiet (ap (λ (x : MachineState). touches_device x.core step) (sym h.leads.ends) ∙ none) ∙ sym h.leads.device);
     }
 
@@ -186,13 +183,9 @@ left_since_event {old} {new} {device_events} h sound none recovers kept k c le s
     let g = old.core.geometry in
     let w = machine_of old in
     let m = old.core.medium in
-    let ends : EndsWith g w m device_events = λ b left.
-    subst (λ (x : MachineState). RecoversWithPrefix g x.core.committed (in_doubt x.core []) b) (sym h.ends)
-    (subst (λ (y : Geometry). RecoversWithPrefix y (core_state_of new.core).committed (in_doubt (core_state_of new.core) []) b) h.geometry
-    (some_of new.core.geometry (core_state_of new.core).committed new.core.failed new.core.doubt [] b none
-    (recovers kept b (subst (λ (x : Medium). IsCrashImage x b) h.device left)))) in
-    recovers_for_run g w (events_of device_events) k c h.legal sound (from_event g m device_events (h.any_moment kept) ends k le
-    (subst (λ (x : Medium). left_since x (moment_number (device_after m (take k device_events))) c) (sym h.device) since))
+    let ends : EndsWith g w m device_events = λ b left. rw (h.ends, ← h.geometry) (some_of new.core.geometry (core_state_of new.core).committed
+    new.core.failed new.core.doubt [] b none (recovers kept b (rw h.device at left))) in
+    recovers_for_run g w (events_of device_events) k c h.legal sound (from_event g m device_events (h.any_moment kept) ends k le (rw (← h.device) at since))
 
 each_state_apart : (g : Geometry) (events : List Event) → AllByRecursion (λ (event : Event). IsSoundCoreState g event.state_after.core) events
     → AllByRecursion (λ (w : MachineState). AreUnrelated g (held w.core)) (map (λ e. e.state_after) events)
@@ -222,8 +215,5 @@ pub next_device_events : {keeps : Type 0} {old : MachineView} {core : CoreView} 
     → IsMachineStep keeps (record { core = core; hands = lent }) new (get_or asked i d) outcome
     → (touches_device (core_state_of core) (get_or asked i d) ≡ false → new.core.medium ≡ core.medium)
     → HasDeviceEvents keeps old new (take (i + 1) asked) (take (i + 1) (set came i outcome))
-next_device_events {keeps} {old} {core} {new} asked {i} d came {outcome} same within h k quiet =
-    let step = subst (λ (l : List HandContent). IsMachineStep keeps (record { core = core; hands = l }) new (get_or asked i d) outcome) same k in
-    subst (λ (ss : List Step). HasDeviceEvents keeps old new ss (take (i + 1) (set came i outcome))) (sym (take_more asked i d within.0))
-    (subst (λ (os : List Outcome). HasDeviceEvents keeps old new (take i asked ++ get_or asked i d ∷ []) os) (sym (take_more_set came i outcome within.1))
-    (more_device_events h step quiet))
+next_device_events asked {i} d came {outcome} same within h k quiet =
+    rw (take_more asked i d within.0, take_more_set came i outcome within.1) (more_device_events h (rw same at k) quiet)
