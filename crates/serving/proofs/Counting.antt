@@ -1,7 +1,8 @@
 -- How many messages wait or are held: as many more as arrive, and as many fewer as are answered.
-use Rattle.std.proofs.Common.{◌≡◌, ◌+◌, List, [], ◌∷◌, ◌++◌, ap, sym, ◌∙◌, subst, length, arith}
+use Rattle.std.proofs.Common.{◌≡◌, ◌+◌, List, [], ◌∷◌, ◌++◌, ap, ◌∙◌, length, arith}
 use Rattle.std.specs.Prelude.{◌==◌}
 use Rattle.std.proofs.lemmas.List.{length-append}
+use Rattle.histories.proofs.Full.{length-picked}
 use Rattle.affinity.specs.declared.geometry.Geometry.{Geometry}
 use Rattle.meaning.specs.Serial.{reply_to}
 use Rattle.histories.specs.CoreState.{Replied, CoreState, entries, held}
@@ -10,7 +11,6 @@ use Rattle.histories.specs.Events.{MachineState, Event, give_back}
 use Rattle.histories.specs.Runs.{IsLegal, answered, answers, arrived, arrives, end_state}
 use Rattle.serving.specs.Runs.{unanswered}
 use Rattle.histories.proofs.Apart.{held_grant, length_held, log_held}
-use Rattle.histories.proofs.Lists.{picked}
 use Rattle.histories.proofs.Moves.{Passed, Move, Stays, Arrives, Grants, Backs, Logs, Answers, moves}
 
 abbrev Counts : CoreState → CoreState → Passed → Type 0
@@ -19,39 +19,36 @@ Counts old new p = unanswered new + length p.reply_pairs ≡ unanswered old + le
 move_counts : (g : Geometry) (old new : CoreState) (p : Passed) → Move g old new p → Counts old new p
 move_counts g old new p (Stays s e) =
     let same : unanswered new ≡ unanswered old = λ i. length (s.waiting i) + length (entries (s.logged i) ++ (entries (s.ran i) ++ s.in_flight i)) in
-    subst (Counts old new) (sym e) (omega (arith, same))
-move_counts g old new p (Arrives m fits is e) =
-    let l = length-append old.waiting ((old.next, m) ∷ []) in
-    subst (Counts old new) (sym e) (subst (λ w. unanswered w + 0 ≡ unanswered old + 1) (sym is) (omega (arith, l)))
-move_counts g old new p (Grants found first is e) =
-    let k = picked (is_eligible g old) old.waiting found first in
-    let was = ap length k.whole ∙ length-append k.before (found.0 ∷ k.behind) in
-    let now = ap length k.rest ∙ length-append k.before k.behind in
-    let holds = ap length (held_grant old found) ∙ length-append (held old) (found.0 ∷ []) in
-    subst (Counts old new) (sym e) (subst (λ w. unanswered w + 0 ≡ unanswered old + 0) (sym is) (omega (arith, was, now, holds)))
+    rw e (omega (arith, same))
+move_counts g old new p (Arrives m fits is e) = rw (e, is) (omega (arith, length-append old.waiting ((old.next, m) ∷ [])))
+move_counts g old new p (Grants found first is e) = rw (e, is) (omega (
+  arith,
+  length-picked (is_eligible g old) old.waiting found first,
+  ap length (held_grant old found) ∙ length-append (held old) (found.0 ∷ []),
+))
 move_counts g old new p (Backs ticket found one_out is e) =
-    let k = picked (λ d. d.0 == ticket) old.in_flight found one_out in
     let a : Replied = (found.0.0, found.0.1, reply_to g old.committed found.0.1) in
-    let was = ap length k.whole ∙ length-append k.before (found.0 ∷ k.behind) in
-    let now = ap length k.rest ∙ length-append k.before k.behind in
-    let more = length-append old.ran (a ∷ []) in
-    let held_was = length_held old in
-    let held_now = length_held (give_back g old found) in
-    subst (Counts old new) (sym e) (subst (λ w. unanswered w + 0 ≡ unanswered old + 0) (sym is) (omega (arith, was, now, more, held_was, held_now)))
-move_counts g old new p (Logs n is e) =
-    let same = ap length (log_held g old n) in
-    subst (Counts old new) (sym e) (subst (λ w. unanswered w + 0 ≡ unanswered old + 0) (sym is) (omega (arith, same)))
+    rw (e, is) (omega (
+      arith,
+      length-picked (λ d. d.0 == ticket) old.in_flight found one_out,
+      length-append old.ran (a ∷ []),
+      length_held old,
+      length_held (give_back g old found),
+    ))
+move_counts g old new p (Logs n is e) = rw (e, is) (omega (arith, ap length (log_held g old n)))
 move_counts g old new p (Answers a rest front is e) =
     let was : unanswered old ≡ unanswered (record old { logged = a ∷ rest }) = ap (λ l. unanswered (record old { logged = l })) front in
-    subst (Counts old new) (sym e) (subst (λ w. unanswered w + 1 ≡ unanswered old + 0) (sym is) (omega (arith, was)))
+    rw (e, is) (omega (arith, was))
 
 -- What waits or is held at the end and what was answered is what waited or was held in the beginning and what arrived.
 pub run_counts : (g : Geometry) (old : MachineState) (events : List Event) → IsLegal g old events
     → unanswered (end_state old events).core + length (answered events) ≡ unanswered old.core + length (arrived events)
 run_counts g old [] legal = omega arith
 run_counts g old (event ∷ events) legal =
-    let k = move_counts g old.core event.state_after.core _ (moves g old event legal.0) in
-    let j = run_counts g event.state_after events legal.1 in
-    let reply_pairs = length-append (answers event.outcome) (answered events) in
-    let come = length-append (arrives event.step event.outcome) (arrived events) in
-    omega (arith, k, j, reply_pairs, come)
+    omega (
+      arith,
+      move_counts g old.core event.state_after.core _ (moves g old event legal.0),
+      run_counts g event.state_after events legal.1,
+      length-append (answers event.outcome) (answered events),
+      length-append (arrives event.step event.outcome) (arrived events),
+    )

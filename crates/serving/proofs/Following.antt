@@ -1,6 +1,5 @@
 -- The lines of the reorder buffer that have tickets have them in order, and the next ticket is the one after theirs.
-use Rattle.std.proofs.Common.{◌≡◌, ℕ, Bool, List, [], ◌∷◌, ◌++◌, Option, Some, None, refl, sym, subst}
-use Rattle.std.specs.Prelude.{if◌then◌else◌}
+use Rattle.std.proofs.Common.{◌≡◌, ℕ, List, [], ◌∷◌, ◌++◌, Option, Some, None, refl, sym, subst}
 use Rattle.affinity.specs.declared.geometry.Geometry.{Geometry}
 use Rattle.incarnations.specs.Machine.{MachineView}
 use Rattle.language.specs.Grammar.{message_of}
@@ -20,12 +19,9 @@ module _ (g : Geometry) (reply_pairs : List (ℕ × Reply)) where
   one_follows : (n last : ℕ) (o : Option Msg) (known : Line) (lines : List Line) → IsKnown g reply_pairs n o known
       → Follow (next_ticket n (admitted_in g o)) last lines → Follow n last (known ∷ lines)
   one_follows n last None NoMessage lines k rest = rest
-  one_follows n last (Some m) OutOfRange lines k rest =
-      subst (λ (b : Bool). Follow (next_ticket n (if b then m ∷ [] else [])) last lines) k rest
-  one_follows n last (Some m) (Pending t) lines k rest =
-      (k.1, subst (λ (b : Bool). Follow (next_ticket n (if b then m ∷ [] else [])) last lines) k.0 rest)
-  one_follows n last (Some m) (Completed t r) lines k rest =
-      (k.1, subst (λ (b : Bool). Follow (next_ticket n (if b then m ∷ [] else [])) last lines) k.0 rest)
+  one_follows n last (Some m) OutOfRange lines k rest = rw k at rest
+  one_follows n last (Some m) (Pending t) lines k rest = (k.1, rw k.0 at rest)
+  one_follows n last (Some m) (Completed t r) lines k rest = (k.1, rw k.0 at rest)
   one_follows n last o known lines k rest = absurd k
 
   after_one : (n : ℕ) (o : Option Msg) (ls : List (List ℕ))
@@ -34,13 +30,12 @@ module _ (g : Geometry) (reply_pairs : List (ℕ × Reply)) where
 
   lines_follow : (n : ℕ) (ls : List (List ℕ)) (lines : List Line) → AreKnown g reply_pairs n ls lines → Follow n (next_ticket n (admitted g ls)) lines
   lines_follow n [] [] k = (refl, tt)
-  lines_follow n [] (known ∷ lines) k = absurd k
-  lines_follow n (l ∷ ls) [] k = absurd k
   lines_follow n (l ∷ ls) (known ∷ lines) k =
       let o = message_of l in
       one_follows n (next_ticket n (admitted_in g o ++ admitted g ls)) o known lines k.0
       (subst (λ (last : ℕ). Follow (next_ticket n (admitted_in g o)) last lines) (after_one n o ls)
       (lines_follow (next_ticket n (admitted_in g o)) ls lines k.1))
+  lines_follow n ls lines k = absurd k
 
   rest_follows : (n : ℕ) (ls : List (List ℕ)) (sent_lines unsent : List Line) → AreKnown g reply_pairs n ls (sent_lines ++ unsent)
       → AreConsecutive (with_tickets unsent ++ Pending (next_ticket n (admitted g ls)) ∷ [])

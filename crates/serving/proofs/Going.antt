@@ -31,26 +31,18 @@ weight o = cond (is_some o) 1 0
 abbrev pub jobs : List (Option JobView) → ℕ
 jobs lent = count_by has_job (map hand_in (map lent_hand lent))
 
+has_job_so : (o : Option JobView) → has_job (hand_in (lent_hand o)) ≡ is_some o
+has_job_so None = refl
+has_job_so (Some job) = refl
+
 jobs_are : (lent : List (Option JobView)) → jobs lent ≡ count_by is_some lent
 jobs_are [] = refl
-jobs_are (None ∷ lent) =
-    let here = sum_by-cons (λ (h : Hand). cond (has_job h) 1 0) (hand_in (lent_hand None)) (map hand_in (map lent_hand lent)) in
-    let one = sum_by-cons weight None lent in
-    let rest = jobs_are lent in
-    omega (arith, here, one, rest)
-jobs_are (Some job ∷ lent) =
-    let here = sum_by-cons (λ (h : Hand). cond (has_job h) 1 0) (hand_in (lent_hand (Some job))) (map hand_in (map lent_hand lent)) in
-    let one = sum_by-cons weight (Some job) lent in
-    let rest = jobs_are lent in
-    omega (arith, here, one, rest)
+jobs_are (o ∷ lent) = sum_by-cons (λ (h : Hand). cond (has_job h) 1 0) (hand_in (lent_hand o)) (map hand_in (map lent_hand lent))
+    ∙ (λ i. cond (has_job_so o i) 1 0 + jobs_are lent i) ∙ sym (sum_by-cons weight o lent)
 
 -- where something else is lent at a place, or nothing any more
 jobs-set : (lent : List (Option JobView)) (k : ℕ) (now : Option JobView) → k < length lent → jobs (set lent k now) + weight (get_or lent k None) ≡ jobs lent + weight now
-jobs-set lent k now within =
-    let changed = sum_by-set weight lent k now None within in
-    let was = jobs_are lent in
-    let are = jobs_are (set lent k now) in
-    omega (arith, changed, was, are)
+jobs-set lent k now within = omega (arith, sum_by-set weight lent k now None within, jobs_are lent, jobs_are (set lent k now))
 
 none_weighs : (o : Option JobView) → is_none o ≡ true → weight o ≡ 0
 none_weighs None e = refl
@@ -79,42 +71,38 @@ module _ (g : Geometry) (k : ℕ) (old new : CoreState) (lent after : List (Opti
   dispatched (Ok _) first d =
       let grant = d.1 in
       let at = position-Some is_none lent k None first in
-      let more = length-append old.in_flight (grant.found.0 ∷ []) in
-      let fewer = length-picked (is_eligible g old) old.waiting grant.found grant.first in
-      let lends = jobs-set lent k (Some d.0) at.0 in
-      let free = none_weighs (get_or lent k None) at.1 in
-      let waiting = ap (λ (w : CoreState). length w.waiting) grant.state_after in
-      let in_flight = ap (λ (w : CoreState). length w.in_flight) grant.state_after in
-      let ran = ap (λ (w : CoreState). length w.ran) grant.state_after in
-      let logged = ap (λ (w : CoreState). length w.logged) grant.state_after in
-      let places = ap jobs d.2 in
-      (omega (arith, more, fewer, lends, free, waiting, in_flight, ran, logged, places), ap (λ (w : CoreState). w.pieces_left) grant.state_after)
+      rw (grant.state_after, d.2) (
+        omega (
+          arith,
+          length-append old.in_flight (grant.found.0 ∷ []),
+          length-picked (is_eligible g old) old.waiting grant.found grant.first,
+          jobs-set lent k (Some d.0) at.0,
+          none_weighs (get_or lent k None) at.1,
+        ),
+        refl,
+      )
   dispatched (Err why) first d = still old new lent after (nothing_done g old new lent why d.0) d.1
 
   pub returned : (ticket : ℕ) (found : Entry × List Entry) → k < length lent → find_in_flight old ticket ≡ Some found → new ≡ give_back g old found → after ≡ set lent k None
       → (steps new after ≤ steps old lent) × (new.pieces_left ≡ old.pieces_left)
-  returned ticket found within first is places =
-      let fewer = length-picked _ old.in_flight found first in
-      let more = length-append old.ran ((found.0.0, found.0.1, reply_to g old.committed found.0.1) ∷ []) in
-      let back = jobs-set lent k None within in
-      let waiting = ap (λ (w : CoreState). length w.waiting) is in
-      let in_flight = ap (λ (w : CoreState). length w.in_flight) is in
-      let ran = ap (λ (w : CoreState). length w.ran) is in
-      let logged = ap (λ (w : CoreState). length w.logged) is in
-      let free = ap jobs places in
-      (omega (arith, fewer, more, back, waiting, in_flight, ran, logged, free), ap (λ (w : CoreState). w.pieces_left) is)
+  returned ticket found within first is places = rw (is, places) (
+    omega (
+      arith,
+      length-picked _ old.in_flight found first,
+      length-append old.ran ((found.0.0, found.0.1, reply_to g old.committed found.0.1) ∷ []),
+      jobs-set lent k None within,
+    ),
+    refl,
+  )
 
 pub logged_some : (g : Geometry) (old new : CoreState) (lent : List (Option JobView)) (n : ℕ) (r : Result ℕ CoreFault) → IsLogStep g old new n r
     → IfOk r (λ count. steps new lent + count ≡ steps old lent)
-logged_some g old new lent n (Ok count) s =
-    let parts = ap length (sym (take-append-drop n old.ran)) ∙ length-append (take n old.ran) (drop n old.ran) in
-    let more = length-append old.logged (take n old.ran) in
-    let many = s.1 in
-    let waiting = ap (λ (w : CoreState). length w.waiting) s.2 in
-    let in_flight = ap (λ (w : CoreState). length w.in_flight) s.2 in
-    let ran = ap (λ (w : CoreState). length w.ran) s.2 in
-    let logged = ap (λ (w : CoreState). length w.logged) s.2 in
-    omega (arith, parts, more, many, waiting, in_flight, ran, logged)
+logged_some g old new lent n (Ok count) s = rw s.2 (omega (
+  arith,
+  s.1,
+  length-append old.logged (take n old.ran),
+  ap length (sym (take-append-drop n old.ran)) ∙ length-append (take n old.ran) (drop n old.ran),
+))
 logged_some g old new lent n (Err e) s = tt
 
 -- ---- an iteration

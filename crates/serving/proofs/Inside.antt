@@ -1,9 +1,10 @@
 -- There are no more messages in the core than lines that are not answered in the output, since each line that was written was answered.
-use Rattle.std.proofs.Common.{◌≡◌, ℕ, ◌+◌, ◌<◌, ◌≤◌, Bool, true, false, List, [], ◌∷◌, ◌++◌, Option, Some, None, refl, ap, sym, subst, length, ⊎_elim, arith}
+use Rattle.std.proofs.Common.{◌≡◌, ℕ, ◌+◌, ◌<◌, ◌≤◌, Bool, true, false, List, [], ◌∷◌, ◌++◌, Option, Some, None, refl, ap, sym, length, ⊎_elim, arith}
 use Rattle.std.specs.Prelude.{if◌then◌else◌, nat_le}
 use Rattle.std.specs.List.{AllByRecursion}
-use Rattle.std.proofs.lemmas.Bool.{le-leb, leb-true, true≢false}
-use Rattle.std.proofs.lemmas.List.{length-append}
+use Rattle.std.proofs.lemmas.Bool.{le-leb, true≢false}
+use Rattle.std.proofs.lemmas.List.{length-append, nil_from_length}
+use Rattle.std.proofs.lemmas.Bool.Decides.{nat_tests}
 use Rattle.affinity.specs.declared.geometry.Geometry.{Geometry}
 use Rattle.histories.proofs.Elements.{in_contained}
 use Rattle.histories.proofs.SerialReplies.{IsIn}
@@ -32,19 +33,13 @@ one_from : (n ticket : ℕ) → n ≤ ticket → one n ticket ≡ 1
 one_from n ticket h = ap (λ (b : Bool). if b then 1 else 0) (le-leb n ticket h)
 
 one_before : (n ticket : ℕ) → ticket < n → one n ticket ≡ 0
-one_before n ticket h = elim (nat_le n ticket) as (λ b. nat_le n ticket ≡ b → ◌≡◌ {A = ℕ} (if b then 1 else 0) 0) [
-  | true ↦ λ e. let le = leb-true n ticket e in absurd (omega (arith, h, le))
-  | false ↦ λ e. refl
-] refl
+one_before n ticket h = grind (arith, nat_tests)
 
 one_most : (n ticket : ℕ) → one n ticket ≤ 1
 one_most n ticket = elim (nat_le n ticket) as (λ b. (if b then 1 else 0) ≤ 1) [ true ↦ omega arith | false ↦ omega arith ]
 
 one_less : (n ticket : ℕ) → one (n + 1) ticket ≤ one n ticket
-one_less n ticket = elim (nat_le (n + 1) ticket) as (λ b. nat_le (n + 1) ticket ≡ b → (if b then 1 else 0) ≤ one n ticket) [
-  | true ↦ λ e. let le = leb-true (n + 1) ticket e in let o = one_from n ticket (omega (arith, le)) in omega (arith, o)
-  | false ↦ λ e. omega arith
-] refl
+one_less n ticket = grind (arith, nat_tests)
 
 abbrev later : ℕ → List (ℕ × Reply) → ℕ
 later n [] = 0
@@ -64,10 +59,7 @@ later_one n reply [] is = absurd is
 later_one n reply (p ∷ ps) is = ⊎_elim
     (λ (e : (n, reply) ≡ p).
     let same : n ≡ p.0 = ap (λ (q : ℕ × Reply). q.0) e in
-    let now = one_from n p.0 (omega (arith, same)) in
-    let then_none = one_before (n + 1) p.0 (omega (arith, same)) in
-    let l = later_less n ps in
-    omega (arith, now, then_none, l))
+    omega (arith, one_from n p.0 (omega (arith, same)), one_before (n + 1) p.0 (omega (arith, same)), later_less n ps))
     (λ rest. let o = one_less n p.0 in let l = later_one n reply ps rest in omega (arith, o, l)) is
 
 -- ---- the lines
@@ -80,28 +72,20 @@ module _ (g : Geometry) (replies : List (ℕ × Reply)) where
   -- Each line takes at most one ticket.
   unsent_take : (n : ℕ) (ls : List (List ℕ)) (unsent : List Line) → AreKnown g replies n ls unsent → length (admitted g ls) ≤ length unsent
   unsent_take n [] [] k = omega arith
-  unsent_take n [] (known ∷ unsent) k = absurd k
-  unsent_take n (l ∷ ls) [] k = absurd k
   unsent_take n (l ∷ ls) (known ∷ unsent) k =
       let o = message_of l in
-      let rest = unsent_take (next_ticket n (admitted_in g o)) ls unsent k.1 in
-      let few = few_asked o in
-      let all = length-append (admitted_in g o) (admitted g ls) in
-      omega (arith, rest, few, all)
+      omega (arith, unsent_take (next_ticket n (admitted_in g o)) ls unsent k.1, few_asked o, length-append (admitted_in g o) (admitted g ls))
+  unsent_take n ls unsent k = absurd k
 
   -- A line that has its answer takes no ticket, or one to which a reply was given.
   answered_takes : (n : ℕ) (o : Option Msg) (known : Line) → IsKnown g replies n o known → has_answer known ≡ true
       → length (admitted_in g o) + later (next_ticket n (admitted_in g o)) replies ≤ later n replies
   answered_takes n None NoMessage k done = omega arith
-  answered_takes n (Some m) OutOfRange k done =
-      let none : admitted_in g (Some m) ≡ [] = ap (λ (b : Bool). if b then m ∷ [] else []) k in
-      subst (λ (l : List Msg). length l + later (next_ticket n l) replies ≤ later n replies) (sym none) (omega arith)
+  answered_takes n (Some m) OutOfRange k done = rw k (omega arith)
   answered_takes n (Some m) (Pending ticket) k done = absurd (true≢false (sym done))
   answered_takes n (Some m) (Completed ticket reply) k done =
-      let single : admitted_in g (Some m) ≡ m ∷ [] = ap (λ (b : Bool). if b then m ∷ [] else []) k.0 in
-      let is : IsIn (n, reply) replies = subst (λ (t : ℕ). IsIn (t, reply) replies) k.1 (in_contained replies (ticket, reply) k.2) in
-      let l = later_one n reply replies is in
-      subst (λ (l : List Msg). length l + later (next_ticket n l) replies ≤ later n replies) (sym single) (omega (arith, l))
+      let is : IsIn (n, reply) replies = rw k.1 at (in_contained replies (ticket, reply) k.2) in
+      rw k.0 (omega (arith, later_one n reply replies is))
   answered_takes n o known k done = absurd k
 
   -- No more lines take tickets than there are replies to ticket n or later ones, and lines that are not sent.
@@ -111,10 +95,12 @@ module _ (g : Geometry) (replies : List (ℕ × Reply)) where
   lines_take n [] (known ∷ sent_lines) unsent k done = absurd k
   lines_take n (l ∷ ls) (known ∷ sent_lines) unsent k done =
       let o = message_of l in
-      let here = answered_takes n o known k.0 done.0 in
-      let rest = lines_take (next_ticket n (admitted_in g o)) ls sent_lines unsent k.1 done.1 in
-      let all = length-append (admitted_in g o) (admitted g ls) in
-      omega (arith, here, rest, all)
+      omega (
+        arith,
+        answered_takes n o known k.0 done.0,
+        lines_take (next_ticket n (admitted_in g o)) ls sent_lines unsent k.1 done.1,
+        length-append (admitted_in g o) (admitted g ls),
+      )
 
 -- ---- the core
 
@@ -125,12 +111,8 @@ length-ticketed n (m ∷ ms) = let l = length-ticketed (n + 1) ms in omega (arit
 pub idle_inside : (w : CoreState) → IsIdle w → unanswered w ≡ 0
 idle_inside w h = let waits = ap length h.none_waits in let holds = ap length h.none_held in omega (arith, waits, holds)
 
-none_long : {A : Type 0} (xs : List A) → length xs ≤ 0 → xs ≡ []
-none_long [] h = refl
-none_long (x ∷ xs) h = absurd (omega (arith, h))
-
 none_inside : (w : CoreState) → unanswered w ≤ 0 → IsIdle w
-none_inside w h = record { none_waits = none_long w.waiting (omega (arith, h)); none_held = none_long (held w) (omega (arith, h)) }
+none_inside w h = record { none_waits = nil_from_length w.waiting (omega (arith, h)); none_held = nil_from_length (held w) (omega (arith, h)) }
 
 -- How many messages wait or are held grows by the arrivals, less those that were answered.
 pub passes_count : {keeps : Type 0} {old new : MachineView} {arriving : List Entry} {reply_pairs : List (ℕ × Reply)} → RunsBetween keeps old new arriving reply_pairs
@@ -138,9 +120,7 @@ pub passes_count : {keeps : Type 0} {old new : MachineView} {arriving : List Ent
 passes_count {old} {new} p =
     let run = run_counts old.core.geometry (machine_of old) (events_of p.device_events) p.leads.legal in
     let ends : unanswered (end_state (machine_of old) (events_of p.device_events)).core ≡ unanswered (core_state_of new.core) = ap (λ (w : MachineState). unanswered w.core) p.leads.ends in
-    let came = ap length p.arrived_are in
-    let tells = ap length p.reply_pairs_are in
-    omega (arith, run, ends, came, tells)
+    omega (arith, run, ends, ap length p.arrived_are, ap length p.reply_pairs_are)
 
 module _ {keeps : Type 0} {start now : MachineView} (idle : IsIdle (core_state_of start.core)) where
   serving_inside : {consumed : List (List ℕ)} {sent_lines unsent : List Line} → IsServing keeps start now consumed sent_lines unsent
@@ -148,12 +128,14 @@ module _ {keeps : Type 0} {start now : MachineView} (idle : IsIdle (core_state_o
   serving_inside {consumed} {sent_lines} {unsent} s =
       let g = start.core.geometry in
       let n = start.core.next in
-      let counts = passes_count s.segment in
-      let arriving = length-ticketed n (admitted g consumed) in
-      let none = idle_inside (core_state_of start.core) idle in
-      let takes = lines_take g s.reply_pairs n consumed sent_lines unsent s.known s.answered in
-      let most = later_most n s.reply_pairs in
-      omega (arith, counts, arriving, none, takes, most)
+      omega (
+        arith,
+        passes_count s.segment,
+        length-ticketed n (admitted g consumed),
+        idle_inside (core_state_of start.core) idle,
+        lines_take g s.reply_pairs n consumed sent_lines unsent s.known s.answered,
+        later_most n s.reply_pairs,
+      )
 
   -- No more messages wait or are held than there are lines that were read and aren't written.
   pub few_inside : {unsent : List Line} {input unread : Option (List ℕ)} {ended : Bool} {before written : Option (List ℕ)}

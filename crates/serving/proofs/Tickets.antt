@@ -1,5 +1,6 @@
 -- The tickets that a run gives, one after the other.
 use Rattle.std.proofs.Common.{◌≡◌, ℕ, ◌+◌, List, [], ◌∷◌, ◌++◌, refl, ap, sym, ◌∙◌}
+use Rattle.std.proofs.lemmas.List.{map-append}
 use Rattle.affinity.specs.declared.geometry.Geometry.{Geometry}
 use Rattle.histories.proofs.Moves.{Answers, Arrives, Backs, Grants, Logs, Move, Passed, Stays, moves}
 use Rattle.histories.specs.Events.{Event, MachineState}
@@ -21,22 +22,15 @@ pub ticketed-append : (n : ℕ) (ms more : List Msg) → ticketed n (ms ++ more)
 ticketed-append n [] more = refl
 ticketed-append n (m ∷ ms) more = ap (λ l. (n, m) ∷ l) (ticketed-append (n + 1) ms more)
 
-messages-append : (es fs : List Entry) → messages_of (es ++ fs) ≡ messages_of es ++ messages_of fs
-messages-append [] fs = refl
-messages-append (e ∷ es) fs = ap (λ l. e.1 ∷ l) (messages-append es fs)
-
 -- ---- the next ticket after a run
 
-quiet_next : (old new : CoreState) (p : Passed) → p.come ≡ [] → new.next ≡ old.next → new.next ≡ next_ticket old.next (messages_of p.come)
-quiet_next old new p none same = same ∙ ap (λ (es : List Entry). next_ticket old.next (messages_of es)) (sym none)
-
 move_next : (g : Geometry) (old new : CoreState) (p : Passed) → Move g old new p → new.next ≡ next_ticket old.next (messages_of p.come)
-move_next g old new p (Stays s e) = quiet_next old new p (ap (λ p. p.come) e) s.next
-move_next g old new p (Arrives m fits is e) = ap (λ w. w.next) is ∙ ap (λ (q : Passed). next_ticket old.next (messages_of q.come)) (sym e)
-move_next g old new p (Grants found first is e) = quiet_next old new p (ap (λ p. p.come) e) (ap (λ w. w.next) is)
-move_next g old new p (Backs ticket found one_out is e) = quiet_next old new p (ap (λ p. p.come) e) (ap (λ w. w.next) is)
-move_next g old new p (Logs n is e) = quiet_next old new p (ap (λ p. p.come) e) (ap (λ w. w.next) is)
-move_next g old new p (Answers a rest front is e) = quiet_next old new p (ap (λ p. p.come) e) (ap (λ w. w.next) is)
+move_next g old new p (Stays s e) = rw e s.next
+move_next g old new p (Arrives m fits is e) = rw (e, is) refl
+move_next g old new p (Grants found first is e) = rw (e, is) refl
+move_next g old new p (Backs ticket found one_out is e) = rw (e, is) refl
+move_next g old new p (Logs n is e) = rw (e, is) refl
+move_next g old new p (Answers a rest front is e) = rw (e, is) refl
 
 pub run_next : (g : Geometry) (old : MachineState) (events : List Event) → IsLegal g old events
     → (end_state old events).core.next ≡ next_ticket old.core.next (messages_of (arrived events))
@@ -46,7 +40,7 @@ run_next g old (event ∷ events) legal =
     run_next g event.state_after events legal.1
     ∙ ap (λ n. next_ticket n (messages_of (arrived events))) (move_next g old.core event.state_after.core _ (moves g old event legal.0))
     ∙ sym (next-append old.core.next (messages_of come) (messages_of (arrived events)))
-    ∙ ap (next_ticket old.core.next) (sym (messages-append come (arrived events)))
+    ∙ ap (next_ticket old.core.next) (sym (map-append (λ (e : Entry). e.1) come (arrived events)))
 
 pub passes_next : {keeps : Type 0} {old new : MachineView} {arriving : List Entry} {reply_pairs : List (ℕ × Reply)} → RunsBetween keeps old new arriving reply_pairs
     → new.core.next ≡ next_ticket old.core.next (messages_of arriving)
