@@ -1,14 +1,13 @@
 -- What is collected from the bench: the job of a place has run, and its result is given back.
-use Rattle.std.proofs.Common.{◌≡◌, ℕ, ◌<◌, zero, suc, true, false, List, [], ◌∷◌, Option, Some, None, refl, ap, sym, ◌∙◌, subst, length, map, set, arith}
+use Rattle.std.proofs.Common.{◌≡◌, ℕ, ◌<◌, true, false, List, [], Option, Some, None, refl, ap, ◌∙◌, length, map, set, arith}
 use Rattle.std.specs.Prelude.{option_map, slice_get, get_or}
 use Rattle.std.proofs.lemmas.Option.{slice_get-get_or, slice_get-map}
-use Rattle.std.proofs.lemmas.List.{get_or-set_same, length-map}
+use Rattle.std.proofs.lemmas.List.{get_or-set_same, length-map, map-set, length-set, set-set}
 use Rattle.histories.specs.Events.{give_back, find_in_flight}
 use Rattle.histories.specs.CoreState.{Entry}
 use Rattle.histories.specs.declared.outcomes.Outcome.TheVariants as outcomes
 use Rattle.histories.specs.declared.outcomes.Step.TheVariants as steps
 use Rattle.incarnations.proofs.Events.{a_job, back_holds, back_step, was_result}
-use Rattle.incarnations.specs.Machine.{MachineView}
 use Rattle.incarnations.specs.Steps.{IsMachineStep}
 use Rattle.incarnations.specs.declared.hands.HandContent.{HandContent}
 use Rattle.incarnations.specs.declared.hands.HandContent.TheVariants as has
@@ -16,33 +15,15 @@ use Rattle.parcel.specs.Run.{JobView, IsJobRun}
 use Rattle.parcel.specs.declared.job.Done.{Done}
 use Rattle.scheduler.specs.Jobs.{IsResultOf}
 use Rattle.scheduler.specs.CoreView.{CoreView, RecoversNow, core_state_of}
-use Rattle.serving.specs.Runs.{HandsHaveJobs, IsInternal, RunsBetween, lent_hand, machine_with_jobs}
+use Rattle.serving.specs.Runs.{HandsHaveJobs, IsInternal, lent_hand, machine_with_jobs}
 use Rattle.serving.proofs.Chain.{passes_on}
 use Rattle.serving.proofs.Segments.{step_passes}
 use Rattle.workers.specs.Rule.{lent_at}
 
 -- ---- hands and places
 
-pub hands-set : (lent : List (Option JobView)) (k : ℕ) (o : Option JobView) → map lent_hand (set lent k o) ≡ set (map lent_hand lent) k (lent_hand o)
-hands-set [] zero o = refl
-hands-set [] (suc k) o = refl
-hands-set (x ∷ lent) zero o = refl
-hands-set (x ∷ lent) (suc k) o = ap (λ (l : List HandContent). lent_hand x ∷ l) (hands-set lent k o)
-
-set-twice : (hands : List HandContent) (k : ℕ) (a b : HandContent) → set (set hands k a) k b ≡ set hands k b
-set-twice [] zero a b = refl
-set-twice [] (suc k) a b = refl
-set-twice (x ∷ hands) zero a b = refl
-set-twice (x ∷ hands) (suc k) a b = ap (λ (l : List HandContent). x ∷ l) (set-twice hands k a b)
-
 read_at : {A : Type 0} (xs : List A) (k : ℕ) (d x : A) → k < length xs → get_or xs k d ≡ x → slice_get xs k ≡ Some x
 read_at xs k d x lt e = slice_get-get_or xs k d lt ∙ ap (λ (y : _). Some y) e
-
-pub set-length : {A : Type 0} (xs : List A) (k : ℕ) (x : A) → length (set xs k x) ≡ length xs
-set-length [] zero x = refl
-set-length [] (suc k) x = refl
-set-length (y ∷ xs) zero x = refl
-set-length (y ∷ xs) (suc k) x = ap suc (set-length xs k x)
 
 -- ---- a result
 
@@ -64,10 +45,8 @@ module _ (keeps : Type 0) (core : CoreView) (lent : List (Option JobView)) (none
 
   result_there : slice_get ran k ≡ Some (has.Result done)
   result_there =
-      let many = length-map lent lent_hand in
-      let long = set-length hands k (has.Result done) in
-      read_at ran k has.Empty (has.Result done) (omega (arith, within, many, long))
-      (get_or-set_same hands k (has.Result done) has.Empty (omega (arith, within, many)))
+      let there : k < length hands = omega (arith, within, length-map lent lent_hand) in
+      read_at ran k has.Empty (has.Result done) (omega (arith, there, length-set hands k (has.Result done))) (get_or-set_same hands k (has.Result done) has.Empty there)
 
   pub came_back : IsResultOf core.geometry (core_state_of core) done
   came_back = was_result keeps core ran none recovers moved.1 k done result_there
@@ -75,18 +54,9 @@ module _ (keeps : Type 0) (core : CoreView) (lent : List (Option JobView)) (none
   module _ (new : CoreView) (geometry : new.geometry ≡ core.geometry) (same : new.medium ≡ core.medium) (found : Entry × List Entry)
       (one_out : find_in_flight (core_state_of core) done.ticket ≡ Some found) (reply_pairs : found.0 ≡ (done.ticket, done.message))
       (state_after : core_state_of new ≡ give_back core.geometry (core_state_of core) found) where
-    abbrev at : List HandContent → CoreView → MachineView
-    at l c = record { core = c; hands = l }
-
-    emptied : set ran k has.Empty ≡ map lent_hand (set lent k None)
-    emptied = set-twice hands k (has.Result done) has.Empty ∙ sym (hands-set lent k None)
-
-    segment : RunsBetween keeps (at hands core) (at (set ran k has.Empty) new) [] []
-    segment = passes_on (step_passes moved.0)
-        (step_passes (back_step keeps core ran none recovers moved.1 k done result_there new geometry same found one_out reply_pairs state_after))
-
     pub gives_back : IsInternal keeps (machine_with_jobs core lent) (machine_with_jobs new (set lent k None))
-    gives_back = subst (λ (l : List HandContent). IsInternal keeps (at hands core) (at l new)) emptied (record {
+    gives_back = rw (map-set lent_hand lent k None, ← set-set hands k (has.Result done) has.Empty) (record {
       holds = back_holds keeps core ran none recovers moved.1 k done result_there new geometry same found one_out reply_pairs state_after;
-      segment = segment;
+      segment = passes_on (step_passes moved.0)
+          (step_passes (back_step keeps core ran none recovers moved.1 k done result_there new geometry same found one_out reply_pairs state_after));
     })

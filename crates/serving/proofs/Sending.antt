@@ -1,8 +1,7 @@
 -- What is dispatched to the bench: the eligible message with the least ticket, to the first place where nothing is lent.
-use Rattle.std.proofs.Common.{◌≡◌, ℕ, ◌+◌, Bool, true, false, List, [], ◌∷◌, Option, Some, None, Result, Ok, Err, refl, ap, sym, ◌∙◌, subst, length, map, set}
-use Rattle.std.specs.Prelude.{if◌then◌else◌, is_none, nat_lt, not, position}
-use Rattle.std.specs.List.{position_or_len}
-use Rattle.std.proofs.lemmas.List.{length-map}
+use Rattle.std.proofs.Common.{◌≡◌, ℕ, Bool, true, false, List, [], Option, Some, None, Result, Ok, Err, refl, ap, sym, ◌∙◌, length, map, set}
+use Rattle.std.specs.Prelude.{is_none, position}
+use Rattle.std.proofs.lemmas.List.{map-set, length-set}
 use Rattle.std.proofs.lemmas.List.Quantifiers.{position-Some}
 use Rattle.std.proofs.lemmas.Bool.{true≢false}
 use Rattle.affinity.specs.declared.geometry.Geometry.{Geometry}
@@ -12,20 +11,18 @@ use Rattle.histories.specs.declared.outcomes.Outcome.{Outcome}
 use Rattle.histories.specs.declared.outcomes.Outcome.TheVariants as outcomes
 use Rattle.histories.specs.declared.outcomes.Step.TheVariants as steps
 use Rattle.histories.specs.Runs.{answers}
-use Rattle.incarnations.proofs.Events.{failed_step, grant_holds, grant_step, no_grant_step, position_within, still_holds}
-use Rattle.incarnations.specs.Machine.{MachineView, hand_of as to_hand}
+use Rattle.incarnations.proofs.Events.{failed_step, grant_holds, grant_step, no_grant_step, position_map, position_within, still_holds}
+use Rattle.incarnations.specs.Machine.{hand_of as to_hand}
 use Rattle.incarnations.specs.Steps.{IsMachineStep}
 use Rattle.incarnations.specs.declared.hands.HandContent.{HandContent}
 use Rattle.incarnations.specs.declared.hands.HandContent.TheVariants as has
-use Rattle.language.specs.declared.Reply.{Reply}
 use Rattle.parcel.specs.Run.{JobView}
 use Rattle.scheduler.specs.Calls.{IsGrantOf, IsNoGrant}
 use Rattle.scheduler.specs.CoreView.{CoreView, RecoversNow, core_state_of}
 use Rattle.serving.specs.Lending.{DispatchesTo, IsBlocked}
-use Rattle.serving.specs.Runs.{HandsHaveJobs, IsInternal, RunsBetween, lent_hand, machine_with_jobs}
+use Rattle.serving.specs.Runs.{HandsHaveJobs, IsInternal, lent_hand, machine_with_jobs}
 use Rattle.serving.specs.declared.dispatch.Blocked.{Blocked}
 use Rattle.serving.specs.declared.dispatch.Blocked.TheVariants as blocked
-use Rattle.serving.proofs.Returning.{hands-set, set-length}
 use Rattle.serving.proofs.Segments.{step_passes}
 use Rattle.workers.specs.Rule.{lent_at}
 
@@ -37,16 +34,6 @@ vacant h = is_empty (to_hand h)
 same_test : (o : Option JobView) → vacant (lent_hand o) ≡ is_none o
 same_test None = refl
 same_test (Some job) = refl
-
-first_place : (lent : List (Option JobView)) → position vacant (map lent_hand lent) ≡ position is_none lent
-first_place lent = λ i. of (at lent i) (length-map lent lent_hand i)
-  where
-    of : ℕ → ℕ → Option ℕ
-    of n m = if nat_lt n m then Some n else None
-
-    at : (lent : List (Option JobView)) → position_or_len vacant (map lent_hand lent) ≡ position_or_len is_none lent
-    at [] = refl
-    at (o ∷ lent) = λ i. if not (same_test o i) then 1 + at lent i else 0
 
 nothing_in : (o : Option JobView) → is_none o ≡ true → o ≡ None
 nothing_in None e = refl
@@ -64,23 +51,17 @@ module _ (keeps : Type 0) (old new : CoreView) (lent : List (Option JobView)) (n
   hands = map lent_hand lent
 
   least : position vacant hands ≡ Some k
-  least = first_place lent ∙ first
+  least = position_map lent_hand vacant is_none same_test lent ∙ first
 
   -- a grant in which no message is answered is an internal step
   quiet : (after : List HandContent) (outcome : Outcome) → answers outcome ≡ [] → HandsHaveJobs (record { core = new; hands = after })
       → IsMachineStep keeps (record { core = old; hands = hands }) (record { core = new; hands = after }) steps.Grant outcome
       → IsInternal keeps (machine_with_jobs old lent) (record { core = new; hands = after })
-  quiet after outcome none_told holds step =
-      let was : MachineView = record { core = old; hands = hands } in
-      let now : MachineView = record { core = new; hands = after } in
-      record {
-        holds = holds;
-        segment = subst (λ (l : List (ℕ × Reply)). RunsBetween keeps was now [] l) none_told (step_passes step);
-      }
+  quiet after outcome none_told holds step = record { holds = holds; segment = rw none_told at (step_passes step) }
 
   goes_out : (job : JobView) → IsGrantOf old.geometry (core_state_of old) (core_state_of new) job
       → IsInternal keeps (machine_with_jobs old lent) (machine_with_jobs new (set lent k (Some job)))
-  goes_out job g = subst (λ (l : List HandContent). IsInternal keeps (machine_with_jobs old lent) (record { core = new; hands = l })) (sym (hands-set lent k (Some job)))
+  goes_out job g = rw (map-set lent_hand lent k (Some job))
       (quiet (set hands k (has.Job job)) (outcomes.Granted k job.ticket) refl
       (grant_holds keeps old new hands none recovers geometry same k least job g h (position_within hands k least))
       (grant_step keeps old new hands none recovers geometry same k least job g))
@@ -103,10 +84,10 @@ module _ (keeps : Type 0) (old new : CoreView) (lent : List (Option JobView)) (n
   -- Whether a job is lent then or none.
   pub sends : (after : List (Option JobView)) (what : Result (Unit {0}) Blocked)
       → DispatchesTo old.geometry k (core_state_of old) lent (core_state_of new) after what → IsInternal keeps (machine_with_jobs old lent) (machine_with_jobs new after)
-  sends after (Ok _) d = subst (λ (x : List (Option JobView)). IsInternal keeps (machine_with_jobs old lent) (machine_with_jobs new x)) (sym d.2) (goes_out d.0 d.1)
-  sends after (Err why) d = subst (λ (x : List (Option JobView)). IsInternal keeps (machine_with_jobs old lent) (machine_with_jobs new x)) (sym d.1) (stays why d.0)
+  sends after (Ok _) d = rw d.2 (goes_out d.0 d.1)
+  sends after (Err why) d = rw d.1 (stays why d.0)
 
 pub as_many : (g : Geometry) (k : ℕ) (old new : CoreState) (lent after : List (Option JobView)) (what : Result (Unit {0}) Blocked) → DispatchesTo g k old lent new after what
     → length after ≡ length lent
-as_many g k old new lent after (Ok _) d = ap (λ (x : List (Option JobView)). length x) d.2 ∙ set-length lent k (Some d.0)
+as_many g k old new lent after (Ok _) d = ap (λ (x : List (Option JobView)). length x) d.2 ∙ length-set lent k (Some d.0)
 as_many g k old new lent after (Err why) d = ap (λ (x : List (Option JobView)). length x) d.1

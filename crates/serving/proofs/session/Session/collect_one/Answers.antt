@@ -1,9 +1,10 @@
 -- What was collected is given to the core, and the session keeps its invariant.
 use Rattle.std.proofs.Common.{◌<◌, List, Option, None, ap, length, sym, subst, ◌∙◌}
+use Rattle.std.proofs.lemmas.List.{length-set}
 use Rattle.parcel.specs.Run.{JobView}
 use Rattle.serving.specs.Runs.{IsInternal, machine_with_jobs}
 use Rattle.serving.specs.Session.{HasMoved, SessionView}
-use Rattle.serving.proofs.Returning.{came_back, gives_back, set-length}
+use Rattle.serving.proofs.Returning.{came_back, gives_back}
 use Rattle.serving.proofs.Going.{returned}
 use Rattle.serving.proofs.Invariant.{holds_of, on_machine}
 use Rattle.serving.proofs.session.Session.collect_one.Goals as goal
@@ -27,7 +28,7 @@ invariant_of-self-2 g c =
     (gives_back g.D.Disk.keeps old.core old.dispatch_seat.lent c.know_recovery.ensures.no_doubt c.know_recovery.ensures.now (holds_of g.D.Disk.keeps _ _ c.self.invariant.run)
     c.args.k place s.0 c.in-Some.done s.1 s.2 c.give_back.new.self c.give_back.ensures.geometry c.give_back.ensures.untouched
     back.0 back.1 back.2 back.3) in
-    let places = ap (λ (l : List (Option JobView)). length l) s.3 ∙ set-length old.dispatch_seat.lent c.args.k None in
+    let places = ap (λ (l : List (Option JobView)). length l) s.3 ∙ length-set old.dispatch_seat.lent c.args.k None in
     record { run = on_machine g.D.Disk.keeps _ _ c.self.invariant.run _ _ quiet c.in-Some.ensures.bench places; bench = c.in-Some.ensures.bench ∙ c.self.invariant.bench }
 
 pub returns-clause-moves : goal.returns-clause-moves
