@@ -1,7 +1,7 @@
 -- The answers to lines in the output, and what stays true of a session when some of its outstanding lines are sent.
-use Rattle.std.proofs.Common.{◌≡◌, ℕ, ◌-◌, Bool, true, List, [], ◌∷◌, ◌++◌, Option, refl, ap, sym, ◌∙◌, subst, map, length, take, drop, append-nil, append_assoc, arith}
+use Rattle.std.proofs.Common.{◌≡◌, ℕ, ◌-◌, Bool, true, List, [], ◌++◌, Option, ap, sym, ◌∙◌, subst, map, length, take, drop, append-nil, append_assoc, arith}
 use Rattle.std.specs.Prelude.{Result, Ok, Err, IfOk, MatchResult, OnOk}
-use Rattle.std.proofs.lemmas.List.{nil_from_length, take-append-drop}
+use Rattle.std.proofs.lemmas.List.{nil_from_length, take-append-drop, map-append}
 use Rattle.affinity.specs.declared.geometry.Geometry.{Geometry}
 use Rattle.histories.specs.CoreState.{CoreState, Replied}
 use Rattle.histories.specs.Events.{recorded}
@@ -12,6 +12,7 @@ use Rattle.serving.specs.declared.session.Halted.{Halted}
 use Rattle.std.proofs.KnownBytes.{Appends-trans}
 use Rattle.std.specs.Io.KnownBytes.{Appends}
 use Rattle.std.specs.List.{AllByRecursion}
+use Rattle.meaning.proofs.OutputLemmas.{joined-append}
 use Rattle.affinity.proofs.Elements.{all_join}
 use Rattle.incarnations.specs.Machine.{MachineView}
 use Rattle.serving.specs.Progress.{ServingProgress}
@@ -21,8 +22,7 @@ use Rattle.meaning.specs.Output.{joined}
 -- ---- the answers to lines
 
 pub texts_both : (sent_lines more : List Line) → joined (map answer_text (sent_lines ++ more)) ≡ joined (map answer_text sent_lines) ++ joined (map answer_text more)
-texts_both [] more = refl
-texts_both (x ∷ sent_lines) more = ap (λ z. answer_text x ++ z) (texts_both sent_lines more) ∙ sym (append_assoc (answer_text x) (joined (map answer_text sent_lines)) (joined (map answer_text more)))
+texts_both sent_lines more = ap joined (map-append answer_text sent_lines more) ∙ joined-append (map answer_text sent_lines) (map answer_text more)
 
 -- ---- fewer lines outstanding
 

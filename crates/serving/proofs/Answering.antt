@@ -1,5 +1,5 @@
 -- A message that is answered: what changes in its line in the reorder buffer, and in the core state.
-use Rattle.std.proofs.Common.{◌≡◌, ◌+◌, ℕ, true, false, List, [], ◌∷◌, ◌++◌, Option, Some, None, refl, ap, sym, ◌∙◌, subst, map, inl, append-nil, arith, length, Bool, ◌⊎◌, inr, ⊎_elim}
+use Rattle.std.proofs.Common.{◌≡◌, ◌+◌, ℕ, true, false, List, [], ◌∷◌, ◌++◌, Option, Some, None, refl, ap, sym, ◌∙◌, map, inl, append-nil, arith, length, Bool, ◌⊎◌, inr, ⊎_elim}
 use Rattle.std.specs.Prelude.{if◌then◌else◌, ◌==◌}
 use Rattle.std.specs.List.{AllByRecursion, Contains}
 use Rattle.std.proofs.lemmas.Bool.{eq-eqb, eqb-true, true≢false}
@@ -59,22 +59,19 @@ module _ (g : Geometry) (reply_pairs : List (ℕ × Reply)) (ticket : ℕ) (repl
 
   -- What is known of any line is known with one reply more, once that is stored in its message's line (`complete_one`).
   known_answered : (n : ℕ) (o : Option Msg) (known : Line) → IsKnown g reply_pairs n o known → IsKnown g more n o (complete_one ticket reply known)
-  known_answered n o NoMessage k = known_still n o NoMessage refl k
-  known_answered n o OutOfRange k = known_still n o OutOfRange refl k
-  known_answered n o (Completed t r) k = known_still n o (Completed t r) refl k
   known_answered n None (Pending t) k = absurd k
   known_answered n (Some m) (Pending t) k = elim (t == ticket) as
       (λ b. (t == ticket) ≡ b → IsKnown g more n (Some m) (if b then Completed t reply else Pending t)) [
-        | true ↦ λ e. (k.0, k.1, subst (λ (u : ℕ). Contains more (u, reply)) (sym (eqb-true t ticket e)) now_there)
+        | true ↦ λ e. (k.0, k.1, rw (eqb-true t ticket e) now_there)
         | false ↦ λ e. (k.0, k.1, none_still t e k.2)
       ] refl
+  known_answered n o known k = known_still n o known refl k
 
   each_answered : (n : ℕ) (ls : List (List ℕ)) (lines : List Line) → AreKnown g reply_pairs n ls lines → AreKnown g more n ls (map (complete_one ticket reply) lines)
   each_answered n [] [] k = tt
-  each_answered n [] (known ∷ lines) k = absurd k
-  each_answered n (l ∷ ls) [] k = absurd k
   each_answered n (l ∷ ls) (known ∷ lines) k =
       (known_answered n (message_of l) known k.0, each_answered (next_ticket n (admitted_in g (message_of l))) ls lines k.1)
+  each_answered n ls lines k = absurd k
 
   lines_answered : (n : ℕ) (ls : List (List ℕ)) (sent_lines unsent : List Line) → AllByRecursion (λ line. has_answer line ≡ true) sent_lines
       → AreKnown g reply_pairs n ls (sent_lines ++ unsent) → AreKnown g more n ls (sent_lines ++ map (complete_one ticket reply) unsent)

@@ -38,14 +38,10 @@ module _ (g : Geometry) (reply_pairs : List (ℕ × Reply)) (l : List ℕ) (know
   known_push : (n : ℕ) (ls : List (List ℕ)) (lines : List Line) → AreKnown g reply_pairs n ls lines
       → IsKnown g reply_pairs (next_ticket n (admitted g ls)) (message_of l) known → AreKnown g reply_pairs n (ls ++ l ∷ []) (lines ++ known ∷ [])
   known_push n [] [] k one = (one, tt)
-  known_push n [] (x ∷ lines) k one = absurd k
-  known_push n (y ∷ ls) [] k one = absurd k
   known_push n (y ∷ ls) (x ∷ lines) k one =
-      let m = next_ticket n (admitted_in g (message_of y)) in (
-        k.0,
-        known_push m ls lines k.1
-            (subst (λ (t : ℕ). IsKnown g reply_pairs t (message_of l) known) (next-append n (admitted_in g (message_of y)) (admitted g ls)) one),
-      )
+      let m = next_ticket n (admitted_in g (message_of y)) in
+      (k.0, known_push m ls lines k.1 (rw (next-append n (admitted_in g (message_of y)) (admitted g ls)) at one))
+  known_push n ls lines k one = absurd k
 
 module _ {keeps : Type 0} {start old : MachineView} {consumed : List (List ℕ)} {sent_lines unsent : List Line} (s : IsServing keeps start old consumed sent_lines unsent) where
   abbrev g : Geometry

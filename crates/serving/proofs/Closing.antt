@@ -1,5 +1,5 @@
 -- A session that reads no more, and what it promises in the end.
-use Rattle.std.proofs.Common.{arith, ◌≡◌, ◌≢◌, ◌≤◌, ◌<◌, ◌+◌, ◌-◌, ℕ, zero, suc, Bool, true, false, List, [], ◌++◌, Option, Some, None, refl, ap, sym, ◌∙◌, subst, length, map, replicate, append_assoc, take, drop, take-append-drop}
+use Rattle.std.proofs.Common.{arith, ◌≡◌, ◌≢◌, ◌≤◌, ◌<◌, ◌+◌, ◌-◌, ℕ, Bool, true, false, List, [], ◌++◌, Option, Some, None, refl, ap, sym, ◌∙◌, subst, length, map, replicate, append_assoc, take, drop, take-append-drop}
 use Rattle.std.specs.Prelude.{Result, Ok, Err, IfOk, IfSome, MatchResult, OnErr, OnOk}
 use Rattle.std.specs.Io.KnownBytes.{Appends}
 use Rattle.std.proofs.KnownBytes.{Appends-nil, Appends-trans}
@@ -194,14 +194,7 @@ pub record IsAtStart (s : Start) (p : SessionView) : Type 0 where
 declined : {keeps : Type 0} {s : Start} {p : SessionView} → IsIdle (core_state_of s.core) → IsAtStart s p
     → PromisesAll keeps (start_machine s) p.core (exchange s.input p.remaining s.before p.sent) (Err faults.OutOfMemory)
 declined {keeps} {s} {p} idle at =
-    let Promised : CoreView → Option (List ℕ) → Option (List ℕ) → Type 0 =
-    λ c b w. PromisesAll keeps (start_machine s) c (exchange s.input b s.before w) (Err faults.OutOfMemory) in
-    subst (λ (c : CoreView). Promised c p.remaining p.sent) (sym at.core)
-    (subst (λ (b : Option (List ℕ)). Promised s.core b p.sent) (sym at.input)
-    (subst (λ (w : Option (List ℕ)). Promised s.core s.input w) (sym at.before) (record {
-      run = λ no_doubt recovers. no_memory_ran keeps s.core s.places idle no_doubt recovers s.input s.before;
-      ends = (refl, refl, refl);
-    })))
+    rw (at.core, at.input, at.before) (record { run = λ no_doubt recovers. no_memory_ran keeps s.core s.places idle no_doubt recovers s.input s.before; ends = (refl, refl, refl) })
 
 -- A session promises what a server does if it has ended, or is as at its start.
 promises_or_declines : {keeps : Type 0} {s : Start} {old p : SessionView} → SessionInvariant keeps s p → IsAtStart s old → (result : Result (Unit {0}) ServeFault)
@@ -244,8 +237,7 @@ pub ends_finished : (keeps : Type 0) (o : Option Start) (p : SessionView) → Se
     → (result : Result (Unit {0}) ServeFault) → IfSome p.read_end (λ why. result ≡ end_of why)
     → EndsBy p result × OnOk result (keeps → records_in p.core.geometry p.core.medium.now ≡ [])
 ends_finished keeps o p u read_end f result reported =
-    let is = so_if p.read_end read_end (λ (why : ReadEnd). result ≡ end_of why) f.is reported in
-    subst (λ (r : Result (Unit {0}) ServeFault). EndsBy p r × OnOk r (keeps → records_in p.core.geometry p.core.medium.now ≡ [])) (sym is)
+    rw (so_if p.read_end read_end (λ (why : ReadEnd). result ≡ end_of why) f.is reported)
     (ended_for keeps o p u f.served read_end f.is, empties_for read_end (keeps → records_in p.core.geometry p.core.medium.now ≡ []) f.emptied)
 
 -- With all workers started, a session ends with what is reported (`EndsBy`); if one could not be started, the session is as it was.
@@ -267,11 +259,10 @@ module _ (p : SessionView) (P F : Type 0) (r : Result (Result (Unit {0}) ServeFa
 
   pub ends_or_declines : (old : SessionView) → OnErr r (p ≡ old) → (result : Result (Unit {0}) ServeFault) → result ≡ reported r
       → EndsOrDeclines old p result
-  ends_or_declines old not_begun result is = subst (λ (q : Result (Unit {0}) ServeFault). EndsOrDeclines old p q) (sym is)
-      (reported_so old p F r (both r gives).0 not_begun)
+  ends_or_declines old not_begun result is = rw is (reported_so old p F r (both r gives).0 not_begun)
 
   pub emptied_at_end : (result : Result (Unit {0}) ServeFault) → result ≡ reported r → OnOk result P
-  emptied_at_end result is = subst (λ (q : Result (Unit {0}) ServeFault). OnOk q P) (sym is) (emptied_so P F r (both r gives).1)
+  emptied_at_end result is = rw is (emptied_so P F r (both r gives).1)
 
 -- Where there are workers, what ends a session is never `NoWorkers`.
 pub refuses_none : (workers : ℕ) → workers ≢ 0 → (old p : SessionView) (result : Result (Unit {0}) ServeFault) → EndsOrDeclines old p result → FailsWithoutWorkers workers result
@@ -282,22 +273,12 @@ refuses_none workers some old p result e = some
 pub serves_as : {keeps : Type 0} {core : CoreView} {back : CoreView × Result (Unit {0}) ServeFault} {input before written remaining rest : Option (List ℕ)}
     {places workers : ℕ} → places ≡ workers → remaining ≡ rest → ServePromise keeps places core back (exchange input remaining before written)
     → ServePromise keeps workers core back (exchange input rest before written)
-serves_as {keeps} {core} {back} {input} {before} {written} {rest} {places} as_many same h =
-    subst (λ (n : ℕ). ServePromise keeps n core back (exchange input rest before written)) as_many
-    (subst (λ (l : Option (List ℕ)). ServePromise keeps places core back (exchange input l before written)) same h)
+serves_as as_many same h = rw (as_many, same) at h
 
 -- ---- where it begins
 
 pub holds_first : (core : CoreView) (lent : List (Option JobView)) (n : ℕ) → lent ≡ replicate n None → IsIdle (core_state_of core) → HandsHaveJobs (machine_with_jobs core lent)
-holds_first core lent n none idle = subst (λ (l : List (Option JobView)). HandsHaveJobs (machine_with_jobs core l)) (sym none)
-    (holds_at_start core n (idle_sound (core_state_of core) idle core.geometry))
-
-pub places_first : (lent : List (Option JobView)) (n : ℕ) → lent ≡ replicate n None → length lent ≡ n
-places_first lent n none = ap (λ (l : List (Option JobView)). length l) none ∙ length-replicate n None
-
-pub above_zero : (n : ℕ) → n ≢ 0 → 0 < n
-above_zero zero not = absurd (not refl)
-above_zero (suc n) not = omega arith
+holds_first core lent n none idle = rw none (holds_at_start core n (idle_sound (core_state_of core) idle core.geometry))
 
 -- A session that has not begun: no answer waits, all of the input is unread, nothing of it was read, and no job is lent.
 pub record IsUnused (places : ℕ) (input : Option (List ℕ)) (p : SessionView) : Type 0 where
@@ -321,7 +302,7 @@ first_at keeps {o} {p} {places} {input} r unused =
       start = record { idle = r.idle; none_in_doubt = r.none_in_doubt };
       fits = r.fits;
       holds = holds_first p.core p.dispatch_seat.lent places unused.none_lent r.idle;
-      places = places_first p.dispatch_seat.lent places unused.none_lent ∙ sym unused.slots;
+      places = ap (λ (l : List (Option JobView)). length l) unused.none_lent ∙ length-replicate places None ∙ sym unused.slots;
       some_place = subst (λ (n : ℕ). 0 < n) (sym unused.slots) unused.some_place;
       knows = λ e. absurd (true≢false (sym e ∙ unused.not_ended));
       reads = rw unused.reads (record {

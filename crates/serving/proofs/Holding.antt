@@ -1,14 +1,13 @@
 -- What may be sent is held by whatever a crash leaves of the device.
-use Rattle.std.proofs.Common.{◌≡◌, ℕ, ◌+◌, true, List, [], ◌∷◌, ◌++◌, Option, ap, sym, ◌∙◌, subst, length, map, take, append_assoc, arith}
+use Rattle.std.proofs.Common.{◌≡◌, ℕ, ◌+◌, true, List, [], ◌∷◌, ◌++◌, Option, ap, ◌∙◌, length, map, take, append_assoc, arith}
 use Rattle.std.proofs.lemmas.List.{length-append, take-append-le, take-map, take_all}
 use Rattle.std.proofs.KnownBytes.{Appends-trans}
 use Rattle.std.specs.Io.KnownBytes.{Appends}
 use Rattle.affinity.specs.declared.geometry.Geometry.{Geometry}
 use Rattle.affinity.proofs.Elements.{all_join}
-use Rattle.disk.specs.Device.{IsCrashImage, Medium}
+use Rattle.disk.specs.Device.{IsCrashImage}
 use Rattle.disk.specs.Moments.{left_since, moment_number}
 use Rattle.histories.specs.CoreState.{Replied}
-use Rattle.histories.specs.Events.{Event}
 use Rattle.histories.specs.Runs.{logged_messages}
 use Rattle.incarnations.specs.Machine.{machine_of}
 use Rattle.incarnations.specs.DeviceEvents.{DeviceEvent, device_after, events_of}
@@ -16,8 +15,8 @@ use Rattle.language.specs.Grammar.{message_of}
 use Rattle.meaning.specs.Output.{joined}
 use Rattle.scheduler.specs.CoreView.{CoreView}
 use Rattle.serving.specs.Ends.{HasRunLines, HasServed, committed_in}
-use Rattle.serving.specs.Lines.{admitted, admitted_in, has_answer, answer_text, next_ticket, ticketed}
-use Rattle.serving.specs.Logged.{AreInHistory, HoldsSent, RecoversToHistory}
+use Rattle.serving.specs.Lines.{admitted_in, has_answer, answer_text, next_ticket}
+use Rattle.serving.specs.Logged.{AreInHistory, HoldsSent}
 use Rattle.serving.specs.Output.{MaySendFrom, Start, start_machine}
 use Rattle.serving.specs.Restart.{BytesRecover}
 use Rattle.serving.proofs.Advancing.{texts_both}
@@ -73,12 +72,8 @@ module _ {keeps : Type 0} {s : Start} {sent later : Option (List ℕ)} {now : Co
         let at_send : device_after s.core.medium (take n events) ≡ now.medium = ap (λ (es : List DeviceEvent). device_after s.core.medium es) first ∙ h.run.segment.leads.device in
         let log = logged_messages w (events_of before) in
         let first_events : take n (events_of events) ≡ events_of before = take-map (λ (e : DeviceEvent). e.event) n events ∙ ap events_of first in
-        let held : RecoversToHistory g (committed_in s.core) (ticketed s.core.next (admitted g (m.served.consumed ++ lines_since))) log c =
-        subst (λ (es : List Event). RecoversToHistory g (committed_in s.core) (ticketed s.core.next (admitted g (m.served.consumed ++ lines_since))) (logged_messages w es) c) first_events
-        (holds_logged m.idle m.none_in_doubt run kept n c (omega (arith, many))
-        (subst (λ (d : Medium). left_since last.medium (moment_number d) c) (sym at_send) left)) in
-        let few = few_answered m.idle h s.core.slots h.few in
-        let read = length-append m.served.consumed lines_since in
-        bytes_recover s.core.next (m.served.consumed ++ lines_since) (map answer_text h.sent_lines) run.first h.output (omega (arith, few, read))
+        let held = rw first_events at (holds_logged m.idle m.none_in_doubt run kept n c (omega (arith, many)) (rw at_send left)) in
+        bytes_recover s.core.next (m.served.consumed ++ lines_since) (map answer_text h.sent_lines) run.first h.output
+        (omega (arith, few_answered m.idle h s.core.slots h.few, length-append m.served.consumed lines_since))
         (still_in_history g log s.core.next m.served.consumed lines_since (map answer_text h.sent_lines)
         (written_are_kept m.idle h)) held

@@ -25,7 +25,7 @@ use Rattle.language.specs.declared.Reply.{Reply}
 use Rattle.scheduler.specs.CoreView.{CoreView, RecoversNow, core_state_of}
 use Rattle.serving.specs.Progress.{ServingProgress}
 use Rattle.meaning.specs.Output.{joined}
-use Rattle.serving.specs.Lines.{HaveAnswers, Completed, Line, NoMessage, OutOfRange, Pending, complete_one, has_answer, answer_text}
+use Rattle.serving.specs.Lines.{HaveAnswers, Line, Pending, complete_one, has_answer, answer_text}
 use Rattle.serving.specs.Lending.{NoneInFlight}
 use Rattle.serving.specs.Reads.{IsTaken}
 use Rattle.reorder_buffer.specs.ReorderBuffer.{AreConsecutive, ReorderBufferView, can_retire, retired_text, with_tickets}
@@ -74,10 +74,8 @@ sends_waiting waiting lines reply_buffer (Some bytes) answered is =
 
 -- A line that has its answer stays as it is when a message is answered.
 is_left : (ticket : ℕ) (reply : Reply) (line : Line) → has_answer line ≡ true → complete_one ticket reply line ≡ line
-is_left ticket reply NoMessage answered = refl
-is_left ticket reply OutOfRange answered = refl
 is_left ticket reply (Pending t) answered = absurd (true≢false (sym answered))
-is_left ticket reply (Completed t r) answered = refl
+is_left ticket reply line answered = refl
 
 are_left : (ticket : ℕ) (reply : Reply) (waiting lines : List Line) → HaveAnswers waiting
     → map (complete_one ticket reply) (waiting ++ lines) ≡ waiting ++ map (complete_one ticket reply) lines
@@ -173,8 +171,7 @@ module _ (keeps : Type 0) where
   pub idle_of : (o : Option Start) (p : SessionView) → SessionInvariantFrom keeps o p → p.reorder_buffer.lines ≡ [] → IsIdle (core_state_of p.core)
   idle_of o p u none = ask o p u (λ s u.
       let k = progress_at_end s p p.read_end u.reads in
-      idle_again u.idle (subst (λ (l : List Line). ServingProgress keeps (start_machine s) (machine p) l s.input k.0 k.1 s.before
-      (all_output k.2.whole p.reply_buffer)) none (to_reorder_buffer k.2)))
+      idle_again u.idle (simp none at (to_reorder_buffer k.2)))
 
   -- ---- steps
 
@@ -254,8 +251,7 @@ module _ (keeps : Type 0) where
         → SessionInvariantFrom keeps o (record p { reorder_buffer = buffer; reply_buffer = bytes })
     on_retire_front buffer bytes true next added dropped slots = on_add_text buffer bytes dropped (sym next) added slots
     on_retire_front buffer bytes false next added dropped slots =
-        subst (λ (r : ReorderBufferView). SessionInvariantFrom keeps o (record p { reorder_buffer = r; reply_buffer = bytes })) (sym dropped)
-        (subst (λ (l : List ℕ). SessionInvariantFrom keeps o (record p { reply_buffer = l })) (sym added) u)
+        rw (dropped, added) u
 
     -- All answers that wait are sent.
     pub on_send : (reply_buffer : List ℕ) (sent : Option (List ℕ)) (n : ℕ) → p.output_failed ≡ false → reply_buffer ≡ [] → Appends p.sent sent p.reply_buffer → n ≡ length p.reorder_buffer.lines

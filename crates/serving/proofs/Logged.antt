@@ -1,14 +1,13 @@
 -- What was sent is on the device: what a crash after event k leaves holds all that was logged by then, and each line that was written for
 -- a message with a ticket is of a message that was logged.
-use Rattle.std.proofs.Common.{◌≡◌, ℕ, zero, suc, ◌+◌, ◌≤◌, Bool, true, List, [], ◌∷◌, ◌++◌, Option, Some, None, refl, ap, sym, ◌∙◌, subst, length, take, drop, map, inl, inr, ⊎_elim, append_assoc, arith}
-use Rattle.std.specs.Prelude.{if◌then◌else◌}
+use Rattle.std.proofs.Common.{◌≡◌, ℕ, zero, suc, ◌+◌, ◌≤◌, true, List, [], ◌∷◌, ◌++◌, Option, Some, None, refl, ap, sym, ◌∙◌, subst, length, take, drop, map, inl, inr, ⊎_elim, append_assoc, arith}
 use Rattle.std.specs.List.{AllByRecursion, Contains}
 use Rattle.std.proofs.lemmas.Bool.{true≢false}
 use Rattle.std.proofs.lemmas.List.{length-append, length-map, take_all}
 use Rattle.affinity.specs.declared.geometry.Geometry.{Geometry}
 use Rattle.checkpoint.proofs.NotRefused.{is_not_refused, has_header}
 use Rattle.disk.proofs.Moments.{counts_now}
-use Rattle.disk.specs.Device.{IsCrashImage, Medium}
+use Rattle.disk.specs.Device.{IsCrashImage}
 use Rattle.disk.specs.Moments.{left_since, moment_number}
 use Rattle.histories.proofs.Answering.{run_replies}
 use Rattle.histories.proofs.Arrivals.{run_ascending}
@@ -17,7 +16,7 @@ use Rattle.histories.proofs.Elements.{contains_in, holds_of, in_contained}
 use Rattle.histories.proofs.SerialHistories.{answered_came, left_in_order, logged_begins, one_message, still_serial}
 use Rattle.histories.proofs.SerialReplies.{IsIn, in_left, in_right}
 use Rattle.histories.specs.Events.{Event, MachineState, recorded}
-use Rattle.histories.specs.Laws.{AreAscending, IsIdle, IsSerialHistory, ticket_replies}
+use Rattle.histories.specs.Laws.{IsIdle, ticket_replies}
 use Rattle.histories.specs.Runs.{answered_messages, arrived, arrives, end_state, logged_messages}
 use Rattle.histories.specs.CoreState.{Entry, Replied, entry}
 use Rattle.incarnations.specs.Machine.{MachineView, machine_of}
@@ -64,16 +63,13 @@ module _ {keeps : Type 0} {start : MachineView} {new : CoreView} {input : Option
       let found = left_in_order g r.segment.leads.legal idle none s.left.is_log in
       let some = take found.0 (end_state w (take after events)).core.ran in
       let first = went_first w events k after s.left.since in
-      let whole : logged_messages w (take after events) ++ some ≡ logged_messages w (take k events) ++ (first.0 ++ some) =
-      ap (λ (l : List Replied). l ++ some) first.1 ∙ append_assoc (logged_messages w (take k events)) first.0 some in
+      let whole = ap (λ (l : List Replied). l ++ some) first.1 ∙ append_assoc (logged_messages w (take k events)) first.0 some in
       let all = arrived_parted events after in
-      let serial : IsSerialHistory g (committed_in start.core) (arrived events) (logged_messages w (take after events) ++ some) =
-      subst (λ (es : List Entry). IsSerialHistory g (committed_in start.core) es (logged_messages w (take after events) ++ some)) all
-      (still_serial g (committed_in start.core) (arrived (take after events)) (arrived (drop after events)) (logged_messages w (take after events) ++ some)
-      (subst AreAscending (sym all) (run_ascending g w events r.segment.leads.legal)) found.1) in
+      let serial = rw (all, whole) at (still_serial g (committed_in start.core) (arrived (take after events)) (arrived (drop after events))
+      (logged_messages w (take after events) ++ some) (rw all (run_ascending g w events r.segment.leads.legal)) found.1) in
       record {
         more = first.0 ++ some;
-        serial = subst (IsSerialHistory g (committed_in start.core) (arrived events)) whole serial;
+        serial = serial;
         recovers = s.is ∙ ap (λ (x : State). Some x) s.left.state
             ∙ ap (λ (ms : List Msg). Some (state_after_all g (committed_in start.core) ms)) (found.2 ∙ ap recorded whole);
       }
@@ -83,8 +79,7 @@ module _ {keeps : Type 0} {start : MachineView} {new : CoreView} {input : Option
       → left_since new.medium (moment_number (device_after start.core.medium (take k device_events))) c
       → RecoversToHistory g (committed_in start.core) (ticketed start.core.next (admitted g consumed)) (logged_messages w (take k events)) c
   holds_logged kept k c le since =
-      subst (λ (es : List Entry). RecoversToHistory g (committed_in start.core) es (logged_messages w (take k events)) c) r.segment.arrived_are
-      (holds_since k c (r.crash kept k c le since))
+      rw r.segment.arrived_are at (holds_since k c (r.crash kept k c le since))
 
   -- What a crash leaves at the end of the run holds all that was logged.
   pub holds_all : keeps → (c : List ℕ) → IsCrashImage new.medium c
@@ -93,11 +88,8 @@ module _ {keeps : Type 0} {start : MachineView} {new : CoreView} {input : Option
       let n = length device_events in
       let at_end : device_after start.core.medium (take n device_events) ≡ new.medium =
       ap (λ (ss : List DeviceEvent). device_after start.core.medium ss) (take_all n device_events (omega arith)) ∙ r.segment.leads.device in
-      let since : left_since new.medium (moment_number (device_after start.core.medium (take n device_events))) c =
-      subst (λ (m : Medium). left_since new.medium (moment_number m) c) (sym at_end) (counts_now new.medium (moment_number new.medium) c (omega arith) leaves) in
       let long : length events ≤ n = omega (arith, length-map device_events (λ (s : DeviceEvent). s.event)) in
-      subst (λ (es : List Event). RecoversToHistory g (committed_in start.core) (ticketed start.core.next (admitted g consumed)) (logged_messages w es) c) (take_all n events long)
-      (holds_logged kept n c (omega arith) since)
+      rw (take_all n events long) at (holds_logged kept n c (omega arith) (rw at_end (counts_now new.medium (moment_number new.medium) c (omega arith) leaves)))
 
 -- ---- the lines
 
@@ -110,9 +102,7 @@ module _ (g : Geometry) (replies : List (ℕ × Reply)) (log : List Replied) (wh
   one_kept n (Some m) ls OutOfRange among k is = inl (k, refl)
   one_kept n (Some m) ls (Pending t) among k is = absurd (true≢false (sym is))
   one_kept n (Some m) ls (Completed t reply) among k is =
-      let asks : (admitted_in g (Some m) ++ admitted g ls) ≡ m ∷ admitted g ls = ap (λ (b : Bool). (if b then m ∷ [] else []) ++ admitted g ls) k.0 in
-      let its = among (n, m) (subst (λ (ms : List Msg). IsIn (n, m) (ticketed n ms)) (sym asks) (inl refl)) in
-      inr (k.0, (reply, refl, logged n m reply its (subst (λ (t' : ℕ). Contains replies (t', reply)) k.1 k.2)))
+      inr (k.0, (reply, refl, logged n m reply (among (n, m) (rw k.0 (inl refl))) (rw k.1 at k.2)))
   one_kept n o ls line among k is = absurd k
 
   are_kept : (n : ℕ) (ls : List (List ℕ)) (sent_lines unsent : List Line) → ((e : Entry) → IsIn e (ticketed n (admitted g ls)) → IsIn e whole)
@@ -123,7 +113,7 @@ module _ (g : Geometry) (replies : List (ℕ × Reply)) (log : List Replied) (wh
       let ms = admitted_in g (message_of l) in (
         one_kept n (message_of l) ls line among k.0 all.0,
         are_kept (next_ticket n ms) ls sent_lines unsent
-            (λ e is. among e (subst (IsIn e) (sym (ticketed-append n ms (admitted g ls))) (in_right e (ticketed n ms) (ticketed (next_ticket n ms) (admitted g ls)) is)))
+            (λ e is. among e (rw (ticketed-append n ms (admitted g ls)) (in_right e (ticketed n ms) (ticketed (next_ticket n ms) (admitted g ls)) is)))
             k.1 all.1,
       )
 
@@ -164,10 +154,13 @@ module _ {keeps : Type 0} {start : MachineView} {new : CoreView} {unsent : List 
   -- No more consumed lines have no answer than these slots, where no more lines are unsent.
   pub few_answered : (slots : ℕ) → length unsent ≤ slots → length h.consumed ≤ length (map answer_text h.sent_lines) + slots
   few_answered slots few =
-      let all = as_many start.core.geometry h.run.reply_pairs start.core.next h.consumed (h.sent_lines ++ unsent) h.known in
-      let both = length-append h.sent_lines unsent in
-      let same = length-map h.sent_lines answer_text in
-      omega (arith, all, both, same, few)
+      omega (
+        arith,
+        as_many start.core.geometry h.run.reply_pairs start.core.next h.consumed (h.sent_lines ++ unsent) h.known,
+        length-append h.sent_lines unsent,
+        length-map h.sent_lines answer_text,
+        few,
+      )
 
   -- Each line that was written is in the history of what the run logged (`AreInHistory`).
   pub written_are_kept : AreInHistory start.core.geometry run_log start.core.next h.consumed (map answer_text h.sent_lines)

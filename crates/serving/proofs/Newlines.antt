@@ -7,11 +7,11 @@ use Rattle.std.proofs.lemmas.List.Sums.{sum_by-append, sum_by-cons}
 use Rattle.hex.specs.Hex.{encode_with, lower_digits}
 use Rattle.language.specs.Replies.{at_least_one, files_below, files_text, has_file, reason, reply_text, shown, spaced, without_trailing_zeros}
 use Rattle.language.specs.declared.Refusal.{Refusal}
-use Rattle.language.specs.declared.Refusal.TheVariants.{Range, Volume, Exists, Sealed, File, Space}
+use Rattle.language.specs.declared.Refusal.TheVariants.{Range}
 use Rattle.language.specs.declared.Reply.{Reply}
 use Rattle.language.specs.declared.Reply.TheVariants.{Done, Hole, Block as Found, Files, Usage, Summary, Refused, Label}
 use Rattle.meaning.specs.Output.{joined}
-use Rattle.serving.specs.Lines.{Completed, Line, NoMessage, OutOfRange, Pending, answer_text}
+use Rattle.serving.specs.Lines.{Completed, Line, answer_text}
 
 -- how many of the bytes are newlines
 abbrev pub newlines : List ℕ → ℕ
@@ -74,11 +74,7 @@ in_files files (suc f) =
 
 in_reason : (why : Refusal) → newlines (reason why) ≡ 0
 in_reason Range = refl
-in_reason Volume = refl
-in_reason Exists = refl
-in_reason Sealed = refl
-in_reason File = refl
-in_reason Space = refl
+in_reason why = refl
 
 in_reply : (reply : Reply) → newlines (reply_text reply) ≡ 0
 unfolding files_text
@@ -97,10 +93,8 @@ in_reply (Label bytes) = in_shown bytes
 in_reply (Refused why) = in_reason why
 
 in_answer : (line : Line) → newlines (answer_text line) ≤ 1
-in_answer NoMessage = omega arith
-in_answer OutOfRange = omega arith
-in_answer (Pending ticket) = omega arith
 in_answer (Completed ticket reply) = let all = both (reply_text reply) (10 ∷ []) in let none = in_reply reply in omega (arith, all, none)
+in_answer line = omega arith
 
 pub in_answers : (lines : List Line) → newlines (joined (map answer_text lines)) ≤ length lines
 in_answers [] = omega arith

@@ -1,6 +1,6 @@
 -- Where a session is at rest, nothing waits in its core: the message with the least ticket could be dispatched, or lacks only room in the
 -- log. So each line that was read is retired.
-use Rattle.std.proofs.Common.{◌≡◌, ◌≢◌, ℕ, ◌<◌, zero, suc, Bool, false, List, [], ◌∷◌, ◌++◌, Option, Some, None, refl, ap, sym, ◌∙◌, subst, length, replicate, arith}
+use Rattle.std.proofs.Common.{◌≡◌, ◌≢◌, ℕ, ◌<◌, zero, suc, Bool, false, List, [], ◌∷◌, ◌++◌, Option, Some, None, refl, ap, sym, ◌∙◌, length, replicate, arith}
 use Rattle.std.specs.Prelude.{cond, IfSome, is_none, position}
 use Rattle.std.proofs.lemmas.Bool.{true≢false, lt-ltb}
 use Rattle.std.proofs.lemmas.Option.{none-some}
@@ -18,7 +18,6 @@ use Rattle.serving.specs.Session.{IsAtRest, KeepsCoreState, HasLoggedNothing, Ha
 use Rattle.serving.specs.Output.{Start}
 use Rattle.serving.specs.declared.dispatch.Blocked.{Blocked}
 use Rattle.serving.specs.declared.dispatch.Blocked.TheVariants as blocked
-use Rattle.workers.specs.Seats.{DispatchSeatView}
 use Rattle.serving.proofs.Invariant.{ask, none_out, progress_at_end, to_reorder_buffer}
 use Rattle.serving.proofs.Unanswered.{no_line}
 
@@ -70,11 +69,8 @@ pub still_blocked : (p q : SessionView) (why : Option Blocked) → KeepsCoreStat
     → IfSome why (IsBlocked p.core.geometry (core_state_of p.core) (core_state_of p.core) p.dispatch_seat.lent)
     → IfSome why (IsBlocked q.core.geometry (core_state_of q.core) (core_state_of q.core) q.dispatch_seat.lent)
 still_blocked p q why k is =
-    subst (λ (d : DispatchSeatView). IfSome why (IsBlocked q.core.geometry (core_state_of q.core) (core_state_of q.core) d.lent)) (sym k.2)
-    (subst (λ (w : CoreState). IfSome why (IsBlocked q.core.geometry w w p.dispatch_seat.lent)) (sym k.1)
-    (subst (λ (g : Geometry). IfSome why (IsBlocked g (core_state_of p.core) (core_state_of p.core) p.dispatch_seat.lent)) (sym k.0) is))
+    rw (k.1, k.0, k.2) is
 
--- After a dispatch that ended for this reason nothing was logged, answered or begun.
 pub comes_to_rest : (p q r : SessionView) (why : Option Blocked)
     → IfSome why (IsBlocked p.core.geometry (core_state_of p.core) (core_state_of p.core) p.dispatch_seat.lent) → HasLoggedNothing p q
     → can_retire q.reorder_buffer.lines ≡ false → HasOnlySent q r why → IsAtRest r why

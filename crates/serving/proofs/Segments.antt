@@ -1,5 +1,5 @@
 -- One step of a run, after those before it.
-use Rattle.std.proofs.Common.{◌≡◌, ℕ, Bool, List, [], ◌∷◌, Result, Ok, Err, refl, ap, sym, ◌∙◌, subst, append-nil, false, true, ◌+◌, add-zero, Option}
+use Rattle.std.proofs.Common.{◌≡◌, ℕ, Bool, List, [], ◌∷◌, Result, Ok, Err, refl, ap, sym, ◌∙◌, append-nil, false, true, ◌+◌, add-zero, Option}
 use Rattle.std.specs.Prelude.{if◌then◌else◌}
 use Rattle.affinity.specs.declared.geometry.Geometry.{Geometry}
 use Rattle.histories.proofs.Failures.{failure_lasts}
@@ -61,13 +61,9 @@ pub core_is_quiet : {keeps : Type 0} {old new : CoreView} {hands : List HandCont
     → dispatches_or_returns step ≡ false → arrives step outcome ≡ [] → answers outcome ≡ [] → HandsHaveJobs (record { core = old; hands = hands })
     → IsInternal keeps (record { core = old; hands = hands }) (record { core = new; hands = hands })
 core_is_quiet {keeps} {old} {new} {hands} step outcome k still none_come none_told h =
-    let was : MachineView = record { core = old; hands = hands } in
-    let now : MachineView = record { core = new; hands = hands } in
     record {
       holds = core_holds keeps old new hands step outcome h k still;
-      segment = subst (λ (es : List Entry). RunsBetween keeps was now es []) none_come
-          (subst (λ (l : List (ℕ × Reply)). RunsBetween keeps was now (arrives step outcome) l) none_told
-          (step_passes (core_step keeps old new hands step outcome h k)));
+      segment = rw (none_come, none_told) at (step_passes (core_step keeps old new hands step outcome h k));
     }
 
 -- ---- logs

@@ -1,5 +1,5 @@
 -- Lines of which the answers are known, compared with the lines of the serial server.
-use Rattle.std.proofs.Common.{◌≡◌, ◌⊎◌, ℕ, suc, ◌+◌, ◌<◌, ◌≤◌, Bool, true, false, List, [], ◌∷◌, ◌++◌, Option, Some, None, refl, ap, sym, ◌∙◌, subst, length, map, take, drop, inl, inr, ⊎_elim, arith, append_assoc, append-nil}
+use Rattle.std.proofs.Common.{◌≡◌, ◌⊎◌, ℕ, suc, ◌+◌, ◌<◌, ◌≤◌, Bool, true, false, List, [], ◌∷◌, ◌++◌, Option, Some, None, refl, ap, sym, ◌∙◌, length, map, take, drop, inl, inr, ⊎_elim, arith, append_assoc, append-nil, subst}
 use Rattle.std.specs.Prelude.{if◌then◌else◌, find, not}
 use Rattle.std.specs.List.{AllByRecursion}
 use Rattle.std.proofs.lemmas.Bool.{true≢false}
@@ -76,12 +76,6 @@ module _ (g : Geometry) (replies : List (ℕ × Reply)) where
     retires : answer_text known ≡ answer_line g x o
     tells : HaveSerialReplies (state_after_line g x o) (next_ticket n (admitted_in g o)) ms
 
-  in_range : (m : Msg) → is_in_range g m ≡ true → admitted_in g (Some m) ≡ m ∷ []
-  in_range m h = ap (λ (b : Bool). if b then m ∷ [] else []) h
-
-  none_asked : (m : Msg) → is_in_range g m ≡ false → admitted_in g (Some m) ≡ []
-  none_asked m h = ap (λ (b : Bool). if b then m ∷ [] else []) h
-
   with_ticket : (x : State) (n : ℕ) (ms : List Msg) (m : Msg) → HaveSerialReplies x n (m ∷ ms) → HaveSerialReplies (next_state g x m) (n + 1) ms
   with_ticket x n ms m h p is = ⊎_elim
       (λ (lt : p.0 < n). inl (omega (arith, lt)))
@@ -101,22 +95,13 @@ module _ (g : Geometry) (replies : List (ℕ × Reply)) where
       → IsKnown g replies n o known → has_answer known ≡ true → IsServedBy x n ms o known
   served_line x n ms None NoMessage h k done = record { retires = refl; tells = h }
   served_line x n ms (Some m) OutOfRange h k done =
-      let none = none_asked m k in
-      let same = out_of_range g x m k in
-      record {
-        retires = ap (λ (q : Reply × State). reply_line q.0) (sym same);
-        tells = subst (λ (l : List Msg). HaveSerialReplies (next_state g x m) (next_ticket n l) ms) (sym none)
-            (subst (λ (q : Reply × State). HaveSerialReplies q.1 n ms) (sym same) (subst (λ (l : List Msg). HaveSerialReplies x n (l ++ ms)) none h));
-      }
+      let same = sym (out_of_range g x m k) in
+      record { retires = ap (λ (q : Reply × State). reply_line q.0) same; tells = rw k (subst (λ (q : Reply × State). HaveSerialReplies q.1 n ms) same (rw k at h)) }
   served_line x n ms (Some m) (Pending ticket) h k done = absurd (true≢false (sym done))
   served_line x n ms (Some m) (Completed ticket reply) h k done =
-      let one = in_range m k.0 in
-      let on : HaveSerialReplies x n (m ∷ ms) = subst (λ (l : List Msg). HaveSerialReplies x n (l ++ ms)) one h in
-      let is : IsIn (n, reply) replies = subst (λ (t : ℕ). IsIn (t, reply) replies) k.1 (in_contained replies (ticket, reply) k.2) in
-      record {
-        retires = ap reply_line (its_reply x n ms m reply on is);
-        tells = subst (λ (l : List Msg). HaveSerialReplies (next_state g x m) (next_ticket n l) ms) (sym one) (with_ticket x n ms m on);
-      }
+      let on : HaveSerialReplies x n (m ∷ ms) = rw k.0 at h in
+      let is : IsIn (n, reply) replies = rw k.1 at (in_contained replies (ticket, reply) k.2) in
+      record { retires = ap reply_line (its_reply x n ms m reply on is); tells = rw k.0 (with_ticket x n ms m on) }
   served_line x n ms o known h k done = absurd k
 
   -- The answers to the lines that were sent are the first lines of the serial server's output.
@@ -134,9 +119,8 @@ module _ (g : Geometry) (replies : List (ℕ × Reply)) where
 
   pub as_many : (n : ℕ) (ls : List (List ℕ)) (lines : List Line) → AreKnown g replies n ls lines → length lines ≡ length ls
   as_many n [] [] k = refl
-  as_many n [] (known ∷ lines) k = absurd k
-  as_many n (l ∷ ls) [] k = absurd k
   as_many n (l ∷ ls) (known ∷ lines) k = ap suc (as_many (next_ticket n (admitted_in g (message_of l))) ls lines k.1)
+  as_many n ls lines k = absurd k
 
   -- Where each line was sent, the answers are all lines of that output.
   pub all_lines_answered : (x : State) (n : ℕ) (ls : List (List ℕ)) (sent_lines : List Line) → HaveSerialReplies x n (admitted g ls)

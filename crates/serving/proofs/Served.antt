@@ -91,16 +91,8 @@ module _ (keeps : Type 0) (start now : MachineView) (idle : IsIdle (core_state_o
       let ends = idle_again idle h in
       let rest = h.takes.0 in
       let none : rest ≡ [] = sym (same_Some bs rest h.takes.1) ∙ at_end in
-      let all : lines input ≡ h.consumed = h.takes.2.to_come ∙ ap (λ l. h.consumed ++ lines l) none ∙ append-nil h.consumed in (
-        ends,
-        works,
-        at_end,
-        (
-          joined (map answer_text h.sent_lines),
-          h.output,
-          subst (λ (ls : List (List ℕ)). AreServed g x (committed_in now.core) ls (joined (map answer_text h.sent_lines))) (sym all) (served h.serving ends),
-        ),
-      )
+      let all : lines input ≡ h.consumed = h.takes.2.to_come ∙ ap (λ l. h.consumed ++ lines l) none ∙ append-nil h.consumed in
+      (ends, works, at_end, (joined (map answer_text h.sent_lines), h.output, rw all (served h.serving ends)))
 
   pub ends_at_read : {input unread before written : Option (List ℕ)} (remaining : Option (List ℕ)) → ServingProgress keeps start now [] input unread false before written
       → now.core.failed ≡ false → IfSome unread (λ bs. LosesLineStart bs remaining) → EndsWith start.core now.core (exchange input remaining before written) (Err faults.Read)
@@ -114,16 +106,8 @@ module _ (keeps : Type 0) (start now : MachineView) (idle : IsIdle (core_state_o
       (λ whole. whole ∙ ap (λ z. with_newlines h.consumed ++ z) (sym (same_Some bs h.takes.0 h.takes.1) ∙ lost.parts)
       ∙ sym (append_assoc (with_newlines h.consumed) lost.got lost.rest)) t.whole in
       let k = served h.serving ends in
-      let output : AnswersWholeLines g x remaining input (joined (map answer_text h.sent_lines)) = record {
-        whole = h.consumed;
-        begun = lost.got;
-        rest = lost.rest;
-        parts = parts;
-        left_is = lost.left_is;
-        are_lines = t.are_lines;
-        no_line = recursion_from_All (λ b. b ≢ 10) lost.got lost.within_line;
-        answered = k.output;
-      } in
+      let output : AnswersWholeLines g x remaining input (joined (map answer_text h.sent_lines)) =
+      search (parts, lost.left_is, recursion_from_All (λ b. b ≢ 10) lost.got lost.within_line, k.output, t) in
       (ends, works, (joined (map answer_text h.sent_lines), h.output, record { output = output; state = k.state }))
 
   pub ends_exhausted : {input unread before written : Option (List ℕ)} {ended : Bool} (remaining : Option (List ℕ))
@@ -138,25 +122,8 @@ module _ (keeps : Type 0) (start now : MachineView) (idle : IsIdle (core_state_o
       let same = same_Some bs h.takes.0 h.takes.1 in
       let parts : lines input ≡ h.consumed ++ line ∷ lines (behind_first_line bs) =
       h.takes.2.to_come ∙ ap (λ z. h.consumed ++ lines z) (sym same) ∙ ap (λ z. h.consumed ++ z) (lines-first bs found.more)
-      ∙ ap (λ z. h.consumed ++ z ∷ lines (behind_first_line bs)) (sym found.line_is) in (
-        ends,
-        works,
-        why.0,
-        (
-          joined (map answer_text h.sent_lines),
-          h.output,
-          record {
-            before = h.consumed;
-            line = line;
-            after = lines (behind_first_line bs);
-            parts = parts;
-            message = why.1.1;
-            is_message = why.1.3;
-            in_range = why.1.4;
-            served = served h.serving ends;
-          },
-        ),
-      )
+      ∙ ap (λ z. h.consumed ++ z ∷ lines (behind_first_line bs)) (sym found.line_is) in
+      (ends, works, why.0, (joined (map answer_text h.sent_lines), h.output, search (parts, served h.serving ends, why.1.3, why.1.4)))
 
   -- the first lines of the input are answered
   pub first_answered : {unsent : List Line} {input unread : Option (List ℕ)} {ended : Bool} {before written : Option (List ℕ)}

@@ -1,5 +1,5 @@
 -- While each message that has arrived is still in the core, waiting or held, no reply may be sent.
-use Rattle.std.proofs.Common.{◌≡◌, ◌⊎◌, inl, inr, refl, ℕ, ◌+◌, List, [], ◌∷◌, ◌++◌, Option, Some, None, ap, sym, subst, length, map, arith}
+use Rattle.std.proofs.Common.{◌≡◌, ◌⊎◌, inl, inr, refl, ℕ, ◌+◌, List, [], ◌∷◌, ◌++◌, Option, Some, None, ap, sym, length, map, arith}
 use Rattle.std.specs.Prelude.{slice_index_or}
 use Rattle.std.specs.List.{AllByRecursion}
 use Rattle.std.proofs.lemmas.Bool.{true≢false}
@@ -10,7 +10,6 @@ use Rattle.histories.specs.CoreState.{Entry}
 use Rattle.language.specs.Grammar.{message_of}
 use Rattle.language.specs.Replies.{no_message, reply_line}
 use Rattle.language.specs.declared.Msg.{Msg}
-use Rattle.language.specs.declared.Reply.{Reply}
 use Rattle.language.specs.declared.Refusal.TheVariants.{Range}
 use Rattle.language.specs.declared.Reply.TheVariants.{Done, Refused}
 use Rattle.meaning.specs.Order.{messages_of}
@@ -44,11 +43,10 @@ one_silent g n (Some m) (Completed t reply) k a = absurd (in_contained [] (t, re
 all_silent : (g : Geometry) (n : ℕ) (ls : List (List ℕ)) (sent_lines next rest : List Line) → AreKnown g [] n ls (sent_lines ++ (next ++ rest)) → HaveAnswers next
     → AllByRecursion HasNoReply next
 all_silent g n ls [] [] rest k a = tt
-all_silent g n [] [] (line ∷ next) rest k a = absurd k
 all_silent g n (l ∷ ls) [] (line ∷ next) rest k a =
     (one_silent g n (message_of l) line k.0 (a.0, tt), all_silent g (next_ticket n (admitted_in g (message_of l))) ls [] next rest k.1 a.1)
-all_silent g n [] (line ∷ sent_lines) next rest k a = absurd k
 all_silent g n (l ∷ ls) (line ∷ sent_lines) next rest k a = all_silent g (next_ticket n (admitted_in g (message_of l))) ls sent_lines next rest k.1 a
+all_silent g n ls sent_lines next rest k a = absurd k
 
 -- ---- the answers so far
 
@@ -58,16 +56,19 @@ module _ (keeps : Type 0) (s : Start) (sent : Option (List ℕ)) (now : CoreView
   none_answered =
       let p = m.served.run.segment in
       let arriving = ticketed s.core.next (admitted s.core.geometry m.served.consumed) in
-      let first = idle_inside (core_state_of s.core) m.idle in
-      let count = passes_count p in
-      let next = passes_next p in
-      let tickets = next_counts s.core.next (messages_of arriving) in
-      let many = length-map arriving (λ (e : Entry). e.1) in
-      nil_from_length m.served.run.reply_pairs (omega (arith, all_inside, first, count, next, tickets, many))
+      nil_from_length m.served.run.reply_pairs (omega (
+        arith,
+        all_inside,
+        idle_inside (core_state_of s.core) m.idle,
+        passes_count p,
+        passes_next p,
+        next_counts s.core.next (messages_of arriving),
+        length-map arriving (λ (e : Entry). e.1),
+      ))
 
   pub is_silent : AllByRecursion HasNoReply m.next
   is_silent = all_silent s.core.geometry s.core.next m.served.consumed m.served.sent_lines m.next m.rest
-      (subst (λ (l : List (ℕ × Reply)). AreKnown s.core.geometry l s.core.next m.served.consumed (m.served.sent_lines ++ (m.next ++ m.rest))) none_answered m.served.known)
+      (rw none_answered at m.served.known)
       m.have_answers
 
 -- The answer to a line without a reply reports that the line is no message, or out of range.
@@ -75,8 +76,7 @@ say_none : (ls : List Line) → AllByRecursion HasNoReply ls → AllByRecursion 
 say_none [] all = tt
 say_none (NoMessage ∷ ls) all = (inl refl, say_none ls all.1)
 say_none (OutOfRange ∷ ls) all = (inr refl, say_none ls all.1)
-say_none (Pending t ∷ ls) all = absurd all.0
-say_none (Completed t reply ∷ ls) all = absurd all.0
+say_none (line ∷ ls) all = absurd all.0
 
 pub no_reply : (keeps : Type 0) (s : Start) (sent : Option (List ℕ)) (now : CoreView) (bytes : List ℕ) → unanswered (core_state_of now) + s.core.next ≡ now.next
     → MaySend keeps (Some s) sent now bytes → SendsNoReply bytes
@@ -87,8 +87,7 @@ not_done : (ls : List Line) → AllByRecursion HasNoReply ls → reply_line Done
 not_done [] all is = let h = ap (λ (l : List ℕ). length l) is in absurd (omega (arith, h))
 not_done (NoMessage ∷ ls) all is = let h = ap (λ (l : List ℕ). slice_index_or l 0 0) is in absurd (omega (arith, h))
 not_done (OutOfRange ∷ ls) all is = let h = ap (λ (l : List ℕ). slice_index_or l 0 0) is in absurd (omega (arith, h))
-not_done (Pending t ∷ ls) all is = absurd all.0
-not_done (Completed t reply ∷ ls) all is = absurd all.0
+not_done (line ∷ ls) all is = absurd all.0
 
 pub nothing_done : (keeps : Type 0) (s : Start) (sent : Option (List ℕ)) (now : CoreView) → unanswered (core_state_of now) + s.core.next ≡ now.next
     → MaySend keeps (Some s) sent now (reply_line Done) → ⊥

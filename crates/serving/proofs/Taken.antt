@@ -49,8 +49,7 @@ module _ (keeps : Type 0) (old new : CoreView) (none : old.failed ≡ false → 
 
   comes_so : (o : Option Msg) (r : Result (Option ℕ) ArriveRefusal) → ArrivesByLine old new o r → ComesSo o r
   comes_so None r e =
-      subst (ComesSo None) (sym e.0)
-      (subst (λ (x : CoreView). IsTaken keeps was (record { core = x; hands = hands }) None NoMessage) (sym e.1) (takes_none keeps was h))
+      rw (e.0, e.1) (takes_none keeps was h)
   comes_so (Some m) (Ok None) e = absurd e
   comes_so (Some m) (Ok (Some ticket)) e = so m (Ok ticket) e
   comes_so (Some m) (Err arrivals.Range) e = so m (Err arrivals.Range) e

@@ -1,7 +1,7 @@
 -- Where nothing waits and nothing is held, each line has its answer. Where nothing is held, and nothing that waits may be dispatched though
 -- a place is free and the log has room, nothing waits.
 use Rattle.std.proofs.Common.{◌≡◌, ℕ, Bool, false, List, [], ◌∷◌, ◌++◌, Option, Some, None, refl, ap, sym, ◌∙◌, subst, inl, inr, ⊎_elim, append-nil}
-use Rattle.std.specs.Prelude.{if◌then◌else◌, IsPermutation}
+use Rattle.std.specs.Prelude.{IsPermutation}
 use Rattle.std.specs.List.{Contains}
 use Rattle.std.proofs.lemmas.Bool.{true≢false}
 use Rattle.std.proofs.lemmas.List.Sorted.{Contains-permutation}
@@ -22,7 +22,7 @@ use Rattle.language.specs.declared.Msg.{Msg}
 use Rattle.language.specs.declared.Reply.{Reply}
 use Rattle.reorder_buffer.specs.ReorderBuffer.{can_retire}
 use Rattle.scheduler.specs.CoreView.{core_state_of}
-use Rattle.serving.specs.Lines.{AreKnown, IsKnown, Completed, Line, NoMessage, OutOfRange, Pending, NoneIsTo, admitted, admitted_in, next_ticket, ticketed}
+use Rattle.serving.specs.Lines.{AreKnown, IsKnown, Line, Pending, NoneIsTo, admitted, admitted_in, next_ticket, ticketed}
 use Rattle.serving.specs.Progress.{ServingProgress}
 use Rattle.serving.specs.Runs.{RunsBetween}
 use Rattle.serving.proofs.Tickets.{ticketed-append}
@@ -40,12 +40,7 @@ module _ (g : Geometry) (replies : List (ℕ × Reply)) (ticket : ℕ) (rest : L
       → Awaits replies (ticketed n (admitted_in g o ++ behind)) ticket
   first_awaits n None behind k = absurd k
   first_awaits n (Some m) behind k =
-      let single : admitted_in g (Some m) ≡ m ∷ [] = ap (λ (b : Bool). if b then m ∷ [] else []) k.0 in
-      record {
-        message = m;
-        arrived_so = subst (λ (l : List Msg). IsIn (ticket, m) (ticketed n (l ++ behind))) (sym single) (inl (λ i. (k.1 i, m)));
-        none_to = k.2;
-      }
+      record { message = m; arrived_so = rw k.0 (inl (λ i. (k.1 i, m))); none_to = k.2 }
 
   awaits : (n : ℕ) (ls : List (List ℕ)) (before : List Line) → AreKnown g replies n ls (before ++ Pending ticket ∷ rest)
       → Awaits replies (ticketed n (admitted g ls)) ticket
@@ -55,12 +50,8 @@ module _ (g : Geometry) (replies : List (ℕ × Reply)) (ticket : ℕ) (rest : L
   awaits n (l ∷ ls) (known ∷ before) k =
       let one = admitted_in g (message_of l) in
       let later = awaits (next_ticket n one) ls before k.1 in
-      record {
-        message = later.message;
-        arrived_so = subst (IsIn (ticket, later.message)) (sym (ticketed-append n one (admitted g ls)))
-            (in_right (ticket, later.message) (ticketed n one) _ later.arrived_so);
-        none_to = later.none_to;
-      }
+      let arrived_so = in_right (ticket, later.message) (ticketed n one) _ later.arrived_so in
+      record { message = later.message; arrived_so = rw (ticketed-append n one (admitted g ls)) arrived_so; none_to = later.none_to }
 
 -- ---- all is answered
 
@@ -108,7 +99,5 @@ module _ {keeps : Type 0} {start now : MachineView} (idle : IsIdle (core_state_o
   pub no_line : {input unread : Option (List ℕ)} {drained : Bool} {before written : Option (List ℕ)} (lines : List Line)
       → ServingProgress keeps start now lines input unread drained before written → can_retire lines ≡ false → lines ≡ []
   no_line [] h last = refl
-  no_line (NoMessage ∷ rest) h last = absurd (true≢false last)
-  no_line (OutOfRange ∷ rest) h last = absurd (true≢false last)
-  no_line (Completed ticket reply ∷ rest) h last = absurd (true≢false last)
   no_line (Pending ticket ∷ rest) h last = absurd (not_pending ticket rest h)
+  no_line (line ∷ rest) h last = absurd (true≢false last)

@@ -1,5 +1,5 @@
 -- The session's invariant where it begins; and what the call promises, given what `know_recovery` ensures of the core at the end.
-use Rattle.std.proofs.Common.{◌≡◌, List, [], Option, ap, refl, sym, subst, ℕ, ◌∙◌}
+use Rattle.std.proofs.Common.{◌≡◌, List, [], Option, ap, refl, sym, subst, ℕ, ◌∙◌, arith}
 use Rattle.std.specs.Prelude.{OnOk, Result}
 use Rattle.std.proofs.lemmas.Bool.{and_left}
 use Rattle.scheduler.specs.CoreView.{CoreView}
@@ -9,7 +9,7 @@ use Rattle.serving.specs.Serve.{ServePromise}
 use Rattle.serving.specs.Session.{SessionView, reported}
 use Rattle.serving.specs.Output.{Start, start_machine}
 use Rattle.serving.specs.declared.server.ServeFault.{ServeFault}
-use Rattle.serving.proofs.Closing.{PromisesAll, above_zero, emptied_at_end, ends_or_declines, first_at, promises_from, refuses_none}
+use Rattle.serving.proofs.Closing.{PromisesAll, emptied_at_end, ends_or_declines, first_at, promises_from, refuses_none}
 use Rattle.serving.proofs.Invariant.{begun}
 use Rattle.serving.proofs.server.serve_borrowed.Goals as goal
 
@@ -28,7 +28,7 @@ invariant_of-session g c =
         not_ended = line_reader.open;
         slots = ap (λ (b : _). b.slots) memory.at_bench.0;
         none_lent = memory.none_lent;
-        some_place = above_zero _ c.requires.workers;
+        some_place = omega (arith, c.requires.workers);
       });
       bench = memory.at_bench.0;
     }
