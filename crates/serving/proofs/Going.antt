@@ -1,18 +1,17 @@
 -- How many steps are to come in a session: none of its calls raises that but reading.
-use Rattle.std.proofs.Common.{◌≡◌, ℕ, ◌+◌, ◌*◌, ◌<◌, ◌≤◌, Bool, true, false, List, [], ◌∷◌, Option, Some, None, refl, ap, sym, ◌∙◌, length, map, get_or, set, take, drop, arith}
+use Rattle.std.proofs.Common.{◌≡◌, ℕ, ◌+◌, ◌*◌, ◌<◌, ◌≤◌, Bool, true, false, List, [], ◌∷◌, Option, Some, None, refl, ap, sym, ◌∙◌, length, map, get_or, set, arith}
 use Rattle.std.specs.Prelude.{Result, Ok, Err, IfOk, IsFalse, cond, count_by, is_none, is_some, position}
 use Rattle.std.proofs.lemmas.List.{length-append, take-append-drop}
 use Rattle.std.proofs.lemmas.List.Quantifiers.{position-Some}
 use Rattle.std.proofs.lemmas.List.Sums.{sum_by-cons, sum_by-set}
 use Rattle.affinity.specs.declared.geometry.Geometry.{Geometry}
 use Rattle.histories.proofs.Full.{length-picked}
-use Rattle.histories.specs.CoreState.{CoreState, Entry}
+use Rattle.histories.specs.CoreState.{CoreState, Entry, Replied}
 use Rattle.histories.specs.Eligible.{is_eligible}
 use Rattle.histories.specs.Events.{Hand, find_in_flight, give_back}
 use Rattle.histories.specs.Progress.{has_job, points_left}
 use Rattle.histories.specs.declared.outcomes.CoreFault.{CoreFault}
 use Rattle.incarnations.specs.Machine.{hand_of as hand_in}
-use Rattle.meaning.specs.Serial.{reply_to}
 use Rattle.parcel.specs.Run.{JobView}
 use Rattle.scheduler.specs.Calls.{IsLogStep}
 use Rattle.serving.specs.Lending.{DispatchesTo, IsBlocked}
@@ -71,38 +70,21 @@ module _ (g : Geometry) (k : ℕ) (old new : CoreState) (lent after : List (Opti
   dispatched (Ok _) first d =
       let grant = d.1 in
       let at = position-Some is_none lent k None first in
-      rw (grant.state_after, d.2) (
-        omega (
-          arith,
-          length-append old.in_flight (grant.found.0 ∷ []),
-          length-picked (is_eligible g old) old.waiting grant.found grant.first,
-          jobs-set lent k (Some d.0) at.0,
-          none_weighs (get_or lent k None) at.1,
-        ),
-        refl,
-      )
+      let fewer = length-picked (is_eligible g old) old.waiting grant.found grant.first in
+      rw (grant.state_after, d.2)
+      (omega (arith, fewer, length-append {A = Entry}, jobs-set lent k (Some d.0) at.0, none_weighs (get_or lent k None) at.1), refl)
   dispatched (Err why) first d = still old new lent after (nothing_done g old new lent why d.0) d.1
 
   pub returned : (ticket : ℕ) (found : Entry × List Entry) → k < length lent → find_in_flight old ticket ≡ Some found → new ≡ give_back g old found → after ≡ set lent k None
       → (steps new after ≤ steps old lent) × (new.pieces_left ≡ old.pieces_left)
-  returned ticket found within first is places = rw (is, places) (
-    omega (
-      arith,
-      length-picked _ old.in_flight found first,
-      length-append old.ran ((found.0.0, found.0.1, reply_to g old.committed found.0.1) ∷ []),
-      jobs-set lent k None within,
-    ),
-    refl,
-  )
+  returned ticket found within first is places =
+      rw (is, places) (omega (arith, length-picked _ old.in_flight found first, length-append {A = Replied}, jobs-set lent k None within), refl)
 
 pub logged_some : (g : Geometry) (old new : CoreState) (lent : List (Option JobView)) (n : ℕ) (r : Result ℕ CoreFault) → IsLogStep g old new n r
     → IfOk r (λ count. steps new lent + count ≡ steps old lent)
-logged_some g old new lent n (Ok count) s = rw s.2 (omega (
-  arith,
-  s.1,
-  length-append old.logged (take n old.ran),
-  ap length (sym (take-append-drop n old.ran)) ∙ length-append (take n old.ran) (drop n old.ran),
-))
+logged_some g old new lent n (Ok count) s =
+    let parts = ap length (sym (take-append-drop n old.ran)) in
+    rw s.2 (omega (arith, parts, length-append {A = Replied}))
 logged_some g old new lent n (Err e) s = tt
 
 -- ---- an iteration

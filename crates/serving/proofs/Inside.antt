@@ -95,12 +95,8 @@ module _ (g : Geometry) (replies : List (ℕ × Reply)) where
   lines_take n [] (known ∷ sent_lines) unsent k done = absurd k
   lines_take n (l ∷ ls) (known ∷ sent_lines) unsent k done =
       let o = message_of l in
-      omega (
-        arith,
-        answered_takes n o known k.0 done.0,
-        lines_take (next_ticket n (admitted_in g o)) ls sent_lines unsent k.1 done.1,
-        length-append (admitted_in g o) (admitted g ls),
-      )
+      let here = answered_takes n o known k.0 done.0 in
+      omega (arith, here, lines_take (next_ticket n (admitted_in g o)) ls sent_lines unsent k.1 done.1, length-append {A = Msg})
 
 -- ---- the core
 
@@ -128,14 +124,9 @@ module _ {keeps : Type 0} {start now : MachineView} (idle : IsIdle (core_state_o
   serving_inside {consumed} {sent_lines} {unsent} s =
       let g = start.core.geometry in
       let n = start.core.next in
-      omega (
-        arith,
-        passes_count s.segment,
-        length-ticketed n (admitted g consumed),
-        idle_inside (core_state_of start.core) idle,
-        lines_take g s.reply_pairs n consumed sent_lines unsent s.known s.answered,
-        later_most n s.reply_pairs,
-      )
+      let takes = lines_take g s.reply_pairs n consumed sent_lines unsent s.known s.answered in
+      let none = idle_inside (core_state_of start.core) idle in
+      omega (arith, takes, none, passes_count s.segment, length-ticketed n (admitted g consumed), later_most n s.reply_pairs)
 
   -- No more messages wait or are held than there are lines that were read and aren't written.
   pub few_inside : {unsent : List Line} {input unread : Option (List ℕ)} {ended : Bool} {before written : Option (List ℕ)}

@@ -154,13 +154,8 @@ module _ {keeps : Type 0} {start : MachineView} {new : CoreView} {unsent : List 
   -- No more consumed lines have no answer than these slots, where no more lines are unsent.
   pub few_answered : (slots : ℕ) → length unsent ≤ slots → length h.consumed ≤ length (map answer_text h.sent_lines) + slots
   few_answered slots few =
-      omega (
-        arith,
-        as_many start.core.geometry h.run.reply_pairs start.core.next h.consumed (h.sent_lines ++ unsent) h.known,
-        length-append h.sent_lines unsent,
-        length-map h.sent_lines answer_text,
-        few,
-      )
+      let all = as_many start.core.geometry h.run.reply_pairs start.core.next h.consumed (h.sent_lines ++ unsent) h.known in
+      omega (arith, all, length-append {A = Line}, length-map h.sent_lines answer_text)
 
   -- Each line that was written is in the history of what the run logged (`AreInHistory`).
   pub written_are_kept : AreInHistory start.core.geometry run_log start.core.next h.consumed (map answer_text h.sent_lines)

@@ -56,15 +56,9 @@ module _ (keeps : Type 0) (s : Start) (sent : Option (List ℕ)) (now : CoreView
   none_answered =
       let p = m.served.run.segment in
       let arriving = ticketed s.core.next (admitted s.core.geometry m.served.consumed) in
-      nil_from_length m.served.run.reply_pairs (omega (
-        arith,
-        all_inside,
-        idle_inside (core_state_of s.core) m.idle,
-        passes_count p,
-        passes_next p,
-        next_counts s.core.next (messages_of arriving),
-        length-map arriving (λ (e : Entry). e.1),
-      ))
+      let none = idle_inside (core_state_of s.core) m.idle in
+      let given = next_counts s.core.next (messages_of arriving) in
+      nil_from_length m.served.run.reply_pairs (omega (arith, none, given, passes_count p, passes_next p, length-map arriving (λ (e : Entry). e.1)))
 
   pub is_silent : AllByRecursion HasNoReply m.next
   is_silent = all_silent s.core.geometry s.core.next m.served.consumed m.served.sent_lines m.next m.rest
