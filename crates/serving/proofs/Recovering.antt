@@ -1,20 +1,19 @@
 -- What a device holds of a service, in words of lines: those that were acknowledged, and a part of the lines after them.
-use Rattle.std.proofs.Common.{◌≡◌, ◌⊎◌, ℕ, zero, suc, ◌+◌, ◌<◌, ◌≤◌, Bool, true, false, List, [], ◌∷◌, ◌++◌, Option, Some, None, refl, ap, sym, ◌∙◌, subst, length, length-append, take, inl, inr, ⊎_elim, arith, append_assoc}
-use Rattle.std.specs.Prelude.{◌&&◌, if◌then◌else◌}
+use Rattle.std.proofs.Common.{◌≡◌, ◌⊎◌, ℕ, zero, suc, ◌+◌, ◌<◌, ◌≤◌, true, false, List, [], ◌∷◌, ◌++◌, Option, Some, None, refl, ap, sym, ◌∙◌, subst, length, length-append, take, inl, inr, ⊎_elim, arith, append_assoc}
 use Rattle.std.specs.Io.KnownBytes.{Appends}
 use Rattle.std.specs.List.{AllByRecursion, Contains}
 use Rattle.std.proofs.lemmas.Bool.{true≢false}
+use Rattle.std.proofs.Math.Bool.{and-false}
 use Rattle.affinity.specs.declared.geometry.Geometry.{Geometry}
-use Rattle.affinity.specs.Path.{are_related}
 use Rattle.language.specs.Grammar.{message_of}
 use Rattle.language.specs.Lines.{lines}
-use Rattle.language.specs.Messages.{is_in_range, path_of}
+use Rattle.language.specs.Messages.{is_in_range}
 use Rattle.language.specs.Replies.{reply_line}
 use Rattle.language.specs.declared.Msg.{Msg}
 use Rattle.language.specs.declared.Refusal.TheVariants.{Range}
 use Rattle.language.specs.declared.Reply.{Reply}
 use Rattle.language.specs.declared.Reply.TheVariants.{Refused}
-use Rattle.meaning.specs.Order.{by_ticket, messages_of, serial_replies}
+use Rattle.meaning.specs.Order.{by_ticket, messages_of}
 use Rattle.meaning.specs.Output.{WritesOutput, answer_line, joined, output_lines, state_after_line, state_after_lines}
 use Rattle.meaning.specs.Serial.{state_after_all, next_state, reply_to}
 use Rattle.meaning.specs.State.{State}
@@ -24,31 +23,33 @@ use Rattle.histories.specs.CoreState.{Entry, Replied, are_related_entries, entri
 use Rattle.histories.proofs.Elements.{in_contained}
 use Rattle.histories.proofs.SerialReplies.{IsIn, in_left}
 use Rattle.serving.specs.Ends.{AreFirst}
-use Rattle.serving.specs.Lines.{admitted, admitted_in, next_ticket, ticketed}
+use Rattle.serving.specs.Lines.{admitted, admitted_in, ticketed}
 use Rattle.serving.specs.Restart.{IsClosedPart, RecoversTo, BytesRecover, are_related_lines}
 use Rattle.serving.specs.Logged.{AreInHistory, RecoversToHistory, IsInHistory}
-use Rattle.serving.proofs.Serial.{out_of_range as refused_for_range}
-use Rattle.serving.proofs.SortedLogs.{HasNoGap, sorted_log}
+use Rattle.serving.proofs.Serial.{HaveSerialReplies, all_after, its_reply, out_of_range as refused_for_range, serial_after, with_ticket}
+use Rattle.serving.proofs.SortedLogs.{HasNoGap, IsApart, all_kept, sorted_log}
 
 -- ---- the tickets of lines
 
-all_from : (n k : ℕ) (ms : List Msg) → n ≤ k → AllByRecursion (λ e. n ≤ e.0) (ticketed k ms)
-all_from n k [] le = tt
-all_from n k (m ∷ ms) le = (le, all_from n (k + 1) ms (omega (arith, le)))
-
 pub ascending : (n : ℕ) (ms : List Msg) → AreAscending (ticketed n ms)
 ascending n [] = tt
-ascending n (m ∷ ms) = (greater (ticketed (n + 1) ms) (all_from (n + 1) (n + 1) ms (omega arith)), ascending (n + 1) ms)
-  where
-    greater : (es : List Entry) → AllByRecursion (λ e. n + 1 ≤ e.0) es → AllByRecursion (λ e. n < e.0) es
-    greater [] h = tt
-    greater (e ∷ es) h = (let le = h.0 in omega (arith, le), greater es h.1)
+ascending n (m ∷ ms) = (all_after n (n + 1) ms (omega arith), ascending (n + 1) ms)
 
-in_range : (g : Geometry) (m : Msg) → is_in_range g m ≡ true → admitted_in g (Some m) ≡ m ∷ []
-in_range g m h = ap (λ (b : Bool). if b then m ∷ [] else []) h
+-- the line takes no ticket: it is no message, or one out of range
+abbrev TakesNone : Geometry → Option Msg → Type 0
+TakesNone g o = (m : Msg) → o ≡ Some m → is_in_range g m ≡ false
 
-out_of_range : (g : Geometry) (m : Msg) → is_in_range g m ≡ false → admitted_in g (Some m) ≡ []
-out_of_range g m h = ap (λ (b : Bool). if b then m ∷ [] else []) h
+admits_none : (g : Geometry) (o : Option Msg) → TakesNone g o → admitted_in g o ≡ []
+admits_none g None none = refl
+admits_none g (Some m) none = rw (none m refl) refl
+
+-- a line takes no ticket, or one, for its message
+takes_one : (g : Geometry) (o : Option Msg) → TakesNone g o ⊎ ((m : Msg) × (o ≡ Some m) × (is_in_range g m ≡ true))
+takes_one g None = inl (λ m is. cc)
+takes_one g (Some m) = elim (is_in_range g m) as (λ b. is_in_range g m ≡ b → TakesNone g (Some m) ⊎ ((k : Msg) × (Some m ≡ Some k) × (is_in_range g k ≡ true))) [
+  | true ↦ λ e. inr (m, refl, e)
+  | false ↦ λ e. inl (λ k is. cc)
+] refl
 
 -- ---- a part of the messages is a part of the lines
 
@@ -72,27 +73,13 @@ leads g x (line ∷ part) [] s = absurd s
 leads g x (line ∷ part) (e ∷ es) s =
     leads g (next_state g x e.1) part es s.1 ∙ ap (λ o. state_after_lines g (state_after_line g x o) part) (sym s.0)
 
-none_first : (a b c : Bool) → a ≡ false → (a && b && c) ≡ false
-none_first a b c h = ap (λ (d : Bool). d && b && c) h
-
-none_last : (a b c : Bool) → c ≡ false → (a && b && c) ≡ false
-none_last true true c h = h
-none_last true false c h = refl
-none_last false b c h = refl
-
 -- a line that takes no ticket is not related to any
-not_in_range : (g : Geometry) (m : Msg) → admitted_in g (Some m) ≡ [] → is_in_range g m ≡ false
-not_in_range g m h = elim (is_in_range g m) as (λ b. (if b then m ∷ [] else []) ≡ [] → b ≡ false) [
-  | true ↦ λ e. cc
-  | false ↦ λ e. refl
-] h
-
-unrelated_none : (g : Geometry) (o : Option Msg) → admitted_in g o ≡ [] → (p : Option Msg) → are_related_lines g o p ≡ false
+unrelated_none : (g : Geometry) (o : Option Msg) → TakesNone g o → (p : Option Msg) → are_related_lines g o p ≡ false
 unrelated_none g None h p = refl
 unrelated_none g (Some m) h None = refl
-unrelated_none g (Some m) h (Some n) = none_first (is_in_range g m) (is_in_range g n) (are_related (path_of g m) (path_of g n)) (not_in_range g m h)
+unrelated_none g (Some m) h (Some n) = rw (h m refl) refl
 
-none_related : (g : Geometry) (o : Option Msg) → admitted_in g o ≡ [] → (part : List (List ℕ))
+none_related : (g : Geometry) (o : Option Msg) → TakesNone g o → (part : List (List ℕ))
     → AllByRecursion (λ other. are_related_lines g o (message_of other) ≡ false) part
 none_related g o h [] = tt
 none_related g o h (line ∷ part) = (unrelated_none g o h (message_of line), none_related g o h part)
@@ -105,66 +92,28 @@ unrelated_too g n m [] [] s h = tt
 unrelated_too g n m [] (e ∷ es) s h = absurd s
 unrelated_too g n m (line ∷ part) [] s h = absurd s
 unrelated_too g n m (line ∷ part) (e ∷ es) s h = (
-  subst (λ o. are_related_lines g (Some m) o ≡ false) (sym s.0)
-      (none_last (is_in_range g m) (is_in_range g e.1) (are_related (path_of g m) (path_of g e.1)) h.0),
+  rw (s.0, h.0) (and-false _),
   unrelated_too g n m part es s.1 h.1,
 )
 
--- a line takes no ticket, or one, for its message
-abbrev TakesOne : Geometry → Option Msg → Type 0
-TakesOne g o = (admitted_in g o ≡ []) ⊎ ((m : Msg) × (o ≡ Some m) × (admitted_in g o ≡ m ∷ []))
-
-takes_one : (g : Geometry) (o : Option Msg) → TakesOne g o
-takes_one g None = inl refl
-takes_one g (Some m) = elim (is_in_range g m) as (λ b. is_in_range g m ≡ b → TakesOne g (Some m)) [
-  | true ↦ λ e. inr (m, refl, in_range g m e)
-  | false ↦ λ e. inl (out_of_range g m e)
-] refl
-
-module _ (g : Geometry) (n : ℕ) (line : List ℕ) (ls : List (List ℕ)) (es : List Entry)
-    (on : (k : ℕ) (fs : List Entry) → HasNoGap g fs (ticketed k (admitted g ls)) → SpellsPart g fs ls) where
-  with_none : admitted_in g (message_of line) ≡ [] → HasNoGap g es (ticketed n (admitted g ls)) → SpellsPart g es (line ∷ ls)
-  with_none none h =
-      let rest = on n es h in
-      record { part = rest.part; spell = rest.spell; closed = inr (none_related g (message_of line) none rest.part, rest.closed) }
-
-  with_ticket : (m : Msg) → message_of line ≡ Some m → HasNoGap g es ((n, m) ∷ ticketed (n + 1) (admitted g ls)) → SpellsPart g es (line ∷ ls)
-  with_ticket m is h = ⊎_elim
-      (λ (k : (rest : List Entry) × (es ≡ (n, m) ∷ rest) × HasNoGap g rest (ticketed (n + 1) (admitted g ls))).
-      let rest = on (n + 1) k.0 k.2 in
-      record {
-        part = line ∷ rest.part;
-        spell = subst (Spell (line ∷ rest.part)) (sym k.1) (is, rest.spell);
-        closed = inl (rest.part, refl, rest.closed);
-      })
-      (λ (k : AllByRecursion (λ e. are_related_entries g (n, m) e ≡ false) es × HasNoGap g es (ticketed (n + 1) (admitted g ls))).
-      let rest = on (n + 1) es k.1 in
-      record {
-        part = rest.part;
-        spell = rest.spell;
-        closed = inr (
-          subst (λ o. AllByRecursion (λ other. are_related_lines g o (message_of other) ≡ false) rest.part) (sym is)
-              (unrelated_too g n m rest.part es rest.spell k.0),
-          rest.closed,
-        );
-      }) h
-
 pub spells_part : (g : Geometry) (n : ℕ) (ls : List (List ℕ)) (es : List Entry) → HasNoGap g es (ticketed n (admitted g ls)) → SpellsPart g es ls
-spells_part g n [] es h = record { part = []; spell = subst (Spell []) (sym h) tt; closed = refl }
-spells_part g n (line ∷ ls) es h =
-    let on = λ (k : ℕ) (fs : List Entry) (h : HasNoGap g fs (ticketed k (admitted g ls))). spells_part g k ls fs h in
+spells_part g n [] es h = record { part = []; spell = rw h tt; closed = refl }
+spells_part g n (line ∷ ls) es h = ⊎_elim
+    (λ (none : TakesNone g (message_of line)).
+    let rest = spells_part g n ls es (rw (admits_none g (message_of line) none) at h) in
+    record { part = rest.part; spell = rest.spell; closed = inr (none_related g (message_of line) none rest.part, rest.closed) })
+    (λ (k : (m : Msg) × (message_of line ≡ Some m) × (is_in_range g m ≡ true)).
+    let here : HasNoGap g es ((n, k.0) ∷ ticketed (n + 1) (admitted g ls)) = rw (k.1, k.2) at h in
     ⊎_elim
-    (λ (none : admitted_in g (message_of line) ≡ []).
-    with_none g n line ls es on none (subst (λ ms. HasNoGap g es (ticketed n (ms ++ admitted g ls))) none h))
-    (λ (k : (m : Msg) × (message_of line ≡ Some m) × (admitted_in g (message_of line) ≡ m ∷ [])).
-    with_ticket g n line ls es on k.0 k.1 (subst (λ ms. HasNoGap g es (ticketed n (ms ++ admitted g ls))) k.2 h))
+    (λ (j : (rest : List Entry) × (es ≡ (n, k.0) ∷ rest) × HasNoGap g rest (ticketed (n + 1) (admitted g ls))).
+    let rest = spells_part g (n + 1) ls j.0 j.2 in
+    record { part = line ∷ rest.part; spell = rw j.1 (k.1, rest.spell); closed = inl (rest.part, refl, rest.closed) })
+    (λ (j : IsApart g (n, k.0) es × HasNoGap g es (ticketed (n + 1) (admitted g ls))).
+    let rest = spells_part g (n + 1) ls es j.1 in
+    record { part = rest.part; spell = rest.spell; closed = inr (rw k.1 (unrelated_too g n k.0 rest.part es rest.spell j.0), rest.closed) }) here)
     (takes_one g (message_of line))
 
 -- ---- the lines that were acknowledged
-
--- Each reply of the log is to a ticket before n, or is the serial server's to one of these messages.
-abbrev pub HaveSerialReplies : Geometry → State → ℕ → List Replied → List Entry → Type 0
-HaveSerialReplies g x n log es = (t : ℕ) (m : Msg) (reply : Reply) → IsIn (t, m, reply) log → (t < n) ⊎ IsIn (t, reply) (serial_replies g x es)
 
 -- What was written answers the first of the lines, as the serial server does. The messages lead to the state to which these first lines and
 -- a closed part of the others lead.
@@ -177,25 +126,10 @@ pub record AnswersFirst (g : Geometry) (x : State) (es : List Entry) (ls written
   pub closed : IsClosedPart g part others
   pub state : state_after_all g x (messages_of es) ≡ state_after_lines g x (first ++ part)
 
-serial_from : (g : Geometry) (x : State) (n : ℕ) (es : List Entry) → AllByRecursion (λ e. n ≤ e.0) es → (p : ℕ × Reply)
-    → IsIn p (serial_replies g x es) → n ≤ p.0
-serial_from g x n [] h p is = absurd is
-serial_from g x n (e ∷ es) h p is = ⊎_elim
-    (λ (same : p ≡ (e.0, reply_to g x e.1)). let at : p.0 ≡ e.0 = ap (λ (q : ℕ × Reply). q.0) same in let le = h.0 in omega (arith, at, le))
-    (λ later. serial_from g (next_state g x e.1) n es h.1 p later) is
-
-from_gap : (g : Geometry) (n : ℕ) (es all : List Entry) → AllByRecursion (λ e. n ≤ e.0) all → HasNoGap g es all
-    → AllByRecursion (λ e. n ≤ e.0) es
-from_gap g n es [] h k = subst (AllByRecursion (λ e. n ≤ e.0)) (sym k) tt
-from_gap g n es (a ∷ all) h k = ⊎_elim
-    (λ (j : (rest : List Entry) × (es ≡ a ∷ rest) × HasNoGap g rest all).
-    subst (AllByRecursion (λ e. n ≤ e.0)) (sym j.1) (h.0, from_gap g n j.0 all h.1 j.2))
-    (λ (j : AllByRecursion (λ e. are_related_entries g a e ≡ false) es × HasNoGap g es all). from_gap g n es all h.1 j.1) k
-
 -- a line that takes no ticket leaves the state
-state_stays : (g : Geometry) (x : State) (o : Option Msg) → admitted_in g o ≡ [] → state_after_line g x o ≡ x
+state_stays : (g : Geometry) (x : State) (o : Option Msg) → TakesNone g o → state_after_line g x o ≡ x
 state_stays g x None h = refl
-state_stays g x (Some m) h = ap (λ (q : Reply × State). q.1) (refused_for_range g x m (not_in_range g m h))
+state_stays g x (Some m) h = ap (λ (q : Reply × State). q.1) (refused_for_range g x m (h m refl))
 
 -- The output line for an input line (`IsInHistory`) is the serial server's, if the reply in the history is.
 kept_line : (g : Geometry) (x : State) (log : List Replied) (n : ℕ) (o : Option Msg) (line : List ℕ) → IsInHistory g log n o line
@@ -215,33 +149,10 @@ kept_reply g log n m line is k = ⊎_elim
     (λ (has : (is_in_range g m ≡ true) × ((reply : Reply) × (line ≡ reply_line reply) × Contains log (n, m, reply))).
     (has.1.0, in_contained log (n, m, has.1.0) has.1.2)) k
 
-ranges_too : (g : Geometry) (m : Msg) → admitted_in g (Some m) ≡ m ∷ [] → is_in_range g m ≡ true
-ranges_too g m h = elim (is_in_range g m) as (λ b. (if b then m ∷ [] else []) ≡ m ∷ [] → b ≡ true) [
-  | true ↦ λ e. refl
-  | false ↦ λ e. cc
-] h
-
 some_is : (m k : Msg) → Some m ≡ Some k → m ≡ k
 some_is m k h = cc
 
--- The first message has the serial server's reply in the log, and the others have theirs, from the state after it.
-module _ (g : Geometry) (x : State) (n : ℕ) (m : Msg) (log : List Replied) (es : List Entry) (serial_all : HaveSerialReplies g x n log ((n, m) ∷ es)) where
-  its_reply : AllByRecursion (λ e. n + 1 ≤ e.0) es → (k : Msg) (reply : Reply) → IsIn (n, k, reply) log → reply ≡ reply_to g x m
-  its_reply h k reply is = ⊎_elim
-      (λ (less : n < n). absurd (omega (arith, less)))
-      (λ here. ⊎_elim (λ (same : (n, reply) ≡ (n, reply_to g x m)). ap (λ (q : ℕ × Reply). q.1) same)
-      (λ later. let from : n + 1 ≤ n = serial_from g (next_state g x m) (n + 1) es h (n, reply) later in absurd (omega (arith, from))) here)
-      (serial_all n k reply is)
-
-  serial_on : HaveSerialReplies g (next_state g x m) (n + 1) log es
-  serial_on t k reply is = ⊎_elim
-      (λ (less : t < n). inl (omega (arith, less)))
-      (λ here. ⊎_elim
-      (λ (same : (t, reply) ≡ (n, reply_to g x m)). let at : t ≡ n = ap (λ (q : ℕ × Reply). q.0) same in inl (omega (arith, at)))
-      (λ later. inr later) here)
-      (serial_all t k reply is)
-
-module _ (g : Geometry) (log : List Replied) where
+module _ (g : Geometry) (log : List Replied) (replies : List (ℕ × Reply)) (told : (t : ℕ) (m : Msg) (reply : Reply) → IsIn (t, m, reply) log → IsIn (t, reply) replies) where
   none_answered : (x : State) (n : ℕ) (ls : List (List ℕ)) (es : List Entry) → HasNoGap g es (ticketed n (admitted g ls)) → AnswersFirst g x es ls []
   none_answered x n ls es h =
       let s = spells_part g n ls es h in
@@ -261,55 +172,49 @@ module _ (g : Geometry) (log : List Replied) where
   }
 
   module _ (x : State) (n : ℕ) (line : List ℕ) (ls : List (List ℕ)) (w : List ℕ) (written : List (List ℕ)) (es : List Entry)
-      (on : (y : State) (k : ℕ) (fs : List Entry) → HasNoGap g fs (ticketed k (admitted g ls)) → HaveSerialReplies g y k log fs → AreInHistory g log k ls written
+      (on : (y : State) (k : ℕ) (fs : List Entry) → HasNoGap g fs (ticketed k (admitted g ls)) → HaveSerialReplies g replies y k fs → AreInHistory g log k ls written
       → AnswersFirst g y fs ls written) where
-    answers_none : admitted_in g (message_of line) ≡ [] → HasNoGap g es (ticketed n (admitted g ls)) → HaveSerialReplies g x n log es
+    answers_none : TakesNone g (message_of line) → HasNoGap g es (ticketed n (admitted g ls)) → HaveSerialReplies g replies x n es
         → IsInHistory g log n (message_of line) w → AreInHistory g log n ls written → AnswersFirst g x es (line ∷ ls) (w ∷ written)
     answers_none none h serial_all k rest =
         let stays = state_stays g x (message_of line) none in
-        let retires = kept_line g x log n (message_of line) w k
-        (λ m reply is in_range its. absurd (true≢false (sym in_range ∙ not_in_range g m (ap (admitted_in g) (sym is) ∙ none)))) in
-        one_more retires (ap (λ y. state_after_all g y (messages_of es)) (sym stays))
-        (subst (λ y. AnswersFirst g y es ls written) (sym stays) (on x n es h serial_all rest))
+        let retires = kept_line g x log n (message_of line) w k (λ m reply is in_range its. absurd (true≢false (sym in_range ∙ none m is))) in
+        one_more {fs = es} retires (ap (λ y. state_after_all g y (messages_of es)) (sym stays)) (rw stays (on x n es h serial_all rest))
 
     answers_one : (m : Msg) → message_of line ≡ Some m → is_in_range g m ≡ true → HasNoGap g es ((n, m) ∷ ticketed (n + 1) (admitted g ls))
-        → HaveSerialReplies g x n log es → IsInHistory g log n (Some m) w → AreInHistory g log (n + 1) ls written → AnswersFirst g x es (line ∷ ls) (w ∷ written)
+        → HaveSerialReplies g replies x n es → IsInHistory g log n (Some m) w → AreInHistory g log (n + 1) ls written → AnswersFirst g x es (line ∷ ls) (w ∷ written)
     answers_one m is ranges h serial_all k rest =
         let its = kept_reply g log n m w ranges k in
-        let late = all_from (n + 1) (n + 1) (admitted g ls) (omega arith) in
+        let after = λ (fs : List Entry) (h : HasNoGap g fs (ticketed (n + 1) (admitted g ls))).
+        all_kept (λ e. n < e.0) (IsApart g) fs (ticketed (n + 1) (admitted g ls)) (all_after n (n + 1) (admitted g ls) (omega arith)) h in
         ⊎_elim
         (λ (j : (fs : List Entry) × (es ≡ (n, m) ∷ fs) × HasNoGap g fs (ticketed (n + 1) (admitted g ls))).
-        let serial_here = subst (HaveSerialReplies g x n log) j.1 serial_all in
-        let greater = from_gap g (n + 1) j.0 (ticketed (n + 1) (admitted g ls)) late j.2 in
+        let serial_here = subst (HaveSerialReplies g replies x n) j.1 serial_all in
         let retires = kept_line g x log n (Some m) w k
-        (λ m' reply same in_range its. its_reply g x n m log j.0 serial_here greater m' reply its ∙ ap (reply_to g x) (some_is m m' same)) in
+        (λ m' reply same in_range here. its_reply g replies x n j.0 m reply (after j.0 j.2) serial_here (told n m' reply here) ∙ ap (reply_to g x) (some_is m m' same)) in
         one_more (retires ∙ ap (answer_line g x) (sym is))
         (ap (λ l. state_after_all g x (messages_of l)) j.1 ∙ ap (λ o. state_after_all g (state_after_line g x o) (messages_of j.0)) (sym is))
         (subst (λ o. AnswersFirst g (state_after_line g x o) j.0 ls written) (sym is)
-        (on (next_state g x m) (n + 1) j.0 j.2 (serial_on g x n m log j.0 serial_here) rest)))
-        (λ (j : AllByRecursion (λ e. are_related_entries g (n, m) e ≡ false) es × HasNoGap g es (ticketed (n + 1) (admitted g ls))).
-        let greater = from_gap g (n + 1) es (ticketed (n + 1) (admitted g ls)) late j.1 in
+        (on (next_state g x m) (n + 1) j.0 j.2 (with_ticket g replies x n j.0 m serial_here) rest)))
+        (λ (j : IsApart g (n, m) es × HasNoGap g es (ticketed (n + 1) (admitted g ls))).
         ⊎_elim (λ (less : n < n). absurd (omega (arith, less)))
-        (λ here. let from : n + 1 ≤ n = serial_from g x (n + 1) es greater (n, its.0) here in absurd (omega (arith, from)))
-        (serial_all n m its.0 its.1)) h
+        (λ here. absurd (omega (arith, serial_after g x n es (n, its.0) (after es j.1) here)))
+        (serial_all (n, its.0) (told n m its.0 its.1))) h
 
   answers_first : (x : State) (n : ℕ) (ls written : List (List ℕ)) (es : List Entry) → HasNoGap g es (ticketed n (admitted g ls))
-      → HaveSerialReplies g x n log es → AreInHistory g log n ls written → AnswersFirst g x es ls written
+      → HaveSerialReplies g replies x n es → AreInHistory g log n ls written → AnswersFirst g x es ls written
   answers_first x n ls [] es h serial_all k = none_answered x n ls es h
   answers_first x n [] (w ∷ written) es h serial_all k = absurd k
   answers_first x n (line ∷ ls) (w ∷ written) es h serial_all k =
-      let on = λ (y : State) (i : ℕ) (fs : List Entry) (h : HasNoGap g fs (ticketed i (admitted g ls))) (t : HaveSerialReplies g y i log fs)
+      let on = λ (y : State) (i : ℕ) (fs : List Entry) (h : HasNoGap g fs (ticketed i (admitted g ls))) (t : HaveSerialReplies g replies y i fs)
       (k : AreInHistory g log i ls written). answers_first y i ls written fs h t k in
-      let o = message_of line in
       ⊎_elim
-      (λ (none : admitted_in g o ≡ []).
-      answers_none x n line ls w written es on none (subst (λ ms. HasNoGap g es (ticketed n (ms ++ admitted g ls))) none h) serial_all k.0
-      (subst (λ ms. AreInHistory g log (next_ticket n ms) ls written) none k.1))
-      (λ (j : (m : Msg) × (o ≡ Some m) × (admitted_in g o ≡ m ∷ [])).
-      answers_one x n line ls w written es on j.0 j.1 (ranges_too g j.0 (ap (admitted_in g) (sym j.1) ∙ j.2))
-      (subst (λ ms. HasNoGap g es (ticketed n (ms ++ admitted g ls))) j.2 h) serial_all
-      (subst (λ o. IsInHistory g log n o w) j.1 k.0) (subst (λ ms. AreInHistory g log (next_ticket n ms) ls written) j.2 k.1))
-      (takes_one g o)
+      (λ (none : TakesNone g (message_of line)).
+      let takes = admits_none g (message_of line) none in
+      answers_none x n line ls w written es on none (rw takes at h) serial_all k.0 (rw takes at k.1))
+      (λ (j : (m : Msg) × (message_of line ≡ Some m) × (is_in_range g m ≡ true)).
+      answers_one x n line ls w written es on j.0 j.1 j.2 (rw (j.1, j.2) at h) serial_all (rw j.1 at k.0) (rw (j.1, j.2) at k.1))
+      (takes_one g (message_of line))
 
 -- ---- what a log leads to
 
@@ -325,7 +230,7 @@ none_there g (line ∷ ls) = inr (tt, none_there g ls)
 
 -- A closed part of no more than n lines is one of the first n of these and more.
 within : (g : Geometry) (n : ℕ) (part ls rest : List (List ℕ)) → length ls ≤ n → IsClosedPart g part ls → IsClosedPart g part (take n (ls ++ rest))
-within g n part [] rest le h = subst (λ p. IsClosedPart g p (take n rest)) (sym h) (none_there g (take n rest))
+within g n part [] rest le h = rw h (none_there g (take n rest))
 within g zero part (line ∷ ls) rest le h = absurd (omega (arith, le))
 within g (suc n) part (line ∷ ls) rest le h = ⊎_elim
     (λ (k : (fewer : List (List ℕ)) × (part ≡ line ∷ fewer) × IsClosedPart g fewer ls). inl (k.0, k.1, within g n k.0 ls rest (omega (arith, le)) k.2))
@@ -344,8 +249,8 @@ recovers_to : {g : Geometry} {slots : ℕ} {x : State} {input : List ℕ} {log :
 recovers_to {g} {slots} {x} {log} n consumed written first few kept h =
     let whole = log ++ h.more in
     let sorted = sorted_log g x (ticketed n (admitted g consumed)) whole (ascending n (admitted g consumed)) h.serial in
-    let a = answers_first g log x n consumed written (by_ticket (entries whole)) sorted.no_gap
-    (λ t m reply is. inr (sorted.tells (t, reply) (said_so whole t m reply (in_left (t, m, reply) log h.more is)))) kept in
+    let a = answers_first g log (ticket_replies whole) (λ t m reply is. said_so whole t m reply (in_left (t, m, reply) log h.more is)) x n consumed written
+    (by_ticket (entries whole)) sorted.no_gap (λ p is. inr (sorted.tells p is)) kept in
     record {
       acknowledged = a.first;
       unacknowledged = a.others ++ first.0;

@@ -3,6 +3,7 @@ use Rattle.std.proofs.Common.{◌≡◌, ◌⊎◌, ℕ, suc, ◌+◌, ◌<◌, 
 use Rattle.std.specs.Prelude.{if◌then◌else◌, find, not}
 use Rattle.std.specs.List.{AllByRecursion}
 use Rattle.std.proofs.lemmas.Bool.{true≢false}
+use Rattle.histories.specs.CoreState.{Entry}
 use Rattle.affinity.specs.declared.geometry.Geometry.{Geometry}
 use Rattle.affinity.specs.declared.kinds.Kind.{Kind}
 use Rattle.affinity.specs.declared.kinds.Kind.TheVariants as kinds
@@ -41,11 +42,15 @@ pub messages-ticketed : (n : ℕ) (ms : List Msg) → messages_of (ticketed n ms
 messages-ticketed n [] = refl
 messages-ticketed n (m ∷ ms) = ap (λ l. m ∷ l) (messages-ticketed (n + 1) ms)
 
-ticket_later : (g : Geometry) (x : State) (n : ℕ) (ms : List Msg) (p : ℕ × Reply) → IsIn p (serial_replies g x (ticketed n ms)) → n ≤ p.0
-ticket_later g x n [] p is = absurd is
-ticket_later g x n (m ∷ ms) p is = ⊎_elim
-    (λ (e : p ≡ (n, reply_to g x m)). let same : p.0 ≡ n = ap (λ (q : ℕ × Reply). q.0) e in omega (arith, same))
-    (λ later. let from = ticket_later g (next_state g x m) (n + 1) ms p later in omega (arith, from)) is
+pub all_after : (n k : ℕ) (ms : List Msg) → n < k → AllByRecursion (λ e. n < e.0) (ticketed k ms)
+all_after n k [] less = tt
+all_after n k (m ∷ ms) less = (less, all_after n (k + 1) ms (omega (arith, less)))
+
+pub serial_after : (g : Geometry) (x : State) (n : ℕ) (es : List Entry) (p : ℕ × Reply) → AllByRecursion (λ e. n < e.0) es → IsIn p (serial_replies g x es) → n < p.0
+serial_after g x n [] p h is = absurd is
+serial_after g x n (e ∷ es) p h is = ⊎_elim
+    (λ (same : p ≡ (e.0, reply_to g x e.1)). let at : p.0 ≡ e.0 = ap (λ (q : ℕ × Reply). q.0) same in omega (arith, at, h.0))
+    (λ later. serial_after g (next_state g x e.1) n es p h.1 later) is
 
 pub next_from : (n : ℕ) (ms : List Msg) → n ≤ next_ticket n ms
 next_from n [] = omega arith
@@ -66,47 +71,48 @@ admitted-append g (l ∷ ls) ms =
 -- ---- the lines
 
 module _ (g : Geometry) (replies : List (ℕ × Reply)) where
-  -- Each reply is to a ticket before n, or is the serial server's to one of these messages, which have the tickets from n on.
-  abbrev pub HaveSerialReplies : State → ℕ → List Msg → Type 0
-  HaveSerialReplies x n ms = (p : ℕ × Reply) → IsIn p replies → (p.0 < n) ⊎ IsIn p (serial_replies g x (ticketed n ms))
+  -- Each reply is to a ticket before n, or is the serial server's to one of these messages.
+  abbrev pub HaveSerialReplies : State → ℕ → List Entry → Type 0
+  HaveSerialReplies x n es = (p : ℕ × Reply) → IsIn p replies → (p.0 < n) ⊎ IsIn p (serial_replies g x es)
 
   -- A line that has its answer is answered as the serial server answers it, and the other replies are the serial server's from the state
   -- after it.
   record IsServedBy (x : State) (n : ℕ) (ms : List Msg) (o : Option Msg) (known : Line) : Type 0 where
     retires : answer_text known ≡ answer_line g x o
-    tells : HaveSerialReplies (state_after_line g x o) (next_ticket n (admitted_in g o)) ms
+    tells : HaveSerialReplies (state_after_line g x o) (next_ticket n (admitted_in g o)) (ticketed (next_ticket n (admitted_in g o)) ms)
 
-  with_ticket : (x : State) (n : ℕ) (ms : List Msg) (m : Msg) → HaveSerialReplies x n (m ∷ ms) → HaveSerialReplies (next_state g x m) (n + 1) ms
-  with_ticket x n ms m h p is = ⊎_elim
+  pub with_ticket : (x : State) (n : ℕ) (es : List Entry) (m : Msg) → HaveSerialReplies x n ((n, m) ∷ es) → HaveSerialReplies (next_state g x m) (n + 1) es
+  with_ticket x n es m h p is = ⊎_elim
       (λ (lt : p.0 < n). inl (omega (arith, lt)))
       (λ here. ⊎_elim (λ (e : p ≡ (n, reply_to g x m)). let same : p.0 ≡ n = ap (λ (q : ℕ × Reply). q.0) e in inl (omega (arith, same)))
       (λ later. inr later) here)
       (h p is)
 
-  its_reply : (x : State) (n : ℕ) (ms : List Msg) (m : Msg) (reply : Reply) → HaveSerialReplies x n (m ∷ ms) → IsIn (n, reply) replies
-      → reply ≡ reply_to g x m
-  its_reply x n ms m reply h is = ⊎_elim
+  pub its_reply : (x : State) (n : ℕ) (es : List Entry) (m : Msg) (reply : Reply) → AllByRecursion (λ e. n < e.0) es → HaveSerialReplies x n ((n, m) ∷ es)
+      → IsIn (n, reply) replies → reply ≡ reply_to g x m
+  its_reply x n es m reply after h is = ⊎_elim
       (λ (lt : n < n). absurd (omega (arith, lt)))
       (λ here. ⊎_elim (λ (e : (n, reply) ≡ (n, reply_to g x m)). ap (λ (q : ℕ × Reply). q.1) e)
-      (λ later. let from : n + 1 ≤ n = ticket_later g (next_state g x m) (n + 1) ms (n, reply) later in absurd (omega (arith, from))) here)
+      (λ later. absurd (omega (arith, serial_after g (next_state g x m) n es (n, reply) after later))) here)
       (h (n, reply) is)
 
-  served_line : (x : State) (n : ℕ) (ms : List Msg) (o : Option Msg) (known : Line) → HaveSerialReplies x n (admitted_in g o ++ ms)
+  served_line : (x : State) (n : ℕ) (ms : List Msg) (o : Option Msg) (known : Line) → HaveSerialReplies x n (ticketed n (admitted_in g o ++ ms))
       → IsKnown g replies n o known → has_answer known ≡ true → IsServedBy x n ms o known
   served_line x n ms None NoMessage h k done = record { retires = refl; tells = h }
   served_line x n ms (Some m) OutOfRange h k done =
       let same = sym (out_of_range g x m k) in
-      record { retires = ap (λ (q : Reply × State). reply_line q.0) same; tells = rw k (subst (λ (q : Reply × State). HaveSerialReplies q.1 n ms) same (rw k at h)) }
+      record { retires = ap (λ (q : Reply × State). reply_line q.0) same; tells = rw k (subst (λ (q : Reply × State). HaveSerialReplies q.1 n (ticketed n ms)) same (rw k at h)) }
   served_line x n ms (Some m) (Pending ticket) h k done = absurd (true≢false (sym done))
   served_line x n ms (Some m) (Completed ticket reply) h k done =
-      let on : HaveSerialReplies x n (m ∷ ms) = rw k.0 at h in
+      let on : HaveSerialReplies x n (ticketed n (m ∷ ms)) = rw k.0 at h in
+      let later = ticketed (n + 1) ms in
       let is : IsIn (n, reply) replies = rw k.1 at (in_contained replies (ticket, reply) k.2) in
-      record { retires = ap reply_line (its_reply x n ms m reply on is); tells = rw k.0 (with_ticket x n ms m on) }
+      record { retires = ap reply_line (its_reply x n later m reply (all_after n (n + 1) ms (omega arith)) on is); tells = rw k.0 (with_ticket x n later m on) }
   served_line x n ms o known h k done = absurd k
 
   -- The answers to the lines that were sent are the first lines of the serial server's output.
   module _ (more : List (List ℕ)) (unsent : List Line) where
-    pub sent_lines_are_serial : (x : State) (n : ℕ) (ls : List (List ℕ)) (sent_lines : List Line) → HaveSerialReplies x n (admitted g ls)
+    pub sent_lines_are_serial : (x : State) (n : ℕ) (ls : List (List ℕ)) (sent_lines : List Line) → HaveSerialReplies x n (ticketed n (admitted g ls))
         → AreKnown g replies n ls (sent_lines ++ unsent) → AllByRecursion (λ line. has_answer line ≡ true) sent_lines
         → map answer_text sent_lines ≡ take (length sent_lines) (output_lines g x (ls ++ more))
     sent_lines_are_serial x n ls [] h k done = refl
@@ -123,7 +129,7 @@ module _ (g : Geometry) (replies : List (ℕ × Reply)) where
   as_many n ls lines k = absurd k
 
   -- Where each line was sent, the answers are all lines of that output.
-  pub all_lines_answered : (x : State) (n : ℕ) (ls : List (List ℕ)) (sent_lines : List Line) → HaveSerialReplies x n (admitted g ls)
+  pub all_lines_answered : (x : State) (n : ℕ) (ls : List (List ℕ)) (sent_lines : List Line) → HaveSerialReplies x n (ticketed n (admitted g ls))
       → AreKnown g replies n ls (sent_lines ++ []) → AllByRecursion (λ line. has_answer line ≡ true) sent_lines
       → map answer_text sent_lines ≡ output_lines g x ls
   all_lines_answered x n ls sent_lines h k done =

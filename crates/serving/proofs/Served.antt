@@ -51,7 +51,7 @@ module _ (keeps : Type 0) (start now : MachineView) (idle : IsIdle (core_state_o
     by_line : by_ticket (arrived (events_of s.segment.device_events)) ≡ ticketed start.core.next (admitted g consumed)
     by_line = arrived_by_ticket g (machine_of start) (events_of s.segment.device_events) s.segment.leads.legal ∙ s.segment.arrived_are
 
-    serial_pairs : HaveSerialReplies g s.reply_pairs x start.core.next (admitted g consumed)
+    serial_pairs : HaveSerialReplies g s.reply_pairs x start.core.next (ticketed start.core.next (admitted g consumed))
     serial_pairs p is = inr (subst (λ (es : List Entry). IsIn p (serial_replies g x es)) by_line
         (answered_by_ticket g (machine_of start) (events_of s.segment.device_events) s.segment.leads.legal sound idle p
         (subst (IsIn p) (sym s.segment.reply_pairs_are) is)))

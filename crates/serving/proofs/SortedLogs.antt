@@ -26,17 +26,19 @@ use Rattle.histories.proofs.SerialReplies.{IsIn}
 
 -- ---- some of a list, in their order
 
--- The first list has some of the second, in their order, and `Out` holds of each that is left out.
-abbrev pub AreAmong : (Entry → Type 0) → List Entry → List Entry → Type 0
-AreAmong Out es [] = es ≡ []
-AreAmong Out es (a ∷ all) = ((rest : List Entry) × (es ≡ a ∷ rest) × AreAmong Out rest all) ⊎ (Out a × AreAmong Out es all)
+-- The first list has some of the second, in their order. Of each that is left out, and those kept that come later, `Out` holds.
+abbrev pub AreKept : (Entry → List Entry → Type 0) → List Entry → List Entry → Type 0
+AreKept Out es [] = es ≡ []
+AreKept Out es (a ∷ all) = ((rest : List Entry) × (es ≡ a ∷ rest) × AreKept Out rest all) ⊎ (Out a es × AreKept Out es all)
 
-all_among : (P Out : Entry → Type 0) (es all : List Entry) → AllByRecursion P all → AreAmong Out es all → AllByRecursion P es
-all_among P Out es [] h among = subst (AllByRecursion P) (sym among) tt
-all_among P Out es (a ∷ all) h among = ⊎_elim
-    (λ (k : (rest : List Entry) × (es ≡ a ∷ rest) × AreAmong Out rest all).
-    subst (AllByRecursion P) (sym k.1) (h.0, all_among P Out k.0 all h.1 k.2))
-    (λ (k : Out a × AreAmong Out es all). all_among P Out es all h.1 k.1) among
+abbrev pub AreAmong : (Entry → Type 0) → List Entry → List Entry → Type 0
+AreAmong Out = AreKept (λ a es. Out a)
+
+pub all_kept : (P : Entry → Type 0) (Out : Entry → List Entry → Type 0) (es all : List Entry) → AllByRecursion P all → AreKept Out es all → AllByRecursion P es
+all_kept P Out es [] h kept = rw kept tt
+all_kept P Out es (a ∷ all) h kept = ⊎_elim
+    (λ (k : (rest : List Entry) × (es ≡ a ∷ rest) × AreKept Out rest all). rw k.1 (h.0, all_kept P Out k.0 all h.1 k.2))
+    (λ (k : Out a es × AreKept Out es all). all_kept P Out es all h.1 k.1) kept
 
 none_among : (Out : Entry → Type 0) (all : List Entry) → AllByRecursion Out all → AreAmong Out [] all
 none_among Out [] h = refl
@@ -49,7 +51,7 @@ put_first e (d ∷ ds) h = ap (λ b. if b then e ∷ d ∷ ds else d ∷ inserte
 -- One more message is put into both lists, by its ticket.
 put_among : (Out : Entry → Type 0) (e : Entry) (es all : List Entry) → AreInOrder all → AreAmong Out es all
     → AreAmong Out (inserted_by_ticket e es) (inserted_by_ticket e all)
-put_among Out e es [] h among = subst (λ l. AreAmong Out (inserted_by_ticket e l) (e ∷ [])) (sym among) (inl ([], refl, refl))
+put_among Out e es [] h among = rw among (inl ([], refl, refl))
 put_among Out e es (a ∷ all) h among = ⊎_elim
     (λ (k : (rest : List Entry) × (es ≡ a ∷ rest) × AreAmong Out rest all).
     subst (λ l. AreAmong Out (inserted_by_ticket e l) (inserted_by_ticket e (a ∷ all))) (sym k.1)
@@ -62,7 +64,7 @@ put_among Out e es (a ∷ all) h among = ⊎_elim
       | true ↦ λ less.
           let lt : e.0 < a.0 = ltb-true e.0 a.0 less in
           let greater = all_weaker (λ d. a.0 ≤ d.0) (λ d. e.0 < d.0) (λ d le. omega (arith, lt, le)) es
-          (all_among (λ d. a.0 ≤ d.0) Out es all h.0 k.1) in
+          (all_kept (λ d. a.0 ≤ d.0) (λ d es. Out d) es all h.0 k.1) in
           inl (es, put_first e es greater, inr k)
       | false ↦ λ late. inr (k.0, put_among Out e es all h.1 k.1)
     ] refl) among
@@ -76,11 +78,13 @@ sorted_among Out (e ∷ es) rest out =
 
 -- ---- without a gap
 
+-- the message is related to none of these
+abbrev pub IsApart : Geometry → Entry → List Entry → Type 0
+IsApart g a es = AllByRecursion (λ e. are_related_entries g a e ≡ false) es
+
 -- The first list has some of the second, in their order: where a message is left out, so is each related one after it.
 abbrev pub HasNoGap : Geometry → List Entry → List Entry → Type 0
-HasNoGap g es [] = es ≡ []
-HasNoGap g es (a ∷ all) = ((rest : List Entry) × (es ≡ a ∷ rest) × HasNoGap g rest all)
-    ⊎ (AllByRecursion (λ e. are_related_entries g a e ≡ false) es × HasNoGap g es all)
+HasNoGap g = AreKept (IsApart g)
 
 late_unrelated : (g : Geometry) (a e : Entry) → a.0 ≤ e.0 → InOrderIfRelated g e a → are_related_entries g a e ≡ false
 late_unrelated g a e le h = apart_turned g e a (false_from_ne_true _ (λ r. omega (arith, le, h r)))
@@ -93,11 +97,11 @@ no_gap g Out es (a ∷ all) h among before = ⊎_elim
     (λ (k : (rest : List Entry) × (es ≡ a ∷ rest) × AreAmong Out rest all).
     inl (k.0, k.1, no_gap g Out k.0 all h.1 k.2 (λ d out. (subst (AllByRecursion (λ e. InOrderIfRelated g e d)) k.1 (before d out)).1)))
     (λ (k : Out a × AreAmong Out es all).
-    inr (unrelated es (all_among (λ e. a.0 ≤ e.0) Out es all h.0 k.1) (before a k.0), no_gap g Out es all h.1 k.1 before))
+    inr (unrelated es (all_kept (λ e. a.0 ≤ e.0) (λ d es. Out d) es all h.0 k.1) (before a k.0), no_gap g Out es all h.1 k.1 before))
     among
   where
     unrelated : (es : List Entry) → AllByRecursion (λ e. a.0 ≤ e.0) es → AllByRecursion (λ e. InOrderIfRelated g e a) es
-        → AllByRecursion (λ e. are_related_entries g a e ≡ false) es
+        → IsApart g a es
     unrelated [] le h = tt
     unrelated (e ∷ es) le h = (late_unrelated g a e le.0 h.0, unrelated es le.1 h.1)
 
