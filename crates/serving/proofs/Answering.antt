@@ -1,5 +1,5 @@
 -- A message that is answered: what changes in its line in the reorder buffer, and in the core state.
-use Rattle.std.proofs.Common.{◌≡◌, ◌+◌, ℕ, true, false, List, [], ◌∷◌, ◌++◌, Option, Some, None, refl, ap, sym, ◌∙◌, map, inl, append-nil, arith, length, Bool, ◌⊎◌, inr, ⊎_elim}
+use Rattle.std.proofs.Common.{◌≡◌, ℕ, true, false, List, [], ◌∷◌, ◌++◌, Option, Some, None, refl, ap, sym, ◌∙◌, map, inl, append-nil, Bool, ◌⊎◌, inr, ⊎_elim}
 use Rattle.std.specs.Prelude.{if◌then◌else◌, ◌==◌}
 use Rattle.std.specs.List.{AllByRecursion, Contains}
 use Rattle.std.proofs.lemmas.Bool.{eq-eqb, eqb-true, true≢false}
@@ -119,19 +119,6 @@ none_answered keeps old new (Some reply_pairs) not a = absurd (not reply_pairs r
 none_answered keeps old new None not a = a
 
 -- ---- the core state after an answer
-
--- An answer changes nothing of the core state but which messages are logged.
-pub answered_state : (w new : CoreState) (logged : List Replied) (o : Outcome) → (o, new) ≡ answer w logged → new ≡ record w { logged = new.logged }
-answered_state w new [] o e =
-    let is = ap (λ (x : Outcome × CoreState). x.1) e in is ∙ ap (λ (x : CoreState). record w { logged = x.logged }) (sym is)
-answered_state w new (a ∷ as') o e =
-    let is = ap (λ (x : Outcome × CoreState). x.1) e in is ∙ ap (λ (x : CoreState). record w { logged = x.logged }) (sym is)
-
--- After an answer one message less is logged.
-pub fewer_logged : (w new : CoreState) (logged : List Replied) (p : ℕ × Reply) → (answer_outcome (Some p), new) ≡ answer w logged
-    → length new.logged + 1 ≡ length logged
-fewer_logged w new [] p e = let o : outcomes.Answered p.0 p.1 ≡ outcomes.Idle = ap (λ (x : Outcome × CoreState). x.0) e in cc
-fewer_logged w new (a ∷ as') p e = let left = ap (λ (x : Outcome × CoreState). length x.1.logged) e in omega (arith, left)
 
 -- If there was no message to answer, none is logged, and nothing has changed.
 pub none_logged : (w new : CoreState) (logged : List Replied) → (answer_outcome None, new) ≡ answer w logged → w.logged ≡ logged → new.logged ≡ []

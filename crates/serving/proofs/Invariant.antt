@@ -162,9 +162,6 @@ module _ (keeps : Type 0) where
   pub holds_of : (o : Option Start) (p : SessionView) → SessionInvariantFrom keeps o p → HandsHaveJobs (machine p)
   holds_of o p u = ask o p u (λ s u. u.holds)
 
-  pub places_of : (o : Option Start) (p : SessionView) → SessionInvariantFrom keeps o p → length p.dispatch_seat.lent ≡ p.dispatch_seat.bench.slots
-  places_of o p u = ask o p u (λ s u. u.places)
-
   pub knows_of : (o : Option Start) (p : SessionView) → SessionInvariantFrom keeps o p → IsTrue p.ended → IsAtEnd p.remaining
   knows_of o p u = ask o p u (λ s u. u.knows)
 

@@ -1,5 +1,5 @@
 -- Nothing is lent at place k, which is the first free one, so that the offer there isn't refused.
-use Rattle.std.proofs.Common.{◌≡◌, Err, Ok, Some, refl, subst, sym, ◌∙◌}
+use Rattle.std.proofs.Common.{◌≡◌, Err, Ok, Some, subst, sym, ◌∙◌}
 use Rattle.std.specs.Prelude.{slice_set}
 use Rattle.std.proofs.lemmas.Option.{MatchOption-at_none}
 use Rattle.scheduler.specs.Calls.{IsGranted}
@@ -24,12 +24,3 @@ returns-in-Ok-clause-dispatches c g old new is =
     (λ _. (c.offer.result ≡ Err c.in-Job.job) × (c.offer.new.seat ≡ c.args.dispatch_seat.now))
     (nothing_there lent c.args.k c.requires.first) c.offer.ensures.answer in
     (c.in-Job.job, subst (IsGranted g old new) c.in-Job.is is, consumed.1)
-
-pub returns-in-NoneEligible-clause-dispatches : goal.returns-in-NoneEligible-clause-dispatches
-returns-in-NoneEligible-clause-dispatches c g old new is = (subst (IsGranted g old new) c.in-NoneEligible.is is, refl)
-
-pub returns-in-NoRoom-clause-dispatches : goal.returns-in-NoRoom-clause-dispatches
-returns-in-NoRoom-clause-dispatches c g old new is = (subst (IsGranted g old new) c.in-NoRoom.is is, refl)
-
-pub returns-in-Failed-clause-dispatches : goal.returns-in-Failed-clause-dispatches
-returns-in-Failed-clause-dispatches c g old new is = (subst (IsGranted g old new) c.in-Failed.is is, refl)

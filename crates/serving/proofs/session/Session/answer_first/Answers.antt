@@ -1,5 +1,5 @@
 -- The message is answered, and its line completed; and the session keeps its invariant.
-use Rattle.std.proofs.Common.{◌≡◌, ◌+◌, ℕ, Option, ap, length, refl, subst, ◌∙◌}
+use Rattle.std.proofs.Common.{◌≡◌, ℕ, Option, ap, refl, subst, ◌∙◌}
 use Rattle.histories.specs.Events.{answer}
 use Rattle.incarnations.proofs.Events.{answer_step}
 use Rattle.language.specs.declared.Reply.{Reply}
@@ -7,7 +7,7 @@ use Rattle.scheduler.specs.Calls.{answer_outcome}
 use Rattle.scheduler.specs.CoreView.{core_state_of}
 use Rattle.serving.specs.Runs.{machine_with_jobs}
 use Rattle.serving.specs.Session.{SessionView}
-use Rattle.serving.proofs.Answering.{IsAnswered, answered_state, fewer_logged, is_answered_so, none_answered, none_logged, none_moved}
+use Rattle.serving.proofs.Answering.{IsAnswered, is_answered_so, none_answered, none_logged, none_moved}
 use Rattle.serving.proofs.Invariant.{holds_of, on_answer, on_machine}
 use Rattle.serving.proofs.session.Session.answer_first.Goals as goal
 
@@ -37,19 +37,6 @@ invariant_of-self-2 g c =
       bench = c.self.invariant.bench;
     }
 
-pub returns-in_default-clause-as_before : goal.returns-in_default-clause-as_before
-returns-in_default-clause-as_before g c = (ap (λ (p : SessionView). p.read_end) c.self.view_is, ap (λ (p : SessionView). p.output_failed) c.self.view_is)
-
-pub returns-in_default-clause-unread : goal.returns-in_default-clause-unread
-returns-in_default-clause-unread g c = (ap (λ (p : SessionView). p.unread) c.self.view_is, ap (λ (p : SessionView). p.remaining) c.self.view_is)
-
-pub returns-in_default-clause-state_after : goal.returns-in_default-clause-state_after
-returns-in_default-clause-state_after g c =
-    let old = c.self.inside.core in
-    let new = c.answer-first.new.self in
-    subst (λ (p : SessionView). core_state_of new ≡ record (core_state_of p.core) { logged = new.logged }) c.self.view_is
-    (answered_state (core_state_of old) (core_state_of new) old.logged (answer_outcome c.answer-first.result) c.answer-first.ensures.state_after)
-
 pub returns-in_default-clause-none : goal.returns-in_default-clause-none
 returns-in_default-clause-none g c is =
     let old = c.self.inside.core in
@@ -62,24 +49,3 @@ returns-in_default-clause-none g c is =
         ap (λ (p : SessionView). p.dispatch_seat) c.self.view_is,
       ),
     )
-
-pub returns-clause-as_before : goal.returns-clause-as_before
-returns-clause-as_before g c = (ap (λ (p : SessionView). p.read_end) c.self.view_is, ap (λ (p : SessionView). p.output_failed) c.self.view_is)
-
-pub returns-clause-unread : goal.returns-clause-unread
-returns-clause-unread g c = (ap (λ (p : SessionView). p.unread) c.self.view_is, ap (λ (p : SessionView). p.remaining) c.self.view_is)
-
-pub returns-clause-state_after : goal.returns-clause-state_after
-returns-clause-state_after g c =
-    let old = c.self.inside.core in
-    let new = c.answer-first.new.self in
-    subst (λ (p : SessionView). core_state_of new ≡ record (core_state_of p.core) { logged = new.logged }) c.self.view_is
-    (answered_state (core_state_of old) (core_state_of new) old.logged (answer_outcome c.answer-first.result) c.answer-first.ensures.state_after)
-
-pub returns-clause-fewer : goal.returns-clause-fewer
-returns-clause-fewer g c is =
-    let old = c.self.inside.core in
-    let new = c.answer-first.new.self in
-    subst (λ (p : SessionView). length new.logged + 1 ≡ length p.core.logged) c.self.view_is
-    (fewer_logged (core_state_of old) (core_state_of new) old.logged (c.in-Some.ticket, c.in-Some.reply)
-    (subst (λ (o : Option (ℕ × Reply)). (answer_outcome o, core_state_of new) ≡ answer (core_state_of old) old.logged) c.in-Some.is c.answer-first.ensures.state_after))

@@ -1,6 +1,5 @@
 -- The session keeps its invariant, and halts only where the device has failed.
 use Rattle.std.proofs.Common.{◌≡◌, ap, false, refl, ◌∙◌}
-use Rattle.histories.specs.CoreState.{CoreState}
 use Rattle.scheduler.proofs.Called.{cut_called}
 use Rattle.scheduler.specs.CoreView.{core_state_of}
 use Rattle.serving.specs.Session.{SessionView}
@@ -24,9 +23,6 @@ invariant_of-self-in-Err g c =
     let quiet = cut_is_quiet g.D.Disk.keeps old new c.cut.ensures.geometry c.cut.ensures.any_moment c.cut.result
     (cut_called old.geometry (core_state_of old) (core_state_of new) c.cut.result c.cut.ensures.state_after) c.cut.ensures.counts in
     record { run = on_machine g.D.Disk.keeps _ _ c.self.invariant.run _ _ (quiet _ (holds_of g.D.Disk.keeps _ _ c.self.invariant.run)) refl refl; bench = c.self.invariant.bench }
-
-pub returns-in-Ok-clause-begun : goal.returns-in-Ok-clause-begun
-returns-in-Ok-clause-begun g c = let m = c.in-Ok.ensures.state_after.1 in (m.0, ap (λ (w : CoreState). w.pieces_left) m.2)
 
 pub returns-in-Err-clause-session_step : goal.returns-in-Err-clause-session_step
 returns-in-Err-clause-session_step g c =

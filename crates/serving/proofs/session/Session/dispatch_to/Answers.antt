@@ -1,25 +1,13 @@
 -- The lemmas on what is dispatched; and the session keeps its invariant.
-use Rattle.std.proofs.Common.{◌<◌, ℕ, None, ap, subst, ◌∙◌}
+use Rattle.std.proofs.Common.{ap, subst, ◌∙◌}
 use Rattle.std.specs.Prelude.{is_none, position}
-use Rattle.std.proofs.lemmas.List.Quantifiers.{position-Some}
-use Rattle.atomic_table.specs.Seated.{TableId}
 use Rattle.scheduler.specs.CoreView.{core_state_of}
 use Rattle.serving.specs.Lending.{DispatchesTo}
 use Rattle.serving.specs.Session.{HasMoved, SessionView}
 use Rattle.serving.proofs.Going.{dispatched}
 use Rattle.serving.proofs.Sending.{as_many, sends}
-use Rattle.serving.proofs.Invariant.{holds_of, on_machine, places_of}
+use Rattle.serving.proofs.Invariant.{holds_of, on_machine}
 use Rattle.serving.proofs.session.Session.dispatch_to.Goals as goal
-
-pub offer_granted-requires-clause-place : goal.offer_granted-requires-clause-place
-offer_granted-requires-clause-place g c =
-    let old = c.self.inside in
-    let first = ap (λ (p : SessionView). position is_none p.dispatch_seat.lent) c.self.view_is ∙ c.requires.first in
-    subst (λ (n : ℕ). c.args.k < n) (places_of g.D.Disk.keeps _ _ c.self.invariant.run ∙ ap (λ (b : TableId). b.slots) c.self.invariant.bench)
-    (position-Some is_none old.dispatch_seat.lent c.args.k None first).0
-
-pub offer_granted-requires-clause-first : goal.offer_granted-requires-clause-first
-offer_granted-requires-clause-first g c = ap (λ (p : SessionView). position is_none p.dispatch_seat.lent) c.self.view_is ∙ c.requires.first
 
 pub invariant_of-self : goal.invariant_of-self
 invariant_of-self g c =
@@ -35,15 +23,15 @@ invariant_of-self g c =
       bench = c.offer_granted.ensures.bench ∙ c.self.invariant.bench;
     }
 
-pub returns-clause-dispatches : goal.returns-clause-dispatches
-returns-clause-dispatches g c =
-    let new = c.grant-granted.new.self in
-    subst (λ (p : SessionView). DispatchesTo p.core.geometry c.args.k (core_state_of p.core) p.dispatch_seat.lent (core_state_of new) c.offer_granted.new.dispatch_seat.lent c.offer_granted.result)
-    c.self.view_is (c.offer_granted.ensures.dispatches _ _ _ c.grant-granted.ensures.state_after)
-
 pub returns-clause-moves : goal.returns-clause-moves
 returns-clause-moves g c =
     let old = c.self.inside in
     let first = ap (λ (p : SessionView). position is_none p.dispatch_seat.lent) c.self.view_is ∙ c.requires.first in
     subst (λ (p : SessionView). HasMoved p (record p { core = c.grant-granted.new.self; dispatch_seat = c.offer_granted.new.dispatch_seat })) c.self.view_is
     (dispatched old.core.geometry c.args.k _ _ old.dispatch_seat.lent _ _ first (c.offer_granted.ensures.dispatches _ _ _ c.grant-granted.ensures.state_after))
+
+pub returns-clause-dispatches : goal.returns-clause-dispatches
+returns-clause-dispatches g c =
+    let new = c.grant-granted.new.self in
+    subst (λ (p : SessionView). DispatchesTo p.core.geometry c.args.k (core_state_of p.core) p.dispatch_seat.lent (core_state_of new) c.offer_granted.new.dispatch_seat.lent c.offer_granted.result)
+    c.self.view_is (c.offer_granted.ensures.dispatches _ _ _ c.grant-granted.ensures.state_after)

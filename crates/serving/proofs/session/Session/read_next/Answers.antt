@@ -151,22 +151,8 @@ invariant_of-self-in-Err g c = stops g (goal.at.invariant_of-self-in-Err g c).Af
   subst (λ (l : Option (List ℕ)). IfSome (unread g.R.Read.remaining c.self.inside.line_reader) (λ bs. LosesLineStart bs l)) c.in-Err.ensures.lost c.in-Err.ensures.found,
 )
 
-pub returns-in-Ok-clause-slots : goal.returns-in-Ok-clause-slots
-returns-in-Ok-clause-slots g c = c.in-Ok.ensures.slots ∙ ap (λ (p : SessionView). p.reorder_buffer.slots) c.self.view_is
-
 pub returns-in-Ok-clause-longer : goal.returns-in-Ok-clause-longer
 returns-in-Ok-clause-longer g c is =
     let f = c.self.inside in
     let took = c.in-Ok.ensures.takes (map lent_hand f.dispatch_seat.lent) (holds_of g.D.Disk.keeps _ _ c.self.invariant.run) in
     ap length took.2 ∙ length-append f.reorder_buffer.lines (took.0 ∷ []) ∙ ap (λ (p : SessionView). length p.reorder_buffer.lines + 1) c.self.view_is
-
-pub returns-in-Err-take-clause-slots : goal.returns-in-Err-take-clause-slots
-returns-in-Err-take-clause-slots g c = c.in-Err-take.ensures.slots ∙ ap (λ (p : SessionView). p.reorder_buffer.slots) c.self.view_is
-
-pub returns-in-Ok-TooLong-clause-slots : goal.returns-in-Ok-TooLong-clause-slots
-returns-in-Ok-TooLong-clause-slots g c = c.push.ensures.slots ∙ ap (λ (p : SessionView). p.reorder_buffer.slots) c.self.view_is
-
-pub returns-in-Ok-TooLong-clause-longer : goal.returns-in-Ok-TooLong-clause-longer
-returns-in-Ok-TooLong-clause-longer g c is =
-    let f = c.self.inside in
-    ap length c.push.ensures.lines ∙ length-append f.reorder_buffer.lines (NoMessage ∷ []) ∙ ap (λ (p : SessionView). length p.reorder_buffer.lines + 1) c.self.view_is
