@@ -7,6 +7,7 @@ use Rattle.std.proofs.lemmas.List.{get_or-set_other, get_or-set_same, length-map
 use Rattle.std.proofs.Math.Seq.{take-nil}
 use Rattle.std.proofs.lemmas.List.Quantifiers.{position-Some}
 use Rattle.std.proofs.lemmas.Option.{get_or_from_slice_get, slice_get-map, slice_get_past, slice_get_within, same_Some}
+use Rattle.std.proofs.Math.Bool.{and-false}
 use Rattle.affinity.specs.declared.geometry.Geometry.{Geometry}
 use Rattle.disk.proofs.Moments.{started}
 use Rattle.disk.specs.Device.{Medium}
@@ -17,7 +18,7 @@ use Rattle.histories.proofs.Outs.{event_keeps_out, event_sees}
 use Rattle.histories.proofs.Sound.{event_sound}
 use Rattle.histories.specs.Crash.{to_append}
 use Rattle.histories.specs.Eligible.{next_eligible}
-use Rattle.histories.specs.Events.{Event, Hand, MachineState, IsAllowed, answer, arrive, back_from, give_back, grant_hand, grant_to, apply_step, is_empty, find_in_flight, result_in, run_hand}
+use Rattle.histories.specs.Events.{Event, Hand, MachineState, IsAllowed, answer, arrive, back_from, give_back, grant_to, apply_step, is_empty, find_in_flight, result_in, run_hand}
 use Rattle.histories.specs.Events.{Job as JobIn, Result as ResultIn}
 use Rattle.histories.specs.Laws.{dispatches_or_returns}
 use Rattle.histories.specs.CoreState.{Entry, CoreState}
@@ -144,11 +145,7 @@ position_within hands hand at = (position-Some (λ h. is_empty (hand_of h)) hand
 
 module _ (g : Geometry) (n : ℕ) (w : MachineState) where
   grant_idle : position is_empty w.hands ≡ None → apply_step g n w steps.Grant ≡ (outcomes.Idle, w)
-  grant_idle none = ap (λ (hand : Option ℕ). grant_hand g w hand) none ∙ by w.core.failed
-    where
-      by : (b : Bool) → ◌≡◌ {A = Outcome × MachineState} (if b && false then (outcomes.Failed, w) else (outcomes.Idle, w)) (outcomes.Idle, w)
-      by true = refl
-      by false = refl
+  grant_idle none = rw (none, and-false w.core.failed) refl
 
   -- A hand is empty, and the core has failed or not.
   grant_at : (hand : ℕ) (b : Bool) → position is_empty w.hands ≡ Some hand → w.core.failed ≡ b
@@ -323,16 +320,14 @@ module _ (keeps : Type 0) (core : CoreView) (hands : List HandContent) (none : c
 
   pub a_job : (x new : HandContent) (ran : Bool) → slice_get hands i ≡ Some x → IsRunIn x new ran → ran ≡ true
       → Moves (set hands i new) (steps.Run i) outcomes.Ran
-  a_job has.Empty new ran read k e = absurd (true≢false (sym e ∙ k.0))
   a_job (has.Job job) new ran read k e = subst (λ (y : HandContent). Moves (set hands i y) (steps.Run i) outcomes.Ran) (sym k.1.1)
       (ran_moves job k.1.0 read k.1.2)
-  a_job (has.Result done) new ran read k e = absurd (true≢false (sym e ∙ k.0))
+  a_job x new ran read k e = absurd (true≢false (sym e ∙ k.0))
 
   -- a result that is taken
   pub taken : (x new : HandContent) (done : Done) → IsTakenFrom x new (Some done) → (x ≡ has.Result done) × (new ≡ has.Empty)
-  taken has.Empty new done k = cc
-  taken (has.Job job) new done k = cc
   taken (has.Result result) new done k = (ap (λ (d : Done). has.Result d) (sym (same_Some _ _ k.0)), k.1)
+  taken x new done k = cc
 
   module _ (done : Done) (read : slice_get hands i ≡ Some (has.Result done)) where
     pub was_result : IsResultOf g (core_state_of core) done

@@ -39,8 +39,8 @@ module _ (g : Geometry) where
       (passed : IsPassedOn m t l.at_open) where
     at_first : Recovers incarnations l.at_open.now
     at_first = ⊎_elim (λ (crashed : left_since m t l.at_open.now × IsSynced l.at_open). so_far l.at_open.now crashed.0)
-        (λ (handed : (l.at_open ≡ m) × (t ≤ moment_number m) × AreBytes m.now). subst (λ (n : Medium). Recovers incarnations n.now) (sym handed.0)
-        (so_far m.now (counts_now m t m.now handed.1 (itself m.now m.unsynced handed.2)))) passed
+        (λ (handed : (l.at_open ≡ m) × (t ≤ moment_number m) × AreBytes m.now).
+        rw handed.0 (so_far m.now (counts_now m t m.now handed.1 (itself m.now m.unsynced handed.2)))) passed
 
     at_once : (c : List ℕ) → IsCrashImage l.at_open c → Recovers incarnations c
     at_once c left = ⊎_elim
