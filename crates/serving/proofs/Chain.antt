@@ -16,9 +16,6 @@ use Rattle.serving.specs.Runs.{RunsBetween}
 abbrev rises : List Event → ℕ
 rises events = count_by (λ e. e.device_failed) events
 
-rises-append : (es fs : List Event) → rises (es ++ fs) ≡ rises es + rises fs
-rises-append es fs = sum_by-append (λ (e : Event). if e.device_failed then 1 else 0) es fs
-
 pub passes_on : {keeps : Type 0} {old mid new : MachineView} {arriving more : List Entry} {reply_pairs others : List (ℕ × Reply)}
     → RunsBetween keeps old mid arriving reply_pairs → RunsBetween keeps mid new more others → RunsBetween keeps old new (arriving ++ more) (reply_pairs ++ others)
 passes_on {old} h k =
@@ -31,5 +28,5 @@ passes_on {old} h k =
       reply_pairs_are = ap answered both ∙ j.answered_is ∙ (λ i. h.reply_pairs_are i ++ k.reply_pairs_are i);
       failures = k.failures ∙ ap (λ (n : ℕ). n + rises (events_of k.device_events)) h.failures
           ∙ add_assoc old.core.medium.faults (rises (events_of h.device_events)) (rises (events_of k.device_events))
-          ∙ ap (λ (n : ℕ). old.core.medium.faults + n) (sym (ap rises both ∙ rises-append (events_of h.device_events) (events_of k.device_events)));
+          ∙ ap (λ (n : ℕ). old.core.medium.faults + n) (sym (ap rises both ∙ sum_by-append (λ (e : Event). if e.device_failed then 1 else 0) (events_of h.device_events) (events_of k.device_events)));
     }

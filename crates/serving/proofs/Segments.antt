@@ -3,6 +3,7 @@ use Rattle.std.proofs.Common.{◌≡◌, ℕ, Bool, List, [], ◌∷◌, Result,
 use Rattle.std.specs.Prelude.{if◌then◌else◌}
 use Rattle.affinity.specs.declared.geometry.Geometry.{Geometry}
 use Rattle.histories.proofs.Failures.{failure_lasts}
+use Rattle.histories.specs.Crash.{to_append}
 use Rattle.histories.specs.Events.{Event, MachineState, batch}
 use Rattle.histories.specs.Laws.{dispatches_or_returns}
 use Rattle.histories.specs.Runs.{IsLegal, answers, arrives, end_state}
@@ -87,28 +88,24 @@ module _ (keeps : Type 0) (old new : CoreView) (geometry : new.geometry ≡ old.
       → (hands : List HandContent) → HandsHaveJobs (record { core = old; hands = hands })
       → IsInternal keeps (record { core = old; hands = hands }) (record { core = new; hands = hands })
 
+  call_is_quiet : (step : Step) (outcome : Outcome) (device_failed : Bool) → dispatches_or_returns step ≡ false → arrives step outcome ≡ [] → answers outcome ≡ []
+      → (keeps → RecoversThroughout (to_append (core_state_of old) step) old new) → IsStepOf step outcome device_failed
+  call_is_quiet step outcome device_failed still come told moments called counts hands h = core_is_quiet step outcome
+      (record { device_failed = device_failed; called = called; geometry = geometry; failures = counts; any_moment = moments }) still come told h
+
   pub log_is_quiet : (n : ℕ) (r : Result ℕ CoreFault) → (keeps → RecoversThroughout (batch (core_state_of old) n) old new)
       → IsStepOf (steps.Log n) (log_outcome r) (log_device_failed r)
-  log_is_quiet n r moments called counts hands h = core_is_quiet (steps.Log n) (log_outcome r)
-      (record { device_failed = log_device_failed r; called = called; geometry = geometry; failures = counts; any_moment = moments }) refl refl (no_answer_of_log r) h
+  log_is_quiet n r moments = call_is_quiet (steps.Log n) (log_outcome r) (log_device_failed r) refl refl (no_answer_of_log r) moments
 
   module _ (moments : keeps → RecoversThroughout [] old new) where
     pub point_is_quiet : (r : Result (Unit {0}) PointRefusal) → IsStepOf steps.Point (step_outcome (λ _. outcomes.Pointed) r) (checkpoint_device_failed r)
-    point_is_quiet r called counts hands h = core_is_quiet steps.Point (step_outcome (λ _. outcomes.Pointed) r)
-        (record { device_failed = checkpoint_device_failed r; called = called; geometry = geometry; failures = counts; any_moment = moments }) refl refl
-        (no_answer_of_point (λ _. outcomes.Pointed) (λ _. refl) r) h
+    point_is_quiet r = call_is_quiet steps.Point _ (checkpoint_device_failed r) refl refl (no_answer_of_point (λ _. outcomes.Pointed) (λ _. refl) r) moments
 
     pub cut_is_quiet : (r : Result (Unit {0}) PointRefusal) → IsStepOf steps.Cut (step_outcome (λ _. outcomes.Cut) r) (checkpoint_device_failed r)
-    cut_is_quiet r called counts hands h = core_is_quiet steps.Cut (step_outcome (λ _. outcomes.Cut) r)
-        (record { device_failed = checkpoint_device_failed r; called = called; geometry = geometry; failures = counts; any_moment = moments }) refl refl
-        (no_answer_of_point (λ _. outcomes.Cut) (λ _. refl) r) h
+    cut_is_quiet r = call_is_quiet steps.Cut _ (checkpoint_device_failed r) refl refl (no_answer_of_point (λ _. outcomes.Cut) (λ _. refl) r) moments
 
     pub piece_is_quiet : (r : Result ℕ PointRefusal) → IsStepOf steps.Piece (step_outcome outcomes.Left r) (checkpoint_device_failed r)
-    piece_is_quiet r called counts hands h = core_is_quiet steps.Piece (step_outcome outcomes.Left r)
-        (record { device_failed = checkpoint_device_failed r; called = called; geometry = geometry; failures = counts; any_moment = moments }) refl refl
-        (no_answer_of_point outcomes.Left (λ _. refl) r) h
+    piece_is_quiet r = call_is_quiet steps.Piece _ (checkpoint_device_failed r) refl refl (no_answer_of_point outcomes.Left (λ _. refl) r) moments
 
     pub flip_is_quiet : (r : Result (Unit {0}) PointRefusal) → IsStepOf steps.Flip (step_outcome (λ _. outcomes.Flipped) r) (checkpoint_device_failed r)
-    flip_is_quiet r called counts hands h = core_is_quiet steps.Flip (step_outcome (λ _. outcomes.Flipped) r)
-        (record { device_failed = checkpoint_device_failed r; called = called; geometry = geometry; failures = counts; any_moment = moments }) refl refl
-        (no_answer_of_point (λ _. outcomes.Flipped) (λ _. refl) r) h
+    flip_is_quiet r = call_is_quiet steps.Flip _ (checkpoint_device_failed r) refl refl (no_answer_of_point (λ _. outcomes.Flipped) (λ _. refl) r) moments
