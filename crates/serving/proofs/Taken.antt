@@ -28,6 +28,13 @@ takes_none keeps m h = record { holds = h; segment = stays keeps m; is_known = t
 
 -- ---- a line that has come to the core
 
+-- The line is consumed, and this is known of it; or its message is refused.
+abbrev pub ComesSo : Type 0 → MachineView → MachineView → Option Msg → Result (Option ℕ) ArriveRefusal → Type 0
+ComesSo keeps was now o (Ok (Some ticket)) = IsTaken keeps was now o (Pending ticket)
+ComesSo keeps was now o (Ok None) = IsTaken keeps was now o NoMessage
+ComesSo keeps was now o (Err arrivals.Range) = IsTaken keeps was now o OutOfRange
+ComesSo keeps was now o (Err why) = (m : Msg) × (o ≡ Some m) × IsRefusedLine keeps was now m why
+
 module _ (keeps : Type 0) (old new : CoreView) (none : old.failed ≡ false → old.doubt ≡ []) (recovers : keeps → RecoversNow old)
     (geometry : new.geometry ≡ old.geometry) (same : new.medium ≡ old.medium) (hands : List HandContent) (h : HandsHaveJobs (record { core = old; hands = hands })) where
   abbrev was : MachineView
@@ -36,18 +43,11 @@ module _ (keeps : Type 0) (old new : CoreView) (none : old.failed ≡ false → 
   abbrev now : MachineView
   now = record { core = new; hands = hands }
 
-  -- The line is consumed, and this is known of it; or its message is refused.
-  abbrev pub ComesSo : Option Msg → Result (Option ℕ) ArriveRefusal → Type 0
-  ComesSo o (Ok (Some ticket)) = IsTaken keeps was now o (Pending ticket)
-  ComesSo o (Ok None) = IsTaken keeps was now o NoMessage
-  ComesSo o (Err arrivals.Range) = IsTaken keeps was now o OutOfRange
-  ComesSo o (Err why) = (m : Msg) × (o ≡ Some m) × IsRefusedLine keeps was now m why
-
   so : (m : Msg) (r : Result ℕ ArriveRefusal) → (arrive_outcome r, core_state_of new) ≡ arrive old.geometry (core_state_of old) m
       → ArrivesSo keeps old new m hands h r
   so m r e = arrives_so keeps old new m hands h r (arrive_step keeps old new none recovers geometry same m r e) e
 
-  comes_so : (o : Option Msg) (r : Result (Option ℕ) ArriveRefusal) → ArrivesByLine old new o r → ComesSo o r
+  comes_so : (o : Option Msg) (r : Result (Option ℕ) ArriveRefusal) → ArrivesByLine old new o r → ComesSo keeps was now o r
   comes_so None r e =
       rw (e.0, e.1) (takes_none keeps was h)
   comes_so (Some m) (Ok None) e = absurd e
@@ -55,8 +55,8 @@ module _ (keeps : Type 0) (old new : CoreView) (none : old.failed ≡ false → 
   comes_so (Some m) (Err arrivals.Range) e = so m (Err arrivals.Range) e
   comes_so (Some m) (Err why) e = (m, refl, so m (Err why) e)
 
-  pub comes_as : (o : Option Msg) (r s : Result (Option ℕ) ArriveRefusal) → ArrivesByLine old new o r → r ≡ s → ComesSo o s
-  comes_as o r s e is = subst (ComesSo o) is (comes_so o r e)
+  pub comes_as : (o : Option Msg) (r s : Result (Option ℕ) ArriveRefusal) → ArrivesByLine old new o r → r ≡ s → ComesSo keeps was now o s
+  comes_as o r s e is = rw is at (comes_so o r e)
 
 -- The ticket of its message is the core's next.
 pub next_of_line : (old new : CoreView) (o : Option Msg) (ticket : ℕ) → ArrivesByLine old new o (Ok (Some ticket)) → ticket ≡ old.next

@@ -1,53 +1,53 @@
 -- The lemmas on a line that is consumed with its message, if it has one.
-use Rattle.std.proofs.Common.{◌∙◌, ◌++◌, ◌∷◌, [], ℕ, Err, Ok, ap, refl, subst, sym}
+use Rattle.std.proofs.Common.{◌∙◌, ◌++◌, ◌∷◌, [], ℕ, Err, Ok, ap, refl, subst, sym, List, Option, Result, ◌≡◌}
 use Rattle.histories.specs.declared.outcomes.ArriveRefusal.TheVariants as arrivals
 use Rattle.reorder_buffer.specs.ReorderBuffer.{AreConsecutive, with_tickets}
+use Rattle.histories.specs.declared.outcomes.ArriveRefusal.{ArriveRefusal}
+use Rattle.incarnations.specs.declared.hands.HandContent.{HandContent}
 use Rattle.language.specs.Grammar.{message_of}
 use Rattle.scheduler.specs.Calls.{ArrivesByLine}
 use Rattle.serving.specs.Lines.{NoMessage, OutOfRange, Pending}
-use Rattle.serving.proofs.Taken.{comes_as, next_of_line}
+use Rattle.serving.specs.Runs.{HandsHaveJobs}
+use Rattle.serving.proofs.Taken.{ComesSo, comes_as, next_of_line}
+use Rattle.serving.proofs.input.take.Given.{Over}
+use Rattle.serving.proofs.input.take.Goals.{After-arrive_line}
 use Rattle.serving.proofs.input.take.Goals as goal
+
+-- by the result of the arrival
+came_so : (g : Over) (c : After-arrive_line g) (hands : List HandContent) → HandsHaveJobs (record { core = c.args.core.now; hands = hands })
+    → {r : Result (Option ℕ) ArriveRefusal} → c.arrive_line.result ≡ r
+    → ComesSo g.D.Disk.keeps (record { core = c.args.core.now; hands = hands }) (record { core = c.arrive_line.new.self; hands = hands }) (message_of c.args.line.now) r
+came_so g c hands h is = comes_as g.D.Disk.keeps c.args.core.now c.arrive_line.new.self c.know_recovery.ensures.no_doubt c.know_recovery.ensures.now
+    c.arrive_line.ensures.geometry c.arrive_line.ensures.untouched hands h (message_of c.args.line.now) c.arrive_line.result _ c.arrive_line.ensures.arrives is
 
 pub returns-in-Ok-Some-clause-takes : goal.returns-in-Ok-Some-clause-takes
 returns-in-Ok-Some-clause-takes g c hands h =
-    let came = comes_as g.D.Disk.keeps c.args.core.now c.arrive_line.new.self c.know_recovery.ensures.no_doubt c.know_recovery.ensures.now
-    c.arrive_line.ensures.geometry c.arrive_line.ensures.untouched hands h (message_of c.args.line.now) c.arrive_line.result _
-    c.arrive_line.ensures.arrives (c.in-Ok-Some.is ∙ ap Ok c.in-Ok-Some.field-0-is) in
+    let came = came_so g (goal.at.returns-in-Ok-Some-clause-takes g c).After-arrive_line hands h (c.in-Ok-Some.is ∙ ap Ok c.in-Ok-Some.field-0-is) in
     (Pending c.in-Ok-Some.ticket, came, c.push.ensures.lines)
 
 pub returns-in-Ok-None-clause-takes : goal.returns-in-Ok-None-clause-takes
 returns-in-Ok-None-clause-takes g c hands h =
-    let came = comes_as g.D.Disk.keeps c.args.core.now c.arrive_line.new.self c.know_recovery.ensures.no_doubt c.know_recovery.ensures.now
-    c.arrive_line.ensures.geometry c.arrive_line.ensures.untouched hands h (message_of c.args.line.now) c.arrive_line.result _
-    c.arrive_line.ensures.arrives (c.in-Ok-None.is ∙ ap Ok c.in-Ok-None.field-0-is) in
+    let came = came_so g (goal.at.returns-in-Ok-None-clause-takes g c).After-arrive_line hands h (c.in-Ok-None.is ∙ ap Ok c.in-Ok-None.field-0-is) in
     (NoMessage, came, c.push-in-Ok-None.ensures.lines)
 
 pub returns-in-Err-Range-clause-takes : goal.returns-in-Err-Range-clause-takes
 returns-in-Err-Range-clause-takes g c hands h =
-    let came = comes_as g.D.Disk.keeps c.args.core.now c.arrive_line.new.self c.know_recovery.ensures.no_doubt c.know_recovery.ensures.now
-    c.arrive_line.ensures.geometry c.arrive_line.ensures.untouched hands h (message_of c.args.line.now) c.arrive_line.result _
-    c.arrive_line.ensures.arrives (c.in-Err-Range.is ∙ ap Err c.in-Err-Range.field-0-is) in
+    let came = came_so g (goal.at.returns-in-Err-Range-clause-takes g c).After-arrive_line hands h (c.in-Err-Range.is ∙ ap Err c.in-Err-Range.field-0-is) in
     (OutOfRange, came, c.push-in-Err-Range.ensures.lines)
 
 pub returns-in-Err-Exhausted-clause-takes : goal.returns-in-Err-Exhausted-clause-takes
 returns-in-Err-Exhausted-clause-takes g c hands h =
-    let came = comes_as g.D.Disk.keeps c.args.core.now c.arrive_line.new.self c.know_recovery.ensures.no_doubt c.know_recovery.ensures.now
-    c.arrive_line.ensures.geometry c.arrive_line.ensures.untouched hands h (message_of c.args.line.now) c.arrive_line.result _
-    c.arrive_line.ensures.arrives (c.in-Err-Exhausted.is ∙ ap Err c.in-Err-Exhausted.field-0-is) in
+    let came = came_so g (goal.at.returns-in-Err-Exhausted-clause-takes g c).After-arrive_line hands h (c.in-Err-Exhausted.is ∙ ap Err c.in-Err-Exhausted.field-0-is) in
     (came.0, arrivals.Exhausted, came.1, came.2, refl, refl)
 
 pub returns-in-Err-Full-clause-takes : goal.returns-in-Err-Full-clause-takes
 returns-in-Err-Full-clause-takes g c hands h =
-    let came = comes_as g.D.Disk.keeps c.args.core.now c.arrive_line.new.self c.know_recovery.ensures.no_doubt c.know_recovery.ensures.now
-    c.arrive_line.ensures.geometry c.arrive_line.ensures.untouched hands h (message_of c.args.line.now) c.arrive_line.result _
-    c.arrive_line.ensures.arrives (c.in-Err-Full.is ∙ ap Err c.in-Err-Full.field-0-is) in
+    let came = came_so g (goal.at.returns-in-Err-Full-clause-takes g c).After-arrive_line hands h (c.in-Err-Full.is ∙ ap Err c.in-Err-Full.field-0-is) in
     (came.0, arrivals.Full, came.1, came.2, refl, refl)
 
 pub returns-in-Err-Failed-clause-takes : goal.returns-in-Err-Failed-clause-takes
 returns-in-Err-Failed-clause-takes g c hands h =
-    let came = comes_as g.D.Disk.keeps c.args.core.now c.arrive_line.new.self c.know_recovery.ensures.no_doubt c.know_recovery.ensures.now
-    c.arrive_line.ensures.geometry c.arrive_line.ensures.untouched hands h (message_of c.args.line.now) c.arrive_line.result _
-    c.arrive_line.ensures.arrives (c.in-Err-Failed.is ∙ ap Err c.in-Err-Failed.field-0-is) in
+    let came = came_so g (goal.at.returns-in-Err-Failed-clause-takes g c).After-arrive_line hands h (c.in-Err-Failed.is ∙ ap Err c.in-Err-Failed.field-0-is) in
     (came.0, arrivals.Failed, came.1, came.2, refl, refl)
 
 pub push-requires-clause-order : goal.push-requires-clause-order
