@@ -68,10 +68,9 @@ pub record SpellsPart (g : Geometry) (es : List Entry) (ls : List (List ℕ)) : 
 leads : (g : Geometry) (x : State) (part : List (List ℕ)) (es : List Entry) → Spell part es
     → state_after_all g x (messages_of es) ≡ state_after_lines g x part
 leads g x [] [] s = refl
-leads g x [] (e ∷ es) s = absurd s
-leads g x (line ∷ part) [] s = absurd s
 leads g x (line ∷ part) (e ∷ es) s =
     leads g (next_state g x e.1) part es s.1 ∙ ap (λ o. state_after_lines g (state_after_line g x o) part) (sym s.0)
+leads g x part es s = absurd s
 
 -- a line that takes no ticket is not related to any
 unrelated_none : (g : Geometry) (o : Option Msg) → TakesNone g o → (p : Option Msg) → are_related_lines g o p ≡ false
@@ -89,12 +88,8 @@ unrelated_too : (g : Geometry) (n : ℕ) (m : Msg) (part : List (List ℕ)) (es 
     → AllByRecursion (λ e. are_related_entries g (n, m) e ≡ false) es
     → AllByRecursion (λ other. are_related_lines g (Some m) (message_of other) ≡ false) part
 unrelated_too g n m [] [] s h = tt
-unrelated_too g n m [] (e ∷ es) s h = absurd s
-unrelated_too g n m (line ∷ part) [] s h = absurd s
-unrelated_too g n m (line ∷ part) (e ∷ es) s h = (
-  rw (s.0, h.0) (and-false _),
-  unrelated_too g n m part es s.1 h.1,
-)
+unrelated_too g n m (line ∷ part) (e ∷ es) s h = (rw (s.0, h.0) (and-false _), unrelated_too g n m part es s.1 h.1)
+unrelated_too g n m part es s h = absurd s
 
 pub spells_part : (g : Geometry) (n : ℕ) (ls : List (List ℕ)) (es : List Entry) → HasNoGap g es (ticketed n (admitted g ls)) → SpellsPart g es ls
 spells_part g n [] es h = record { part = []; spell = rw h tt; closed = refl }

@@ -144,7 +144,7 @@ ascending_distinct (e ∷ es) h k = (strictly es h.0 k.0, ascending_distinct es 
     strictly [] le k = tt
     strictly (d ∷ es) le k = (let le' = le.0 in let ne = eqb-false e.0 d.0 k.0 in omega (arith, le', ne), strictly es le.1 k.1)
 
-permuted_in : (es ds : List Entry) → IsPermutation es ds → (e : Entry) → IsIn e ds → IsIn e es
+permuted_in : {A : Type 0} (es ds : List A) → IsPermutation es ds → (e : A) → IsIn e ds → IsIn e es
 permuted_in es ds same e is = in_contained es e
     (holds_of (Contains es) ds (all_permuted (Contains es) es ds same (recursion_from_All (Contains es) es (All-contains_itself es))) e is)
 
@@ -224,9 +224,5 @@ sorted_log g x arrivals log ascending h =
     crossed : (es rest : List Entry) → KeepsOrder g (es ++ rest) → AllByRecursion (λ d. AllByRecursion (λ e. InOrderIfRelated g e d) es) rest
     crossed es rest h = turned es rest (across es rest h)
 
-    any_in : (ps qs : List (ℕ × Reply)) → IsPermutation qs ps → (p : ℕ × Reply) → IsIn p ps → IsIn p qs
-    any_in ps qs same p is = in_contained qs p
-        (holds_of (Contains qs) ps (all_permuted (Contains qs) qs ps same (recursion_from_All (Contains qs) qs (All-contains_itself qs))) p is)
-
     sorted_in : (ps : List (ℕ × Reply)) (p : ℕ × Reply) → IsIn p ps → IsIn p (by_ticket ps)
-    sorted_in ps p is = any_in ps (by_ticket ps) (IsPermutation-sym ps (by_ticket ps) (permutation-by_ticket ps)) p is
+    sorted_in ps p is = permuted_in (by_ticket ps) ps (IsPermutation-sym ps (by_ticket ps) (permutation-by_ticket ps)) p is

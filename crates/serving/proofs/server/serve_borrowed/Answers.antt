@@ -1,14 +1,12 @@
 -- The session's invariant where it begins; and what the call promises, given what `know_recovery` ensures of the core at the end.
 use Rattle.std.proofs.Common.{◌≡◌, List, [], Option, ap, refl, sym, subst, ℕ, ◌∙◌, arith}
-use Rattle.std.specs.Prelude.{OnOk, Result}
+use Rattle.std.specs.Prelude.{OnOk}
 use Rattle.std.proofs.lemmas.Bool.{and_left}
 use Rattle.scheduler.specs.CoreView.{CoreView}
 use Rattle.serving.specs.Ends.{exchange}
 use Rattle.oplog.specs.Recovery.{records_in}
-use Rattle.serving.specs.Serve.{ServePromise}
 use Rattle.serving.specs.Session.{SessionView, reported}
 use Rattle.serving.specs.Output.{Start, start_machine}
-use Rattle.serving.specs.declared.server.ServeFault.{ServeFault}
 use Rattle.serving.proofs.Closing.{PromisesAll, emptied_at_end, ends_or_declines, first_at, promises_from, refuses_none}
 use Rattle.serving.proofs.Invariant.{begun}
 use Rattle.serving.proofs.server.serve_borrowed.Goals as goal
@@ -52,13 +50,11 @@ returns g c =
     (record { core = refl; input = ap (λ (l : _). g.R.Read.remaining l.reader.now) c.new.ensures.source; before = refl }) end ends) in
     record {
       same = c.into_inner-reader.result.same ∙ sym c.requires.reader;
-      serves = subst (λ (back : CoreView × Result (Unit {0}) ServeFault). ServePromise g.D.Disk.keeps c.args.memory.bench.slots c.args.core back
-          (exchange (g.R.Read.remaining c.args.reader.now) (g.R.Read.remaining c.into_inner-reader.result.reader.now) (g.L.ReplySink.sent c.args.sink)
-          (g.L.ReplySink.sent last.sink))) (sym c.hand_back.ensures.ended) (record {
-            run = all.run c.hand_back.ensures.no_doubt c.hand_back.ensures.recovers;
-            ends = all.ends;
-            no_workers = refuses_none c.args.memory.bench.slots c.requires.workers _ _ end ends;
-            emptied = subst (λ (k : CoreView). OnOk end (g.D.Disk.keeps → records_in k.geometry k.medium.now ≡ [])) (sym (ap (λ (p : SessionView). p.core) c.session.view_is))
-                (emptied_at_end now (g.D.Disk.keeps → records_in now.core.geometry now.core.medium.now ≡ []) _ c.with_workers-ended.result gives.gives _ refl);
-          });
+      serves = rw c.hand_back.ensures.ended (record {
+        run = all.run c.hand_back.ensures.no_doubt c.hand_back.ensures.recovers;
+        ends = all.ends;
+        no_workers = refuses_none c.args.memory.bench.slots c.requires.workers _ _ end ends;
+        emptied = subst (λ (k : CoreView). OnOk end (g.D.Disk.keeps → records_in k.geometry k.medium.now ≡ [])) (sym (ap (λ (p : SessionView). p.core) c.session.view_is))
+            (emptied_at_end now (g.D.Disk.keeps → records_in now.core.geometry now.core.medium.now ≡ []) _ c.with_workers-ended.result gives.gives _ refl);
+      });
     }

@@ -2,7 +2,6 @@
 use Rattle.std.proofs.Common.{◌<◌, List, Option, None, ap, length, sym, subst, ◌∙◌}
 use Rattle.std.proofs.lemmas.List.{length-set}
 use Rattle.parcel.specs.Run.{JobView}
-use Rattle.serving.specs.Runs.{IsInternal, machine_with_jobs}
 use Rattle.serving.specs.Session.{HasMoved, SessionView}
 use Rattle.serving.proofs.Returning.{came_back, gives_back}
 use Rattle.serving.proofs.Going.{returned}
@@ -23,13 +22,10 @@ invariant_of-self-2 g c =
     let old = c.self.inside in
     let place = subst (λ (p : SessionView). c.args.k < length p.dispatch_seat.lent) (sym c.self.view_is) c.requires.place in
     let back = c.give_back.ensures.state_after in
-    let quiet = subst (λ (lent : List (Option JobView)). IsInternal g.D.Disk.keeps (machine_with_jobs old.core old.dispatch_seat.lent) (machine_with_jobs c.give_back.new.self lent))
-    (sym s.3)
-    (gives_back g.D.Disk.keeps old.core old.dispatch_seat.lent c.know_recovery.ensures.no_doubt c.know_recovery.ensures.now (holds_of g.D.Disk.keeps _ _ c.self.invariant.run)
-    c.args.k place s.0 c.in-Some.done s.1 s.2 c.give_back.new.self c.give_back.ensures.geometry c.give_back.ensures.untouched
-    back.0 back.1 back.2 back.3) in
+    let given = gives_back g.D.Disk.keeps old.core old.dispatch_seat.lent c.know_recovery.ensures.no_doubt c.know_recovery.ensures.now (holds_of g.D.Disk.keeps _ _ c.self.invariant.run)
+    c.args.k place s.0 c.in-Some.done s.1 s.2 c.give_back.new.self c.give_back.ensures.geometry c.give_back.ensures.untouched back.0 back.1 back.2 back.3 in
     let places = ap (λ (l : List (Option JobView)). length l) s.3 ∙ length-set old.dispatch_seat.lent c.args.k None in
-    record { run = on_machine g.D.Disk.keeps _ _ c.self.invariant.run _ _ quiet c.in-Some.ensures.bench places; bench = c.in-Some.ensures.bench ∙ c.self.invariant.bench }
+    record { run = on_machine g.D.Disk.keeps _ _ c.self.invariant.run _ _ (rw s.3 given) c.in-Some.ensures.bench places; bench = c.in-Some.ensures.bench ∙ c.self.invariant.bench }
 
 pub returns-clause-moves : goal.returns-clause-moves
 returns-clause-moves g c =

@@ -1,12 +1,11 @@
 -- A line is read, or reading ends; in both cases the session keeps its invariant.
-use Rattle.std.proofs.Common.{◌≡◌, ◌<◌, ◌+◌, ◌∷◌, [], arith, ℕ, List, None, Ok, Option, Some, ap, length, map, refl, subst, sym, ◌∙◌}
+use Rattle.std.proofs.Common.{◌≡◌, ◌<◌, ◌+◌, ◌∷◌, [], arith, None, Ok, Some, ap, length, map, refl, subst, sym, ◌∙◌}
 use Rattle.std.specs.Prelude.{IfSome, IsTrue}
 use Rattle.std.specs.Io.KnownBytes.{IsAtEnd}
 use Rattle.std.proofs.lemmas.List.{length-append}
 use Rattle.std.proofs.lemmas.Bool.{and_parts}
-use Rattle.language.specs.FirstLine.{GivesLine, LosesLineStart}
-use Rattle.message.specs.Reader.{Closes, Finds, has_ended, is_drained, line_of, source, unread}
-use Rattle.message.specs.declared.reading.Found.{Found}
+use Rattle.language.specs.FirstLine.{GivesLine}
+use Rattle.message.specs.Reader.{has_ended, is_drained, source, unread}
 use Rattle.serving.specs.Lines.{NoMessage}
 use Rattle.serving.specs.Reads.{read_end_of}
 use Rattle.serving.specs.Runs.{lent_hand}
@@ -46,12 +45,7 @@ stops g c read_end why = record {
 -- the line that was found
 found : (g : Over) (c : After-line g)
     → IfSome (unread g.R.Read.remaining c.self.inside.line_reader) (λ bs. GivesLine c.line.result.now bs (unread g.R.Read.remaining c.next_line.new.self))
-found g c =
-    let n = c.next_line.new.self in
-    let rest = g.R.Read.remaining in
-    let was_unread = unread rest c.self.inside.line_reader in
-    subst (λ (l : List ℕ). IfSome was_unread (λ bs. GivesLine l bs (unread rest n))) (sym c.line.ensures)
-    (subst (λ (x : Found). Finds (Ok x) was_unread (line_of n) (unread rest n)) c.in-Ok-Line.field-0-is c.in-Ok-Line.ensures.found)
+found g c = rw c.line.ensures (rw c.in-Ok-Line.field-0-is at c.in-Ok-Line.ensures.found)
 
 pub take-requires-clause-room : goal.take-requires-clause-room
 take-requires-clause-room g c = has_place g.D.Disk.keeps _ _ c.self.invariant.run (room g (goal.at.take-requires-clause-room g c).After-next_line)
@@ -89,7 +83,7 @@ invariant_of-self-in-Ok g c =
       run = on_line g.D.Disk.keeps _ c.take.new.core c.take.new.reorder_buffer (f.outstanding + 1) (unread rest n) (is_drained n) (has_ended n) _ (rest (source n)) (none g at.After-next_line)
           c.in-Ok.ensures.slots (omega (arith, ap length took.2, length-append f.reorder_buffer.lines (took.0 ∷ []))) (omega (arith, room g at.After-next_line)) (knows g at.After-next_line)
           took.0 took.2 (sym c.if-is_drained.ensures.value)
-          (subst (λ (x : Found). Closes (Ok x) (unread rest f.line_reader) (is_drained n)) c.in-Ok-Line.field-0-is c.in-Ok-Line.ensures.closes)
+          (rw c.in-Ok-Line.field-0-is at c.in-Ok-Line.ensures.closes)
           _ c.line.result.now u took.1 (found g at.After-line);
       bench = c.self.invariant.bench;
     }
@@ -105,12 +99,7 @@ invariant_of-self-in-Err-take g c =
     let took = c.in-Err-take.ensures.takes (map lent_hand f.dispatch_seat.lent) (holds_of g.D.Disk.keeps _ _ u) in
     let place = has_place g.D.Disk.keeps _ _ u (room g at.After-next_line) in
     let gone = gives c.line.result.now was_unread (unread rest n) (found g at.After-line) in
-    subst (λ (read_end : ReadEnd). IsSession rest g.L.ReplySink.sent g.D.Disk.keeps g.L.ReplySink.start (record f {
-      core = c.take.new.core;
-      reorder_buffer = c.take.new.reorder_buffer;
-      read_end = Some read_end;
-      line_reader = n;
-    })) (sym took.4) (record {
+    rw took.4 (record {
       run = on_read_end g.D.Disk.keeps _ c.take.new.core c.take.new.reorder_buffer f.outstanding (unread rest n) (is_drained n) (has_ended n) _ (rest (source n)) (none g at.After-next_line)
           c.in-Err-take.ensures.slots (omega (arith, ap length took.5)) (omega (arith, room g at.After-next_line)) (knows g at.After-next_line)
           _ (read_end_of took.1) u took.3.quiet took.5
@@ -131,9 +120,9 @@ invariant_of-self-in-Ok-TooLong g c =
           c.push.ensures.slots (omega (arith, ap length c.push.ensures.lines, length-append f.reorder_buffer.lines (NoMessage ∷ [])))
           (omega (arith, room g at.After-next_line)) (knows g at.After-next_line)
           NoMessage c.push.ensures.lines (sym c.if-is_drained.ensures.value)
-          (subst (λ (x : Found). Closes (Ok x) was_unread (is_drained n)) c.in-Ok-TooLong.field-0-is c.in-Ok-TooLong.ensures.closes)
+          (rw c.in-Ok-TooLong.field-0-is at c.in-Ok-TooLong.ensures.closes)
           _ u (takes_none g.D.Disk.keeps _ (holds_of g.D.Disk.keeps _ _ u))
-          (subst (λ (x : Found). Finds (Ok x) was_unread (line_of n) (unread rest n)) c.in-Ok-TooLong.field-0-is c.in-Ok-TooLong.ensures.found);
+          (rw c.in-Ok-TooLong.field-0-is at c.in-Ok-TooLong.ensures.found);
       bench = c.self.invariant.bench;
     }
 
@@ -142,14 +131,12 @@ invariant_of-self-in-Ok-End g c =
     let n = c.next_line.new.self in
     let was_unread = unread g.R.Read.remaining c.self.inside.line_reader in
     let at = (goal.at.invariant_of-self-in-Ok-End g c).After-next_line in
-    let left = subst (λ (x : Found). Finds (Ok x) was_unread (line_of n) (unread g.R.Read.remaining n)) c.in-Ok-End.field-0-is c.in-Ok-End.ensures.found in
+    let left = rw c.in-Ok-End.field-0-is at c.in-Ok-End.ensures.found in
     stops g at ends_of_reading.EndOfInput (at_end was_unread (unread g.R.Read.remaining n) left, knows g at (c.next_line.ensures.end (c.in-Ok-End.is ∙ ap Ok c.in-Ok-End.field-0-is)))
 
 pub invariant_of-self-in-Err : goal.invariant_of-self-in-Err
-invariant_of-self-in-Err g c = stops g (goal.at.invariant_of-self-in-Err g c).After-next_line ends_of_reading.ReadFailed (
-  sym c.if-is_drained.ensures.value,
-  subst (λ (l : Option (List ℕ)). IfSome (unread g.R.Read.remaining c.self.inside.line_reader) (λ bs. LosesLineStart bs l)) c.in-Err.ensures.lost c.in-Err.ensures.found,
-)
+invariant_of-self-in-Err g c = stops g (goal.at.invariant_of-self-in-Err g c).After-next_line ends_of_reading.ReadFailed
+    (sym c.if-is_drained.ensures.value, rw c.in-Err.ensures.lost at c.in-Err.ensures.found)
 
 pub returns-in-Ok-clause-longer : goal.returns-in-Ok-clause-longer
 returns-in-Ok-clause-longer g c is =
