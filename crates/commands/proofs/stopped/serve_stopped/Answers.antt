@@ -12,6 +12,3 @@ returns g c =
       recovers = rw same at c.serve_and_crash.ensures.recovers;
       goes_on = λ k start held. c.serve_and_crash.ensures.goes_on k start (rw same held);
     }
-
-pub serve_and_crash-requires-clause-stops : goal.serve_and_crash-requires-clause-stops
-serve_and_crash-requires-clause-stops g c lent outlives = ap (λ (m : Memory). m.injected_fault) c.stop_at.ensures
