@@ -31,9 +31,8 @@ use Rattle.arguments.specs.declared.parsing.Request.TheVariants.{Help, Plain, Fo
 -- ---- arguments that give no request, or ask for help or the version
 
 pub refused_by : (why : ArgumentRefusal) → ExitsRefused (status_of_refusal why)
-refused_by (refusal.Words error) = inl refl
 refused_by refusal.OutOfMemory = inr refl
-refused_by refusal.GeometryOutOfRange = inl refl
+refused_by why = inl refl
 
 pub helped : (arguments : List Text) (request : Request) (end : Result (Unit {0}) Fault) (x : Exchange)
     → RunsNoCommand arguments → Asks arguments request → Ends request end x → ExitsHelp (status_at end) × (x.remaining ≡ x.input)
@@ -51,8 +50,7 @@ is_reported fault none = cc
 
 pub is_refused : (why : ArgumentRefusal) → status_of_refusal why ≡ 0 → ⊥
 is_refused (refusal.Words error) none = cc
-is_refused refusal.OutOfMemory none = cc
-is_refused refusal.GeometryOutOfRange none = cc
+is_refused why none = cc
 
 -- ---- arguments that ask for a command give no request only for want of memory
 

@@ -4,7 +4,6 @@ use Rattle.std.proofs.Common.{◌≡◌, ◌≤◌, ◌++◌, ℕ, zero, suc, Bo
 use Rattle.std.proofs.lemmas.Bool.{true≢false}
 use Rattle.std.specs.Io.KnownBytes.{Appends}
 use Rattle.std.specs.Fmt.{digits}
-use Rattle.std.specs.List.{AllByRecursion}
 use Rattle.std.specs.Str.{bytes_eq}
 use Rattle.affinity.proofs.Numbers.{small}
 use Rattle.checkpoint.specs.declared.inspecting.Shown.{Shown}
@@ -20,7 +19,7 @@ use Rattle.commands.specs.Promise.{HasRunFrom}
 use Rattle.commands.specs.Restarts.{CrashedRun, HaveRunFrom}
 use Rattle.commands.specs.Services.{AsksServe, within_limits}
 use Rattle.commands.specs.declared.faults.Fault.TheVariants.{Device, Write}
-use Rattle.serving.specs.Restart.{IsClosedPart, are_related_lines}
+use Rattle.serving.specs.Restart.{IsClosedPart}
 use Rattle.arguments.proofs.Examples as given
 
 small_is_formatted : formatted_line small ≡ codes "formatted 8840" ++ 10 ∷ []
@@ -89,14 +88,14 @@ the_volume_is_there = record {
 
 in_part : (part : List (List ℕ)) → IsClosedPart small part (asks ∷ []) → makes_it (makes ∷ part) ≡ true
 unfolding message_of kind_named number_in_word
-in_part part (inl (rest, is, none)) = subst (λ (p : List (List ℕ)). makes_it (makes ∷ p) ≡ true) (sym (is ∙ ap (λ (r : List (List ℕ)). asks ∷ r) none)) refl
-in_part part (inr (apart, none)) = subst (λ (p : List (List ℕ)). makes_it (makes ∷ p) ≡ true) (sym none) refl
+in_part part (inl (rest, is, none)) = rw (is, none) refl
+in_part part (inr (apart, none)) = rw none refl
 
 -- A part of no line or of one is a part of one.
 within_one : (left : ℕ) (part others : List (List ℕ)) → left ≤ 1 → IsClosedPart small part (take left others) → IsClosedPart small part (take 1 others)
 within_one zero part [] few closed = closed
 within_one zero part (other ∷ others) few closed =
-    inr (subst (λ (p : List (List ℕ)). AllByRecursion (λ line. are_related_lines small (message_of other) (message_of line) ≡ false) p) (sym closed) tt, closed)
+    inr (rw closed tt, closed)
 within_one (suc zero) part others few closed = closed
 within_one (suc (suc n)) part others few closed = absurd (omega (arith, few))
 
@@ -216,10 +215,8 @@ has_volume : (n : ℕ) (part : List (List ℕ)) → IsClosedPart small part (tak
     → bytes_eq (sums_up (take n two_lines ++ part)) (codes "summary 0 0 0\n") ≡ false
 unfolding message_of kind_named number_in_word digits
 has_volume zero part closed answers = absurd (omega (arith, ap (λ (bs : List ℕ). length bs) answers))
-has_volume (suc zero) part (inl (rest, is, none)) answers =
-    subst (λ (p : List (List ℕ)). bytes_eq (sums_up (makes ∷ p)) (codes "summary 0 0 0\n") ≡ false) (sym (is ∙ ap (λ (r : List (List ℕ)). creates ∷ r) none)) refl
-has_volume (suc zero) part (inr (apart, none)) answers =
-    subst (λ (p : List (List ℕ)). bytes_eq (sums_up (makes ∷ p)) (codes "summary 0 0 0\n") ≡ false) (sym none) refl
+has_volume (suc zero) part (inl (rest, is, none)) answers = rw (is, none) refl
+has_volume (suc zero) part (inr (apart, none)) answers = rw none refl
 has_volume (suc (suc n)) part closed answers = absurd (omega (arith, ap (λ (bs : List ℕ). length bs) answers))
 
 -- A second server that began with an empty state would have lost the volume.
@@ -229,9 +226,8 @@ it_is_not_begun_anew m h =
     let n = length r.acknowledged in
     let taken : take n two_lines ≡ r.acknowledged = ap (take n) r.first ∙ take_at r.acknowledged r.unacknowledged n refl in
     let others : drop n two_lines ≡ r.unacknowledged = ap (drop n) r.first ∙ drop_at r.acknowledged r.unacknowledged n refl in
-    let closed = subst (λ (k : ℕ). IsClosedPart small r.part (take k (drop n two_lines))) h.1.written.1
-    (subst (λ (ls : List (List ℕ)). IsClosedPart small r.part (take h.1.left ls)) (sym others) r.closed) in
-    let told = subst (λ (a : Option (List ℕ)). Appends (Some []) a h.1.recovers.0) (sym h.1.written.0) h.1.recovers.1 in
+    let closed = rw (← others, h.1.written.1) at r.closed in
+    let told = rw (← h.1.written.0) at h.1.recovers.1 in
     let answers = told ∙ r.answers ∙ ap (λ (ls : List (List ℕ)). joined (output_lines small empty ls)) (sym taken) in
     let next = h.1.goes_on.1.all_answered in
     let sums = next.1 ∙ next.2 ∙ ap (λ (x : State). serial_output small x (codes "summary\n"))

@@ -2,7 +2,6 @@
 use Rattle.std.proofs.Common.{◌≡◌, ◌∙◌, ℕ, List, [], Some, None, false, refl, ap, take, replicate, arith}
 use Rattle.std.specs.Prelude.{Result, Ok, Err}
 use Rattle.std.proofs.lemmas.List.{take_all}
-use Rattle.affinity.specs.declared.geometry.Geometry.{Geometry}
 use Rattle.checkpoint.specs.Recovery.{recovered_state}
 use Rattle.disk.proofs.Leaves.{itself}
 use Rattle.disk.specs.Device.{AreBytes, IsCrashImage, Medium}
@@ -12,7 +11,6 @@ use Rattle.meaning.specs.Serial.{state_after_all}
 use Rattle.language.specs.declared.Msg.{Msg}
 use Rattle.scheduler.specs.CoreView.{IsJustOpened, CoreView, RecoversNow, core_state_of}
 use Rattle.serving.specs.Ends.{Exchange, HasRunLines, committed_in}
-use Rattle.oplog.specs.Recovery.{records_in}
 use Rattle.serving.specs.Runs.{machine_with_jobs}
 use Rattle.serving.specs.Serve.{ServePromise}
 use Rattle.serving.specs.declared.server.ServeFault.{ServeFault}
@@ -79,10 +77,6 @@ recovers_for keeps now none leaves bytes = record {
 
 -- ---- each end, in the words of the serial server
 
--- no record of the log is in force on the device that is given back, if none is on the core's
-no_records : (now : CoreView) (g : Geometry) (new : Medium) → now.geometry ≡ g → new ≡ now.medium → records_in now.geometry now.medium.now ≡ [] → records_in g new.now ≡ []
-no_records now g new same back none = rw (back, ← same) none
-
 module _ {keeps : Type 0} {s : ServeOptions} {old new : Medium} {end : Result (Unit {0}) ServeFault} {x : Exchange}
     (h : HasServedBy keeps s old new end x) (no_doubt : h.now.failed ≡ false → h.now.doubt ≡ [])
     (bytes : AreBytes new.now) where
@@ -112,7 +106,7 @@ ends_on_device {new} (Ok _) h no_doubt bytes =
       h.served.no_workers,
       (
         went h no_doubt bytes same h.served.ends.1,
-        λ k. no_records h.now h.start.geometry new same h.given_back (h.served.emptied k),
+        λ k. rw (h.given_back, ← same) (h.served.emptied k),
         h.served.ends.2,
         h.served.ends.3,
       ),

@@ -1,7 +1,6 @@
 -- From what a service on a device has done follows the state from which a restart goes on.
 use Rattle.std.proofs.Common.{◌≡◌, ◌⊎◌, ℕ, List, [], ◌∷◌, Option, Some, None, ap, refl, sym, ◌∙◌, subst, inl, inr, ⊎_elim, arith}
 use Rattle.std.specs.Prelude.{Result, Ok, Err, OnOk}
-use Rattle.std.specs.Io.KnownBytes.{Appends}
 use Rattle.std.proofs.KnownBytes.{Appends-nil}
 use Rattle.std.proofs.lemmas.Option.{same_Some}
 use Rattle.affinity.specs.declared.geometry.Geometry.{Geometry}
@@ -100,7 +99,7 @@ module _ {keeps : Type 0} (keep : keeps) (g : Geometry) (old new : Medium) {x : 
       silent : (input : Option (List ℕ)) → WritesOutput input before written (RecoversTo g 0 x x)
       silent None = tt
       silent (Some bytes) =
-          ([], subst (λ (w : Option (List ℕ)). Appends before w []) (sym unwritten) (Appends-nil before), none_written g 0 x bytes)
+          ([], rw unwritten (Appends-nil before), none_written g 0 x bytes)
 
   module _ (s : ServeOptions) (end : Result (Unit {0}) Fault) (streams : Exchange) where
     run_so : EndsOnDevice keeps s old new end streams → CrashesSafely keeps s old new end streams
@@ -108,11 +107,9 @@ module _ {keeps : Type 0} (keep : keeps) (g : Geometry) (old new : Medium) {x : 
         → HasRunFrom g s.slots x end streams.input streams.before streams.written (λ now. recovered_state g c ≡ Some now)
     run_so e safe recovers = ⊎_elim
         (λ (why : (fault : OpenFault) × (end ≡ Err (ends.Open fault))).
-        let unwritten = (subst (λ (r : Result (Unit {0}) Fault). EndsOnDevice keeps s old new r streams) why.1 e).2 in
-        so 0 streams.written
-        (subst (λ (r : Result (Unit {0}) Fault). IsWritten r s.slots 0 streams.before streams.written streams.written) (sym why.1) (refl, refl, unwritten))
-        (left_unopened streams.input streams.before streams.written
-        (subst (λ (r : Result (Unit {0}) Fault). CrashesSafely keeps s old new r streams) why.1 safe keep) unwritten))
+        let unwritten = (rw why.1 at e).2 in
+        so 0 streams.written (rw why.1 (refl, refl, unwritten))
+        (left_unopened streams.input streams.before streams.written ((rw why.1 at safe) keep) unwritten))
         (λ h. so h.0 h.1 h.2 (left_so streams.input streams.before h.1 (h.3 keep c leaves)))
         (opened_or _ end s.slots streams.before streams.written recovers)
       where
@@ -125,7 +122,7 @@ module _ {keeps : Type 0} (keep : keeps) (g : Geometry) (s : ServeOptions) (old 
   pub opens_so : {x : State} → AreBytes old.now → recovered_state g old.now ≡ Some x → EndsOnDevice keeps s old new end streams → OpensUnlessFailed end
   opens_so {x} bytes recovers h fault is =
       not_shown fault (recovers_or_refused old.now g x fault bytes recovers)
-      ((subst (λ (e : Result (Unit {0}) Fault). EndsOnDevice keeps s old new e streams) is h).0 keep).0
+      ((rw is at h).0 keep).0
     where
       not_shown : (fault : OpenFault) → (IsShownByBytes fault → IsRefused old.now fault → ⊥) → IsRefused old.now fault → (fault ≡ opening.Device) ⊎ (fault ≡ opening.OutOfMemory)
       not_shown opening.Device none is = inl refl
