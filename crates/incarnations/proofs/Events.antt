@@ -65,7 +65,8 @@ quiet_moments old new ms none recovers same =
 -- The calls that leave the device alone.
 module _ (keeps : Type 0) (old new : CoreView) (none : old.failed ≡ false → old.doubt ≡ []) (recovers : keeps → RecoversNow old)
     (geometry : new.geometry ≡ old.geometry) (same : new.medium ≡ old.medium) where
-  quiet_call : (step : Step) (outcome : Outcome) → IsCallEvent old.geometry (core_state_of old) (core_state_of new) step outcome false → IsCoreStep keeps old new step outcome
+  quiet_call : (step : Step) (outcome : Outcome) → IsCallEvent old.geometry (core_state_of old) (core_state_of new) step outcome false
+      → IsCoreStep keeps old new step outcome
   quiet_call step outcome called = record {
     device_failed = false;
     called = called;
@@ -182,7 +183,8 @@ module _ (keeps : Type 0) (old new : CoreView) (hands : List HandContent)
   pub no_grant_step : (hand : ℕ) (why : Outcome) → position (λ h. is_empty (hand_of h)) hands ≡ Some hand
       → IsNoGrant old.geometry (core_state_of old) (core_state_of new) why → StepsTo hands steps.Grant why
   no_grant_step hand why at k = unmoved steps.Grant why
-      (grant_at old.geometry 0 w hand false (at_hand hand at) k.works ∙ ap (grant_to old.geometry w (Some hand)) k.none ∙ ap (λ (o : Outcome). (o, w)) k.reason) k.same
+      (grant_at old.geometry 0 w hand false (at_hand hand at) k.works ∙ ap (grant_to old.geometry w (Some hand)) k.none
+      ∙ ap (λ (o : Outcome). (o, w)) k.reason) k.same
 
   pub failed_step : (hand : ℕ) → position (λ h. is_empty (hand_of h)) hands ≡ Some hand → old.failed ≡ true
       → core_state_of new ≡ core_state_of old → StepsTo hands steps.Grant outcomes.Failed

@@ -68,7 +68,8 @@ module _ (g : Geometry) where
         let x = start.core.committed in
         let same : at_first.state ≡ x = same_Some _ _ (sym at_first.is ∙ rw one at run.recovered_before) in
         let incarnation = incarnation_of_run g start events k ran.state run.idle (rw one at run.legal) ran.left in
-        let left = next_incarnation g incarnations (Ran start events k) x incarnation.0 (subst (IsLeftByIncarnations g incarnations) same at_first.left) incarnation.1 in
+        let left = next_incarnation g incarnations (Ran start events k) x incarnation.0
+        (subst (IsLeftByIncarnations g incarnations) same at_first.left) incarnation.1 in
         record { state = ran.state; is = ran.is; left = rw incarnation.2 left }
 
     one_more : (incarnation : Incarnation) → IsIncarnationOf l incarnation → (c : List ℕ) → left_since l.at_end l.earliest_crash c → Recovers (incarnations ++ incarnation ∷ []) c
@@ -96,7 +97,8 @@ module _ (g : Geometry) where
 
   begun : (formatted : Medium) → recovered_state g formatted.now ≡ Some empty → IsSynced formatted
       → (c : List ℕ) → left_since formatted (moment_number formatted) c → Recovers [] c
-  begun formatted recovered_before synced c since = search (ap (recovered_state g) (synced_left formatted c synced (only_now formatted c since)) ∙ recovered_before, no_incarnation g)
+  begun formatted recovered_before synced c since =
+      search (ap (recovered_state g) (synced_left formatted c synced (only_now formatted c since)) ∙ recovered_before, no_incarnation g)
 
   pub incarnations_agree : (formatted : Medium) (ls : List DeviceIncarnation) → recovered_state g formatted.now ≡ Some empty → IsSynced formatted
       → HasIncarnations formatted (moment_number formatted) ls → HaveGeometry g ls

@@ -1,4 +1,4 @@
--- A message that is answered: what changes in its line in the reorder buffer, and in the core state.
+-- A message that is answered: what changes in its line in the reorder buffer.
 use Rattle.std.proofs.Common.{◌≡◌, ℕ, true, false, List, [], ◌∷◌, ◌++◌, Option, Some, None, refl, ap, sym, ◌∙◌, map, inl, append-nil, Bool, ◌⊎◌, inr, ⊎_elim}
 use Rattle.std.specs.Prelude.{if◌then◌else◌, ◌==◌}
 use Rattle.std.specs.List.{AllByRecursion, Contains}
@@ -6,9 +6,6 @@ use Rattle.std.proofs.lemmas.Bool.{eq-eqb, eqb-true, true≢false}
 use Rattle.affinity.specs.declared.geometry.Geometry.{Geometry}
 use Rattle.histories.proofs.Elements.{contains_in, in_contained}
 use Rattle.histories.proofs.SerialReplies.{IsIn, in_left, in_right}
-use Rattle.histories.specs.Events.{answer}
-use Rattle.histories.specs.CoreState.{Replied, CoreState}
-use Rattle.histories.specs.declared.outcomes.Outcome.{Outcome}
 use Rattle.histories.specs.declared.outcomes.Outcome.TheVariants as outcomes
 use Rattle.histories.specs.declared.outcomes.Step.TheVariants as steps
 use Rattle.incarnations.proofs.Events.{core_holds, core_step}
@@ -110,21 +107,8 @@ is_answered_so keeps old new (Some a) k hands h =
     let outcome = outcomes.Answered a.0 a.1 in
     (core_holds keeps old new hands steps.Answer outcome h k refl, step_passes (core_step keeps old new hands steps.Answer outcome h k))
 
--- ---- what is logged
-
 -- where no message was answered
 pub none_answered : (keeps : Type 0) (old new : MachineView) (r : Option (ℕ × Reply)) → ((reply_pairs : ℕ × Reply) → r ≡ Some reply_pairs → ⊥)
     → IsAnswered keeps old new r → IsInternal keeps old new
 none_answered keeps old new (Some reply_pairs) not a = absurd (not reply_pairs refl)
 none_answered keeps old new None not a = a
-
--- ---- the core state after an answer
-
--- If there was no message to answer, none is logged, and nothing has changed.
-pub none_logged : (w new : CoreState) (logged : List Replied) → (answer_outcome None, new) ≡ answer w logged → w.logged ≡ logged → new.logged ≡ []
-none_logged w new [] e is = ap (λ (x : Outcome × CoreState). x.1.logged) e ∙ is
-none_logged w new (a ∷ as') e is = let o : outcomes.Idle ≡ outcomes.Answered a.0 a.2 = ap (λ (x : Outcome × CoreState). x.0) e in cc
-
-pub none_moved : (w new : CoreState) (logged : List Replied) → (answer_outcome None, new) ≡ answer w logged → new ≡ w
-none_moved w new [] e = ap (λ (x : Outcome × CoreState). x.1) e
-none_moved w new (a ∷ as') e = let o : outcomes.Idle ≡ outcomes.Answered a.0 a.2 = ap (λ (x : Outcome × CoreState). x.0) e in cc

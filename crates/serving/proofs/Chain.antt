@@ -28,5 +28,6 @@ passes_on {old} h k =
       reply_pairs_are = ap answered both ∙ j.answered_is ∙ (λ i. h.reply_pairs_are i ++ k.reply_pairs_are i);
       failures = k.failures ∙ ap (λ (n : ℕ). n + rises (events_of k.device_events)) h.failures
           ∙ add_assoc old.core.medium.faults (rises (events_of h.device_events)) (rises (events_of k.device_events))
-          ∙ ap (λ (n : ℕ). old.core.medium.faults + n) (sym (ap rises both ∙ sum_by-append (λ (e : Event). if e.device_failed then 1 else 0) (events_of h.device_events) (events_of k.device_events)));
+          ∙ ap (λ (n : ℕ). old.core.medium.faults + n) (sym (ap rises both
+          ∙ sum_by-append (λ (e : Event). if e.device_failed then 1 else 0) (events_of h.device_events) (events_of k.device_events)));
     }

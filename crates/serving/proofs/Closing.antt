@@ -194,7 +194,8 @@ pub record IsAtStart (s : Start) (p : SessionView) : Type 0 where
 declined : {keeps : Type 0} {s : Start} {p : SessionView} → IsIdle (core_state_of s.core) → IsAtStart s p
     → PromisesAll keeps (start_machine s) p.core (exchange s.input p.remaining s.before p.sent) (Err faults.OutOfMemory)
 declined {keeps} {s} {p} idle at =
-    rw (at.core, at.input, at.before) (record { run = λ no_doubt recovers. no_memory_ran keeps s.core s.places idle no_doubt recovers s.input s.before; ends = (refl, refl, refl) })
+    rw (at.core, at.input, at.before)
+    (record { run = λ no_doubt recovers. no_memory_ran keeps s.core s.places idle no_doubt recovers s.input s.before; ends = (refl, refl, refl) })
 
 -- A session promises what a server does if it has ended, or is as at its start.
 promises_or_declines : {keeps : Type 0} {s : Start} {old p : SessionView} → SessionInvariant keeps s p → IsAtStart s old → (result : Result (Unit {0}) ServeFault)

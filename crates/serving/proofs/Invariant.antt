@@ -330,7 +330,8 @@ module _ (keeps : Type 0) where
     )
 
     module _ (known : Line) (pushed : reorder_buffer.lines ≡ p.reorder_buffer.lines ++ known ∷ []) (going : p.drained ≡ false) (closes : HasWholeFirstLine p.unread drained) where
-      on_read : (o : Option Start) → SessionInvariantFrom keeps o p → HandsHaveJobs (machine next) → ((s : Start) (unsent : List Line) (whole : Option (List ℕ)) → IsIdle (core_state_of s.core)
+      on_read : (o : Option Start) → SessionInvariantFrom keeps o p → HandsHaveJobs (machine next)
+          → ((s : Start) (unsent : List Line) (whole : Option (List ℕ)) → IsIdle (core_state_of s.core)
           → ServingProgress keeps (start_machine s) (machine p) unsent s.input p.unread p.drained s.before whole
           → ServingProgress keeps (start_machine s) (machine next) (unsent ++ known ∷ []) s.input unread drained s.before whole) → SessionInvariantFrom keeps o next
       on_read o u holds read = goes_to o p u next (λ s u.

@@ -1,4 +1,4 @@
--- Steps of a checkpoint: what is left of it, and that they fail only where the device does.
+-- Steps of a checkpoint fail only where the device does.
 use Rattle.std.proofs.Common.{◌≡◌, ◌≢◌, ℕ, true, false, List, [], length, Option, Some, None, Result, Ok, Err, refl, ap, sym, subst, ◌∙◌}
 use Rattle.std.specs.Prelude.{Bool, if◌then◌else◌, is_some, nat_lt, IfOk, IsFalse, MatchBool, MatchResult, OnErr, OnOk}
 use Rattle.std.proofs.lemmas.Bool.{true≢false}
@@ -40,10 +40,6 @@ pub stands_still : (A B C asked : Type 0) {K L : Type 0} (result : Result Bool H
 stands_still A B C asked (Ok true) begun keeps on = λ e. absurd (true≢false e)
 stands_still A B C asked (Ok false) begun keeps on = λ e. (on (keeps e), begun.0, λ _. begun.1)
 stands_still A B C asked (Err y) begun keeps on = tt
-
-pub where_false : (A B : Type 0) (b : Bool) → MatchBool b A B → b ≡ false → B
-where_false A B true is e = absurd (true≢false e)
-where_false A B false is e = is
 
 -- ---- where a point is to begin and none is in progress
 

@@ -147,7 +147,8 @@ kept_reply g log n m line is k = ⊎_elim
 some_is : (m k : Msg) → Some m ≡ Some k → m ≡ k
 some_is m k h = cc
 
-module _ (g : Geometry) (log : List Replied) (replies : List (ℕ × Reply)) (told : (t : ℕ) (m : Msg) (reply : Reply) → IsIn (t, m, reply) log → IsIn (t, reply) replies) where
+module _ (g : Geometry) (log : List Replied) (replies : List (ℕ × Reply))
+    (told : (t : ℕ) (m : Msg) (reply : Reply) → IsIn (t, m, reply) log → IsIn (t, reply) replies) where
   none_answered : (x : State) (n : ℕ) (ls : List (List ℕ)) (es : List Entry) → HasNoGap g es (ticketed n (admitted g ls)) → AnswersFirst g x es ls []
   none_answered x n ls es h =
       let s = spells_part g n ls es h in
@@ -186,7 +187,8 @@ module _ (g : Geometry) (log : List Replied) (replies : List (ℕ × Reply)) (to
         (λ (j : (fs : List Entry) × (es ≡ (n, m) ∷ fs) × HasNoGap g fs (ticketed (n + 1) (admitted g ls))).
         let serial_here = subst (HaveSerialReplies g replies x n) j.1 serial_all in
         let retires = kept_line g x log n (Some m) w k
-        (λ m' reply same in_range here. its_reply g replies x n j.0 m reply (after j.0 j.2) serial_here (told n m' reply here) ∙ ap (reply_to g x) (some_is m m' same)) in
+        (λ m' reply same in_range here.
+        its_reply g replies x n j.0 m reply (after j.0 j.2) serial_here (told n m' reply here) ∙ ap (reply_to g x) (some_is m m' same)) in
         one_more (retires ∙ ap (answer_line g x) (sym is))
         (ap (λ l. state_after_all g x (messages_of l)) j.1 ∙ ap (λ o. state_after_all g (state_after_line g x o) (messages_of j.0)) (sym is))
         (subst (λ o. AnswersFirst g (state_after_line g x o) j.0 ls written) (sym is)

@@ -35,7 +35,8 @@ counted false old new h = h ∙ sym (add-zero old)
 module _ {keeps : Type 0} {old new : MachineView} {step : Step} {outcome : Outcome} (k : IsMachineStep keeps old new step outcome) where
   -- A step is a segment of a run.
   pub step_passes : RunsBetween keeps old new (arrives step outcome) (answers outcome)
-  step_passes = search (one_leads k, append-nil (arrives step outcome), append-nil (answers outcome), counted k.device_failed old.core.medium.faults new.core.medium.faults k.failures)
+  step_passes =
+      search (one_leads k, append-nil (arrives step outcome), append-nil (answers outcome), counted k.device_failed old.core.medium.faults new.core.medium.faults k.failures)
 
 -- A segment in which no message arrives and none is answered leaves what is known of the lines as it was.
 pub quiet_goes_on : {keeps : Type 0} {start old new : MachineView} {unsent : List Line} {input unread : Option (List ℕ)} {ended : Bool}

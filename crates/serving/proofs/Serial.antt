@@ -101,7 +101,8 @@ module _ (g : Geometry) (replies : List (ℕ × Reply)) where
   served_line x n ms None NoMessage h k done = record { retires = refl; tells = h }
   served_line x n ms (Some m) OutOfRange h k done =
       let same = sym (out_of_range g x m k) in
-      record { retires = ap (λ (q : Reply × State). reply_line q.0) same; tells = rw k (subst (λ (q : Reply × State). HaveSerialReplies q.1 n (ticketed n ms)) same (rw k at h)) }
+      let tells = subst (λ (q : Reply × State). HaveSerialReplies q.1 n (ticketed n ms)) same (rw k at h) in
+      record { retires = ap (λ (q : Reply × State). reply_line q.0) same; tells = rw k tells }
   served_line x n ms (Some m) (Pending ticket) h k done = absurd (true≢false (sym done))
   served_line x n ms (Some m) (Completed ticket reply) h k done =
       let on : HaveSerialReplies x n (ticketed n (m ∷ ms)) = rw k.0 at h in
