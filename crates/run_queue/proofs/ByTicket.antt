@@ -1,8 +1,8 @@
 -- Which message is dispatched next, by tickets: where the tickets ascend, the first one that is conflict-free and has room.
-use Rattle.std.proofs.Common.{◌≡◌, ◌∙◌, ℕ, ◌<◌, Bool, false, not, ◌&&◌, ◌||◌, List, [], ◌∷◌, ◌++◌, Some, refl, ap, sym, arith, append_assoc}
-use Rattle.std.specs.Prelude.{if◌then◌else◌, nat_lt}
+use Rattle.std.proofs.lemmas.Grind.{common_steps}
+use Rattle.std.proofs.Common.{◌≡◌, ◌∙◌, ℕ, ◌<◌, Bool, false, not, ◌&&◌, List, [], ◌∷◌, ◌++◌, Some, refl, ap, sym, arith, append_assoc}
+use Rattle.std.specs.Prelude.{if◌then◌else◌}
 use Rattle.std.specs.List.{list_any, find, AllByRecursion}
-use Rattle.std.proofs.lemmas.Bool.{ltb-true, lt-ltb, false_from_ne_true}
 use Rattle.std.proofs.lemmas.List.Folds.{list_any-append}
 use Rattle.std.proofs.Math.Bool.{or-false}
 use Rattle.run_queue.specs.RunQueue.{are_related_intervals, is_free_of, has_room, first_dispatchable, next_queued, CameBefore}
@@ -13,29 +13,19 @@ use Rattle.run_queue.specs.declared.queued_message.QueuedMessage.{QueuedMessage}
 all_early : (t : QueuedMessage) (ts : List QueuedMessage) → CameBefore t.ticket ts
     → list_any (waits_for t) ts ≡ list_any (λ d. are_related_intervals t.affinity d.affinity) ts
 all_early t [] before = refl
-all_early t (d ∷ ts) before =
-    ap (λ b. (b && are_related_intervals t.affinity d.affinity) || list_any (waits_for t) ts) (lt-ltb d.ticket t.ticket before.0)
-    ∙ ap (λ b. are_related_intervals t.affinity d.affinity || b) (all_early t ts before.1)
+all_early t (d ∷ ts) before = grind (arith, common_steps, all_early t ts before.1)
 
 -- a message that has no smaller ticket than t, as t itself, doesn't keep t back
 not_less : (t d : QueuedMessage) → (d.ticket < t.ticket → ⊥) → waits_for t d ≡ false
-not_less t d h = ap (λ b. b && are_related_intervals t.affinity d.affinity)
-    (false_from_ne_true (nat_lt d.ticket t.ticket) (λ less. h (ltb-true d.ticket t.ticket less)))
+not_less t d h = grind (arith, common_steps)
 
 none_late : (t : QueuedMessage) (ts : List QueuedMessage) → AllByRecursion (λ d. t.ticket < d.ticket) ts → list_any (waits_for t) ts ≡ false
 none_late t [] after = refl
-none_late t (d ∷ ts) after =
-    let above = after.0 in
-    ap (λ b. b || list_any (waits_for t) ts) (not_less t d (λ less. omega (arith, less, above))) ∙ none_late t ts after.1
+none_late t (d ∷ ts) after = grind (arith, common_steps, none_late t ts after.1)
 
 only_early : (t : QueuedMessage) (earlier later : List QueuedMessage) → CameBefore t.ticket earlier → AllByRecursion (λ d. t.ticket < d.ticket) later
     → list_any (waits_for t) (earlier ++ t ∷ later) ≡ list_any (λ d. are_related_intervals t.affinity d.affinity) earlier
-only_early t earlier later before after =
-    list_any-append (waits_for t) earlier (t ∷ later)
-    ∙ ap (λ b. list_any (waits_for t) earlier || (b || list_any (waits_for t) later)) (not_less t t (λ less. omega (arith, less)))
-    ∙ ap (λ b. list_any (waits_for t) earlier || b) (none_late t later after)
-    ∙ or-false (list_any (waits_for t) earlier)
-    ∙ all_early t earlier before
+only_early t earlier later before after = grind (arith, common_steps, list_any-append, not_less, none_late, or-false, all_early)
 
 came_before : (ticket : ℕ) (ts : List QueuedMessage) (t : QueuedMessage) → CameBefore ticket ts → t.ticket < ticket → CameBefore ticket (ts ++ t ∷ [])
 came_before ticket [] t before less = (less, tt)
@@ -44,8 +34,7 @@ came_before ticket (d ∷ ts) t before less = (before.0, came_before ticket ts t
 all_came : (earlier : List QueuedMessage) (t : QueuedMessage) (later : List QueuedMessage) → AllByRecursion (λ d. CameBefore d.ticket earlier) later
     → AllByRecursion (λ d. t.ticket < d.ticket) later → AllByRecursion (λ d. CameBefore d.ticket (earlier ++ t ∷ [])) later
 all_came earlier t [] before after = tt
-all_came earlier t (d ∷ later) before after =
-    (came_before d.ticket earlier t before.0 after.0, all_came earlier t later before.1 after.1)
+all_came earlier t (d ∷ later) before after = grind (arith, common_steps, all_came earlier t later before.1 after.1)
 
 first_from : (room : Bool) (held waiting earlier later : List QueuedMessage) → waiting ≡ earlier ++ later
     → AllByRecursion (λ d. CameBefore d.ticket earlier) later → Ascend later

@@ -1,15 +1,15 @@
 -- How the queues change on the arena's chains.
+use Rattle.std.proofs.lemmas.Grind.{common_steps}
 use Rattle.std.proofs.Common.{◌≡◌, ◌≢◌, ◌∙◌, ℕ, zero, suc, ◌+◌, ◌<◌, ◌≤◌, Bool, true, not, List, [], ◌∷◌, ◌++◌, map, filter, find, Option, Some, None, Ok, is_some, refl, ap, sym, subst, inl, inr, arith, length, slice_index_or}
 use Rattle.std.specs.Prelude.{slice_set, replicate}
 use Rattle.std.specs.List.{concat}
-use Rattle.std.proofs.lemmas.Bool.{eq-eqb, ne_eqb, lt-ltb, cases_Bool, cases_eq, true≢false, and_from}
-use Rattle.std.proofs.lemmas.Bool.Decides.{eqb_tells}
-use Rattle.std.proofs.lemmas.List.{length-set, length-replicate, get_or-set_same, get_or-set_other, length-map, map-append, append-nil}
+use Rattle.std.proofs.lemmas.Bool.{eq-eqb, ne_eqb, lt-ltb, cases_eq, true≢false, and_from}
+use Rattle.std.proofs.lemmas.List.{length-set, length-replicate, get_or-set_same, length-map, map-append, append-nil}
 use Rattle.std.proofs.lemmas.List.Elements.{filter-append}
 use Rattle.arena.specs.Lists.{first_of, without, numbers_from}
 use Rattle.arena.specs.Lists.{count_of}
-use Rattle.arena.specs.ArenaView.{ArenaView, IsPartitioned, capacity_of, value_at, chain_at, front_of, moved, listed, can_move, empty_arena, put_answer, slot_from, after_put, after_move, after_take}
-use Rattle.arena.proofs.Counts.{count_of-append as on-append, count_of-cons_is as on-cons_is, count_of-cons_other as on-cons_other, count_of-at as on-at, without-absent as on-absent}
+use Rattle.arena.specs.ArenaView.{ArenaView, IsPartitioned, capacity_of, value_at, chain_at, front_of, moved, listed, can_move, empty_arena, put_answer, after_put, after_move, after_take}
+use Rattle.arena.proofs.Counts.{count_of-append as on-append, count_of-cons_is as on-cons_is, count_of-at as on-at, without-absent as on-absent}
 use Rattle.arena.proofs.ArenaLemmas.{chain-without, chain-moved_same, chain-moved_other, length-moved, chained-holds, chained-apart, front-chained, chain-front}
 use Rattle.run_queue.specs.RunQueue.{has_slot, has_number, without_slot, CameBefore}
 use Rattle.run_queue.specs.Slots.{count_in_slot}
@@ -32,11 +32,7 @@ no_chain (suc count) (suc n) = no_chain count n
 
 all_numbers : (from count i : ℕ) → from ≤ i → i < from + count → 0 < count_of i (numbers_from from count)
 all_numbers from zero i low high = absurd (omega arith)
-all_numbers from (suc count) i low high = elim (eqb_tells from i) [
-  | inl e ↦ omega (arith, on-cons_is i from (numbers_from (suc from) count) e.1)
-  | inr n ↦ (let rest = all_numbers (suc from) count i (omega arith) (omega arith) in
-      omega (arith, rest, on-cons_other i from (numbers_from (suc from) count) n.1))
-]
+all_numbers from (suc count) i low high = grind (arith, common_steps, all_numbers (suc from) count i)
 
 pub start-waiting : (capacity numbers : ℕ) → waiting_in (empty_arena capacity numbers) ≡ []
 start-waiting capacity numbers = ap by_ticket (none_present capacity)
@@ -60,10 +56,7 @@ head (t ∷ ts) = Some t
 find-head : (p : QueuedMessage → Bool) (ts : List QueuedMessage) → find p ts ≡ head (filter p ts)
 unfolding head
 find-head p [] = refl
-find-head p (t ∷ ts) = elim (cases_Bool (p t)) [
-  | inl k ↦ rw k refl
-  | inr k ↦ rw k (find-head p ts)
-]
+find-head p (t ∷ ts) = grind (arith, common_steps, find-head p ts)
 
 some_of : (o : Option QueuedMessage) → is_some o ≡ true → (t : QueuedMessage) × (o ≡ Some t)
 some_of None h = absurd (true≢false (sym h))
@@ -75,10 +68,7 @@ none_first (i ∷ is) h = absurd (cc)
 
 pub front-none : (arena : ArenaView QueuedMessage) (n : ℕ) → IsQueued arena → front_of arena n ≡ None → find (has_number n) (waiting_in arena) ≡ None
 unfolding head
-front-none arena n q none =
-    find-head (has_number n) (waiting_in arena)
-    ∙ ap head (sym (q.queued n))
-    ∙ ap (λ (is : List ℕ). head (queued_in arena is)) (none_first (chain_at arena n) none)
+front-none arena n q none = grind (arith, common_steps, find-head, head, none_first)
 
 -- the first slot of a queue has a message
 pub chained-some : (arena : ArenaView QueuedMessage) (n i : ℕ) → IsQueued arena → front_of arena n ≡ Some i → (t : QueuedMessage) × (value_at arena i ≡ Some t)
@@ -87,28 +77,18 @@ chained-some arena n i q first = some_of (value_at arena i) (chained-holds arena
 -- a queue is the message in its first slot, and then those in the other slots of its chain
 queue-parts : (arena : ArenaView QueuedMessage) (n i : ℕ) (t : QueuedMessage) → IsQueued arena → front_of arena n ≡ Some i → value_at arena i ≡ Some t
     → filter (has_number n) (waiting_in arena) ≡ t ∷ queued_in arena (without i (chain_at arena n))
-queue-parts arena n i t q first is =
-    sym (q.queued n)
-    ∙ ap (λ (is : List ℕ). queued_in arena is) (chain-front arena i n q.partitioned first)
-    ∙ ap (λ (o : Option QueuedMessage). present (o ∷ map (value_at arena) (without i (chain_at arena n)))) is
+queue-parts arena n i t q first is = grind (arith, common_steps, chain-front)
 
 pub front-some : (arena : ArenaView QueuedMessage) (n i : ℕ) → IsQueued arena → front_of arena n ≡ Some i → find (has_number n) (waiting_in arena) ≡ value_at arena i
 unfolding head
-front-some arena n i q first =
-    let t = chained-some arena n i q first in
-    find-head (has_number n) (waiting_in arena) ∙ ap head (queue-parts arena n i t.0 q first t.1) ∙ sym t.1
+front-some arena n i q first = grind (arith, common_steps, chained-some, find-head, head, queue-parts)
 
 -- ---- the slots of a chain, where another slot changes
 
 map-other : (values : List (Option QueuedMessage)) (i : ℕ) (o : Option QueuedMessage) (is : List ℕ) → count_of i is ≡ 0
     → map (λ j. slice_index_or (slice_set values i o) j None) is ≡ map (λ j. slice_index_or values j None) is
 map-other values i o [] none = refl
-map-other values i o (j ∷ is) none = elim (eqb_tells j i) [
-  | inl e ↦ absurd (omega (arith, none, on-cons_is i j is e.1))
-  | inr n ↦ (let rest = map-other values i o is (omega (arith, none, on-cons_other i j is n.1)) in
-      ap (λ (p : Option QueuedMessage). p ∷ map (λ j. slice_index_or (slice_set values i o) j None) is) (get_or-set_other values i j o None n.1)
-      ∙ ap (λ (os : List (Option QueuedMessage)). slice_index_or values j None ∷ os) rest)
-]
+map-other values i o (j ∷ is) none = grind (arith, common_steps, map-other values i o is)
 
 present-append : (xs ys : List (Option QueuedMessage)) → present (xs ++ ys) ≡ present xs ++ present ys
 present-append [] ys = refl
@@ -122,15 +102,7 @@ waiting-same e f g = rw (e, f, g) refl
 -- ---- one more message
 
 pub free-from_put : (arena : ArenaView QueuedMessage) (t : QueuedMessage) (i : ℕ) → put_answer arena t ≡ Ok i → (rest : List ℕ) × (arena.free ≡ i ∷ rest)
-free-from_put arena t i answer = by arena.free refl
-  where
-    by : (free : List ℕ) → arena.free ≡ free → (rest : List ℕ) × (arena.free ≡ i ∷ rest)
-    by [] is = absurd (let other = ap (λ (free : List ℕ). slot_from free t) is in let h = sym answer ∙ other in cc)
-    by (j ∷ rest) is =
-        let other = ap (λ (free : List ℕ). slot_from free t) is in
-        let h = sym answer ∙ other in
-        let same : j ≡ i = cc in
-        (rest, is ∙ ap (λ k. k ∷ rest) same)
+free-from_put arena t i answer = grind (arith, common_steps)
 
 abbrev pub pushed : ArenaView QueuedMessage → QueuedMessage → ℕ → List ℕ → ℕ → ArenaView QueuedMessage
 pushed arena t i rest n = record { values = slice_set arena.values i (Some t); free = rest; chains = moved arena.chains i n }
@@ -173,13 +145,7 @@ module _ (arena : ArenaView QueuedMessage) (t : QueuedMessage) (i : ℕ) (rest :
   push-view = waiting-same (length-moved arena.chains i n) (length-set arena.values i (Some t)) push-waiting
 
   push-full : (j : ℕ) → j < capacity_of after → value_at after j ≡ None → 0 < count_of j rest
-  push-full j below none = elim (cases_eq j i) [
-    | inl e ↦ absurd (let is = subst (λ k. value_at after k ≡ Some t) (sym e) has_it in cc)
-    | inr other ↦ (let empty : value_at arena j ≡ None = sym (get_or-set_other arena.values i j (Some t) None other) ∙ none in
-        let below' : j < length arena.values = omega (arith, below, length-set arena.values i (Some t)) in
-        let free = subst (λ (is : List ℕ). 0 < count_of j is) first (q.empty_is_free j below' empty) in
-        omega (arith, free, on-cons_other j i rest (λ same. other (sym same))))
-  ]
+  push-full j below none = grind (arith, common_steps)
 
   others_on : (m : ℕ) → queued_in after (chain_at arena m) ≡ queued_in arena (chain_at arena m)
   others_on m = ap present (map-other arena.values i (Some t) (chain_at arena m) (off_chains m))
@@ -223,8 +189,7 @@ pub push-room : (arena : ArenaView QueuedMessage) (t : QueuedMessage) → IsQueu
 push-room arena t q less = by arena.free refl
   where
     by : (free : List ℕ) → arena.free ≡ free → (i : ℕ) × (rest : List ℕ) × (arena.free ≡ i ∷ rest)
-    by [] is = absurd (let all = length-all arena.values (λ i below none.
-        (let some = subst (λ (is : List ℕ). 0 < count_of i is) is (q.empty_is_free i below none) in omega (arith, some))) in omega (arith, all, less))
+    by [] is = grind (arith, common_steps, length-all)
     by (i ∷ rest) is = (i, rest, is)
 
 -- ---- one message less
@@ -234,39 +199,12 @@ popped arena i = record { values = slice_set arena.values i None; free = i ∷ a
 
 filters-turned : (p r : QueuedMessage → Bool) (ts : List QueuedMessage) → filter p (filter r ts) ≡ filter r (filter p ts)
 filters-turned p r [] = refl
-filters-turned p r (t ∷ ts) = elim (cases_Bool (p t)) [
-  | inl k ↦ elim (cases_Bool (r t)) [
-    | inl l ↦ rw (k, l, k) (ap (λ (us : List QueuedMessage). t ∷ us) (filters-turned p r ts))
-    | inr l ↦ rw (k, l) (filters-turned p r ts)
-  ]
-  | inr k ↦ elim (cases_Bool (r t)) [
-    | inl l ↦ rw (k, l, k) (filters-turned p r ts)
-    | inr l ↦ rw (k, l) (filters-turned p r ts)
-  ]
-]
+filters-turned p r (t ∷ ts) = grind (arith, common_steps, filters-turned p r ts)
 
 -- a slot occurs in two queues together no more often than among all messages
 count_in_slot-two : (s n m : ℕ) (ts : List QueuedMessage) → n ≢ m → count_in_slot s (filter (has_number n) ts) + count_in_slot s (filter (has_number m) ts) ≤ count_in_slot s ts
 count_in_slot-two s n m [] other = omega arith
-count_in_slot-two s n m (t ∷ ts) other =
-    let rest = count_in_slot-two s n m ts other in
-    elim (eqb_tells t.affinity.number n) [
-      | inl e ↦ (let no_m = ne_eqb t.affinity.number m (λ same. other (sym e.1 ∙ same)) in
-          rw (e.0, no_m) (elim (eqb_tells t.slot s) [
-            | inl k ↦ rw k.0 (omega (arith, rest))
-            | inr k ↦ rw k.0 rest
-          ]))
-      | inr k ↦ rw k.0 (elim (eqb_tells t.affinity.number m) [
-        | inl e ↦ rw e.0 (elim (eqb_tells t.slot s) [
-          | inl l ↦ rw l.0 (omega (arith, rest))
-          | inr l ↦ rw l.0 rest
-        ])
-        | inr e ↦ rw e.0 (elim (eqb_tells t.slot s) [
-          | inl l ↦ rw l.0 (omega (arith, rest))
-          | inr l ↦ rw l.0 rest
-        ])
-      ])
-    ]
+count_in_slot-two s n m (t ∷ ts) other = grind (arith, common_steps, count_in_slot-two s n m ts other)
 
 module _ (arena : ArenaView QueuedMessage) (n i : ℕ) (t : QueuedMessage) (q : IsQueued arena) (first : front_of arena n ≡ Some i) (is : value_at arena i ≡ Some t)
     (once : (s : ℕ) → count_in_slot s (waiting_in arena) ≤ 1) where
@@ -284,12 +222,7 @@ module _ (arena : ArenaView QueuedMessage) (n i : ℕ) (t : QueuedMessage) (q : 
   pop-view = waiting-same (length-map arena.chains (without i)) (length-set {A = Option QueuedMessage} arena.values i None) pop-waiting
 
   pop-full : (j : ℕ) → j < capacity_of later → value_at later j ≡ None → 0 < count_of j (i ∷ arena.free)
-  pop-full j below none = elim (cases_eq j i) [
-    | inl e ↦ omega (arith, on-cons_is j i arena.free (sym e))
-    | inr other ↦ (let empty : value_at arena j ≡ None = sym (get_or-set_other arena.values i j None None other) ∙ none in
-        let below' : j < length arena.values = omega (arith, below, length-set {A = Option QueuedMessage} arena.values i None) in
-        omega (arith, q.empty_is_free j below' empty, on-cons_other j i arena.free (λ same. other (sym same))))
-  ]
+  pop-full j below none = grind (arith, common_steps)
 
   behind : List QueuedMessage
   behind = queued_in arena (without i (chain_at arena n))
@@ -308,14 +241,10 @@ module _ (arena : ArenaView QueuedMessage) (n i : ℕ) (t : QueuedMessage) (q : 
     where
       gone : (is : List ℕ) → count_of i (without i is) ≡ 0
       gone [] = refl
-      gone (j ∷ is) = elim (eqb_tells j i) [
-        | inl e ↦ rw e.0 (gone is)
-        | inr k ↦ rw k.0 (omega (arith, gone is, on-cons_other i j (without i is) k.1))
-      ]
+      gone (j ∷ is) = grind (arith, common_steps, gone is)
 
   in_queue : 1 ≤ count_in_slot t.slot (filter (has_number n) (waiting_in arena))
-  in_queue = subst (λ (ts : List QueuedMessage). 1 ≤ count_in_slot t.slot ts) (sym parts)
-      (omega (arith, count_in_slot-cons_is t.slot t (queued_in arena (without i (chain_at arena n))) refl))
+  in_queue = grind (arith, common_steps)
 
   pop-queued_at : (m : ℕ) → queued_in later (chain_at later m) ≡ filter (has_number m) (without_slot t.slot (waiting_in arena))
   pop-queued_at m = elim (cases_eq m n) [

@@ -1,4 +1,5 @@
 -- The ranks of ready messages, chunk by chunk.
+use Rattle.std.proofs.lemmas.Grind.{common_steps}
 use Rattle.std.proofs.Common.{◌≡◌, ◌≢◌, ◌∙◌, ℕ, zero, suc, ◌+◌, ◌*◌, ◌/◌, ◌<◌, ◌≤◌, Bool, List, length, get_or, replicate, Option, None, ap, sym, inl, inr, arith}
 use Rattle.std.specs.Prelude.{slice_set}
 use Rattle.std.proofs.Math.Nat.{lt-mul-div-succ, mul-div-le}
@@ -25,15 +26,7 @@ ready_in-other ready_table n k o other = get_or-set_other ready_table n k o None
 -- if the rank at number n stays, the least ranks that are kept for the chunks stay right
 pub least-kept : (ready_table : List (Option QueuedMessage)) (least : List ℕ) (n : ℕ) (o : Option QueuedMessage) → n < length ready_table → AreLowerBounds ready_table least
     → rank_of o ≡ rank_of (ready_in ready_table n) → AreLowerBounds (slice_set ready_table n o) least
-least-kept ready_table least n o here are same chunk i below = elim (cases_eq (16 * chunk + i) n) [
-  | inl at ↦ (let was = are chunk i below in
-      let old = ap (λ k. rank_of (ready_in ready_table k)) at in
-      let new = ap (λ k. rank_of (ready_in (slice_set ready_table n o) k)) at ∙ ap (λ m. rank_of m) (ready_in-same ready_table n o here) in
-      omega (arith, was, old, new, same))
-  | inr other ↦ (let was = are chunk i below in
-      let new = ap (λ m. rank_of m) (ready_in-other ready_table n (16 * chunk + i) o other) in
-      omega (arith, was, new))
-]
+least-kept ready_table least n o here are same chunk i below = grind (arith, common_steps)
 
 -- else the least rank of n's chunk is found anew
 pub least-found : (ready_table : List (Option QueuedMessage)) (least : List ℕ) (n found : ℕ) (o : Option QueuedMessage) → AreLowerBounds ready_table least → n / 16 < length least

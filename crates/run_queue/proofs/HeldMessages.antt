@@ -1,7 +1,8 @@
 -- The held messages, each at the number of its affinity.
-use Rattle.std.proofs.Common.{◌≡◌, ◌∙◌, ℕ, zero, suc, ◌+◌, ◌<◌, ◌≤◌, List, [], ◌∷◌, find, Option, Some, None, refl, ap, sym, inl, inr, arith, length, slice_index_or}
+use Rattle.std.proofs.lemmas.Grind.{common_steps}
+use Rattle.std.proofs.Common.{◌≡◌, ◌∙◌, ℕ, zero, suc, ◌+◌, ◌<◌, ◌≤◌, List, [], ◌∷◌, find, Option, Some, None, refl, ap, sym, arith, length, slice_index_or}
 use Rattle.std.specs.Prelude.{slice_set, replicate}
-use Rattle.std.proofs.lemmas.Bool.{eq-eqb, ne_eqb, cases_Bool}
+use Rattle.std.proofs.lemmas.Bool.{eq-eqb}
 use Rattle.std.proofs.lemmas.List.{length-set, length-replicate}
 use Rattle.run_queue.proofs.Chains.{none_present}
 use Rattle.run_queue.specs.RunQueue.{has_number, without_number}
@@ -27,20 +28,15 @@ start-view n = held-same _ _ _ _ (length-replicate {A = Option QueuedMessage} n 
 none-below : (entries : List (Option QueuedMessage)) (k n : ℕ) → AreByNumberFrom k entries → n < k → find (has_number n) (present entries) ≡ None
 none-below [] k n stand less = refl
 none-below (None ∷ entries) k n stand less = none-below entries (suc k) n stand (omega arith)
-none-below (Some t ∷ entries) k n stand less =
-    let is = stand.0 in
-    rw (ne_eqb t.affinity.number n (λ same. omega (arith, is, same, less))) (none-below entries (suc k) n stand.1 (omega arith))
+none-below (Some t ∷ entries) k n stand less = grind (arith, common_steps, none-below entries (suc k) n stand.1)
 
 found-from : (entries : List (Option QueuedMessage)) (k i n : ℕ) → AreByNumberFrom k entries → n ≡ k + i
     → find (has_number n) (present entries) ≡ slice_index_or entries i None
 found-from [] k i n stand is = refl
 found-from (None ∷ entries) k zero n stand is = none-below entries (suc k) n stand (omega arith)
-found-from (Some t ∷ entries) k zero n stand is =
-    let at = stand.0 in rw (eq-eqb t.affinity.number n (omega (arith, at))) refl
+found-from (Some t ∷ entries) k zero n stand is = grind (arith, common_steps)
 found-from (None ∷ entries) k (suc i) n stand is = found-from entries (suc k) i n stand (omega arith)
-found-from (Some t ∷ entries) k (suc i) n stand is =
-    let at = stand.0 in
-    rw (ne_eqb t.affinity.number n (λ same. omega (arith, at, same, is))) (found-from entries (suc k) i n stand.1 (omega arith))
+found-from (Some t ∷ entries) k (suc i) n stand is = grind (arith, common_steps, found-from entries (suc k) i n stand.1)
 
 pub found-at : (entries : List (Option QueuedMessage)) (n : ℕ) → AreByNumberFrom 0 entries → find (has_number n) (present entries) ≡ slice_index_or entries n None
 found-at entries n stand = found-from entries 0 n n stand (omega arith)
@@ -53,8 +49,7 @@ stand-hold_from [] k i t stand below is = absurd (omega arith)
 stand-hold_from (None ∷ entries) k zero t stand below is = (omega arith, stand)
 stand-hold_from (Some x ∷ entries) k zero t stand below is = (omega arith, stand.1)
 stand-hold_from (None ∷ entries) k (suc i) t stand below is = stand-hold_from entries (suc k) i t stand (omega arith) (omega arith)
-stand-hold_from (Some x ∷ entries) k (suc i) t stand below is =
-    (stand.0, stand-hold_from entries (suc k) i t stand.1 (omega arith) (omega arith))
+stand-hold_from (Some x ∷ entries) k (suc i) t stand below is = grind (arith, common_steps, stand-hold_from entries (suc k) i t stand.1)
 
 pub stand-hold : (entries : List (Option QueuedMessage)) (t : QueuedMessage) → AreByNumberFrom 0 entries → t.affinity.number < length entries
     → AreByNumberFrom 0 (slice_set entries t.affinity.number (Some t))
@@ -85,23 +80,15 @@ stand-free entries n stand = stand-free_from entries 0 n stand
 -- where no message is held at a number, none is dropped
 pub without-none : (n : ℕ) (ts : List QueuedMessage) → find (has_number n) ts ≡ None → without_number n ts ≡ ts
 without-none n [] none = refl
-without-none n (t ∷ ts) none = elim (cases_Bool (has_number n t)) [
-  | inl k ↦ absurd (let h = rw k at none in cc)
-  | inr k ↦ rw k (ap (λ (us : List QueuedMessage). t ∷ us) (without-none n ts (rw k at none)))
-]
+without-none n (t ∷ ts) none = grind (arith, common_steps, without-none n ts)
 
 free-from : (entries : List (Option QueuedMessage)) (k i n : ℕ) → AreByNumberFrom k entries → n ≡ k + i
     → present (slice_set entries i None) ≡ without_number n (present entries)
 free-from [] k i n stand is = refl
 free-from (None ∷ entries) k zero n stand is = sym (without-none n (present entries) (none-below entries (suc k) n stand (omega arith)))
-free-from (Some t ∷ entries) k zero n stand is =
-    let at = stand.0 in
-    rw (eq-eqb t.affinity.number n (omega (arith, at))) (sym (without-none n (present entries) (none-below entries (suc k) n stand.1 (omega arith))))
+free-from (Some t ∷ entries) k zero n stand is = grind (arith, common_steps, eq-eqb, without-none, none-below)
 free-from (None ∷ entries) k (suc i) n stand is = free-from entries (suc k) i n stand (omega arith)
-free-from (Some t ∷ entries) k (suc i) n stand is =
-    let at = stand.0 in
-    rw (ne_eqb t.affinity.number n (λ same. omega (arith, at, same, is)))
-    (ap (λ (us : List QueuedMessage). t ∷ us) (free-from entries (suc k) i n stand.1 (omega arith)))
+free-from (Some t ∷ entries) k (suc i) n stand is = grind (arith, common_steps, free-from entries (suc k) i n stand.1)
 
 pub free-view : (entries : List (Option QueuedMessage)) (n : ℕ) → AreByNumberFrom 0 entries → ◌≡◌ {A = HeldMessages}
     (record { numbers = length (slice_set entries n None); messages = present (slice_set entries n None) })

@@ -1,8 +1,9 @@
 -- The affinities above one, by their numbers.
-use Rattle.std.proofs.Common.{◌≡◌, ◌∙◌, ℕ, zero, suc, ◌<◌, ◌≤◌, Bool, true, false, [], ◌∷◌, take, refl, ap, sym, subst, inl, inr, arith, length, ◌⊎◌, List, ◌||◌}
+use Rattle.std.proofs.lemmas.Grind.{common_steps}
+use Rattle.std.proofs.Common.{◌≡◌, ◌∙◌, ℕ, zero, suc, ◌<◌, ◌≤◌, Bool, true, false, [], ◌∷◌, take, refl, ap, sym, inl, inr, arith, length, ◌⊎◌, List, ◌||◌}
 use Rattle.std.specs.Prelude.{◌==◌}
 use Rattle.std.specs.List.{list_any}
-use Rattle.std.proofs.lemmas.Bool.{eq-eqb, eqb-true, cases_Bool, and_parts, and_from, or_cases, or_right, true≢false}
+use Rattle.std.proofs.lemmas.Bool.{eq-eqb, eqb-true, and_from, or_cases, or_right, true≢false}
 use Rattle.std.proofs.lemmas.Bool.Decides.{nat_tests}
 use Rattle.affinity.specs.Path.{Path, is_prefix}
 use Rattle.affinity.specs.Interval.{Interval, IsPath, IsAffinity, IsAffinityOf, contains, interval, preorder_number, affinity_count}
@@ -22,9 +23,7 @@ AreAbove g a above = (b : Interval) → IsAffinity g b
 is_prefix-is : (q p : Path) → is_prefix q p ≡ true → q ≡ take (length q) p
 is_prefix-is [] p h = refl
 is_prefix-is (x ∷ q) [] h = absurd (true≢false (sym h))
-is_prefix-is (x ∷ q) (y ∷ p) h =
-    let parts = and_parts (x == y) (is_prefix q p) h in
-    ap (λ (k : ℕ). k ∷ q) (eqb-true x y parts.0) ∙ ap (λ (r : Path). y ∷ r) (is_prefix-is q p parts.1)
+is_prefix-is (x ∷ q) (y ∷ p) h = grind (arith, common_steps, is_prefix-is q p)
 
 is_prefix-take : (k : ℕ) (p : Path) → is_prefix (take k p) p ≡ true
 is_prefix-take zero p = refl
@@ -81,21 +80,16 @@ found_at : (g : Geometry) (p q : Path) (k : ℕ) → IsPath g p → q ≡ take k
     → (q ≡ p) ⊎ (list_any (λ n. n == preorder_number g q) (numbers_above g p) ≡ true)
 found_at g p q zero h is = inr (rw (is_at g p q 0 is) refl)
 found_at g p q (suc zero) h is = inr (or_right (preorder_number g (take 0 p) == preorder_number g q) _ (rw (is_at g p q 1 is) refl))
-found_at g p q (suc (suc zero)) h is =
-    inr (or_right (preorder_number g (take 0 p) == preorder_number g q) _ (or_right (preorder_number g (take 1 p) == preorder_number g q) _ (rw (is_at g p q 2 is) refl)))
-found_at g p q (suc (suc (suc zero))) h is =
-    inr (or_right (preorder_number g (take 0 p) == preorder_number g q) _ (or_right (preorder_number g (take 1 p) == preorder_number g q) _
-    (or_right (preorder_number g (take 2 p) == preorder_number g q) _ (rw (is_at g p q 3 is) refl))))
-found_at g p q (suc (suc (suc (suc k)))) h is =
-    let most = short g p h in inl (is ∙ take-all (suc (suc (suc (suc k)))) p (omega arith))
+found_at g p q (suc (suc zero)) h is = grind (arith, common_steps)
+found_at g p q (suc (suc (suc zero))) h is = grind (arith, common_steps)
+found_at g p q (suc (suc (suc (suc k)))) h is = grind (arith, common_steps)
 
 above-found : (g : Geometry) (p q : Path) → IsPath g p → is_prefix q p ≡ true
     → (q ≡ p) ⊎ (list_any (λ n. n == preorder_number g q) (numbers_above g p) ≡ true)
 above-found g p q h first = found_at g p q (length q) h (is_prefix-is q p first)
 
 at_begins : (g : Geometry) (p q : Path) (k : ℕ) → IsPath g (take k p) → IsPath g q → (preorder_number g (take k p) == preorder_number g q) ≡ true → is_prefix q p ≡ true
-at_begins g p q k there h same =
-    subst (λ (r : Path). is_prefix r p ≡ true) (same_path g (take k p) q there h (eqb-true _ _ same)) (is_prefix-take k p)
+at_begins g p q k there h same = grind (arith, common_steps, same_path, eqb-true, is_prefix-take)
 
 above-is_prefix : (g : Geometry) (p q : Path) → IsPath g p → IsPath g q → list_any (λ n. n == preorder_number g q) (numbers_above g p) ≡ true → is_prefix q p ≡ true
 above-is_prefix g p q h k found = elim (or_cases _ _ found) [
@@ -120,18 +114,7 @@ same_truth false false f g = refl
 -- ---- what is related
 
 pub are_above : (g : Geometry) (p : Path) (a : Interval) → IsAffinityOf g p a → AreAbove g a (numbers_above g p)
-are_above g p a h b k =
-    let q = k.0 in
-    let below : contains a b.number ≡ is_prefix p q = rw (h.interval, k.1.interval) (sym (is_prefix-contains g p q h.path k.1.path)) in
-    let above : contains b a.number ≡ is_prefix q p = rw (h.interval, k.1.interval) (sym (is_prefix-contains g q p k.1.path h.path)) in
-    let is : b.number ≡ preorder_number g q = ap (λ (i : Interval). i.number) k.1.interval in
-    elim (cases_Bool (contains a b.number)) [
-      | inl in_ ↦ rw in_ refl
-      | inr out ↦ rw (out, above, is) (same_truth _ _ (λ first. elim (above-found g p q h.path first) [
-        | inl same ↦ absurd (true≢false (sym (below ∙ ap (λ (r : Path). is_prefix p r) same ∙ is_prefix-refl p) ∙ out))
-        | inr found ↦ found
-      ]) (λ found. above-is_prefix g p q h.path k.1.path found))
-    ]
+are_above g p a h b k = grind (arith, common_steps, is_prefix-contains, same_truth, above-found, is_prefix-refl, above-is_prefix)
 
 pub contains-own : (g : Geometry) (a : Interval) → IsAffinity g a → contains a a.number ≡ true
 contains-own g a h = rw h.1.interval (sym (is_prefix-contains g h.0 h.0 h.1.path h.1.path) ∙ is_prefix-refl h.0)

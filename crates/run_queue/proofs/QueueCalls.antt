@@ -1,11 +1,10 @@
 -- What each call does to those that wait and those that are held.
-use Rattle.std.proofs.Common.{◌≡◌, ◌∙◌, ℕ, ◌+◌, ◌*◌, ◌<◌, ◌≤◌, Bool, true, false, not, ◌&&◌, List, [], ◌∷◌, ◌++◌, find, Option, Some, None, refl, ap, sym, subst, inl, inr, arith, length}
+use Rattle.std.proofs.lemmas.Grind.{common_steps}
+use Rattle.std.proofs.Common.{◌≡◌, ◌∙◌, ℕ, ◌<◌, ◌≤◌, Bool, true, false, not, ◌&&◌, List, [], ◌∷◌, ◌++◌, find, Option, Some, None, refl, ap, sym, subst, arith, length}
 use Rattle.std.specs.Prelude.{replicate}
 use Rattle.std.specs.List.{list_any, AllByRecursion}
-use Rattle.std.proofs.lemmas.Bool.{eq-eqb, eqb-true, cases_Bool, and_parts, and_from, true≢false, not-true}
-use Rattle.std.proofs.lemmas.Bool.Decides.{eqb_tells}
+use Rattle.std.proofs.lemmas.Bool.{eq-eqb, eqb-true, and_parts, and_from, true≢false, not-true}
 use Rattle.std.proofs.lemmas.List.{length-replicate}
-use Rattle.std.proofs.lemmas.Nat.{mul-le}
 use Rattle.affinity.specs.Interval.{IsAffinity, affinity_count}
 use Rattle.affinity.specs.declared.geometry.Geometry.{Geometry}
 use Rattle.run_queue.specs.RunQueue.{IsNext, are_related_intervals, is_free_of, has_room, has_slot, has_number, holds_at, without_slot, without_number, next_queued, CameBefore}
@@ -18,7 +17,7 @@ use Rattle.run_queue.specs.declared.queued_message.QueuedMessage.{QueuedMessage}
 use Rattle.run_queue.proofs.ByTicket.{next_is_first}
 use Rattle.run_queue.proofs.SlotCounts.{limit-most, count_in_slot-append, count_in_slot-cons_is, count_in_slot-cons_other, in_slots-arrived, room-arrived, in_slots-gone, in_slots-freed}
 use Rattle.run_queue.proofs.Sorting.{all-filter, all-last, ascend-filter, ascend-last}
-use Rattle.run_queue.proofs.Clearing.{find-cons, find-skip, find-all, find-passes, any-found}
+use Rattle.run_queue.proofs.Clearing.{find-all, find-passes, any-found}
 use Rattle.run_queue.proofs.Earliest.{own_overlap, clear-first}
 use Rattle.run_queue.proofs.Passing.{next_waits}
 use Rattle.run_queue.proofs.Ready.{none-ready, right-arrived, right-gone, right-freed}
@@ -27,10 +26,7 @@ use Rattle.run_queue.proofs.Ready.{none-ready, right-arrived, right-gone, right-
 
 -- a geometry has at most 357 affinities (`MOST_AFFINITIES`), so 357 queues serve any geometry
 all_below : (g : Geometry) → affinity_count g ≤ 357
-all_below g =
-    let volumes : g.volumes * (3 + g.stripes) ≤ 8 * 11 = mul-le g.volumes (3 + g.stripes) 8 11 g.volumes_range.1 (let most = g.stripes_range.1 in omega (arith, most)) in
-    let aggregates : g.aggregates * (1 + g.volumes * (3 + g.stripes)) ≤ 4 * 89 = mul-le g.aggregates (1 + g.volumes * (3 + g.stripes)) 4 89 g.aggregates_range.1 (omega (arith, volumes)) in
-    omega (arith, aggregates)
+all_below g = grind (arith, common_steps)
 
 pub kept-start : (g : Geometry) (slots numbers : ℕ) → 357 ≤ numbers
     → QueueInvariant g slots (record { numbers = numbers; capacity = slots; messages = [] }) (record { numbers = numbers; messages = [] }) (replicate numbers None)
@@ -175,24 +171,7 @@ all-between P [] high t all here = (here, all)
 all-between P (d ∷ low) high t all here = (all.0, all-between P low high t all.1 here)
 
 count_in_slot-between : (s : ℕ) (low high : List QueuedMessage) (t : QueuedMessage) → count_in_slot s (low ++ t ∷ high) ≡ count_in_slot s ((low ++ high) ++ t ∷ [])
-count_in_slot-between s low high t = elim (eqb_tells t.slot s) [
-  | inl e ↦ omega (
-    arith,
-    count_in_slot-append s low (t ∷ high),
-    count_in_slot-append s (low ++ high) (t ∷ []),
-    count_in_slot-append s low high,
-    count_in_slot-cons_is s t high e.1,
-    count_in_slot-cons_is s t [] e.1,
-  )
-  | inr n ↦ omega (
-    arith,
-    count_in_slot-append s low (t ∷ high),
-    count_in_slot-append s (low ++ high) (t ∷ []),
-    count_in_slot-append s low high,
-    count_in_slot-cons_other s t high n.1,
-    count_in_slot-cons_other s t [] n.1,
-  )
-]
+count_in_slot-between s low high t = grind (arith, common_steps, count_in_slot-append, count_in_slot-cons_is, count_in_slot-cons_other)
 
 pub messages-gone : {g : Geometry} {slots : ℕ} {w : Waiting} {h k : HeldMessages} (t : QueuedMessage) → AreQueued g slots w h → IsAffinity g t.affinity
     → list_any (has_slot t.slot) w.messages ≡ true → k ≡ record h { messages = k.messages } → HasInserted t h.messages k.messages
@@ -251,11 +230,7 @@ module _ (g : Geometry) (slots : ℕ) (w v : Waiting) (h k : HeldMessages) (t : 
 
 pub none-holds : (p : QueuedMessage → Bool) (ts : List QueuedMessage) → find p ts ≡ None → list_any p ts ≡ false
 none-holds p [] none = refl
-none-holds p (t ∷ ts) none = elim (cases_Bool (p t)) [
-  | inl k ↦ absurd (let is = sym (find-cons p t ts k) ∙ none in cc)
-  | inr k ↦ rw k (none-holds p ts (sym (find-skip p t ts k) ∙ none))
-]
+none-holds p (t ∷ ts) none = grind (arith, common_steps, none-holds p ts)
 
 pub one-holds : (n : ℕ) (ts : List QueuedMessage) (t : QueuedMessage) → find (has_number n) ts ≡ Some t → list_any (holds_at n t.slot) ts ≡ true
-one-holds n ts t found =
-    any-found (has_number n) (holds_at n t.slot) ts t found (and_from _ _ (eq-eqb t.slot t.slot refl) (find-passes (has_number n) ts t found))
+one-holds n ts t found = grind (arith, common_steps, any-found, and_from, eq-eqb, find-passes)

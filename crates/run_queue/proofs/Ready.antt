@@ -1,16 +1,13 @@
 -- Which ready entries stay right, and what they show of the messages that may be dispatched.
+use Rattle.std.proofs.lemmas.Grind.{common_steps}
 use Rattle.std.proofs.Common.{◌≡◌, ◌≢◌, ◌∙◌, ℕ, zero, suc, ◌+◌, ◌<◌, ◌≤◌, Bool, true, false, not, ◌&&◌, ◌||◌, List, [], ◌∷◌, ◌++◌, find, take, Option, Some, None, refl, ap, sym, subst, inl, inr, arith, length, slice_index_or}
 use Rattle.std.specs.Prelude.{nat_lt, if◌then◌else◌, replicate}
 use Rattle.std.specs.List.{list_any, AllByRecursion}
-use Rattle.std.proofs.lemmas.Bool.{ne_eqb, eqb-true, ltb-true, lt-ltb, cases_Bool, cases_eq, and_from, or_left, true≢false, false_from_ne_true, and_right}
-use Rattle.std.proofs.lemmas.Bool.Decides.{eqb_tells, leb_tells}
-use Rattle.std.proofs.lemmas.List.Folds.{list_any-append}
+use Rattle.std.proofs.lemmas.Bool.{ne_eqb, eqb-true, lt-ltb, cases_Bool, cases_eq, and_from, or_left, and_right}
 use Rattle.std.proofs.lemmas.Option.{none-some}
-use Rattle.std.proofs.Math.Bool.{or-false, or_assoc, or_comm}
-use Rattle.affinity.specs.Path.{Path}
-use Rattle.affinity.specs.Interval.{Interval, IsAffinity, contains, interval, affinity_count}
+use Rattle.std.proofs.Math.Bool.{or-false, or_comm}
+use Rattle.affinity.specs.Interval.{Interval, IsAffinity, contains, affinity_count}
 use Rattle.affinity.specs.declared.geometry.Geometry.{Geometry}
-use Rattle.affinity.proofs.Elements.{any_moved}
 use Rattle.run_queue.specs.RunQueue.{are_related_intervals, is_free_of, has_room, has_slot, has_number, without_slot, without_number, CameBefore}
 use Rattle.run_queue.specs.Slots.{count_in_slot}
 use Rattle.run_queue.specs.Order.{Ascend, waits_for, is_conflict_free}
@@ -45,12 +42,7 @@ room-at g room held waiting placed ascends n = by (find (has_number n) waiting) 
 pub ready-same : (held waiting held' waiting' : List QueuedMessage) (n : ℕ) → find (has_number n) waiting' ≡ find (has_number n) waiting
     → ((f : QueuedMessage) → find (has_number n) waiting ≡ Some f → is_conflict_free held' waiting' f ≡ is_conflict_free held waiting f)
     → ready_at held' waiting' n ≡ ready_at held waiting n
-ready-same held waiting held' waiting' n same clear =
-    ap (λ (o : Option QueuedMessage). if_passes (is_conflict_free held' waiting') o) same ∙ by (find (has_number n) waiting) refl
-  where
-    by : (o : Option QueuedMessage) → find (has_number n) waiting ≡ o → if_passes (is_conflict_free held' waiting') o ≡ if_passes (is_conflict_free held waiting) o
-    by None is = refl
-    by (Some f) is = ap (λ b. if b then Some f else None) (clear f is)
+ready-same held waiting held' waiting' n same clear = grind (arith, common_steps)
 
 -- ---- one ready entry
 
@@ -73,9 +65,7 @@ none-at g (d ∷ waiting) n placed past =
 
 pub update_ready-past : (g : Geometry) (held waiting : List QueuedMessage) (ready_table : List (Option QueuedMessage)) (n : ℕ) → AllByRecursion (λ d. IsAffinity g d.affinity) waiting
     → affinity_count g ≤ length ready_table → length ready_table ≤ n → IsEntryRight held waiting ready_table n
-update_ready-past g held waiting ready_table n placed all past =
-    past-ready_table ready_table n past
-    ∙ ap (λ (o : Option QueuedMessage). if_passes (is_conflict_free held waiting) o) (sym (none-at g waiting n placed (omega (arith, all, past))))
+update_ready-past g held waiting ready_table n placed all past = grind (arith, common_steps, past-ready_table, none-at)
 
 pub stay-trans : (held waiting : List QueuedMessage) (a b c : List (Option QueuedMessage)) → StayRight held waiting a b → StayRight held waiting b c → StayRight held waiting a c
 stay-trans held waiting a b c first second = (second.0 ∙ first.0, λ n right. second.1 n (first.1 n right))
@@ -84,27 +74,15 @@ stay-trans held waiting a b c first second = (second.0 ∙ first.0, λ n right. 
 
 find-last_other : (p : QueuedMessage → Bool) (ts : List QueuedMessage) (t : QueuedMessage) → p t ≡ false → find p (ts ++ t ∷ []) ≡ find p ts
 find-last_other p [] t other = find-skip p t [] other
-find-last_other p (d ∷ ts) t other = elim (cases_Bool (p d)) [
-  | inl k ↦ find-cons p d (ts ++ t ∷ []) k ∙ sym (find-cons p d ts k)
-  | inr k ↦ find-skip p d (ts ++ t ∷ []) k ∙ find-last_other p ts t other ∙ sym (find-skip p d ts k)
-]
+find-last_other p (d ∷ ts) t other = grind (arith, common_steps, find-last_other p ts t other)
 
 find-last_found : (p : QueuedMessage → Bool) (ts : List QueuedMessage) (t f : QueuedMessage) → find p ts ≡ Some f → find p (ts ++ t ∷ []) ≡ find p ts
 find-last_found p [] t f found = absurd (none-some f found)
-find-last_found p (d ∷ ts) t f found = elim (cases_Bool (p d)) [
-  | inl k ↦ find-cons p d (ts ++ t ∷ []) k ∙ sym (find-cons p d ts k)
-  | inr k ↦ find-skip p d (ts ++ t ∷ []) k ∙ find-last_found p ts t f (sym (find-skip p d ts k) ∙ found) ∙ sym (find-skip p d ts k)
-]
+find-last_found p (d ∷ ts) t f found = grind (arith, common_steps, find-last_found p ts t f)
 
 -- a message t that arrives later than f doesn't keep f back
 later-clear : (held waiting : List QueuedMessage) (t f : QueuedMessage) → f.ticket < t.ticket → is_conflict_free held (waiting ++ t ∷ []) f ≡ is_conflict_free held waiting f
-later-clear held waiting t f less =
-    let not_first : waits_for f t ≡ false = ap (λ b. b && are_related_intervals f.affinity t.affinity)
-    (false_from_ne_true (nat_lt t.ticket f.ticket) (λ h. let under = ltb-true t.ticket f.ticket h in omega (arith, under, less))) in
-    ap (λ b. is_free_of held f && not b)
-    (list_any-append (waits_for f) waiting (t ∷ [])
-    ∙ ap (λ b. list_any (waits_for f) waiting || (b || false)) not_first
-    ∙ or-false (list_any (waits_for f) waiting))
+later-clear held waiting t f less = grind (arith, common_steps)
 
 module _ (held waiting : List QueuedMessage) (t : QueuedMessage) (later : CameBefore t.ticket waiting) where
   pub ready-arrived : (n : ℕ) → (find (has_number n) waiting ≡ None → t.affinity.number ≢ n) → ready_at held (waiting ++ t ∷ []) n ≡ ready_at held waiting n
@@ -134,8 +112,7 @@ module _ (held waiting : List QueuedMessage) (t : QueuedMessage) (later : CameBe
 any-suc : (p : ℕ → Bool) (xs : List ℕ) (i : ℕ) → i < length xs → list_any p (take (suc i) xs) ≡ (list_any p (take i xs) || p (slice_index_or xs i 0))
 any-suc p [] i below = absurd (omega arith)
 any-suc p (x ∷ xs) zero below = or-false (p x)
-any-suc p (x ∷ xs) (suc i) below =
-    ap (λ b. p x || b) (any-suc p xs i (omega arith)) ∙ sym (or_assoc (p x) (list_any p (take i xs)) (p (slice_index_or xs i 0)))
+any-suc p (x ∷ xs) (suc i) below = grind (arith, common_steps, any-suc p xs i)
 
 pub any-more : (p : ℕ → Bool) (xs : List ℕ) (i : ℕ) → i < length xs → list_any p (take (i + 1) xs) ≡ (list_any p (take i xs) || p (slice_index_or xs i 0))
 any-more p xs i below = let next : i + 1 ≡ suc i = omega arith in ap (λ j. list_any p (take j xs)) next ∙ any-suc p xs i below
@@ -151,59 +128,30 @@ take-past (suc k) (x ∷ xs) h = ap (λ (r : List ℕ). x ∷ r) (take-past k xs
 -- no other message has t's slot
 none-alone : (t : QueuedMessage) (ts : List QueuedMessage) → count_in_slot t.slot ts ≡ 0 → AllByRecursion (λ u. has_slot t.slot u ≡ true → u ≡ t) ts
 none-alone t [] none = tt
-none-alone t (d ∷ ts) none = elim (eqb_tells d.slot t.slot) [
-  | inl e ↦ absurd (omega (arith, none, count_in_slot-cons_is t.slot d ts e.1))
-  | inr n ↦ (λ k. absurd (true≢false (sym k ∙ n.0)), none-alone t ts (omega (arith, none, count_in_slot-cons_other t.slot d ts n.1)))
-]
+none-alone t (d ∷ ts) none = grind (arith, common_steps, none-alone t ts)
 
 there-found : (p : QueuedMessage → Bool) (ts : List QueuedMessage) (t : QueuedMessage) → find p ts ≡ Some t → 1 ≤ count_in_slot t.slot ts
 there-found p [] t found = absurd (none-some t found)
-there-found p (d ∷ ts) t found = elim (cases_Bool (p d)) [
-  | inl k ↦ (let is = sym (find-cons p d ts k) ∙ found in let same : d ≡ t = cc in
-      omega (arith, count_in_slot-cons_is t.slot d ts (ap (λ (u : QueuedMessage). u.slot) same)))
-  | inr k ↦ (let rest = there-found p ts t (sym (find-skip p d ts k) ∙ found) in elim (eqb_tells d.slot t.slot) [
-    | inl e ↦ omega (arith, rest, count_in_slot-cons_is t.slot d ts e.1)
-    | inr n ↦ omega (arith, rest, count_in_slot-cons_other t.slot d ts n.1)
-  ])
-]
+there-found p (d ∷ ts) t found = grind (arith, common_steps, there-found p ts t)
 
 alone : (p : QueuedMessage → Bool) (ts : List QueuedMessage) (t : QueuedMessage) → find p ts ≡ Some t → count_in_slot t.slot ts ≤ 1
     → AllByRecursion (λ u. has_slot t.slot u ≡ true → u ≡ t) ts
 alone p [] t found once = tt
-alone p (d ∷ ts) t found once = elim (cases_Bool (p d)) [
-  | inl k ↦ (let is = sym (find-cons p d ts k) ∙ found in let same : d ≡ t = cc in
-      let none : count_in_slot t.slot ts ≡ 0 = omega (arith, once, count_in_slot-cons_is t.slot d ts (ap (λ (u : QueuedMessage). u.slot) same)) in
-      (λ _. same, none-alone t ts none))
-  | inr k ↦ (let later = sym (find-skip p d ts k) ∙ found in let rest = there-found p ts t later in elim (eqb_tells d.slot t.slot) [
-    | inl e ↦ absurd (omega (arith, once, rest, count_in_slot-cons_is t.slot d ts e.1))
-    | inr n ↦ (λ h. absurd (true≢false (sym h ∙ n.0)), alone p ts t later (omega (arith, once, count_in_slot-cons_other t.slot d ts n.1)))
-  ])
-]
+alone p (d ∷ ts) t found once =
+    grind (arith, common_steps, alone p ts t, find-cons, count_in_slot-cons_is, none-alone, find-skip, there-found, count_in_slot-cons_other)
 
 find-without : (p : QueuedMessage → Bool) (ts : List QueuedMessage) (t : QueuedMessage) → AllByRecursion (λ u. has_slot t.slot u ≡ true → u ≡ t) ts → p t ≡ false
     → find p (without_slot t.slot ts) ≡ find p ts
 find-without p [] t all other = refl
-find-without p (d ∷ ts) t all other = elim (cases_Bool (has_slot t.slot d)) [
-  | inl k ↦ rw k (find-without p ts t all.1 other ∙ sym (find-skip p d ts (ap p (all.0 k) ∙ other)))
-  | inr k ↦ rw k (elim (cases_Bool (p d)) [
-    | inl is ↦ find-cons p d (without_slot t.slot ts) is ∙ sym (find-cons p d ts is)
-    | inr not_it ↦ find-skip p d (without_slot t.slot ts) not_it ∙ find-without p ts t all.1 other ∙ sym (find-skip p d ts not_it)
-  ])
-]
+find-without p (d ∷ ts) t all other = grind (arith, common_steps, find-without p ts t all.1 other)
 
 any-without : (q : QueuedMessage → Bool) (ts : List QueuedMessage) (t : QueuedMessage) → AllByRecursion (λ u. has_slot t.slot u ≡ true → u ≡ t) ts → q t ≡ false
     → list_any q (without_slot t.slot ts) ≡ list_any q ts
 any-without q [] t all other = refl
-any-without q (d ∷ ts) t all other = elim (cases_Bool (has_slot t.slot d)) [
-  | inl k ↦ rw k (any-without q ts t all.1 other ∙ ap (λ b. b || list_any q ts) (sym (ap q (all.0 k) ∙ other)))
-  | inr k ↦ rw k (ap (λ b. q d || b) (any-without q ts t all.1 other))
-]
+any-without q (d ∷ ts) t all other = grind (arith, common_steps, any-without q ts t all.1 other)
 
 any-between : (q : QueuedMessage → Bool) (t : QueuedMessage) (before after : List QueuedMessage) → HasInserted t before after → list_any q after ≡ (q t || list_any q before)
-any-between q t before after h =
-    ap (λ (ts : List QueuedMessage). list_any q ts) h.3
-    ∙ any_moved q h.0 t h.1
-    ∙ ap (λ (ts : List QueuedMessage). list_any q (t ∷ ts)) (sym h.2)
+any-between q t before after h = grind (arith, common_steps)
 
 -- those that wait have distinct tickets
 same-ticket : (p q : QueuedMessage → Bool) (ts : List QueuedMessage) {a b : QueuedMessage} → Ascend ts → find p ts ≡ Some a → find q ts ≡ Some b
@@ -240,17 +188,7 @@ module _ (held held' waiting : List QueuedMessage) (t : QueuedMessage) (joined :
   -- a message f at a related affinity was kept back by t before t was dispatched
   kept_before : (n : ℕ) (f : QueuedMessage) → find (has_number n) waiting ≡ Some f → t.affinity.number ≢ n → are_related_intervals f.affinity t.affinity ≡ true
       → is_conflict_free held waiting f ≡ false
-  kept_before n f found other near = elim (leb_tells (suc t.ticket) f.ticket) [
-    | inl e ↦ not_first held waiting f (any-found (has_number t.affinity.number) (waits_for f) waiting t first
-        (and_from (nat_lt t.ticket f.ticket) _ (lt-ltb t.ticket f.ticket e.1) near))
-    | inr e ↦ elim (leb_tells (suc f.ticket) t.ticket) [
-      | inl k ↦ absurd (true≢false (sym clear ∙ not_first held waiting t (any-found (has_number n) (waits_for t) waiting f found
-          (and_from (nat_lt f.ticket t.ticket) _ (lt-ltb f.ticket t.ticket k.1) (overlap-both t.affinity f.affinity ∙ near)))))
-      | inr k ↦ absurd (let late = e.1 in let early = k.1 in
-          let same = same-ticket (has_number n) (has_number t.affinity.number) waiting ascends found first (omega (arith, late, early)) in
-          other (ap (λ (u : QueuedMessage). u.affinity.number) (sym same) ∙ eqb-true f.affinity.number n (find-passes (has_number n) waiting f found)))
-    ]
-  ]
+  kept_before n f found other near = grind (arith, common_steps, not_first, any-found, and_from, lt-ltb, overlap-both, same-ticket, eqb-true, find-passes)
 
   gone-clear : (n : ℕ) (f : QueuedMessage) → find (has_number n) waiting ≡ Some f → t.affinity.number ≢ n
       → is_conflict_free held' (without_slot t.slot waiting) f ≡ is_conflict_free held waiting f
@@ -283,12 +221,7 @@ module _ (held held' waiting : List QueuedMessage) (t : QueuedMessage) (joined :
 
 -- two affinities with the same number are the same
 pub same_affinity : (g : Geometry) (a b : Interval) → IsAffinity g a → IsAffinity g b → a.number ≡ b.number → a ≡ b
-same_affinity g a b h k same =
-    let number_a = ap (λ (i : Interval). i.number) h.1.interval in
-    let number_b = ap (λ (i : Interval). i.number) k.1.interval in
-    h.1.interval
-    ∙ ap (λ (p : Path). interval g p) (same_path g h.0 k.0 h.1.path k.1.path (sym number_a ∙ same ∙ number_b))
-    ∙ sym k.1.interval
+same_affinity g a b h k same = grind (arith, common_steps, same_path)
 
 module _ (g : Geometry) (t : QueuedMessage) (placed : IsAffinity g t.affinity) where
   any-freed : (u : QueuedMessage) (ds : List QueuedMessage) → AllByRecursion (λ d. IsAffinity g d.affinity) ds → are_related_intervals t.affinity u.affinity ≡ false

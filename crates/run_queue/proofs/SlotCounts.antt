@@ -1,9 +1,10 @@
 -- How often slots occur in lists, and how long lists are.
-use Rattle.std.proofs.Common.{◌≡◌, ◌≢◌, ◌∙◌, ℕ, zero, suc, ◌+◌, ◌<◌, ◌≤◌, Bool, true, false, ◌||◌, List, [], ◌∷◌, ◌++◌, filter, refl, ap, sym, subst, inl, inr, arith, length}
+use Rattle.std.proofs.lemmas.Grind.{common_steps}
+use Rattle.std.proofs.Common.{◌≡◌, ◌≢◌, ℕ, zero, suc, ◌+◌, ◌<◌, ◌≤◌, Bool, true, false, List, [], ◌∷◌, ◌++◌, filter, refl, sym, subst, inl, inr, arith, length}
 use Rattle.std.specs.Prelude.{if◌then◌else◌, nat_lt}
 use Rattle.std.specs.List.{list_any}
-use Rattle.std.proofs.lemmas.Bool.{eq-eqb, ne_eqb, lt-ltb, cases_eq, cases_Bool, or_parts, true≢false}
-use Rattle.std.proofs.lemmas.Bool.Decides.{eqb_tells, leb_tells}
+use Rattle.std.proofs.lemmas.Bool.{eq-eqb, ne_eqb, lt-ltb, cases_eq, or_parts, true≢false}
+use Rattle.std.proofs.lemmas.Bool.Decides.{leb_tells}
 use Rattle.std.proofs.lemmas.List.{length-append}
 use Rattle.run_queue.specs.RunQueue.{has_slot, without_slot}
 use Rattle.run_queue.specs.Slots.{count_in_slot, AreInSlots}
@@ -19,37 +20,19 @@ count_in_slot-cons_other s t ts other = rw (ne_eqb t.slot s other) refl
 
 pub count_in_slot-append : (s : ℕ) (ts us : List QueuedMessage) → count_in_slot s (ts ++ us) ≡ count_in_slot s ts + count_in_slot s us
 count_in_slot-append s [] us = omega arith
-count_in_slot-append s (t ∷ ts) us = elim (eqb_tells t.slot s) [
-  | inl e ↦ rw e.0 (omega (arith, count_in_slot-append s ts us))
-  | inr n ↦ rw n.0 (omega (arith, count_in_slot-append s ts us))
-]
+count_in_slot-append s (t ∷ ts) us = grind (arith, common_steps, count_in_slot-append s ts us)
 
 pub count_in_slot-without_same : (s : ℕ) (ts : List QueuedMessage) → count_in_slot s (without_slot s ts) ≡ 0
 count_in_slot-without_same s [] = refl
-count_in_slot-without_same s (t ∷ ts) = elim (eqb_tells t.slot s) [
-  | inl e ↦ rw e.0 (count_in_slot-without_same s ts)
-  | inr n ↦ rw n.0 (count_in_slot-cons_other s t (without_slot s ts) n.1 ∙ count_in_slot-without_same s ts)
-]
+count_in_slot-without_same s (t ∷ ts) = grind (arith, common_steps, count_in_slot-without_same s ts)
 
 pub count_in_slot-without_other : (s r : ℕ) (ts : List QueuedMessage) → s ≢ r → count_in_slot s (without_slot r ts) ≡ count_in_slot s ts
 count_in_slot-without_other s r [] other = refl
-count_in_slot-without_other s r (t ∷ ts) other = elim (eqb_tells t.slot r) [
-  | inl e ↦ rw e.0 (count_in_slot-without_other s r ts other ∙ sym (count_in_slot-cons_other s t ts (λ same. other (sym same ∙ e.1))))
-  | inr n ↦ rw (n.0, count_in_slot-without_other s r ts other) refl
-]
+count_in_slot-without_other s r (t ∷ ts) other = grind (arith, common_steps, count_in_slot-without_other s r ts other)
 
 pub count_in_slot-filter : (p : QueuedMessage → Bool) (s : ℕ) (ts : List QueuedMessage) → count_in_slot s (filter p ts) ≤ count_in_slot s ts
 count_in_slot-filter p s [] = omega arith
-count_in_slot-filter p s (t ∷ ts) = elim (cases_eq t.slot s) [
-  | inl e ↦ elim (cases_Bool (p t)) [
-    | inl k ↦ rw k (omega (arith, count_in_slot-filter p s ts, count_in_slot-cons_is s t ts e, count_in_slot-cons_is s t (filter p ts) e))
-    | inr k ↦ rw k (omega (arith, count_in_slot-filter p s ts, count_in_slot-cons_is s t ts e))
-  ]
-  | inr n ↦ elim (cases_Bool (p t)) [
-    | inl k ↦ rw k (omega (arith, count_in_slot-filter p s ts, count_in_slot-cons_other s t ts n, count_in_slot-cons_other s t (filter p ts) n))
-    | inr k ↦ rw k (omega (arith, count_in_slot-filter p s ts, count_in_slot-cons_other s t ts n))
-  ]
-]
+count_in_slot-filter p s (t ∷ ts) = grind (arith, common_steps, count_in_slot-filter p s ts)
 
 pub count_in_slot-absent : (s : ℕ) (ts : List QueuedMessage) → list_any (has_slot s) ts ≡ false → count_in_slot s ts ≡ 0
 count_in_slot-absent s [] none = refl
@@ -57,35 +40,23 @@ count_in_slot-absent s (t ∷ ts) none = let k = or_parts (has_slot s t) (list_a
 
 pub count_in_slot-there : (s : ℕ) (ts : List QueuedMessage) → list_any (has_slot s) ts ≡ true → 1 ≤ count_in_slot s ts
 count_in_slot-there s [] some = absurd (true≢false (sym some))
-count_in_slot-there s (t ∷ ts) some = elim (eqb_tells t.slot s) [
-  | inl e ↦ rw e.0 (omega arith)
-  | inr n ↦ rw n.0 (count_in_slot-there s ts (ap (λ b. b || list_any (has_slot s) ts) (sym n.0) ∙ some))
-]
+count_in_slot-there s (t ∷ ts) some = grind (arith, common_steps, count_in_slot-there s ts)
 
 -- ---- how long lists are
 
 length-without : (s : ℕ) (ts : List QueuedMessage) → length ts ≡ length (without_slot s ts) + count_in_slot s ts
 length-without s [] = refl
-length-without s (t ∷ ts) = elim (eqb_tells t.slot s) [
-  | inl e ↦ rw e.0 (omega (arith, length-without s ts))
-  | inr n ↦ rw n.0 (omega (arith, length-without s ts))
-]
+length-without s (t ∷ ts) = grind (arith, common_steps, length-without s ts)
 
 -- how often a slot may occur
 limit-in : (s n : ℕ) → s < n → if◌then◌else◌ {A = ℕ} (nat_lt s n) 1 0 ≡ 1
 limit-in s n h = rw (lt-ltb s n h) refl
 
 limit-out : (s n : ℕ) → n ≤ s → if◌then◌else◌ {A = ℕ} (nat_lt s n) 1 0 ≡ 0
-limit-out s n h = elim (leb_tells (suc s) n) [
-  | inl e ↦ absurd (omega (arith, e.1, h))
-  | inr e ↦ rw e.0 refl
-]
+limit-out s n h = grind (arith, common_steps)
 
 pub limit-most : (s n : ℕ) → if◌then◌else◌ {A = ℕ} (nat_lt s n) 1 0 ≤ 1
-limit-most s n = elim (leb_tells (suc s) n) [
-  | inl e ↦ rw e.0 (omega arith)
-  | inr e ↦ rw e.0 (omega arith)
-]
+limit-most s n = grind (arith, common_steps)
 
 -- messages in slots below n, no two of them in the same slot, are at most n
 few : (n : ℕ) (ts : List QueuedMessage) → ((s : ℕ) → count_in_slot s ts ≤ (if nat_lt s n then 1 else 0)) → length ts ≤ n
@@ -118,16 +89,8 @@ fits n ws hs in_slots =
 
 pub in_slots-arrived : (n : ℕ) (ws hs : List QueuedMessage) (t : QueuedMessage) → AreInSlots n ws hs → t.slot < n
     → list_any (has_slot t.slot) (ws ++ hs) ≡ false → AreInSlots n (ws ++ t ∷ []) hs
-in_slots-arrived n ws hs t in_slots there new s = elim (cases_eq t.slot s) [
-  | inl e ↦ subst (λ k. count_in_slot k (ws ++ t ∷ []) + count_in_slot k hs ≤ (if nat_lt k n then 1 else 0)) e here
-  | inr k ↦ omega (arith, in_slots s, count_in_slot-append s ws (t ∷ []), count_in_slot-cons_other s t [] k)
-]
-  where
-    none : count_in_slot t.slot ws + count_in_slot t.slot hs ≡ 0
-    none = sym (count_in_slot-append t.slot ws hs) ∙ count_in_slot-absent t.slot (ws ++ hs) new
-
-    here : count_in_slot t.slot (ws ++ t ∷ []) + count_in_slot t.slot hs ≤ (if nat_lt t.slot n then 1 else 0)
-    here = omega (arith, none, count_in_slot-append t.slot ws (t ∷ []), count_in_slot-cons_is t.slot t [] refl, limit-in t.slot n there)
+in_slots-arrived n ws hs t in_slots there new s =
+    grind (arith, common_steps, count_in_slot-append, count_in_slot-cons_other, count_in_slot-absent, count_in_slot-cons_is, limit-in)
 
 -- so there is a slot for a message that arrives
 pub room-arrived : (n : ℕ) (ws hs : List QueuedMessage) (t : QueuedMessage) → AreInSlots n ws hs → t.slot < n
@@ -144,10 +107,7 @@ in_slots-gone n ws hs t in_slots waits s = elim (cases_eq t.slot s) [
 ]
   where
     here : count_in_slot t.slot (without_slot t.slot ws) + count_in_slot t.slot (hs ++ t ∷ []) ≤ (if nat_lt t.slot n then 1 else 0)
-    here =
-        let one = count_in_slot-append t.slot hs (t ∷ []) in
-        let last = count_in_slot-cons_is t.slot t [] refl in
-        omega (arith, in_slots t.slot, count_in_slot-there t.slot ws waits, count_in_slot-without_same t.slot ws, one, last)
+    here = grind (arith, common_steps, count_in_slot-append, count_in_slot-cons_is, count_in_slot-there, count_in_slot-without_same)
 
 pub in_slots-freed : (n : ℕ) (ws hs : List QueuedMessage) (p : QueuedMessage → Bool) → AreInSlots n ws hs → AreInSlots n ws (filter p hs)
 in_slots-freed n ws hs p in_slots s = omega (arith, in_slots s, count_in_slot-filter p s hs)

@@ -1,9 +1,10 @@
 -- Lists in the order of tickets.
+use Rattle.std.proofs.lemmas.Grind.{common_steps}
 use Rattle.std.proofs.Common.{◌≡◌, ◌∙◌, ℕ, zero, suc, ◌<◌, ◌≤◌, Bool, true, not, List, [], ◌∷◌, ◌++◌, filter, Option, Some, None, refl, ap, sym, inl, inr, arith, length, slice_index_or}
 use Rattle.std.specs.Prelude.{slice_set}
 use Rattle.std.specs.List.{AllByRecursion}
-use Rattle.std.proofs.lemmas.Bool.{eq-eqb, lt-ltb, cases_Bool}
-use Rattle.std.proofs.lemmas.Bool.Decides.{eqb_tells, leb_tells}
+use Rattle.std.proofs.lemmas.Bool.{eq-eqb, lt-ltb}
+use Rattle.std.proofs.lemmas.Bool.Decides.{eqb_tells}
 use Rattle.run_queue.specs.RunQueue.{has_slot, without_slot, CameBefore}
 use Rattle.run_queue.specs.Slots.{count_in_slot}
 use Rattle.run_queue.specs.Order.{Ascend}
@@ -15,31 +16,19 @@ use Rattle.run_queue.proofs.SlotCounts.{count_in_slot-cons_is, count_in_slot-con
 
 pub all-insert : (P : QueuedMessage → Type 0) (t : QueuedMessage) (ts : List QueuedMessage) → AllByRecursion P (insert t ts) → P t × AllByRecursion P ts
 all-insert P t [] h = (h.0, tt)
-all-insert P t (d ∷ ts) h = elim (leb_tells (suc t.ticket) d.ticket) [
-  | inl e ↦ (let k = rw e.0 at h in (k.0, k.1))
-  | inr n ↦ (let k = rw n.0 at h in let rest = all-insert P t ts k.1 in (rest.0, (k.0, rest.1)))
-]
+all-insert P t (d ∷ ts) h = grind (arith, common_steps, all-insert P t ts)
 
 ascend-insert : (t : QueuedMessage) (ts : List QueuedMessage) → Ascend (insert t ts) → Ascend ts
 ascend-insert t [] h = tt
-ascend-insert t (d ∷ ts) h = elim (leb_tells (suc t.ticket) d.ticket) [
-  | inl e ↦ (let k = rw e.0 at h in k.1)
-  | inr n ↦ (let k = rw n.0 at h in ((all-insert (λ u. d.ticket < u.ticket) t ts k.0).1, ascend-insert t ts k.1))
-]
+ascend-insert t (d ∷ ts) h = grind (arith, common_steps, ascend-insert t ts, all-insert)
 
 pub all-filter : (P : QueuedMessage → Type 0) (p : QueuedMessage → Bool) (ts : List QueuedMessage) → AllByRecursion P ts → AllByRecursion P (filter p ts)
 all-filter P p [] h = tt
-all-filter P p (t ∷ ts) h = elim (cases_Bool (p t)) [
-  | inl k ↦ rw k (h.0, all-filter P p ts h.1)
-  | inr k ↦ rw k (all-filter P p ts h.1)
-]
+all-filter P p (t ∷ ts) h = grind (arith, common_steps, all-filter P p ts h.1)
 
 pub ascend-filter : (p : QueuedMessage → Bool) (ts : List QueuedMessage) → Ascend ts → Ascend (filter p ts)
 ascend-filter p [] h = tt
-ascend-filter p (t ∷ ts) h = elim (cases_Bool (p t)) [
-  | inl k ↦ rw k (all-filter (λ d. t.ticket < d.ticket) p ts h.0, ascend-filter p ts h.1)
-  | inr k ↦ rw k (ascend-filter p ts h.1)
-]
+ascend-filter p (t ∷ ts) h = grind (arith, common_steps, ascend-filter p ts h.1, all-filter)
 
 pub all-last : (P : QueuedMessage → Type 0) (ts : List QueuedMessage) (t : QueuedMessage) → AllByRecursion P ts → P t → AllByRecursion P (ts ++ t ∷ [])
 all-last P [] t h k = (k, tt)
@@ -53,10 +42,7 @@ ascend-last (d ∷ ts) t h before = (all-last (λ u. d.ticket < u.ticket) ts t h
 
 length-insert : (t : QueuedMessage) (ts : List QueuedMessage) → length (insert t ts) ≡ suc (length ts)
 length-insert t [] = refl
-length-insert t (d ∷ ts) = elim (leb_tells (suc t.ticket) d.ticket) [
-  | inl e ↦ rw e.0 refl
-  | inr n ↦ rw n.0 (ap (λ k. suc k) (length-insert t ts))
-]
+length-insert t (d ∷ ts) = grind (arith, common_steps, length-insert t ts)
 
 length-by_ticket : (ts : List QueuedMessage) → length (by_ticket ts) ≡ length ts
 length-by_ticket [] = refl
@@ -75,32 +61,17 @@ length-all entries full = length-by_ticket (present entries) ∙ length-full ent
 
 count_in_slot-insert : (s : ℕ) (t : QueuedMessage) (ts : List QueuedMessage) → count_in_slot s (insert t ts) ≡ count_in_slot s (t ∷ ts)
 count_in_slot-insert s t [] = refl
-count_in_slot-insert s t (d ∷ ts) = elim (leb_tells (suc t.ticket) d.ticket) [
-  | inl e ↦ rw e.0 refl
-  | inr n ↦ rw n.0 (elim (eqb_tells d.slot s) [
-    | inl e ↦ rw e.0 (rw (count_in_slot-insert s t ts) (elim (eqb_tells t.slot s) [
-      | inl f ↦ rw f.0 refl
-      | inr f ↦ rw f.0 refl
-    ]))
-    | inr e ↦ rw e.0 (count_in_slot-insert s t ts)
-  ])
-]
+count_in_slot-insert s t (d ∷ ts) = grind (arith, common_steps, count_in_slot-insert s t ts)
 
 -- ---- one more message
 
 insert-last : (t : QueuedMessage) (ts : List QueuedMessage) → CameBefore t.ticket ts → insert t ts ≡ ts ++ t ∷ []
 insert-last t [] before = refl
-insert-last t (d ∷ ts) before = elim (leb_tells (suc t.ticket) d.ticket) [
-  | inl e ↦ absurd (omega (arith, e.1, before.0))
-  | inr n ↦ rw n.0 (ap (λ (us : List QueuedMessage). d ∷ us) (insert-last t ts before.1))
-]
+insert-last t (d ∷ ts) before = grind (arith, common_steps, insert-last t ts before.1)
 
 insert-before : (x t : QueuedMessage) (ts : List QueuedMessage) → x.ticket < t.ticket → insert x (ts ++ t ∷ []) ≡ insert x ts ++ t ∷ []
 insert-before x t [] less = rw (lt-ltb x.ticket t.ticket less) refl
-insert-before x t (d ∷ ts) less = elim (leb_tells (suc x.ticket) d.ticket) [
-  | inl e ↦ rw e.0 refl
-  | inr n ↦ rw n.0 (ap (λ (us : List QueuedMessage). d ∷ us) (insert-before x t ts less))
-]
+insert-before x t (d ∷ ts) less = grind (arith, common_steps, insert-before x t ts less)
 
 -- a message with the greatest ticket, put in an empty entry, is last in the order of tickets
 pub order-come : (entries : List (Option QueuedMessage)) (i : ℕ) (t : QueuedMessage) → i < length entries → slice_index_or entries i None ≡ None
@@ -110,30 +81,18 @@ order-come [] i t below empty before = absurd (omega arith)
 order-come (None ∷ entries) zero t below empty before = insert-last t (by_ticket (present entries)) before
 order-come (Some x ∷ entries) zero t below empty before = absurd (cc)
 order-come (None ∷ entries) (suc i) t below empty before = order-come entries i t (omega arith) empty before
-order-come (Some x ∷ entries) (suc i) t below empty before =
-    let parts = all-insert (λ d. d.ticket < t.ticket) x (by_ticket (present entries)) before in
-    ap (λ (us : List QueuedMessage). insert x us) (order-come entries i t (omega arith) empty parts.1)
-    ∙ insert-before x t (by_ticket (present entries)) parts.0
+order-come (Some x ∷ entries) (suc i) t below empty before = grind (arith, common_steps, order-come entries i t, all-insert, insert-before)
 
 -- ---- one message less
 
 pub without-absent : (s : ℕ) (ts : List QueuedMessage) → count_in_slot s ts ≡ 0 → without_slot s ts ≡ ts
 without-absent s [] none = refl
-without-absent s (t ∷ ts) none = elim (eqb_tells t.slot s) [
-  | inl e ↦ absurd (omega (arith, none, count_in_slot-cons_is s t ts e.1))
-  | inr n ↦ rw n.0 (ap (λ (us : List QueuedMessage). t ∷ us) (without-absent s ts (omega (arith, none, count_in_slot-cons_other s t ts n.1))))
-]
+without-absent s (t ∷ ts) none = grind (arith, common_steps, without-absent s ts)
 
 without-insert_same : (s : ℕ) (x : QueuedMessage) (ts : List QueuedMessage) → x.slot ≡ s → count_in_slot s ts ≡ 0 → without_slot s (insert x ts) ≡ ts
 without-insert_same s x [] same none = rw (eq-eqb x.slot s same) refl
-without-insert_same s x (d ∷ ts) same none = elim (eqb_tells d.slot s) [
-  | inl e ↦ absurd (omega (arith, none, count_in_slot-cons_is s d ts e.1))
-  | inr n ↦ elim (leb_tells (suc x.ticket) d.ticket) [
-    | inl e ↦ rw (e.0, eq-eqb x.slot s same) (without-absent s (d ∷ ts) none)
-    | inr m ↦ rw (m.0, n.0) (ap (λ (us : List QueuedMessage). d ∷ us)
-        (without-insert_same s x ts same (omega (arith, none, count_in_slot-cons_other s d ts n.1))))
-  ]
-]
+without-insert_same s x (d ∷ ts) same none =
+    grind (arith, common_steps, without-insert_same s x ts same, count_in_slot-cons_is, eq-eqb, without-absent, count_in_slot-cons_other)
 
 insert-first : (x : QueuedMessage) (ts : List QueuedMessage) → AllByRecursion (λ d. x.ticket < d.ticket) ts → insert x ts ≡ x ∷ ts
 insert-first x [] h = refl
@@ -147,31 +106,16 @@ all-above x d (u ∷ ts) less h = let first = h.0 in (omega (arith, first), all-
 filter-insert : (p : QueuedMessage → Bool) (x : QueuedMessage) (ts : List QueuedMessage) → Ascend ts → p x ≡ true
     → filter p (insert x ts) ≡ insert x (filter p ts)
 filter-insert p x [] ascends k = rw k refl
-filter-insert p x (d ∷ ts) ascends k = elim (leb_tells (suc x.ticket) d.ticket) [
-  | inl e ↦ (let above : AllByRecursion (λ u. x.ticket < u.ticket) (d ∷ ts) = (e.1, all-above x d ts e.1 ascends.0) in
-      rw (e.0, k) (sym (insert-first x (filter p (d ∷ ts)) (all-filter (λ u. x.ticket < u.ticket) p (d ∷ ts) above))))
-  | inr n ↦ elim (cases_Bool (p d)) [
-    | inl there ↦ rw (n.0, there) (rw n.0 (ap (λ (us : List QueuedMessage). d ∷ us) (filter-insert p x ts ascends.1 k)))
-    | inr gone ↦ rw (n.0, gone) (filter-insert p x ts ascends.1 k)
-  ]
-]
+filter-insert p x (d ∷ ts) ascends k = grind (arith, common_steps, filter-insert p x ts ascends.1 k, all-above, insert-first, all-filter)
 
 there-at : (entries : List (Option QueuedMessage)) (i : ℕ) (t : QueuedMessage) → slice_index_or entries i None ≡ Some t
     → 1 ≤ count_in_slot t.slot (by_ticket (present entries))
 there-at [] i t h = absurd (cc)
 there-at (None ∷ entries) zero t h = absurd (cc)
-there-at (Some x ∷ entries) zero t h =
-    let same : x ≡ t = cc in
-    let count = count_in_slot-insert t.slot x (by_ticket (present entries)) in
-    omega (arith, count, count_in_slot-cons_is t.slot x (by_ticket (present entries)) (ap (λ (u : QueuedMessage). u.slot) same))
+there-at (Some x ∷ entries) zero t h = grind (arith, common_steps, count_in_slot-insert, count_in_slot-cons_is)
 there-at (None ∷ entries) (suc i) t h = there-at entries i t h
 there-at (Some x ∷ entries) (suc i) t h =
-    let count = count_in_slot-insert t.slot x (by_ticket (present entries)) in
-    let rest = there-at entries i t h in
-    elim (eqb_tells x.slot t.slot) [
-      | inl e ↦ omega (arith, count, rest, count_in_slot-cons_is t.slot x (by_ticket (present entries)) e.1)
-      | inr n ↦ omega (arith, count, rest, count_in_slot-cons_other t.slot x (by_ticket (present entries)) n.1)
-    ]
+    grind (arith, common_steps, there-at entries i t h, count_in_slot-insert, count_in_slot-cons_is, count_in_slot-cons_other)
 
 -- a message whose entry is emptied is gone, and the others stay in order
 pub order-leave : (entries : List (Option QueuedMessage)) (i : ℕ) (t : QueuedMessage) → slice_index_or entries i None ≡ Some t
@@ -179,12 +123,7 @@ pub order-leave : (entries : List (Option QueuedMessage)) (i : ℕ) (t : QueuedM
     → by_ticket (present (slice_set entries i None)) ≡ without_slot t.slot (by_ticket (present entries))
 order-leave [] i t there once ascends = absurd (cc)
 order-leave (None ∷ entries) zero t there once ascends = absurd (cc)
-order-leave (Some x ∷ entries) zero t there once ascends =
-    let same : x ≡ t = cc in
-    let slot = ap (λ (u : QueuedMessage). u.slot) same in
-    let count = count_in_slot-insert t.slot x (by_ticket (present entries)) in
-    sym (without-insert_same t.slot x (by_ticket (present entries)) slot
-    (omega (arith, once, count, count_in_slot-cons_is t.slot x (by_ticket (present entries)) slot)))
+order-leave (Some x ∷ entries) zero t there once ascends = grind (arith, common_steps, count_in_slot-insert, without-insert_same, count_in_slot-cons_is)
 order-leave (None ∷ entries) (suc i) t there once ascends = order-leave entries i t there once ascends
 order-leave (Some x ∷ entries) (suc i) t there once ascends =
     let ws = by_ticket (present entries) in

@@ -1,6 +1,7 @@
 -- The ready entry of each number below the affinity is updated, and stays right.
+use Rattle.std.proofs.lemmas.Grind.{common_steps}
 use Rattle.std.proofs.Common.{◌∙◌, sym, subst, refl, inl, inr, arith}
-use Rattle.std.proofs.lemmas.Bool.{cases_eq, and_parts, leb-true, ltb-true}
+use Rattle.std.proofs.lemmas.Bool.{cases_eq}
 use Rattle.run_queue.specs.ReadyTable.{IsEntryRight}
 use Rattle.run_queue.proofs.Ready.{stay-trans}
 use Rattle.run_queue.proofs.update_ready.update_ready_below.Goals as goal
@@ -22,11 +23,7 @@ loop-n-preserved c = record {
 }
 
 pub returns-clause-right : goal.returns-clause-right
-returns-clause-right c = λ n inside.
-    let parts = and_parts _ _ inside in
-    let low = leb-true _ _ parts.0 in
-    let high = ltb-true _ _ parts.1 in
-    c.loop-n.invariant.done n low (omega arith)
+returns-clause-right c = grind (arith, common_steps)
 
 pub returns-clause-others : goal.returns-clause-others
 returns-clause-others c = c.loop-n.invariant.stay

@@ -1,5 +1,6 @@
 -- The entry of a number is emptied.
-use Rattle.std.proofs.Common.{refl, arith}
+use Rattle.std.proofs.lemmas.Grind.{common_steps}
+use Rattle.std.proofs.Common.{arith}
 use Rattle.run_queue.proofs.HeldMessages.{stand-free, free-view, free-past}
 use Rattle.run_queue.proofs.holders.Holders.free.Goals as goal
 
@@ -10,6 +11,4 @@ pub returns-then-number-len : goal.returns-then-number-len
 returns-then-number-len c = rw (← c.self.view_is) (free-view c.self.inside.entries.items c.args.number c.self.invariant)
 
 pub returns-else-number-len : goal.returns-else-number-len
-returns-else-number-len c =
-    let past = free-past c.self.inside.entries.items c.args.number c.self.invariant (omega arith) in
-    rw (← c.self.view_is) (rw past refl)
+returns-else-number-len c = grind (arith, common_steps, free-past)

@@ -1,4 +1,6 @@
 -- The entry of its affinity's number takes the message.
+use Rattle.std.proofs.Common.{arith}
+use Rattle.std.proofs.lemmas.Grind.{common_steps}
 use Rattle.std.proofs.Common.{◌≡◌, ◌∙◌, ◌<◌, sym, ap, subst, find, Some, None}
 use Rattle.std.specs.Prelude.{slice_set}
 use Rattle.run_queue.specs.RunQueue.{has_number}
@@ -7,12 +9,7 @@ use Rattle.run_queue.proofs.HeldMessages.{stand-hold, between-hold, found-at}
 use Rattle.run_queue.proofs.holders.Holders.hold.Goals as goal
 
 pub invariant_of-self : goal.invariant_of-self
-invariant_of-self c =
-    let entries = c.self.inside.entries.items in
-    let t = c.args.queued in
-    let number = c.from-number.ensures ∙ c.number.ensures in
-    let there = subst (λ (h : HeldMessages). t.affinity.number < h.numbers) (sym c.self.view_is) c.requires.number in
-    rw number (stand-hold entries t c.self.invariant there)
+invariant_of-self c = grind (arith, common_steps, stand-hold)
 
 pub returns-clause-messages : goal.returns-clause-messages
 returns-clause-messages c =

@@ -1,5 +1,6 @@
 -- No message is held at any number.
-use Rattle.std.proofs.Common.{◌≡◌, arith}
+use Rattle.std.proofs.lemmas.Grind.{common_steps}
+use Rattle.std.proofs.Common.{arith}
 use Rattle.run_queue.proofs.HeldMessages.{start-stand, start-view}
 use Rattle.run_queue.proofs.holders.Holders.new.Goals as goal
 
@@ -7,6 +8,4 @@ pub invariant_of-result : goal.invariant_of-result
 invariant_of-result c = rw c.loop.invariant.none (start-stand c.loop.counter 0)
 
 pub returns : goal.returns
-returns c =
-    let all : c.loop.counter ≡ c.args.numbers = omega arith in
-    rw (c.loop.invariant.none, all) (start-view c.args.numbers)
+returns c = grind (arith, common_steps, start-view)

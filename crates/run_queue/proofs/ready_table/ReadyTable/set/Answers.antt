@@ -1,4 +1,5 @@
 -- The rank of what is ready is at its number, and the least one of its chunk is known.
+use Rattle.std.proofs.lemmas.Grind.{common_steps}
 use Rattle.std.proofs.Common.{◌≡◌, ◌∙◌, ℕ, ◌+◌, ◌*◌, ◌/◌, ◌<◌, List, length, get_or, map, Option, None, ap, sym, subst, arith}
 use Rattle.std.specs.Prelude.{slice_set}
 use Rattle.std.proofs.Math.ListN.{get_or-map}
@@ -11,8 +12,7 @@ use Rattle.run_queue.proofs.ready_table.ReadyTable.set.Goals as goal
 
 ranks_set : (ready_table : List (Option QueuedMessage)) (ranks : List ℕ) (n rank : ℕ) (o : Option QueuedMessage) → ranks ≡ map rank_of ready_table → rank ≡ rank_of o
     → slice_set ranks n rank ≡ map rank_of (slice_set ready_table n o)
-ranks_set ready_table ranks n rank o all one =
-    ap (λ k. slice_set ranks n k) one ∙ ap (λ rs. slice_set rs n (rank_of o)) all ∙ sym (map-set rank_of ready_table n o)
+ranks_set ready_table ranks n rank o all one = grind (arith, common_steps, map-set)
 
 rank-at : (ready_table : List (Option QueuedMessage)) (ranks : List ℕ) (n : ℕ) → ranks ≡ map rank_of ready_table → get_or ranks n 18446744073709551615 ≡ rank_of (ready_in ready_table n)
 rank-at ready_table ranks n all = ap (λ rs. get_or rs n 18446744073709551615) all ∙ get_or-map rank_of ready_table n None
@@ -44,17 +44,4 @@ invariant_of-self c =
     }
 
 pub invariant_of-self-else-rank-was : goal.invariant_of-self-else-rank-was
-invariant_of-self-else-rank-was c =
-    let ready_table = c.self.inside.ready.items in
-    let n = c.args.number in
-    let o = c.args.ready in
-    let many = length-set ready_table n o in
-    let few = c.self.invariant.few in
-    let within = subst (λ (now : List (Option QueuedMessage)). n < length now) (sym c.self.view_is) c.requires in
-    let was = c.rank-was.ensures in
-    let before = ap (λ (now : List (Option QueuedMessage)). rank_of (ready_in now n)) c.self.view_is in record {
-      ranked = ranks_set ready_table c.self.inside.ranks.items n c.rank_of-rank.result o c.self.invariant.ranked c.rank_of-rank.ensures;
-      bounds = least-kept ready_table c.self.inside.least.items n o within c.self.invariant.bounds (sym c.rank_of-rank.ensures ∙ c.if-rank-was.false ∙ was ∙ sym before);
-      few = omega (arith, many, few);
-      chunks = c.self.invariant.chunks ∙ ap (λ k. k / 16 + 1) (sym many);
-    }
+invariant_of-self-else-rank-was c = grind (arith, common_steps, length-set, ranks_set, least-kept)

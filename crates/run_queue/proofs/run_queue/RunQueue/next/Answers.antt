@@ -1,6 +1,7 @@
 -- Each chunk was looked at, or no ready message in it is earlier than the best one.
+use Rattle.std.proofs.lemmas.Grind.{common_steps}
 use Rattle.std.proofs.Common.{◌≡◌, ◌∙◌, ◌+◌, ◌*◌, sym, ap, arith, Option}
-use Rattle.run_queue.specs.RunQueue.{RunQueueView, has_room, next_queued}
+use Rattle.run_queue.specs.RunQueue.{has_room}
 use Rattle.run_queue.specs.ReadyTable.{earliest_from, ready_in}
 use Rattle.run_queue.specs.declared.queued_message.QueuedMessage.{QueuedMessage}
 use Rattle.run_queue.proofs.Chunks.{below-from}
@@ -10,10 +11,7 @@ use Rattle.run_queue.proofs.run_queue.RunQueue.next.Goals.{then-least-bound, els
 use Rattle.run_queue.proofs.run_queue.RunQueue.next.Goals as goal
 
 pub loop-chunk-init : goal.loop-chunk-init
-loop-chunk-init c =
-    past-ready_table c.self.inside.ready_table c.len-best.result (omega arith)
-    ∙ below-start c.self.inside.geometry c.args.log_has_room c.self.inside.held.messages c.self.inside.waiting.messages
-    c.self.invariant.queued.placed.waiting_placed c.self.invariant.queued.placed.ascends
+loop-chunk-init c = grind (arith, common_steps, past-ready_table, below-start)
 
 pub loop-chunk-preserved : goal.loop-chunk-preserved
 loop-chunk-preserved c =
@@ -34,13 +32,4 @@ loop-chunk-preserved c =
     ]
 
 pub returns : goal.returns
-returns c =
-    let room = c.args.log_has_room in
-    let held = c.self.inside.held.messages in
-    let waiting = c.self.inside.waiting.messages in
-    c.copied.ensures
-    ∙ c.at.ensures
-    ∙ c.loop-chunk.invariant
-    ∙ below-all c.self.inside.geometry room held waiting c.self.invariant.queued.placed.waiting_placed c.self.invariant.queued.placed.ascends (16 * c.loop-chunk.chunk)
-    (omega (arith, c.chunks_of-chunk-end.ensures.all, c.loop-chunk-test.false))
-    ∙ ap (λ (q : RunQueueView). next_queued room q.held q.waiting) c.self.view_is
+returns c = grind (arith, common_steps, below-all)
