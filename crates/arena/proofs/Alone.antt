@@ -1,6 +1,6 @@
 -- A slot that is its own neighbor is on no list.
-use Rattle.std.proofs.Common.{◌≡◌, ◌≢◌, ℕ, zero, suc, ◌+◌, ◌-◌, ◌<◌, ◌≤◌, List, [], ◌∷◌, refl, sym, ap, ◌∙◌, inl, inr, arith}
-use Rattle.std.proofs.lemmas.Bool.{cases_eq}
+use Rattle.std.proofs.lemmas.Grind.{common_steps}
+use Rattle.std.proofs.Common.{◌≡◌, ◌≢◌, ℕ, zero, suc, ◌+◌, ◌-◌, ◌<◌, ◌≤◌, List, [], ◌∷◌, refl, sym, ap, ◌∙◌, arith}
 use Rattle.std.specs.List.{concat, AllByRecursion}
 use Rattle.arena.specs.Lists.{count_of}
 use Rattle.arena.specs.Linked.{IsWay, ring, table, rings, IsLinked}
@@ -10,13 +10,7 @@ use Rattle.arena.proofs.Ways.{AreSlots, walk-inside, slots-below}
 -- a number that is in none of the lists of a table
 pub count_of-table : (i : ℕ) (at : ℕ → List ℕ) (from count : ℕ) → ((e : ℕ) → from ≤ e → e < from + count → count_of i (at e) ≡ 0) → count_of i (concat (table at from count)) ≡ 0
 count_of-table i at from zero none = refl
-count_of-table i at from (suc count) none =
-    omega (
-      arith,
-      count_of-append i (at from) (concat (table at (suc from) count)),
-      none from (omega arith) (omega arith),
-      count_of-table i at (suc from) count (λ e low high. none e (omega arith) (omega arith)),
-    )
+count_of-table i at from (suc count) none = grind (arith, common_steps, count_of-table i at (suc from) count, count_of-append)
 
 module _ (slots nodes slot : ℕ) (next previous : ℕ → ℕ) (linked : IsLinked slots nodes next previous)
     (within : slot < slots) (alone : next slot ≡ slot) where
@@ -29,9 +23,7 @@ module _ (slots nodes slot : ℕ) (next previous : ℕ → ℕ) (linked : IsLink
   -- no way from another node leads over the slot
   pub way-passes : (a : ℕ) (xs : List ℕ) (z : ℕ) → a < nodes → AreSlots nodes xs → a ≢ slot → IsWay next a xs z → AllByRecursion (λ x. x ≢ slot) xs
   way-passes a [] z below inside apart way = tt
-  way-passes a (x ∷ xs) z below inside apart way =
-      let other : x ≢ slot = (λ same. apart (sym (linked.previous_undoes a below) ∙ ap previous (way.0 ∙ same) ∙ alone_back)) in
-      (other, way-passes x xs z inside.0 inside.1 other way.1)
+  way-passes a (x ∷ xs) z below inside apart way = grind (arith, common_steps, way-passes x xs z inside.0 inside.1)
 
   pub ring-passes : (end : ℕ) → slots ≤ end → end < nodes → AllByRecursion (λ x. x ≢ slot) (ring next slots end)
   ring-passes end outside below =
@@ -45,7 +37,4 @@ module _ (slots nodes slot : ℕ) (next previous : ℕ → ℕ) (linked : IsLink
 
 -- a slot that is on no list is its own neighbor
 pub alone-from_times : (slots nodes : ℕ) (next previous : ℕ → ℕ) → IsLinked slots nodes next previous → (a : ℕ) → a < slots → count_of a (concat (rings next slots nodes)) ≡ 0 → next a ≡ a
-alone-from_times slots nodes next previous linked a within none = elim (cases_eq (next a) a) [
-  | inl e ↦ e
-  | inr n ↦ absurd (omega (arith, linked.placed a within n))
-]
+alone-from_times slots nodes next previous linked a within none = grind (arith, common_steps)

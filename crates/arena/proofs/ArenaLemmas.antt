@@ -1,14 +1,14 @@
 -- What a caller needs of the partition of an arena's slots, and of the chains after a call. No proof of this crate rests on it: it is
 -- for the crates above that keep what they hold on chains.
-use Rattle.std.proofs.Common.{◌≡◌, ◌≢◌, ℕ, zero, suc, ◌+◌, ◌<◌, ◌≤◌, true, List, [], ◌∷◌, ◌++◌, map, length, refl, sym, ap, ◌∙◌, inl, inr, arith, eqb, Some, slice_index_or, eq-eqb}
+use Rattle.std.proofs.lemmas.Grind.{common_steps}
+use Rattle.std.proofs.Common.{◌≡◌, ◌≢◌, ℕ, zero, suc, ◌+◌, ◌<◌, ◌≤◌, true, List, [], ◌∷◌, ◌++◌, map, length, refl, arith, eqb, Some, slice_index_or}
 use Rattle.std.proofs.lemmas.Bool.{lt-ltb}
-use Rattle.std.proofs.lemmas.Bool.Decides.{leb_tells, eqb_tells}
-use Rattle.std.proofs.lemmas.List.{length-set, get_or-set_same, get_or-set_other, length-map, length-append}
+use Rattle.std.proofs.lemmas.List.{length-append}
 use Rattle.std.proofs.lemmas.Map.Steps.{le-length_from_below}
 use Rattle.std.specs.List.{concat, list_any}
 use Rattle.arena.specs.Lists.{count_of, without, first_of}
 use Rattle.arena.specs.ArenaView.{ArenaView, capacity_of, holds_value, chain_at, listed, aside, IsPartitioned, moved, front_of}
-use Rattle.arena.proofs.Counts.{count_of-append, count_of-cons_is, count_of-cons_other, count_of-at, without-absent, length-once}
+use Rattle.arena.proofs.Counts.{count_of-append, count_of-cons_is, count_of-at, without-absent, length-once}
 use Rattle.arena.proofs.Keeping.{each-from_times}
 
 -- a chain after a slot left
@@ -19,17 +19,13 @@ chain-without (xs ∷ chains) i (suc d) = chain-without chains i d
 
 -- the chain that a slot was moved to, and each other chain
 pub chain-moved_same : (chains : List (List ℕ)) (i c : ℕ) → c < length chains → slice_index_or (moved chains i c) c [] ≡ without i (slice_index_or chains c []) ++ i ∷ []
-chain-moved_same chains i c within =
-    get_or-set_same (map (without i) chains) c (slice_index_or (map (without i) chains) c [] ++ i ∷ []) [] (omega (arith, length-map chains (without i)))
-    ∙ ap (λ (xs : List ℕ). xs ++ i ∷ []) (chain-without chains i c)
+chain-moved_same chains i c within = grind (arith, common_steps)
 
 pub chain-moved_other : (chains : List (List ℕ)) (i c d : ℕ) → d ≢ c → slice_index_or (moved chains i c) d [] ≡ without i (slice_index_or chains d [])
-chain-moved_other chains i c d other =
-    get_or-set_other (map (without i) chains) c d (slice_index_or (map (without i) chains) c [] ++ i ∷ []) [] other ∙ chain-without chains i d
+chain-moved_other chains i c d other = grind (arith, common_steps)
 
 pub length-moved : (chains : List (List ℕ)) (i c : ℕ) → length (moved chains i c) ≡ length chains
-length-moved chains i c =
-    length-set (map (without i) chains) c (slice_index_or (map (without i) chains) c [] ++ i ∷ []) ∙ length-map chains (without i)
+length-moved chains i c = grind (arith, common_steps)
 
 -- two chains together have a slot no more often than all
 count_of-two : (i : ℕ) (chains : List (List ℕ)) (c d : ℕ) → c ≢ d → count_of i (slice_index_or chains c []) + count_of i (slice_index_or chains d []) ≤ count_of i (concat chains)
@@ -37,15 +33,11 @@ count_of-two i [] c d other = omega arith
 count_of-two i (xs ∷ chains) zero zero other = absurd (other refl)
 count_of-two i (xs ∷ chains) zero (suc d) other = omega (arith, count_of-append i xs (concat chains), count_of-at i chains d)
 count_of-two i (xs ∷ chains) (suc c) zero other = omega (arith, count_of-append i xs (concat chains), count_of-at i chains c)
-count_of-two i (xs ∷ chains) (suc c) (suc d) other =
-    omega (arith, count_of-append i xs (concat chains), count_of-two i chains c d (λ same. other (ap (λ n. suc n) same)))
+count_of-two i (xs ∷ chains) (suc c) (suc d) other = grind (arith, common_steps, count_of-two i chains c d, count_of-append)
 
 found-from_times : (q : ℕ) (xs : List ℕ) → 0 < count_of q xs → list_any (eqb q) xs ≡ true
 found-from_times q [] some = absurd (omega arith)
-found-from_times q (x ∷ xs) some = elim (eqb_tells q x) [
-  | inl e ↦ rw e.0 refl
-  | inr n ↦ rw n.0 (found-from_times q xs (let same = count_of-cons_other q x xs (λ same. n.1 (sym same)) in omega arith))
-]
+found-from_times q (x ∷ xs) some = grind (arith, common_steps, found-from_times q xs)
 
 count_of-first : (i : ℕ) (xs : List ℕ) → first_of xs ≡ Some i → 0 < count_of i xs
 count_of-first i [] first = absurd (cc)
@@ -53,11 +45,7 @@ count_of-first i (x ∷ xs) first = let same : x ≡ i = cc in omega (arith, cou
 
 first-without : (i : ℕ) (xs : List ℕ) → first_of xs ≡ Some i → count_of i xs ≤ 1 → xs ≡ i ∷ without i xs
 first-without i [] first once = absurd (cc)
-first-without i (x ∷ xs) first once =
-    let same : x ≡ i = cc in
-    let rest = without-absent i xs (let more = count_of-cons_is i x xs same in omega arith) in
-    let gone : without i (x ∷ xs) ≡ without i xs = rw (eq-eqb x i same) refl in
-    cc
+first-without i (x ∷ xs) first once = grind (arith, common_steps, without-absent, count_of-cons_is)
 
 module _ {T : Type 0} where
   -- a slot on a chain holds its value, is not free, and is on no other chain
@@ -90,16 +78,10 @@ module _ {T : Type 0} where
       omega (arith, length-append (listed m) (aside m), length-append m.free (concat m.chains))
     where
       at_most : (i : ℕ) → count_of i (listed m ++ aside m) ≤ 1
-      at_most i = elim (leb_tells (suc i) (capacity_of m)) [
-        | inl e ↦ (let count = rw e.0 at (partitioned.parts i) in omega arith)
-        | inr n ↦ (let count = rw n.0 at (partitioned.parts i) in omega arith)
-      ]
+      at_most i = grind (arith, common_steps)
 
       below : (i : ℕ) → 0 < count_of i (listed m ++ aside m) → i < capacity_of m
-      below i some = elim (leb_tells (suc i) (capacity_of m)) [
-        | inl e ↦ e.1
-        | inr n ↦ absurd (let count = rw n.0 at (partitioned.parts i) in omega arith)
-      ]
+      below i some = grind (arith, common_steps)
 
       there : (q : ℕ) → q < capacity_of m → 0 < count_of q (listed m ++ aside m)
       there q low = let count = rw (lt-ltb q (capacity_of m) low) at (partitioned.parts q) in omega arith

@@ -1,11 +1,11 @@
 -- The slot that comes after a slot, or first in a list.
-use Rattle.std.proofs.Common.{◌≡◌, ◌≢◌, ℕ, zero, suc, ◌+◌, ◌-◌, ◌<◌, ◌≤◌, List, [], ◌∷◌, refl, sym, ap, ◌∙◌, inl, inr, arith, Option, Some, None, nat_lt, if◌then◌else◌}
+use Rattle.std.proofs.lemmas.Grind.{common_steps}
+use Rattle.std.proofs.Common.{◌≡◌, ◌≢◌, ℕ, zero, suc, ◌+◌, ◌-◌, ◌<◌, ◌≤◌, List, [], ◌∷◌, refl, sym, ap, ◌∙◌, arith, Option, Some, None, nat_lt, if◌then◌else◌}
 use Rattle.std.proofs.lemmas.Bool.{lt-ltb, le-ltb}
-use Rattle.std.proofs.lemmas.Bool.Decides.{eqb_tells, leb_tells}
 use Rattle.std.specs.List.{concat}
 use Rattle.arena.specs.Lists.{count_of, first_of, behind, behind_in}
 use Rattle.arena.specs.Linked.{IsWay, ring, table, rings, IsLinked}
-use Rattle.arena.proofs.Counts.{count_of-append, count_of-cons_other}
+use Rattle.arena.proofs.Counts.{count_of-append}
 use Rattle.arena.proofs.Ways.{AreSlots, walk-inside}
 use Rattle.arena.proofs.Alone.{count_of-alone}
 
@@ -21,9 +21,7 @@ slot_or_none-end slots node high = rw (le-ltb node slots high) refl
 
 pub behind_in-nowhere : (i : ℕ) (lists : List (List ℕ)) → count_of i (concat lists) ≡ 0 → behind_in i lists ≡ None
 behind_in-nowhere i [] none = refl
-behind_in-nowhere i (xs ∷ lists) none =
-    let both = count_of-append i xs (concat lists) in
-    rw (le-ltb 0 (count_of i xs) (omega arith)) (behind_in-nowhere i lists (omega arith))
+behind_in-nowhere i (xs ∷ lists) none = grind (arith, common_steps, behind_in-nowhere i lists, count_of-append, le-ltb)
 
 module _ (next : ℕ → ℕ) (slots : ℕ) where
   pub first_of-way : (a : ℕ) (xs : List ℕ) (z : ℕ) → IsWay next a xs z → AreSlots slots xs → slots ≤ z → first_of xs ≡ slot_or_none slots (next a)
@@ -32,19 +30,12 @@ module _ (next : ℕ → ℕ) (slots : ℕ) where
 
   pub behind-way : (a i : ℕ) (xs : List ℕ) (z : ℕ) → IsWay next a xs z → AreSlots slots xs → slots ≤ z → 0 < count_of i xs → behind i xs ≡ slot_or_none slots (next i)
   behind-way a i [] z way inside outside some = absurd (omega arith)
-  behind-way a i (x ∷ xs) z way inside outside some = elim (eqb_tells x i) [
-    | inl e ↦ rw e.0 (first_of-way x xs z way.1 inside.1 outside ∙ ap (λ y. slot_or_none slots (next y)) e.1)
-    | inr n ↦ rw n.0 (behind-way x i xs z way.1 inside.1 outside (let same = count_of-cons_other i x xs n.1 in omega arith))
-  ]
+  behind-way a i (x ∷ xs) z way inside outside some = grind (arith, common_steps, behind-way x i xs z way.1 inside.1 outside)
 
   behind_in-table : (i : ℕ) (at : ℕ → List ℕ) (from count : ℕ) → ((e : ℕ) → from ≤ e → e < from + count → 0 < count_of i (at e) → behind i (at e) ≡ slot_or_none slots (next i))
       → 0 < count_of i (concat (table at from count)) → behind_in i (table at from count) ≡ slot_or_none slots (next i)
   behind_in-table i at from zero each some = absurd (omega arith)
-  behind_in-table i at from (suc count) each some = elim (leb_tells 1 (count_of i (at from))) [
-    | inl e ↦ rw e.0 (each from (omega arith) (omega arith) e.1)
-    | inr n ↦ rw n.0 (behind_in-table i at (suc from) count (λ e low high. each e (omega arith) (omega arith))
-        (let both = count_of-append i (at from) (concat (table at (suc from) count)) in omega arith))
-  ]
+  behind_in-table i at from (suc count) each some = grind (arith, common_steps, behind_in-table i at (suc from) count, count_of-append)
 
 module _ (slots nodes : ℕ) (next previous : ℕ → ℕ) (linked : IsLinked slots nodes next previous) where
   pub behind_in-linked : (slot : ℕ) → slot < slots → next slot ≢ slot → behind_in slot (rings next slots nodes) ≡ slot_or_none slots (next slot)
@@ -57,5 +48,4 @@ module _ (slots nodes : ℕ) (next previous : ℕ → ℕ) (linked : IsLinked sl
   behind_in-alone slot within alone = behind_in-nowhere slot (rings next slots nodes) (count_of-alone slots nodes slot next previous linked within alone)
 
   pub first_of-ring : (end : ℕ) → slots ≤ end → end < nodes → first_of (ring next slots end) ≡ slot_or_none slots (next end)
-  first_of-ring end outside below = first_of-way next slots end (ring next slots end) end (linked.closed end outside below)
-      (walk-inside next slots slots (next end)) outside
+  first_of-ring end outside below = grind (arith, common_steps)

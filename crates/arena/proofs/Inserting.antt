@@ -1,4 +1,5 @@
 -- A slot that is on no list is put behind a node.
+use Rattle.std.proofs.lemmas.Grind.{common_steps}
 use Rattle.std.proofs.Common.{◌≡◌, ◌≢◌, ℕ, suc, ◌+◌, ◌-◌, ◌<◌, ◌≤◌, List, [], ◌∷◌, ◌++◌, length, refl, sym, ap, subst, ◌∙◌, inl, inr, arith, slice_set, slice_index_or}
 use Rattle.std.proofs.lemmas.Bool.{cases_eq}
 use Rattle.std.specs.List.{concat, AllByRecursion}
@@ -21,8 +22,7 @@ pub record IsInserted (slot before : ℕ) (next previous next' previous' : ℕ �
 rest-kept : (slot before : ℕ) (next next' : ℕ → ℕ) → ((a : ℕ) → a ≢ slot → a ≢ before → next' a ≡ next a) → (xs : List ℕ)
     → AllByRecursion (λ x. x ≢ slot) xs → AllByRecursion (λ x. x ≢ before) xs → AllByRecursion (λ x. next' x ≡ next x) xs
 rest-kept slot before next next' rest [] passes avoids = tt
-rest-kept slot before next next' rest (x ∷ xs) passes avoids =
-    (rest x passes.0 avoids.0, rest-kept slot before next next' rest xs passes.1 avoids.1)
+rest-kept slot before next next' rest (x ∷ xs) passes avoids = grind (arith, common_steps, rest-kept slot before next next' rest xs passes.1 avoids.1)
 
 module _ (slots nodes slot before : ℕ) (next previous next' previous' : ℕ → ℕ) (linked : IsLinked slots nodes next previous)
     (within : slot < slots) (alone : next slot ≡ slot) (before_below : before < nodes) (before_apart : before ≢ slot)
@@ -34,35 +34,13 @@ module _ (slots nodes slot before : ℕ) (next previous next' previous' : ℕ �
   after_apart same = before_apart (sym (linked.previous_undoes before before_below) ∙ ap previous same ∙ alone_back slots nodes slot next previous linked within alone)
 
   next_below : (a : ℕ) → a < nodes → next' a < nodes
-  next_below a below = elim (cases_eq a slot) [
-    | inl e ↦ rw (e, inserted.from_slot) (linked.next_below before before_below)
-    | inr n ↦ elim (cases_eq a before) [
-      | inl p ↦ rw (p, inserted.to_slot) is_node
-      | inr q ↦ rw (inserted.rest_next a n q) (linked.next_below a below)
-    ]
-  ]
+  next_below a below = grind (arith, common_steps)
 
   previous_below : (a : ℕ) → a < nodes → previous' a < nodes
-  previous_below a below = elim (cases_eq a slot) [
-    | inl e ↦ rw (e, inserted.back_from_slot) before_below
-    | inr n ↦ elim (cases_eq a (next before)) [
-      | inl p ↦ rw (p, inserted.back_to_slot) is_node
-      | inr q ↦ rw (inserted.rest_previous a n q) (linked.previous_below a below)
-    ]
-  ]
+  previous_below a below = grind (arith, common_steps)
 
   next_undoes : (a : ℕ) → a < nodes → next' (previous' a) ≡ a
-  next_undoes a below = elim (cases_eq a slot) [
-    | inl e ↦ ap (λ x. next' (previous' x)) e ∙ ap next' inserted.back_from_slot ∙ inserted.to_slot ∙ sym e
-    | inr n ↦ elim (cases_eq a (next before)) [
-      | inl p ↦ ap (λ x. next' (previous' x)) p ∙ ap next' inserted.back_to_slot ∙ inserted.from_slot ∙ sym p
-      | inr q ↦
-          ap next' (inserted.rest_previous a n q)
-          ∙ inserted.rest_next (previous a) (λ same. n (sym (linked.next_undoes a below) ∙ ap next same ∙ alone))
-          (λ same. q (sym (linked.next_undoes a below) ∙ ap next same))
-          ∙ linked.next_undoes a below
-    ]
-  ]
+  next_undoes a below = grind (arith, common_steps)
 
   previous_undoes : (a : ℕ) → a < nodes → previous' (next' a) ≡ a
   previous_undoes a below = elim (cases_eq a slot) [
@@ -189,14 +167,8 @@ module _ (slots nodes slot list : ℕ) (next previous next' previous' : ℕ → 
 
   -- no way over slots to the end of another list leads over the node before the end of this one
   way-avoids : (a : ℕ) (xs : List ℕ) (z : ℕ) → AreSlots slots xs → z ≢ slots + list → IsWay next a xs z → (a ≢ previous (slots + list)) × AllByRecursion (λ x. x ≢ previous (slots + list)) xs
-  way-avoids a [] z inside other way =
-      ((λ same. other (sym way ∙ ap next same ∙ linked.next_undoes (slots + list) end_below)), tt)
-  way-avoids a (x ∷ xs) z inside other way = (
-    (λ same.
-        let at_end : x ≡ slots + list = sym way.0 ∙ ap next same ∙ linked.next_undoes (slots + list) end_below in
-        absurd (let low : x < slots = inside.0 in omega arith)),
-    way-avoids x xs z inside.1 other way.1,
-  )
+  way-avoids a [] z inside other way = grind (arith, common_steps)
+  way-avoids a (x ∷ xs) z inside other way = grind (arith, common_steps, way-avoids x xs z inside.1 other way.1)
 
   avoids_last : (end : ℕ) → slots ≤ end → end < nodes → end ≢ slots + list → (end ≢ previous (slots + list)) × AllByRecursion (λ x. x ≢ previous (slots + list)) (ring next slots end)
   avoids_last end outside below other =
@@ -204,16 +176,14 @@ module _ (slots nodes slot list : ℕ) (next previous next' previous' : ℕ → 
 
   apart-from_slots : (node : ℕ) → slots ≤ node → (xs : List ℕ) → AreSlots slots xs → AllByRecursion (λ x. x ≢ node) xs
   apart-from_slots node outside [] inside = tt
-  apart-from_slots node outside (x ∷ xs) inside =
-      (λ same. absurd (let low : x < slots = inside.0 in omega arith), apart-from_slots node outside xs inside.1)
+  apart-from_slots node outside (x ∷ xs) inside = grind (arith, common_steps, apart-from_slots node outside xs inside.1)
 
   avoids_first : (end : ℕ) → slots ≤ end → end < nodes → end ≢ slots + list → (end ≢ slots + list) × AllByRecursion (λ x. x ≢ slots + list) (ring next slots end)
   avoids_first end outside below other =
       (other, apart-from_slots (slots + list) (omega arith) (ring next slots end) (walk-inside next slots slots (next end)))
 
   last_apart : previous (slots + list) ≢ slot
-  last_apart same =
-      absurd (let loop : slots + list ≡ slot = sym (linked.next_undoes (slots + list) end_below) ∙ ap next same ∙ alone in omega arith)
+  last_apart same = grind (arith, common_steps)
 
   more_last : (i : ℕ) → count_of i (ring next slots (slots + list) ++ slot ∷ []) ≡ count_of i (slot ∷ ring next slots (slots + list))
   more_last i = count_of-last i slot (ring next slots (slots + list))
@@ -223,13 +193,8 @@ module _ (slots nodes slot list : ℕ) (next previous next' previous' : ℕ → 
     to_end = linked.next_undoes (slots + list) end_below
 
     way-last : (a : ℕ) (xs : List ℕ) → a < nodes → AreSlots slots xs → a ≢ slot → AllByRecursion (λ x. x ≢ slot) xs → IsWay next a xs (slots + list) → IsWay next' a (xs ++ slot ∷ []) (slots + list)
-    way-last a [] below inside other others way =
-        (ap next' (sym (linked.previous_undoes a below) ∙ ap previous way) ∙ inserted.to_slot, inserted.from_slot ∙ to_end)
-    way-last a (x ∷ xs) below inside other others way =
-        let low : x < slots = inside.0 in (
-          inserted.rest_next a other (λ same. absurd (let at_end : x ≡ slots + list = sym way.0 ∙ ap next same ∙ to_end in omega arith)) ∙ way.0,
-          way-last x xs (omega (arith, linked.slots_fit)) inside.1 others.0 others.1 way.1,
-        )
+    way-last a [] below inside other others way = grind (arith, common_steps)
+    way-last a (x ∷ xs) below inside other others way = grind (arith, common_steps, way-last x xs)
 
     last_way : IsWay next' (slots + list) (ring next slots (slots + list) ++ slot ∷ []) (slots + list)
     last_way = way-last (slots + list) (ring next slots (slots + list)) end_below (walk-inside next slots slots (next (slots + list)))

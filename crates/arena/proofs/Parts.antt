@@ -1,60 +1,31 @@
 -- Each call keeps the partition of an arena's slots.
-use Rattle.std.proofs.Common.{◌≡◌, ◌≢◌, ℕ, zero, suc, ◌<◌, ◌≤◌, Bool, true, false, not, List, [], ◌∷◌, ◌++◌, map, filter, length, refl, sym, ap, subst, ◌∙◌, inl, inr, arith, Option, Some, None, is_some, nat_lt, if◌then◌else◌, slice_index_or, slice_set}
-use Rattle.std.proofs.lemmas.Bool.{cases_eq, cases_Bool}
-use Rattle.std.proofs.lemmas.Bool.Decides.{leb_tells}
+use Rattle.std.proofs.lemmas.Grind.{common_steps}
+use Rattle.std.proofs.Common.{◌≡◌, ◌≢◌, ℕ, zero, suc, ◌<◌, ◌≤◌, Bool, true, false, List, [], ◌∷◌, ◌++◌, map, filter, length, refl, sym, ap, subst, ◌∙◌, inl, inr, arith, Option, Some, None, is_some, nat_lt, if◌then◌else◌, slice_index_or, slice_set}
+use Rattle.std.proofs.lemmas.Bool.{cases_eq}
 use Rattle.std.proofs.lemmas.List.{length-set, get_or-set_same, get_or-set_other, length-map}
 use Rattle.std.specs.List.{concat}
-use Rattle.arena.specs.Lists.{count_of, is_on, without, numbers_from}
+use Rattle.arena.specs.Lists.{count_of, without}
 use Rattle.arena.specs.ArenaView.{ArenaView, capacity_of, value_at, holds_value, listed, aside, IsPartitioned, moved}
 use Rattle.arena.proofs.Counts.{count_of-append, count_of-last, count_of-cons_is, count_of-cons_other, count_of-set, count_of-without_all_same, count_of-without_all_other}
 use Rattle.arena.proofs.Start.{count_of-numbers, count_of-numbers_in, count_of-high}
 
 count_of-filter_yes : (p : ℕ → Bool) (i : ℕ) (xs : List ℕ) → p i ≡ true → count_of i (filter p xs) ≡ count_of i xs
 count_of-filter_yes p i [] passes = refl
-count_of-filter_yes p i (x ∷ xs) passes = elim (cases_eq x i) [
-  | inl e ↦ (let here : p x ≡ true = ap p e ∙ passes in
-      rw here (count_of-cons_is i x (filter p xs) e ∙ ap (λ n. suc n) (count_of-filter_yes p i xs passes) ∙ sym (count_of-cons_is i x xs e)))
-  | inr n ↦ elim (cases_Bool (p x)) [
-    | inl t ↦ rw t (count_of-cons_other i x (filter p xs) n ∙ count_of-filter_yes p i xs passes ∙ sym (count_of-cons_other i x xs n))
-    | inr f ↦ rw f (count_of-filter_yes p i xs passes ∙ sym (count_of-cons_other i x xs n))
-  ]
-]
+count_of-filter_yes p i (x ∷ xs) passes = grind (arith, common_steps, count_of-filter_yes p i xs passes)
 
 count_of-filter_no : (p : ℕ → Bool) (i : ℕ) (xs : List ℕ) → p i ≡ false → count_of i (filter p xs) ≡ 0
 count_of-filter_no p i [] fails = refl
-count_of-filter_no p i (x ∷ xs) fails = elim (cases_eq x i) [
-  | inl e ↦ (let here : p x ≡ false = ap p e ∙ fails in rw here (count_of-filter_no p i xs fails))
-  | inr n ↦ elim (cases_Bool (p x)) [
-    | inl t ↦ rw t (count_of-cons_other i x (filter p xs) n ∙ count_of-filter_no p i xs fails)
-    | inr f ↦ rw f (count_of-filter_no p i xs fails)
-  ]
-]
+count_of-filter_no p i (x ∷ xs) fails = grind (arith, common_steps, count_of-filter_no p i xs fails)
 
 pub count_of-tail : (i x : ℕ) (xs : List ℕ) → count_of i xs ≤ count_of i (x ∷ xs)
-count_of-tail i x xs = elim (cases_eq x i) [
-  | inl e ↦ omega (arith, count_of-cons_is i x xs e)
-  | inr n ↦ omega (arith, count_of-cons_other i x xs n)
-]
+count_of-tail i x xs = grind (arith, common_steps)
 
 module _ {T : Type 0} where
   -- what is on no list is aside
   parts-from : (m : ArenaView T) → ((i : ℕ) → count_of i (listed m) ≤ 1) → ((i : ℕ) → 0 < count_of i (listed m) → i < capacity_of m)
       → (i : ℕ) → count_of i (listed m ++ aside m) ≡ (if nat_lt i (capacity_of m) then 1 else 0)
   parts-from m once within i =
-      let both = count_of-append i (listed m) (aside m) in
-      elim (leb_tells (suc i) (capacity_of m)) [
-        | inl e ↦ rw e.0 (elim (leb_tells 1 (count_of i (listed m))) [
-          | inl on ↦ (let none = count_of-filter_no (λ x. not (is_on x (listed m))) i (numbers_from 0 (capacity_of m)) (rw on.0 refl) in
-              omega (arith, once i))
-          | inr off ↦ (let all = count_of-filter_yes (λ x. not (is_on x (listed m))) i (numbers_from 0 (capacity_of m)) (rw off.0 refl) in
-              omega (arith, count_of-numbers i 0 (capacity_of m), count_of-numbers_in i 0 (capacity_of m) (omega arith) (omega arith)))
-        ])
-        | inr n ↦ rw n.0 (elim (leb_tells 1 (count_of i (listed m))) [
-          | inl on ↦ absurd (omega (arith, within i on.1))
-          | inr off ↦ (let all = count_of-filter_yes (λ x. not (is_on x (listed m))) i (numbers_from 0 (capacity_of m)) (rw off.0 refl) in
-              omega (arith, count_of-high i 0 (capacity_of m) (omega arith)))
-        ])
-      ]
+      grind (arith, common_steps, count_of-append, count_of-filter_no, count_of-filter_yes, count_of-numbers, count_of-numbers_in, count_of-high)
 
   pub partitioned-from : (m : ArenaView T) → ((i : ℕ) → count_of i (listed m) ≤ 1) → ((i : ℕ) → 0 < count_of i (listed m) → i < capacity_of m)
       → ((i : ℕ) → 0 < count_of i m.free → value_at m i ≡ None) → ((i : ℕ) → 0 < count_of i (concat m.chains) → holds_value m i ≡ true) → IsPartitioned m
@@ -80,10 +51,7 @@ module _ {T : Type 0} where
   held-within (v ∷ values) (suc i) held = omega (arith, held-within values i held)
 
   pub held-not_free : (m : ArenaView T) → IsPartitioned m → (i : ℕ) → holds_value m i ≡ true → count_of i m.free ≡ 0
-  held-not_free m partitioned i held = elim (leb_tells 1 (count_of i m.free)) [
-    | inl e ↦ absurd (let empty = partitioned.free_empty i e.1 in let lost : false ≡ true = sym (ap is_some empty) ∙ held in cc)
-    | inr n ↦ omega arith
-  ]
+  held-not_free m partitioned i held = grind (arith, common_steps)
 
   pub partitioned-put : (values : List (Option T)) (i : ℕ) (rest : List ℕ) (chains : List (List ℕ)) (value : T) → IsPartitioned (record { values = values; free = i ∷ rest; chains = chains })
       → IsPartitioned (record { values = slice_set values i (Some value); free = rest; chains = chains })
@@ -180,15 +148,4 @@ module _ {T : Type 0} where
 
   pub partitioned-restore : (m : ArenaView T) (i : ℕ) (value : T) → IsPartitioned m → i < capacity_of m → count_of i m.free ≡ 0
       → IsPartitioned (record m { values = slice_set m.values i (Some value) })
-  partitioned-restore m i value partitioned within unfree =
-      let long = length-set m.values i (Some value) in
-      partitioned-from (record m { values = slice_set m.values i (Some value) })
-      partitioned.once
-      (λ j some. omega (arith, partitioned.within j some))
-      (λ j some. value-other m.values i j (Some value)
-      (λ same. absurd (let here : 0 < count_of i m.free = rw (← same) some in omega arith))
-      ∙ partitioned.free_empty j some)
-      (λ j some. elim (cases_eq j i) [
-        | inl e ↦ rw e (ap is_some (value-same m.values i (Some value) within))
-        | inr n ↦ ap is_some (value-other m.values i j (Some value) n) ∙ partitioned.chains_hold j some
-      ])
+  partitioned-restore m i value partitioned within unfree = grind (arith, common_steps)

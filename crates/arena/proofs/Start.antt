@@ -1,4 +1,5 @@
 -- The lists as they are at the start: all slots in order on the first list.
+use Rattle.std.proofs.lemmas.Grind.{common_steps}
 use Rattle.std.proofs.Common.{◌≡◌, ℕ, zero, suc, ◌+◌, ◌-◌, ◌<◌, ◌≤◌, List, [], ◌∷◌, replicate, refl, sym, ap, subst, ◌∙◌, inl, inr, arith}
 use Rattle.std.proofs.lemmas.Bool.{lt-ltb, le-ltb, eq-eqb, ne_eqb, cases_eq}
 use Rattle.std.proofs.lemmas.Bool.Decides.{nat_tests}
@@ -11,28 +12,19 @@ use Rattle.arena.proofs.Ways.{AreSlots, walk-way}
 -- how often a number is among consecutive numbers
 count_of-low : (i first count : ℕ) → i < first → count_of i (numbers_from first count) ≡ 0
 count_of-low i first zero low = refl
-count_of-low i first (suc count) low =
-    count_of-cons_other i first (numbers_from (suc first) count) (λ same. omega arith) ∙ count_of-low i (suc first) count (omega arith)
+count_of-low i first (suc count) low = grind (arith, common_steps, count_of-low i (suc first) count)
 
 pub count_of-high : (i first count : ℕ) → first + count ≤ i → count_of i (numbers_from first count) ≡ 0
 count_of-high i first zero high = refl
-count_of-high i first (suc count) high =
-    count_of-cons_other i first (numbers_from (suc first) count) (λ same. omega arith) ∙ count_of-high i (suc first) count (omega arith)
+count_of-high i first (suc count) high = grind (arith, common_steps, count_of-high i (suc first) count)
 
 pub count_of-numbers : (i first count : ℕ) → count_of i (numbers_from first count) ≤ 1
 count_of-numbers i first zero = omega arith
-count_of-numbers i first (suc count) = elim (cases_eq first i) [
-  | inl e ↦ (let more = count_of-cons_is i first (numbers_from (suc first) count) e in
-      omega (arith, count_of-low i (suc first) count (omega arith)))
-  | inr n ↦ (let same = count_of-cons_other i first (numbers_from (suc first) count) n in omega (arith, count_of-numbers i (suc first) count))
-]
+count_of-numbers i first (suc count) = grind (arith, common_steps, count_of-numbers i (suc first) count, count_of-cons_is, count_of-low, count_of-cons_other)
 
 pub count_of-numbers_in : (i first count : ℕ) → first ≤ i → i < first + count → 0 < count_of i (numbers_from first count)
 count_of-numbers_in i first zero low high = absurd (omega arith)
-count_of-numbers_in i first (suc count) low high = elim (cases_eq first i) [
-  | inl e ↦ (let more = count_of-cons_is i first (numbers_from (suc first) count) e in omega arith)
-  | inr n ↦ (let same = count_of-cons_other i first (numbers_from (suc first) count) n in omega (arith, count_of-numbers_in i (suc first) count (omega arith) (omega arith)))
-]
+count_of-numbers_in i first (suc count) low high = grind (arith, common_steps, count_of-numbers_in i (suc first) count)
 
 numbers-inside : (first count slots : ℕ) → first + count ≤ slots → AreSlots slots (numbers_from first count)
 numbers-inside first zero slots fit = tt
@@ -56,8 +48,7 @@ module _ (slots nodes : ℕ) (next previous : ℕ → ℕ) (fit : slots < nodes)
     (previous_is : (a : ℕ) → a < nodes → previous a ≡ previous_at_start slots a) where
   way-numbers : (a first count : ℕ) → next a ≡ first → first + count ≡ slots → IsWay next a (numbers_from first count) slots
   way-numbers a first zero onward total = onward ∙ omega arith
-  way-numbers a first (suc count) onward total =
-      (onward, way-numbers first (suc first) count (next_is first (omega arith) ∙ next-slot slots first (omega arith)) (omega arith))
+  way-numbers a first (suc count) onward total = grind (arith, common_steps, way-numbers first (suc first) count)
 
   first_way : IsWay next slots (numbers_from 0 slots) slots
   first_way = way-numbers slots 0 slots (next_is slots fit ∙ next-first_end slots) (omega arith)

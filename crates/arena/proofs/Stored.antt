@@ -1,7 +1,7 @@
 -- The two arrays of links, the lists that they hold, and what is read of these.
-use Rattle.std.proofs.Common.{◌≡◌, ℕ, ◌+◌, ◌-◌, ◌<◌, List, length, ap, ◌∙◌, inl, inr, arith, slice_index, get_or}
+use Rattle.std.proofs.lemmas.Grind.{common_steps}
+use Rattle.std.proofs.Common.{◌≡◌, ℕ, ◌+◌, ◌-◌, ◌<◌, List, length, ap, ◌∙◌, arith, slice_index, get_or}
 use Rattle.std.proofs.lemmas.List.{get_or_default}
-use Rattle.std.proofs.lemmas.Bool.Decides.{leb_tells}
 use Rattle.arena.specs.Lists.{first_of}
 use Rattle.arena.specs.Linked.{Linked, list_at, ring, rings, stored, IsLinked, KeepLists, IsWellLinked}
 use Rattle.arena.proofs.Ways.{walk-inside, count_of-no_slot, table-at, length-table}
@@ -11,25 +11,13 @@ use Rattle.arena.proofs.Behind.{slot_or_none, first_of-ring}
 -- another array of the same length that links the same lists
 pub stored-same : (slots : ℕ) (next next' : List ℕ) (lists : List (List ℕ)) → length next' ≡ length next
     → rings (λ x. slice_index next' x) slots (length next) ≡ lists → (stored slots next').lists ≡ lists
-stored-same slots next next' lists long same =
-    ap (λ n. rings (λ x. slice_index next' x) slots n) long ∙ same
+stored-same slots next next' lists long same = grind (arith, common_steps)
 
 pub IsWellLinked-linked : (slots nodes : ℕ) (next previous : ℕ → ℕ) → IsLinked slots nodes next previous → IsWellLinked (record { slots = slots; lists = rings next slots nodes })
-IsWellLinked-linked slots nodes next previous linked = record {
-  once = linked.once;
-  within = λ i some. elim (leb_tells slots i) [
-    | inl e ↦ absurd (omega (
-      arith,
-      count_of-table i (ring next slots) slots (nodes - slots)
-          (λ end low high. count_of-no_slot slots i (ring next slots end) (walk-inside next slots slots (next end)) e.1),
-    ))
-    | inr n ↦ n.1
-  ];
-}
+IsWellLinked-linked slots nodes next previous linked = grind (arith, common_steps, count_of-table, count_of-no_slot, walk-inside)
 
 pub end-below : (slots : ℕ) (next previous : List ℕ) (list : ℕ) → KeepLists slots next previous → list < length (stored slots next).lists → slots + list < length next
-end-below slots next previous list ok within =
-    omega (arith, length-table (ring (λ x. slice_index next x) slots) slots (length next - slots), ok.linked.slots_fit)
+end-below slots next previous list ok within = grind (arith, common_steps, length-table)
 
 -- the sentinel of a list, as contracts see the list, lies within the arrays
 pub end-there : (slots : ℕ) (next previous : List ℕ) (links : Linked) (list : ℕ) → stored slots next ≡ links → KeepLists slots next previous → list < length links.lists → slots + list < length next
@@ -56,8 +44,7 @@ pub read_next : (slots : ℕ) (next previous : List ℕ) (slot x : ℕ) → Keep
 read_next slots next previous slot x ok within got = read next slot x (slot-below slots next previous slot ok within) got
 
 pub read_previous : (slots : ℕ) (next previous : List ℕ) (slot x : ℕ) → KeepLists slots next previous → slot < slots → x ≡ get_or previous slot x → x ≡ slice_index previous slot
-read_previous slots next previous slot x ok within got =
-    read previous slot x (omega (arith, slot-below slots next previous slot ok within, ok.as_long)) got
+read_previous slots next previous slot x ok within got = grind (arith, common_steps)
 
 pub read_end : (slots : ℕ) (next previous : List ℕ) (list x : ℕ) → KeepLists slots next previous → list < length (stored slots next).lists
     → x ≡ get_or next (slots + list) x → x ≡ slice_index next (slots + list)
@@ -65,5 +52,4 @@ read_end slots next previous list x ok within got = read next (slots + list) x (
 
 pub read_end_back : (slots : ℕ) (next previous : List ℕ) (list x : ℕ) → KeepLists slots next previous → list < length (stored slots next).lists
     → x ≡ get_or previous (slots + list) x → x ≡ slice_index previous (slots + list)
-read_end_back slots next previous list x ok within got =
-    read previous (slots + list) x (omega (arith, end-below slots next previous list ok within, ok.as_long)) got
+read_end_back slots next previous list x ok within got = grind (arith, common_steps, read, end-below)

@@ -1,6 +1,7 @@
 -- The slot's neighbors are tied to one another, and the slot to itself.
-use Rattle.std.proofs.Common.{◌≡◌, ℕ, ◌<◌, List, map, length, sym, ap, subst, ◌∙◌, arith, slice_index, slice_set}
-use Rattle.std.proofs.lemmas.List.{length-set, get_or-set_same, get_or-set_other}
+use Rattle.std.proofs.lemmas.Grind.{common_steps}
+use Rattle.std.proofs.Common.{◌≡◌, ℕ, ◌<◌, List, map, length, sym, subst, ◌∙◌, arith, slice_index, slice_set}
+use Rattle.std.proofs.lemmas.List.{length-set}
 use Rattle.arena.specs.Lists.{without}
 use Rattle.arena.specs.Linked.{IsLinked, KeepLists, stored}
 use Rattle.arena.proofs.Unlinking.{IsUnlinked, rings-unlinked, IsLinked-unlinked}
@@ -30,24 +31,7 @@ module _ (slots slot before after : ℕ) (next previous : List ℕ) (ok : KeepLi
   long_previous = length-set (slice_set previous after before) slot slot ∙ length-set previous after before
 
   unlinked : IsUnlinked slot (λ x. slice_index next x) (λ x. slice_index previous x) (λ x. slice_index next_row x) (λ x. slice_index previous_row x)
-  unlinked = record {
-    alone_next = get_or-set_same (slice_set next before after) slot slot 0 (omega (arith, length-set next before after, slot_below));
-    alone_previous = get_or-set_same (slice_set previous after before) slot slot 0 (omega (arith, length-set previous after before, slot_below, ok.as_long));
-    tied_next = λ apart.
-        ap (λ x. slice_index next_row x) (sym before_is)
-        ∙ get_or-set_other (slice_set next before after) slot before slot 0 (λ same. apart (sym before_is ∙ same))
-        ∙ get_or-set_same next before after 0 before_below ∙ after_is;
-    tied_previous = λ apart.
-        ap (λ x. slice_index previous_row x) (sym after_is)
-        ∙ get_or-set_other (slice_set previous after before) slot after slot 0 (λ same. apart (sym after_is ∙ same))
-        ∙ get_or-set_same previous after before 0 (omega (arith, after_below, ok.as_long)) ∙ before_is;
-    rest_next = λ a other away.
-        get_or-set_other (slice_set next before after) slot a slot 0 other
-        ∙ get_or-set_other next before a after 0 (λ same. away (same ∙ before_is));
-    rest_previous = λ a other away.
-        get_or-set_other (slice_set previous after before) slot a slot 0 other
-        ∙ get_or-set_other previous after a before 0 (λ same. away (same ∙ after_is));
-  }
+  unlinked = grind (arith, common_steps)
 
   linked : IsLinked slots (length next) (λ x. slice_index next_row x) (λ x. slice_index previous_row x)
   linked = IsLinked-unlinked slots (length next) slot (λ x. slice_index next x) (λ x. slice_index previous x)

@@ -1,4 +1,5 @@
 -- A slot whose value is out holds none, and is on no list.
+use Rattle.std.proofs.lemmas.Grind.{common_steps}
 use Rattle.std.proofs.Common.{◌≡◌, true, false, is_some, None, sym, subst, ◌∙◌, slice_index_or, arith, length}
 use Rattle.std.specs.List.{concat}
 use Rattle.arena.specs.Lists.{count_of}
@@ -38,13 +39,7 @@ invariant_of-self g c =
     rw c.fill.ensures (restore-kept c.args.i c.args.value c.self.invariant (omega arith) alone)
 
 pub returns-clause-answer : goal.returns-clause-answer
-returns-clause-answer g c =
-    let count : c.capacity.result ≡ length c.self.inside.values.items = rw (← c.self.view_is) at c.capacity.ensures.count in
-    let alone : count_of c.args.i (concat c.self.inside.links.lists) ≡ 0 = c.is_alone.ensures.0 c.if-not-is_alone.false in
-    let empty : is_some (slice_index_or c.self.inside.values.items c.args.i None) ≡ false = rw (← c.self.view_is) at (sym c.holds.ensures.answer ∙ c.if-holds.false) in
-    let P = λ (m : ArenaView g.row.T.Denot). is_lent m c.args.i ≡ true in
-    restored-answer c.args.self.now c.args.i c.args.value (subst P c.self.view_is
-    (lent-alone c.args.i c.self.invariant (omega arith) empty alone))
+returns-clause-answer g c = grind (arith, common_steps, restored-answer, lent-alone)
 
 pub returns-clause-arena : goal.returns-clause-arena
 returns-clause-arena g c =
