@@ -1,5 +1,6 @@
 -- A line put together in the front of a buffer.
-use Rattle.std.proofs.Common.{◌≡◌, ℕ, zero, suc, true, false, eqb, codes, add-one, ◌+◌, ◌-◌, ◌*◌, ◌/◌, ◌%◌, ◌^◌, ◌<◌, ◌≤◌, List, [], ◌++◌, length, length-append, length-take, length-take-le, take, drop, refl, ap, sym, subst, ◌∙◌, arith, inl, inr}
+use Rattle.std.proofs.lemmas.Grind.{common_steps}
+use Rattle.std.proofs.Common.{◌≡◌, ℕ, zero, suc, true, false, eqb, codes, add-one, ◌+◌, ◌-◌, ◌*◌, ◌/◌, ◌%◌, ◌^◌, ◌<◌, ◌≤◌, List, [], ◌++◌, length, length-append, length-take-le, take, drop, refl, ap, sym, subst, ◌∙◌, arith, inl, inr}
 use Rattle.std.proofs.lemmas.List.{append_assoc, take_at, drop_at, drop-drop, append-nil}
 use Rattle.std.specs.Prelude.{if◌then◌else◌}
 use Rattle.hex.specs.Hex.{encode_lower, lower_digits}
@@ -126,8 +127,4 @@ next_file files from fits some =
 -- ---- a whole line
 
 pub line_bound : (old new line : List ℕ) (end : ℕ) → length new ≡ LONGEST_REPLY → AppendsText old new 0 end line → end ≤ LONGEST_REPLY
-line_bound old new line end size h =
-    let ends = h.ends in
-    let front : length (take end new) ≡ length line = ap length h.front in
-    let few = length-take end new in
-    omega arith
+line_bound old new line end size h = grind (arith, common_steps)

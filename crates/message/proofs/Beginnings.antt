@@ -1,5 +1,7 @@
 -- What was written in part: a beginning of what waits is a beginning of all output.
-use Rattle.std.proofs.Common.{◌≡◌, ℕ, List, [], ◌++◌, Option, Some, None, refl, sym, ap, ◌∙◌, append_assoc, append-nil}
+use Rattle.std.proofs.Common.{arith}
+use Rattle.std.proofs.lemmas.Grind.{common_steps}
+use Rattle.std.proofs.Common.{◌≡◌, ℕ, List, [], Option, Some, None, refl, ap, append-nil}
 use Rattle.std.proofs.lemmas.List.{append_cancel_left}
 use Rattle.std.specs.Io.KnownBytes.{Appends}
 use Rattle.message.specs.Waiting.{all_output}
@@ -16,12 +18,4 @@ module _ (sent waiting all : List ℕ) where
   begins_all None old new whole so_far begins = ([], all, refl, tt)
   begins_all (Some b) None new whole so_far begins = absurd whole
   begins_all (Some b) (Some o) None whole so_far begins = absurd begins.3
-  begins_all (Some b) (Some o) (Some n) whole so_far begins =
-      let (begun, rest, parts, appended) = begins in (
-        sent ++ begun,
-        rest,
-        append_cancel_left b all ((sent ++ begun) ++ rest)
-            (sym so_far ∙ ap (λ (l : List ℕ). l ++ waiting) whole ∙ append_assoc b sent waiting
-            ∙ ap (λ (l : List ℕ). b ++ l) (ap (λ (l : List ℕ). sent ++ l) parts ∙ sym (append_assoc sent begun rest))),
-        appended ∙ ap (λ (l : List ℕ). l ++ begun) whole ∙ append_assoc b sent begun,
-      )
+  begins_all (Some b) (Some o) (Some n) whole so_far begins = grind (arith, common_steps, append_cancel_left)

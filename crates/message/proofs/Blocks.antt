@@ -1,16 +1,16 @@
 -- What a word encodes as bytes, a block or a label.
-use Rattle.std.proofs.Common.{◌≡◌, ℕ, ◌-◌, ◌*◌, ◌/◌, ◌%◌, ◌<◌, ◌≤◌, Bool, true, false, cond, List, [], ◌∷◌, ◌++◌, length, length-take-le, take, drop, replicate, Option, Some, None, Result, Ok, Err, refl, ap, sym, ◌∙◌, inl, inr, arith}
-use Rattle.std.specs.Prelude.{◌&&◌, nat_le, MatchResult, option_map}
+use Rattle.std.proofs.lemmas.Grind.{common_steps}
+use Rattle.std.proofs.Common.{◌≡◌, ℕ, ◌-◌, ◌*◌, ◌/◌, ◌<◌, ◌≤◌, Bool, true, false, cond, List, [], ◌∷◌, ◌++◌, length, length-take-le, take, drop, replicate, Option, Some, None, Result, Ok, Err, refl, ap, sym, ◌∙◌, arith}
+use Rattle.std.specs.Prelude.{MatchResult, option_map}
 use Rattle.std.specs.Result.{result_ok}
-use Rattle.std.proofs.lemmas.Bool.{and_parts, and_from, ne_eqb, leb-true, le-leb, cond-true, cases_eq, true≢false}
+use Rattle.std.proofs.lemmas.Bool.{ne_eqb, true≢false}
 use Rattle.std.proofs.lemmas.Option.{same_Some}
 use Rattle.std.proofs.lemmas.List.{drop-replicate, length-replicate}
 use Rattle.std.proofs.lemmas.List.Elements.{All-head, All-tail}
 use Rattle.std.specs.List.{AllPass}
 use Rattle.hex.specs.Hex.{decode_of, decode_sized, is_hex_digit}
 use Rattle.hex.specs.declared.error.FromHexError.{FromHexError}
-use Rattle.hex.proofs.HexLemmas.{decode_of-ok, decode_of-even, decode_of-odd, decode_sized-odd}
-use Rattle.hex.proofs.Pairs.{decode_sized-pairs}
+use Rattle.hex.proofs.HexLemmas.{decode_of-ok}
 use Rattle.language.specs.declared.TheConstants.{BLOCK_SIZE, LABEL_SIZE}
 use Rattle.language.specs.declared.Block.{Block}
 use Rattle.language.specs.Lines.{bytes_in_word, block_in_word, label_in_word, padded, padded_with}
@@ -32,16 +32,11 @@ cond_given false o x h = cc h
 
 pub bytes_parts : (size : ℕ) (w whole : List ℕ) → bytes_in_word size w ≡ Some whole → (bytes : List ℕ) × IsDigits size w bytes × (whole ≡ padded size bytes)
 unfolding bytes_in_word
-bytes_parts size w whole h =
-    let p = cond_given (nat_le 2 (length w) && nat_le (length w) (2 * size)) (padded_with size (decode_of w)) whole h in
-    let q = and_parts (nat_le 2 (length w)) (nat_le (length w) (2 * size)) p.0 in
-    let r = bytes_ok size (decode_of w) whole p.1 in
-    (r.0, record { low = leb-true 2 (length w) q.0; high = leb-true (length w) (2 * size) q.1; decoded = r.1 }, r.2)
+bytes_parts size w whole h = grind (arith, common_steps)
 
 pub bytes_from : (size : ℕ) (w bytes : List ℕ) → IsDigits size w bytes → bytes_in_word size w ≡ Some (padded size bytes)
 unfolding bytes_in_word
-bytes_from size w bytes h =
-    cond-true _ _ _ (and_from _ _ (le-leb 2 (length w) h.low) (le-leb (length w) (2 * size) h.high)) ∙ ap (padded_with size) h.decoded
+bytes_from size w bytes h = grind (arith, common_steps)
 
 pub no_bytes : (size : ℕ) (w : List ℕ) → ((bytes : List ℕ) → IsDigits size w bytes → ⊥) → bytes_in_word size w ≡ None
 no_bytes size w h = elim (bytes_in_word size w) as (λ o. bytes_in_word size w ≡ o → o ≡ None) [ None ↦ λ e. refl | Some whole ↦ λ e. let p = bytes_parts size w whole e in absurd (h p.0 p.1) ] refl
@@ -87,13 +82,7 @@ label_no_space w bytes h = bytes_no_space LABEL_SIZE w bytes (sym (label_bytes w
 -- ---- decoding into half the length
 
 pub decode_sized-half : (w : List ℕ) (n : ℕ) → n ≡ length w / 2 → decode_sized w n ≡ decode_of w
-decode_sized-half w n half =
-    elim (cases_eq (length w % 2) 1) [
-      | inl odd ↦ decode_sized-odd w n odd ∙ sym (decode_of-odd w odd)
-      | inr other ↦
-          let even : length w % 2 ≡ 0 = omega arith in
-          decode_sized-pairs w n even (sym half) ∙ sym (decode_of-even w even)
-    ]
+decode_sized-half w n half = grind (arith, common_steps)
 
 -- what decoding into a slice showed
 abbrev pub Decoded : List ℕ → ℕ → Option (Unit {0}) → List ℕ → Type 0
@@ -134,6 +123,4 @@ bytes_decoded size w {n} {r} out {u} half some most told ok =
 
 pub bytes_not_decoded : (size : ℕ) (w : List ℕ) {n : ℕ} {r : Option (Unit {0})} (out : List ℕ) → n ≡ length w / 2 → n ≤ size
     → Decoded w (length {A = ℕ} (take n (replicate size 0))) r out → None ≡ r → bytes_in_word size w ≡ None
-bytes_not_decoded size w {n} {r} out half most told err =
-    let room : ℕ = length {A = ℕ} (take n (replicate size 0)) in
-    no_bytes size w (λ bytes h. decoded_err (decode_sized w room) r out bytes told err (decode_sized-half w room (room_is size n most ∙ half) ∙ h.decoded))
+bytes_not_decoded size w {n} {r} out half most told err = grind (arith, common_steps, no_bytes, decoded_err, decode_sized-half, room_is)

@@ -1,12 +1,12 @@
 -- Steps of loops that decode pairs of digits and look at the greatest value in the end. *Read*, of a digit or a byte, means decoded here.
+use Rattle.std.proofs.lemmas.Grind.{common_steps}
 use Rattle.std.proofs.Common.{◌≡◌, ℕ, zero, suc, max, ◌+◌, ◌*◌, ◌-◌, ◌%◌, ◌<◌, ◌≤◌, ◌⊎◌, ⊎_elim, true, false, List, length, take, drop, slice_index, slice_set, Option, Some, None, Ok, Err, refl, sym, ap, subst, ◌∙◌, arith}
 use Rattle.std.specs.Prelude.{IsErr}
 use Rattle.std.specs.Option.{unwrap_or}
-use Rattle.std.proofs.Math.Nat.{le-max_left, le-max_right}
 use Rattle.std.proofs.lemmas.Bool.{cases_lt, true≢false}
 use Rattle.std.proofs.lemmas.List.{get_or-set_other, get_or-set_same, set-get_or}
 use Rattle.std.proofs.lemmas.List.Elements.{All-get_or}
-use Rattle.hex.specs.Hex.{decode_pairs, digit_or_error, hex_digit_value, is_hex_digit, pair_value, value_at}
+use Rattle.hex.specs.Hex.{decode_pairs, digit_or_error, is_hex_digit, pair_value}
 use Rattle.hex.proofs.HexLemmas.{decode_pairs-ok}
 use Rattle.hex.proofs.Pairs.{decode_done, decode_start, decode_step, prepend}
 use Rattle.message.specs.Digits.{AreDecoded, HasNonDigit, IsDecoded, value_of}
@@ -17,10 +17,7 @@ read_as c i None h = absurd (omega arith)
 
 -- two digits are read
 pub pair_read : (high low i : ℕ) → value_of high < 16 → value_of low < 16 → pair_value high low i ≡ Ok (value_of high * 16 + value_of low)
-pair_read high low i h l =
-    let first : value_at high i ≡ Ok (value_of high) = read_as high i (hex_digit_value high) h in
-    let second : value_at low (i + 1) ≡ Ok (value_of low) = read_as low (i + 1) (hex_digit_value low) l in
-    rw (first, second) refl
+pair_read high low i h l = grind (arith, common_steps)
 
 no_digit : (c : ℕ) → 16 ≤ value_of c → is_hex_digit c ≡ false
 no_digit c h = grind arith
@@ -36,12 +33,7 @@ other_refused s k h other =
 -- ---- the greatest of three values
 
 pub greatest_small : (a b c : ℕ) → max (max a b) c < 16 → (a < 16) × (b < 16) × (c < 16)
-greatest_small a b c h =
-    let left = le-max_left a b in
-    let right = le-max_right a b in
-    let both = le-max_left (max a b) c in
-    let last = le-max_right (max a b) c in
-    (omega arith, omega arith, omega arith)
+greatest_small a b c h = grind (arith, common_steps)
 
 pub greatest_other : (a b c : ℕ) → 16 ≤ max (max a b) c → (16 ≤ a) ⊎ (16 ≤ b) ⊎ (16 ≤ c)
 greatest_other a b c h = grind arith
@@ -70,9 +62,7 @@ read_more digits out from i v here before j least less = ⊎_elim
 -- Bytes that are read stay so if they don't change.
 pub read_still : (digits old new : List ℕ) (to : ℕ) → ((i : ℕ) → i < to → slice_index new i ≡ slice_index old i)
     → AreDecoded digits old 0 to → AreDecoded digits new 0 to
-read_still digits old new to same before i least less =
-    let r = before i least less in
-    record { high = r.high; low = r.low; byte = same i less ∙ r.byte }
+read_still digits old new to same before i least less = grind (arith, common_steps)
 
 -- the bytes below `from` and those from `from` up to `to` are read, so all below `to` are
 pub read_both : (digits out : List ℕ) (from to : ℕ) → AreDecoded digits out 0 from → AreDecoded digits out from to → AreDecoded digits out 0 to

@@ -1,4 +1,5 @@
 -- The digits of a block or a label, as words and by what they encode.
+use Rattle.std.proofs.lemmas.Grind.{common_steps}
 use Rattle.std.proofs.Common.{◌≡◌, ℕ, List, Some, ap, sym, ◌∙◌, arith}
 use Rattle.hex.proofs.HexLemmas.{decode_of-ok}
 use Rattle.language.specs.declared.TheConstants.{BLOCK_SIZE, LABEL_SIZE}
@@ -8,13 +9,7 @@ use Rattle.language.specs.Grammar.{SpellsBytes}
 use Rattle.message.proofs.Blocks.{bytes_parts, bytes_from, block_bytes, bytes_block, label_bytes}
 
 bytes_say : (size : ℕ) (digits whole : List ℕ) → bytes_in_word size digits ≡ Some whole → SpellsBytes size digits whole
-bytes_say size digits whole h =
-    let p = bytes_parts size digits whole h in
-    let ok = decode_of-ok digits p.0 p.1.decoded in
-    let len = ok.2 in
-    let low = p.1.low in
-    let high = p.1.high in
-    (p.0, p.1.decoded, omega arith, omega arith, p.2)
+bytes_say size digits whole h = grind (arith, common_steps, bytes_parts, decode_of-ok)
 
 say_bytes : (size : ℕ) (digits whole : List ℕ) → SpellsBytes size digits whole → bytes_in_word size digits ≡ Some whole
 say_bytes size digits whole h =

@@ -1,4 +1,6 @@
 -- The grammar of each kind of message, word by word: the first word as a number, then the rest by the rule for one number less.
+use Rattle.std.proofs.Common.{arith}
+use Rattle.std.proofs.lemmas.Grind.{common_steps}
 use Rattle.std.proofs.Common.{◌≡◌, ℕ, List, [], ◌∷◌, Option, Some, None, refl, ap, sym, ◌∙◌}
 use Rattle.std.specs.Option.{option_map}
 use Rattle.language.specs.declared.Block.{Block}
@@ -130,10 +132,7 @@ of_label-onward make (a ∷ vs) = dead (number_in_word a) vs (λ n. label_from_v
 -- ---- no words
 
 pub nothing_behind : (m : Msg) (line : List ℕ) → of_nothing m (words line) ≡ None
-nothing_behind m line = elim (words line) as (λ ws. words line ≡ ws → of_nothing m ws ≡ None) [
-  | [] ↦ λ none. absurd (words_some line none)
-  | w ∷ ws ↦ λ some. refl
-] refl
+nothing_behind m line = grind (arith, common_steps, words_some)
 
 -- ---- as the code reads them
 

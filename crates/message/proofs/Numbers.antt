@@ -1,14 +1,13 @@
 -- What a word encodes as a number.
-use Rattle.std.proofs.Common.{◌≡◌, ℕ, zero, suc, ◌+◌, ◌-◌, ◌*◌, ◌<◌, ◌^◌, true, false, List, [], ◌∷◌, length, get_or, take, Some, None, refl, ap, sym, ◌∙◌, inl, inr, arith}
-use Rattle.std.specs.Prelude.{◌&&◌, ◌||◌, not, ◌==◌, nat_lt, nat_le}
+use Rattle.std.proofs.lemmas.Grind.{common_steps}
+use Rattle.std.proofs.Common.{◌≡◌, ℕ, zero, suc, ◌+◌, ◌-◌, ◌*◌, ◌<◌, ◌^◌, true, false, List, [], ◌∷◌, length, get_or, take, Some, None, refl, ap, sym, ◌∙◌, arith}
+use Rattle.std.specs.Prelude.{◌==◌, nat_le}
 use Rattle.std.specs.Char.{is_ascii_digit, digit_value}
 use Rattle.std.specs.Int.{IsInRange}
 use Rattle.std.specs.Str.{all_ascii_digits}
 use Rattle.std.specs.Str.Parse.{digits_value}
 use Rattle.std.specs.Fmt.{decimal}
-use Rattle.std.proofs.lemmas.Bool.{and_parts, and_from, or_cases, or_left, or_right, not-true, not_from_false, eqb-true, eq-eqb, ne_eqb, ltb-true, lt-ltb, leb-true, true≢false, cond-true, cases_eq}
-use Rattle.std.proofs.lemmas.Option.{cond_some}
-use Rattle.std.proofs.lemmas.Str.{digit_value_digit}
+use Rattle.std.proofs.lemmas.Bool.{and_parts, and_from, ne_eqb, lt-ltb, leb-true, cond-true}
 use Rattle.std.proofs.lemmas.Str.Parse.{IsNumeralModel, numerals_by_value, tells_all_ascii_digits, digits_value-take-le}
 use Rattle.std.proofs.lemmas.Int.Digits.{digits_value_more}
 use Rattle.std.proofs.lemmas.Fmt.{decimal-digits_value, digits_decimal, digits_value-decimal, decimal_nonempty, first_decimal, decimal_digit}
@@ -27,33 +26,15 @@ pub record IsNumber (w : List ℕ) : Type 0 where
   pub fits : digits_value 10 w < 65536
 
 numeral_parts : (w : List ℕ) → is_numeral w ≡ true → (all_ascii_digits w ≡ true) × (0 < length w) × (get_or w 0 0 ≡ 48 → length w ≡ 1)
-numeral_parts w h =
-    let p = and_parts (all_ascii_digits w && nat_lt 0 (length w)) (not (get_or w 0 0 == 48) || (length w == 1)) h in
-    let q = and_parts (all_ascii_digits w) (nat_lt 0 (length w)) p.0 in (
-      q.0,
-      ltb-true 0 (length w) q.1,
-      λ zero_first. elim (or_cases (not (get_or w 0 0 == 48)) (length w == 1) p.1) [
-        | inl other ↦ absurd (true≢false (sym (eq-eqb (get_or w 0 0) 48 zero_first) ∙ not-true (get_or w 0 0 == 48) other))
-        | inr one ↦ eqb-true (length w) 1 one
-      ],
-    )
+numeral_parts w h = grind (arith, common_steps)
 
 is_numeral_from : (w : List ℕ) → IsNumber w → is_numeral w ≡ true
-is_numeral_from w h =
-    and_from _ _ (and_from _ _ h.digits (lt-ltb 0 (length w) h.some))
-    (elim (cases_eq (get_or w 0 0) 48) [
-      | inl zero_first ↦ or_right (not (get_or w 0 0 == 48)) (length w == 1) (eq-eqb (length w) 1 (h.plain zero_first))
-      | inr other ↦ or_left (not (get_or w 0 0 == 48)) (length w == 1) (not_from_false (get_or w 0 0 == 48) (ne_eqb (get_or w 0 0) 48 other))
-    ])
+is_numeral_from w h = grind (arith, common_steps)
 
 -- a word that encodes a number
 pub number_parts : (w : List ℕ) (n : ℕ) → number_in_word w ≡ Some n → IsNumber w × (digits_value 10 w ≡ n)
 unfolding number_in_word
-number_parts w n h =
-    let p = cond_some (is_numeral w && nat_lt (digits_value 10 w) 65536) (digits_value 10 w) n h in
-    let q = and_parts (is_numeral w) (nat_lt (digits_value 10 w) 65536) p.0 in
-    let r = numeral_parts w q.0 in
-    (record { digits = r.0; some = r.1; plain = r.2; fits = ltb-true (digits_value 10 w) 65536 q.1 }, p.1)
+number_parts w n h = grind (arith, common_steps)
 
 pub number_from : (w : List ℕ) → IsNumber w → number_in_word w ≡ Some (digits_value 10 w)
 unfolding number_in_word
@@ -75,22 +56,13 @@ decimal-number w n h =
     (ap decimal (sym p.1) ∙ e, rw p.1 at fits)
 
 decimal_plain : (n : ℕ) → n < 65536 → get_or (decimal n) 0 0 ≡ 48 → length (decimal n) ≡ 1
-decimal_plain n h e =
-    elim (cases_eq n 0) [
-      | inl none ↦ rw none (ap length (decimal_digit 0 (omega arith)))
-      | inr more ↦ let first = first_decimal n (omega arith) (omega arith) in absurd (omega arith)
-    ]
+decimal_plain n h e = grind (arith, common_steps, decimal_digit, first_decimal)
 
 pub IsNumber-decimal : (n : ℕ) → n < 65536 → IsNumber (decimal n)
-IsNumber-decimal n h =
-    let wide : n < 2 ^ 64 = omega arith in
-    let value : digits_value 10 (decimal n) ≡ n = digits_value-decimal own n wide in
-    record { digits = digits_decimal own n wide; some = decimal_nonempty n wide; plain = decimal_plain n h; fits = omega arith }
+IsNumber-decimal n h = grind (arith, common_steps, digits_value-decimal, own, digits_decimal, decimal_nonempty, decimal_plain)
 
 pub number-decimal : (n : ℕ) → n < 65536 → number_in_word (decimal n) ≡ Some n
-number-decimal n h =
-    let wide : n < 2 ^ 64 = omega arith in
-    number_from (decimal n) (IsNumber-decimal n h) ∙ ap Some (digits_value-decimal own n wide)
+number-decimal n h = grind (arith, common_steps, number_from, IsNumber-decimal, digits_value-decimal, own)
 
 -- ---- digits one by one
 
@@ -102,9 +74,7 @@ not_a_space c h = let p = digit_in_range c h in ne_eqb c 32 (λ e. absurd (omega
 
 pub digits_no_space : (w : List ℕ) → all_ascii_digits w ≡ true → HasNoSpace w
 digits_no_space [] h = tt
-digits_no_space (c ∷ w) h =
-    let p = and_parts (is_ascii_digit c) (all_ascii_digits w) h in
-    (not_a_space c p.0, digits_no_space w p.1)
+digits_no_space (c ∷ w) h = grind (arith, common_steps, digits_no_space w)
 
 pub number_no_space : (w : List ℕ) (n : ℕ) → number_in_word w ≡ Some n → HasNoSpace w
 number_no_space w n h = digits_no_space w (number_parts w n h).0.digits
@@ -126,18 +96,12 @@ digits_more (c ∷ w) (suc i) lt h d =
 
 -- a digit's value
 pub value_of_digit : (c : ℕ) → is_ascii_digit c ≡ true → digit_value c ≡ c - 48
-value_of_digit c h =
-    let r = digit_in_range c h in
-    let d = digit_value_digit c r in
-    omega (arith, d)
+value_of_digit c h = grind (arith, common_steps)
 
 -- the value with one digit more
 pub value_more : (w : List ℕ) (i v : ℕ) → i < length w → is_ascii_digit (get_or w i 0) ≡ true → v ≡ digits_value 10 (take i w)
     → 10 * v + (get_or w i 0 - 48) ≡ digits_value 10 (take (i + 1) w)
-value_more w i v lt d e =
-    let more = digits_value_more 10 w i lt in
-    let one = value_of_digit (get_or w i 0) d in
-    omega (arith, more, one)
+value_more w i v lt d e = grind (arith, common_steps, digits_value_more, value_of_digit)
 
 -- a word whose first digits have a value past 65535 encodes no number
 pub too_large : (w : List ℕ) (i v : ℕ) → v ≡ digits_value 10 (take (i + 1) w) → 65535 < v → number_in_word w ≡ None
@@ -146,9 +110,4 @@ too_large w i v e h = no_number w (λ n. let less = digits_value-take-le 10 w (i
 -- ---- a word of one byte
 
 pub one_digit : (c : ℕ) → is_ascii_digit c ≡ true → number_in_word (c ∷ []) ≡ Some (c - 48)
-one_digit c digit =
-    let range = digit_in_range c digit in
-    let more = value_more (c ∷ []) 0 0 (omega arith) digit refl in
-    let value : digits_value 10 (c ∷ []) ≡ c - 48 = omega (arith, more) in
-    number_from (c ∷ []) (record { digits = and_from (is_ascii_digit c) true digit refl; some = omega arith; plain = λ e. refl; fits = omega (arith, value, range) })
-    ∙ ap Some value
+one_digit c digit = grind (arith, common_steps, digit_in_range, value_more, number_from, and_from)

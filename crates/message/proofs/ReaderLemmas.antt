@@ -1,10 +1,11 @@
 -- Laws of the first line of some bytes, and of what is unread.
+use Rattle.std.proofs.lemmas.Grind.{common_steps}
 use Rattle.std.proofs.Common.{◌≡◌, ◌≢◌, ℕ, zero, suc, min, ◌+◌, ◌-◌, ◌<◌, ◌≤◌, ◌⊎◌, inl, inr, Bool, true, false, List, [], ◌∷◌, ◌++◌, length, take, drop, get_or, Option, Some, None, IfSome, refl, sym, ap, ◌∙◌, subst, arith, append-nil, append_assoc, drop-drop}
 use Rattle.std.specs.List.{Contains, slice_range}
 use Rattle.std.specs.Io.KnownBytes.{prepend_known, Keeps, Consumes, IsAtEnd}
 use Rattle.std.proofs.KnownBytes.{prepend_known-nil}
 use Rattle.std.proofs.lemmas.Bool.{false≢true, cases_eq, cases_lt}
-use Rattle.std.proofs.lemmas.List.{length-append, get_or_default, get_or-take, get_or_append_left}
+use Rattle.std.proofs.lemmas.List.{length-append, get_or_default, get_or_append_left}
 use Rattle.std.proofs.lemmas.List.Edits.{length-between, get_or-between, between_none, between_more}
 use Rattle.std.proofs.lemmas.List.Elements.{All-nil, All-head, All-tail, All-append, All-from_get_or, All-contains, All-from_recursion, recursion_from_All}
 use Rattle.std.proofs.lemmas.Slice.{between_is}
@@ -40,25 +41,16 @@ later x xs not (suc k, low, is) = (k, omega arith, is)
 -- a line that is held whole is the first, whatever follows
 pub first_line-whole : (xs ys : List ℕ) → Contains xs 10 → first_line (xs ++ ys) ≡ first_line xs
 first_line-whole [] ys (k, low, is) = absurd (omega arith)
-first_line-whole (x ∷ xs) ys h = elim (cases_eq x 10) [
-  | inl is ↦ first_line-newline x (xs ++ ys) is ∙ sym (first_line-newline x xs is)
-  | inr not ↦ first_line-other x (xs ++ ys) not ∙ ap (λ l. x ∷ l) (first_line-whole xs ys (later x xs not h)) ∙ sym (first_line-other x xs not)
-]
+first_line-whole (x ∷ xs) ys h = grind (arith, common_steps, first_line-whole xs ys)
 
 pub behind_first_line-whole : (xs ys : List ℕ) → Contains xs 10 → behind_first_line (xs ++ ys) ≡ behind_first_line xs ++ ys
 behind_first_line-whole [] ys (k, low, is) = absurd (omega arith)
-behind_first_line-whole (x ∷ xs) ys h = elim (cases_eq x 10) [
-  | inl is ↦ behind_first_line-newline x (xs ++ ys) is ∙ ap (λ l. l ++ ys) (sym (behind_first_line-newline x xs is))
-  | inr not ↦ behind_first_line-other x (xs ++ ys) not ∙ behind_first_line-whole xs ys (later x xs not h) ∙ ap (λ l. l ++ ys) (sym (behind_first_line-other x xs not))
-]
+behind_first_line-whole (x ∷ xs) ys h = grind (arith, common_steps, behind_first_line-whole xs ys)
 
 -- what is read later makes the first line no shorter
 pub length-first_line : (xs ys : List ℕ) → length (first_line xs) ≤ length (first_line (xs ++ ys))
 length-first_line [] ys = omega arith
-length-first_line (x ∷ xs) ys = elim (cases_eq x 10) [
-  | inl is ↦ rw (first_line-newline x xs is) (omega arith)
-  | inr not ↦ rw (first_line-other x xs not, first_line-other x (xs ++ ys) not) (omega (arith, length-first_line xs ys))
-]
+length-first_line (x ∷ xs) ys = grind (arith, common_steps, length-first_line xs ys)
 
 -- a newline is not there and missing at once
 pub Contains-not_within : (xs : List ℕ) → IsWithinLine xs → Contains xs 10 → ⊥
@@ -151,10 +143,7 @@ LosesLineStart-trans None b c first next = tt
 LosesLineStart-trans (Some x) b c first next = losing_twice x b c first next
 
 passing_behind : (x : List ℕ) (b c : Option (List ℕ)) → LosesLineStart x b → IfSome b (λ bs. c ≡ Some (behind_first_line bs)) → c ≡ Some (behind_first_line x)
-passing_behind x b c first next =
-    let P : Option (List ℕ) → Type 0 = λ o. IfSome o (λ bs. c ≡ Some (behind_first_line bs)) in
-    let second : c ≡ Some (behind_first_line first.rest) = subst P first.left_is next in
-    second ∙ ap Some (sym (ap behind_first_line first.parts ∙ behind_first_line-within first.got first.rest first.within_line))
+passing_behind x b c first next = grind (arith, common_steps, behind_first_line-within)
 
 -- what lies behind the first line is the same after a front of the line was lost
 pub behind_first_line-later : (a b c : Option (List ℕ)) → IfSome a (λ bs. LosesLineStart bs b) → IfSome b (λ bs. c ≡ Some (behind_first_line bs)) → IfSome a (λ bs. c ≡ Some (behind_first_line bs))
@@ -174,8 +163,7 @@ pub behind_first_line-buffered : (buffered : List ℕ) (known : Option (List ℕ
     → IfSome (prepend_known buffered known) (λ bs. prepend_known (behind_first_line buffered) known ≡ Some (behind_first_line bs))
 behind_first_line-buffered buffered None whole = tt
 behind_first_line-buffered buffered (Some ys) (inl there) = ap Some (sym (behind_first_line-whole buffered ys there))
-behind_first_line-buffered buffered (Some ys) (inr none) = ap Some (ap (λ l. behind_first_line buffered ++ l) none ∙ append-nil (behind_first_line buffered)
-    ∙ ap behind_first_line (sym (ap (λ l. buffered ++ l) none ∙ append-nil buffered)))
+behind_first_line-buffered buffered (Some ys) (inr none) = grind (arith, common_steps)
 
 -- what a search of a part of the buffer shows of the buffer
 module _ (xs : List ℕ) (n e r : ℕ) (within : e ≤ length xs) (bound : r ≤ length (slice_range xs n e)) where
@@ -190,9 +178,7 @@ module _ (xs : List ℕ) (n e r : ℕ) (within : e ≤ length xs) (bound : r ≤
 
 -- a part with no bytes has none in another buffer of the same length
 pub slice-still_none : (xs ys : List ℕ) (i j : ℕ) → length ys ≡ length xs → j ≤ length xs → slice_range xs i j ≡ [] → slice_range ys i j ≡ []
-slice-still_none xs ys i j same within none =
-    let empty : j - i ≡ 0 = sym (length-between xs i j within) ∙ ap length none in
-    slice-none ys i j (omega arith)
+slice-still_none xs ys i j same within none = grind (arith, common_steps)
 
 -- a part that lies before what was written is as it was
 pub slice-front : (xs ys : List ℕ) (i j : ℕ) → take j ys ≡ take j xs → slice_range ys i j ≡ slice_range xs i j
@@ -212,10 +198,7 @@ Keeps-read (Some x) (Some y) buffered came consumes = append_assoc buffered came
 
 -- what was read behind bytes without a newline
 pub NoneFrom-read : (xs ys : List ℕ) (i j k : ℕ) → take j ys ≡ take j xs → NoneFrom xs i j → NoneFrom ys j k → NoneFrom ys i k
-NoneFrom-read xs ys i j k same before behind m low high = elim (cases_lt m j) [
-  | inl below ↦ λ is. before m low below (sym (get_or-take j xs m 0 below) ∙ ap (λ l. get_or l m 0) (sym same) ∙ get_or-take j ys m 0 below ∙ is)
-  | inr over ↦ behind m over high
-]
+NoneFrom-read xs ys i j k same before behind m low high = grind (arith, common_steps)
 
 -- ---- steps of a reader of lines: held bytes, and what is to come
 

@@ -1,4 +1,5 @@
 -- Messages and their records.
+use Rattle.std.proofs.lemmas.Grind.{common_steps}
 use Rattle.std.proofs.Common.{◌≡◌, ℕ, lit≤, zero, suc, Bool, true, ◌+◌, ◌-◌, ◌<◌, ◌≤◌, List, [], ◌∷◌, ◌++◌, length, length-append, length-drop, length-take-le, get_or, take, drop, replicate, Option, Some, None, refl, ap, sym, subst, ◌∙◌, append_assoc, arith}
 use Rattle.std.specs.Prelude.{option_map, slice_index, nat_lt, ◌↔◌, ◌&&◌}
 use Rattle.std.specs.List.{AllByRecursion}
@@ -30,25 +31,13 @@ below : (n limit : ℕ) {rest : Bool} → nat_lt n limit && rest ≡ true → (n
 below n limit {rest} h = let p = and_parts (nat_lt n limit) rest h in (ltb-true n limit p.0, p.1)
 
 two_fit : (g : Geometry) (a v : ℕ) → nat_lt a g.aggregates && (nat_lt v g.volumes && true) ≡ true → Fits (a ∷ v ∷ 0 ∷ 0 ∷ [])
-two_fit g a v h =
-    let p = below a g.aggregates h in
-    let q = below v g.volumes p.1 in
-    record { room = (omega arith, (omega arith, (lit≤ tt, tt))); block = lit≤ tt }
+two_fit g a v h = grind (arith, common_steps)
 
 three_fit : (g : Geometry) (a v f : ℕ) → nat_lt a g.aggregates && (nat_lt v g.volumes && (nat_lt f g.files && true)) ≡ true → Fits (a ∷ v ∷ f ∷ 0 ∷ [])
-three_fit g a v f h =
-    let p = below a g.aggregates h in
-    let q = below v g.volumes p.1 in
-    let r = below f g.files q.1 in
-    record { room = (omega arith, (omega arith, (omega arith, tt))); block = lit≤ tt }
+three_fit g a v f h = grind (arith, common_steps)
 
 four_fit : (g : Geometry) (a v f b : ℕ) → nat_lt a g.aggregates && (nat_lt v g.volumes && (nat_lt f g.files && (nat_lt b g.blocks && true))) ≡ true → Fits (a ∷ v ∷ f ∷ b ∷ [])
-four_fit g a v f b h =
-    let p = below a g.aggregates h in
-    let q = below v g.volumes p.1 in
-    let r = below f g.files q.1 in
-    let s = below b g.blocks r.1 in
-    record { room = (omega arith, (omega arith, (omega arith, tt))); block = omega arith }
+four_fit g a v f b h = grind (arith, common_steps)
 
 fits : (g : Geometry) (m : Msg) → is_in_range g m ≡ true → Fits (four_numbers m)
 fits g (Create a v f) h = three_fit g a v f h
@@ -82,9 +71,7 @@ low_byte b h = omega arith
 fields_decoded : (k : Kind) {n : List ℕ} (bytes : List ℕ) {a v f b : ℕ} → b < 65536 → n ≡ a ∷ v ∷ f ∷ b ∷ [] → message_in_fields (head_with (kind_number k) n ++ bytes)
     ≡ Some (assembled k a v f b bytes)
 unfolding message_in_fields
-fields_decoded k bytes {a} {v} {f} {b} h e =
-    let block = low_byte b h in
-    rw (e, kind_again k) (ap (λ (x : ℕ). Some (assembled k a v f x bytes)) block)
+fields_decoded k bytes {a} {v} {f} {b} h e = grind (arith, common_steps, low_byte, kind_again)
 
 four : (ns : List ℕ) → filled ns ≡ get_or (filled ns) 0 0 ∷ get_or (filled ns) 1 0 ∷ get_or (filled ns) 2 0 ∷ get_or (filled ns) 3 0 ∷ []
 four (a ∷ v ∷ f ∷ b ∷ more) = refl
@@ -207,30 +194,21 @@ abbrev IsDecoded : Geometry → List ℕ → Option Msg → Type 0
 IsDecoded g bytes r = (m : Msg) → IsMessage m → (r ≡ Some m) ↔ ((bytes ≡ record_of m) × (is_in_range g m ≡ true))
 
 pub decodes_none : (g : Geometry) (bytes : List ℕ) (r : Option Msg) → r ≡ None → ((m : Msg) → message_in_fields bytes ≡ Some m → bytes ≡ record_of m → is_in_range g m ≡ true → ⊥) → IsDecoded g bytes r
-decodes_none g bytes r none h = λ m whole. (
-  (λ e. let f : None ≡ Some m = sym none ∙ e in cc f),
-  (λ p. absurd (h m (ap message_in_fields p.0 ∙ record_says g m whole p.1) p.0 p.1)),
-)
+decodes_none g bytes r none h = grind (arith, common_steps, record_says)
 
 pub decodes_some : (g : Geometry) (bytes : List ℕ) (n : Msg) → message_in_fields bytes ≡ Some n → bytes ≡ record_of n → is_in_range g n ≡ true → IsDecoded g bytes (Some n)
-decodes_some g bytes n says is there = λ m whole. (
-  (λ e. let same : n ≡ m = same_Some n m e in (is ∙ ap record_of same, sym (ap (is_in_range g) same) ∙ there)),
-  (λ p. sym says ∙ ap message_in_fields p.0 ∙ record_says g m whole p.1),
-)
+decodes_some g bytes n says is there = grind (arith, common_steps, same_Some, record_says)
 
 -- ---- the fields as the code reads them
 
 pub no_fields : (bytes : List ℕ) → None ≡ kind_numbered (slice_index bytes 0) → None ≡ message_in_fields bytes
 unfolding message_in_fields
-no_fields bytes h =
-    ap (λ (o : Option Kind). option_map (λ k. assembled k (slice_index bytes 1) (slice_index bytes 2) (slice_index bytes 3) (little_number 2 (take 2 (drop 4 bytes))) (drop 8 bytes)) o) h
+no_fields bytes h = grind (arith, common_steps)
 
 pub some_fields : (bytes : List ℕ) (k : Kind) (m : Msg) → Some k ≡ kind_numbered (slice_index bytes 0)
     → m ≡ assembled k (slice_index bytes 1) (slice_index bytes 2) (slice_index bytes 3) (little_number 2 (take 2 (drop 4 bytes))) (drop 8 bytes) → Some m ≡ message_in_fields bytes
 unfolding message_in_fields
-some_fields bytes k m h e =
-    ap Some e
-    ∙ ap (λ (o : Option Kind). option_map (λ k. assembled k (slice_index bytes 1) (slice_index bytes 2) (slice_index bytes 3) (little_number 2 (take 2 (drop 4 bytes))) (drop 8 bytes)) o) h
+some_fields bytes k m h e = grind (arith, common_steps)
 
 length_filled : (k : ℕ) (ns : List ℕ) → length (head_with k (filled ns)) ≡ 8
 length_filled k (a ∷ v ∷ f ∷ b ∷ more) = refl

@@ -1,5 +1,6 @@
 -- A line and its words.
-use Rattle.std.proofs.Common.{◌≡◌, ℕ, zero, suc, ◌+◌, ◌-◌, ◌<◌, ◌≤◌, true, false, cond, eqb, List, [], ◌∷◌, ◌++◌, length, Option, Some, None, length-drop, get_or, take, drop, refl, ap, sym, ◌∙◌, arith}
+use Rattle.std.proofs.lemmas.Grind.{common_steps}
+use Rattle.std.proofs.Common.{◌≡◌, ℕ, zero, suc, ◌+◌, ◌-◌, ◌<◌, ◌≤◌, true, false, eqb, List, [], ◌∷◌, ◌++◌, length, Option, Some, None, length-drop, get_or, take, drop, refl, ap, sym, ◌∙◌, arith}
 use Rattle.std.proofs.lemmas.Bool.{ne_eqb}
 use Rattle.std.proofs.lemmas.List.{take_all, drop_more, take-append-drop}
 use Rattle.std.specs.Prelude.{if◌then◌else◌, ◌==◌}
@@ -17,13 +18,7 @@ in_first-onto_first b (w ∷ ws) = refl
 
 words-slice_split : (bs : List ℕ) → words bs ≡ slice_split (λ b. eqb b 32) bs
 words-slice_split [] = refl
-words-slice_split (b ∷ bs) =
-    let e = words-slice_split bs in
-    rw e (elim (b == 32) as (λ t. (if t then [] ∷ slice_split (λ b. eqb b 32) bs else in_first b (slice_split (λ b. eqb b 32) bs))
-    ≡ cond t ([] ∷ slice_split (λ b. eqb b 32) bs) (onto_first b (slice_split (λ b. eqb b 32) bs))) [
-      | true ↦ refl
-      | false ↦ in_first-onto_first b (slice_split (λ b. eqb b 32) bs)
-    ])
+words-slice_split (b ∷ bs) = grind (arith, common_steps, words-slice_split bs)
 
 pub join-words : (bs : List ℕ) → join_with_byte 32 (words bs) ≡ bs
 join-words bs = rw (words-slice_split bs) (join_with_byte-slice_split 32 bs)

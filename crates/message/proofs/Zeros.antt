@@ -1,5 +1,6 @@
 -- The zeros at the end of a block.
-use Rattle.std.proofs.Common.{◌≡◌, ℕ, ◌+◌, ◌-◌, ◌<◌, ◌≤◌, List, [], ◌∷◌, ◌++◌, length, get_or, take, refl, ap, sym, ◌∙◌, arith}
+use Rattle.std.proofs.lemmas.Grind.{common_steps}
+use Rattle.std.proofs.Common.{◌≡◌, ℕ, ◌-◌, ◌<◌, ◌≤◌, List, [], ◌∷◌, ◌++◌, length, get_or, take, refl, ap, ◌∙◌, arith}
 use Rattle.std.proofs.lemmas.Bool.{ne_eqb, cond-false}
 use Rattle.std.proofs.lemmas.List.{take_more}
 use Rattle.language.specs.Replies.{prepended, without_trailing_zeros, at_least_one}
@@ -22,17 +23,8 @@ some_stays (x ∷ xs) b = refl
 
 -- one byte fewer, which is a zero
 pub one_fewer : (xs : List ℕ) (n : ℕ) → 0 < n → n ≤ length xs → get_or xs (n - 1) 0 ≡ 0 → without_trailing_zeros (take n xs) ≡ without_trailing_zeros (take (n - 1) xs)
-one_fewer xs n some h e =
-    let next : n ≡ n - 1 + 1 = omega arith in
-    let front : take n xs ≡ take (n - 1) xs ++ 0 ∷ [] =
-    ap (λ k. take k xs) next ∙ take_more xs (n - 1) 0 (omega arith) ∙ ap (λ b. take (n - 1) xs ++ b ∷ []) e in
-    ap without_trailing_zeros front ∙ zero_goes (take (n - 1) xs)
+one_fewer xs n some h e = grind (arith, common_steps, take_more, zero_goes)
 
 -- no byte fewer where the last isn't a zero
 pub last_stays : (xs : List ℕ) (n : ℕ) → 0 < n → n ≤ length xs → (get_or xs (n - 1) 0 ≡ 0 → ⊥) → at_least_one (without_trailing_zeros (take n xs)) ≡ take n xs
-last_stays xs n some h other =
-    let next : n ≡ n - 1 + 1 = omega arith in
-    let front : take n xs ≡ take (n - 1) xs ++ get_or xs (n - 1) 0 ∷ [] = ap (λ k. take k xs) next ∙ take_more xs (n - 1) 0 (omega arith) in
-    ap (λ ys. at_least_one (without_trailing_zeros ys)) front
-    ∙ ap at_least_one (other_stays (take (n - 1) xs) (get_or xs (n - 1) 0) other)
-    ∙ some_stays (take (n - 1) xs) (get_or xs (n - 1) 0) ∙ sym front
+last_stays xs n some h other = grind (arith, common_steps, take_more, other_stays, some_stays)

@@ -1,4 +1,5 @@
 -- Each group puts its bytes behind those before it, and `decode_from` puts the bytes behind the last group.
+use Rattle.std.proofs.lemmas.Grind.{common_steps}
 use Rattle.std.proofs.Common.{◌≡◌, ℕ, ◌+◌, ◌*◌, ◌<◌, ⊎_elim, max, ap, arith, length, slice_index, sym, ◌∙◌, subst}
 use Rattle.std.proofs.Math.Nat.{le-max_left, le-max_right}
 use Rattle.message.specs.Digits.{AreDecoded, value_of}
@@ -47,7 +48,4 @@ returns-clause-digits c = λ small.
     (c.decode_from-most.ensures.read (omega (arith, right, both))))
 
 pub returns-clause-other : goal.returns-clause-other
-returns-clause-other c = λ great.
-    not_decoded c.args.digits.now
-    (⊎_elim c.loop-n.invariant.other c.decode_from-most.ensures.other
-    (one_other c.loop-n.greatest c.decode_from-most.result (rw (sym c.max.ensures) great)))
+returns-clause-other c = grind (arith, common_steps, not_decoded, one_other)

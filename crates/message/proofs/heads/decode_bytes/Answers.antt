@@ -1,14 +1,12 @@
 -- Pairs of digits, one to as many as a block has bytes, are decoded to the front of the zeros; all else spells no bytes.
-use Rattle.std.proofs.Common.{sym, refl, arith, inl, inr}
+use Rattle.std.proofs.lemmas.Grind.{common_steps}
+use Rattle.std.proofs.Common.{sym, refl, arith}
 use Rattle.language.specs.declared.TheConstants.{BLOCK_SIZE}
 use Rattle.message.proofs.Blocks.{no_bytes, bytes_decoded, bytes_not_decoded}
 use Rattle.message.proofs.heads.decode_bytes.Goals as goal
 
 pub returns-then-size-eq0 : goal.returns-then-size-eq0
-returns-then-size-eq0 c = no_bytes BLOCK_SIZE c.args.digits.now (λ bytes h.
-    let low = h.low in
-    let high = h.high in
-    elim c.then-size-eq0.either [ inl none ↦ absurd (omega arith) | inr many ↦ absurd (omega arith) ])
+returns-then-size-eq0 c = grind (arith, common_steps, no_bytes)
 
 pub returns-in_err-decode_to_slice : goal.returns-in_err-decode_to_slice
 returns-in_err-decode_to_slice c = rw c.from_residual.ensures (bytes_not_decoded BLOCK_SIZE c.args.digits.now

@@ -1,13 +1,11 @@
 -- One to N pairs of digits are decoded into the first bytes of an array of zeros; anything else encodes no bytes.
-use Rattle.std.proofs.Common.{sym, ◌∙◌, refl, arith, inl, inr}
+use Rattle.std.proofs.lemmas.Grind.{common_steps}
+use Rattle.std.proofs.Common.{sym, ◌∙◌, refl, arith}
 use Rattle.message.proofs.Blocks.{no_bytes, bytes_decoded, bytes_not_decoded, decoded_by_hex}
 use Rattle.message.proofs.parsing.bytes_in_word.Goals as goal
 
 pub returns-then-size-eq0 : goal.returns-then-size-eq0
-returns-then-size-eq0 g c = sym (no_bytes g.row.N c.args.digits.now (λ bytes h.
-    let low = h.low in
-    let high = h.high in
-    elim c.then-size-eq0.either [ inl none ↦ absurd (omega arith) | inr many ↦ absurd (omega arith) ]))
+returns-then-size-eq0 g c = grind (arith, common_steps, no_bytes)
 
 pub returns-in_err-ok : goal.returns-in_err-ok
 returns-in_err-ok g c =

@@ -1,4 +1,6 @@
 -- A word of five bytes is write, punch, usage or label, or no keyword: all other keywords have another length.
+use Rattle.std.proofs.Common.{arith}
+use Rattle.std.proofs.lemmas.Grind.{common_steps}
 use Rattle.std.proofs.Common.{sym, ◌∙◌}
 use Rattle.affinity.specs.declared.kinds.Kind.TheVariants.{Write, Punch, Usage, Label}
 use Rattle.message.proofs.Keywords.{fails_all, passes}
@@ -17,6 +19,4 @@ pub returns-then-eq-4 : goal.returns-then-eq-4
 returns-then-eq-4 c = passes c.args.word.now Label (sym c.eq-else-eq-3.ensures ∙ c.if-eq-4.true)
 
 pub returns-else-eq-4 : goal.returns-else-eq-4
-returns-else-eq-4 c =
-    fails_all 5 c.args.word.now c.told-word
-    (sym c.eq.ensures ∙ c.if-eq.false, (sym c.eq-else-eq.ensures ∙ c.if-eq-2.false, (sym c.eq-else-eq-2.ensures ∙ c.if-eq-3.false, (sym c.eq-else-eq-3.ensures ∙ c.if-eq-4.false, tt))))
+returns-else-eq-4 c = grind (arith, common_steps, fails_all)

@@ -1,4 +1,6 @@
 -- A word of seven bytes is makevol, dropvol or summary, or no keyword: all other keywords have another length.
+use Rattle.std.proofs.Common.{arith}
+use Rattle.std.proofs.lemmas.Grind.{common_steps}
 use Rattle.std.proofs.Common.{sym, ◌∙◌}
 use Rattle.affinity.specs.declared.kinds.Kind.TheVariants.{MakeVol, DropVol, Summary}
 use Rattle.message.proofs.Keywords.{fails_all, passes}
@@ -14,6 +16,4 @@ pub returns-then-eq-3 : goal.returns-then-eq-3
 returns-then-eq-3 c = passes c.args.word.now Summary (sym c.eq-else-eq-2.ensures ∙ c.if-eq-3.true)
 
 pub returns-else-eq-3 : goal.returns-else-eq-3
-returns-else-eq-3 c =
-    fails_all 7 c.args.word.now c.told-word
-    (sym c.eq.ensures ∙ c.if-eq.false, (sym c.eq-else-eq.ensures ∙ c.if-eq-2.false, (sym c.eq-else-eq-2.ensures ∙ c.if-eq-3.false, tt)))
+returns-else-eq-3 c = grind (arith, common_steps, fails_all)

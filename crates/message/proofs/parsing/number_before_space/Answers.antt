@@ -1,5 +1,6 @@
 -- Digits have no space among them, so the first space ends the first word.
-use Rattle.std.proofs.Common.{◌≡◌, ◌+◌, ◌-◌, ◌<◌, length, take, drop, add-one, arith, refl, ap, sym, ◌∙◌}
+use Rattle.std.proofs.lemmas.Grind.{common_steps}
+use Rattle.std.proofs.Common.{◌≡◌, ◌+◌, ◌<◌, length, take, add-one, arith, ap, sym, ◌∙◌}
 use Rattle.std.specs.Char.{is_ascii_digit}
 use Rattle.std.specs.Str.Parse.{digits_value}
 use Rattle.std.proofs.lemmas.Bool.{true≢false, ne_eqb}
@@ -18,10 +19,7 @@ returns-in_err-value c =
     rw c.from_residual.ensures (first_number_none (words line) first.word first.behind first.parts (too_large first.word much.last _ same much.large))
 
 pub returns-then-size-line : goal.returns-then-size-line
-returns-then-size-line c =
-    let line = c.args.line.now in
-    let front = c.in_ok-value.ensures in
-    rw (words_whole line c.in_ok-value.size (omega arith) (digits_no_space (take c.in_ok-value.size line) front.digits)) refl
+returns-then-size-line c = grind (arith, common_steps, words_whole, digits_no_space)
 
 pub returns-then-line-size-ne32 : goal.returns-then-line-size-ne32
 returns-then-line-size-ne32 c =
@@ -35,19 +33,7 @@ returns-then-line-size-ne32 c =
     (no_number first.word (λ n. true≢false (sym (digit_at first.word size n.digits first.long) ∙ ap is_ascii_digit first.here ∙ front.no_more less)))
 
 pub returns-in_err-number : goal.returns-in_err-number
-returns-in_err-number c =
-    let line = c.args.line.now in
-    let size = c.in_ok-value.size in
-    let front = c.in_ok-value.ensures in
-    let within = front.within in
-    let parts = words_split line size (omega arith) (digits_no_space (take size line) front.digits) c.if-line-size-ne32.false in
-    rw c.from_residual-in_err-number.ensures (first_number_none (words line) _ _ parts (sym c.in_err-number.ensures))
+returns-in_err-number c = grind (arith, common_steps, words_split, digits_no_space, first_number_none)
 
 pub returns : goal.returns
-returns c =
-    let line = c.args.line.now in
-    let size = c.in_ok-value.size in
-    let front = c.in_ok-value.ensures in
-    let within = front.within in
-    let parts = words_split line size (omega arith) (digits_no_space (take size line) front.digits) c.if-line-size-ne32.false in
-    first_number_some (words line) (take size line) (take (length line - (size + 1)) (drop (size + 1) line)) c.in_ok-number.number parts (sym c.in_ok-number.ensures)
+returns c = grind (arith, common_steps, words_split, digits_no_space, first_number_some)

@@ -1,5 +1,6 @@
 -- The lowest bit of those that are left is the next file; where none is left, all files are listed.
-use Rattle.std.proofs.Common.{◌≡◌, ◌/◌, ◌^◌, ◌<◌, arith}
+use Rattle.std.proofs.lemmas.Grind.{common_steps}
+use Rattle.std.proofs.Common.{◌/◌, ◌^◌, ◌<◌, arith}
 use Rattle.message.proofs.Assembly.{appends_more, appends_same, all_files, files_end, next_file}
 use Rattle.message.proofs.printing.write_files.Goals as goal
 
@@ -21,10 +22,7 @@ loop-from-preserved c =
     }
 
 pub returns-then-left-eq0-clause-text : goal.returns-then-left-eq0-clause-text
-returns-then-left-eq0-clause-text c =
-    appends_same (files_end c.args.files c.loop-from.from (omega arith) c.if-left-eq0.true) c.loop-from.invariant.text
+returns-then-left-eq0-clause-text c = grind (arith, common_steps, appends_same, files_end)
 
 pub returns-clause-text : goal.returns-clause-text
-returns-clause-text c =
-    let last : c.loop-from.from ≡ 64 = omega arith in
-    appends_same (all_files c.args.files c.loop-from.from last) c.loop-from.invariant.text
+returns-clause-text c = grind (arith, common_steps, appends_same, all_files)

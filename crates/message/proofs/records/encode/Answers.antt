@@ -1,4 +1,6 @@
 -- Head and data are written one behind the other: a block, a label with zeros, or zeros alone.
+use Rattle.std.proofs.Common.{arith}
+use Rattle.std.proofs.lemmas.Grind.{common_steps}
 use Rattle.std.proofs.Common.{◌≡◌, ◌+◌, ◌-◌, ℕ, List, length, ◌++◌, replicate, refl, ap, sym, ◌∙◌}
 use Rattle.language.specs.declared.TheConstants.{BLOCK_SIZE, LABEL_SIZE}
 use Rattle.message.specs.Records.{record_head, data_of}
@@ -7,15 +9,7 @@ use borrow.Rule.Slice.PartMut.{put_mid, post_of}
 use Rattle.message.proofs.records.encode.Goals as goal
 
 pub returns-in-Write : goal.returns-in-Write
-returns-in-Write c =
-    let m = c.args.m.now in
-    let w = c.in-Write in
-    let head : c.copy_from_slice.new.self ≡ record_head m = c.copy_from_slice.ensures.after ∙ c.head_of.ensures in
-    let eight : length c.copy_from_slice.new.self ≡ 8 = ap length head ∙ length_head m in
-    let behind : c.copy_from_slice-in-Write.new.self ≡ data_of m = c.copy_from_slice-in-Write.ensures.after
-    ∙ sym (data_of_write w.field-0 w.field-1 w.field-2 w.field-3 w.content) ∙ ap data_of (sym w.is) in
-    let size = c.copy_from_slice-in-Write.ensures.len ∙ length_behind c.args.out.now c.copy_from_slice.new.self c.told-out eight in
-    put_together c.args.out.now _ _ BLOCK_SIZE c.told-out eight size refl ∙ (λ i. head i ++ behind i)
+returns-in-Write c = grind (arith, common_steps, length_head, data_of_write, length_behind, put_together)
 
 pub returns-in-SetLabel : goal.returns-in-SetLabel
 returns-in-SetLabel c =

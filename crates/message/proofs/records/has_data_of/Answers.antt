@@ -1,5 +1,6 @@
 -- A block's data is any bytes; behind a label, and for all other kinds, the bytes have to be zeros.
-use Rattle.std.proofs.Common.{◌≡◌, ℕ, ◌+◌, ◌-◌, Bool, List, length, length-drop, take, drop, replicate, refl, ap, sym, ◌∙◌, arith}
+use Rattle.std.proofs.lemmas.Grind.{common_steps}
+use Rattle.std.proofs.Common.{◌≡◌, ℕ, ◌+◌, ◌-◌, Bool, List, length, take, drop, replicate, ap, sym, ◌∙◌, arith}
 use Rattle.std.specs.Prelude.{◌↔◌, IsTrue}
 use Rattle.std.specs.Str.{bytes_eq}
 use Rattle.std.proofs.lemmas.List.{take_all}
@@ -11,18 +12,10 @@ use Rattle.message.proofs.records.has_data_of.Goals as goal
 
 -- whether the bytes from a place on are zeros
 tested : (bytes : List ℕ) (n k : ℕ) (t : Bool) → length bytes ≡ n + k → t ≡ bytes_eq (take k (drop n bytes)) (replicate k 0) → IsTrue t ↔ (drop n bytes ≡ replicate k 0)
-tested bytes n k t size e =
-    let whole : take k (drop n bytes) ≡ drop n bytes = take_all k (drop n bytes) (omega (arith, length-drop n bytes)) in
-    let same = bytes_eq-Decides (take k (drop n bytes)) (replicate k 0) in (
-      (λ is. sym whole ∙ same.0 (sym e ∙ is)),
-      (λ is. e ∙ same.1 (whole ∙ is)),
-    )
+tested bytes n k t size e = grind (arith, common_steps, take_all, bytes_eq-Decides)
 
 pub returns-in-Write : goal.returns-in-Write
-returns-in-Write c = (
-  (λ is. write_if_decoded c.args.bytes.now c.args.m.now c.told-bytes c.fits-bytes (sym c.requires) (ap kind c.in-Write.is)),
-  (λ there. refl),
-)
+returns-in-Write c = grind (arith, common_steps, write_if_decoded)
 
 pub returns-in-SetLabel : goal.returns-in-SetLabel
 returns-in-SetLabel c =

@@ -1,4 +1,5 @@
 -- What is read goes behind what was held, and its first newline is the first held; a failed read keeps all.
+use Rattle.std.proofs.lemmas.Grind.{common_steps}
 use Rattle.std.proofs.Common.{◌≡◌, ◌+◌, ◌<◌, ◌≤◌, ℕ, List, length, take, drop, get_or, subst, arith}
 use Rattle.std.specs.List.{slice_range}
 use Rattle.std.proofs.lemmas.Result.{err_from_is_err_and}
@@ -7,10 +8,7 @@ use Rattle.message.proofs.ReaderLemmas.{NoneFrom, NoneFrom-read, NoneFrom-slice,
 use Rattle.message.proofs.reading.Buffered.read_behind.Goals as goal
 
 pub returns-in_err-count-clause-kept : goal.returns-in_err-count-clause-kept
-returns-in_err-count-clause-kept g c =
-    let p = err_from_is_err_and c.from_residual.result c.from_residual.ensures.1 in
-    let h = c.args.self.now in
-    rw p.1 (slice-front h.buffer.items c.read_over.new.buffer.items h.start h.end c.read_over.ensures.front)
+returns-in_err-count-clause-kept g c = grind (arith, common_steps, err_from_is_err_and, slice-front)
 
 pub invariant_of-self-2 : goal.invariant_of-self-2
 invariant_of-self-2 g c =

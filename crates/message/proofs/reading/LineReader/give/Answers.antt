@@ -1,4 +1,5 @@
 -- A whole line is held, or the last one, or one that is too long: the first line of what is held is that of the input.
+use Rattle.std.proofs.lemmas.Grind.{common_steps}
 use Rattle.std.proofs.Common.{◌≡◌, ◌⊎◌, ◌<◌, inl, inr, true, length, arith}
 use Rattle.std.specs.List.{Contains}
 use Rattle.std.proofs.lemmas.Bool.{iff_false}
@@ -27,10 +28,4 @@ returns-clause-found g c =
     c.take_line.ensures.line c.take_line.ensures.bytes
 
 pub returns-clause-closes : goal.returns-clause-closes
-returns-clause-closes g c =
-    let r = c.args.self.now in
-    let whole : (r.ended ≡ true) ⊎ Contains (buffered_bytes r.buffered) 10 = elim c.requires.enough [
-      | inl known_end ↦ inl known_end
-      | inr more ↦ elim more [ inl there ↦ inr there | inr long ↦ absurd (omega (arith, c.first_len.ensures, c.if-first_len-gt-LONGEST_LINE.false, long)) ]
-    ] in
-    rw c.take_line.ensures.bytes (HasWholeFirstLine-buffered r.ended (buffered_bytes r.buffered) (g.R.Read.remaining r.reader) whole)
+returns-clause-closes g c = grind (arith, common_steps, HasWholeFirstLine-buffered)

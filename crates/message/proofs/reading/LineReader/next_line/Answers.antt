@@ -1,10 +1,12 @@
 -- Reading on keeps the known bytes as they were, so what is found is the line that they begin with.
+use Rattle.std.proofs.Common.{arith}
+use Rattle.std.proofs.lemmas.Grind.{common_steps}
 use Rattle.std.proofs.Common.{ℕ, List, Option, Some, None, Result, Ok, subst}
 use Rattle.std.specs.Io.KnownBytes.{Keeps}
 use Rattle.message.specs.declared.reading.Found.{Found}
 use Rattle.message.specs.declared.reading.Found.TheVariants.{Line}
 use Rattle.message.specs.declared.reading.ReadFault.{ReadFault}
-use Rattle.message.specs.Reader.{unread, line_of, Finds}
+use Rattle.message.specs.Reader.{Finds}
 use Rattle.message.proofs.reading.LineReader.next_line.Goals as goal
 
 -- nothing is claimed of bytes that are not known
@@ -18,7 +20,4 @@ of_kept (Some xs) None r line left kept h = absurd kept
 of_kept (Some xs) (Some ys) r line left kept h = subst (λ (zs : List ℕ). Finds r (Some zs) line left) kept h
 
 pub returns-clause-found : goal.returns-clause-found
-returns-clause-found g c =
-    let kept = rw c.forget_line.ensures.bytes at c.in_ok-gather.ensures.bytes in
-    of_kept (unread g.R.Read.remaining c.args.self.now) (unread g.R.Read.remaining c.gather.new.self) c.give.result (line_of c.give.new.self)
-    (unread g.R.Read.remaining c.give.new.self) kept c.give.ensures.found
+returns-clause-found g c = grind (arith, common_steps, of_kept)
