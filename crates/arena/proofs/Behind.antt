@@ -1,6 +1,6 @@
 -- The slot that comes after a slot, or first in a list.
 use Rattle.std.proofs.lemmas.Grind.{common_steps}
-use Rattle.std.proofs.Common.{◌≡◌, ◌≢◌, ℕ, zero, suc, ◌+◌, ◌-◌, ◌<◌, ◌≤◌, List, [], ◌∷◌, refl, sym, ap, ◌∙◌, arith, Option, Some, None, nat_lt, if◌then◌else◌}
+use Rattle.std.proofs.Common.{◌≡◌, ◌≢◌, ℕ, zero, suc, ◌+◌, ◌-◌, ◌<◌, ◌≤◌, List, [], ◌∷◌, refl, arith, Option, Some, None, nat_lt, if◌then◌else◌}
 use Rattle.std.proofs.lemmas.Bool.{lt-ltb, le-ltb}
 use Rattle.std.specs.List.{concat}
 use Rattle.arena.specs.Lists.{count_of, first_of, behind, behind_in}
@@ -24,10 +24,6 @@ behind_in-nowhere i [] none = refl
 behind_in-nowhere i (xs ∷ lists) none = grind (arith, common_steps, behind_in-nowhere i lists, count_of-append, le-ltb)
 
 module _ (next : ℕ → ℕ) (slots : ℕ) where
-  pub first_of-way : (a : ℕ) (xs : List ℕ) (z : ℕ) → IsWay next a xs z → AreSlots slots xs → slots ≤ z → first_of xs ≡ slot_or_none slots (next a)
-  first_of-way a [] z way inside outside = sym (ap (slot_or_none slots) way ∙ slot_or_none-end slots z outside)
-  first_of-way a (x ∷ xs) z way inside outside = sym (ap (slot_or_none slots) way.0 ∙ slot_or_none-slot slots x inside.0)
-
   pub behind-way : (a i : ℕ) (xs : List ℕ) (z : ℕ) → IsWay next a xs z → AreSlots slots xs → slots ≤ z → 0 < count_of i xs → behind i xs ≡ slot_or_none slots (next i)
   behind-way a i [] z way inside outside some = absurd (omega arith)
   behind-way a i (x ∷ xs) z way inside outside some = grind (arith, common_steps, behind-way x i xs z way.1 inside.1 outside)

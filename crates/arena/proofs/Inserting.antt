@@ -27,12 +27,6 @@ rest-kept slot before next next' rest (x ∷ xs) passes avoids = grind (arith, c
 module _ (slots nodes slot before : ℕ) (next previous next' previous' : ℕ → ℕ) (linked : IsLinked slots nodes next previous)
     (within : slot < slots) (alone : next slot ≡ slot) (before_below : before < nodes) (before_apart : before ≢ slot)
     (inserted : IsInserted slot before next previous next' previous') where
-  is_node : slot < nodes
-  is_node = omega (arith, linked.slots_fit)
-
-  after_apart : next before ≢ slot
-  after_apart same = before_apart (sym (linked.previous_undoes before before_below) ∙ ap previous same ∙ alone_back slots nodes slot next previous linked within alone)
-
   next_below : (a : ℕ) → a < nodes → next' a < nodes
   next_below a below = grind (arith, common_steps)
 

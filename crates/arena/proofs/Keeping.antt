@@ -1,6 +1,6 @@
 -- Each call on the two arrays of links and the values keeps what an arena keeps, and changes its view as its definition says.
 use Rattle.std.proofs.lemmas.Grind.{common_steps}
-use Rattle.std.proofs.Common.{◌≡◌, ℕ, zero, suc, ◌+◌, ◌-◌, ◌<◌, ◌≤◌, true, false, List, [], ◌∷◌, ◌++◌, map, length, replicate, refl, sym, ap, subst, ◌∙◌, arith, add-one, Option, Some, None, is_some, is_none, slice_index_or, slice_set, Ok, Err}
+use Rattle.std.proofs.Common.{◌≡◌, ℕ, suc, ◌+◌, ◌-◌, ◌<◌, ◌≤◌, true, false, List, [], ◌∷◌, ◌++◌, map, length, replicate, refl, sym, ap, subst, ◌∙◌, arith, add-one, Option, Some, None, is_some, slice_index_or, slice_set, Ok, Err}
 use Rattle.std.proofs.lemmas.Bool.{lt-ltb, le-ltb, eq-eqb}
 use Rattle.std.proofs.lemmas.List.{length-set, length-replicate}
 use Rattle.std.specs.List.{concat, AllByRecursion}
@@ -149,13 +149,6 @@ module _ {T : Type 0} where
       (appended i c kept held))
 
   -- `restore`
-  none-from : (o : Option T) → is_some o ≡ false → is_none o ≡ true
-  none-from None empty = refl
-  none-from (Some v) empty = absurd (cc)
-
-  pub lent-from : (m : ArenaView T) (i : ℕ) → i < capacity_of m → holds_value m i ≡ false → count_of i m.free ≡ 0 → is_lent m i ≡ true
-  lent-from m i within empty unfree = grind (arith, common_steps)
-
   pub restore-kept : {values : List (Option T)} {slots : ℕ} {lists : List (List ℕ)} {count : ℕ} (i : ℕ) (value : T) → ArenaRule values (linked_as slots lists) count
       → i < length values → count_of i (concat lists) ≡ 0
       → ArenaRule (slice_set values i (Some value)) (linked_as slots lists) count
@@ -176,9 +169,6 @@ module _ {T : Type 0} where
   pub not_lent : (m : ArenaView T) (i : ℕ) → holds_value m i ≡ true → is_lent m i ≡ false
   not_lent m i held = grind (arith, common_steps)
 
-  not_lent-free : (m : ArenaView T) (i : ℕ) → 0 < count_of i m.free → is_lent m i ≡ false
-  not_lent-free m i free = grind (arith, common_steps)
-
   pub not_lent-listed : {values : List (Option T)} {slots : ℕ} {lists : List (List ℕ)} {count : ℕ} (i : ℕ) → ArenaRule values (linked_as slots lists) count
       → (count_of i (concat lists) ≡ 0 → ⊥) → is_lent (arena_view_of values (linked_as slots lists)) i ≡ false
   not_lent-listed {lists = []} i kept listed = absurd (omega (arith, kept.has_free))
@@ -195,11 +185,6 @@ module _ {T : Type 0} where
             (λ i. omega (arith, all i, kept.partitioned.once i))
             (each-from_times (λ x. x < length values) (free_in links.lists) (λ i some. kept.partitioned.within i (omega (arith, all i)))),
       )
-
-  none-at : (slots i : ℕ) → (let none : Option T = None in slice_index_or (replicate slots none) i none ≡ none)
-  none-at zero i = refl
-  none-at (suc slots) zero = refl
-  none-at (suc slots) (suc i) = none-at slots i
 
   pub start-kept : (slots chains : ℕ) → ArenaRule {T = T} (replicate slots None) (linked_as slots (numbers_from 0 slots ∷ replicate chains [])) slots
   start-kept slots chains =

@@ -1,7 +1,7 @@
 -- The lists as they are at the start: all slots in order on the first list.
 use Rattle.std.proofs.lemmas.Grind.{common_steps}
 use Rattle.std.proofs.Common.{◌≡◌, ℕ, zero, suc, ◌+◌, ◌-◌, ◌<◌, ◌≤◌, List, [], ◌∷◌, replicate, refl, sym, ap, subst, ◌∙◌, inl, inr, arith}
-use Rattle.std.proofs.lemmas.Bool.{lt-ltb, le-ltb, eq-eqb, ne_eqb, cases_eq}
+use Rattle.std.proofs.lemmas.Bool.{le-ltb, eq-eqb, ne_eqb, cases_eq}
 use Rattle.std.proofs.lemmas.Bool.Decides.{nat_tests}
 use Rattle.std.specs.List.{concat}
 use Rattle.arena.specs.Lists.{count_of, numbers_from}
@@ -33,9 +33,6 @@ numbers-inside first (suc count) slots fit = (omega arith, numbers-inside (suc f
 pub count_of-empties : (i count : ℕ) → count_of i (concat (replicate count [])) ≡ 0
 count_of-empties i zero = refl
 count_of-empties i (suc count) = count_of-empties i count
-
-next-slot : (slots node : ℕ) → node < slots → next_at_start slots node ≡ suc node
-next-slot slots node low = rw (lt-ltb node slots low) (omega arith)
 
 next-first_end : (slots : ℕ) → next_at_start slots slots ≡ 0
 next-first_end slots = rw (le-ltb slots slots (omega arith), eq-eqb slots slots refl) refl

@@ -5,7 +5,6 @@ use Rattle.std.proofs.lemmas.List.{length-set}
 use Rattle.std.specs.List.{concat}
 use Rattle.arena.specs.Lists.{count_of}
 use Rattle.arena.specs.Linked.{IsLinked, KeepLists, stored}
-use Rattle.arena.proofs.Alone.{alone-from_times}
 use Rattle.arena.proofs.Inserting.{IsInserted}
 
 module _ (slots slot before after : ℕ) (next previous : List ℕ) (ok : KeepLists slots next previous) (within : slot < slots)
@@ -16,18 +15,6 @@ module _ (slots slot before after : ℕ) (next previous : List ℕ) (ok : KeepLi
 
   abbrev pub previous_row : List ℕ
   previous_row = slice_set (slice_set previous slot before) after slot
-
-  slot_below : slot < length next
-  slot_below = omega (arith, ok.linked.slots_fit)
-
-  alone : slice_index next slot ≡ slot
-  alone = alone-from_times slots (length next) (λ x. slice_index next x) (λ x. slice_index previous x) ok.linked slot within nowhere
-
-  after_below : after < length next
-  after_below = rw after_is (ok.linked.next_below before before_below)
-
-  after_apart : after ≢ slot
-  after_apart same = grind (arith, common_steps)
 
   pub long_next : length next_row ≡ length next
   long_next = length-set (slice_set next before slot) slot after ∙ length-set next before slot

@@ -15,15 +15,6 @@ module _ (slots slot before after : ℕ) (next previous : List ℕ) (ok : KeepLi
   abbrev pub previous_row : List ℕ
   previous_row = slice_set (slice_set previous after before) slot slot
 
-  slot_below : slot < length next
-  slot_below = omega (arith, ok.linked.slots_fit)
-
-  before_below : before < length next
-  before_below = rw before_is (ok.linked.previous_below slot slot_below)
-
-  after_below : after < length next
-  after_below = rw after_is (ok.linked.next_below slot slot_below)
-
   long_next : length next_row ≡ length next
   long_next = length-set (slice_set next before after) slot slot ∙ length-set next before after
 

@@ -1,6 +1,6 @@
 -- Which message is dispatched next, by tickets: where the tickets ascend, the first one that is conflict-free and has room.
 use Rattle.std.proofs.lemmas.Grind.{common_steps}
-use Rattle.std.proofs.Common.{◌≡◌, ◌∙◌, ℕ, ◌<◌, Bool, false, not, ◌&&◌, List, [], ◌∷◌, ◌++◌, Some, refl, ap, sym, arith, append_assoc}
+use Rattle.std.proofs.Common.{◌≡◌, ◌∙◌, ◌<◌, Bool, false, not, ◌&&◌, List, [], ◌∷◌, ◌++◌, Some, refl, ap, sym, arith, append_assoc}
 use Rattle.std.specs.Prelude.{if◌then◌else◌}
 use Rattle.std.specs.List.{list_any, find, AllByRecursion}
 use Rattle.std.proofs.lemmas.List.Folds.{list_any-append}
@@ -26,10 +26,6 @@ none_late t (d ∷ ts) after = grind (arith, common_steps, none_late t ts after.
 only_early : (t : QueuedMessage) (earlier later : List QueuedMessage) → CameBefore t.ticket earlier → AllByRecursion (λ d. t.ticket < d.ticket) later
     → list_any (waits_for t) (earlier ++ t ∷ later) ≡ list_any (λ d. are_related_intervals t.affinity d.affinity) earlier
 only_early t earlier later before after = grind (arith, common_steps, list_any-append, not_less, none_late, or-false, all_early)
-
-came_before : (ticket : ℕ) (ts : List QueuedMessage) (t : QueuedMessage) → CameBefore ticket ts → t.ticket < ticket → CameBefore ticket (ts ++ t ∷ [])
-came_before ticket [] t before less = (less, tt)
-came_before ticket (d ∷ ts) t before less = (before.0, came_before ticket ts t before.1 less)
 
 all_came : (earlier : List QueuedMessage) (t : QueuedMessage) (later : List QueuedMessage) → AllByRecursion (λ d. CameBefore d.ticket earlier) later
     → AllByRecursion (λ d. t.ticket < d.ticket) later → AllByRecursion (λ d. CameBefore d.ticket (earlier ++ t ∷ [])) later

@@ -224,9 +224,6 @@ module _ (arena : ArenaView QueuedMessage) (n i : ℕ) (t : QueuedMessage) (q : 
   pop-full : (j : ℕ) → j < capacity_of later → value_at later j ≡ None → 0 < count_of j (i ∷ arena.free)
   pop-full j below none = grind (arith, common_steps)
 
-  behind : List QueuedMessage
-  behind = queued_in arena (without i (chain_at arena n))
-
   parts : filter (has_number n) (waiting_in arena) ≡ t ∷ queued_in arena (without i (chain_at arena n))
   parts = queue-parts arena n i t q first is
 

@@ -17,9 +17,6 @@ use Rattle.run_queue.proofs.Ready.{none-ready, room-at}
 
 -- ---- one ready entry is set
 
-pub ready_in-same : (ready_table : List (Option QueuedMessage)) (n : ℕ) (o : Option QueuedMessage) → n < length ready_table → ready_in (slice_set ready_table n o) n ≡ o
-ready_in-same ready_table n o here = get_or-set_same ready_table n o None here
-
 pub ready_in-other : (ready_table : List (Option QueuedMessage)) (n k : ℕ) (o : Option QueuedMessage) → k ≢ n → ready_in (slice_set ready_table n o) k ≡ ready_in ready_table k
 ready_in-other ready_table n k o other = get_or-set_other ready_table n k o None other
 

@@ -4,11 +4,10 @@ use Rattle.std.proofs.Common.{◌≡◌, ◌∙◌, ℕ, zero, suc, ◌+◌, ◌
 use Rattle.std.specs.Prelude.{nat_lt, ◌==◌}
 use Rattle.std.specs.List.{list_any, AllByRecursion}
 use Rattle.std.proofs.lemmas.Bool.{ne_eqb, eqb-true, ltb-true, lt-ltb, cases_Bool, and_parts, and_from, or_left, or_right, or_parts, false_from_ne_true, not-true}
-use Rattle.std.proofs.Math.Nat.{min-le_right}
 use Rattle.affinity.specs.Interval.{IsAffinity, contains, affinity_count}
 use Rattle.affinity.specs.declared.geometry.Geometry.{Geometry}
 use Rattle.run_queue.specs.RunQueue.{are_related_intervals, is_free_of, has_room, has_number, next_queued}
-use Rattle.run_queue.specs.ReadyTable.{earliest_from, if_passes, last_rank, ready_in, rank_of}
+use Rattle.run_queue.specs.ReadyTable.{earliest_from, last_rank, ready_in, rank_of}
 use Rattle.run_queue.specs.Order.{Ascend, waits_for, is_conflict_free, earlier}
 use Rattle.run_queue.specs.declared.queued_message.QueuedMessage.{QueuedMessage}
 use Rattle.run_queue.proofs.ByTicket.{next_is_first}
@@ -39,12 +38,6 @@ takes (Some d) t later = rw (lt-ltb t.ticket d.ticket (later d refl)) refl
 
 itself : (t : QueuedMessage) → earlier (Some t) (Some t) ≡ Some t
 itself t = rw (false_from_ne_true (nat_lt t.ticket t.ticket) (λ less. let below = ltb-true t.ticket t.ticket less in omega (arith, below))) refl
-
--- a message with a rank above that of the best one so far (o) is passed over
-pub passed : (p : QueuedMessage → Bool) (o m : Option QueuedMessage) → min (rank_of o) last_rank < rank_of m → earlier o (if_passes p m) ≡ o
-passed p o None later = refl
-passed p None (Some t) later = absurd (let low = min-le_right t.ticket last_rank in omega (arith, later, low))
-passed p (Some d) (Some t) later = grind (arith, common_steps)
 
 -- n entries are passed over if all their ranks are above
 pub all-passed : (p : QueuedMessage → Bool) (ready_table : List (Option QueuedMessage)) (from n : ℕ) (o : Option QueuedMessage)
@@ -87,9 +80,6 @@ some_first p q (d ∷ ts) t found good = grind (arith, common_steps, some_first 
 
 module _ (g : Geometry) (room : Bool) (held waiting : List QueuedMessage) (placed : AllByRecursion (λ d. IsAffinity g d.affinity) waiting)
     (ascends : Ascend waiting) where
-  abbrev goes : QueuedMessage → Bool
-  goes t = has_room room t && is_conflict_free held waiting t
-
   -- where the first message at a number may not be dispatched, none there may
   pub none_at : (n : ℕ) (f : QueuedMessage) → find (has_number n) waiting ≡ Some f → (has_room room f && is_conflict_free held waiting f) ≡ false
       → dispatchable_at room held waiting n ≡ None

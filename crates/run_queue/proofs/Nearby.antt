@@ -1,6 +1,6 @@
 -- The affinities above one, by their numbers.
 use Rattle.std.proofs.lemmas.Grind.{common_steps}
-use Rattle.std.proofs.Common.{◌≡◌, ◌∙◌, ℕ, zero, suc, ◌<◌, ◌≤◌, Bool, true, false, [], ◌∷◌, take, refl, ap, sym, inl, inr, arith, length, ◌⊎◌, List, ◌||◌}
+use Rattle.std.proofs.Common.{◌≡◌, ◌∙◌, ℕ, zero, suc, ◌<◌, Bool, true, false, [], ◌∷◌, take, refl, ap, sym, inl, inr, arith, length, ◌⊎◌, List, ◌||◌}
 use Rattle.std.specs.Prelude.{◌==◌}
 use Rattle.std.specs.List.{list_any}
 use Rattle.std.proofs.lemmas.Bool.{eq-eqb, eqb-true, and_from, or_cases, or_right, true≢false}
@@ -29,18 +29,6 @@ is_prefix-take : (k : ℕ) (p : Path) → is_prefix (take k p) p ≡ true
 is_prefix-take zero p = refl
 is_prefix-take (suc k) [] = refl
 is_prefix-take (suc k) (x ∷ p) = and_from (x == x) (is_prefix (take k p) p) (eq-eqb x x refl) (is_prefix-take k p)
-
-take-all : (k : ℕ) (p : Path) → length p ≤ k → take k p ≡ p
-take-all zero [] h = refl
-take-all zero (x ∷ p) h = absurd (omega arith)
-take-all (suc k) [] h = refl
-take-all (suc k) (x ∷ p) h = ap (λ (r : Path). x ∷ r) (take-all k p (omega arith))
-
-short : (g : Geometry) (p : Path) → IsPath g p → length p ≤ 4
-short g (a ∷ v ∷ zero ∷ s ∷ r ∷ p) h = absurd h
-short g (a ∷ v ∷ suc zero ∷ s ∷ r ∷ p) h = absurd h
-short g (a ∷ v ∷ suc (suc k) ∷ s ∷ r ∷ p) h = absurd h
-short g _ h = omega arith
 
 -- the prefixes of an affinity's path are paths of affinities, too
 one_is : (g : Geometry) (p : Path) → IsPath g p → IsPath g (take 1 p)

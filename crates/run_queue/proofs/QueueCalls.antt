@@ -44,15 +44,6 @@ kept-start g slots numbers most = record {
   };
 }
 
-pub messages-begun : (g next : Geometry) (slots : ℕ) (w : Waiting) (h : HeldMessages) → AreQueued g slots w h → w.messages ≡ [] → h.messages ≡ [] → AreQueued next slots w h
-messages-begun g next slots w h are none_waits none_held = record {
-  queues = are.queues;
-  entries = are.entries;
-  capacity = are.capacity;
-  in_slots = are.in_slots;
-  placed = record { held_placed = rw none_held tt; waiting_placed = rw none_waits tt; ascends = are.placed.ascends };
-}
-
 -- ---- a message that arrives
 
 pub messages-arrived : {g : Geometry} {slots : ℕ} {w : Waiting} {h : HeldMessages} (t : QueuedMessage) → AreQueued g slots w h → IsAffinity g t.affinity

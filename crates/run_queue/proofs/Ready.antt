@@ -1,11 +1,11 @@
 -- Which ready entries stay right, and what they show of the messages that may be dispatched.
 use Rattle.std.proofs.lemmas.Grind.{common_steps}
-use Rattle.std.proofs.Common.{◌≡◌, ◌≢◌, ◌∙◌, ℕ, zero, suc, ◌+◌, ◌<◌, ◌≤◌, Bool, true, false, not, ◌&&◌, ◌||◌, List, [], ◌∷◌, ◌++◌, find, take, Option, Some, None, refl, ap, sym, subst, inl, inr, arith, length, slice_index_or}
+use Rattle.std.proofs.Common.{◌≡◌, ◌≢◌, ◌∙◌, ℕ, zero, suc, ◌<◌, ◌≤◌, Bool, true, false, not, ◌&&◌, ◌||◌, List, [], ◌∷◌, ◌++◌, find, Option, Some, None, refl, ap, sym, subst, inl, inr, arith, length}
 use Rattle.std.specs.Prelude.{nat_lt, if◌then◌else◌, replicate}
 use Rattle.std.specs.List.{list_any, AllByRecursion}
 use Rattle.std.proofs.lemmas.Bool.{ne_eqb, eqb-true, lt-ltb, cases_Bool, cases_eq, and_from, or_left, and_right}
 use Rattle.std.proofs.lemmas.Option.{none-some}
-use Rattle.std.proofs.Math.Bool.{or-false, or_comm}
+use Rattle.std.proofs.Math.Bool.{or_comm}
 use Rattle.affinity.specs.Interval.{Interval, IsAffinity, contains, affinity_count}
 use Rattle.affinity.specs.declared.geometry.Geometry.{Geometry}
 use Rattle.run_queue.specs.RunQueue.{are_related_intervals, is_free_of, has_room, has_slot, has_number, without_slot, without_number, CameBefore}
@@ -108,20 +108,6 @@ module _ (held waiting : List QueuedMessage) (t : QueuedMessage) (later : CameBe
           (right t.affinity.number ∙ sym (ready-arrived t.affinity.number (λ none. absurd (none-some f (sym none ∙ is)))))
 
 -- ---- numbers one by one
-
-any-suc : (p : ℕ → Bool) (xs : List ℕ) (i : ℕ) → i < length xs → list_any p (take (suc i) xs) ≡ (list_any p (take i xs) || p (slice_index_or xs i 0))
-any-suc p [] i below = absurd (omega arith)
-any-suc p (x ∷ xs) zero below = or-false (p x)
-any-suc p (x ∷ xs) (suc i) below = grind (arith, common_steps, any-suc p xs i)
-
-pub any-more : (p : ℕ → Bool) (xs : List ℕ) (i : ℕ) → i < length xs → list_any p (take (i + 1) xs) ≡ (list_any p (take i xs) || p (slice_index_or xs i 0))
-any-more p xs i below = let next : i + 1 ≡ suc i = omega arith in ap (λ j. list_any p (take j xs)) next ∙ any-suc p xs i below
-
-pub take-past : (k : ℕ) (xs : List ℕ) → length xs ≤ k → take k xs ≡ xs
-take-past zero [] h = refl
-take-past zero (x ∷ xs) h = absurd (omega arith)
-take-past (suc k) [] h = refl
-take-past (suc k) (x ∷ xs) h = ap (λ (r : List ℕ). x ∷ r) (take-past k xs (omega arith))
 
 -- ---- a message that is dispatched
 
