@@ -1,5 +1,7 @@
 -- What holds of all elements of a list, or of one of them, for the crates above.
-use Rattle.std.proofs.Common.{◌≡◌, ℕ, zero, suc, ◌<◌, Bool, true, false, ◌||◌, List, [], ◌∷◌, ◌++◌, take, drop, get_or, refl, ap, ◌∙◌}
+use Rattle.std.proofs.Common.{arith}
+use Rattle.std.proofs.lemmas.Grind.{common_steps}
+use Rattle.std.proofs.Common.{◌≡◌, ℕ, zero, suc, ◌<◌, Bool, List, [], ◌∷◌, ◌++◌, take, drop, get_or, refl}
 use Rattle.std.specs.List.{AllByRecursion, list_any}
 
 module _ {A : Type 0} (P : A → Type 0) where
@@ -29,9 +31,4 @@ all_bytes (b ∷ bytes) h = (h zero, all_bytes bytes (λ i. h (suc i)))
 -- whether one passes, where one of them moves to the front
 pub any_moved : {A : Type 0} (p : A → Bool) (us : List A) (e : A) (vs : List A) → list_any p (us ++ e ∷ vs) ≡ list_any p (e ∷ (us ++ vs))
 any_moved p [] e vs = refl
-any_moved p (u ∷ us) e vs = ap (λ b. p u || b) (any_moved p us e vs) ∙ turned (p u) (p e) (list_any p (us ++ vs))
-  where
-    turned : (a b c : Bool) → (a || (b || c)) ≡ (b || (a || c))
-    turned true true c = refl
-    turned true false c = refl
-    turned false b c = refl
+any_moved p (u ∷ us) e vs = grind (arith, common_steps, any_moved p us e vs)

@@ -1,8 +1,8 @@
 -- A message whose numbers are in range belongs at a path of the geometry.
+use Rattle.std.proofs.Common.{arith}
+use Rattle.std.proofs.lemmas.Grind.{common_steps}
 use Rattle.std.proofs.Common.{◌≡◌, ℕ, ◌<◌, Bool, true, ◌&&◌, nat_lt, [], ◌∷◌}
-use Rattle.std.proofs.lemmas.Bool.{and_parts}
 use Rattle.std.proofs.lemmas.Nat.{mod_below}
-use borrow.Author.Tests.{ltb-true}
 use Rattle.std.specs.Prelude.{List}
 use Rattle.affinity.specs.Geometry.{stripe_of}
 use Rattle.affinity.specs.Interval.{IsPath}
@@ -16,10 +16,7 @@ pub group_below : (g : Geometry) (f b : ℕ) → stripe_of g f b < g.stripes
 group_below g f b = mod_below _ g.stripes g.stripes_range.0
 
 volume_in_range : (g : Geometry) (a v : ℕ) (rest : Bool) → (nat_lt a g.aggregates && (nat_lt v g.volumes && rest)) ≡ true → (a < g.aggregates) × (v < g.volumes)
-volume_in_range g a v rest h =
-    let first = and_parts (nat_lt a g.aggregates) _ h in
-    let second = and_parts (nat_lt v g.volumes) rest first.1 in
-    (ltb-true a g.aggregates first.0, ltb-true v g.volumes second.0)
+volume_in_range g a v rest h = grind (arith, common_steps)
 
 IsPath-path_of_numbers : (g : Geometry) (k : Kind) (a v f b : ℕ) → is_in_range g k (a ∷ v ∷ f ∷ b ∷ []) ≡ true → IsPath g (path_of_numbers g k a v f b)
 IsPath-path_of_numbers g MakeVol a v f b h = (volume_in_range g a v _ h).0

@@ -1,10 +1,11 @@
 -- The numbers of affinities follow the tree: the interval of an affinity contains the number of another exactly where the other is the
 -- same affinity or lies below it.
-use Rattle.std.proofs.Common.{◌≡◌, ℕ, zero, suc, ◌+◌, ◌*◌, ◌<◌, ◌≤◌, Bool, ◌&&◌, nat_lt, [], ◌∷◌, refl, ⊎_elim, arith, ◌==◌, subst, ◌∙◌, sym, ap, true, false}
+use Rattle.std.proofs.lemmas.Grind.{common_steps}
+use Rattle.std.proofs.Common.{◌≡◌, ℕ, zero, suc, ◌+◌, ◌*◌, ◌<◌, ◌≤◌, Bool, ◌&&◌, nat_lt, [], ◌∷◌, refl, arith, ◌==◌, subst, ◌∙◌, sym, ap, false}
 use Rattle.std.specs.Prelude.{nat_le, ◌||◌, ◌-◌, ◌/◌, ◌%◌, if◌then◌else◌}
 use Rattle.std.proofs.lemmas.Bool.{cases_order}
 use Rattle.std.proofs.lemmas.Bool.Decides.{nat_tests}
-use Rattle.std.proofs.lemmas.Nat.{row_fits, div-mul-add, mod-mul-add}
+use Rattle.std.proofs.lemmas.Nat.{row_fits}
 use Rattle.affinity.specs.Path.{Path, is_prefix, are_related, serial, aggregate, volume, logical, stripe, label}
 use Rattle.affinity.specs.Interval.{IsPath, IsAffinityOf, Interval, interval, contains, preorder_number, subtree_size, volume_number, volume_size, aggregate_size, affinity_count}
 use Rattle.affinity.specs.declared.geometry.Geometry.{Geometry}
@@ -40,13 +41,7 @@ earlier v w e h = row_fits v e w e h (omega arith)
 
 children : (base v w other : ℕ) {e first count : ℕ} {r : Bool} → FitsIn (base + v * e) e first count → base + w * e ≤ other → other < base + w * e + e
     → (v ≡ w → r ≡ (nat_le first other && nat_lt other (first + count))) → ((v == w) && r) ≡ (nat_le first other && nat_lt other (first + count))
-children base v w other {e} {first} {count} {r} fits low high same = ⊎_elim
-    (λ (equal : v ≡ w). let inner : r ≡ (nat_le first other && nat_lt other (first + count)) = same equal in grind (arith, nat_tests))
-    (λ apart. ⊎_elim
-    (λ (less : v < w). let space : v * e + e ≤ w * e = earlier v w e less in grind (arith, nat_tests))
-    (λ (more : w < v). let space : w * e + e ≤ v * e = earlier w v e more in grind (arith, nat_tests))
-    apart)
-    (cases_order v w)
+children base v w other {e} {first} {count} {r} fits low high same = grind (arith, common_steps, nat_tests, earlier, cases_order)
 
 -- ---- among the paths of one aggregate
 
@@ -105,10 +100,7 @@ is_prefix-contains g (a ∷ p) (b ∷ q) h k = among_aggregates g a b p q h k
 
 -- Affinities are related as their paths are.
 pub are_related-contains : (g : Geometry) (p q : Path) (a b : Interval) → IsAffinityOf g p a → IsAffinityOf g q b → (contains a b.number || contains b a.number) ≡ are_related p q
-are_related-contains g p q a b h k =
-    let forward = is_prefix-contains g p q h.path k.path in
-    let back = is_prefix-contains g q p k.path h.path in
-    rw (h.interval, k.interval, forward, back) refl
+are_related-contains g p q a b h k = grind (arith, common_steps, is_prefix-contains)
 
 -- ---- back from a number to its path
 
@@ -129,11 +121,7 @@ pub record Splits (w child rest n : ℕ) : Type 0 where
   pub rest_is : (n - 1) % w ≡ rest
 
 splits : (w child rest n : ℕ) → rest < w → n ≡ 1 + child * w + rest → Splits w child rest n
-splits w child rest n h e = let less : n - 1 ≡ child * w + rest = omega arith in record {
-  more = grind (arith, nat_tests);
-  child_is = rw less (div-mul-add child w rest h);
-  rest_is = rw less (mod-mul-add child w rest h);
-}
+splits w child rest n h e = grind (arith, common_steps)
 
 in_aggregate_at-volume : (g : Geometry) (a v r : ℕ) → r < volume_size g → in_aggregate_at g a (1 + v * volume_size g + r) ≡ in_volume_at g a v r
 unfolding in_aggregate_at
@@ -151,19 +139,8 @@ in_volume_at-offset : (g : Geometry) (a v : ℕ) (p : Path) → IsPath g (a ∷ 
 unfolding in_volume_at
 in_volume_at-offset g a v [] h r e = let zero_is : r ≡ 0 = omega arith in rw zero_is refl
 in_volume_at-offset g a v (zero ∷ []) h r e = let one_is : r ≡ 1 = omega arith in rw one_is refl
-in_volume_at-offset g a v (zero ∷ s ∷ []) h r e =
-    let r_is : r ≡ 2 + s = omega arith in
-    let not_zero : (2 + s == 0) ≡ false = grind (arith, nat_tests) in
-    let not_one : (2 + s == 1) ≡ false = grind (arith, nat_tests) in
-    let less : nat_lt (2 + s) (2 + g.stripes) ≡ true = grind (arith, nat_tests) in
-    let last : 2 + s - 2 ≡ s = omega arith in
-    rw (r_is, not_zero, not_one, less, last) refl
-in_volume_at-offset g a v (suc zero ∷ []) h r e =
-    let r_is : r ≡ 2 + g.stripes = omega arith in
-    let not_zero : (2 + g.stripes == 0) ≡ false = grind (arith, nat_tests) in
-    let not_one : (2 + g.stripes == 1) ≡ false = grind (arith, nat_tests) in
-    let not_less : nat_lt (2 + g.stripes) (2 + g.stripes) ≡ false = grind (arith, nat_tests) in
-    rw (r_is, not_zero, not_one, not_less) refl
+in_volume_at-offset g a v (zero ∷ s ∷ []) h r e = grind (arith, common_steps)
+in_volume_at-offset g a v (suc zero ∷ []) h r e = grind (arith, common_steps)
 in_volume_at-offset g a v _ h r e = absurd h
 
 in_aggregate_at-offset : (g : Geometry) (a : ℕ) (p : Path) → IsPath g (a ∷ p) → (r : ℕ) → preorder_number g (a ∷ p) ≡ 1 + a * aggregate_size g + r → in_aggregate_at g a r ≡ a ∷ p
@@ -202,9 +179,7 @@ path_unique g p q a h k =
 
 -- if q is the path that is found from the number of affinity a, then a is the affinity at q
 pub found : (g : Geometry) (n : ℕ) (a : Interval) (q : Path) → ((p : Path) × IsAffinityOf g p a) → n ≡ a.number → path_at g n ≡ q → IsAffinityOf g q a
-found g n a q h e at =
-    let p_is : path_at g n ≡ h.0 = ap (path_at g) (e ∙ ap (λ i. i.number) h.1.interval) ∙ path_at-number g h.0 h.1.path in
-    subst (λ (p : Path). IsAffinityOf g p a) (sym p_is ∙ at) h.1
+found g n a q h e at = grind (arith, common_steps, path_at, path_at-number)
 
 pub path_at-in_aggregate : (g : Geometry) (n d : ℕ) → (n ≡ 0 → ⊥) → d ≡ aggregate_size g → path_at g n ≡ in_aggregate_at g ((n - 1) / d) ((n - 1) % d)
 unfolding path_at
@@ -228,16 +203,8 @@ in_volume_at-logical g a v r e = rw e refl
 
 pub in_volume_at-stripe : (g : Geometry) (a v r : ℕ) → (r ≡ 0 → ⊥) → (r ≡ 1 → ⊥) → r < 2 + g.stripes → in_volume_at g a v r ≡ stripe a v (r - 2)
 unfolding in_volume_at
-in_volume_at-stripe g a v r h k l =
-    let not_zero : (r == 0) ≡ false = grind (arith, nat_tests) in
-    let not_one : (r == 1) ≡ false = grind (arith, nat_tests) in
-    let less : nat_lt r (2 + g.stripes) ≡ true = grind (arith, nat_tests) in
-    rw (not_zero, not_one, less) refl
+in_volume_at-stripe g a v r h k l = grind (arith, common_steps)
 
 pub in_volume_at-label : (g : Geometry) (a v r : ℕ) → 2 + g.stripes ≤ r → in_volume_at g a v r ≡ label a v
 unfolding in_volume_at
-in_volume_at-label g a v r h =
-    let not_zero : (r == 0) ≡ false = grind (arith, nat_tests) in
-    let not_one : (r == 1) ≡ false = grind (arith, nat_tests) in
-    let not_less : nat_lt r (2 + g.stripes) ≡ false = grind (arith, nat_tests) in
-    rw (not_zero, not_one, not_less) refl
+in_volume_at-label g a v r h = grind (arith, common_steps)

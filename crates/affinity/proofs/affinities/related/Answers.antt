@@ -1,4 +1,6 @@
 -- The two calls of `contains` give the two sides of `||` in clause `intervals`; clause `paths` follows by `are_related-contains`.
+use Rattle.std.proofs.Common.{arith}
+use Rattle.std.proofs.lemmas.Grind.{common_steps}
 use Rattle.std.proofs.Common.{◌∙◌, sym, ap}
 use Rattle.std.specs.Prelude.{◌||◌}
 use Rattle.affinity.specs.Interval.{contains}
@@ -13,8 +15,7 @@ pub returns-then-contains-clause-paths : goal.returns-then-contains-clause-paths
 returns-then-contains-clause-paths c = λ g p q h k. returns-then-contains-clause-intervals c ∙ are_related-contains g p q _ _ h k
 
 pub returns-else-contains-clause-intervals : goal.returns-else-contains-clause-intervals
-returns-else-contains-clause-intervals c =
-    c.contains-else-contains.ensures ∙ ap (λ r. r || contains c.args.b c.args.a.number) (sym c.if-contains.false ∙ c.contains.ensures)
+returns-else-contains-clause-intervals c = grind (arith, common_steps)
 
 pub returns-else-contains-clause-paths : goal.returns-else-contains-clause-paths
 returns-else-contains-clause-paths c = λ g p q h k. returns-else-contains-clause-intervals c ∙ are_related-contains g p q _ _ h k
