@@ -1,5 +1,7 @@
 -- Words (the arguments) that are refused ask for nothing, and a command has one name.
-use Rattle.std.proofs.Common.{◌≡◌, ◌∙◌, sym, subst, inl, inr, List, [], ◌∷◌, true, false, Option}
+use Rattle.std.proofs.Common.{arith}
+use Rattle.std.proofs.lemmas.Grind.{common_steps}
+use Rattle.std.proofs.Common.{◌≡◌, ◌∙◌, sym, subst, inl, inr, List, [], ◌∷◌, true, Option}
 use Rattle.std.specs.List.{list_all}
 use Rattle.std.proofs.lemmas.Bool.{and_parts}
 use Rattle.std.proofs.lemmas.Option.{same_Some}
@@ -17,19 +19,14 @@ use Rattle.arguments.specs.declared.parsing.ArgumentRefusal.TheVariants.{Words a
 
 mistake_among : (kinds : Kinds) (k : ErrorKind) → list_all is_mistake kinds ≡ true → IsAmong k kinds → is_mistake k ≡ true
 mistake_among [] k all among = absurd among
-mistake_among (x ∷ xs) k all among = elim among [
-  | inl is ↦ rw is (and_parts (is_mistake x) (list_all is_mistake xs) all).0
-  | inr later ↦ mistake_among xs k (and_parts (is_mistake x) (list_all is_mistake xs) all).1 later
-]
+mistake_among (x ∷ xs) k all among = grind (arith, common_steps, mistake_among xs k (and_parts (is_mistake x) (list_all is_mistake xs) all).1)
 
 pub ask_for_nothing : (words : List Text) (request : Request) → Asks words request → AreRefused words → ⊥
 ask_for_nothing words (Plain g) asks (inr out_of_range) = out_of_range.3 (subst AreInRange asks.2 (are_in_range g))
 ask_for_nothing words (Format path g) asks (inr out_of_range) = out_of_range.3 (subst AreInRange asks.3 (are_in_range g))
 ask_for_nothing words (Show path) asks (inr out_of_range) = out_of_range.1 asks.1
 ask_for_nothing words (Serve path s) asks (inr out_of_range) = out_of_range.2 asks.1
-ask_for_nothing words (Help text) asks (inl wrong) =
-    let bad : true ≡ false = sym (mistake_among _ (kind_of text) wrong.1 asks.0) ∙ asks.1 in
-    cc
+ask_for_nothing words (Help text) asks (inl wrong) = grind (arith, common_steps, mistake_among)
 ask_for_nothing words (Help text) asks (inr out_of_range) = subst (IsAmong (kind_of text)) out_of_range.0 asks.0
 ask_for_nothing words _ asks (inl wrong) = wrong.0 asks.0
 

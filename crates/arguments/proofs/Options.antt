@@ -1,10 +1,12 @@
 -- The options of a command, and the numbers that they give.
-use Rattle.std.proofs.Common.{◌≡◌, ◌∙◌, ◌+◌, ◌<◌, ◌&&◌, ap, refl, ℕ, get_or, take, Bool, true, false, not, List, [], ◌∷◌, length, Option, Some, None, nat_lt, ltb-true, lt-ltb, pos}
+use Rattle.std.proofs.Common.{arith}
+use Rattle.std.proofs.lemmas.Grind.{common_steps}
+use Rattle.std.proofs.Common.{◌≡◌, ◌∙◌, ◌+◌, ◌<◌, ◌&&◌, ap, refl, ℕ, get_or, take, Bool, true, false, not, List, [], ◌∷◌, length, Option, Some, None, nat_lt, lt-ltb, pos}
 use Rattle.std.specs.Prelude.{Result, Ok, Err, option_and_then, option_map, unwrap_or}
 use Rattle.std.specs.Borrow.{Bor}
 use Rattle.std.specs.Char.{digit_value}
 use Rattle.std.specs.List.{list_all}
-use Rattle.std.specs.Str.Parse.{AllDigits, ParsesUnsigned, digits_value, without_leading_plus}
+use Rattle.std.specs.Str.Parse.{AllDigits, ParsesUnsigned, digits_value}
 use Rattle.std.proofs.lemmas.Bool.{and_parts, not-true}
 use Rattle.std.proofs.lemmas.List.Sums.{fold_more}
 use Rattle.clap.specs.Words.{App, Text, new_app, with_rule, with_subcommand}
@@ -51,27 +53,16 @@ are_digits (d ∷ ds) h = rw (lt-ltb (digit_value d) 10 h.0) (are_digits ds h.1)
 
 digits_from : (ds : List ℕ) → list_all (λ d. nat_lt (digit_value d) 10) ds ≡ true → AllDigits 10 ds
 digits_from [] e = tt
-digits_from (d ∷ ds) e =
-    let parts = and_parts _ _ e in
-    (ltb-true _ _ parts.0, digits_from ds parts.1)
+digits_from (d ∷ ds) e = grind (arith, common_steps, digits_from ds)
 
 abbrev is_number : List ℕ → Bool
 is_number ds = nat_lt 0 (length ds) && list_all (λ d. nat_lt (digit_value d) 10) ds && nat_lt (digits_value 10 ds) 65536
 
 number_read : (E : Type 0) (text : Text) (n : ℕ) → ParsesUnsigned {E = E} 16 10 text (Ok n) → Some n ≡ number_of text
-number_read E text n h =
-    let ds = without_leading_plus text in
-    rw (lt-ltb 0 (length ds) h.0.0.0, are_digits ds h.0.0.1, lt-ltb (digits_value 10 ds) 65536 h.0.1, h.1) refl
+number_read E text n h = grind (arith, common_steps, are_digits)
 
 no_number_read : (E : Type 0) (text : Text) (e : E) → ParsesUnsigned 16 10 text (Err e) → None ≡ number_of text
-no_number_read E text e h = go (is_number (without_leading_plus text)) refl
-  where
-    go : (b : Bool) → is_number (without_leading_plus text) ≡ b → None ≡ number_of text
-    go false t = rw t refl
-    go true t =
-        let outer = and_parts _ _ t in
-        let inner = and_parts _ _ outer.0 in
-        absurd (h ((ltb-true _ _ inner.0, digits_from (without_leading_plus text) inner.1), ltb-true _ _ outer.1))
+no_number_read E text e h = grind (arith, common_steps, and_parts, digits_from)
 
 -- what a typed getter gives for the text of an option, or for none
 pub got_number : (E : Type 0) (gives : List ℕ → Result ℕ E → Type 0) → ((t : List ℕ) (x : Result ℕ E) → gives t x → ParsesUnsigned 16 10 t x)

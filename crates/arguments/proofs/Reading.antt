@@ -1,5 +1,7 @@
 -- What an error of `clap` means for the words.
-use Rattle.std.proofs.Common.{◌≡◌, ◌∙◌, refl, sym, ap, inl, inr, List, []}
+use Rattle.std.proofs.Common.{arith}
+use Rattle.std.proofs.lemmas.Grind.{common_steps}
+use Rattle.std.proofs.Common.{◌≡◌, refl, ap, List, []}
 use Rattle.std.specs.Prelude.{Err, Ok, Result}
 use Rattle.clap.specs.Words.{HasKind, IsAmong, Text, kind_of, subcommand_of}
 use Rattle.clap.specs.declared.error.Error.{Error}
@@ -16,10 +18,7 @@ abbrev pub Holds : List Text → Result Request ArgumentRefusal → Type 0
 Holds words r = MatchResult r (Asks words) (IsReason words)
 
 among : (words : List Text) (error : Error) (k : ErrorKind) → kind_of error ≡ k → (k ≡ kind.OutOfMemory → ⊥) → HasKind (findings words) error → IsAmong (kind_of error) (findings words)
-among words error k is other h = elim h [
-  | inl e ↦ absurd (other (sym is ∙ e))
-  | inr h ↦ h
-]
+among words error k is other h = grind (arith, common_steps)
 
 holds_by : (words : List Text) (error : Error) (k : ErrorKind) → kind_of error ≡ k → HasKind (findings words) error → Holds words (answer_by error k)
 holds_by words error kind.OutOfMemory is h = tt

@@ -1,5 +1,6 @@
 -- What a crash may leave, by parts of a device, and of a device that is written.
-use Rattle.std.proofs.Common.{◌≡◌, ℕ, zero, suc, ◌+◌, ◌-◌, ◌≤◌, Bool, true, false, List, [], ◌∷◌, length, take, drop, replicate, refl, sym, ◌∙◌, ap, subst, arith, length-take, length-drop}
+use Rattle.std.proofs.lemmas.Grind.{common_steps}
+use Rattle.std.proofs.Common.{◌≡◌, ℕ, zero, suc, ◌+◌, ◌≤◌, Bool, true, false, List, [], ◌∷◌, length, take, drop, replicate, refl, sym, ◌∙◌, ap, subst, arith, length-take, length-drop}
 use Rattle.std.proofs.lemmas.List.{drop-drop, drop-replicate, drop_all, take-replicate, take_all}
 use Rattle.disk.specs.Device.{AreBytes, SameButUnsynced, IsTornFrom, IsCrashImage, IsSynced, Medium, overlaid, marked, SameOutside}
 use Rattle.disk.proofs.Bytes.{bytes-overlaid, bytes-range}
@@ -40,8 +41,7 @@ synced_left m c synced left = kept_same m.now (length m.now) c (omega arith) (su
 
 -- where nothing is unsynced, nothing is in any range
 pub synced_range : (at n : ℕ) (m : Medium) → IsSynced m → at + n ≤ length m.now → take n (drop at m.unsynced) ≡ replicate n false
-synced_range at n m synced inside =
-    ap (λ (l : List Bool). take n (drop at l)) synced ∙ ap (λ (l : List Bool). take n l) (drop-replicate at (length m.now) false) ∙ take-replicate n (length m.now - at) false (omega (arith, inside))
+synced_range at n m synced inside = grind (arith, common_steps, drop-replicate, take-replicate)
 
 no_marks : (n : ℕ) → ◌≡◌ {A = List Bool} (take n []) []
 no_marks n = take_all n [] (omega arith)

@@ -1,13 +1,13 @@
 -- What a crash leaves at any moment of a sequence of calls, as the sequence grows call by call.
-use Rattle.std.proofs.Common.{◌≡◌, ◌⊎◌, ◌≤◌, ℕ, List, [], ◌∷◌, length, inl, inr, ⊎_elim, ap, subst, arith}
-use Rattle.disk.specs.Device.{AreBytes, Moment, Medium, IsTornFrom, IsCrashImage, moments}
+use Rattle.std.proofs.lemmas.Grind.{common_steps}
+use Rattle.std.proofs.Common.{◌≡◌, ◌≤◌, ℕ, List, [], ◌∷◌, length, inl, ⊎_elim, arith}
+use Rattle.disk.specs.Device.{AreBytes, Moment, Medium, IsCrashImage, moments}
 use Rattle.disk.specs.Moments.{moment_number, LeftByMoments, left_since, CrashImagesAre}
 
 -- no moment comes after the newest
 none_later : (ms : List Moment) (t : ℕ) (c : List ℕ) → length ms ≤ t → LeftByMoments ms t c → ⊥
 none_later [] t c late since = since
-none_later (m ∷ earlier) t c late since =
-    ⊎_elim (λ (here : (t ≤ length earlier) × IsTornFrom m.now m.unsynced c). omega (arith, here.0, late)) (none_later earlier t c (omega (arith, late))) since
+none_later (m ∷ earlier) t c late since = grind (arith, common_steps, none_later earlier t c)
 
 -- what a crash may leave now is among what one might have left since moment t, if t isn't later than now
 pub counts_now : (m : Medium) (t : ℕ) (c : List ℕ) → t ≤ moment_number m → IsCrashImage m c → left_since m t c
@@ -19,48 +19,23 @@ only_now m c since = ⊎_elim (λ (here : (moment_number m ≤ moment_number m) 
 
 -- before the first call
 pub started : (m : Medium) (P : List ℕ → Type 0) → ((c : List ℕ) → IsCrashImage m c → P c) → CrashImagesAre m m P
-started m P here = record {
-  later = omega arith;
-  each = λ c since. here c (only_now m c since);
-  before = λ t c early since. inl since;
-}
+started m P here = grind (arith, common_steps, only_now)
 
 -- one call more, which adds a moment
 pub next : (old mid new : Medium) (P : List ℕ → Type 0) → CrashImagesAre old mid P → new.past ≡ moments mid → ((c : List ℕ) → IsCrashImage new c → P c) → CrashImagesAre old new P
-next old mid new P so_far past here =
-    let since : (t : ℕ) (c : List ℕ) → left_since new t c → P c ⊎ left_since mid t c =
-    λ t c left. ⊎_elim (λ (now : (t ≤ length new.past) × IsCrashImage new c). inl (here c now.1)) (λ earlier. inr (subst (λ (ms : List Moment). LeftByMoments ms t c) past earlier)) left in
-    record {
-      later = omega (arith, so_far.later, ap length past);
-      each = λ c left. ⊎_elim (λ (p : P c). p) (so_far.each c) (since (moment_number old) c left);
-      before = λ t c early left. ⊎_elim (λ (p : P c). inr p) (so_far.before t c early) (since t c left);
-    }
+next old mid new P so_far past here = grind (arith, common_steps)
 
 -- one call more, which adds no moment: what a crash leaves, now or earlier, is as before
 pub same : (old mid new : Medium) (P : List ℕ → Type 0) → CrashImagesAre old mid P → moments new ≡ moments mid → CrashImagesAre old new P
-same old mid new P so_far unchanged =
-    let since : (t : ℕ) (c : List ℕ) → left_since new t c → left_since mid t c = λ t c. subst (λ (ms : List Moment). LeftByMoments ms t c) unchanged in
-    record {
-      later = omega (arith, so_far.later, ap length unchanged);
-      each = λ c left. so_far.each c (since (moment_number old) c left);
-      before = λ t c early left. so_far.before t c early (since t c left);
-    }
+same old mid new P so_far unchanged = grind (arith, common_steps)
 
 -- what has P at each moment has Q, if P implies Q
 pub weaker : (old new : Medium) (P Q : List ℕ → Type 0) → CrashImagesAre old new P → ((c : List ℕ) → P c → Q c) → CrashImagesAre old new Q
-weaker old new P Q so_far enough = record {
-  later = so_far.later;
-  each = λ c left. enough c (so_far.each c left);
-  before = λ t c early left. ⊎_elim (λ (was : left_since old t c). inl was) (λ p. inr (enough c p)) (so_far.before t c early left);
-}
+weaker old new P Q so_far enough = grind (arith, common_steps)
 
 -- one sequence of calls after another
 pub then : (old mid new : Medium) (P : List ℕ → Type 0) → CrashImagesAre old mid P → CrashImagesAre mid new P → CrashImagesAre old new P
-then old mid new P first second = record {
-  later = omega (arith, first.later, second.later);
-  each = λ c left. ⊎_elim (first.each c) (λ (p : P c). p) (second.before (moment_number old) c first.later left);
-  before = λ t c early left. ⊎_elim (first.before t c early) (λ (p : P c). inr p) (second.before t c (omega (arith, early, first.later)) left);
-}
+then old mid new P first second = grind (arith, common_steps)
 
 -- what a crash leaves at the end
 pub leaves_now : (old new : Medium) (P : List ℕ → Type 0) → CrashImagesAre old new P → (c : List ℕ) → IsCrashImage new c → P c
@@ -68,8 +43,7 @@ leaves_now old new P so_far c left = so_far.each c (counts_now new (moment_numbe
 
 some_bytes : (ms : List Moment) (t : ℕ) (c : List ℕ) → LeftByMoments ms t c → AreBytes c
 some_bytes [] t c since = absurd since
-some_bytes (m ∷ earlier) t c since =
-    ⊎_elim (λ (here : (t ≤ length earlier) × IsTornFrom m.now m.unsynced c). here.1.bytes) (some_bytes earlier t c) since
+some_bytes (m ∷ earlier) t c since = grind (arith, common_steps, some_bytes earlier t c)
 
 -- what a crash leaves at any moment are bytes
 pub bytes_since : (m : Medium) (t : ℕ) (c : List ℕ) → left_since m t c → AreBytes c

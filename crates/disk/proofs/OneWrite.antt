@@ -1,4 +1,6 @@
 -- What a write of a range leaves, done or failed.
+use Rattle.std.proofs.Common.{arith}
+use Rattle.std.proofs.lemmas.Grind.{common_steps}
 use Rattle.std.proofs.Common.{ℕ, ◌+◌, ◌≤◌, List, length, Result, Ok, Err, refl, sym, subst}
 use Rattle.disk.specs.declared.fault.DiskFault.{DiskFault}
 use Rattle.disk.specs.declared.fault.DiskFault.TheVariants.{OutOfRange, Device}
@@ -22,8 +24,7 @@ module _ (w0 w1 : Medium) (at : ℕ) (bytes : List ℕ) where
   pub touched : (r : Result (Unit {0}) DiskFault) → at + length bytes ≤ length w0.now → Writes at bytes r w0 w1 → TouchesOnly at (length bytes) w0 w1
   touched (Ok u) inside writes =
       subst (λ (m : Medium). TouchesOnly at (length bytes) w0 m) (sym writes.ok) (record { now = overlaid_outside w0.now at bytes; unsynced = marked_outside w0.unsynced at (length bytes) })
-  touched (Err OutOfRange) inside writes =
-      subst (λ (m : Medium). TouchesOnly at (length bytes) w0 m) (sym (writes.outside refl)) (record { now = same_all at (length bytes) w0.now; unsynced = same_all at (length bytes) w0.unsynced })
+  touched (Err OutOfRange) inside writes = grind (arith, common_steps)
   touched (Err Device) inside writes =
       let fails = writes.device refl in
       record { now = fails.bytes; unsynced = subst (λ l. SameOutside at (length bytes) w0.unsynced l) (sym fails.unsynced) (marked_outside w0.unsynced at (length bytes)) }

@@ -1,4 +1,5 @@
 -- Lists that differ at most in a range.
+use Rattle.std.proofs.lemmas.Grind.{common_steps}
 use Rattle.std.proofs.Common.{◌≡◌, ◌⊎◌, ℕ, ◌+◌, ◌-◌, ◌<◌, ◌≤◌, List, ◌++◌, take, drop, get_or, inl, inr, refl, sym, ◌∙◌, ap, subst, arith}
 use Rattle.std.proofs.lemmas.List.{take-append-drop, take-take, drop-drop, drop-take, get_or-take}
 use borrow.Rule.Slice.PartMut.{put_mid}
@@ -50,10 +51,7 @@ same_none {X} at xs ys same =
 
 -- Lists that differ at most from a to e differ at most from b to f, if that range holds the first one, or the first one is empty.
 pub covered : {X : Type 0} (a e b f : ℕ) {xs ys : List X} → a ≤ e → (a ≡ e) ⊎ ((b ≤ a) × (e ≤ f)) → SameOutside a (e - a) xs ys → SameOutside b (f - b) xs ys
-covered {X} a e b f {xs} {ys} ordered (inl empty) same =
-    let none : e - a ≡ 0 = omega (arith, empty) in
-    let is : ys ≡ xs = same_none a xs ys (subst (λ (n : ℕ). SameOutside a n xs ys) none same) in
-    subst (λ (l : List X). SameOutside b (f - b) xs l) (sym is) (same_all b (f - b) xs)
+covered {X} a e b f {xs} {ys} ordered (inl empty) same = grind (arith, common_steps, same_none, same_all)
 covered a e b f {xs} {ys} ordered (inr holds) same = wider a (e - a) xs ys same b (f - b) holds.0 (omega (arith, ordered, holds))
 
 -- lists that differ at most in a range: with the new items put there, the old list becomes the new one

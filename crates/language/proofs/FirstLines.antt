@@ -1,6 +1,8 @@
 -- The lines of some bytes are the first line and then the lines of the rest; and what holds of a line that is too long.
-use Rattle.std.proofs.Common.{◌≡◌, ◌≢◌, ℕ, ◌<◌, inl, inr, eqb, List, [], ◌∷◌, length, None, refl, sym, ap, ◌∙◌}
-use Rattle.std.proofs.lemmas.Bool.{cond-true, cond-false, eq-eqb, ne_eqb, cases_eq, lt-ltb}
+use Rattle.std.proofs.Common.{arith}
+use Rattle.std.proofs.lemmas.Grind.{common_steps}
+use Rattle.std.proofs.Common.{◌≡◌, ◌≢◌, ℕ, ◌<◌, eqb, List, [], ◌∷◌, length, None, refl, sym, ap}
+use Rattle.std.proofs.lemmas.Bool.{cond-true, cond-false, eq-eqb, ne_eqb, lt-ltb}
 use Rattle.language.specs.declared.TheConstants.{LONGEST_LINE}
 use Rattle.language.specs.Lines.{lines, in_first}
 use Rattle.language.specs.Grammar.{message_of}
@@ -25,11 +27,7 @@ lines-other : (b : ℕ) (bs : List ℕ) → b ≢ 10 → lines (b ∷ bs) ≡ in
 lines-other b bs not = cond-false (eqb b 10) ([] ∷ lines bs) (in_first b (lines bs)) (ne_eqb b 10 not)
 
 lines-of_rest : (b : ℕ) (bs : List ℕ) → in_first b (lines bs) ≡ (b ∷ first_line bs) ∷ lines (behind_first_line bs) → lines (b ∷ bs) ≡ first_line (b ∷ bs) ∷ lines (behind_first_line (b ∷ bs))
-lines-of_rest b bs rest = elim (cases_eq b 10) [
-  | inl is ↦ lines-newline b bs is ∙ ap (λ l. l ∷ lines bs) (sym (first_line-newline b bs is)) ∙ ap (λ l. first_line (b ∷ bs) ∷ lines l) (sym (behind_first_line-newline b bs is))
-  | inr not ↦ lines-other b bs not ∙ rest ∙ ap (λ l. l ∷ lines (behind_first_line bs)) (sym (first_line-other b bs not))
-      ∙ ap (λ l. first_line (b ∷ bs) ∷ lines l) (sym (behind_first_line-other b bs not))
-]
+lines-of_rest b bs rest = grind (arith, common_steps)
 
 lines-cons : (b : ℕ) (bs : List ℕ) → lines (b ∷ bs) ≡ first_line (b ∷ bs) ∷ lines (behind_first_line (b ∷ bs))
 lines-cons b [] = lines-of_rest b [] refl

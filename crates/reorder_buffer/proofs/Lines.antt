@@ -1,4 +1,5 @@
 -- A reorder buffer whose lines with tickets lie beside the kinds of all: its lines, as it grows, shrinks and is answered.
+use Rattle.std.proofs.lemmas.Grind.{common_steps}
 use Rattle.std.proofs.Common.{◌≡◌, ℕ, ◌+◌, ◌<◌, ◌≤◌, suc, List, [], ◌∷◌, ◌++◌, length, map, refl, ap, sym, ◌∙◌, append-nil, arith}
 use Rattle.language.specs.declared.Reply.{Reply}
 use Rattle.reorder_buffer.specs.ReorderBuffer.{Completed, Line, NoMessage, OutOfRange, Pending, complete_one, HaveTicketsFrom, HasTicket, Ticketed, LineKind, OutOfRangeKind, ReorderBufferView, NoMessageKind, ticketed_among, lines_of, with_tickets}
@@ -46,8 +47,7 @@ lines_of-append [] more (line ∷ ticketed) rest many = absurd (omega (arith, ma
 lines_of-append (NoMessageKind ∷ kinds) more ticketed rest many = ap (λ l. NoMessage ∷ l) (lines_of-append kinds more ticketed rest many)
 lines_of-append (OutOfRangeKind ∷ kinds) more ticketed rest many = ap (λ l. OutOfRange ∷ l) (lines_of-append kinds more ticketed rest many)
 lines_of-append (Ticketed ∷ kinds) more [] rest many = absurd (omega (arith, many))
-lines_of-append (Ticketed ∷ kinds) more (line ∷ ticketed) rest many =
-    ap (λ l. line ∷ l) (lines_of-append kinds more ticketed rest (omega (arith, many)))
+lines_of-append (Ticketed ∷ kinds) more (line ∷ ticketed) rest many = grind (arith, common_steps, lines_of-append kinds more ticketed rest)
 
 -- a line without a ticket
 pub lines_of-plain : (kinds more : List LineKind) (ticketed : List Line) → ticketed_among kinds ≡ length ticketed
@@ -70,9 +70,7 @@ tickets_of_lines [] (line ∷ ticketed) n many from = absurd (omega (arith, many
 tickets_of_lines (NoMessageKind ∷ kinds) ticketed n many from = tickets_of_lines kinds ticketed n many from
 tickets_of_lines (OutOfRangeKind ∷ kinds) ticketed n many from = tickets_of_lines kinds ticketed n many from
 tickets_of_lines (Ticketed ∷ kinds) [] n many from = absurd (omega (arith, many))
-tickets_of_lines (Ticketed ∷ kinds) (line ∷ ticketed) n many from =
-    one_with_ticket n line (lines_of kinds ticketed) from.0
-    ∙ ap (λ (l : List Line). line ∷ l) (tickets_of_lines kinds ticketed (n + 1) (omega (arith, many)) from.1)
+tickets_of_lines (Ticketed ∷ kinds) (line ∷ ticketed) n many from = grind (arith, common_steps, tickets_of_lines kinds ticketed (n + 1))
 
 -- ---- an answer to a ticket, among all lines and among those with tickets
 
@@ -82,5 +80,4 @@ lines_of-answered ticket reply [] ticketed = refl
 lines_of-answered ticket reply (NoMessageKind ∷ kinds) ticketed = ap (λ l. NoMessage ∷ l) (lines_of-answered ticket reply kinds ticketed)
 lines_of-answered ticket reply (OutOfRangeKind ∷ kinds) ticketed = ap (λ l. OutOfRange ∷ l) (lines_of-answered ticket reply kinds ticketed)
 lines_of-answered ticket reply (Ticketed ∷ kinds) [] = refl
-lines_of-answered ticket reply (Ticketed ∷ kinds) (line ∷ ticketed) =
-    ap (λ l. complete_one ticket reply line ∷ l) (lines_of-answered ticket reply kinds ticketed)
+lines_of-answered ticket reply (Ticketed ∷ kinds) (line ∷ ticketed) = grind (arith, common_steps, lines_of-answered ticket reply kinds ticketed)

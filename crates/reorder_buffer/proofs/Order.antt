@@ -1,6 +1,6 @@
 -- Lines whose tickets go up by one: each has its place, and an answer leaves the others as they are.
-use Rattle.std.proofs.Common.{◌≡◌, ℕ, ◌+◌, ◌<◌, ◌≤◌, Bool, true, false, zero, suc, List, [], ◌∷◌, ◌⊎◌, inl, inr, if◌then◌else◌, ◌==◌, length, map, set, get_or, refl, ap, sym, ◌∙◌, subst, arith}
-use Rattle.std.proofs.lemmas.Bool.{ne_eqb}
+use Rattle.std.proofs.lemmas.Grind.{common_steps}
+use Rattle.std.proofs.Common.{◌≡◌, ℕ, ◌+◌, ◌<◌, ◌≤◌, zero, suc, List, [], ◌∷◌, ◌⊎◌, inl, inr, length, map, set, get_or, refl, ap, sym, ◌∙◌, subst, arith}
 use Rattle.language.specs.declared.Reply.{Reply}
 use Rattle.reorder_buffer.specs.ReorderBuffer.{Completed, Line, NoMessage, OutOfRange, Pending, complete_one, HaveTicketsFrom, HasTicket}
 
@@ -22,24 +22,20 @@ module _ (ticket : ℕ) (reply : Reply) where
   left n NoMessage of differs = refl
   left n OutOfRange of differs = refl
   left n (Completed t r) of differs = refl
-  left n (Pending t) of differs =
-      ap (λ (b : Bool). if b then Completed t reply else Pending t) (ne_eqb t ticket (λ e. differs (sym of ∙ e)))
+  left n (Pending t) of differs = grind (arith, common_steps)
 
   both_left : (line : Line) (ticketed : List Line) → complete_one ticket reply line ≡ line → Left ticketed → Left (line ∷ ticketed)
-  both_left line ticketed first rest =
-      ap (λ (l : Line). l ∷ map (complete_one ticket reply) ticketed) first ∙ ap (λ (l : List Line). line ∷ l) rest
+  both_left line ticketed first rest = grind (arith, common_steps)
 
   -- lines stay that all have greater tickets
   pub greater_left : (n : ℕ) (ticketed : List Line) → ticket < n → HaveTicketsFrom n ticketed → Left ticketed
   greater_left n [] lt from = refl
-  greater_left n (line ∷ ticketed) lt from =
-      both_left line ticketed (left n line from.0 (λ e. omega (arith, e, lt))) (greater_left (n + 1) ticketed (omega (arith, lt)) from.1)
+  greater_left n (line ∷ ticketed) lt from = grind (arith, common_steps, greater_left (n + 1) ticketed)
 
   -- lines stay that all have smaller tickets
   pub smaller_left : (n : ℕ) (ticketed : List Line) → n + length ticketed ≤ ticket → HaveTicketsFrom n ticketed → Left ticketed
   smaller_left n [] le from = refl
-  smaller_left n (line ∷ ticketed) le from =
-      both_left line ticketed (left n line from.0 (λ e. omega (arith, e, le))) (smaller_left (n + 1) ticketed (omega (arith, le)) from.1)
+  smaller_left n (line ∷ ticketed) le from = grind (arith, common_steps, smaller_left (n + 1) ticketed)
 
   -- only the line at index i changes, where the line of the ticket is
   pub changes_one : (n i : ℕ) (ticketed : List Line) (line : Line) → n + i ≡ ticket → i < length ticketed → HaveTicketsFrom n ticketed → line ≡ get_or ticketed i line
@@ -48,9 +44,7 @@ module _ (ticket : ℕ) (reply : Reply) where
   changes_one n zero (first ∷ ticketed) line is within from there =
       ap (λ (l : List Line). complete_one ticket reply first ∷ l) (greater_left (n + 1) ticketed (omega (arith, is)) from.1)
       ∙ ap (λ (l : Line). complete_one ticket reply l ∷ ticketed) (sym there)
-  changes_one n (suc i) (first ∷ ticketed) line is within from there =
-      ap (λ (l : Line). l ∷ map (complete_one ticket reply) ticketed) (left n first from.0 (λ e. omega (arith, e, is)))
-      ∙ ap (λ (l : List Line). first ∷ l) (changes_one (n + 1) i ticketed line (omega (arith, is)) (omega (arith, within)) from.1 there)
+  changes_one n (suc i) (first ∷ ticketed) line is within from there = grind (arith, common_steps, changes_one (n + 1) i ticketed line)
 
   -- ---- lines that stay in order
 
@@ -58,10 +52,7 @@ module _ (ticket : ℕ) (reply : Reply) where
   of_answered n NoMessage of = of
   of_answered n OutOfRange of = of
   of_answered n (Completed t r) of = of
-  of_answered n (Pending t) of = elim (t == ticket) as (λ b. HasTicket n (if b then Completed t reply else Pending t)) [
-    | true ↦ of
-    | false ↦ of
-  ]
+  of_answered n (Pending t) of = grind (arith, common_steps)
 
   pub answered_in_order : (n : ℕ) (lines : List Line) → HaveTicketsFrom n lines → HaveTicketsFrom n (map (complete_one ticket reply) lines)
   answered_in_order n [] from = from

@@ -1,5 +1,6 @@
 -- The line of a ticket is as far behind the first line as the ticket is above the first; no other line has it.
-use Rattle.std.proofs.Common.{◌<◌, ℕ, Option, arith, length, subst, sym}
+use Rattle.std.proofs.lemmas.Grind.{common_steps}
+use Rattle.std.proofs.Common.{ℕ, Option, arith, subst, sym}
 use Rattle.reorder_buffer.specs.ReorderBuffer.{IsAnsweredAt}
 use Rattle.reorder_buffer.proofs.Order.{changes_one, greater_left, smaller_left}
 use Rattle.reorder_buffer.proofs.reorder_buffer.index_of.Goals as goal
@@ -12,15 +13,7 @@ returns-in_err-index c =
     (λ reply. greater_left c.args.ticket reply n c.args.ticketed.now.items (omega (arith, c.in_err-index.ensures, is)) c.requires.1)
 
 pub returns-then-index-len : goal.returns-then-index-len
-returns-then-index-len c =
-    let n = c.requires.0 in
-    let is = c.in_ok-first_ticket.ensures n c.requires.1 in
-    let at = c.in_ok-index.ensures in
-    let many = c.len.ensures in
-    let ok = c.args.ticketed.now.ok in
-    let test = c.if-index-len.true in
-    let within : c.in_ok-index.index < length c.args.ticketed.now.items = omega (arith, test, many, ok) in
-    (within, λ reply line there. changes_one c.args.ticket reply n c.in_ok-index.index c.args.ticketed.now.items line (omega (arith, is, at)) within c.requires.1 there)
+returns-then-index-len c = grind (arith, common_steps, changes_one)
 
 pub returns-else-index-len : goal.returns-else-index-len
 returns-else-index-len c reply =

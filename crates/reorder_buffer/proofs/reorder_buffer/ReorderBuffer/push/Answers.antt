@@ -1,8 +1,9 @@
 -- A line more is a kind more, and where it has a ticket, a line more beside the kinds.
+use Rattle.std.proofs.lemmas.Grind.{common_steps}
 use Rattle.std.proofs.Common.{◌≡◌, ◌<◌, ◌≤◌, ◌++◌, ◌∷◌, [], List, ap, arith, length, refl, subst, sym, ◌∙◌}
 use Rattle.std.specs.VecDeque.{deque_capacity}
 use Rattle.std.proofs.lemmas.List.{length_push}
-use Rattle.reorder_buffer.specs.ReorderBuffer.{Line, NoMessage, OutOfRange, AreConsecutive, Ticketed, LineKind, OutOfRangeKind, ReorderBufferView, NoMessageKind, ticketed_among, lines_of, with_tickets}
+use Rattle.reorder_buffer.specs.ReorderBuffer.{Line, AreConsecutive, Ticketed, LineKind, OutOfRangeKind, ReorderBufferView, NoMessageKind, ticketed_among, with_tickets}
 use Rattle.reorder_buffer.specs.Fields.{IsReorderBuffer, buffer_view}
 use Rattle.reorder_buffer.specs.declared.reorder_buffer.ReorderBuffer.TheInside.{Inside}
 use Rattle.reorder_buffer.proofs.Order.{ticket_in}
@@ -57,20 +58,10 @@ invariant_of-self-in-OutOfRange c =
     pushed.ensures.items (let was = c.self.invariant in omega (arith, was.room, pushed.ensures.capacity))
 
 pub returns-in-NoMessage-clause-lines : goal.returns-in-NoMessage-clause-lines
-returns-in-NoMessage-clause-lines c =
-    let k = c.self.inside in
-    ap (λ (l : List LineKind). lines_of l k.ticketed.items) c.push_back_reserved.ensures.items
-    ∙ lines_of-plain k.kinds.items (NoMessageKind ∷ []) k.ticketed.items c.self.invariant.among
-    ∙ ap (λ (v : ReorderBufferView). v.lines ++ NoMessage ∷ []) c.self.view_is
-    ∙ ap (λ (l : Line). c.args.self.now.lines ++ l ∷ []) (sym c.in-NoMessage.is)
+returns-in-NoMessage-clause-lines c = grind (arith, common_steps, lines_of-plain)
 
 pub returns-in-OutOfRange-clause-lines : goal.returns-in-OutOfRange-clause-lines
-returns-in-OutOfRange-clause-lines c =
-    let k = c.self.inside in
-    ap (λ (l : List LineKind). lines_of l k.ticketed.items) c.push_back_reserved-in-OutOfRange.ensures.items
-    ∙ lines_of-plain k.kinds.items (OutOfRangeKind ∷ []) k.ticketed.items c.self.invariant.among
-    ∙ ap (λ (v : ReorderBufferView). v.lines ++ OutOfRange ∷ []) c.self.view_is
-    ∙ ap (λ (l : Line). c.args.self.now.lines ++ l ∷ []) (sym c.in-OutOfRange.is)
+returns-in-OutOfRange-clause-lines c = grind (arith, common_steps, lines_of-plain)
 
 pub invariant_of-self-in-Pending : goal.invariant_of-self-in-Pending
 invariant_of-self-in-Pending c =
@@ -93,10 +84,4 @@ invariant_of-self-in-Pending c =
     }
 
 pub returns-in-Pending-clause-lines : goal.returns-in-Pending-clause-lines
-returns-in-Pending-clause-lines c =
-    let k = c.self.inside in
-    let beside = c.push_back_reserved-in-Pending-2 in
-    ap (λ (l : List LineKind). lines_of l beside.new.self.items) c.push_back_reserved-in-Pending.ensures.items
-    ∙ ap (λ (l : List Line). lines_of (k.kinds.items ++ Ticketed ∷ []) l) beside.ensures.items
-    ∙ lines_of-append k.kinds.items (Ticketed ∷ []) k.ticketed.items (c.args.line ∷ []) c.self.invariant.among
-    ∙ ap (λ (v : ReorderBufferView). v.lines ++ c.args.line ∷ []) c.self.view_is
+returns-in-Pending-clause-lines c = grind (arith, common_steps, lines_of-append)
