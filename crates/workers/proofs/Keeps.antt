@@ -1,5 +1,6 @@
 -- Each kind of step keeps the rule of the bench (`BenchRule`).
-use Rattle.std.proofs.Common.{◌≡◌, ◌≢◌, ℕ, zero, suc, ◌+◌, ◌<◌, ◌≤◌, List, [], ◌∷◌, ◌++◌, map, length, get_or, set, replicate, Option, None, Some, eqb, sym, refl, ap, ◌∙◌, subst, ⊎_elim, arith, length-set, get_or-set_other, get_or-set_same}
+use Rattle.std.proofs.lemmas.Grind.{common_steps}
+use Rattle.std.proofs.Common.{◌≡◌, ◌≢◌, ℕ, zero, suc, ◌+◌, ◌<◌, ◌≤◌, List, [], ◌∷◌, map, length, get_or, set, replicate, Option, None, Some, eqb, sym, refl, ap, ◌∙◌, subst, ⊎_elim, arith, length-set, get_or-set_other, get_or-set_same}
 use Rattle.std.proofs.lemmas.List.{set-get_or, length-replicate, get_or-replicate}
 use mathlib.Core.Option.{none, some, some-injective, some-ne-none}
 use lib.ListN.{get_elem?}
@@ -40,9 +41,6 @@ one_claimed k i job other e = ((cc), (cc))
 one_dispatch_seat : (r q : ℕ) (l m : LentJobs) → Dispatcher r l ≡ Dispatcher q m → (r ≡ q) × (l ≡ m)
 one_dispatch_seat r q l m e = ((cc), (cc))
 
-one_job : (a b : JobView) → Some a ≡ Some b → a ≡ b
-one_job a b e = cc
-
 -- The state of a place is as before where its word, what is lent and whether its slot was taken are as before.
 stands_still : {r q k word word' : ℕ} {o o' : Option JobView} {slot : SlotState} → PlaceState r k word o slot
     → (k < q → k < r) → (q ≤ k → r ≤ k) → word' ≡ word → o' ≡ o → PlaceState q k word' o' slot
@@ -53,9 +51,7 @@ stands_still (is_delivered job done w l at run) less more ew eo = is_delivered j
 
 -- the dispatcher's seat knows what the rule says
 the_dispatch_seat : (s : BenchTable) (h : BenchRule s) (id r : ℕ) (l : LentJobs) → get_elem? s.views id ≡ some (Dispatcher r l) → (id ≡ h.dispatch_seat) × (r ≡ h.untaken) × (l ≡ h.lent)
-the_dispatch_seat s h id r l me = let same = h.no_other id r l me in
-    let e = one_dispatch_seat r h.untaken l h.lent (some-injective _ _ (sym me ∙ (ap (λ i. get_elem? s.views i) same ∙ h.dispatcher))) in
-    (same, e.0, e.1)
+the_dispatch_seat s h id r l me = grind (arith, common_steps)
 
 -- The dispatcher changes place k, which nobody has claimed.
 pub dispatch_seat_moves : {s : BenchTable} (h : BenchRule s) (id k : ℕ) {n r q : ℕ} {o : Option JobView} {l : LentJobs} {slot : SlotState}
@@ -200,9 +196,7 @@ unclaimed h {k} e ne seat job at = ne (sym e ∙ (h.claims seat k job at).0)
 -- a step on the word of place k that the relation allows for place k is allowed by `OfPlace`, too: the word belongs to no other place
 of_place : (relation : ℕ → SeatState → ℕ → SeatState → Type 0) {slots : ℕ} (id k : ℕ) (me : SeatState) (f : ℕ → ℕ) (st : Step (Option CellContent)) → st.word ≡ k + 6
     → Allows BenchRule slots id me (k + 6) f (λ n w. relation k me n w) → Allows BenchRule slots id me (k + 6) f (λ n w. OfPlace relation st me n w)
-of_place relation id k me f st here allowed s h long at fits =
-    let a = allowed s h long at fits in
-    (a.0, a.1, a.2, a.3, λ i e. let same : k ≡ i = omega arith in subst (λ j. relation j me (get_or s.words (k + 6) 0) (a.0, carried_after me.1 a.1)) same a.4)
+of_place relation id k me f st here allowed s h long at fits = grind (arith, common_steps)
 
 takes_slot_at : (slots id k : ℕ) (lent : LentJobs) (held : List (ℕ × Option CellContent)) → k < slots → lent_at lent k ≡ None
     → Allows BenchRule slots id (Dispatcher (k + 1) lent, held) (k + 6) (λ _. 0) (λ n w. TakesSlot k (Dispatcher (k + 1) lent, held) w)
@@ -305,20 +299,7 @@ collects {slots} id {k} {me} {lent} {held} is near = of_place Collects id k me (
 
 -- A worker's seat is split off.
 pub splits : (id : ℕ) (v : SeatRole) → Splits BenchRule id v v Idle
-splits id v s h me = subst (λ vs. BenchRule record { words = s.words; homes = s.homes; views = vs ++ Idle ∷ [] }) (sym (set_again s.views id v me)) record {
-  dispatch_seat = h.dispatch_seat;
-  untaken = h.untaken;
-  lent = h.lent;
-  words = h.words;
-  lent_length = h.lent_length;
-  dispatcher = at_longer s.views (Idle ∷ []) h.dispatch_seat _ h.dispatcher;
-  no_other = λ seat r l at. ⊎_elim (λ t. h.no_other seat r l t) (λ t. absurd (idle_is_worker r l t)) (at_snoc s.views Idle (Dispatcher r l) seat at);
-  claims = λ seat k job at. ⊎_elim (λ t. h.claims seat k job t) (λ t. absurd (idle_is_no_claim k job t)) (at_snoc s.views Idle (Claimed k job) seat at);
-  one_claim = λ seat other k job job' at at'. ⊎_elim
-      (λ t. ⊎_elim (λ u. h.one_claim seat other k job job' t u) (λ u. absurd (idle_is_no_claim k job' u)) (at_snoc s.views Idle (Claimed k job') other at'))
-      (λ t. absurd (idle_is_no_claim k job t)) (at_snoc s.views Idle (Claimed k job) seat at);
-  places = h.places;
-}
+splits id v s h me = grind (arith, common_steps, set_again, at_longer, idle_is_worker, at_snoc, claims, idle_is_no_claim)
 
 -- The table at the start: all words 0, all slots in the table and empty, and one seat.
 only_one : (v w : SeatRole) (i : ℕ) → get_elem? (v ∷ []) i ≡ some w → (i ≡ 0) × (v ≡ w)
@@ -360,5 +341,4 @@ opens n ws long zeros =
     }
 
 pub opens_empty : (n : ℕ) (ws : List ℕ) → ws ≡ replicate (n + 6) 0 → BenchRule (opening ws (replicate n None) (Dispatcher n (replicate n None)))
-opens_empty n ws e = subst (λ vs. BenchRule (opening vs (replicate n None) (Dispatcher n (replicate n None)))) (sym e)
-    (opens n (zeros (n + 6)) (length-replicate (n + 6) 0) (zero_at (n + 6)))
+opens_empty n ws e = grind (arith, common_steps, opens, length-replicate, zero_at)

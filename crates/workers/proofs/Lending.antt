@@ -1,4 +1,5 @@
 -- The dispatcher's seat from one step of an offer or a collection to the next.
+use Rattle.std.proofs.lemmas.Grind.{common_steps}
 use Rattle.std.proofs.Common.{◌≡◌, ℕ, zero, suc, false, replicate, ◌+◌, ◌<◌, Bool, List, [], ◌∷◌, map, length, set, Option, None, Some, is_some, refl, sym, ap, ◌∙◌, arith}
 use Rattle.std.proofs.lemmas.List.{map-set}
 use Rattle.atomic_table.specs.Table.{rest}
@@ -11,7 +12,7 @@ use Rattle.workers.specs.Seats.{IsBench, IsDispatchSeat, lent_of, empty_slots, e
 use Rattle.workers.specs.declared.job_cell.CellContent.{CellContent}
 use Rattle.workers.specs.declared.job_cell.CellContent.TheVariants.{Offered, Delivered}
 use Rattle.workers.specs.declared.seats.SeatRole.TheVariants.{Dispatcher, Claimed}
-use Rattle.workers.proofs.Turning.{others, spare_from_start, spare_from_end, spare_from_empty, lent_rest, back_rest}
+use Rattle.workers.proofs.Turning.{others, spare_from_end, spare_from_empty, lent_rest, back_rest}
 
 -- a list that begins with x
 pub headed : {xs : List (ℕ × Option CellContent)} {x : ℕ × Option CellContent} {r : List (ℕ × Option CellContent)} → xs ≡ x ∷ r → xs ≡ x ∷ rest xs
@@ -23,9 +24,6 @@ first_of (x ∷ xs) = x.1
 
 pub same_head : {xs r s : List (ℕ × Option CellContent)} {k : ℕ} {x y : Option CellContent} → xs ≡ (k, x) ∷ r → xs ≡ (k, y) ∷ s → x ≡ y
 same_head e f = ap first_of (sym e ∙ f)
-
-pub starts : {m : SeatState} (ls : LentJobs) → m ≡ (Dispatcher 0 ls, empty_slots 0 ls) → m.1 ≡ empty_slots_from 0 ls
-starts ls e = ap (λ (n : SeatState). n.1) e ∙ sym (spare_from_start ls)
 
 -- the seat after its list of slots was rotated to place k
 pub turned_to : {m n : SeatState} {ls : LentJobs} {xs ys : List (ℕ × Option CellContent)} → m ≡ (Dispatcher 0 ls, xs) → n ≡ (m.0, ys) → n ≡ (Dispatcher 0 ls, ys)
@@ -62,12 +60,7 @@ rotated_to_end j {n} {ls} e f long = f ∙ (ap (λ (y : SeatState). (y.0, empty_
 
 pub dispatch_seat_of : {z : TableId} {m : SeatState} {fs : List Bool} {ls : LentJobs} → IsBench z → m ≡ (Dispatcher 0 ls, empty_slots 0 ls) → fs ≡ map is_some ls → length fs ≡ z.slots
     → IsDispatchSeat z m fs
-dispatch_seat_of bench e f long = record {
-  bench = bench;
-  seat = e ∙ sym (ap (λ (y : SeatState). (Dispatcher 0 (lent_of y.0), empty_slots 0 (lent_of y.0))) e);
-  flagged = flags_of f e;
-  places = long;
-}
+dispatch_seat_of bench e f long = grind (arith, common_steps)
 
 mapped_length : (ls : LentJobs) → length (map is_some ls) ≡ length ls
 mapped_length [] = refl
@@ -79,14 +72,6 @@ counted fs ls e = ap length e ∙ mapped_length ls
 
 pub within : {z : TableId} {m : SeatState} {fs : List Bool} (k : ℕ) → IsDispatchSeat z m fs → k < z.slots → k < length (lent_of m.0)
 within {m = m} {fs = fs} k d h = let e = counted fs (lent_of m.0) d.flagged in let p = d.places in omega arith
-
--- The result of place k was taken: it is that of the job that was lent there, whose slot the seat has again.
-pub taken : {k : ℕ} {ls : LentJobs} {job : JobView} {done : Done} {m n w : SeatState} → m ≡ (Dispatcher 0 ls, empty_slots_from k ls) → lent_at (lent_of m.0) k ≡ Some job
-    → n ≡ (Dispatcher 0 (set (lent_of m.0) k None), (k, Some (Delivered done)) ∷ m.1) → w ≡ (n.0, (k, None) ∷ rest n.1) → k < length ls
-    → (lent_at ls k ≡ Some job) × (w ≡ (Dispatcher 0 (set ls k None), empty_slots_from k (set ls k None)))
-taken {k} {ls} {job} {done} e is f g near =
-    let here : lent_at ls k ≡ Some job = sym (ap (λ (y : SeatState). lent_at (lent_of y.0) k) e) ∙ is in
-    (here, comes_back ls (f ∙ ap (λ (y : SeatState). (Dispatcher 0 (set (lent_of y.0) k None), (k, Some (Delivered done)) ∷ y.1)) e) g near here)
 
 pub one_result : (a b : Done) → Some (Delivered a) ≡ Some (Delivered b) → a ≡ b
 one_result a b e = cc

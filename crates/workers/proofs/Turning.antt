@@ -1,6 +1,7 @@
 -- The dispatcher's seat has a list of slots: the job cell of each place where nothing is lent. It reaches only the first, so the list is
 -- rotated.
-use Rattle.std.proofs.Common.{◌≡◌, ℕ, zero, suc, ◌+◌, ◌<◌, Bool, true, false, List, [], ◌∷◌, ◌++◌, map, length, get_or, set, take, drop, replicate, Option, None, Some, is_some, refl, sym, ap, ◌∙◌, append_assoc, arith, drop-cons}
+use Rattle.std.proofs.lemmas.Grind.{common_steps}
+use Rattle.std.proofs.Common.{◌≡◌, ℕ, zero, suc, ◌+◌, ◌<◌, Bool, true, false, List, [], ◌∷◌, ◌++◌, length, get_or, set, take, drop, replicate, Option, None, Some, is_some, refl, sym, ap, ◌∙◌, arith, drop-cons}
 use Rattle.std.proofs.lemmas.List.{take-set, drop-set-lt, get_or-set_same, length-set}
 use Rattle.atomic_table.specs.Table.{turned}
 use Rattle.parcel.specs.Run.{JobView}
@@ -20,9 +21,6 @@ take_all : (ls : LentJobs) → take (length ls) ls ≡ ls
 take_all [] = refl
 take_all (x ∷ xs) = ap (λ ys. x ∷ ys) (take_all xs)
 
-pub spare_from_start : (ls : LentJobs) → empty_slots_from 0 ls ≡ empty_slots 0 ls
-spare_from_start ls = append_none (empty_slots 0 ls)
-
 pub spare_from_end : (n : ℕ) (ls : LentJobs) → n ≡ length ls → empty_slots_from n ls ≡ empty_slots 0 ls
 spare_from_end n ls e = ap (λ m. empty_slots_from m ls) e ∙ λ i. empty_slots (length ls) (drop_all ls i) ++ empty_slots 0 (take_all ls i)
 
@@ -36,10 +34,8 @@ spare_none i o ls job e = ap (λ x. empty_slots i (x ∷ ls)) e
 spare_take : (i k : ℕ) (ls : LentJobs) → k < length ls → empty_slots i (take (suc k) ls) ≡ empty_slots i (take k ls) ++ empty_slots (i + k) (get_or ls k None ∷ [])
 spare_take i k [] h = absurd (omega arith)
 spare_take i zero (x ∷ xs) h = let e : i ≡ i + 0 = omega arith in ap (λ m. empty_slots m (x ∷ [])) e
-spare_take i (suc k) (None ∷ xs) h = let e : suc i + k ≡ i + suc k = omega arith in
-    ap (λ ys. (i, None) ∷ ys) (spare_take (suc i) k xs (omega arith) ∙ ap (λ m. empty_slots (suc i) (take k xs) ++ empty_slots m (get_or xs k None ∷ [])) e)
-spare_take i (suc k) (Some job ∷ xs) h = let e : suc i + k ≡ i + suc k = omega arith in
-    spare_take (suc i) k xs (omega arith) ∙ ap (λ m. empty_slots (suc i) (take k xs) ++ empty_slots m (get_or xs k None ∷ [])) e
+spare_take i (suc k) (None ∷ xs) h = grind (arith, common_steps, spare_take (suc i) k xs)
+spare_take i (suc k) (Some job ∷ xs) h = grind (arith, common_steps, spare_take (suc i) k xs)
 
 spare_before : (k : ℕ) (ls : LentJobs) → k < length ls → empty_slots 0 (take (suc k) ls) ≡ empty_slots 0 (take k ls) ++ empty_slots k (get_or ls k None ∷ [])
 spare_before k ls h = let e : 0 + k ≡ k = omega arith in spare_take 0 k ls h ∙ ap (λ m. empty_slots 0 (take k ls) ++ empty_slots m (get_or ls k None ∷ [])) e
@@ -56,9 +52,7 @@ spare_from_lent : (k : ℕ) (ls : LentJobs) (job : JobView) → k < length ls �
 spare_from_lent k ls job h e = ap (λ ys. ys ++ empty_slots 0 (take k ls)) (ap (empty_slots k) (drop-cons ls k None h) ∙ spare_none k _ _ job e)
 
 pub turns : (k : ℕ) (ls : LentJobs) → k < length ls → lent_at ls k ≡ None → turned (empty_slots_from k ls) ≡ empty_slots_from (k + 1) ls
-turns k ls h e = let one : suc k ≡ k + 1 = omega arith in
-    ap turned (spare_from_empty k ls h e) ∙ (append_assoc (empty_slots (suc k) (drop (suc k) ls)) (empty_slots 0 (take k ls)) ((k, None) ∷ [])
-    ∙ (ap (λ ys. empty_slots (suc k) (drop (suc k) ls) ++ ys) (sym (spare_before k ls h ∙ ap (λ o. empty_slots 0 (take k ls) ++ empty_slots k (o ∷ [])) e)) ∙ ap (λ m. empty_slots_from m ls) one))
+turns k ls h e = grind (arith, common_steps, spare_from_empty, spare_before)
 
 passes_job : (k : ℕ) (ls : LentJobs) (job : JobView) → k < length ls → lent_at ls k ≡ Some job → empty_slots_from k ls ≡ empty_slots_from (k + 1) ls
 passes_job k ls job h e = let one : suc k ≡ k + 1 = omega arith in
@@ -74,11 +68,6 @@ is_nothing : (o : Option JobView) → is_some o ≡ false → o ≡ None
 is_nothing None e = refl
 is_nothing (Some job) e = absurd (cc)
 
-mapped : (ls : LentJobs) (k : ℕ) → get_or (map is_some ls) k false ≡ is_some (lent_at ls k)
-mapped [] k = refl
-mapped (x ∷ xs) zero = refl
-mapped (x ∷ xs) (suc k) = mapped xs k
-
 pub passes : (k : ℕ) (ls : LentJobs) (flag : Bool) → k < length ls → flag ≡ is_some (lent_at ls k) → flag ≡ true → empty_slots_from k ls ≡ empty_slots_from (k + 1) ls
 passes k ls flag h e on = let t = is_job (lent_at ls k) (sym e ∙ on) in passes_job k ls t.0 h t.1
 
@@ -87,19 +76,11 @@ turns_empty k ls flag h e off = turns k ls h (is_nothing (lent_at ls k) (sym e �
 
 -- what is left once a job was offered in the slot of place k
 pub lent_rest : (k : ℕ) (ls : LentJobs) (job : JobView) → k < length ls → empty_slots (suc k) (drop (suc k) ls) ++ empty_slots 0 (take k ls) ≡ empty_slots_from (k + 1) (set ls k (Some job))
-lent_rest k ls job h = let one : suc k ≡ k + 1 = omega arith in let wide : k < length (set ls k (Some job)) = let e = length-set ls k (Some job) in omega arith in
-    sym (ap (λ m. empty_slots_from m (set ls k (Some job))) (sym one)
-    ∙ (ap (λ ys. empty_slots (suc k) ys ++ empty_slots 0 (take (suc k) (set ls k (Some job)))) (drop-set-lt (suc k) ls k (Some job) (omega arith))
-    ∙ ap (λ ys. empty_slots (suc k) (drop (suc k) ls) ++ ys) (spare_before k (set ls k (Some job)) wide
-    ∙ (ap (λ o. empty_slots 0 (take k (set ls k (Some job))) ++ empty_slots k (o ∷ [])) (get_or-set_same ls k (Some job) None h)
-    ∙ (append_none (empty_slots 0 (take k (set ls k (Some job)))) ∙ ap (empty_slots 0) (take-set ls k (Some job)))))))
+lent_rest k ls job h = grind (arith, common_steps, length-set, drop-set-lt, spare_before, get_or-set_same, append_none, take-set)
 
 -- the list once the seat has the slot of place k again
 pub back_rest : (k : ℕ) (ls : LentJobs) (job : JobView) → k < length ls → lent_at ls k ≡ Some job → (k, None) ∷ empty_slots_from k ls ≡ empty_slots_from k (set ls k None)
-back_rest k ls job h e = ap (λ ys. (k, None) ∷ ys) (spare_from_lent k ls job h e)
-    ∙ sym (spare_from_empty k (set ls k None) (let w = length-set ls k None in omega arith) (get_or-set_same ls k None None h)
-    ∙ λ i. (k, None) ∷ (empty_slots (suc k) (drop-set-lt (suc k) ls k None (let w = h in omega arith) i) ++ empty_slots 0 (take-set ls k None i)))
+back_rest k ls job h e = grind (arith, common_steps)
 
 pub slot_taken : (j k m n : ℕ) → k ≡ j + 1 → n ≡ m + 1 → (j, None) ∷ empty_slots k (replicate m None) ≡ empty_slots j (replicate n None)
-slot_taken j k m n e f = let g : n ≡ suc m = omega arith in let h : k ≡ suc j = omega arith in
-    ap (λ i. (j, None) ∷ empty_slots i (replicate m None)) h ∙ sym (ap (λ l. empty_slots j (replicate l None)) g)
+slot_taken j k m n e f = grind (arith, common_steps)

@@ -1,10 +1,9 @@
 -- The slot that is taken next comes before the others, so that they end up in order.
-use Rattle.std.proofs.Common.{◌≡◌, ◌+◌, ◌-◌, ◌∷◌, ap, ◌∙◌, replicate, None, arith}
+use Rattle.std.proofs.lemmas.Grind.{common_steps}
+use Rattle.std.proofs.Common.{◌≡◌, ◌+◌, ◌-◌, ap, ◌∙◌, replicate, None, arith}
 use Rattle.std.proofs.lemmas.List.{get_or-replicate}
-use Rattle.workers.specs.Steps.{SeatState}
-use Rattle.workers.specs.Seats.{empty_slots, lent_of}
+use Rattle.workers.specs.Seats.{empty_slots}
 use Rattle.workers.specs.declared.seats.SeatRole.TheVariants.{Dispatcher}
-use Rattle.workers.proofs.Turning.{slot_taken}
 use Rattle.workers.proofs.bench.take_slots.Goals as goal
 
 pub take_slot-requires-clause-untaken : goal.take_slot-requires-clause-untaken
@@ -17,10 +16,4 @@ take_slot-requires-clause-untaken c = let n = c.args.places in let k = c.loop-k.
 )
 
 pub loop-k-preserved : goal.loop-k-preserved
-loop-k-preserved c = let n = c.args.places in let k = c.loop-k.k in let up = c.loop-k.invariant.most in let more = c.loop-k-test.true in
-    let e : k ≡ k - 1 + 1 = omega arith in let f : n - (k - 1) ≡ n - k + 1 = omega arith in record {
-      table = c.take_slot.ensures.bench ∙ c.loop-k.invariant.table;
-      most = omega arith;
-      seat = c.take_slot.ensures.take_slot ∙ (ap (λ (m : SeatState). (Dispatcher (k - 1) (lent_of m.0), (k - 1, None) ∷ m.1)) c.loop-k.invariant.seat
-          ∙ λ i. (Dispatcher (k - 1) (replicate n None), slot_taken (k - 1) k (n - k) (n - (k - 1)) e f i));
-    }
+loop-k-preserved c = grind (arith, common_steps)

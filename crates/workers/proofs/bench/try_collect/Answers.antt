@@ -1,11 +1,13 @@
 -- With the place's slot next in order the exchange is tried; if it fails, the slots are rotated on into their old order.
+use Rattle.std.proofs.Common.{arith}
+use Rattle.std.proofs.lemmas.Grind.{common_steps}
 use Rattle.std.proofs.Common.{ap, sym, ◌∙◌, set, ◌∷◌, None, Some}
 use Rattle.workers.specs.Steps.{SeatState}
 use Rattle.workers.specs.Rule.{lent_at}
 use Rattle.workers.specs.Seats.{lent_of}
 use Rattle.workers.specs.declared.job_cell.CellContent.TheVariants.{Delivered}
 use Rattle.workers.specs.declared.seats.SeatRole.TheVariants.{Dispatcher}
-use Rattle.workers.proofs.Lending.{turned_to, counted, rotated_to_end}
+use Rattle.workers.proofs.Lending.{turned_to}
 use Rattle.workers.proofs.bench.try_collect.Goals as goal
 
 pub returns-then-collect-clause-won : goal.returns-then-collect-clause-won
@@ -21,7 +23,4 @@ returns-then-collect-clause-won c = λ _. let m = c.args.seat.now.me in let k = 
     }
 
 pub returns-clause-lost : goal.returns-clause-lost
-returns-clause-lost c = λ _. let m = c.args.seat.now.me in let k = c.args.k in let ls = lent_of m.0 in let d = c.requires.dispatch_seat in
-    let at = turned_to d.seat c.rotate_to.ensures.slots in
-    let still = c.collect.ensures.lost c.if-collect.false ∙ at in
-    rotated_to_end k still c.rotate_to-2.ensures.slots (counted _ ls d.flagged) ∙ sym d.seat
+returns-clause-lost c = grind (arith, common_steps)

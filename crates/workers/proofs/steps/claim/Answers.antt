@@ -1,5 +1,6 @@
 -- One exchange of offered for claimed: it wins the slot with the job, or else changes nothing.
-use Rattle.std.proofs.Common.{rules, arith, refl, ap, ◌∙◌, eqb-true, ◌∷◌, Some}
+use Rattle.std.proofs.lemmas.Grind.{common_steps}
+use Rattle.std.proofs.Common.{arith, refl, ap, ◌∙◌, eqb-true, ◌∷◌, Some}
 use Rattle.std.proofs.lemmas.Bool.{eqb-false}
 use Rattle.workers.specs.Steps.{SeatState}
 use Rattle.workers.specs.declared.job_cell.CellContent.TheVariants.{Offered}
@@ -8,8 +9,7 @@ use Rattle.workers.proofs.Keeps.{claims}
 use Rattle.workers.proofs.steps.claim.Goals as goal
 
 pub compare_exchange-requires : goal.compare_exchange-requires
-compare_exchange-requires c = let w = c.requires.bench.1.0 in
-    (search rules, omega arith, claims _ c.requires.idle c.requires.place)
+compare_exchange-requires c = grind (arith, common_steps, claims)
 
 pub returns-clause-won : goal.returns-clause-won
 returns-clause-won c = λ yes. let t = (c.compare_exchange.ensures.2 c.args.k refl).0 (eqb-true _ _ yes) in

@@ -1,5 +1,7 @@
 -- The slot that was claimed has the job; its result is laid into that slot, and is what the job's run gives.
-use Rattle.std.proofs.Common.{◌∙◌, ap, subst}
+use Rattle.std.proofs.Common.{arith}
+use Rattle.std.proofs.lemmas.Grind.{common_steps}
+use Rattle.std.proofs.Common.{ap, subst}
 use Rattle.parcel.specs.Run.{IsJobRun}
 use Rattle.workers.specs.Steps.{SeatState}
 use Rattle.workers.proofs.Lending.{headed, same_head, one_job, answered}
@@ -10,8 +12,7 @@ take_job-job-requires g c = let t = c.requires.claimed in
     (c.requires.bench.0, (t.0, headed (ap (λ (m : SeatState). m.1) t.1)))
 
 pub lay_result-requires : goal.lay_result-requires
-lay_result-requires g c =
-    (c.take_job-job.ensures.bench ∙ c.requires.bench.0, headed (ap (λ (m : SeatState). m.1) c.take_job-job.ensures.slot))
+lay_result-requires g c = grind (arith, common_steps)
 
 pub deliver-requires-clause-result : goal.deliver-requires-clause-result
 deliver-requires-clause-result g c = let t = c.requires.claimed in let k = c.args.k in

@@ -1,6 +1,7 @@
 -- The result that is collected is the one that was won, of the job that was lent at that place.
-use Rattle.std.proofs.Common.{rules, ◌≡◌, length, ap, sym, ◌∙◌, subst, set, None, Some}
-use Rattle.atomic_table.specs.Seated.{TableId}
+use Rattle.std.proofs.Common.{arith}
+use Rattle.std.proofs.lemmas.Grind.{common_steps}
+use Rattle.std.proofs.Common.{◌≡◌, ap, sym, ◌∙◌, subst, set, None, Some}
 use Rattle.parcel.specs.Run.{JobView, IsJobRun}
 use Rattle.workers.specs.Rule.{LentJobs, lent_at}
 use Rattle.workers.specs.Steps.{SeatState}
@@ -9,10 +10,7 @@ use Rattle.workers.proofs.Lending.{same_head, one_result}
 use Rattle.workers.proofs.bench.Bench.collect.Goals as goal
 
 pub take_delivered-requires-clause-won : goal.take_delivered-requires-clause-won
-take_delivered-requires-clause-won c = let won = c.try_collect.ensures.won c.if-not-try_collect.false in
-    let same : c.deref_mut.result.now ≡ c.seat.inside.lent.items = search rules in
-    let here : c.seat.inside.seat.table_id ≡ c.self.inside.table.shared.table_id = search rules in
-    (lent_of c.seat.inside.seat.me.0, won, same ∙ c.seat.invariant.flagged, ap length same ∙ (c.seat.invariant.places ∙ ap (λ (z : TableId). z.slots) here))
+take_delivered-requires-clause-won c = grind (arith, common_steps)
 
 pub returns-clause-some : goal.returns-clause-some
 returns-clause-some c = let won = c.try_collect.ensures.won c.if-not-try_collect.false in let done = c.take_delivered.result in
