@@ -1,9 +1,11 @@
 -- Messages without data, by their kind and their numbers.
-use Rattle.std.proofs.Common.{◌≡◌, ℕ, false, List, Some, ap, sym, ◌∙◌}
+use Rattle.std.proofs.Common.{arith}
+use Rattle.std.proofs.lemmas.Grind.{common_steps}
+use Rattle.std.proofs.Common.{◌≡◌, ℕ, false, List, Some}
 use Rattle.affinity.specs.declared.geometry.Geometry.{Geometry}
 use Rattle.affinity.specs.declared.kinds.Kind.{Kind}
 use Rattle.affinity.specs.declared.kinds.Kind.TheVariants as kinds
-use Rattle.language.specs.Messages.{kind, IsMessage}
+use Rattle.language.specs.Messages.{IsMessage}
 use Rattle.message.specs.Heads.{message_without_data, has_data, IsWithoutData}
 use Rattle.meaning.specs.State.{State}
 use Rattle.meaning.specs.Serial.{refusal, refusal_by}
@@ -15,5 +17,4 @@ asking_is_message kinds.SetLabel ns h = cc h
 asking_is_message _ ns h = tt
 
 pub refusal_asked : (g : Geometry) (x : State) (k : Kind) (ns : List ℕ) → IsWithoutData k ns (Some (message_without_data k ns)) → refusal_by g x k ns ≡ refusal g x (message_without_data k ns)
-refusal_asked g x k ns h =
-    ap (λ j. refusal_by g x j ns) (sym h.kind_is) ∙ ap (refusal_by g x (kind (message_without_data k ns))) (sym h.numbers_are)
+refusal_asked g x k ns h = grind (arith, common_steps)

@@ -1,11 +1,11 @@
 -- What was written where a write failed: a beginning of the whole output.
-use Rattle.std.proofs.Common.{◌≡◌, ℕ, Bool, List, [], ◌∷◌, ◌++◌, length, take, drop, Option, Some, None, refl, sym, ap, ◌∙◌, append_assoc, take-append-drop, take_all, arith}
-use Rattle.std.specs.Prelude.{IfSome, IsErrOf, OnOk, Result, Ok, Err, if◌then◌else◌}
+use Rattle.std.proofs.lemmas.Grind.{common_steps}
+use Rattle.std.proofs.Common.{◌≡◌, ℕ, List, [], ◌∷◌, ◌++◌, length, take, drop, Option, Some, None, refl, sym, ap, ◌∙◌, append_assoc, take-append-drop, take_all, arith}
+use Rattle.std.specs.Prelude.{IfSome, IsErrOf, OnOk, Result, Ok, Err}
 use Rattle.std.specs.Io.KnownBytes.{Appends}
 use Rattle.std.specs.List.{AllByRecursion}
-use Rattle.std.proofs.lemmas.Bool.{ne_eqb}
 use Rattle.affinity.specs.declared.geometry.Geometry.{Geometry}
-use Rattle.language.specs.Lines.{lines, in_first}
+use Rattle.language.specs.Lines.{lines}
 use Rattle.message.specs.Waiting.{all_output}
 use Rattle.message.specs.Writing.{AppendsBeginning}
 use Rattle.message.proofs.Beginnings.{begins_all}
@@ -47,15 +47,11 @@ module _ (g : Geometry) (start : State) where
 
 line_and_rest : (line rest : List ℕ) → HasNoNewline line → lines (line ++ 10 ∷ rest) ≡ line ∷ lines rest
 line_and_rest [] rest h = refl
-line_and_rest (b ∷ line) rest h =
-    ap (λ (t : Bool). if t then [] ∷ lines (line ++ 10 ∷ rest) else in_first b (lines (line ++ 10 ∷ rest))) (ne_eqb b 10 h.0)
-    ∙ ap (in_first b) (line_and_rest line rest h.1)
+line_and_rest (b ∷ line) rest h = grind (arith, common_steps, line_and_rest line rest h.1)
 
 lines_and_rest : (whole : List (List ℕ)) (rest : List ℕ) → AllByRecursion HasNoNewline whole → lines (with_newlines whole ++ rest) ≡ whole ++ lines rest
 lines_and_rest [] rest h = refl
-lines_and_rest (line ∷ whole) rest h =
-    ap lines (append_assoc (line ++ 10 ∷ []) (with_newlines whole) rest ∙ append_assoc line (10 ∷ []) (with_newlines whole ++ rest))
-    ∙ line_and_rest line (with_newlines whole ++ rest) h.0 ∙ ap (λ (ls : List (List ℕ)). line ∷ ls) (lines_and_rest whole rest h.1)
+lines_and_rest (line ∷ whole) rest h = grind (arith, common_steps, lines_and_rest whole rest h.1, line_and_rest)
 
 module _ (g : Geometry) (start : State) where
   whole_begun : (left : Option (List ℕ)) (input written : List ℕ) → AnswersWholeLines g start left input written → IsBeginning g start input written

@@ -1,4 +1,5 @@
 -- The length of a map whose keys are all in range, and what its values are worth, as a sum of its look-ups.
+use Rattle.std.proofs.lemmas.Grind.{common_steps}
 use Rattle.std.proofs.Common.{◌≡◌, ℕ, zero, suc, ◌+◌, ◌<◌, Bool, true, false, cond, List, [], ◌∷◌, length, refl, ap, sym, ◌∙◌, arith}
 use Rattle.std.specs.Prelude.{◌&&◌, ◌||◌, ◌==◌, Option, None, Some, is_some}
 use Rattle.std.specs.List.{AllByRecursion, list_any, IsDistinct}
@@ -60,11 +61,7 @@ module _ {K : Type 0} (same : K → K → Bool) (IsIn : K → Type 0) (whole : (
   at_key e n k = cond (same k e) n 0
 
   at_one : (e : K) → IsIn e → (n : ℕ) → whole (at_key e n) ≡ n
-  at_one e h zero = (λ i. whole (λ k. none (same k e) i)) ∙ w.nothing
-    where
-      none : (t : Bool) → ◌≡◌ {A = ℕ} (cond t 0 0) 0
-      none true = refl
-      none false = refl
+  at_one e h zero = grind (arith, common_steps)
   at_one e h (suc n) =
       let split : whole (at_key e (suc n)) ≡ whole (λ k. one_if (same k e) + at_key e n k) = λ i. whole (λ k. more (same k e) i) in
       let adds = w.adds (λ k. one_if (same k e)) (at_key e n) in

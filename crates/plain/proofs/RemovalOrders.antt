@@ -1,8 +1,8 @@
 -- The keys of a file, or of a volume, are next to each other in the order of the keys.
-use Rattle.std.proofs.Common.{◌≡◌, ℕ, ◌<◌, true, false, List, ◌∷◌, refl, ap, sym, ◌∙◌, subst, arith}
+use Rattle.std.proofs.lemmas.Grind.{common_steps}
+use Rattle.std.proofs.Common.{◌≡◌, ℕ, true, false, List, ◌∷◌, refl, ap, sym, ◌∙◌, subst, arith}
 use Rattle.std.specs.Prelude.{is_some}
-use Rattle.std.specs.Ordering.{nat_cmp, ordering_then, ordering_reverse, is_eq, is_gt, MatchOrdering}
-use Rattle.std.specs.Cmp.{ranks}
+use Rattle.std.specs.Ordering.{nat_cmp, ordering_then, ordering_reverse, is_eq, is_gt}
 use Rattle.std.specs.declared.cmp.Ordering.{Ordering}
 use Rattle.std.specs.declared.cmp.Ordering.TheVariants.{Less, Equal, Greater}
 use Rattle.std.specs.declared.ops.Bound.TheVariants.{Included, Unbounded}
@@ -11,9 +11,8 @@ use Rattle.std.specs.BTreeMap.{BTreeMap}
 use Rattle.std.specs.BTreeMap.Range.{IsLeBy, IsRangeOf}
 use Rattle.std.proofs.lemmas.Bool.{true≢false, false_from_ne_true}
 use Rattle.meaning.specs.State.{VolumeKey, FileKey, BlockKey, is_block_of, is_block_of_file}
-use Rattle.meaning.specs.KeyOrders.{volume_order, file_order, block_order}
-use Rattle.meaning.proofs.Keys.{at_volume, at_file, the_volume, the_file}
-use Rattle.plain.specs.Places.{volume_order_total, file_order_total}
+use Rattle.meaning.specs.KeyOrders.{file_order, block_order}
+use Rattle.meaning.proofs.Keys.{at_file, the_volume, the_file}
 
 -- ---- an order by a first part, and then by a second one
 
@@ -28,12 +27,7 @@ both_ways r Equal e h k = ap is_eq e
 both_ways r Greater e h k = absurd (true≢false k)
 
 none_below_zero : (n : ℕ) → is_gt (nat_cmp 0 n) ≡ false
-none_below_zero n = by (nat_cmp 0 n) (ranks 0 n)
-  where
-    by : (r : Ordering) → MatchOrdering r (0 < n) (0 ≡ n) (n < 0) → is_gt r ≡ false
-    by Less h = refl
-    by Equal h = refl
-    by Greater h = absurd (omega (arith, h))
+none_below_zero n = grind (arith, common_steps)
 
 from_tied : (r : Ordering) (n : ℕ) → is_eq r ≡ true → is_gt (ordering_then r (nat_cmp 0 n)) ≡ false
 from_tied Less n e = refl
@@ -48,11 +42,7 @@ first_of_file a v f q e = from_tied (file_order (a, v, f) (q.0, q.1, q.2)) q.3 (
 
 -- a key between that first key and a block of the file is a block of the file
 within_file : (a v f : ℕ) (k q : BlockKey) → IsLeBy block_order (a, v, f, 0) k → IsLeBy block_order k q → is_block_of_file a v f q ≡ true → is_block_of_file a v f k ≡ true
-within_file a v f k q from to e =
-    let here : FileKey = (k.0, k.1, k.2) in
-    let after = first_part (file_order (a, v, f) here) (nat_cmp 0 k.3) from in
-    let before = subst (λ (p : FileKey). is_gt (file_order here p) ≡ false) (sym (the_file a v f (q.0, q.1, q.2) e)) (first_part (file_order here (q.0, q.1, q.2)) (nat_cmp k.3 q.3) to) in
-    sym (at_file a v f here) ∙ both_ways (file_order (a, v, f) here) (file_order here (a, v, f)) (file_order_total.antisymm (a, v, f) here) after before
+within_file a v f k q from to e = grind (arith, common_steps)
 
 -- where the first key in a map from (a, v, f, 0) on is no block of the file, the file has no block in it
 pub no_block_of_file : {X : Type 0} (m : BTreeMap BlockKey X) {r rest : List (BlockKey × X)} {a v f : ℕ} {k : BlockKey} {x : X}
@@ -70,17 +60,10 @@ from_both Equal s h k = k
 from_both Greater s h k = h
 
 first_of_volume : (a v : ℕ) (q : BlockKey) → is_block_of a v q ≡ true → IsLeBy block_order (a, v, 0, 0) q
-first_of_volume a v q e =
-    from_both (file_order (a, v, 0) (q.0, q.1, q.2)) (nat_cmp 0 q.3) (from_tied (volume_order (a, v) (q.0, q.1)) q.2 (at_volume a v (q.0, q.1) ∙ e)) (none_below_zero q.3)
+first_of_volume a v q e = grind (arith, common_steps)
 
 within_volume : (a v : ℕ) (k q : BlockKey) → IsLeBy block_order (a, v, 0, 0) k → IsLeBy block_order k q → is_block_of a v q ≡ true → is_block_of a v k ≡ true
-within_volume a v k q from to e =
-    let here : VolumeKey = (k.0, k.1) in
-    let file : FileKey = (k.0, k.1, k.2) in
-    let after = first_part (volume_order (a, v) here) (nat_cmp 0 k.2) (first_part (file_order (a, v, 0) file) (nat_cmp 0 k.3) from) in
-    let upto = first_part (volume_order here (q.0, q.1)) (nat_cmp k.2 q.2) (first_part (file_order file (q.0, q.1, q.2)) (nat_cmp k.3 q.3) to) in
-    let before = subst (λ (p : VolumeKey). is_gt (volume_order here p) ≡ false) (sym (the_volume a v (q.0, q.1) e)) upto in
-    sym (at_volume a v here) ∙ both_ways (volume_order (a, v) here) (volume_order here (a, v)) (volume_order_total.antisymm (a, v) here) after before
+within_volume a v k q from to e = grind (arith, common_steps)
 
 -- where the first key in a map from (a, v, 0, 0) on is no block of the volume, the volume has no block in it
 pub no_block_of_volume : {X : Type 0} (m : BTreeMap BlockKey X) {r rest : List (BlockKey × X)} {a v : ℕ} {k : BlockKey} {x : X}

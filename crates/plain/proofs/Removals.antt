@@ -1,4 +1,5 @@
 -- What is left where blocks, files or a volume are removed.
+use Rattle.std.proofs.lemmas.Grind.{common_steps}
 use Rattle.std.proofs.Common.{◌≡◌, ℕ, ◌+◌, ◌<◌, Bool, true, false, refl, ap, sym, subst, arith}
 use Rattle.std.specs.Prelude.{◌&&◌, ◌==◌, if◌then◌else◌, Option, None, Some, is_some}
 use Rattle.std.proofs.lemmas.Bool.{true≢false}
@@ -44,13 +45,7 @@ is_none (Some y) e = absurd (true≢false e)
 
 -- where no block is selected, nothing changes
 pub nothing_cleared : (selected : BlockKey → Bool) (x : State) → ((k : BlockKey) → selected k ≡ true → is_some (x.blocks k) ≡ false) → without_blocks selected x ≡ x
-nothing_cleared selected x none = λ i. record x { blocks = λ k. at k i }
-  where
-    at : (k : BlockKey) → (without_blocks selected x).blocks k ≡ x.blocks k
-    at k = elim (selected k) as (λ t. selected k ≡ t → (if t then None else x.blocks k) ≡ x.blocks k) [
-      | true ↦ λ is. is_none (x.blocks k) (none k is)
-      | false ↦ λ e. refl
-    ] refl
+nothing_cleared selected x none = grind (arith, common_steps)
 
 pub no_block_there : (x : State) (a v f b : ℕ) → is_some (x.blocks (a, v, f, b)) ≡ false → effect x (Punch a v f b) ≡ x
 no_block_there x a v f b e = nothing_cleared (is_block a v f b) x (λ k is. subst (λ k. is_some (x.blocks k) ≡ false) (the_block a v f b k is) e)
@@ -61,11 +56,7 @@ twice_cleared false q o = refl
 
 -- to remove one block of a volume and then all of them leaves the same as to remove all
 pub block_before_volume : (x : State) (a v f b : ℕ) → without_blocks (is_block_of a v) (effect x (Punch a v f b)) ≡ without_blocks (is_block_of a v) x
-block_before_volume x a v f b = λ i. record x { blocks = λ k. twice (is_block_of a v k) (f == k.2) (b == k.3) (x.blocks k) i }
-  where
-    twice : {X : Type 0} (p q r : Bool) (o : Option X) → (if p then None else if p && q && r then None else o) ≡ (if p then None else o)
-    twice true q r o = refl
-    twice false q r o = refl
+block_before_volume x a v f b = grind (arith, common_steps)
 
 -- to remove one block of a file and then all of them leaves the same as to remove all
 pub block_before_others : (x : State) (a v f b : ℕ) → without_blocks (is_block_of_file a v f) (effect x (Punch a v f b)) ≡ without_blocks (is_block_of_file a v f) x

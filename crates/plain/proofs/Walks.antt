@@ -1,8 +1,8 @@
 -- What a walk over the keys of one volume, in their order, adds up to.
+use Rattle.std.proofs.lemmas.Grind.{common_steps}
 use Rattle.std.proofs.Common.{◌≡◌, ℕ, ◌+◌, ◌<◌, Bool, true, false, cond, List, [], ◌∷◌, refl, ap, sym, ◌∙◌, subst, arith}
 use Rattle.std.specs.Prelude.{◌&&◌, not, map as map_list, filter, Some, unwrap_or}
-use Rattle.std.specs.Ordering.{nat_cmp, ordering_then, is_eq, is_le, eq_by_cmp, MatchOrdering}
-use Rattle.std.specs.Cmp.{ranks}
+use Rattle.std.specs.Ordering.{nat_cmp, ordering_then, is_eq, is_le, eq_by_cmp}
 use Rattle.std.specs.List.{AllByRecursion, IsDistinct}
 use Rattle.std.specs.Map.{lookup}
 use Rattle.std.specs.declared.cmp.Ordering.{Ordering}
@@ -18,7 +18,7 @@ use Rattle.plain.specs.declared.server.Server.{Server}
 use Rattle.meaning.specs.State.{FileKey, is_file, sum_below, block_count}
 use Rattle.meaning.specs.KeyOrders.{volume_order, file_order}
 use Rattle.plain.specs.Server.{server_state, HasRightCounts}
-use Rattle.meaning.proofs.Keys.{at_volume, at_file, the_volume, the_file, picks_volume, picks_file}
+use Rattle.meaning.proofs.Keys.{at_volume, at_file, the_file, picks_volume, picks_file}
 use Rattle.meaning.proofs.Counts.{block_count-by_stripe}
 use Rattle.meaning.proofs.Sums.{sum_same, sum_zero, sum_below-same, sum_below_changed}
 
@@ -40,38 +40,20 @@ tied_not_past Equal s t e from past = λ i. from i && not (past i)
 tied_not_past Greater s t e from past = absurd (true≢false (sym e))
 
 zero_up_to : (i : ℕ) → is_le (nat_cmp 0 i) ≡ true
-zero_up_to i = by (nat_cmp 0 i) (ranks 0 i)
-  where
-    by : (r : Ordering) → MatchOrdering r (0 < i) (0 ≡ i) (i < 0) → is_le r ≡ true
-    by Less h = refl
-    by Equal h = refl
-    by Greater h = absurd (omega (arith, h))
+zero_up_to i = grind (arith, common_steps)
 
 below_from : (n i : ℕ) → is_le (nat_cmp n i) ≡ false → i < n
-below_from n i e = by (nat_cmp n i) (ranks n i) e
-  where
-    by : (r : Ordering) → MatchOrdering r (n < i) (n ≡ i) (i < n) → is_le r ≡ false → i < n
-    by Less h e = absurd (true≢false e)
-    by Equal h e = absurd (true≢false e)
-    by Greater h e = h
+below_from n i e = grind (arith, common_steps)
 
 from_below : (n i : ℕ) → i < n → is_le (nat_cmp n i) ≡ false
-from_below n i lt = by (nat_cmp n i) (ranks n i)
-  where
-    by : (r : Ordering) → MatchOrdering r (n < i) (n ≡ i) (i < n) → is_le r ≡ false
-    by Less h = absurd (omega (arith, h, lt))
-    by Equal h = absurd (omega (arith, h, lt))
-    by Greater h = refl
+from_below n i lt = grind (arith, common_steps)
 
 module _ (a v n : ℕ) where
   abbrev pub is_between : FileKey → Bool
   is_between = range_contains file_order (Included (a, v, 0)) (Excluded (a, v, n))
 
   inside : (k : FileKey) → is_between k ≡ true → (◌≡◌ {A = FileKey} (a, v, k.2) k) × (k.2 < n)
-  inside k e =
-      let parts = not_past (volume_order (a, v) (k.0, k.1)) (nat_cmp 0 k.2) (nat_cmp n k.2) e in
-      let volume = the_volume a v (k.0, k.1) (sym (at_volume a v (k.0, k.1)) ∙ parts.0) in
-      ((λ i. ((volume i).0, (volume i).1, k.2)), below_from n k.2 parts.1)
+  inside k e = grind (arith, common_steps)
 
   between : (i : ℕ) → i < n → is_between (a, v, i) ≡ true
   between i lt = tied_not_past (volume_order (a, v) (a, v)) (nat_cmp 0 i) (nat_cmp n i) (at_volume a v (a, v) ∙ picks_volume a v) (zero_up_to i) (from_below n i lt)

@@ -1,5 +1,7 @@
 -- A block that is put into a file, and what the stripes have after it.
-use Rattle.std.proofs.Common.{◌≡◌, ℕ, ◌+◌, ◌<◌, true, false, Some, refl, ap, sym, ◌∙◌}
+use Rattle.std.proofs.Common.{arith}
+use Rattle.std.proofs.lemmas.Grind.{common_steps}
+use Rattle.std.proofs.Common.{◌≡◌, ℕ, ◌+◌, ◌<◌, true, false, Some, ap, sym, ◌∙◌}
 use Rattle.std.specs.Prelude.{is_some, if◌then◌else◌}
 use Rattle.affinity.specs.declared.geometry.Geometry.{Geometry}
 use Rattle.affinity.specs.Geometry.{stripe_of}
@@ -8,7 +10,7 @@ use Rattle.language.specs.declared.Msg.TheVariants.{Write}
 use Rattle.meaning.specs.State.{State, BlockKey, one_if, blocks_in_stripe, is_block}
 use Rattle.meaning.specs.Serial.{effect}
 use Rattle.plain.specs.Server.{StripeKey, is_stripe}
-use Rattle.meaning.proofs.Keys.{the_block, picks_block}
+use Rattle.meaning.proofs.Keys.{picks_block}
 use Rattle.plain.proofs.ServerCounts.{same_counts, one_more}
 
 -- the count that is noted for each stripe is how many blocks it has in the state
@@ -27,10 +29,7 @@ module _ (x : State) (a v f b : ℕ) (content : Block) where
 
   -- a block in place of another one: the same keys have blocks as before
   pub replaced : is_some (x.blocks (a, v, f, b)) ≡ true → (k : BlockKey) → is_some (written.blocks k) ≡ is_some (x.blocks k)
-  replaced was k = elim (is_block a v f b k) as (λ t. is_block a v f b k ≡ t → is_some (if t then Some content else x.blocks k) ≡ is_some (x.blocks k)) [
-    | true ↦ λ is. sym (sym (ap (λ k. is_some (x.blocks k)) (the_block a v f b k is)) ∙ was)
-    | false ↦ λ e. refl
-  ] refl
+  replaced was k = grind (arith, common_steps)
 
   module _ (g : Geometry) (noted : StripeKey → ℕ) (counts : AreCounts g noted x) where
     pub replaced_counts : is_some (x.blocks (a, v, f, b)) ≡ true → AreCounts g noted written
@@ -38,5 +37,4 @@ module _ (x : State) (a v f b : ℕ) (content : Block) where
 
     pub added_counts : (s : ℕ) → s ≡ stripe_of g f b → f < g.files → b < g.blocks → is_some (x.blocks (a, v, f, b)) ≡ false
         → AreCounts g (λ k. noted k + one_if (is_stripe a v s k)) written
-    added_counts s is in_files in_blocks absent k = ap (λ n. n + one_if (is_stripe a v s k)) (counts k)
-        ∙ ap (λ s. blocks_in_stripe g x k.0 k.1 k.2 + one_if (is_stripe a v s k)) is ∙ sym (one_more g x written a v f b others in_files in_blocks absent there k)
+    added_counts s is in_files in_blocks absent k = grind (arith, common_steps, one_more)

@@ -1,10 +1,11 @@
 -- Whatever comes next, a line, one too long, the end or a fault, each whole line before it has its answer.
+use Rattle.std.proofs.Common.{arith}
+use Rattle.std.proofs.lemmas.Grind.{common_steps}
 use Rattle.std.proofs.Common.{refl, sym, ap, ◌∙◌, subst, ℕ, List, Option}
 use Rattle.std.specs.Prelude.{IfSome}
 use Rattle.language.specs.FirstLine.{LosesLineStart}
 use Rattle.message.specs.Reader.{unread, line_of, source}
 use Rattle.language.specs.Grammar.{message_of}
-use Rattle.language.specs.Replies.{no_message}
 use Rattle.message.specs.Waiting.{all_output}
 use Rattle.message.proofs.Adding.{adds_so_far}
 use Rattle.plain.specs.Server.{server_state}
@@ -31,12 +32,7 @@ returns-in-Err-answer_line-clause-out_of_memory g c = λ start input before h is
     (stops_short (goes_on {newer = all_output (g.W.Write.contents c.send_before_line.new.w) c.send_before_line.new.out} h c.in_ok-send_before_line.ensures.kept))
 
 pub returns-in-Ok-TooLong-clause-answered : goal.returns-in-Ok-TooLong-clause-answered
-returns-in-Ok-TooLong-clause-answered g c = λ start input before h.
-    let contents = g.W.Write.contents c.send_before_line.new.w in
-    answers_long_line
-    (goes_on {newer = all_output contents c.send_before_line.new.out} h c.in_ok-send_before_line.ensures.kept) (sym c.if-is_drained.ensures.value)
-    (rw c.in-Ok-TooLong.field-0-is at c.in-Ok-TooLong.ensures.found) (rw c.in-Ok-TooLong.field-0-is at c.in-Ok-TooLong.ensures.closes) refl
-    (adds_so_far contents c.send_before_line.new.out c.add_no_message.new.self no_message c.add_no_message.ensures)
+returns-in-Ok-TooLong-clause-answered g c = grind (arith, common_steps, answers_long_line, goes_on, adds_so_far)
 
 pub returns-in-Err-clause-read : goal.returns-in-Err-clause-read
 returns-in-Err-clause-read g c = λ start input before h _.

@@ -1,6 +1,6 @@
 -- The files of the volumes that are walked are all files, which fit into 32 bits.
+use Rattle.std.proofs.lemmas.Grind.{common_steps}
 use Rattle.std.proofs.Common.{ap, ◌∙◌, arith}
-use Rattle.plain.specs.Server.{server_state}
 use Rattle.plain.proofs.Walks.{total}
 use Rattle.plain.proofs.Totals.{file_number, files_total, files-few}
 use Rattle.plain.proofs.server.Server.all_files.Goals as goal
@@ -12,7 +12,4 @@ loop-volume-init c =
     omega (arith, all)
 
 pub overflow_add-total : goal.overflow_add-total
-overflow_add-total c =
-    let few = files-few c.args.g.now (server_state c.args.self.now) in
-    let left = ap (total file_number) c.in-Some.ensures.steps in
-    omega (arith, c.loop-volume.invariant, left, few)
+overflow_add-total c = grind (arith, common_steps, files-few, total, file_number)

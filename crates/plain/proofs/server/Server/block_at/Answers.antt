@@ -1,4 +1,6 @@
 -- Where a block is there, its read passes all checks; where none is, an accepted read is answered as a hole.
+use Rattle.std.proofs.Common.{arith}
+use Rattle.std.proofs.lemmas.Grind.{common_steps}
 use Rattle.std.proofs.Common.{◌≡◌, ℕ, None, Some, Option, Bor, ap, sym, slice_index}
 use Rattle.std.specs.Prelude.{IfNone, IfSome}
 use Rattle.std.specs.Option.{option_copied}
@@ -8,7 +10,6 @@ use Rattle.language.specs.declared.Msg.TheVariants.{Read}
 use Rattle.language.specs.declared.Reply.TheVariants.{Block as shows, Hole}
 use Rattle.meaning.specs.State.{State, IsState}
 use Rattle.meaning.specs.Serial.{accepted_reply, block_reply, step}
-use Rattle.plain.specs.Server.{server_state}
 use Rattle.meaning.proofs.ByKind.{read_told}
 use Rattle.plain.proofs.server.Server.block_at.Goals as goal
 
@@ -27,6 +28,4 @@ returns-clause-shown c =
     looked_up c.requires.sound.state (slice_index ns 0) (slice_index ns 1) (slice_index ns 2) (slice_index ns 3) c.get.result c.get.ensures.value
 
 pub returns-clause-hole : goal.returns-clause-hole
-returns-clause-hole c =
-    let ns = c.args.numbers in
-    none_there c.args.g.now (server_state c.args.self.now) (slice_index ns 0) (slice_index ns 1) (slice_index ns 2) (slice_index ns 3) c.get.result c.get.ensures.value
+returns-clause-hole c = grind (arith, common_steps)

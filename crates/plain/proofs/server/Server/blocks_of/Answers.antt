@@ -1,7 +1,7 @@
 -- The numbers that are noted for the stripes of a volume sum up to its blocks, which fit into 32 bits.
+use Rattle.std.proofs.lemmas.Grind.{common_steps}
 use Rattle.std.proofs.Common.{ℕ, ap, ◌∙◌, arith}
 use Rattle.meaning.specs.State.{FileKey}
-use Rattle.plain.specs.Server.{server_state}
 use Rattle.plain.proofs.Totals.{blocks-few_in_volume}
 use Rattle.plain.proofs.Walks.{total, blocks_walked}
 use Rattle.plain.proofs.server.Server.blocks_of.Goals as goal
@@ -13,7 +13,4 @@ loop-count-init c =
     omega (arith, all)
 
 pub overflow_add-total : goal.overflow_add-total
-overflow_add-total c =
-    let few = blocks-few_in_volume c.args.g.now (server_state c.args.self.now) c.args.a c.args.v in
-    let left = ap (total (λ (e : FileKey × ℕ). e.1)) c.in-Some.ensures.steps in
-    omega (arith, c.loop-count.invariant, left)
+overflow_add-total c = grind (arith, common_steps, blocks-few_in_volume, total)

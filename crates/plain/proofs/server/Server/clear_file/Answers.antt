@@ -1,6 +1,7 @@
 -- Each iteration removes one block; where the file has none left, leaving out its blocks changes nothing.
-use Rattle.std.proofs.Common.{◌≡◌, arith, ap, sym, ◌∙◌, subst}
-use Rattle.meaning.specs.State.{IsState, one_if, is_block_of_file, is_block}
+use Rattle.std.proofs.lemmas.Grind.{common_steps}
+use Rattle.std.proofs.Common.{arith, ap, sym, ◌∙◌, subst}
+use Rattle.meaning.specs.State.{IsState, is_block_of_file, is_block}
 use Rattle.plain.specs.Server.{server_state}
 use Rattle.meaning.specs.Removals.{without_blocks}
 use Rattle.meaning.proofs.Kept.{clearing_kept}
@@ -19,9 +20,7 @@ loop-b-preserved c =
     }
 
 pub loop-b-smaller : goal.loop-b-smaller
-loop-b-smaller c =
-    let one : one_if _ ≡ 1 = ap one_if c.in-Some.ensures.found in
-    omega (arith, one, c.remove_block.ensures.len)
+loop-b-smaller c = grind (arith, common_steps)
 
 pub returns-clause-state : goal.returns-clause-state
 returns-clause-state c = sym (nothing_cleared (is_block_of_file c.args.a c.args.v c.args.f) (server_state c.loop-b.self) c.in_default.ensures.none) ∙ c.loop-b.invariant.same

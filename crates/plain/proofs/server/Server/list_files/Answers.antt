@@ -1,4 +1,6 @@
 -- The bits of a volume's field `files` are its files, and a volume that isn't there has none.
+use Rattle.std.proofs.Common.{arith}
+use Rattle.std.proofs.lemmas.Grind.{common_steps}
 use Rattle.std.proofs.Common.{ap, sym}
 use Rattle.language.specs.declared.Reply.TheVariants.{Files}
 use Rattle.std.specs.BTreeMap as map
@@ -11,5 +13,4 @@ returns-in-Some c = ap Files (sym (listed c.args.g.now (map.get volume_order c.a
     c.requires.sound.state c.args.a c.args.v (sym c.in-Some.ensures.value)))
 
 pub returns-in-None : goal.returns-in-None
-returns-in-None c = ap Files (sym (none_listed c.args.g.now (map.get volume_order c.args.self.now.volumes) (map.get block_order c.args.self.now.blocks)
-    c.requires.sound.state c.args.a c.args.v (sym c.in-None.ensures.value)))
+returns-in-None c = grind (arith, common_steps, none_listed)

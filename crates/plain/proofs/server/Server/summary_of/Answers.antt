@@ -1,4 +1,5 @@
 -- All keys are in range, so the lengths of the two maps are totals, which fit into 32 bits.
+use Rattle.std.proofs.lemmas.Grind.{common_steps}
 use Rattle.std.proofs.Common.{◌∙◌, arith}
 use Rattle.language.specs.declared.Reply.TheVariants.{Summary}
 use Rattle.plain.specs.Server.{server_state}
@@ -12,10 +13,7 @@ overflow_cast-result c =
     omega (arith, c.len-volumes.ensures.len)
 
 pub overflow_cast-result-2 : goal.overflow_cast-result-2
-overflow_cast-result-2 c =
-    let total = blocks_total c.args.g.now c.args.self.now c.requires.sound.state c.len-blocks.ensures.ordered in
-    let few = blocks-few c.args.g.now (server_state c.args.self.now) in
-    omega (arith, c.len-blocks.ensures.len)
+overflow_cast-result-2 c = grind (arith, common_steps, blocks_total, blocks-few)
 
 pub returns : goal.returns
 returns c = λ i. Summary
