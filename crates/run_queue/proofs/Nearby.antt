@@ -1,9 +1,9 @@
 -- The affinities above one, by their numbers.
 use Rattle.std.proofs.lemmas.Grind.{common_steps}
-use Rattle.std.proofs.Common.{◌≡◌, ◌∙◌, ℕ, zero, suc, ◌<◌, Bool, true, false, [], ◌∷◌, take, refl, ap, sym, inl, inr, arith, length, ◌⊎◌, List, ◌||◌}
+use Rattle.std.proofs.Common.{◌≡◌, ◌∙◌, ℕ, zero, suc, ◌<◌, Bool, true, false, [], ◌∷◌, take, refl, ap, sym, arith, length, ◌⊎◌, List, ◌||◌}
 use Rattle.std.specs.Prelude.{◌==◌}
 use Rattle.std.specs.List.{list_any}
-use Rattle.std.proofs.lemmas.Bool.{eq-eqb, eqb-true, and_from, or_cases, or_right, true≢false}
+use Rattle.std.proofs.lemmas.Bool.{eq-eqb, eqb-true, and_from, true≢false}
 use Rattle.std.proofs.lemmas.Bool.Decides.{nat_tests}
 use Rattle.affinity.specs.Path.{Path, is_prefix}
 use Rattle.affinity.specs.Interval.{Interval, IsPath, IsAffinity, IsAffinityOf, contains, interval, preorder_number, affinity_count}
@@ -31,29 +31,12 @@ is_prefix-take (suc k) [] = refl
 is_prefix-take (suc k) (x ∷ p) = and_from (x == x) (is_prefix (take k p) p) (eq-eqb x x refl) (is_prefix-take k p)
 
 -- the prefixes of an affinity's path are paths of affinities, too
-one_is : (g : Geometry) (p : Path) → IsPath g p → IsPath g (take 1 p)
-one_is g [] h = tt
-one_is g (a ∷ []) h = h
-one_is g (a ∷ v ∷ zero ∷ s ∷ r ∷ p) h = absurd h
-one_is g (a ∷ v ∷ suc zero ∷ s ∷ p) h = absurd h
-one_is g (a ∷ v ∷ suc (suc k) ∷ p) h = absurd h
-one_is g _ h = h.0
-
-two_is : (g : Geometry) (p : Path) → IsPath g p → IsPath g (take 2 p)
-two_is g [] h = tt
-two_is g (a ∷ v ∷ zero ∷ s ∷ []) h = (h.0, h.1)
-two_is g (a ∷ v ∷ zero ∷ s ∷ r ∷ p) h = absurd h
-two_is g (a ∷ v ∷ suc zero ∷ s ∷ p) h = absurd h
-two_is g (a ∷ v ∷ suc (suc k) ∷ p) h = absurd h
-two_is g _ h = h
-
-three_is : (g : Geometry) (p : Path) → IsPath g p → IsPath g (take 3 p)
-three_is g [] h = tt
-three_is g (a ∷ v ∷ zero ∷ s ∷ []) h = (h.0, h.1)
-three_is g (a ∷ v ∷ zero ∷ s ∷ r ∷ p) h = absurd h
-three_is g (a ∷ v ∷ suc zero ∷ s ∷ p) h = absurd h
-three_is g (a ∷ v ∷ suc (suc k) ∷ p) h = absurd h
-three_is g _ h = h
+prefix_is : (g : Geometry) (k : ℕ) (p : Path) → IsPath g p → IsPath g (take k p)
+prefix_is g (suc (suc (suc (suc (suc k))))) (a ∷ v ∷ zero ∷ s ∷ r ∷ p) h = absurd h
+prefix_is g k (a ∷ v ∷ zero ∷ s ∷ r ∷ p) h = absurd h
+prefix_is g k (a ∷ v ∷ suc zero ∷ s ∷ p) h = absurd h
+prefix_is g k (a ∷ v ∷ suc (suc n) ∷ p) h = absurd h
+prefix_is g _ _ h = grind (arith, common_steps)
 
 pub same_path : (g : Geometry) (p q : Path) → IsPath g p → IsPath g q → preorder_number g p ≡ preorder_number g q → p ≡ q
 same_path g p q h k same = sym (path_at-number g p h) ∙ ap (path_at g) same ∙ path_at-number g q k
@@ -66,11 +49,8 @@ is_at g p q k same = eq-eqb _ _ (ap (λ (r : Path). preorder_number g r) (sym sa
 -- a prefix q of the path p is p itself, or its affinity's number is among `numbers_above`
 found_at : (g : Geometry) (p q : Path) (k : ℕ) → IsPath g p → q ≡ take k p
     → (q ≡ p) ⊎ (list_any (λ n. n == preorder_number g q) (numbers_above g p) ≡ true)
-found_at g p q zero h is = inr (rw (is_at g p q 0 is) refl)
-found_at g p q (suc zero) h is = inr (or_right (preorder_number g (take 0 p) == preorder_number g q) _ (rw (is_at g p q 1 is) refl))
-found_at g p q (suc (suc zero)) h is = grind (arith, common_steps)
-found_at g p q (suc (suc (suc zero))) h is = grind (arith, common_steps)
 found_at g p q (suc (suc (suc (suc k)))) h is = grind (arith, common_steps)
+found_at g p q _ h is = grind (arith, common_steps)
 
 above-found : (g : Geometry) (p q : Path) → IsPath g p → is_prefix q p ≡ true
     → (q ≡ p) ⊎ (list_any (λ n. n == preorder_number g q) (numbers_above g p) ≡ true)
@@ -80,19 +60,13 @@ at_begins : (g : Geometry) (p q : Path) (k : ℕ) → IsPath g (take k p) → Is
 at_begins g p q k there h same = grind (arith, common_steps, same_path, eqb-true, is_prefix-take)
 
 above-is_prefix : (g : Geometry) (p q : Path) → IsPath g p → IsPath g q → list_any (λ n. n == preorder_number g q) (numbers_above g p) ≡ true → is_prefix q p ≡ true
-above-is_prefix g p q h k found = elim (or_cases _ _ found) [
-  | inl e ↦ at_begins g p q 0 tt k e
-  | inr rest ↦ elim (or_cases _ _ rest) [
-    | inl e ↦ at_begins g p q 1 (one_is g p h) k e
-    | inr rest ↦ elim (or_cases _ _ rest) [
-      | inl e ↦ at_begins g p q 2 (two_is g p h) k e
-      | inr rest ↦ elim (or_cases _ _ rest) [
-        | inl e ↦ at_begins g p q 3 (three_is g p h) k e
-        | inr none ↦ absurd (true≢false (sym none))
-      ]
-    ]
-  ]
-]
+above-is_prefix g p q h k found = grind (
+  arith,
+  at_begins g p q 0 tt k,
+  at_begins g p q 1 (prefix_is g 1 p h) k,
+  at_begins g p q 2 (prefix_is g 2 p h) k,
+  at_begins g p q 3 (prefix_is g 3 p h) k,
+)
 
 same_truth : (b c : Bool) → (b ≡ true → c ≡ true) → (c ≡ true → b ≡ true) → b ≡ c
 same_truth true c f g = sym (f refl)

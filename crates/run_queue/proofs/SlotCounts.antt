@@ -1,10 +1,9 @@
 -- How often slots occur in lists, and how long lists are.
 use Rattle.std.proofs.lemmas.Grind.{common_steps}
-use Rattle.std.proofs.Common.{◌≡◌, ◌≢◌, ℕ, zero, suc, ◌+◌, ◌<◌, ◌≤◌, Bool, true, false, List, [], ◌∷◌, ◌++◌, filter, refl, sym, subst, inl, inr, arith, length}
+use Rattle.std.proofs.Common.{◌≡◌, ◌≢◌, ℕ, zero, suc, ◌+◌, ◌<◌, ◌≤◌, Bool, true, false, List, [], ◌∷◌, ◌++◌, filter, refl, sym, inl, inr, arith, length}
 use Rattle.std.specs.Prelude.{if◌then◌else◌, nat_lt}
 use Rattle.std.specs.List.{list_any}
 use Rattle.std.proofs.lemmas.Bool.{eq-eqb, ne_eqb, lt-ltb, cases_eq, or_parts, true≢false}
-use Rattle.std.proofs.lemmas.Bool.Decides.{leb_tells}
 use Rattle.std.proofs.lemmas.List.{length-append}
 use Rattle.run_queue.specs.RunQueue.{has_slot, without_slot}
 use Rattle.run_queue.specs.Slots.{count_in_slot, AreInSlots}
@@ -61,23 +60,13 @@ limit-most s n = grind (arith, common_steps)
 -- messages in slots below n, no two of them in the same slot, are at most n
 few : (n : ℕ) (ts : List QueuedMessage) → ((s : ℕ) → count_in_slot s ts ≤ (if nat_lt s n then 1 else 0)) → length ts ≤ n
 few zero [] once = omega arith
-few zero (t ∷ ts) once =
-    absurd (omega (arith, limit-out t.slot 0 (omega arith), once t.slot, count_in_slot-cons_is t.slot t ts refl))
+few zero (t ∷ ts) once = grind (arith, common_steps, once t.slot)
 few (suc n) ts once =
-    let rest = few n (without_slot n ts) (λ s. elim (leb_tells (suc s) n) [
-      | inl below ↦ (let other : s ≢ n = omega (arith, below.1) in
-          omega (arith, count_in_slot-without_other s n ts other, once s, limit-most s (suc n), limit-in s n below.1))
-      | inr above ↦ gone s (omega (arith, above.1))
+    let rest = few n (without_slot n ts) (λ s. elim (cases_eq s n) [
+      | inl e ↦ grind (arith, common_steps, count_in_slot-without_same n ts)
+      | inr other ↦ grind (arith, common_steps, count_in_slot-without_other s n ts other, once s)
     ]) in
-    omega (arith, rest, length-without n ts, once n, limit-most n (suc n))
-  where
-    gone : (s : ℕ) → n ≤ s → count_in_slot s (without_slot n ts) ≤ (if nat_lt s n then 1 else 0)
-    gone s above = elim (cases_eq s n) [
-      | inl e ↦ subst (λ k. count_in_slot k (without_slot n ts) ≤ (if nat_lt k n then 1 else 0)) (sym e)
-          (rw (count_in_slot-without_same n ts) (omega arith))
-      | inr other ↦ (let behind : suc n ≤ s = omega (arith, above, other) in
-          omega (arith, count_in_slot-without_other s n ts other, once s, limit-out s (suc n) behind))
-    ]
+    grind (arith, common_steps, rest, length-without n ts, once n)
 
 -- messages that wait and that are held are together no more than there are slots
 pub fits : (n : ℕ) (ws hs : List QueuedMessage) → AreInSlots n ws hs → length ws + length hs ≤ n
@@ -90,7 +79,7 @@ fits n ws hs in_slots =
 pub in_slots-arrived : (n : ℕ) (ws hs : List QueuedMessage) (t : QueuedMessage) → AreInSlots n ws hs → t.slot < n
     → list_any (has_slot t.slot) (ws ++ hs) ≡ false → AreInSlots n (ws ++ t ∷ []) hs
 in_slots-arrived n ws hs t in_slots there new s =
-    grind (arith, common_steps, count_in_slot-append, count_in_slot-cons_other, count_in_slot-absent, count_in_slot-cons_is, limit-in)
+    grind (arith, common_steps, in_slots s, count_in_slot-append, count_in_slot-absent)
 
 -- so there is a slot for a message that arrives
 pub room-arrived : (n : ℕ) (ws hs : List QueuedMessage) (t : QueuedMessage) → AreInSlots n ws hs → t.slot < n
@@ -101,13 +90,9 @@ room-arrived n ws hs t in_slots there new =
 pub in_slots-gone : (n : ℕ) (ws hs : List QueuedMessage) (t : QueuedMessage) → AreInSlots n ws hs → list_any (has_slot t.slot) ws ≡ true
     → AreInSlots n (without_slot t.slot ws) (hs ++ t ∷ [])
 in_slots-gone n ws hs t in_slots waits s = elim (cases_eq t.slot s) [
-  | inl e ↦ subst (λ k. count_in_slot k (without_slot t.slot ws) + count_in_slot k (hs ++ t ∷ []) ≤ (if nat_lt k n then 1 else 0)) e here
-  | inr k ↦ (let other = count_in_slot-without_other s t.slot ws (λ same. k (sym same)) in
-      omega (arith, in_slots s, other, count_in_slot-append s hs (t ∷ []), count_in_slot-cons_other s t [] k))
+  | inl e ↦ grind (arith, common_steps, in_slots t.slot, count_in_slot-append, count_in_slot-there, count_in_slot-without_same)
+  | inr k ↦ grind (arith, common_steps, in_slots s, count_in_slot-without_other, count_in_slot-append)
 ]
-  where
-    here : count_in_slot t.slot (without_slot t.slot ws) + count_in_slot t.slot (hs ++ t ∷ []) ≤ (if nat_lt t.slot n then 1 else 0)
-    here = grind (arith, common_steps, count_in_slot-append, count_in_slot-cons_is, count_in_slot-there, count_in_slot-without_same)
 
 pub in_slots-freed : (n : ℕ) (ws hs : List QueuedMessage) (p : QueuedMessage → Bool) → AreInSlots n ws hs → AreInSlots n ws (filter p hs)
 in_slots-freed n ws hs p in_slots s = omega (arith, in_slots s, count_in_slot-filter p s hs)
