@@ -38,14 +38,8 @@ pub start-waiting : (capacity numbers : ℕ) → waiting_in (empty_arena capacit
 start-waiting capacity numbers = ap by_ticket (none_present capacity)
 
 pub start-queued : (capacity numbers : ℕ) → IsPartitioned {T = QueuedMessage} (empty_arena capacity numbers) → IsQueued (empty_arena capacity numbers)
-start-queued capacity numbers partitioned = record {
-  partitioned = partitioned;
-  empty_is_free = λ i below none. all_numbers 0 capacity i (omega arith) (omega (arith, below, length-replicate {A = Option QueuedMessage} capacity None));
-  ascends = subst (λ (ts : List QueuedMessage). Ascend ts) (sym (start-waiting capacity numbers)) tt;
-  queued = λ n.
-      ap (λ (is : List ℕ). queued_in (empty_arena capacity numbers) is) (no_chain numbers n)
-      ∙ ap (λ (ts : List QueuedMessage). filter (has_number n) ts) (sym (start-waiting capacity numbers));
-}
+start-queued capacity numbers partitioned =
+    grind (arith, all_numbers 0 capacity, length-replicate {A = Option QueuedMessage} capacity None, start-waiting capacity numbers, no_chain numbers)
 
 -- ---- the first of a queue
 
@@ -131,11 +125,7 @@ module _ (arena : ArenaView QueuedMessage) (t : QueuedMessage) (i : ℕ) (rest :
   has_it = get_or-set_same arena.values i (Some t) None is_slot
 
   pub push-arena : after_move (after_put arena t) i n ≡ after
-  push-arena =
-      let put : after_put arena t ≡ record arena { values = slice_set arena.values i (Some t); free = rest } = rw first refl in
-      let can : can_move (record arena { values = slice_set arena.values i (Some t); free = rest }) i n ≡ true =
-      and_from _ _ (ap is_some has_it) (lt-ltb n (length arena.chains) there) in
-      ap (λ (m : ArenaView QueuedMessage). after_move m i n) put ∙ rw can refl
+  push-arena = grind (arith, common_steps, and_from _ _ (ap is_some has_it) (lt-ltb n (length arena.chains) there), lt-ltb n (length arena.chains) there)
 
   pub push-waiting : waiting_in after ≡ waiting_in arena ++ t ∷ []
   push-waiting = order-come arena.values i t is_slot is_empty later

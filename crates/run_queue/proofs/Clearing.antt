@@ -42,9 +42,6 @@ is_near t above m = contains t.affinity m || list_any (λ n. n == m) above
 -- ---- no message at a related affinity keeps t back
 
 module _ (g : Geometry) (t : QueuedMessage) (above : List ℕ) (are : AreAbove g t.affinity above) where
-  near : (d : QueuedMessage) → IsAffinity g d.affinity → are_related_intervals t.affinity d.affinity ≡ true → is_near t above d.affinity.number ≡ true
-  near d placed h = sym (are d.affinity placed) ∙ h
-
   none_held : (ds : List QueuedMessage) → AllByRecursion (λ d. IsAffinity g d.affinity) ds
       → ((m : ℕ) → is_near t above m ≡ true → find (has_number m) ds ≡ None)
       → list_any (λ other. are_related_intervals t.affinity other.affinity) ds ≡ false
@@ -60,10 +57,7 @@ module _ (g : Geometry) (t : QueuedMessage) (above : List ℕ) (are : AreAbove g
       → list_any (waits_for t) ds ≡ false
   none_waits [] placed ascends none = refl
   none_waits (d ∷ ds) placed ascends none = elim (cases_Bool (waits_for t d)) [
-    | inl k ↦ absurd (let parts = and_parts (nat_lt d.ticket t.ticket) (are_related_intervals t.affinity d.affinity) k in
-        let here = none d.affinity.number (near d placed.0 parts.1) in
-        let there = ap (λ (o : Option QueuedMessage). is_before t.ticket o) (find-cons (has_number d.affinity.number) d ds (has_own d)) in
-        true≢false (sym parts.0 ∙ sym there ∙ here))
+    | inl k ↦ grind (arith, common_steps)
     | inr k ↦ rw k (none_waits ds placed.1 ascends.1 (λ m close. elim (cases_Bool (has_number m d)) [
       | inl is ↦ before_found ds d m ascends.0
           (sym (ap (λ (o : Option QueuedMessage). is_before t.ticket o) (find-cons (has_number m) d ds is)) ∙ none m close)

@@ -65,8 +65,7 @@ first_in g t p (d ∷ ts) placed ascends found none =
 pub clear-first : (g : Geometry) (held waiting : List QueuedMessage) {t : QueuedMessage} (p : QueuedMessage → Bool) → AllByRecursion (λ d. IsAffinity g d.affinity) waiting
     → Ascend waiting → find p waiting ≡ Some t → is_conflict_free held waiting t ≡ true → find (has_number t.affinity.number) waiting ≡ Some t
 clear-first g held waiting {t} p placed ascends found clear =
-    first_in g t p waiting (find-all (λ d. IsAffinity g d.affinity) p waiting t placed found) ascends found
-    (not-true _ (and_parts (is_free_of held t) _ clear).1)
+    grind (arith, common_steps, first_in g t p waiting, not-true _ (and_parts (is_free_of held t) _ clear).1, and_parts (is_free_of held t) _ clear, find-all)
 
 -- the first message that may be dispatched at an affinity number below n
 abbrev pub first_below : Bool → List QueuedMessage → List QueuedMessage → ℕ → Option QueuedMessage
@@ -113,12 +112,7 @@ module _ (g : Geometry) (room : Bool) (held waiting : List QueuedMessage) (place
   all_below : (n : ℕ) (ts : List QueuedMessage) (p : QueuedMessage → Bool) → AllByRecursion (λ t. t.affinity.number < n) ts
       → find (λ t. nat_lt t.affinity.number n && p t) ts ≡ find p ts
   all_below n [] p low = refl
-  all_below n (t ∷ ts) p low =
-      let is : (nat_lt t.affinity.number n && p t) ≡ p t = ap (λ b. b && p t) (lt-ltb t.affinity.number n low.0) in
-      elim (cases_Bool (p t)) [
-        | inl k ↦ find-cons (λ t. nat_lt t.affinity.number n && p t) t ts (is ∙ k) ∙ sym (find-cons p t ts k)
-        | inr k ↦ find-skip (λ t. nat_lt t.affinity.number n && p t) t ts (is ∙ k) ∙ all_below n ts p low.1 ∙ sym (find-skip p t ts k)
-      ]
+  all_below n (t ∷ ts) p low = grind (arith, common_steps, all_below n ts p low.1, find-cons p, find-skip p)
 
   low : (n : ℕ) → affinity_count g ≤ n → (ts : List QueuedMessage) → AllByRecursion (λ d. IsAffinity g d.affinity) ts → AllByRecursion (λ t. t.affinity.number < n) ts
   low n past [] h = tt

@@ -43,9 +43,6 @@ same_path g p q h k same = sym (path_at-number g p h) ∙ ap (path_at g) same �
 
 -- ---- their numbers
 
-is_at : (g : Geometry) (p q : Path) (k : ℕ) → q ≡ take k p → (preorder_number g (take k p) == preorder_number g q) ≡ true
-is_at g p q k same = eq-eqb _ _ (ap (λ (r : Path). preorder_number g r) (sym same))
-
 -- a prefix q of the path p is p itself, or its affinity's number is among `numbers_above`
 found_at : (g : Geometry) (p q : Path) (k : ℕ) → IsPath g p → q ≡ take k p
     → (q ≡ p) ⊎ (list_any (λ n. n == preorder_number g q) (numbers_above g p) ≡ true)
@@ -82,7 +79,4 @@ pub contains-own : (g : Geometry) (a : Interval) → IsAffinity g a → contains
 contains-own g a h = rw h.1.interval (sym (is_prefix-contains g h.0 h.0 h.1.path h.1.path) ∙ is_prefix-refl h.0)
 
 pub number-below : (g : Geometry) (a : Interval) → IsAffinity g a → a.number < affinity_count g
-number-below g a h =
-    let whole : contains (interval g []) (preorder_number g h.0) ≡ true = sym (is_prefix-contains g [] h.0 tt h.1.path) in
-    let is : a.number ≡ preorder_number g h.0 = ap (λ (i : Interval). i.number) h.1.interval in
-    grind (arith, nat_tests)
+number-below g a h = grind (arith, common_steps, is_prefix-contains g [] h.0 tt h.1.path)

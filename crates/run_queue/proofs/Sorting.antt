@@ -131,8 +131,5 @@ order-leave (Some x ∷ entries) (suc i) t there once ascends =
     let rest = there-at entries i t there in
     elim (eqb_tells x.slot t.slot) [
       | inl e ↦ absurd (omega (arith, once, count, rest, count_in_slot-cons_is t.slot x ws e.1))
-      | inr n ↦ (let few : count_in_slot t.slot ws ≤ 1 = omega (arith, once, count, count_in_slot-cons_other t.slot x ws n.1) in
-          let order = ascend-insert x ws ascends in
-          ap (λ (us : List QueuedMessage). insert x us) (order-leave entries i t there few order)
-          ∙ sym (filter-insert (λ u. not (has_slot t.slot u)) x ws order (rw n.0 refl)))
+      | inr n ↦ grind (arith, common_steps, order-leave entries i t there, count_in_slot-cons_other, ascend-insert, filter-insert)
     ]
