@@ -6,7 +6,7 @@ use Rattle.std.specs.Prelude.{Result, Ok, Err, option_and_then, option_map, unwr
 use Rattle.std.specs.Borrow.{Bor}
 use Rattle.std.specs.Char.{digit_value}
 use Rattle.std.specs.List.{list_all}
-use Rattle.std.specs.Str.Parse.{AllDigits, ParsesUnsigned, digits_value}
+use Rattle.std.specs.Str.Parse.{AllDigits, ParsesUnsigned}
 use Rattle.std.proofs.lemmas.Bool.{and_parts, not-true}
 use Rattle.std.proofs.lemmas.List.Sums.{fold_more}
 use Rattle.clap.specs.Words.{App, Text, new_app, with_rule, with_subcommand}
@@ -54,9 +54,6 @@ are_digits (d ∷ ds) h = rw (lt-ltb (digit_value d) 10 h.0) (are_digits ds h.1)
 digits_from : (ds : List ℕ) → list_all (λ d. nat_lt (digit_value d) 10) ds ≡ true → AllDigits 10 ds
 digits_from [] e = tt
 digits_from (d ∷ ds) e = grind (arith, common_steps, digits_from ds)
-
-abbrev is_number : List ℕ → Bool
-is_number ds = nat_lt 0 (length ds) && list_all (λ d. nat_lt (digit_value d) 10) ds && nat_lt (digits_value 10 ds) 65536
 
 number_read : (E : Type 0) (text : Text) (n : ℕ) → ParsesUnsigned {E = E} 16 10 text (Ok n) → Some n ≡ number_of text
 number_read E text n h = grind (arith, common_steps, are_digits)

@@ -20,12 +20,6 @@ behind_first_line-newline b bs is = cond-true (eqb b 10) bs (behind_first_line b
 pub behind_first_line-other : (b : ℕ) (bs : List ℕ) → b ≢ 10 → behind_first_line (b ∷ bs) ≡ behind_first_line bs
 behind_first_line-other b bs not = cond-false (eqb b 10) bs (behind_first_line bs) (ne_eqb b 10 not)
 
-lines-newline : (b : ℕ) (bs : List ℕ) → b ≡ 10 → lines (b ∷ bs) ≡ [] ∷ lines bs
-lines-newline b bs is = cond-true (eqb b 10) ([] ∷ lines bs) (in_first b (lines bs)) (eq-eqb b 10 is)
-
-lines-other : (b : ℕ) (bs : List ℕ) → b ≢ 10 → lines (b ∷ bs) ≡ in_first b (lines bs)
-lines-other b bs not = cond-false (eqb b 10) ([] ∷ lines bs) (in_first b (lines bs)) (ne_eqb b 10 not)
-
 lines-of_rest : (b : ℕ) (bs : List ℕ) → in_first b (lines bs) ≡ (b ∷ first_line bs) ∷ lines (behind_first_line bs) → lines (b ∷ bs) ≡ first_line (b ∷ bs) ∷ lines (behind_first_line (b ∷ bs))
 lines-of_rest b bs rest = grind (arith, common_steps)
 

@@ -1,11 +1,9 @@
 -- A line put together in the front of a buffer.
-use Rattle.std.proofs.lemmas.Grind.{common_steps}
 use Rattle.std.proofs.Common.{◌≡◌, ℕ, zero, suc, true, false, eqb, codes, add-one, ◌+◌, ◌-◌, ◌*◌, ◌/◌, ◌%◌, ◌^◌, ◌<◌, ◌≤◌, List, [], ◌++◌, length, length-append, length-take-le, take, drop, refl, ap, sym, subst, ◌∙◌, arith, inl, inr}
 use Rattle.std.proofs.lemmas.List.{append_assoc, take_at, drop_at, drop-drop, append-nil}
 use Rattle.std.specs.Prelude.{if◌then◌else◌}
 use Rattle.hex.specs.Hex.{encode_lower, lower_digits}
 use Rattle.hex.proofs.HexLemmas.{length-encode_with}
-use Rattle.language.specs.declared.TheConstants.{LONGEST_REPLY}
 use Rattle.language.specs.Replies.{AppendsText, at_least_one, without_trailing_zeros, shown, has_file, spaced, files_below, files_text}
 use Rattle.std.specs.Int.{bit_at, trailing_zeros, w64}
 use Rattle.std.proofs.Math.Nat.{div-div-eq-div-mul, div-le_self, div-lt_iff_lt-mul, one-mul}
@@ -125,6 +123,3 @@ next_file files from fits some =
     }
 
 -- ---- a whole line
-
-pub line_bound : (old new line : List ℕ) (end : ℕ) → length new ≡ LONGEST_REPLY → AppendsText old new 0 end line → end ≤ LONGEST_REPLY
-line_bound old new line end size h = grind (arith, common_steps)

@@ -1,6 +1,6 @@
 -- What a word encodes as bytes, a block or a label.
 use Rattle.std.proofs.lemmas.Grind.{common_steps}
-use Rattle.std.proofs.Common.{◌≡◌, ℕ, ◌-◌, ◌*◌, ◌/◌, ◌<◌, ◌≤◌, Bool, true, false, cond, List, [], ◌∷◌, ◌++◌, length, length-take-le, take, drop, replicate, Option, Some, None, Result, Ok, Err, refl, ap, sym, ◌∙◌, arith}
+use Rattle.std.proofs.Common.{◌≡◌, ℕ, ◌-◌, ◌*◌, ◌/◌, ◌<◌, ◌≤◌, true, List, [], ◌∷◌, ◌++◌, length, length-take-le, take, drop, replicate, Option, Some, None, Result, Ok, Err, refl, ap, sym, ◌∙◌, arith}
 use Rattle.std.specs.Prelude.{MatchResult, option_map}
 use Rattle.std.specs.Result.{result_ok}
 use Rattle.std.proofs.lemmas.Bool.{ne_eqb, true≢false}
@@ -13,7 +13,7 @@ use Rattle.hex.specs.declared.error.FromHexError.{FromHexError}
 use Rattle.hex.proofs.HexLemmas.{decode_of-ok}
 use Rattle.language.specs.declared.TheConstants.{BLOCK_SIZE, LABEL_SIZE}
 use Rattle.language.specs.declared.Block.{Block}
-use Rattle.language.specs.Lines.{bytes_in_word, block_in_word, label_in_word, padded, padded_with}
+use Rattle.language.specs.Lines.{bytes_in_word, block_in_word, label_in_word, padded}
 use Rattle.message.proofs.Words.{HasNoSpace}
 
 -- w is the hexadecimal digits of `bytes`, of which there are 1 to `size`
@@ -21,14 +21,6 @@ pub record IsDigits (size : ℕ) (w bytes : List ℕ) : Type 0 where
   pub low : 2 ≤ length w
   pub high : length w ≤ 2 * size
   pub decoded : decode_of w ≡ Ok bytes
-
-bytes_ok : (size : ℕ) (r : Result (List ℕ) FromHexError) (whole : List ℕ) → padded_with size r ≡ Some whole → (bytes : List ℕ) × (r ≡ Ok bytes) × (whole ≡ padded size bytes)
-bytes_ok size (Ok bytes) whole h = (bytes, refl, sym (same_Some _ whole h))
-bytes_ok size (Err e) whole h = cc h
-
-cond_given : {A : Type 0} (b : Bool) (o : Option A) (x : A) → cond b o None ≡ Some x → (b ≡ true) × (o ≡ Some x)
-cond_given true o x h = (refl, h)
-cond_given false o x h = cc h
 
 pub bytes_parts : (size : ℕ) (w whole : List ℕ) → bytes_in_word size w ≡ Some whole → (bytes : List ℕ) × IsDigits size w bytes × (whole ≡ padded size bytes)
 unfolding bytes_in_word

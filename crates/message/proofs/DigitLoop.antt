@@ -1,19 +1,14 @@
 -- Steps of loops that decode pairs of digits and look at the greatest value in the end. *Read*, of a digit or a byte, means decoded here.
 use Rattle.std.proofs.lemmas.Grind.{common_steps}
-use Rattle.std.proofs.Common.{◌≡◌, ℕ, zero, suc, max, ◌+◌, ◌*◌, ◌-◌, ◌%◌, ◌<◌, ◌≤◌, ◌⊎◌, ⊎_elim, true, false, List, length, take, drop, slice_index, slice_set, Option, Some, None, Ok, Err, refl, sym, ap, subst, ◌∙◌, arith}
+use Rattle.std.proofs.Common.{◌≡◌, ℕ, zero, suc, max, ◌+◌, ◌*◌, ◌-◌, ◌%◌, ◌<◌, ◌≤◌, ◌⊎◌, ⊎_elim, true, false, List, length, take, drop, slice_index, slice_set, Ok, Err, refl, sym, ap, subst, ◌∙◌, arith}
 use Rattle.std.specs.Prelude.{IsErr}
-use Rattle.std.specs.Option.{unwrap_or}
 use Rattle.std.proofs.lemmas.Bool.{cases_lt, true≢false}
 use Rattle.std.proofs.lemmas.List.{get_or-set_other, get_or-set_same, set-get_or}
 use Rattle.std.proofs.lemmas.List.Elements.{All-get_or}
-use Rattle.hex.specs.Hex.{decode_pairs, digit_or_error, is_hex_digit, pair_value}
+use Rattle.hex.specs.Hex.{decode_pairs, is_hex_digit, pair_value}
 use Rattle.hex.proofs.HexLemmas.{decode_pairs-ok}
 use Rattle.hex.proofs.Pairs.{decode_done, decode_start, decode_step, prepend}
 use Rattle.message.specs.Digits.{AreDecoded, HasNonDigit, IsDecoded, value_of}
-
-read_as : (c i : ℕ) (o : Option ℕ) → unwrap_or o 255 < 16 → digit_or_error c i o ≡ Ok (unwrap_or o 255)
-read_as c i (Some v) h = refl
-read_as c i None h = absurd (omega arith)
 
 -- two digits are read
 pub pair_read : (high low i : ℕ) → value_of high < 16 → value_of low < 16 → pair_value high low i ≡ Ok (value_of high * 16 + value_of low)

@@ -18,9 +18,6 @@ onward k ws = first_number ws >>= (λ p. k p.0 p.1)
 pub onward_some : (k : ℕ → List (List ℕ) → Option Msg) (ws : List (List ℕ)) (n : ℕ) (vs : List (List ℕ)) → first_number ws ≡ Some (n, vs) → onward k ws ≡ k n vs
 onward_some k ws n vs e = rw e refl
 
-pub onward_none : (k : ℕ → List (List ℕ) → Option Msg) (ws : List (List ℕ)) → first_number ws ≡ None → onward k ws ≡ None
-onward_none k ws e = rw e refl
-
 -- a number with the words behind it
 abbrev beside : List (List ℕ) → ℕ → Option (ℕ × List (List ℕ))
 beside vs n = Some (n, vs)

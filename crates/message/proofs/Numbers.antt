@@ -25,9 +25,6 @@ pub record IsNumber (w : List ℕ) : Type 0 where
   pub plain : get_or w 0 0 ≡ 48 → length w ≡ 1
   pub fits : digits_value 10 w < 65536
 
-numeral_parts : (w : List ℕ) → is_numeral w ≡ true → (all_ascii_digits w ≡ true) × (0 < length w) × (get_or w 0 0 ≡ 48 → length w ≡ 1)
-numeral_parts w h = grind (arith, common_steps)
-
 is_numeral_from : (w : List ℕ) → IsNumber w → is_numeral w ≡ true
 is_numeral_from w h = grind (arith, common_steps)
 

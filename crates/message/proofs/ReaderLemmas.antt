@@ -1,6 +1,6 @@
 -- Laws of the first line of some bytes, and of what is unread.
 use Rattle.std.proofs.lemmas.Grind.{common_steps}
-use Rattle.std.proofs.Common.{◌≡◌, ◌≢◌, ℕ, zero, suc, min, ◌+◌, ◌-◌, ◌<◌, ◌≤◌, ◌⊎◌, inl, inr, Bool, true, false, List, [], ◌∷◌, ◌++◌, length, take, drop, get_or, Option, Some, None, IfSome, refl, sym, ap, ◌∙◌, subst, arith, append-nil, append_assoc, drop-drop}
+use Rattle.std.proofs.Common.{◌≡◌, ◌≢◌, ℕ, suc, min, ◌+◌, ◌-◌, ◌<◌, ◌≤◌, ◌⊎◌, inl, inr, Bool, true, false, List, [], ◌∷◌, ◌++◌, length, take, drop, get_or, Option, Some, None, IfSome, refl, sym, ap, ◌∙◌, subst, arith, append-nil, append_assoc, drop-drop}
 use Rattle.std.specs.List.{Contains, slice_range}
 use Rattle.std.specs.Io.KnownBytes.{prepend_known, Keeps, Consumes, IsAtEnd}
 use Rattle.std.proofs.KnownBytes.{prepend_known-nil}
@@ -32,11 +32,6 @@ behind_first_line-within (x ∷ xs) ys h = behind_first_line-other x (xs ++ ys) 
 
 pub first_line-all : (xs : List ℕ) → IsWithinLine xs → first_line xs ≡ xs
 first_line-all xs h = ap first_line (sym (append-nil xs)) ∙ first_line-within xs [] h ∙ append-nil xs
-
--- a newline in a list whose first byte is none is in the rest
-later : (x : ℕ) (xs : List ℕ) → x ≢ 10 → Contains (x ∷ xs) 10 → Contains xs 10
-later x xs not (zero, low, is) = absurd (not is)
-later x xs not (suc k, low, is) = (k, omega arith, is)
 
 -- a line that is held whole is the first, whatever follows
 pub first_line-whole : (xs ys : List ℕ) → Contains xs 10 → first_line (xs ++ ys) ≡ first_line xs

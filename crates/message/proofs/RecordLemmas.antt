@@ -1,9 +1,8 @@
 -- Messages and their records.
 use Rattle.std.proofs.lemmas.Grind.{common_steps}
-use Rattle.std.proofs.Common.{◌≡◌, ℕ, lit≤, zero, suc, Bool, true, ◌+◌, ◌-◌, ◌<◌, ◌≤◌, List, [], ◌∷◌, ◌++◌, length, length-append, length-drop, length-take-le, get_or, take, drop, replicate, Option, Some, None, refl, ap, sym, subst, ◌∙◌, append_assoc, arith}
+use Rattle.std.proofs.Common.{◌≡◌, ℕ, lit≤, zero, suc, true, ◌+◌, ◌-◌, ◌<◌, ◌≤◌, List, [], ◌∷◌, ◌++◌, length, length-append, length-drop, length-take-le, get_or, take, drop, replicate, Option, Some, None, refl, ap, sym, subst, ◌∙◌, append_assoc, arith}
 use Rattle.std.specs.Prelude.{option_map, slice_index, nat_lt, ◌↔◌, ◌&&◌}
 use Rattle.std.specs.List.{AllByRecursion}
-use Rattle.std.proofs.lemmas.Bool.{and_parts, ltb-true}
 use Rattle.std.proofs.lemmas.List.{take_at, drop_at, drop-drop, drop_all, append-nil, take-append-drop}
 use Rattle.std.proofs.lemmas.Option.{same_Some}
 use Rattle.byteorder.specs.Endian.{little_bytes, little_number}
@@ -25,10 +24,6 @@ use Rattle.affinity.proofs.Elements.{all_bytes}
 record Fits (n : List ℕ) : Type 0 where
   pub room : AllByRecursion (λ x. x < 256) (take 3 n)
   pub block : get_or n 3 0 < 65536
-
--- the first number of a test, and what is left of it
-below : (n limit : ℕ) {rest : Bool} → nat_lt n limit && rest ≡ true → (n < limit) × (rest ≡ true)
-below n limit {rest} h = let p = and_parts (nat_lt n limit) rest h in (ltb-true n limit p.0, p.1)
 
 two_fit : (g : Geometry) (a v : ℕ) → nat_lt a g.aggregates && (nat_lt v g.volumes && true) ≡ true → Fits (a ∷ v ∷ 0 ∷ 0 ∷ [])
 two_fit g a v h = grind (arith, common_steps)

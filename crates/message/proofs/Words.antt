@@ -4,17 +4,13 @@ use Rattle.std.proofs.Common.{◌≡◌, ℕ, zero, suc, ◌+◌, ◌-◌, ◌<�
 use Rattle.std.proofs.lemmas.Bool.{ne_eqb}
 use Rattle.std.proofs.lemmas.List.{take_all, drop_more, take-append-drop}
 use Rattle.std.specs.Prelude.{if◌then◌else◌, ◌==◌}
-use Rattle.std.specs.List.{AllByRecursion, join_with_byte, slice_split, onto_first}
+use Rattle.std.specs.List.{AllByRecursion, join_with_byte, slice_split}
 use Rattle.std.proofs.lemmas.List.Splits.{join_with_byte-slice_split}
 use Rattle.language.specs.Lines.{words, in_first}
 
 -- no byte of the word is a space
 abbrev pub HasNoSpace : List ℕ → Type 0
 HasNoSpace word = AllByRecursion (λ b. (b == 32) ≡ false) word
-
-in_first-onto_first : (b : ℕ) (ws : List (List ℕ)) → in_first b ws ≡ onto_first b ws
-in_first-onto_first b [] = refl
-in_first-onto_first b (w ∷ ws) = refl
 
 words-slice_split : (bs : List ℕ) → words bs ≡ slice_split (λ b. eqb b 32) bs
 words-slice_split [] = refl

@@ -1,8 +1,8 @@
 -- The keys of a file, or of a volume, are next to each other in the order of the keys.
 use Rattle.std.proofs.lemmas.Grind.{common_steps}
-use Rattle.std.proofs.Common.{◌≡◌, ℕ, true, false, List, ◌∷◌, refl, ap, sym, ◌∙◌, subst, arith}
+use Rattle.std.proofs.Common.{◌≡◌, ℕ, true, false, List, ◌∷◌, refl, sym, ◌∙◌, subst, arith}
 use Rattle.std.specs.Prelude.{is_some}
-use Rattle.std.specs.Ordering.{nat_cmp, ordering_then, ordering_reverse, is_eq, is_gt}
+use Rattle.std.specs.Ordering.{nat_cmp, ordering_then, is_eq, is_gt}
 use Rattle.std.specs.declared.cmp.Ordering.{Ordering}
 use Rattle.std.specs.declared.cmp.Ordering.TheVariants.{Less, Equal, Greater}
 use Rattle.std.specs.declared.ops.Bound.TheVariants.{Included, Unbounded}
@@ -15,16 +15,6 @@ use Rattle.meaning.specs.KeyOrders.{file_order, block_order}
 use Rattle.meaning.proofs.Keys.{at_file, the_volume, the_file}
 
 -- ---- an order by a first part, and then by a second one
-
-first_part : (r s : Ordering) → is_gt (ordering_then r s) ≡ false → is_gt r ≡ false
-first_part Less s h = refl
-first_part Equal s h = refl
-first_part Greater s h = h
-
-both_ways : (r s : Ordering) → r ≡ ordering_reverse s → is_gt r ≡ false → is_gt s ≡ false → is_eq r ≡ true
-both_ways r Less e h k = absurd (true≢false (sym (ap is_gt e) ∙ h))
-both_ways r Equal e h k = ap is_eq e
-both_ways r Greater e h k = absurd (true≢false k)
 
 none_below_zero : (n : ℕ) → is_gt (nat_cmp 0 n) ≡ false
 none_below_zero n = grind (arith, common_steps)
@@ -53,11 +43,6 @@ no_block_of_file m {a = a} {v} {f} {k} h e other q of = false_from_ne_true _ (λ
     other (the_file a v f (k.0, k.1, k.2) (within_file a v f k q at.1.0.0 (at.2 q (first_of_file a v f q of, tt) there) of)))
 
 -- ---- the blocks of a volume
-
-from_both : (r s : Ordering) → is_gt r ≡ false → is_gt s ≡ false → is_gt (ordering_then r s) ≡ false
-from_both Less s h k = refl
-from_both Equal s h k = k
-from_both Greater s h k = h
 
 first_of_volume : (a v : ℕ) (q : BlockKey) → is_block_of a v q ≡ true → IsLeBy block_order (a, v, 0, 0) q
 first_of_volume a v q e = grind (arith, common_steps)

@@ -53,9 +53,6 @@ module _ (g : Geometry) (x y : State) (a v f b : ℕ) (others : (k : BlockKey) �
 -- ---- the numbers that are noted
 
 module _ (old new : StripeKey → Option ℕ) (a v s count : ℕ) (updates : (k : StripeKey) → new k ≡ cond (is_at (file_order (a, v, s)) k) (Some count) (old k)) where
-  at_key : (k : StripeKey) → unwrap_or (new k) 0 ≡ cond (is_stripe a v s k) count (unwrap_or (old k) 0)
-  at_key k = grind (arith, common_steps)
-
   -- if the number that was noted at the key is noted there again, nothing changes
   pub noted_again : count ≡ unwrap_or (old (a, v, s)) 0 → (k : StripeKey) → unwrap_or (new k) 0 ≡ unwrap_or (old k) 0
   noted_again same k = grind (arith, common_steps)

@@ -15,16 +15,6 @@ use Rattle.plain.specs.declared.server.Volume.{Volume}
 use Rattle.plain.specs.Server.{volume_is_sealed, volume_has_file, state_of}
 
 module _ (m n : Map VolumeKey Volume) (a v : ℕ) (o : Option Volume) (h : (k : VolumeKey) → n k ≡ cond (is_at (volume_order (a, v)) k) o (m k)) where
-  -- `ask` of the volume at each key is that of the new one at (a, v), and that of the old one elsewhere
-  asked : {X : Type 0} (ask : Option Volume → X) (k : VolumeKey) → ask (n k) ≡ cond (is_volume a v k) (ask o) (ask (m k))
-  asked ask k = grind (arith, common_steps)
-
-  kept : {X : Type 0} (ask : Option Volume → X) → ask o ≡ ask (m (a, v)) → (k : VolumeKey) → ask (n k) ≡ ask (m k)
-  kept ask same k = grind (arith, common_steps)
-
-  placed : {X : Type 0} (ask : Option Volume → X) (x : X) → ask o ≡ x → (k : VolumeKey) → ask (n k) ≡ (if is_volume a v k then x else ask (m k))
-  placed ask x now k = asked ask k ∙ ap (λ x. cond (is_volume a v k) x (ask (m k))) now
-
   added : (ask : Option Volume → Bool) → ask o ≡ true → (k : VolumeKey) → ask (n k) ≡ (is_volume a v k || ask (m k))
   added ask now k = grind (arith, common_steps)
 
@@ -34,10 +24,6 @@ module _ (m n : Map VolumeKey Volume) (a v : ℕ) (o : Option Volume) (h : (k : 
   file_added : (f : ℕ) → ((i : ℕ) → volume_has_file o i ≡ ((f == i) || volume_has_file (m (a, v)) i)) → (k : FileKey)
       → volume_has_file (n (k.0, k.1)) k.2 ≡ (is_file a v f k || volume_has_file (m (k.0, k.1)) k.2)
   file_added f more k = grind (arith, common_steps)
-
-  file_dropped : (f : ℕ) → ((i : ℕ) → volume_has_file o i ≡ (not (f == i) && volume_has_file (m (a, v)) i)) → (k : FileKey)
-      → volume_has_file (n (k.0, k.1)) k.2 ≡ (not (is_file a v f k) && volume_has_file (m (k.0, k.1)) k.2)
-  file_dropped f less k = grind (arith, common_steps)
 
   module _ (blocks : Map BlockKey Block) where
     pub no_volume_state : o ≡ None → state_of n blocks ≡ record (state_of m blocks) {

@@ -11,7 +11,7 @@ use Rattle.std.specs.declared.ops.Bound.TheVariants.{Included, Excluded}
 use Rattle.std.specs.BTreeMap as map
 use Rattle.std.specs.BTreeMap.{is_at}
 use Rattle.std.specs.BTreeMap.Range.{range_contains, entries_between}
-use Rattle.std.proofs.lemmas.Bool.{and_parts, true≢false, false_from_ne_true, not-true}
+use Rattle.std.proofs.lemmas.Bool.{true≢false, false_from_ne_true}
 use Rattle.std.proofs.lemmas.Map.Keys.{IsDistinct-from_sorted, IsDistinct-head, IsDistinct-tail}
 use Rattle.affinity.specs.declared.geometry.Geometry.{Geometry}
 use Rattle.plain.specs.declared.server.Server.{Server}
@@ -29,11 +29,6 @@ total weight (e ∷ es) = weight e + total weight es
 
 -- ---- the keys from (a, v, 0) on, up to (a, v, n)
 
-not_past : (r s t : Ordering) → (is_le (ordering_then r s) && not (is_le (ordering_then r t))) ≡ true → (is_eq r ≡ true) × (is_le t ≡ false)
-not_past Less s t h = absurd (true≢false (sym h))
-not_past Equal s t h = (refl, not-true (is_le t) (and_parts (is_le s) (not (is_le t)) h).1)
-not_past Greater s t h = absurd (true≢false (sym h))
-
 tied_not_past : (r s t : Ordering) → is_eq r ≡ true → is_le s ≡ true → is_le t ≡ false → (is_le (ordering_then r s) && not (is_le (ordering_then r t))) ≡ true
 tied_not_past Less s t e from past = absurd (true≢false (sym e))
 tied_not_past Equal s t e from past = λ i. from i && not (past i)
@@ -41,9 +36,6 @@ tied_not_past Greater s t e from past = absurd (true≢false (sym e))
 
 zero_up_to : (i : ℕ) → is_le (nat_cmp 0 i) ≡ true
 zero_up_to i = grind (arith, common_steps)
-
-below_from : (n i : ℕ) → is_le (nat_cmp n i) ≡ false → i < n
-below_from n i e = grind (arith, common_steps)
 
 from_below : (n i : ℕ) → i < n → is_le (nat_cmp n i) ≡ false
 from_below n i lt = grind (arith, common_steps)

@@ -1,16 +1,15 @@
 -- A block that is put into a file, and what the stripes have after it.
 use Rattle.std.proofs.Common.{arith}
 use Rattle.std.proofs.lemmas.Grind.{common_steps}
-use Rattle.std.proofs.Common.{◌≡◌, ℕ, ◌+◌, ◌<◌, true, false, Some, ap, sym, ◌∙◌}
-use Rattle.std.specs.Prelude.{is_some, if◌then◌else◌}
+use Rattle.std.proofs.Common.{◌≡◌, ℕ, ◌+◌, ◌<◌, true, false, sym, ◌∙◌}
+use Rattle.std.specs.Prelude.{is_some}
 use Rattle.affinity.specs.declared.geometry.Geometry.{Geometry}
 use Rattle.affinity.specs.Geometry.{stripe_of}
 use Rattle.language.specs.declared.Block.{Block}
 use Rattle.language.specs.declared.Msg.TheVariants.{Write}
-use Rattle.meaning.specs.State.{State, BlockKey, one_if, blocks_in_stripe, is_block}
+use Rattle.meaning.specs.State.{State, BlockKey, one_if, blocks_in_stripe}
 use Rattle.meaning.specs.Serial.{effect}
 use Rattle.plain.specs.Server.{StripeKey, is_stripe}
-use Rattle.meaning.proofs.Keys.{picks_block}
 use Rattle.plain.proofs.ServerCounts.{same_counts, one_more}
 
 -- the count that is noted for each stripe is how many blocks it has in the state
@@ -20,12 +19,6 @@ AreCounts g noted x = (k : StripeKey) → noted k ≡ blocks_in_stripe g x k.0 k
 module _ (x : State) (a v f b : ℕ) (content : Block) where
   abbrev written : State
   written = effect x (Write a v f b content)
-
-  pub there : is_some (written.blocks (a, v, f, b)) ≡ true
-  there = ap (λ t. is_some (if t then Some content else x.blocks (a, v, f, b))) (picks_block a v f b)
-
-  pub others : (k : BlockKey) → is_block a v f b k ≡ false → is_some (written.blocks k) ≡ is_some (x.blocks k)
-  others k e = ap (λ t. is_some (if t then Some content else x.blocks k)) e
 
   -- a block in place of another one: the same keys have blocks as before
   pub replaced : is_some (x.blocks (a, v, f, b)) ≡ true → (k : BlockKey) → is_some (written.blocks k) ≡ is_some (x.blocks k)

@@ -2,7 +2,7 @@
 use Rattle.std.proofs.lemmas.Grind.{common_steps}
 use Rattle.std.proofs.Common.{◌≡◌, ℕ, ◌+◌, ◌<◌, ◌≤◌, suc, List, [], ◌∷◌, ◌++◌, length, map, refl, ap, sym, ◌∙◌, append-nil, arith}
 use Rattle.language.specs.declared.Reply.{Reply}
-use Rattle.reorder_buffer.specs.ReorderBuffer.{Completed, Line, NoMessage, OutOfRange, Pending, complete_one, HaveTicketsFrom, HasTicket, Ticketed, LineKind, OutOfRangeKind, ReorderBufferView, NoMessageKind, ticketed_among, lines_of, with_tickets}
+use Rattle.reorder_buffer.specs.ReorderBuffer.{Line, NoMessage, OutOfRange, complete_one, HaveTicketsFrom, Ticketed, LineKind, OutOfRangeKind, ReorderBufferView, NoMessageKind, ticketed_among, lines_of, with_tickets}
 
 -- ---- how many lines there are
 
@@ -56,12 +56,6 @@ lines_of-plain kinds more ticketed many =
     ap (λ (l : List Line). lines_of (kinds ++ more) l) (sym (append-nil ticketed)) ∙ lines_of-append kinds more ticketed [] many
 
 -- ---- lines with tickets
-
-one_with_ticket : (n : ℕ) (line : Line) (lines : List Line) → HasTicket n line → with_tickets (line ∷ lines) ≡ line ∷ with_tickets lines
-one_with_ticket n NoMessage lines of = absurd of
-one_with_ticket n OutOfRange lines of = absurd of
-one_with_ticket n (Pending t) lines of = refl
-one_with_ticket n (Completed t reply) lines of = refl
 
 pub tickets_of_lines : (kinds : List LineKind) (ticketed : List Line) (n : ℕ) → ticketed_among kinds ≡ length ticketed → HaveTicketsFrom n ticketed
     → with_tickets (lines_of kinds ticketed) ≡ ticketed

@@ -17,16 +17,6 @@ module _ (ticket : ℕ) (reply : Reply) where
   abbrev Left : List Line → Type 0
   Left lines = map (complete_one ticket reply) lines ≡ lines
 
-  -- the line of a message with another ticket stays
-  left : (n : ℕ) (line : Line) → HasTicket n line → (n ≡ ticket → ⊥) → complete_one ticket reply line ≡ line
-  left n NoMessage of differs = refl
-  left n OutOfRange of differs = refl
-  left n (Completed t r) of differs = refl
-  left n (Pending t) of differs = grind (arith, common_steps)
-
-  both_left : (line : Line) (ticketed : List Line) → complete_one ticket reply line ≡ line → Left ticketed → Left (line ∷ ticketed)
-  both_left line ticketed first rest = grind (arith, common_steps)
-
   -- lines stay that all have greater tickets
   pub greater_left : (n : ℕ) (ticketed : List Line) → ticket < n → HaveTicketsFrom n ticketed → Left ticketed
   greater_left n [] lt from = refl

@@ -8,7 +8,7 @@ use Rattle.std.proofs.lemmas.List.{length-set, length-replicate, get_or-set_same
 use Rattle.std.proofs.lemmas.List.Elements.{filter-append}
 use Rattle.arena.specs.Lists.{first_of, without, numbers_from}
 use Rattle.arena.specs.Lists.{count_of}
-use Rattle.arena.specs.ArenaView.{ArenaView, IsPartitioned, capacity_of, value_at, chain_at, front_of, moved, listed, can_move, empty_arena, put_answer, after_put, after_move, after_take}
+use Rattle.arena.specs.ArenaView.{ArenaView, IsPartitioned, capacity_of, value_at, chain_at, front_of, moved, listed, empty_arena, put_answer, after_put, after_move, after_take}
 use Rattle.arena.proofs.Counts.{count_of-append as on-append, count_of-cons_is as on-cons_is, count_of-at as on-at, without-absent as on-absent}
 use Rattle.arena.proofs.ArenaLemmas.{chain-without, chain-moved_same, chain-moved_other, length-moved, chained-holds, chained-apart, front-chained, chain-front}
 use Rattle.run_queue.specs.RunQueue.{has_slot, has_number, without_slot, CameBefore}

@@ -3,7 +3,7 @@ use Rattle.std.proofs.lemmas.Grind.{common_steps}
 use Rattle.std.proofs.Common.{◌≡◌, ◌≢◌, ℕ, zero, suc, ◌+◌, ◌<◌, ◌≤◌, Bool, true, false, List, [], ◌∷◌, ◌++◌, filter, refl, sym, inl, inr, arith, length}
 use Rattle.std.specs.Prelude.{if◌then◌else◌, nat_lt}
 use Rattle.std.specs.List.{list_any}
-use Rattle.std.proofs.lemmas.Bool.{eq-eqb, ne_eqb, lt-ltb, cases_eq, or_parts, true≢false}
+use Rattle.std.proofs.lemmas.Bool.{eq-eqb, ne_eqb, cases_eq, or_parts, true≢false}
 use Rattle.std.proofs.lemmas.List.{length-append}
 use Rattle.run_queue.specs.RunQueue.{has_slot, without_slot}
 use Rattle.run_queue.specs.Slots.{count_in_slot, AreInSlots}
@@ -46,13 +46,6 @@ count_in_slot-there s (t ∷ ts) some = grind (arith, common_steps, count_in_slo
 length-without : (s : ℕ) (ts : List QueuedMessage) → length ts ≡ length (without_slot s ts) + count_in_slot s ts
 length-without s [] = refl
 length-without s (t ∷ ts) = grind (arith, common_steps, length-without s ts)
-
--- how often a slot may occur
-limit-in : (s n : ℕ) → s < n → if◌then◌else◌ {A = ℕ} (nat_lt s n) 1 0 ≡ 1
-limit-in s n h = rw (lt-ltb s n h) refl
-
-limit-out : (s n : ℕ) → n ≤ s → if◌then◌else◌ {A = ℕ} (nat_lt s n) 1 0 ≡ 0
-limit-out s n h = grind (arith, common_steps)
 
 pub limit-most : (s n : ℕ) → if◌then◌else◌ {A = ℕ} (nat_lt s n) 1 0 ≤ 1
 limit-most s n = grind (arith, common_steps)

@@ -38,9 +38,6 @@ idle_is_no_claim k job e = cc
 one_claimed : (k i : ℕ) (job other : JobView) → Claimed k job ≡ Claimed i other → (k ≡ i) × (job ≡ other)
 one_claimed k i job other e = ((cc), (cc))
 
-one_dispatch_seat : (r q : ℕ) (l m : LentJobs) → Dispatcher r l ≡ Dispatcher q m → (r ≡ q) × (l ≡ m)
-one_dispatch_seat r q l m e = ((cc), (cc))
-
 -- The state of a place is as before where its word, what is lent and whether its slot was taken are as before.
 stands_still : {r q k word word' : ℕ} {o o' : Option JobView} {slot : SlotState} → PlaceState r k word o slot
     → (k < q → k < r) → (q ≤ k → r ≤ k) → word' ≡ word → o' ≡ o → PlaceState q k word' o' slot

@@ -1,7 +1,7 @@
 -- The dispatcher's seat has a list of slots: the job cell of each place where nothing is lent. It reaches only the first, so the list is
 -- rotated.
 use Rattle.std.proofs.lemmas.Grind.{common_steps}
-use Rattle.std.proofs.Common.{◌≡◌, ℕ, zero, suc, ◌+◌, ◌<◌, Bool, true, false, List, [], ◌∷◌, ◌++◌, length, get_or, set, take, drop, replicate, Option, None, Some, is_some, refl, sym, ap, ◌∙◌, arith, drop-cons}
+use Rattle.std.proofs.Common.{◌≡◌, ℕ, zero, suc, ◌+◌, ◌<◌, Bool, true, false, List, [], ◌∷◌, ◌++◌, length, get_or, set, take, drop, Option, None, Some, is_some, refl, sym, ap, ◌∙◌, arith, drop-cons}
 use Rattle.std.proofs.lemmas.List.{take-set, drop-set-lt, get_or-set_same, length-set}
 use Rattle.atomic_table.specs.Table.{turned}
 use Rattle.parcel.specs.Run.{JobView}
@@ -81,6 +81,3 @@ lent_rest k ls job h = grind (arith, common_steps, length-set, drop-set-lt, spar
 -- the list once the seat has the slot of place k again
 pub back_rest : (k : ℕ) (ls : LentJobs) (job : JobView) → k < length ls → lent_at ls k ≡ Some job → (k, None) ∷ empty_slots_from k ls ≡ empty_slots_from k (set ls k None)
 back_rest k ls job h e = grind (arith, common_steps)
-
-pub slot_taken : (j k m n : ℕ) → k ≡ j + 1 → n ≡ m + 1 → (j, None) ∷ empty_slots k (replicate m None) ≡ empty_slots j (replicate n None)
-slot_taken j k m n e f = grind (arith, common_steps)
