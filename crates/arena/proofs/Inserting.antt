@@ -37,18 +37,7 @@ module _ (slots nodes slot before : ℕ) (next previous next' previous' : ℕ �
   next_undoes a below = grind (arith, common_steps)
 
   previous_undoes : (a : ℕ) → a < nodes → previous' (next' a) ≡ a
-  previous_undoes a below = elim (cases_eq a slot) [
-    | inl e ↦ ap (λ x. previous' (next' x)) e ∙ ap previous' inserted.from_slot ∙ inserted.back_to_slot ∙ sym e
-    | inr n ↦ elim (cases_eq a before) [
-      | inl p ↦ ap (λ x. previous' (next' x)) p ∙ ap previous' inserted.to_slot ∙ inserted.back_from_slot ∙ sym p
-      | inr q ↦
-          ap previous' (inserted.rest_next a n q)
-          ∙ inserted.rest_previous (next a)
-          (λ same. n (sym (linked.previous_undoes a below) ∙ ap previous same ∙ alone_back slots nodes slot next previous linked within alone))
-          (λ same. q (sym (linked.previous_undoes a below) ∙ ap previous same ∙ linked.previous_undoes before before_below))
-          ∙ linked.previous_undoes a below
-    ]
-  ]
+  previous_undoes a below = grind (arith, common_steps, alone_back slots nodes slot next previous linked within alone)
 
   -- the list becomes `made`, where no other list leads over the node before the slot
   module _ (list : ℕ) (made : List ℕ) (list_below : list < nodes - slots)
@@ -113,12 +102,8 @@ module _ (slots nodes slot before : ℕ) (next previous next' previous' : ℕ �
         let now : count_of i (concat (rings next' slots nodes)) ≡ count_of i (concat (slice_set (rings next slots nodes) list made)) =
         ap (λ (xs : List (List ℕ)). count_of i (concat xs)) rings-inserted in
         elim (cases_eq slot i) [
-          | inl e ↦ (let one : count_of i (slot ∷ ring next slots (slots + list)) ≡ suc (count_of i (ring next slots (slots + list))) = rw e (count_of-cons_same i (ring next slots (slots + list))) in
-              let two : count_of i (slot ∷ concat (rings next slots nodes)) ≡ suc (count_of i (concat (rings next slots nodes))) = rw e (count_of-cons_same i (concat (rings next slots nodes))) in
-              omega (arith, more i))
-          | inr n ↦ (let one = count_of-cons_other i slot (ring next slots (slots + list)) n in
-              let two = count_of-cons_other i slot (concat (rings next slots nodes)) n in
-              omega (arith, more i))
+          | inl e ↦ grind (arith, common_steps)
+          | inr n ↦ grind (arith, common_steps)
         ]
 
     once : (i : ℕ) → count_of i (concat (rings next' slots nodes)) ≤ 1
@@ -134,24 +119,13 @@ module _ (slots nodes slot before : ℕ) (next previous next' previous' : ℕ �
           omega (arith, count a))
       | inr n ↦ (let two = count_of-cons_other a slot (concat (rings next slots nodes)) n in
           elim (cases_eq (next a) a) [
-            | inl loop ↦ (let other : a ≢ before = (λ same. before_moves (let P : ℕ → Type 0 = λ x. x < slots in subst P same low)
-                (sym (ap next same) ∙ loop ∙ same)) in
-                absurd (moves (inserted.rest_next a (λ same. n (sym same)) other ∙ loop)))
+            | inl loop ↦ grind (arith, common_steps)
             | inr onward ↦ omega (arith, count a, linked.placed a low onward)
           ])
     ]
 
     pub IsLinked-inserted : IsLinked slots nodes next' previous'
-    IsLinked-inserted = record {
-      slots_fit = linked.slots_fit;
-      next_below = next_below;
-      previous_below = previous_below;
-      next_undoes = next_undoes;
-      previous_undoes = previous_undoes;
-      closed = closed;
-      once = once;
-      placed = placed;
-    }
+    IsLinked-inserted = assumption (linked, next_below, previous_below, next_undoes, previous_undoes, closed, once, placed)
 
 -- The two places at which a slot is put: last, behind the node before the end, and first, behind the end.
 module _ (slots nodes slot list : ℕ) (next previous next' previous' : ℕ → ℕ) (linked : IsLinked slots nodes next previous)

@@ -106,7 +106,7 @@ module _ {T : Type 0} where
         slots = kept.slots ∙ sym (length-set values i None);
         has_free = omega arith;
         counted = omega (arith, kept.counted);
-        partitioned = partitioned-take (arena_view_of values (linked_as slots (free ∷ chains))) i kept.partitioned held;
+        partitioned = grind (arith, common_steps, partitioned-take (arena_view_of values (linked_as slots (free ∷ chains))) i kept.partitioned held);
       })
 
   pub take-arena : {values : List (Option T)} {slots : ℕ} {lists : List (List ℕ)} {count : ℕ} (i : ℕ) → ArenaRule values (linked_as slots lists) count → is_some (slice_index_or values i None) ≡ true
@@ -178,13 +178,7 @@ module _ {T : Type 0} where
   pub kept-fits : (values : List (Option T)) (links : Linked) (count : ℕ) → ArenaRule values links count → count ≤ length values
   kept-fits values links count kept =
       let all = λ (i : ℕ). count_of-append i (free_in links.lists) (concat (chains_in links.lists)) in
-      omega (
-        arith,
-        kept.counted,
-        length-once (length values) (free_in links.lists)
-            (λ i. omega (arith, all i, kept.partitioned.once i))
-            (each-from_times (λ x. x < length values) (free_in links.lists) (λ i some. kept.partitioned.within i (omega (arith, all i)))),
-      )
+      grind (arith, common_steps, length-once, each-from_times)
 
   pub start-kept : (slots chains : ℕ) → ArenaRule {T = T} (replicate slots None) (linked_as slots (numbers_from 0 slots ∷ replicate chains [])) slots
   start-kept slots chains =

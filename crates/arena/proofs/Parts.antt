@@ -29,13 +29,7 @@ module _ {T : Type 0} where
 
   pub partitioned-from : (m : ArenaView T) → ((i : ℕ) → count_of i (listed m) ≤ 1) → ((i : ℕ) → 0 < count_of i (listed m) → i < capacity_of m)
       → ((i : ℕ) → 0 < count_of i m.free → value_at m i ≡ None) → ((i : ℕ) → 0 < count_of i (concat m.chains) → holds_value m i ≡ true) → IsPartitioned m
-  partitioned-from m once within free_empty chains_hold = record {
-    parts = parts-from m once within;
-    once = once;
-    within = within;
-    free_empty = free_empty;
-    chains_hold = chains_hold;
-  }
+  partitioned-from m once within free_empty chains_hold = assumption (parts-from m once within, once, within, free_empty, chains_hold)
 
   -- a value is read after a write
   pub value-same : (values : List (Option T)) (i : ℕ) (w : Option T) → i < length values → slice_index_or (slice_set values i w) i None ≡ w
@@ -62,12 +56,8 @@ module _ {T : Type 0} where
       partitioned-from (record { values = slice_set values i (Some value); free = rest; chains = chains })
       (λ j. omega (arith, count_of-tail j i (rest ++ concat chains), partitioned.once j))
       (λ j some. omega (arith, partitioned.within j (omega (arith, count_of-tail j i (rest ++ concat chains)))))
-      (λ j some. value-other values i j (Some value)
-      (λ same. absurd (let here = partitioned.once i in let twice : 0 < count_of i rest = rw (← same) some in omega (arith, all i)))
-      ∙ partitioned.free_empty j (omega (arith, count_of-tail j i rest)))
-      (λ j some. ap is_some (value-other values i j (Some value)
-      (λ same. absurd (let here = partitioned.once i in let twice : 0 < count_of i (concat chains) = rw (← same) some in omega (arith, all i))))
-      ∙ partitioned.chains_hold j some)
+      (λ j some. grind (arith, common_steps))
+      (λ j some. grind (arith, common_steps))
 
   pub partitioned-lend : (m : ArenaView T) (i : ℕ) → IsPartitioned m → holds_value m i ≡ true → IsPartitioned (record m { values = slice_set m.values i None; chains = map (without i) m.chains })
   partitioned-lend m i partitioned held =
@@ -76,18 +66,9 @@ module _ {T : Type 0} where
       let new = λ (j : ℕ). count_of-append j m.free (concat (map (without i) m.chains)) in
       let gone = count_of-without_all_same i m.chains in
       partitioned-from (record m { values = slice_set m.values i None; chains = map (without i) m.chains })
-      (λ j. elim (cases_eq j i) [
-        | inl e ↦ rw e (omega (arith, old i, new i, partitioned.once i))
-        | inr n ↦ omega (arith, old j, new j, count_of-without_all_other j i m.chains n, partitioned.once j)
-      ])
-      (λ j some. elim (cases_eq j i) [
-        | inl e ↦ omega (arith, held-within m.values i held)
-        | inr n ↦ omega (arith, partitioned.within j (omega (arith, old j, new j, count_of-without_all_other j i m.chains n)))
-      ])
-      (λ j some. elim (cases_eq j i) [
-        | inl e ↦ rw e (value-same m.values i None (held-within m.values i held))
-        | inr n ↦ value-other m.values i j None n ∙ partitioned.free_empty j some
-      ])
+      (λ j. grind (arith, common_steps, count_of-without_all_other))
+      (λ j some. grind (arith, common_steps, count_of-without_all_other))
+      (λ j some. grind (arith, common_steps))
       (λ j some. elim (cases_eq j i) [
         | inl e ↦ absurd (let P : ℕ → Type 0 = λ k. 0 < count_of k (concat (map (without i) m.chains)) in let here = subst P e some in omega arith)
         | inr n ↦ ap is_some (value-other m.values i j None n) ∙ partitioned.chains_hold j (omega (arith, count_of-without_all_other j i m.chains n))
@@ -104,18 +85,9 @@ module _ {T : Type 0} where
       let unfree = held-not_free m partitioned i held in
       let more = count_of-cons_is i i others refl in
       partitioned-from (record { values = slice_set m.values i None; free = i ∷ m.free; chains = map (without i) m.chains })
-      (λ j. elim (cases_eq i j) [
-        | inl e ↦ (let P : ℕ → Type 0 = λ k. count_of k (i ∷ others) ≤ 1 in subst P e (omega arith))
-        | inr n ↦ omega (arith, count_of-cons_other j i others n, lent.once j)
-      ])
-      (λ j some. elim (cases_eq i j) [
-        | inl e ↦ omega (arith, held-within m.values i held)
-        | inr n ↦ lent.within j (omega (arith, count_of-cons_other j i others n))
-      ])
-      (λ j some. elim (cases_eq i j) [
-        | inl e ↦ rw (← e) (value-same m.values i None (held-within m.values i held))
-        | inr n ↦ lent.free_empty j (omega (arith, count_of-cons_other j i m.free n))
-      ])
+      (λ j. grind (arith, common_steps))
+      (λ j some. grind (arith, common_steps))
+      (λ j some. grind (arith, common_steps))
       lent.chains_hold
 
   pub partitioned-move : (m : ArenaView T) (i c : ℕ) → IsPartitioned m → holds_value m i ≡ true → c < length m.chains → IsPartitioned (record m { chains = moved m.chains i c })
@@ -136,15 +108,9 @@ module _ {T : Type 0} where
         | inl e ↦ rw (← e) (omega (arith, new i))
         | inr n ↦ omega (arith, old j, new j, count_other j n, partitioned.once j)
       ])
-      (λ j some. elim (cases_eq i j) [
-        | inl e ↦ omega (arith, held-within m.values i held)
-        | inr n ↦ partitioned.within j (omega (arith, old j, new j, count_other j n))
-      ])
+      (λ j some. grind (arith, common_steps))
       partitioned.free_empty
-      (λ j some. elim (cases_eq i j) [
-        | inl e ↦ rw (← e) held
-        | inr n ↦ partitioned.chains_hold j (omega (arith, count_other j n))
-      ])
+      (λ j some. grind (arith, common_steps))
 
   pub partitioned-restore : (m : ArenaView T) (i : ℕ) (value : T) → IsPartitioned m → i < capacity_of m → count_of i m.free ≡ 0
       → IsPartitioned (record m { values = slice_set m.values i (Some value) })
