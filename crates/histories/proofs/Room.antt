@@ -15,9 +15,6 @@ use Rattle.histories.proofs.Lists.{picked, sum_by-each, sum_by-picked}
 abbrev one : Msg → ℕ
 one m = cond (changes m) 1 0
 
-abbrev out_count : List Entry → ℕ
-out_count es = count_by (λ e. changes e.1) es
-
 abbrev ran_count : List Replied → ℕ
 ran_count as' = count_by (λ a. changes a.1) as'
 

@@ -20,13 +20,6 @@ use Rattle.device_map.specs.Layout.{layout_of}
 use Rattle.oplog.specs.Recovery.{named_area}
 use Rattle.meaning.specs.State.{State}
 
--- ---- flags
-some_runs : count_runs (true ∷ true ∷ false ∷ true ∷ []) ≡ 2
-some_runs = refl
-
-no_run : count_runs (false ∷ false ∷ []) ≡ 0
-no_run = refl
-
 -- ---- there are at most half as many runs as pieces
 few_after : (before : Bool) (dirty : List Bool) → runs_after before dirty + runs_after before dirty ≤ length dirty + 1
 few_after before [] = omega arith

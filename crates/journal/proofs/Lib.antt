@@ -17,3 +17,4 @@ mod Finishing
 mod Loaded
 mod Opened
 mod StillRefused
+mod Examples

@@ -1,15 +1,15 @@
 -- Where a block is there, its read passes all checks; where none is, an accepted read is answered as a hole.
 use Rattle.std.proofs.Common.{arith}
 use Rattle.std.proofs.lemmas.Grind.{common_steps}
-use Rattle.std.proofs.Common.{◌≡◌, ℕ, None, Some, Option, Bor, ap, sym, slice_index}
-use Rattle.std.specs.Prelude.{IfNone, IfSome}
+use Rattle.std.proofs.Common.{◌≡◌, ℕ, None, Some, Option, Bor, sym, slice_index}
+use Rattle.std.specs.Prelude.{IfSome}
 use Rattle.std.specs.Option.{option_copied}
 use Rattle.affinity.specs.declared.geometry.Geometry.{Geometry}
 use Rattle.language.specs.declared.Block.{Block}
 use Rattle.language.specs.declared.Msg.TheVariants.{Read}
-use Rattle.language.specs.declared.Reply.TheVariants.{Block as shows, Hole}
+use Rattle.language.specs.declared.Reply.TheVariants.{Block as shows}
 use Rattle.meaning.specs.State.{State, IsState}
-use Rattle.meaning.specs.Serial.{accepted_reply, block_reply, step}
+use Rattle.meaning.specs.Serial.{step}
 use Rattle.meaning.proofs.ByKind.{read_told}
 use Rattle.plain.proofs.server.Server.block_at.Goals as goal
 
@@ -17,10 +17,6 @@ looked_up : {g : Geometry} {x : State} → IsState g x → (a v f b : ℕ) (r : 
     → IfSome r (λ content. step g x (Read a v f b) ≡ (shows content.now, x))
 looked_up s a v f b (Some content) h = read_told s a v f b (sym h)
 looked_up s a v f b None h = tt
-
-none_there : (g : Geometry) (x : State) (a v f b : ℕ) (r : Option (Bor Block)) → option_copied r ≡ x.blocks (a, v, f, b) → IfNone r (accepted_reply g x (Read a v f b) ≡ Hole)
-none_there g x a v f b (Some content) h = tt
-none_there g x a v f b None h = ap block_reply (sym h)
 
 pub returns-clause-shown : goal.returns-clause-shown
 returns-clause-shown c =
