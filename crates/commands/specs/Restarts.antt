@@ -1,4 +1,4 @@
--- Statement for engineers: Any number of servers on one device, each on what a crash of the one before left.
+-- Statement for clients: Any number of servers on one device, each on what a crash of the one before left.
 use Rattle.std.specs.Prelude.{ℕ, List, [], ◌∷◌, Option, Result}
 use Rattle.affinity.specs.declared.geometry.Geometry.{Geometry}
 use Rattle.disk.specs.Device.{IsCrashImage, IsSynced, Medium}

@@ -1,4 +1,4 @@
--- Statement for operators: A device of bytes: what its calls do to it, and what a crash may leave of it.
+-- Statement for clients: A device of bytes: what its calls do to it, and what a crash may leave of it.
 use Rattle.std.specs.Prelude.{◌≡◌, ℕ, zero, suc, ◌+◌, ◌<◌, All, Bool, true, false, List, [], ◌∷◌, length, take, drop, replicate, slice_range, Result, Ok, Err, OnOk, IsErrOf}
 use Rattle.disk.specs.declared.fault.DiskFault.{DiskFault}
 use Rattle.disk.specs.declared.fault.DiskFault.TheVariants.{OutOfRange, Device}
