@@ -121,7 +121,7 @@ def of_speed(figures):
     sync = figures.median("disk", "disk", "us")
     yield (f"With 64 or 256 slots, {span([round(speed, -3) for speed in speeds])} writes of full blocks a second, and "
            f"{span(syncs)} syncs for 1,000 of them; writing and syncing a record takes {number(sync)} microseconds. An ordinary unproved Rust "
-           f"server is {batch} times as fast as `waffd` with 2 workers; {twice} times, with the same stripe locks and syncs.")
+           f"server is {batch} times as fast as `waffd` with 2 workers; {twice} times, if it locks and syncs as often.")
 
 
 PAGES = {"docs/speed.md": {"run": of_run, "table": of_table, "others": of_others, "missed": of_missed}, "README.md": {"speed": of_speed}}
