@@ -186,7 +186,7 @@ class Chain:
             part = phase.lines[sent:sent + chance.randint(1, most)]
             sent += len(part)
             due = sent if chance.random() < 0.7 else due
-            guest.tell(f"dd bs={len(text_of(part))} count=1 iflag=fullblock status=none <&3 >&4", data=text_of(part))
+            guest.feed(text_of(part))
             if not guest.wait(lambda: guest.heard["output"].count(b"\n") >= min(due, kill_at) or guest.heard["control"].startswith(b"exit")):
                 raise Dead("replies don't come")
             guest.wait(lambda: False, chance.choice((0, 0, 0.005, 0.02)))

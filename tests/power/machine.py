@@ -17,6 +17,7 @@ PATIENCE = 120  # seconds for an answer of the guest
 READ, WRITE, FLUSH = 0, 1, 3  # requests of NBD
 ANSWER, OPTION_ANSWER, GO, DONE, INFO, UNSUPPORTED = 0x67446698, 0x3E889045565A9, 7, 1, 3, 0x80000001
 FLAGS = 1 | 4  # flushes are served, and no write goes through the cache
+SERVED = "driver=nbd,node-name=disk,server.type=unix,server.path={0}/disk,export=disk,cache.no-flush=off"  # the disk, from here
 
 Write = collections.namedtuple("Write", "at bytes")
 Flush = collections.namedtuple("Flush", "")
@@ -37,7 +38,7 @@ class Log:
 
     def __init__(self, base, lies=False):
         self.base, self.lies, self.events = base, lies, []
-        self.heard = {name: [] for name in PORTS}  # of each port: the length of the log then, and the bytes
+        self.heard = {name: [] for name in PORTS}  # of each of these ports: the length of the log then, and the bytes
 
     def before(self, cut):
         """The numbers of the writes before a cut: the durable ones, complete when a flush came that is complete too, and the others."""
@@ -69,42 +70,66 @@ class Log:
         return disk, f"{mode}: {len(durable)} writes durable, {len(volatile)} not, of these {len(kept)} kept"
 
 
-def command(folder, kernel, initrd):
-    """QEMU without help of the processor. The guest's reports and requests keep their order (`ioeventfd=off`), its writes aren't merged."""
-    words = ["setpriv", "--pdeathsig", "KILL", "qemu-system-x86_64", "-accel", "tcg,thread=multi,tb-size=128", "-machine", "q35",
-             "-cpu", "max", "-smp", "2", "-m", "448", "-nodefaults", "-no-user-config", "-display", "none", "-no-reboot",
-             "-serial", f"file:{folder}/console", "-kernel", kernel, "-initrd", initrd,
-             "-append", "console=ttyS0 loglevel=4 panic=-1 quiet mitigations=off tsc=unstable nokaslr",
-             "-blockdev", f"driver=nbd,node-name=disk,server.type=unix,server.path={folder}/disk,export=disk,cache.no-flush=off",
-             "-device", "virtio-blk-pci,drive=disk,write-cache=on,ioeventfd=off,discard=off,write-zeroes=off,request-merging=off",
-             "-device", "virtio-serial-pci,ioeventfd=off,max_ports=8"]
-    for number, name in enumerate(PORTS, 1):
-        words += ["-chardev", f"socket,id={name},path={folder}/{name},server=off", "-device", f"virtserialport,chardev={name},nr={number}"]
-    return words
+def command(setup, ports, words, blockdev):
+    """QEMU without help of the processor. The guest's reports and requests keep their order (`ioeventfd=off`), its writes aren't merged.
+    A busy host may serve no timer in the time in which the kernel looks for one."""
+    more = ["setpriv", "--pdeathsig", "KILL", "qemu-system-x86_64", "-accel", "tcg,thread=multi,tb-size=128", "-machine", "q35",
+            "-cpu", "max", "-smp", "2", "-m", "448", "-nodefaults", "-no-user-config", "-display", "none", "-no-reboot",
+            "-serial", "file:{0}/console", "-kernel", setup.kernel, "-initrd", setup.initrd,
+            "-append", "console=ttyS0 loglevel=4 panic=-1 quiet mitigations=off tsc=unstable nokaslr no_timer_check", "-blockdev", blockdev,
+            "-device", "virtio-blk-pci,drive=disk,write-cache=on,ioeventfd=off,discard=off,write-zeroes=off,request-merging=off",
+            "-device", "virtio-serial-pci,ioeventfd=off,max_ports=8", *words]
+    for number, name in enumerate(ports, 1):
+        more += ["-chardev", f"socket,id={name},path={{0}}/{name},server=off", "-device", f"virtserialport,chardev={name},nr={number}"]
+    return more
+
+
+def turn(guests, selector, seconds):
+    """Takes what guests ask of their disks, and before it is served the reports that came before it. Where there is no request, one that
+    was held back is completed."""
+    due = {guest: guest.due() for guest in guests if guest.held}
+    ready = collections.defaultdict(set)
+    for key, _ in selector.select(0 if any(due.values()) else min(seconds, 0.005) if due else seconds):
+        ready[key.data[0]].add(key.data[1])
+    for guest in guests:
+        if "disk" in ready[guest]:
+            guest.receive("disk")
+        elif due.get(guest):
+            guest.complete(guest.chance.choice(due[guest]))
+        for name in guest.sockets if ready[guest] else ():
+            if name != "disk":
+                guest.receive(name)
+        guest.serve()
 
 
 class Guest:
-    """A guest that has booted. `hold` is the share of the writes and flushes whose completion is held back, so that some are in flight."""
+    """A guest that has booted. QEMU connects it to its disk, unless `blockdev` says that this is elsewhere, to each of the ports, and to the
+    links, sockets that more `words` of its command line name. `hold` is the share of the writes and flushes whose completion is held back,
+    so that some are in flight; a flush for `slow` seconds at least."""
 
-    def __init__(self, setup, base, chance):
-        self.folder, self.chance, self.hold, self.held = tempfile.mkdtemp(dir=setup.folder), chance, 0, []
-        self.log, self.disk, self.selector = Log(base), private_copy(base), selectors.DefaultSelector()
-        self.heard = {name: bytearray() for name in ("disk", *PORTS)}
-        ears = {name: socket.socket(socket.AF_UNIX) for name in self.heard}
+    def __init__(self, setup, base, chance, ports=PORTS, links=(), words=(), blockdev=SERVED, selector=None):
+        self.folder, self.chance, self.hold, self.slow, self.held = tempfile.mkdtemp(dir=setup.folder), chance, 0, 0, []
+        self.log, self.selector, self.sockets = Log(base), selector or selectors.DefaultSelector(), {}
+        self.heard = {name: bytearray() for name in ("disk", *ports, *links)}
+        ears = {name: socket.socket(socket.AF_UNIX) for name in self.heard if name != "disk" or blockdev == SERVED}
         for name, ear in ears.items():
             ear.bind(f"{self.folder}/{name}")
             ear.listen(1)
             ear.settimeout(PATIENCE)
-        self.qemu = subprocess.Popen(command(self.folder, setup.kernel, setup.initrd), stdin=subprocess.DEVNULL, stdout=subprocess.DEVNULL)
-        self.sockets = {"disk": ears["disk"].accept()[0]}
-        self.shake_hands(self.sockets["disk"])
-        self.sockets |= {name: ears[name].accept()[0] for name in PORTS}
-        for name, one in self.sockets.items():
-            one.settimeout(None)
-            self.selector.register(one, selectors.EVENT_READ, name)
+        self.qemu = subprocess.Popen([word.replace("{0}", self.folder) for word in command(setup, ports, words, blockdev)],
+                                     stdin=subprocess.DEVNULL, stdout=subprocess.DEVNULL)
+        if "disk" in ears:
+            self.disk = private_copy(base)
+            self.shake_hands(ears["disk"])
+        for name, ear in ears.items():
+            self.sockets[name] = self.sockets.get(name) or ear.accept()[0]
+            self.sockets[name].settimeout(None)
+            self.selector.register(self.sockets[name], selectors.EVENT_READ, (self, name))
+            ear.close()
         self.answer()
 
-    def shake_hands(self, disk):
+    def shake_hands(self, ear):
+        disk = self.sockets["disk"] = ear.accept()[0]
         disk.sendall(b"NBDMAGICIHAVEOPT" + struct.pack(">H", 3))
         disk.recv(4, socket.MSG_WAITALL)
         option, size, blocks = None, struct.pack(">HQH", 0, len(self.disk), FLAGS), struct.pack(">HIII", 3, 512, 4096, 1 << 25)
@@ -127,14 +152,18 @@ class Guest:
                 self.sockets["disk"].sendall(struct.pack(">IIQ", ANSWER, 0, handle) + self.disk[place:place + length])
             elif kind in (WRITE, FLUSH):
                 self.disk[place:place + len(data)] = data
-                self.held.append((len(self.log.events), handle))
+                self.held.append((len(self.log.events), handle, time.monotonic() + self.slow * (kind == FLUSH)))
                 self.log.events.append(Write(place, data) if kind == WRITE else Flush())
                 if self.chance.random() >= self.hold:
                     self.complete(-1)
         del heard[:at]
 
+    def due(self):
+        """Places of the requests that are held back and may be completed."""
+        return [at for at, (_, _, due) in enumerate(self.held) if due <= time.monotonic()]
+
     def complete(self, which):
-        number, handle = self.held.pop(which)
+        number, handle, _ = self.held.pop(which)
         self.log.events.append(Completed(number))
         self.sockets["disk"].sendall(struct.pack(">IIQ", ANSWER, 0, handle))
 
@@ -143,21 +172,12 @@ class Guest:
         with contextlib.suppress(BlockingIOError):
             while data := self.sockets[name].recv(1 << 20, socket.MSG_DONTWAIT):
                 self.heard[name] += data
-                if name != "disk":
+                if name in self.log.heard:
                     self.log.heard[name].append((len(self.log.events), data))
             raise Dead(f"QEMU has ended: {self.console()}")
 
     def turn(self, seconds):
-        """Takes requests of the disk, and before it serves them the reports that came before them. Where there is no request, one that
-        was held back is completed."""
-        ready = {key.data for key, _ in self.selector.select(0 if self.held else seconds)}
-        if "disk" in ready:
-            self.receive("disk")
-        elif self.held:
-            self.complete(self.chance.randrange(len(self.held)))
-        for name in PORTS if ready else ():
-            self.receive(name)
-        self.serve()
+        turn([self], self.selector, seconds)
 
     def wait(self, until, seconds=PATIENCE):
         """Works until this holds; whether it does at the end of the time."""
@@ -181,16 +201,20 @@ class Guest:
     def tell(self, *words, data=b""):
         self.sockets["control"].sendall(" ".join(map(str, words)).encode() + b"\n" + data)
 
+    def feed(self, data):
+        """Gives this to the program."""
+        self.tell(f"dd bs={len(data)} count=1 iflag=fullblock status=none <&3 >&4", data=data)
+
     def ask(self, *words):
         """The status and the bytes that guest.sh answers."""
         self.tell(*words)
         return self.answer()[1:]
 
-    def mount(self, system):
+    def mount(self, system, disk="/dev/vda"):
         """What the guest says where it doesn't mount its disk."""
         if system == "btrfs":
             self.ask("did btrfs device scan --forget")
-        status, said = self.ask("did mount -t", system, "/dev/vda /mnt")
+        status, said = self.ask("did mount -t", system, disk, "/mnt")
         return said.decode() or "no word" if status else None
 
     def console(self):

@@ -21,10 +21,10 @@ SYSTEMS = {"ext4": System("ext4", 64, EXT4 + "4096"), "ext4-1k": System("ext4", 
 Setup = collections.namedtuple("Setup", "folder kernel initrd fresh module")  # of one file system
 
 
-def lacking(kernel):
-    """What is to be done first."""
-    packages = [package for word, package in PACKAGES.items() if not shutil.which(word)]
-    found = {"apt-get install " + " ".join(packages): not packages, NO_KERNEL.format(kernel): glob.glob(f"{kernel}/boot/vmlinuz-*"),
+def lacking(kernel, more=()):
+    """What is to be done first. `more` are programs or files that are needed, too, and the packages that have them."""
+    packages = [package for word, package in {**PACKAGES, **dict(more)}.items() if not shutil.which(word, os.F_OK)]
+    found = {"apt-get install " + " ".join(dict.fromkeys(packages)): not packages, NO_KERNEL.format(kernel): glob.glob(f"{kernel}/boot/vmlinuz-*"),
              f"There is no program at {program.PROGRAM}: ./build makes it.": os.access(program.PROGRAM, os.X_OK)}
     return [text for text, is_there in found.items() if not is_there]
 
@@ -44,26 +44,30 @@ def modules(folder, names):
     return dict.fromkeys(path for name in names for path in needed(name))
 
 
-def make_initrd(image, folder, system):
-    subprocess.run(["cc", "-O1", "-Wall", "-shared", "-fPIC", "-o", f"{image}.so", f"{HERE}/shim.c"], check=True)
-    loaded, top = {path: "/lib/" + os.path.basename(path) for path in modules(folder, (*MODULES, system.module))}, image + ".top"
-    programs = {program.PROGRAM: "/bin/waffd", shutil.which("btrfs"): "/bin/btrfs", shutil.which("busybox"): "/bin/busybox"}
-    told = "".join(subprocess.run(["ldd", path], capture_output=True, text=True, check=False).stdout for path in programs)
-    libraries = {word: word for word in told.split() if word.startswith("/")}
-    for path, there in {f"{HERE}/guest.sh": "/init", f"{image}.so": "/bin/shim.so", **programs, **libraries, **loaded}.items():
+def make_initrd(kernel, image, names, files):
+    """An initial file system for this kernel with guest.sh, these modules, and files, each with where it is put. A program's libraries come
+    with it. The kernel's file."""
+    file = max(glob.glob(f"{kernel}/boot/vmlinuz-*"))
+    folder, top = f"{kernel}/lib/modules/{file.partition('vmlinuz-')[2]}", image + ".top"
+    loaded = {path: "/lib/" + os.path.basename(path) for path in modules(folder, names)}
+    files = {f"{HERE}/guest.sh": "/init", program.PROGRAM: "/bin/waffd", shutil.which("busybox"): "/bin/busybox", **files}
+    found = "".join(subprocess.run(["ldd", path], capture_output=True, text=True, check=False).stdout for path in files)
+    libraries = {word: word for word in found.split() if word.startswith("/") and not word.endswith(":")}
+    for path, there in {**files, **libraries, **loaded}.items():
         os.makedirs(os.path.dirname(top + there), exist_ok=True)
         shutil.copy(path, top + there)
     for there in ("proc", "dev", "mnt", "tmp"):
         os.mkdir(f"{top}/{there}")
     program.put_bytes(f"{top}/modules", "".join(there + "\n" for there in loaded.values()).encode())
     subprocess.run(f"find . | cpio -o -H newc --quiet > {image}", shell=True, cwd=top, check=True)
+    return file
 
 
 def setup(folder, kernel, name):
     """An empty file system is made on a disk of ones, so that where nothing was written a gate is open."""
-    image, system = max(glob.glob(f"{kernel}/boot/vmlinuz-*")), SYSTEMS[name]
-    made = Setup(folder, image, f"{folder}/{name}.initrd", f"{folder}/{name}.fresh", system.module)
-    make_initrd(made.initrd, f"{kernel}/lib/modules/{image.partition('vmlinuz-')[2]}", system)
-    program.put_bytes(made.fresh, b"\1" * (system.mebibytes << 20))
-    subprocess.run([*system.make.split(), made.fresh], stdout=subprocess.DEVNULL, check=True)
-    return made
+    image, shim, fresh, system = f"{folder}/{name}.initrd", f"{folder}/{name}.so", f"{folder}/{name}.fresh", SYSTEMS[name]
+    subprocess.run(["cc", "-O1", "-Wall", "-shared", "-fPIC", "-o", shim, f"{HERE}/shim.c"], check=True)
+    file = make_initrd(kernel, image, (*MODULES, system.module), {shim: "/bin/shim.so", shutil.which("btrfs"): "/bin/btrfs"})
+    program.put_bytes(fresh, b"\1" * (system.mebibytes << 20))
+    subprocess.run([*system.make.split(), fresh], stdout=subprocess.DEVNULL, check=True)
+    return Setup(folder, file, image, fresh, system.module)
