@@ -3,11 +3,11 @@ import time
 
 from failovers import Case
 from pair import OTHER, Machine
+from planted import NO_FLUSHES
 from servers import COMMON
 
 LINES = {1: 200, 16: 800}  # by slots
 PLAIN, ONE_MACHINE, SLOW_LINK = "plain disk", "one machine", "link of 5 ms"
-NO_FLUSHES = "s/disk-flushes yes/disk-flushes no/"
 
 
 def measure(chain):

@@ -7,7 +7,7 @@ from machine import Dead
 
 NO_FENCING = "s/resource-and-stonith/dont-care/"
 GOES_ON = "s/resource-and-stonith/resource-only/"  # the primary, while the other is being fenced
-NO_FLUSHES = "s/disk-flushes yes; md-flushes yes/disk-flushes no; md-flushes no/"
+NO_FLUSHES = "s/resource-and-stonith;/& disk-flushes no; md-flushes no;/"
 PROTOCOL_A = f"s/protocol C/protocol A/; {GOES_ON}"  # DRBD refuses it with resource-and-stonith
 SECONDARY_ALONE = "the secondary alone comes back"
 
