@@ -259,7 +259,7 @@ class Chain:
         """Until the time is over."""
         self.begin()
         while time.monotonic() < self.end:
-            moves = (self.work,) * 12 + (self.lose_survivor,)
+            moves = (self.work,) * 4 + (lambda: self.wait_in_sync(self.primary),) * 4 + (self.lose_survivor,)
             if not self.other():
                 moves = (self.join,) * 4 + (self.boot_other,) * 2 + (self.lose_survivor,)
             elif self.pair.in_sync(self.primary):
