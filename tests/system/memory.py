@@ -25,8 +25,7 @@ class Memory(Case):
                     if end != good or not MAY_END_WELL[turn]:
                         self.has_ended(end, 3, lambda output: is_beginning(output, good[1]) if given else not output, NO_MEMORY)
 
-                self.each(f"{turn}: {words or 'no words'}, {len(given)} bytes", 1,
-                          lambda number: between.run(turn, number, arguments, given), judge)
+                self.each(f"{turn}: {words or 'no words'}, {len(given)} bytes", 1, lambda number: between.run(turn, number, arguments, given), judge)
 
     def test_serve(self):
         file, between = File(self.folder), self.between("refuse.c")

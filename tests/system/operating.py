@@ -1,5 +1,4 @@
-"""What the pages tell whoever operates a server: the unit of examples/service, evaluated by systemd's own tool and its commands run; the copy of a
-device to another geometry; the least stack; what a crash leaves of lines in flight."""
+"""What the pages tell whoever operates a server: the unit and the commands of examples/service; the copy; the stack; what a crash leaves."""
 import os
 import re
 import shlex
@@ -16,7 +15,9 @@ from servers import COMMON, GREATEST, Drawing, replies_of, text_of
 
 SERVICE, COPY = os.path.join(TOP, "examples", "service"), os.path.join(TOP, "examples", "copy", "copy.py")
 FIRST_SYNC_OF_A_CHANGE = 6  # the opening makes five
-LEFT_OUT = "useradd", "systemctl", "sync"  # of the commands of the page
+FULL_BLOCK = b"makevol 0 0\ncreate 0 0 0\nwrite 0 0 0 0 " + b"61" * 512 + b"\n"
+MANY = [f"setlabel 0 0 {number:04x}01\n".encode() + b"read 0 0 0 0\n" * 40 for number in range(450)]  # too many for all buffers, as their replies
+HURRIED = "python3", "-c", "import sys; sys.path.append(sys.argv[1][:-8]); import front; front.PATIENCE = 1; sys.exit(front.main(*sys.argv[2:]))"
 
 
 @unittest.skipUnless(os.access("/usr/bin/flock", os.X_OK), "flock isn't installed")
@@ -26,22 +27,26 @@ class Service(Case):
     def setUp(self):
         super().setUp()
         self.page = self.elsewhere(bytes_of(os.path.join(SERVICE, "README.md")).decode())
-        for command in re.findall(r"^    (.*)", self.page, re.M):
-            if not command.startswith(LEFT_OUT):
-                subprocess.run(command, cwd=TOP, shell=True, check=True, stdout=subprocess.DEVNULL)
-        self.unit = self.at("etc/systemd/system/waffd.service")
+        self.does("Install it")
+        self.device, self.unit = self.at("srv/waffd/device"), self.at("etc/systemd/system/waffd.service")
         text = self.elsewhere(bytes_of(self.unit).decode())
         put_bytes(self.unit, text.encode())
         self.values = dict(re.findall(r"^(\w+)=(.*)", text.replace("\\\n", ""), re.M))
-        os.mkdir(self.at("run/waffd"))
 
     def elsewhere(self, text):
-        os.makedirs(self.at("run"), exist_ok=True)
         text = text.replace("crates/waffd/out/waffd", os.path.abspath(PROGRAM)).replace("runuser -u waffd -- ", "").replace("-o waffd", "")
-        return re.sub(r"(?<=[ =!])/(?=usr/local/|etc/|srv/|run/)", self.folder + "/", text)
+        return re.sub(r'(?<=[ =!"])/(?=usr/local/|etc/|srv\b|run/)', self.folder + "/", text)
+
+    def does(self, heading, number=0):
+        """What the commands of a part of the page print, of one block."""
+        blocks = re.findall(r"(?:^    .*\n)+", self.page.partition(f"\n## {heading}\n")[2].partition("\n## ")[0], re.M)
+        script = "useradd() { :; }; systemctl() { :; }\n" + blocks[number].replace("\n    ", "\n")
+        return subprocess.run(["sh", "-e", "-c", script], cwd=TOP, check=True, stdout=subprocess.PIPE).stdout
 
     def starts(self, *before):
-        return self.started([*before, *shlex.split(self.values["ExecStart"])], stderr=subprocess.PIPE)
+        shutil.rmtree(self.at("run/waffd"), ignore_errors=True)
+        os.makedirs(self.at("run/waffd"))
+        return self.started([*before, *shlex.split(self.values["ExecStart"])], stderr=subprocess.PIPE, umask=int(self.values["UMask"], 8))
 
     def connects(self):
         client = socket.socket(socket.AF_UNIX)
@@ -62,30 +67,58 @@ class Service(Case):
     def has_stopped(self, server, status, text=b""):
         """The server has ended so. Then the unit's last command runs."""
         self.assertEqual((server.communicate(timeout=PATIENCE)[1], server.returncode), (text, status))
-        command = shlex.split(self.values["ExecStopPost"].lstrip("+").replace("$$", "$"))
-        subprocess.run(command, env={**os.environ, "EXIT_STATUS": str(status)}, check=True)
+        words = shlex.split(self.values["ExecStopPost"].lstrip("+").replace("$$", "$"))
+        subprocess.run(words, env={**os.environ, "EXIT_STATUS": str(status)}, check=True)
 
     @unittest.skipUnless(shutil.which("systemd-analyze"), "systemd-analyze isn't installed")
     def test_unit(self):
         """systemd's own tool takes the unit, and lets it start only on a device that is there"""
         self.has_ended(run(["verify", self.unit], program=["systemd-analyze"]), 0, b"", lambda text: b"waffd" not in text)
         self.assertTrue(self.may_start())
-        put_bytes(self.at("srv/waffd/device"), b"")
+        put_bytes(self.device, b"")
         self.assertFalse(self.may_start())
 
     def test_clients(self):
-        """one server answers client after client, also behind one that hangs up; a second one has no lock; SIGTERM ends it in order"""
-        server, first = self.starts(), self.connects()
-        self.asks(first, b"makevol 0 0\ncreate 0 0 0\n", b"done\ndone\n")
-        first.sendall(b"read 0 0 0 0\n" * 1000 + b"summary\nmakevol 0 1")
+        """one server answers client after client, behind one that hangs up or takes nothing; a second one has no lock; SIGTERM ends it in order"""
+        server, first = self.starts(*HURRIED), self.connects()
+        self.asks(first, FULL_BLOCK, b"done\n" * 3)
+        first.sendall(b"read 0 0 0 0\n" * 1000 + b"create 0 0 1\nmakevol 0 1")
         first.close()
-        self.asks(self.connects(), b"usage 0 0\nsummary\n", b"usage 1 0 open\nsummary 1 1 0\n")
-        os.rename(self.at("run/waffd/socket"), self.at("socket"))
+        self.connects().sendall(b"".join(MANY))
+        self.assertEqual((self.does("Talk to it"), os.stat(self.at("run/waffd/socket")).st_mode & 0o77), (b"summary 1 2 1\n", 0))
+        for words in ([self.at("run/waffd/socket"), "true"], [self.at("other"), self.at("missing")]):
+            self.has_ended(run(words, program=[self.at("usr/local/lib/waffd/front.py")]), 70, b"", lambda text: text and b"Traceback" not in text)
         self.has_stopped(self.starts(), 75)
         server.send_signal(signal.SIGTERM)
         self.has_stopped(server, 0)
-        self.assertIn(b"records 0\n", run(["show", self.at("srv/waffd/device")])[1])
+        self.assertIn(b"records 0\n", run(["show", self.device])[1])
         self.assertFalse(os.path.exists(self.at("run/waffd.fault")))
+
+    def test_stop(self):
+        """at a stop a slow client gets the reply of each line that was read, no other line is run, and a client that takes nothing is let go"""
+        run(["serve", self.device], FULL_BLOCK)
+        for count, size in ((10, 1 << 12), (len(MANY), 1 << 16), (len(MANY), 0)):
+            server, client = self.starts(*HURRIED), self.connects()
+            client.sendall(b"".join(MANY[:count]))
+            time.sleep(0.2)
+            server.send_signal(signal.SIGTERM)
+            replies = read_until(client, lambda found: time.sleep(0.005), size)
+            self.has_stopped(server, 0)
+            self.assertEqual(replies.count(b"\n") == 41 * count, count == 10)
+            self.assertTrue(not size or run(["serve", self.device], b"label 0 0\n")[1] == b"label %04x01\n" % (replies.count(b"done") - 1))
+
+    def test_restart(self):
+        """where a program or a folder isn't there the unit isn't started again"""
+        for name, status in (("usr/local/bin/waffd", "69"), ("srv/waffd", "66")):
+            os.rename(self.at(name), self.at(status))
+            self.assertIn(str(self.starts().wait(PATIENCE)), {status} & {*self.values["RestartPreventExitStatus"].split()})
+
+    def test_backup(self):
+        """the commands of the page back a device up, and restore it for its user alone"""
+        for number, line in enumerate((b"makevol 0 0\n", b"makevol 0 1\n")):
+            run(["serve", self.device], line)
+            self.does("Back up, restore, upgrade", number)
+        self.assertEqual((run(["serve", self.device], b"summary\n")[1], os.stat(self.device).st_mode & 0o777), (b"summary 1 0 0\n", 0o600))
 
     @unittest.skipUnless(shutil.which("strace") and shutil.which("systemd-analyze"), "strace or systemd-analyze isn't installed")
     def test_a_failed_sync(self):
@@ -157,15 +190,14 @@ class Stack(Case):
 class Costs(Case):
     @unittest.skipUnless(shutil.which("strace"), "strace isn't installed")
     def test_an_empty_session(self):
-        """a session that changes nothing syncs and writes as much as the pages say"""
-        pages = [bytes_of(path).decode() for path in (os.path.join(TOP, "docs", "program.md"), os.path.join(SERVICE, "README.md"))]
+        """a session that changes nothing syncs and writes as much as the page says"""
+        page = bytes_of(os.path.join(TOP, "docs", "program.md")).decode()
         for g, amount in ((COMMON, "1.07 MB"), (GREATEST, "17 MB")):
             run(["format", self.at("device"), *options_of(g)])
             run(["serve", self.at("device")], program=("strace", "-f", "-o", self.at("calls"), "-e", "trace=pwrite64,fsync,fdatasync", PROGRAM))
             calls = bytes_of(self.at("calls")).decode()
             size = sum(map(int, re.findall(r"pwrite64\(.* = (\d+)$", calls, re.M)))
-            self.assertEqual((calls.count("sync("), f"{size / 1e6:.3g} MB"), (8, amount))
-            self.assertTrue(all("8 syncs" in page and amount in page for page in pages))
+            self.assertEqual((calls.count("sync("), f"{size / 1e6:.3g} MB", "8 syncs" in page and amount in page), (8, amount, True))
 
 
 class Crash(Case):

@@ -39,11 +39,12 @@ def run(words, given=b"", env=None, closed=(), program=(PROGRAM,), **more):
 def read_until(source, is_enough, size=1, patience=PATIENCE):
     """What comes, so many bytes at a time, until it is enough, there is no more, or patience ended."""
     found, end = b"", time.monotonic() + patience
-    while not is_enough(found) and select.select([source], [], [], max(0, end - time.monotonic()))[0]:
-        piece = os.read(source if isinstance(source, int) else source.fileno(), size)
-        if not piece:
-            break
-        found += piece
+    with contextlib.suppress(ConnectionResetError):  # there is no more, and the other side hasn't read all
+        while not is_enough(found) and select.select([source], [], [], max(0, end - time.monotonic()))[0]:
+            piece = os.read(source if isinstance(source, int) else source.fileno(), size)
+            if not piece:
+                break
+            found += piece
     return found
 
 
