@@ -3,8 +3,7 @@
 
     examples/copy/copy.py OLD NEW [PROGRAM]     PROGRAM is ./waffd, if none is named
 
-NEW has to be formatted and empty. All of OLD is read first: what is out of NEW's range, and each stripe that would have more blocks than its
-quota, is printed; then the status is 1, and NEW stays empty. Both files are locked meanwhile, as by flock.
+NEW has to be formatted and empty. All of OLD is read first: what doesn't fit is printed, and NEW stays empty. Both are locked, as by flock.
 """
 import collections
 import fcntl
@@ -47,8 +46,7 @@ def read_all(program, device, g):
 def misfits(volumes, g):
     """What has no place in this geometry."""
     for (a, v), volume in volumes.items():
-        if a >= g.aggregates or v >= g.volumes:
-            yield f"volume {a} {v} is out of range"
+        yield from [f"volume {a} {v} is out of range"] * (a >= g.aggregates or v >= g.volumes)
         yield from (f"volume {a} {v}: file {f} is out of range" for f in volume.files if f >= g.files)
         yield from (f"volume {a} {v}: block {b} of file {f} is out of range" for f, b in volume.blocks if b >= g.blocks)
         stripes = collections.Counter((f + b // g.width) % g.stripes for f, b in volume.blocks)
@@ -76,4 +74,7 @@ def main(old, new, program="./waffd"):
 
 
 if __name__ == "__main__":
-    sys.exit(main(*sys.argv[1:]) if len(sys.argv) in (3, 4) else __doc__)
+    try:
+        sys.exit(main(*sys.argv[1:]) if len(sys.argv) in (3, 4) else __doc__)
+    except OSError as error:
+        sys.exit(f"copy: {error.filename or 'a device is locked'}: {error.strerror}")

@@ -156,25 +156,28 @@ class Copy(Case):
     def test_what_does_not_fit(self):
         """what doesn't fit is told before anything is written, and so is a new device that isn't empty"""
         held = ["makevol 0 3", "create 0 3 9", *(f"write 0 3 9 {b} 61" for b in (0, 1, 63))]
-        for to, texts in ((COMMON._replace(volumes=3), ["is out of range"]), (COMMON._replace(files=9), [": file 9 is out of range"]),
-                          (COMMON._replace(blocks=63), [": block 63 of file 9 is out of range"]),
-                          (COMMON._replace(quota=1), [": stripe 1 would have 2 blocks"])):
+        for to, text in ((COMMON._replace(volumes=3), " is out of range"), (COMMON._replace(files=9), ": file 9 is out of range"),
+                         (COMMON._replace(blocks=63), ": block 63 of file 9 is out of range"),
+                         (COMMON._replace(quota=1), ": stripe 1 would have 2 blocks")):
             self.device("old", COMMON, held)
             self.device("new", to)
             new = bytes_of(self.at("new"))
-            self.copies(1, "".join(f"volume 0 3 {text}\n" if text[0] == "i" else f"volume 0 3{text}\n" for text in texts).encode())
-            self.holds(f"and the new device stays: {texts[0]}", self.at("new"), new)
+            self.copies(1, f"volume 0 3{text}\n".encode())
+            self.holds(f"and the new device stays{text}", self.at("new"), new)
         self.device("new", COMMON, ["makevol 0 0"])
         self.copies(1, b"the new device isn't empty\n")
 
     def test_page(self):
-        """the commands of the page copy a device"""
+        """the commands of the page copy a device; a file or a program that isn't there, and a locked file, are told"""
         os.symlink(os.path.abspath(PROGRAM), self.at("waffd"))
         os.symlink(os.path.join(TOP, "examples"), self.at("examples"))
         self.device("old", COMMON, ["makevol 0 3"])
         for command in re.findall(r"^    (.*)", bytes_of(os.path.join(os.path.dirname(COPY), "README.md")).decode(), re.M):
             subprocess.run(command, shell=True, cwd=self.folder, check=True, stdout=subprocess.DEVNULL)
         self.assertEqual(replies_of(run(["serve", self.at("new")], b"summary\n"), "serve"), ["summary 1 0 0"])
+        for words in (["missing", "new"], ["old", "missing"], ["old", "new", "missing"]):
+            self.has_ended(run(words, program=[COPY], cwd=self.folder), 1, b"", b"copy: missing: No such file or directory\n")
+        self.has_ended(run(["old", "old"], program=[COPY], cwd=self.folder), 1, b"", b"copy: a device is locked: Resource temporarily unavailable\n")
 
 
 class Stack(Case):
