@@ -3,8 +3,8 @@
 
     front.py SOCKET COMMAND ..      the command starts the server; SOCKET must not be there, and is made with the rights that the umask leaves
 
-The next client is let in when each line of the one before has its reply, read or not. A client that takes none for PATIENCE counts as gone. What
-was sent behind the last newline is dropped. SIGTERM ends the server in order, by the end of its input. The status is the server's, or 70.
+The next client is let in when each line of the one before has its reply, read or not. A client that keeps one waiting for PATIENCE counts as gone.
+What was sent behind the last newline is dropped. SIGTERM ends the server in order, by the end of its input. The status is the server's, or 70.
 """
 import contextlib
 import signal

@@ -16,7 +16,7 @@ from servers import COMMON, GREATEST, Drawing, replies_of, text_of
 SERVICE, COPY = os.path.join(TOP, "examples", "service"), os.path.join(TOP, "examples", "copy", "copy.py")
 FIRST_SYNC_OF_A_CHANGE = 6  # the opening makes five
 FULL_BLOCK = b"makevol 0 0\ncreate 0 0 0\nwrite 0 0 0 0 " + b"61" * 512 + b"\n"
-MANY = [f"setlabel 0 0 {number:04x}01\n".encode() + b"read 0 0 0 0\n" * 40 for number in range(450)]  # too many for all buffers, as their replies
+MANY = [f"setlabel 0 0 {number:04x}01\n".encode() + b"read 0 0 0 0\n" * 200 for number in range(80)]  # a socket takes them, but not their replies
 HURRIED = "python3", "-c", "import sys; sys.path.append(sys.argv[1][:-8]); import front; front.PATIENCE = 1; sys.exit(front.main(*sys.argv[2:]))"
 
 
@@ -84,7 +84,7 @@ class Service(Case):
         self.asks(first, FULL_BLOCK, b"done\n" * 3)
         first.sendall(b"read 0 0 0 0\n" * 1000 + b"create 0 0 1\nmakevol 0 1")
         first.close()
-        self.connects().sendall(b"".join(MANY))
+        self.connects().sendall(b"".join(MANY[:40]))
         self.assertEqual((self.does("Talk to it"), os.stat(self.at("run/waffd/socket")).st_mode & 0o77), (b"summary 1 2 1\n", 0))
         for words in ([self.at("run/waffd/socket"), "true"], [self.at("other"), self.at("missing")]):
             self.has_ended(run(words, program=[self.at("usr/local/lib/waffd/front.py")]), 70, b"", lambda text: text and b"Traceback" not in text)
@@ -97,14 +97,14 @@ class Service(Case):
     def test_stop(self):
         """at a stop a slow client gets the reply of each line that was read, no other line is run, and a client that takes nothing is let go"""
         run(["serve", self.device], FULL_BLOCK)
-        for count, size in ((10, 1 << 12), (len(MANY), 1 << 16), (len(MANY), 0)):
-            server, client = self.starts(*HURRIED), self.connects()
+        for count, size in ((2, 1 << 12), (len(MANY), 1 << 16), (len(MANY), 0)):
+            server, client = self.starts(*(() if size else HURRIED)), self.connects()
             client.sendall(b"".join(MANY[:count]))
-            time.sleep(0.2)
+            client.recv(1, socket.MSG_PEEK)  # the first lines have been read
             server.send_signal(signal.SIGTERM)
             replies = read_until(client, lambda found: time.sleep(0.005), size)
             self.has_stopped(server, 0)
-            self.assertEqual(replies.count(b"\n") == 41 * count, count == 10)
+            self.assertEqual(replies.count(b"\n") == 201 * count, count == 2)
             self.assertTrue(not size or run(["serve", self.device], b"label 0 0\n")[1] == b"label %04x01\n" % (replies.count(b"done") - 1))
 
     def test_restart(self):
