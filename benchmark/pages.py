@@ -119,9 +119,9 @@ def of_speed(figures):
     speeds, syncs = ([figures.median(row, program, what) for row in rows for program in OF_WAFFD] for what in ("lines/s", "syncs"))
     batch, twice = (span([round(figures.ratio(row, other, MAIN, "lines/s"), 1) for row in rows]) for other in ("batch", "twice"))
     sync = figures.median("disk", "disk", "us")
-    yield (f"With 64 or 256 slots, {span([round(speed, -3) for speed in speeds])} writes of full blocks a second, and "
-           f"{span(syncs)} syncs for 1,000 of them; writing and syncing a record takes {number(sync)} microseconds. An ordinary unproved Rust "
-           f"server is {batch} times as fast as `waffd` with 2 workers; {twice} times, if it locks and syncs as often.")
+    yield (f"Over all stripes, with 64 or 256 slots, {span([round(speed, -3) for speed in speeds])} writes of full blocks a second, and "
+           f"{span(syncs)} syncs for 1,000 of them; the disk takes {number(sync)} microseconds to write and sync a record. An ordinary unproved Rust "
+           f"server is {batch} times as fast as `waffd` with 2 workers; {twice} times, if it locks stripes and syncs as often.")
 
 
 PAGES = {"docs/speed.md": {"run": of_run, "table": of_table, "others": of_others, "missed": of_missed}, "README.md": {"speed": of_speed}}

@@ -9,7 +9,7 @@ import subprocess
 import time
 import unittest
 
-from program import PATIENCE, PROGRAM, TOP, Case, bytes_of, put_bytes, read_until, run
+from program import LONGEST_RUN, PATIENCE, PROGRAM, TOP, Case, bytes_of, put_bytes, read_until, run
 from meaning import Geometry, lines_that_read, options_of
 from servers import COMMON, GREATEST, Drawing, replies_of, text_of
 
@@ -66,7 +66,7 @@ class Service(Case):
 
     def has_stopped(self, server, status, text=b""):
         """The server has ended so. Then the unit's last command runs."""
-        self.assertEqual((server.communicate(timeout=PATIENCE)[1], server.returncode), (text, status))
+        self.assertEqual((server.communicate(timeout=LONGEST_RUN)[1], server.returncode), (text, status))
         words = shlex.split(self.values["ExecStopPost"].lstrip("+").replace("$$", "$"))
         subprocess.run(words, env={**os.environ, "EXIT_STATUS": str(status)}, check=True)
 
@@ -181,7 +181,7 @@ class Copy(Case):
 
 
 class Stack(Case):
-    @unittest.skipIf(PROGRAM.endswith(".by-rattle"), "what the other compiler makes takes more")
+    @unittest.skipIf(os.path.realpath(PROGRAM).endswith(".by-rattle"), "what the other compiler makes takes more")
     def test_stack(self):
         """four workers serve the greatest geometry with a stack of 32 KiB"""
         run(["format", self.at("great"), *options_of(GREATEST)])
