@@ -5,6 +5,7 @@ pub mod Ends
 pub mod Serving
 pub mod Acknowledged
 pub mod Promise
+pub mod UntilCrash
 pub mod InFile
 pub mod Restarts
 pub mod Services

@@ -1,14 +1,10 @@
 //! The promise of a service, with the crash point as a variable: a device in memory that stops at any call, and then crashes.
 ghost use Rattle.std.specs.Prelude.{◌≡◌, ◌<◌};
-ghost use Rattle.affinity.specs.declared.geometry.Geometry.{Geometry};
 ghost use Rattle.disk.specs.Memory.{medium_of, memory_of};
 ghost use Rattle.disk.specs.Torn.{HasPattern};
 ghost use Rattle.disk.specs.declared.injected_fault.InjectedFault.TheVariants.{StopAt};
-ghost use Rattle.meaning.specs.State.{State};
 ghost use Rattle.serving.specs.Ends.{exchange};
-ghost use Rattle.commands.specs.Acknowledged.{HoldsAcknowledged};
-ghost use Rattle.commands.specs.Promise.{HasRunFrom, HoldsOfAll, HoldsRecovered, HoldsState};
-ghost use Rattle.commands.specs.Serving.{HasServedUntilCrash};
+ghost use Rattle.commands.specs.UntilCrash.{ServesUntilCrash};
 
 use crate::faults::Fault;
 use crate::serve::serve_on;
@@ -33,14 +29,8 @@ fn serve_and_crash<T: Threads + Wait + Sync, R: Read, W: Write>(
 ) -> (MemDisk, Result<(), Fault>)
     requires stops { (memory_of disk).injected_fault ≡ StopAt _n }
     requires bytes { HasPattern torn }
-    ensures crashed { HasServedUntilCrash service (medium_of disk) torn (memory_of result.0) result.1
+    ensures { ServesUntilCrash service (medium_of disk) torn (memory_of result.0) result.1
         (exchange (R.remaining r.old) (R.remaining r.new) (W.contents w.old) (W.contents w.new)) }
-    ensures kept { HoldsOfAll result.1 service.slots (W.contents w.old) (W.contents w.new) (λ left all. HoldsAcknowledged left
-        (medium_of disk) (R.remaining r.old) (W.contents w.old) all (medium_of result.0).now) }
-    ensures recovers { HoldsOfAll result.1 service.slots (W.contents w.old) (W.contents w.new) (λ left all. HoldsRecovered left
-        (medium_of disk) (R.remaining r.old) (W.contents w.old) all (medium_of result.0).now) }
-    ensures goes_on { (g : Geometry) (start : State) → HoldsState g (medium_of disk) start → HasRunFrom g service.slots start result.1
-        (R.remaining r.old) (W.contents w.old) (W.contents w.new) (HoldsState g (medium_of result.0)) }
 {
     let (disk, end) = serve_on(rt, alloc, disk, service, r, w);
     (disk.crash(torn), end)
@@ -61,14 +51,8 @@ pub fn serve_stopped<T: Threads + Wait + Sync, R: Read, W: Write>(
 ) -> (MemDisk, Result<(), Fault>)
     requires call { 0 < n }
     requires bytes { HasPattern torn }
-    ensures crashed { HasServedUntilCrash service (medium_of disk) torn (memory_of result.0) result.1
+    ensures { ServesUntilCrash service (medium_of disk) torn (memory_of result.0) result.1
         (exchange (R.remaining r.old) (R.remaining r.new) (W.contents w.old) (W.contents w.new)) }
-    ensures kept { HoldsOfAll result.1 service.slots (W.contents w.old) (W.contents w.new) (λ left all. HoldsAcknowledged left
-        (medium_of disk) (R.remaining r.old) (W.contents w.old) all (medium_of result.0).now) }
-    ensures recovers { HoldsOfAll result.1 service.slots (W.contents w.old) (W.contents w.new) (λ left all. HoldsRecovered left
-        (medium_of disk) (R.remaining r.old) (W.contents w.old) all (medium_of result.0).now) }
-    ensures goes_on { (g : Geometry) (start : State) → HoldsState g (medium_of disk) start → HasRunFrom g service.slots start result.1
-        (R.remaining r.old) (W.contents w.old) (W.contents w.new) (HoldsState g (medium_of result.0)) }
 {
     let mut disk = disk;
     disk.stop_at(n);
