@@ -1,5 +1,5 @@
 -- Format for clients: Which lines spell which messages.
-use Rattle.std.specs.Prelude.{◌≡◌, ℕ, ◌<◌, ◌≤◌, nat_lt, List, [], ◌∷◌, ◌++◌, length, map, codes, if◌then◌else◌, Option, Some, None, Ok}
+use Rattle.std.specs.Prelude.{◌≡◌, ℕ, ◌<◌, ◌≤◌, nat_lt, List, [], ◌∷◌, ◌++◌, length, map, find, codes, if◌then◌else◌, Option, Some, None, Ok}
 use Rattle.std.specs.List.{AllByRecursion, join_with_byte}
 use Rattle.std.specs.Str.{bytes_eq}
 use Rattle.std.specs.Fmt.{decimal}
@@ -75,11 +75,6 @@ of_label make (a ∷ v ∷ digits ∷ []) = do
   Some (make aggregate volume bytes)
 of_label make _ = None
 
--- the message m, if there are no words
-abbrev pub of_nothing : Msg → List (List ℕ) → Option Msg
-of_nothing m [] = Some m
-of_nothing m _ = None
-
 -- the message of a kind and the words after its keyword
 abbrev pub of_kind : Kind → List (List ℕ) → Option Msg
 of_kind kinds.MakeVol arguments = of_volume MakeVol arguments
@@ -93,7 +88,8 @@ of_kind kinds.Punch arguments = of_block Punch arguments
 of_kind kinds.Read arguments = of_block Read arguments
 of_kind kinds.List arguments = of_volume ListFiles arguments
 of_kind kinds.Usage arguments = of_volume Usage arguments
-of_kind kinds.Summary arguments = of_nothing Summary arguments
+of_kind kinds.Summary [] = Some Summary
+of_kind kinds.Summary _ = None
 of_kind kinds.SetLabel arguments = of_label SetLabel arguments
 of_kind kinds.Label arguments = of_volume Label arguments
 
@@ -118,14 +114,9 @@ all_kinds =
     kinds.MakeVol ∷ kinds.DropVol ∷ kinds.Create ∷ kinds.Delete ∷ kinds.Seal ∷ kinds.Unseal ∷ kinds.Write
     ∷ kinds.Punch ∷ kinds.Read ∷ kinds.List ∷ kinds.Usage ∷ kinds.Summary ∷ kinds.SetLabel ∷ kinds.Label ∷ []
 
--- the first of several kinds that has this keyword
-abbrev pub named_among : List Kind → List ℕ → Option Kind
-named_among [] word = None
-named_among (k ∷ ks) word = if bytes_eq word (keyword k) then Some k else named_among ks word
-
 -- the kind that a word names
 unfoldable pub kind_named : List ℕ → Option Kind
-kind_named word = named_among all_kinds word
+kind_named word = find (λ k. bytes_eq word (keyword k)) all_kinds
 
 -- the message that the words of a line spell, if they spell one
 abbrev pub of_words : List (List ℕ) → Option Msg

@@ -1,9 +1,9 @@
 -- Format for clients: The lines of an input, the words of a line, and what a word encodes.
-use Rattle.std.specs.Prelude.{ℕ, ◌-◌, ◌*◌, Bool, ◌&&◌, ◌||◌, not, ◌==◌, nat_lt, nat_le, List, [], ◌∷◌, ◌++◌, length, replicate, slice_index, if◌then◌else◌, Option, Some, None, option_map, Result, Ok, Err}
+use Rattle.std.specs.Prelude.{ℕ, ◌-◌, ◌*◌, Bool, ◌&&◌, ◌||◌, not, ◌==◌, nat_lt, nat_le, List, [], ◌∷◌, ◌++◌, length, replicate, slice_index, if◌then◌else◌, Option, Some, None, option_map}
+use Rattle.std.specs.Result.{result_ok}
 use Rattle.std.specs.Str.{all_ascii_digits}
 use Rattle.std.specs.Str.Parse.{digits_value}
 use Rattle.hex.specs.Hex.{decode_of}
-use Rattle.hex.specs.declared.error.FromHexError.{FromHexError}
 use Rattle.language.specs.declared.Block.{Block}
 use Rattle.language.specs.declared.TheConstants.{BLOCK_SIZE, LABEL_SIZE}
 
@@ -34,14 +34,10 @@ number_in_word word = if is_numeral word && nat_lt (digits_value 10 word) 65536 
 abbrev pub padded : ℕ → List ℕ → List ℕ
 padded size bytes = bytes ++ replicate (size - length bytes) 0
 
--- the bytes that decoding gave, with zeros after them up to `size` bytes; `None` where it failed
-abbrev pub padded_with : ℕ → Result (List ℕ) FromHexError → Option (List ℕ)
-padded_with size (Ok bytes) = Some (padded size bytes)
-padded_with size (Err e) = None
-
 -- the `size` bytes that a word encodes: at least one byte and at most `size`, by two hexadecimal digits each, and zeros after these
 unfoldable pub bytes_in_word : ℕ → List ℕ → Option (List ℕ)
-bytes_in_word size word = if nat_le 2 (length word) && nat_le (length word) (2 * size) then padded_with size (decode_of word) else None
+bytes_in_word size word =
+    if nat_le 2 (length word) && nat_le (length word) (2 * size) then option_map (padded size) (result_ok (decode_of word)) else None
 
 -- the block that a word encodes
 unfoldable pub block_in_word : List ℕ → Option Block

@@ -1,5 +1,5 @@
 -- Statement for clients: What a message is: its kind and its numbers.
-use Rattle.std.specs.Prelude.{◌≡◌, ℕ, ◌<◌, Bool, List, [], ◌∷◌, length}
+use Rattle.std.specs.Prelude.{◌≡◌, ℕ, ◌<◌, Bool, List, [], ◌∷◌, ◌++◌, length, take, replicate}
 use Rattle.std.specs.List.{AllByRecursion}
 use Rattle.affinity.specs.declared.kinds.Kind.{Kind}
 use Rattle.affinity.specs.declared.kinds.Kind.TheVariants as kinds
@@ -46,11 +46,7 @@ numbers (Label a v) = a ∷ v ∷ []
 
 -- four numbers: those of the list, and zeros after them
 abbrev pub filled : List ℕ → List ℕ
-filled [] = 0 ∷ 0 ∷ 0 ∷ 0 ∷ []
-filled (a ∷ []) = a ∷ 0 ∷ 0 ∷ 0 ∷ []
-filled (a ∷ v ∷ []) = a ∷ v ∷ 0 ∷ 0 ∷ []
-filled (a ∷ v ∷ f ∷ []) = a ∷ v ∷ f ∷ 0 ∷ []
-filled (a ∷ v ∷ f ∷ b ∷ more) = a ∷ v ∷ f ∷ b ∷ []
+filled ns = take 4 (ns ++ replicate 4 0)
 
 -- the aggregate, volume, file and block of a message, with 0 for each that it doesn't have
 abbrev pub four_numbers : Msg → List ℕ

@@ -3,13 +3,14 @@ use Rattle.std.proofs.Common.{arith}
 use Rattle.std.proofs.lemmas.Grind.{common_steps}
 use Rattle.std.proofs.Common.{◌≡◌, ℕ, List, [], ◌∷◌, Option, Some, None, refl, ap, sym, ◌∙◌}
 use Rattle.std.specs.Option.{option_map}
+use Rattle.affinity.specs.declared.kinds.Kind.TheVariants.{Summary}
 use Rattle.language.specs.declared.Block.{Block}
 use Rattle.language.specs.declared.Msg.{Msg}
 use Rattle.language.specs.Lines.{words, number_in_word, block_in_word, label_in_word}
 use Rattle.message.proofs.Words.{only, only-words, words_some}
 use Rattle.message.proofs.Numbers.{number_no_space}
 use Rattle.message.proofs.Blocks.{block_no_space, label_no_space}
-use Rattle.language.specs.Grammar.{◌>>=◌, first_number, of_volume, of_file, of_block, of_data, of_label, of_nothing}
+use Rattle.language.specs.Grammar.{◌>>=◌, first_number, of_volume, of_file, of_block, of_data, of_label, of_kind}
 
 -- k applied to the number that the first of several words encodes, and to the words after it
 abbrev pub onward : (ℕ → List (List ℕ) → Option Msg) → List (List ℕ) → Option Msg
@@ -128,8 +129,8 @@ of_label-onward make (a ∷ vs) = dead (number_in_word a) vs (λ n. label_from_v
 
 -- ---- no words
 
-pub nothing_behind : (m : Msg) (line : List ℕ) → of_nothing m (words line) ≡ None
-nothing_behind m line = grind (arith, common_steps, words_some)
+pub nothing_behind : (line : List ℕ) → of_kind Summary (words line) ≡ None
+nothing_behind line = grind (arith, common_steps, words_some)
 
 -- ---- as the code reads them
 

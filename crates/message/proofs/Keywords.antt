@@ -1,6 +1,6 @@
 -- The message of a line by its first word.
 use Rattle.std.proofs.Common.{◌≡◌, ℕ, ◌<◌, ◌≤◌, Bool, true, false, cond, List, [], ◌∷◌, length, get_or, Option, Some, None, refl, ap, sym, ◌∙◌, inl, inr, ◌⊎◌, arith}
-use Rattle.std.specs.Prelude.{◌==◌}
+use Rattle.std.specs.Prelude.{◌==◌, find}
 use Rattle.std.specs.Str.{bytes_eq}
 use Rattle.std.proofs.lemmas.Bool.{both_ways, cases_lt, cond-false, eqb-false, false_from_ne_true, le-ltb, ne_eqb}
 use Rattle.std.proofs.lemmas.Option.{same_Some}
@@ -9,7 +9,7 @@ use Rattle.affinity.specs.declared.kinds.Kind.{Kind}
 use Rattle.affinity.specs.declared.kinds.Kind.TheVariants.{MakeVol, Summary}
 use Rattle.language.specs.declared.TheConstants.{LONGEST_LINE}
 use Rattle.language.specs.Lines.{words}
-use Rattle.language.specs.Grammar.{message_of, of_words, of_kind, keyword, kind_named, named_among, all_kinds, ◌>>=◌}
+use Rattle.language.specs.Grammar.{message_of, of_words, of_kind, keyword, kind_named, all_kinds, ◌>>=◌}
 use Rattle.message.proofs.Words.{none_before, words_whole, goes_on}
 
 pub by_words : (line : List ℕ) (ws : List (List ℕ)) → length line ≤ LONGEST_LINE → words line ≡ ws → message_of line ≡ of_words ws
@@ -34,6 +34,10 @@ needs_words _ h = refl
 either : (t : Bool) (a b : Option Kind) (k : Kind) → cond t a b ≡ Some k → ((t ≡ true) × (a ≡ Some k)) ⊎ (b ≡ Some k)
 either true a b k h = inl (refl, h)
 either false a b k h = inr h
+
+-- the first of some kinds that has this keyword
+abbrev named_among : List Kind → List ℕ → Option Kind
+named_among ks word = find (λ k. bytes_eq word (keyword k)) ks
 
 named_by_keyword : (ks : List Kind) (word : List ℕ) (k : Kind) → named_among ks word ≡ Some k → word ≡ keyword k
 named_by_keyword [] word k h = cc h

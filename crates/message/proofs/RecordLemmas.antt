@@ -14,7 +14,7 @@ use Rattle.language.specs.declared.Block.{Block}
 use Rattle.language.specs.declared.Msg.{Msg}
 use Rattle.language.specs.declared.Msg.TheVariants.{Create, Delete, Write, Punch, Read, Summary, SetLabel}
 use Rattle.language.specs.Messages.{kind, numbers, filled, four_numbers, is_in_range, AreSizedBytes, IsMessage}
-use Rattle.message.specs.Records.{FitsRecord, assembled, data_of, message_in_fields, head_with, record_head, kind_number, kind_numbered, record_of}
+use Rattle.message.specs.Records.{FitsRecord, assembled, data_of, message_in_fields, record_head, kind_number, kind_numbered, record_of}
 use borrow.Rule.Slice.PartMut.{put_mid, post_of}
 use Rattle.affinity.proofs.Elements.{all_bytes}
 
@@ -62,6 +62,10 @@ made_again _ h = refl
 
 low_byte : (b : ℕ) → b < 65536 → little_number 2 (little_bytes 2 b) ≡ b
 low_byte b h = omega arith
+
+-- the head of a record by its first byte and its four numbers
+abbrev head_with : ℕ → List ℕ → List ℕ
+head_with k ns = k ∷ take 3 ns ++ little_bytes 2 (slice_index ns 3) ++ 0 ∷ 0 ∷ []
 
 fields_decoded : (k : Kind) {n : List ℕ} (bytes : List ℕ) {a v f b : ℕ} → b < 65536 → n ≡ a ∷ v ∷ f ∷ b ∷ [] → message_in_fields (head_with (kind_number k) n ++ bytes)
     ≡ Some (assembled k a v f b bytes)
@@ -189,10 +193,16 @@ abbrev IsDecoded : Geometry → List ℕ → Option Msg → Type 0
 IsDecoded g bytes r = (m : Msg) → IsMessage m → (r ≡ Some m) ↔ ((bytes ≡ record_of m) × (is_in_range g m ≡ true))
 
 pub decodes_none : (g : Geometry) (bytes : List ℕ) (r : Option Msg) → r ≡ None → ((m : Msg) → message_in_fields bytes ≡ Some m → bytes ≡ record_of m → is_in_range g m ≡ true → ⊥) → IsDecoded g bytes r
-decodes_none g bytes r none h = grind (arith, common_steps, record_says)
+decodes_none g bytes r none h m whole = (
+  (λ is. let none : None ≡ Some m = sym none ∙ is in cc none),
+  (λ held. absurd (h m (ap message_in_fields held.0 ∙ record_says g m whole held.1) held.0 held.1)),
+)
 
 pub decodes_some : (g : Geometry) (bytes : List ℕ) (n : Msg) → message_in_fields bytes ≡ Some n → bytes ≡ record_of n → is_in_range g n ≡ true → IsDecoded g bytes (Some n)
-decodes_some g bytes n says is there = grind (arith, common_steps, same_Some, record_says)
+decodes_some g bytes n says is there m whole = (
+  (λ e. let same : n ≡ m = same_Some n m e in (is ∙ ap record_of same, ap (is_in_range g) (sym same) ∙ there)),
+  (λ held. sym says ∙ ap message_in_fields held.0 ∙ record_says g m whole held.1),
+)
 
 -- ---- the fields as the code reads them
 

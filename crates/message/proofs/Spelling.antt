@@ -16,7 +16,7 @@ use Rattle.language.specs.declared.Msg.{Msg}
 use Rattle.language.specs.declared.Msg.TheVariants.{Create, Delete, Write, Punch, Read, Summary, SetLabel}
 use Rattle.language.specs.Lines.{words, number_in_word, block_in_word, label_in_word}
 use Rattle.language.specs.Messages.{kind, numbers}
-use Rattle.language.specs.Grammar.{message_of, of_words, of_kind, of_volume, of_file, of_block, of_data, of_label, of_nothing, kind_named, keyword, IsData, SpellsBytes, Spells, ◌>>=◌}
+use Rattle.language.specs.Grammar.{message_of, of_words, of_kind, of_volume, of_file, of_block, of_data, of_label, kind_named, keyword, IsData, SpellsBytes, Spells, ◌>>=◌}
 use Rattle.message.proofs.Words.{HasNoSpace, join-words, words-join}
 use Rattle.message.proofs.Numbers.{decimal-number, number-decimal, number_no_space}
 use Rattle.message.proofs.Blocks.{block_no_space, label_no_space}
@@ -98,9 +98,9 @@ label_spelled make (x ∷ y ∷ z ∷ []) m h =
     (a.0, v.0, d.0, z, sym (same_Some _ m d.2), ap (λ (vs : List (List ℕ)). vs ++ z ∷ []) spelled.words, spelled.small, label_says z d.0 d.1)
 label_spelled make _ m h = cc h
 
-nothing_spelled : (m : Msg) (ws : List (List ℕ)) (n : Msg) → of_nothing m ws ≡ Some n → (n ≡ m) × Say ws []
-nothing_spelled m [] n h = (sym (same_Some m n h), says_none)
-nothing_spelled m (w ∷ ws) n h = cc h
+nothing_spelled : (ws : List (List ℕ)) (m : Msg) → of_kind kinds.Summary ws ≡ Some m → (m ≡ Summary) × Say ws []
+nothing_spelled [] m h = (sym (same_Some Summary m h), says_none)
+nothing_spelled (w ∷ ws) m h = cc h
 
 -- a line of these words spells its message
 spell : (line : List ℕ) (m : Msg) (behind : List (List ℕ)) → length line ≤ LONGEST_LINE → words line ≡ keyword (kind m) ∷ map decimal (numbers m) ++ behind
@@ -145,9 +145,9 @@ module _ (line : List ℕ) (args : List (List ℕ)) (m : Msg) (short : length li
       let all : words line ≡ keyword kinds.SetLabel ∷ map decimal (s.0 ∷ s.1 ∷ []) ++ s.3 ∷ [] = e ∙ ap (λ (vs : List (List ℕ)). keyword kinds.SetLabel ∷ vs) s.5 in
       subst (λ (n : Msg). Spells line n) (sym s.4) (spell line (SetLabel s.0 s.1 s.2) (s.3 ∷ []) short all s.6 (s.3, refl, s.7))
 
-  summary_spells : words line ≡ keyword kinds.Summary ∷ args → of_nothing Summary args ≡ Some m → Spells line m
+  summary_spells : words line ≡ keyword kinds.Summary ∷ args → of_kind kinds.Summary args ≡ Some m → Spells line m
   summary_spells e h =
-      let s = nothing_spelled Summary args m h in
+      let s = nothing_spelled args m h in
       subst (λ (n : Msg). Spells line n) (sym s.0) (plain_spells {k = kinds.Summary} (record { kinded = refl; numbered = refl; no_data = refl }) short e s.1)
 
   kind_spells : (k : Kind) → words line ≡ keyword k ∷ args → of_kind k args ≡ Some m → Spells line m
@@ -243,7 +243,7 @@ made_again (Delete a v f) behind small none = file_read Delete small none
 made_again (Write a v f b content) behind small d = data_read Write small d.1 (says_block d.0 content d.2)
 made_again (Punch a v f b) behind small none = block_read Punch small none
 made_again (Read a v f b) behind small none = block_read Read small none
-made_again Summary behind small none = ap (of_nothing Summary) none
+made_again Summary behind small none = ap (of_kind kinds.Summary) none
 made_again (SetLabel a v bytes) behind small d = label_read SetLabel small d.1 (says_label d.0 bytes d.2)
 made_again _ behind small none = volume_read _ small none
 

@@ -1,5 +1,5 @@
 -- Format for clients: The records of messages, each of `RECORD_SIZE` bytes.
-use Rattle.std.specs.Prelude.{ℕ, ◌<◌, ◌-◌, List, [], ◌∷◌, ◌++◌, take, drop, replicate, slice_index, ◌==◌, if◌then◌else◌, Option, Some, None, option_map}
+use Rattle.std.specs.Prelude.{ℕ, ◌<◌, ◌-◌, List, [], ◌∷◌, ◌++◌, take, drop, find, replicate, slice_index, ◌==◌, Option, option_map}
 use Rattle.std.specs.List.{AllByRecursion}
 use Rattle.affinity.specs.declared.kinds.Kind.{Kind}
 use Rattle.affinity.specs.declared.kinds.Kind.TheVariants as kinds
@@ -28,12 +28,10 @@ kind_number kinds.SetLabel = 13
 kind_number kinds.Label = 14
 
 -- what comes before the data: one byte each for kind, aggregate, volume and file, two for the block, the lower one first, and two zeros
-abbrev pub head_with : ℕ → List ℕ → List ℕ
-head_with k (a ∷ v ∷ f ∷ b ∷ []) = k ∷ a ∷ v ∷ f ∷ [] ++ little_bytes 2 b ++ 0 ∷ 0 ∷ []
-head_with k _ = []
-
 abbrev pub record_head : Msg → List ℕ
-record_head m = head_with (kind_number (kind m)) (four_numbers m)
+record_head m =
+    let ns = four_numbers m in
+    kind_number (kind m) ∷ take 3 ns ++ little_bytes 2 (slice_index ns 3) ++ 0 ∷ 0 ∷ []
 
 -- the data: the block of a `write`, the label of a `setlabel` and zeros after it, and zeros for all others
 unfoldable pub data_of : Msg → List ℕ
@@ -51,14 +49,9 @@ FitsRecord m = AllByRecursion (λ n. n < 256) (take 3 (four_numbers m))
 
 -- ---- by the bytes: what the fields encode
 
--- the first of several kinds that has this number
-abbrev pub numbered_among : List Kind → ℕ → Option Kind
-numbered_among [] n = None
-numbered_among (k ∷ ks) n = if n == kind_number k then Some k else numbered_among ks n
-
 -- the kind that has this number
 unfoldable pub kind_numbered : ℕ → Option Kind
-kind_numbered n = numbered_among all_kinds n
+kind_numbered n = find (λ k. n == kind_number k) all_kinds
 
 -- the message of a kind with these numbers and data
 abbrev pub assembled : Kind → ℕ → ℕ → ℕ → ℕ → List ℕ → Msg
