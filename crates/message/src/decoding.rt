@@ -103,13 +103,11 @@ fn decode_all(digits: &[u8], out: &mut [u8]) -> u8
 }
 
 /// Decodes digits into bytes, two into each, as `hex::decode_to_slice` does. It takes the same time whatever the digits are: they are
-/// tested once, at the end. If there are not exactly twice as many digits as bytes in `out`, `out` stays as it was; if one of them is no
-/// digit, the bytes of `out` are unspecified.
+/// tested once, at the end. Where one of them is no digit, the bytes of `out` are unspecified.
 pub(crate) fn decode_to_slice(digits: &[u8], out: &mut [u8]) -> Option<()>
     ensures value { MatchResult (decode_sized digits.now (length out.old))
         (λ bytes. (result ≡ Some tt) × (out.new ≡ bytes))
         (λ e. result ≡ None) }
-    ensures same { (length digits.now ≢ 2 * length out.old) → out.new ≡ out.old }
 {
     if digits.len() % 2 != 0 || digits.len() / 2 != out.len() {
         return None;

@@ -154,10 +154,7 @@ pub(crate) fn block_numbers(line: &[u8]) -> Option<[u16; 4]>
 fn digit_before_space(line: &[u8]) -> Option<(u16, &[u8])>
     ensures { IfSome result (λ p. first_number (words line.now) ≡ Some (p.0, words p.1.now)) }
 {
-    if line.len() < 2 || line[1] != b' ' {
-        return None;
-    }
-    if !line[0].is_ascii_digit() {
+    if line.len() < 2 || line[1] != b' ' || !line[0].is_ascii_digit() {
         return None;
     }
     Some((u16::from(line[0] - b'0'), &line[2..]))

@@ -157,40 +157,21 @@ fn append(text: &[u8], out: &mut [u8; LONGEST_REPLY], at: usize) -> usize
     end
 }
 
-/// Writes a space and a number (of ten digits at most: 11 bytes) after the first `at` bytes, and gives where they end.
+/// Writes a space and a number (of ten digits at most: 11 bytes) after the first `at` bytes, and gives where they end. The numbers of
+/// files are below 64: those of one digit and of two need no division by a variable.
 fn append_number(n: u32, out: &mut [u8; LONGEST_REPLY], at: usize) -> usize
     requires { at + 11 ≤ LONGEST_REPLY }
     ensures text { AppendsText out.old out.new at result (spaced n) }
     ensures bound { result ≤ at + 11 }
 {
     if n < 10 {
-        return append_digit(n as u8, out, at);
+        return append(&[b' ', b'0' + n as u8], out, at);
     }
     if n < 100 {
-        return append_two_digits(n as u8, out, at);
+        let n = n as u8;
+        return append(&[b' ', b'0' + n / 10, b'0' + n % 10], out, at);
     }
     append_digits(n, out, at)
-}
-
-/// The same as `append_number` for a number of one digit, as those of the first ten files are.
-fn append_digit(n: u8, out: &mut [u8; LONGEST_REPLY], at: usize) -> usize
-    requires digit { n < 10 }
-    requires room { at + 11 ≤ LONGEST_REPLY }
-    ensures text { AppendsText out.old out.new at result (spaced n) }
-    ensures bound { result ≤ at + 11 }
-{
-    append(&[b' ', b'0' + n], out, at)
-}
-
-/// The same as `append_number` for a number of two digits, as those of all other files are.
-fn append_two_digits(n: u8, out: &mut [u8; LONGEST_REPLY], at: usize) -> usize
-    requires least { 10 ≤ n }
-    requires most { n < 100 }
-    requires room { at + 11 ≤ LONGEST_REPLY }
-    ensures text { AppendsText out.old out.new at result (spaced n) }
-    ensures bound { result ≤ at + 11 }
-{
-    append(&[b' ', b'0' + n / 10, b'0' + n % 10], out, at)
 }
 
 /// The same as `append_number`, for any number.

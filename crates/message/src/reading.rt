@@ -58,22 +58,6 @@ fn find_newline(bytes: &[u8]) -> usize
 }
 
 /// Reads once, into the bytes of the buffer from `at` on.
-fn read_at<R: Read>(reader: &mut R, buffer: &mut [u8], at: usize) -> Result<usize, ReadFault>
-    requires { at < length buffer.old }
-    ensures front { take at buffer.new ≡ take at buffer.old }
-    ensures within { IfOk result (λ n. at + n ≤ length buffer.new) }
-    ensures read { IfOk result (λ n.
-        Consumes (R.remaining reader.old) (R.remaining reader.new) (take n (drop at buffer.new))) }
-    ensures end { IfOk result (λ n. n ≡ 0 → IsAtEnd (R.remaining reader.new)) }
-    ensures fault { OnErr result (Keeps (R.remaining reader.old) (R.remaining reader.new)) }
-{
-    match reader.read(&mut buffer[at..]) {
-        Ok(n) => Ok(n),
-        Err(_) => Err(ReadFault),
-    }
-}
-
-/// The same as `read_at`, into a vector.
 fn read_over<R: Read>(reader: &mut R, buffer: &mut Vec<u8>, at: usize) -> Result<usize, ReadFault>
     requires { at < vec_len buffer.old }
     ensures len { vec_len buffer.new ≡ vec_len buffer.old }
@@ -84,7 +68,10 @@ fn read_over<R: Read>(reader: &mut R, buffer: &mut Vec<u8>, at: usize) -> Result
     ensures end { IfOk result (λ n. n ≡ 0 → IsAtEnd (R.remaining reader.new)) }
     ensures fault { OnErr result (Keeps (R.remaining reader.old) (R.remaining reader.new)) }
 {
-    read_at(reader, buffer.as_mut_slice(), at)
+    match reader.read(&mut buffer.as_mut_slice()[at..]) {
+        Ok(n) => Ok(n),
+        Err(_) => Err(ReadFault),
+    }
 }
 
 impl Buffered {

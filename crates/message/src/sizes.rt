@@ -28,17 +28,6 @@ pub fn know_message(m: &Msg)
     match m {
         Msg::Write(_, _, _, _, content) => know_block(content),
         Msg::SetLabel(_, _, label) => know_label(label),
-        Msg::MakeVol(..)
-        | Msg::DropVol(..)
-        | Msg::Create(..)
-        | Msg::Delete(..)
-        | Msg::Seal(..)
-        | Msg::Unseal(..)
-        | Msg::Punch(..)
-        | Msg::Read(..)
-        | Msg::List(..)
-        | Msg::Usage(..)
-        | Msg::Summary
-        | Msg::Label(..) => {}
+        _ => {}
     }
 }
