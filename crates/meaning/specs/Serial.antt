@@ -33,16 +33,12 @@ checks kinds.MakeVol = Range ∷ Exists ∷ []
 checks kinds.DropVol = Range ∷ Volume ∷ Sealed ∷ []
 checks kinds.Create = Range ∷ Volume ∷ Sealed ∷ Exists ∷ []
 checks kinds.Delete = Range ∷ Volume ∷ Sealed ∷ File ∷ []
-checks kinds.List = Range ∷ Volume ∷ []
-checks kinds.Seal = Range ∷ Volume ∷ []
-checks kinds.Unseal = Range ∷ Volume ∷ []
-checks kinds.Usage = Range ∷ Volume ∷ []
 checks kinds.Write = Range ∷ Volume ∷ Sealed ∷ File ∷ Space ∷ []
 checks kinds.Punch = Range ∷ Volume ∷ Sealed ∷ File ∷ []
 checks kinds.Read = Range ∷ Volume ∷ File ∷ []
 checks kinds.Summary = []
 checks kinds.SetLabel = Range ∷ Volume ∷ Sealed ∷ []
-checks kinds.Label = Range ∷ Volume ∷ []
+checks _ = Range ∷ Volume ∷ []
 
 -- whether what a message of the kind makes is there already, by the key that it names
 abbrev pub exists : State → Kind → BlockKey → Bool
@@ -91,11 +87,7 @@ effect x (Unseal a v) = record x { sealed = dropping (is_volume a v) x.sealed }
 effect x (Write a v f b content) = record x { blocks = setting (is_block a v f b) content x.blocks }
 effect x (Punch a v f b) = record x { blocks = clearing (is_block a v f b) x.blocks }
 effect x (SetLabel a v bytes) = record x { labels = setting (is_volume a v) bytes x.labels }
-effect x (Read a v f b) = x
-effect x (ListFiles a v) = x
-effect x (AskUsage a v) = x
-effect x AskSummary = x
-effect x (AskLabel a v) = x
+effect x _ = x
 
 -- the reply to a `read`, by the block that is there, if one is
 abbrev pub block_reply : Option Block → Reply
