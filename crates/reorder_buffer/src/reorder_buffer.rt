@@ -2,7 +2,7 @@
 
 ghost use Rattle.std.specs.Prelude.{◌≡◌, ◌<◌, ◌≤◌, ◌+◌, ◌++◌, ◌∷◌, [], IfOk, MatchBool, MatchOption, ℕ, drop, length, map};
 ghost use Rattle.message.specs.Waiting.{FitsReply};
-ghost use Rattle.reorder_buffer.specs.ReorderBuffer.{Line, complete_one, HaveTicketsFrom, AreConsecutive, HasTicket, IsAnsweredAt, can_retire, retired_text, answer_text, with_tickets};
+ghost use Rattle.reorder_buffer.specs.ReorderBuffer.{Line, complete_one, HaveTicketsFrom, AreConsecutive, HasTicket, IsAnsweredAt, can_retire, retired_text, with_tickets};
 
 use language::{Refusal, Reply};
 use message::ReplyBuffer;
@@ -103,19 +103,6 @@ fn index_of(ticketed: &VecDeque<Line>, ticket: u64) -> Option<usize>
     }
 }
 
-/// Appends the answer to this line to the reply buffer, unless the line is pending.
-fn add_text(line: &Line, reply_buffer: &mut ReplyBuffer)
-    requires { FitsReply reply_buffer.old }
-    ensures { reply_buffer.new ≡ reply_buffer.old ++ answer_text line.now }
-{
-    match line {
-        Line::NoMessage => reply_buffer.add_no_message(),
-        Line::OutOfRange => reply_buffer.add_refusal(Refusal::Range),
-        Line::Completed(_, reply) => reply_buffer.add_reply(reply),
-        Line::Pending(_) => {}
-    }
-}
-
 impl ReorderBuffer {
     /// An empty reorder buffer, with room for `slots` lines.
     pub fn new(alloc: Global, slots: usize) -> Result<ReorderBuffer, AllocError>
@@ -152,16 +139,6 @@ impl ReorderBuffer {
             LineKind::NoMessage => Some(&Line::NoMessage),
             LineKind::OutOfRange => Some(&Line::OutOfRange),
             LineKind::Ticketed => self.ticketed.front(),
-        }
-    }
-
-    /// Whether the answer to the oldest line is known, so that it is the next line of the output.
-    fn can_retire(&self) -> bool
-        ensures { result ≡ can_retire self.now.lines }
-    {
-        match self.front() {
-            Some(Line::Pending(_)) | None => false,
-            Some(Line::NoMessage | Line::OutOfRange | Line::Completed(..)) => true,
         }
     }
 
@@ -213,11 +190,11 @@ impl ReorderBuffer {
         ensures lines { MatchBool result (self.new.lines ≡ drop 1 self.old.lines) (self.new ≡ self.old) }
         ensures slots { self.new.slots ≡ self.old.slots }
     {
-        if !self.can_retire() {
-            return false;
-        }
-        if let Some(line) = self.front() {
-            add_text(line, reply_buffer);
+        match self.front() {
+            None | Some(Line::Pending(_)) => return false,
+            Some(Line::NoMessage) => reply_buffer.add_no_message(),
+            Some(Line::OutOfRange) => reply_buffer.add_refusal(Refusal::Range),
+            Some(Line::Completed(_, reply)) => reply_buffer.add_reply(reply),
         }
         self.pop();
         true
