@@ -121,5 +121,3 @@ next_file files from fits some =
         | inr more ↦ let high = bit_at_above files 64 (from + zeros) fits more in absurd (omega arith)
       ];
     }
-
--- ---- a whole line

@@ -1,5 +1,6 @@
 -- The message of a line by its first word.
-use Rattle.std.proofs.Common.{◌≡◌, ℕ, ◌<◌, ◌≤◌, Bool, true, false, cond, List, [], ◌∷◌, length, get_or, Option, Some, None, refl, ap, sym, ◌∙◌, inl, inr, ◌⊎◌, arith}
+use Rattle.std.proofs.lemmas.Grind.{common_steps}
+use Rattle.std.proofs.Common.{◌≡◌, ℕ, ◌<◌, ◌≤◌, Bool, true, false, List, [], ◌∷◌, length, get_or, Option, Some, None, refl, ap, sym, ◌∙◌, inl, inr, ◌⊎◌, arith}
 use Rattle.std.specs.Prelude.{◌==◌, find}
 use Rattle.std.specs.Str.{bytes_eq}
 use Rattle.std.proofs.lemmas.Bool.{both_ways, cases_lt, cond-false, eqb-false, false_from_ne_true, le-ltb, ne_eqb}
@@ -30,21 +31,13 @@ needs_words _ h = refl
 
 -- ---- a kind and its keyword
 
--- a choice that gave a kind gave it because its test passed, or from its other branch
-either : (t : Bool) (a b : Option Kind) (k : Kind) → cond t a b ≡ Some k → ((t ≡ true) × (a ≡ Some k)) ⊎ (b ≡ Some k)
-either true a b k h = inl (refl, h)
-either false a b k h = inr h
-
 -- the first of some kinds that has this keyword
 abbrev named_among : List Kind → List ℕ → Option Kind
 named_among ks word = find (λ k. bytes_eq word (keyword k)) ks
 
 named_by_keyword : (ks : List Kind) (word : List ℕ) (k : Kind) → named_among ks word ≡ Some k → word ≡ keyword k
 named_by_keyword [] word k h = cc h
-named_by_keyword (x ∷ ks) word k h = elim (either (bytes_eq word (keyword x)) (Some x) (named_among ks word) k h) [
-  | inl this ↦ (bytes_eq-Decides word (keyword x)).0 this.0 ∙ ap keyword (same_Some x k this.1)
-  | inr later ↦ named_by_keyword ks word k later
-]
+named_by_keyword (x ∷ ks) word k h = grind (arith, common_steps, named_by_keyword ks, bytes_eq-Decides, same_Some)
 
 pub its_keyword : (word : List ℕ) (k : Kind) → kind_named word ≡ Some k → word ≡ keyword k
 unfolding kind_named

@@ -222,13 +222,13 @@ length_filled k _ = refl
 pub length_head : (m : Msg) → length (record_head m) ≡ 8
 length_head m = length_filled (kind_number (kind m)) (numbers m)
 
-pub data_of_write : (a v f b : ℕ) (content : Block) → data_of (Write a v f b content) ≡ content.0
+pub data_of_write : (m : Msg) {a v f b : ℕ} {content : Block} → m ≡ Write a v f b content → data_of m ≡ content.0
 unfolding data_of
-data_of_write a v f b content = refl
+data_of_write m is = ap data_of is
 
-pub data_of_setlabel : (a v : ℕ) (bytes : List ℕ) → data_of (SetLabel a v bytes) ≡ bytes ++ replicate (BLOCK_SIZE - LABEL_SIZE) 0
+pub data_of_setlabel : (m : Msg) {a v : ℕ} {bytes : List ℕ} → m ≡ SetLabel a v bytes → data_of m ≡ bytes ++ replicate (BLOCK_SIZE - LABEL_SIZE) 0
 unfolding data_of
-data_of_setlabel a v bytes = refl
+data_of_setlabel m is = ap data_of is
 
 pub length_behind : (out head : List ℕ) → length out ≡ RECORD_SIZE → length head ≡ 8 → length (take BLOCK_SIZE (drop 8 (head ++ drop 8 out))) ≡ BLOCK_SIZE
 length_behind out head room h =
