@@ -21,18 +21,6 @@ use std::marker::Model;
 /// How many bytes of replies may wait.
 pub const REPLY_BUFFER_SIZE: usize = 65536;
 
-/// Writes a line over the bytes from `at` on, and gives where it ends.
-fn put_line(line: &[u8], bytes: &mut Vec<u8>, at: usize) -> usize
-    requires { at + length line.now ≤ vec_len bytes.old }
-    ensures line { take result bytes.new.items ≡ take at bytes.old.items ++ line.now }
-    ensures end { result ≡ at + length line.now }
-    ensures len { vec_len bytes.new ≡ vec_len bytes.old }
-{
-    let end = at + line.len();
-    bytes.as_mut_slice()[at..end].copy_from_slice(line);
-    end
-}
-
 /// Writes the line of a reply to the front of `room`, and gives its length.
 #[inline(always)]
 fn write_to_front(reply: &Reply, room: &mut [u8]) -> usize
@@ -225,7 +213,9 @@ impl ReplyBuffer {
         requires bound { length line.now ≤ LONGEST_REPLY }
         ensures { self.new ≡ self.old ++ line.now }
     {
-        self.len = put_line(line, &mut self.bytes, self.len);
+        let end = self.len + line.len();
+        self.bytes.as_mut_slice()[self.len..end].copy_from_slice(line);
+        self.len = end;
     }
 
     /// Adds the line of `done`, without making a `Reply`.
