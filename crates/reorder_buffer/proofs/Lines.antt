@@ -1,6 +1,6 @@
 -- A reorder buffer whose lines with tickets lie beside the kinds of all: its lines, as it grows, shrinks and is answered.
 use Rattle.std.proofs.lemmas.Grind.{common_steps}
-use Rattle.std.proofs.Common.{◌≡◌, ℕ, ◌+◌, ◌<◌, ◌≤◌, suc, List, [], ◌∷◌, ◌++◌, length, map, refl, ap, sym, ◌∙◌, append-nil, arith}
+use Rattle.std.proofs.Common.{◌≡◌, ℕ, ◌+◌, ◌≤◌, suc, List, [], ◌∷◌, ◌++◌, length, map, refl, ap, sym, ◌∙◌, append-nil, arith}
 use Rattle.language.specs.declared.Reply.{Reply}
 use Rattle.reorder_buffer.specs.ReorderBuffer.{Line, NoMessage, OutOfRange, complete_one, HaveTicketsFrom, Ticketed, LineKind, OutOfRangeKind, ReorderBufferView, NoMessageKind, ticketed_among, lines_of, with_tickets}
 
@@ -17,14 +17,6 @@ length-lines_of (Ticketed ∷ kinds) (line ∷ ticketed) many = ap suc (length-l
 pub length-lines : (kinds : List LineKind) (ticketed : List Line) (slots : ℕ) (buffer : ReorderBufferView)
     → record { lines = lines_of kinds ticketed; slots = slots } ≡ buffer → ticketed_among kinds ≡ length ticketed → length buffer.lines ≡ length kinds
 length-lines kinds ticketed slots buffer is many = sym (ap (λ (v : ReorderBufferView). length v.lines) is) ∙ length-lines_of kinds ticketed many
-
--- where there is room for a line, there is for its kind
-pub kinds_have_room : (kinds : List LineKind) (ticketed : List Line) (slots : ℕ) (buffer : ReorderBufferView)
-    → record { lines = lines_of kinds ticketed; slots = slots } ≡ buffer → ticketed_among kinds ≡ length ticketed → length buffer.lines < buffer.slots → length kinds < slots
-kinds_have_room kinds ticketed slots buffer is many room =
-    let lines = length-lines kinds ticketed slots buffer is many in
-    let same : slots ≡ buffer.slots = ap (λ (v : ReorderBufferView). v.slots) is in
-    omega (arith, lines, same, room)
 
 pub fewer_are_ticketed : (kinds : List LineKind) → ticketed_among kinds ≤ length kinds
 fewer_are_ticketed [] = omega arith

@@ -7,13 +7,16 @@ use Rattle.reorder_buffer.specs.ReorderBuffer.{Line, AreConsecutive, Ticketed, L
 use Rattle.reorder_buffer.specs.Fields.{IsReorderBuffer, buffer_view}
 use Rattle.reorder_buffer.specs.declared.reorder_buffer.ReorderBuffer.TheInside.{Inside}
 use Rattle.reorder_buffer.proofs.Order.{ticket_in}
-use Rattle.reorder_buffer.proofs.Lines.{ticketed_among-append, fewer_are_ticketed, kinds_have_room, lines_of-append, lines_of-plain, tickets_of_lines}
+use Rattle.reorder_buffer.proofs.Lines.{ticketed_among-append, fewer_are_ticketed, length-lines, lines_of-append, lines_of-plain, tickets_of_lines}
 use Rattle.reorder_buffer.proofs.reorder_buffer.ReorderBuffer.push.Goals as goal
 
 -- there is room for a kind where there is for a line, and a line without a ticket is a kind more
 module _ (k : Inside) (was : IsReorderBuffer k) {v : ReorderBufferView} (is : buffer_view k ≡ v) where
   room : length v.lines < v.slots → length k.kinds.items < k.slots
-  room few = kinds_have_room k.kinds.items k.ticketed.items k.slots v is was.among few
+  room few =
+      let lines = length-lines k.kinds.items k.ticketed.items k.slots v is was.among in
+      let same = ap (λ (v : ReorderBufferView). v.slots) is in
+      omega (arith, lines, same, few)
 
   fits : length v.lines < v.slots → length k.kinds.items < deque_capacity k.kinds
   fits few = omega (arith, was.room, room few)
