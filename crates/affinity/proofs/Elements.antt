@@ -1,7 +1,6 @@
 -- What holds of all elements of a list, or of one of them, for the crates above.
-use Rattle.std.proofs.Common.{arith}
+use Rattle.std.proofs.Common.{arith, ◌≡◌, ℕ, zero, suc, ◌<◌, Bool, List, [], ◌∷◌, ◌++◌, take, drop, get_or, refl}
 use Rattle.std.proofs.lemmas.Grind.{common_steps}
-use Rattle.std.proofs.Common.{◌≡◌, ℕ, zero, suc, ◌<◌, Bool, List, [], ◌∷◌, ◌++◌, take, drop, get_or, refl}
 use Rattle.std.specs.List.{AllByRecursion, list_any}
 
 module _ {A : Type 0} (P : A → Type 0) where

@@ -1,7 +1,6 @@
 -- Prefixes of paths, and related paths.
-use Rattle.std.proofs.Common.{arith}
+use Rattle.std.proofs.Common.{arith, ◌≡◌, ℕ, true, false, [], ◌∷◌, refl, sym, ◌∙◌}
 use Rattle.std.proofs.lemmas.Grind.{common_steps}
-use Rattle.std.proofs.Common.{◌≡◌, ℕ, true, false, [], ◌∷◌, refl, sym, ◌∙◌}
 use Rattle.std.proofs.lemmas.Bool.{and_from, or_cases, or_left, eq-eqb, true≢false, false_from_ne_true}
 use Rattle.affinity.specs.Path.{Path, is_prefix, are_related}
 

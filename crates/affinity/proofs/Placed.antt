@@ -1,7 +1,6 @@
 -- A message whose numbers are in range belongs at a path of the geometry.
-use Rattle.std.proofs.Common.{arith}
+use Rattle.std.proofs.Common.{arith, ◌≡◌, ℕ, ◌<◌, Bool, true, ◌&&◌, nat_lt, [], ◌∷◌}
 use Rattle.std.proofs.lemmas.Grind.{common_steps}
-use Rattle.std.proofs.Common.{◌≡◌, ℕ, ◌<◌, Bool, true, ◌&&◌, nat_lt, [], ◌∷◌}
 use Rattle.std.proofs.lemmas.Nat.{mod_below}
 use Rattle.std.specs.Prelude.{List}
 use Rattle.affinity.specs.Geometry.{stripe_of}

@@ -1,7 +1,6 @@
 -- The lines of some bytes are the first line and then the lines of the rest; and what holds of a line that is too long.
-use Rattle.std.proofs.Common.{arith}
+use Rattle.std.proofs.Common.{arith, ◌≡◌, ◌≢◌, ℕ, ◌<◌, eqb, List, [], ◌∷◌, length, None, refl, sym, ap}
 use Rattle.std.proofs.lemmas.Grind.{common_steps}
-use Rattle.std.proofs.Common.{◌≡◌, ◌≢◌, ℕ, ◌<◌, eqb, List, [], ◌∷◌, length, None, refl, sym, ap}
 use Rattle.std.proofs.lemmas.Bool.{cond-true, cond-false, eq-eqb, ne_eqb, lt-ltb}
 use Rattle.language.specs.declared.TheConstants.{LONGEST_LINE}
 use Rattle.language.specs.Lines.{lines, in_first}

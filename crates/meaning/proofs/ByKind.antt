@@ -1,6 +1,5 @@
 -- What is asked of a block that is there, and what is written over it, passes all checks.
-use Rattle.std.proofs.Common.{arith}
-use Rattle.std.proofs.Common.{◌≡◌, ℕ, Some}
+use Rattle.std.proofs.Common.{arith, ◌≡◌, ℕ, Some}
 use Rattle.affinity.specs.declared.geometry.Geometry.{Geometry}
 use Rattle.language.specs.declared.Msg.TheVariants.{Read}
 use Rattle.language.specs.declared.Block.{Block}

@@ -1,6 +1,5 @@
 -- An effect changes single facts of the state, and only those at its message's path and below.
-use Rattle.std.proofs.Common.{arith}
-use Rattle.std.proofs.Common.{◌≡◌, ℕ, Bool, true, false, [], ◌∷◌, refl, ap, sym, ◌∙◌}
+use Rattle.std.proofs.Common.{arith, ◌≡◌, ℕ, Bool, true, false, [], ◌∷◌, refl, ap, sym, ◌∙◌}
 use Rattle.std.specs.Prelude.{◌&&◌, ◌||◌, not, ◌==◌, if◌then◌else◌, Some, None}
 use Rattle.std.proofs.lemmas.Bool.{and_parts, and_from, not-true, true≢false}
 use Rattle.affinity.specs.declared.geometry.Geometry.{Geometry}

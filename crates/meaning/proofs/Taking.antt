@@ -8,8 +8,7 @@ use Rattle.language.specs.declared.TheConstants.{LONGEST_LINE}
 use Rattle.language.specs.Lines.{lines}
 use Rattle.language.specs.Grammar.{message_of}
 use Rattle.language.specs.FirstLine.{first_line, behind_first_line, GivesLine, PassesLine, HasWholeFirstLine}
-use Rattle.language.proofs.FirstLines.{too_long}
-use Rattle.language.proofs.FirstLines.{lines-first}
+use Rattle.language.proofs.FirstLines.{too_long, lines-first}
 use Rattle.meaning.specs.Output.{with_newlines}
 use Rattle.meaning.specs.Progress.{AreTaken, TakesLines}
 use Rattle.meaning.proofs.LineLemmas.{first_has_none, first_ends}

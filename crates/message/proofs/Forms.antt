@@ -1,7 +1,6 @@
 -- The grammar of each kind of message, word by word: the first word as a number, then the rest by the rule for one number less.
-use Rattle.std.proofs.Common.{arith}
+use Rattle.std.proofs.Common.{arith, ◌≡◌, ℕ, List, [], ◌∷◌, Option, Some, None, refl, ap, sym, ◌∙◌}
 use Rattle.std.proofs.lemmas.Grind.{common_steps}
-use Rattle.std.proofs.Common.{◌≡◌, ℕ, List, [], ◌∷◌, Option, Some, None, refl, ap, sym, ◌∙◌}
 use Rattle.std.specs.Option.{option_map}
 use Rattle.affinity.specs.declared.kinds.Kind.TheVariants.{Summary}
 use Rattle.language.specs.declared.Block.{Block}

@@ -157,8 +157,8 @@ fn append(text: &[u8], out: &mut [u8; LONGEST_REPLY], at: usize) -> usize
     end
 }
 
-/// Writes a space and a number (of ten digits at most: 11 bytes) after the first `at` bytes, and gives where they end. The numbers of
-/// files are below 64: those of one digit and of two need no division by a variable.
+/// Writes a space and a number (of ten digits at most: 11 bytes) after the first `at` bytes, and gives where they end. One or two digits,
+/// as the numbers of all files have, are made here.
 fn append_number(n: u32, out: &mut [u8; LONGEST_REPLY], at: usize) -> usize
     requires { at + 11 ≤ LONGEST_REPLY }
     ensures text { AppendsText out.old out.new at result (spaced n) }

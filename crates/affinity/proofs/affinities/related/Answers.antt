@@ -1,7 +1,6 @@
 -- The two calls of `contains` give the two sides of `||` in clause `intervals`; clause `paths` follows by `are_related-contains`.
-use Rattle.std.proofs.Common.{arith}
+use Rattle.std.proofs.Common.{arith, ◌∙◌, sym, ap}
 use Rattle.std.proofs.lemmas.Grind.{common_steps}
-use Rattle.std.proofs.Common.{◌∙◌, sym, ap}
 use Rattle.std.specs.Prelude.{◌||◌}
 use Rattle.affinity.specs.Interval.{contains}
 use Rattle.affinity.proofs.Preorder.{are_related-contains}

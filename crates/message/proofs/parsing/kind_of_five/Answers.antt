@@ -1,7 +1,6 @@
 -- A word of five bytes is write, punch, usage or label, or no keyword: all other keywords have another length.
-use Rattle.std.proofs.Common.{arith}
+use Rattle.std.proofs.Common.{arith, sym, ◌∙◌}
 use Rattle.std.proofs.lemmas.Grind.{common_steps}
-use Rattle.std.proofs.Common.{sym, ◌∙◌}
 use Rattle.affinity.specs.declared.kinds.Kind.TheVariants.{Write, Punch, Usage, Label}
 use Rattle.message.proofs.Keywords.{fails_all, passes}
 use Rattle.message.proofs.parsing.kind_of_five.Goals as goal

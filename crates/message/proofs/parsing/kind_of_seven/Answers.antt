@@ -1,7 +1,6 @@
 -- A word of seven bytes is makevol, dropvol or summary, or no keyword: all other keywords have another length.
-use Rattle.std.proofs.Common.{arith}
+use Rattle.std.proofs.Common.{arith, sym, ◌∙◌}
 use Rattle.std.proofs.lemmas.Grind.{common_steps}
-use Rattle.std.proofs.Common.{sym, ◌∙◌}
 use Rattle.affinity.specs.declared.kinds.Kind.TheVariants.{MakeVol, DropVol, Summary}
 use Rattle.message.proofs.Keywords.{fails_all, passes}
 use Rattle.message.proofs.parsing.kind_of_seven.Goals as goal

@@ -1,7 +1,6 @@
 -- A word of six bytes is create, delete or unseal, or no keyword: all other keywords have another length.
-use Rattle.std.proofs.Common.{arith}
+use Rattle.std.proofs.Common.{arith, sym, ◌∙◌}
 use Rattle.std.proofs.lemmas.Grind.{common_steps}
-use Rattle.std.proofs.Common.{sym, ◌∙◌}
 use Rattle.affinity.specs.declared.kinds.Kind.TheVariants.{Create, Delete, Unseal}
 use Rattle.message.proofs.Keywords.{fails_all, passes}
 use Rattle.message.proofs.parsing.kind_of_six.Goals as goal

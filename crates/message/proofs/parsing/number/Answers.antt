@@ -1,7 +1,6 @@
 -- A word of digits alone encodes what they do; one with another byte, or with too large a value, is no number.
-use Rattle.std.proofs.Common.{arith}
+use Rattle.std.proofs.Common.{arith, refl, sym, ◌∙◌}
 use Rattle.std.proofs.lemmas.Grind.{common_steps}
-use Rattle.std.proofs.Common.{refl, sym, ◌∙◌}
 use Rattle.message.proofs.Numbers.{no_number, digit_at, too_large}
 use Rattle.message.proofs.parsing.number.Goals as goal
 

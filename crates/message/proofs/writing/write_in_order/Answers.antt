@@ -1,7 +1,6 @@
 -- A call of `write` takes from the front of `rest` what it appends; one that was interrupted leaves the bytes.
-use Rattle.std.proofs.Common.{arith}
+use Rattle.std.proofs.Common.{arith, ◌≡◌, ℕ, ◌-◌, List, ◌++◌, length, take, drop, sym, ap, ◌∙◌, Bor}
 use Rattle.std.proofs.lemmas.Grind.{common_steps}
-use Rattle.std.proofs.Common.{◌≡◌, ℕ, ◌-◌, List, ◌++◌, length, take, drop, sym, ap, ◌∙◌, Bor}
 use Rattle.std.proofs.KnownBytes.{Appends-kept, Appends-trans}
 use Rattle.message.proofs.writing.write_in_order.Goals as goal
 use Rattle.message.proofs.writing.write_in_order.Goals.{in-Ok, in-Err+else-ne}

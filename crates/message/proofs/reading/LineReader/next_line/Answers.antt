@@ -1,7 +1,6 @@
 -- Reading on keeps the known bytes as they were, so what is found is the line that they begin with.
-use Rattle.std.proofs.Common.{arith}
+use Rattle.std.proofs.Common.{arith, ℕ, List, Option, Some, None, Result, Ok, subst}
 use Rattle.std.proofs.lemmas.Grind.{common_steps}
-use Rattle.std.proofs.Common.{ℕ, List, Option, Some, None, Result, Ok, subst}
 use Rattle.std.specs.Io.KnownBytes.{Keeps}
 use Rattle.message.specs.declared.reading.Found.{Found}
 use Rattle.message.specs.declared.reading.Found.TheVariants.{Line}
