@@ -3,9 +3,9 @@ use Rattle.std.proofs.lemmas.Grind.{common_steps}
 use Rattle.std.proofs.Common.{◌≡◌, ◌≢◌, ℕ, zero, suc, ◌+◌, ◌-◌, ◌<◌, ◌≤◌, List, [], ◌∷◌, refl, sym, ap, ◌∙◌, arith}
 use Rattle.std.specs.List.{concat, AllByRecursion}
 use Rattle.arena.specs.Lists.{count_of}
-use Rattle.arena.specs.Linked.{IsWay, ring, table, rings, IsLinked}
+use Rattle.arena.specs.Linked.{IsWay, ring, rings, IsLinked}
 use Rattle.arena.proofs.Counts.{count_of-append, count_of-nowhere}
-use Rattle.arena.proofs.Ways.{AreSlots, walk-inside, slots-below}
+use Rattle.arena.proofs.Ways.{AreSlots, walk-inside, slots-below, table}
 
 -- a number that is in none of the lists of a table
 pub count_of-table : (i : ℕ) (at : ℕ → List ℕ) (from count : ℕ) → ((e : ℕ) → from ≤ e → e < from + count → count_of i (at e) ≡ 0) → count_of i (concat (table at from count)) ≡ 0

@@ -4,9 +4,9 @@ use Rattle.std.proofs.Common.{◌≡◌, ◌≢◌, ℕ, zero, suc, ◌+◌, ◌
 use Rattle.std.proofs.lemmas.Bool.{lt-ltb, le-ltb}
 use Rattle.std.specs.List.{concat}
 use Rattle.arena.specs.Lists.{count_of, first_of, behind, behind_in}
-use Rattle.arena.specs.Linked.{IsWay, ring, table, rings, IsLinked}
+use Rattle.arena.specs.Linked.{IsWay, ring, rings, IsLinked}
 use Rattle.arena.proofs.Counts.{count_of-append}
-use Rattle.arena.proofs.Ways.{AreSlots, walk-inside}
+use Rattle.arena.proofs.Ways.{AreSlots, walk-inside, table}
 use Rattle.arena.proofs.Alone.{count_of-alone}
 
 -- a node, where it is a slot

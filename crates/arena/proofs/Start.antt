@@ -5,9 +5,9 @@ use Rattle.std.proofs.lemmas.Bool.{le-ltb, eq-eqb, ne_eqb, cases_eq}
 use Rattle.std.proofs.lemmas.Bool.Decides.{nat_tests}
 use Rattle.std.specs.List.{concat}
 use Rattle.arena.specs.Lists.{count_of, numbers_from}
-use Rattle.arena.specs.Linked.{IsWay, ring, table, rings, IsLinked, next_at_start, previous_at_start}
+use Rattle.arena.specs.Linked.{IsWay, ring, rings, IsLinked, next_at_start, previous_at_start}
 use Rattle.arena.proofs.Counts.{count_of-append, count_of-cons_is, count_of-cons_other, length-numbers}
-use Rattle.arena.proofs.Ways.{AreSlots, walk-way}
+use Rattle.arena.proofs.Ways.{AreSlots, walk-way, table}
 
 -- how often a number is among consecutive numbers
 count_of-low : (i first count : ℕ) → i < first → count_of i (numbers_from first count) ≡ 0

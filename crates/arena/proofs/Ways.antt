@@ -3,8 +3,8 @@ use Rattle.std.proofs.lemmas.Grind.{common_steps}
 use Rattle.std.proofs.Common.{◌≡◌, ◌≢◌, ℕ, zero, suc, ◌+◌, ◌<◌, ◌≤◌, List, [], ◌∷◌, ◌++◌, map, length, refl, ap, ◌∙◌, arith, add-zero, slice_set, slice_index_or}
 use Rattle.std.proofs.lemmas.Bool.{le-ltb}
 use Rattle.std.specs.List.{AllByRecursion}
-use Rattle.arena.specs.Lists.{count_of, without}
-use Rattle.arena.specs.Linked.{IsWay, walk, table}
+use Rattle.arena.specs.Lists.{count_of, without, numbers_from}
+use Rattle.arena.specs.Linked.{IsWay, walk}
 
 -- each number of the list is a slot
 abbrev pub AreSlots : ℕ → List ℕ → Type 0
@@ -49,6 +49,10 @@ count_of-no_slot slots i (x ∷ xs) inside outside = grind (arith, common_steps,
 pub way-kept : (next next' : ℕ → ℕ) {a b : ℕ} (xs : List ℕ) (z : ℕ) → next' b ≡ next a → AllByRecursion (λ x. next' x ≡ next x) xs → IsWay next a xs z → IsWay next' b xs z
 way-kept next next' [] z first rest way = first ∙ way
 way-kept next next' (x ∷ xs) z first rest way = grind (arith, common_steps, way-kept next next' xs z rest.0 rest.1 way.1)
+
+-- what a function gives at `count` numbers, from `from` on
+abbrev pub table : (ℕ → List ℕ) → ℕ → ℕ → List (List ℕ)
+table at from count = map at (numbers_from from count)
 
 -- if `at' e` is `made (at e)` at each number e, the table of at' is that of at with `made` mapped over it
 pub table-map : (at at' : ℕ → List ℕ) (made : List ℕ → List ℕ) (from count : ℕ) → ((e : ℕ) → from ≤ e → e < from + count → at' e ≡ made (at e)) → table at' from count ≡ map made (table at from count)

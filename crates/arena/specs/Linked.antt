@@ -1,7 +1,7 @@
 -- Statement for engineers: How two arrays of numbers (each node's next and previous node) keep lists of slots.
-use Rattle.std.specs.Prelude.{◌≡◌, ◌≢◌, ℕ, zero, suc, ◌+◌, ◌-◌, ◌<◌, ◌≤◌, List, [], ◌∷◌, length, nat_lt, nat_le, ◌==◌, if◌then◌else◌, slice_index, slice_index_or}
+use Rattle.std.specs.Prelude.{◌≡◌, ◌≢◌, ℕ, zero, suc, ◌+◌, ◌-◌, ◌<◌, ◌≤◌, List, [], ◌∷◌, map, length, nat_lt, nat_le, ◌==◌, if◌then◌else◌, slice_index, slice_index_or}
 use Rattle.std.specs.List.{concat}
-use Rattle.arena.specs.Lists.{count_of}
+use Rattle.arena.specs.Lists.{count_of, numbers_from}
 
 -- what contracts see of `Links`: the number of slots, and the lists of slots
 pub record Linked : Type 0 where
@@ -21,14 +21,9 @@ walk next slots (suc steps) node = if nat_lt node slots then node ∷ walk next 
 abbrev pub ring : (ℕ → ℕ) → ℕ → ℕ → List ℕ
 ring next slots end = walk next slots slots (next end)
 
--- what a function gives at `count` numbers, from `from` on
-abbrev pub table : (ℕ → List ℕ) → ℕ → ℕ → List (List ℕ)
-table at from zero = []
-table at from (suc count) = at from ∷ table at (suc from) count
-
 -- all lists: one for each sentinel
 abbrev pub rings : (ℕ → ℕ) → ℕ → ℕ → List (List ℕ)
-rings next slots nodes = table (ring next slots) slots (nodes - slots)
+rings next slots nodes = map (ring next slots) (numbers_from slots (nodes - slots))
 
 -- from node a, `next` leads over these nodes, in their order, to node z
 abbrev pub IsWay : (ℕ → ℕ) → ℕ → List ℕ → ℕ → Type 0

@@ -3,7 +3,6 @@
 
 ghost use Rattle.std.specs.Prelude.{◌≡◌, ◌+◌, ◌<◌, length, slice_set, slice_index_or, IsTrue, IsSome, IfOk, Some, option_copied, vec_len};
 ghost use Rattle.std.specs.Option.{option_copied_mut};
-ghost use Rattle.std.specs.Option.Follows.{option_follows_value};
 ghost use Rattle.std.specs.Borrow.{sem};
 ghost use Rattle.arena.specs.ArenaView.{IsPartitioned, capacity_of, value_at, holds_value, empty_arena, put_answer, after_put, front_of, next_of, can_move, after_move, after_lend, restore_answer, after_restore, after_take, with_value};
 
@@ -43,18 +42,6 @@ impl<T> Model for Arena<T> {
     ghost invariant = { λ a. ArenaRule a.values.items a.links a.free };
 }
 
-/// The value of a slot that has one.
-fn value_of<T>(slot: &mut Option<T>) -> &mut T
-    requires { IsSome slot.old }
-    ensures* lends { sem 𝓛 (option_follows_value T.row slot.entry result) }
-    ensures value { slot.old ≡ Some result.now }
-{
-    match slot {
-        Some(value) => value,
-        None => unreachable!(),
-    }
-}
-
 /// Puts a value into a slot that has none.
 fn fill<T>(values: &mut Vec<Option<T>>, i: usize, value: T)
     requires is_there { i < vec_len values.old }
@@ -69,8 +56,8 @@ fn fill<T>(values: &mut Vec<Option<T>>, i: usize, value: T)
 }
 
 impl<T> Arena<T> {
-    // Both are about a returned `&mut`: what is written through it is written to the slot. They are not about `lend`.
-    ghost use Rattle.arena.specs.Lends.{lends_get, lends_value};
+    // Of a returned `&mut`: what is written through it is written to the slot. It has nothing to do with `lend`.
+    ghost use Rattle.arena.specs.Lends.{lends_get};
 
     /// `slots` free slots in order, and `chains` empty chains, numbered from 0. `AllocError` where
     /// there is no memory.
@@ -123,19 +110,10 @@ impl<T> Arena<T> {
         ensures stays_partitioned { IsTrue (holds_value self.old i) → (value : T) → IsPartitioned (with_value self.old i value) }
         ensures value { option_copied_mut result ≡ value_at self.old i }
     {
-        if self.holds(i) {
-            Some(self.value_mut(i))
-        } else {
-            None
+        if !self.holds(i) {
+            return None;
         }
-    }
-
-    fn value_mut(&mut self, i: usize) -> &mut T
-        requires { IsTrue (holds_value self.old i) }
-        ensures* writes_back { sem 𝓛 (lends_value T.row self.entry i result) }
-        ensures value { value_at self.old i ≡ Some result.now }
-    {
-        value_of(&mut self.values[i])
+        self.values[i].as_mut()
     }
 
     /// Whether a slot holds its value.
