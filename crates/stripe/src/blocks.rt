@@ -95,8 +95,8 @@ impl StripeParcel {
         ensures holds { HoldsContent self.old self.new (λ i j. if f == i then None else content_at self.old.entries i j) }
         ensures kept { StripeRule self.new }
     {
-        let first = self.split(usize::from(f), 0);
-        let end = self.split(usize::from(f) + 1, 0);
+        let first = self.count_before(usize::from(f), 0);
+        let end = self.count_before(usize::from(f) + 1, 0);
         self.remove_blocks(first, end);
     }
 
@@ -109,7 +109,7 @@ impl StripeParcel {
     }
 
     /// How many blocks come before block `b` of file `f`.
-    fn split(&self, f: usize, b: usize) -> usize
+    fn count_before(&self, f: usize, b: usize) -> usize
         ensures parts { IsSplit self.now.entries f b result }
         ensures most { length self.now.entries ≤ 64 }
         ensures kept { StripeRule self.now }
@@ -126,7 +126,7 @@ impl StripeParcel {
         ensures most { length self.now.entries ≤ 64 }
         ensures kept { StripeRule self.now }
     {
-        let n = self.split(usize::from(f), usize::from(b));
+        let n = self.count_before(usize::from(f), usize::from(b));
         match self.index.get(n) {
             Some(index_entry) if index_entry.file == f && index_entry.block == b => Ok(n),
             _ => Err(n),

@@ -132,6 +132,6 @@ impl StripeParcel {
     fn ends_before(&self, file: u16, block: u16) -> bool
         ensures { IsTrue result ↔ (AllByRecursion (λ e. PrecedesBlock e.file e.block file block) self.now.entries) }
     {
-        self.split(usize::from(file), usize::from(block)) == self.len()
+        self.count_before(usize::from(file), usize::from(block)) == self.len()
     }
 }

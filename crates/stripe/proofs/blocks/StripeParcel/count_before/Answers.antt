@@ -2,7 +2,7 @@
 use Rattle.std.proofs.Common.{rules}
 use Rattle.std.proofs.lemmas.List.Sorted.{IsPartitionPoint-from_clause}
 use Rattle.stripe.proofs.IndexLemmas.{is_before, is_before-partitioned, split-from_point, length-stored}
-use Rattle.stripe.proofs.blocks.StripeParcel.split.Goals as goal
+use Rattle.stripe.proofs.blocks.StripeParcel.count_before.Goals as goal
 
 pub returns-clause-parts : goal.returns-clause-parts
 returns-clause-parts c =
