@@ -3,7 +3,7 @@
 
 ghost use Rattle.std.specs.Prelude.{◌≡◌, ◌*◌, ◌<◌, ◌≤◌};
 ghost use Rattle.image.specs.Image.{image_head};
-ghost use Rattle.image.specs.Pieces.{piece_count, piece_size};
+ghost use Rattle.image.specs.Pieces.{aggregate_of, part_of, piece_count, piece_size, volume_of};
 ghost use Rattle.device_map.specs.Layout.{entry_size};
 
 use affinity::Geometry;
@@ -43,6 +43,31 @@ pub fn piece_size(g: &Geometry, n: usize) -> usize
         VOLUME_PIECE_SIZE
     } else {
         largest_piece(g)
+    }
+}
+
+/// What a piece is of: its aggregate, its volume, and as `part` 0 for the volume's own piece and `s + 1`
+/// for that of stripe s.
+#[derive(Clone, Copy)]
+pub struct PiecePlace {
+    pub aggregate: usize,
+    pub volume: usize,
+    pub part: usize,
+}
+
+/// What piece `n` is of.
+pub fn place_of_piece(g: &Geometry, n: usize) -> PiecePlace
+    ensures aggregate { result.aggregate ≡ aggregate_of g.now n }
+    ensures volume { result.volume ≡ volume_of g.now n }
+    ensures part { result.part ≡ part_of g.now n }
+{
+    let pieces_of_volume = 1 + usize::from(g.stripes);
+    let volumes = usize::from(g.volumes);
+    let volume = n / pieces_of_volume;
+    PiecePlace {
+        aggregate: volume / volumes,
+        volume: volume % volumes,
+        part: n % pieces_of_volume,
     }
 }
 

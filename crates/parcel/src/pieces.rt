@@ -1,7 +1,7 @@
 //! The pieces of an image: what the tree holds, written as the bytes of its pieces and taken in from
 //! them, one at a time, without allocating.
 ghost use Rattle.std.specs.Prelude.{◌≡◌, ◌<◌, ◌≤◌, ℕ, length, None};
-ghost use Rattle.image.specs.Pieces.{aggregate_of, volume_of, part_of, part_piece, piece_part_size};
+ghost use Rattle.image.specs.Pieces.{part_piece, piece_part_size};
 ghost use Rattle.image.specs.Pieces.{piece_count, piece_of, piece_size};
 ghost use Rattle.meaning.specs.State.{State, IsState};
 ghost use Rattle.parcel.specs.Fits.{FitsVolume, IsWholeVolume};
@@ -15,7 +15,7 @@ mod volumes;
 use crate::parts::{volume_at, volume_mut};
 use crate::{Tree, Vol};
 use affinity::Geometry;
-use image::layout::{FIRST_VERSION, VERSION};
+use image::layout::{FIRST_VERSION, VERSION, place_of_piece};
 use std::error::Error;
 use std::fmt;
 use stripes::{read_stripe, write_stripe};
@@ -32,30 +32,6 @@ impl fmt::Display for BadPiece {
 }
 
 impl Error for BadPiece {}
-
-/// What a piece is of: its aggregate, its volume, and as `part` 0 for the volume's own piece and `s + 1`
-/// for that of stripe s.
-#[derive(Clone, Copy)]
-pub(crate) struct PiecePlace {
-    aggregate: usize,
-    volume: usize,
-    part: usize,
-}
-
-fn place_of_piece(g: &Geometry, n: usize) -> PiecePlace
-    ensures aggregate { result.aggregate ≡ aggregate_of g.now n }
-    ensures volume { result.volume ≡ volume_of g.now n }
-    ensures part { result.part ≡ part_of g.now n }
-{
-    let pieces_of_volume = usize::from(g.stripes) + 1;
-    let volumes = usize::from(g.volumes);
-    let volume = n / pieces_of_volume;
-    PiecePlace {
-        aggregate: volume / volumes,
-        volume: volume % volumes,
-        part: n % pieces_of_volume,
-    }
-}
 
 /// Writes piece `n` of the state that the tree holds into `out`, as an image of version 2 has it.
 /// Nothing of the tree may be out. `out` has the size of the piece: that of a volume's own, or
