@@ -76,12 +76,12 @@ abbrev pub label_bytes : ℕ → Option (List ℕ) → List ℕ
 label_bytes version label = if version == 2 then unwrap_or label no_label else no_label
 
 -- A volume that is made: 1, whether it is sealed, six zeros, its files as the bits of a number, its label, 16 zeros. One that isn't: zeros.
+abbrev pub volume_bytes : Bool → Bool → ℕ → List ℕ → List ℕ
+volume_bytes made sealed files label =
+    if made then 1 ∷ one_if sealed ∷ [] ++ replicate 6 0 ++ little_bytes 8 files ++ label ++ replicate 16 0 else replicate volume_piece_size 0
+
 abbrev pub volume_piece : ℕ → Geometry → State → ℕ → ℕ → List ℕ
-volume_piece version g x a v =
-    if x.made (a, v)
-    then 1 ∷ one_if (x.sealed (a, v)) ∷ [] ++ replicate 6 0 ++ little_bytes 8 (file_bits g x a v) ++ label_bytes version (x.labels (a, v))
-    ++ replicate 16 0
-    else replicate volume_piece_size 0
+volume_piece version g x a v = volume_bytes (x.made (a, v)) (x.sealed (a, v)) (file_bits g x a v) (label_bytes version (x.labels (a, v)))
 
 -- a volume's own piece, or for `suc s` that of stripe s
 abbrev pub part_piece : ℕ → Geometry → State → ℕ → ℕ → ℕ → List ℕ

@@ -3,12 +3,12 @@ use Rattle.std.proofs.Common.{◌≡◌, ℕ, ◌≤◌, false, List, Some, None
 use Rattle.std.specs.Prelude.{Option, IfSome}
 use Rattle.affinity.specs.declared.geometry.Geometry.{Geometry}
 use Rattle.language.specs.declared.Block.{Block}
-use Rattle.meaning.specs.State.{State, blocks_in_stripe}
+use Rattle.meaning.specs.State.{State, blocks_in_stripe, count_below}
 use Rattle.meaning.proofs.Sums.{sum_same, sum_zero}
 use Rattle.parcel.specs.Fits.{FitsStripe}
 use Rattle.parcel.specs.Shown.{blocks_in, blocks_of}
 use Rattle.stripe.specs.Stripe.{StripePart, StripeRule}
-use Rattle.parcel.specs.Totals.{entry_count, file_total, block_total, totals_of, sum_totals}
+use Rattle.parcel.specs.Totals.{entry_count, block_total, totals_of, sum_totals}
 use Rattle.parcel.specs.Volume.{no_facts, state_with}
 use Rattle.parcel.proofs.GroupCounts.{count_is_length, count_is_none}
 
@@ -31,7 +31,7 @@ quota_of g s None fits = fits
 quota_of g s (Some p) fits = let most = g.quota_range.1 in omega (arith, fits.quota, most)
 
 -- where there is no file or no block, none is counted
-pub no_files : (g : Geometry) → file_total g (λ f. false) ≡ 0
+pub no_files : (g : Geometry) → count_below g.files (λ f. false) ≡ 0
 no_files g = sum_zero g.files
 
 pub no_blocks : (g : Geometry) → block_total g (λ f b. None) ≡ 0

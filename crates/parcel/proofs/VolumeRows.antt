@@ -8,8 +8,9 @@ use Rattle.language.specs.declared.Msg.TheVariants.{MakeVol, DropVol}
 use Rattle.language.specs.declared.Refusal.TheVariants.{Range, Exists}
 use Rattle.language.specs.Messages.{is_in_range}
 use Rattle.meaning.specs.Serial.{refusal, effect, no_label}
+use Rattle.meaning.specs.State.{State}
 use Rattle.parcel.specs.Shown.{aggregate_facts, child_facts, volume_facts}
-use Rattle.parcel.specs.Steps.{guard, guard_open, at_aggregate}
+use Rattle.parcel.specs.Steps.{guard, guard_open}
 use Rattle.parcel.specs.Totals.{with_made}
 use Rattle.parcel.specs.Volume.{VolumeFacts, no_facts, facts_if, state_with}
 use Rattle.parcel.specs.declared.parts.Aggr.{Aggr}
@@ -38,6 +39,10 @@ set_changes g change xs v y lt e q =
     (cases_eq v q)
 
 -- ---- tests and effects
+
+-- the state in which aggregate a alone has anything
+abbrev pub at_aggregate : Geometry → ℕ → Aggr → State
+at_aggregate g a r = state_with (λ p q. facts_if (a == p) (aggregate_facts g r q))
 
 at_itself : (a : ℕ) (h : VolumeFacts) → facts_if (a == a) h ≡ h
 at_itself a h i = facts_if (eq-eqb a a refl i) h

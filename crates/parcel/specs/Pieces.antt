@@ -11,7 +11,7 @@ use Rattle.meaning.specs.State.{State, IsState, one_if}
 use Rattle.meaning.specs.Serial.{no_label}
 use Rattle.meaning.specs.Subtrees.{Fact, value}
 use Rattle.image.specs.Pieces.{aggregate_of, volume_of, part_of, piece_count, piece_of, piece_size, with_piece}
-use Rattle.image.specs.Pieces.{is_made_in, is_sealed_in, has_file_in, label_in as decoded_label_in, block_in, part_piece, with_part}
+use Rattle.image.specs.Pieces.{is_made_in, is_sealed_in, has_file_in, label_in as decoded_label_in, block_in, part_piece, volume_bytes, with_part}
 use Rattle.parcel.specs.Fits.{FitsStripe, FitsVolume, IsWholeChild, IsWholeVolume}
 use Rattle.parcel.specs.Nodes.{volume_nodes, node_files}
 use Rattle.parcel.specs.Shown.{blocks_in, volume_facts, shown_label}
@@ -23,10 +23,7 @@ use Rattle.parcel.specs.declared.pieces.volumes.VolumePiece.{VolumePiece}
 
 -- the bytes of a volume's piece with these flags, files and label
 abbrev pub spelled : VolumePiece → List ℕ
-spelled p =
-    if p.made
-    then 1 ∷ one_if p.sealed ∷ [] ++ replicate 6 0 ++ little_bytes 8 p.files ++ p.label ++ replicate 16 0
-    else replicate volume_piece_size 0
+spelled p = volume_bytes p.made p.sealed p.files p.label
 
 -- the label that bytes decode to: before version 2 there is none, and zeros are given for it
 abbrev pub decoded_label : ℕ → List ℕ → List ℕ

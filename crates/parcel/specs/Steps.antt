@@ -1,5 +1,5 @@
 -- Inner: A message about one volume: its checks, and its step on what the volume has.
-use Rattle.std.specs.Prelude.{◌≡◌, ℕ, Bool, true, not, if◌then◌else◌, ◌==◌, Option, Some, Result, Ok, Err}
+use Rattle.std.specs.Prelude.{◌≡◌, ℕ, Bool, true, not, if◌then◌else◌, Option, Some, Result, Ok, Err}
 use Rattle.affinity.specs.declared.geometry.Geometry.{Geometry}
 use Rattle.language.specs.declared.Msg.{Msg}
 use Rattle.language.specs.declared.Refusal.{Refusal}
@@ -7,11 +7,8 @@ use Rattle.language.specs.declared.Refusal.TheVariants.{Volume, Sealed}
 use Rattle.language.specs.declared.Reply.{Reply}
 use Rattle.language.specs.declared.Reply.TheVariants.{Done, Refused}
 use Rattle.language.specs.Messages.{is_in_range}
-use Rattle.meaning.specs.State.{State}
 use Rattle.parcel.specs.Run.{IsSerialStep}
-use Rattle.parcel.specs.Shown.{aggregate_facts}
-use Rattle.parcel.specs.Volume.{VolumeFacts, facts_if, one_volume, state_with}
-use Rattle.parcel.specs.declared.parts.Aggr.{Aggr}
+use Rattle.parcel.specs.Volume.{VolumeFacts, one_volume}
 
 -- refused for this reason where the check fails, else as the later checks decide
 abbrev pub guard : Bool → Refusal → Option Refusal → Option Refusal
@@ -36,7 +33,3 @@ reply_to_change (Err why) = Refused why
 abbrev pub IsVolumeStep : Geometry → (ℕ → ℕ → Msg) → VolumeFacts → Reply → VolumeFacts → Type 0
 IsVolumeStep g m old given new = (a v : ℕ) → is_in_range g (m a v) ≡ true
     → IsSerialStep g (one_volume a v old) (m a v) given (one_volume a v new)
-
--- the state in which aggregate a alone has anything
-abbrev pub at_aggregate : Geometry → ℕ → Aggr → State
-at_aggregate g a r = state_with (λ p q. facts_if (a == p) (aggregate_facts g r q))

@@ -13,17 +13,13 @@ abbrev pub entry_count : Option StripePart → ℕ
 entry_count None = 0
 entry_count (Some p) = length p.entries
 
--- how many of the files that the geometry allows exist
-abbrev pub file_total : Geometry → (ℕ → Bool) → ℕ
-file_total g files = count_below g.files files
-
 -- how many of the blocks that the geometry allows exist
 abbrev pub block_total : Geometry → (ℕ → ℕ → Option Block) → ℕ
 block_total g blocks = sum_below g.files (λ f. count_below g.blocks (λ b. is_some (blocks f b)))
 
 -- how much one volume holds, and whether it is made
 abbrev pub totals_of : Geometry → VolumeFacts → Totals
-totals_of g h = record { volumes = one_if h.made; files = file_total g h.files; blocks = block_total g h.blocks }
+totals_of g h = record { volumes = one_if h.made; files = count_below g.files h.files; blocks = block_total g h.blocks }
 
 -- the totals of all numbers below n, added up
 abbrev pub sum_totals : ℕ → (ℕ → Totals) → Totals

@@ -12,6 +12,12 @@ ghost use Rattle.parcel.specs.Tree.{standing_at};
 use super::{Aggr, Logical, Root, Standing, Vol};
 use affinity::Place;
 
+const NOTHING_SEEN: Standing = Standing {
+    made: false,
+    sealed: false,
+    files: 0,
+};
+
 /// The standing at a place. For what is out it has `false` and 0.
 pub(crate) fn standing_at(root: &Option<Root>, place: Place) -> Standing
     ensures { result ≡ standing_at (path place) (child_nodes root_nodes root.now) }
@@ -22,11 +28,7 @@ pub(crate) fn standing_at(root: &Option<Root>, place: Place) -> Standing
             files: 0,
             ..standing_in(root, a, v)
         },
-        Place::Serial | Place::Aggregate(_) | Place::Volume(_, _) => Standing {
-            made: false,
-            sealed: false,
-            files: 0,
-        },
+        Place::Serial | Place::Aggregate(_) | Place::Volume(_, _) => NOTHING_SEEN,
     }
 }
 
@@ -37,11 +39,7 @@ fn standing_in(root: &Option<Root>, a: u16, v: u16) -> Standing
     ensures files { result.files ≡ node_files (child_nodes root_nodes root.now (logical a v)) }
 {
     match volume_at(root, usize::from(a), usize::from(v)) {
-        None => Standing {
-            made: false,
-            sealed: false,
-            files: 0,
-        },
+        None => NOTHING_SEEN,
         Some(volume) => Standing {
             made: volume.made,
             sealed: volume.sealed,

@@ -1,21 +1,21 @@
 //! Messages at an aggregate: they make and remove volumes.
 
-ghost use Rattle.std.specs.Prelude.{◌≡◌, ℕ, ◌<◌, true, false, slice_index_or, Some, None, IfSome, vec_len};
+ghost use Rattle.std.specs.Prelude.{◌≡◌, ℕ, ◌<◌, true, None, IfSome};
 ghost use Rattle.affinity.specs.declared.geometry.Geometry.{Geometry};
 ghost use Rattle.language.specs.declared.Msg.{Msg};
 ghost use Rattle.language.specs.Messages.{is_in_range};
-ghost use Rattle.parcel.specs.Dropping.{Removes};
 ghost use Rattle.parcel.specs.Fits.{FitsAggregate, FitsLogical, FitsVolume, IsWholeAggregate, IsWholeChild, IsWholeLogical, IsWholeVolume, IsRunnable};
-ghost use Rattle.parcel.specs.Run.{IsSerialStep, IsStepOn};
+ghost use Rattle.parcel.specs.Run.{IsStepOn};
 ghost use Rattle.parcel.specs.Shown.{blocks_of, child_facts, volume_facts};
-ghost use Rattle.parcel.specs.Steps.{at_aggregate, reply_to_change};
+ghost use Rattle.parcel.specs.Steps.{reply_to_change};
 ghost use Rattle.parcel.specs.Totals.{with_made};
 ghost use Rattle.parcel.specs.Volume.{no_facts};
 ghost use Rattle.parcel.specs.declared.parts.Parcels.{Parcels};
 ghost use Rattle.parcel.specs.declared.parts.Standing.{Standing};
 
+use super::at_logical::remove_blocks;
 use super::refusals::{guard, guard_open, reply_to_change};
-use crate::{Aggr, Label, Logical, StripeParcel, Vol};
+use crate::{Aggr, Label, Logical, Vol};
 use affinity::Geometry;
 use language::{LABEL_SIZE, Msg, Refusal, Reply};
 
@@ -44,26 +44,6 @@ fn make(node: &mut Option<Vol>)
     });
 }
 
-/// Removes all blocks from a stripe, unless it is lent.
-fn clear_in(node: &mut Option<StripeParcel>)
-    ensures { Removes (λ i j. true) node.old node.new }
-{
-    if let Some(stripe) = node {
-        stripe.drop_all();
-    }
-}
-
-/// Removes all blocks from each stripe that isn't lent.
-fn clear_stripes(stripes: &mut Vec<Option<StripeParcel>>)
-    ensures count { vec_len stripes.new ≡ vec_len stripes.old }
-    ensures each { (s : ℕ) → s < vec_len stripes.old
-        → Removes (λ i j. true) (slice_index_or stripes.old.items s None) (slice_index_or stripes.new.items s None) }
-{
-    for s in 0..stripes.len() {
-        clear_in(&mut stripes[s]);
-    }
-}
-
 /// Removes all files and their blocks.
 fn clear_files(logical: &mut Logical)
     ensures files { logical.new.files ≡ 0 }
@@ -72,7 +52,7 @@ fn clear_files(logical: &mut Logical)
     ensures whole { IsWholeLogical logical.old → IsWholeLogical logical.new }
 {
     logical.files = 0;
-    clear_stripes(&mut logical.stripes);
+    remove_blocks(&mut logical.stripes, None);
 }
 
 /// Removes the volume at one index, which isn't lent, with all that it has.
@@ -91,14 +71,13 @@ fn clear(node: &mut Option<Vol>)
     volume.label = Some(Label { bytes: None });
 }
 
-/// Makes a volume, or refuses to. (`at_aggregate g a r` is the state that has r as aggregate a, and nothing else.)
+/// Makes a volume, or refuses to.
 fn make_volume(aggregate: &mut Aggr, g: &Geometry, v: u16) -> Result<(), Refusal>
     requires volume { v < g.now.volumes }
     requires fits { FitsAggregate g.now aggregate.old }
     requires whole { IsWholeAggregate aggregate.old }
-    ensures step { (a : ℕ) → is_in_range g.now (Msg.MakeVol a v) ≡ true
-        → IsSerialStep g.now (at_aggregate g.now a aggregate.old) (Msg.MakeVol a v) (reply_to_change result)
-        (at_aggregate g.now a aggregate.new) }
+    ensures step { (a : ℕ) (t : Standing) → is_in_range g.now (Msg.MakeVol a v) ≡ true
+        → IsStepOn g.now (Msg.MakeVol a v) t (Parcels.Aggr aggregate.old) (reply_to_change result) (Parcels.Aggr aggregate.new) }
     ensures fits { FitsAggregate g.now aggregate.new }
     ensures whole { IsWholeAggregate aggregate.new }
 {
@@ -114,9 +93,8 @@ fn drop_volume(aggregate: &mut Aggr, g: &Geometry, v: u16) -> Result<(), Refusal
     requires volume { v < g.now.volumes }
     requires fits { FitsAggregate g.now aggregate.old }
     requires whole { IsWholeAggregate aggregate.old }
-    ensures step { (a : ℕ) → is_in_range g.now (Msg.DropVol a v) ≡ true
-        → IsSerialStep g.now (at_aggregate g.now a aggregate.old) (Msg.DropVol a v) (reply_to_change result)
-        (at_aggregate g.now a aggregate.new) }
+    ensures step { (a : ℕ) (t : Standing) → is_in_range g.now (Msg.DropVol a v) ≡ true
+        → IsStepOn g.now (Msg.DropVol a v) t (Parcels.Aggr aggregate.old) (reply_to_change result) (Parcels.Aggr aggregate.new) }
     ensures fits { FitsAggregate g.now aggregate.new }
     ensures whole { IsWholeAggregate aggregate.new }
 {

@@ -1,8 +1,8 @@
 //! Messages at a Volume Logical, the files of a volume with its stripes: they make, remove and list files.
 
-ghost use Rattle.std.specs.Prelude.{◌≡◌, ◌==◌, ℕ, ◌<◌, slice_index_or, None, vec_len};
+ghost use Rattle.std.specs.Prelude.{◌≡◌, ℕ, ◌<◌, slice_index_or, None, vec_len};
 ghost use Rattle.language.specs.declared.Msg.{Msg};
-ghost use Rattle.parcel.specs.Dropping.{Removes};
+ghost use Rattle.parcel.specs.Dropping.{Removes, is_removed};
 ghost use Rattle.parcel.specs.Fits.{FitsLogical, IsWholeLogical, IsRunnable};
 ghost use Rattle.parcel.specs.Run.{IsStepOn};
 ghost use Rattle.parcel.specs.Shown.{logical_facts};
@@ -29,23 +29,26 @@ fn create(logical: &mut Logical, g: &Geometry, standing: Standing, f: u16) -> Re
     Ok(())
 }
 
-/// Removes the blocks of a file from a stripe, unless it is lent.
-fn drop_in(node: &mut Option<StripeParcel>, f: u16)
-    ensures { Removes (λ i j. f == i) node.old node.new }
+/// Removes the blocks of a file from a stripe, or all where no file is given, unless the stripe is lent.
+fn remove_in(node: &mut Option<StripeParcel>, file: Option<u16>)
+    ensures { Removes (is_removed file) node.old node.new }
 {
     if let Some(stripe) = node {
-        stripe.drop_file(f);
+        match file {
+            Some(f) => stripe.drop_file(f),
+            None => stripe.drop_all(),
+        }
     }
 }
 
-/// Removes the blocks of a file from each stripe that isn't lent.
-fn drop_file(stripes: &mut Vec<Option<StripeParcel>>, f: u16)
+/// Removes the blocks of a file, or all where no file is given, from each stripe that isn't lent.
+pub(super) fn remove_blocks(stripes: &mut Vec<Option<StripeParcel>>, file: Option<u16>)
     ensures count { vec_len stripes.new ≡ vec_len stripes.old }
     ensures each { (s : ℕ) → s < vec_len stripes.old
-        → Removes (λ i j. f == i) (slice_index_or stripes.old.items s None) (slice_index_or stripes.new.items s None) }
+        → Removes (is_removed file) (slice_index_or stripes.old.items s None) (slice_index_or stripes.new.items s None) }
 {
     for s in 0..stripes.len() {
-        drop_in(&mut stripes[s], f);
+        remove_in(&mut stripes[s], file);
     }
 }
 
@@ -61,7 +64,7 @@ fn delete(logical: &mut Logical, g: &Geometry, standing: Standing, f: u16) -> Re
 {
     guard_file(standing.made, standing.sealed, logical.files, f)?;
     logical.files &= !(1 << f);
-    drop_file(&mut logical.stripes, f);
+    remove_blocks(&mut logical.stripes, Some(f));
     Ok(())
 }
 

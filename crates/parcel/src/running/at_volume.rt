@@ -1,6 +1,6 @@
 //! Messages at a volume: they seal and unseal it, and ask how much it holds.
 
-ghost use Rattle.std.specs.Prelude.{◌≡◌};
+ghost use Rattle.std.specs.Prelude.{◌≡◌, if◌then◌else◌};
 ghost use Rattle.affinity.specs.declared.geometry.Geometry.{Geometry};
 ghost use Rattle.language.specs.declared.Msg.{Msg};
 ghost use Rattle.parcel.specs.Fits.{FitsVolume, IsRunnable};
@@ -16,27 +16,15 @@ use crate::Vol;
 use affinity::Geometry;
 use language::{Msg, Refusal, Reply};
 
-/// Seals the volume, whether it was sealed or not.
-fn seal(volume: &mut Vol) -> Result<(), Refusal>
-    ensures step { (g : Geometry) → IsVolumeStep g Msg.Seal (volume_facts g volume.old) (reply_to_change result)
-        (volume_facts g volume.new) }
+/// Seals or unseals the volume, whether it was sealed or not.
+fn set_sealed(volume: &mut Vol, sealed: bool) -> Result<(), Refusal>
+    ensures step { (g : Geometry) → IsVolumeStep g (λ a v. if sealed then Msg.Seal a v else Msg.Unseal a v) (volume_facts g volume.old)
+        (reply_to_change result) (volume_facts g volume.new) }
     ensures logical { volume.new.logical ≡ volume.old.logical }
     ensures label { volume.new.label ≡ volume.old.label }
 {
     guard(volume.made, Refusal::Volume)?;
-    volume.sealed = true;
-    Ok(())
-}
-
-/// Unseals the volume, whether it was sealed or not.
-fn unseal(volume: &mut Vol) -> Result<(), Refusal>
-    ensures step { (g : Geometry) → IsVolumeStep g Msg.Unseal (volume_facts g volume.old) (reply_to_change result)
-        (volume_facts g volume.new) }
-    ensures logical { volume.new.logical ≡ volume.old.logical }
-    ensures label { volume.new.label ≡ volume.old.label }
-{
-    guard(volume.made, Refusal::Volume)?;
-    volume.sealed = false;
+    volume.sealed = sealed;
     Ok(())
 }
 
@@ -63,8 +51,8 @@ pub(crate) fn run_at_volume(volume: &mut Vol, g: &Geometry, message: &Msg) -> Re
     ensures runnable { IsRunnable g.now message.now (Parcels.Vol volume.new) }
 {
     match message {
-        Msg::Seal(..) => reply_to_change(seal(volume)),
-        Msg::Unseal(..) => reply_to_change(unseal(volume)),
+        Msg::Seal(..) => reply_to_change(set_sealed(volume, true)),
+        Msg::Unseal(..) => reply_to_change(set_sealed(volume, false)),
         Msg::Usage(..) => usage(volume, g),
         _ => unreachable!(),
     }

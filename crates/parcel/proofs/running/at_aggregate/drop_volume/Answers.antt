@@ -6,12 +6,12 @@ use Rattle.std.proofs.lemmas.Result.{err_from_is_err_and}
 use Rattle.language.specs.declared.Msg.TheVariants.{DropVol}
 use Rattle.parcel.specs.Fits.{FitsVolume}
 use Rattle.parcel.specs.Shown.{aggregate_facts, child_facts, volume_facts}
-use Rattle.parcel.specs.Steps.{guard_open, at_aggregate}
+use Rattle.parcel.specs.Steps.{guard_open}
 use Rattle.parcel.specs.Volume.{no_facts}
 use Rattle.parcel.proofs.OneVolume.{passed}
 use Rattle.parcel.proofs.ChildRows.{fits_in_place}
 use Rattle.parcel.proofs.Slots.{volume_child}
-use Rattle.parcel.proofs.VolumeRows.{set_changes, changed_if, drop_tests, effect_drop}
+use Rattle.parcel.proofs.VolumeRows.{at_aggregate, set_changes, changed_if, drop_tests, effect_drop}
 use Rattle.parcel.proofs.running.at_aggregate.drop_volume.Goals as goal
 
 pub returns-clause-fits : goal.returns-clause-fits
@@ -34,7 +34,7 @@ returns-clause-step c =
     let at : slice_index_or row.items n None ≡ c.index_mut.result.now = sym (get_or_read row.items _ _ below c.index_mut.ensures.value None) in
     let seen : slice_index_or row.items v None ≡ c.index.result.now = ap (λ k. slice_index_or row.items k None) (sym c.from-index.ensures)
     ∙ sym (get_or_read row.items _ _ below c.index.ensures None) in
-    λ a range. passed g (at_aggregate g a r) (DropVol a v) _ _ (drop_tests g a v r range
+    λ a t range. passed g (at_aggregate g a r) (DropVol a v) _ _ (drop_tests g a v r range
     ∙ (λ i. guard_open ((ap (λ o. (child_facts (volume_facts g) o).made) seen ∙ sym (c.marks-made.ensures.made g)) i)
     ((ap (λ o. (child_facts (volume_facts g) o).sealed) seen ∙ sym (c.marks-made.ensures.sealed g)) i) None)
     ∙ c.in_ok-guard_open.ensures None) refl

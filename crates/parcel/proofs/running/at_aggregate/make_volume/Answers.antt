@@ -7,12 +7,12 @@ use Rattle.language.specs.declared.Msg.TheVariants.{MakeVol}
 use Rattle.language.specs.declared.Refusal.TheVariants.{Exists}
 use Rattle.parcel.specs.Fits.{FitsVolume}
 use Rattle.parcel.specs.Shown.{aggregate_facts, child_facts, volume_facts}
-use Rattle.parcel.specs.Steps.{guard, at_aggregate}
+use Rattle.parcel.specs.Steps.{guard}
 use Rattle.parcel.specs.Totals.{with_made}
 use Rattle.parcel.proofs.OneVolume.{passed}
 use Rattle.parcel.proofs.ChildRows.{fits_in_place}
 use Rattle.parcel.proofs.Slots.{volume_child}
-use Rattle.parcel.proofs.VolumeRows.{set_changes, changed_if, make_tests, effect_make}
+use Rattle.parcel.proofs.VolumeRows.{at_aggregate, set_changes, changed_if, make_tests, effect_make}
 use Rattle.parcel.proofs.running.at_aggregate.make_volume.Goals as goal
 
 pub returns-clause-fits : goal.returns-clause-fits
@@ -35,7 +35,7 @@ returns-clause-step c =
     let at : slice_index_or row.items n None ≡ c.index_mut.result.now = sym (get_or_read row.items _ _ below c.index_mut.ensures.value None) in
     let seen : slice_index_or row.items v None ≡ c.index.result.now = ap (λ k. slice_index_or row.items k None) (sym c.from-index.ensures)
     ∙ sym (get_or_read row.items _ _ below c.index.ensures None) in
-    λ a range. passed g (at_aggregate g a r) (MakeVol a v) _ _ (make_tests g a v r range
+    λ a t range. passed g (at_aggregate g a r) (MakeVol a v) _ _ (make_tests g a v r range
     ∙ (λ i. guard (not ((ap (λ o. (child_facts (volume_facts g) o).made) seen ∙ sym (c.marks-made.ensures.made g)) i)) Exists None)
     ∙ c.in_ok-guard.ensures None) refl
     (effect_make a v (aggregate_facts g r) (λ q. child_facts (volume_facts g) (slice_index_or (slice_set row.items n c.make.new.node) q None))
