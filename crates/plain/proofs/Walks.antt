@@ -94,9 +94,9 @@ in_map a v n i (e ∷ es) = elim (is_at (file_order (a, v, i)) e.0) as (λ t. co
       | false ↦ in_map a v n i es
     ]
 
-pub blocks_walked : (g : Geometry) (server : Server) (a v : ℕ) → HasRightCounts g server → map.IsOrdered file_order server.used
-    → total (λ (e : FileKey × ℕ). e.1) (entries_between file_order (Included (a, v, 0)) (Excluded (a, v, g.stripes)) server.used.entries) ≡ block_count g (server_state server) a v
+pub blocks_walked : (g : Geometry) (server : Server) (a v : ℕ) → HasRightCounts g server → map.IsOrdered file_order server.block_counts
+    → total (λ (e : FileKey × ℕ). e.1) (entries_between file_order (Included (a, v, 0)) (Excluded (a, v, g.stripes)) server.block_counts.entries) ≡ block_count g (server_state server) a v
 blocks_walked g server a v counted ordered =
-    walked (λ (e : FileKey × ℕ). e.0) (λ (e : FileKey × ℕ). e.1) a v g.stripes server.used.entries (IsDistinct-from_sorted file_order (map.keys server.used) ordered)
-    ∙ sum_same g.stripes _ _ (λ s. in_map a v g.stripes s server.used.entries ∙ counted (a, v, s))
+    walked (λ (e : FileKey × ℕ). e.0) (λ (e : FileKey × ℕ). e.1) a v g.stripes server.block_counts.entries (IsDistinct-from_sorted file_order (map.keys server.block_counts) ordered)
+    ∙ sum_same g.stripes _ _ (λ s. in_map a v g.stripes s server.block_counts.entries ∙ counted (a, v, s))
     ∙ sym (block_count-by_stripe g (server_state server) a v)

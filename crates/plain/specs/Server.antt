@@ -48,7 +48,7 @@ is_stripe a v s k = (a == k.0) && (v == k.1) && (s == k.2)
 -- how many blocks the server has counted in a stripe, 0 where it has no entry. `file_order` orders keys of three numbers: a file's, and
 -- here a stripe's.
 abbrev pub noted : Server → StripeKey → ℕ
-noted server k = unwrap_or (map.get file_order server.used k) 0
+noted server k = unwrap_or (map.get file_order server.block_counts k) 0
 
 -- The server has counted the blocks of each stripe right.
 abbrev pub HasRightCounts : Geometry → Server → Type 0

@@ -46,7 +46,7 @@ pub(crate) struct Server {
 
     /// How many blocks each stripe of a volume has, so that no write has to count them. A stripe
     /// without an entry has none.
-    used: BTreeMap<(u16, u16, u16), u16>,
+    block_counts: BTreeMap<(u16, u16, u16), u16>,
 }
 
 impl Server {
@@ -58,7 +58,7 @@ impl Server {
         Server {
             volumes: BTreeMap::new(alloc),
             blocks: BTreeMap::new(alloc),
-            used: BTreeMap::new(alloc),
+            block_counts: BTreeMap::new(alloc),
         }
     }
 

@@ -40,7 +40,8 @@ impl Server {
             *place = *content;
             return Ok(None);
         }
-        let count = self.used.entry((a, v, group_of(g, f, b)))?.or_insert(0);
+        let stripe = (a, v, group_of(g, f, b));
+        let count = self.block_counts.entry(stripe)?.or_insert(0);
         if *count >= g.quota {
             return Ok(Some(Refusal::Space));
         }

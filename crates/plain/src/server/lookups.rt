@@ -17,9 +17,8 @@ impl Server {
     pub(super) fn is_sealed(&self, a: u16, v: u16) -> bool
         ensures { result ≡ (server_state self.now).sealed (a, v) }
     {
-        match self.volumes.get(&(a, v)) {
-            Some(volume) => volume.sealed,
-            None => false,
-        }
+        self.volumes
+            .get(&(a, v))
+            .is_some_and(|volume| volume.sealed)
     }
 }

@@ -21,7 +21,7 @@ impl Server {
         ensures state { server_state self.new ≡ server_state self.old }
         ensures blocks { self.new.blocks ≡ self.old.blocks }
     {
-        if let Some(count) = self.used.get_mut(&(a, v, s)) {
+        if let Some(count) = self.block_counts.get_mut(&(a, v, s)) {
             *count -= 1;
         }
     }

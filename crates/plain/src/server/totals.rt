@@ -42,7 +42,7 @@ impl Server {
         ensures { result ≡ block_count g.now (server_state self.now) a v }
     {
         let mut total = 0;
-        for (_, count) in self.used.range((a, v, 0)..(a, v, g.stripes)) {
+        for (_, count) in self.block_counts.range((a, v, 0)..(a, v, g.stripes)) {
             total += u32::from(*count);
         }
         total

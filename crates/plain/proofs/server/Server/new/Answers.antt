@@ -14,7 +14,7 @@ use Rattle.plain.proofs.server.Server.new.Goals as goal
 
 -- the server that is made
 abbrev made_of : goal.After-new-3 → Server
-made_of c = record { volumes = c.new.result; blocks = c.new-2.result; used = c.new-3.result }
+made_of c = record { volumes = c.new.result; blocks = c.new-2.result; block_counts = c.new-3.result }
 
 is_empty : (c : goal.After-new-3) → server_state (made_of c) ≡ empty
 is_empty c = λ i. state_of (λ k. lookup (is_at (volume_order k)) (c.new.ensures.empty i)) (λ k. lookup (is_at (block_order k)) (c.new-2.ensures.empty i))

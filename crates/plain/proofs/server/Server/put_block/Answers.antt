@@ -41,14 +41,16 @@ returns-in-Some-clause-counted c =
 pub returns-then-count-g-clause-counted : goal.returns-then-count-g-clause-counted
 returns-then-count-g-clause-counted c =
     same_counted c.args.g.now (server_state c.args.self.now) _ _ (λ k. search rules)
-    (as_noted _ _ _ (search rules) (λ k. noted_again (map.get file_order c.args.self.now.used) (λ k. lookup (is_at (file_order k)) _) c.args.a c.args.v c.group_of.result c.or_insert-count.result.now
+    (as_noted _ _ _ (search rules)
+    (λ k. noted_again (map.get file_order c.args.self.now.block_counts) (λ k. lookup (is_at (file_order k)) _) c.args.a c.args.v c.group_of.result c.or_insert-count.result.now
     (λ k. (c.in_ok-self.ensures.update.0 c.or_insert-count.result.now).0 k)
     (c.or_insert-count.ensures.value ∙ ap (λ o. unwrap_or o 0) c.in_ok-self.ensures.value) k ∙ c.requires.counted k))
 
 pub returns-in_err-insert-clause-counted : goal.returns-in_err-insert-clause-counted
 returns-in_err-insert-clause-counted c =
     same_counted c.args.g.now (server_state c.args.self.now) _ _ (λ k. search rules)
-    (as_noted _ _ _ (search rules) (λ k. noted_again (map.get file_order c.args.self.now.used) (λ k. lookup (is_at (file_order k)) _) c.args.a c.args.v c.group_of.result c.or_insert-count.result.now
+    (as_noted _ _ _ (search rules)
+    (λ k. noted_again (map.get file_order c.args.self.now.block_counts) (λ k. lookup (is_at (file_order k)) _) c.args.a c.args.v c.group_of.result c.or_insert-count.result.now
     (λ k. (c.in_ok-self.ensures.update.0 c.or_insert-count.result.now).0 k)
     (c.or_insert-count.ensures.value ∙ ap (λ o. unwrap_or o 0) c.in_ok-self.ensures.value) k ∙ c.requires.counted k))
 
@@ -65,7 +67,7 @@ returns-clause-counted c =
     let count = c.or_insert-count.result.now + 1 in
     let more : StripeKey → ℕ = λ k. noted c.args.self.now k + one_if (is_stripe c.args.a c.args.v c.group_of.result k) in
     λ k. as_noted _ _ more (search rules)
-    (noted_one_more (map.get file_order c.args.self.now.used) (λ k. lookup (is_at (file_order k)) _) c.args.a c.args.v c.group_of.result count
+    (noted_one_more (map.get file_order c.args.self.now.block_counts) (λ k. lookup (is_at (file_order k)) _) c.args.a c.args.v c.group_of.result count
     (λ k. (c.in_ok-self.ensures.update.0 count).0 k)
     (ap (λ n. n + 1) c.or_insert-count.ensures.value ∙ ap (λ o. unwrap_or o 0 + 1) c.in_ok-self.ensures.value)) k
     ∙ subst (AreCounts c.args.g.now more) (sym (returns-clause-state c))
