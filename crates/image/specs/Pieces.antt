@@ -78,7 +78,9 @@ label_bytes version label = if version == 2 then unwrap_or label no_label else n
 -- A volume that is made: 1, whether it is sealed, six zeros, its files as the bits of a number, its label, 16 zeros. One that isn't: zeros.
 abbrev pub volume_bytes : Bool → Bool → ℕ → List ℕ → List ℕ
 volume_bytes made sealed files label =
-    if made then 1 ∷ one_if sealed ∷ [] ++ replicate 6 0 ++ little_bytes 8 files ++ label ++ replicate 16 0 else replicate volume_piece_size 0
+    if made
+    then 1 ∷ one_if sealed ∷ [] ++ replicate 6 0 ++ little_bytes 8 files ++ label ++ replicate 16 0
+    else replicate volume_piece_size 0
 
 abbrev pub volume_piece : ℕ → Geometry → State → ℕ → ℕ → List ℕ
 volume_piece version g x a v = volume_bytes (x.made (a, v)) (x.sealed (a, v)) (file_bits g x a v) (label_bytes version (x.labels (a, v)))

@@ -1,5 +1,5 @@
 -- The bytes of a volume's piece, written one behind the other.
-use Rattle.std.proofs.Common.{◌≡◌, ℕ, ◌-◌, Bool, true, false, List, [], ◌∷◌, ◌++◌, length, take, drop, replicate, refl, sym, ◌∙◌, ap, arith, append_assoc, append-nil, length-append, length-take}
+use Rattle.std.proofs.Common.{◌≡◌, ℕ, ◌-◌, Bool, true, List, [], ◌∷◌, ◌++◌, length, take, drop, replicate, sym, ◌∙◌, ap, arith, append_assoc, append-nil, length-append, length-take}
 use Rattle.std.proofs.lemmas.List.{take_at, drop_at, drop_all}
 use Rattle.byteorder.specs.Endian.{little_bytes}
 use Rattle.language.specs.declared.TheConstants.{LABEL_SIZE}
@@ -34,8 +34,7 @@ eight_for_eight files xs = ap (λ (rest : List ℕ). files ++ rest) (drop_all 8 
 
 -- a flag as a byte
 pub mark_byte : (b : Bool) → bool_byte b ≡ one_if b
-mark_byte true = refl
-mark_byte false = refl
+mark_byte b = grind arith
 
 pub spelled_made : (p : VolumePiece) (mark : ℕ) → p.made ≡ true → mark ≡ one_if p.sealed
     → (1 ∷ mark ∷ [] ++ replicate 6 0 ++ little_bytes 8 p.files ++ p.label ++ replicate 16 0) ≡ spelled p

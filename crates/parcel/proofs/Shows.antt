@@ -36,20 +36,17 @@ module _ (g : Geometry) (R : Path → Bool) where
   -- ---- by the parcels of a volume and above
 
   stripe_blocks : (x : Option StripePart) (f b : ℕ) → blocks_in x f b ≡ node_block (child_nodes stripe_nodes x []) f b
-  stripe_blocks None f b = refl
-  stripe_blocks (Some p) f b = refl
+  stripe_blocks x f b = grind arith
 
   logical_files : (x : Option Logical) (f : ℕ) → files_in x f ≡ node_has_file (child_nodes logical_nodes x []) f
-  logical_files None f = refl
-  logical_files (Some l) f = refl
+  logical_files x f = grind arith
 
   logical_blocks : (x : Option Logical) (f b : ℕ) → blocks_below g x f b ≡ node_block (child_nodes logical_nodes x (stripe_of g f b ∷ [])) f b
   logical_blocks None f b = refl
   logical_blocks (Some l) f b = stripe_blocks (slice_index_or l.stripes.items (stripe_of g f b) None) f b
 
   label_text : (x : Option Label) → shown_label x ≡ node_label (child_nodes label_nodes x [])
-  label_text None = refl
-  label_text (Some l) = refl
+  label_text x = grind arith
 
   pub volume_holds : (x : Option Vol) → HoldsAt g R (child_facts (volume_facts g) x) (child_nodes volume_nodes x)
   volume_holds x = record { all = by x }

@@ -88,8 +88,7 @@ module _ (g : Geometry) where
   blocks_empty (Some l) s f b h = stripe_empty (slice_index_or l.stripes.items s None) f b (new_at IsNewStripe l.stripes.items s h.2)
 
   text_empty : (x : Option Label) → IsWholeChild (λ l. l.bytes ≡ None) x → node_label (child_nodes label_nodes x []) ≡ None
-  text_empty None h = refl
-  text_empty (Some l) h = h
+  text_empty x h = grind arith
 
   -- the nodes of a volume and below it hold nothing
   record IsEmptyAt (n : Nodes) : Type 0 where

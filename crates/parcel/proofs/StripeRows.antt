@@ -2,7 +2,6 @@
 use Rattle.std.proofs.Common.{◌≡◌, ℕ, suc, ◌<◌, Bool, true, false, List, [], ◌∷◌, Some, None, refl, ap, sym, ◌∙◌, length, slice_index_or, arith}
 use Rattle.std.specs.Prelude.{if◌then◌else◌, Option, is_some, IfSome}
 use Rattle.std.specs.List.{AllByRecursion}
-use Rattle.std.proofs.lemmas.Bool.{true≢false}
 use Rattle.affinity.specs.declared.geometry.Geometry.{Geometry}
 use Rattle.language.specs.declared.Block.{Block}
 use Rattle.parcel.specs.Dropping.{Removes}
@@ -11,8 +10,7 @@ use Rattle.parcel.specs.Shown.{blocks_in}
 use Rattle.stripe.specs.Stripe.{StripePart, content_at}
 
 fewer : (t : Bool) (o : Option Block) → is_some (if t then None else o) ≡ true → is_some o ≡ true
-fewer true o h = absurd (true≢false (sym h))
-fewer false o h = h
+fewer t o h = grind arith
 
 module _ (is_gone : ℕ → ℕ → Bool) where
   -- ---- one stripe

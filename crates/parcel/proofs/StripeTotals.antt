@@ -1,9 +1,9 @@
 -- The blocks of a volume, counted by its stripes.
-use Rattle.std.proofs.Common.{◌≡◌, ℕ, ◌≤◌, false, List, Some, None, ap, sym, ◌∙◌, slice_index_or, arith}
+use Rattle.std.proofs.Common.{◌≡◌, ℕ, ◌≤◌, List, Some, None, ap, sym, ◌∙◌, slice_index_or, arith}
 use Rattle.std.specs.Prelude.{Option, IfSome}
 use Rattle.affinity.specs.declared.geometry.Geometry.{Geometry}
 use Rattle.language.specs.declared.Block.{Block}
-use Rattle.meaning.specs.State.{State, blocks_in_stripe, count_below}
+use Rattle.meaning.specs.State.{State, blocks_in_stripe}
 use Rattle.meaning.proofs.Sums.{sum_same, sum_zero}
 use Rattle.parcel.specs.Fits.{FitsStripe}
 use Rattle.parcel.specs.Shown.{blocks_in, blocks_of}
@@ -30,19 +30,16 @@ pub quota_of : (g : Geometry) (s : ℕ) (place : Option StripePart) → IfSome p
 quota_of g s None fits = fits
 quota_of g s (Some p) fits = let most = g.quota_range.1 in omega (arith, fits.quota, most)
 
--- where there is no file or no block, none is counted
-pub no_files : (g : Geometry) → count_below g.files (λ f. false) ≡ 0
-no_files g = sum_zero g.files
-
+-- where there is no block, none is counted
 pub no_blocks : (g : Geometry) → block_total g (λ f b. None) ≡ 0
 no_blocks g = sum_same g.files _ (λ f. 0) (λ f. sum_zero g.blocks) ∙ sum_zero g.files
 
 pub no_totals : (g : Geometry) → record { volumes = 0; files = 0; blocks = 0 } ≡ totals_of g no_facts
-no_totals g i = record { volumes = 0; files = sym (no_files g) i; blocks = sym (no_blocks g) i }
+no_totals g i = record { volumes = 0; files = sym (sum_zero g.files) i; blocks = sym (no_blocks g) i }
 
 pub no_totals_at_all : (g : Geometry) (n : ℕ) → record { volumes = 0; files = 0; blocks = 0 } ≡ sum_totals n (λ v. totals_of g no_facts)
 no_totals_at_all g n i = record {
   volumes = sym (sum_zero n) i;
-  files = sym (sum_same n _ (λ v. 0) (λ v. no_files g) ∙ sum_zero n) i;
+  files = sym (sum_same n _ (λ v. 0) (λ v. sum_zero g.files) ∙ sum_zero n) i;
   blocks = sym (sum_same n _ (λ v. 0) (λ v. no_blocks g) ∙ sum_zero n) i;
 }

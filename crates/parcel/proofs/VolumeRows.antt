@@ -1,5 +1,6 @@
 -- One volume of an aggregate changes, and the others stay.
-use Rattle.std.proofs.Common.{◌≡◌, ℕ, ◌<◌, Bool, true, false, List, Some, None, refl, ap, sym, ◌∙◌, length, slice_index_or, slice_set, ⊎_elim}
+use Rattle.std.proofs.lemmas.Grind.{common_steps}
+use Rattle.std.proofs.Common.{arith, ◌≡◌, ℕ, ◌<◌, Bool, true, false, List, Some, None, refl, ap, sym, ◌∙◌, length, slice_index_or, slice_set, ⊎_elim}
 use Rattle.std.specs.Prelude.{◌&&◌, ◌||◌, ◌==◌, not, if◌then◌else◌, Option}
 use Rattle.std.proofs.lemmas.Bool.{eq-eqb, ne_eqb, cases_eq}
 use Rattle.std.proofs.lemmas.List.{get_or-set_same, get_or-set_other}
@@ -57,21 +58,15 @@ drop_tests g a v r range = let at = at_itself a (aggregate_facts g r v) in λ i.
 -- a part that the change leaves as it was
 kept : {A : Type 0} (part : VolumeFacts → A) (change : VolumeFacts → VolumeFacts) → ((h : VolumeFacts) → part (change h) ≡ part h)
     → (s t : Bool) (h : VolumeFacts) → part (facts_if s (changed_if change t h)) ≡ part (facts_if s h)
-kept part change e true true h = e h
-kept part change e true false h = refl
-kept part change e false t h = refl
+kept part change e s t h = grind (arith, common_steps)
 
 -- a part that isn't there where there are no facts
 unset : (part : VolumeFacts → Bool) → part no_facts ≡ false → (s t : Bool) (h : VolumeFacts) → part (facts_if s (changed_if (λ h. no_facts) t h)) ≡ (not (s && t) && part (facts_if s h))
-unset part e true true h = e
-unset part e true false h = refl
-unset part e false t h = refl
+unset part e s t h = grind (arith, common_steps)
 
 gone : {A : Type 0} (part : VolumeFacts → Option A) → part no_facts ≡ None → (s t : Bool) (h : VolumeFacts)
     → part (facts_if s (changed_if (λ h. no_facts) t h)) ≡ (if s && t then None else part (facts_if s h))
-gone part e true true h = e
-gone part e true false h = refl
-gone part e false t h = refl
+gone part e s t h = grind (arith, common_steps)
 
 module _ (a v : ℕ) (old new : ℕ → VolumeFacts) where
   pub effect_make : ((q : ℕ) → new q ≡ changed_if with_made (v == q) (old q)) → state_with (λ p q. facts_if (a == p) (new q)) ≡ effect (state_with (λ p q. facts_if (a == p) (old q))) (MakeVol a v)
@@ -84,14 +79,10 @@ module _ (a v : ℕ) (old new : ℕ → VolumeFacts) where
   }
     where
       made : (s t : Bool) (h : VolumeFacts) → (facts_if s (changed_if with_made t h)).made ≡ ((s && t) || (facts_if s h).made)
-      made true true h = refl
-      made true false h = refl
-      made false t h = refl
+      made s t h = grind (arith, common_steps)
 
       label : (s t : Bool) (h : VolumeFacts) → (facts_if s (changed_if with_made t h)).label ≡ (if s && t then Some no_label else (facts_if s h).label)
-      label true true h = refl
-      label true false h = refl
-      label false t h = refl
+      label s t h = grind (arith, common_steps)
 
   pub effect_drop : ((q : ℕ) → new q ≡ changed_if (λ h. no_facts) (v == q) (old q)) → state_with (λ p q. facts_if (a == p) (new q))
       ≡ effect (state_with (λ p q. facts_if (a == p) (old q))) (DropVol a v)

@@ -1,13 +1,13 @@
 -- Statement for engineers: The pieces of one volume of the tree, and what the volume has once one of them was read.
-use Rattle.std.specs.Prelude.{◌≡◌, ◌↔◌, ℕ, ◌<◌, Bool, zero, suc, ◌==◌, ◌%◌, ◌^◌, if◌then◌else◌, List, [], ◌∷◌, ◌++◌, length, replicate, unwrap_or, Option, Some, None, IfSome, IsTrue, Result, IsOk, OnOk}
+use Rattle.std.specs.Prelude.{◌≡◌, ◌↔◌, ℕ, ◌<◌, Bool, zero, suc, ◌==◌, ◌%◌, ◌^◌, if◌then◌else◌, List, [], ◌∷◌, length, unwrap_or, Option, Some, None, IfSome, IsTrue, Result, IsOk, OnOk}
 use Rattle.affinity.specs.Geometry.{stripe_of}
 use Rattle.affinity.specs.declared.geometry.Geometry.{Geometry}
-use Rattle.byteorder.specs.Endian.{little_bytes, little_number}
+use Rattle.byteorder.specs.Endian.{little_number}
 use Rattle.language.specs.declared.TheConstants.{LABEL_SIZE}
 use Rattle.stripe.specs.Entries.{IsStripePiece}
 use Rattle.stripe.specs.Stripe.{StripePart}
-use Rattle.device_map.specs.Layout.{slice, volume_piece_size}
-use Rattle.meaning.specs.State.{State, IsState, one_if}
+use Rattle.device_map.specs.Layout.{slice}
+use Rattle.meaning.specs.State.{State, IsState}
 use Rattle.meaning.specs.Serial.{no_label}
 use Rattle.meaning.specs.Subtrees.{Fact, value}
 use Rattle.image.specs.Pieces.{aggregate_of, volume_of, part_of, piece_count, piece_of, piece_size, with_piece}

@@ -1,5 +1,5 @@
 -- Inner: How much volumes hold, and what a volume has that was just made.
-use Rattle.std.specs.Prelude.{ℕ, Bool, true, length, Option, Some, None, is_some}
+use Rattle.std.specs.Prelude.{ℕ, true, length, Option, Some, None, is_some}
 use Rattle.affinity.specs.declared.geometry.Geometry.{Geometry}
 use Rattle.language.specs.declared.Block.{Block}
 use Rattle.meaning.specs.State.{sum_below, count_below, one_if}

@@ -9,7 +9,8 @@ use Rattle.parcel.specs.Fits.{FitsLogical}
 use Rattle.parcel.specs.Shown.{files_in, blocks_below, has_file}
 use Rattle.parcel.specs.declared.parts.Logical.{Logical}
 use Rattle.parcel.specs.Totals.{block_total}
-use Rattle.parcel.proofs.StripeTotals.{no_files, no_blocks}
+use Rattle.meaning.proofs.Sums.{sum_zero}
+use Rattle.parcel.proofs.StripeTotals.{no_blocks}
 use Rattle.parcel.proofs.running.totals.volume_totals.Goals as goal
 use Rattle.parcel.proofs.running.totals.volume_totals.Goals.{in-Some, in-None}
 
@@ -30,7 +31,7 @@ returns c =
         ap (λ p. p.1) b.files-is ∙ b.block_count.ensures ∙ ap (λ o. block_total g (blocks_below g o)) (sym b.in-Some.is),
       )
       | in-None b ↦ (
-        ap (λ p. p.0) b.files-is ∙ sym (no_files g) ∙ ap (λ o. count_below g.files (files_in o)) (sym b.in-None.is),
+        ap (λ p. p.0) b.files-is ∙ sym (sum_zero g.files) ∙ ap (λ o. count_below g.files (files_in o)) (sym b.in-None.is),
         ap (λ p. p.1) b.files-is ∙ sym (no_blocks g) ∙ ap (λ o. block_total g (blocks_below g o)) (sym b.in-None.is),
       )
     ] in
