@@ -64,7 +64,7 @@ fn is_right(arena: &mut Arena<char>, call: &Call) -> bool {
 }
 
 /// Makes these calls, one after the other, and asserts that each answers as it must.
-pub fn checks(rt: &impl Abort, name: &str, arena: &mut Arena<char>, calls: &[Call]) {
+pub fn assert_answers(rt: &impl Abort, name: &str, arena: &mut Arena<char>, calls: &[Call]) {
     for (number, call) in calls.iter().enumerate() {
         assert!(rt; is_right(arena, call), "{name}, at call {number}");
     }

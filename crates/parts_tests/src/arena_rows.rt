@@ -1,11 +1,11 @@
 //! An arena at work, slot by slot.
 //!
-//! A row is a call, whose answer comes last; `checks` makes the calls and asserts that they answer so. `Front` takes a chain (a linked list
-//! of slots) and answers its first slot; `MoveTo` takes a slot and the chain whose last it becomes; `Restore`, a slot and a value that
-//! comes back after `Lend`. `Counts`: how many slots are free, and how many there are.
+//! A row is a call, whose answer comes last. `Front` takes a chain (a linked list of slots) and answers its first slot; `MoveTo` takes a
+//! slot and the chain whose last it becomes; `Restore`, a slot and a value that comes back after `Lend`. `Counts`: how many slots are free,
+//! and how many there are.
 
 use crate::arena_calls::Call::{Counts, Front, Get, Lend, MoveTo, Next, Put, Restore, Take, Write};
-use crate::arena_calls::{Call, checks, made};
+use crate::arena_calls::{Call, assert_answers, made};
 use std::test::Fail;
 
 // Gives the value back. It compiles only for a type that is `Send` (may go to another thread), as an arena is.
@@ -36,7 +36,7 @@ const THREE_SLOTS: [Call; 18] = [
 
 #[test]
 fn three_slots_and_two_chains(rt: HostRuntime) -> Result<(), Fail> {
-    checks(
+    assert_answers(
         &rt,
         "three slots",
         &mut sent(made(rt.alloc(), 3, 2)?),
@@ -118,7 +118,7 @@ const ROWS: [(&str, u8, u8, &[Call]); 4] = [
 fn each_call_is_answered(rt: HostRuntime) -> Result<(), Fail> {
     for (name, slots, chains, calls) in &ROWS {
         let mut arena = made(rt.alloc(), usize::from(*slots), usize::from(*chains))?;
-        checks(&rt, name, &mut arena, calls);
+        assert_answers(&rt, name, &mut arena, calls);
     }
     Ok(())
 }

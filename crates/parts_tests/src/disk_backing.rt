@@ -1,12 +1,11 @@
 //! A device over a file that transfers little at a time, over one whose calls are all refused, and over one in memory.
 //!
-//! `expect` makes calls and asserts their answers: `FINE` (it succeeds), `FAULT` (the device fails), `OUTSIDE` (out of range). `holds` and
-//! `same` assert, too.
+//! A call answers `FINE` (it succeeds), `FAULT` (the device fails) or `OUTSIDE` (out of range).
 ghost use Rattle.std.specs.Prelude.{◌≡◌};
 ghost use Rattle.disk.specs.BackingFile.{device_result};
 
-use crate::common::{holds, same};
-use crate::disk_calls::{Call, FAULT, FINE, OUTSIDE, answers, expect};
+use crate::assertions::{assert_equal, assert_text, assert_true};
+use crate::disk_calls::{Call, FAULT, FINE, OUTSIDE, answers, assert_answers};
 use crate::disk_files::TestFile;
 use disk::{BackingFile, Disk, DiskFault, FileBacked, HostFile, MemDisk};
 use std::alloc::{AllocError, Global};
@@ -173,12 +172,12 @@ fn what_a_file_transfers_in_parts_is_whole(rt: HostRuntime) -> Result<(), Fail> 
     };
     // The file counts as synced, and as 12 bytes long: `opened_synced` makes no call of it.
     let mut disk = FileBacked::new(HostFile::opened_synced(file, 12));
-    expect(&rt, rt.alloc(), &mut disk, &CALLS, &ANSWERS)?;
-    same(&rt, &test_file.read(&rt)?, b"0abcdefgh00z");
+    assert_answers(&rt, rt.alloc(), &mut disk, &CALLS, &ANSWERS)?;
+    assert_text(&rt, &test_file.read(&rt)?, b"0abcdefgh00z");
     let mut whole = [0; 12];
     disk.read_at(0, &mut whole)?;
-    same(&rt, &whole, b"0abcdefgh00z");
-    holds(&rt, syncs.load(Ordering::Relaxed) == 2);
+    assert_text(&rt, &whole, b"0abcdefgh00z");
+    assert_equal(&rt, syncs.load(Ordering::Relaxed), 2);
     drop(disk);
     test_file.remove(&rt)
 }
@@ -187,7 +186,7 @@ fn what_a_file_transfers_in_parts_is_whole(rt: HostRuntime) -> Result<(), Fail> 
 fn a_call_that_is_refused_is_a_fault(rt: HostRuntime) -> Result<(), Fail> {
     let mut disk = FileBacked::new(HostFile::opened_synced(Refusing, 12));
     let wanted = [FAULT, FAULT, FAULT, OUTSIDE, FAULT, FAULT, FAULT];
-    Ok(expect(&rt, rt.alloc(), &mut disk, &CALLS, &wanted)?)
+    Ok(assert_answers(&rt, rt.alloc(), &mut disk, &CALLS, &wanted)?)
 }
 
 /// A device over a file in memory answers each call as the device in memory itself does, also where one call fails.
@@ -198,9 +197,9 @@ fn a_file_in_memory_answers_as_a_device(rt: HostRuntime) -> Result<(), Fail> {
         let wanted = answers(rt.alloc(), &mut wanted, &CALLS)?;
         let disk = failing(rt.alloc(), n)?;
         let mut file = FileBacked::new(DeviceFile { disk });
-        expect(&rt, rt.alloc(), &mut file, &CALLS, wanted.as_slice())?;
+        assert_answers(&rt, rt.alloc(), &mut file, &CALLS, wanted.as_slice())?;
         // A fault shows in the answers.
-        holds(&rt, n == 0 || wanted.as_slice() != ANSWERS.as_slice());
+        assert_true(&rt, n == 0 || wanted.as_slice() != ANSWERS.as_slice());
     }
     Ok(())
 }

@@ -37,7 +37,7 @@ pub(crate) fn answers<D: Disk>(
 }
 
 /// Makes these calls, and asserts that they are answered so.
-pub(crate) fn expect<D: Disk>(
+pub(crate) fn assert_answers<D: Disk>(
     rt: &impl Abort,
     alloc: Global,
     disk: &mut D,

@@ -1,9 +1,8 @@
 //! Files of the system as devices.
 //!
-//! `expect` makes calls and asserts their answers: `FINE` (it succeeds), `FAULT` (the device fails), `OUTSIDE` (out of range). `holds` and
-//! `same` assert, too.
-use crate::common::{holds, same};
-use crate::disk_calls::{Call, FAULT, FINE, OUTSIDE, expect};
+//! A call answers `FINE` (it succeeds), `FAULT` (the device fails) or `OUTSIDE` (out of range).
+use crate::assertions::{assert_equal, assert_text, assert_true};
+use crate::disk_calls::{Call, FAULT, FINE, OUTSIDE, assert_answers};
 use disk::{Disk, DiskFault, FileDisk, FileFault};
 use std::fs::{self, OpenOptions, Permissions};
 use std::os::unix::fs::PermissionsExt;
@@ -70,8 +69,8 @@ fn may_write(rt: &HostRuntime, path: &str) -> bool {
 }
 
 /// Asserts that the file was not created or opened, with `Device` as the reason.
-fn is_fault(rt: &impl Abort, made: Result<FileDisk, FileFault>) {
-    holds(rt, matches!(made, Err(FileFault::Device)));
+fn assert_fault(rt: &impl Abort, made: Result<FileDisk, FileFault>) {
+    assert_equal(rt, made.err(), Some(FileFault::Device));
 }
 
 /// Calls of a device of twelve bytes.
@@ -95,15 +94,15 @@ fn a_file_holds_what_was_written(rt: HostRuntime) -> Result<(), Fail> {
     let test_file = TestFile::new(&rt, "written")?;
     test_file.write(&rt, b"something else that was there")?;
     let mut disk = test_file.create(&rt, 12)?;
-    expect(&rt, rt.alloc(), &mut disk, &CALLS, &ANSWERS)?;
-    same(&rt, &test_file.read(&rt)?, b"\0\0\0abc\0\0\0\0\0z");
+    assert_answers(&rt, rt.alloc(), &mut disk, &CALLS, &ANSWERS)?;
+    assert_text(&rt, &test_file.read(&rt)?, b"\0\0\0abc\0\0\0\0\0z");
     drop(disk);
 
     let mut disk = test_file.open(&rt)?;
-    holds(&rt, disk.len() == 12);
+    assert_equal(&rt, disk.len(), 12);
     let mut part = [0; 5];
     disk.read_at(2, &mut part)?;
-    same(&rt, &part, b"\0abc\0");
+    assert_text(&rt, &part, b"\0abc\0");
     drop(disk);
     test_file.remove(&rt)
 }
@@ -122,8 +121,8 @@ fn a_file_that_ends_early_is_a_fault(rt: HostRuntime) -> Result<(), Fail> {
     let mut disk = test_file.create(&rt, 8)?;
     test_file.write(&rt, b"\0\0\0\0\0\0")?;
     let wanted = [FAULT, FINE, FAULT, OUTSIDE];
-    expect(&rt, rt.alloc(), &mut disk, &SHORT_READS, &wanted)?;
-    holds(&rt, disk.len() == 8);
+    assert_answers(&rt, rt.alloc(), &mut disk, &SHORT_READS, &wanted)?;
+    assert_equal(&rt, disk.len(), 8);
     drop(disk);
     test_file.remove(&rt)
 }
@@ -133,20 +132,20 @@ fn what_the_system_refuses_is_a_fault(rt: HostRuntime) -> Result<(), Fail> {
     let test_file = TestFile::new(&rt, "refused")?;
     let below = format!(in rt.alloc(); "{}/missing/device", test_file.folder)?;
     // There is no such file, nor such a folder, and neither a folder nor `/dev/null` is a regular file.
-    is_fault(&rt, test_file.open(&rt));
-    is_fault(&rt, FileDisk::open(&rt, below.as_str()));
-    is_fault(&rt, FileDisk::open(&rt, test_file.folder.as_str()));
-    is_fault(&rt, test_file.open_read_only(&rt));
-    is_fault(&rt, FileDisk::open_read_only(&rt, below.as_str()));
-    is_fault(
+    assert_fault(&rt, test_file.open(&rt));
+    assert_fault(&rt, FileDisk::open(&rt, below.as_str()));
+    assert_fault(&rt, FileDisk::open(&rt, test_file.folder.as_str()));
+    assert_fault(&rt, test_file.open_read_only(&rt));
+    assert_fault(&rt, FileDisk::open_read_only(&rt, below.as_str()));
+    assert_fault(
         &rt,
         FileDisk::open_read_only(&rt, test_file.folder.as_str()),
     );
-    is_fault(&rt, FileDisk::open_read_only(&rt, "/dev/null"));
-    is_fault(&rt, FileDisk::create(&rt, below.as_str(), 4));
-    is_fault(&rt, FileDisk::create(&rt, test_file.folder.as_str(), 4));
+    assert_fault(&rt, FileDisk::open_read_only(&rt, "/dev/null"));
+    assert_fault(&rt, FileDisk::create(&rt, below.as_str(), 4));
+    assert_fault(&rt, FileDisk::create(&rt, test_file.folder.as_str(), 4));
     // No file is that long.
-    is_fault(&rt, test_file.create(&rt, u64::MAX));
+    assert_fault(&rt, test_file.create(&rt, u64::MAX));
     test_file.remove(&rt)
 }
 
@@ -164,8 +163,8 @@ fn a_write_out_of_range_changes_nothing(rt: HostRuntime) -> Result<(), Fail> {
     let test_file = TestFile::new(&rt, "outside")?;
     test_file.write(&rt, b"kept")?;
     let mut disk = test_file.open(&rt)?;
-    expect(&rt, rt.alloc(), &mut disk, &OUTSIDE_WRITES, &[OUTSIDE; 4])?;
-    same(&rt, &test_file.read(&rt)?, b"kept");
+    assert_answers(&rt, rt.alloc(), &mut disk, &OUTSIDE_WRITES, &[OUTSIDE; 4])?;
+    assert_text(&rt, &test_file.read(&rt)?, b"kept");
     drop(disk);
     test_file.remove(&rt)
 }
@@ -174,8 +173,8 @@ fn a_write_out_of_range_changes_nothing(rt: HostRuntime) -> Result<(), Fail> {
 #[test]
 fn a_file_that_cannot_be_synced_is_a_fault(rt: HostRuntime) {
     let path = "/dev/null";
-    holds(&rt, may_write(&rt, path));
-    is_fault(&rt, FileDisk::open(&rt, path));
+    assert_true(&rt, may_write(&rt, path));
+    assert_fault(&rt, FileDisk::open(&rt, path));
 }
 
 /// Calls of a device that was opened for reading alone.
@@ -193,13 +192,13 @@ fn a_file_opened_for_reading_takes_no_write(rt: HostRuntime) -> Result<(), Fail>
     test_file.write(&rt, b"kept")?;
     fs::set_permissions(&rt, test_file.path.as_str(), Permissions::from_mode(0o444))?;
     let mut disk = test_file.open_read_only(&rt)?;
-    holds(&rt, disk.len() == 4);
+    assert_equal(&rt, disk.len(), 4);
     let wanted = [FINE, FAULT, FINE, OUTSIDE];
-    expect(&rt, rt.alloc(), &mut disk, &READ_ONLY_CALLS, &wanted)?;
+    assert_answers(&rt, rt.alloc(), &mut disk, &READ_ONLY_CALLS, &wanted)?;
     let mut part = [0; 3];
     disk.read_at(1, &mut part)?;
-    same(&rt, &part, b"ept");
-    same(&rt, &test_file.read(&rt)?, b"kept");
+    assert_text(&rt, &part, b"ept");
+    assert_text(&rt, &test_file.read(&rt)?, b"kept");
     drop(disk);
     test_file.remove(&rt)
 }
@@ -209,8 +208,8 @@ fn a_file_opened_for_reading_takes_no_write(rt: HostRuntime) -> Result<(), Fail>
 #[test]
 fn a_file_opened_for_reading_is_not_synced(rt: HostRuntime) {
     let path = "/proc/version";
-    is_fault(&rt, FileDisk::open(&rt, path));
-    holds(&rt, FileDisk::open_read_only(&rt, path).is_ok());
+    assert_fault(&rt, FileDisk::open(&rt, path));
+    assert_true(&rt, FileDisk::open_read_only(&rt, path).is_ok());
 }
 
 #[test]
@@ -224,6 +223,6 @@ fn a_read_only_file_is_a_fault(rt: HostRuntime) -> Result<(), Fail> {
     } else {
         Some(FileFault::Device)
     };
-    holds(&rt, test_file.open(&rt).err() == wanted);
+    assert_equal(&rt, test_file.open(&rt).err(), wanted);
     test_file.remove(&rt)
 }

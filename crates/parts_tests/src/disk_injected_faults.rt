@@ -1,6 +1,6 @@
 //! Calls that fail by an injected fault, and devices for which there is no memory.
-use crate::common::{holds, same};
-use crate::disk_calls::{Call, FAULT, FINE, OUTSIDE, expect};
+use crate::assertions::{assert_equal, assert_true};
+use crate::disk_calls::{Call, FAULT, FINE, OUTSIDE, assert_answers};
 use disk::{DiskFault, MemDisk, Torn};
 use std::alloc::{AllocError, Global};
 use std::test::Fail;
@@ -64,14 +64,13 @@ fn injected_faults_fail_the_calls_that_they_name(rt: HostRuntime) -> Result<(), 
         for injected_fault in injected_faults {
             set(&mut disk, injected_fault);
         }
-        // Makes the calls, and asserts that they are answered so.
-        expect(&rt, rt.alloc(), &mut disk, &CALLS, &wanted)?;
+        assert_answers(&rt, rt.alloc(), &mut disk, &CALLS, &wanted)?;
         // A call that answers `OutOfRange` is not counted.
-        holds(&rt, disk.calls() == 4);
+        assert_equal(&rt, disk.calls(), 4);
         // A crash that leaves the synced bytes (`Torn::Old`) also removes the fault.
         let mut disk = disk.crash(Torn::Old);
-        holds(&rt, disk.calls() == 0);
-        expect(&rt, rt.alloc(), &mut disk, &CALLS, &WITHOUT_FAULT)?;
+        assert_equal(&rt, disk.calls(), 0);
+        assert_answers(&rt, rt.alloc(), &mut disk, &CALLS, &WITHOUT_FAULT)?;
     }
     Ok(())
 }
@@ -89,16 +88,16 @@ fn a_device_in_memory_is_made_at_the_next_try(rt: HostRuntime) -> Result<(), Fai
         Ok(disk) => disk,
         Err(_) => MemDisk::new(alloc, 3)?,
     };
-    same(&rt, zeros.bytes(), &[0; 3]);
+    assert_equal(&rt, zeros.bytes(), [0; 3].as_slice());
     let given = match of_three(alloc) {
         Ok(disk) => disk,
         Err(_) => of_three(alloc)?,
     };
-    same(&rt, given.bytes(), &[1, 2, 3]);
+    assert_equal(&rt, given.bytes(), [1, 2, 3].as_slice());
     Ok(())
 }
 
 #[test]
 fn a_length_that_no_memory_has_is_refused(rt: HostRuntime) {
-    holds(&rt, MemDisk::new(rt.alloc(), u64::MAX).is_err());
+    assert_true(&rt, MemDisk::new(rt.alloc(), u64::MAX).is_err());
 }

@@ -1,7 +1,7 @@
 //! What each kind of crash leaves.
 ghost use Rattle.disk.specs.Torn.{HasPattern};
 
-use crate::common::same;
+use crate::assertions::assert_equal;
 use crate::disk_calls::{Call, answers};
 use disk::{MemDisk, Torn};
 use std::alloc::{AllocError, Global};
@@ -80,7 +80,7 @@ fn device_of(alloc: Global, row: &Row) -> Result<MemDisk, AllocError> {
 }
 
 /// Asserts that a crash of this kind leaves these bytes of the device. A second crash changes none, as nothing is unsynced after the first.
-fn leaves(
+fn assert_left(
     rt: &impl Abort,
     alloc: Global,
     row: &Row,
@@ -90,25 +90,25 @@ fn leaves(
     requires { HasPattern torn }
 {
     let disk = device_of(alloc, row)?.crash(torn);
-    same(rt, disk.bytes(), want);
-    same(rt, disk.crash(Torn::Fill(8)).bytes(), want);
+    assert_equal(rt, disk.bytes(), want);
+    assert_equal(rt, disk.crash(Torn::Fill(8)).bytes(), want);
     Ok(())
 }
 
 /// Asserts that after these calls each kind of crash leaves what the row says.
-fn tears(rt: &impl Abort, alloc: Global, row: &Row) -> Result<(), AllocError> {
-    same(rt, device_of(alloc, row)?.bytes(), &row.now);
-    leaves(rt, alloc, row, Torn::Old, &row.old)?;
-    leaves(rt, alloc, row, Torn::New, &row.new)?;
-    leaves(rt, alloc, row, Torn::Fill(7), &row.filled)?;
+fn assert_torn(rt: &impl Abort, alloc: Global, row: &Row) -> Result<(), AllocError> {
+    assert_equal(rt, device_of(alloc, row)?.bytes(), row.now.as_slice());
+    assert_left(rt, alloc, row, Torn::Old, &row.old)?;
+    assert_left(rt, alloc, row, Torn::New, &row.new)?;
+    assert_left(rt, alloc, row, Torn::Fill(7), &row.filled)?;
     let mixed = Torn::Mixed(vec![in alloc; 1, 77, 1]?);
-    leaves(rt, alloc, row, mixed, &row.mixed)
+    assert_left(rt, alloc, row, mixed, &row.mixed)
 }
 
 #[test]
 fn each_kind_of_crash_tears_what_is_unsynced(rt: HostRuntime) -> Result<(), Fail> {
     for row in &ROWS {
-        tears(&rt, rt.alloc(), row)?;
+        assert_torn(&rt, rt.alloc(), row)?;
     }
     Ok(())
 }

@@ -6,7 +6,7 @@ mod arena_calls;
 #[cfg(test)]
 mod arena_rows;
 #[cfg(test)]
-mod common;
+mod assertions;
 #[cfg(test)]
 mod disk_backing;
 #[cfg(test)]

@@ -2,7 +2,7 @@
 ghost use Rattle.std.specs.Prelude.{◌≡◌, IfOk};
 ghost use Rattle.run_queue.specs.RunQueue.{queue_at_start};
 
-use crate::common::holds;
+use crate::assertions::{assert_equal, assert_true};
 use affinity::{Affinity, Geometry, Place};
 use run_queue::{QueuedMessage, RunQueue};
 use std::alloc::{AllocError, Global};
@@ -30,9 +30,9 @@ fn a_run_queue_is_made_at_the_next_try(rt: HostRuntime) -> Result<(), Fail> {
         changing: true,
         ticket: 0,
     };
-    // `next` gives the first message that may be dispatched, and leaves it in the queue; `true`: the log has room. `holds` asserts.
-    holds(&rt, run_queue.next(true).is_none());
+    // `next` gives the first message that may be dispatched, and leaves it in the queue; `true`: the log has room.
+    assert_true(&rt, run_queue.next(true).is_none());
     run_queue.arrive(*queued);
-    holds(&rt, run_queue.next(true) == Some(*queued));
+    assert_equal(&rt, run_queue.next(true), Some(*queued));
     Ok(())
 }

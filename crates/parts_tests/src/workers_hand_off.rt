@@ -1,10 +1,10 @@
 //! Jobs handed to real threads, and their results.
 //!
 //! `Bench::open` takes the number of places and that of workers, of which each has one of the `seats`; in clauses `slots` is the number of
-//! places. A gate is a hook: `OpenGate` does nothing, so it holds no job up. `holds` asserts.
+//! places. A gate is a hook: `OpenGate` does nothing, so it holds no job up.
 ghost use Rattle.std.specs.Prelude.{◌≡◌, ◌<◌, ◌≤◌};
 
-use crate::common::holds;
+use crate::assertions::{assert_equal, assert_true};
 use affinity::{Geometry, place_of};
 use message::{Block, Msg, Reply};
 use parcel::{Job, Tree, run};
@@ -156,10 +156,8 @@ fn a_bench_is_opened_at_the_next_try(rt: HostRuntime) -> Result<(), Fail> {
         Ok(opened) => opened,
         Err(_) => Bench::open(alloc, 2, 3)?,
     };
-    holds(
-        &rt,
-        dispatch_seat.places() == 2 && !dispatch_seat.any_lent() && seats.len() == 3,
-    );
+    assert_true(&rt, !dispatch_seat.any_lent());
+    assert_equal(&rt, (dispatch_seat.places(), seats.len()), (2, 3));
     Ok(())
 }
 
@@ -519,7 +517,7 @@ fn one_worker_answers_one_job(rt: HostRuntime) -> Result<(), Fail> {
         work: Work::Collect(alone.as_slice()),
     };
     let collected = bench.with_workers(&rt, &OpenGate, seats, &mut dispatcher)??;
-    holds(&rt, offered && collected);
+    assert_true(&rt, offered && collected);
     Ok(())
 }
 
@@ -529,7 +527,7 @@ fn a_task_is_done_beside_a_worker(rt: HostRuntime) -> Result<(), Fail> {
     let alone = replies_alone(rt.alloc())?;
     let work = Work::OfferAndCollect(alone.as_slice());
     let fine = at_bench(&rt, rt.alloc(), &OpenGate, 2, 1, work)?;
-    holds(&rt, fine);
+    assert_true(&rt, fine);
     Ok(())
 }
 
@@ -537,14 +535,14 @@ fn a_task_is_done_beside_a_worker(rt: HostRuntime) -> Result<(), Fail> {
 #[test]
 fn a_bench_with_no_job_starts_and_ends(rt: HostRuntime) -> Result<(), Fail> {
     let fine = at_bench(&rt, rt.alloc(), &OpenGate, 2, 3, Work::Nothing)?;
-    holds(&rt, fine);
+    assert_true(&rt, fine);
     Ok(())
 }
 
 #[test]
 fn a_wait_ends_with_the_delivery(rt: HostRuntime) -> Result<(), Fail> {
     let fine = at_bench(&rt, rt.alloc(), &OpenGate, 1, 1, Work::WaitForJobs)?;
-    holds(&rt, fine);
+    assert_true(&rt, fine);
     Ok(())
 }
 
@@ -561,7 +559,7 @@ fn two_workers_meet<R: Threads + Wait + Sync>(
 #[test]
 fn two_jobs_run_at_once(rt: HostRuntime) -> Result<(), Fail> {
     let fine = two_workers_meet(&rt, rt.alloc(), 0)?;
-    holds(&rt, fine);
+    assert_true(&rt, fine);
     Ok(())
 }
 
@@ -569,7 +567,7 @@ fn two_jobs_run_at_once(rt: HostRuntime) -> Result<(), Fail> {
 fn a_worker_that_is_held_up_wakes_another(rt: HostRuntime) -> Result<(), Fail> {
     let meetings = most_rounds(&rt).min(MEETINGS);
     let fine = two_workers_meet(&rt, rt.alloc(), meetings)?;
-    holds(&rt, fine);
+    assert_true(&rt, fine);
     Ok(())
 }
 
@@ -579,7 +577,7 @@ fn each_of_100000_jobs_comes_back_once(rt: HostRuntime) -> Result<(), Fail> {
     for (places, rounds) in [(1, 25_000), (2, 12_500), (8, 3_125), (64, 391)] {
         let work = Work::HandOff(most.min(rounds));
         let fine = at_bench(&rt, rt.alloc(), &OpenGate, places, places, work)?;
-        holds(&rt, fine);
+        assert_true(&rt, fine);
     }
     Ok(())
 }

@@ -54,8 +54,8 @@ const NUMBERED: [([u16; 8], &[Numbered]); 3] = [
     ),
 ];
 
-// Asserts what the rows say. `place_of` gives an affinity (not a `Place`); none where a number is out of range.
-fn checks_numbers(rt: &impl Abort, g: &Geometry, rows: &[Numbered]) {
+// Asserts that messages are numbered as the rows say. `place_of` gives an affinity (not a `Place`); none where a number is out of range.
+fn assert_numbered(rt: &impl Abort, g: &Geometry, rows: &[Numbered]) {
     for (kind, numbers, want) in rows {
         let found = place_of(g, *kind, *numbers).map(|a| (a.number(), a.end()));
         assert!(rt; found == *want, "{kind:?} {numbers:?}");
@@ -65,7 +65,7 @@ fn checks_numbers(rt: &impl Abort, g: &Geometry, rows: &[Numbered]) {
 #[test]
 fn affinities_are_numbered(rt: HostRuntime) -> Result<(), Fail> {
     for &(numbers, rows) in &NUMBERED {
-        checks_numbers(&rt, &Geometry::new(numbers)?, rows);
+        assert_numbered(&rt, &Geometry::new(numbers)?, rows);
     }
     Ok(())
 }
@@ -95,7 +95,7 @@ const ARE_RELATED: [[bool; 7]; 7] = [
 ];
 
 /// Asserts that this message's affinity is related to that of each message of `EACH_AFFINITY` exactly if the row says so.
-fn checks_related(rt: &impl Abort, g: &Geometry, message: (Kind, [u16; 4]), row: &[bool]) {
+fn assert_related(rt: &impl Abort, g: &Geometry, message: (Kind, [u16; 4]), row: &[bool]) {
     let found = place_of(g, message.0, message.1);
     for ((kind, numbers), want) in EACH_AFFINITY.iter().zip(row) {
         let other = place_of(g, *kind, *numbers);
@@ -108,7 +108,7 @@ fn checks_related(rt: &impl Abort, g: &Geometry, message: (Kind, [u16; 4]), row:
 fn affinities_are_related_as_listed(rt: HostRuntime) -> Result<(), Fail> {
     let g = Geometry::new(SMALL)?;
     for (message, row) in EACH_AFFINITY.iter().zip(ARE_RELATED.iter()) {
-        checks_related(&rt, &g, *message, row);
+        assert_related(&rt, &g, *message, row);
     }
     Ok(())
 }

@@ -4,6 +4,8 @@
 #[cfg(test)]
 mod affinity_places;
 #[cfg(test)]
+mod assertions;
+#[cfg(test)]
 mod common;
 #[cfg(test)]
 mod message_lines;

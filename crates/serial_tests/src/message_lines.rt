@@ -5,7 +5,7 @@ use message::{Msg, parse_line};
 use std::process::Abort;
 
 // Asserts that this line is this message; none: that it is no message.
-fn says(rt: &impl Abort, line: &[u8], message: Option<Msg>) {
+fn assert_parsed(rt: &impl Abort, line: &[u8], message: Option<Msg>) {
     assert_eq!(rt; parse_line(line), message, "at {line:?}");
 }
 
@@ -43,15 +43,15 @@ const WRITES: [(&str, [u16; 4], &[u8]); 4] = [
 #[test]
 fn reads_messages(rt: HostRuntime) {
     for (line, message) in MESSAGES.iter() {
-        says(&rt, line.as_bytes(), Some(*message));
+        assert_parsed(&rt, line.as_bytes(), Some(*message));
     }
     for (line, numbers, first) in WRITES.iter() {
         let [a, v, f, b] = *numbers;
         let message = Msg::Write(a, v, f, b, block_of(first));
-        says(&rt, line.as_bytes(), Some(message));
+        assert_parsed(&rt, line.as_bytes(), Some(message));
     }
     let label = Msg::SetLabel(0, 0, padded(b"ab"));
-    says(&rt, b"setlabel 0 0 6162", Some(label));
+    assert_parsed(&rt, b"setlabel 0 0 6162", Some(label));
 }
 
 /// Lines that are no messages.
@@ -113,9 +113,9 @@ const OTHER_LINES: [&str; 52] = [
 #[test]
 fn refuses_other_lines(rt: HostRuntime) {
     for line in OTHER_LINES.iter() {
-        says(&rt, line.as_bytes(), None);
+        assert_parsed(&rt, line.as_bytes(), None);
     }
     for byte in [0, 0xff] {
-        says(&rt, &[byte], None);
+        assert_parsed(&rt, &[byte], None);
     }
 }

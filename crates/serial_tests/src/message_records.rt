@@ -1,12 +1,13 @@
 //! Messages as records.
 
-use crate::common::{block_of, padded, same};
+use crate::assertions::assert_equal;
+use crate::common::{block_of, padded};
 use affinity::Geometry;
 use message::{Msg, decode, encode};
 use std::process::Abort;
 
 // Asserts that the record of these first bytes, with zeros after them, is this message; none: that it is no message in range.
-fn decodes(rt: &impl Abort, first: &[u8], g: &Geometry, message: Option<Msg>) {
+fn assert_decoded(rt: &impl Abort, first: &[u8], g: &Geometry, message: Option<Msg>) {
     assert_eq!(rt; decode(&padded(first), g), message, "at {first:?}");
 }
 
@@ -28,25 +29,25 @@ const RECORDS: [(&[u8], Option<Msg>); 9] = [
 #[test]
 fn records_have_one_spelling(rt: HostRuntime) {
     let g = Geometry::default();
-    // `encode` has to overwrite each 7. `same` asserts that bytes are equal.
+    // `encode` has to overwrite each 7.
     let mut out = [7; 520];
     encode(&Msg::MakeVol(0, 0), &mut out);
-    same(&rt, &out, &padded::<520>(&[1]));
+    assert_equal(&rt, out, padded::<520>(&[1]));
     encode(&Msg::Write(0, 0, 1, 2, block_of(b"ab")), &mut out);
     let write = [7, 0, 0, 1, 2, 0, 0, 0, 0x61, 0x62];
-    same(&rt, &out, &padded::<520>(&write));
+    assert_equal(&rt, out, padded::<520>(&write));
     encode(&Msg::SetLabel(0, 0, padded(b"ab")), &mut out);
     let label = [13, 0, 0, 0, 0, 0, 0, 0, 0x61, 0x62];
-    same(&rt, &out, &padded::<520>(&label));
+    assert_equal(&rt, out, padded::<520>(&label));
     encode(&Msg::Punch(255, 254, 253, 258), &mut out);
     let punch = [8, 255, 254, 253, 2, 1];
-    same(&rt, &out, &padded::<520>(&punch));
+    assert_equal(&rt, out, padded::<520>(&punch));
 
     let message = Msg::Write(0, 0, 1, 2, block_of(b"ab"));
-    decodes(&rt, &write, &g, Some(message));
+    assert_decoded(&rt, &write, &g, Some(message));
     let message = Msg::SetLabel(0, 0, padded(b"ab"));
-    decodes(&rt, &label, &g, Some(message));
+    assert_decoded(&rt, &label, &g, Some(message));
     for (first, message) in RECORDS.iter() {
-        decodes(&rt, first, &g, *message);
+        assert_decoded(&rt, first, &g, *message);
     }
 }

@@ -1,14 +1,15 @@
 //! The lines of replies.
 
-use crate::common::{block_of, padded, same};
+use crate::assertions::assert_text;
+use crate::common::{block_of, padded};
 use message::{Refusal, Reply, no_message_line, write_reply};
 use std::process::Abort;
 
 // Asserts that this reply is this line. The longest line has 1,031 bytes; 7 is a byte that `write_reply` has to overwrite.
-fn spells(rt: &impl Abort, reply: &Reply, line: &[u8]) {
+fn assert_spelled(rt: &impl Abort, reply: &Reply, line: &[u8]) {
     let mut out = [7; 1031];
     let size = write_reply(reply, &mut out);
-    same(rt, &out[..size], line);
+    assert_text(rt, &out[..size], line);
 }
 
 /// Replies and their lines. `Files` has a number whose bit f is 1 if file f is there.
@@ -62,12 +63,12 @@ const BLOCKS: [(&[u8], &str); 5] = [
 #[test]
 fn writes_replies(rt: HostRuntime) {
     for (reply, line) in REPLIES.iter() {
-        spells(&rt, reply, line.as_bytes());
+        assert_spelled(&rt, reply, line.as_bytes());
     }
     for (first, line) in BLOCKS.iter() {
-        spells(&rt, &Reply::Block(block_of(first)), line.as_bytes());
+        assert_spelled(&rt, &Reply::Block(block_of(first)), line.as_bytes());
     }
-    spells(&rt, &Reply::Label([0; 32]), b"label 00\n");
-    spells(&rt, &Reply::Label(padded(b"ab")), b"label 6162\n");
-    same(&rt, no_message_line(), b"error line\n");
+    assert_spelled(&rt, &Reply::Label([0; 32]), b"label 00\n");
+    assert_spelled(&rt, &Reply::Label(padded(b"ab")), b"label 6162\n");
+    assert_text(&rt, no_message_line(), b"error line\n");
 }

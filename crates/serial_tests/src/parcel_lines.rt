@@ -1,5 +1,5 @@
 //! Lines to a tree, one message at a time: what a message asks for is lent to it, and restored after it.
-use crate::common::same_text;
+use crate::assertions::assert_named_text;
 use crate::plain_meaning::SESSIONS;
 use affinity::{Geometry, place_of};
 use message::{Msg, Refusal, Reply, no_message_line, parse_line, write_reply};
@@ -42,7 +42,7 @@ fn append_reply(
 }
 
 /// Asserts that a tree answers each row's line with the row's reply. `name` says what the rows show.
-pub(crate) fn expect_replies(
+pub(crate) fn assert_replies(
     rt: &impl Abort,
     alloc: Global,
     tree: &mut Tree,
@@ -56,7 +56,8 @@ pub(crate) fn expect_replies(
         replies.extend_from_slice(reply.as_bytes())?;
         replies.push(b'\n')?;
     }
-    same_text(rt, name, output.as_slice(), replies.as_slice());
+    assert_named_text(rt, name, output.as_slice(), replies.as_slice());
+
     Ok(())
 }
 
@@ -65,7 +66,7 @@ fn each_session_is_answered_as_by_the_serial_server(rt: HostRuntime) -> Result<(
     // What each shows, the numbers of its geometry, and lines with the replies to them.
     for &(name, numbers, rows) in &SESSIONS {
         let mut tree = Tree::new(rt.alloc(), Geometry::new(numbers)?)?;
-        expect_replies(&rt, rt.alloc(), &mut tree, name, rows)?;
+        assert_replies(&rt, rt.alloc(), &mut tree, name, rows)?;
     }
     Ok(())
 }

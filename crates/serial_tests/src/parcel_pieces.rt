@@ -5,12 +5,13 @@
 //! entries of 520 bytes: 1, the file, the block (two bytes), four zeros, and the content from 8 on.
 //!
 //! `SMALL` is a geometry of one volume of two files, in two stripes that hold two blocks each: piece 0 is the volume's, 1 and 2 are those
-//! of stripes 0 and 1. `holds` asserts.
+//! of stripes 0 and 1.
 ghost use Rattle.std.specs.Prelude.{◌≡◌, length, IfOk, OnOk};
 ghost use Rattle.serial_tests.specs.Pieces.{IsNewTree, IsSmallTree};
 
-use crate::common::{SMALL, holds};
-use crate::parcel_lines::expect_replies;
+use crate::assertions::{assert_equal, assert_true};
+use crate::common::SMALL;
+use crate::parcel_lines::assert_replies;
 use affinity::Geometry;
 use parcel::{BadPiece, Tree, read_piece, read_piece_1, write_piece};
 use std::alloc::Global;
@@ -72,22 +73,22 @@ fn read_both(tree: &mut Tree, volume: &[u8], stripe: &[u8]) -> Result<(), BadPie
 }
 
 // Asserts that the tree is written as these bytes of the volume and the first stripe, and as zeros for the second stripe.
-fn expect_written(rt: &impl Abort, tree: &Tree, volume: &[u8], stripe: &[u8])
+fn assert_written(rt: &impl Abort, tree: &Tree, volume: &[u8], stripe: &[u8])
     requires { IsSmallTree tree.now }
 {
     let mut of_volume = [9; 64];
     write_piece(tree, 0, &mut of_volume);
-    holds(rt, of_volume.as_slice() == volume);
+    assert_equal(rt, of_volume.as_slice(), volume);
     let mut of_stripe = [9; 1040];
     write_piece(tree, 1, &mut of_stripe);
-    holds(rt, of_stripe.as_slice() == stripe);
+    assert_equal(rt, of_stripe.as_slice(), stripe);
     write_piece(tree, 2, &mut of_stripe);
-    holds(rt, of_stripe.iter().all(|byte| *byte == 0));
+    assert_true(rt, of_stripe.iter().all(|byte| *byte == 0));
 }
 
 // Asserts that a new tree takes in a volume's piece and then a stripe's, with these bytes, exactly if `good`, and that it is written as the
 // same bytes then.
-fn expect_taken_in(
+fn assert_taken_in(
     rt: &impl Abort,
     alloc: Global,
     volume: &[(usize, u8)],
@@ -98,9 +99,9 @@ fn expect_taken_in(
     let volume = volume_piece(volume);
     let stripe = stripe_piece(stripe);
     let read = read_both(&mut tree, &volume, &stripe);
-    holds(rt, read.is_ok() == good);
+    assert_equal(rt, read.is_ok(), good);
     if read.is_ok() {
-        expect_written(rt, &tree, &volume, &stripe);
+        assert_written(rt, &tree, &volume, &stripe);
     }
     Ok(())
 }
@@ -134,7 +135,7 @@ const GOOD_AND_BAD: [(&[Row<'static>], bool); 2] = [(&GOOD, true), (&BAD, false)
 fn good_pieces_come_back_and_bad_ones_are_refused(rt: HostRuntime) -> Result<(), Fail> {
     for &(rows, good) in &GOOD_AND_BAD {
         for (volume, stripe) in rows {
-            expect_taken_in(&rt, rt.alloc(), volume, stripe, good)?;
+            assert_taken_in(&rt, rt.alloc(), volume, stripe, good)?;
         }
     }
     Ok(())
@@ -170,7 +171,7 @@ const ANSWERS: [(&str, Row<'static>, &[(&str, &str)]); 3] = [
 ];
 
 // Asserts that a new tree takes in both pieces, and answers each line by its reply.
-fn expect_answers_of(
+fn assert_answers(
     rt: &impl Abort,
     alloc: Global,
     name: &str,
@@ -180,21 +181,21 @@ fn expect_answers_of(
     let (volume, stripe) = pieces;
     let mut tree = new_tree(alloc)?;
     let read = read_both(&mut tree, &volume_piece(volume), &stripe_piece(stripe));
-    holds(rt, read == Ok(()));
-    expect_replies(rt, alloc, &mut tree, name, rows)?;
+    assert_equal(rt, read, Ok(()));
+    assert_replies(rt, alloc, &mut tree, name, rows)?;
     Ok(())
 }
 
 #[test]
 fn a_tree_answers_by_its_pieces(rt: HostRuntime) -> Result<(), Fail> {
     for &(name, pieces, rows) in &ANSWERS {
-        expect_answers_of(&rt, rt.alloc(), name, pieces, rows)?;
+        assert_answers(&rt, rt.alloc(), name, pieces, rows)?;
     }
     Ok(())
 }
 
 // Asserts that a new tree takes in this volume's piece of an image of version 1 exactly if `good`, and that the label is zeros then.
-fn expect_version_1(
+fn assert_version_1(
     rt: &impl Abort,
     alloc: Global,
     volume: &[(usize, u8)],
@@ -202,9 +203,9 @@ fn expect_version_1(
 ) -> Result<(), Fail> {
     let mut tree = new_tree(alloc)?;
     let read = read_version_1_volume(&mut tree, &volume_piece(volume));
-    holds(rt, read.is_ok() == good);
+    assert_equal(rt, read.is_ok(), good);
     if good {
-        expect_replies(
+        assert_replies(
             rt,
             alloc,
             &mut tree,
@@ -225,6 +226,6 @@ fn read_version_1_volume(tree: &mut Tree, volume: &[u8]) -> Result<(), BadPiece>
 #[test]
 fn version_1_has_no_label(rt: HostRuntime) -> Result<(), Fail> {
     let alloc = rt.alloc();
-    expect_version_1(&rt, alloc, &[(0, 1), (8, 3)], true)?;
-    expect_version_1(&rt, alloc, &VOLUME, false)
+    assert_version_1(&rt, alloc, &[(0, 1), (8, 3)], true)?;
+    assert_version_1(&rt, alloc, &VOLUME, false)
 }

@@ -1,9 +1,10 @@
-//! Parts of a small tree (`SMALL`: one volume in two stripes) are lent and restored. `holds` asserts.
+//! Parts of a small tree (`SMALL`: one volume in two stripes) are lent and restored.
 ghost use Rattle.std.specs.Prelude.{[], ◌∷◌};
 ghost use Rattle.affinity.specs.Interval.{IsAffinityOf};
 ghost use Rattle.affinity.specs.Place.{path_of_kind};
 
-use crate::common::{SMALL, holds};
+use crate::assertions::{assert_equal, assert_true};
+use crate::common::SMALL;
 use affinity::{Affinity, Geometry, Kind, place_of};
 use parcel::{Parcels, Standing, StripeParcel, Tree};
 use std::alloc::{AllocError, Global};
@@ -42,9 +43,9 @@ fn lend_stripe(rt: &impl Abort, tree: &mut Tree, block: u16) -> StripeParcel {
 
 // Asserts that for each row, a kind, a block and `out`, the parcels at the affinity of its message are lent, and stay out; but if `out`, it
 // is refused, as some are out already.
-fn expect_each(rt: &impl Abort, tree: &mut Tree, rows: &[(Kind, u16, bool)]) {
+fn assert_lent(rt: &impl Abort, tree: &mut Tree, rows: &[(Kind, u16, bool)]) {
     for (kind, block, out) in rows {
-        holds(rt, lent(rt, tree, *kind, *block).is_none() == *out);
+        assert_equal(rt, lent(rt, tree, *kind, *block).is_none(), *out);
     }
 }
 
@@ -66,7 +67,7 @@ const BESIDE: [(Kind, u16, bool); 9] = [
 fn beside_a_stripe_that_is_out(rt: HostRuntime) -> Result<(), Fail> {
     let mut tree = new_tree(rt.alloc(), Geometry::new(SMALL)?)?;
     let _first = lend_stripe(&rt, &mut tree, 0);
-    expect_each(&rt, &mut tree, &BESIDE);
+    assert_lent(&rt, &mut tree, &BESIDE);
     Ok(())
 }
 
@@ -80,7 +81,7 @@ const ALL_OUT: [(Kind, u16, bool); 3] = [
 #[test]
 fn all_is_out_with_the_server(rt: HostRuntime) -> Result<(), Fail> {
     let mut tree = new_tree(rt.alloc(), Geometry::new(SMALL)?)?;
-    expect_each(&rt, &mut tree, &ALL_OUT);
+    assert_lent(&rt, &mut tree, &ALL_OUT);
     Ok(())
 }
 
@@ -90,8 +91,8 @@ fn a_stripe_is_restored_at_its_own_place_only(rt: HostRuntime) -> Result<(), Fai
     let stripe = lend_stripe(&rt, &mut tree, 0);
     let volume = affinity_of(&rt, &tree, Kind::Usage, 0);
     let back = refused_at(&mut tree, volume, stripe).expect(&rt, "handed back");
-    holds(&rt, matches!(back, Parcels::Stripe(_)));
-    expect_each(&rt, &mut tree, &[(Kind::Usage, 0, true)]);
+    assert_true(&rt, matches!(back, Parcels::Stripe(_)));
+    assert_lent(&rt, &mut tree, &[(Kind::Usage, 0, true)]);
     Ok(())
 }
 

@@ -1,10 +1,11 @@
 //! What messages mean, one after the other: tables of lines, each with the reply to it.
 //!
 //! Geometries: `SMALL` has one volume of two files of four blocks, in two stripes that hold two blocks each; `DEFAULTS` is the program's
-//! own. `expect_session` asserts that a server answers so.
+//! own.
+
 use crate::common::{DEFAULTS, SMALL};
 use crate::plain_borders::{SMALL_ROWS, WIDE, WIDE_ROWS};
-use crate::plain_rows::{Session, expect_session};
+use crate::plain_rows::{Session, assert_session};
 use std::test::Fail;
 
 /// Each kind of message, in range and out of it, and a line that is no message.
@@ -225,7 +226,7 @@ pub(crate) const SESSIONS: [Session<'static>; 15] = [
 #[test]
 fn each_session_is_answered(rt: HostRuntime) -> Result<(), Fail> {
     for session in &SESSIONS {
-        expect_session(&rt, rt.alloc(), session)?;
+        assert_session(&rt, rt.alloc(), session)?;
     }
     Ok(())
 }

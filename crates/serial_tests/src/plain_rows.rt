@@ -1,5 +1,5 @@
 //! Lines, each with the reply to it.
-use crate::common::same_text;
+use crate::assertions::{assert_equal, assert_named_text};
 use affinity::Geometry;
 use plain::{PlainFault, serve_plain};
 use std::alloc::{AllocError, Global};
@@ -26,16 +26,11 @@ pub(crate) fn room(alloc: Global) -> Result<Vec<u8>, AllocError> {
     Vec::with_capacity(alloc, 4096)
 }
 
-/// Asserts that a session ended so.
-pub(crate) fn ends(rt: &impl Abort, got: Result<(), PlainFault>, want: Result<(), PlainFault>) {
-    assert_eq!(rt; got, want);
-}
-
 /// What a session shows, the geometry that it is served at, and lines with the reply to each.
 pub(crate) type Session<'a> = (&'a str, [u16; 8], &'a [(&'a str, &'a str)]);
 
 /// Serves the lines of a session, and asserts that the replies are those of its rows.
-pub(crate) fn expect_session(
+pub(crate) fn assert_session(
     rt: &impl Abort,
     alloc: Global,
     session: &Session<'_>,
@@ -51,7 +46,8 @@ pub(crate) fn expect_session(
     }
     let mut output = room(alloc)?;
     let end = served_into(alloc, numbers, input.as_slice(), &mut output);
-    ends(rt, end, Ok(()));
-    same_text(rt, name, output.as_slice(), replies.as_slice());
+    assert_equal(rt, end, Ok(()));
+    assert_named_text(rt, name, output.as_slice(), replies.as_slice());
+
     Ok(())
 }

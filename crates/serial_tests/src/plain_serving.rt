@@ -1,9 +1,9 @@
 //! How a session ends: at the end of its input, at a failed read, at a failed write.
 //!
-//! `ends`, `holds` and `same` are assertions. `room` gives an empty output with room for all that a test writes. `SMALL` is a geometry of
-//! one volume of two files of four blocks.
-use crate::common::{SMALL, holds, same};
-use crate::plain_rows::{ends, room, served_into};
+//! `room` gives an empty output with room for all that a test writes. `SMALL` is a geometry of one volume of two files of four blocks.
+use crate::assertions::{assert_equal, assert_text};
+use crate::common::SMALL;
+use crate::plain_rows::{room, served_into};
 use plain::PlainFault;
 use std::alloc::{AllocError, Global};
 use std::io;
@@ -67,7 +67,7 @@ impl Write for FailingOnce<'_> {
 }
 
 /// Asserts that this is written for an input at the small geometry, and that its session ends so.
-fn expect<R: Read + Drop>(
+fn assert_served<R: Read + Drop>(
     rt: &impl Abort,
     alloc: Global,
     input: R,
@@ -75,8 +75,8 @@ fn expect<R: Read + Drop>(
     replies: &[u8],
 ) -> Result<(), AllocError> {
     let mut output = room(alloc)?;
-    ends(rt, served_into(alloc, SMALL, input, &mut output), end);
-    same(rt, output.as_slice(), replies);
+    assert_equal(rt, served_into(alloc, SMALL, input, &mut output), end);
+    assert_text(rt, output.as_slice(), replies);
     Ok(())
 }
 
@@ -115,7 +115,7 @@ fn count_lines(bytes: &[u8]) -> usize {
 }
 
 // Asserts that a session whose read fails so, behind this many bytes, ends there, and has answered the whole lines.
-fn expect_read_fault(
+fn assert_read_fault(
     rt: &impl Abort,
     alloc: Global,
     place: usize,
@@ -124,7 +124,7 @@ fn expect_read_fault(
     let (given, rest) = LINES.split_at(place.min(LINES.len()));
     let replies = first_lines(REPLIES, count_lines(given));
     let input = Failing { given, rest, why };
-    expect(rt, alloc, input, Err(PlainFault::Read), replies)
+    assert_served(rt, alloc, input, Err(PlainFault::Read), replies)
 }
 
 #[test]
@@ -132,11 +132,11 @@ fn whole_lines_are_answered_before_a_read_that_fails_at_each_place(
     rt: HostRuntime,
 ) -> Result<(), Fail> {
     for place in 0..=LINES.len() {
-        expect_read_fault(&rt, rt.alloc(), place, ErrorKind::Other)?;
+        assert_read_fault(&rt, rt.alloc(), place, ErrorKind::Other)?;
         // A read that was interrupted isn't made again.
-        expect_read_fault(&rt, rt.alloc(), place, ErrorKind::Interrupted)?;
+        assert_read_fault(&rt, rt.alloc(), place, ErrorKind::Interrupted)?;
     }
-    expect(&rt, rt.alloc(), LINES, Ok(()), REPLIES)?;
+    assert_served(&rt, rt.alloc(), LINES, Ok(()), REPLIES)?;
     Ok(())
 }
 
@@ -176,15 +176,15 @@ fn after_each_write_that_fails_nothing_more_is_written(rt: HostRuntime) -> Resul
     for fails in 1..=10 {
         let mut taken = room(rt.alloc())?;
         let (end, calls) = served_until(rt.alloc(), fails, &mut taken);
-        ends(&rt, end, Err(PlainFault::Write));
-        holds(&rt, calls == fails);
-        same(&rt, taken.as_slice(), first_lines(REPLIES, fails / 2));
+        assert_equal(&rt, end, Err(PlainFault::Write));
+        assert_equal(&rt, calls, fails);
+        assert_text(&rt, taken.as_slice(), first_lines(REPLIES, fails / 2));
     }
     let mut taken = room(rt.alloc())?;
     let (end, calls) = served_until(rt.alloc(), 11, &mut taken);
-    ends(&rt, end, Ok(()));
-    holds(&rt, calls == 10);
-    same(&rt, taken.as_slice(), REPLIES);
+    assert_equal(&rt, end, Ok(()));
+    assert_equal(&rt, calls, 10);
+    assert_text(&rt, taken.as_slice(), REPLIES);
     Ok(())
 }
 
@@ -248,13 +248,13 @@ fn lines_are_answered_at_the_next_try(rt: HostRuntime) -> Result<(), Fail> {
     };
     let end = served_into(alloc, SMALL, pairs, &mut first);
     if end.is_ok() {
-        same(&rt, first.as_slice(), MEMORY_REPLIES);
+        assert_text(&rt, first.as_slice(), MEMORY_REPLIES);
         return Ok(());
     }
-    ends(&rt, end, Err(PlainFault::OutOfMemory));
-    same(&rt, first.as_slice(), replies_of_pairs(given));
+    assert_equal(&rt, end, Err(PlainFault::OutOfMemory));
+    assert_text(&rt, first.as_slice(), replies_of_pairs(given));
     let end = served_into(alloc, SMALL, TAKES_MEMORY, &mut output);
-    ends(&rt, end, Ok(()));
-    same(&rt, output.as_slice(), MEMORY_REPLIES);
+    assert_equal(&rt, end, Ok(()));
+    assert_text(&rt, output.as_slice(), MEMORY_REPLIES);
     Ok(())
 }
