@@ -8,12 +8,12 @@
 
 mod counting;
 mod crashes;
-mod questions;
+mod expected_answers;
 mod server;
 mod trials;
 
 pub use counting::{Counting, Counts};
 pub use crashes::{KINDS, MIXED, NEW, OLD, torn};
-pub use questions::{Questions, answers_and_replies, expected, messages_of, reply_lines};
+pub use expected_answers::{Questions, answers_and_replies, expected, messages_of, reply_lines};
 pub use server::{Act, Halt, Server, are_changes_in_range, device_with};
 pub use trials::{Crash, Ended, OpenedDevice, Progress, Seen, Trial, Wrong, find, reopen, sweep};

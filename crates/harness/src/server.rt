@@ -5,7 +5,7 @@ ghost use Rattle.oplog.specs.Changing.{AreChangesInRange, IsChangeInRange};
 ghost use Rattle.parcel.specs.Tree.{IsWholeTree};
 
 use crate::{Counting, Counts, Questions, Wrong, reply_lines};
-use affinity::{Geometry, changing, place_of};
+use affinity::{Geometry, changing, is_in_range};
 use checkpoint::{OpenFault, device_len, format, step};
 use disk::{Disk, MemDisk};
 use journal::{Journal, open};
@@ -42,7 +42,7 @@ impl Act {
 fn is_change_in_range(g: &Geometry, m: &Msg) -> bool
     ensures { IsTrue result → IsChangeInRange g.now m.now }
 {
-    changing(m.kind()) && place_of(g, m.kind(), m.numbers()).is_some()
+    changing(m.kind()) && is_in_range(g, m.kind(), m.numbers())
 }
 
 /// Whether each of these is a change in range: of a kind that may change the state (`changing`), with numbers that the geometry has.
@@ -200,8 +200,8 @@ impl<D: Disk> Server<D> {
     }
 }
 
-/// Runs these messages on the whole tree, each by `step`, which gives its reply, up to the first whose reply isn't `done`. Returns whether
-/// there was none such. `place_of` gives none where a number of a message is out of range.
+/// Runs these messages on the whole tree, each by `step`, which gives its reply, up to the first that is out of range, or whose reply isn't
+/// `done`. Returns whether there was none such.
 fn carry_out(tree: &mut Tree, messages: &[Msg]) -> bool
     requires whole { IsWholeTree tree.old }
     ensures whole { IsWholeTree tree.new }
@@ -209,7 +209,7 @@ fn carry_out(tree: &mut Tree, messages: &[Msg]) -> bool
 {
     let g = tree.geometry();
     for m in messages {
-        if place_of(&g, m.kind(), m.numbers()).is_none() || step(tree, *m) != Reply::Done {
+        if !is_in_range(&g, m.kind(), m.numbers()) || step(tree, *m) != Reply::Done {
             return false;
         }
     }

@@ -2,7 +2,7 @@
 ghost use Rattle.std.specs.Prelude.{◌<◌};
 
 use crate::crashes::{KINDS, torn};
-use crate::questions::{Questions, reply_lines};
+use crate::expected_answers::{Questions, reply_lines};
 use checkpoint::{OpenFault, Shown, inspect};
 use disk::MemDisk;
 use journal::open;

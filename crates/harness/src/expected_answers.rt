@@ -3,7 +3,7 @@ ghost use Rattle.std.specs.Prelude.{◌≡◌};
 ghost use Rattle.parcel.specs.Tree.{IsWholeTree};
 
 use crate::Wrong;
-use affinity::{Geometry, place_of};
+use affinity::{Geometry, is_in_range};
 use checkpoint::step;
 use language::{Msg, Refusal, Reply};
 use message::{LONGEST_REPLY, parse_line, write_reply};
@@ -92,15 +92,14 @@ pub fn messages_of(alloc: Global, lines: &[&str]) -> Result<Vec<Msg>, Wrong> {
     Ok(messages)
 }
 
-/// What a whole tree (no part of it is lent) replies to a message, which runs on it (by `step`), unless it has no place there: a number of
-/// it is out of range.
+/// What a whole tree (no part of it is lent) replies to a message, which runs on it (by `step`), unless a number of it is out of range.
 fn reply_of(tree: &mut Tree, m: Msg) -> Reply
     requires whole { IsWholeTree tree.old }
     ensures whole { IsWholeTree tree.new }
     ensures geometry { tree.new.geometry ≡ tree.old.geometry }
 {
     let g = tree.geometry();
-    if place_of(&g, m.kind(), m.numbers()).is_none() {
+    if !is_in_range(&g, m.kind(), m.numbers()) {
         return Reply::Refused(Refusal::Range);
     }
     step(tree, m)
