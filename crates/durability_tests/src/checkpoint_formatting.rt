@@ -4,14 +4,15 @@
 //! 192, records (520 bytes each) 196; half 1: the same at 2276, 2340, 2344; image 0: 4424, its version first; image 1: 6632.
 //!
 //! `SMALL` is the geometry of that device: one volume of two files of four blocks, in two stripes that hold two blocks each, and four
-//! records in a half. `KINDS` is how many kinds of crash there are. `holds` asserts.
+//! records in a half. `KINDS` is how many kinds of crash there are.
 ghost use Rattle.std.specs.Prelude.{◌<◌};
 
-use crate::common::{SMALL, holds};
+use crate::assertions::{assert_equal, assert_true};
+use crate::common::SMALL;
 use affinity::Geometry;
 use checkpoint::{FormatFault, format};
 use disk::MemDisk;
-use harness::{KINDS, torn};
+use harness::{KINDS, Wrong, torn};
 use std::alloc::{AllocError, Global};
 use std::process::Abort;
 use std::test::Fail;
@@ -88,10 +89,8 @@ fn an_empty_device_is_made(rt: HostRuntime) -> Result<(), Fail> {
     for (len, which) in [(LEN, 0), (LEN, 1), (LEN, 2), (LEN + 600, 0), (LEN + 600, 1)] {
         let disk = MemDisk::of_bytes(rt.alloc(), old_bytes(rt.alloc(), len, which)?)?;
         let want = new_bytes(rt.alloc(), len, which)?;
-        match format(rt.alloc(), disk, g) {
-            Ok(disk) => holds(&rt, disk.bytes() == want.as_slice()),
-            Err(_) => holds(&rt, false),
-        }
+        let disk = format(rt.alloc(), disk, g).map_err(|e| e.fault)?;
+        assert_equal(&rt, disk.bytes(), want.as_slice());
     }
     Ok(())
 }
@@ -108,12 +107,13 @@ fn a_device_is_made_at_the_next_try(rt: HostRuntime) -> Result<(), Fail> {
     let made = match format(alloc, disk, g) {
         Ok(made) => made,
         Err(e) => {
-            let is_as_given = e.disk.calls() == 0 && e.disk.bytes() == old.as_slice();
-            holds(&rt, e.fault == FormatFault::OutOfMemory && is_as_given);
+            assert_equal(&rt, e.fault, FormatFault::OutOfMemory);
+            assert_equal(&rt, e.disk.calls(), 0);
+            assert_equal(&rt, e.disk.bytes(), old.as_slice());
             format(alloc, e.disk, g).map_err(|e| e.fault)?
         }
     };
-    holds(&rt, made.bytes() == want.as_slice());
+    assert_equal(&rt, made.bytes(), want.as_slice());
     Ok(())
 }
 
@@ -121,19 +121,17 @@ fn a_device_is_made_at_the_next_try(rt: HostRuntime) -> Result<(), Fail> {
 fn a_short_device_stays(rt: HostRuntime) -> Result<(), Fail> {
     let g = Geometry::new(SMALL)?;
     let disk = MemDisk::new(rt.alloc(), 8839)?;
-    match format(rt.alloc(), disk, g) {
-        Ok(_) => holds(&rt, false),
-        Err(e) => {
-            holds(&rt, e.fault == FormatFault::TooShort);
-            holds(&rt, e.disk.calls() == 0);
-        }
-    }
+    let Err(e) = format(rt.alloc(), disk, g) else {
+        return Err(Wrong::Unfit.into());
+    };
+    assert_equal(&rt, e.fault, FormatFault::TooShort);
+    assert_equal(&rt, e.disk.calls(), 0);
     Ok(())
 }
 
 /// What is left of old device `which` after a `format` in which the n-th call of the device fails (and all later ones, if it
 /// stops there), and then a crash of this kind; and the fault, if `format` failed.
-fn left(
+fn left_by_format(
     alloc: Global,
     which: usize,
     stops: bool,
@@ -158,17 +156,17 @@ fn left(
 
 /// Asserts that these are the bytes of the new device; or, unless `format` succeeded (`made`), those of the old one, or some whose format
 /// byte isn't 1.
-fn is_one_of(rt: &impl Abort, bytes: &[u8], old: &[u8], new: &[u8], made: bool) {
+fn assert_old_or_new(rt: &impl Abort, bytes: &[u8], old: &[u8], new: &[u8], made: bool) {
     let unformatted = match bytes.first() {
         Some(format_byte) => *format_byte != 1,
         None => false,
     };
-    holds(rt, bytes == new || !made && (bytes == old || unformatted));
+    assert_true(rt, bytes == new || !made && (bytes == old || unformatted));
 }
 
 /// Asserts that where the n-th call fails, `format` reports that exactly if it makes n calls or more, and after each kind of crash the
-/// device is one of those of `is_one_of`.
-fn may_fail(
+/// device is one of those of `assert_old_or_new`.
+fn assert_fault_reported(
     rt: &impl Abort,
     alloc: Global,
     which: usize,
@@ -186,9 +184,9 @@ fn may_fail(
         None
     };
     for kind in 0..KINDS {
-        let (disk, fault) = left(alloc, which, stops, n, kind)?;
-        holds(rt, fault == want);
-        is_one_of(rt, disk.bytes(), &old, &new, fault.is_none());
+        let (disk, fault) = left_by_format(alloc, which, stops, n, kind)?;
+        assert_equal(rt, fault, want);
+        assert_old_or_new(rt, disk.bytes(), &old, &new, fault.is_none());
     }
     Ok(())
 }
@@ -198,8 +196,8 @@ fn each_call_may_fail(rt: HostRuntime) -> Result<(), Fail> {
     for &(which, calls) in &CALLS {
         // Call 14 is never made: there are 13 at most.
         for n in 1..15 {
-            may_fail(&rt, rt.alloc(), which, true, n, calls)?;
-            may_fail(&rt, rt.alloc(), which, false, n, calls)?;
+            assert_fault_reported(&rt, rt.alloc(), which, true, n, calls)?;
+            assert_fault_reported(&rt, rt.alloc(), which, false, n, calls)?;
         }
     }
     Ok(())

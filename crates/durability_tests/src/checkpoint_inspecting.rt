@@ -4,12 +4,14 @@
 //! 196; half 1: gates 2340, records 2344; image 0: version 4424, the volume's piece 4488 and in it the label 4504.
 //!
 //! That device has `LEN` bytes and the geometry `SMALL`: one volume of two files of four blocks, in two stripes, and four records in a
-//! half. `put` sets a byte. `holds` asserts.
+//! half. `put` sets a byte. `Wrong::Unfit`: a test doesn't go as it was written.
+use crate::assertions::assert_equal;
 use crate::checkpoint_formatting::{LEN, new_bytes, put};
-use crate::common::{SMALL, holds};
+use crate::common::SMALL;
 use affinity::Geometry;
 use checkpoint::{OpenFault, Shown, format, inspect};
 use disk::MemDisk;
+use harness::Wrong;
 use message::Reply;
 use std::alloc::{AllocError, Global};
 use std::process::Abort;
@@ -46,16 +48,12 @@ fn shown(records: usize, volumes: u32, files: u32, version: u8) -> Result<Shown,
 }
 
 /// Asserts that the device is reported as empty, by `CALLS` calls of it.
-fn expect_empty(rt: &impl Abort, alloc: Global, disk: MemDisk) -> Result<(), Fail> {
+fn assert_empty(rt: &impl Abort, alloc: Global, disk: MemDisk) -> Result<(), Fail> {
     let calls = disk.calls();
     let want = shown(0, 0, 0, 2)?;
-    match inspect(alloc, disk) {
-        Ok(report) => {
-            holds(rt, report.0 == want);
-            holds(rt, calls.checked_add(CALLS) == Some(report.1.calls()));
-        }
-        Err(_) => holds(rt, false),
-    }
+    let (report, disk) = inspect(alloc, disk).map_err(|e| e.fault)?;
+    assert_equal(rt, report, want);
+    assert_equal(rt, Some(disk.calls()), calls.checked_add(CALLS));
     Ok(())
 }
 
@@ -63,13 +61,8 @@ fn expect_empty(rt: &impl Abort, alloc: Global, disk: MemDisk) -> Result<(), Fai
 fn a_new_device_is_empty(rt: HostRuntime) -> Result<(), Fail> {
     let g = Geometry::new(SMALL)?;
     let disk = MemDisk::new(rt.alloc(), LEN as u64)?;
-    match format(rt.alloc(), disk, g) {
-        Ok(disk) => expect_empty(&rt, rt.alloc(), disk),
-        Err(_) => {
-            holds(&rt, false);
-            Ok(())
-        }
-    }
+    let disk = format(rt.alloc(), disk, g).map_err(|e| e.fault)?;
+    assert_empty(&rt, rt.alloc(), disk)
 }
 
 /// Bytes that are set in a formatted device (offset and value), how many records in force, volumes and files are reported
@@ -95,10 +88,9 @@ const SHOWN: [(&[(usize, u8)], usize, u32, u32, u8); 7] = [
 fn records_and_images_are_reported(rt: HostRuntime) -> Result<(), Fail> {
     for &(patches, records, volumes, files, version) in &SHOWN {
         let want = shown(records, volumes, files, version)?;
-        match inspect(rt.alloc(), device(rt.alloc(), patches)?) {
-            Ok((report, _)) => holds(&rt, report == want),
-            Err(_) => holds(&rt, false),
-        }
+        let device = device(rt.alloc(), patches)?;
+        let (report, _) = inspect(rt.alloc(), device).map_err(|e| e.fault)?;
+        assert_equal(&rt, report, want);
     }
     Ok(())
 }
@@ -108,13 +100,11 @@ fn records_and_images_are_reported(rt: HostRuntime) -> Result<(), Fail> {
 fn a_bad_record_behind_a_cut_is_reported(rt: HostRuntime) -> Result<(), Fail> {
     let device = device(rt.alloc(), &[(128, 1), (2340, 1)])?;
     let bytes = device.bytes().to_vec(rt.alloc())?;
-    match inspect(rt.alloc(), device) {
-        Ok(_) => holds(&rt, false),
-        Err(e) => {
-            holds(&rt, e.fault == OpenFault::BadRecord(1, 0));
-            holds(&rt, e.disk.bytes() == bytes.as_slice());
-        }
-    }
+    let Err(e) = inspect(rt.alloc(), device) else {
+        return Err(Wrong::Unfit.into());
+    };
+    assert_equal(&rt, e.fault, OpenFault::BadRecord(1, 0));
+    assert_equal(&rt, e.disk.bytes(), bytes.as_slice());
     Ok(())
 }
 
@@ -128,13 +118,14 @@ fn a_device_is_inspected_at_the_next_try(rt: HostRuntime) -> Result<(), Fail> {
     let (report, disk) = match inspect(alloc, disk) {
         Ok(report) => report,
         Err(e) => {
-            let is_read = e.disk.calls() == 1 && e.disk.bytes() == bytes.as_slice();
-            holds(&rt, e.fault == OpenFault::OutOfMemory && is_read);
+            assert_equal(&rt, e.fault, OpenFault::OutOfMemory);
+            assert_equal(&rt, e.disk.calls(), 1);
+            assert_equal(&rt, e.disk.bytes(), bytes.as_slice());
             inspect(alloc, e.disk).map_err(|e| e.fault)?
         }
     };
-    holds(&rt, report == shown(1, 1, 0, 2)?);
-    holds(&rt, disk.bytes() == bytes.as_slice());
+    assert_equal(&rt, report, shown(1, 1, 0, 2)?);
+    assert_equal(&rt, disk.bytes(), bytes.as_slice());
     Ok(())
 }
 
@@ -144,8 +135,8 @@ fn each_read_may_fail(rt: HostRuntime) -> Result<(), Fail> {
         let mut disk = device(rt.alloc(), &[])?;
         disk.fail_at(n);
         match inspect(rt.alloc(), disk) {
-            Ok(_) => holds(&rt, n == CALLS + 1),
-            Err(e) => holds(&rt, n <= CALLS && e.fault == OpenFault::Device),
+            Ok(_) => assert_equal(&rt, n, CALLS + 1),
+            Err(e) => assert_equal(&rt, (n <= CALLS, e.fault), (true, OpenFault::Device)),
         }
     }
     Ok(())

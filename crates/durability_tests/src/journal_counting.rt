@@ -1,9 +1,11 @@
 //! How often each call of a journal calls the device, and how many bytes it writes.
-use crate::common::{SMALL, equals, holds};
-use checkpoint::inspect;
+use crate::assertions::{assert_equal, assert_true};
+use crate::common::SMALL;
 use disk::MemDisk;
-use harness::{Act, Counts, Halt, NEW, OLD, Server, Wrong, device_with, messages_of, torn};
-use message::{Msg, Reply};
+use harness::{
+    Act, Counts, Halt, NEW, OLD, Server, Wrong, assert_shown, device_with, messages_of, torn,
+};
+use message::Msg;
 use oplog::LogFault;
 use std::alloc::Global;
 use std::process::Abort;
@@ -46,16 +48,16 @@ const ACTS: [(Act, [u64; 3]); 18] = [
 ];
 
 /// Asserts that there are `reads` more reads, and `more` writes, syncs and bytes.
-fn are_more(rt: &impl Abort, before: &Counts, after: &Counts, reads: u64, more: [u64; 3]) {
+fn assert_more(rt: &impl Abort, before: &Counts, after: &Counts, reads: u64, more: [u64; 3]) {
     let [writes, syncs, written] = more;
-    equals(rt, after.reads, before.reads.saturating_add(reads));
-    equals(rt, after.writes, before.writes.saturating_add(writes));
-    equals(rt, after.syncs, before.syncs.saturating_add(syncs));
-    equals(rt, after.written, before.written.saturating_add(written));
+    assert_equal(rt, after.reads, before.reads.saturating_add(reads));
+    assert_equal(rt, after.writes, before.writes.saturating_add(writes));
+    assert_equal(rt, after.syncs, before.syncs.saturating_add(syncs));
+    assert_equal(rt, after.written, before.written.saturating_add(written));
 }
 
 /// Asserts that an act takes this many more writes, syncs and bytes.
-fn takes(
+fn assert_takes(
     rt: &impl Abort,
     alloc: Global,
     server: &mut Server<MemDisk>,
@@ -64,8 +66,8 @@ fn takes(
 ) -> Result<(), Wrong> {
     let before = server.counts();
     let messages = messages_of(alloc, act.changes())?;
-    holds(rt, server.act(act, messages.as_slice()).is_ok());
-    are_more(rt, &before, &server.counts(), 0, more);
+    assert_equal(rt, server.act(act, messages.as_slice()), Ok(()));
+    assert_more(rt, &before, &server.counts(), 0, more);
     Ok(())
 }
 
@@ -76,7 +78,10 @@ fn each_act_takes_few_calls(rt: HostRuntime) -> Result<(), Fail> {
         return Err(Wrong::Unfit.into());
     };
     for &(act, more) in &ACTS {
-        holds(&rt, takes(&rt, alloc, &mut server, &act, more).is_ok());
+        assert_true(
+            &rt,
+            assert_takes(&rt, alloc, &mut server, &act, more).is_ok(),
+        );
     }
     let _device = server.into_device();
     Ok(())
@@ -84,7 +89,7 @@ fn each_act_takes_few_calls(rt: HostRuntime) -> Result<(), Fail> {
 
 /// Asserts what opening a device with these patches takes: reads, then writes, syncs and bytes. `Wrong::Unfit`, here and below: it didn't
 /// go as it was written.
-fn opening_cost(
+fn assert_opening_takes(
     rt: &impl Abort,
     alloc: Global,
     patches: &[(usize, u8)],
@@ -101,7 +106,7 @@ fn opening_cost(
         syncs: 0,
         written: 0,
     };
-    are_more(rt, &before, &after, reads, want);
+    assert_more(rt, &before, &after, reads, want);
     Ok(())
 }
 
@@ -109,11 +114,11 @@ fn opening_cost(
 fn opening_takes_few_calls(rt: HostRuntime) -> Result<(), Fail> {
     // A sync, and a checkpoint of the whole image. It reads the header, the root byte, the image's head and its three pieces, the chain
     // byte and the gates.
-    opening_cost(&rt, rt.alloc(), &[], 8, [3, 4, 68 + 2208 + 1])?;
+    assert_opening_takes(&rt, rt.alloc(), &[], 8, [3, 4, 68 + 2208 + 1])?;
     // Byte 128, the chain byte of half 0, says that a cut was in progress: opening finishes it first, by writing an image and the
     // root byte. The chain byte and the gates of the other half are read too.
     let ended = 2 * (2208 + 1) + 68;
-    opening_cost(&rt, rt.alloc(), &[(128, 1)], 10, [5, 6, ended])?;
+    assert_opening_takes(&rt, rt.alloc(), &[(128, 1)], 10, [5, 6, ended])?;
     Ok(())
 }
 
@@ -166,14 +171,14 @@ fn a_batch_is_four_calls(rt: HostRuntime) -> Result<(), Fail> {
     let messages = messages_of(rt.alloc(), &["makevol 0 0", "seal 0 0", "unseal 0 0"])?;
     for (stop, is_logged) in [(4, false), (5, true)] {
         let (was_logged, _) = logged_until(rt.alloc(), messages.as_slice(), stop)?;
-        holds(&rt, was_logged == is_logged);
+        assert_equal(&rt, was_logged, is_logged);
     }
     Ok(())
 }
 
 /// Asserts that where the device stops at the n-th device call of one `log` of `count` messages, `records` of them are in force after a
 /// crash of this kind.
-fn leaves(
+fn assert_in_force(
     rt: &impl Abort,
     alloc: Global,
     count: usize,
@@ -182,17 +187,11 @@ fn leaves(
     records: usize,
 ) -> Result<(), Wrong> {
     let (is_logged, device) = logged_until(alloc, seals(alloc, count)?.as_slice(), n)?;
-    holds(rt, !is_logged);
-    let Ok((shown, _)) = inspect(alloc, device.crash(torn(alloc, kind)?)) else {
-        return Err(Wrong::Unfit);
-    };
+    assert_true(rt, !is_logged);
+    let device = device.crash(torn(alloc, kind)?);
     let volumes = u32::from(records > 0);
-    let summary = Reply::Summary {
-        volumes,
-        files: 0,
-        blocks: 0,
-    };
-    holds(rt, shown.records == records && shown.summary == summary);
+    // The opening has named area 1.
+    assert_shown(alloc, device, 1, records, [volumes, 0, 0])?;
     Ok(())
 }
 
@@ -214,12 +213,12 @@ fn a_long_log_is_two_batches(rt: HostRuntime) -> Result<(), Fail> {
     let many = seals(rt.alloc(), 70)?;
     let device = device_with(rt.alloc(), LONG, &[])?;
     let (is_logged, device) = logged_on(rt.alloc(), device, many.as_slice())?;
-    holds(&rt, is_logged);
+    assert_true(&rt, is_logged);
     let calls = calls_of_opening(rt.alloc())?;
-    equals(&rt, device.calls(), calls.saturating_add(8));
+    assert_equal(&rt, device.calls(), calls.saturating_add(8));
     for &(n, old, new) in &LEFT {
-        leaves(&rt, rt.alloc(), 70, n, OLD, old)?;
-        leaves(&rt, rt.alloc(), 70, n, NEW, new)?;
+        assert_in_force(&rt, rt.alloc(), 70, n, OLD, old)?;
+        assert_in_force(&rt, rt.alloc(), 70, n, NEW, new)?;
     }
     Ok(())
 }

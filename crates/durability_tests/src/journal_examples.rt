@@ -1,42 +1,28 @@
 //! Worked examples of logs, points and cuts.
 //!
 //! Geometries: `SMALL` has one volume of two files of four blocks, in two stripes; `FLAT`, one file of four blocks, each in a stripe of its
-//! own. `End` writes the pieces that are left of a cut, and ends it. `Wrong::Unfit`: a test doesn't go as it was written. `holds` asserts.
-use crate::common::{SMALL, holds};
+//! own. `End` writes the pieces that are left of a cut, and ends it. `Wrong::Unfit`: a test doesn't go as it was written.
+use crate::assertions::{assert_equal, assert_true};
+use crate::common::SMALL;
 use crate::journal_trials::{FLAT, act_all, left_by_acts};
 use affinity::Geometry;
-use checkpoint::{Shown, inspect};
 use disk::MemDisk;
 use harness::{
-    Act, MIXED, OLD, OpenedDevice, Questions, Server, Wrong, device_with, expected, find,
-    messages_of, torn,
+    Act, MIXED, OLD, OpenedDevice, Questions, Server, Wrong, assert_shown, device_with, expected,
+    find, messages_of, torn,
 };
-use message::Reply;
 use std::alloc::Global;
 use std::process::Abort;
 use std::test::Fail;
 
 /// The device that these acts leave of a new one, after a crash that leaves what was synced.
-fn left_by(alloc: Global, numbers: [u16; 8], acts: &[Act]) -> Result<MemDisk, Wrong> {
+fn crashed_after(alloc: Global, numbers: [u16; 8], acts: &[Act]) -> Result<MemDisk, Wrong> {
     let device = left_by_acts(alloc, device_with(alloc, numbers, &[])?, acts)?;
     Ok(device.crash(torn(alloc, OLD)?))
 }
 
-/// Asserts that this is reported of a device: the named area, how many records are in force, and how many volumes, files and blocks there
-/// are.
-fn is_shown(rt: &impl Abort, shown: &Shown, area: usize, records: usize, summary: [u32; 3]) {
-    let [volumes, files, blocks] = summary;
-    holds(rt, shown.area == area && shown.records == records);
-    let summary = Reply::Summary {
-        volumes,
-        files,
-        blocks,
-    };
-    holds(rt, shown.summary == summary);
-}
-
 /// Asserts that the device holds what these lines lead to. Gives the device as its opening leaves it.
-fn is_found(
+fn assert_found(
     rt: &impl Abort,
     alloc: Global,
     numbers: [u16; 8],
@@ -48,19 +34,9 @@ fn is_found(
     };
     let questions = Questions::new(alloc, &g)?;
     let (found, device) = find(alloc, device, &questions)?;
-    holds(
-        rt,
-        found == OpenedDevice::Answers(expected(alloc, &g, lines, &questions)?),
-    );
+    let wanted = OpenedDevice::Answers(expected(alloc, &g, lines, &questions)?);
+    assert_equal(rt, found, wanted);
     Ok(device)
-}
-
-/// What `inspect` reports of a device, and the device.
-fn shown_of(alloc: Global, device: MemDisk) -> Result<(Shown, MemDisk), Wrong> {
-    match inspect(alloc, device) {
-        Ok(shown) => Ok(shown),
-        Err(_) => Err(Wrong::Unfit),
-    }
 }
 
 /// A record that is logged while a cut is in progress, so in the other half.
@@ -80,7 +56,7 @@ const ENDED: [Act; 4] = [
 
 /// Asserts that after these acts and a crash `inspect` reports this area and this many records, one volume and one file, and that once the
 /// device is opened, both are there, area `opened` is named, and no record is in force.
-fn behind_a_cut(
+fn assert_behind_a_cut(
     rt: &impl Abort,
     alloc: Global,
     acts: &[Act],
@@ -88,13 +64,11 @@ fn behind_a_cut(
     records: usize,
     opened: usize,
 ) -> Result<(), Wrong> {
-    let device = left_by(alloc, SMALL, acts)?;
-    let (shown, device) = shown_of(alloc, device)?;
-    is_shown(rt, &shown, area, records, [1, 1, 0]);
+    let device = crashed_after(alloc, SMALL, acts)?;
+    let device = assert_shown(alloc, device, area, records, [1, 1, 0])?;
     let lines = ["makevol 0 0", "create 0 0 0"];
-    let device = is_found(rt, alloc, SMALL, device, &lines)?;
-    let (shown, _) = shown_of(alloc, device)?;
-    is_shown(rt, &shown, opened, 0, [1, 1, 0]);
+    let device = assert_found(rt, alloc, SMALL, device, &lines)?;
+    assert_shown(alloc, device, opened, 0, [1, 1, 0])?;
     Ok(())
 }
 
@@ -102,8 +76,8 @@ fn behind_a_cut(
 fn records_behind_a_cut_are_there(rt: HostRuntime) -> Result<(), Fail> {
     // The first opening has named area 1, so the cut goes into area 0. It is ended by the next opening, or before by `Act::End`. The
     // checkpoint at the end of that opening goes into area 1.
-    behind_a_cut(&rt, rt.alloc(), &BEHIND, 1, 2, 1)?;
-    behind_a_cut(&rt, rt.alloc(), &ENDED, 0, 1, 1)?;
+    assert_behind_a_cut(&rt, rt.alloc(), &BEHIND, 1, 2, 1)?;
+    assert_behind_a_cut(&rt, rt.alloc(), &ENDED, 0, 1, 1)?;
     Ok(())
 }
 
@@ -151,7 +125,7 @@ fn torn_writes(alloc: Global) -> Result<MemDisk, Wrong> {
 fn a_torn_batch_leaves_its_beginning(rt: HostRuntime) -> Result<(), Fail> {
     let alloc = rt.alloc();
     let lines = ["makevol 0 0", "create 0 0 0", "write 0 0 0 0 61"];
-    let device = is_found(&rt, alloc, FLAT, torn_writes(alloc)?, &lines)?;
+    let device = assert_found(&rt, alloc, FLAT, torn_writes(alloc)?, &lines)?;
     let more = [
         Act::Log(&["punch 0 0 0 0"]),
         Act::Log(&["write 0 0 0 3 64"]),
@@ -160,7 +134,7 @@ fn a_torn_batch_leaves_its_beginning(rt: HostRuntime) -> Result<(), Fail> {
     // The records behind the shut gate of the first incarnation are never in force, whatever is logged later.
     let device = device.crash(torn(alloc, OLD)?);
     let lines = ["makevol 0 0", "create 0 0 0", "write 0 0 0 3 64"];
-    is_found(&rt, alloc, FLAT, device, &lines)?;
+    assert_found(&rt, alloc, FLAT, device, &lines)?;
     Ok(())
 }
 
@@ -220,15 +194,15 @@ fn pieces_that_changed_are_left(rt: HostRuntime) -> Result<(), Fail> {
         return Err(Wrong::Unfit.into());
     };
     for &(act, pieces_left) in &PIECES {
-        holds(&rt, leaves_pieces(alloc, &mut server, act, pieces_left));
+        assert_true(&rt, leaves_pieces(alloc, &mut server, act, pieces_left));
     }
     let (device, _) = server.into_device();
-    let (shown, device) = shown_of(alloc, device.crash(torn(alloc, OLD)?))?;
-    is_shown(&rt, &shown, 0, 0, [1, 1, 1]);
+    let device = device.crash(torn(alloc, OLD)?);
+    let device = assert_shown(alloc, device, 0, 0, [1, 1, 1])?;
     // No piece is dirty in either image, so each has the bytes of the state; those of image 1 are written anew by the next opening.
-    holds(&rt, has_equal_images(&device));
+    assert_true(&rt, has_equal_images(&device));
     let lines = ["makevol 0 0", "create 0 0 0", "write 0 0 0 0 61"];
-    let device = is_found(&rt, alloc, SMALL, device, &lines)?;
-    holds(&rt, has_equal_images(&device));
+    let device = assert_found(&rt, alloc, SMALL, device, &lines)?;
+    assert_true(&rt, has_equal_images(&device));
     Ok(())
 }

@@ -1,5 +1,6 @@
 //! Incarnations of a server, each ended by a fault of the device at one of its calls, and what is found on the device then.
-use crate::common::{SMALL, equals};
+use crate::assertions::assert_equal;
+use crate::common::SMALL;
 use crate::journal_trials::{Play, Script};
 use harness::{Act, Wrong, sweep};
 use std::alloc::Global;
@@ -8,9 +9,14 @@ use std::test::Fail;
 
 /// Asserts: whichever call of the device fails, the changes that were answered (logged without a fault) are found after it, and of those
 /// being logged a prefix. With no fault the opening and the script make `calls` calls of the device: `sweep` gives how many.
-fn survives(rt: &impl Abort, alloc: Global, script: &Script, calls: u64) -> Result<(), Wrong> {
+fn assert_script_survives(
+    rt: &impl Abort,
+    alloc: Global,
+    script: &Script,
+    calls: u64,
+) -> Result<(), Wrong> {
     let play = Play::new(alloc, script)?;
-    equals(rt, sweep(alloc, &play)?, calls);
+    assert_equal(rt, sweep(alloc, &play)?, calls);
     Ok(())
 }
 
@@ -50,7 +56,7 @@ const POINTS: Script = Script {
 #[test]
 fn points_survive(rt: HostRuntime) -> Result<(), Fail> {
     let calls = OPENING + 3 * BATCH + 2 * POINT;
-    Ok(survives(&rt, rt.alloc(), &POINTS, calls)?)
+    Ok(assert_script_survives(&rt, rt.alloc(), &POINTS, calls)?)
 }
 
 /// Cuts, and batches logged while the first is in progress; `End` writes the pieces that are left, and flips. Each cut writes all three
@@ -77,7 +83,7 @@ const CUTS: Script = Script {
 #[test]
 fn cuts_survive(rt: HostRuntime) -> Result<(), Fail> {
     let calls = OPENING + 5 * BATCH + 2 * (CUT + 3 * PIECE + FLIP);
-    Ok(survives(&rt, rt.alloc(), &CUTS, calls)?)
+    Ok(assert_script_survives(&rt, rt.alloc(), &CUTS, calls)?)
 }
 
 /// A device with a cut in progress, whose named image, of version 1, has a volume. The record in half 0 makes its file 0, and the one in
@@ -105,7 +111,7 @@ fn an_interrupted_cut_of_version_1_survives(rt: HostRuntime) -> Result<(), Fail>
     // A record of each half and the chain byte and the gates of half 1 are read too, and the cut is finished: all
     // pieces in one write, and a flip.
     let calls = OPENING + 4 + 4 + BATCH;
-    Ok(survives(&rt, rt.alloc(), &INTERRUPTED, calls)?)
+    Ok(assert_script_survives(&rt, rt.alloc(), &INTERRUPTED, calls)?)
 }
 
 /// A device whose named image, of version 1, has a volume.
@@ -118,5 +124,5 @@ const VERSION_1: Script = Script {
 
 #[test]
 fn an_image_of_version_1_survives_its_opening(rt: HostRuntime) -> Result<(), Fail> {
-    Ok(survives(&rt, rt.alloc(), &VERSION_1, OPENING)?)
+    Ok(assert_script_survives(&rt, rt.alloc(), &VERSION_1, OPENING)?)
 }

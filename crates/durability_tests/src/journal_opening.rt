@@ -6,17 +6,17 @@
 //! labels.
 //!
 //! `SMALL` is the geometry of that device. `Wrong::Unfit`: a test doesn't go as it was written. `KINDS` is how many kinds of crash there
-//! are, of which `torn` gives one by its number. `holds` asserts.
-use crate::common::{SMALL, holds};
+//! are, of which `torn` gives one by its number.
+use crate::assertions::{assert_equal, assert_true};
+use crate::common::SMALL;
 use crate::journal_trials::left_by_acts;
 use affinity::Geometry;
 use checkpoint::{OpenFault, inspect};
 use disk::MemDisk;
 use harness::{
-    Act, Ended, KINDS, OpenedDevice, Progress, Questions, Server, Trial, Wrong, device_with,
-    expected, find, sweep, torn,
+    Act, Ended, KINDS, OpenedDevice, Progress, Questions, Server, Trial, Wrong, assert_shown,
+    device_with, expected, find, sweep, torn,
 };
-use message::Reply;
 use std::alloc::Global;
 use std::process::Abort;
 use std::test::Fail;
@@ -51,7 +51,7 @@ const REFUSED: [(&[(usize, u8)], OpenFault); 21] = [
 ];
 
 /// Asserts that `open` refuses this device with this fault, that `inspect` does so too, and that the bytes stay as they were.
-fn is_refused(
+fn assert_refused(
     rt: &impl Abort,
     alloc: Global,
     device: MemDisk,
@@ -64,18 +64,16 @@ fn is_refused(
             return Err(Wrong::Unfit);
         }
         Err((device, reported)) => {
-            holds(rt, reported == fault);
+            assert_equal(rt, reported, fault);
             device
         }
     };
-    holds(rt, device.bytes() == bytes.as_slice());
-    match inspect(alloc, device) {
-        Ok(_) => holds(rt, false),
-        Err(e) => {
-            holds(rt, e.fault == fault);
-            holds(rt, e.disk.bytes() == bytes.as_slice());
-        }
-    }
+    assert_equal(rt, device.bytes(), bytes.as_slice());
+    let Err(e) = inspect(alloc, device) else {
+        return Err(Wrong::Unfit);
+    };
+    assert_equal(rt, e.fault, fault);
+    assert_equal(rt, e.disk.bytes(), bytes.as_slice());
     Ok(())
 }
 
@@ -83,7 +81,7 @@ fn is_refused(
 fn damage_is_reported(rt: HostRuntime) -> Result<(), Fail> {
     for &(patches, fault) in &REFUSED {
         let device = device_with(rt.alloc(), SMALL, patches)?;
-        is_refused(&rt, rt.alloc(), device, fault)?;
+        assert_refused(&rt, rt.alloc(), device, fault)?;
     }
     Ok(())
 }
@@ -94,7 +92,7 @@ fn a_short_device_is_refused(rt: HostRuntime) -> Result<(), Fail> {
     for len in [127, 8839] {
         let bytes = whole.bytes().iter().take(len).copied();
         let device = MemDisk::of_bytes(rt.alloc(), bytes.collect(rt.alloc())?)?;
-        is_refused(&rt, rt.alloc(), device, OpenFault::TooShort)?;
+        assert_refused(&rt, rt.alloc(), device, OpenFault::TooShort)?;
     }
     Ok(())
 }
@@ -116,9 +114,9 @@ fn the_sync_comes_first(rt: HostRuntime) -> Result<(), Fail> {
         match Server::open(rt.alloc(), device) {
             Ok(server) => {
                 let _device = server.into_device();
-                holds(&rt, false);
+                return Err(Wrong::Unfit.into());
             }
-            Err((_device, reported)) => holds(&rt, reported == fault),
+            Err((_device, reported)) => assert_equal(&rt, reported, fault),
         }
     }
     Ok(())
@@ -170,17 +168,15 @@ fn opened(
         return Err(Wrong::Unfit);
     };
     let answers = server.reply_lines(alloc, questions);
-    holds(
-        rt,
-        !server.failed() && server.pieces_left().is_none() && server.room() == 4,
-    );
+    let numbers = (server.failed(), server.pieces_left(), server.room());
+    assert_equal(rt, numbers, (false, None, 4));
     let (device, _) = server.into_device();
     Ok((answers?, device))
 }
 
 /// Asserts that a formatted device with these patches is opened. It answers as a server after these lines; this area is named then, with an
 /// image of version 2, and no record is in force.
-fn is_opened(
+fn assert_opened(
     rt: &impl Abort,
     alloc: Global,
     patches: &[(usize, u8)],
@@ -194,25 +190,23 @@ fn is_opened(
     let wanted = expected(alloc, &g, lines, &questions)?;
     let device = device_with(alloc, SMALL, patches)?;
     let (answers, device) = opened(rt, alloc, device, &questions)?;
-    holds(rt, answers == wanted);
+    assert_equal(rt, answers, wanted);
     let image = if area == 0 { 4424 } else { 6632 };
-    holds(rt, (device.bytes().get(64) == Some(&1)) == (area == 1));
-    holds(rt, device.bytes().get(image) == Some(&2));
+    assert_equal(rt, device.bytes().get(64) == Some(&1), area == 1);
+    assert_equal(rt, device.bytes().get(image), Some(&2));
     let Ok((shown, _)) = inspect(alloc, device) else {
         return Err(Wrong::Unfit);
     };
-    holds(
-        rt,
-        shown.area == area && shown.records == 0 && shown.version == 2,
-    );
-    holds(rt, shown.geometry == g);
+    let got = (shown.area, shown.records, shown.version);
+    assert_equal(rt, got, (area, 0, 2));
+    assert_equal(rt, shown.geometry, g);
     Ok(())
 }
 
 #[test]
 fn a_recoverable_device_is_opened(rt: HostRuntime) -> Result<(), Fail> {
     for &(patches, lines, area) in &OPENED {
-        is_opened(&rt, rt.alloc(), patches, lines, area)?;
+        assert_opened(&rt, rt.alloc(), patches, lines, area)?;
     }
     Ok(())
 }
@@ -262,7 +256,7 @@ impl Trial for RefusedOpening {
 /// Asserts: whichever call of an opening fails, or stops the device, which is then torn (`sweep` tries each), the next opening refuses the
 /// device again. A refusal with no fault leaves area 1 named, with the state at the cut in its image: `volume` is two bytes of the volume's
 /// piece there, the made byte and the first one of the bitmap of files.
-fn stays_refused(
+fn assert_stays_refused(
     rt: &impl Abort,
     alloc: Global,
     trial: &RefusedOpening,
@@ -271,12 +265,12 @@ fn stays_refused(
     sweep(alloc, trial)?;
     let Ended { device, progress } = trial.run(alloc, trial.device(alloc)?)?;
     let [made, files] = volume;
-    holds(rt, progress.is_faultless);
-    holds(rt, device.bytes().get(64) == Some(&1));
-    holds(rt, device.bytes().get(6632) == Some(&2));
-    holds(rt, device.bytes().get(6632 + 64) == Some(&made));
-    holds(rt, device.bytes().get(6632 + 72) == Some(&files));
-    is_refused(rt, alloc, device, OpenFault::BadRecord(1, 0))
+    assert_true(rt, progress.is_faultless);
+    assert_equal(rt, device.bytes().get(64), Some(&1));
+    assert_equal(rt, device.bytes().get(6632), Some(&2));
+    assert_equal(rt, device.bytes().get(6632 + 64), Some(&made));
+    assert_equal(rt, device.bytes().get(6632 + 72), Some(&files));
+    assert_refused(rt, alloc, device, OpenFault::BadRecord(1, 0))
 }
 
 #[test]
@@ -284,7 +278,7 @@ fn a_bad_record_behind_a_cut_stays_one(rt: HostRuntime) -> Result<(), Fail> {
     for &(patches, volume) in &BAD_BEHIND {
         let questions = Questions::new(rt.alloc(), &Geometry::new(SMALL)?)?;
         let trial = RefusedOpening { questions, patches };
-        stays_refused(&rt, rt.alloc(), &trial, volume)?;
+        assert_stays_refused(&rt, rt.alloc(), &trial, volume)?;
     }
     Ok(())
 }
@@ -298,10 +292,10 @@ fn a_device_is_opened_at_the_next_try(rt: HostRuntime) -> Result<(), Fail> {
     let server = match Server::open(alloc, device) {
         Ok(server) => server,
         Err((device, fault)) => {
-            holds(&rt, fault == OpenFault::OutOfMemory);
-            holds(&rt, device.bytes() == bytes.as_slice());
+            assert_equal(&rt, fault, OpenFault::OutOfMemory);
+            assert_equal(&rt, device.bytes(), bytes.as_slice());
             // A sync, and a read of the header.
-            holds(&rt, device.calls() <= 2);
+            assert_true(&rt, device.calls() <= 2);
             match Server::open(alloc, device) {
                 Ok(server) => server,
                 Err((_, fault)) => return Err(fault.into()),
@@ -309,18 +303,8 @@ fn a_device_is_opened_at_the_next_try(rt: HostRuntime) -> Result<(), Fail> {
         }
     };
     let (device, _) = server.into_device();
-    match inspect(alloc, device) {
-        Ok((shown, _)) => {
-            let one = Reply::Summary {
-                volumes: 1,
-                files: 0,
-                blocks: 0,
-            };
-            holds(&rt, shown.summary == one);
-            Ok(())
-        }
-        Err(e) => Err(e.fault.into()),
-    }
+    assert_shown(alloc, device, 1, 0, [1, 0, 0])?;
+    Ok(())
 }
 
 /// How many bytes a longer device has behind its parts.
@@ -352,7 +336,11 @@ fn what_lies_behind_the_parts_stays(rt: HostRuntime) -> Result<(), Fail> {
     for kind in 0..KINDS {
         let device = left_by_acts(alloc, longer_device(alloc)?, &ALL_CALLS)?;
         let device = device.crash(torn(alloc, kind)?);
-        holds(&rt, device.bytes().get(8840..) == Some(&[9; BEHIND]));
+        assert_equal(
+            &rt,
+            device.bytes().get(8840..),
+            Some([9; BEHIND].as_slice()),
+        );
     }
     Ok(())
 }

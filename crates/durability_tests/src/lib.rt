@@ -2,6 +2,8 @@
 #![tactic(auto)]
 
 #[cfg(test)]
+mod assertions;
+#[cfg(test)]
 mod checkpoint_formatting;
 #[cfg(test)]
 mod checkpoint_inspecting;

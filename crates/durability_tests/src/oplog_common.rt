@@ -1,4 +1,4 @@
-//! What tests share: a small server with its log and its device, and assertions, called for each row of a test's table.
+//! What tests share: a small server with its log and its device.
 ghost use Rattle.std.specs.Prelude.{◌≡◌, ◌<◌, false, length, OnOk};
 ghost use Rattle.disk.specs.Memory.{medium_of};
 ghost use Rattle.oplog.specs.Calls.{IsLongEnough, IsReadyFor};
@@ -10,7 +10,6 @@ use harness::{are_changes_in_range, torn};
 use message::Msg;
 use oplog::{Halves, LogFault};
 use std::alloc::{AllocError, Global};
-use std::process::Abort;
 use std::test::Fail;
 
 /// Clears the half that isn't named, and names it.
@@ -240,24 +239,4 @@ impl Server {
         }
         count
     }
-}
-
-/// Asserts that a call answered so.
-pub(crate) fn answers(rt: &impl Abort, got: Result<(), LogFault>, want: Result<(), LogFault>) {
-    assert_eq!(rt; got, want);
-}
-
-/// Asserts what came of reading a record.
-pub(crate) fn reads(rt: &impl Abort, got: Result<Msg, LogFault>, want: Result<Msg, LogFault>) {
-    assert_eq!(rt; got, want);
-}
-
-/// Asserts how many records were counted in a front.
-pub(crate) fn finds(rt: &impl Abort, got: Result<usize, LogFault>, want: usize) {
-    assert_eq!(rt; got, Ok(want));
-}
-
-/// Asserts that these messages are those.
-pub(crate) fn same_messages(rt: &impl Abort, got: &[Msg], want: &[Msg]) {
-    assert_eq!(rt; got, want);
 }

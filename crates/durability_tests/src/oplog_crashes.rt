@@ -1,9 +1,9 @@
 //! Devices that fail or stop at each call, and crashes of every kind.
 //!
 //! `KINDS` is how many kinds of crash there are. A server takes messages into its other half, which is cleared, and then named
-//! (`Way::Named`) or chained to the named one (`Way::Chained`). `holds` and `same_messages` assert.
-use crate::common::holds;
-use crate::oplog_common::{Server, Way, same_messages};
+//! (`Way::Named`) or chained to the named one (`Way::Chained`).
+use crate::assertions::{assert_equal, assert_true};
+use crate::oplog_common::{Server, Way};
 use harness::{KINDS, MIXED};
 use message::Msg;
 use std::alloc::Global;
@@ -52,16 +52,15 @@ fn left_at(alloc: Global, way: Way, n: u64, stops: bool, kind: usize) -> Result<
 }
 
 /// Asserts that the messages that were read, after a fault at the n-th call and a crash of this kind, are a prefix of `MESSAGES`.
-fn is_beginning(rt: &impl Abort, read: &[Msg], n: u64, kind: usize) {
+fn assert_beginning(rt: &impl Abort, read: &[Msg], n: u64, kind: usize) {
     let count = read.len();
-    holds(rt, count <= MESSAGES.len());
-    same_messages(rt, read, &MESSAGES[..count.min(MESSAGES.len())]);
+    assert_equal(rt, read, &MESSAGES[..count.min(MESSAGES.len())]);
     // The seventh call writes the gates and the eighth syncs them. A fault before the seventh leaves no record. Nine means no fault,
     // as no ninth call is made: then all records are there.
-    holds(rt, n > 6 || count == 0);
-    holds(rt, n < 9 || count == 3);
+    assert_true(rt, n > 6 || count == 0);
+    assert_true(rt, n < 9 || count == 3);
     // `MIXED` leaves 1, 77, 1 in turn in unsynced bytes: here the three gates, whose write failed. A gate of 77 is shut.
-    holds(rt, n != 7 || kind != MIXED || count == 1);
+    assert_true(rt, n != 7 || kind != MIXED || count == 1);
 }
 
 #[test]
@@ -70,8 +69,8 @@ fn each_crash_leaves_a_beginning_of_the_messages(rt: HostRuntime) -> Result<(), 
         for stops in [true, false] {
             for kind in 0..KINDS {
                 let left = left_at(rt.alloc(), Way::Named, n, stops, kind)?;
-                holds(&rt, left.went_well == (n == 9));
-                is_beginning(&rt, &left.read, n, kind);
+                assert_equal(&rt, left.went_well, (n == 9));
+                assert_beginning(&rt, &left.read, n, kind);
             }
         }
     }
@@ -84,12 +83,12 @@ fn each_crash_of_a_chain_leaves_one_too(rt: HostRuntime) -> Result<(), Fail> {
         for stops in [true, false] {
             for kind in 0..KINDS {
                 let left = left_at(rt.alloc(), Way::Chained, n, stops, kind)?;
-                holds(&rt, left.went_well == (n == 9));
+                assert_equal(&rt, left.went_well, (n == 9));
                 // Half 0 is named, and its chain byte is written by the third call and synced by the fourth.
-                holds(&rt, left.root == 0);
-                holds(&rt, n > 2 || left.chain == 0);
-                holds(&rt, n < 5 || left.chain == 1);
-                is_beginning(&rt, &left.read, n, kind);
+                assert_equal(&rt, left.root, 0);
+                assert_true(&rt, n > 2 || left.chain == 0);
+                assert_true(&rt, n < 5 || left.chain == 1);
+                assert_beginning(&rt, &left.read, n, kind);
             }
         }
     }

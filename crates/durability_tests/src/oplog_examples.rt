@@ -2,10 +2,10 @@
 //!
 //! Offsets there: root byte 64; half 0: chain byte 128, gates 192, records (520 bytes each) 196; half 1: the same at 2276, 2340, 2344.
 //!
-//! `equals`, `holds`, `answers` (of a call), `finds` (how many records a front has) and `reads` (of a record) are assertions. The 4 of
-//! `Server::new` is the number of records in a half; `takes(Way::Named, ..)` clears the other half, names it and appends there.
-use crate::common::{equals, holds};
-use crate::oplog_common::{Server, Step, Way, answers, finds, reads};
+//! The 4 of `Server::new` is the number of records in a half; `takes(Way::Named, ..)` clears the other half, names it and appends there. Of
+//! a call of the log `does` gives the answer, `front` how many records a front has, and `record` a record.
+use crate::assertions::{assert_equal, assert_true};
+use crate::oplog_common::{Server, Step, Way};
 use affinity::Geometry;
 use disk::Disk;
 use message::Msg;
@@ -14,20 +14,18 @@ use std::process::Abort;
 use std::test::Fail;
 
 /// Asserts that the server has, in this order: the root byte, the room, the named half, and the current one, which records are appended to.
-fn has_numbers(rt: &impl Abort, server: &Server, want: [u64; 4]) {
-    let [root, room, named, current] = want;
-    equals(rt, server.byte(64), root);
-    equals(rt, server.log.room() as u64, room);
-    equals(rt, server.log.named() as u64, named);
-    equals(rt, server.log.current() as u64, current);
+fn assert_numbers(rt: &impl Abort, server: &Server, want: [u64; 4]) {
+    let log = &server.log;
+    let (room, named, current) = (log.room() as u64, log.named() as u64, log.current() as u64);
+    assert_equal(rt, [server.byte(64), room, named, current], want);
 }
 
 /// Asserts that these calls succeed, one after the other, and that after each the server has the four numbers of its row, those of
-/// `has_numbers`.
-fn goes(rt: &impl Abort, server: &mut Server, rows: &[(Step, [u64; 4])]) {
+/// `assert_numbers`.
+fn assert_steps(rt: &impl Abort, server: &mut Server, rows: &[(Step, [u64; 4])]) {
     for (step, want) in rows {
-        answers(rt, server.does(*step), Ok(()));
-        has_numbers(rt, server, *want);
+        assert_equal(rt, server.does(*step), Ok(()));
+        assert_numbers(rt, server, *want);
     }
 }
 
@@ -54,7 +52,7 @@ const WALKS: [&[(Step, [u64; 4])]; 3] = [&ROOM, &CHAIN, &CHANGES];
 #[test]
 fn a_half_that_was_cleared_has_room(rt: HostRuntime) -> Result<(), Fail> {
     for &rows in &WALKS {
-        goes(&rt, &mut Server::new(rt.alloc(), 4)?, rows);
+        assert_steps(&rt, &mut Server::new(rt.alloc(), 4)?, rows);
     }
     Ok(())
 }
@@ -62,29 +60,29 @@ fn a_half_that_was_cleared_has_room(rt: HostRuntime) -> Result<(), Fail> {
 #[test]
 fn a_record_is_appended_and_read(rt: HostRuntime) -> Result<(), Fail> {
     let mut server = Server::new(rt.alloc(), 4)?;
-    equals(&rt, server.disk.len(), 8840);
-    has_numbers(&rt, &server, [0, 0, 0, 0]);
-    holds(&rt, server.takes(Way::Named, &[Msg::MakeVol(0, 0)]));
-    holds(&rt, !server.log.failed());
-    has_numbers(&rt, &server, [1, 3, 1, 1]);
+    assert_equal(&rt, server.disk.len(), 8840);
+    assert_numbers(&rt, &server, [0, 0, 0, 0]);
+    assert_true(&rt, server.takes(Way::Named, &[Msg::MakeVol(0, 0)]));
+    assert_true(&rt, !server.log.failed());
+    assert_numbers(&rt, &server, [1, 3, 1, 1]);
     // The root byte, the gate, and the first byte of the record.
-    equals(&rt, server.byte(2340), 1);
-    equals(&rt, server.byte(2344), 1);
-    equals(&rt, server.nonzero(), 3);
-    finds(&rt, server.front(1), 1);
-    reads(&rt, server.record(1, 0), Ok(Msg::MakeVol(0, 0)));
+    assert_equal(&rt, server.byte(2340), 1);
+    assert_equal(&rt, server.byte(2344), 1);
+    assert_equal(&rt, server.nonzero(), 3);
+    assert_equal(&rt, server.front(1), Ok(1));
+    assert_equal(&rt, server.record(1, 0), Ok(Msg::MakeVol(0, 0)));
     Ok(())
 }
 
 #[test]
 fn zeros_are_no_record(rt: HostRuntime) -> Result<(), Fail> {
     let mut server = Server::new(rt.alloc(), 4)?;
-    holds(&rt, server.takes(Way::Named, &[Msg::MakeVol(0, 0)]));
+    assert_true(&rt, server.takes(Way::Named, &[Msg::MakeVol(0, 0)]));
     // The gate of record 1 is opened; the record itself is zeros.
-    holds(&rt, server.writes(2341, &[1]));
-    finds(&rt, server.front(1), 2);
-    reads(&rt, server.record(1, 0), Ok(Msg::MakeVol(0, 0)));
-    reads(&rt, server.record(1, 1), Err(LogFault::BadRecord(1, 1)));
+    assert_true(&rt, server.writes(2341, &[1]));
+    assert_equal(&rt, server.front(1), Ok(2));
+    assert_equal(&rt, server.record(1, 0), Ok(Msg::MakeVol(0, 0)));
+    assert_equal(&rt, server.record(1, 1), Err(LogFault::BadRecord(1, 1)));
     Ok(())
 }
 
@@ -105,8 +103,8 @@ const RECORDS: [([u8; 3], Result<Msg, LogFault>); 8] = [
 fn only_changes_in_range_are_read(rt: HostRuntime) -> Result<(), Fail> {
     for &(first, wanted) in &RECORDS {
         let mut server = Server::new(rt.alloc(), 4)?;
-        holds(&rt, server.writes(196 + 3 * 520, &first));
-        reads(&rt, server.record(0, 3), wanted);
+        assert_true(&rt, server.writes(196 + 3 * 520, &first));
+        assert_equal(&rt, server.record(0, 3), wanted);
     }
     Ok(())
 }
@@ -123,9 +121,9 @@ const GATES: [([u8; 4], usize); 4] = [
 fn the_front_ends_at_a_gate_that_is_not_open(rt: HostRuntime) -> Result<(), Fail> {
     for &(gates, wanted) in &GATES {
         let mut server = Server::new(rt.alloc(), 4)?;
-        holds(&rt, server.writes(2340, &gates));
-        finds(&rt, server.front(1), wanted);
-        finds(&rt, server.front(0), 0);
+        assert_true(&rt, server.writes(2340, &gates));
+        assert_equal(&rt, server.front(1), Ok(wanted));
+        assert_equal(&rt, server.front(0), Ok(0));
     }
     Ok(())
 }
@@ -134,13 +132,13 @@ fn the_front_ends_at_a_gate_that_is_not_open(rt: HostRuntime) -> Result<(), Fail
 fn clearing_keeps_the_records(rt: HostRuntime) -> Result<(), Fail> {
     let mut server = Server::new(rt.alloc(), 4)?;
     // All bytes of half 1, and no others.
-    holds(&rt, server.writes(2276, &[7; 2148]));
-    answers(&rt, server.does(Step::Clear), Ok(()));
+    assert_true(&rt, server.writes(2276, &[7; 2148]));
+    assert_equal(&rt, server.does(Step::Clear), Ok(()));
     // The chain byte, the 63 bytes after it and the four gates are zeros now: 68 bytes.
-    equals(&rt, server.nonzero(), 2080);
-    equals(&rt, server.byte(2276), 0);
-    equals(&rt, server.byte(2343), 0);
-    equals(&rt, server.byte(2344), 7);
+    assert_equal(&rt, server.nonzero(), 2080);
+    assert_equal(&rt, server.byte(2276), 0);
+    assert_equal(&rt, server.byte(2343), 0);
+    assert_equal(&rt, server.byte(2344), 7);
     Ok(())
 }
 
@@ -152,8 +150,8 @@ fn a_refused_log_is_made_at_the_next_try(rt: HostRuntime) -> Result<(), Fail> {
         Ok(log) => log,
         Err(_) => Halves::new(rt.alloc(), &g)?,
     };
-    equals(&rt, log.room() as u64, 0);
-    holds(&rt, !log.failed());
+    assert_equal(&rt, log.room() as u64, 0);
+    assert_true(&rt, !log.failed());
     Ok(())
 }
 
@@ -173,8 +171,8 @@ fn a_failed_log_says_so(rt: HostRuntime) -> Result<(), Fail> {
         let mut server = Server::new(rt.alloc(), 4)?;
         // `false`: calls after the n-th work.
         server.fails_at(n, false);
-        answers(&rt, server.does(step), Err(LogFault::Device));
-        holds(&rt, server.log.failed());
+        assert_equal(&rt, server.does(step), Err(LogFault::Device));
+        assert_true(&rt, server.log.failed());
     }
     Ok(())
 }

@@ -25,7 +25,7 @@ const LAYOUTS: [([u16; 8], [u64; 7]); 3] = [
 ];
 
 /// Asserts that the parts lie so.
-fn lies(rt: &impl Abort, g: &Geometry, want: [u64; 7]) {
+fn assert_layout(rt: &impl Abort, g: &Geometry, want: [u64; 7]) {
     let found = [
         half_at(g, 0),
         half_at(g, 1),
@@ -41,7 +41,7 @@ fn lies(rt: &impl Abort, g: &Geometry, want: [u64; 7]) {
 #[test]
 fn parts_lie_in_a_row(rt: HostRuntime) -> Result<(), Fail> {
     for &(numbers, want) in &LAYOUTS {
-        lies(&rt, &Geometry::new(numbers)?, want);
+        assert_layout(&rt, &Geometry::new(numbers)?, want);
     }
     Ok(())
 }

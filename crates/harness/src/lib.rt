@@ -10,10 +10,12 @@ mod counting;
 mod crashes;
 mod expected_answers;
 mod server;
+mod shown;
 mod trials;
 
 pub use counting::{Counting, Counts};
 pub use crashes::{KINDS, MIXED, NEW, OLD, torn};
 pub use expected_answers::{Questions, answers_and_replies, expected, messages_of, reply_lines};
 pub use server::{Act, Halt, Server, are_changes_in_range, device_with};
+pub use shown::assert_shown;
 pub use trials::{Crash, Ended, OpenedDevice, Progress, Seen, Trial, Wrong, find, reopen, sweep};

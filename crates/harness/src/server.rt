@@ -58,7 +58,7 @@ pub fn are_changes_in_range(g: &Geometry, messages: &[Msg]) -> bool
 }
 
 /// Why a server doesn't do what it was asked.
-#[derive(Clone, Copy, PartialEq, Eq)]
+#[derive(Clone, Copy, Debug, PartialEq, Eq)]
 pub enum Halt {
     /// A condition of the call doesn't hold: a message is no change in range or isn't done, the log has no room, a cut is in progress or
     /// isn't, or has pieces left, or the device failed before.

@@ -34,7 +34,7 @@ pub struct Ended {
 }
 
 /// What is found on a device that is opened.
-#[derive(Drop, PartialEq, Eq)]
+#[derive(Debug, Drop, PartialEq, Eq)]
 pub enum OpenedDevice {
     /// It is opened, and a server on it answers the questions so.
     Answers(Vec<u8>),
@@ -89,6 +89,9 @@ pub enum Wrong {
 
     /// After the crash `inspect` and `open` disagree.
     Shown(Crash),
+
+    /// `inspect` reports this of a device, and should report something else.
+    Reported(Shown),
 
     /// The opening after the first crash was stopped at the call of the second one. It didn't report that, or something else is found after
     /// the second crash than without it.
