@@ -2,10 +2,11 @@
 //! call fails, is made again and succeeds; if the test's setup made it, the test ends with an error. `MADE_AGAIN` in
 //! `tests/system/crates.py` has the least number of allocations of each call, counted by hand: raise it where you add one.
 //!
-//! `SMALL` is a geometry of one volume and four records in a half. `goes_so` makes the steps of rows and asserts their outcomes; `holds`
-//! asserts, too. The last number of `Core::open` is that of slots.
+//! `SMALL` is a geometry of one volume and four records in a half. `assert_outcomes` makes the steps of rows. The last number of
+//! `Core::open` is that of slots.
+use crate::assertions::assert_equal;
 use crate::making::Row::{Arrives, Does, Serves};
-use crate::making::{Row, SMALL, goes_so, holds};
+use crate::making::{Row, SMALL, assert_outcomes};
 use checkpoint::OpenFault;
 use disk::MemDisk;
 use harness::{Wrong, device_with};
@@ -41,8 +42,8 @@ fn opened_again(
         Ok(core) => return Ok(core),
         Err(e) => e,
     };
-    let is_as_given = refused.disk.bytes() == bytes.as_slice();
-    holds(rt, refused.fault == OpenFault::OutOfMemory && is_as_given);
+    assert_equal(rt, refused.fault, OpenFault::OutOfMemory);
+    assert_equal(rt, refused.disk.bytes(), bytes.as_slice());
     if refused.disk.calls() > most_calls {
         return Err(Wrong::OutOfMemory);
     }
@@ -60,9 +61,9 @@ fn machine_of(alloc: Global, core: Core<MemDisk>) -> Result<Machine<MemDisk>, Co
     }
 }
 
-/// A machine over this core answers as if no memory had been refused. Where the memory of the machine itself is refused, it is made again,
-/// if there is to be a second try. The machine is taken apart at the end, as dropping it costs the prover half a minute.
-fn serves(
+/// Asserts that a machine over this core answers as if no memory had been refused. Where the memory of the machine itself is refused, it is
+/// made again, if there is to be a second try. The machine is taken apart at the end, as dropping it costs the prover half a minute.
+fn assert_serves(
     rt: &impl Abort,
     alloc: Global,
     core: Core<MemDisk>,
@@ -74,7 +75,7 @@ fn serves(
     };
     match made {
         Ok(mut machine) => {
-            goes_so(rt, &mut machine, &ITS_VOLUME);
+            assert_outcomes(rt, &mut machine, &ITS_VOLUME);
             let _device = machine.into_core().into_disk();
             Ok(())
         }
@@ -94,25 +95,26 @@ fn core_opened_again(
     let device = device_with(alloc, SMALL, &A_VOLUME)?;
     let core = opened_again(rt, alloc, device, most_calls)?;
     // None: no cut is in progress.
-    holds(rt, core.slots() == 2 && core.pieces_left().is_none());
+    assert_equal(rt, (core.slots(), core.pieces_left()), (2, None));
     Ok(core)
 }
 
-fn serves_again(rt: &impl Abort, alloc: Global, most_calls: u64) -> Result<(), Wrong> {
+/// The same of a core that is opened at the second try where memory is refused within `most_calls` calls of the device.
+fn assert_serves_again(rt: &impl Abort, alloc: Global, most_calls: u64) -> Result<(), Wrong> {
     let core = core_opened_again(rt, alloc, most_calls)?;
-    serves(rt, alloc, core, false)
+    assert_serves(rt, alloc, core, false)
 }
 
 #[test]
 fn a_core_takes_its_own_memory_before_it_calls_the_device(rt: HostRuntime) -> Result<(), Fail> {
-    serves_again(&rt, rt.alloc(), 0)?;
+    assert_serves_again(&rt, rt.alloc(), 0)?;
     Ok(())
 }
 
 #[test]
 fn a_core_is_opened_at_the_next_try(rt: HostRuntime) -> Result<(), Fail> {
     // A sync, and a read of the header.
-    serves_again(&rt, rt.alloc(), 2)?;
+    assert_serves_again(&rt, rt.alloc(), 2)?;
     Ok(())
 }
 
@@ -122,6 +124,6 @@ fn a_machine_is_made_at_the_next_try(rt: HostRuntime) -> Result<(), Fail> {
     let Ok(core) = Core::open(rt.alloc(), device, 2) else {
         return Err(Wrong::OutOfMemory.into());
     };
-    serves(&rt, rt.alloc(), core, true)?;
+    assert_serves(&rt, rt.alloc(), core, true)?;
     Ok(())
 }

@@ -1,10 +1,11 @@
 //! What a machine reports once a call of its device has failed.
 //!
 //! In an outcome `Device` says that the device fails in this step, and `Failed` that it has failed before; `PointRefused` is that of any
-//! step of a checkpoint. `goes_so` makes the steps of rows and asserts their outcomes; `holds` asserts, too. Each device is newly
-//! formatted, with the geometry `SMALL` of one volume in two stripes (three pieces), and each machine has two slots and two hands.
+//! step of a checkpoint. `assert_outcomes` makes the steps of rows. Each device is newly formatted, with the geometry `SMALL` of one volume
+//! in two stripes (three pieces), and each machine has two slots and two hands.
+use crate::assertions::assert_equal;
 use crate::making::Row::{Arrives, Does};
-use crate::making::{Row, SMALL, goes_so, holds, machine_on};
+use crate::making::{Row, SMALL, assert_outcomes, machine_on};
 use harness::{Wrong, device_with};
 use histories::{ArriveRefusal, CoreFault, Outcome, PointRefusal, Step};
 use std::alloc::Global;
@@ -60,28 +61,28 @@ const FAILED: [Row; 8] = [
 /// How many calls of a new device its opening and these rows make.
 fn calls_of(rt: &impl Abort, alloc: Global, rows: &[Row]) -> Result<u64, Wrong> {
     let mut machine = machine_on(alloc, device_with(alloc, SMALL, &[])?, 2, 2)?;
-    goes_so(rt, &mut machine, rows);
+    assert_outcomes(rt, &mut machine, rows);
     Ok(machine.into_core().into_disk().calls())
 }
 
 /// Asserts: of the calls of the device the first one in step `failing` fails, and no other. From then on each step reports that the device
 /// has failed, or is idle, and none calls it.
-fn stays_failed(rt: &impl Abort, alloc: Global, before: &[Row], failing: Row) -> Result<(), Wrong> {
+fn assert_fails(rt: &impl Abort, alloc: Global, before: &[Row], failing: Row) -> Result<(), Wrong> {
     let calls = calls_of(rt, alloc, before)?.saturating_add(1);
     let mut device = device_with(alloc, SMALL, &[])?;
     device.fail_at(calls);
     let mut machine = machine_on(alloc, device, 2, 2)?;
-    goes_so(rt, &mut machine, before);
-    goes_so(rt, &mut machine, &[failing]);
-    goes_so(rt, &mut machine, &FAILED);
-    holds(rt, machine.into_core().into_disk().calls() == calls);
+    assert_outcomes(rt, &mut machine, before);
+    assert_outcomes(rt, &mut machine, &[failing]);
+    assert_outcomes(rt, &mut machine, &FAILED);
+    assert_equal(rt, machine.into_core().into_disk().calls(), calls);
     Ok(())
 }
 
 #[test]
 fn what_has_failed_says_so_at_each_step(rt: HostRuntime) -> Result<(), Fail> {
     for &(before, failing) in &FAULTS {
-        stays_failed(&rt, rt.alloc(), before, failing)?;
+        assert_fails(&rt, rt.alloc(), before, failing)?;
     }
     Ok(())
 }

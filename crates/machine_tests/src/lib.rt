@@ -4,6 +4,8 @@
 #[cfg(test)]
 mod again;
 #[cfg(test)]
+mod assertions;
+#[cfg(test)]
 mod failing;
 #[cfg(test)]
 mod making;

@@ -1,4 +1,5 @@
 //! Machines over devices in memory, and lists of steps with their outcomes.
+use crate::assertions::{assert_equal, assert_text};
 use checkpoint::OpenFault;
 use disk::MemDisk;
 use harness::Wrong;
@@ -35,11 +36,6 @@ pub(crate) const WHOLE: [Step; 5] = [
     Step::Log(1),
     Step::Answer,
 ];
-
-/// Asserts this.
-pub(crate) fn holds(rt: &impl Abort, fact: bool) {
-    assert!(rt; fact);
-}
 
 /// A machine with these numbers of slots (1 to 1024) and hands on this device; where it is refused, the device and why.
 pub(crate) fn open_machine(
@@ -94,7 +90,7 @@ fn serve(rt: &impl Abort, machine: &mut Machine<MemDisk>, message: Msg) -> Optio
     machine.run(&WHOLE, &mut outcomes);
     match outcomes[4] {
         Outcome::Answered(answered, reply) => {
-            holds(rt, answered == ticket);
+            assert_equal(rt, answered, ticket);
             Some(reply)
         }
         _ => None,
@@ -102,30 +98,23 @@ fn serve(rt: &impl Abort, machine: &mut Machine<MemDisk>, message: Msg) -> Optio
 }
 
 /// Asserts that the message of this line is served with this reply.
-fn is_served(rt: &impl Abort, machine: &mut Machine<MemDisk>, line: &str, want: &str) {
+fn assert_served(rt: &impl Abort, machine: &mut Machine<MemDisk>, line: &str, want: &str) {
     let reply = serve(rt, machine, message_of(rt, line)).expect(rt, "an answer");
     let mut out = [0; LONGEST_REPLY];
     let size = write_reply(&reply, &mut out);
-    assert_eq!(rt;
-        str::from_utf8(&out[..size - 1]),
-        str::from_utf8(want.as_bytes())
-    );
-}
-
-/// Asserts that this comes of the step.
-fn comes_of(rt: &impl Abort, machine: &mut Machine<MemDisk>, step: Step, want: Outcome) {
-    assert_eq!(rt; one(machine, step), want);
+    assert_text(rt, &out[..size - 1], want.as_bytes());
 }
 
 /// The machine does these things; asserts that they have these outcomes.
-pub(crate) fn goes_so(rt: &impl Abort, machine: &mut Machine<MemDisk>, rows: &[Row]) {
+pub(crate) fn assert_outcomes(rt: &impl Abort, machine: &mut Machine<MemDisk>, rows: &[Row]) {
     for row in rows {
         match *row {
             Row::Arrives(line, want) => {
-                comes_of(rt, machine, Step::Arrive(message_of(rt, line)), want);
+                let arrives = Step::Arrive(message_of(rt, line));
+                assert_equal(rt, one(machine, arrives), want);
             }
-            Row::Does(step, want) => comes_of(rt, machine, step, want),
-            Row::Serves(line, want) => is_served(rt, machine, line, want),
+            Row::Does(step, want) => assert_equal(rt, one(machine, step), want),
+            Row::Serves(line, want) => assert_served(rt, machine, line, want),
         }
     }
 }

@@ -1,15 +1,15 @@
 //! Worked lists of steps, whose outcomes are written by hand.
 //!
 //! Steps `Run` and `Back` have the number of a hand, and `Log` the most messages to log. Outcomes `Ticket`, `Back` and `Answered` have a
-//! ticket, `Granted` a hand and a ticket, and `Left` the number of pieces that are left. `goes_so` makes the steps and asserts their
-//! outcomes; `holds` asserts, too. `SMALL` is a geometry of one volume of two files of four blocks, in two stripes; a half has four
-//! records. `Wrong::Unfit`: a test doesn't go as it was written. Crashes leave the synced bytes (`OLD`), those of the last writes (`NEW`),
-//! or 1, 77, 1 at the unsynced offsets in turn (`MIXED`).
+//! ticket, `Granted` a hand and a ticket, and `Left` the number of pieces that are left. `assert_outcomes` makes the steps. `SMALL` is a
+//! geometry of one volume of two files of four blocks, in two stripes; a half has four records. `Wrong::Unfit`: a test doesn't go as it was
+//! written. Crashes leave the synced bytes (`OLD`), those of the last writes (`NEW`), or 1, 77, 1 at the unsynced offsets in turn
+//! (`MIXED`).
+use crate::assertions::{assert_equal, assert_true};
 use crate::making::Row::{Arrives, Does, Serves};
-use crate::making::{FLAT, Row, SMALL, goes_so, holds, machine_on};
-use checkpoint::inspect;
+use crate::making::{FLAT, Row, SMALL, assert_outcomes, machine_on};
 use disk::MemDisk;
-use harness::{MIXED, NEW, OLD, Wrong, device_with, torn};
+use harness::{MIXED, NEW, OLD, Wrong, assert_shown, device_with, torn};
 use histories::{ArriveRefusal, CoreFault, Outcome, PointRefusal, Step};
 use message::Reply;
 use std::alloc::Global;
@@ -48,12 +48,12 @@ fn run_incarnation(
     incarnation: &Incarnation,
 ) -> Result<MemDisk, Wrong> {
     let mut machine = machine_on(alloc, device, incarnation.slots, incarnation.hands)?;
-    goes_so(rt, &mut machine, incarnation.rows);
+    assert_outcomes(rt, &mut machine, incarnation.rows);
     Ok(machine.into_core().into_disk())
 }
 
-/// The device after all incarnations.
-fn left_by(rt: &impl Abort, alloc: Global, incarnations: &Incarnations) -> Result<MemDisk, Wrong> {
+/// The machines of all incarnations do these things on a new device, which is given back.
+fn run_all(rt: &impl Abort, alloc: Global, incarnations: &Incarnations) -> Result<MemDisk, Wrong> {
     let mut device = device_with(alloc, incarnations.numbers, &[])?;
     for incarnation in incarnations.incarnations {
         device = run_incarnation(rt, alloc, device, incarnation)?;
@@ -95,30 +95,6 @@ fn left_with(
         InjectedFault::StopAt(n) => device.stop_at(calls.saturating_add(n.max(1))),
     }
     run_incarnation(rt, alloc, device, incarnation)
-}
-
-/// Asserts that this is reported of a device: the named area, how many records are in force, and how many volumes, files and blocks there
-/// are. Gives the device.
-fn is_shown(
-    rt: &impl Abort,
-    alloc: Global,
-    device: MemDisk,
-    area: usize,
-    records: usize,
-    summary: [u32; 3],
-) -> Result<MemDisk, Wrong> {
-    let Ok((shown, device)) = inspect(alloc, device) else {
-        return Err(Wrong::Unfit);
-    };
-    let [volumes, files, blocks] = summary;
-    let summary = Reply::Summary {
-        volumes,
-        files,
-        blocks,
-    };
-    holds(rt, shown.area == area && shown.records == records);
-    holds(rt, shown.summary == summary);
-    Ok(device)
 }
 
 // ---- outcomes of steps
@@ -305,7 +281,7 @@ const CUT_STEPS: Incarnations = Incarnations {
 #[test]
 fn steps_come_out_so(rt: HostRuntime) -> Result<(), Fail> {
     for incarnations in [FULL_LOG, THREE_SLOTS, LABEL, SIDE_BY_SIDE, CUT_STEPS] {
-        left_by(&rt, rt.alloc(), &incarnations)?;
+        run_all(&rt, rt.alloc(), &incarnations)?;
     }
     Ok(())
 }
@@ -319,9 +295,9 @@ fn run_without_memory(
     incarnation: &Incarnation,
 ) -> Result<MemDisk, Wrong> {
     let mut machine = machine_on(alloc, device, incarnation.slots, incarnation.hands)?;
-    holds(rt, rt.println("no memory from here").is_ok());
-    goes_so(rt, &mut machine, incarnation.rows);
-    holds(rt, rt.println("no memory to here").is_ok());
+    assert_true(rt, rt.println("no memory from here").is_ok());
+    assert_outcomes(rt, &mut machine, incarnation.rows);
+    assert_true(rt, rt.println("no memory to here").is_ok());
     Ok(machine.into_core().into_disk())
 }
 
@@ -362,8 +338,8 @@ fn a_cut_takes_no_memory(rt: HostRuntime) -> Result<(), Fail> {
 
 #[test]
 fn a_refusal_is_no_record(rt: HostRuntime) -> Result<(), Fail> {
-    let device = left_by(&rt, rt.alloc(), &REFUSED)?;
-    is_shown(&rt, rt.alloc(), device, 1, 1, [1, 0, 0])?;
+    let device = run_all(&rt, rt.alloc(), &REFUSED)?;
+    assert_shown(rt.alloc(), device, 1, 1, [1, 0, 0])?;
     Ok(())
 }
 
@@ -371,7 +347,7 @@ fn a_refusal_is_no_record(rt: HostRuntime) -> Result<(), Fail> {
 fn a_query_leaves_the_device_alone(rt: HostRuntime) -> Result<(), Fail> {
     let opening = calls_of(&rt, rt.alloc(), SMALL, &ONE_HAND, 0)?;
     let calls = calls_of(&rt, rt.alloc(), SMALL, &ONE_HAND, ONE_HAND.rows.len())?;
-    holds(&rt, calls == opening);
+    assert_equal(&rt, calls, opening);
     Ok(())
 }
 
@@ -408,7 +384,7 @@ const BEFORE_THE_LOG: usize = 4;
 
 /// The device fails in that log step by this injected fault, and a crash of this kind comes, or none. Asserts that what is opened again has
 /// this many volumes.
-fn leaves_volumes(
+fn assert_volumes_left(
     rt: &impl Abort,
     alloc: Global,
     injected_fault: InjectedFault,
@@ -420,7 +396,7 @@ fn leaves_volumes(
         device = device.crash(torn(alloc, kind)?);
     }
     let device = run_incarnation(rt, alloc, device, &OPENED)?;
-    is_shown(rt, alloc, device, 0, 0, [volumes, 0, 0])?;
+    assert_shown(alloc, device, 0, 0, [volumes, 0, 0])?;
     Ok(())
 }
 
@@ -430,8 +406,8 @@ fn leaves_volumes(
 fn a_log_that_stops_at_its_gate_leaves_the_change_only_if_that_was_written(
     rt: HostRuntime,
 ) -> Result<(), Fail> {
-    leaves_volumes(&rt, rt.alloc(), InjectedFault::StopAt(3), Some(OLD), 0)?;
-    leaves_volumes(&rt, rt.alloc(), InjectedFault::StopAt(3), Some(NEW), 1)?;
+    assert_volumes_left(&rt, rt.alloc(), InjectedFault::StopAt(3), Some(OLD), 0)?;
+    assert_volumes_left(&rt, rt.alloc(), InjectedFault::StopAt(3), Some(NEW), 1)?;
     Ok(())
 }
 
@@ -439,9 +415,9 @@ fn a_log_that_stops_at_its_gate_leaves_the_change_only_if_that_was_written(
 fn a_log_in_which_one_call_fails_leaves_the_change_only_if_its_gate_was_written(
     rt: HostRuntime,
 ) -> Result<(), Fail> {
-    leaves_volumes(&rt, rt.alloc(), InjectedFault::FailAt(2), None, 0)?;
-    leaves_volumes(&rt, rt.alloc(), InjectedFault::FailAt(3), None, 0)?;
-    leaves_volumes(&rt, rt.alloc(), InjectedFault::FailAt(4), None, 1)?;
+    assert_volumes_left(&rt, rt.alloc(), InjectedFault::FailAt(2), None, 0)?;
+    assert_volumes_left(&rt, rt.alloc(), InjectedFault::FailAt(3), None, 0)?;
+    assert_volumes_left(&rt, rt.alloc(), InjectedFault::FailAt(4), None, 1)?;
     Ok(())
 }
 
@@ -555,24 +531,24 @@ const BOTH: Incarnation = Incarnation {
 
 /// Asserts that after these incarnations and a crash this area and this many records are reported, and that once the device is opened, both
 /// changes are there, and area 1 is named.
-fn has_both(
+fn assert_both(
     rt: &impl Abort,
     alloc: Global,
     incarnations: &Incarnations,
     area: usize,
     records: usize,
 ) -> Result<(), Wrong> {
-    let device = left_by(rt, alloc, incarnations)?.crash(torn(alloc, OLD)?);
-    let device = is_shown(rt, alloc, device, area, records, [1, 1, 0])?;
+    let device = run_all(rt, alloc, incarnations)?.crash(torn(alloc, OLD)?);
+    let device = assert_shown(alloc, device, area, records, [1, 1, 0])?;
     let device = run_incarnation(rt, alloc, device, &BOTH)?;
-    is_shown(rt, alloc, device, 1, 0, [1, 1, 0])?;
+    assert_shown(alloc, device, 1, 0, [1, 1, 0])?;
     Ok(())
 }
 
 #[test]
 fn changes_behind_a_cut_are_there(rt: HostRuntime) -> Result<(), Fail> {
-    has_both(&rt, rt.alloc(), &BEHIND_A_CUT, 1, 2)?;
-    has_both(&rt, rt.alloc(), &BEHIND_A_FLIP, 0, 1)?;
+    assert_both(&rt, rt.alloc(), &BEHIND_A_CUT, 1, 2)?;
+    assert_both(&rt, rt.alloc(), &BEHIND_A_FLIP, 0, 1)?;
     Ok(())
 }
 
@@ -620,7 +596,7 @@ const NAMED: [(usize, usize, [u32; 3]); 5] = [
 ];
 
 /// Asserts that what the first rows, `first` of them, leave of a new device is reported so, with no record in force.
-fn cuts_leave(
+fn assert_left_by_cuts(
     rt: &impl Abort,
     alloc: Global,
     first: usize,
@@ -633,7 +609,7 @@ fn cuts_leave(
         rows: CHANGED_PIECES.rows.get(..first).unwrap_or(&[]),
     };
     let device = run_incarnation(rt, alloc, device_with(alloc, SMALL, &[])?, &beginning)?;
-    is_shown(rt, alloc, device, area, 0, summary)?;
+    assert_shown(alloc, device, area, 0, summary)?;
     Ok(())
 }
 
@@ -641,16 +617,16 @@ fn cuts_leave(
 fn cuts_write_what_has_changed(rt: HostRuntime) -> Result<(), Fail> {
     let alloc = rt.alloc();
     for &(first, area, summary) in &NAMED {
-        cuts_leave(&rt, alloc, first, area, summary)?;
+        assert_left_by_cuts(&rt, alloc, first, area, summary)?;
     }
     // Row 21, a step `Piece` of the last cut, has nothing to write, and makes no call of the device.
     let last_cut = calls_of(&rt, alloc, SMALL, &CHANGED_PIECES, 20)?;
     let no_piece = calls_of(&rt, alloc, SMALL, &CHANGED_PIECES, 21)?;
-    holds(&rt, no_piece == last_cut);
+    assert_equal(&rt, no_piece, last_cut);
     let device = device_with(alloc, SMALL, &[])?;
     let device = run_incarnation(&rt, alloc, device, &CHANGED_PIECES)?;
     let device = device.crash(torn(alloc, OLD)?);
     let device = run_incarnation(&rt, alloc, device, &OPENED)?;
-    is_shown(&rt, alloc, device, 1, 0, [1, 1, 1])?;
+    assert_shown(alloc, device, 1, 0, [1, 1, 1])?;
     Ok(())
 }

@@ -1,6 +1,7 @@
 //! A machine on a device that fails, or stops and is torn, at any call of a run: at the opening, before a cut and while that is in
 //! progress.
-use crate::making::{SMALL, WHOLE, holds, one, open_machine};
+use crate::assertions::assert_equal;
+use crate::making::{SMALL, WHOLE, one, open_machine};
 use affinity::Geometry;
 use checkpoint::OpenFault;
 use disk::MemDisk;
@@ -171,8 +172,8 @@ const CUT: u64 = 4 + 3 + 3;
 /// Whichever call of the device fails, the steps after it say so; what was logged is there, and what was being logged may be.
 #[test]
 fn a_change_behind_a_cut_survives(rt: HostRuntime) -> Result<(), Fail> {
-    // `sweep` makes a run for each call that may fail, and gives how many calls one makes without a fault. `holds` asserts.
+    // `sweep` makes a run for each call that may fail, and gives how many calls one makes without a fault.
     let calls = sweep(rt.alloc(), &Play::new(rt.alloc())?)?;
-    holds(&rt, calls == OPENING + 2 * LOG + CUT);
+    assert_equal(&rt, calls, OPENING + 2 * LOG + CUT);
     Ok(())
 }
