@@ -27,7 +27,7 @@ use Rattle.parcel.specs.declared.job.Done.{Done}
 use Rattle.parcel.specs.declared.parts.Parcels.{Parcels}
 use Rattle.parcel.specs.declared.parts.Standing.{Standing}
 use Rattle.parcel.proofs.Leaving.{taken_leaves, put_leaves, put_outside}
-use Rattle.parcel.proofs.Lending.{begins_split, restored_is_in}
+use Rattle.parcel.proofs.Lending.{begins_split, kind_of, restored_is_in}
 use Rattle.parcel.proofs.SerialRuns.{serial_run}
 
 -- ---- the path above
@@ -47,7 +47,11 @@ place_is_path g m h = IsPath-path_of_kind g (kind m) (four_numbers m) h
 
 pub ran_goes_back : (job : JobView) (done : Done) (old lent : Nodes) → LendsJob job old lent → IsJobRun job done
     → CanBeRestored job.geometry (job_place job) done.parcels lent
-ran_goes_back job done old lent h ran = grind (arith, lent_is_out, place_is_path)
+ran_goes_back job done old lent h ran = record {
+  out = lent_is_out job.geometry (job_place job) job.standing job.parcels old lent (place_is_path job.geometry job.message ran.runnable.range) h;
+  kind = kind_of job.geometry (job_place job) done.parcels ran.runnable.fits;
+  fits = ran.runnable.fits;
+}
 
 -- ---- where nothing is out
 
@@ -148,7 +152,11 @@ shows_still g p t l x m apart shows = agree-trans shows (agree_within (λ q rela
 -- ---- a job that is out, and what it left when it ran
 
 pub job_goes_back : (out : Path → Bool) (job : JobView) (done : Done) (n : Nodes) (x : State) → IsJobOut out job n x → IsJobRun job done → CanBeRestored job.geometry (job_place job) done.parcels n
-job_goes_back out job done n x h ran = grind (arith, place_is_out, place_is_path)
+job_goes_back out job done n x h ran = record {
+  out = place_is_out job.geometry out (job_place job) h.apart n x (place_is_path job.geometry job.message ran.runnable.range) h.holds;
+  kind = kind_of job.geometry (job_place job) done.parcels ran.runnable.fits;
+  fits = ran.runnable.fits;
+}
 
 pub job_reply : (out : Path → Bool) (job : JobView) (done : Done) (n : Nodes) (x : State) → IsJobOut out job n x → IsJobRun job done → done.reply ≡ reply_to job.geometry x job.message
 job_reply out job done n x h ran = (serial_run job done x ran h.shows).reply

@@ -1,7 +1,7 @@
 -- A piece of a volume is read (part 0: its own, part s + 1: that of stripe s), and the piece's volume is found in the tree.
 use Rattle.std.proofs.Common.{◌≡◌, ℕ, zero, suc, ◌*◌, ◌%◌, ◌^◌, ◌<◌, Bool, true, false, List, [], ◌∷◌, slice_index_or, Option, Some, None, IfSome, is_some, refl, sym, ◌∙◌, ap, subst, ⊎_elim, arith, true≢false, mod-lt}
 use Rattle.std.specs.Prelude.{◌↔◌, ◌==◌, if◌then◌else◌, IsTrue, IsFalse}
-use Rattle.std.specs.Option.{option_and_then}
+use Rattle.std.specs.Option.{option_and_then, option_map}
 use Rattle.std.proofs.lemmas.Nat.{pow_pos}
 use Rattle.affinity.specs.Geometry.{stripe_of}
 use Rattle.affinity.specs.Path.{Path}
@@ -16,7 +16,7 @@ use Rattle.image.proofs.Numbers.{in_aggregates, in_volumes}
 use Rattle.parcel.specs.Fits.{FitsLogical, FitsVolume, FitsAggregate, FitsRoot, IsWholeChild, IsWholeLogical, IsWholeVolume, IsWholeAggregate, IsWholeRoot}
 use Rattle.parcel.specs.Lends.{aggregate_of_tree, volume_of_tree}
 use Rattle.parcel.specs.Nodes.{Nodes, child_nodes, volume_nodes, root_nodes, tree_state}
-use Rattle.parcel.specs.Pieces.{HasFacts, IsPieceOfVolumeRead, spelled, decoded_piece, volume_with, with_files}
+use Rattle.parcel.specs.Pieces.{HasFacts, IsPieceOfVolumeRead, spelled, decoded_piece, volume_with}
 use Rattle.parcel.specs.Shown.{volume_facts, files_in, blocks_below, blocks_of, shown_label}
 use Rattle.parcel.specs.Tree.{TreeView, IsWellFormed, IsWholeTree, IsIn}
 use Rattle.parcel.specs.declared.parts.Logical.{Logical}
@@ -47,11 +47,11 @@ volume_is_read {version} {g} {bytes} {good} {old} {new} fits whole is taken kept
   facts = λ on. ap (volume_facts g) (taken on) ∙ facts_decoded version g bytes (is.0 on) old whole;
 }
   where
-    files_fit : (o : Option Logical) → IfSome o (FitsLogical g) → IfSome (with_files (little_number 8 (slice bytes 8 8) % 2 ^ g.files) o) (FitsLogical g)
+    files_fit : (o : Option Logical) → IfSome o (FitsLogical g) → IfSome (option_map (λ (l : Logical). record l { files = little_number 8 (slice bytes 8 8) % 2 ^ g.files }) o) (FitsLogical g)
     files_fit None h = tt
     files_fit (Some l) h = record { files = mod-lt (little_number 8 (slice bytes 8 8)) (pow_pos g.files); count = h.count; stripes = h.stripes }
 
-    still_whole : (n : ℕ) (o : Option Logical) → IsWholeChild IsWholeLogical o → IsWholeChild IsWholeLogical (with_files n o)
+    still_whole : (n : ℕ) (o : Option Logical) → IsWholeChild IsWholeLogical o → IsWholeChild IsWholeLogical (option_map (λ (l : Logical). record l { files = n }) o)
     still_whole n None h = h
     still_whole n (Some l) h = h
 

@@ -1,5 +1,6 @@
 -- Statement for operators: The tree as a map from paths to nodes, each with what it has of its own. What is out has no node.
 use Rattle.std.specs.Prelude.{◌≡◌, ℕ, zero, suc, Bool, false, ◌==◌, if◌then◌else◌, List, [], ◌∷◌, slice_index_or, Option, Some, None}
+use Rattle.std.specs.Option.{option_and_then}
 use Rattle.affinity.specs.declared.geometry.Geometry.{Geometry}
 use Rattle.affinity.specs.Geometry.{stripe_of}
 use Rattle.affinity.specs.Path.{Path, is_prefix, volume, logical, stripe, label}
@@ -29,8 +30,7 @@ Nodes = Path → Option Node
 
 -- the nodes of a child: none where it is out
 abbrev pub child_nodes : {X : Type 0} → (X → Nodes) → Option X → Nodes
-child_nodes nodes None q = None
-child_nodes nodes (Some x) q = nodes x q
+child_nodes nodes o q = option_and_then (λ x. nodes x q) o
 
 -- the nodes of a node with children, by what it has of its own and by the list of the children
 abbrev pub children_nodes : {X : Type 0} → (X → Nodes) → Node → List (Option X) → Nodes

@@ -1,5 +1,6 @@
 -- Statement for engineers: The pieces of one volume of the tree, and what the volume has once one of them was read.
 use Rattle.std.specs.Prelude.{◌≡◌, ◌↔◌, ℕ, ◌<◌, Bool, zero, suc, ◌==◌, ◌%◌, ◌^◌, if◌then◌else◌, List, [], ◌∷◌, length, unwrap_or, Option, Some, None, IfSome, IsTrue, Result, IsOk, OnOk}
+use Rattle.std.specs.Option.{option_map}
 use Rattle.affinity.specs.Geometry.{stripe_of}
 use Rattle.affinity.specs.declared.geometry.Geometry.{Geometry}
 use Rattle.byteorder.specs.Endian.{little_number}
@@ -47,17 +48,12 @@ volume_piece_of w = record {
   label = unwrap_or (shown_label w.label) no_label;
 }
 
--- a volume's `Logical` with these files instead of its own
-abbrev pub with_files : ℕ → Option Logical → Option Logical
-with_files files None = None
-with_files files (Some l) = Some (record l { files = files })
-
 -- a volume with the flags, the files and the label of a piece
 abbrev pub volume_with : VolumePiece → Vol → Vol
 volume_with p w = record {
   made = p.made;
   sealed = p.sealed;
-  logical = with_files p.files w.logical;
+  logical = option_map (λ (l : Logical). record l { files = p.files }) w.logical;
   label = Some (record { bytes = if p.made then Some p.label else None });
 }
 

@@ -1,6 +1,7 @@
 -- Statement for engineers: The state that parcels show, together with their standing. Of what lies neither at their affinity, nor below or
 -- above it, they show nothing.
 use Rattle.std.specs.Prelude.{ℕ, Bool, false, ◌==◌, List, [], ◌∷◌, slice_index_or, Option, Some, None}
+use Rattle.std.specs.Option.{option_and_then, option_map, unwrap_or, option_map_or}
 use Rattle.affinity.specs.declared.geometry.Geometry.{Geometry}
 use Rattle.affinity.specs.Geometry.{stripe_of}
 use Rattle.affinity.specs.Path.{Path}
@@ -20,8 +21,7 @@ use Rattle.parcel.specs.declared.parts.Standing.{Standing}
 
 -- the blocks of a stripe, where it is in
 abbrev pub blocks_in : Option StripePart → ℕ → ℕ → Option Block
-blocks_in None f b = None
-blocks_in (Some p) f b = content_at p.entries f b
+blocks_in o f b = option_and_then (λ p. content_at p.entries f b) o
 
 -- the blocks of a volume's list of stripes: each is looked up in the stripe in which it lies
 abbrev pub blocks_of : Geometry → List (Option StripePart) → ℕ → ℕ → Option Block
@@ -40,16 +40,13 @@ abbrev pub label_facts : Standing → Label → VolumeFacts
 label_facts t l = record { made = t.made; sealed = t.sealed; files = λ f. false; blocks = λ f b. None; label = l.bytes }
 
 abbrev pub files_in : Option Logical → ℕ → Bool
-files_in None f = false
-files_in (Some l) f = has_file l.files f
+files_in o f = option_map_or (λ l. has_file l.files f) o false
 
 abbrev pub blocks_below : Geometry → Option Logical → ℕ → ℕ → Option Block
-blocks_below g None f b = None
-blocks_below g (Some l) f b = blocks_of g l.stripes.items f b
+blocks_below g o f b = option_and_then (λ l. blocks_of g l.stripes.items f b) o
 
 abbrev pub shown_label : Option Label → Option (List ℕ)
-shown_label None = None
-shown_label (Some l) = l.bytes
+shown_label o = option_and_then (λ l. l.bytes) o
 
 abbrev pub volume_facts : Geometry → Vol → VolumeFacts
 volume_facts g w = record {
@@ -62,8 +59,7 @@ volume_facts g w = record {
 
 -- the facts of a child, and `no_facts` where it is out
 abbrev pub child_facts : {X : Type 0} → (X → VolumeFacts) → Option X → VolumeFacts
-child_facts facts None = no_facts
-child_facts facts (Some x) = facts x
+child_facts facts o = unwrap_or (option_map facts o) no_facts
 
 -- the facts of volume v of an aggregate
 abbrev pub aggregate_facts : Geometry → Aggr → ℕ → VolumeFacts

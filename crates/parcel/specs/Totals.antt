@@ -1,5 +1,6 @@
 -- Inner: How much volumes hold, and what a volume has that was just made.
 use Rattle.std.specs.Prelude.{ℕ, true, length, Option, Some, None, is_some}
+use Rattle.std.specs.Option.{option_map_or}
 use Rattle.affinity.specs.declared.geometry.Geometry.{Geometry}
 use Rattle.language.specs.declared.Block.{Block}
 use Rattle.meaning.specs.State.{sum_below, count_below, one_if}
@@ -10,8 +11,7 @@ use Rattle.parcel.specs.declared.running.totals.Totals.{Totals}
 
 -- how many blocks lie in a stripe, where it is in
 abbrev pub entry_count : Option StripePart → ℕ
-entry_count None = 0
-entry_count (Some p) = length p.entries
+entry_count o = option_map_or (λ p. length p.entries) o 0
 
 -- how many of the blocks that the geometry allows exist
 abbrev pub block_total : Geometry → (ℕ → ℕ → Option Block) → ℕ

@@ -1,5 +1,6 @@
 -- Inner: The state that the maps of a server hold.
 use Rattle.std.specs.Prelude.{◌≡◌, ℕ, Bool, false, ◌&&◌, ◌==◌, List, Option, None, Some, is_some, unwrap_or}
+use Rattle.std.specs.Option.{option_map_or, option_map}
 use Rattle.std.specs.BTreeMap as map
 use Rattle.affinity.specs.declared.geometry.Geometry.{Geometry}
 use Rattle.language.specs.declared.Block.{Block}
@@ -12,16 +13,13 @@ use Rattle.plain.specs.declared.server.Volume.{Volume}
 -- ---- what is known of a volume, where it is made
 
 abbrev pub volume_is_sealed : Option Volume → Bool
-volume_is_sealed None = false
-volume_is_sealed (Some volume) = volume.sealed
+volume_is_sealed o = option_map_or (λ volume. volume.sealed) o false
 
 abbrev pub volume_has_file : Option Volume → ℕ → Bool
-volume_has_file None f = false
-volume_has_file (Some volume) f = has_file volume.files f
+volume_has_file o f = option_map_or (λ volume. has_file volume.files f) o false
 
 abbrev pub volume_label : Option Volume → Option (List ℕ)
-volume_label None = None
-volume_label (Some volume) = Some volume.label
+volume_label o = option_map (λ volume. volume.label) o
 
 -- the state in which these look-ups give the volumes and the blocks
 abbrev pub state_of : Map VolumeKey Volume → Map BlockKey Block → State
