@@ -11,13 +11,9 @@ use Rattle.device_map.specs.Layout.{header_size}
 abbrev pub magic : List ℕ
 magic = 1 ∷ 87 ∷ 65 ∷ 70 ∷ 70 ∷ 83 ∷ 82 ∷ 86 ∷ []
 
--- the eight numbers, two bytes each, the lower one first
-abbrev pub number_bytes : Geometry → List ℕ
-number_bytes g = flat_map (little_bytes 2) (numbers_of g)
-
--- the header of a device of this geometry: the magic, its numbers and 40 zeros
+-- the header of a device of this geometry: the magic, its eight numbers (two bytes each, the lower one first) and 40 zeros
 abbrev pub header_of : Geometry → List ℕ
-header_of g = magic ++ number_bytes g ++ replicate 40 0
+header_of g = magic ++ flat_map (little_bytes 2) (numbers_of g) ++ replicate 40 0
 
 -- whether these bytes are the header of this geometry
 abbrev pub is_header : Geometry → List ℕ → Bool

@@ -1,10 +1,10 @@
 -- Statement for engineers: How the calls of a log change the bytes of a device, and what a crash leaves while they do.
-use Rattle.std.specs.Prelude.{◌≡◌, ◌≢◌, ◌≤◌, ℕ, ◌+◌, false, List, ◌++◌, length, take, drop, replicate}
+use Rattle.std.specs.Prelude.{◌≡◌, ◌≢◌, ◌≤◌, ℕ, ◌+◌, ◌-◌, false, List, ◌++◌, length, take, drop, replicate}
 use Rattle.disk.specs.Device.{Medium, IsCrashImage, IsSynced}
 use Rattle.disk.specs.Store.{After}
 use Rattle.device_map.specs.Layout.{Layout, slice, root_part, half_part, part_bytes, part_at, part_size, device_size, chain_zone_size}
 use Rattle.oplog.specs.Recovery.{named_area}
-use Rattle.oplog.specs.Front.{chain, gates, front, count_open, IsShutBehind}
+use Rattle.oplog.specs.Front.{chain, gates, front, count_open}
 
 -- ---- from the bytes old to the bytes c
 
@@ -47,15 +47,11 @@ pub record HasAppendedPrefix (l : Layout) (h : ℕ) (more : List (List ℕ)) (be
 
 -- ---- of a device
 
--- nothing is unsynced in this part
-abbrev pub IsSyncedIn : Layout → ℕ → Medium → Type 0
-IsSyncedIn l p m = slice m.unsynced (part_at l p) (part_size l p) ≡ replicate (part_size l p) false
-
 -- Half h has k records in its front and gates 0 behind them, and nothing in it is unsynced.
 pub record IsReady (l : Layout) (h k : ℕ) (m : Medium) : Type 0 where
   pub used : count_open (gates l h m.now) ≡ k
-  pub shut : IsShutBehind l h k m.now
-  pub synced : IsSyncedIn l (half_part h) m
+  pub shut : drop k (gates l h m.now) ≡ replicate (l.capacity - k) 0
+  pub synced : slice m.unsynced (part_at l (half_part h)) (part_size l (half_part h)) ≡ replicate (part_size l (half_part h)) false
 
 -- All of these records were added to half h, behind k others, and none of them is unsynced.
 pub record HasAppendedAll (l : Layout) (h k : ℕ) (more : List (List ℕ)) (old new : Medium) : Type 0 where

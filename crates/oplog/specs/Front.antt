@@ -1,5 +1,5 @@
 -- Format for clients: What a half holds: its chain byte, its gates, its records, and its front: those before the first gate that isn't 1.
-use Rattle.std.specs.Prelude.{◌≡◌, ℕ, zero, suc, ◌+◌, ◌-◌, ◌*◌, ◌==◌, List, [], ◌∷◌, take, drop, get_or, replicate}
+use Rattle.std.specs.Prelude.{ℕ, zero, suc, ◌+◌, ◌*◌, ◌==◌, List, [], ◌∷◌, take, drop, get_or}
 use Rattle.std.specs.List.{prefix_len}
 use Rattle.device_map.specs.Layout.{Layout, slice, part_bytes, half_part, chain_zone_size, record_size}
 
@@ -25,13 +25,9 @@ gates_in capacity h = slice h chain_zone_size capacity
 abbrev pub front_in : ℕ → List ℕ → List (List ℕ)
 front_in capacity h = rows record_size (count_open (gates_in capacity h)) (drop (chain_zone_size + capacity) h)
 
--- record i, whatever its gate is
-abbrev pub record_in : ℕ → ℕ → List ℕ → List ℕ
-record_in capacity i h = slice h (chain_zone_size + capacity + i * record_size) record_size
-
 -- ---- of the bytes of a device
 
--- the chain byte, the gates, the front and record i of half h
+-- the chain byte, the gates, the front, and record i (whatever its gate is) of half h
 abbrev pub chain : Layout → ℕ → List ℕ → ℕ
 chain l h c = chain_in (part_bytes l (half_part h) c)
 
@@ -42,8 +38,4 @@ abbrev pub front : Layout → ℕ → List ℕ → List (List ℕ)
 front l h c = front_in l.capacity (part_bytes l (half_part h) c)
 
 abbrev pub record_at : Layout → ℕ → ℕ → List ℕ → List ℕ
-record_at l h i c = record_in l.capacity i (part_bytes l (half_part h) c)
-
--- the gates behind the first k are 0
-abbrev pub IsShutBehind : Layout → ℕ → ℕ → List ℕ → Type 0
-IsShutBehind l h k c = drop k (gates l h c) ≡ replicate (l.capacity - k) 0
+record_at l h i c = slice (part_bytes l (half_part h) c) (chain_zone_size + l.capacity + i * record_size) record_size
