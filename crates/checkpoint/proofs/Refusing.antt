@@ -232,10 +232,6 @@ header_half n e is = tt
 
 -- ---- no memory
 
--- No fault of reading the header is `OutOfMemory`: that takes no memory.
-pub never_out_of_memory : (e : OpenFault) → IsOfHeader e → e ≢ OutOfMemory
-never_out_of_memory e is same = rw same at is
-
 -- Once the header was read, the device is known to have all its parts, even if memory lacks then.
 pub behind_header : {T : Type 0} (r : Result T OpenFault) (keeps : Type 0) (c : List ℕ) → (keeps → HasHeaderAndParts c) → IfErr r (λ e. e ≡ OutOfMemory → keeps → HasHeaderAndParts c)
 behind_header (Ok v) keeps c held = tt

@@ -1,12 +1,12 @@
 -- Statement for engineers: Reading a device into a tree: what its steps answer, and what they leave.
-use Rattle.std.specs.Prelude.{◌≡◌, ◌≤◌, ℕ, ◌+◌, Bool, false, not, ◌&&◌, ◌==◌, List, length, Option, Some, None, is_none, Result, Ok, Err}
+use Rattle.std.specs.Prelude.{◌≡◌, ◌≢◌, ◌≤◌, ℕ, ◌+◌, Bool, false, not, ◌&&◌, ◌==◌, List, length, Option, Some, None, is_none, IfErr, Result, Ok, Err}
 use Rattle.affinity.specs.declared.geometry.Geometry.{Geometry}
 use Rattle.checkpoint.specs.declared.fault.OpenFault.{OpenFault}
 use Rattle.checkpoint.specs.declared.fault.OpenFault.TheVariants.{Device, TooShort, NotFormatted, BadGeometry, OutOfMemory, BadVersion, BadPiece, BadRecord}
 use Rattle.checkpoint.specs.Header.{HasHeader}
 use Rattle.checkpoint.specs.Recovery.{after_record, decoding}
 use Rattle.checkpoint.specs.Refusals.{fault_if, fault_or_later, first_bad_piece, first_bad_record}
-use Rattle.disk.specs.Device.{Medium}
+use Rattle.disk.specs.Device.{Medium, moments}
 use Rattle.image.specs.Image.{has_head, image_state}
 use Rattle.oplog.specs.declared.fault.LogFault.{LogFault}
 use Rattle.oplog.specs.declared.fault.LogFault.TheVariants as log
@@ -25,6 +25,13 @@ CountsOpenFault (Err _) old new = new ≡ old
 -- stays as long as it was.
 abbrev pub IsOpeningCall : {T : Type 0} → Result T OpenFault → Medium → Medium → Type 0
 IsOpeningCall result old new = CountsOpenFault result old.faults new.faults × (length new.now ≡ length old.now)
+
+-- What every step that only reads does: the same, no moment is added, and it takes no memory.
+pub record IsReadingCall {T : Type 0} (keeps : Type 0) (result : Result T OpenFault) (old new : Medium) : Type 0 where
+  pub counts : CountsOpenFault result old.faults new.faults
+  pub len : length new.now ≡ length old.now
+  pub untouched : keeps → moments new ≡ moments old
+  pub never_out_of_memory : IfErr result (λ e. e ≢ OutOfMemory)
 
 -- This fault is `Device` or `OutOfMemory`, which no bytes show, or the given one, which is of a device with a header.
 abbrev pub IsConsistentFault : Option OpenFault → OpenFault → Type 0

@@ -2,12 +2,12 @@
 //!
 //! Its format byte (the first byte, which is 1 on a formatted device) is cleared first and set last, each with a sync of its own before and
 //! after it. So a crash leaves what a crash just before the call could leave, or a device that isn't formatted, or the whole new one.
-ghost use Rattle.std.specs.Prelude.{◌≡◌, ◌≢◌, ◌⊎◌, ◌↔◌, ◌+◌, ◌-◌, ◌<◌, ◌≤◌, Some, length, replicate, OnOk, IfOk, IfErr, MatchResult, IsErrOf, IsFalse, IsTrue};
+ghost use Rattle.std.specs.Prelude.{◌≡◌, ◌≢◌, ◌⊎◌, ◌↔◌, ◌+◌, ◌-◌, ◌<◌, ◌≤◌, Some, length, replicate, OnOk, IfOk, IfErr, MatchResult, IsFalse, IsTrue};
 ghost use Rattle.affinity.specs.declared.geometry.Geometry.{Geometry};
 ghost use Rattle.checkpoint.specs.Formatting.{FormatCrashImages, IsAllButHeader, HasNoFormatByte, StaysUnformatted};
 ghost use Rattle.checkpoint.specs.Recovery.{recovered_state};
 ghost use Rattle.checkpoint.specs.Version.{named_version};
-ghost use Rattle.disk.specs.Device.{IsDeviceCall, IsSynced, IsCrashImage, SameOutside, overlaid};
+ghost use Rattle.disk.specs.Device.{IsCallInside, IsSynced, IsCrashImage, SameOutside, overlaid};
 ghost use Rattle.disk.specs.Moments.{CrashImagesAre};
 ghost use Rattle.oplog.specs.Beyond.{KeepsBeyond};
 ghost use Rattle.disk.specs.Store.{CrashesChangeOnly};
@@ -44,8 +44,7 @@ fn write_zeros<D: Disk>(disk: &mut D, zeros: &[u8], at: u64, count: usize) -> Re
     requires inside { at + count ≤ length (D.medium disk.old).now }
     ensures any_moment { D.keeps → CrashesChangeOnly (D.medium disk.old) (D.medium disk.new) (SameOutside at count) }
     ensures written { OnOk result (D.keeps → (D.medium disk.new).now ≡ overlaid (D.medium disk.old).now at (replicate count 0)) }
-    ensures inside { IsErrOf result DiskFault.OutOfRange → ⊥ }
-    ensures call { IsDeviceCall result (D.medium disk.old) (D.medium disk.new) }
+    ensures call { IsCallInside result (D.medium disk.old) (D.medium disk.new) }
 {
     let mut done = 0;
     'zeros: while done < count {
@@ -72,16 +71,15 @@ fn clear_format_byte<D: Disk>(disk: &mut D) -> Result<(), DiskFault>
         (λ c. IsCrashImage (D.medium disk.old) c ⊎ HasNoFormatByte (length (D.medium disk.old).now) c) }
     ensures unformatted { OnOk result (D.keeps → StaysUnformatted (length (D.medium disk.old).now) (D.medium disk.new)) }
     ensures beyond { D.keeps → (l : Layout) → KeepsBeyond l (D.medium disk.old) (D.medium disk.new) }
-    ensures inside { IsErrOf result DiskFault.OutOfRange → ⊥ }
-    ensures call { IsDeviceCall result (D.medium disk.old) (D.medium disk.new) }
+    ensures call { IsCallInside result (D.medium disk.old) (D.medium disk.new) }
 {
     disk.sync()?;
     let mut first_byte = [0u8];
     disk.read_at(0, &mut first_byte)?;
-    if is_formatted(first_byte[0]) {
-        store(disk, 0, &[0])?;
+    if !is_formatted(first_byte[0]) {
+        return Ok(());
     }
-    Ok(())
+    store(disk, 0, &[0])
 }
 
 /// Writes what an empty device needs besides its header (`IsAllButHeader`), and syncs.
@@ -93,8 +91,7 @@ fn lay_out<D: Disk>(disk: &mut D, zeros: &[u8], g: &Geometry) -> Result<(), Disk
         (SameOutside header_size (device_size (layout_of g.now) - header_size)) }
     ensures laid { OnOk result (D.keeps → IsAllButHeader g.now (D.medium disk.new).now) }
     ensures synced { OnOk result (D.keeps → IsSynced (D.medium disk.new)) }
-    ensures inside { IsErrOf result DiskFault.OutOfRange → ⊥ }
-    ensures call { IsDeviceCall result (D.medium disk.old) (D.medium disk.new) }
+    ensures call { IsCallInside result (D.medium disk.old) (D.medium disk.new) }
 {
     let chain_and_gates = CHAIN_ZONE_SIZE + usize::from(g.half);
     write_zeros(disk, zeros, ROOT_ZONE_AT, ROOT_ZONE_SIZE + chain_and_gates)?;
@@ -114,8 +111,7 @@ fn write_header<D: Disk>(disk: &mut D, g: &Geometry) -> Result<(), DiskFault>
     ensures version { OnOk result (D.keeps → named_version g.now (D.medium disk.new).now ≡ 2) }
     ensures beyond { D.keeps → KeepsBeyond (layout_of g.now) (D.medium disk.old) (D.medium disk.new) }
     ensures synced { OnOk result (D.keeps → IsSynced (D.medium disk.new)) }
-    ensures inside { IsErrOf result DiskFault.OutOfRange → ⊥ }
-    ensures call { IsDeviceCall result (D.medium disk.old) (D.medium disk.new) }
+    ensures call { IsCallInside result (D.medium disk.old) (D.medium disk.new) }
 {
     let header = header_of(g);
     store(disk, 1, &header[1..])?;
@@ -133,8 +129,7 @@ fn format_on<D: Disk>(disk: &mut D, zeros: &[u8], g: &Geometry) -> Result<(), Di
     ensures version { OnOk result (D.keeps → named_version g.now (D.medium disk.new).now ≡ 2) }
     ensures beyond { D.keeps → KeepsBeyond (layout_of g.now) (D.medium disk.old) (D.medium disk.new) }
     ensures synced { OnOk result (D.keeps → IsSynced (D.medium disk.new)) }
-    ensures inside { IsErrOf result DiskFault.OutOfRange → ⊥ }
-    ensures call { IsDeviceCall result (D.medium disk.old) (D.medium disk.new) }
+    ensures call { IsCallInside result (D.medium disk.old) (D.medium disk.new) }
 {
     clear_format_byte(disk)?;
     lay_out(disk, zeros, g)?;

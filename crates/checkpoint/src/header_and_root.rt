@@ -2,9 +2,8 @@
 ghost use Rattle.std.specs.Prelude.{◌≡◌, ◌<◌, ◌≤◌, length, IfErr, IfOk};
 ghost use Rattle.checkpoint.specs.declared.fault.OpenFault.TheVariants.{Device};
 ghost use Rattle.checkpoint.specs.Header.{HasHeader};
-ghost use Rattle.checkpoint.specs.Loading.{IsOpeningCall, IsOfHeader};
+ghost use Rattle.checkpoint.specs.Loading.{IsReadingCall, IsOfHeader};
 ghost use Rattle.checkpoint.specs.Refusals.{IsRefused};
-ghost use Rattle.disk.specs.Device.{moments};
 ghost use Rattle.device_map.specs.Layout.{device_size, layout_of};
 ghost use Rattle.oplog.specs.Recovery.{named_area};
 
@@ -25,8 +24,7 @@ pub fn read_header<D: Disk>(disk: &mut D) -> Result<Geometry, OpenFault>
     ensures refused { IfErr result (λ e. D.keeps → IsRefused (D.medium disk.old).now e) }
     // `IsOfHeader`: `Device`, `TooShort`, `NotFormatted` or `BadGeometry`.
     ensures by_header { IfErr result (λ e. IsOfHeader e) }
-    ensures untouched { D.keeps → moments (D.medium disk.new) ≡ moments (D.medium disk.old) }
-    ensures call { IsOpeningCall result (D.medium disk.old) (D.medium disk.new) }
+    ensures call { IsReadingCall D.keeps result (D.medium disk.old) (D.medium disk.new) }
 {
     if disk.len() < HEADING_SIZE as u64 {
         return Err(OpenFault::TooShort);
@@ -51,8 +49,7 @@ pub(crate) fn named_area<D: Disk>(disk: &mut D, g: &Geometry) -> Result<usize, O
     ensures area { IfOk result (λ n. D.keeps → n ≡ named_area (layout_of g.now) (D.medium disk.old).now) }
     ensures range { IfOk result (λ n. n < 2) }
     ensures device { IfErr result (λ e. e ≡ Device) }
-    ensures untouched { D.keeps → moments (D.medium disk.new) ≡ moments (D.medium disk.old) }
-    ensures call { IsOpeningCall result (D.medium disk.old) (D.medium disk.new) }
+    ensures call { IsReadingCall D.keeps result (D.medium disk.old) (D.medium disk.new) }
 {
     let mut byte = [0u8];
     read(disk, ROOT_ZONE_AT, &mut byte)?;

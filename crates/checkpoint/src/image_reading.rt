@@ -1,9 +1,8 @@
 //! An image, read into a tree piece by piece.
-ghost use Rattle.std.specs.Prelude.{◌≡◌, ◌≢◌, ◌↔◌, ◌+◌, ◌*◌, ◌<◌, ◌≤◌, ℕ, true, None, Some, length, IfErr, IsOk, OnOk};
-ghost use Rattle.checkpoint.specs.declared.fault.OpenFault.TheVariants.{BadPiece, OutOfMemory};
-ghost use Rattle.checkpoint.specs.Loading.{IsOpeningCall, IsConsistentFault};
+ghost use Rattle.std.specs.Prelude.{◌≡◌, ◌↔◌, ◌+◌, ◌*◌, ◌<◌, ◌≤◌, ℕ, true, None, Some, length, IfErr, IsOk, OnOk};
+ghost use Rattle.checkpoint.specs.declared.fault.OpenFault.TheVariants.{BadPiece};
+ghost use Rattle.checkpoint.specs.Loading.{IsReadingCall, IsConsistentFault};
 ghost use Rattle.checkpoint.specs.Refusals.{fault_or_later, first_bad_piece};
-ghost use Rattle.disk.specs.Device.{moments};
 ghost use Rattle.image.specs.Image.{has_head, is_version, image_state, version_in};
 ghost use Rattle.image.specs.Pieces.{aggregate_of, part_of, piece_count, piece_of, piece_size, volume_of, with_piece};
 ghost use Rattle.device_map.specs.Layout.{device_size, image_part, layout_of, part_bytes, entry_size};
@@ -73,11 +72,9 @@ pub(crate) fn read_pieces<D: Disk>(
         (part_bytes (layout_of tree.old.geometry) (image_part number) (D.medium disk.old).now) ≡ None) }
     ensures refused { IfErr result (λ e. D.keeps → IsConsistentFault (fault_or_later BadPiece (first_bad_piece tree.old.geometry
         (part_bytes (layout_of tree.old.geometry) (image_part number) (D.medium disk.old).now)) None) e) }
-    ensures never_out_of_memory { IfErr result (λ e. e ≢ OutOfMemory) }
     ensures whole { OnOk result (IsWholeTree tree.new) }
     ensures geometry { tree.new.geometry ≡ tree.old.geometry }
-    ensures untouched { D.keeps → moments (D.medium disk.new) ≡ moments (D.medium disk.old) }
-    ensures call { IsOpeningCall result (D.medium disk.old) (D.medium disk.new) }
+    ensures call { IsReadingCall D.keeps result (D.medium disk.old) (D.medium disk.new) }
 {
     let g = tree.geometry();
     let mut at = image_at(&g, number) + IMAGE_HEAD_SIZE as u64;

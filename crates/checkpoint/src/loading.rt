@@ -1,10 +1,9 @@
 //! A device, loaded: its named image is read into a tree, and the records in force are run on it.
-ghost use Rattle.std.specs.Prelude.{◌≡◌, ◌≢◌, ◌*◌, ◌<◌, ◌≤◌, ◌==◌, false, None, Some, length, IfErr, IfOk, OnOk};
+ghost use Rattle.std.specs.Prelude.{◌≡◌, ◌*◌, ◌<◌, ◌≤◌, ◌==◌, false, None, Some, length, IfErr, IfOk, OnOk};
 ghost use Rattle.checkpoint.specs.declared.fault.OpenFault.TheVariants.{BadChain, OutOfMemory};
 ghost use Rattle.checkpoint.specs.Header.{HasHeader};
-ghost use Rattle.checkpoint.specs.Loading.{IsOpeningCall, IsConsistentFault, IsOfHalf, NamedHolds, are_both_chained, image_fault};
+ghost use Rattle.checkpoint.specs.Loading.{IsReadingCall, IsConsistentFault, IsOfHalf, NamedHolds, are_both_chained, image_fault};
 ghost use Rattle.checkpoint.specs.Refusals.{IsRefused, fault_if};
-ghost use Rattle.disk.specs.Device.{moments};
 ghost use Rattle.image.specs.Image.{image_state, version_in};
 ghost use Rattle.oplog.specs.Front.{chain, front};
 ghost use Rattle.device_map.specs.Layout.{device_size, image_part, layout_of, part_bytes, entry_size};
@@ -67,11 +66,9 @@ fn read_image<D: Disk>(
         (part_bytes (layout_of tree.old.geometry) (image_part area) (D.medium disk.old).now) ≡ None) }
     ensures refused { IfErr result (λ e. D.keeps → IsConsistentFault (image_fault tree.old.geometry
         (part_bytes (layout_of tree.old.geometry) (image_part area) (D.medium disk.old).now)) e) }
-    ensures never_out_of_memory { IfErr result (λ e. e ≢ OutOfMemory) }
     ensures whole { OnOk result (IsWholeTree tree.new) }
     ensures geometry { OnOk result (tree.new.geometry ≡ tree.old.geometry) }
-    ensures untouched { D.keeps → moments (D.medium disk.new) ≡ moments (D.medium disk.old) }
-    ensures call { IsOpeningCall result (D.medium disk.old) (D.medium disk.new) }
+    ensures call { IsReadingCall D.keeps result (D.medium disk.old) (D.medium disk.new) }
 {
     let version = version_of(disk, &tree.geometry(), area)?;
     read_pieces(disk, tree, area, version, buffer)?;
@@ -86,9 +83,7 @@ fn chain_of<D: Disk>(disk: &mut D, g: &Geometry, area: usize) -> Result<bool, Op
     ensures sound { OnOk result (D.keeps → are_both_chained (layout_of g.now) (D.medium disk.old).now ≡ false) }
     ensures refused { IfErr result (λ e. D.keeps →
         IsConsistentFault (fault_if (are_both_chained (layout_of g.now) (D.medium disk.old).now) BadChain None) e) }
-    ensures never_out_of_memory { IfErr result (λ e. e ≢ OutOfMemory) }
-    ensures untouched { D.keeps → moments (D.medium disk.new) ≡ moments (D.medium disk.old) }
-    ensures call { IsOpeningCall result (D.medium disk.old) (D.medium disk.new) }
+    ensures call { IsReadingCall D.keeps result (D.medium disk.old) (D.medium disk.new) }
 {
     let named_chained = is_chained(disk, g, area)?;
     if !named_chained {
@@ -141,11 +136,9 @@ pub fn load_named<D: Disk>(
     ensures log { IfOk result (λ n. log.new ≡ with_half_named n.area (new_log tree.old.geometry)) }
     ensures refused { IfErr result (λ e. D.keeps → IsRefused (D.medium disk.old).now e) }
     ensures half { IfErr result (λ e. D.keeps → IsOfHalf (named_area (layout_of tree.old.geometry) (D.medium disk.old).now) e) }
-    ensures never_out_of_memory { IfErr result (λ e. e ≢ OutOfMemory) }
     ensures whole { OnOk result (IsWholeTree tree.new) }
     ensures geometry { OnOk result (tree.new.geometry ≡ tree.old.geometry) }
-    ensures untouched { D.keeps → moments (D.medium disk.new) ≡ moments (D.medium disk.old) }
-    ensures call { IsOpeningCall result (D.medium disk.old) (D.medium disk.new) }
+    ensures call { IsReadingCall D.keeps result (D.medium disk.old) (D.medium disk.new) }
 {
     let g = tree.geometry();
     let area = named_area(disk, &g)?;

@@ -1,9 +1,8 @@
 //! Reads of a device: any range, a chain byte, and the head of an image.
-ghost use Rattle.std.specs.Prelude.{◌≡◌, ◌≢◌, ◌+◌, ◌<◌, ◌≤◌, ◌==◌, not, true, None, length, IfErr, IfOk, OnOk};
-ghost use Rattle.checkpoint.specs.declared.fault.OpenFault.TheVariants.{BadVersion, Device, OutOfMemory};
-ghost use Rattle.checkpoint.specs.Loading.{IsOpeningCall, IsConsistentFault};
+ghost use Rattle.std.specs.Prelude.{◌≡◌, ◌+◌, ◌<◌, ◌≤◌, ◌==◌, not, true, None, length, IfErr, IfOk, OnOk};
+ghost use Rattle.checkpoint.specs.declared.fault.OpenFault.TheVariants.{BadVersion, Device};
+ghost use Rattle.checkpoint.specs.Loading.{IsReadingCall, IsConsistentFault};
 ghost use Rattle.checkpoint.specs.Refusals.{fault_if};
-ghost use Rattle.disk.specs.Device.{moments};
 ghost use Rattle.image.specs.Image.{has_head, is_version, version_in};
 ghost use Rattle.oplog.specs.Front.{chain};
 ghost use Rattle.device_map.specs.Layout.{device_size, image_part, layout_of, part_bytes, slice};
@@ -19,13 +18,9 @@ pub(crate) fn read<D: Disk>(disk: &mut D, at: u64, out: &mut [u8]) -> Result<(),
     requires { at + length out.old ≤ length (D.medium disk.old).now }
     ensures bytes { OnOk result (D.keeps → out.new ≡ slice (D.medium disk.old).now at (length out.old)) }
     ensures device { IfErr result (λ e. e ≡ Device) }
-    ensures untouched { D.keeps → moments (D.medium disk.new) ≡ moments (D.medium disk.old) }
-    ensures call { IsOpeningCall result (D.medium disk.old) (D.medium disk.new) }
+    ensures call { IsReadingCall D.keeps result (D.medium disk.old) (D.medium disk.new) }
 {
-    if disk.read_at(at, out).is_err() {
-        return Err(OpenFault::Device);
-    }
-    Ok(())
+    disk.read_at(at, out).map_err(|_| OpenFault::Device)
 }
 
 /// Whether the chain byte of this half is 1.
@@ -38,8 +33,7 @@ pub(crate) fn is_chained<D: Disk>(
     requires long_enough { device_size (layout_of g.now) ≤ length (D.medium disk.old).now }
     ensures chained { IfOk result (λ b. D.keeps → b ≡ (chain (layout_of g.now) half (D.medium disk.old).now == 1)) }
     ensures device { IfErr result (λ e. e ≡ Device) }
-    ensures untouched { D.keeps → moments (D.medium disk.new) ≡ moments (D.medium disk.old) }
-    ensures call { IsOpeningCall result (D.medium disk.old) (D.medium disk.new) }
+    ensures call { IsReadingCall D.keeps result (D.medium disk.old) (D.medium disk.new) }
 {
     let mut byte = [0u8];
     read(disk, half_at(g, half), &mut byte)?;
@@ -78,9 +72,7 @@ pub(crate) fn version_of<D: Disk>(
     ensures head { OnOk result (D.keeps → has_head (part_bytes (layout_of g.now) (image_part number) (D.medium disk.old).now) ≡ true) }
     ensures refused { IfErr result (λ e. D.keeps → IsConsistentFault (fault_if (not (has_head
         (part_bytes (layout_of g.now) (image_part number) (D.medium disk.old).now))) BadVersion None) e) }
-    ensures never_out_of_memory { IfErr result (λ e. e ≢ OutOfMemory) }
-    ensures untouched { D.keeps → moments (D.medium disk.new) ≡ moments (D.medium disk.old) }
-    ensures call { IsOpeningCall result (D.medium disk.old) (D.medium disk.new) }
+    ensures call { IsReadingCall D.keeps result (D.medium disk.old) (D.medium disk.new) }
 {
     let mut head = [0u8; IMAGE_HEAD_SIZE];
     read(disk, image_at(g, number), &mut head)?;

@@ -1,10 +1,8 @@
 //! The records of a half, run on a tree.
-ghost use Rattle.std.specs.Prelude.{◌≡◌, ◌≢◌, ◌<◌, ◌≤◌, Some, false, IfOk, IfErr, OnOk};
-ghost use Rattle.checkpoint.specs.declared.fault.OpenFault.TheVariants.{OutOfMemory};
-ghost use Rattle.checkpoint.specs.Loading.{IsOpeningCall, IsConsistentFault, record_fault, records_fault};
+ghost use Rattle.std.specs.Prelude.{◌≡◌, ◌<◌, ◌≤◌, Some, length, IfOk, IfErr, OnOk};
+ghost use Rattle.checkpoint.specs.Loading.{IsReadingCall, IsConsistentFault, record_fault, records_fault};
 ghost use Rattle.checkpoint.specs.Recovery.{after_record, decoding};
-ghost use Rattle.disk.specs.Device.{moments};
-ghost use Rattle.oplog.specs.Calls.{HasFront, IsLongEnough};
+ghost use Rattle.oplog.specs.Calls.{IsUsable};
 ghost use Rattle.oplog.specs.Front.{front, record_at};
 ghost use Rattle.oplog.specs.Log.{layout_of_log};
 ghost use Rattle.oplog.specs.Recovery.{run};
@@ -26,10 +24,9 @@ fn replay_record<D: Disk>(
     i: usize,
     tree: &mut Tree,
 ) -> Result<(), OpenFault>
-    requires not_failed { log.old.failed ≡ false }
+    requires usable { IsUsable log.old (D.medium disk.old) }
     requires half { half < 2 }
     requires i { i < log.old.geometry.half }
-    requires long_enough { IsLongEnough log.old (D.medium disk.old) }
     requires whole { IsWholeTree tree.old }
     requires geometry { log.old.geometry ≡ tree.old.geometry }
     ensures done { OnOk result (D.keeps →
@@ -37,12 +34,10 @@ fn replay_record<D: Disk>(
         ≡ Some (state_in tree.new)) }
     ensures refused { IfErr result (λ e. D.keeps → IsConsistentFault (record_fault tree.old.geometry (state_in tree.old)
         half i (record_at (layout_of_log log.old) half i (D.medium disk.old).now)) e) }
-    ensures never_out_of_memory { IfErr result (λ e. e ≢ OutOfMemory) }
     ensures whole { OnOk result (IsWholeTree tree.new) }
     ensures geometry { OnOk result (tree.new.geometry ≡ tree.old.geometry) }
     ensures log { OnOk result (log.new ≡ log.old) }
-    ensures untouched { D.keeps → moments (D.medium disk.new) ≡ moments (D.medium disk.old) }
-    ensures call { IsOpeningCall result (D.medium disk.old) (D.medium disk.new) }
+    ensures call { IsReadingCall D.keeps result (D.medium disk.old) (D.medium disk.new) }
 {
     let m = log.record(disk, half, i)?;
     match step(tree, m) {
@@ -59,24 +54,21 @@ pub fn replay<D: Disk>(
     half: usize,
     tree: &mut Tree,
 ) -> Result<usize, OpenFault>
-    requires not_failed { log.old.failed ≡ false }
+    requires usable { IsUsable log.old (D.medium disk.old) }
     requires half { half < 2 }
-    requires long_enough { IsLongEnough log.old (D.medium disk.old) }
     requires whole { IsWholeTree tree.old }
     requires geometry { log.old.geometry ≡ tree.old.geometry }
-    ensures count { IfOk result (λ n. D.keeps → HasFront log.old half n (D.medium disk.old)) }
+    ensures count { IfOk result (λ n. D.keeps → n ≡ length (front (layout_of_log log.old) half (D.medium disk.old).now)) }
     ensures few { IfOk result (λ n. n ≤ log.old.geometry.half) }
     ensures done { OnOk result (D.keeps →
         run (decoding tree.old.geometry) (Some (state_in tree.old))
         (front (layout_of_log log.old) half (D.medium disk.old).now) ≡ Some (state_in tree.new)) }
     ensures refused { IfErr result (λ e. D.keeps → IsConsistentFault (records_fault tree.old.geometry
         (state_in tree.old) half (front (layout_of_log log.old) half (D.medium disk.old).now)) e) }
-    ensures never_out_of_memory { IfErr result (λ e. e ≢ OutOfMemory) }
     ensures whole { OnOk result (IsWholeTree tree.new) }
     ensures geometry { OnOk result (tree.new.geometry ≡ tree.old.geometry) }
     ensures log { OnOk result (log.new ≡ log.old) }
-    ensures untouched { D.keeps → moments (D.medium disk.new) ≡ moments (D.medium disk.old) }
-    ensures call { IsOpeningCall result (D.medium disk.old) (D.medium disk.new) }
+    ensures call { IsReadingCall D.keeps result (D.medium disk.old) (D.medium disk.new) }
 {
     let count = log.front(disk, half)?;
     for i in 0..count {

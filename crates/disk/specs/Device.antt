@@ -121,3 +121,9 @@ CountsFault (Err Device) old new = new ≡ old + 1
 -- device stays as long as it was.
 abbrev pub IsDeviceCall : {T : Type 0} → Result T DiskFault → Medium → Medium → Type 0
 IsDeviceCall result old new = CountsFault result old.faults new.faults × (length new.now ≡ length old.now)
+
+-- What a call does whose range lies within the device: the same, and it is never out of range.
+pub record IsCallInside {T : Type 0} (result : Result T DiskFault) (old new : Medium) : Type 0 where
+  pub counts : CountsFault result old.faults new.faults
+  pub len : length new.now ≡ length old.now
+  pub inside : IsErrOf result OutOfRange → ⊥

@@ -1,7 +1,7 @@
 //! The contract of a device of bytes, on which durable code rests.
 ghost use Rattle.std.specs.Prelude.{◌≡◌, ◌+◌, ◌<◌, ◌^◌, ◌↔◌, length, IsErrOf};
 ghost use Rattle.disk.specs.declared.fault.DiskFault.TheVariants.{OutOfRange};
-ghost use Rattle.disk.specs.Device.{Medium, AreBytes, Reads, Writes, Syncs, IsDeviceCall};
+ghost use Rattle.disk.specs.Device.{Medium, AreBytes, Reads, Writes, Syncs, IsDeviceCall, IsCallInside};
 
 use crate::DiskFault;
 
@@ -38,8 +38,7 @@ pub trait Disk {
     /// Makes what was written durable. At `Ok` a crash leaves what a read gives. After `Device` what was not synced
     /// still is not.
     fn sync(&mut self) -> Result<(), DiskFault>
-        ensures inside { IsErrOf result OutOfRange → ⊥ }
-        ensures call { IsDeviceCall result (medium self.old) (medium self.new) }
+        ensures call { IsCallInside result (medium self.old) (medium self.new) }
         ensures syncs { keeps → Syncs result (medium self.old) (medium self.new) };
 
     /// The length is a `u64`.

@@ -2,7 +2,7 @@
 ghost use Rattle.std.specs.Prelude.{◌≡◌, ◌+◌, ◌<◌, ◌^◌, ◌↔◌, length, IfOk, IsErrOf, replicate};
 ghost use Rattle.disk.specs.declared.fault.DiskFault.TheVariants.{OutOfRange};
 ghost use Rattle.disk.specs.declared.injected_fault.InjectedFault.TheVariants.{FailAt, StopAt};
-ghost use Rattle.disk.specs.Device.{AreBytes, IsCrashImage, Reads, Writes, Syncs, IsDeviceCall};
+ghost use Rattle.disk.specs.Device.{AreBytes, IsCrashImage, Reads, Writes, Syncs, IsDeviceCall, IsCallInside};
 ghost use Rattle.disk.specs.Span.{HoldsUnsynced};
 ghost use Rattle.disk.specs.Torn.{HasPattern};
 
@@ -202,8 +202,7 @@ impl Disk for MemDisk {
     }
 
     fn sync(&mut self) -> Result<(), DiskFault>
-        ensures inside { IsErrOf result OutOfRange → ⊥ }
-        ensures call { IsDeviceCall result (medium_of self.old) (medium_of self.new) }
+        ensures call { IsCallInside result (medium_of self.old) (medium_of self.new) }
         ensures syncs { Unit {0} → Syncs result (medium_of self.old) (medium_of self.new) }
         // A sync answers as a call for 0 bytes from offset 0 on, which is never out of range.
         ensures answer { result ≡ call_result 0 0 (memory_of self.old) }

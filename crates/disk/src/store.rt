@@ -1,7 +1,7 @@
 //! Writes over a range of a device, with a sync or without. `CrashesChangeOnly` says what a crash at any moment of the call leaves,
 //! `TouchesOnly` which bytes and unsynced flags differ after it.
-ghost use Rattle.std.specs.Prelude.{◌≡◌, ◌+◌, ◌≤◌, length, OnOk, IsErrOf};
-ghost use Rattle.disk.specs.Device.{SameOutside, IsDeviceCall, overlaid};
+ghost use Rattle.std.specs.Prelude.{◌≡◌, ◌+◌, ◌≤◌, length, OnOk};
+ghost use Rattle.disk.specs.Device.{SameOutside, IsCallInside, overlaid};
 ghost use Rattle.disk.specs.Store.{Costs, CrashesChangeOnly, Stored, TouchesOnly};
 
 use crate::{Disk, DiskFault};
@@ -14,8 +14,7 @@ pub fn write<D: Disk>(disk: &mut D, at: u64, bytes: &[u8]) -> Result<(), DiskFau
     ensures touched { D.keeps → TouchesOnly at (length bytes.now) (D.medium disk.old) (D.medium disk.new) }
     ensures costs { D.keeps → Costs result 1 (D.medium disk.old) (D.medium disk.new) }
     ensures written { OnOk result (D.keeps → (D.medium disk.new).now ≡ overlaid (D.medium disk.old).now at bytes.now) }
-    ensures inside { IsErrOf result DiskFault.OutOfRange → ⊥ }
-    ensures call { IsDeviceCall result (D.medium disk.old) (D.medium disk.new) }
+    ensures call { IsCallInside result (D.medium disk.old) (D.medium disk.new) }
 {
     disk.write_at(at, bytes)
 }
@@ -27,8 +26,7 @@ pub fn store<D: Disk>(disk: &mut D, at: u64, bytes: &[u8]) -> Result<(), DiskFau
     ensures any_moment { D.keeps → CrashesChangeOnly (D.medium disk.old) (D.medium disk.new) (SameOutside at (length bytes.now)) }
     ensures stored { OnOk result (D.keeps → Stored at bytes.now (D.medium disk.old) (D.medium disk.new)) }
     ensures costs { D.keeps → Costs result 2 (D.medium disk.old) (D.medium disk.new) }
-    ensures inside { IsErrOf result DiskFault.OutOfRange → ⊥ }
-    ensures call { IsDeviceCall result (D.medium disk.old) (D.medium disk.new) }
+    ensures call { IsCallInside result (D.medium disk.old) (D.medium disk.new) }
 {
     write(disk, at, bytes)?;
     disk.sync()

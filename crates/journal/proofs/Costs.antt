@@ -1,7 +1,7 @@
 -- How many writes the dirty pieces of an image take.
 use Rattle.std.specs.Prelude.{if◌then◌else◌, ◌==◌}
 use Rattle.std.specs.Result.{MatchResult, is_err}
-use Rattle.std.proofs.Common.{◌≡◌, ⊎_elim, ℕ, suc, ◌+◌, ◌/◌, ◌<◌, ◌≤◌, Bool, true, false, List, [], ◌∷◌, length, drop, get_or, Result, Ok, Err, refl, sym, ◌∙◌, ap, arith, true≢false}
+use Rattle.std.proofs.Common.{◌≡◌, ⊎_elim, ℕ, suc, ◌+◌, ◌<◌, ◌≤◌, Bool, true, false, List, [], ◌∷◌, length, drop, get_or, Result, Ok, Err, refl, sym, ◌∙◌, ap, arith, true≢false}
 use Rattle.std.proofs.lemmas.Bool.{cases_lt}
 use Rattle.std.proofs.lemmas.List.{drop_all, drop_more}
 use Rattle.affinity.specs.declared.geometry.Geometry.{Geometry}
@@ -11,7 +11,7 @@ use Rattle.disk.specs.Device.{Medium}
 use Rattle.disk.specs.Moments.{moment_number}
 use Rattle.image.specs.Pieces.{piece_count}
 use Rattle.journal.specs.declared.opening.Parts.{Parts}
-use Rattle.journal.specs.Costs.{count_runs, finish_cost, opening_cost, runs_after}
+use Rattle.journal.specs.Costs.{count_runs, finish_cost, longest_point, opening_cost, point_cost, runs_after}
 use Rattle.journal.specs.Extents.{AreAllDirty}
 use Rattle.journal.proofs.Places.{some_piece}
 use Rattle.disk.specs.Store.{Costs}
@@ -29,8 +29,8 @@ few_after false (true ∷ (false ∷ dirty)) = let rest = few_after false dirty 
 few_after false (true ∷ (true ∷ dirty)) = let rest = few_after true dirty in omega (arith, rest)
 few_after true (true ∷ dirty) = let rest = few_after true dirty in omega (arith, rest)
 
-pub few_runs : (dirty : List Bool) → count_runs dirty ≤ (length dirty + 1) / 2
-few_runs dirty = let few = few_after false dirty in omega (arith, few)
+pub few_writes : (g : Geometry) (dirty : List Bool) → length dirty ≡ piece_count g → point_cost dirty ≤ longest_point g
+few_writes g dirty size = let few = few_after false dirty in omega (arith, few, size)
 
 -- ---- an image that is written in order
 
@@ -118,6 +118,12 @@ takes_most (Err e) n old new takes = takes
 pub takes_all : {T E : Type 0} (r : Result T E) (n : ℕ) (old new : Medium) → is_err r ≡ false → Costs r n old new → moment_number new ≡ moment_number old + n
 takes_all (Ok x) n old new fine takes = takes
 takes_all (Err e) n old new fine takes = absurd (true≢false fine)
+
+-- k writes and syncs, of which all but those of the last call were made before it
+pub takes_with : {T E : Type 0} (r : Result T E) (n : ℕ) (old new : Medium) (k : ℕ) (start : Medium) → Costs r n old new → moment_number old + n ≡ moment_number start + k
+    → Costs r k start new
+takes_with (Ok x) n old new k start takes before = omega (arith, before, takes)
+takes_with (Err e) n old new k start takes before = omega (arith, before, takes)
 
 -- ---- an opening
 pub finish_few : (g : Geometry) (c : List ℕ) → finish_cost g c ≤ 4

@@ -15,11 +15,10 @@ use Rattle.journal.proofs.Pointing.{clear_beyond, clear_moments, clear_recovers}
 use Rattle.journal.proofs.Recovering.{as_other, both_of, chain_other, half_same, holds_by, laid_by, ready_none, shut_current, shut_force}
 use Rattle.disk.specs.Store.{CrashesChangeOnly}
 use Rattle.oplog.specs.Beyond.{KeepsBeyond}
-use Rattle.oplog.specs.Calls.{Chains, Clears}
-use Rattle.oplog.specs.Changes.{Chained, Cleared, Flipped, IsSameButRoot}
+use Rattle.oplog.specs.Changes.{Chained, Cleared, Flipped, IsSameButChain, IsSameButChainAndGates, IsSameButRoot}
 use Rattle.oplog.specs.Crash.{RecoversBy, RecoversEitherWay}
 use Rattle.oplog.specs.Front.{chain, front}
-use Rattle.oplog.specs.Log.{Log}
+use Rattle.oplog.specs.Log.{Log, layout_of_log}
 use Rattle.device_map.specs.Layout.{layout_of, device_size, part_bytes, half_part, image_part, root_part, other}
 use Rattle.oplog.specs.Recovery.{in_force, recovers_by_area, records_in}
 use Rattle.oplog.proofs.AfterCrash.{chain_by_area, chained_by_area, flip_by_area, torn_root_recovers}
@@ -45,8 +44,8 @@ module _ (log : Log) (w0 : Medium) where
 
   -- ---- the beginning
 
-  module _ (is_area : log.named < 2) (w1 w2 : Medium) (alone : RecoversByNamedAlone log w0) (clears : Clears log w0 w1)
-      (cleared : Cleared (layout_of log.geometry) (other log.named) w0 w1) (chains : Chains log w1 w2) where
+  module _ (is_area : log.named < 2) (w1 w2 : Medium) (alone : RecoversByNamedAlone log w0) (clears : CrashesChangeOnly w0 w1 (IsSameButChainAndGates (layout_of_log log) (other log.named)))
+      (cleared : Cleared (layout_of log.geometry) (other log.named) w0 w1) (chains : CrashesChangeOnly w1 w2 (IsSameButChain (layout_of_log log) log.named)) where
     empty : (c : List ℕ) → IsCrashImage w1 c → (front (layout_of g) (other n) c ≡ []) × (chain (layout_of g) (other n) c ≢ 1)
     empty c left =
         let is : c ≡ w1.now = synced_left w1 c cleared.synced left in (

@@ -17,7 +17,8 @@ use Rattle.std.specs.List.{AllByRecursion}
 use Rattle.journal.specs.Journal.{JournalView, AreCarriedOut, RecoversWithPrefix, IsRecoverable, committed}
 use Rattle.journal.specs.Keeping.{IsCutIfRunning, IsUpToDate, FitsCutState, IsSoundJournal, image_after_cut, journal_view_of}
 use Rattle.journal.specs.DirtyPieces.{AreBothTouched, DirtiesTouched}
-use Rattle.journal.specs.Steps.{RecoversByArea, RecoversStill, run_on}
+use Rattle.journal.specs.Steps.{RecoversByArea, run_on}
+use Rattle.journal.specs.Journal.{RecoversStill}
 use Rattle.journal.specs.Extents.{AgreeOnClean, image_in, extent_of}
 use Rattle.journal.proofs.Cutting.{named_below}
 use Rattle.journal.proofs.Forced.{forced_more, used_most}
@@ -109,15 +110,15 @@ recoverable_of {log} {m} sound = record {
 -- what holds of a journal that hasn't failed
 module _ {D : Type 0} {medium : D → Medium} {keeps : Type 0} {j : Inside D} {self : JournalView} (kept : IsJournal medium keeps j) (view : journal_view medium j ≡ self)
     (fine : self.failed ≡ false) where
-  pub sound_of : keeps → IsSoundJournal j.halves j.snapshot.items j.named_dirty.items j.other_dirty.items j.pending.items j.pieces_left (medium j.disk)
+  pub sound_of : keeps → IsSoundJournal j.halves j.buffers.snapshot.items j.buffers.named_dirty.items j.buffers.other_dirty.items j.buffers.pending.items j.pieces_left (medium j.disk)
   sound_of = kept.sound (ap (λ (h : JournalView). h.failed) view ∙ fine)
 
-  pub fits_of : FitsCutState j.halves j.pending.items j.pieces_left
+  pub fits_of : FitsCutState j.halves j.buffers.pending.items j.pieces_left
   fits_of = kept.fits_cut_state (ap (λ (h : JournalView). h.failed) view ∙ fine)
 
 -- what a step leaves of the device, in the words of contracts
-pub still_of : {h self : JournalView} {w1 : Medium} → h ≡ self → RecoversStill h.geometry h.medium w1 → CrashImagesAre self.medium w1 (λ c. recovered_state self.geometry c ≡ committed self)
-still_of {w1} view = subst (λ (h : JournalView). CrashImagesAre h.medium w1 (λ c. recovered_state h.geometry c ≡ committed h)) view
+pub still_of : {h self : JournalView} {w1 : Medium} → h ≡ self → RecoversStill h.geometry h.medium w1 → RecoversStill self.geometry self.medium w1
+still_of {w1} view = subst (λ (h : JournalView). RecoversStill h.geometry h.medium w1) view
 
 pub beyond_of : {h self : JournalView} {w1 : Medium} → h ≡ self → KeepsBeyond (layout_of h.geometry) h.medium w1 → KeepsBeyond (layout_of self.geometry) self.medium w1
 beyond_of {w1} view = subst (λ (h : JournalView). KeepsBeyond (layout_of h.geometry) h.medium w1) view

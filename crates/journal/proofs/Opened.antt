@@ -17,7 +17,8 @@ use Rattle.disk.proofs.Moments.{leaves_now, same, started, then, weaker}
 use Rattle.image.specs.Image.{image_state}
 use Rattle.journal.specs.Opening.{area_state, IsBadAfterCut, IsLeftByRefusal, IsUnwritten, OpeningCrashImages, RecoversAsBefore}
 use Rattle.journal.specs.Parts.{IsFaultAfterCut, IsRefusedAlike}
-use Rattle.journal.specs.Steps.{RecoversByNamedAlone, IsCutFinished, RecoversByArea, RecoversStill, finished_log}
+use Rattle.journal.specs.Steps.{RecoversByNamedAlone, IsCutFinished, RecoversByArea, finished_log}
+use Rattle.journal.specs.Journal.{RecoversStill}
 use Rattle.journal.specs.Extents.{image_in}
 use Rattle.device_map.specs.Layout.{device_size, layout_of, other}
 use Rattle.oplog.specs.Log.{Log}

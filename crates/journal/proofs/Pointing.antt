@@ -12,11 +12,10 @@ use Rattle.journal.specs.Extents.{AgreeOnClean, Imaged, image_in}
 use Rattle.journal.proofs.Recovering.{as_other, both_of, half_same, holds_by, holds_moments, laid_by, not_one, ready_none, run_none, shut_current, shut_force}
 use Rattle.disk.specs.Store.{CrashesChangeOnly}
 use Rattle.oplog.specs.Beyond.{KeepsBeyond}
-use Rattle.oplog.specs.Calls.{Clears}
-use Rattle.oplog.specs.Changes.{Cleared, Flipped, IsSameBut, IsSameButRoot}
+use Rattle.oplog.specs.Changes.{Cleared, Flipped, IsSameBut, IsSameButChainAndGates, IsSameButRoot}
 use Rattle.oplog.specs.Crash.{RecoversBy, RecoversEitherWay}
 use Rattle.oplog.specs.Front.{chain, front}
-use Rattle.oplog.specs.Log.{Log}
+use Rattle.oplog.specs.Log.{Log, layout_of_log}
 use Rattle.device_map.specs.Layout.{layout_of, device_size, part_bytes, half_part, image_part, other}
 use Rattle.oplog.specs.Recovery.{in_force, recovers_by_area}
 use Rattle.oplog.proofs.AfterCrash.{clear_by_area, flip_by_area, image_by_area, torn_root_recovers}
@@ -24,7 +23,8 @@ use Rattle.oplog.proofs.Beyond.{beyond, beyond_then}
 use Rattle.oplog.proofs.Ready.{ready_kept}
 use Rattle.meaning.specs.State.{State}
 
-module _ (log : Log) (is_area : log.named < 2) (w0 w1 : Medium) (alone : RecoversByNamedAlone log w0) (clears : Clears log w0 w1) where
+module _ (log : Log) (is_area : log.named < 2) (w0 w1 : Medium) (alone : RecoversByNamedAlone log w0)
+    (clears : CrashesChangeOnly w0 w1 (IsSameButChainAndGates (layout_of_log log) (other log.named))) where
   abbrev g : Geometry
   g = log.geometry
 

@@ -108,9 +108,9 @@ pub record Saves (log : Log) (snapshot snapshot' : List ℕ) (named others pendi
   pub are : AreBytes w0.now
 
 pub saves : {D : Type 0} {medium : D → Medium} {keeps : Type 0} {j : Inside D} {self : JournalView} {tree : TreeView} {dirty : List Bool} {old new : List ℕ}
-    → IsJournal medium keeps j → journal_view medium j ≡ self → keeps → AsksToSave self tree → AreBytes (medium j.disk).now → dirty ≡ j.named_dirty.items → old ≡ j.snapshot.items
+    → IsJournal medium keeps j → journal_view medium j ≡ self → keeps → AsksToSave self tree → AreBytes (medium j.disk).now → dirty ≡ j.buffers.named_dirty.items → old ≡ j.buffers.snapshot.items
     → (AreCleanExtentsOf tree.geometry (state_in tree) dirty old → new ≡ image_of 2 tree.geometry (state_in tree))
-    → Saves j.halves j.snapshot.items new j.named_dirty.items j.other_dirty.items j.pending.items (medium j.disk) (state_in tree)
+    → Saves j.halves j.buffers.snapshot.items new j.buffers.named_dirty.items j.buffers.other_dirty.items j.buffers.pending.items (medium j.disk) (state_in tree)
 saves {medium = medium} {j = j} {tree = tree} kept view keeps asks are same same' image =
     let fine : j.halves.failed ≡ false = ap (λ (h : JournalView). h.failed) view ∙ asks.not_failed in
     let no_cut : j.pieces_left ≡ None = ap (λ (h : JournalView). h.pieces_left) view ∙ asks.no_cut in
@@ -118,8 +118,8 @@ saves {medium = medium} {j = j} {tree = tree} kept view keeps asks are same same
     let is : recovered_state j.halves.geometry (medium j.disk).now ≡ Some (state_in tree) = ap committed view ∙ asks.committed in
     let sound = kept.sound fine keeps in
     record {
-      current_is_named = subst (λ (l : Option ℕ). FitsCutState j.halves j.pending.items l) no_cut (kept.fits_cut_state fine);
-      sound = subst (λ (l : Option ℕ). IsSoundJournal j.halves j.snapshot.items j.named_dirty.items j.other_dirty.items j.pending.items l (medium j.disk)) no_cut sound;
+      current_is_named = subst (λ (l : Option ℕ). FitsCutState j.halves j.buffers.pending.items l) no_cut (kept.fits_cut_state fine);
+      sound = subst (λ (l : Option ℕ). IsSoundJournal j.halves j.buffers.snapshot.items j.buffers.named_dirty.items j.buffers.other_dirty.items j.buffers.pending.items l (medium j.disk)) no_cut sound;
       is = is;
       is_state = subst (λ (g : Geometry). IsState g (state_in tree)) geometry asks.state;
       spelled = image (snapshot_right no_cut sound is geometry same same') ∙ ap (λ (g : Geometry). image_of 2 g (state_in tree)) geometry;

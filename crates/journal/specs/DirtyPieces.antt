@@ -29,19 +29,15 @@ pub record AreBothTouched (g : Geometry) (ms : List Msg) (old new : DirtyPieces)
   pub named : DirtiesTouched g ms old.named new.named
   pub other : DirtiesTouched g ms old.other new.other
 
--- these flags, with none of them set
-abbrev pub all_clean : List Bool → List Bool
-all_clean dirty = replicate (length dirty) false
-
 -- ---- the flags after a step
 
 -- The other image was written and named: none of its pieces is dirty. The image that was named keeps its flags.
 abbrev pub pointed_dirty : DirtyPieces → DirtyPieces
-pointed_dirty dirty = record { named = all_clean dirty.other; other = dirty.named }
+pointed_dirty dirty = record { named = replicate (length dirty.other) false; other = dirty.named }
 
 -- A cut has begun: the pieces of the other image that were dirty are pending, and no piece of it is dirty now.
 abbrev pub cut_dirty : DirtyPieces → DirtyPieces
-cut_dirty dirty = record { named = dirty.named; other = all_clean dirty.other }
+cut_dirty dirty = record { named = dirty.named; other = replicate (length dirty.other) false }
 
 -- The other image is named from now on: each keeps its flags.
 abbrev pub flipped_dirty : DirtyPieces → DirtyPieces

@@ -3,6 +3,7 @@ use Rattle.std.specs.Prelude.{◌≡◌, ◌≤◌, ℕ, ◌+◌, Bool, true, Li
 use Rattle.affinity.specs.declared.geometry.Geometry.{Geometry}
 use Rattle.checkpoint.specs.Recovery.{recovered_state}
 use Rattle.disk.specs.Device.{Medium, IsCrashImage}
+use Rattle.disk.specs.Moments.{CrashImagesAre}
 use Rattle.journal.specs.DirtyPieces.{DirtyPieces}
 use Rattle.language.specs.declared.Msg.{Msg}
 use Rattle.language.specs.Messages.{IsMessage}
@@ -38,6 +39,10 @@ pub record IsRecoverable (j : JournalView) : Type 0 where
   pub each : (c : List ℕ) → IsCrashImage j.medium c → recovered_state j.geometry c ≡ committed j
   pub same_records : (c : List ℕ) → IsCrashImage j.medium c → records_in j.geometry c ≡ records j
   pub room : j.pieces_left ≡ None → length (records j) + j.room ≡ j.geometry.half
+
+-- A crash at any moment from `old` to `new` leaves a device that recovers to the same as `old`.
+abbrev pub RecoversStill : Geometry → Medium → Medium → Type 0
+RecoversStill g old new = CrashImagesAre old new (λ c. recovered_state g c ≡ recovered_state g old.now)
 
 -- Run from x on, one after the other, each of the messages gets a record in the log: it is changing, in range, and carried out.
 abbrev pub AreCarriedOut : Geometry → State → List Msg → Type 0

@@ -4,6 +4,7 @@ pub mod Journal
 pub mod Extents
 pub mod Steps
 pub mod Keeping
+pub mod Buffers
 pub mod Fields
 pub mod Opening
 pub mod Parts

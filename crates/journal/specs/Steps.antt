@@ -3,9 +3,9 @@ use Rattle.std.specs.Prelude.{◌≡◌, ◌<◌, ◌==◌, if◌then◌else◌,
 use Rattle.affinity.specs.declared.geometry.Geometry.{Geometry}
 use Rattle.checkpoint.specs.Recovery.{recovered_state, decoding}
 use Rattle.disk.specs.Device.{Medium, IsSynced}
-use Rattle.disk.specs.Moments.{CrashImagesAre}
 use Rattle.image.specs.Image.{image_state}
 use Rattle.journal.specs.Extents.{image_in}
+use Rattle.journal.specs.Opening.{area_state}
 use Rattle.oplog.specs.Changes.{IsReady}
 use Rattle.oplog.specs.Crash.{CrashRecovers}
 use Rattle.oplog.specs.Front.{chain, front}
@@ -13,10 +13,6 @@ use Rattle.device_map.specs.Layout.{layout_of, other}
 use Rattle.oplog.specs.Log.{Log}
 use Rattle.oplog.specs.Recovery.{is_laid_out, named_area, run, records_in}
 use Rattle.meaning.specs.State.{State}
-
--- A crash at any moment from `old` to `new` leaves a device that recovers to the same as `old`.
-abbrev pub RecoversStill : Geometry → Medium → Medium → Type 0
-RecoversStill g old new = CrashImagesAre old new (λ c. recovered_state g c ≡ recovered_state g old.now)
 
 -- Whatever a crash leaves now names area n, has half h as its current one, and recovers to x.
 abbrev pub RecoversByArea : Geometry → ℕ → ℕ → Option State → Medium → Type 0
@@ -80,16 +76,13 @@ pub record IsCutUnfinished (log : Log) (bytes : List ℕ) (m : Medium) : Type 0 
   pub laid : is_laid_out (decoding log.geometry) (layout_of log.geometry) m.now ≡ true
   pub named : named_area (layout_of log.geometry) m.now ≡ log.named
   pub chained : (chain (layout_of log.geometry) log.named m.now == 1) ≡ true
-  pub reads : image_state log.geometry bytes
-      ≡ run_on log.geometry (image_state log.geometry (image_in log.geometry log.named m)) (front (layout_of log.geometry) log.named m.now)
+  pub reads : image_state log.geometry bytes ≡ area_state log.geometry log.named m.now
 
 -- The other area is named and recovers to the same by itself, and nothing is unsynced. Its half has the records that it had,
 -- and its image is that of what the area named before held by itself.
 pub record IsCutFinished (log : Log) (old new : Medium) : Type 0 where
   pub recovers : RecoversByArea log.geometry (other log.named) (other log.named) (recovered_state log.geometry old.now) new
-  pub reads : image_state log.geometry (image_in log.geometry (other log.named) new)
-      ≡ run_on log.geometry (image_state log.geometry (image_in log.geometry log.named old))
-      (front (layout_of log.geometry) log.named old.now)
+  pub reads : image_state log.geometry (image_in log.geometry (other log.named) new) ≡ area_state log.geometry log.named old.now
   pub front : front (layout_of log.geometry) (other log.named) new.now ≡ front (layout_of log.geometry) (other log.named) old.now
   pub named : named_area (layout_of log.geometry) new.now ≡ other log.named
   pub synced : IsSynced new

@@ -1,6 +1,6 @@
 //! An image as the extents in which it is written: its head with the first piece, then each other piece.
-ghost use Rattle.std.specs.Prelude.{◌≡◌, ◌+◌, ◌-◌, ◌<◌, ◌≤◌, ◌*◌, ℕ, length, OnOk, IsErrOf};
-ghost use Rattle.disk.specs.Device.{IsDeviceCall, Syncs, overlaid};
+ghost use Rattle.std.specs.Prelude.{◌≡◌, ◌+◌, ◌-◌, ◌<◌, ◌≤◌, ◌*◌, ℕ, length, OnOk};
+ghost use Rattle.disk.specs.Device.{IsCallInside, Syncs, overlaid};
 ghost use Rattle.image.specs.Pieces.{piece_count, piece_size};
 ghost use Rattle.journal.specs.Costs.{count_runs};
 ghost use Rattle.journal.specs.Extents.{AgreeOnClean, Imaged, IsPatchedAt, image_in, extent_size};
@@ -51,21 +51,19 @@ fn write_run<D: Disk>(
         → IsReady (layout_of g.now) h k (D.medium disk.new) }
     ensures costs { from < end → D.keeps → Costs result 1 (D.medium disk.old) (D.medium disk.new) }
     ensures none { end ≤ from → disk.new ≡ disk.old }
-    ensures inside { IsErrOf result DiskFault.OutOfRange → ⊥ }
-    ensures call { IsDeviceCall result (D.medium disk.old) (D.medium disk.new) }
+    ensures call { IsCallInside result (D.medium disk.old) (D.medium disk.new) }
 {
-    if from < end {
-        write(disk, image_at(g, area) + from as u64, &bytes[from..end])?;
+    if from == end {
+        return Ok(());
     }
-    Ok(())
+    write(disk, image_at(g, area) + from as u64, &bytes[from..end])
 }
 
 /// Syncs what was written of an image, before it is named: at `Ok` it survives a crash.
 pub(crate) fn sync_image<D: Disk>(disk: &mut D) -> Result<(), DiskFault>
     ensures syncs { D.keeps → Syncs result (D.medium disk.old) (D.medium disk.new) }
     ensures costs { D.keeps → Costs result 1 (D.medium disk.old) (D.medium disk.new) }
-    ensures inside { IsErrOf result DiskFault.OutOfRange → ⊥ }
-    ensures call { IsDeviceCall result (D.medium disk.old) (D.medium disk.new) }
+    ensures call { IsCallInside result (D.medium disk.old) (D.medium disk.new) }
 {
     disk.sync()
 }
@@ -88,8 +86,7 @@ pub(crate) fn write_image<D: Disk>(
         (IsSameBut (layout_of g.now) (image_part area)) }
     ensures written { OnOk result (D.keeps → Imaged g.now area bytes.now (D.medium disk.old) (D.medium disk.new)) }
     ensures costs { D.keeps → Costs result (count_runs dirty.now + 1) (D.medium disk.old) (D.medium disk.new) }
-    ensures inside { IsErrOf result DiskFault.OutOfRange → ⊥ }
-    ensures call { IsDeviceCall result (D.medium disk.old) (D.medium disk.new) }
+    ensures call { IsCallInside result (D.medium disk.old) (D.medium disk.new) }
 {
     let mut from = 0;
     let mut at = 0;
@@ -102,8 +99,7 @@ pub(crate) fn write_image<D: Disk>(
         at = end;
     }
     write_run(disk, g, area, bytes, from, at)?;
-    sync_image(disk)?;
-    Ok(())
+    sync_image(disk)
 }
 
 /// Writes extent `n` of an image at its place. Until a sync succeeds, a crash may leave any bytes there. `Device` exactly
@@ -128,8 +124,7 @@ pub(crate) fn write_extent<D: Disk>(
     ensures ready { D.keeps → (h k : ℕ) → h < 2 → IsReady (layout_of g.now) h k (D.medium disk.old)
         → IsReady (layout_of g.now) h k (D.medium disk.new) }
     ensures costs { D.keeps → Costs result 1 (D.medium disk.old) (D.medium disk.new) }
-    ensures inside { IsErrOf result DiskFault.OutOfRange → ⊥ }
-    ensures call { IsDeviceCall result (D.medium disk.old) (D.medium disk.new) }
+    ensures call { IsCallInside result (D.medium disk.old) (D.medium disk.new) }
 {
     let mut at = 0;
     for i in 0..n {

@@ -1,16 +1,15 @@
 //! The journal of a server: what was carried out, on a device that a crash may tear at any moment.
 ghost use Rattle.std.specs.Prelude.{◌≡◌, ◌≢◌, ◌-◌, ◌*◌, ◌≤◌, ◌++◌, ℕ, List, true, false, Some, None, [], length, is_some, option_map, OnOk, OnErr, IfOk};
-ghost use Rattle.checkpoint.specs.Recovery.{recovered_state};
 ghost use Rattle.checkpoint.specs.Version.{named_version};
 ghost use Rattle.disk.specs.Moments.{CrashImagesAre};
 ghost use Rattle.image.specs.Pieces.{piece_count};
 ghost use Rattle.journal.specs.Costs.{longest_point, point_cost};
 ghost use Rattle.journal.specs.Images.{KeepsImages, PatchesUnnamed};
-ghost use Rattle.journal.specs.Journal.{JournalView, AreCarriedOut, RecoversWithPrefix, IsRecoverable, after_call, records, committed};
+ghost use Rattle.journal.specs.Journal.{JournalView, AreCarriedOut, RecoversWithPrefix, IsRecoverable, after_call, records, committed, RecoversStill};
 ghost use Rattle.journal.specs.DirtyPieces.{AreBothTouched, count_dirty, cut_dirty, flipped_dirty, pointed_dirty};
 ghost use Rattle.oplog.specs.Beyond.{KeepsBeyond};
 ghost use Rattle.disk.specs.Store.{Costs};
-ghost use Rattle.oplog.specs.Log.{batch_count, CountsLogFault, IsNotBadRecord};
+ghost use Rattle.oplog.specs.Log.{batch_count, ReadsNoRecord};
 ghost use Rattle.device_map.specs.Layout.{layout_of};
 ghost use Rattle.oplog.specs.Changing.{AreChangesInRange, records_of};
 ghost use Rattle.parcel.specs.Tree.{IsWholeTree, state_in};
@@ -30,6 +29,22 @@ use std::mem;
 
 mod accessors;
 
+/// The memory that a journal has besides its log: an image, and three flags for each of its pieces.
+#[derive(Drop)]
+pub(crate) struct Buffers {
+    /// The image of the state that the last point or cut was made of.
+    pub(crate) snapshot: Vec<u8>,
+
+    /// The dirty flags of the named image: which pieces may differ from those of what is committed.
+    pub(crate) named_dirty: Vec<bool>,
+
+    /// The same of the other image: as it is, or, during a cut, as it will be once the cut is written.
+    pub(crate) other_dirty: Vec<bool>,
+
+    /// Which pieces of a cut are still to be written.
+    pub(crate) pending: Vec<bool>,
+}
+
 /// The log of a server and the images that keep it short, on a device that it owns.
 ///
 /// No call takes memory. After a device fault it has failed: only calls that don't use the device may be made.
@@ -38,17 +53,7 @@ pub struct Journal<D: Disk> {
     disk: D,
     halves: Halves,
 
-    /// The image of the state that the last point or cut was made of.
-    snapshot: Vec<u8>,
-
-    /// The dirty flags of the named image: which pieces may differ from those of what is committed.
-    named_dirty: Vec<bool>,
-
-    /// The same of the other image: as it is, or, during a cut, as it will be once the cut is written.
-    other_dirty: Vec<bool>,
-
-    /// Which pieces of a cut are still to be written.
-    pending: Vec<bool>,
+    buffers: Buffers,
 
     /// No piece before this one is pending: the next pending one is looked for from here on.
     next_pending: usize,
@@ -71,37 +76,23 @@ impl<D: Disk> Model for Journal<D> {
 
 impl<D: Disk> Journal<D> {
     ghost use Rattle.journal.specs.Keeping.{IsSoundJournal, journal_view_of};
-    ghost use Rattle.oplog.specs.Calls.{IsLongEnough};
-    ghost use Rattle.device_map.specs.Layout.{image_size};
+    ghost use Rattle.oplog.specs.Calls.{IsUsable};
+    ghost use Rattle.journal.specs.Buffers.{FitBuffers};
 
-    /// A journal with no cut in progress. `snapshot` has an image's size, and each vector of flags one flag a piece.
-    pub(crate) fn new(
-        disk: D,
-        halves: Halves,
-        snapshot: Vec<u8>,
-        named_dirty: Vec<bool>,
-        other_dirty: Vec<bool>,
-        pending: Vec<bool>,
-    ) -> Journal<D>
-        requires not_failed { halves.failed ≡ false }
+    /// A journal with no cut in progress.
+    pub(crate) fn new(disk: D, halves: Halves, buffers: Buffers) -> Journal<D>
+        requires usable { IsUsable halves (D.medium disk) }
         requires current_is_named { halves.current ≡ halves.named }
         requires used { halves.used ≤ halves.geometry.half }
-        requires long_enough { IsLongEnough halves (D.medium disk) }
-        requires snapshot { length snapshot.items ≡ image_size halves.geometry }
-        requires named_dirty { length named_dirty.items ≡ piece_count halves.geometry }
-        requires other_dirty { length other_dirty.items ≡ piece_count halves.geometry }
-        requires pending { length pending.items ≡ piece_count halves.geometry }
-        requires sound { D.keeps →
-            IsSoundJournal halves snapshot.items named_dirty.items other_dirty.items pending.items None (D.medium disk) }
-        ensures { result ≡ journal_view_of halves named_dirty.items other_dirty.items None (D.medium disk) }
+        requires buffers { FitBuffers halves.geometry buffers }
+        requires sound { D.keeps → IsSoundJournal halves buffers.snapshot.items buffers.named_dirty.items buffers.other_dirty.items
+            buffers.pending.items None (D.medium disk) }
+        ensures { result ≡ journal_view_of halves buffers.named_dirty.items buffers.other_dirty.items None (D.medium disk) }
     {
         Journal {
             disk,
             halves,
-            snapshot,
-            named_dirty,
-            other_dirty,
-            pending,
+            buffers,
             next_pending: 0,
             pieces_left: None,
         }
@@ -129,13 +120,12 @@ impl<D: Disk> Journal<D> {
         ensures after { self.new ≡ after_call result
             (record self.old { room = self.old.room - length messages.now; dirty = self.new.dirty; medium = self.new.medium })
             self.old }
-        ensures no_bad_record { IsNotBadRecord result }
-        ensures counts { CountsLogFault result self.old.medium.faults self.new.medium.faults }
+        ensures call { ReadsNoRecord result self.old.medium self.new.medium }
     {
         self.halves.append(&mut self.disk, messages)?;
         let g = self.halves.geometry();
-        dirty_touched(&g, messages, &mut self.named_dirty);
-        dirty_touched(&g, messages, &mut self.other_dirty);
+        dirty_touched(&g, messages, &mut self.buffers.named_dirty);
+        dirty_touched(&g, messages, &mut self.buffers.other_dirty);
         Ok(())
     }
 
@@ -148,8 +138,7 @@ impl<D: Disk> Journal<D> {
         requires state { D.keeps → committed self.old ≡ Some (state_in tree.now) }
 
         // A crash at any moment of the call leaves a device that recovers to what was committed.
-        ensures any_moment { D.keeps → CrashImagesAre self.old.medium self.new.medium
-            (λ c. recovered_state self.old.geometry c ≡ committed self.old) }
+        ensures any_moment { D.keeps → RecoversStill self.old.geometry self.old.medium self.new.medium }
         ensures beyond { D.keeps → KeepsBeyond (layout_of self.old.geometry) self.old.medium self.new.medium }
         ensures committed { OnOk result (D.keeps → committed self.new ≡ committed self.old) }
         ensures recoverable { OnOk result (D.keeps → IsRecoverable self.new) }
@@ -164,18 +153,17 @@ impl<D: Disk> Journal<D> {
         ensures after { self.new ≡ after_call result
             (record self.old { room = self.old.geometry.half; dirty = pointed_dirty self.old.dirty; medium = self.new.medium })
             self.old }
-        ensures no_bad_record { IsNotBadRecord result }
-        ensures counts { CountsLogFault result self.old.medium.faults self.new.medium.faults }
+        ensures call { ReadsNoRecord result self.old.medium self.new.medium }
     {
-        update_snapshot(tree, &self.named_dirty, &mut self.snapshot);
+        update_snapshot(tree, &self.buffers.named_dirty, &mut self.buffers.snapshot);
         point_on(
             &mut self.halves,
             &mut self.disk,
-            &self.snapshot,
-            &self.other_dirty,
+            &self.buffers.snapshot,
+            &self.buffers.other_dirty,
         )?;
         // No piece of the image that was just written is dirty.
-        swap_and_clear_dirty(&mut self.named_dirty, &mut self.other_dirty);
+        swap_and_clear_dirty(&mut self.buffers.named_dirty, &mut self.buffers.other_dirty);
         Ok(())
     }
 
@@ -187,8 +175,7 @@ impl<D: Disk> Journal<D> {
         requires geometry { tree.now.geometry ≡ self.old.geometry }
         requires whole { IsWholeTree tree.now }
         requires state { D.keeps → committed self.old ≡ Some (state_in tree.now) }
-        ensures any_moment { D.keeps → CrashImagesAre self.old.medium self.new.medium
-            (λ c. recovered_state self.old.geometry c ≡ committed self.old) }
+        ensures any_moment { D.keeps → RecoversStill self.old.geometry self.old.medium self.new.medium }
         ensures beyond { D.keeps → KeepsBeyond (layout_of self.old.geometry) self.old.medium self.new.medium }
         ensures committed { OnOk result (D.keeps → committed self.new ≡ committed self.old) }
         ensures recoverable { OnOk result (D.keeps → IsRecoverable self.new) }
@@ -203,15 +190,14 @@ impl<D: Disk> Journal<D> {
         ensures images { OnOk result (D.keeps → KeepsImages self.old.geometry self.old.medium.now self.new.medium.now) }
         ensures costs { D.keeps → Costs result 4 self.old.medium self.new.medium }
         ensures broken { OnErr result (self.new ≡ record self.old { failed = true; medium = self.new.medium }) }
-        ensures no_bad_record { IsNotBadRecord result }
-        ensures counts { CountsLogFault result self.old.medium.faults self.new.medium.faults }
+        ensures call { ReadsNoRecord result self.old.medium self.new.medium }
     {
-        update_snapshot(tree, &self.named_dirty, &mut self.snapshot); // later messages don't change it
+        update_snapshot(tree, &self.buffers.named_dirty, &mut self.buffers.snapshot); // later messages don't change it
         cut_on(&mut self.halves, &mut self.disk)?;
-        mem::swap(&mut self.pending, &mut self.other_dirty);
-        clear_dirty(&mut self.other_dirty);
+        mem::swap(&mut self.buffers.pending, &mut self.buffers.other_dirty);
+        clear_dirty(&mut self.buffers.other_dirty);
         self.next_pending = 0;
-        self.pieces_left = Some(count_dirty(&self.pending));
+        self.pieces_left = Some(count_dirty(&self.buffers.pending));
         Ok(())
     }
 
@@ -220,8 +206,7 @@ impl<D: Disk> Journal<D> {
     pub fn piece(&mut self) -> Result<usize, LogFault>
         requires not_failed { self.old.failed ≡ false }
         requires running { is_some self.old.pieces_left ≡ true }
-        ensures any_moment { D.keeps → CrashImagesAre self.old.medium self.new.medium
-            (λ c. recovered_state self.old.geometry c ≡ committed self.old) }
+        ensures any_moment { D.keeps → RecoversStill self.old.geometry self.old.medium self.new.medium }
         ensures beyond { D.keeps → KeepsBeyond (layout_of self.old.geometry) self.old.medium self.new.medium }
         ensures committed { OnOk result (D.keeps → committed self.new ≡ committed self.old) }
 
@@ -237,19 +222,18 @@ impl<D: Disk> Journal<D> {
         ensures none { self.old.pieces_left ≡ Some 0 → self.new ≡ self.old }
         ensures after { self.new ≡ after_call result
             (record self.old { pieces_left = option_map (λ l. l - 1) self.old.pieces_left; medium = self.new.medium }) self.old }
-        ensures no_bad_record { IsNotBadRecord result }
-        ensures counts { CountsLogFault result self.old.medium.faults self.new.medium.faults }
+        ensures call { ReadsNoRecord result self.old.medium self.new.medium }
     {
-        let Some(n) = first_dirty(&self.pending, self.next_pending) else {
+        let Some(n) = first_dirty(&self.buffers.pending, self.next_pending) else {
             return Ok(0);
         };
         let g = self.halves.geometry();
         let area = 1 - self.halves.named();
         // Extent n is piece n, the first one with the head before it.
-        if write_extent(&mut self.disk, &g, area, &self.snapshot, n).is_err() {
+        if write_extent(&mut self.disk, &g, area, &self.buffers.snapshot, n).is_err() {
             return Err(self.halves.fail());
         }
-        self.pending[n] = false;
+        self.buffers.pending[n] = false;
         self.next_pending = n + 1;
         let Some(before) = self.pieces_left else {
             unreachable!()
@@ -264,8 +248,7 @@ impl<D: Disk> Journal<D> {
     pub fn flip(&mut self) -> Result<(), LogFault>
         requires not_failed { self.old.failed ≡ false }
         requires written { self.old.pieces_left ≡ Some 0 }
-        ensures any_moment { D.keeps → CrashImagesAre self.old.medium self.new.medium
-            (λ c. recovered_state self.old.geometry c ≡ committed self.old) }
+        ensures any_moment { D.keeps → RecoversStill self.old.geometry self.old.medium self.new.medium }
         ensures beyond { D.keeps → KeepsBeyond (layout_of self.old.geometry) self.old.medium self.new.medium }
         ensures committed { OnOk result (D.keeps → committed self.new ≡ committed self.old) }
         ensures recoverable { OnOk result (D.keeps → IsRecoverable self.new) }
@@ -279,11 +262,10 @@ impl<D: Disk> Journal<D> {
         ensures costs { D.keeps → Costs result 3 self.old.medium self.new.medium }
         ensures after { self.new ≡ after_call result
             (record self.old { pieces_left = None; dirty = flipped_dirty self.old.dirty; medium = self.new.medium }) self.old }
-        ensures no_bad_record { IsNotBadRecord result }
-        ensures counts { CountsLogFault result self.old.medium.faults self.new.medium.faults }
+        ensures call { ReadsNoRecord result self.old.medium self.new.medium }
     {
-        flip_on(&mut self.halves, &mut self.disk, &self.snapshot)?;
-        mem::swap(&mut self.named_dirty, &mut self.other_dirty);
+        flip_on(&mut self.halves, &mut self.disk, &self.buffers.snapshot)?;
+        mem::swap(&mut self.buffers.named_dirty, &mut self.buffers.other_dirty);
         self.pieces_left = None;
         Ok(())
     }

@@ -9,17 +9,20 @@ ghost use Rattle.checkpoint.specs.Refusals.{HasHeaderAndParts, IsRefused, refuse
 ghost use Rattle.disk.specs.Device.{IsSynced, IsCrashImage};
 ghost use Rattle.disk.specs.Moments.{CrashImagesAre, moment_number};
 ghost use Rattle.image.specs.Image.{image_of};
+ghost use Rattle.journal.specs.Buffers.{KeepsBuffers};
 ghost use Rattle.journal.specs.Costs.{finish_cost, opening_cost};
 ghost use Rattle.journal.specs.Opening.{IsOpened, IsLeftByRefusal, OpeningCrashImages, RecoversAsBefore};
-ghost use Rattle.journal.specs.Parts.{AreLoaded, AreUnloaded, IsFaultAfterCut, IsMade, IsMadeOf, IsRefusedAlike, KeepsBuffers};
-ghost use Rattle.journal.specs.Steps.{RecoversByNamedAlone, IsCutFinished, IsPointed, RecoversStill, finished_log, pointed_log};
+ghost use Rattle.journal.specs.Parts.{AreLoaded, AreUnloaded, IsFaultAfterCut, IsMade, IsMadeOf, IsRefusedAlike};
+ghost use Rattle.journal.specs.Steps.{RecoversByNamedAlone, IsCutFinished, IsPointed, finished_log, pointed_log};
+ghost use Rattle.journal.specs.Journal.{RecoversStill};
 ghost use Rattle.oplog.specs.Beyond.{KeepsBeyond};
 ghost use Rattle.disk.specs.Store.{Costs};
 ghost use Rattle.device_map.specs.Layout.{Layout, device_size, layout_of, other, entry_size};
-ghost use Rattle.oplog.specs.Log.{IsLogCall, IsNotBadRecord};
+ghost use Rattle.oplog.specs.Log.{ReadsNoRecord};
 ghost use Rattle.parcel.specs.Tree.{IsWholeTree, state_in};
 
 use crate::Journal;
+use crate::journal::Buffers;
 use crate::snapshot::update_snapshot;
 use crate::steps::{finish_on, point_on};
 use affinity::Geometry;
@@ -38,17 +41,9 @@ struct Parts {
     tree: Tree,
     halves: Halves,
 
-    /// Room for the image of a state.
-    snapshot: Vec<u8>,
-
-    /// The dirty flags of the image that the opening's checkpoint will name: none.
-    named_dirty: Vec<bool>,
-
-    /// Those of the other image: all, since nothing is known of it.
-    other_dirty: Vec<bool>,
-
-    /// Which pieces of a cut are still to be written.
-    pending: Vec<bool>,
+    /// Their dirty flags are those of the images once the opening's checkpoint is made: none of the named one, all of the other one, of
+    /// which nothing is known.
+    buffers: Buffers,
 }
 
 /// All memory that opening a device takes, with a buffer for the largest piece of an image (that of a stripe: the entry of a
@@ -60,18 +55,17 @@ fn take_memory(alloc: Global, g: &Geometry) -> Result<(Parts, Vec<u8>), OpenFaul
     ensures fault { IfErr result (λ e. e ≡ OutOfMemory) }
 {
     let (tree, halves, buffer) = take_loading_memory(alloc, g)?;
-    let snapshot = vec![in alloc; 0u8; image_size(g)]?;
     let pieces = piece_count(g);
-    let named_dirty = vec![in alloc; false; pieces]?;
-    let other_dirty = vec![in alloc; true; pieces]?;
-    let pending = vec![in alloc; false; pieces]?;
+    let buffers = Buffers {
+        snapshot: vec![in alloc; 0u8; image_size(g)]?,
+        named_dirty: vec![in alloc; false; pieces]?,
+        other_dirty: vec![in alloc; true; pieces]?,
+        pending: vec![in alloc; false; pieces]?,
+    };
     let parts = Parts {
         tree,
         halves,
-        snapshot,
-        named_dirty,
-        other_dirty,
-        pending,
+        buffers,
     };
     Ok((parts, buffer))
 }
@@ -95,7 +89,7 @@ fn first_sync<D: Disk>(disk: &mut D) -> Result<(), OpenFault>
 /// Finishes a cut that was in progress: an image of its state, which the tree holds, is written into the other area, which is then
 /// named. The state of the cut is that of the named image with the records of the named half run on it, without those of the other half.
 /// In clause `recovers`, `true` says that the named half is chained. Clause `room` is not of the log: all flags stay, and so does the size
-/// of `snapshot`.
+/// of the snapshot.
 fn finish_cut<D: Disk>(parts: &mut Parts, disk: &mut D) -> Result<(), LogFault>
     requires loaded { AreLoaded parts.old (D.medium disk.old) }
     requires synced { D.keeps → IsSynced (D.medium disk.old) }
@@ -109,12 +103,20 @@ fn finish_cut<D: Disk>(parts: &mut Parts, disk: &mut D) -> Result<(), LogFault>
     ensures costs { D.keeps → Costs result 4 (D.medium disk.old) (D.medium disk.new) }
     ensures log { OnOk result (parts.new.halves ≡ finished_log parts.old.halves) }
     ensures tree { parts.new.tree ≡ parts.old.tree }
-    ensures room { KeepsBuffers parts.old parts.new }
-    ensures no_bad_record { IsNotBadRecord result }
-    ensures call { IsLogCall result (D.medium disk.old) (D.medium disk.new) }
+    ensures room { KeepsBuffers parts.old.buffers parts.new.buffers }
+    ensures call { ReadsNoRecord result (D.medium disk.old) (D.medium disk.new) }
 {
-    update_snapshot(&parts.tree, &parts.other_dirty, &mut parts.snapshot); // the other half's records aren't replayed yet
-    finish_on(&mut parts.halves, disk, &parts.snapshot, &parts.other_dirty)
+    update_snapshot(
+        &parts.tree,
+        &parts.buffers.other_dirty,
+        &mut parts.buffers.snapshot,
+    ); // the other half's records aren't replayed yet
+    finish_on(
+        &mut parts.halves,
+        disk,
+        &parts.buffers.snapshot,
+        &parts.buffers.other_dirty,
+    )
 }
 
 /// Finishes a cut that was in progress, and then runs the records after it on the tree, which holds the state of the
@@ -138,7 +140,7 @@ fn finish_cut_and_replay<D: Disk>(parts: &mut Parts, disk: &mut D) -> Result<(),
         IsFaultAfterCut parts.old.halves.geometry (other parts.old.halves.named) (D.medium disk.old) (D.medium disk.new) e) }
     ensures loaded { OnOk result (AreLoaded parts.new (D.medium disk.new)) }
     ensures geometry { OnOk result (parts.new.halves.geometry ≡ parts.old.halves.geometry) }
-    ensures room { OnOk result (KeepsBuffers parts.old parts.new) }
+    ensures room { OnOk result (KeepsBuffers parts.old.buffers parts.new.buffers) }
     ensures call { IsOpeningCall result (D.medium disk.old) (D.medium disk.new) }
 {
     let behind = 1 - parts.halves.named();
@@ -173,15 +175,14 @@ fn load_in_order<D: Disk>(
     ensures synced { IfErr result (λ e. e ≢ Device → D.keeps → IsSynced (D.medium disk.new)) }
     ensures loaded { OnOk result (AreLoaded parts.new (D.medium disk.new)) }
     ensures geometry { OnOk result (parts.new.halves.geometry ≡ parts.old.tree.geometry) }
-    ensures room { OnOk result (KeepsBuffers parts.old parts.new) }
+    ensures room { OnOk result (KeepsBuffers parts.old.buffers parts.new.buffers) }
     ensures call { IsOpeningCall result (D.medium disk.old) (D.medium disk.new) }
 {
     let named = load_named(disk, &mut parts.tree, &mut parts.halves, buffer)?;
     if !named.chained {
         return Ok(());
     }
-    finish_cut_and_replay(parts, disk)?;
-    Ok(())
+    finish_cut_and_replay(parts, disk)
 }
 
 /// Makes a checkpoint of the whole state, which the tree holds.
@@ -192,16 +193,22 @@ fn checkpoint_recovered<D: Disk>(parts: &mut Parts, disk: &mut D) -> Result<(), 
     ensures any_moment { D.keeps → RecoversStill parts.old.halves.geometry (D.medium disk.old) (D.medium disk.new) }
     ensures beyond { D.keeps → KeepsBeyond (layout_of parts.old.halves.geometry) (D.medium disk.old) (D.medium disk.new) }
     ensures costs { D.keeps → Costs result 6 (D.medium disk.old) (D.medium disk.new) }
-    ensures pointed { OnOk result (D.keeps → IsPointed parts.old.halves parts.new.snapshot.items (D.medium disk.old) (D.medium disk.new)) }
-    ensures snapshot { parts.new.snapshot.items ≡ image_of 2 parts.old.tree.geometry (state_in parts.old.tree) }
+    ensures pointed { OnOk result (D.keeps →
+        IsPointed parts.old.halves parts.new.buffers.snapshot.items (D.medium disk.old) (D.medium disk.new)) }
+    ensures snapshot { parts.new.buffers.snapshot.items ≡ image_of 2 parts.old.tree.geometry (state_in parts.old.tree) }
     ensures log { OnOk result (parts.new.halves ≡ pointed_log parts.old.halves) }
     ensures tree { parts.new.tree ≡ parts.old.tree }
-    ensures room { KeepsBuffers parts.old parts.new }
+    ensures room { KeepsBuffers parts.old.buffers parts.new.buffers }
     ensures device { IfErr result (λ e. e ≡ Device) }
     ensures call { IsOpeningCall result (D.medium disk.old) (D.medium disk.new) }
 {
-    update_snapshot(&parts.tree, &parts.other_dirty, &mut parts.snapshot);
-    point_on(&mut parts.halves, disk, &parts.snapshot, &parts.other_dirty)?;
+    update_snapshot(
+        &parts.tree,
+        &parts.buffers.other_dirty,
+        &mut parts.buffers.snapshot,
+    );
+    let whole = &parts.buffers;
+    point_on(&mut parts.halves, disk, &whole.snapshot, &whole.other_dirty)?;
     Ok(())
 }
 
@@ -218,7 +225,6 @@ fn open_synced<D: Disk>(alloc: Global, disk: &mut D) -> Result<Parts, OpenFault>
         (λ e. moment_number (D.medium disk.new) ≤ moment_number (D.medium disk.old) + 10) }
     ensures made_of { IfOk result (λ p. D.keeps → IsMadeOf (D.medium disk.old).now p (D.medium disk.new)) }
     ensures made { IfOk result (λ p. IsMade p (D.medium disk.new)) }
-    ensures whole { IfOk result (λ p. IsWholeTree p.tree) }
     ensures refused { IfErr result (λ e. D.keeps → IsRefused (D.medium disk.old).now e) }
     ensures unwritten { IfErr result (λ e. D.keeps → IsLeftByRefusal (D.medium disk.old) e (D.medium disk.new)) }
     ensures synced { IfErr result (λ e. e ≢ Device → D.keeps → IsSynced (D.medium disk.new)) }
@@ -243,7 +249,6 @@ fn open_on<D: Disk>(alloc: Global, disk: &mut D) -> Result<Parts, OpenFault>
         (λ e. moment_number (D.medium disk.new) ≤ moment_number (D.medium disk.old) + 11) }
     ensures made_of { IfOk result (λ p. D.keeps → IsMadeOf (D.medium disk.old).now p (D.medium disk.new)) }
     ensures made { IfOk result (λ p. IsMade p (D.medium disk.new)) }
-    ensures whole { IfOk result (λ p. IsWholeTree p.tree) }
     ensures refused { IfErr result (λ e. D.keeps → IsRefused (D.medium disk.old).now e) }
     ensures unwritten { IfErr result (λ e. D.keeps → IsLeftByRefusal (D.medium disk.old) e (D.medium disk.new)) }
     ensures synced { IfErr result (λ e. e ≢ Device → D.keeps → IsSynced (D.medium disk.new)) }
@@ -306,12 +311,9 @@ pub fn open<D: Disk>(alloc: Global, d: D) -> Result<(Journal<D>, Tree), OpenErro
             let Parts {
                 tree,
                 halves,
-                snapshot,
-                named_dirty,
-                other_dirty,
-                pending,
+                buffers,
             } = parts;
-            let journal = Journal::new(disk, halves, snapshot, named_dirty, other_dirty, pending);
+            let journal = Journal::new(disk, halves, buffers);
             Ok((journal, tree))
         }
         Err(fault) => Err(OpenError { disk, fault }),

@@ -1,5 +1,5 @@
 //! The steps of a checkpoint on a device. A crash at any moment of one leaves a device that recovers to the same as before.
-ghost use Rattle.std.specs.Prelude.{◌≡◌, true, false, Some, length, OnOk, OnErr};
+ghost use Rattle.std.specs.Prelude.{◌≡◌, true, Some, length, OnOk, OnErr};
 ghost use Rattle.checkpoint.specs.Loading.{NamedHolds};
 ghost use Rattle.checkpoint.specs.Recovery.{recovered_state};
 ghost use Rattle.disk.specs.Moments.{CrashImagesAre};
@@ -7,13 +7,14 @@ ghost use Rattle.image.specs.Image.{image_state};
 ghost use Rattle.image.specs.Pieces.{piece_count};
 ghost use Rattle.journal.specs.Costs.{point_cost};
 ghost use Rattle.journal.specs.Parts.{IsRefusedAlike};
-ghost use Rattle.journal.specs.Steps.{RecoversByNamedAlone, IsCutBegun, IsCutFinished, IsFlipped, IsPointed, IsCutUnfinished, IsCutWritten, RecoversStill, finished_log, flipped_log, pointed_log};
+ghost use Rattle.journal.specs.Steps.{RecoversByNamedAlone, IsCutBegun, IsCutFinished, IsFlipped, IsPointed, IsCutUnfinished, IsCutWritten, finished_log, flipped_log, pointed_log};
+ghost use Rattle.journal.specs.Journal.{RecoversStill};
 ghost use Rattle.journal.specs.Extents.{AgreeOnClean, AreAllDirty, image_in};
 ghost use Rattle.oplog.specs.Beyond.{KeepsBeyond};
-ghost use Rattle.oplog.specs.Calls.{IsLongEnough};
+ghost use Rattle.oplog.specs.Calls.{IsUsable};
 ghost use Rattle.disk.specs.Store.{Costs};
 ghost use Rattle.device_map.specs.Layout.{image_size, layout_of, other};
-ghost use Rattle.oplog.specs.Log.{IsLogCall, IsNotBadRecord, chained};
+ghost use Rattle.oplog.specs.Log.{ReadsNoRecord, chained};
 ghost use Rattle.meaning.specs.State.{State};
 
 use crate::extents::{sync_image, write_image};
@@ -28,10 +29,9 @@ pub(crate) fn point_on<D: Disk>(
     bytes: &[u8],
     dirty: &[bool],
 ) -> Result<(), LogFault>
-    requires not_failed { halves.old.failed ≡ false }
+    requires usable { IsUsable halves.old (D.medium disk.old) }
     requires size { length bytes.now ≡ image_size halves.old.geometry }
     requires dirty { length dirty.now ≡ piece_count halves.old.geometry }
-    requires long_enough { IsLongEnough halves.old (D.medium disk.old) }
     requires current_is_named { halves.old.current ≡ halves.old.named }
     requires alone { D.keeps → RecoversByNamedAlone halves.old (D.medium disk.old) }
     requires image { D.keeps → image_state halves.old.geometry bytes.now ≡ recovered_state halves.old.geometry (D.medium disk.old).now }
@@ -45,8 +45,7 @@ pub(crate) fn point_on<D: Disk>(
     ensures geometry { halves.new.geometry ≡ halves.old.geometry }
     ensures used { OnErr result (halves.new.used ≡ halves.old.used) }
     ensures failed { OnErr result (halves.new.failed ≡ true) }
-    ensures no_bad_record { IsNotBadRecord result }
-    ensures call { IsLogCall result (D.medium disk.old) (D.medium disk.new) }
+    ensures call { ReadsNoRecord result (D.medium disk.old) (D.medium disk.new) }
 {
     let g = halves.geometry();
     let area = 1 - halves.named();
@@ -54,14 +53,12 @@ pub(crate) fn point_on<D: Disk>(
     if write_image(disk, &g, area, bytes, dirty).is_err() {
         return Err(halves.fail());
     }
-    halves.flip_root(disk)?;
-    Ok(())
+    halves.flip_root(disk)
 }
 
 /// Begins a cut: the other half is cleared, and put in force after the named one.
 pub(crate) fn cut_on<D: Disk>(halves: &mut Halves, disk: &mut D) -> Result<(), LogFault>
-    requires not_failed { halves.old.failed ≡ false }
-    requires long_enough { IsLongEnough halves.old (D.medium disk.old) }
+    requires usable { IsUsable halves.old (D.medium disk.old) }
     requires current_is_named { halves.old.current ≡ halves.old.named }
     requires alone { D.keeps → RecoversByNamedAlone halves.old (D.medium disk.old) }
     ensures any_moment { D.keeps → RecoversStill halves.old.geometry (D.medium disk.old) (D.medium disk.new) }
@@ -72,12 +69,10 @@ pub(crate) fn cut_on<D: Disk>(halves: &mut Halves, disk: &mut D) -> Result<(), L
     ensures geometry { halves.new.geometry ≡ halves.old.geometry }
     ensures used { OnErr result (halves.new.used ≡ halves.old.used) }
     ensures failed { OnErr result (halves.new.failed ≡ true) }
-    ensures no_bad_record { IsNotBadRecord result }
-    ensures call { IsLogCall result (D.medium disk.old) (D.medium disk.new) }
+    ensures call { ReadsNoRecord result (D.medium disk.old) (D.medium disk.new) }
 {
     halves.clear_other(disk)?; // before it is in force
-    halves.open_chain(disk)?;
-    Ok(())
+    halves.open_chain(disk)
 }
 
 /// Ends a cut of which the whole image is written: it is synced, and named.
@@ -86,8 +81,7 @@ pub(crate) fn flip_on<D: Disk>(
     disk: &mut D,
     bytes: &[u8],
 ) -> Result<(), LogFault>
-    requires not_failed { halves.old.failed ≡ false }
-    requires long_enough { IsLongEnough halves.old (D.medium disk.old) }
+    requires usable { IsUsable halves.old (D.medium disk.old) }
     requires apart { halves.old.current ≡ other halves.old.named }
     requires written { D.keeps → IsCutWritten halves.old bytes.now (D.medium disk.old) }
     ensures any_moment { D.keeps → RecoversStill halves.old.geometry (D.medium disk.old) (D.medium disk.new) }
@@ -98,14 +92,12 @@ pub(crate) fn flip_on<D: Disk>(
     ensures geometry { halves.new.geometry ≡ halves.old.geometry }
     ensures used { OnErr result (halves.new.used ≡ halves.old.used) }
     ensures failed { OnErr result (halves.new.failed ≡ true) }
-    ensures no_bad_record { IsNotBadRecord result }
-    ensures call { IsLogCall result (D.medium disk.old) (D.medium disk.new) }
+    ensures call { ReadsNoRecord result (D.medium disk.old) (D.medium disk.new) }
 {
     if sync_image(disk).is_err() {
         return Err(halves.fail());
     }
-    halves.flip_root(disk)?;
-    Ok(())
+    halves.flip_root(disk)
 }
 
 /// Finishes a cut that was in progress when the device was left: `bytes`, the image of what the named area holds without
@@ -117,11 +109,10 @@ pub(crate) fn finish_on<D: Disk>(
     bytes: &[u8],
     dirty: &[bool],
 ) -> Result<(), LogFault>
-    requires not_failed { halves.old.failed ≡ false }
+    requires usable { IsUsable halves.old (D.medium disk.old) }
     requires size { length bytes.now ≡ image_size halves.old.geometry }
     requires dirty { length dirty.now ≡ piece_count halves.old.geometry }
     requires all { AreAllDirty halves.old.geometry dirty.now }
-    requires long_enough { IsLongEnough halves.old (D.medium disk.old) }
     requires current_is_named { halves.old.current ≡ halves.old.named }
     requires unfinished { D.keeps → IsCutUnfinished halves.old bytes.now (D.medium disk.old) }
     ensures any_moment { D.keeps → RecoversStill halves.old.geometry (D.medium disk.old) (D.medium disk.new) }
@@ -132,14 +123,12 @@ pub(crate) fn finish_on<D: Disk>(
     ensures finished { OnOk result (D.keeps → IsCutFinished halves.old (D.medium disk.old) (D.medium disk.new)) }
     ensures costs { D.keeps → Costs result 4 (D.medium disk.old) (D.medium disk.new) }
     ensures log { OnOk result (halves.new ≡ finished_log halves.old) }
-    ensures no_bad_record { IsNotBadRecord result }
-    ensures call { IsLogCall result (D.medium disk.old) (D.medium disk.new) }
+    ensures call { ReadsNoRecord result (D.medium disk.old) (D.medium disk.new) }
 {
     let g = halves.geometry();
     let second = 1 - halves.named();
     if write_image(disk, &g, second, bytes, dirty).is_err() {
         return Err(halves.fail());
     }
-    halves.flip_root(disk)?;
-    Ok(())
+    halves.flip_root(disk)
 }

@@ -1,13 +1,11 @@
 -- Statement for engineers: What the calls of a log ask of its device and do to it, in the words of contracts.
-use Rattle.std.specs.Prelude.{◌≡◌, ◌≤◌, ℕ, List, length}
+use Rattle.std.specs.Prelude.{◌≡◌, ◌≤◌, ℕ, false, List, length}
 use Rattle.disk.specs.Device.{Medium}
 use Rattle.disk.specs.Moments.{CrashImagesAre}
 use Rattle.language.specs.declared.Msg.{Msg}
 use Rattle.oplog.specs.declared.half.Half.{Half}
-use Rattle.device_map.specs.Layout.{layout_of, device_size, other}
-use Rattle.oplog.specs.Front.{front}
-use Rattle.disk.specs.Store.{CrashesChangeOnly}
-use Rattle.oplog.specs.Changes.{HasAppendedPrefix, HasAppendedAll, IsReady, IsSameButChainAndGates, IsSameButChain, IsSameButRoot}
+use Rattle.device_map.specs.Layout.{layout_of, device_size}
+use Rattle.oplog.specs.Changes.{HasAppendedPrefix, HasAppendedAll, IsReady}
 use Rattle.oplog.specs.Changing.{records_of}
 use Rattle.oplog.specs.Log.{Log, layout_of_log}
 
@@ -16,6 +14,11 @@ use Rattle.oplog.specs.Log.{Log, layout_of_log}
 -- The device is long enough for all its parts.
 abbrev pub IsLongEnough : Log → Medium → Type 0
 IsLongEnough log m = device_size (layout_of_log log) ≤ length m.now
+
+-- The device hasn't failed in a call, and is long enough.
+pub record IsUsable (log : Log) (m : Medium) : Type 0 where
+  pub not_failed : log.failed ≡ false
+  pub long_enough : IsLongEnough log m
 
 -- The current half has as many records as the log says, shut gates behind them, and nothing unsynced.
 abbrev pub IsReadyFor : Log → Medium → Type 0
@@ -30,24 +33,6 @@ Grows log messages old new = CrashImagesAre old new (HasAppendedPrefix (layout_o
 -- The current half has all of these messages appended, and none of them is unsynced.
 abbrev pub HasAdded : Log → List Msg → Medium → Medium → Type 0
 HasAdded log messages old new = HasAppendedAll (layout_of_log log) log.current log.used (records_of messages) old new
-
--- Only the chain zone (the chain byte and the bytes beside it) and the gates of the half that isn't named change.
-abbrev pub Clears : Log → Medium → Medium → Type 0
-Clears log old new = CrashesChangeOnly old new (IsSameButChainAndGates (layout_of_log log) (other log.named))
-
--- Only the chain byte of the named half changes.
-abbrev pub Chains : Log → Medium → Medium → Type 0
-Chains log old new = CrashesChangeOnly old new (IsSameButChain (layout_of_log log) log.named)
-
--- Only the byte that names an area changes.
-abbrev pub Flips : Log → Medium → Medium → Type 0
-Flips log old new = CrashesChangeOnly old new (IsSameButRoot (layout_of_log log))
-
--- ---- what they read
-
--- The front of half h has n records.
-abbrev pub HasFront : Log → ℕ → ℕ → Medium → Type 0
-HasFront log h n m = n ≡ length (front (layout_of_log log) h m.now)
 
 -- ---- what calls of one half ask and do
 

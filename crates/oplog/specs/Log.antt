@@ -1,5 +1,5 @@
 -- Statement for engineers: A log as contracts see it, and what its calls make of it and answer.
-use Rattle.std.specs.Prelude.{◌≡◌, ℕ, ◌+◌, ◌-◌, ◌/◌, Bool, true, false, ◌&&◌, ◌==◌, if◌then◌else◌, List, length, Result, Ok, Err}
+use Rattle.std.specs.Prelude.{◌≡◌, ℕ, ◌+◌, ◌-◌, ◌/◌, Bool, true, false, ◌&&◌, ◌==◌, if◌then◌else◌, List, length, IfErr, Result, Ok, Err}
 use Rattle.affinity.specs.declared.geometry.Geometry.{Geometry}
 use Rattle.disk.specs.Device.{Medium}
 use Rattle.language.specs.declared.Msg.{Msg}
@@ -75,11 +75,11 @@ CountsLogFault (Err (BadRecord h i)) old new = new ≡ old
 abbrev pub IsLogCall : {T : Type 0} → Result T LogFault → Medium → Medium → Type 0
 IsLogCall result old new = CountsLogFault result old.faults new.faults × (length new.now ≡ length old.now)
 
--- The answer isn't that a record is bad.
-abbrev pub IsNotBadRecord : {T : Type 0} → Result T LogFault → Type 0
-IsNotBadRecord (Ok _) = Unit {0}
-IsNotBadRecord (Err Device) = Unit {0}
-IsNotBadRecord (Err (BadRecord h i)) = ⊥
+-- What a call that reads no record does to its device: the same, and only the device is ever at fault.
+pub record ReadsNoRecord {T : Type 0} (result : Result T LogFault) (old new : Medium) : Type 0 where
+  pub counts : CountsLogFault result old.faults new.faults
+  pub len : length new.now ≡ length old.now
+  pub device : IfErr result (λ e. e ≡ Device)
 
 -- the answer to a call for the record with these bytes
 abbrev pub IsOfRecord : Geometry → List ℕ → Result Msg LogFault → Type 0

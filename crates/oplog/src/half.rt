@@ -1,6 +1,6 @@
 //! One half of a log: where its parts lie, and how records are added to it.
-ghost use Rattle.std.specs.Prelude.{◌≡◌, ◌+◌, ◌*◌, ◌<◌, ◌≤◌, length, IfOk, OnOk, IsErrOf, min, replicate};
-ghost use Rattle.disk.specs.Device.{IsDeviceCall, SameOutside, moments};
+ghost use Rattle.std.specs.Prelude.{◌≡◌, ◌+◌, ◌*◌, ◌<◌, ◌≤◌, length, IfOk, OnOk, min, replicate};
+ghost use Rattle.disk.specs.Device.{IsCallInside, SameOutside, moments};
 ghost use Rattle.disk.specs.Store.{CrashesChangeOnly, Costs, Stored};
 ghost use Rattle.oplog.specs.Log.{batch_count};
 ghost use Rattle.oplog.specs.Front.{front, count_open};
@@ -96,8 +96,7 @@ impl Half {
             Stored (part_at (layout_of self.geometry) (half_part self.number))
             (replicate (CHAIN_ZONE_SIZE + self.geometry.half) 0) (D.medium disk.old) (D.medium disk.new)) }
         ensures costs { D.keeps → Costs result 2 (D.medium disk.old) (D.medium disk.new) }
-        ensures inside { IsErrOf result DiskFault.OutOfRange → ⊥ }
-        ensures call { IsDeviceCall result (D.medium disk.old) (D.medium disk.new) }
+        ensures call { IsCallInside result (D.medium disk.old) (D.medium disk.new) }
     {
         store(disk, self.start(), zeros(CHAIN_ZONE_SIZE + self.capacity()))
     }
@@ -113,8 +112,7 @@ impl Half {
             Stored (part_at (layout_of self.geometry) (half_part self.number) + (CHAIN_ZONE_SIZE + first))
             (replicate count 1) (D.medium disk.old) (D.medium disk.new)) }
         ensures costs { D.keeps → Costs result 2 (D.medium disk.old) (D.medium disk.new) }
-        ensures inside { IsErrOf result DiskFault.OutOfRange → ⊥ }
-        ensures call { IsDeviceCall result (D.medium disk.old) (D.medium disk.new) }
+        ensures call { IsCallInside result (D.medium disk.old) (D.medium disk.new) }
     {
         store(disk, self.gate_at(first), ones(count))
     }
@@ -137,8 +135,7 @@ impl Half {
         ensures any_moment { D.keeps → HalfGrows self messages.now (D.medium disk.old) (D.medium disk.new) }
         ensures added { OnOk result (D.keeps → HalfHasAdded self used messages.now (D.medium disk.old) (D.medium disk.new)) }
         ensures costs { D.keeps → Costs result 4 (D.medium disk.old) (D.medium disk.new) }
-        ensures inside { IsErrOf result DiskFault.OutOfRange → ⊥ }
-        ensures call { IsDeviceCall result (D.medium disk.old) (D.medium disk.new) }
+        ensures call { IsCallInside result (D.medium disk.old) (D.medium disk.new) }
     {
         let size = messages.len() * RECORD_SIZE;
         stage(messages, buffer);
@@ -164,8 +161,7 @@ impl Half {
         ensures added { OnOk result (D.keeps → HalfHasAdded self used messages.now (D.medium disk.old) (D.medium disk.new)) }
         ensures none { length messages.now ≡ 0 → disk.new ≡ disk.old }
         ensures costs { D.keeps → Costs result (4 * batch_count (length messages.now)) (D.medium disk.old) (D.medium disk.new) }
-        ensures inside { IsErrOf result DiskFault.OutOfRange → ⊥ }
-        ensures call { IsDeviceCall result (D.medium disk.old) (D.medium disk.new) }
+        ensures call { IsCallInside result (D.medium disk.old) (D.medium disk.new) }
     {
         let mut done = 0;
         while done < messages.len() {
@@ -183,8 +179,7 @@ impl Half {
         ensures front { IfOk result (λ n. D.keeps → n ≡ length (front (layout_of self.geometry) self.number (D.medium disk.old).now)) }
         ensures within { IfOk result (λ n. n ≤ self.geometry.half) }
         ensures untouched { D.keeps → moments (D.medium disk.new) ≡ moments (D.medium disk.old) }
-        ensures inside { IsErrOf result DiskFault.OutOfRange → ⊥ }
-        ensures call { IsDeviceCall result (D.medium disk.old) (D.medium disk.new) }
+        ensures call { IsCallInside result (D.medium disk.old) (D.medium disk.new) }
     {
         disk.read_at(self.gate_at(0), gates)?;
         Ok(count_open(gates))

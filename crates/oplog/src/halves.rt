@@ -48,12 +48,12 @@ impl Model for Halves {
 }
 
 impl Halves {
-    ghost use Rattle.oplog.specs.Log.{layout_of_log, IsOfRecord, new_log, with_half_named, flipped, chained, log_after, IsLogCall, IsNotBadRecord, NamesRecord, batch_count};
-    ghost use Rattle.disk.specs.Store.{Costs};
+    ghost use Rattle.oplog.specs.Log.{layout_of_log, IsOfRecord, new_log, with_half_named, flipped, chained, log_after, IsLogCall, ReadsNoRecord, NamesRecord, batch_count};
+    ghost use Rattle.disk.specs.Store.{Costs, CrashesChangeOnly};
     ghost use Rattle.device_map.specs.Layout.{other};
-    ghost use Rattle.oplog.specs.Changes.{Cleared, Chained, Flipped};
-    ghost use Rattle.oplog.specs.Front.{record_at};
-    ghost use Rattle.oplog.specs.Calls.{IsLongEnough, IsReadyFor, Grows, HasAdded, Clears, Chains, Flips, HasFront};
+    ghost use Rattle.oplog.specs.Changes.{Cleared, Chained, Flipped, IsSameButChain, IsSameButChainAndGates, IsSameButRoot};
+    ghost use Rattle.oplog.specs.Front.{front, record_at};
+    ghost use Rattle.oplog.specs.Calls.{IsUsable, IsReadyFor, Grows, HasAdded};
 
     /// The log of a device that wasn't read yet: until `name`, half 0 counts as named and current, without room.
     /// `AllocError` where there is no memory.
@@ -136,10 +136,9 @@ impl Halves {
     /// Appends these messages to the current half, in order: their records, a sync, their gates, a sync, for up to
     /// `RECORDS_PER_WRITE` of them at a time. With no message the device isn't touched.
     pub fn append<D: Disk>(&mut self, disk: &mut D, messages: &[Msg]) -> Result<(), LogFault>
-        requires not_failed { self.old.failed ≡ false }
+        requires usable { IsUsable self.old (D.medium disk.old) }
         requires changes { AreChangesInRange self.old.geometry messages.now }
         requires room { self.old.used + length messages.now ≤ self.old.geometry.half }
-        requires long_enough { IsLongEnough self.old (D.medium disk.old) }
         // The current half's front has `used` records, all gates after it are 0, and nothing in this half is unsynced.
         requires ready { D.keeps → IsReadyFor self.old (D.medium disk.old) }
 
@@ -152,8 +151,7 @@ impl Halves {
         ensures costs { D.keeps → Costs result (4 * batch_count (length messages.now)) (D.medium disk.old) (D.medium disk.new) }
         ensures log { self.new ≡ log_after result self.old
             (record self.old { used = self.old.used + length messages.now }) }
-        ensures no_bad_record { IsNotBadRecord result }
-        ensures call { IsLogCall result (D.medium disk.old) (D.medium disk.new) }
+        ensures call { ReadsNoRecord result (D.medium disk.old) (D.medium disk.new) }
     {
         let (geometry, number) = (self.geometry, self.current);
         let half = Half { geometry, number };
@@ -170,16 +168,15 @@ impl Halves {
     /// Clears the half that isn't named: its chain byte, the bytes beside it and its gates become 0. Its records stay.
     /// The named half is the current one.
     pub fn clear_other<D: Disk>(&mut self, disk: &mut D) -> Result<(), LogFault>
-        requires not_failed { self.old.failed ≡ false }
+        requires usable { IsUsable self.old (D.medium disk.old) }
         requires current_is_named { self.old.current ≡ self.old.named }
-        requires long_enough { IsLongEnough self.old (D.medium disk.old) }
-        ensures any_moment { D.keeps → Clears self.old (D.medium disk.old) (D.medium disk.new) }
+        ensures any_moment { D.keeps → CrashesChangeOnly (D.medium disk.old) (D.medium disk.new)
+            (IsSameButChainAndGates (layout_of_log self.old) (other self.old.named)) }
         ensures cleared { OnOk result (D.keeps → Cleared (layout_of_log self.old) (other self.old.named) (D.medium disk.old)
             (D.medium disk.new)) }
         ensures costs { D.keeps → Costs result 2 (D.medium disk.old) (D.medium disk.new) }
         ensures log { self.new ≡ log_after result self.old (record self.old { cleared = true }) }
-        ensures no_bad_record { IsNotBadRecord result }
-        ensures call { IsLogCall result (D.medium disk.old) (D.medium disk.new) }
+        ensures call { ReadsNoRecord result (D.medium disk.old) (D.medium disk.new) }
     {
         let (geometry, number) = (self.geometry, 1 - self.named);
         let half = Half { geometry, number };
@@ -194,16 +191,15 @@ impl Halves {
     /// The other half becomes current, with the room of a whole half. Clause `cleared` asks that it was cleared since it was last named or
     /// current.
     pub fn open_chain<D: Disk>(&mut self, disk: &mut D) -> Result<(), LogFault>
-        requires not_failed { self.old.failed ≡ false }
+        requires usable { IsUsable self.old (D.medium disk.old) }
         requires current_is_named { self.old.current ≡ self.old.named }
         requires cleared { self.old.cleared ≡ true }
-        requires long_enough { IsLongEnough self.old (D.medium disk.old) }
-        ensures any_moment { D.keeps → Chains self.old (D.medium disk.old) (D.medium disk.new) }
+        ensures any_moment { D.keeps → CrashesChangeOnly (D.medium disk.old) (D.medium disk.new)
+            (IsSameButChain (layout_of_log self.old) self.old.named) }
         ensures chained { OnOk result (D.keeps → Chained (layout_of_log self.old) self.old.named (D.medium disk.old) (D.medium disk.new)) }
         ensures costs { D.keeps → Costs result 2 (D.medium disk.old) (D.medium disk.new) }
         ensures log { self.new ≡ log_after result self.old (chained self.old) }
-        ensures no_bad_record { IsNotBadRecord result }
-        ensures call { IsLogCall result (D.medium disk.old) (D.medium disk.new) }
+        ensures call { ReadsNoRecord result (D.medium disk.old) (D.medium disk.new) }
     {
         let (geometry, number) = (self.geometry, self.named);
         let half = Half { geometry, number };
@@ -220,15 +216,13 @@ impl Halves {
     /// current: with the room of a whole half if it was cleared since it was last named or current, with none if it wasn't. If the other
     /// half was current already, it stays so, with its room.
     pub fn flip_root<D: Disk>(&mut self, disk: &mut D) -> Result<(), LogFault>
-        requires not_failed { self.old.failed ≡ false }
-        requires long_enough { IsLongEnough self.old (D.medium disk.old) }
-        ensures any_moment { D.keeps → Flips self.old (D.medium disk.old) (D.medium disk.new) }
+        requires usable { IsUsable self.old (D.medium disk.old) }
+        ensures any_moment { D.keeps → CrashesChangeOnly (D.medium disk.old) (D.medium disk.new) (IsSameButRoot (layout_of_log self.old)) }
         ensures flipped { OnOk result (D.keeps → Flipped (layout_of_log self.old) (other self.old.named) (D.medium disk.old)
             (D.medium disk.new)) }
         ensures costs { D.keeps → Costs result 2 (D.medium disk.old) (D.medium disk.new) }
         ensures log { self.new ≡ log_after result self.old (flipped self.old) }
-        ensures no_bad_record { IsNotBadRecord result }
-        ensures call { IsLogCall result (D.medium disk.old) (D.medium disk.new) }
+        ensures call { ReadsNoRecord result (D.medium disk.old) (D.medium disk.new) }
     {
         let other = 1 - self.named;
         if store(disk, ROOT_ZONE_AT, &[other as u8]).is_err() {
@@ -249,15 +243,13 @@ impl Halves {
 
     /// How many records the front of this half has.
     pub fn front<D: Disk>(&mut self, disk: &mut D, half: usize) -> Result<usize, LogFault>
-        requires not_failed { self.old.failed ≡ false }
+        requires usable { IsUsable self.old (D.medium disk.old) }
         requires half { half < 2 }
-        requires long_enough { IsLongEnough self.old (D.medium disk.old) }
-        ensures front { IfOk result (λ n. D.keeps → HasFront self.old half n (D.medium disk.old)) }
+        ensures front { IfOk result (λ n. D.keeps → n ≡ length (front (layout_of_log self.old) half (D.medium disk.old).now)) }
         ensures within { IfOk result (λ n. n ≤ self.old.geometry.half) }
         ensures untouched { D.keeps → moments (D.medium disk.new) ≡ moments (D.medium disk.old) }
         ensures log { self.new ≡ log_after result self.old self.old }
-        ensures no_bad_record { IsNotBadRecord result }
-        ensures call { IsLogCall result (D.medium disk.old) (D.medium disk.new) }
+        ensures call { ReadsNoRecord result (D.medium disk.old) (D.medium disk.new) }
     {
         let (geometry, number) = (self.geometry, half);
         let half = Half { geometry, number };
@@ -271,10 +263,9 @@ impl Halves {
     /// Record `i` of this half, whatever its gate is. `BadRecord` comes exactly where its bytes are no changing
     /// message in range.
     pub fn record<D: Disk>(&mut self, disk: &mut D, half: usize, i: usize) -> Result<Msg, LogFault>
-        requires not_failed { self.old.failed ≡ false }
+        requires usable { IsUsable self.old (D.medium disk.old) }
         requires half { half < 2 }
         requires i { i < self.old.geometry.half }
-        requires long_enough { IsLongEnough self.old (D.medium disk.old) }
         ensures record { D.keeps → IsOfRecord self.old.geometry (record_at (layout_of_log self.old) half i (D.medium disk.old).now) result }
         ensures change { IfOk result (λ m. IsMessage m × IsChangeInRange self.old.geometry m) }
         ensures names_record { NamesRecord half i result }

@@ -17,7 +17,7 @@ pub returns-clause-any_moment : goal.returns-clause-any_moment
 returns-clause-any_moment g c = λ k.
     opened_moments c.args.g.now _ c.requires.long_enough _ _ (c.clear_format_byte.ensures.any_moment k) (c.in_ok-clear_format_byte.ensures.unformatted k) 64 _ (omega arith)
     (c.lay_out.ensures.any_moment k) _
-    (rw (← c.lay_out.ensures.call.1 ∙ c.clear_format_byte.ensures.call.1) (c.write_header.ensures.any_moment k))
+    (rw (← c.lay_out.ensures.call.len ∙ c.clear_format_byte.ensures.call.len) (c.write_header.ensures.any_moment k))
 
 pub returns-in_err-clear_format_byte-clause-beyond : goal.returns-in_err-clear_format_byte-clause-beyond
 returns-in_err-clear_format_byte-clause-beyond g c = λ k. c.clear_format_byte.ensures.beyond k (layout_of c.args.g.now)

@@ -30,7 +30,8 @@ returns-clause-any_moment g c = λ k.
     (changed_within (omega (arith, c.image_at-2.ensures)) (omega (arith, c.image_at-2.ensures, image_some c.args.g.now)) (c.store.ensures.any_moment k))
 
 pub store-requires : goal.store-requires
-store-requires g c = omega (arith, c.image_at-2.ensures, image_some c.args.g.now, c.requires.long_enough, c.write_zeros.ensures.call.1, c.write_zeros-2.ensures.call.1, c.write_zeros-3.ensures.call.1)
+store-requires g c =
+    omega (arith, c.image_at-2.ensures, image_some c.args.g.now, c.requires.long_enough, c.write_zeros.ensures.call.len, c.write_zeros-2.ensures.call.len, c.write_zeros-3.ensures.call.len)
 
 pub returns-clause-laid : goal.returns-clause-laid
 returns-clause-laid g c =

@@ -32,5 +32,5 @@ returns-then-len-device_len-clause-refused g c = λ k.
       long = omega (arith, c.if-len.false, c.len.ensures);
       header = sym (c.in_ok-read.ensures.bytes k) ∙ c.in-Some.ensures.some;
       is = cond-true (nat_lt (length now) (device_size (layout_of c.in-Some.g))) (Some TooShort) _
-          (lt-ltb (length now) (device_size (layout_of c.in-Some.g)) (omega (arith, c.if-len-device_len.true, c.len-2.ensures, c.device_len.ensures, c.read.ensures.call.1)));
+          (lt-ltb (length now) (device_size (layout_of c.in-Some.g)) (omega (arith, c.if-len-device_len.true, c.len-2.ensures, c.device_len.ensures, c.read.ensures.call.len)));
     })

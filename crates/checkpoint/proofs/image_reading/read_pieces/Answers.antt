@@ -63,9 +63,9 @@ loop-n-preserved g c =
       at = next_place c.geometry-g.ensures c.args.number c.loop-n.n c.loop-n.buffer c.requires.number below c.loop-n.invariant.at c.piece_size.ensures.size
           (length c.read.new.out) few c.read.auto.out;
       free = free_queued c.args.version c.loop-n.invariant.geometry c.read.new.out c.in_ok-take_piece.ensures.taken c.loop-n.invariant.free;
-      len = c.read.ensures.call.1 ∙ c.loop-n.invariant.len;
-      faults = c.in_ok-read.ensures.call.0 ∙ c.loop-n.invariant.faults;
-      untouched = λ k. c.read.ensures.untouched k ∙ c.loop-n.invariant.untouched k;
+      len = c.read.ensures.call.len ∙ c.loop-n.invariant.len;
+      faults = c.in_ok-read.ensures.call.counts ∙ c.loop-n.invariant.faults;
+      untouched = λ k. c.read.ensures.call.untouched k ∙ c.loop-n.invariant.untouched k;
       decoded = λ k.
           decoded_turn c.loop-n.invariant.geometry bytes c.loop-n.n (c.requires.version k) below (c.loop-n.invariant.decoded k) (there k) c.in_ok-take_piece.ensures.taken;
       good = λ k.

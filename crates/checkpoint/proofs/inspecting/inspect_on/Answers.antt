@@ -30,10 +30,10 @@ returns-in_err-more-clause-refused g c =
     let area = c.in_ok-named.named.area in
     let x = state_in c.load_named.new.tree in
     let holds =
-    held_before w0 (g.D.Disk.medium c.read_header.new.disk) c.in_ok-tree.ensures.geometry (c.read_header.ensures.untouched k) (c.in_ok-named.ensures.loaded k) in
+    held_before w0 (g.D.Disk.medium c.read_header.new.disk) c.in_ok-tree.ensures.geometry (c.read_header.ensures.call.untouched k) (c.in_ok-named.ensures.loaded k) in
     let trees = c.in_ok-named.ensures.geometry ∙ c.in_ok-tree.ensures.geometry in
     let logs = ap (λ (l : Log). l.geometry) c.in_ok-named.ensures.log ∙ c.in_ok-tree.ensures.geometry in
-    let bytes = same_bytes w0 (g.D.Disk.medium c.load_named.new.disk) (c.load_named.ensures.untouched k ∙ c.read_header.ensures.untouched k) in
+    let bytes = same_bytes w0 (g.D.Disk.medium c.load_named.new.disk) (c.load_named.ensures.call.untouched k ∙ c.read_header.ensures.call.untouched k) in
     behind_refused _ _ _ _ (rw c.if-named.true at holds) _
     (subst (λ o. IsConsistentFault o c.in_err-more.field-0.0) (λ i. records_fault (trees i) x (other area) (front (layout_of (logs i)) (other area) (bytes i)))
     (c.in_err-more.ensures.refused k)))
@@ -52,12 +52,12 @@ returns-clause-shown g c = λ k.
     let w0 = g.D.Disk.medium c.args.disk.now in
     let area = c.in_ok-named.named.area in
     let x = state_in c.load_named.new.tree in
-    let only = c.read_header.ensures.untouched k in
+    let only = c.read_header.ensures.call.untouched k in
     let holds = held_before w0 (g.D.Disk.medium c.read_header.new.disk) c.in_ok-tree.ensures.geometry only (c.in_ok-named.ensures.loaded k) in
     let trees = c.in_ok-named.ensures.geometry ∙ c.in_ok-tree.ensures.geometry in
     let logs = ap (λ (l : Log). l.geometry) c.in_ok-named.ensures.log ∙ c.in_ok-tree.ensures.geometry in
     let same = same_bytes w0 (g.D.Disk.medium c.read_header.new.disk) only in
-    let bytes = same_bytes w0 (g.D.Disk.medium c.load_named.new.disk) (c.load_named.ensures.untouched k ∙ only) in
+    let bytes = same_bytes w0 (g.D.Disk.medium c.load_named.new.disk) (c.load_named.ensures.call.untouched k ∙ only) in
     let records : c.in_ok-named.named.records ≡ length (front (layout_of geometry) area w0.now) =
     c.in_ok-named.ensures.records k ∙ (λ i. length (front (layout_of (c.in_ok-tree.ensures.geometry i)) area (same i))) in
     let all : HoldsInForce geometry w0.now area (c.in_ok-named.named.records + c.if-named.more) (state_in c.if-named.tree) = elim c.if-named.branch [

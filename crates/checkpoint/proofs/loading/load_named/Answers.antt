@@ -22,7 +22,7 @@ returns-in_err-version-clause-refused g c =
     rw (err_is c.from_residual-in_err-version.ensures.1) (λ k.
     let geometry = c.args.tree.now.geometry in
     let now = (g.D.Disk.medium c.args.disk.now).now in
-    let first = same_bytes (g.D.Disk.medium c.args.disk.now) (g.D.Disk.medium c.named_area.new.disk) (c.named_area.ensures.untouched k) in
+    let first = same_bytes (g.D.Disk.medium c.args.disk.now) (g.D.Disk.medium c.named_area.new.disk) (c.named_area.ensures.call.untouched k) in
     let names = c.in_ok-area.ensures.area k ∙ ap (λ (h : Geometry). named_area (layout_of h) now) c.geometry-g.ensures in
     image_refused geometry now (c.requires.header k) c.requires.long_enough c.in_ok-area.area names _
     (subst (λ (l : List ℕ). IsConsistentFault (image_fault geometry (part_bytes (layout_of geometry) (image_part c.in_ok-area.area) l)) c.in_err-version.field-0.0) first
@@ -33,9 +33,9 @@ returns-in_err-chained-clause-refused g c =
     rw (err_is c.from_residual-in_err-chained.ensures.1) (λ k.
     let geometry = c.args.tree.now.geometry in
     let now = (g.D.Disk.medium c.args.disk.now).now in
-    let first = same_bytes (g.D.Disk.medium c.args.disk.now) (g.D.Disk.medium c.named_area.new.disk) (c.named_area.ensures.untouched k) in
+    let first = same_bytes (g.D.Disk.medium c.args.disk.now) (g.D.Disk.medium c.named_area.new.disk) (c.named_area.ensures.call.untouched k) in
     let names = c.in_ok-area.ensures.area k ∙ ap (λ (h : Geometry). named_area (layout_of h) now) c.geometry-g.ensures in
-    let second = same_bytes (g.D.Disk.medium c.args.disk.now) (g.D.Disk.medium c.read_image.new.disk) (c.read_image.ensures.untouched k ∙ c.named_area.ensures.untouched k) in
+    let second = same_bytes (g.D.Disk.medium c.args.disk.now) (g.D.Disk.medium c.read_image.new.disk) (c.read_image.ensures.call.untouched k ∙ c.named_area.ensures.call.untouched k) in
     let good = sym (ap (λ (l : List ℕ). image_fault geometry (part_bytes (layout_of geometry) (image_part c.in_ok-area.area) l)) first) ∙ c.in_ok-version.ensures.sound k in
     chain_refused geometry now (c.requires.header k) c.requires.long_enough c.in_ok-area.area names good _
     (subst (λ (o : Option OpenFault). IsConsistentFault o c.in_err-chained.field-0.0)
@@ -46,11 +46,11 @@ returns-in_err-records-clause-refused g c =
     rw (err_is c.from_residual-in_err-records.ensures.1) (λ k.
     let geometry = c.args.tree.now.geometry in
     let now = (g.D.Disk.medium c.args.disk.now).now in
-    let first = same_bytes (g.D.Disk.medium c.args.disk.now) (g.D.Disk.medium c.named_area.new.disk) (c.named_area.ensures.untouched k) in
+    let first = same_bytes (g.D.Disk.medium c.args.disk.now) (g.D.Disk.medium c.named_area.new.disk) (c.named_area.ensures.call.untouched k) in
     let names = c.in_ok-area.ensures.area k ∙ ap (λ (h : Geometry). named_area (layout_of h) now) c.geometry-g.ensures in
-    let second = same_bytes (g.D.Disk.medium c.args.disk.now) (g.D.Disk.medium c.read_image.new.disk) (c.read_image.ensures.untouched k ∙ c.named_area.ensures.untouched k) in
+    let second = same_bytes (g.D.Disk.medium c.args.disk.now) (g.D.Disk.medium c.read_image.new.disk) (c.read_image.ensures.call.untouched k ∙ c.named_area.ensures.call.untouched k) in
     let third = same_bytes (g.D.Disk.medium c.args.disk.now) (g.D.Disk.medium c.chain_of.new.disk)
-    (c.chain_of.ensures.untouched k ∙ c.read_image.ensures.untouched k ∙ c.named_area.ensures.untouched k) in
+    (c.chain_of.ensures.call.untouched k ∙ c.read_image.ensures.call.untouched k ∙ c.named_area.ensures.call.untouched k) in
     let good = sym (ap (λ (l : List ℕ). image_fault geometry (part_bytes (layout_of geometry) (image_part c.in_ok-area.area) l)) first) ∙ c.in_ok-version.ensures.sound k in
     let state = state_in c.read_image.new.tree in
     let decoded : image_state geometry (part_bytes (layout_of geometry) (image_part c.in_ok-area.area) now) ≡ Some state =
@@ -67,10 +67,10 @@ pub returns-clause-loaded : goal.returns-clause-loaded
 returns-clause-loaded g c = λ k.
     let geometry = c.args.tree.now.geometry in
     let now = (g.D.Disk.medium c.args.disk.now).now in
-    let first = same_bytes (g.D.Disk.medium c.args.disk.now) (g.D.Disk.medium c.named_area.new.disk) (c.named_area.ensures.untouched k) in
-    let second = same_bytes (g.D.Disk.medium c.args.disk.now) (g.D.Disk.medium c.read_image.new.disk) (c.read_image.ensures.untouched k ∙ c.named_area.ensures.untouched k) in
+    let first = same_bytes (g.D.Disk.medium c.args.disk.now) (g.D.Disk.medium c.named_area.new.disk) (c.named_area.ensures.call.untouched k) in
+    let second = same_bytes (g.D.Disk.medium c.args.disk.now) (g.D.Disk.medium c.read_image.new.disk) (c.read_image.ensures.call.untouched k ∙ c.named_area.ensures.call.untouched k) in
     let third = same_bytes (g.D.Disk.medium c.args.disk.now) (g.D.Disk.medium c.chain_of.new.disk)
-    (c.chain_of.ensures.untouched k ∙ c.read_image.ensures.untouched k ∙ c.named_area.ensures.untouched k) in
+    (c.chain_of.ensures.call.untouched k ∙ c.read_image.ensures.call.untouched k ∙ c.named_area.ensures.call.untouched k) in
     let state = state_in c.read_image.new.tree in
     let log = ap (λ (l : Log). l.geometry) c.name.ensures ∙ ap (λ (l : Log). l.geometry) c.requires.log in
     record {
@@ -88,7 +88,7 @@ returns-clause-loaded g c = λ k.
 pub returns-clause-records : goal.returns-clause-records
 returns-clause-records g c = λ k.
     let third = same_bytes (g.D.Disk.medium c.args.disk.now) (g.D.Disk.medium c.chain_of.new.disk)
-    (c.chain_of.ensures.untouched k ∙ c.read_image.ensures.untouched k ∙ c.named_area.ensures.untouched k) in
+    (c.chain_of.ensures.call.untouched k ∙ c.read_image.ensures.call.untouched k ∙ c.named_area.ensures.call.untouched k) in
     let log = ap (λ (l : Log). l.geometry) c.name.ensures ∙ ap (λ (l : Log). l.geometry) c.requires.log in
     c.in_ok-records.ensures.count k ∙ (λ i. length (front (layout_of (log i)) c.in_ok-area.area (third i)))
 

@@ -19,7 +19,7 @@ pub returns-in_err-read_pieces-clause-refused : goal.returns-in_err-read_pieces-
 returns-in_err-read_pieces-clause-refused g c =
     rw (err_is c.from_residual-in_err-read_pieces.ensures.1) (λ k.
     let now = (g.D.Disk.medium c.args.disk.now).now in
-    let same = same_bytes (g.D.Disk.medium c.args.disk.now) (g.D.Disk.medium c.version_of.new.disk) (c.version_of.ensures.untouched k) in
+    let same = same_bytes (g.D.Disk.medium c.args.disk.now) (g.D.Disk.medium c.version_of.new.disk) (c.version_of.ensures.call.untouched k) in
     pieces_refused c.args.tree.now.geometry (part_bytes (layout_of c.args.tree.now.geometry) (image_part c.args.area) now)
     (sym (ap (λ (h : Geometry). has_head (part_bytes (layout_of h) (image_part c.args.area) now)) c.geometry.ensures) ∙ c.in_ok-version.ensures.head k) _
     (rw (← same) (c.in_err-read_pieces.ensures.refused k)))

@@ -11,8 +11,8 @@ loop-i-init g c = record {
   whole = c.requires.whole;
   geometry = refl;
   log = c.in_ok-count.ensures.log;
-  len = c.front.ensures.call.1;
-  faults = c.in_ok-count.ensures.call.0;
+  len = c.front.ensures.call.len;
+  faults = c.in_ok-count.ensures.call.counts;
   untouched = λ k. c.front.ensures.untouched k;
   at = λ k. at_first _ _ _ _ _;
 }
@@ -30,9 +30,9 @@ loop-i-preserved g c = record {
   whole = c.in_ok-replay_record.ensures.whole;
   geometry = c.in_ok-replay_record.ensures.geometry ∙ c.loop-i.invariant.geometry;
   log = c.in_ok-replay_record.ensures.log ∙ c.loop-i.invariant.log;
-  len = c.replay_record.ensures.call.1 ∙ c.loop-i.invariant.len;
-  faults = c.in_ok-replay_record.ensures.call.0 ∙ c.loop-i.invariant.faults;
-  untouched = λ k. c.replay_record.ensures.untouched k ∙ c.loop-i.invariant.untouched k;
+  len = c.replay_record.ensures.call.len ∙ c.loop-i.invariant.len;
+  faults = c.in_ok-replay_record.ensures.call.counts ∙ c.loop-i.invariant.faults;
+  untouched = λ k. c.replay_record.ensures.call.untouched k ∙ c.loop-i.invariant.untouched k;
   at = λ k.
       at_next c.args.tree.now.geometry (layout_of_log c.args.log.now) c.args.half (g.D.Disk.medium c.args.disk.now).now (state_in c.args.tree.now)
       c.loop-i.i (state_in c.loop-i.tree) (state_in c.replay_record.new.tree)

@@ -13,7 +13,7 @@ pub returns-in_err-m-clause-refused : goal.returns-in_err-m-clause-refused
 returns-in_err-m-clause-refused g c =
     rw (err_is c.from_residual.ensures.1) (λ k.
     let bytes = records_are_bytes (layout_of_log c.args.log.now) c.args.half c.args.i (g.D.Disk.medium c.args.disk.now).now c.requires.half c.requires.i
-    c.requires.long_enough (g.met.D.Disk.bytes c.args.disk.now) in
+    c.requires.usable.long_enough (g.met.D.Disk.bytes c.args.disk.now) in
     read_fault c.requires.geometry (state_in c.args.tree.now) c.args.half c.args.i _ bytes.0 bytes.1
     c.in_err-m.field-0.0 (c.in_err-m.ensures.record k) c.in_err-m.ensures.names_record)
 

@@ -1,12 +1,14 @@
 -- A clean extent ends a run, which is written; the clean ones are on the device, so the whole image is there.
 use Rattle.std.proofs.Common.{◌≡◌, ◌+◌, ◌<◌, true, false, length, get_or, refl, sym, ◌∙◌, ap, arith}
 use Rattle.std.proofs.lemmas.Grind.{common_steps}
-use Rattle.oplog.proofs.Answered.{err_is}
+use Rattle.std.proofs.lemmas.Result.{on_ok_weaker}
+use Rattle.oplog.proofs.Answered.{err_is, on_ok_under}
 use Rattle.disk.specs.Moments.{moment_number}
 use Rattle.disk.proofs.Calls.{after_sync}
 use Rattle.image.specs.Pieces.{piece_count}
+use Rattle.journal.specs.Costs.{count_runs}
 use Rattle.journal.specs.Extents.{extent_at}
-use Rattle.journal.proofs.Costs.{run_closed, run_ended, run_failed, run_goes_on, runs_begun}
+use Rattle.journal.proofs.Costs.{run_closed, run_ended, run_failed, run_goes_on, runs_begun, takes_with}
 use Rattle.journal.proofs.Patches.{along_patch, patch_begun, patch_moments, patch_passed, patch_synced, patched}
 use Rattle.journal.proofs.Places.{extent_end, extent_after, extent_inside, extent_some}
 use Rattle.device_map.specs.Layout.{image_size}
@@ -49,8 +51,8 @@ loop-n-preserved g c =
           record {
             place = w.at-is ∙ place;
             order = omega (arith, w.at-is, w.from-is);
-            len = ap (λ d. length (g.D.Disk.medium d).now) w.disk-is ∙ w.write_run.ensures.call.1 ∙ c.loop-n.invariant.len;
-            faults = ap (λ d. (g.D.Disk.medium d).faults) w.disk-is ∙ w.in_ok-write_run.ensures.call.0 ∙ c.loop-n.invariant.faults;
+            len = ap (λ d. length (g.D.Disk.medium d).now) w.disk-is ∙ w.write_run.ensures.call.len ∙ c.loop-n.invariant.len;
+            faults = ap (λ d. (g.D.Disk.medium d).faults) w.disk-is ∙ w.in_ok-write_run.ensures.call.counts ∙ c.loop-n.invariant.faults;
             runs = λ k.
                 run_closed (c.loop-n.invariant.runs k) (omega (arith, few, c.requires.dirty)) clean (omega (arith, w.at-is, w.from-is))
                 (λ some. ap (λ d. moment_number (g.D.Disk.medium d)) w.disk-is ∙ w.in_ok-write_run.ensures.costs some k)
@@ -85,23 +87,22 @@ pub returns-in_err-write_run-2-clause-any_moment : goal.returns-in_err-write_run
 returns-in_err-write_run-2-clause-any_moment g c = λ k.
     patch_moments (c.loop-n.invariant.so_far k) (c.write_run-2.ensures.any_moment k)
 
-pub returns-in_err-sync_image-clause-any_moment : goal.returns-in_err-sync_image-clause-any_moment
-returns-in_err-sync_image-clause-any_moment g c = λ k.
-    after_sync _ _ _ _ (patch_moments (c.loop-n.invariant.so_far k) (c.write_run-2.ensures.any_moment k)) c.sync_image.result (c.sync_image.ensures.syncs k)
-
 pub returns-clause-any_moment : goal.returns-clause-any_moment
 returns-clause-any_moment g c = λ k.
     after_sync _ _ _ _ (patch_moments (c.loop-n.invariant.so_far k) (c.write_run-2.ensures.any_moment k)) c.sync_image.result (c.sync_image.ensures.syncs k)
 
 pub returns-clause-written : goal.returns-clause-written
-returns-clause-written g c = λ k.
+returns-clause-written g c =
+    on_ok_weaker c.sync_image.result
+    (λ synced k.
     let all : c.loop-n.n ≡ piece_count c.args.g.now = grind (arith, common_steps) in
     let end : c.loop-n.at ≡ image_size c.args.g.now = c.loop-n.invariant.place ∙ ap (extent_at c.args.g.now) all ∙ extent_end c.args.g.now in
     patch_synced c.requires.area c.requires.size c.requires.long_enough
     (along_patch (sym end) refl
     (patched (c.loop-n.invariant.so_far k) (c.write_run-2.ensures.any_moment k) c.requires.area c.requires.size c.requires.long_enough
     c.loop-n.invariant.order (omega (arith, end)) (c.write_run-2.ensures.same k) (c.in_ok-write_run-2.ensures.written k)))
-    ((c.in_ok-sync_image.ensures.syncs k).ok)
+    (synced k))
+    (on_ok_under c.sync_image.result _ _ (λ k. (c.sync_image.ensures.syncs k).ok))
 
 pub returns-in_err-write_run-clause-costs : goal.returns-in_err-write_run-clause-costs
 returns-in_err-write_run-clause-costs g c =
@@ -115,19 +116,10 @@ returns-in_err-write_run-2-clause-costs g c =
     run_failed _ (c.loop-n.invariant.runs k) (λ some. c.in_err-write_run-2.ensures.costs some k)
     (λ none. ap (λ d. moment_number (g.D.Disk.medium d)) (c.write_run-2.ensures.none none)))
 
-pub returns-in_err-sync_image-clause-costs : goal.returns-in_err-sync_image-clause-costs
-returns-in_err-sync_image-clause-costs g c =
-    rw (err_is c.from_residual-in_err-sync_image.ensures.1) (λ k.
-    let all : c.loop-n.n ≡ piece_count c.args.g.now = grind (arith, common_steps) in
-    let ended =
-    run_ended (c.loop-n.invariant.runs k) (omega (arith, all, c.requires.dirty)) (λ some. c.in_ok-write_run-2.ensures.costs some k)
-    (λ none. ap (λ d. moment_number (g.D.Disk.medium d)) (c.write_run-2.ensures.none none)) in
-    omega (arith, ended, c.in_err-sync_image.ensures.costs k))
-
 pub returns-clause-costs : goal.returns-clause-costs
 returns-clause-costs g c = λ k.
     let all : c.loop-n.n ≡ piece_count c.args.g.now = grind (arith, common_steps) in
     let ended =
     run_ended (c.loop-n.invariant.runs k) (omega (arith, all, c.requires.dirty)) (λ some. c.in_ok-write_run-2.ensures.costs some k)
     (λ none. ap (λ d. moment_number (g.D.Disk.medium d)) (c.write_run-2.ensures.none none)) in
-    omega (arith, ended, c.in_ok-sync_image.ensures.costs k)
+    takes_with c.sync_image.result _ _ _ (count_runs c.args.dirty.now + 1) (g.D.Disk.medium c.args.disk.now) (c.sync_image.ensures.costs k) (omega (arith, ended))

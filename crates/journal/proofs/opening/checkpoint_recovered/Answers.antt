@@ -26,10 +26,10 @@ point_on-requires-clause-clean g c = λ k n few clean.
 pub returns-in_err-point_on-clause-costs : goal.returns-in_err-point_on-clause-costs
 returns-in_err-point_on-clause-costs g c =
     rw (err_is c.from_residual.ensures.1) (λ k.
-    let one = ap count_runs c.deref-3.ensures.value ∙ one_run c.args.parts.now.halves.geometry c.args.parts.now.other_dirty.items c.requires.loaded.other_dirty c.requires.loaded.all in
+    let one = ap count_runs c.deref-3.ensures.value ∙ one_run c.args.parts.now.halves.geometry c.args.parts.now.buffers.other_dirty.items c.requires.loaded.fit.other_dirty c.requires.loaded.all in
     omega (arith, one, c.in_err-point_on.ensures.costs k))
 
 pub returns-clause-costs : goal.returns-clause-costs
 returns-clause-costs g c = λ k.
-    let one = ap count_runs c.deref-3.ensures.value ∙ one_run c.args.parts.now.halves.geometry c.args.parts.now.other_dirty.items c.requires.loaded.other_dirty c.requires.loaded.all in
+    let one = ap count_runs c.deref-3.ensures.value ∙ one_run c.args.parts.now.halves.geometry c.args.parts.now.buffers.other_dirty.items c.requires.loaded.fit.other_dirty c.requires.loaded.all in
     omega (arith, one, c.in_ok-point_on.ensures.costs k)

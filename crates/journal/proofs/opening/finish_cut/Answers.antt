@@ -1,6 +1,6 @@
 -- All pieces are dirty, so the snapshot is a whole image of the cut's state: that of the named image with the named half's records run on
 -- it, and none of the other half's.
-use Rattle.std.proofs.Common.{Bool, List, length, sym, ◌∙◌, ap, subst}
+use Rattle.std.proofs.Common.{Bool, List, length, refl, sym, ◌∙◌, ap, subst}
 use Rattle.image.specs.Image.{image_state}
 use Rattle.image.proofs.Reading.{read_again}
 use Rattle.journal.specs.Extents.{AreAllDirty}
@@ -29,4 +29,4 @@ returns-clause-alike g c = λ k.
 pub returns-clause-room : goal.returns-clause-room
 returns-clause-room g c =
     let snapshot = whole_put c.update_snapshot.new.bytes c.update_snapshot.ensures.size c.deref_mut.ensures.value c.deref_mut.ensures.len in
-    assumption (ap length snapshot ∙ c.update_snapshot.ensures.size ∙ ap length c.deref_mut.ensures.value)
+    record { size = ap length snapshot ∙ c.update_snapshot.ensures.size ∙ ap length c.deref_mut.ensures.value; flags = refl }

@@ -38,10 +38,10 @@ begins f g c k =
     ∙ ap (f c.args.parts.now.halves.geometry (state_in c.args.parts.now.tree) (other c.args.parts.now.halves.named)) (c.in_ok-finish_cut.ensures.finished k).front
 
 pub returns-in_err-replay-clause-any_moment : goal.returns-in_err-replay-clause-any_moment
-returns-in_err-replay-clause-any_moment g c = λ k. same _ _ _ _ (c.finish_cut.ensures.any_moment k) (c.replay.ensures.untouched k)
+returns-in_err-replay-clause-any_moment g c = λ k. same _ _ _ _ (c.finish_cut.ensures.any_moment k) (c.replay.ensures.call.untouched k)
 
 pub returns-in_err-replay-clause-alike : goal.returns-in_err-replay-clause-alike
-returns-in_err-replay-clause-alike g c = λ k. same _ _ _ _ (c.finish_cut.ensures.alike k) (c.replay.ensures.untouched k)
+returns-in_err-replay-clause-alike g c = λ k. same _ _ _ _ (c.finish_cut.ensures.alike k) (c.replay.ensures.call.untouched k)
 
 pub returns-in_err-replay-clause-refused : goal.returns-in_err-replay-clause-refused
 returns-in_err-replay-clause-refused g c =
@@ -56,12 +56,12 @@ returns-in_err-replay-clause-behind g c =
     let w0 = g.D.Disk.medium c.args.disk.now in
     let w2 = g.D.Disk.medium c.replay.new.disk in
     let finished = c.in_ok-finish_cut.ensures.finished k in
-    let only = c.replay.ensures.untouched k in
+    let only = c.replay.ensures.call.untouched k in
     let bytes = same_bytes (g.D.Disk.medium c.finish_cut.new.disk) w2 only in
     let fault = subst (λ (o : Option OpenFault). IsConsistentFault o c.in_err-replay.field-0.0) (begins records_fault g (goal.at.returns-in_err-replay-clause-behind g c).After-replay k)
     (c.in_err-replay.ensures.refused k) in
     bad_half (first_bad_record c.args.parts.now.halves.geometry 0 (Some (state_in c.args.parts.now.tree))
-    (front (layout_of c.args.parts.now.halves.geometry) (other c.args.parts.now.halves.named) w0.now)) _ c.in_err-replay.ensures.never_out_of_memory fault
+    (front (layout_of c.args.parts.now.halves.geometry) (other c.args.parts.now.halves.named) w0.now)) _ c.in_err-replay.ensures.call.never_out_of_memory fault
     (c.requires.recovers k).header (behind_refused _ _ _ _ (c.requires.recovers k) c.in_err-replay.field-0.0 fault)
     (record {
       alike = leaves_now w0 w2 _ (same _ _ _ _ (c.finish_cut.ensures.alike k) only) w2.now (itself w2.now w2.unsynced (g.met.D.Disk.bytes c.replay.new.disk));
@@ -72,17 +72,17 @@ returns-in_err-replay-clause-behind g c =
     }))
 
 pub returns-clause-any_moment : goal.returns-clause-any_moment
-returns-clause-any_moment g c = λ k. same _ _ _ _ (c.finish_cut.ensures.any_moment k) (c.replay.ensures.untouched k)
+returns-clause-any_moment g c = λ k. same _ _ _ _ (c.finish_cut.ensures.any_moment k) (c.replay.ensures.call.untouched k)
 
 pub returns-clause-alike : goal.returns-clause-alike
-returns-clause-alike g c = λ k. same _ _ _ _ (c.finish_cut.ensures.alike k) (c.replay.ensures.untouched k)
+returns-clause-alike g c = λ k. same _ _ _ _ (c.finish_cut.ensures.alike k) (c.replay.ensures.call.untouched k)
 
 pub returns-clause-alone : goal.returns-clause-alone
 returns-clause-alone g c = λ k.
     let more = sym (begins (λ h x b rs. run (decoding h) (Some x) rs) g (goal.at.returns-clause-alone g c).After-replay k) ∙ c.in_ok-replay.ensures.done k in
     rw (c.in_ok-replay.ensures.log ∙ c.in_ok-finish_cut.ensures.log) (alone_finished (g.met.D.Disk.bytes c.replay.new.disk)
-    (same _ _ _ _ (c.finish_cut.ensures.any_moment k) (c.replay.ensures.untouched k)) (behind_holds _ _ _ _ (c.requires.recovers k) _ more)
-    (c.in_ok-finish_cut.ensures.finished k) (c.replay.ensures.untouched k))
+    (same _ _ _ _ (c.finish_cut.ensures.any_moment k) (c.replay.ensures.call.untouched k)) (behind_holds _ _ _ _ (c.requires.recovers k) _ more)
+    (c.in_ok-finish_cut.ensures.finished k) (c.replay.ensures.call.untouched k))
 
 pub returns-clause-was : goal.returns-clause-was
 returns-clause-was g c = λ k.
@@ -96,10 +96,10 @@ returns-clause-sound g c = λ k.
 
 pub returns-clause-loaded : goal.returns-clause-loaded
 returns-clause-loaded g c =
-    are_loaded {p = c.args.parts.now} (c.in_ok-replay.ensures.log ∙ c.in_ok-finish_cut.ensures.log) c.requires.loaded.not_failed refl
+    are_loaded {b = c.args.parts.now.buffers} (c.in_ok-replay.ensures.log ∙ c.in_ok-finish_cut.ensures.log) c.requires.loaded.usable.not_failed refl
     c.in_ok-replay.ensures.whole (c.in_ok-replay.ensures.geometry ∙ (λ i. (c.finish_cut.ensures.tree i).geometry) ∙ c.requires.loaded.geometry)
-    (assumption c.finish_cut.ensures.room) (assumption c.requires.loaded)
-    (omega (arith, c.requires.loaded.long_enough, c.finish_cut.ensures.call.1, c.replay.ensures.call.1))
+    (assumption c.finish_cut.ensures.room) (record { fit = c.requires.loaded.fit; all = c.requires.loaded.all })
+    (omega (arith, c.requires.loaded.usable.long_enough, c.finish_cut.ensures.call.len, c.replay.ensures.call.len))
 
 pub returns-clause-room : goal.returns-clause-room
 returns-clause-room g c = assumption c.finish_cut.ensures.room
@@ -110,12 +110,12 @@ returns-clause-geometry g c = ap (λ (l : Log). l.geometry) (c.in_ok-replay.ensu
 pub returns-in_err-replay-clause-beyond : goal.returns-in_err-replay-clause-beyond
 returns-in_err-replay-clause-beyond g c = λ k.
     let l = layout_of c.args.parts.now.halves.geometry in
-    beyond_then l _ _ _ (c.finish_cut.ensures.beyond k) (beyond_read l _ _ (c.replay.ensures.untouched k))
+    beyond_then l _ _ _ (c.finish_cut.ensures.beyond k) (beyond_read l _ _ (c.replay.ensures.call.untouched k))
 
 pub returns-clause-beyond : goal.returns-clause-beyond
 returns-clause-beyond g c = λ k.
     let l = layout_of c.args.parts.now.halves.geometry in
-    beyond_then l _ _ _ (c.finish_cut.ensures.beyond k) (beyond_read l _ _ (c.replay.ensures.untouched k))
+    beyond_then l _ _ _ (c.finish_cut.ensures.beyond k) (beyond_read l _ _ (c.replay.ensures.call.untouched k))
 
 pub returns-in_err-finish_cut-clause-costs : goal.returns-in_err-finish_cut-clause-costs
 returns-in_err-finish_cut-clause-costs g c =
@@ -123,7 +123,7 @@ returns-in_err-finish_cut-clause-costs g c =
 
 pub returns-in_err-replay-clause-costs : goal.returns-in_err-replay-clause-costs
 returns-in_err-replay-clause-costs g c =
-    rw (err_is c.from_residual-in_err-replay.ensures.1) (λ k. omega (arith, ap length (c.replay.ensures.untouched k), c.in_ok-finish_cut.ensures.costs k))
+    rw (err_is c.from_residual-in_err-replay.ensures.1) (λ k. omega (arith, ap length (c.replay.ensures.call.untouched k), c.in_ok-finish_cut.ensures.costs k))
 
 pub returns-clause-costs : goal.returns-clause-costs
-returns-clause-costs g c = λ k. omega (arith, ap length (c.replay.ensures.untouched k), c.in_ok-finish_cut.ensures.costs k)
+returns-clause-costs g c = λ k. omega (arith, ap length (c.replay.ensures.call.untouched k), c.in_ok-finish_cut.ensures.costs k)

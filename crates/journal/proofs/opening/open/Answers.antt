@@ -12,7 +12,7 @@ new-journal-requires-clause-sound g c = λ k. (c.in-Ok.ensures.made_of k).sound
 pub returns-in-Ok-clause-opened : goal.returns-in-Ok-clause-opened
 returns-in-Ok-clause-opened g c = λ k.
     opened c.in-Ok.parts (g.D.Disk.medium c.args.d) (g.D.Disk.medium c.open_on.new.disk) c.new-journal.result c.in-Ok.ensures.made
-    (c.in-Ok.ensures.made_of k) c.in-Ok.ensures.whole c.new-journal.ensures
+    (c.in-Ok.ensures.made_of k) c.new-journal.ensures
 
 pub returns-in-Ok-clause-costs : goal.returns-in-Ok-clause-costs
 returns-in-Ok-clause-costs g c = λ k.

@@ -1,15 +1,16 @@
 -- Header, memory, load and last point, one after the other: a refusal is one that the bytes show, and what a crash leaves
 -- recovers to the same, or is refused alike.
-use Rattle.std.proofs.Common.{◌≡◌, ◌≤◌, Bool, List, ℕ, length, sym, ◌∙◌, ap, subst, arith}
+use Rattle.std.proofs.Common.{◌≡◌, ◌≤◌, List, ℕ, length, sym, ◌∙◌, ap, subst, arith}
 use Rattle.oplog.proofs.Answered.{err_is}
 use Rattle.affinity.specs.declared.geometry.Geometry.{Geometry}
 use Rattle.checkpoint.specs.Header.{HasHeader}
 use Rattle.checkpoint.specs.Recovery.{recovered_state}
 use Rattle.checkpoint.specs.Refusals.{refused}
 use Rattle.checkpoint.proofs.OneGeometry.{same_geometry}
-use Rattle.checkpoint.proofs.Refusing.{behind_header, header_half, never_out_of_memory}
+use Rattle.checkpoint.proofs.Refusing.{behind_header, header_half}
 use Rattle.checkpoint.proofs.Replays.{same_bytes}
 use Rattle.journal.specs.Costs.{finish_cost}
+use Rattle.journal.specs.declared.journal.Buffers.{Buffers}
 use Rattle.journal.specs.Parts.{IsMadeOf}
 use Rattle.journal.specs.Extents.{AreAllDirty}
 use Rattle.journal.proofs.Costs.{finish_few}
@@ -33,7 +34,7 @@ headed g c k = subst (λ (h : Geometry). HasHeader h (g.D.Disk.medium c.args.dis
 moments : (g : Over) (c : After-checkpoint_recovered g) → g.D.Disk.keeps
     → CrashImagesAre (g.D.Disk.medium c.args.disk.now) (g.D.Disk.medium c.checkpoint_recovered.new.disk) (RecoversAsBefore (g.D.Disk.medium c.args.disk.now).now)
 moments g c k =
-    let only = c.read_header.ensures.untouched k in
+    let only = c.read_header.ensures.call.untouched k in
     let fine = sym (ap (λ (l : List ℕ). refused c.in_ok-parts.parts.tree.geometry l) (same_bytes (g.D.Disk.medium c.args.disk.now) (g.D.Disk.medium c.read_header.new.disk) only)) ∙
     c.in_ok-load_in_order.ensures.sound k in
     as_still c.in_ok-parts.parts.tree.geometry _ _ (headed g c k) (rw c.in_ok-parts.ensures.geometry c.in_ok-g.ensures.long_enough) fine
@@ -46,25 +47,25 @@ stays : (g : Over) (c : After-checkpoint_recovered g) → g.D.Disk.keeps → (h 
 stays g c k h head =
     let l = layout_of c.in_ok-parts.parts.tree.geometry in
     rw (← same_geometry c.in_ok-parts.parts.tree.geometry h (sym (headed g c k) ∙ head))
-    (beyond_then l _ (g.D.Disk.medium c.read_header.new.disk) _ (beyond_read l _ _ (c.read_header.ensures.untouched k))
+    (beyond_then l _ (g.D.Disk.medium c.read_header.new.disk) _ (beyond_read l _ _ (c.read_header.ensures.call.untouched k))
     (beyond_then l _ (g.D.Disk.medium c.load_in_order.new.disk) _ (c.load_in_order.ensures.beyond k)
     (rw (← c.in_ok-load_in_order.ensures.geometry) (c.checkpoint_recovered.ensures.beyond k))))
 
 pub returns-in_err-g-clause-any_moment : goal.returns-in_err-g-clause-any_moment
-returns-in_err-g-clause-any_moment g c = λ k. as_before _ _ (c.requires.synced k) (c.read_header.ensures.untouched k)
+returns-in_err-g-clause-any_moment g c = λ k. as_before _ _ (c.requires.synced k) (c.read_header.ensures.call.untouched k)
 
 pub returns-in_err-g-clause-unwritten : goal.returns-in_err-g-clause-unwritten
 returns-in_err-g-clause-unwritten g c =
     rw (err_is c.from_residual.ensures.1) (λ k.
-    all_unwritten _ _ _ (unread _ _ (c.read_header.ensures.untouched k)) (λ h. header_half _ _ c.in_err-g.ensures.by_header))
+    all_unwritten _ _ _ (unread _ _ (c.read_header.ensures.call.untouched k)) (λ h. header_half _ _ c.in_err-g.ensures.by_header))
 
 pub returns-in_err-parts-clause-any_moment : goal.returns-in_err-parts-clause-any_moment
-returns-in_err-parts-clause-any_moment g c = λ k. as_before _ _ (c.requires.synced k) (c.read_header.ensures.untouched k)
+returns-in_err-parts-clause-any_moment g c = λ k. as_before _ _ (c.requires.synced k) (c.read_header.ensures.call.untouched k)
 
 pub returns-in_err-parts-clause-unwritten : goal.returns-in_err-parts-clause-unwritten
 returns-in_err-parts-clause-unwritten g c =
     rw (err_is c.from_residual-in_err-parts.ensures.1) (λ k.
-    all_unwritten _ _ _ (unread _ _ (c.read_header.ensures.untouched k))
+    all_unwritten _ _ _ (unread _ _ (c.read_header.ensures.call.untouched k))
     (λ h. rw c.in_err-parts.ensures.fault tt))
 
 pub returns-in_err-load_in_order-clause-any_moment : goal.returns-in_err-load_in_order-clause-any_moment
@@ -72,8 +73,8 @@ returns-in_err-load_in_order-clause-any_moment g c = λ k.
     let head = subst (λ (h : Geometry). HasHeader h (g.D.Disk.medium c.args.disk.now).now) (sym c.in_ok-parts.ensures.geometry) (c.in_ok-g.ensures.header k) in
     let fits = subst (λ (h : Geometry). device_size (layout_of h) ≤ length (g.D.Disk.medium c.args.disk.now).now) (sym c.in_ok-parts.ensures.geometry) c.in_ok-g.ensures.long_enough in
     as_alike c.in_ok-parts.parts.tree.geometry _ (g.D.Disk.medium c.load_in_order.new.disk) head fits
-    (still_after c.in_ok-parts.parts.tree.geometry _ _ _ (c.requires.synced k) (c.read_header.ensures.untouched k) (c.load_in_order.ensures.any_moment k))
-    (alike_after c.in_ok-parts.parts.tree.geometry _ _ _ head (c.requires.synced k) (c.read_header.ensures.untouched k) (c.load_in_order.ensures.alike k))
+    (still_after c.in_ok-parts.parts.tree.geometry _ _ _ (c.requires.synced k) (c.read_header.ensures.call.untouched k) (c.load_in_order.ensures.any_moment k))
+    (alike_after c.in_ok-parts.parts.tree.geometry _ _ _ head (c.requires.synced k) (c.read_header.ensures.call.untouched k) (c.load_in_order.ensures.alike k))
 
 pub returns-in_err-load_in_order-clause-unwritten : goal.returns-in_err-load_in_order-clause-unwritten
 returns-in_err-load_in_order-clause-unwritten g c =
@@ -81,7 +82,7 @@ returns-in_err-load_in_order-clause-unwritten g c =
     let w0 = g.D.Disk.medium c.args.disk.now in
     let w1 = g.D.Disk.medium c.read_header.new.disk in
     let w2 = g.D.Disk.medium c.load_in_order.new.disk in
-    let only = c.read_header.ensures.untouched k in
+    let only = c.read_header.ensures.call.untouched k in
     unwritten_from _ w0 w1 w2 (same_bytes w0 w1 only)
     (unwritten_then w0 w1 w2 (g.met.D.Disk.bytes c.args.disk.now) (still_synced w0 w1 only (c.requires.synced k)) (same_bytes w0 w1 only) (unread w0 w1 only).later)
     (c.in_err-load_in_order.ensures.unwritten k))
@@ -112,7 +113,7 @@ returns-clause-made_of g c = λ k.
     let w2 = g.D.Disk.medium c.load_in_order.new.disk in
     let w3 = g.D.Disk.medium c.checkpoint_recovered.new.disk in
     let t = c.in_ok-parts.parts.tree.geometry in
-    let only = c.read_header.ensures.untouched k in
+    let only = c.read_header.ensures.call.untouched k in
     let loaded = c.load_in_order.new.parts in
     let log : loaded.halves.geometry ≡ t = c.in_ok-load_in_order.ensures.geometry in
     let geometry : loaded.tree.geometry ≡ t = c.in_ok-load_in_order.ensures.loaded.geometry ∙ log in
@@ -122,7 +123,7 @@ returns-clause-made_of g c = λ k.
     let held = ap (λ (h : Geometry). recovered_state h w2.now) log
     ∙ still_now t w1 w2 (g.met.D.Disk.bytes c.load_in_order.new.disk) (c.load_in_order.ensures.any_moment k) ∙ c.in_ok-load_in_order.ensures.was k in
     let is_state = subst (λ (h : Geometry). IsState h (state_in loaded.tree)) c.in_ok-load_in_order.ensures.loaded.geometry c.in_ok-load_in_order.ensures.loaded.tree.state in
-    let all = subst (λ (row : List Bool). AreAllDirty loaded.halves.geometry row) (sym (λ i. (c.checkpoint_recovered.ensures.room.other_dirty i).items)) c.in_ok-load_in_order.ensures.loaded.all in
+    let all = subst (λ (b : Buffers). AreAllDirty loaded.halves.geometry b.other_dirty.items) (sym c.checkpoint_recovered.ensures.room.flags) c.in_ok-load_in_order.ensures.loaded.all in
     subst (λ (tree : TreeView). IsMadeOf w0.now (record c.checkpoint_recovered.new.parts { tree = tree }) w3) (sym c.checkpoint_recovered.ensures.tree)
     (made_of (g.met.D.Disk.bytes c.checkpoint_recovered.new.disk) (record { header = head; accepted = fine; was = was }) c.in_ok-checkpoint_recovered.ensures.log
     c.in_ok-load_in_order.ensures.loaded.geometry c.checkpoint_recovered.ensures.snapshot all
@@ -130,7 +131,7 @@ returns-clause-made_of g c = λ k.
 
 pub returns-in_err-g-clause-memory : goal.returns-in_err-g-clause-memory
 returns-in_err-g-clause-memory g c =
-    rw (err_is c.from_residual.ensures.1) (λ is. absurd (never_out_of_memory c.in_err-g.field-0.0 c.in_err-g.ensures.by_header is))
+    rw (err_is c.from_residual.ensures.1) (λ is. absurd (c.in_err-g.ensures.call.never_out_of_memory is))
 
 pub returns-in_err-parts-clause-memory : goal.returns-in_err-parts-clause-memory
 returns-in_err-parts-clause-memory g c =
@@ -147,29 +148,29 @@ returns-in_err-checkpoint_recovered-clause-memory g c =
 pub returns-in_err-g-clause-synced : goal.returns-in_err-g-clause-synced
 returns-in_err-g-clause-synced g c =
     rw (err_is c.from_residual.ensures.1) (λ other k.
-    still_synced (g.D.Disk.medium c.args.disk.now) (g.D.Disk.medium c.read_header.new.disk) (c.read_header.ensures.untouched k) (c.requires.synced k))
+    still_synced (g.D.Disk.medium c.args.disk.now) (g.D.Disk.medium c.read_header.new.disk) (c.read_header.ensures.call.untouched k) (c.requires.synced k))
 
 pub returns-in_err-parts-clause-synced : goal.returns-in_err-parts-clause-synced
 returns-in_err-parts-clause-synced g c =
     rw (err_is c.from_residual-in_err-parts.ensures.1) (λ other k.
-    still_synced (g.D.Disk.medium c.args.disk.now) (g.D.Disk.medium c.read_header.new.disk) (c.read_header.ensures.untouched k) (c.requires.synced k))
+    still_synced (g.D.Disk.medium c.args.disk.now) (g.D.Disk.medium c.read_header.new.disk) (c.read_header.ensures.call.untouched k) (c.requires.synced k))
 
 pub returns-in_err-checkpoint_recovered-clause-synced : goal.returns-in_err-checkpoint_recovered-clause-synced
 returns-in_err-checkpoint_recovered-clause-synced g c =
     rw (err_is c.from_residual-in_err-checkpoint_recovered.ensures.1) (λ other k. absurd (other c.in_err-checkpoint_recovered.ensures.device))
 
 pub returns-in_err-g-clause-beyond : goal.returns-in_err-g-clause-beyond
-returns-in_err-g-clause-beyond g c = λ k h head. beyond_read (layout_of h) _ _ (c.read_header.ensures.untouched k)
+returns-in_err-g-clause-beyond g c = λ k h head. beyond_read (layout_of h) _ _ (c.read_header.ensures.call.untouched k)
 
 pub returns-in_err-parts-clause-beyond : goal.returns-in_err-parts-clause-beyond
-returns-in_err-parts-clause-beyond g c = λ k h head. beyond_read (layout_of h) _ _ (c.read_header.ensures.untouched k)
+returns-in_err-parts-clause-beyond g c = λ k h head. beyond_read (layout_of h) _ _ (c.read_header.ensures.call.untouched k)
 
 pub returns-in_err-load_in_order-clause-beyond : goal.returns-in_err-load_in_order-clause-beyond
 returns-in_err-load_in_order-clause-beyond g c = λ k h head.
     let own = subst (λ (h : Geometry). HasHeader h (g.D.Disk.medium c.args.disk.now).now) (sym c.in_ok-parts.ensures.geometry) (c.in_ok-g.ensures.header k) in
     rw (← same_geometry c.in_ok-parts.parts.tree.geometry h (sym own ∙ head))
     (beyond_then (layout_of c.in_ok-parts.parts.tree.geometry) _ (g.D.Disk.medium c.read_header.new.disk) _
-    (beyond_read (layout_of c.in_ok-parts.parts.tree.geometry) _ _ (c.read_header.ensures.untouched k)) (c.load_in_order.ensures.beyond k))
+    (beyond_read (layout_of c.in_ok-parts.parts.tree.geometry) _ _ (c.read_header.ensures.call.untouched k)) (c.load_in_order.ensures.beyond k))
 
 pub returns-in_err-checkpoint_recovered-clause-beyond : goal.returns-in_err-checkpoint_recovered-clause-beyond
 returns-in_err-checkpoint_recovered-clause-beyond g c = stays g (goal.at.returns-in_err-checkpoint_recovered-clause-beyond g c).After-checkpoint_recovered
@@ -179,29 +180,29 @@ returns-clause-beyond g c = stays g (goal.at.returns-clause-beyond g c).After-ch
 
 pub returns-in_err-g-clause-costs : goal.returns-in_err-g-clause-costs
 returns-in_err-g-clause-costs g c =
-    rw (err_is c.from_residual.ensures.1) (λ k. omega (arith, ap length (c.read_header.ensures.untouched k)))
+    rw (err_is c.from_residual.ensures.1) (λ k. omega (arith, ap length (c.read_header.ensures.call.untouched k)))
 
 pub returns-in_err-parts-clause-costs : goal.returns-in_err-parts-clause-costs
 returns-in_err-parts-clause-costs g c =
-    rw (err_is c.from_residual-in_err-parts.ensures.1) (λ k. omega (arith, ap length (c.read_header.ensures.untouched k)))
+    rw (err_is c.from_residual-in_err-parts.ensures.1) (λ k. omega (arith, ap length (c.read_header.ensures.call.untouched k)))
 
 pub returns-in_err-load_in_order-clause-costs : goal.returns-in_err-load_in_order-clause-costs
 returns-in_err-load_in_order-clause-costs g c =
     rw (err_is c.from_residual-in_err-load_in_order.ensures.1) (λ k.
     let few = finish_few c.in_ok-parts.parts.tree.geometry (g.D.Disk.medium c.read_header.new.disk).now in
-    omega (arith, ap length (c.read_header.ensures.untouched k), few, c.in_err-load_in_order.ensures.costs k))
+    omega (arith, ap length (c.read_header.ensures.call.untouched k), few, c.in_err-load_in_order.ensures.costs k))
 
 pub returns-in_err-checkpoint_recovered-clause-costs : goal.returns-in_err-checkpoint_recovered-clause-costs
 returns-in_err-checkpoint_recovered-clause-costs g c =
     rw (err_is c.from_residual-in_err-checkpoint_recovered.ensures.1) (λ k.
     let few = finish_few c.in_ok-parts.parts.tree.geometry (g.D.Disk.medium c.read_header.new.disk).now in
-    omega (arith, ap length (c.read_header.ensures.untouched k), few, c.in_ok-load_in_order.ensures.costs k, c.in_err-checkpoint_recovered.ensures.costs k))
+    omega (arith, ap length (c.read_header.ensures.call.untouched k), few, c.in_ok-load_in_order.ensures.costs k, c.in_err-checkpoint_recovered.ensures.costs k))
 
 pub returns-clause-costs : goal.returns-clause-costs
 returns-clause-costs g c = λ k.
     let w0 = g.D.Disk.medium c.args.disk.now in
     let w1 = g.D.Disk.medium c.read_header.new.disk in
-    let only = c.read_header.ensures.untouched k in
+    let only = c.read_header.ensures.call.untouched k in
     let geometry = ap (λ (l : Log). l.geometry) c.in_ok-checkpoint_recovered.ensures.log ∙ c.in_ok-load_in_order.ensures.geometry in
     let is : finish_cost c.in_ok-parts.parts.tree.geometry w1.now ≡ finish_cost c.checkpoint_recovered.new.parts.halves.geometry w0.now = λ i. finish_cost (sym geometry i) (same_bytes w0 w1 only i) in
     omega (arith, ap length only, is, c.in_ok-load_in_order.ensures.costs k, c.in_ok-checkpoint_recovered.ensures.costs k)

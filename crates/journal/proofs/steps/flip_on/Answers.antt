@@ -2,13 +2,12 @@
 use Rattle.std.proofs.Common.{◌≡◌, ◌<◌, sym, ◌∙◌, subst}
 use Rattle.disk.specs.Device.{Medium}
 use Rattle.oplog.specs.Log.{layout_of_log}
+use Rattle.std.proofs.lemmas.Result.{on_ok_weaker}
 use Rattle.oplog.proofs.Answered.{on_ok}
 use Rattle.oplog.proofs.Beyond.{beyond, beyond_sync, beyond_then}
 use Rattle.oplog.specs.Changes.{IsSameButRoot, Flipped}
 use Rattle.device_map.specs.Layout.{layout_of, other}
 use Rattle.journal.proofs.Cutting.{name_moments, named, named_below, sync_moments}
-use Rattle.journal.specs.Steps.{RecoversStill}
-use Rattle.oplog.specs.Beyond.{KeepsBeyond}
 use Rattle.disk.specs.Device.{synced}
 use Rattle.journal.proofs.steps.flip_on.Given.{Over}
 use Rattle.journal.proofs.steps.flip_on.Goals.{After-flip_root}
@@ -20,38 +19,30 @@ syncs g c k = on_ok c.sync_image.result _ (sym c.is_err.ensures.value ∙ c.if-i
 is_area : (g : Over) (c : After-flip_root g) → g.D.Disk.keeps → c.args.halves.now.named < 2
 is_area g c k = named_below c.args.halves.now.geometry c.args.halves.now.named _ _ (g.D.Disk.medium c.args.disk.now) (g.met.D.Disk.bytes c.args.disk.now) (c.requires.written k).by.recovers
 
-moments : (g : Over) (c : After-flip_root g) → g.D.Disk.keeps → RecoversStill c.args.halves.now.geometry (g.D.Disk.medium c.args.disk.now) (g.D.Disk.medium c.flip_root.new.disk)
-moments g c k =
-    name_moments c.args.halves.now (g.D.Disk.medium c.args.disk.now) c.args.bytes.now (c.requires.written k) (is_area g c k) _ (g.met.D.Disk.bytes c.args.disk.now)
-    (rw (← syncs g c k) (sync_moments c.args.halves.now _ c.args.bytes.now (c.requires.written k) _ c.sync_image.result (c.sync_image.ensures.syncs k)))
-    (rw (← syncs g c k) (c.flip_root.ensures.any_moment k))
-
-stays : (g : Over) (c : After-flip_root g) → g.D.Disk.keeps → KeepsBeyond (layout_of c.args.halves.now.geometry) (g.D.Disk.medium c.args.disk.now) (g.D.Disk.medium c.flip_root.new.disk)
-stays g c k =
-    let l = layout_of c.args.halves.now.geometry in
-    beyond_then l _ _ _ (beyond_sync l _ _ c.sync_image.result (c.sync_image.ensures.syncs k)) (beyond l _ _ (IsSameButRoot l) (λ o d h. h.same.rest) (c.flip_root.ensures.any_moment k))
-
 pub returns-then-is_err-clause-any_moment : goal.returns-then-is_err-clause-any_moment
 returns-then-is_err-clause-any_moment g c = λ k. sync_moments c.args.halves.now _ c.args.bytes.now (c.requires.written k) _ c.sync_image.result (c.sync_image.ensures.syncs k)
 
 pub returns-then-is_err-clause-beyond : goal.returns-then-is_err-clause-beyond
 returns-then-is_err-clause-beyond g c = λ k. beyond_sync (layout_of c.args.halves.now.geometry) _ _ c.sync_image.result (c.sync_image.ensures.syncs k)
 
-pub returns-in_err-flip_root-clause-any_moment : goal.returns-in_err-flip_root-clause-any_moment
-returns-in_err-flip_root-clause-any_moment g c = moments g (goal.at.returns-in_err-flip_root-clause-any_moment g c).After-flip_root
-
-pub returns-in_err-flip_root-clause-beyond : goal.returns-in_err-flip_root-clause-beyond
-returns-in_err-flip_root-clause-beyond g c = stays g (goal.at.returns-in_err-flip_root-clause-beyond g c).After-flip_root
-
 pub returns-clause-any_moment : goal.returns-clause-any_moment
-returns-clause-any_moment g c = moments g (goal.at.returns-clause-any_moment g c).After-flip_root
+returns-clause-any_moment g c = λ k.
+    let here = (goal.at.returns-clause-any_moment g c).After-flip_root in
+    name_moments c.args.halves.now (g.D.Disk.medium c.args.disk.now) c.args.bytes.now (c.requires.written k) (is_area g here k) _ (g.met.D.Disk.bytes c.args.disk.now)
+    (rw (← syncs g here k) (sync_moments c.args.halves.now _ c.args.bytes.now (c.requires.written k) _ c.sync_image.result (c.sync_image.ensures.syncs k)))
+    (rw (← syncs g here k) (c.flip_root.ensures.any_moment k))
 
 pub returns-clause-beyond : goal.returns-clause-beyond
-returns-clause-beyond g c = stays g (goal.at.returns-clause-beyond g c).After-flip_root
+returns-clause-beyond g c = λ k.
+    let l = layout_of c.args.halves.now.geometry in
+    beyond_then l _ _ _ (beyond_sync l _ _ c.sync_image.result (c.sync_image.ensures.syncs k)) (beyond l _ _ (IsSameButRoot l) (λ o d h. h.same.rest) (c.flip_root.ensures.any_moment k))
 
 pub returns-clause-flipped : goal.returns-clause-flipped
-returns-clause-flipped g c = λ k.
+returns-clause-flipped g c =
     let here = (goal.at.returns-clause-flipped g c).After-flip_root in
+    on_ok_weaker c.flip_root.result
+    (λ flipped k.
     named c.args.halves.now _ c.args.bytes.now (c.requires.written k) (is_area g here k) _ (g.met.D.Disk.bytes c.args.disk.now)
-    (subst (λ (m : Medium). Flipped (layout_of_log c.args.halves.now) (other c.args.halves.now.named) m (g.D.Disk.medium c.flip_root.new.disk)) (syncs g here k) (c.in_ok-flip_root.ensures.flipped k))
-    c.requires.long_enough
+    (subst (λ (m : Medium). Flipped (layout_of_log c.args.halves.now) (other c.args.halves.now.named) m (g.D.Disk.medium c.flip_root.new.disk)) (syncs g here k) (flipped k))
+    c.requires.usable.long_enough)
+    c.flip_root.ensures.flipped

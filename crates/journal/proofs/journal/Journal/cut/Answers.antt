@@ -6,7 +6,7 @@ use Rattle.checkpoint.specs.Recovery.{recovered_state}
 use Rattle.image.specs.Pieces.{piece_count}
 use Rattle.journal.specs.Journal.{JournalView, records, committed}
 use Rattle.journal.specs.Keeping.{journal_view_of}
-use Rattle.journal.specs.DirtyPieces.{all_clean, count_dirty, cut_dirty}
+use Rattle.journal.specs.DirtyPieces.{count_dirty, cut_dirty}
 use Rattle.journal.proofs.Logging.{beyond_of, recoverable_of, sound_along, still_of}
 use Rattle.journal.proofs.Rows.{count_most, whole_items, whole_put}
 use Rattle.journal.proofs.Saving.{cut_committed, cut_sound, Saves, saves}
@@ -19,8 +19,8 @@ use Rattle.journal.proofs.journal.Journal.cut.Goals.{After-cut_on}
 use Rattle.journal.proofs.journal.Journal.cut.Goals as goal
 
 saved : (g : Over) (c : After-cut_on g) → g.D.Disk.keeps
-    → Saves c.self.inside.halves c.self.inside.snapshot.items c.update_snapshot.new.bytes c.self.inside.named_dirty.items c.self.inside.other_dirty.items c.self.inside.pending.items
-    (g.D.Disk.medium c.self.inside.disk) (state_in c.args.tree.now)
+    → Saves c.self.inside.halves c.self.inside.buffers.snapshot.items c.update_snapshot.new.bytes c.self.inside.buffers.named_dirty.items c.self.inside.buffers.other_dirty.items
+    c.self.inside.buffers.pending.items (g.D.Disk.medium c.self.inside.disk) (state_in c.args.tree.now)
 saved g c k =
     saves {self = c.args.self.now} {tree = c.args.tree.now} c.self.invariant c.self.view_is k
     (record { not_failed = c.requires.not_failed; no_cut = c.requires.no_cut; geometry = c.requires.geometry; state = c.requires.whole.state; committed = c.requires.state k })
@@ -49,22 +49,20 @@ returns-clause-begun g c =
     let w1 = g.D.Disk.medium c.cut_on.new.disk in
     let count = c.count_dirty.ensures ∙ ap count_dirty c.deref-2.ensures.value ∙ ap (λ v. count_dirty v.items) c.swap.ensures.x_after in
     let all : c.self.inside.halves.geometry.half - 0 ≡ c.self.inside.halves.geometry.half = omega arith in
-    let named = c.self.inside.named_dirty.items in
+    let named = c.self.inside.buffers.named_dirty.items in
     let put = whole_put c.clear_dirty.new.dirty (ap length c.clear_dirty.ensures ∙ length-replicate _ false) c.deref_mut-2.ensures.value c.deref_mut-2.ensures.len in
-    let long : length c.deref_mut-2.result.now ≡ length c.self.inside.other_dirty.items =
-    ap length c.deref_mut-2.ensures.value ∙ ap (λ v. length v.items) c.swap.ensures.y_after ∙ c.self.invariant.pending ∙ sym c.self.invariant.other_dirty in
+    let long : length c.deref_mut-2.result.now ≡ length c.self.inside.buffers.other_dirty.items =
+    ap length c.deref_mut-2.ensures.value ∙ ap (λ v. length v.items) c.swap.ensures.y_after ∙ c.self.invariant.fit.pending ∙ sym c.self.invariant.fit.other_dirty in
     let others = put ∙ c.clear_dirty.ensures ∙ ap (λ (n : ℕ). replicate n false) long in
     ap (λ (l : Log). journal_view_of l named (whole_items c.swap.new.y.len c.clear_dirty.new.dirty c.swap.new.y.items) (Some c.count_dirty.result) w1) c.in_ok-cut_on.ensures.log
     ∙ ap (λ (l : List Bool). journal_view_of (chained c.self.inside.halves) named l (Some c.count_dirty.result) w1) others
-    ∙ ap (λ (n : ℕ). journal_view_of (chained c.self.inside.halves) named (all_clean c.self.inside.other_dirty.items) (Some n) w1) count
-    ∙ ap (λ (n : ℕ). record (journal_view_of (chained c.self.inside.halves) named (all_clean c.self.inside.other_dirty.items)
-    (Some (count_dirty c.self.inside.other_dirty.items)) w1) { room = n }) all
+    ∙ ap (λ (n : ℕ). journal_view_of (chained c.self.inside.halves) named (replicate (length c.self.inside.buffers.other_dirty.items) false) (Some n) w1) count
+    ∙ ap (λ (n : ℕ). record (journal_view_of (chained c.self.inside.halves) named (replicate (length c.self.inside.buffers.other_dirty.items) false)
+    (Some (count_dirty c.self.inside.buffers.other_dirty.items)) w1) { room = n }) all
     ∙ ap (λ (h : JournalView). record h { room = h.geometry.half; pieces_left = Some (count_dirty h.dirty.other); dirty = cut_dirty h.dirty; medium = w1 }) c.self.view_is
 
 pub returns-clause-few : goal.returns-clause-few
-returns-clause-few g c =
-    let long : length c.self.inside.other_dirty.items ≡ piece_count c.args.self.now.geometry = c.self.invariant.other_dirty ∙ ap (λ (h : JournalView). piece_count h.geometry) c.self.view_is in
-    omega (arith, count_most c.self.inside.other_dirty.items, ap (λ (h : JournalView). count_dirty h.dirty.other) c.self.view_is, long)
+returns-clause-few g c = rw (← c.self.view_is) (omega (arith, count_most c.self.inside.buffers.other_dirty.items, c.self.invariant.fit.other_dirty))
 
 pub returns-clause-records : goal.returns-clause-records
 returns-clause-records g c = λ k.
@@ -80,13 +78,15 @@ invariant_of-self-2 g c =
     let same = c.cut_on.ensures.geometry in
     let cleared = whole_put c.clear_dirty.new.dirty (ap length c.clear_dirty.ensures ∙ length-replicate _ false) c.deref_mut-2.ensures.value c.deref_mut-2.ensures.len in
     record {
-      long_enough = omega (arith, c.self.invariant.long_enough, c.cut_on.ensures.call.1, ap (λ (l : Log). device_size (layout_of_log l)) log);
+      long_enough = omega (arith, c.self.invariant.long_enough, c.cut_on.ensures.call.len, ap (λ (l : Log). device_size (layout_of_log l)) log);
       used = omega (arith, ap (λ (l : Log). l.used) log);
-      snapshot = ap length snapshot ∙ c.update_snapshot.ensures.size ∙ ap length c.deref_mut.ensures.value ∙ c.self.invariant.snapshot ∙ sym (ap image_size same);
-      named_dirty = c.self.invariant.named_dirty ∙ sym (ap piece_count same);
-      other_dirty = ap length cleared ∙ ap length c.clear_dirty.ensures ∙ length-replicate _ false ∙ ap length c.deref_mut-2.ensures.value
-          ∙ ap (λ v. length v.items) c.swap.ensures.y_after ∙ c.self.invariant.pending ∙ sym (ap piece_count same);
-      pending = ap (λ v. length v.items) c.swap.ensures.x_after ∙ c.self.invariant.other_dirty ∙ sym (ap piece_count same);
+      fit = record {
+        snapshot = ap length snapshot ∙ c.update_snapshot.ensures.size ∙ ap length c.deref_mut.ensures.value ∙ c.self.invariant.fit.snapshot ∙ sym (ap image_size same);
+        named_dirty = c.self.invariant.fit.named_dirty ∙ sym (ap piece_count same);
+        other_dirty = ap length cleared ∙ ap length c.clear_dirty.ensures ∙ length-replicate _ false ∙ ap length c.deref_mut-2.ensures.value
+            ∙ ap (λ v. length v.items) c.swap.ensures.y_after ∙ c.self.invariant.fit.pending ∙ sym (ap piece_count same);
+        pending = ap (λ v. length v.items) c.swap.ensures.x_after ∙ c.self.invariant.fit.other_dirty ∙ sym (ap piece_count same);
+      };
       fits_cut_state = λ _. (
         ap (λ (l : Log). l.current) log ∙ sym (ap (λ (l : Log). other l.named) log),
         sym (c.count_dirty.ensures ∙ ap count_dirty c.deref-2.ensures.value),

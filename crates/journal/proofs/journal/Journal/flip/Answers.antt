@@ -21,9 +21,9 @@ use Rattle.journal.proofs.journal.Journal.flip.Given.{Over}
 use Rattle.journal.proofs.journal.Journal.flip.Goals.{After-deref}
 use Rattle.journal.proofs.journal.Journal.flip.Goals as goal
 
-written : (g : Over) (c : After-deref g) → g.D.Disk.keeps → IsCutWritten c.self.inside.halves c.self.inside.snapshot.items (g.D.Disk.medium c.self.inside.disk)
+written : (g : Over) (c : After-deref g) → g.D.Disk.keeps → IsCutWritten c.self.inside.halves c.self.inside.buffers.snapshot.items (g.D.Disk.medium c.self.inside.disk)
 written g c k =
-    flip_asks (ap (λ (h : JournalView). h.pieces_left) c.self.view_is ∙ c.requires.written) c.self.invariant.long_enough c.self.invariant.snapshot c.self.invariant.pending
+    flip_asks (ap (λ (h : JournalView). h.pieces_left) c.self.view_is ∙ c.requires.written) c.self.invariant.long_enough c.self.invariant.fit.snapshot c.self.invariant.fit.pending
     (g.met.D.Disk.bytes c.self.inside.disk)
     (fits_of c.self.invariant c.self.view_is c.requires.not_failed) (sound_of c.self.invariant c.self.view_is c.requires.not_failed k)
 
@@ -70,14 +70,16 @@ pub invariant_of-self-2 : goal.invariant_of-self-2
 invariant_of-self-2 g c =
     let log = c.in_ok-flip_on.ensures.log in
     record {
-      long_enough = omega (arith, c.self.invariant.long_enough, c.flip_on.ensures.call.1, ap (λ (l : Log). device_size (layout_of_log l)) log);
+      long_enough = omega (arith, c.self.invariant.long_enough, c.flip_on.ensures.call.len, ap (λ (l : Log). device_size (layout_of_log l)) log);
       used = omega (arith, c.self.invariant.used, ap (λ (l : Log). l.used) log, ap (λ (l : Log). l.geometry.half) log);
-      snapshot = c.self.invariant.snapshot ∙ sym (ap image_size c.flip_on.ensures.geometry);
-      named_dirty = ap (λ v. length v.items) c.swap.ensures.x_after ∙ c.self.invariant.other_dirty ∙ sym (ap piece_count c.flip_on.ensures.geometry);
-      other_dirty = ap (λ v. length v.items) c.swap.ensures.y_after ∙ c.self.invariant.named_dirty ∙ sym (ap piece_count c.flip_on.ensures.geometry);
-      pending = c.self.invariant.pending ∙ sym (ap piece_count c.flip_on.ensures.geometry);
+      fit = record {
+        snapshot = c.self.invariant.fit.snapshot ∙ sym (ap image_size c.flip_on.ensures.geometry);
+        named_dirty = ap (λ v. length v.items) c.swap.ensures.x_after ∙ c.self.invariant.fit.other_dirty ∙ sym (ap piece_count c.flip_on.ensures.geometry);
+        other_dirty = ap (λ v. length v.items) c.swap.ensures.y_after ∙ c.self.invariant.fit.named_dirty ∙ sym (ap piece_count c.flip_on.ensures.geometry);
+        pending = c.self.invariant.fit.pending ∙ sym (ap piece_count c.flip_on.ensures.geometry);
+      };
       fits_cut_state = λ _.
-          let placed = subst (λ (l : Option ℕ). FitsCutState c.self.inside.halves c.self.inside.pending.items l) (ap (λ (h : JournalView). h.pieces_left) c.self.view_is ∙ c.requires.written)
+          let placed = subst (λ (l : Option ℕ). FitsCutState c.self.inside.halves c.self.inside.buffers.pending.items l) (ap (λ (h : JournalView). h.pieces_left) c.self.view_is ∙ c.requires.written)
           (fits_of c.self.invariant c.self.view_is c.requires.not_failed) in
           ap (λ (l : Log). l.current) log ∙ placed.0 ∙ sym (ap (λ (l : Log). l.named) log);
       sound = λ _ k.

@@ -84,14 +84,14 @@ returns-clause-none g c = λ none.
     let same : c.geometry-g.result ≡ c.self.inside.halves.geometry = c.geometry-g.ensures ∙ ap (λ (l : Log). l.geometry) log in
     let first = whole_put c.dirty_touched.new.dirty c.dirty_touched.ensures.size c.deref_mut.ensures.value c.deref_mut.ensures.len in
     let second = whole_put c.dirty_touched-2.new.dirty c.dirty_touched-2.ensures.size c.deref_mut-2.ensures.value c.deref_mut-2.ensures.len in
-    let named = same_dirty c.self.inside.halves.geometry c.args.messages.now _ _ none c.self.invariant.named_dirty
+    let named = same_dirty c.self.inside.halves.geometry c.args.messages.now _ _ none c.self.invariant.fit.named_dirty
     (ap length first ∙ c.dirty_touched.ensures.size ∙ ap length c.deref_mut.ensures.value)
     (touched_along c.args.messages.now same c.deref_mut.ensures.value first c.dirty_touched.ensures.touched) in
-    let others = same_dirty c.self.inside.halves.geometry c.args.messages.now _ _ none c.self.invariant.other_dirty
+    let others = same_dirty c.self.inside.halves.geometry c.args.messages.now _ _ none c.self.invariant.fit.other_dirty
     (ap length second ∙ c.dirty_touched-2.ensures.size ∙ ap length c.deref_mut-2.ensures.value)
     (touched_along c.args.messages.now same c.deref_mut-2.ensures.value second c.dirty_touched-2.ensures.touched) in
     (λ i. journal_view_of (log i) (named i) (others i) c.self.inside.pieces_left (g.D.Disk.medium (c.append.ensures.none none i)))
-    ∙ ap (λ (n : ℕ). journal_view_of (record c.self.inside.halves { used = n }) c.self.inside.named_dirty.items c.self.inside.other_dirty.items
+    ∙ ap (λ (n : ℕ). journal_view_of (record c.self.inside.halves { used = n }) c.self.inside.buffers.named_dirty.items c.self.inside.buffers.other_dirty.items
     c.self.inside.pieces_left (g.D.Disk.medium c.self.inside.disk)) used
     ∙ c.self.view_is
 
@@ -103,15 +103,17 @@ invariant_of-self-2 g c =
     let first = whole_put c.dirty_touched.new.dirty c.dirty_touched.ensures.size c.deref_mut.ensures.value c.deref_mut.ensures.len in
     let second = whole_put c.dirty_touched-2.new.dirty c.dirty_touched-2.ensures.size c.deref_mut-2.ensures.value c.deref_mut-2.ensures.len in
     record {
-      long_enough = omega (arith, c.self.invariant.long_enough, c.append.ensures.call.1, ap (λ (l : Log). device_size (layout_of_log l)) log);
+      long_enough = omega (arith, c.self.invariant.long_enough, c.append.ensures.call.len, ap (λ (l : Log). device_size (layout_of_log l)) log);
       used = omega (arith, c.self.invariant.used, ap (λ (l : Log). l.used) log, ap (λ (g : Geometry). g.half) geometry, ap (λ (h : JournalView). h.room) c.self.view_is, c.requires.room);
-      snapshot = c.self.invariant.snapshot ∙ sym (ap image_size geometry);
-      named_dirty = ap length first ∙ c.dirty_touched.ensures.size ∙ ap length c.deref_mut.ensures.value ∙ c.self.invariant.named_dirty ∙ sym (ap piece_count geometry);
-      other_dirty = ap length second ∙ c.dirty_touched-2.ensures.size ∙ ap length c.deref_mut-2.ensures.value ∙ c.self.invariant.other_dirty ∙ sym (ap piece_count geometry);
-      pending = c.self.invariant.pending ∙ sym (ap piece_count geometry);
+      fit = record {
+        snapshot = c.self.invariant.fit.snapshot ∙ sym (ap image_size geometry);
+        named_dirty = ap length first ∙ c.dirty_touched.ensures.size ∙ ap length c.deref_mut.ensures.value ∙ c.self.invariant.fit.named_dirty ∙ sym (ap piece_count geometry);
+        other_dirty = ap length second ∙ c.dirty_touched-2.ensures.size ∙ ap length c.deref_mut-2.ensures.value ∙ c.self.invariant.fit.other_dirty ∙ sym (ap piece_count geometry);
+        pending = c.self.invariant.fit.pending ∙ sym (ap piece_count geometry);
+      };
       fits_cut_state = λ _.
-          subst (λ (l : Log). FitsCutState l c.self.inside.pending.items c.self.inside.pieces_left) (sym log)
-          (placed_used c.self.inside.halves (c.self.inside.halves.used + length c.args.messages.now) c.self.inside.pending.items c.self.inside.pieces_left
+          subst (λ (l : Log). FitsCutState l c.self.inside.buffers.pending.items c.self.inside.pieces_left) (sym log)
+          (placed_used c.self.inside.halves (c.self.inside.halves.used + length c.args.messages.now) c.self.inside.buffers.pending.items c.self.inside.pieces_left
           (fits_of c.self.invariant c.self.view_is c.requires.not_failed));
       sound = λ _ k.
           sound_along log refl refl refl refl

@@ -11,7 +11,7 @@ use Rattle.journal.specs.Costs.{point_cost}
 use Rattle.journal.specs.Journal.{JournalView, committed}
 use Rattle.journal.specs.Keeping.{FitsCutState}
 use Rattle.journal.specs.Steps.{IsPointed}
-use Rattle.journal.proofs.Costs.{few_runs}
+use Rattle.journal.proofs.Costs.{few_writes}
 use Rattle.journal.proofs.Logging.{beyond_of, recoverable_of, sound_along, still_of}
 use Rattle.journal.proofs.Rows.{whole_put}
 use Rattle.checkpoint.specs.Version.{named_version}
@@ -25,8 +25,8 @@ use Rattle.journal.proofs.journal.Journal.point.Goals.{After-deref-3, After-swap
 use Rattle.journal.proofs.journal.Journal.point.Goals as goal
 
 saved : (g : Over) (c : After-deref-3 g) → g.D.Disk.keeps
-    → Saves c.self.inside.halves c.self.inside.snapshot.items c.update_snapshot.new.bytes c.self.inside.named_dirty.items c.self.inside.other_dirty.items c.self.inside.pending.items
-    (g.D.Disk.medium c.self.inside.disk) (state_in c.args.tree.now)
+    → Saves c.self.inside.halves c.self.inside.buffers.snapshot.items c.update_snapshot.new.bytes c.self.inside.buffers.named_dirty.items c.self.inside.buffers.other_dirty.items
+    c.self.inside.buffers.pending.items (g.D.Disk.medium c.self.inside.disk) (state_in c.args.tree.now)
 saved g c k =
     saves {self = c.args.self.now} {tree = c.args.tree.now} c.self.invariant c.self.view_is k
     (record { not_failed = c.requires.not_failed; no_cut = c.requires.no_cut; geometry = c.requires.geometry; state = c.requires.whole.state; committed = c.requires.state k })
@@ -88,14 +88,16 @@ invariant_of-self-2 g c =
     let log = c.in_ok-point_on.ensures.log in
     let same = c.point_on.ensures.geometry in
     record {
-      long_enough = omega (arith, c.self.invariant.long_enough, c.point_on.ensures.call.1, ap (λ (l : Log). device_size (layout_of_log l)) log);
+      long_enough = omega (arith, c.self.invariant.long_enough, c.point_on.ensures.call.len, ap (λ (l : Log). device_size (layout_of_log l)) log);
       used = omega (arith, ap (λ (l : Log). l.used) log);
-      snapshot = ap length snapshot ∙ c.update_snapshot.ensures.size ∙ ap length c.deref_mut.ensures.value ∙ c.self.invariant.snapshot ∙ sym (ap image_size same);
-      named_dirty = ap length c.swap_and_clear_dirty.ensures.written ∙ length-replicate _ false ∙ c.self.invariant.other_dirty ∙ sym (ap piece_count same);
-      other_dirty = ap (λ v. length v.items) c.swap_and_clear_dirty.ensures.kept ∙ c.self.invariant.named_dirty ∙ sym (ap piece_count same);
-      pending = c.self.invariant.pending ∙ sym (ap piece_count same);
+      fit = record {
+        snapshot = ap length snapshot ∙ c.update_snapshot.ensures.size ∙ ap length c.deref_mut.ensures.value ∙ c.self.invariant.fit.snapshot ∙ sym (ap image_size same);
+        named_dirty = ap length c.swap_and_clear_dirty.ensures.written ∙ length-replicate _ false ∙ c.self.invariant.fit.other_dirty ∙ sym (ap piece_count same);
+        other_dirty = ap (λ v. length v.items) c.swap_and_clear_dirty.ensures.kept ∙ c.self.invariant.fit.named_dirty ∙ sym (ap piece_count same);
+        pending = c.self.invariant.fit.pending ∙ sym (ap piece_count same);
+      };
       fits_cut_state = λ _.
-          subst (λ (o : Option ℕ). FitsCutState c.point_on.new.halves c.self.inside.pending.items o) (sym no_cut) (ap (λ (l : Log). l.current) log ∙ sym (ap (λ (l : Log). l.named) log));
+          subst (λ (o : Option ℕ). FitsCutState c.point_on.new.halves c.self.inside.buffers.pending.items o) (sym no_cut) (ap (λ (l : Log). l.current) log ∙ sym (ap (λ (l : Log). l.named) log));
       sound = λ _ k.
           sound_along c.in_ok-point_on.ensures.log snapshot refl refl no_cut
           (point_sound (saved g (goal.at.invariant_of-self-2 g c).After-deref-3 k) (g.met.D.Disk.bytes c.point_on.new.disk) (ap (λ v. v.items) c.swap_and_clear_dirty.ensures.kept) (made g c k));
@@ -121,11 +123,7 @@ returns-clause-costs g c = λ k.
     omega (arith, dirty, ap (λ (h : JournalView). moment_number h.medium) c.self.view_is, c.in_ok-point_on.ensures.costs k)
 
 pub returns-in_err-point_on-clause-few : goal.returns-in_err-point_on-clause-few
-returns-in_err-point_on-clause-few g c =
-    let long : length c.self.inside.other_dirty.items ≡ piece_count c.args.self.now.geometry = c.self.invariant.other_dirty ∙ ap (λ (h : JournalView). piece_count h.geometry) c.self.view_is in
-    omega (arith, few_runs c.self.inside.other_dirty.items, ap (λ (h : JournalView). point_cost h.dirty.other) c.self.view_is, long)
+returns-in_err-point_on-clause-few g c = rw (← c.self.view_is) (few_writes c.self.inside.halves.geometry c.self.inside.buffers.other_dirty.items c.self.invariant.fit.other_dirty)
 
 pub returns-clause-few : goal.returns-clause-few
-returns-clause-few g c =
-    let long : length c.self.inside.other_dirty.items ≡ piece_count c.args.self.now.geometry = c.self.invariant.other_dirty ∙ ap (λ (h : JournalView). piece_count h.geometry) c.self.view_is in
-    omega (arith, few_runs c.self.inside.other_dirty.items, ap (λ (h : JournalView). point_cost h.dirty.other) c.self.view_is, long)
+returns-clause-few g c = rw (← c.self.view_is) (few_writes c.self.inside.halves.geometry c.self.inside.buffers.other_dirty.items c.self.invariant.fit.other_dirty)

@@ -17,6 +17,6 @@ returns-clause-any_moment g c = λ k.
 
 pub returns-clause-cleared : goal.returns-clause-cleared
 returns-clause-cleared g c = λ k.
-    let whole = subst (λ (log : Log). IsLongEnough log (g.D.Disk.medium c.args.disk.now)) (sym c.self.view_is) c.requires.long_enough in
+    let whole = subst (λ (log : Log). IsLongEnough log (g.D.Disk.medium c.args.disk.now)) (sym c.self.view_is) c.requires.usable.long_enough in
     rw (← c.self.view_is) (cleared (layout_of c.self.inside.geometry) (other c.self.inside.named) (omega arith) _ _ whole
     (on_ok c.clear.result _ (sym c.is_err.ensures.value ∙ c.if-is_err.false) c.clear.ensures.cleared k))

@@ -17,6 +17,6 @@ returns-clause-any_moment g c = λ k.
 
 pub returns-clause-flipped : goal.returns-clause-flipped
 returns-clause-flipped g c = λ k.
-    let whole = subst (λ (log : Log). IsLongEnough log (g.D.Disk.medium c.args.disk.now)) (sym c.self.view_is) c.requires.long_enough in
+    let whole = subst (λ (log : Log). IsLongEnough log (g.D.Disk.medium c.args.disk.now)) (sym c.self.view_is) c.requires.usable.long_enough in
     rw (← c.self.view_is) (named (layout_of c.self.inside.geometry) (other c.self.inside.named) _ _ (omega arith) whole
     (on_ok c.store.result _ (sym c.is_err.ensures.value ∙ c.if-is_err.false) c.store.ensures.stored k))

@@ -24,7 +24,7 @@ returns-clause-any_moment g c = λ k.
 
 pub returns-clause-chained : goal.returns-clause-chained
 returns-clause-chained g c = λ k.
-    let whole = subst (λ (log : Log). IsLongEnough log (g.D.Disk.medium c.args.disk.now)) (sym c.self.view_is) c.requires.long_enough in
+    let whole = subst (λ (log : Log). IsLongEnough log (g.D.Disk.medium c.args.disk.now)) (sym c.self.view_is) c.requires.usable.long_enough in
     subst (λ (log : Log). Chained (layout_of_log log) log.named (g.D.Disk.medium c.args.disk.now) (g.D.Disk.medium c.store.new.disk)) c.self.view_is
     (chained (layout_of c.self.inside.geometry) c.self.inside.named c.start.result c.self.invariant.named (at_half _ _ _ _ c.start.ensures (omega (arith, c.self.invariant.named))) _ _ whole
     (on_ok c.store.result _ (sym c.is_err.ensures.value ∙ c.if-is_err.false) c.store.ensures.stored k))
