@@ -25,10 +25,11 @@ pub none_present : (n : ℕ) → present (replicate n None) ≡ []
 none_present zero = refl
 none_present (suc n) = none_present n
 
-no_chain : (count n : ℕ) → slice_index_or {A = List ℕ} (replicate count []) n [] ≡ []
-no_chain zero n = refl
-no_chain (suc count) zero = refl
-no_chain (suc count) (suc n) = no_chain count n
+-- whatever is read of a row of the default value is that
+pub default_at : {A : Type 0} (count n : ℕ) (x : A) → slice_index_or (replicate count x) n x ≡ x
+default_at zero n x = refl
+default_at (suc count) zero x = refl
+default_at (suc count) (suc n) x = default_at count n x
 
 all_numbers : (from count i : ℕ) → from ≤ i → i < from + count → 0 < count_of i (numbers_from from count)
 all_numbers from zero i low high = absurd (omega arith)
@@ -39,7 +40,7 @@ start-waiting capacity numbers = ap by_ticket (none_present capacity)
 
 pub start-queued : (capacity numbers : ℕ) → IsPartitioned {T = QueuedMessage} (empty_arena capacity numbers) → IsQueued (empty_arena capacity numbers)
 start-queued capacity numbers partitioned =
-    grind (arith, all_numbers 0 capacity, length-replicate {A = Option QueuedMessage} capacity None, start-waiting capacity numbers, no_chain numbers)
+    grind (arith, all_numbers 0 capacity, length-replicate {A = Option QueuedMessage} capacity None, start-waiting capacity numbers, default_at {A = List ℕ} numbers)
 
 -- ---- the first of a queue
 

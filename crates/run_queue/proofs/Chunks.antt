@@ -13,7 +13,8 @@ use Rattle.run_queue.specs.ReadyTable.{AreLowerBounds, IsEntryRight, earliest_fr
 use Rattle.run_queue.specs.Order.{Ascend, earlier}
 use Rattle.run_queue.specs.declared.queued_message.QueuedMessage.{QueuedMessage}
 use Rattle.run_queue.proofs.Earliest.{first_below, below-step}
-use Rattle.run_queue.proofs.Ready.{none-ready, room-at}
+use Rattle.run_queue.proofs.Chains.{default_at}
+use Rattle.run_queue.proofs.Ready.{room-at}
 
 -- ---- one ready entry is set
 
@@ -47,7 +48,7 @@ least-found ready_table least n found o are here new chunk i below = elim (cases
 
 pub none-least : (numbers chunks : ℕ) → AreLowerBounds (replicate numbers None) (replicate chunks 18446744073709551615)
 none-least numbers chunks chunk i below =
-    let none = ap (λ m. rank_of m) (none-ready numbers (16 * chunk + i)) in
+    let none = ap (λ m. rank_of m) (default_at {A = Option QueuedMessage} numbers (16 * chunk + i) None) in
     let low = at_most chunks chunk in
     omega (arith, none, low)
   where

@@ -3,7 +3,7 @@ use Rattle.std.proofs.lemmas.Grind.{common_steps}
 use Rattle.std.proofs.Common.{◌≡◌, ◌∙◌, ℕ, zero, suc, ◌+◌, ◌<◌, ◌≤◌, List, [], ◌∷◌, find, Option, Some, None, refl, ap, sym, arith, length, slice_index_or}
 use Rattle.std.specs.Prelude.{slice_set, replicate}
 use Rattle.std.proofs.lemmas.Bool.{eq-eqb}
-use Rattle.std.proofs.lemmas.List.{length-set, length-replicate}
+use Rattle.std.proofs.lemmas.List.{get_or_past, length-set, length-replicate}
 use Rattle.run_queue.proofs.Chains.{none_present}
 use Rattle.run_queue.specs.RunQueue.{has_number, without_number}
 use Rattle.run_queue.specs.Queues.{HeldMessages, present, AreByNumberFrom, HasInserted}
@@ -95,13 +95,8 @@ pub free-view : (entries : List (Option QueuedMessage)) (n : ℕ) → AreByNumbe
     (record { numbers = length entries; messages = without_number n (present entries) })
 free-view entries n stand = held-same _ _ _ _ (length-set {A = Option QueuedMessage} entries n None) (free-from entries 0 n n stand (omega arith))
 
-past-end : (entries : List (Option QueuedMessage)) (n : ℕ) → length entries ≤ n → slice_index_or {A = Option QueuedMessage} entries n None ≡ None
-past-end [] n past = refl
-past-end (o ∷ entries) zero past = absurd (omega arith)
-past-end (o ∷ entries) (suc n) past = past-end entries n (omega arith)
-
 pub found-past : (entries : List (Option QueuedMessage)) (n : ℕ) → AreByNumberFrom 0 entries → length entries ≤ n → find (has_number n) (present entries) ≡ None
-found-past entries n stand past = found-at entries n stand ∙ past-end entries n past
+found-past entries n stand past = found-at entries n stand ∙ get_or_past entries n None past
 
 pub free-past : (entries : List (Option QueuedMessage)) (n : ℕ) → AreByNumberFrom 0 entries → length entries ≤ n → without_number n (present entries) ≡ present entries
 free-past entries n stand past = without-none n (present entries) (found-past entries n stand past)

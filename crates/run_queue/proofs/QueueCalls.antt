@@ -20,7 +20,8 @@ use Rattle.run_queue.proofs.Sorting.{all-filter, all-last, ascend-filter, ascend
 use Rattle.run_queue.proofs.Clearing.{find-all, find-passes, any-found}
 use Rattle.run_queue.proofs.Earliest.{own_overlap, clear-first}
 use Rattle.run_queue.proofs.Passing.{next_waits}
-use Rattle.run_queue.proofs.Ready.{none-ready, right-arrived, right-gone, right-freed}
+use Rattle.run_queue.proofs.Ready.{right-arrived, right-gone, right-freed}
+use Rattle.run_queue.proofs.Chains.{default_at}
 
 -- ---- the start
 
@@ -40,7 +41,7 @@ kept-start g slots numbers most = record {
   };
   right = record {
     numbers = λ any. (let all = all_below any in omega (arith, all, most, length-replicate {A = Option QueuedMessage} numbers None));
-    right = λ n. none-ready numbers n;
+    right = λ n. default_at numbers n None;
   };
 }
 

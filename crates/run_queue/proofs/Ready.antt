@@ -1,9 +1,10 @@
 -- Which ready entries stay right, and what they show of the messages that may be dispatched.
 use Rattle.std.proofs.lemmas.Grind.{common_steps}
-use Rattle.std.proofs.Common.{◌≡◌, ◌≢◌, ◌∙◌, ℕ, zero, suc, ◌<◌, ◌≤◌, Bool, true, false, not, ◌&&◌, ◌||◌, List, [], ◌∷◌, ◌++◌, find, Option, Some, None, refl, ap, sym, subst, inl, inr, arith, length}
-use Rattle.std.specs.Prelude.{nat_lt, if◌then◌else◌, replicate}
+use Rattle.std.proofs.Common.{◌≡◌, ◌≢◌, ◌∙◌, ℕ, ◌<◌, ◌≤◌, Bool, true, false, not, ◌&&◌, ◌||◌, List, [], ◌∷◌, ◌++◌, find, Option, Some, None, refl, ap, sym, subst, inl, inr, arith, length}
+use Rattle.std.specs.Prelude.{nat_lt, if◌then◌else◌}
 use Rattle.std.specs.List.{list_any, AllByRecursion}
 use Rattle.std.proofs.lemmas.Bool.{ne_eqb, eqb-true, lt-ltb, cases_Bool, cases_eq, and_from, or_left, and_right}
+use Rattle.std.proofs.lemmas.List.{get_or_past}
 use Rattle.std.proofs.lemmas.Option.{none-some}
 use Rattle.std.proofs.Math.Bool.{or_comm}
 use Rattle.affinity.specs.Interval.{Interval, IsAffinity, contains, affinity_count}
@@ -12,7 +13,7 @@ use Rattle.run_queue.specs.RunQueue.{are_related_intervals, is_free_of, has_room
 use Rattle.run_queue.specs.Slots.{count_in_slot}
 use Rattle.run_queue.specs.Order.{Ascend, waits_for, is_conflict_free}
 use Rattle.run_queue.specs.Queues.{HasInserted}
-use Rattle.run_queue.specs.ReadyTable.{if_passes, ready_at, ready_in, IsEntryRight, StayRight, AreRelatedRight}
+use Rattle.run_queue.specs.ReadyTable.{if_passes, ready_at, IsEntryRight, StayRight, AreRelatedRight}
 use Rattle.run_queue.specs.declared.queued_message.QueuedMessage.{QueuedMessage}
 use Rattle.run_queue.proofs.Nearby.{number-below, same_path}
 use Rattle.run_queue.proofs.SlotCounts.{count_in_slot-cons_is, count_in_slot-cons_other}
@@ -46,16 +47,6 @@ ready-same held waiting held' waiting' n same clear = grind (arith, common_steps
 
 -- ---- one ready entry
 
-pub past-ready_table : (ready_table : List (Option QueuedMessage)) (n : ℕ) → length ready_table ≤ n → ready_in ready_table n ≡ None
-past-ready_table [] n past = refl
-past-ready_table (o ∷ ready_table) zero past = absurd (omega arith)
-past-ready_table (o ∷ ready_table) (suc n) past = past-ready_table ready_table n (omega arith)
-
-pub none-ready : (n i : ℕ) → ready_in (replicate n None) i ≡ None
-none-ready zero i = refl
-none-ready (suc n) zero = refl
-none-ready (suc n) (suc i) = none-ready n i
-
 none-at : (g : Geometry) (waiting : List QueuedMessage) (n : ℕ) → AllByRecursion (λ d. IsAffinity g d.affinity) waiting → affinity_count g ≤ n
     → find (has_number n) waiting ≡ None
 none-at g [] n placed past = refl
@@ -65,7 +56,7 @@ none-at g (d ∷ waiting) n placed past =
 
 pub update_ready-past : (g : Geometry) (held waiting : List QueuedMessage) (ready_table : List (Option QueuedMessage)) (n : ℕ) → AllByRecursion (λ d. IsAffinity g d.affinity) waiting
     → affinity_count g ≤ length ready_table → length ready_table ≤ n → IsEntryRight held waiting ready_table n
-update_ready-past g held waiting ready_table n placed all past = grind (arith, common_steps, past-ready_table, none-at)
+update_ready-past g held waiting ready_table n placed all past = grind (arith, common_steps, get_or_past ready_table n None past, none-at)
 
 pub stay-trans : (held waiting : List QueuedMessage) (a b c : List (Option QueuedMessage)) → StayRight held waiting a b → StayRight held waiting b c → StayRight held waiting a c
 stay-trans held waiting a b c first second = (second.0 ∙ first.0, λ n right. second.1 n (first.1 n right))
@@ -106,8 +97,6 @@ module _ (held waiting : List QueuedMessage) (t : QueuedMessage) (later : CameBe
       by None is = here is
       by (Some f) is = stay.1 t.affinity.number
           (right t.affinity.number ∙ sym (ready-arrived t.affinity.number (λ none. absurd (none-some f (sym none ∙ is)))))
-
--- ---- numbers one by one
 
 -- ---- a message that is dispatched
 

@@ -65,9 +65,10 @@ impl Queues {
         ensures { self.new ≡ record self.old { messages = self.old.messages ++ queued ∷ [] } }
     {
         let number = usize::from(queued.affinity.number());
-        if let Ok(i) = self.messages.put(queued) {
-            self.messages.move_to(i, number);
-        }
+        let Ok(i) = self.messages.put(queued) else {
+            unreachable!()
+        };
+        self.messages.move_to(i, number);
     }
 
     /// Removes the first message that waits at a number. No two waiting messages have the same slot.

@@ -9,9 +9,7 @@ pub hold-requires-clause-number : goal.hold-requires-clause-number
 hold-requires-clause-number c =
     let next = subst (λ (q : RunQueueView). IsNext q c.args.queued) (sym c.self.view_is) c.requires in
     let placed = next-placed c.self.inside.geometry c.self.inside.slots c.self.inside.waiting c.self.inside.held c.self.invariant.queued c.args.queued next.0 next.1 in
-    let below = number-below c.self.inside.geometry c.args.queued.affinity placed in
-    let all = c.self.invariant.queued.entries c.self.inside.geometry in
-    omega (arith, below, all)
+    omega (arith, number-below c.self.inside.geometry c.args.queued.affinity placed, c.self.invariant.queued.entries c.self.inside.geometry)
 
 pub hold-requires-clause-free : goal.hold-requires-clause-free
 hold-requires-clause-free c =
@@ -22,9 +20,8 @@ pub update_ready-requires-clause-messages : goal.update_ready-requires-clause-me
 update_ready-requires-clause-messages c =
     let next = subst (λ (q : RunQueueView). IsNext q c.args.queued) (sym c.self.view_is) c.requires in
     let number : c.from-number.result ≡ c.args.queued.affinity.number = omega arith in
-    let queued = queued-gone c.self.inside.geometry c.self.inside.slots c.self.inside.waiting c.pop.new.self c.self.inside.held c.hold.new.self
-    c.args.queued c.self.invariant.queued next c.from-number.result number c.pop.ensures c.hold.ensures.rest c.hold.ensures.messages in
-    queued.placed
+    (queued-gone c.self.inside.geometry c.self.inside.slots c.self.inside.waiting c.pop.new.self c.self.inside.held c.hold.new.self
+    c.args.queued c.self.invariant.queued next c.from-number.result number c.pop.ensures c.hold.ensures.rest c.hold.ensures.messages).placed
 
 pub invariant_of-self : goal.invariant_of-self
 invariant_of-self c =

@@ -13,9 +13,8 @@ update_ready_related-requires-clause-placed c = grind (arith, common_steps, find
 
 pub update_ready_related-requires-clause-messages : goal.update_ready_related-requires-clause-messages
 update_ready_related-requires-clause-messages c =
-    let queued = subst (λ (h : HeldMessages). AreQueued c.self.inside.geometry c.self.inside.slots c.self.inside.waiting h) (sym c.free.ensures)
-    (messages-freed c.from-number.result c.self.invariant.queued) in
-    queued.placed
+    (subst (λ (h : HeldMessages). AreQueued c.self.inside.geometry c.self.inside.slots c.self.inside.waiting h) (sym c.free.ensures)
+    (messages-freed c.from-number.result c.self.invariant.queued)).placed
 
 pub invariant_of-self : goal.invariant_of-self
 invariant_of-self c =

@@ -1,17 +1,17 @@
 -- Each chunk was looked at, or no ready message in it is earlier than the best one.
 use Rattle.std.proofs.lemmas.Grind.{common_steps}
+use Rattle.std.proofs.lemmas.List.{get_or_past}
 use Rattle.std.proofs.Common.{◌≡◌, ◌∙◌, ◌+◌, ◌*◌, sym, ap, arith, Option}
 use Rattle.run_queue.specs.RunQueue.{has_room}
 use Rattle.run_queue.specs.ReadyTable.{earliest_from, ready_in}
 use Rattle.run_queue.specs.declared.queued_message.QueuedMessage.{QueuedMessage}
 use Rattle.run_queue.proofs.Chunks.{below-from}
 use Rattle.run_queue.proofs.Earliest.{first_below, below-start, below-all, all-passed}
-use Rattle.run_queue.proofs.Ready.{past-ready_table}
 use Rattle.run_queue.proofs.run_queue.RunQueue.next.Goals.{then-least-bound, else-least-bound}
 use Rattle.run_queue.proofs.run_queue.RunQueue.next.Goals as goal
 
 pub loop-chunk-init : goal.loop-chunk-init
-loop-chunk-init c = grind (arith, common_steps, past-ready_table, below-start)
+loop-chunk-init c = grind (arith, common_steps, get_or_past, below-start)
 
 pub loop-chunk-preserved : goal.loop-chunk-preserved
 loop-chunk-preserved c =

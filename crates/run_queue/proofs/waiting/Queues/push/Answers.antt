@@ -12,8 +12,8 @@ use Rattle.run_queue.proofs.waiting.Queues.push.Goals as goal
 pub invariant_of-self : goal.invariant_of-self
 invariant_of-self c = grind (arith, common_steps, free-from_put, push-arena, push-queued)
 
-pub returns-in-Ok : goal.returns-in-Ok
-returns-in-Ok c =
+pub returns : goal.returns
+returns c =
     let arena = c.self.inside.messages in
     let t = c.args.queued in
     let i = c.in-Ok.i in
@@ -27,5 +27,5 @@ returns-in-Ok c =
     ∙ push-arena arena t i free.0 n c.self.invariant free.1 there number later in
     rw (← c.self.view_is, is) (push-view arena t i free.0 n c.self.invariant free.1 there number later)
 
-pub returns-in_default : goal.returns-in_default
-returns-in_default c = grind (arith, common_steps, push-room)
+pub unreachable-requires : goal.unreachable-requires
+unreachable-requires c = grind (arith, common_steps, push-room)
