@@ -15,7 +15,6 @@ use Rattle.histories.specs.Laws.{AreUnrelated, HaveRepliesAt, AreAscending, Have
 use Rattle.histories.proofs.Lists.{all_front, all_back, all_moved, all_without, before_push, before_back, before_front, before_without, before_moved, picked}
 use Rattle.histories.proofs.Apart.{grant_apart, back_apart, log_held, held_grant, length_held}
 use Rattle.histories.proofs.Full.{length-picked}
-use Rattle.histories.proofs.Moves.{Move, Stays, Arrives, Grants, Backs, Logs, Answers, moves}
 use Rattle.histories.proofs.Ways.{Passed, Way, ways}
 use Rattle.histories.proofs.Ways as way
 use Rattle.histories.proofs.SerialReplies.{InARow, in_a_row}
@@ -136,13 +135,12 @@ module _ (g : Geometry) where
 
 -- ---- the number of slots
 
-pub move_slots : (g : Geometry) (old new : CoreState) (p : Passed) → Move g old new p → new.slots ≡ old.slots
-move_slots g old new p (Stays s e) = s.slots
-move_slots g old new p (Arrives m fits is e) = ap (λ w. w.slots) is
-move_slots g old new p (Grants found first is e) = ap (λ w. w.slots) is
-move_slots g old new p (Backs ticket found one_out is e) = ap (λ w. w.slots) is
-move_slots g old new p (Logs n is e) = ap (λ w. w.slots) is
-move_slots g old new p (Answers a rest front is e) = ap (λ w. w.slots) is
+pub event_slots : (g : Geometry) (old : MachineState) (event : Event) → IsAllowed g old event → event.state_after.core.slots ≡ old.core.slots
+event_slots g old event allowed = by (ways g old event allowed)
+  where
+    by : {event : Event} {p : Passed} → Way g old event p → event.state_after.core.slots ≡ old.core.slots
+    by (way.Arrives m works fits) = refl
+    by _ = refl
 
 -- In each core state of a run the log has room for what is in flight or ran, and the slots that there were at the start are enough.
 pub run_fits : (g : Geometry) (old : MachineState) (events : List Event) → IsLegal g old events → IsSoundCoreState g old.core
@@ -150,7 +148,7 @@ pub run_fits : (g : Geometry) (old : MachineState) (events : List Event) → IsL
 run_fits g old [] legal h = tt
 run_fits g old (event ∷ events) legal h =
     let k = event_sound g old event legal.0 h in
-    let same = move_slots g old.core event.state_after.core _ (moves g old event legal.0) in (
+    let same = event_slots g old event legal.0 in (
       (k.room, subst (λ n. length event.state_after.core.waiting + length (held event.state_after.core) ≤ n) same k.fits),
       subst (λ n. AllByRecursion (λ event. HasRoom n event.state_after.core) events) same (run_fits g event.state_after events legal.1 k),
     )

@@ -1,8 +1,7 @@
 -- How many messages the core has slots for, and that a message finds a slot.
 use Rattle.std.proofs.Common.{◌≡◌, ◌≢◌, ℕ, ◌<◌, Bool, List, [], ◌∷◌, Option, refl, ap, sym, ◌∙◌, length, arith}
-use Rattle.histories.proofs.Sound.{move_slots}
+use Rattle.histories.proofs.Sound.{event_slots}
 use Rattle.affinity.specs.declared.geometry.Geometry.{Geometry}
-use Rattle.histories.proofs.Moves.{moves}
 use Rattle.histories.specs.Events.{Event, MachineState, arrive}
 use Rattle.histories.specs.Laws.{IsIdle}
 use Rattle.histories.specs.Runs.{IsLegal, end_state}
@@ -25,7 +24,7 @@ use Rattle.serving.specs.Runs.{RunsBetween}
 run_slots : (g : Geometry) (old : MachineState) (events : List Event) → IsLegal g old events → (end_state old events).core.slots ≡ old.core.slots
 run_slots g old [] legal = refl
 run_slots g old (event ∷ events) legal =
-    run_slots g event.state_after events legal.1 ∙ move_slots g old.core event.state_after.core _ (moves g old event legal.0)
+    run_slots g event.state_after events legal.1 ∙ event_slots g old event legal.0
 
 pub passes_slots : {keeps : Type 0} {old new : MachineView} {arriving : List Entry} {reply_pairs : List (ℕ × Reply)} → RunsBetween keeps old new arriving reply_pairs
     → new.core.slots ≡ old.core.slots
