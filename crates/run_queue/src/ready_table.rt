@@ -32,9 +32,9 @@ impl Model for ReadyTable {
 
     ghost Value = { List (Option QueuedMessage) };
 
-    ghost use Rattle.run_queue.specs.Fields.{ready_of, IsReadyTable};
+    ghost use Rattle.run_queue.specs.Fields.{IsReadyTable};
 
-    ghost view = { ready_of };
+    ghost view = { λ t. t.ready.items };
 
     ghost invariant = { IsReadyTable };
 }
