@@ -14,13 +14,8 @@ use Rattle.histories.specs.Crash.{IsLogAfter, in_doubt}
 use Rattle.histories.specs.Laws.{ticket_replies}
 use Rattle.histories.proofs.Ways.{Passed, Way, nothing, Nothing, Logs, Answers, Points, Fails, ways}
 use Rattle.histories.proofs.SerialReplies.{ticket_replies-append}
-use Rattle.histories.proofs.Runs.{appended_is_recorded}
+use Rattle.histories.proofs.Runs.{appended_is_recorded, recorded-append}
 use Rattle.histories.proofs.Crashes.{legal_first, appended_first}
-
-pub recorded-append : (as' bs : List Replied) → recorded (as' ++ bs) ≡ recorded as' ++ recorded bs
-recorded-append as' bs = ap (map (λ (a : Replied). a.1)) (filter-append (λ (a : Replied). is_recorded a.1 a.2) as' bs)
-    ∙ map-append (λ (a : Replied). a.1) (filter (λ (a : Replied). is_recorded a.1 a.2) as') (filter
-    (λ (a : Replied). is_recorded a.1 a.2) bs)
 
 -- What was logged before an event, and then what it logs, is the message that it answers, if any, and then what is logged after it.
 record Ordered (old : CoreState) (logged : List Replied) (p : Passed) (o : Outcome) : Type 0 where

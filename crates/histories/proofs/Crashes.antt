@@ -5,30 +5,19 @@ use Rattle.language.specs.declared.Msg.{Msg}
 use Rattle.meaning.specs.State.{State}
 use Rattle.meaning.specs.Serial.{state_after_all}
 use Rattle.histories.specs.CoreState.{Replied}
-use Rattle.histories.specs.Events.{MachineState, Event}
+use Rattle.histories.specs.Events.{MachineState, Event, recorded}
 use Rattle.histories.specs.Runs.{IsLegal, end_state, appended_at, logged_at, appended_messages, logged_messages}
 use Rattle.histories.specs.Crash.{in_doubt, IsLogAfter, IsLeftSince}
 use Rattle.histories.specs.Laws.{IsSoundCoreState}
 use Rattle.histories.proofs.SerialReplies.{state_after_all-joined}
-use Rattle.histories.proofs.Runs.{run_appended}
+use Rattle.histories.proofs.Runs.{appended_is_recorded, recorded-append, run_appended}
 
 pub legal_first : (g : Geometry) (old : MachineState) (events : List Event) (k : ℕ) → IsLegal g old events → IsLegal g old (take k events)
 legal_first g old events zero legal = tt
 legal_first g old [] (suc k) legal = tt
 legal_first g old (event ∷ events) (suc k) legal = (legal.0, legal_first g event.state_after events k legal.1)
 
--- what the first k events append is a prefix of what the first `after` events append
-pub appended_first : (old : MachineState) (events : List Event) (k after : ℕ) → k ≤ after
-    → (rest : List Msg) × (appended_messages old (take after events) ≡ appended_messages old (take k events) ++ rest)
-appended_first old events zero after le = (appended_messages old (take after events), refl)
-appended_first old events (suc k) zero le = absurd (omega (arith, le))
-appended_first old [] (suc k) (suc after) le = ([], refl)
-appended_first old (event ∷ events) (suc k) (suc after) le =
-    let j = appended_first event.state_after events k after (omega (arith, le)) in
-    let now = appended_at old.core event.step event.device_failed in
-    (j.0, ap (λ l. now ++ l) j.1 ∙ sym (append_assoc now (appended_messages event.state_after (take k events)) j.0))
-
--- so it is with what they log
+-- what the first k events log is a prefix of what the first `after` events log
 pub went_first : (old : MachineState) (events : List Event) (k after : ℕ) → k ≤ after
     → (rest : List Replied) × (logged_messages old (take after events) ≡ logged_messages old (take k events) ++ rest)
 went_first old events zero after le = (logged_messages old (take after events), refl)
@@ -38,6 +27,16 @@ went_first old (event ∷ events) (suc k) (suc after) le =
     let j = went_first event.state_after events k after (omega (arith, le)) in
     let now = logged_at old.core event.step event.device_failed in
     (j.0, ap (λ l. now ++ l) j.1 ∙ sym (append_assoc now (logged_messages event.state_after (take k events)) j.0))
+
+-- so it is with what they append
+pub appended_first : (old : MachineState) (events : List Event) (k after : ℕ) → k ≤ after
+    → (rest : List Msg) × (appended_messages old (take after events) ≡ appended_messages old (take k events) ++ rest)
+appended_first old events k after le =
+    let j = went_first old events k after le in (
+      recorded j.0,
+      appended_is_recorded old (take after events) ∙ ap recorded j.1 ∙ recorded-append (logged_messages old (take k events)) j.0
+          ∙ ap (λ l. l ++ recorded j.0) (sym (appended_is_recorded old (take k events))),
+    )
 
 -- Whatever state a crash leaves, it comes of a log that begins with all that the first k events appended.
 pub left_begins : (g : Geometry) (old : MachineState) (events : List Event) (k : ℕ) (x : State) → IsLeftSince g old events k x

@@ -76,13 +76,14 @@ appends_recorded w (steps.Log k) device_failed = elim (device_failed || w.failed
     (λ b. (if b then [] else batch w k) ≡ recorded (if b then [] else take k w.ran)) [ true ↦ refl | false ↦ refl ]
 appends_recorded w _ device_failed = refl
 
+pub recorded-append : (as' bs : List Replied) → recorded (as' ++ bs) ≡ recorded as' ++ recorded bs
+recorded-append as' bs = ap (map (λ (a : Replied). a.1)) (filter-append (λ (a : Replied). is_recorded a.1 a.2) as' bs)
+    ∙ map-append (λ (a : Replied). a.1) (filter (λ (a : Replied). is_recorded a.1 a.2) as') (filter
+    (λ (a : Replied). is_recorded a.1 a.2) bs)
+
 -- What a run appends to the log is the changes that were carried out among the messages that it logs.
 pub appended_is_recorded : (old : MachineState) (events : List Event) → appended_messages old events ≡ recorded (logged_messages old events)
 appended_is_recorded old [] = refl
 appended_is_recorded old (event ∷ events) =
-    let gone = logged_at old.core event.step event.device_failed in
-    let later = logged_messages event.state_after events in
     (λ i. appends_recorded old.core event.step event.device_failed i ++ appended_is_recorded event.state_after events i)
-    ∙ sym (map-append (λ (a : Replied). a.1) (filter (λ (a : Replied). is_recorded a.1 a.2) gone) (filter
-    (λ (a : Replied). is_recorded a.1 a.2) later))
-    ∙ ap (map (λ (a : Replied). a.1)) (sym (filter-append (λ (a : Replied). is_recorded a.1 a.2) gone later))
+    ∙ sym (recorded-append (logged_at old.core event.step event.device_failed) (logged_messages event.state_after events))

@@ -25,7 +25,7 @@ use Rattle.scheduler.specs.Moving.{changing_in, recorded_in}
 use Rattle.scheduler.specs.Parts.{replied_of}
 use Rattle.scheduler.specs.Slots.{HasChains, SlotView, no_slot, slot_view_at}
 use Rattle.scheduler.specs.declared.slot.Slot.{Slot}
-use Rattle.histories.proofs.Answering.{recorded-append}
+use Rattle.histories.proofs.Runs.{recorded-append}
 
 -- ---- the slot behind one on its chain
 
