@@ -22,10 +22,10 @@ mistake_among [] k all among = absurd among
 mistake_among (x ∷ xs) k all among = grind (arith, common_steps, mistake_among xs k (and_parts (is_mistake x) (list_all is_mistake xs) all).1)
 
 pub ask_for_nothing : (words : List Text) (request : Request) → Asks words request → AreRefused words → ⊥
-ask_for_nothing words (Plain g) asks (inr out_of_range) = out_of_range.3 (subst AreInRange asks.2 (are_in_range g))
-ask_for_nothing words (Format path g) asks (inr out_of_range) = out_of_range.3 (subst AreInRange asks.3 (are_in_range g))
-ask_for_nothing words (Show path) asks (inr out_of_range) = out_of_range.1 asks.1
-ask_for_nothing words (Serve path s) asks (inr out_of_range) = out_of_range.2 asks.1
+ask_for_nothing words (Plain g) asks (inr out_of_range) = out_of_range.1.2 (subst AreInRange asks.1.1 (are_in_range g))
+ask_for_nothing words (Format path g) asks (inr out_of_range) = out_of_range.1.2 (subst AreInRange asks.1.2 (are_in_range g))
+ask_for_nothing words (Show path) asks (inr out_of_range) = out_of_range.1.0 asks.1.0
+ask_for_nothing words (Serve path s) asks (inr out_of_range) = out_of_range.1.1 asks.1.0
 ask_for_nothing words (Help text) asks (inl wrong) = grind (arith, common_steps, mistake_among)
 ask_for_nothing words (Help text) asks (inr out_of_range) = subst (IsAmong (kind_of text)) out_of_range.0 asks.0
 ask_for_nothing words _ asks (inl wrong) = wrong.0 asks.0

@@ -31,7 +31,7 @@ asks_two_files_at_once program = (refl, (λ e. cc, λ e. cc, λ e. plain_is_anot
 pub asks_short_half : (program : List ℕ) → AsksOutOfRange (program ∷ codes "plain" ∷ codes "--half" ∷ codes "3" ∷ [])
 unfolding clap_on_literals
 asks_short_half program =
-    (refl, λ e. cc, λ e. plain_is_another (ap first_letter e), λ in_range. let least : 4 ≤ 3 = in_range.7.0 in absurd (omega (arith, least)))
+    (refl, (λ e. cc, λ e. plain_is_another (ap first_letter e), λ in_range. let least : 4 ≤ 3 = in_range.7.0 in absurd (omega (arith, least))))
 
 pub asks_help : (program : List ℕ) → AsksHelp (program ∷ codes "--help" ∷ [])
 unfolding clap_on_literals
@@ -80,7 +80,7 @@ asks_format_behind_an_option program = (refl, refl, refl, refl)
 
 pub asks_format_of_short_half : (program : List ℕ) → AsksOutOfRange (program ∷ codes "format" ∷ codes "d" ∷ codes "--half" ∷ codes "3" ∷ [])
 unfolding clap_on_literals
-asks_format_of_short_half program = (refl, λ e. cc, λ e. cc, λ in_range. let least : 4 ≤ 3 = in_range.7.0 in absurd (omega (arith, least)))
+asks_format_of_short_half program = (refl, (λ e. cc, λ e. cc, λ in_range. let least : 4 ≤ 3 = in_range.7.0 in absurd (omega (arith, least))))
 
 pub asks_show : (program : List ℕ) → AsksShow (program ∷ codes "show" ∷ codes "d" ∷ []) (codes "d")
 unfolding clap_on_literals

@@ -9,7 +9,7 @@ use Rattle.clap.specs.declared.error.kind.ErrorKind.{ErrorKind}
 use Rattle.clap.specs.declared.error.kind.ErrorKind.TheVariants as kind
 use Rattle.arguments.specs.Arguments.{Asks, IsReason, IsRequested, findings, waffd, answer_by, answer_of, is_mistake}
 use Rattle.arguments.specs.declared.parsing.Request.{Request}
-use Rattle.arguments.specs.declared.parsing.Request.TheVariants.{Plain, Format, Show, Serve}
+use Rattle.arguments.specs.declared.parsing.Request.TheVariants.{Help}
 use Rattle.arguments.specs.declared.parsing.ArgumentRefusal.TheVariants.{GeometryOutOfRange}
 use Rattle.arguments.specs.declared.parsing.ArgumentRefusal.{ArgumentRefusal}
 use Rattle.std.specs.Result.{IfErr, IfOk, MatchResult}
@@ -32,11 +32,9 @@ holds words error h = holds_by words error (kind_of error) refl h
 
 -- so does what the options ask for, where `clap` finds nothing in the words
 pub holds_requested : (words : List Text) (r : Result Request ArgumentRefusal) → findings words ≡ [] → IsRequested (subcommand_of waffd words) r → Holds words r
-holds_requested words (Ok (Plain g)) nothing is = (nothing, is.0, is.1)
-holds_requested words (Ok (Format path g)) nothing is = (nothing, is.0, is.1, is.2)
-holds_requested words (Ok (Show path)) nothing is = (nothing, is.0, is.1)
-holds_requested words (Ok (Serve path s)) nothing is = (nothing, is.0, is.1, is.2)
-holds_requested words (Err GeometryOutOfRange) nothing is = (nothing, is.0, is.1, is.2)
+holds_requested words (Ok (Help text)) nothing is = absurd is
+holds_requested words (Ok request) nothing is = (nothing, is)
+holds_requested words (Err GeometryOutOfRange) nothing is = (nothing, is)
 holds_requested words _ nothing is = absurd is
 
 pub if_ok : (words : List Text) (r : Result Request ArgumentRefusal) → Holds words r → IfOk r (Asks words)

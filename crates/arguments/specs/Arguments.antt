@@ -29,24 +29,13 @@ abbrev pub names : List Text
 names = codes "aggregates" ∷ codes "volumes" ∷ codes "stripes" ∷ codes "width" ∷ codes "files" ∷ codes "blocks" ∷ codes "quota"
     ∷ codes "half" ∷ []
 
--- an option with one value, a number from 0 to 65535
-abbrev pub number_rule : Text → Rule
-number_rule name = record (new_rule name) { long = Some name; value_names = 1; parser = Some (Signed (pos 0) (pos 65535)) }
-
 -- an option with one value, a number from `least` to `most`
 abbrev pub rule_within : Text → ℤ → ℤ → Rule
 rule_within name least most = record (new_rule name) { long = Some name; value_names = 1; parser = Some (Signed least most) }
 
 -- a command with the options of a geometry added
 abbrev pub with_numbers : App → App
-with_numbers a = fold (λ b name. with_rule b (number_rule name)) a names
-
--- the options of `serve`: how many workers it has, how many lines it may read before their replies are sent, and after how many records
--- it makes a checkpoint
-abbrev pub with_service : App → App
-with_service a =
-    with_rule (with_rule (with_rule a (rule_within (codes "workers") (pos 0) (pos 64))) (rule_within (codes "slots") (pos 1) (pos 1024)))
-    (rule_within (codes "every") (pos 0) (pos 1024))
+with_numbers a = fold (λ b name. with_rule b (rule_within name (pos 0) (pos 65535))) a names
 
 -- the file of a device, which has to be given
 abbrev pub device_rule : Rule
@@ -64,9 +53,11 @@ format = with_numbers (with_rule (new_app (codes "format")) device_rule)
 abbrev pub show : App
 show = with_rule (new_app (codes "show")) device_rule
 
--- the command `serve`
+-- the command `serve`: how many workers it has, how many lines it may read before their replies are sent, and after how many records it
+-- makes a checkpoint
 abbrev pub serve : App
-serve = with_service (with_rule (new_app (codes "serve")) device_rule)
+serve = fold with_rule (new_app (codes "serve")) (device_rule ∷ rule_within (codes "workers") (pos 0) (pos 64)
+    ∷ rule_within (codes "slots") (pos 1) (pos 1024) ∷ rule_within (codes "every") (pos 0) (pos 1024) ∷ [])
 
 -- the program without its commands, of which one has to be given; it has a version
 abbrev pub bare : App
@@ -74,7 +65,7 @@ bare = on_top (λ s. record s { has_version = true; subcommand_required = true; 
 
 -- the program
 abbrev pub waffd : App
-waffd = with_subcommand (with_subcommand (with_subcommand (with_subcommand bare plain.top) format.top) show.top) serve.top
+waffd = fold with_subcommand bare (plain.top ∷ format.top ∷ show.top ∷ serve.top ∷ [])
 
 -- ---- what the arguments give
 
@@ -140,20 +131,10 @@ IsNamed name command = option_map (λ c. c.0) command ≡ Some name
 abbrev pub IsPlain : Option (Text × List Row) → Type 0
 IsPlain command = (¬ (IsNamed (codes "format") command)) × (¬ (IsNamed (codes "show") command)) × (¬ (IsNamed (codes "serve") command))
 
--- the numbers that the options of the command give
-abbrev pub numbers_at : Option (Text × List Row) → List ℕ
-numbers_at None = numbers_of default_geometry
-numbers_at (Some command) = numbers_in command.1
-
--- the options of `serve` that the command line gives
-abbrev pub service_at : Option (Text × List Row) → List ℕ
-service_at None = 2 ∷ 16 ∷ 0 ∷ []
-service_at (Some command) = service_in command.1
-
--- the file of the device that is given to the command
-abbrev pub device_at : Option (Text × List Row) → Text
-device_at None = []
-device_at (Some command) = device_in command.1
+-- the options that are given to the command
+abbrev pub given_to : Option (Text × List Row) → List Row
+given_to None = []
+given_to (Some command) = command.1
 
 -- The result is the geometry of these numbers, or they are refused because one is out of range.
 abbrev pub GivesGeometry : List ℕ → Result Geometry ArgumentRefusal → Type 0
@@ -162,40 +143,39 @@ GivesGeometry numbers (Err refusal) = (refusal ≡ GeometryOutOfRange) × (¬ (A
 
 -- The result is the request that the command makes, or why there is none.
 abbrev pub IsRequested : Option (Text × List Row) → Result Request ArgumentRefusal → Type 0
-IsRequested command (Ok (Plain g)) = IsPlain command × (numbers_of g ≡ numbers_at command)
-IsRequested command (Ok (Format path g)) = IsNamed (codes "format") command × (path.now ≡ device_at command)
-    × (numbers_of g ≡ numbers_at command)
-IsRequested command (Ok (Show path)) = IsNamed (codes "show") command × (path.now ≡ device_at command)
-IsRequested command (Ok (Serve path s)) = IsNamed (codes "serve") command × (path.now ≡ device_at command)
-    × (service_numbers s ≡ service_at command)
+IsRequested command (Ok (Plain g)) = IsPlain command × (numbers_of g ≡ numbers_in (given_to command))
+IsRequested command (Ok (Format path g)) = IsNamed (codes "format") command × (path.now ≡ device_in (given_to command))
+    × (numbers_of g ≡ numbers_in (given_to command))
+IsRequested command (Ok (Show path)) = IsNamed (codes "show") command × (path.now ≡ device_in (given_to command))
+IsRequested command (Ok (Serve path s)) = IsNamed (codes "serve") command × (path.now ≡ device_in (given_to command))
+    × (service_numbers s ≡ service_in (given_to command))
 IsRequested command (Err GeometryOutOfRange) =
-    (¬ (IsNamed (codes "show") command)) × (¬ (IsNamed (codes "serve") command)) × (¬ (AreInRange (numbers_at command)))
+    (¬ (IsNamed (codes "show") command)) × (¬ (IsNamed (codes "serve") command)) × (¬ (AreInRange (numbers_in (given_to command))))
 IsRequested command _ = ⊥
 
 -- The arguments ask for service without a device at this geometry.
 abbrev pub AsksPlain : List Text → Geometry → Type 0
-AsksPlain words g = (findings words ≡ []) × IsPlain (command_of words) × (numbers_of g ≡ numbers_at (command_of words))
+AsksPlain words g = (findings words ≡ []) × IsPlain (command_of words) × (numbers_of g ≡ numbers_in (given_to (command_of words)))
 
 -- The arguments ask for a device of this geometry in the file of this path.
 abbrev pub AsksFormat : List Text → Text → Geometry → Type 0
-AsksFormat words path g = (findings words ≡ []) × IsNamed (codes "format") (command_of words) × (path ≡ device_at (command_of words))
-    × (numbers_of g ≡ numbers_at (command_of words))
+AsksFormat words path g = (findings words ≡ []) × IsNamed (codes "format") (command_of words)
+    × (path ≡ device_in (given_to (command_of words))) × (numbers_of g ≡ numbers_in (given_to (command_of words)))
 
 -- The arguments ask what the device in the file of this path holds.
 abbrev pub AsksShow : List Text → Text → Type 0
-AsksShow words path = (findings words ≡ []) × IsNamed (codes "show") (command_of words) × (path ≡ device_at (command_of words))
+AsksShow words path =
+    (findings words ≡ []) × IsNamed (codes "show") (command_of words) × (path ≡ device_in (given_to (command_of words)))
 
 -- The arguments ask for service with the device in the file of this path, and give these numbers for it.
 abbrev pub AsksServeWith : List Text → Text → List ℕ → Type 0
 AsksServeWith words path numbers =
-    (findings words ≡ []) × IsNamed (codes "serve") (command_of words) × (path ≡ device_at (command_of words))
-    × (numbers ≡ service_at (command_of words))
+    (findings words ≡ []) × IsNamed (codes "serve") (command_of words) × (path ≡ device_in (given_to (command_of words)))
+    × (numbers ≡ service_in (given_to (command_of words)))
 
 -- The arguments ask for service without a device, or for a device to be made, at numbers that are no geometry.
 abbrev pub AsksOutOfRange : List Text → Type 0
-AsksOutOfRange words =
-    (findings words ≡ []) × (¬ (IsNamed (codes "show") (command_of words))) × (¬ (IsNamed (codes "serve") (command_of words)))
-    × (¬ (AreInRange (numbers_at (command_of words))))
+AsksOutOfRange words = (findings words ≡ []) × IsRequested (command_of words) (Err GeometryOutOfRange)
 
 -- The arguments ask for help.
 abbrev pub AsksHelp : List Text → Type 0
@@ -221,10 +201,7 @@ AreRefused words = IsWrong words ⊎ AsksOutOfRange words
 -- The arguments ask for this request.
 abbrev pub Asks : List Text → Request → Type 0
 Asks words (Help text) = IsAmong (kind_of text) (findings words) × (is_mistake (kind_of text) ≡ false)
-Asks words (Plain g) = AsksPlain words g
-Asks words (Format path g) = AsksFormat words path.now g
-Asks words (Show path) = AsksShow words path.now
-Asks words (Serve path s) = AsksServeWith words path.now (service_numbers s)
+Asks words request = (findings words ≡ []) × IsRequested (command_of words) (Ok request)
 
 -- The arguments give no request for this reason. Memory may be wanting for any arguments.
 abbrev pub IsReason : List Text → ArgumentRefusal → Type 0

@@ -5,7 +5,7 @@ ghost use Rattle.arguments.specs.Arguments.{Asks, GivesGeometry, IsReason, IsReq
 ghost use Rattle.arguments.specs.Tables.{command_app, with_commands, with_options};
 ghost use Rattle.arguments.specs.declared.parsing.ArgumentRefusal.TheVariants.{OutOfMemory};
 
-use affinity::{BadGeometry, Geometry};
+use affinity::Geometry;
 use clap::builder::ValueParser;
 use clap::error::ErrorKind;
 use clap::{Arg, ArgMatches, Command};
@@ -289,10 +289,7 @@ fn numbers_given(options: &ArgMatches<'_>) -> [u16; 8]
 fn geometry_given(options: &ArgMatches<'_>) -> Result<Geometry, ArgumentRefusal>
     ensures { GivesGeometry (numbers_in (rows_of (found_of options.now))) result }
 {
-    match Geometry::new(numbers_given(options)) {
-        Ok(geometry) => Ok(geometry),
-        Err(BadGeometry) => Err(ArgumentRefusal::GeometryOutOfRange),
-    }
+    Geometry::new(numbers_given(options)).map_err(|_| ArgumentRefusal::GeometryOutOfRange)
 }
 
 /// The options of `serve` that the command line gives.

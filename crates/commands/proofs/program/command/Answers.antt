@@ -44,7 +44,7 @@ pub returns-in-Err-clause-shown : goal.returns-in-Err-clause-shown
 returns-in-Err-clause-shown g c = λ path asks.
     rw c.report_refusal.ensures (
       exits_for_memory (map string_bytes c.args.arguments.now) c.in-Err.refusal asks.0 c.in-Err.ensures.err
-          (λ wrong. wrong.1 asks.1) refl,
+          (λ wrong. wrong.1.0 asks.1) refl,
       refl {a = g.R.Read.remaining c.args.r.now},
     )
 
@@ -61,7 +61,7 @@ returns-in-Err-run-clause-shown g c = λ path asks.
 pub returns-in-Err-clause-served : goal.returns-in-Err-clause-served
 returns-in-Err-clause-served g c = λ path s asks.
     rw c.report_refusal.ensures (exits_for_memory (map string_bytes c.args.arguments.now) c.in-Err.refusal asks.0 c.in-Err.ensures.err
-    (λ wrong. wrong.2 asks.1)
+    (λ wrong. wrong.1.1 asks.1)
     (inl (record { why = file.OutOfMemory; ends = refl; unread = refl; unwritten = refl })))
 
 pub returns-in-Ok-run-clause-served : goal.returns-in-Ok-run-clause-served
