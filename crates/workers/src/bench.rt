@@ -16,7 +16,7 @@ use crate::event_counts::wake_worker;
 use crate::job_cell::JobCell;
 use crate::seats::{DispatchSeat, Seat, SeatRole, WorkSeat, rotate_to};
 use crate::steps::{self, BenchInvariant, Words};
-use crate::words::{DELIVERED, FIRST_PLACE, MOST_PLACES, OFFER_EVENT};
+use crate::words::{DELIVERED, FIRST_PLACE, MOST_PLACES, OFFER_EVENT, STOP};
 use atomic_table::Table;
 use parcel::{Done, Job};
 use std::alloc::{AllocError, Global};
@@ -84,7 +84,7 @@ impl Bench {
         }
         let words = &self.table.shared;
         put_offer(words, &mut seat.seat, &mut seat.lent, k, job);
-        steps::signal(words, &mut seat.seat, OFFER_EVENT);
+        steps::count_up(words, &mut seat.seat, OFFER_EVENT);
         wake_worker(words);
         Ok(())
     }
@@ -99,10 +99,10 @@ impl Bench {
         ensures none { IfNone result (seat.new ≡ seat.old) }
     {
         let words = &self.table.shared;
-        if !seat.lent[k] || words.peek(k + FIRST_PLACE) != DELIVERED {
-            return None;
-        }
-        if !try_collect(words, &mut seat.seat, &seat.lent, k) {
+        if !seat.lent[k]
+            || words.peek(k + FIRST_PLACE) != DELIVERED
+            || !try_collect(words, &mut seat.seat, &seat.lent, k)
+        {
             return None;
         }
         Some(take_delivered(words, &mut seat.seat, &mut seat.lent, k))
@@ -114,8 +114,8 @@ impl Bench {
         ensures { seat.new ≡ seat.old }
     {
         let words = &self.table.shared;
-        steps::set_stop(words, &mut seat.seat);
-        steps::signal(words, &mut seat.seat, OFFER_EVENT);
+        steps::set_word(words, &mut seat.seat, STOP, 1);
+        steps::count_up(words, &mut seat.seat, OFFER_EVENT);
         words.wake_all(OFFER_EVENT);
     }
 }
@@ -138,10 +138,7 @@ fn lay(
     ensures seat { IfOk result (λ r. (r.1.table_id ≡ r.0.shared.table_id) × (r.1.me ≡ (Dispatcher places (replicate places None), []))) }
 {
     let cells = empty_cells(alloc, places)?;
-    match Table::new(alloc, words, cells, &places) {
-        Ok(laid) => Ok(laid),
-        Err(_refused) => Err(AllocError),
-    }
+    Table::new(alloc, words, cells, &places).map_err(|_| AllocError)
 }
 
 // `places` empty cells.

@@ -8,7 +8,7 @@ use crate::seats::WorkSeat;
 use std::alloc::AllocError;
 use std::sync::Wait;
 use std::thread;
-use std::thread::{Scope, Threads};
+use std::thread::Threads;
 
 /// What the calling thread does at a bench while others work there, and its result.
 pub trait DispatcherTask<E> {
@@ -33,29 +33,6 @@ pub fn know_returned<T>(lent: &mut T)
     ensures { lent.new ≡ lent.old }
 {
     let _ = lent;
-}
-
-// Does a task that is borrowed, while a worker works at each of these seats, and gives the borrow back.
-fn run_borrowed_task<'s, 'm, T: Threads + Wait + Sync, G: Gate + Sync, E, S: DispatcherTask<E>, X>(
-    scope: &Scope<'s, X>,
-    bench: &'s Bench,
-    with: (&'s T, &'s G),
-    seats: Vec<WorkSeat>,
-    task: &'m mut S,
-) -> (Result<E, AllocError>, &'m mut S)
-    requires can_begin { S.can_begin task.now }
-    requires seats { All (λ w. w ≡ bench.now) seats.items }
-    ensures same { result.1.ghost_name ≡ task.entry.ghost_name }
-    ensures gives { IfOk result.0 (λ end. S.gives task.entry.now result.1.now end) }
-    ensures not_begun { OnErr result.0 (result.1.now ≡ task.entry.now) }
-{
-    let (rt, gate) = with;
-    let ended = match bench.start_all(rt, scope, seats, gate) {
-        Ok(()) => Ok(task.run_task(rt, gate)),
-        Err(why) => Err(why),
-    };
-    task.stop_workers();
-    (ended, task)
 }
 
 impl Bench {
@@ -85,7 +62,14 @@ impl Bench {
                 ensures same { result.1.ghost_name ≡ task.entry.ghost_name }
                 ensures gives { IfOk result.0 (λ end. S.gives task.entry.now result.1.now end) }
                 ensures not_begun { OnErr result.0 (result.1.now ≡ task.entry.now) }
-            { run_borrowed_task(scope, self, (rt, gate), seats, task) },
+            {
+                let ended = match self.start_all(rt, scope, seats, gate) {
+                    Ok(()) => Ok(task.run_task(rt, gate)),
+                    Err(why) => Err(why),
+                };
+                task.stop_workers();
+                (ended, task)
+            },
         );
         know_returned(task);
         ended

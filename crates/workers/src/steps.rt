@@ -1,6 +1,6 @@
 //! The kinds of atomic step on the bench's table, each made once, without a retry: six that move seats and slots (split, take_slot, offer,
-//! claim, deliver, collect), the signal, the stop, and three by which a thread records that it waits. Nothing else changes a word. Between
-//! its steps a seat fills or empties a slot that it has.
+//! claim, deliver, collect), and three that count a word up or down or record a number in it: a signal, the stop, or that a thread waits.
+//! Nothing else changes a word. Between its steps a seat fills or empties a slot that it has.
 ghost use Rattle.std.specs.Prelude.{◌≡◌, ◌+◌, ◌<◌, [], ◌∷◌, replicate, slice_set, None, Some, IsTrue, IsFalse};
 ghost use Rattle.atomic_table.specs.Table.{rest};
 ghost use Rattle.parcel.specs.Run.{JobView, IsJobRun};
@@ -13,7 +13,7 @@ ghost use Rattle.workers.specs.declared.seats.SeatRole.TheVariants.{Dispatcher, 
 
 use crate::job_cell::JobCell;
 use crate::seats::{Seat, SeatRole};
-use crate::words::{CLAIMED, DELIVERED, EMPTY, FIRST_PLACE, OFFERED, SLEPT_AT, STOP};
+use crate::words::{CLAIMED, DELIVERED, EMPTY, FIRST_PLACE, OFFERED};
 use atomic_table::{Play, Shared, Split, TableRule};
 use parcel::{Done, Job};
 
@@ -146,34 +146,18 @@ pub fn collect(words: &Words, seat: &mut Seat, k: usize) -> bool
     words.compare_exchange::<Collecting>(seat, k + FIRST_PLACE, DELIVERED, EMPTY) == DELIVERED
 }
 
-/// Adds one to an event count, and returns the number that it had.
-pub fn signal(words: &Words, seat: &mut Seat, event: usize) -> u64
-    requires bench { IsAtBench words.now.table_id seat.old.table_id }
-    requires event { event < FIRST_PLACE }
-    ensures { (seat.new.table_id ≡ seat.old.table_id) × (seat.new.me ≡ seat.old.me) }
-{
-    words.fetch_add::<Bookkeeping>(seat, event, 1)
-}
-
-/// Sets the stop word: the bench is stopped.
-pub fn set_stop(words: &Words, seat: &mut Seat)
-    requires bench { IsAtBench words.now.table_id seat.old.table_id }
-    ensures { (seat.new.table_id ≡ seat.old.table_id) × (seat.new.me ≡ seat.old.me) }
-{
-    words.store::<Bookkeeping>(seat, STOP, 1);
-}
-
-/// Counts the worker in: `counter` is the word that counts the workers that sleep, or the one that counts those that spin.
-pub fn count_in(words: &Words, seat: &mut Seat, counter: usize)
+/// Adds one to a word that counts: an event count is signaled, or a worker counts itself among those that sleep or spin. Returns the number
+/// that it had.
+pub fn count_up(words: &Words, seat: &mut Seat, counter: usize) -> u64
     requires bench { IsAtBench words.now.table_id seat.old.table_id }
     requires counter { counter < FIRST_PLACE }
     ensures { (seat.new.table_id ≡ seat.old.table_id) × (seat.new.me ≡ seat.old.me) }
 {
-    words.fetch_add::<Bookkeeping>(seat, counter, 1);
+    words.fetch_add::<Bookkeeping>(seat, counter, 1)
 }
 
 /// Counts the worker out again, of the same word.
-pub fn count_out(words: &Words, seat: &mut Seat, counter: usize)
+pub fn count_down(words: &Words, seat: &mut Seat, counter: usize)
     requires bench { IsAtBench words.now.table_id seat.old.table_id }
     requires counter { counter < FIRST_PLACE }
     ensures { (seat.new.table_id ≡ seat.old.table_id) × (seat.new.me ≡ seat.old.me) }
@@ -181,12 +165,13 @@ pub fn count_out(words: &Words, seat: &mut Seat, counter: usize)
     words.fetch_sub::<Bookkeeping>(seat, counter, 1);
 }
 
-/// Records the value of the deliveries' event count at which the dispatcher goes to sleep.
-pub fn announce_sleep(words: &Words, seat: &mut Seat, number: u64)
-    requires { IsAtBench words.now.table_id seat.old.table_id }
+/// Records a number in a word: that the bench is stopped, or at which value of the deliveries' event count the dispatcher goes to sleep.
+pub fn set_word(words: &Words, seat: &mut Seat, word: usize, number: u64)
+    requires bench { IsAtBench words.now.table_id seat.old.table_id }
+    requires word { word < FIRST_PLACE }
     ensures { (seat.new.table_id ≡ seat.old.table_id) × (seat.new.me ≡ seat.old.me) }
 {
-    words.store::<Bookkeeping>(seat, SLEPT_AT, number);
+    words.store::<Bookkeeping>(seat, word, number);
 }
 
 /// Lays a job into the slot that the seat took last.

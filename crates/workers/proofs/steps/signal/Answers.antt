@@ -1,8 +1,0 @@
--- An event count belongs to no place, so adding one to it keeps the rule of the bench.
-use Rattle.std.proofs.Common.{rules, arith, ◌+◌, ◌%◌, ◌^◌}
-use Rattle.workers.proofs.Keeps.{bookkeeping_keeps}
-use Rattle.workers.proofs.steps.signal.Goals as goal
-
-pub fetch_add-requires : goal.fetch_add-requires
-fetch_add-requires c = let w = c.requires.bench.1.0 in let low = c.requires.event in
-    (search rules, omega arith, bookkeeping_keeps _ _ c.args.seat.now.me c.args.event (λ n. (n + 1) % 2 ^ 64) low)
