@@ -2,7 +2,6 @@
 pub mod Lists
 pub mod Apart
 pub mod Ways
-pub mod Moves
 pub mod SerialReplies
 pub mod Room
 pub mod Sound

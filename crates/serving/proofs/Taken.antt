@@ -1,11 +1,14 @@
 -- Lines that are consumed of the input, each with its message.
-use Rattle.std.proofs.Common.{◌≡◌, ℕ, false, Bool, List, [], ◌∷◌, ◌++◌, Option, Some, None, sym, refl, subst}
+use Rattle.std.proofs.Common.{◌≡◌, ◌≢◌, ℕ, false, Bool, List, [], ◌∷◌, ◌++◌, Option, Some, None, ap, sym, refl, subst}
 use Rattle.std.specs.Prelude.{IfSome, Result, Ok, Err}
 use Rattle.std.specs.Io.KnownBytes.{IsAtEnd}
+use Rattle.histories.specs.CoreState.{CoreState}
 use Rattle.histories.specs.Events.{arrive}
 use Rattle.histories.specs.Laws.{IsIdle}
 use Rattle.histories.specs.declared.outcomes.ArriveRefusal.{ArriveRefusal}
 use Rattle.histories.specs.declared.outcomes.ArriveRefusal.TheVariants as arrivals
+use Rattle.histories.specs.declared.outcomes.Outcome.{Outcome}
+use Rattle.histories.specs.declared.outcomes.Outcome.TheVariants as outcomes
 use Rattle.incarnations.proofs.Events.{arrive_step}
 use Rattle.incarnations.specs.Machine.{MachineView}
 use Rattle.incarnations.specs.declared.hands.HandContent.{HandContent}
@@ -98,3 +101,9 @@ at_end (Some bs) now_unread found = found.none
 pub none_left : (unread : Option (List ℕ)) → IfSome unread (λ bs. bs ≡ []) → IsAtEnd unread
 none_left None none = tt
 none_left (Some bs) none = none
+
+-- Where no message is refused for want of a slot, the message of a line isn't.
+pub not_full : (old new : CoreView) (o : Option Msg) → ((m : Msg) → (arrive old.geometry (core_state_of old) m).0 ≢ outcomes.ArriveRefused arrivals.Full)
+    → ArrivesByLine old new o (Err arrivals.Full) → ⊥
+not_full old new None a_slot e = let other : ◌≡◌ {A = Result (Option ℕ) ArriveRefusal} (Err arrivals.Full) (Ok None) = e.0 in cc
+not_full old new (Some m) a_slot e = a_slot m (sym (ap (λ (x : Outcome × CoreState). x.0) e))

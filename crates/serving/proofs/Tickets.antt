@@ -2,7 +2,8 @@
 use Rattle.std.proofs.Common.{◌≡◌, ℕ, ◌+◌, List, [], ◌∷◌, ◌++◌, refl, ap, sym, ◌∙◌}
 use Rattle.std.proofs.lemmas.List.{map-append}
 use Rattle.affinity.specs.declared.geometry.Geometry.{Geometry}
-use Rattle.histories.proofs.Moves.{Answers, Arrives, Backs, Grants, Logs, Move, Passed, Stays, moves}
+use Rattle.histories.proofs.Ways.{Passed, Way, ways}
+use Rattle.histories.proofs.Ways as way
 use Rattle.histories.specs.Events.{Event, MachineState}
 use Rattle.histories.specs.Runs.{IsLegal, arrived, arrives, end_state}
 use Rattle.histories.specs.CoreState.{Entry, CoreState}
@@ -24,13 +25,10 @@ ticketed-append n (m ∷ ms) more = ap (λ l. (n, m) ∷ l) (ticketed-append (n 
 
 -- ---- the next ticket after a run
 
-move_next : (g : Geometry) (old new : CoreState) (p : Passed) → Move g old new p → new.next ≡ next_ticket old.next (messages_of p.come)
-move_next g old new p (Stays s e) = rw e s.next
-move_next g old new p (Arrives m fits is e) = rw (e, is) refl
-move_next g old new p (Grants found first is e) = rw (e, is) refl
-move_next g old new p (Backs ticket found one_out is e) = rw (e, is) refl
-move_next g old new p (Logs n is e) = rw (e, is) refl
-move_next g old new p (Answers a rest front is e) = rw (e, is) refl
+way_next : (g : Geometry) (old : MachineState) {event : Event} {p : Passed} → Way g old event p
+    → event.state_after.core.next ≡ next_ticket old.core.next (messages_of p.come)
+way_next g old (way.Arrives m works fits) = refl
+way_next g old _ = refl
 
 pub run_next : (g : Geometry) (old : MachineState) (events : List Event) → IsLegal g old events
     → (end_state old events).core.next ≡ next_ticket old.core.next (messages_of (arrived events))
@@ -38,7 +36,7 @@ run_next g old [] legal = refl
 run_next g old (event ∷ events) legal =
     let come = arrives event.step event.outcome in
     run_next g event.state_after events legal.1
-    ∙ ap (λ n. next_ticket n (messages_of (arrived events))) (move_next g old.core event.state_after.core _ (moves g old event legal.0))
+    ∙ ap (λ n. next_ticket n (messages_of (arrived events))) (way_next g old (ways g old event legal.0))
     ∙ sym (next-append old.core.next (messages_of come) (messages_of (arrived events)))
     ∙ ap (next_ticket old.core.next) (sym (map-append (λ (e : Entry). e.1) come (arrived events)))
 

@@ -1,5 +1,5 @@
 -- Inner: The state of a session, its invariant since its start, and how a call moves it.
-use Rattle.std.specs.Prelude.{◌≡◌, ◌≢◌, ◌+◌, ◌<◌, ◌≤◌, ◌-◌, ◌^◌, ℕ, Bool, true, false, List, [], ◌++◌, length, map, Option, Some, None, IfSome, IsSomeAnd, IsTrue, MatchResult, Result, Ok, Err}
+use Rattle.std.specs.Prelude.{◌≡◌, ◌≢◌, ◌+◌, ◌<◌, ◌≤◌, ◌-◌, ◌^◌, ℕ, Bool, true, false, List, [], ◌++◌, length, map, Option, Some, None, IfSome, IsSomeAnd, IsTrue, OnErr, MatchResult, Result, Ok, Err}
 use Rattle.std.specs.Io.KnownBytes.{IsAtEnd}
 use Rattle.affinity.specs.declared.geometry.Geometry.{Geometry}
 use Rattle.histories.specs.CoreState.{held}
@@ -165,9 +165,14 @@ KeepsCoreState old new = (new.core.geometry ≡ old.core.geometry) × (core_stat
 abbrev pub steps_ahead : SessionView → ℕ
 steps_ahead p = steps_to_come (machine_of (machine p))
 
--- No more steps are to come than before, and the checkpoint in progress is as it was.
+-- No more steps are to come than before, and the checkpoint in progress is as it was. Nothing was read, and the output has not failed.
 abbrev pub HasMoved : SessionView → SessionView → Type 0
 HasMoved old new = (steps_ahead new ≤ steps_ahead old) × (new.core.pieces_left ≡ old.core.pieces_left)
+    × KeepsReadEndAndOutputFailed old new × HasReadNothing old new
+
+-- No message of this session is dispatched, for this reason.
+abbrev pub IsBlockedIn : SessionView → Blocked → Type 0
+IsBlockedIn p why = IsBlocked p.core.geometry (core_state_of p.core) (core_state_of p.core) p.dispatch_seat.lent why
 
 -- How an iteration of the loop has gone on.
 pub data HasGoneOn (old new : SessionView) : Type 0 where
@@ -192,6 +197,10 @@ abbrev pub IsSessionStep : {A : Type 0} → SessionView → SessionView → Resu
 IsSessionStep old new result = (new.read_end ≡ old.read_end)
     × MatchResult result (λ _. new.output_failed ≡ old.output_failed) (λ _. HasHalted new)
 
+-- Such a step in which nothing was read. At `Err` the output has failed.
+abbrev pub IsOutputStep : {A : Type 0} → SessionView → SessionView → Result A Halted → Type 0
+IsOutputStep old new result = IsSessionStep old new result × HasReadNothing old new × OnErr result (new.output_failed ≡ true)
+
 -- Nothing had run, and nothing was logged: there was nothing to log or to answer.
 pub record HasLoggedNothing (old new : SessionView) : Type 0 where
   pub none_ran : new.core.ran ≡ []
@@ -211,7 +220,7 @@ pub record HasOnlySent (old new : SessionView) (why : Option Blocked) : Type 0 w
 -- Nothing is left to do: no message is dispatched, for this reason (`None`: a checkpoint is due), though no job is in flight and no
 -- checkpoint is to begin. Nothing that ran or is logged is left, and the oldest line, if there is one, has no answer.
 pub record IsAtRest (p : SessionView) (why : Option Blocked) : Type 0 where
-  pub blocked : IfSome why (IsBlocked p.core.geometry (core_state_of p.core) (core_state_of p.core) p.dispatch_seat.lent)
+  pub blocked : IfSome why (IsBlockedIn p)
   pub none_asked : asks_for_checkpoint why ≡ true → held (core_state_of p.core) ≢ []
   pub none_in_flight : NoneInFlight p.dispatch_seat.lent
   pub none_ran : p.core.ran ≡ []

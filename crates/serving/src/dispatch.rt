@@ -7,8 +7,8 @@ ghost use Rattle.histories.specs.CoreState.{CoreState};
 ghost use Rattle.reorder_buffer.specs.ReorderBuffer.{can_retire};
 ghost use Rattle.scheduler.specs.Calls.{IsGranted};
 ghost use Rattle.scheduler.specs.CoreView.{core_state_of};
-ghost use Rattle.serving.specs.Lending.{DispatchesTo, IsBlocked, NoneInFlight, asks_for_checkpoint};
-ghost use Rattle.serving.specs.Session.{HasGoneOn, HasLoggedNothing, HasMoved, HasOnlySent, HasReadNothing, IsAtRest, IsSessionStep, KeepsCoreState, KeepsReadEndAndOutputFailed, NoneUnanswered, steps_ahead};
+ghost use Rattle.serving.specs.Lending.{DispatchesTo, NoneInFlight, asks_for_checkpoint};
+ghost use Rattle.serving.specs.Session.{HasGoneOn, HasLoggedNothing, HasMoved, HasOnlySent, HasReadNothing, IsAtRest, IsBlockedIn, IsSessionStep, KeepsCoreState, KeepsReadEndAndOutputFailed, NoneUnanswered, steps_ahead};
 ghost use Rattle.serving.specs.declared.dispatch.Blocked.{Blocked};
 ghost use Rattle.serving.specs.declared.session.Activity.TheVariants as activities;
 
@@ -144,7 +144,6 @@ impl<'c, R: Read, D: Disk, L: ReplySink<D>> Session<'c, R, D, L> {
     /// Dispatches the eligible message with the least ticket, if there is one, to place k, the first free one.
     fn dispatch_to(&mut self, k: usize) -> Result<(), Blocked>
         requires first { position is_none self.old.dispatch_seat.lent ≡ Some k }
-        ensures as_before { KeepsReadEndAndOutputFailed self.old self.new }
         ensures moves { HasMoved self.old self.new }
         ensures geometry { self.new.core.geometry ≡ self.old.core.geometry }
         ensures dispatches { DispatchesTo self.old.core.geometry k (core_state_of self.old.core) self.old.dispatch_seat.lent
@@ -157,10 +156,8 @@ impl<'c, R: Read, D: Disk, L: ReplySink<D>> Session<'c, R, D, L> {
 
     /// Dispatches eligible messages, the one with the least ticket first, as long as it can. Returns why it ended.
     fn dispatch_all(&mut self) -> Blocked
-        ensures as_before { KeepsReadEndAndOutputFailed self.old self.new }
         ensures moves { HasMoved self.old self.new }
-        ensures ended { IsBlocked self.new.core.geometry (core_state_of self.new.core) (core_state_of self.new.core)
-            self.new.dispatch_seat.lent result }
+        ensures ended { IsBlockedIn self.new result }
     {
         while let Some(k) = self.dispatch_seat.first_free() {
             if let Err(why) = self.dispatch_to(k) {
@@ -173,10 +170,8 @@ impl<'c, R: Read, D: Disk, L: ReplySink<D>> Session<'c, R, D, L> {
     /// Dispatches messages, unless a checkpoint is due by the record count. Returns why it ended; `None` if one is due. Where the device
     /// has failed, none is dispatched: the next call of the core's `log` reports the failure.
     fn dispatch_ready(&mut self) -> Option<Blocked>
-        ensures as_before { KeepsReadEndAndOutputFailed self.old self.new }
         ensures moves { HasMoved self.old self.new }
-        ensures ended { IfSome result (IsBlocked self.new.core.geometry (core_state_of self.new.core) (core_state_of self.new.core)
-            self.new.dispatch_seat.lent) }
+        ensures ended { IfSome result (IsBlockedIn self.new) }
     {
         if self.trigger.is_due(self.core.pieces_left()) {
             None
@@ -188,9 +183,7 @@ impl<'c, R: Read, D: Disk, L: ReplySink<D>> Session<'c, R, D, L> {
     /// Collects the result of the job at place k, if it was delivered. Returns whether the job changed something; `None` without a result.
     fn collect_one(&mut self, k: usize) -> Option<bool>
         requires place { k < length self.old.dispatch_seat.lent }
-        ensures as_before { KeepsReadEndAndOutputFailed self.old self.new }
         ensures moves { HasMoved self.old self.new }
-        ensures unread { HasReadNothing self.old self.new }
         ensures places { length self.new.dispatch_seat.lent ≡ length self.old.dispatch_seat.lent }
         ensures failed { self.new.core.failed ≡ self.old.core.failed }
         ensures none { IfNone result (self.new ≡ self.old) }
@@ -206,9 +199,7 @@ impl<'c, R: Read, D: Disk, L: ReplySink<D>> Session<'c, R, D, L> {
 
     /// Polls each place once, and collects the results that were delivered, until the batch is full. Returns whether there was a result.
     fn collect_delivered(&mut self, batch: &mut Batch) -> bool
-        ensures as_before { KeepsReadEndAndOutputFailed self.old self.new }
         ensures moves { HasMoved self.old self.new }
-        ensures unread { HasReadNothing self.old self.new }
         ensures failed { self.new.core.failed ≡ self.old.core.failed }
         ensures budget { batch.new.budget ≤ batch.old.budget }
         ensures less { IsTrue result → batch.new.budget < batch.old.budget }
@@ -256,10 +247,8 @@ impl<'c, R: Read, D: Disk, L: ReplySink<D>> Session<'c, R, D, L> {
     /// `MAX_POLLS` polls in succession found no result. After a poll that found some, it dispatches more messages. It never blocks.
     /// Returns why no further message is dispatched, as `dispatch_ready` does.
     fn dispatch_and_collect(&mut self) -> Option<Blocked>
-        ensures as_before { KeepsReadEndAndOutputFailed self.old self.new }
         ensures moves { HasMoved self.old self.new }
-        ensures ended { IfSome result (IsBlocked self.new.core.geometry (core_state_of self.new.core) (core_state_of self.new.core)
-            self.new.dispatch_seat.lent) }
+        ensures ended { IfSome result (IsBlockedIn self.new) }
     {
         let mut why = self.dispatch_ready();
         let mut batch = Batch::new();

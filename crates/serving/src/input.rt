@@ -1,7 +1,12 @@
 //! Reading: takes each line into the reorder buffer, and its message into the core.
 
-ghost use Rattle.std.specs.Prelude.{◌≡◌, ◌<◌, ◌↔◌, ◌+◌, ◌++◌, List, [], ◌∷◌, IsTrue, None, OnErr, false, is_none, length, true};
+ghost use Rattle.std.specs.Prelude.{◌≡◌, ◌≢◌, ◌<◌, ◌↔◌, ◌+◌, ◌++◌, List, [], ◌∷◌, IsTrue, None, OnErr, false, is_none, length, true};
+ghost use Rattle.histories.specs.Events.{arrive};
+ghost use Rattle.histories.specs.declared.outcomes.ArriveRefusal.TheVariants as arrivals;
+ghost use Rattle.histories.specs.declared.outcomes.Outcome.TheVariants as outcomes;
 ghost use Rattle.language.specs.Grammar.{message_of};
+ghost use Rattle.language.specs.declared.Msg.{Msg};
+ghost use Rattle.scheduler.specs.CoreView.{core_state_of};
 ghost use Rattle.incarnations.specs.declared.hands.HandContent.{HandContent};
 ghost use Rattle.serving.specs.Lines.{Pending};
 ghost use Rattle.serving.specs.Reads.{TakesLine};
@@ -21,8 +26,7 @@ use std::io::Read;
 
 /// Takes the line of these bytes into the reorder buffer and, if it is a message in range, the message into the core; a message out of
 /// range takes no ticket. `Err` is why no more is read: the core refuses the message for another reason than its range, and the line isn't
-/// taken in. Where the reorder buffer has room for the line, the core has a slot for its message. `hands` are the bench's
-/// places with the jobs lent there, whichever these are: they stay as they are.
+/// taken in. `hands` are the bench's places with the jobs lent there, whichever these are: they stay as they are.
 fn take<D: Disk>(
     core: &mut Core<D>,
     reorder_buffer: &mut ReorderBuffer,
@@ -30,6 +34,7 @@ fn take<D: Disk>(
 ) -> Result<(), ReadEnd>
     requires room { length reorder_buffer.old.lines < reorder_buffer.old.slots }
     requires order { AreConsecutive (with_tickets reorder_buffer.old.lines ++ Pending core.old.next ∷ []) }
+    requires a_slot { (m : Msg) → (arrive core.old.geometry (core_state_of core.old) m).0 ≢ outcomes.ArriveRefused arrivals.Full }
     ensures takes { (hands : List HandContent) → HandsHaveJobs (record { core = core.old; hands = hands })
         → TakesLine D.keeps (record { core = core.old; hands = hands }) reorder_buffer.old.lines
         (record { core = core.new; hands = hands }) reorder_buffer.new.lines (message_of line.now) result }
@@ -51,8 +56,7 @@ fn take<D: Disk>(
             Ok(())
         }
         Err(ArriveRefusal::Exhausted) => Err(ReadEnd::TicketsExhausted),
-        // The core has a slot wherever the reorder buffer has room, so this is never the case.
-        Err(ArriveRefusal::Full) => Err(ReadEnd::DeviceFailed),
+        Err(ArriveRefusal::Full) => unreachable!(),
         Err(ArriveRefusal::Failed) => Err(ReadEnd::DeviceFailed),
     }
 }

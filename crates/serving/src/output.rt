@@ -1,10 +1,10 @@
 //! Where a server sends its lines, and what it sends: nothing but what a crash of the device can't take back.
 
-ghost use Rattle.std.specs.Prelude.{◌≡◌, ◌+◌, [], false, length, true, IfOk, IsFalse, IsTrue, OnErr, OnOk};
+ghost use Rattle.std.specs.Prelude.{◌≡◌, ◌+◌, [], false, length, IfOk, IsFalse, IsTrue, OnOk};
 ghost use Rattle.message.specs.Waiting.{FitsReply};
 ghost use Rattle.scheduler.specs.CoreView.{core_state_of};
 ghost use Rattle.reorder_buffer.specs.ReorderBuffer.{can_retire};
-ghost use Rattle.serving.specs.Session.{HasReadNothing, KeepsCoreState, KeepsReadEndAndOutputFailed, IsSessionStep, steps_ahead};
+ghost use Rattle.serving.specs.Session.{HasReadNothing, KeepsCoreState, KeepsReadEndAndOutputFailed, IsOutputStep, steps_ahead};
 
 use crate::gated_runtime::GatedRuntime;
 use crate::session::{Halted, Session};
@@ -39,8 +39,8 @@ pub trait ReplySink<D: Disk> {
         ensures begun { OnErr result (AppendsBeginning (sent self.old) (sent self.new) lines.now) };
 }
 
-// In clauses `read_end` is why no more is read. `IsSessionStep` says that it stays; at `Ok` so does `output_failed`, and at `Err` the
-// output or the device has failed.
+// In clauses `read_end` is why no more is read. `IsOutputStep` says that it stays, and that nothing is read; at `Ok` so does
+// `output_failed`, and at `Err` the output has failed.
 impl<'c, R: Read, D: Disk, L: ReplySink<D>> Session<'c, R, D, L> {
     /// Answers the oldest logged message that isn't answered, if there is one: its line in the reorder buffer gets the reply. Returns
     /// whether there was one. A change that was carried out is counted towards the next checkpoint, by a count that saturates.
@@ -66,13 +66,10 @@ impl<'c, R: Read, D: Disk, L: ReplySink<D>> Session<'c, R, D, L> {
 
     /// Sends the answers in the reply buffer. `Halted` if that fails, or if an earlier send had failed: then nothing is sent.
     pub(crate) fn flush_replies(&mut self) -> Result<(), Halted>
-        ensures session_step { IsSessionStep self.old self.new result }
-        ensures unread { HasReadNothing self.old self.new }
+        ensures step { IsOutputStep self.old self.new result }
         ensures same { (self.new.core ≡ self.old.core) × (self.new.reorder_buffer ≡ self.old.reorder_buffer)
             × (self.new.dispatch_seat ≡ self.old.dispatch_seat) }
-        ensures none_waits { OnOk result (self.new.reply_buffer ≡ []) }
-        ensures output_works { OnOk result (self.new.output_failed ≡ false) }
-        ensures output_fails { OnErr result (self.new.output_failed ≡ true) }
+        ensures flushed { OnOk result ((self.new.reply_buffer ≡ []) × (self.new.output_failed ≡ false)) }
     {
         if self.output_failed {
             return Err(Halted);
@@ -96,12 +93,10 @@ impl<'c, R: Read, D: Disk, L: ReplySink<D>> Session<'c, R, D, L> {
 
     /// Sends the answers in the reply buffer if there is no room after them for the longest one.
     fn flush_if_full(&mut self) -> Result<(), Halted>
-        ensures session_step { IsSessionStep self.old self.new result }
-        ensures unread { HasReadNothing self.old self.new }
+        ensures step { IsOutputStep self.old self.new result }
         ensures same { (self.new.core ≡ self.old.core) × (self.new.reorder_buffer ≡ self.old.reorder_buffer)
             × (self.new.dispatch_seat ≡ self.old.dispatch_seat) }
         ensures room { OnOk result (FitsReply self.new.reply_buffer) }
-        ensures output_fails { OnErr result (self.new.output_failed ≡ true) }
     {
         if self.reply_buffer.has_room() {
             Ok(())
@@ -113,12 +108,10 @@ impl<'c, R: Read, D: Disk, L: ReplySink<D>> Session<'c, R, D, L> {
     /// Retires the oldest line of the reorder buffer, if its answer is known: the answer goes into the reply buffer. Returns whether it
     /// did.
     fn retire_first(&mut self) -> Result<bool, Halted>
-        ensures session_step { IsSessionStep self.old self.new result }
-        ensures unread { HasReadNothing self.old self.new }
+        ensures step { IsOutputStep self.old self.new result }
         ensures same { (self.new.core ≡ self.old.core) × (self.new.dispatch_seat ≡ self.old.dispatch_seat) }
         ensures fewer { IfOk result (λ it. IsTrue it → length self.new.reorder_buffer.lines + 1 ≡ length self.old.reorder_buffer.lines) }
         ensures last { IfOk result (λ it. IsFalse it → can_retire self.new.reorder_buffer.lines ≡ false) }
-        ensures output_fails { OnErr result (self.new.output_failed ≡ true) }
     {
         self.flush_if_full()?;
         let retired = self.reorder_buffer.retire_front(&mut self.reply_buffer);
@@ -127,11 +120,9 @@ impl<'c, R: Read, D: Disk, L: ReplySink<D>> Session<'c, R, D, L> {
 
     /// Retires the lines at the front of the reorder buffer, up to the first whose answer isn't known yet.
     pub(crate) fn retire_ready(&mut self) -> Result<(), Halted>
-        ensures session_step { IsSessionStep self.old self.new result }
-        ensures unread { HasReadNothing self.old self.new }
+        ensures step { IsOutputStep self.old self.new result }
         ensures same { (self.new.core ≡ self.old.core) × (self.new.dispatch_seat ≡ self.old.dispatch_seat) }
         ensures last { OnOk result (can_retire self.new.reorder_buffer.lines ≡ false) }
-        ensures output_fails { OnErr result (self.new.output_failed ≡ true) }
     {
         while self.retire_first()? {}
         Ok(())
@@ -139,14 +130,11 @@ impl<'c, R: Read, D: Disk, L: ReplySink<D>> Session<'c, R, D, L> {
 
     /// Answers all messages that are logged, and sends the lines that are next in order.
     pub(crate) fn answer_and_flush<W: GatedRuntime>(&mut self, rt: &W) -> Result<(), Halted>
-        ensures session_step { IsSessionStep self.old self.new result }
-        ensures unread { HasReadNothing self.old self.new }
+        ensures step { IsOutputStep self.old self.new result }
         ensures dispatch_seat { self.new.dispatch_seat ≡ self.old.dispatch_seat }
         ensures state_after { core_state_of self.new.core ≡ record (core_state_of self.old.core) { logged = [] } }
-        ensures none_waits { OnOk result (self.new.reply_buffer ≡ []) }
-        ensures output_works { OnOk result (self.new.output_failed ≡ false) }
+        ensures flushed { OnOk result ((self.new.reply_buffer ≡ []) × (self.new.output_failed ≡ false)) }
         ensures last { OnOk result (can_retire self.new.reorder_buffer.lines ≡ false) }
-        ensures output_fails { OnErr result (self.new.output_failed ≡ true) }
     {
         while self.answer_first(rt) {}
         self.retire_ready()?;

@@ -4,8 +4,8 @@
 //! is given a struct with such a borrow could put another reader or writer into it. So the type of the struct has a parameter (`N: Loan`,
 //! `B: Beginning`) that names the loan, and the struct keeps `ghost_name`, by which proofs know a borrow, equal to that name. It differs
 //! from call to call, so no type can have it: the call that lends passes the library's type `Brand`, whose ghost members the proof of the
-//! caller chooses (`proofs/server/serve/Invariants.antt`, `serve_to/Invariants.antt`); the callee is proved for any. An `impl .. for Brand`
-//! has to give some values all the same. They are stand-ins: with the start `None` nothing could be served.
+//! caller chooses (`proofs/server/serve_to/Invariants.antt`, `proofs/writer/serve/Invariants.antt`); the callee is proved for any. An
+//! `impl .. for Brand` has to give some values all the same. They are stand-ins: with the start `None` nothing could be served.
 
 ghost use Rattle.std.specs.Prelude.{◌≡◌, ◌≢◌, ◌<◌, ◌≤◌, All, false, [], None, IfOk, Some, replicate, vec_len};
 ghost use Rattle.histories.specs.Laws.{IsIdle};
@@ -18,13 +18,12 @@ ghost use Rattle.serving.specs.Session.{CanBegin, reported};
 use crate::checkpoints::CheckpointTrigger;
 use crate::output::ReplySink;
 use crate::session::Session;
-use crate::writer::{Beginning, Output};
 use disk::Disk;
 use message::{LentReader, LineReader, Loan, ReplyBuffer};
 use reorder_buffer::ReorderBuffer;
 use scheduler::Core;
 use std::alloc::{AllocError, Global};
-use std::io::{Read, Write};
+use std::io::Read;
 use std::marker::{Brand, PhantomData};
 use std::sync::Wait;
 use std::thread::Threads;
@@ -127,12 +126,13 @@ fn serve_borrowed<
     G: Gate + Sync,
     N: Loan,
 >(
-    runtime: (&'c T, &'c G),
+    rt: &'c T,
     core: Core<D>,
     reader: &'a mut R,
     sink: L,
     memory: Preallocated,
     trigger: CheckpointTrigger,
+    gate: &'c G,
     of: PhantomData<N>,
 ) -> (Result<Core<D>, ServeError<D>>, &'a mut R, L)
     requires reader { reader.ghost_name ≡ N.name }
@@ -163,7 +163,7 @@ fn serve_borrowed<
         output_failed: false,
         bench: &bench,
     };
-    let ended = bench.with_workers(runtime.0, runtime.1, seats, &mut session);
+    let ended = bench.with_workers(rt, gate, seats, &mut session);
     let Session {
         core,
         dispatch_seat: _,
@@ -218,105 +218,16 @@ pub fn serve_to<T: Threads + Wait + Sync, R: Read, L: ReplySink<D>, D: Disk + Dr
         return (Err(ServeError { core, fault }), sink);
     };
     let (ended, reader, sink) = serve_borrowed::<T, R, L, D, G, Brand>(
-        (rt, gate),
+        rt,
         core,
         r,
         sink,
         memory,
         CheckpointTrigger::new(every),
+        gate,
         PhantomData,
     );
     // For the proof: the borrow of the reader ends here.
     know_returned(reader);
     (ended, sink)
-}
-
-// What a server needs beside its core, its input and its output.
-struct Setting<'c, T, G> {
-    rt: &'c T,
-    alloc: Global,
-    workers: usize,
-    every: u64,
-    gate: &'c G,
-}
-
-// Serves with a borrowed writer as the output, and gives it back.
-fn serve_writer<
-    'c,
-    'w,
-    T: Threads + Wait + Sync,
-    R: Read,
-    W: Write,
-    D: Disk + Drop,
-    G: Gate + Sync,
-    B: Beginning,
->(
-    setting: Setting<'c, T, G>,
-    core: Core<D>,
-    r: &mut R,
-    w: &'w mut W,
-    of: PhantomData<B>,
-) -> (Result<Core<D>, ServeError<D>>, &'w mut W)
-    requires name { w.ghost_name ≡ B.name }
-    requires start { B.start ≡ Some (record {
-      core = core;
-      places = setting.workers;
-      input = R.remaining r.old;
-      before = W.contents w.now;
-    }) }
-    requires idle { IsIdle (core_state_of core) }
-    requires works { core.failed ≡ false }
-    requires few { setting.workers ≤ 64 }
-    ensures same { result.1.ghost_name ≡ w.entry.ghost_name }
-    ensures serves { ServePromise D.keeps setting.entry.workers core (handed_back result.0)
-        (exchange (R.remaining r.old) (R.remaining r.new) (W.contents w.entry.now) (W.contents result.1.now)) }
-{
-    let Setting {
-        rt,
-        alloc,
-        workers,
-        every,
-        gate,
-    } = setting;
-    let output = Output::<W, B> { w, of };
-    let (ended, output) = serve_to(rt, alloc, core, r, output, workers, every, gate);
-    let Output { w, of: _ } = output;
-    (ended, w)
-}
-
-/// Reads the lines that a reader still has and writes one line of output for each, while `workers` threads of their own run the messages.
-/// At the end of the input the lines that were written are the serial server's, and the core has committed the serial server's state, for
-/// every schedule of the workers. A checkpoint is made after each `every` records (0: never by their count), where the log has no room, and
-/// at the end of the input. All memory is taken before the first read, and the threads have ended when it returns.
-///
-/// # Errors
-///
-/// The core, as it is then, and a fault. `ServeFault::NoWorkers` where there are none, and `ServeFault::OutOfMemory` where there
-/// is no memory or a thread can't be started: nothing was read or written. `ServeFault` describes the others.
-pub fn serve<T: Threads + Wait + Sync, R: Read, W: Write, D: Disk + Drop, G: Gate + Sync>(
-    rt: &T,
-    alloc: Global,
-    core: Core<D>,
-    r: &mut R,
-    w: &mut W,
-    workers: usize,
-    every: u64,
-    gate: &G,
-) -> Result<Core<D>, ServeError<D>>
-    requires idle { IsIdle (core_state_of core) }
-    requires works { core.failed ≡ false }
-    requires few { workers ≤ 64 }
-    ensures { ServePromise D.keeps workers core (handed_back result)
-        (exchange (R.remaining r.old) (R.remaining r.new) (W.contents w.old) (W.contents w.new)) }
-{
-    let setting = Setting {
-        rt,
-        alloc,
-        workers,
-        every,
-        gate,
-    };
-    let (ended, w) = serve_writer::<T, R, W, D, G, Brand>(setting, core, r, w, PhantomData);
-    know_returned(w);
-    ended
 }

@@ -1,17 +1,26 @@
-//! The output of a call that writes to a borrowed writer. Why `Beginning` names the loan: `server`.
+//! The whole call of a server that writes its lines to a borrowed writer. Why `Beginning` names the loan: `server`.
 
-ghost use Rattle.std.specs.Prelude.{◌≡◌};
+ghost use Rattle.std.specs.Prelude.{◌≡◌, ◌≤◌, false, Some};
+ghost use Rattle.histories.specs.Laws.{IsIdle};
+ghost use Rattle.scheduler.specs.CoreView.{core_state_of};
+ghost use Rattle.serving.specs.Ends.{exchange};
+ghost use Rattle.serving.specs.Serve.{ServePromise, handed_back};
 
 use crate::output::ReplySink;
+use crate::server::{ServeError, serve_to};
 use disk::Disk;
 use message::{WriteFault, write_in_order};
 use scheduler::Core;
-use std::io::Write;
+use std::alloc::Global;
+use std::io::{Read, Write};
 use std::marker::{Brand, PhantomData};
+use std::sync::Wait;
+use std::thread::Threads;
+use workers::{Gate, know_returned};
 
 /// What a call that writes its replies to a writer began with (a `Start`: core, places, input, output), and the name by which proofs know
 /// its borrow of the writer.
-pub(crate) trait Beginning {
+trait Beginning {
     ghost use Rattle.std.specs.Prelude.{Option};
     ghost use Rattle.std.specs.Borrow.{GName};
     ghost use Rattle.serving.specs.Output.{Start};
@@ -33,10 +42,10 @@ impl Beginning for Brand {
 }
 
 // A writer that is borrowed, to which lines are sent.
-pub(crate) struct Output<'w, W, B: Beginning> {
-    pub(crate) w: &'w mut W,
-    pub(crate) of: PhantomData<B>,
-    pub(crate) ghost same: { w.ghost_name ≡ B.name },
+struct Output<'w, W, B: Beginning> {
+    w: &'w mut W,
+    of: PhantomData<B>,
+    ghost same: { w.ghost_name ≡ B.name },
 }
 
 impl<'w, D: Disk, W: Write, B: Beginning> ReplySink<D> for Output<'w, W, B> {
@@ -47,4 +56,70 @@ impl<'w, D: Disk, W: Write, B: Beginning> ReplySink<D> for Output<'w, W, B> {
     fn send(&mut self, lines: &[u8], _core: &Core<D>) -> Result<(), WriteFault> {
         write_in_order(self.w, lines)
     }
+}
+
+// Serves with a borrowed writer as the output, and gives it back.
+fn serve_writer<
+    'w,
+    T: Threads + Wait + Sync,
+    R: Read,
+    W: Write,
+    D: Disk + Drop,
+    G: Gate + Sync,
+    B: Beginning,
+>(
+    rt: &T,
+    alloc: Global,
+    core: Core<D>,
+    r: &mut R,
+    w: &'w mut W,
+    workers: usize,
+    every: u64,
+    gate: &G,
+) -> (Result<Core<D>, ServeError<D>>, &'w mut W)
+    requires name { w.ghost_name ≡ B.name }
+    requires start { B.start ≡ Some (record { core = core; places = workers; input = R.remaining r.old; before = W.contents w.now }) }
+    requires idle { IsIdle (core_state_of core) }
+    requires works { core.failed ≡ false }
+    requires few { workers ≤ 64 }
+    ensures same { result.1.ghost_name ≡ w.entry.ghost_name }
+    ensures serves { ServePromise D.keeps workers core (handed_back result.0)
+        (exchange (R.remaining r.old) (R.remaining r.new) (W.contents w.entry.now) (W.contents result.1.now)) }
+{
+    let output = Output::<W, B> { w, of: PhantomData };
+    let (ended, output) = serve_to(rt, alloc, core, r, output, workers, every, gate);
+    let Output { w, of: _ } = output;
+    (ended, w)
+}
+
+/// Reads the lines that a reader still has and writes one line of output for each, while `workers` threads of their own run the messages.
+/// At the end of the input the lines that were written are the serial server's, and the core has committed the serial server's state, for
+/// every schedule of the workers. A checkpoint is made after each `every` records (0: never by their count), where the log has no room, and
+/// at the end of the input. All memory is taken before the first read, and the threads have ended when it returns.
+///
+/// # Errors
+///
+/// The core, as it is then, and a fault. `ServeFault::NoWorkers` where there are none, and `ServeFault::OutOfMemory` where there
+/// is no memory or a thread can't be started: nothing was read or written. `ServeFault` describes the others.
+pub fn serve<T: Threads + Wait + Sync, R: Read, W: Write, D: Disk + Drop, G: Gate + Sync>(
+    rt: &T,
+    alloc: Global,
+    core: Core<D>,
+    r: &mut R,
+    w: &mut W,
+    workers: usize,
+    every: u64,
+    gate: &G,
+) -> Result<Core<D>, ServeError<D>>
+    requires idle { IsIdle (core_state_of core) }
+    requires works { core.failed ≡ false }
+    requires few { workers ≤ 64 }
+    ensures { ServePromise D.keeps workers core (handed_back result)
+        (exchange (R.remaining r.old) (R.remaining r.new) (W.contents w.old) (W.contents w.new)) }
+{
+    let (ended, w) = serve_writer::<T, R, W, D, G, Brand>(
+        rt, alloc, core, r, w, workers, every, gate,
+    );
+    know_returned(w);
+    ended
 }

@@ -8,7 +8,7 @@ use Rattle.language.specs.Grammar.{message_of}
 use Rattle.scheduler.specs.Calls.{ArrivesByLine}
 use Rattle.serving.specs.Lines.{NoMessage, OutOfRange, Pending}
 use Rattle.serving.specs.Runs.{HandsHaveJobs}
-use Rattle.serving.proofs.Taken.{ComesSo, comes_as, next_of_line}
+use Rattle.serving.proofs.Taken.{ComesSo, comes_as, next_of_line, not_full}
 use Rattle.serving.proofs.input.take.Given.{Over}
 use Rattle.serving.proofs.input.take.Goals.{After-arrive_line}
 use Rattle.serving.proofs.input.take.Goals as goal
@@ -40,10 +40,10 @@ returns-in-Err-Exhausted-clause-takes g c hands h =
     let came = came_so g (goal.at.returns-in-Err-Exhausted-clause-takes g c).After-arrive_line hands h (c.in-Err-Exhausted.is ∙ ap Err c.in-Err-Exhausted.field-0-is) in
     (came.0, arrivals.Exhausted, came.1, came.2, refl, refl)
 
-pub returns-in-Err-Full-clause-takes : goal.returns-in-Err-Full-clause-takes
-returns-in-Err-Full-clause-takes g c hands h =
-    let came = came_so g (goal.at.returns-in-Err-Full-clause-takes g c).After-arrive_line hands h (c.in-Err-Full.is ∙ ap Err c.in-Err-Full.field-0-is) in
-    (came.0, arrivals.Full, came.1, came.2, refl, refl)
+pub unreachable-requires : goal.unreachable-requires
+unreachable-requires g c =
+    let came = ArrivesByLine c.args.core.now c.arrive_line.new.self (message_of c.args.line.now) in
+    not_full _ _ _ c.requires.a_slot (subst came (c.in-Err-Full.is ∙ ap Err c.in-Err-Full.field-0-is) c.arrive_line.ensures.arrives)
 
 pub returns-in-Err-Failed-clause-takes : goal.returns-in-Err-Failed-clause-takes
 returns-in-Err-Failed-clause-takes g c hands h =

@@ -1,14 +1,12 @@
 -- What stays so of the session and the batch from place to place; and how many places are still to be polled.
 use Rattle.std.proofs.Common.{◌≡◌, ◌<◌, ◌≤◌, ◌-◌, length}
 use Rattle.std.specs.Prelude.{IsFalse, IsTrue}
-use Rattle.serving.specs.Session.{HasMoved, HasReadNothing, KeepsReadEndAndOutputFailed}
+use Rattle.serving.specs.Session.{HasMoved}
 use Rattle.serving.proofs.session.Session.collect_delivered.Given as goal
 
 abbrev pub invariant-loop-k : goal.invariant-loop-k
 invariant-loop-k g l = record {
-  as_before : KeepsReadEndAndOutputFailed l.initial.self l.self;
   moves : HasMoved l.initial.self l.self;
-  unread : HasReadNothing l.initial.self l.self;
   places : length l.self.dispatch_seat.lent ≡ length l.initial.self.dispatch_seat.lent;
   failed : l.self.core.failed ≡ l.initial.self.core.failed;
   budget : l.batch.budget ≤ l.initial.batch.budget;

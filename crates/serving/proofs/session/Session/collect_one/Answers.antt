@@ -1,7 +1,8 @@
 -- What was collected is given to the core, and the session keeps its invariant.
-use Rattle.std.proofs.Common.{◌<◌, List, Option, None, ap, length, sym, subst, ◌∙◌}
+use Rattle.std.proofs.Common.{◌<◌, List, Option, None, ap, length, sym, subst, ◌∙◌, refl}
 use Rattle.std.proofs.lemmas.List.{length-set}
 use Rattle.parcel.specs.Run.{JobView}
+use Rattle.serving.specs.Fields.{session_view}
 use Rattle.serving.specs.Session.{HasMoved, SessionView}
 use Rattle.serving.proofs.Returning.{came_back, gives_back}
 use Rattle.serving.proofs.Going.{returned}
@@ -34,5 +35,6 @@ returns-clause-moves g c =
     let old = c.self.inside in
     let place = subst (λ (p : SessionView). c.args.k < length p.dispatch_seat.lent) (sym c.self.view_is) c.requires.place in
     let back = c.give_back.ensures.state_after in
-    subst (λ (p : SessionView). HasMoved p (record p { core = c.give_back.new.self; dispatch_seat = c.collect.new.seat })) c.self.view_is
-    (returned old.core.geometry c.args.k _ _ old.dispatch_seat.lent _ _ back.0 place back.1 back.3 s.3)
+    let less = returned old.core.geometry c.args.k _ _ old.dispatch_seat.lent _ _ back.0 place back.1 back.3 s.3 in
+    let new = session_view g.R.Read.remaining g.L.ReplySink.sent (record old { core = c.give_back.new.self; dispatch_seat = c.collect.new.seat }) in
+    subst (λ (p : SessionView). HasMoved p new) c.self.view_is (less.0, less.1, (refl, refl), (refl, refl))

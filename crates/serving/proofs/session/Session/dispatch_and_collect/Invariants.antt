@@ -2,17 +2,14 @@
 -- without a result. After each collection messages are dispatched, so `why` is as true then as before the loop.
 use Rattle.std.proofs.Common.{◌≤◌, ◌+◌, ◌-◌, ◌*◌}
 use Rattle.std.specs.Prelude.{IfSome}
-use Rattle.scheduler.specs.CoreView.{core_state_of}
-use Rattle.serving.specs.Lending.{IsBlocked}
-use Rattle.serving.specs.Session.{HasMoved, KeepsReadEndAndOutputFailed}
+use Rattle.serving.specs.Session.{HasMoved, IsBlockedIn}
 use Rattle.serving.proofs.session.Session.dispatch_and_collect.Given as goal
 
 abbrev pub invariant-loop-polls : goal.invariant-loop-polls
 invariant-loop-polls g l = record {
-  as_before : KeepsReadEndAndOutputFailed l.fn.self l.self;
   moves : HasMoved l.fn.self l.self;
   few : l.polls ≤ 16384;
-  ended : IfSome l.why (IsBlocked l.self.core.geometry (core_state_of l.self.core) (core_state_of l.self.core) l.self.dispatch_seat.lent);
+  ended : IfSome l.why (IsBlockedIn l.self);
 }
 
 abbrev pub decreases-loop-polls : goal.decreases-loop-polls

@@ -1,8 +1,9 @@
 -- The lemmas on what is dispatched; and the session keeps its invariant.
-use Rattle.std.proofs.Common.{ap, subst, ◌∙◌}
+use Rattle.std.proofs.Common.{ap, subst, ◌∙◌, refl}
 use Rattle.std.specs.Prelude.{is_none, position}
 use Rattle.scheduler.specs.CoreView.{core_state_of}
 use Rattle.serving.specs.Lending.{DispatchesTo}
+use Rattle.serving.specs.Fields.{session_view}
 use Rattle.serving.specs.Session.{HasMoved, SessionView}
 use Rattle.serving.proofs.Going.{dispatched}
 use Rattle.serving.proofs.Sending.{as_many, sends}
@@ -27,8 +28,9 @@ pub returns-clause-moves : goal.returns-clause-moves
 returns-clause-moves g c =
     let old = c.self.inside in
     let first = ap (λ (p : SessionView). position is_none p.dispatch_seat.lent) c.self.view_is ∙ c.requires.first in
-    subst (λ (p : SessionView). HasMoved p (record p { core = c.grant-granted.new.self; dispatch_seat = c.offer_granted.new.dispatch_seat })) c.self.view_is
-    (dispatched old.core.geometry c.args.k _ _ old.dispatch_seat.lent _ _ first (c.offer_granted.ensures.dispatches _ _ _ c.grant-granted.ensures.state_after))
+    let less = dispatched old.core.geometry c.args.k _ _ old.dispatch_seat.lent _ _ first (c.offer_granted.ensures.dispatches _ _ _ c.grant-granted.ensures.state_after) in
+    let new = session_view g.R.Read.remaining g.L.ReplySink.sent (record old { core = c.grant-granted.new.self; dispatch_seat = c.offer_granted.new.dispatch_seat }) in
+    subst (λ (p : SessionView). HasMoved p new) c.self.view_is (less.0, less.1, (refl, refl), (refl, refl))
 
 pub returns-clause-dispatches : goal.returns-clause-dispatches
 returns-clause-dispatches g c =

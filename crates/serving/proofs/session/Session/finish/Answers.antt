@@ -24,8 +24,8 @@ returns-in-EndOfInput-clause-session_step g c =
     let all_retired = ap (λ (r : ReorderBufferView). r.lines) sent.same.1 ∙ c.requires.all_retired in
     let idle = idle_of g.D.Disk.keeps _ _ c.self-2.invariant.run (ap (λ (p : SessionView). p.reorder_buffer.lines) c.self-2.view_is ∙ all_retired) in
     let pieces_left = ap (λ (p : SessionView). p.core.pieces_left) c.self-2.view_is ∙ ap (λ (k : CoreView). k.pieces_left) sent.same.0 ∙ c.requires.none in
-    let output_failed = ap (λ (p : SessionView). p.output_failed) c.self-2.view_is ∙ sent.session_step.1 in (
-      ap (λ (p : SessionView). p.read_end) c.self-2.view_is ∙ sent.session_step.0,
+    let output_failed = ap (λ (p : SessionView). p.output_failed) c.self-2.view_is ∙ sent.step.0.1 in (
+      ap (λ (p : SessionView). p.read_end) c.self-2.view_is ∙ sent.step.0.0,
       halts_so c.point.result c.or_halt.result _ _ _ c.or_halt.ensures output_failed
           (point_fails (core_state_of c.self-2.inside.core) pieces_left (core_state_of c.point.new.self)
           (core_state_of c.point.new.self ≡ record (core_state_of c.self-2.inside.core) { room = c.self-2.inside.core.geometry.half }) idle.none_held c.point.result

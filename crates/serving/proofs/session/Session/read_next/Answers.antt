@@ -53,6 +53,12 @@ take-requires-clause-room g c = has_place g.D.Disk.keeps _ _ c.self.invariant.ru
 pub push-requires-clause-room : goal.push-requires-clause-room
 push-requires-clause-room g c = has_place g.D.Disk.keeps _ _ c.self.invariant.run (room g (goal.at.push-requires-clause-room g c).After-next_line)
 
+pub take-requires-clause-a_slot : goal.take-requires-clause-a_slot
+take-requires-clause-a_slot g c =
+    let at = (goal.at.take-requires-clause-a_slot g c).After-next_line in
+    let u = c.self.invariant.run in
+    λ m. has_slot g.D.Disk.keeps _ _ m (none g at) u (has_place g.D.Disk.keeps _ _ u (room g at))
+
 pub take-requires-clause-order : goal.take-requires-clause-order
 take-requires-clause-order g c = follows g.D.Disk.keeps _ _ (none g (goal.at.take-requires-clause-order g c).After-next_line) c.self.invariant.run
 

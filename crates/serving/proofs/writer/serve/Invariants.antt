@@ -1,13 +1,13 @@
 -- Where the call begins, and the name by which the writer is lent.
 use Rattle.std.proofs.Common.{Some}
-use Rattle.serving.proofs.server.serve.Given as goal
+use Rattle.serving.proofs.writer.serve.Given as goal
 
 -- where the call begins, and the loan of the writer
 abbrev pub ghosts-serve_writer : goal.ghosts-serve_writer
 ghosts-serve_writer g a = record {
   start = Some (record {
     core = a.core;
-    places = a.setting.workers;
+    places = a.workers;
     input = g.R.Read.remaining a.r.now;
     before = g.W.Write.contents a.w.now;
   });
