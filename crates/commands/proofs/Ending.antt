@@ -20,7 +20,7 @@ use Rattle.commands.specs.Calls.{Ends, Exits, ExitsHelp, ExitsRefused, status_at
 use Rattle.commands.specs.Services.{AsksServe, within_limits}
 use Rattle.commands.specs.Faults.{status_of}
 use Rattle.arguments.proofs.Asking.{no_mistake, two_names}
-use Rattle.arguments.specs.Arguments.{Asks, AsksFormat, AsksOutOfRange, RunsNoCommand, AsksPlain, AsksShow, IsReason, command_of, findings, numbers_at}
+use Rattle.arguments.specs.Arguments.{Asks, AsksFormat, AsksOutOfRange, RunsNoCommand, AsksPlain, AsksShow, IsReason, command_of, findings, given_to, numbers_in}
 use Rattle.commands.specs.declared.faults.Fault.{Fault}
 use Rattle.commands.specs.declared.faults.Fault.TheVariants.{Write, OutOfMemory, Format as ByFormat, Open as ByOpen}
 use Rattle.arguments.specs.declared.parsing.ArgumentRefusal.{ArgumentRefusal}
@@ -64,42 +64,42 @@ exits_for_memory arguments refusal.OutOfMemory none reason fits h = (Err OutOfMe
 exits_for_memory arguments refusal.GeometryOutOfRange none reason fits h = absurd (fits reason)
 exits_for_memory arguments (refusal.Words error) none reason fits h = absurd (no_mistake arguments error none reason)
 
-pub numbers_fit : (g : Geometry) (arguments : List Text) → numbers_of g ≡ numbers_at (command_of arguments) → AsksOutOfRange arguments → ⊥
-numbers_fit g arguments are wrong = wrong.3 (subst AreInRange are (are_in_range g))
+pub numbers_fit : (g : Geometry) (arguments : List Text) → numbers_of g ≡ numbers_in (given_to (command_of arguments)) → AsksOutOfRange arguments → ⊥
+numbers_fit g arguments are wrong = wrong.1.2 (subst AreInRange are (are_in_range g))
 
 -- ---- what the arguments ask for is done
 
 pub served : (arguments : List Text) (request : Request) {g : Geometry} (end : Result (Unit {0}) Fault) {x : Exchange} → Asks arguments request
     → AsksPlain arguments g → Ends request end x → Exits (status_at end) (λ end. EndsInMemory g end x)
 served arguments (Plain h) {g} end {x} given asks ends =
-    (end, refl, subst (λ k. EndsInMemory k end x) (geometry_same h g (given.2 ∙ sym asks.2)) ends)
-served arguments (Format path h) end given asks ends = absurd (asks.1.0 given.1)
-served arguments (Show path) end given asks ends = absurd (asks.1.1 given.1)
-served arguments (Serve path s) end given asks ends = absurd (asks.1.2 given.1)
+    (end, refl, subst (λ k. EndsInMemory k end x) (geometry_same h g (given.1.1 ∙ sym asks.2)) ends)
+served arguments (Format path h) end given asks ends = absurd (asks.1.0 given.1.0)
+served arguments (Show path) end given asks ends = absurd (asks.1.1 given.1.0)
+served arguments (Serve path s) end given asks ends = absurd (asks.1.2 given.1.0)
 served arguments (Help text) end given asks ends = absurd (subst (IsAmong (kind_of text)) asks.0 given.0)
 
 pub formatted : (arguments : List Text) (request : Request) {path : List ℕ} (g : Geometry) (end : Result (Unit {0}) Fault) {x : Exchange}
     → Asks arguments request → AsksFormat arguments path g → Ends request end x → Exits (status_at end) (λ end. EndsFormatting g end x.before x.written) × (x.remaining ≡ x.input)
-formatted arguments (Plain h) g end given asks ends = absurd (given.1.0 asks.1)
+formatted arguments (Plain h) g end given asks ends = absurd (given.1.0.0 asks.1)
 formatted arguments (Format there h) g end {x} given asks ends =
-    ((end, refl, subst (λ k. EndsFormatting k end x.before x.written) (geometry_same h g (given.3 ∙ sym asks.3)) ends.1), ends.0)
-formatted arguments (Show there) g end given asks ends = let same : codes "format" ≡ codes "show" = two_names _ _ (command_of arguments) asks.1 given.1 in cc
-formatted arguments (Serve there s) g end given asks ends = let same : codes "format" ≡ codes "serve" = two_names _ _ (command_of arguments) asks.1 given.1 in cc
+    ((end, refl, subst (λ k. EndsFormatting k end x.before x.written) (geometry_same h g (given.1.2 ∙ sym asks.3)) ends.1), ends.0)
+formatted arguments (Show there) g end given asks ends = let same : codes "format" ≡ codes "show" = two_names _ _ (command_of arguments) asks.1 given.1.0 in cc
+formatted arguments (Serve there s) g end given asks ends = let same : codes "format" ≡ codes "serve" = two_names _ _ (command_of arguments) asks.1 given.1.0 in cc
 formatted arguments (Help text) g end given asks ends = absurd (subst (IsAmong (kind_of text)) asks.0 given.0)
 
 pub shown : (arguments : List Text) (request : Request) {path : List ℕ} (end : Result (Unit {0}) Fault) {x : Exchange} → Asks arguments request
     → AsksShow arguments path → Ends request end x → Exits (status_at end) (λ end. EndsShowing end x.before x.written) × (x.remaining ≡ x.input)
-shown arguments (Plain h) end given asks ends = absurd (given.1.1 asks.1)
-shown arguments (Format there h) end given asks ends = let same : codes "format" ≡ codes "show" = two_names _ _ (command_of arguments) given.1 asks.1 in cc
+shown arguments (Plain h) end given asks ends = absurd (given.1.0.1 asks.1)
+shown arguments (Format there h) end given asks ends = let same : codes "format" ≡ codes "show" = two_names _ _ (command_of arguments) given.1.0 asks.1 in cc
 shown arguments (Show there) end given asks ends = ((end, refl, ends.1), ends.0)
-shown arguments (Serve there s) end given asks ends = let same : codes "show" ≡ codes "serve" = two_names _ _ (command_of arguments) asks.1 given.1 in cc
+shown arguments (Serve there s) end given asks ends = let same : codes "show" ≡ codes "serve" = two_names _ _ (command_of arguments) asks.1 given.1.0 in cc
 shown arguments (Help text) end given asks ends = absurd (subst (IsAmong (kind_of text)) asks.0 given.0)
 
 pub served_on : (arguments : List Text) (request : Request) {path : List ℕ} {s : ServeOptions} (end : Result (Unit {0}) Fault) {x : Exchange}
     → Asks arguments request → AsksServe arguments path s → Ends request end x → Exits (status_at end) (λ end. EndsInFile s end x)
-served_on arguments (Plain h) end given asks ends = absurd (given.1.2 asks.1)
-served_on arguments (Format there h) end given asks ends = let same : codes "format" ≡ codes "serve" = two_names _ _ (command_of arguments) given.1 asks.1 in cc
-served_on arguments (Show there) end given asks ends = let same : codes "show" ≡ codes "serve" = two_names _ _ (command_of arguments) given.1 asks.1 in cc
+served_on arguments (Plain h) end given asks ends = absurd (given.1.0.2 asks.1)
+served_on arguments (Format there h) end given asks ends = let same : codes "format" ≡ codes "serve" = two_names _ _ (command_of arguments) given.1.0 asks.1 in cc
+served_on arguments (Show there) end given asks ends = let same : codes "show" ≡ codes "serve" = two_names _ _ (command_of arguments) given.1.0 asks.1 in cc
 served_on arguments (Serve there t) {s} end {x} given asks ends =
-    (end, refl, subst (λ u. EndsInFile u end x) (service_same ends.0 s (ends.1 ∙ ap within_limits given.3 ∙ sym asks.3)) ends.2)
+    (end, refl, subst (λ u. EndsInFile u end x) (service_same ends.0 s (ends.1 ∙ ap within_limits given.1.2 ∙ sym asks.3)) ends.2)
 served_on arguments (Help text) end given asks ends = absurd (subst (IsAmong (kind_of text)) asks.0 given.0)

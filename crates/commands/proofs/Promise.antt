@@ -144,12 +144,6 @@ pub then_so : {g : Geometry} {slots : ℕ} {start : State} {end : Result (Unit {
     → ((now : State) → P now → Q now) → HasRunFrom g slots start end input before after P → HasRunFrom g slots start end input before after Q
 then_so f h = record { now = h.now; left = h.left; all = h.all; written = h.written; recovers = h.recovers; all_answered = h.all_answered; goes_on = f h.now h.goes_on }
 
--- A run with this end, of which is not asked what follows.
-pub ends_so : {g : Geometry} {slots : ℕ} {start : State} {end r : Result (Unit {0}) Fault} {input before after : Option (List ℕ)} {P : State → Type 0} → end ≡ r
-    → HasRunFrom g slots start end input before after P → HasRunFrom g slots start r input before after (λ now. Unit {0})
-ends_so {g} {slots} {start} {input} {before} {after} is h =
-    subst (λ (e : Result (Unit {0}) Fault). HasRunFrom g slots start e input before after (λ now. Unit {0})) is (then_so (λ now next. tt) h)
-
 -- Each of the servers opened its device, and ran from the state that the crash before had left.
 pub all_go_on : (g : Geometry) (start : State) (device : Medium) (runs : List CrashedRun) → HoldsState g device start → FollowCrashes device runs
     → HaveRunFrom g start runs

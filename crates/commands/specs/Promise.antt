@@ -7,10 +7,13 @@ use Rattle.checkpoint.specs.declared.fault.OpenFault.TheVariants as opening
 use Rattle.disk.specs.Device.{IsCrashImage, IsSynced, Medium}
 use Rattle.meaning.specs.Output.{WritesOutput, serial_output}
 use Rattle.meaning.specs.State.{State}
+use Rattle.serving.specs.Ends.{Exchange}
 use Rattle.serving.specs.Restart.{RecoversTo, BytesRecover, WritesBeginning}
-use Rattle.commands.specs.Serving.{RecoveredTo}
+use Rattle.commands.specs.Acknowledged.{HoldsAcknowledged}
+use Rattle.commands.specs.Serving.{CrashesSafely, EndsOnDevice, RecoveredTo}
 use Rattle.commands.specs.declared.faults.Fault.{Fault}
 use Rattle.commands.specs.declared.faults.Fault.TheVariants.{Write, Device, NoWorkers, OutOfMemory, Open}
+use Rattle.commands.specs.declared.serve_options.ServeOptions.{ServeOptions}
 
 -- `all` is what the output holds; where a write failed, what it would hold with all that was to be written (`WritesBeginning`). At most
 -- `left` lines that were read are not answered in `all`: where the device failed, as many as there are slots; where neither failed, none.
@@ -70,3 +73,17 @@ abbrev pub LeavesRun : Type 0 → ℕ → Medium → Medium → Result (Unit {0}
 LeavesRun keeps slots old new end input before after = keeps → (g : Geometry) (start : State) → HoldsState g old start
     → OpensUnlessFailed end
     × ((c : List ℕ) → IsCrashImage new c → HasRunFrom g slots start end input before after (λ now. recovered_state g c ≡ Some now))
+
+-- ---- all that is promised of a service on a device
+
+-- The service found the device as `old`, left it as `new` and came to this end. Whatever a crash leaves then holds what was sent, and
+-- recovers to a state with it; where a write failed, all that was to be sent by that, too.
+pub record ServicePromise (keeps : Type 0) (s : ServeOptions) (old new : Medium) (end : Result (Unit {0}) Fault) (x : Exchange)
+    : Type 0 where
+  pub ends : EndsOnDevice keeps s old new end x
+  pub crash_safe : CrashesSafely keeps s old new end x
+  pub kept : HoldsOfAll end s.slots x.before x.written (λ left all. keeps → (c : List ℕ) → IsCrashImage new c
+      → HoldsAcknowledged left old x.input x.before all c)
+  pub recovers : HoldsOfAll end s.slots x.before x.written (λ left all. keeps → (c : List ℕ) → IsCrashImage new c
+      → HoldsRecovered left old x.input x.before all c)
+  pub goes_on : LeavesRun keeps s.slots old new end x.input x.before x.written

@@ -3,7 +3,7 @@ use Rattle.std.specs.Prelude.{◌≡◌, ℕ, List, [], ◌∷◌, codes, max, m
 use Rattle.clap.specs.Words.{Text}
 use Rattle.commands.specs.Serving.{options_in_order}
 use Rattle.commands.specs.declared.serve_options.ServeOptions.{ServeOptions}
-use Rattle.arguments.specs.Arguments.{IsNamed, command_of, device_at, findings, service_at}
+use Rattle.arguments.specs.Arguments.{IsNamed, command_of, device_in, findings, given_to, service_in}
 
 -- the numbers of a server's options, from those that the arguments give: at most 64 workers and 1 to 1024 slots, whatever they say
 abbrev pub within_limits : List ℕ → List ℕ
@@ -13,5 +13,5 @@ within_limits others = others
 -- The arguments ask for service with the device in the file of this path. `findings`: a call for help or the version, or mistakes.
 abbrev pub AsksServe : List Text → Text → ServeOptions → Type 0
 AsksServe arguments path s =
-    (findings arguments ≡ []) × IsNamed (codes "serve") (command_of arguments) × (path ≡ device_at (command_of arguments))
-    × (options_in_order s ≡ within_limits (service_at (command_of arguments)))
+    (findings arguments ≡ []) × IsNamed (codes "serve") (command_of arguments) × (path ≡ device_in (given_to (command_of arguments)))
+    × (options_in_order s ≡ within_limits (service_in (given_to (command_of arguments))))

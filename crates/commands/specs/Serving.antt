@@ -8,9 +8,7 @@ use Rattle.checkpoint.specs.Recovery.{recovered_state}
 use Rattle.checkpoint.specs.Refusals.{IsRefused}
 use Rattle.checkpoint.specs.declared.fault.OpenFault.TheVariants as open_faults
 use Rattle.disk.specs.Device.{IsCrashImage, Medium}
-use Rattle.disk.specs.Memory.{Memory, after_crash}
 use Rattle.disk.specs.Moments.{moment_number}
-use Rattle.disk.specs.declared.torn.Torn.{Torn}
 use Rattle.journal.specs.Opening.{IsLeftByRefusal, OpeningCrashImages}
 use Rattle.histories.specs.Incarnations.{Ran}
 use Rattle.incarnations.specs.Incarnations.{IsRunIncarnation}
@@ -125,15 +123,3 @@ abbrev pub CrashesSafely : Type 0 → ServeOptions → Medium → Medium → Res
 CrashesSafely keeps s old new (Err (Open fault)) x = keeps → OpeningCrashImages old new
 CrashesSafely keeps s old new end x =
     (ended : Result (Unit {0}) ServeFault) × (end ≡ command_result ended) × HasServedBy keeps s old new ended x
-
--- ---- a device in memory that is crashed
-
--- The service ran on a device in memory, which it left as `ended`, and came to this end. `crashed` is what a crash that tears as `torn`
--- makes of that device.
-pub record HasServedUntilCrash (s : ServeOptions) (old : Medium) (torn : Torn) (crashed : Memory) (end : Result (Unit {0}) Fault)
-    (x : Exchange) : Type 0 where
-  pub ended : Memory
-  pub ends : EndsOnDevice (Unit {0}) s old ended.medium end x
-  pub crash_safe : CrashesSafely (Unit {0}) s old ended.medium end x
-  pub crash : crashed ≡ after_crash torn ended
-  pub leaves : IsCrashImage ended.medium crashed.medium.now

@@ -1,10 +1,8 @@
 //! The promise of a service over a crash, in bytes alone: what went into two incarnations of a device, and what came out.
-ghost use Rattle.std.specs.Prelude.{◌≡◌, ◌≢◌, ◌<◌, ◌⊎◌, Err, IfOk, IfErr, List};
+ghost use Rattle.std.specs.Prelude.{◌≡◌, ◌≢◌, ◌<◌, IfOk, IfErr, List};
 ghost use Rattle.affinity.specs.declared.geometry.Geometry.{Geometry};
 ghost use Rattle.checkpoint.specs.Recovery.{recovered_state};
-ghost use Rattle.checkpoint.specs.declared.fault.OpenFault.{OpenFault};
-ghost use Rattle.checkpoint.specs.declared.fault.OpenFault.TheVariants as opening;
-ghost use Rattle.commands.specs.Promise.{HasRunFrom, HoldsState};
+ghost use Rattle.commands.specs.Promise.{HasRunFrom, HoldsState, OpensUnlessFailed};
 ghost use Rattle.commands.specs.Restarts.{CrashedRun, FollowCrashes, HaveRunFrom};
 ghost use Rattle.commands.specs.declared.faults.Fault.TheVariants as faults;
 ghost use Rattle.disk.specs.Device.{IsSynced, Medium};
@@ -37,7 +35,7 @@ fn formatted_in_memory(alloc: Global, geometry: Geometry) -> Result<MemDisk, Fau
     }
 }
 
-/// Answers the lines of `r` on `w` with what a crash left of a device. How that ended is reported: the service itself is `serve_on`.
+/// Answers the lines of `r` on `w` with what a crash left of a device, and returns how that ended.
 fn serve_next<T: Threads + Wait + Sync, R: Read, W: Write>(
     rt: &T,
     alloc: Global,
@@ -48,12 +46,10 @@ fn serve_next<T: Threads + Wait + Sync, R: Read, W: Write>(
 ) -> Result<(), Fault>
     ensures run { (g : Geometry) (start : State) → HoldsState g (medium_of disk) start → HasRunFrom g service.slots start result
         (R.remaining r.old) (W.contents w.old) (W.contents w.new) (λ now. Unit {0}) }
-    ensures opens { (g : Geometry) (start : State) → HoldsState g (medium_of disk) start → (fault : OpenFault)
-        → result ≡ Err (faults.Open fault) → (fault ≡ opening.Device) ⊎ (fault ≡ opening.OutOfMemory) }
+    ensures opens { (g : Geometry) (start : State) → HoldsState g (medium_of disk) start → OpensUnlessFailed result }
 {
     let (_disk, end) = serve_on(rt, alloc, disk, service, r, w);
-    end?;
-    Ok(())
+    end
 }
 
 /// Makes a device in memory, and answers the lines of `r` on `w` with it until the device's n-th call, for any n. The device stops there,
@@ -78,8 +74,7 @@ pub fn serve_again<T: Threads + Wait + Sync, R: Read, W: Write, S: Read, V: Writ
         (W.contents w.new) (λ now. HasRunFrom geometry service.slots now ends.1 (S.remaining next_r.old) (V.contents next_w.old)
         (V.contents next_w.new) (λ later. Unit {0}))) }
     // Each of them opened its device, unless that failed or memory was wanting.
-    ensures opens { IfOk result (λ ends. (fault : OpenFault) → (ends.0 ≡ Err (faults.Open fault)) ⊎ (ends.1 ≡ Err (faults.Open fault))
-        → (fault ≡ opening.Device) ⊎ (fault ≡ opening.OutOfMemory)) }
+    ensures opens { IfOk result (λ ends. OpensUnlessFailed ends.0 × OpensUnlessFailed ends.1) }
     ensures unread { IfErr result (λ _. (R.remaining r.new ≡ R.remaining r.old) × (S.remaining next_r.new ≡ S.remaining next_r.old)) }
     ensures unwritten { IfErr result (λ _. (W.contents w.new ≡ W.contents w.old) × (V.contents next_w.new ≡ V.contents next_w.old)) }
     ensures not_of_streams { IfErr result (λ fault. (fault ≢ faults.Read) × (fault ≢ faults.Write)) }

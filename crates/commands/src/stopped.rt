@@ -2,7 +2,6 @@
 ghost use Rattle.std.specs.Prelude.{◌≡◌, ◌<◌};
 ghost use Rattle.disk.specs.Memory.{medium_of, memory_of};
 ghost use Rattle.disk.specs.Torn.{HasPattern};
-ghost use Rattle.disk.specs.declared.injected_fault.InjectedFault.TheVariants.{StopAt};
 ghost use Rattle.serving.specs.Ends.{exchange};
 ghost use Rattle.commands.specs.UntilCrash.{ServesUntilCrash};
 
@@ -14,27 +13,6 @@ use std::alloc::Global;
 use std::io::{Read, Write};
 use std::sync::Wait;
 use std::thread::Threads;
-
-/// Serves with a device that stops at its n-th call from now on (that call and all later ones fail), and crashes it. `_n` is there for the
-/// condition `stops` alone: the device that is served stops at call n. No `ensures` can say it, as a crash clears the injected fault.
-fn serve_and_crash<T: Threads + Wait + Sync, R: Read, W: Write>(
-    rt: &T,
-    alloc: Global,
-    disk: MemDisk,
-    _n: u64,
-    torn: Torn,
-    service: ServeOptions,
-    r: &mut R,
-    w: &mut W,
-) -> (MemDisk, Result<(), Fault>)
-    requires stops { (memory_of disk).injected_fault ≡ StopAt _n }
-    requires bytes { HasPattern torn }
-    ensures { ServesUntilCrash service (medium_of disk) torn (memory_of result.0) result.1
-        (exchange (R.remaining r.old) (R.remaining r.new) (W.contents w.old) (W.contents w.new)) }
-{
-    let (disk, end) = serve_on(rt, alloc, disk, service, r, w);
-    (disk.crash(torn), end)
-}
 
 /// Answers the lines of `r` on `w` with a device that stops at its n-th call, whichever that is, and then crashes the device. The service
 /// ended as `serve_on` says. What the crash leaves, however it tears what was not synced, holds each change whose reply was written, if
@@ -56,5 +34,6 @@ pub fn serve_stopped<T: Threads + Wait + Sync, R: Read, W: Write>(
 {
     let mut disk = disk;
     disk.stop_at(n);
-    serve_and_crash(rt, alloc, disk, n, torn, service, r, w)
+    let (disk, end) = serve_on(rt, alloc, disk, service, r, w);
+    (disk.crash(torn), end)
 }
