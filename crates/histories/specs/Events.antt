@@ -1,5 +1,6 @@
 -- Statement for operators: Events: what each step does to the core state and to the hands of a machine, and which outcome it has.
 use Rattle.std.specs.Prelude.{◌≡◌, ℕ, zero, suc, ◌+◌, ◌-◌, ◌^◌, ◌≤◌, Bool, true, false, not, ◌&&◌, ◌==◌, nat_lt, nat_le, List, [], ◌∷◌, ◌++◌, map, filter, length, take, drop, if◌then◌else◌, Option, Some, None, is_some, is_none, position, slice_get, set, MatchBool}
+use Rattle.std.specs.Option.{unwrap_or}
 use Rattle.std.specs.List.{list_any}
 use Rattle.affinity.specs.declared.geometry.Geometry.{Geometry}
 use Rattle.language.specs.declared.Msg.{Msg}
@@ -108,8 +109,7 @@ cut g n w = unless_refused w (point_refusal w) (outcomes.Cut, record w { room = 
 
 -- how many pieces are left once one more is written, if any was
 abbrev pub pieces_after : Option ℕ → ℕ
-pieces_after None = 0
-pieces_after (Some n) = n - 1
+pieces_after left = unwrap_or left 0 - 1
 
 -- a piece is written
 abbrev pub piece : CoreState → Outcome × CoreState

@@ -1,5 +1,6 @@
 -- Statement for engineers: What can be done next, and how much is left to do.
 use Rattle.std.specs.Prelude.{◌≡◌, ℕ, zero, suc, ◌+◌, ◌*◌, ◌<◌, ◌≤◌, Bool, true, false, ◌&&◌, ◌==◌, cond, nat_lt, List, [], ◌∷◌, ◌++◌, length, count_by, sum_by, Option, Some, None, is_some, IsPermutation}
+use Rattle.std.specs.Option.{option_map_or}
 use Rattle.std.specs.List.{AllByRecursion}
 use Rattle.affinity.specs.declared.geometry.Geometry.{Geometry}
 use Rattle.histories.specs.declared.outcomes.Outcome.{Outcome}
@@ -93,8 +94,7 @@ HandsHold w = (ticket : ℕ) → count_by (has_ticket ticket) w.hands ≡ count_
 
 -- how many steps are left of a checkpoint in progress with so many pieces left: these, and its end
 abbrev pub points_left : Option ℕ → ℕ
-points_left None = 0
-points_left (Some n) = n + 1
+points_left left = option_map_or (λ n. n + 1) left 0
 
 -- how much is left to do where each checkpoint has n pieces to write: n + 4 for each step to come, one for each step that is left of the
 -- checkpoint in progress, and n + 2 if no message is eligible

@@ -1,5 +1,6 @@
 -- Inner: Waiting messages, by their tickets.
 use Rattle.std.specs.Prelude.{◌<◌, Bool, true, not, ◌&&◌, nat_lt, if◌then◌else◌, List, [], ◌∷◌, Option, Some, None}
+use Rattle.std.specs.Option.{option_map_or}
 use Rattle.std.specs.List.{list_any, AllByRecursion}
 use Rattle.run_queue.specs.RunQueue.{are_related_intervals, is_free_of}
 use Rattle.run_queue.specs.declared.queued_message.QueuedMessage.{QueuedMessage}
@@ -19,8 +20,7 @@ is_conflict_free held waiting t = is_free_of held t && not (list_any (waits_for 
 
 -- whether message t came before the best so far, or there is no best yet
 abbrev pub is_earlier : Option QueuedMessage → QueuedMessage → Bool
-is_earlier None t = true
-is_earlier (Some d) t = nat_lt t.ticket d.ticket
+is_earlier o t = option_map_or (λ d. nat_lt t.ticket d.ticket) o true
 
 -- the one of two that came first
 abbrev pub earlier : Option QueuedMessage → Option QueuedMessage → Option QueuedMessage

@@ -1,5 +1,6 @@
 -- Inner: For each affinity number, the message at the head of its queue if it is conflict-free.
 use Rattle.std.specs.Prelude.{◌≡◌, ◌+◌, ◌*◌, ◌<◌, ◌≤◌, ℕ, zero, suc, min, Bool, true, List, length, get_or, if◌then◌else◌, slice_index_or, Option, Some, None}
+use Rattle.std.specs.Option.{option_and_then}
 use Rattle.std.specs.List.{find}
 use Rattle.affinity.specs.Interval.{Interval, IsAffinity}
 use Rattle.affinity.specs.declared.geometry.Geometry.{Geometry}
@@ -9,8 +10,7 @@ use Rattle.run_queue.specs.declared.queued_message.QueuedMessage.{QueuedMessage}
 
 -- the message, if there is one and it passes the test
 abbrev pub if_passes : (QueuedMessage → Bool) → Option QueuedMessage → Option QueuedMessage
-if_passes p None = None
-if_passes p (Some t) = if p t then Some t else None
+if_passes p o = option_and_then (λ t. if p t then Some t else None) o
 
 -- the first message that waits at number n, if it is conflict-free: what the table's entry there has to be
 abbrev pub ready_at : List QueuedMessage → List QueuedMessage → ℕ → Option QueuedMessage

@@ -1,5 +1,6 @@
 -- Inner: Which affinities are related, by numbers alone.
 use Rattle.std.specs.Prelude.{ℕ, Bool, ◌||◌, nat_lt, is_some, List, [], ◌∷◌, Option, Some, None, false, take}
+use Rattle.std.specs.Option.{option_map_or}
 use Rattle.std.specs.List.{find}
 use Rattle.affinity.specs.Path.{Path}
 use Rattle.affinity.specs.Interval.{preorder_number}
@@ -14,8 +15,7 @@ numbers_above g p =
 
 -- whether there is a message, and it came before this ticket
 abbrev pub is_before : ℕ → Option QueuedMessage → Bool
-is_before ticket None = false
-is_before ticket (Some t) = nat_lt t.ticket ticket
+is_before ticket o = option_map_or (λ t. nat_lt t.ticket ticket) o false
 
 -- whether a message at number n is held, or waits with a smaller ticket: so it keeps back one with this ticket at a related affinity
 abbrev pub conflicts_at : List QueuedMessage → List QueuedMessage → ℕ → ℕ → Bool

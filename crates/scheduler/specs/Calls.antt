@@ -1,5 +1,6 @@
 -- Statement for engineers: What the calls of a core return, what they make of its core state, and which events they are.
 use Rattle.std.specs.Prelude.{◌≡◌, ℕ, ◌+◌, Bool, true, false, List, take, length, Option, Some, None, Result, Ok, Err}
+use Rattle.std.specs.Option.{option_map_or}
 use Rattle.affinity.specs.declared.geometry.Geometry.{Geometry}
 use Rattle.histories.specs.Eligible.{next_eligible}
 use Rattle.histories.specs.Events.{Hand, IsAllowed, arrive, batch, fails, pieces_after, grant, all_pieces_written, log, grant_refusal, piece_refusal}
@@ -99,8 +100,7 @@ arrive_outcome (Ok ticket) = outcomes.Ticket ticket
 arrive_outcome (Err why) = outcomes.ArriveRefused why
 
 abbrev pub answer_outcome : Option (ℕ × Reply) → Outcome
-answer_outcome None = outcomes.Idle
-answer_outcome (Some a) = outcomes.Answered a.0 a.1
+answer_outcome o = option_map_or (λ a. outcomes.Answered a.0 a.1) o outcomes.Idle
 
 -- ---- messages that arrive by the lines that encode them
 

@@ -1,5 +1,6 @@
 -- Statement for operators: Which lines take a ticket, and what is known of each line that was read.
 use Rattle.std.specs.Prelude.{◌≡◌, ℕ, ◌+◌, true, false, List, [], ◌∷◌, ◌++◌, if◌then◌else◌, Option, Some, None}
+use Rattle.std.specs.Option.{option_map_or}
 use Rattle.std.specs.List.{Contains}
 use Rattle.affinity.specs.declared.geometry.Geometry.{Geometry}
 use Rattle.histories.specs.CoreState.{Entry}
@@ -15,8 +16,7 @@ pub use Rattle.reorder_buffer.specs.declared.reorder_buffer.Line.TheVariants.{No
 
 -- the message of a line, if it is one and is in range: no other line takes a ticket
 abbrev pub admitted_in : Geometry → Option Msg → List Msg
-admitted_in g None = []
-admitted_in g (Some m) = if is_in_range g m then m ∷ [] else []
+admitted_in g o = option_map_or (λ m. if is_in_range g m then m ∷ [] else []) o []
 
 -- the messages of all lines that take a ticket, in order
 abbrev pub admitted : Geometry → List (List ℕ) → List Msg

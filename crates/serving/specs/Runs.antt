@@ -1,6 +1,7 @@
 -- Statement for operators: A segment of a server's run: its machine (the core; its hands are the bench's places, with the jobs lent there)
 -- before and after, and what a crash meanwhile may leave.
 use Rattle.std.specs.Prelude.{◌≡◌, ◌+◌, ℕ, List, [], map, length, count_by, Option, Some, None}
+use Rattle.std.specs.Option.{option_map_or}
 use Rattle.histories.specs.Runs.{answered, arrived}
 use Rattle.histories.specs.CoreState.{Entry, CoreState, held}
 use Rattle.incarnations.specs.Machine.{LeadTo, MachineView, HoldsJobs}
@@ -15,8 +16,7 @@ use Rattle.scheduler.specs.CoreView.{CoreView, core_state_of}
 
 -- each place is a hand: empty where nothing is lent, and else with the job that is lent there
 abbrev pub lent_hand : Option JobView → HandContent
-lent_hand None = has.Empty
-lent_hand (Some job) = has.Job job
+lent_hand o = option_map_or has.Job o has.Empty
 
 -- the machine of this core and the jobs lent at the places: each place is a hand
 abbrev pub machine_with_jobs : CoreView → List (Option JobView) → MachineView
