@@ -17,7 +17,8 @@ use Rattle.image.specs.Image.{image_of, image_state, version_in}
 use Rattle.image.proofs.Reading.{read_again}
 use Rattle.oplog.proofs.Slices.{nothing_over}
 use Rattle.oplog.specs.Front.{chain, front, gates, count_open, rows}
-use Rattle.device_map.specs.Layout.{Layout, slice, layout_of, part_bytes, part_at, device_size, half_part, half_size, header_part, image_part, image_size, record_size}
+use Rattle.device_map.specs.Layout.{Layout, slice, layout_of, part_bytes, part_at, device_size, half_part, half_size, header_part, image_part, image_size}
+use Rattle.language.specs.declared.TheConstants.{RECORD_SIZE}
 use Rattle.oplog.specs.Recovery.{named_area, in_force, is_laid_out, run, recovers_by_area}
 use Rattle.oplog.proofs.Slices.{slice_slice}
 use Rattle.meaning.specs.State.{State, empty}
@@ -80,7 +81,7 @@ module _ (g : Geometry) (c : List ℕ) (laid : IsAllButHeader g c) where
   shut_0 = slice_slice c 128 (half_size g.half) 64 g.half (omega arith) ∙ zeros_there c 64 (64 + (64 + g.half)) 128 g.half laid.root (omega arith)
 
   no_front : front l 0 c ≡ []
-  no_front = ap (λ (n : ℕ). rows record_size n (drop (64 + g.half) (part_bytes l (half_part 0) c))) (ap count_open shut_0 ∙ open_none g.half)
+  no_front = ap (λ (n : ℕ). rows RECORD_SIZE n (drop (64 + g.half) (part_bytes l (half_part 0) c))) (ap count_open shut_0 ∙ open_none g.half)
 
   image_there : part_bytes l (image_part 0) c ≡ image_of 2 g empty
   image_there =

@@ -10,7 +10,7 @@ use Rattle.checkpoint.specs.declared.fault.OpenFault.TheVariants as faults
 use Rattle.checkpoint.specs.Loading.{IsConsistentFault, fault_of_log, record_fault}
 use Rattle.checkpoint.specs.Recovery.{after_record, apply_decoded, is_record_there}
 use Rattle.checkpoint.specs.Refusals.{fault_if}
-use Rattle.device_map.specs.Layout.{record_size}
+use Rattle.language.specs.declared.TheConstants.{RECORD_SIZE}
 use Rattle.disk.specs.Device.{AreBytes}
 use Rattle.language.specs.declared.Msg.{Msg}
 use Rattle.language.specs.declared.Reply.{Reply}
@@ -48,7 +48,7 @@ module _ (g : Geometry) (x : State) (m : Msg) (bytes : List ℕ) (whole : IsMess
       (and_right (bytes_eq bytes (record_of m) && is_in_range g m) (is_recorded m (reply_to g x m)) (and_right (is_changing (kind m)) (is_done (reply_to g x m)) (not_done (reply_to g x m) differs)))
 
 -- bytes that are the record of no change in range
-pub no_record : (g : Geometry) (x : State) (bytes : List ℕ) → length bytes ≡ record_size → AreBytes bytes → IsNoChangeRecord g bytes → after_record g x bytes ≡ None
+pub no_record : (g : Geometry) (x : State) (bytes : List ℕ) → length bytes ≡ RECORD_SIZE → AreBytes bytes → IsNoChangeRecord g bytes → after_record g x bytes ≡ None
 no_record g x bytes size are none = by (message_in_fields bytes) refl
   where
     by : (o : Option Msg) → message_in_fields bytes ≡ o → apply_decoded g x bytes o ≡ None
@@ -64,7 +64,7 @@ no_record g x bytes size are none = by (message_in_fields bytes) refl
 
 module _ {g h : Geometry} (same : h ≡ g) (x : State) (half i : ℕ) (bytes : List ℕ) where
   -- The fault of a record that couldn't be read is consistent with its bytes.
-  pub read_fault : length bytes ≡ record_size → AreBytes bytes → (e : LogFault) → IsOfRecord h bytes (Err e) → NamesRecord half i (Err e)
+  pub read_fault : length bytes ≡ RECORD_SIZE → AreBytes bytes → (e : LogFault) → IsOfRecord h bytes (Err e) → NamesRecord half i (Err e)
       → IsConsistentFault (record_fault g x half i bytes) (fault_of_log e)
   read_fault size are Device of_it about = tt
   read_fault size are (BadRecord a b) of_it about =

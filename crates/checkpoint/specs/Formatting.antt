@@ -4,7 +4,8 @@ use Rattle.affinity.specs.declared.geometry.Geometry.{Geometry}
 use Rattle.checkpoint.specs.Recovery.{recovered_state}
 use Rattle.checkpoint.specs.Refusals.{IsUnformatted}
 use Rattle.disk.specs.Device.{Medium, IsCrashImage}
-use Rattle.device_map.specs.Layout.{slice, layout_of, part_at, half_part, image_part, image_size, header_size, root_zone_size, chain_zone_size}
+use Rattle.device_map.specs.Layout.{slice, layout_of, part_at, half_part, image_part, image_size}
+use Rattle.device_map.specs.declared.layout.TheConstants.{HEADER_SIZE, ROOT_ZONE_SIZE, CHAIN_ZONE_SIZE}
 use Rattle.meaning.specs.State.{empty}
 
 -- What a crash of the device `before` might leave, or a device that isn't formatted, or one that recovers to the empty state.
@@ -27,6 +28,6 @@ HasBytesAt c at bytes = slice c at (length bytes) ≡ bytes
 -- What an empty device needs besides its header: zeros from the root zone to the gates of half 0, in the chain zone and
 -- gates of half 1, and in image 0, but for its first byte, the version.
 pub record IsAllButHeader (g : Geometry) (c : List ℕ) : Type 0 where
-  pub root : HasBytesAt c header_size (replicate (root_zone_size + (chain_zone_size + g.half)) 0)
-  pub one : HasBytesAt c (part_at (layout_of g) (half_part 1)) (replicate (chain_zone_size + g.half) 0)
+  pub root : HasBytesAt c HEADER_SIZE (replicate (ROOT_ZONE_SIZE + (CHAIN_ZONE_SIZE + g.half)) 0)
+  pub one : HasBytesAt c (part_at (layout_of g) (half_part 1)) (replicate (CHAIN_ZONE_SIZE + g.half) 0)
   pub image : HasBytesAt c (part_at (layout_of g) (image_part 0)) (2 ∷ replicate (image_size g - 1) 0)

@@ -5,7 +5,7 @@ use Rattle.std.specs.Str.{bytes_eq}
 use Rattle.affinity.specs.Geometry.{numbers_of}
 use Rattle.affinity.specs.declared.geometry.Geometry.{Geometry}
 use Rattle.byteorder.specs.Endian.{little_bytes}
-use Rattle.device_map.specs.Layout.{header_size}
+use Rattle.device_map.specs.declared.layout.TheConstants.{HEADER_SIZE}
 
 -- the format byte of a formatted device, 1, and `WAFFSRV`
 abbrev pub magic : List ℕ
@@ -21,4 +21,4 @@ is_header g bytes = bytes_eq bytes (header_of g)
 
 -- Bytes that begin with the header of this geometry.
 abbrev pub HasHeader : Geometry → List ℕ → Type 0
-HasHeader g c = take header_size c ≡ header_of g
+HasHeader g c = take HEADER_SIZE c ≡ header_of g

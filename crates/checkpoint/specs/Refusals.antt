@@ -8,7 +8,8 @@ use Rattle.checkpoint.specs.Recovery.{after_record, decoding}
 use Rattle.image.specs.Image.{has_head, is_good, image_state}
 use Rattle.image.specs.Pieces.{piece_count}
 use Rattle.oplog.specs.Front.{chain, front}
-use Rattle.device_map.specs.Layout.{layout_of, part_bytes, device_size, image_part, other, header_size, root_zone_size}
+use Rattle.device_map.specs.Layout.{layout_of, part_bytes, device_size, image_part, other}
+use Rattle.device_map.specs.declared.layout.TheConstants.{HEADER_SIZE, ROOT_ZONE_SIZE}
 use Rattle.oplog.specs.Recovery.{named_area, run}
 use Rattle.meaning.specs.State.{State}
 
@@ -54,11 +55,11 @@ refused g c =
 
 -- The device is long enough for a header and a root zone, and doesn't begin with the magic.
 abbrev pub IsUnformatted : List ℕ → Type 0
-IsUnformatted c = (header_size + root_zone_size ≤ length c) × (take 8 c ≢ magic)
+IsUnformatted c = (HEADER_SIZE + ROOT_ZONE_SIZE ≤ length c) × (take 8 c ≢ magic)
 
 -- The device begins with the magic, and no geometry has its header.
 abbrev pub HasNoGeometry : List ℕ → Type 0
-HasNoGeometry c = (header_size + root_zone_size ≤ length c) × (take 8 c ≡ magic) × ((g : Geometry) → HasHeader g c → ⊥)
+HasNoGeometry c = (HEADER_SIZE + ROOT_ZONE_SIZE ≤ length c) × (take 8 c ≡ magic) × ((g : Geometry) → HasHeader g c → ⊥)
 
 -- The device has the header of a geometry, and is long enough for all its parts.
 pub record HasHeaderAndParts (c : List ℕ) : Type 0 where
@@ -69,7 +70,7 @@ pub record HasHeaderAndParts (c : List ℕ) : Type 0 where
 -- The device has the header of a geometry, and is refused with this fault.
 pub record IsRefusedWith (c : List ℕ) (fault : OpenFault) : Type 0 where
   pub geometry : Geometry
-  pub long : header_size + root_zone_size ≤ length c
+  pub long : HEADER_SIZE + ROOT_ZONE_SIZE ≤ length c
   pub header : HasHeader geometry c
   pub is : refused geometry c ≡ Some fault
 
@@ -79,5 +80,5 @@ IsRefused c Device = Unit {0}
 IsRefused c OutOfMemory = Unit {0}
 IsRefused c NotFormatted = IsUnformatted c
 IsRefused c BadGeometry = HasNoGeometry c
-IsRefused c TooShort = (length c < header_size + root_zone_size) ⊎ IsRefusedWith c TooShort
+IsRefused c TooShort = (length c < HEADER_SIZE + ROOT_ZONE_SIZE) ⊎ IsRefusedWith c TooShort
 IsRefused c fault = IsRefusedWith c fault

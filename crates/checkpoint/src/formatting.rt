@@ -11,7 +11,8 @@ ghost use Rattle.disk.specs.Device.{IsCallInside, IsSynced, IsCrashImage, SameOu
 ghost use Rattle.disk.specs.Moments.{CrashImagesAre};
 ghost use Rattle.oplog.specs.Beyond.{KeepsBeyond};
 ghost use Rattle.disk.specs.Store.{CrashesChangeOnly};
-ghost use Rattle.device_map.specs.Layout.{Layout, device_size, layout_of, header_size};
+ghost use Rattle.device_map.specs.Layout.{Layout, device_size, layout_of};
+ghost use Rattle.device_map.specs.declared.layout.TheConstants.{HEADER_SIZE};
 ghost use Rattle.meaning.specs.State.{empty};
 
 use crate::header::{FORMATTED, header_of};
@@ -88,7 +89,7 @@ fn lay_out<D: Disk>(disk: &mut D, zeros: &[u8], g: &Geometry) -> Result<(), Disk
     requires some { 0 < length zeros.now }
     requires long_enough { device_size (layout_of g.now) ≤ length (D.medium disk.old).now }
     ensures any_moment { D.keeps → CrashesChangeOnly (D.medium disk.old) (D.medium disk.new)
-        (SameOutside header_size (device_size (layout_of g.now) - header_size)) }
+        (SameOutside HEADER_SIZE (device_size (layout_of g.now) - HEADER_SIZE)) }
     ensures laid { OnOk result (D.keeps → IsAllButHeader g.now (D.medium disk.new).now) }
     ensures synced { OnOk result (D.keeps → IsSynced (D.medium disk.new)) }
     ensures call { IsCallInside result (D.medium disk.old) (D.medium disk.new) }

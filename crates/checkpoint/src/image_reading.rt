@@ -5,7 +5,8 @@ ghost use Rattle.checkpoint.specs.Loading.{IsReadingCall, IsConsistentFault};
 ghost use Rattle.checkpoint.specs.Refusals.{fault_or_later, first_bad_piece};
 ghost use Rattle.image.specs.Image.{has_head, is_version, image_state, version_in};
 ghost use Rattle.image.specs.Pieces.{aggregate_of, part_of, piece_count, piece_of, piece_size, volume_of, with_piece};
-ghost use Rattle.device_map.specs.Layout.{device_size, image_part, layout_of, part_bytes, entry_size};
+ghost use Rattle.device_map.specs.Layout.{device_size, image_part, layout_of, part_bytes};
+ghost use Rattle.device_map.specs.declared.layout.TheConstants.{BLOCK_ENTRY_SIZE};
 ghost use Rattle.parcel.specs.Tree.{IsWholeTree, state_in};
 ghost use Rattle.meaning.specs.State.{empty};
 
@@ -65,7 +66,7 @@ pub(crate) fn read_pieces<D: Disk>(
     requires head { D.keeps → has_head
         (part_bytes (layout_of tree.old.geometry) (image_part number) (D.medium disk.old).now) ≡ true }
     requires long_enough { device_size (layout_of tree.old.geometry) ≤ length (D.medium disk.old).now }
-    requires room { tree.old.geometry.quota * entry_size ≤ length buffer.old }
+    requires room { tree.old.geometry.quota * BLOCK_ENTRY_SIZE ≤ length buffer.old }
     ensures read { OnOk result (D.keeps → image_state tree.old.geometry
         (part_bytes (layout_of tree.old.geometry) (image_part number) (D.medium disk.old).now) ≡ Some (state_in tree.new)) }
     ensures good { OnOk result (D.keeps → first_bad_piece tree.old.geometry

@@ -6,7 +6,8 @@ ghost use Rattle.checkpoint.specs.Loading.{IsReadingCall, IsConsistentFault, IsO
 ghost use Rattle.checkpoint.specs.Refusals.{IsRefused, fault_if};
 ghost use Rattle.image.specs.Image.{image_state, version_in};
 ghost use Rattle.oplog.specs.Front.{chain, front};
-ghost use Rattle.device_map.specs.Layout.{device_size, image_part, layout_of, part_bytes, entry_size};
+ghost use Rattle.device_map.specs.Layout.{device_size, image_part, layout_of, part_bytes};
+ghost use Rattle.device_map.specs.declared.layout.TheConstants.{BLOCK_ENTRY_SIZE};
 ghost use Rattle.oplog.specs.Log.{new_log, with_half_named};
 ghost use Rattle.oplog.specs.Recovery.{named_area};
 ghost use Rattle.parcel.specs.Tree.{IsWholeTree, state_in};
@@ -36,7 +37,7 @@ pub fn take_loading_memory(
     ensures empty { IfOk result (λ r. state_in r.0 ≡ empty) }
     ensures geometry { IfOk result (λ r. r.0.geometry ≡ g.now) }
     ensures log { IfOk result (λ r. r.1 ≡ new_log g.now) }
-    ensures buffer { IfOk result (λ r. length r.2.items ≡ g.now.quota * entry_size) }
+    ensures buffer { IfOk result (λ r. length r.2.items ≡ g.now.quota * BLOCK_ENTRY_SIZE) }
     ensures fault { IfErr result (λ e. e ≡ OutOfMemory) }
 {
     let tree = Tree::new(alloc, *g)?;
@@ -57,7 +58,7 @@ fn read_image<D: Disk>(
     requires empty { state_in tree.old ≡ empty }
     requires area { area < 2 }
     requires long_enough { device_size (layout_of tree.old.geometry) ≤ length (D.medium disk.old).now }
-    requires room { tree.old.geometry.quota * entry_size ≤ length buffer.old }
+    requires room { tree.old.geometry.quota * BLOCK_ENTRY_SIZE ≤ length buffer.old }
     ensures version { IfOk result (λ v. D.keeps →
         v ≡ version_in (part_bytes (layout_of tree.old.geometry) (image_part area) (D.medium disk.old).now)) }
     ensures read { OnOk result (D.keeps → image_state tree.old.geometry
@@ -125,7 +126,7 @@ pub fn load_named<D: Disk>(
     requires log { log.old ≡ new_log tree.old.geometry }
     requires header { D.keeps → HasHeader tree.old.geometry (D.medium disk.old).now }
     requires long_enough { device_size (layout_of tree.old.geometry) ≤ length (D.medium disk.old).now }
-    requires room { tree.old.geometry.quota * entry_size ≤ length buffer.old }
+    requires room { tree.old.geometry.quota * BLOCK_ENTRY_SIZE ≤ length buffer.old }
     ensures loaded { IfOk result (λ n. D.keeps →
         NamedHolds tree.old.geometry (D.medium disk.old).now n.area n.chained (state_in tree.new)) }
     ensures area { IfOk result (λ n. n.area < 2) }

@@ -2,39 +2,8 @@
 -- places are in bytes.
 use Rattle.std.specs.Prelude.{ℕ, zero, suc, ◌+◌, ◌-◌, ◌*◌, List, [], ◌∷◌, take, drop, get_or}
 use Rattle.affinity.specs.declared.geometry.Geometry.{Geometry}
-use Rattle.language.specs.declared.TheConstants.{BLOCK_SIZE}
-
--- ---- the sizes that every device has
-
-abbrev pub header_size : ℕ
-header_size = 64
-
-abbrev pub root_zone_size : ℕ
-root_zone_size = 64
-
--- what a half begins with: its chain byte and 63 more bytes
-abbrev pub chain_zone_size : ℕ
-chain_zone_size = 64
-
--- the record of a message in the log: 8 bytes of head, and room for a block
-abbrev pub record_size : ℕ
-record_size = 8 + BLOCK_SIZE
-
--- the head of an image: its version and zeros
-abbrev pub image_head_size : ℕ
-image_head_size = 64
-
--- the piece of a volume in an image
-abbrev pub volume_piece_size : ℕ
-volume_piece_size = 64
-
--- the entry of a block in the piece of a stripe: 8 bytes, and the block
-abbrev pub entry_size : ℕ
-entry_size = 8 + BLOCK_SIZE
-
--- the greatest number of records that are written at a time
-abbrev pub records_per_write : ℕ
-records_per_write = 64
+use Rattle.language.specs.declared.TheConstants.{RECORD_SIZE}
+use Rattle.device_map.specs.declared.layout.TheConstants.{HEADER_SIZE, ROOT_ZONE_SIZE, CHAIN_ZONE_SIZE, IMAGE_HEAD_SIZE, VOLUME_PIECE_SIZE, BLOCK_ENTRY_SIZE}
 
 -- ---- the sizes of one device
 
@@ -49,11 +18,11 @@ slice xs at n = take n (drop at xs)
 
 -- how many bytes a half has: its chain zone, a gate byte for each record, and the records
 abbrev pub half_size : ℕ → ℕ
-half_size capacity = chain_zone_size + (capacity + capacity * record_size)
+half_size capacity = CHAIN_ZONE_SIZE + (capacity + capacity * RECORD_SIZE)
 
 -- how many bytes an image has: a head, and for each volume its own piece and one for each stripe, with room for a quota of blocks
 unfoldable pub image_size : Geometry → ℕ
-image_size g = image_head_size + g.aggregates * g.volumes * (volume_piece_size + g.stripes * (g.quota * entry_size))
+image_size g = IMAGE_HEAD_SIZE + g.aggregates * g.volumes * (VOLUME_PIECE_SIZE + g.stripes * (g.quota * BLOCK_ENTRY_SIZE))
 
 -- the layout of a device of this geometry
 abbrev pub layout_of : Geometry → Layout
@@ -61,7 +30,7 @@ layout_of g = record { capacity = g.half; image = image_size g }
 
 -- how many bytes each part has, in their order on the device
 abbrev pub sizes : Layout → List ℕ
-sizes l = header_size ∷ root_zone_size ∷ half_size l.capacity ∷ half_size l.capacity ∷ l.image ∷ l.image ∷ []
+sizes l = HEADER_SIZE ∷ ROOT_ZONE_SIZE ∷ half_size l.capacity ∷ half_size l.capacity ∷ l.image ∷ l.image ∷ []
 
 -- where part k begins, if parts of these sizes lie in a row
 abbrev pub offset : List ℕ → ℕ → ℕ

@@ -5,7 +5,7 @@ use Rattle.std.specs.List.{AllByRecursion}
 use Rattle.affinity.specs.Geometry.{stripe_of}
 use Rattle.affinity.specs.declared.geometry.Geometry.{Geometry}
 use Rattle.affinity.proofs.Elements.{all_take, all_drop}
-use Rattle.device_map.specs.Layout.{entry_size}
+use Rattle.device_map.specs.declared.layout.TheConstants.{BLOCK_ENTRY_SIZE}
 use Rattle.language.specs.Messages.{IsBlock}
 use Rattle.language.specs.declared.Block.{Block}
 use Rattle.meaning.specs.State.{sum_below, count_below, one_if}
@@ -15,25 +15,26 @@ use Rattle.stripe.specs.Stripe.{BlockEntry, content_at}
 
 -- ---- what bytes decode to are blocks, and not too many
 
-pub entries_are_blocks : (n : ℕ) (bytes : List ℕ) → length bytes ≡ n * entry_size → AllByRecursion (λ b. b < 256) bytes → AllByRecursion (λ (e : BlockEntry). IsBlock e.content) (entries_in n bytes)
+pub entries_are_blocks : (n : ℕ) (bytes : List ℕ) → length bytes ≡ n * BLOCK_ENTRY_SIZE → AllByRecursion (λ b. b < 256) bytes
+    → AllByRecursion (λ (e : BlockEntry). IsBlock e.content) (entries_in n bytes)
 entries_are_blocks zero bytes long small = tt
 entries_are_blocks (suc n) bytes long small =
     elim (get_or bytes 0 0 == 1) as (λ t. AllByRecursion (λ (e : BlockEntry). IsBlock e.content)
-    (if t then entry_in (take entry_size bytes) ∷ entries_in n (drop entry_size bytes) else [])) [
+    (if t then entry_in (take BLOCK_ENTRY_SIZE bytes) ∷ entries_in n (drop BLOCK_ENTRY_SIZE bytes) else [])) [
       | true ↦ (
         (
-          omega (arith, long, length-drop 8 (take entry_size bytes), length-take entry_size bytes),
-          all_drop (λ b. b < 256) 8 (take entry_size bytes)
-              (all_take (λ b. b < 256) entry_size bytes small),
+          omega (arith, long, length-drop 8 (take BLOCK_ENTRY_SIZE bytes), length-take BLOCK_ENTRY_SIZE bytes),
+          all_drop (λ b. b < 256) 8 (take BLOCK_ENTRY_SIZE bytes)
+              (all_take (λ b. b < 256) BLOCK_ENTRY_SIZE bytes small),
         ),
-        entries_are_blocks n (drop entry_size bytes) (omega (arith, long, length-drop entry_size bytes)) (all_drop (λ b. b < 256) entry_size bytes small),
+        entries_are_blocks n (drop BLOCK_ENTRY_SIZE bytes) (omega (arith, long, length-drop BLOCK_ENTRY_SIZE bytes)) (all_drop (λ b. b < 256) BLOCK_ENTRY_SIZE bytes small),
       )
       | false ↦ tt
     ]
 
 pub entries_few : (n : ℕ) (bytes : List ℕ) → length (entries_in n bytes) ≤ n
 entries_few zero bytes = omega arith
-entries_few (suc n) bytes = grind (arith, entries_few n (drop entry_size bytes))
+entries_few (suc n) bytes = grind (arith, entries_few n (drop BLOCK_ENTRY_SIZE bytes))
 
 -- ---- what holds of all entries holds of what they hold
 

@@ -11,7 +11,8 @@ use Rattle.affinity.specs.declared.geometry.Geometry.{Geometry}
 use Rattle.affinity.proofs.Placed.{group_below}
 use Rattle.byteorder.specs.Endian.{little_bytes, little_number}
 use Rattle.affinity.proofs.Elements.{all_take, all_drop}
-use Rattle.device_map.specs.Layout.{slice, entry_size}
+use Rattle.device_map.specs.Layout.{slice}
+use Rattle.device_map.specs.declared.layout.TheConstants.{BLOCK_ENTRY_SIZE}
 use Rattle.language.specs.declared.TheConstants.{LABEL_SIZE}
 use Rattle.language.specs.Messages.{IsBlock, AreSizedBytes}
 use Rattle.language.specs.Replies.{has_file}
@@ -61,7 +62,7 @@ module _ (version : ℕ) (g : Geometry) (pieces : ℕ → List ℕ)
   bytes_of_volume : (k : VolumeKey) → has_volume g k ≡ true → AreSizedBytes 64 (pieces (volume_piece_number g k.0 k.1))
   bytes_of_volume k there = grind (arith, bytes_of_part k there 0 (omega arith))
 
-  bytes_of_stripe : (k : VolumeKey) → has_volume g k ≡ true → (s : ℕ) → s < g.stripes → AreSizedBytes (g.quota * entry_size) (pieces (stripe_piece_number g k.0 k.1 s))
+  bytes_of_stripe : (k : VolumeKey) → has_volume g k ≡ true → (s : ℕ) → s < g.stripes → AreSizedBytes (g.quota * BLOCK_ENTRY_SIZE) (pieces (stripe_piece_number g k.0 k.1 s))
   bytes_of_stripe k there s below = bytes_of_part k there (suc s) (omega (arith, below))
 
   blocks_decoded : (a v s f b : ℕ) (t : Bool) → has_volume g (a, v) ≡ t → stripe_of g f b ≡ s → (decoded_by version g pieces).blocks (a, v, f, b)
@@ -173,7 +174,7 @@ module _ (version : ℕ) (g : Geometry) (pieces : ℕ → List ℕ) (sized : (n 
           let entries : entries_in g.quota (pieces (stripe_piece_number g k.0 k.1 s)) ≡ stripe_entries g x k.0 k.1 s =
           ap (λ (l : List ℕ). entries_in g.quota l) (stripe_spelled (k.0, k.1) there s (group_below g k.2 k.3))
           ∙ entries_again (stripe_entries g x k.0 k.1 s) (entries_good g x measured k.0 k.1 s) g.quota
-          (g.quota * entry_size - length (flat_map entry_bytes (stripe_entries g x k.0 k.1 s))) (measured.quota k.0 k.1 s) in
+          (g.quota * BLOCK_ENTRY_SIZE - length (flat_map entry_bytes (stripe_entries g x k.0 k.1 s))) (measured.quota k.0 k.1 s) in
           let held : x.blocks k ≡ content_at (stripe_entries g x k.0 k.1 s) k.2 k.3 =
           blocks_decoded version g pieces sized k.0 k.1 s k.2 k.3 true there refl ∙ ap (λ (es : List BlockEntry). content_at es k.2 k.3) entries in
           content_of (λ f b. (b < g.blocks) × (x.files (k.0, k.1, f) ≡ true)) k.2 k.3 (stripe_entries g x k.0 k.1 s)

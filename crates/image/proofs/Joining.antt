@@ -5,7 +5,8 @@ use Rattle.std.proofs.lemmas.List.{take_all}
 use Rattle.std.proofs.Math.Seq.{take-add}
 use Rattle.std.proofs.lemmas.Nat.{mod-mul-add}
 use Rattle.affinity.specs.declared.geometry.Geometry.{Geometry}
-use Rattle.device_map.specs.Layout.{image_size, entry_size}
+use Rattle.device_map.specs.Layout.{image_size}
+use Rattle.device_map.specs.declared.layout.TheConstants.{BLOCK_ENTRY_SIZE}
 use Rattle.meaning.specs.State.{State, sum_below}
 use Rattle.image.specs.Pieces.{pieces_of_volume, piece_count, piece_part_size, piece_size, piece_at, piece_of, joined_below}
 use Rattle.image.specs.Image.{image_head, image_of, piece_in}
@@ -26,11 +27,11 @@ module _ (k : ℕ) (h : ℕ → ℕ) where
   rounds zero = grind arith
   rounds (suc m) = grind (arith, part_of_a_round m (rounds m) k (omega arith))
 
-parts_sum : (g : Geometry) (s : ℕ) → sum_below (suc s) (piece_part_size g) ≡ 64 + s * (g.quota * entry_size)
+parts_sum : (g : Geometry) (s : ℕ) → sum_below (suc s) (piece_part_size g) ≡ 64 + s * (g.quota * BLOCK_ENTRY_SIZE)
 parts_sum g zero = omega arith
 parts_sum g (suc s) = let before = parts_sum g s in omega (arith, before)
 
-pub length-pieces : (g : Geometry) → piece_at g (piece_count g) ≡ 64 + g.aggregates * g.volumes * (64 + g.stripes * (g.quota * entry_size))
+pub length-pieces : (g : Geometry) → piece_at g (piece_count g) ≡ 64 + g.aggregates * g.volumes * (64 + g.stripes * (g.quota * BLOCK_ENTRY_SIZE))
 length-pieces g = grind (arith, rounds (pieces_of_volume g) (piece_part_size g) (g.aggregates * g.volumes), parts_sum g g.stripes)
 
 pub whole_image : (g : Geometry) → piece_at g (piece_count g) ≡ image_size g

@@ -5,7 +5,7 @@ use Rattle.std.specs.List.{AllByRecursion, flat_map}
 use Rattle.std.proofs.lemmas.List.{length-replicate}
 use Rattle.affinity.specs.Geometry.{stripe_of}
 use Rattle.affinity.specs.declared.geometry.Geometry.{Geometry}
-use Rattle.device_map.specs.Layout.{entry_size}
+use Rattle.device_map.specs.declared.layout.TheConstants.{BLOCK_ENTRY_SIZE}
 use Rattle.language.specs.declared.TheConstants.{LABEL_SIZE}
 use Rattle.language.specs.Messages.{IsBlock, AreSizedBytes}
 use Rattle.language.specs.declared.Block.{Block}
@@ -61,15 +61,15 @@ state_is_measured g x is = record {
 
 -- ---- the pieces
 
-pub length-stripe_bytes : (quota : ℕ) (es : List BlockEntry) → AllByRecursion IsSpellable es → length es ≤ quota → length (stripe_bytes quota es) ≡ quota * entry_size
+pub length-stripe_bytes : (quota : ℕ) (es : List BlockEntry) → AllByRecursion IsSpellable es → length es ≤ quota → length (stripe_bytes quota es) ≡ quota * BLOCK_ENTRY_SIZE
 length-stripe_bytes quota es good most =
     let long = length-entries es good in
     omega (
       arith,
       long,
       most,
-      length-append (flat_map entry_bytes es) (replicate (quota * entry_size - length (flat_map entry_bytes es)) 0),
-      length-replicate {A = ℕ} (quota * entry_size - length (flat_map entry_bytes es)) 0,
+      length-append (flat_map entry_bytes es) (replicate (quota * BLOCK_ENTRY_SIZE - length (flat_map entry_bytes es)) 0),
+      length-replicate {A = ℕ} (quota * BLOCK_ENTRY_SIZE - length (flat_map entry_bytes es)) 0,
     )
 
 pub length-volume_piece : (version : ℕ) (g : Geometry) (x : State) → IsMeasured g x → (a v : ℕ) → length (volume_piece version g x a v) ≡ 64

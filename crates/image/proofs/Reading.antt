@@ -9,7 +9,8 @@ use Rattle.std.proofs.lemmas.Slice.Eq.{bytes_eq-Decides}
 use Rattle.affinity.specs.Geometry.{stripe_of}
 use Rattle.affinity.specs.declared.geometry.Geometry.{Geometry}
 use Rattle.byteorder.specs.Endian.{little_bytes, little_number}
-use Rattle.device_map.specs.Layout.{slice, entry_size}
+use Rattle.device_map.specs.Layout.{slice}
+use Rattle.device_map.specs.declared.layout.TheConstants.{BLOCK_ENTRY_SIZE}
 use Rattle.language.specs.declared.TheConstants.{LABEL_SIZE}
 use Rattle.language.specs.Messages.{AreSizedBytes}
 use Rattle.language.specs.Replies.{has_file}
@@ -193,7 +194,7 @@ module _ (g : Geometry) (x : State) (is : IsState g x) where
       (ltb-true k.1 g.volumes parts.1) 2 x (state_is_measured g x is) s (mod-lt (k.2 + k.3 / g.width) g.stripes_range.0))
       ∙ ap (λ (es : List BlockEntry). content_at es k.2 k.3) (entries_again (stripe_entries g x k.0 k.1 s)
       (entries_good g x (state_is_measured g x is) k.0 k.1 s) g.quota
-      (g.quota * entry_size - length (flat_map entry_bytes (stripe_entries g x k.0 k.1 s))) ((state_is_measured g x is).quota k.0 k.1 s))
+      (g.quota * BLOCK_ENTRY_SIZE - length (flat_map entry_bytes (stripe_entries g x k.0 k.1 s))) ((state_is_measured g x is).quota k.0 k.1 s))
       ∙ entries_hold g x is k.0 k.1 k.2 k.3)
       (λ some. has (k.0, k.1) (is.files (k.0, k.1, k.2) (is.blocks k some).1).1)
 

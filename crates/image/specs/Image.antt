@@ -3,7 +3,8 @@
 use Rattle.std.specs.Prelude.{◌≡◌, ℕ, zero, suc, ◌<◌, Bool, true, ◌&&◌, ◌||◌, ◌==◌, if◌then◌else◌, List, ◌∷◌, ◌++◌, get_or, replicate, Option, Some, None}
 use Rattle.std.specs.Str.{bytes_eq}
 use Rattle.affinity.specs.declared.geometry.Geometry.{Geometry}
-use Rattle.device_map.specs.Layout.{image_head_size, slice}
+use Rattle.device_map.specs.Layout.{slice}
+use Rattle.device_map.specs.declared.layout.TheConstants.{IMAGE_HEAD_SIZE}
 use Rattle.meaning.specs.State.{State, empty}
 use Rattle.image.specs.Pieces.{piece_count, piece_at, piece_size, piece_of, joined_below, decoded_by, with_piece}
 
@@ -50,7 +51,7 @@ is_good g bytes n = let version = version_in bytes in bytes_eq (piece_in g bytes
 
 -- The head is a version and zeros.
 abbrev pub has_head : List ℕ → Bool
-has_head bytes = let version = version_in bytes in is_version version && bytes_eq (slice bytes 0 image_head_size) (image_head version)
+has_head bytes = let version = version_in bytes in is_version version && bytes_eq (slice bytes 0 IMAGE_HEAD_SIZE) (image_head version)
 
 -- ---- piece by piece
 

@@ -6,7 +6,8 @@ use Rattle.byteorder.specs.Endian.{little_bytes, little_number}
 use Rattle.language.specs.declared.TheConstants.{LABEL_SIZE}
 use Rattle.language.specs.Replies.{has_file}
 use Rattle.language.specs.declared.Block.{Block}
-use Rattle.device_map.specs.Layout.{entry_size, image_head_size, volume_piece_size, slice}
+use Rattle.device_map.specs.Layout.{slice}
+use Rattle.device_map.specs.declared.layout.TheConstants.{BLOCK_ENTRY_SIZE, IMAGE_HEAD_SIZE, VOLUME_PIECE_SIZE}
 use Rattle.stripe.specs.Stripe.{BlockEntry, content_at}
 use Rattle.meaning.specs.Serial.{file_bits, no_label}
 use Rattle.meaning.specs.State.{State, VolumeKey, is_volume, is_file_of, is_block_of, sum_below, one_if}
@@ -40,15 +41,15 @@ part_of g n = n % pieces_of_volume g
 
 -- how many bytes a piece has; that of a stripe has room for an entry for each block that the stripe can hold
 abbrev pub piece_part_size : Geometry → ℕ → ℕ
-piece_part_size g zero = volume_piece_size
-piece_part_size g (suc s) = g.quota * entry_size
+piece_part_size g zero = VOLUME_PIECE_SIZE
+piece_part_size g (suc s) = g.quota * BLOCK_ENTRY_SIZE
 
 abbrev pub piece_size : Geometry → ℕ → ℕ
 piece_size g n = piece_part_size g (part_of g n)
 
 -- where a piece begins in an image: after the head and the pieces before it
 abbrev pub piece_at : Geometry → ℕ → ℕ
-piece_at g n = image_head_size + sum_below n (piece_size g)
+piece_at g n = IMAGE_HEAD_SIZE + sum_below n (piece_size g)
 
 -- ---- how a state is spelled
 
@@ -80,7 +81,7 @@ abbrev pub volume_bytes : Bool → Bool → ℕ → List ℕ → List ℕ
 volume_bytes made sealed files label =
     if made
     then 1 ∷ one_if sealed ∷ [] ++ replicate 6 0 ++ little_bytes 8 files ++ label ++ replicate 16 0
-    else replicate volume_piece_size 0
+    else replicate VOLUME_PIECE_SIZE 0
 
 abbrev pub volume_piece : ℕ → Geometry → State → ℕ → ℕ → List ℕ
 volume_piece version g x a v = volume_bytes (x.made (a, v)) (x.sealed (a, v)) (file_bits g x a v) (label_bytes version (x.labels (a, v)))

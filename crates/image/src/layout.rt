@@ -4,7 +4,7 @@
 ghost use Rattle.std.specs.Prelude.{◌≡◌, ◌*◌, ◌<◌, ◌≤◌};
 ghost use Rattle.image.specs.Image.{image_head};
 ghost use Rattle.image.specs.Pieces.{aggregate_of, part_of, piece_count, piece_size, volume_of};
-ghost use Rattle.device_map.specs.Layout.{entry_size};
+ghost use Rattle.device_map.specs.declared.layout.TheConstants.{BLOCK_ENTRY_SIZE};
 
 use affinity::Geometry;
 use device_map::{BLOCK_ENTRY_SIZE, IMAGE_HEAD_SIZE, VOLUME_PIECE_SIZE};
@@ -26,9 +26,9 @@ pub fn piece_count(g: &Geometry) -> usize
 
 /// The size of the largest piece of an image, which is one of a stripe.
 pub fn largest_piece(g: &Geometry) -> usize
-    ensures size { result ≡ g.now.quota * entry_size }
+    ensures size { result ≡ g.now.quota * BLOCK_ENTRY_SIZE }
     ensures some { 0 < result }
-    ensures most { result ≤ 64 * entry_size }
+    ensures most { result ≤ 64 * BLOCK_ENTRY_SIZE }
 {
     usize::from(g.quota) * BLOCK_ENTRY_SIZE
 }
@@ -36,8 +36,8 @@ pub fn largest_piece(g: &Geometry) -> usize
 /// The size of piece `n`.
 pub fn piece_size(g: &Geometry, n: usize) -> usize
     ensures size { result ≡ piece_size g.now n }
-    ensures within { result ≤ g.now.quota * entry_size }
-    ensures most { result ≤ 64 * entry_size }
+    ensures within { result ≤ g.now.quota * BLOCK_ENTRY_SIZE }
+    ensures most { result ≤ 64 * BLOCK_ENTRY_SIZE }
 {
     if n % (1 + usize::from(g.stripes)) == 0 {
         VOLUME_PIECE_SIZE

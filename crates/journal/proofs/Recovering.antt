@@ -12,7 +12,8 @@ use Rattle.journal.specs.Steps.{RecoversByArea, run_on}
 use Rattle.oplog.specs.Changes.{IsReady}
 use Rattle.oplog.specs.Crash.{RecoversBy}
 use Rattle.oplog.specs.Front.{chain, front, front_in, rows}
-use Rattle.device_map.specs.Layout.{Layout, layout_of, part_bytes, device_size, header_part, half_part, image_part, other, record_size}
+use Rattle.device_map.specs.Layout.{Layout, layout_of, part_bytes, device_size, header_part, half_part, image_part, other}
+use Rattle.language.specs.declared.TheConstants.{RECORD_SIZE}
 use Rattle.oplog.specs.Recovery.{current_of, in_force, is_laid_out, run, recovers_by_area}
 use Rattle.meaning.specs.State.{State}
 
@@ -87,7 +88,7 @@ not_one n zero' = ap (λ (m : ℕ). eqb m 1) zero'
 
 -- a half that is ready with no record has none in its front
 pub ready_none : (l : Layout) (h : ℕ) (m : Medium) → IsReady l h 0 m → front l h m.now ≡ []
-ready_none l h m ready = ap (λ (n : ℕ). rows record_size n (drop (64 + l.capacity) (part_bytes l (half_part h) m.now))) ready.used
+ready_none l h m ready = ap (λ (n : ℕ). rows RECORD_SIZE n (drop (64 + l.capacity) (part_bytes l (half_part h) m.now))) ready.used
 
 -- what the half holds decides its front and its chain
 pub half_same : (l : Layout) (h : ℕ) (a c : List ℕ) → part_bytes l (half_part h) c ≡ part_bytes l (half_part h) a → (front l h c ≡ front l h a) × (chain l h c ≡ chain l h a)

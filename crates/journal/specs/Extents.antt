@@ -5,7 +5,8 @@ use Rattle.disk.specs.Device.{Medium, IsSynced}
 use Rattle.image.specs.Image.{image_head}
 use Rattle.image.specs.Pieces.{piece_at, piece_count, piece_of, piece_size}
 use Rattle.oplog.specs.Changes.{IsSameBut}
-use Rattle.device_map.specs.Layout.{slice, layout_of, part_bytes, image_part, image_head_size}
+use Rattle.device_map.specs.Layout.{slice, layout_of, part_bytes, image_part}
+use Rattle.device_map.specs.declared.layout.TheConstants.{IMAGE_HEAD_SIZE}
 use Rattle.meaning.specs.State.{State}
 
 -- where extent n begins in its image, and how many bytes it has
@@ -14,7 +15,7 @@ extent_at g zero = 0
 extent_at g (suc n) = piece_at g (suc n)
 
 abbrev pub extent_size : Geometry → ℕ → ℕ
-extent_size g zero = image_head_size + piece_size g 0
+extent_size g zero = IMAGE_HEAD_SIZE + piece_size g 0
 extent_size g (suc n) = piece_size g (suc n)
 
 -- the bytes of extent n of an image

@@ -6,7 +6,8 @@ ghost use Rattle.journal.specs.Costs.{count_runs};
 ghost use Rattle.journal.specs.Extents.{AgreeOnClean, Imaged, IsPatchedAt, image_in, extent_size};
 ghost use Rattle.disk.specs.Store.{CrashesChangeOnly, Costs};
 ghost use Rattle.oplog.specs.Changes.{IsReady, IsSameBut};
-ghost use Rattle.device_map.specs.Layout.{slice, layout_of, device_size, image_part, image_size, entry_size, image_head_size};
+ghost use Rattle.device_map.specs.Layout.{slice, layout_of, device_size, image_part, image_size};
+ghost use Rattle.device_map.specs.declared.layout.TheConstants.{BLOCK_ENTRY_SIZE, IMAGE_HEAD_SIZE};
 
 use affinity::Geometry;
 use device_map::{IMAGE_HEAD_SIZE, image_at};
@@ -17,7 +18,7 @@ use image::layout::piece_size;
 /// How many bytes extent `n` of an image has. (`most`: a head, and the largest piece of any geometry, 64 entries.)
 fn extent_size(g: &Geometry, n: usize) -> usize
     ensures size { result ≡ extent_size g.now n }
-    ensures most { result ≤ image_head_size + 64 * entry_size }
+    ensures most { result ≤ IMAGE_HEAD_SIZE + 64 * BLOCK_ENTRY_SIZE }
 {
     if n == 0 {
         IMAGE_HEAD_SIZE + piece_size(g, n)

@@ -17,7 +17,8 @@ ghost use Rattle.journal.specs.Steps.{RecoversByNamedAlone, IsCutFinished, IsPoi
 ghost use Rattle.journal.specs.Journal.{RecoversStill};
 ghost use Rattle.oplog.specs.Beyond.{KeepsBeyond};
 ghost use Rattle.disk.specs.Store.{Costs};
-ghost use Rattle.device_map.specs.Layout.{Layout, device_size, layout_of, other, entry_size};
+ghost use Rattle.device_map.specs.Layout.{Layout, device_size, layout_of, other};
+ghost use Rattle.device_map.specs.declared.layout.TheConstants.{BLOCK_ENTRY_SIZE};
 ghost use Rattle.oplog.specs.Log.{ReadsNoRecord};
 ghost use Rattle.parcel.specs.Tree.{IsWholeTree, state_in};
 
@@ -51,7 +52,7 @@ struct Parts {
 fn take_memory(alloc: Global, g: &Geometry) -> Result<(Parts, Vec<u8>), OpenFault>
     ensures taken { IfOk result (λ r. AreUnloaded r.0) }
     ensures geometry { IfOk result (λ r. r.0.tree.geometry ≡ g.now) }
-    ensures buffer { IfOk result (λ r. length r.1.items ≡ g.now.quota * entry_size) }
+    ensures buffer { IfOk result (λ r. length r.1.items ≡ g.now.quota * BLOCK_ENTRY_SIZE) }
     ensures fault { IfErr result (λ e. e ≡ OutOfMemory) }
 {
     let (tree, halves, buffer) = take_loading_memory(alloc, g)?;
@@ -159,7 +160,7 @@ fn load_in_order<D: Disk>(
     requires taken { AreUnloaded parts.old }
     requires header { D.keeps → HasHeader parts.old.tree.geometry (D.medium disk.old).now }
     requires long_enough { device_size (layout_of parts.old.tree.geometry) ≤ length (D.medium disk.old).now }
-    requires buffer { parts.old.tree.geometry.quota * entry_size ≤ length buffer.old }
+    requires buffer { parts.old.tree.geometry.quota * BLOCK_ENTRY_SIZE ≤ length buffer.old }
     requires synced { D.keeps → IsSynced (D.medium disk.old) }
     ensures any_moment { D.keeps → RecoversStill parts.old.tree.geometry (D.medium disk.old) (D.medium disk.new) }
     ensures beyond { D.keeps → KeepsBeyond (layout_of parts.old.tree.geometry) (D.medium disk.old) (D.medium disk.new) }

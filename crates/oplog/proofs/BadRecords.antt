@@ -5,7 +5,8 @@ use Rattle.std.proofs.lemmas.List.{length-take-le, length-drop, get_or_past}
 use Rattle.disk.specs.Device.{AreBytes}
 use Rattle.disk.proofs.Bytes.{bytes-range, byte-get_or}
 use Rattle.message.proofs.RecordLemmas.{whole_if_decoded}
-use Rattle.device_map.specs.Layout.{part_at, part_size, half_part, record_size}
+use Rattle.device_map.specs.Layout.{part_at, part_size, half_part}
+use Rattle.language.specs.declared.TheConstants.{RECORD_SIZE}
 use Rattle.oplog.specs.Changing.{RecordsAreBytes, BadRecordIsOfNoChange}
 use Rattle.oplog.proofs.Slices.{slice_slice, half_sized, half_inside}
 
@@ -13,10 +14,10 @@ use Rattle.oplog.proofs.Slices.{slice_slice, half_sized, half_inside}
 pub records_are_bytes : RecordsAreBytes
 records_are_bytes g h i c is_half few fits are =
     let size = half_sized g h is_half in
-    let at = part_at g (half_part h) + (64 + g.capacity + i * record_size) in
-    let is = slice_slice c (part_at g (half_part h)) (part_size g (half_part h)) (64 + g.capacity + i * record_size) record_size (omega (arith, size, few)) in (
-      ap length is ∙ length-take-le record_size (drop at c) (omega (arith, length-drop at c, fits, few, half_inside g h is_half)),
-      subst AreBytes (sym is) (bytes-range at record_size c are),
+    let at = part_at g (half_part h) + (64 + g.capacity + i * RECORD_SIZE) in
+    let is = slice_slice c (part_at g (half_part h)) (part_size g (half_part h)) (64 + g.capacity + i * RECORD_SIZE) RECORD_SIZE (omega (arith, size, few)) in (
+      ap length is ∙ length-take-le RECORD_SIZE (drop at c) (omega (arith, length-drop at c, fits, few, half_inside g h is_half)),
+      subst AreBytes (sym is) (bytes-range at RECORD_SIZE c are),
     )
 
 byte_at : (bytes : List ℕ) → AreBytes bytes → (i : ℕ) → get_or bytes i 0 < 256

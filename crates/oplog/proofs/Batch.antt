@@ -6,7 +6,8 @@ use Rattle.std.specs.List.{concat}
 use Rattle.disk.specs.Device.{AreBytes, Medium, SameOutside, overlaid}
 use Rattle.disk.proofs.Leaves.{itself, synced_left, synced_range, range_kept}
 use Rattle.disk.proofs.Overlays.{range-overlaid, length-overlaid}
-use Rattle.device_map.specs.Layout.{Layout, slice, part_bytes, part_at, part_size, half_part, half_size, device_size, record_size}
+use Rattle.device_map.specs.Layout.{Layout, slice, part_bytes, part_at, part_size, half_part, half_size, device_size}
+use Rattle.language.specs.declared.TheConstants.{RECORD_SIZE}
 use Rattle.oplog.specs.Front.{gates_in, count_open}
 use Rattle.oplog.specs.Changes.{IsSameBut, HasAppended, HasAppendedPrefix, IsReady, HasAppendedAll}
 use Rattle.disk.specs.Store.{After, Stored}
@@ -32,11 +33,11 @@ module _ (g : Layout) (h k : ℕ) (more : List (List ℕ)) (is_half : h < 2) (si
   grown : (rs : List (List ℕ)) (old c : List ℕ) → IsSameBut g (half_part h) old c → HasMoreIn g.capacity rs (part_bytes g (half_part h) old) (part_bytes g (half_part h) c) → HasAppended g h rs old c
   grown rs old c same has = record { same = same; chain_zone = has.chain_zone; front = has.front }
 
-  bytes : length (concat more) ≡ length more * record_size
+  bytes : length (concat more) ≡ length more * RECORD_SIZE
   bytes = length-concat more sized
 
   -- ---- the bodies
-  body_room : body_at g.capacity k + length more * record_size ≤ half_size g.capacity
+  body_room : body_at g.capacity k + length more * RECORD_SIZE ≤ half_size g.capacity
   body_room = omega (arith, room)
 
   pub first : (c : List ℕ) → After w0 (SameOutside {X = ℕ} (part_at g (half_part h) + body_at g.capacity k) (length (concat more))) c → HasAppendedPrefix g h more w0 c
@@ -49,22 +50,22 @@ module _ (g : Layout) (h k : ℕ) (more : List (List ℕ)) (is_half : h < 2) (si
         has = record {
           old = after.old;
           left = after.left;
-          change = grown [] after.old c (change (body_at g.capacity k) (length more * record_size) after.old c body_room same)
-              (bodies_written g.capacity k (length more * record_size) (part_bytes g (half_part h) after.old) (part_bytes g (half_part h) c)
+          change = grown [] after.old c (change (body_at g.capacity k) (length more * RECORD_SIZE) after.old c body_room same)
+              (bodies_written g.capacity k (length more * RECORD_SIZE) (part_bytes g (half_part h) after.old) (part_bytes g (half_part h) c)
               (ap (λ (l : List ℕ). count_open (gates_in g.capacity l)) kept ∙ ready.used)
-              (in_half (body_at g.capacity k) (length more * record_size) after.old c body_room same));
+              (in_half (body_at g.capacity k) (length more * RECORD_SIZE) after.old c body_room same));
         };
       }
 
   -- ---- the gates
   module _ (bodies : Stored (part_at g (half_part h) + body_at g.capacity k) (concat more) w0 w1) where
-    put : SameOutside (part_at g (half_part h) + body_at g.capacity k) (length more * record_size) w0.now w1.now
+    put : SameOutside (part_at g (half_part h) + body_at g.capacity k) (length more * RECORD_SIZE) w0.now w1.now
     put = rw (← bytes) (changed w0 w1 _ _ bodies)
 
-    stand : slice (part_bytes g (half_part h) w1.now) (body_at g.capacity k) (length more * record_size) ≡ concat more
+    stand : slice (part_bytes g (half_part h) w1.now) (body_at g.capacity k) (length more * RECORD_SIZE) ≡ concat more
     stand =
-        slice_slice w1.now (part_at g (half_part h)) (part_size g (half_part h)) (body_at g.capacity k) (length more * record_size) (omega (arith, body_room, size))
-        ∙ ap (λ (l : List ℕ). slice l (part_at g (half_part h) + body_at g.capacity k) (length more * record_size)) bodies.now
+        slice_slice w1.now (part_at g (half_part h)) (part_size g (half_part h)) (body_at g.capacity k) (length more * RECORD_SIZE) (omega (arith, body_room, size))
+        ∙ ap (λ (l : List ℕ). slice l (part_at g (half_part h) + body_at g.capacity k) (length more * RECORD_SIZE)) bodies.now
         ∙ ap (λ (m : ℕ). slice (overlaid w0.now (part_at g (half_part h) + body_at g.capacity k) (concat more)) (part_at g (half_part h) + body_at g.capacity k) m) (sym bytes)
         ∙ range-overlaid w0.now (part_at g (half_part h) + body_at g.capacity k) (concat more) (omega (arith, bytes, body_room, fits, half_inside g h is_half))
 
@@ -72,15 +73,15 @@ module _ (g : Layout) (h k : ℕ) (more : List (List ℕ)) (is_half : h < 2) (si
     gate_room = omega (arith, room)
 
     module _ (c : List ℕ) (same : SameOutside (part_at g (half_part h) + (64 + k)) (length more) w1.now c) where
-      bodies_in : SameOutside (body_at g.capacity k) (length more * record_size) (part_bytes g (half_part h) w0.now) (part_bytes g (half_part h) w1.now)
-      bodies_in = in_half (body_at g.capacity k) (length more * record_size) w0.now w1.now body_room put
+      bodies_in : SameOutside (body_at g.capacity k) (length more * RECORD_SIZE) (part_bytes g (half_part h) w0.now) (part_bytes g (half_part h) w1.now)
+      bodies_in = in_half (body_at g.capacity k) (length more * RECORD_SIZE) w0.now w1.now body_room put
 
       gates_in_half : SameOutside (64 + k) (length more) (part_bytes g (half_part h) w1.now) (part_bytes g (half_part h) c)
       gates_in_half = in_half (64 + k) (length more) w1.now c gate_room same
 
       all_same : IsSameBut g (half_part h) w0.now c
       all_same =
-          same_but_both g (half_part h) w0.now w1.now c (change (body_at g.capacity k) (length more * record_size) w0.now w1.now body_room put)
+          same_but_both g (half_part h) w0.now w1.now c (change (body_at g.capacity k) (length more * RECORD_SIZE) w0.now w1.now body_room put)
           (change (64 + k) (length more) w1.now c gate_room same)
 
       torn : (j : ℕ) × (j ≤ length more) × HasAppended g h (take j more) w0.now c

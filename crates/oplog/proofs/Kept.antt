@@ -2,7 +2,8 @@
 use Rattle.std.proofs.Common.{◌≡◌, ◌≢◌, ◌<◌, ℕ, zero, suc, Bool, true, false, not, ◌&&◌, cond, eqb, nat_le, ◌+◌, List, [], ◌∷◌, ◌++◌, length, take, drop, get_or, Option, Some, None, ⊎_elim, refl, sym, ◌∙◌, ap, subst, arith}
 use Rattle.std.proofs.lemmas.Bool.{cases_eq}
 use Rattle.std.proofs.lemmas.List.{append_assoc, append-nil, drop-drop, get_or-take}
-use Rattle.device_map.specs.Layout.{Layout, part_bytes, device_size, header_part, root_part, half_part, image_part, other, record_size}
+use Rattle.device_map.specs.Layout.{Layout, part_bytes, device_size, header_part, root_part, half_part, image_part, other}
+use Rattle.language.specs.declared.TheConstants.{RECORD_SIZE}
 use Rattle.oplog.specs.Front.{chain, front, front_in, count_open, rows}
 use Rattle.oplog.specs.Recovery.{Decoding, named_area, current_of, in_force, run, is_laid_out, recovers_by_area}
 use Rattle.oplog.specs.Changes.{IsSameBut, IsSameButChain, HasAppended}
@@ -31,7 +32,7 @@ front_beside capacity old new beside =
     let from : (k : ℕ) → drop (1 + k) new ≡ drop (1 + k) old = λ k. sym (drop-drop k 1 new) ∙ ap (λ (l : List ℕ). drop k l) beside ∙ drop-drop k 1 old in
     let count : 1 + (63 + capacity) ≡ 64 + capacity = omega arith in
     let records : drop (64 + capacity) new ≡ drop (64 + capacity) old = subst (λ (k : ℕ). drop k new ≡ drop k old) count (from (63 + capacity)) in
-    λ i. rows record_size (count_open (take capacity (from 63 i))) (records i)
+    λ i. rows RECORD_SIZE (count_open (take capacity (from 63 i))) (records i)
 
 module _ {S : Type 0} (decoding : Decoding S) where
   pub run-append : (x : Option S) (rs ss : List (List ℕ)) → run decoding x (rs ++ ss) ≡ run decoding (run decoding x rs) ss

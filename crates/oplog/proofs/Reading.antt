@@ -1,6 +1,7 @@
 -- What a read of a part, of gates or of a record gives.
 use Rattle.std.proofs.Common.{◌≡◌, ℕ, ◌+◌, ◌-◌, ◌*◌, ◌<◌, List, [], length, take, drop, get_or, slice_range, sym, ◌∙◌, ap, arith}
-use Rattle.device_map.specs.Layout.{Layout, slice, part_bytes, part_at, part_size, half_part, record_size}
+use Rattle.device_map.specs.Layout.{Layout, slice, part_bytes, part_at, part_size, half_part}
+use Rattle.language.specs.declared.TheConstants.{RECORD_SIZE}
 use Rattle.oplog.specs.Front.{gates, front, count_open, record_at}
 use Rattle.oplog.proofs.Slices.{LiesIn, slice_slice, half_sized}
 use Rattle.std.proofs.lemmas.List.{drop-drop}
@@ -22,14 +23,14 @@ module _ (g : Layout) (h : ℕ) (is_half : h < 2) (now : List ℕ) where
       let lies : LiesIn g (half_part h) 64 g.capacity at = omega (arith, place, half_sized g h is_half) in
       ap count_open (part_read now lies size read) ∙ sym (length-rows (count_open (gates g h now)) (drop (64 + g.capacity) (part_bytes g (half_part h) now)))
 
-  pub record_read : (i : ℕ) {at : ℕ} {out : List ℕ} → i < g.capacity → at ≡ part_at g (half_part h) + (64 + g.capacity + i * record_size)
-      → length out ≡ record_size → out ≡ slice_range now at (at + length out) → out ≡ record_at g h i now
+  pub record_read : (i : ℕ) {at : ℕ} {out : List ℕ} → i < g.capacity → at ≡ part_at g (half_part h) + (64 + g.capacity + i * RECORD_SIZE)
+      → length out ≡ RECORD_SIZE → out ≡ slice_range now at (at + length out) → out ≡ record_at g h i now
   record_read i {at} few place =
-      let lies : LiesIn g (half_part h) (64 + g.capacity + i * record_size) record_size at = omega (arith, few, place, half_sized g h is_half) in part_read now lies
+      let lies : LiesIn g (half_part h) (64 + g.capacity + i * RECORD_SIZE) RECORD_SIZE at = omega (arith, few, place, half_sized g h is_half) in part_read now lies
 
 -- The records of the front are the ones that `record` reads.
 pub front_record : (g : Layout) (h i : ℕ) (c : List ℕ) → i < length (front g h c) → get_or (front g h c) i [] ≡ record_at g h i c
 front_record g h i c few =
     get_or-rows (count_open (gates g h c)) i (drop (64 + g.capacity) (part_bytes g (half_part h) c))
     (omega (arith, few, length-rows (count_open (gates g h c)) (drop (64 + g.capacity) (part_bytes g (half_part h) c))))
-    ∙ ap (λ (l : List ℕ). take record_size l) (drop-drop (i * record_size) (64 + g.capacity) (part_bytes g (half_part h) c))
+    ∙ ap (λ (l : List ℕ). take RECORD_SIZE l) (drop-drop (i * RECORD_SIZE) (64 + g.capacity) (part_bytes g (half_part h) c))

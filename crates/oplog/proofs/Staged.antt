@@ -4,7 +4,7 @@ use Rattle.std.specs.List.{concat}
 use Rattle.std.proofs.lemmas.List.{append-nil, append_assoc, map-append, take_more}
 use Rattle.std.proofs.lemmas.Slice.{take-put_mid}
 use borrow.Rule.Slice.PartMut.{put_mid}
-use Rattle.device_map.specs.Layout.{record_size}
+use Rattle.language.specs.declared.TheConstants.{RECORD_SIZE}
 use Rattle.language.specs.declared.Msg.{Msg}
 use Rattle.message.specs.Records.{record_of}
 use Rattle.oplog.specs.Changing.{records_of}
@@ -14,7 +14,7 @@ concat-push : (rs : List (List ℕ)) (r : List ℕ) → concat (rs ++ r ∷ []) 
 concat-push [] r = append-nil r
 concat-push (x ∷ rs) r = ap (λ (l : List ℕ). x ++ l) (concat-push rs r) ∙ sym (append_assoc x (concat rs) r)
 
-AreRows-push : (rs : List (List ℕ)) (r : List ℕ) → AreRows rs → length r ≡ record_size → AreRows (rs ++ r ∷ [])
+AreRows-push : (rs : List (List ℕ)) (r : List ℕ) → AreRows rs → length r ≡ RECORD_SIZE → AreRows (rs ++ r ∷ [])
 AreRows-push [] r sized size = (size, tt)
 AreRows-push (x ∷ rs) r sized size = (sized.0, AreRows-push rs r sized.1 size)
 
@@ -23,13 +23,13 @@ module _ (messages : List Msg) (i : ℕ) (d : Msg) (within : i < length messages
   records_more =
       ap records_of (take_more messages i d within) ∙ map-append record_of (take i messages) (get_or messages i d ∷ [])
 
-  pub staged_more : (k : ℕ) (out place : List ℕ) → place ≡ record_of (get_or messages i d) → length place ≡ record_size → length messages * record_size ≤ length out
-      → take (i * record_size) out ≡ concat (records_of (take i messages)) → take ((i + 1) * record_size) (put_mid (i * record_size) k out place)
+  pub staged_more : (k : ℕ) (out place : List ℕ) → place ≡ record_of (get_or messages i d) → length place ≡ RECORD_SIZE → length messages * RECORD_SIZE ≤ length out
+      → take (i * RECORD_SIZE) out ≡ concat (records_of (take i messages)) → take ((i + 1) * RECORD_SIZE) (put_mid (i * RECORD_SIZE) k out place)
       ≡ concat (records_of (take (i + 1) messages))
   staged_more k out place put size long so_far =
-      take-put_mid (i * record_size) k out place ((i + 1) * record_size) (omega (arith, size)) (omega (arith, long, within))
+      take-put_mid (i * RECORD_SIZE) k out place ((i + 1) * RECORD_SIZE) (omega (arith, size)) (omega (arith, long, within))
       ∙ (λ j. so_far j ++ put j) ∙ sym (ap concat records_more ∙ concat-push (records_of (take i messages)) (record_of (get_or messages i d)))
 
-  pub sized_more : (place : List ℕ) → place ≡ record_of (get_or messages i d) → length place ≡ record_size → AreRows (records_of (take i messages)) → AreRows (records_of (take (i + 1) messages))
+  pub sized_more : (place : List ℕ) → place ≡ record_of (get_or messages i d) → length place ≡ RECORD_SIZE → AreRows (records_of (take i messages)) → AreRows (records_of (take (i + 1) messages))
   sized_more place put size sized =
       subst AreRows (sym records_more) (AreRows-push (records_of (take i messages)) (record_of (get_or messages i d)) sized (ap length (sym put) ∙ size))

@@ -2,7 +2,8 @@
 use Rattle.std.specs.Prelude.{◌≡◌, ◌≢◌, ◌≤◌, ℕ, ◌+◌, ◌-◌, false, List, ◌++◌, length, take, drop, replicate}
 use Rattle.disk.specs.Device.{Medium, IsCrashImage, IsSynced}
 use Rattle.disk.specs.Store.{After}
-use Rattle.device_map.specs.Layout.{Layout, slice, root_part, half_part, part_bytes, part_at, part_size, device_size, chain_zone_size}
+use Rattle.device_map.specs.Layout.{Layout, slice, root_part, half_part, part_bytes, part_at, part_size, device_size}
+use Rattle.device_map.specs.declared.layout.TheConstants.{CHAIN_ZONE_SIZE}
 use Rattle.oplog.specs.Recovery.{named_area}
 use Rattle.oplog.specs.Front.{chain, gates, front, count_open}
 
@@ -18,14 +19,14 @@ pub record IsSameBut (l : Layout) (p : ℕ) (old c : List ℕ) : Type 0 where
 pub record HasAppended (l : Layout) (h : ℕ) (more : List (List ℕ)) (old c : List ℕ) : Type 0 where
   pub same : IsSameBut l (half_part h) old c
   -- its chain byte and the bytes beside it
-  pub chain_zone : take chain_zone_size (part_bytes l (half_part h) c) ≡ take chain_zone_size (part_bytes l (half_part h) old)
+  pub chain_zone : take CHAIN_ZONE_SIZE (part_bytes l (half_part h) c) ≡ take CHAIN_ZONE_SIZE (part_bytes l (half_part h) old)
   pub front : front l h c ≡ front l h old ++ more
 
 -- Only the chain byte of half h, the bytes beside it, and its gates differ: its records stay.
 pub record IsSameButChainAndGates (l : Layout) (h : ℕ) (old c : List ℕ) : Type 0 where
   pub same : IsSameBut l (half_part h) old c
-  pub records : drop (chain_zone_size + l.capacity) (part_bytes l (half_part h) c)
-      ≡ drop (chain_zone_size + l.capacity) (part_bytes l (half_part h) old)
+  pub records : drop (CHAIN_ZONE_SIZE + l.capacity) (part_bytes l (half_part h) c)
+      ≡ drop (CHAIN_ZONE_SIZE + l.capacity) (part_bytes l (half_part h) old)
 
 -- Only the chain byte of half h differs.
 pub record IsSameButChain (l : Layout) (h : ℕ) (old c : List ℕ) : Type 0 where
@@ -64,7 +65,7 @@ pub record HasAppendedAll (l : Layout) (h k : ℕ) (more : List (List ℕ)) (old
 -- The chain byte of half h, the bytes beside it and its gates are 0, and nothing is unsynced.
 pub record Cleared (l : Layout) (h : ℕ) (old new : Medium) : Type 0 where
   pub same : IsSameButChainAndGates l h old.now new.now
-  pub zeros : take (chain_zone_size + l.capacity) (part_bytes l (half_part h) new.now) ≡ replicate (chain_zone_size + l.capacity) 0
+  pub zeros : take (CHAIN_ZONE_SIZE + l.capacity) (part_bytes l (half_part h) new.now) ≡ replicate (CHAIN_ZONE_SIZE + l.capacity) 0
   pub chain : chain l h new.now ≡ 0
   pub ready : IsReady l h 0 new
   pub synced : IsSynced new

@@ -7,7 +7,8 @@ use Rattle.disk.specs.Device.{AreBytes}
 use Rattle.language.specs.declared.Msg.{Msg}
 use Rattle.language.specs.Messages.{IsMessage, kind, is_in_range}
 use Rattle.message.specs.Records.{message_in_fields, record_of}
-use Rattle.device_map.specs.Layout.{Layout, device_size, record_size}
+use Rattle.device_map.specs.Layout.{Layout, device_size}
+use Rattle.language.specs.declared.TheConstants.{RECORD_SIZE}
 use Rattle.oplog.specs.Front.{record_at}
 
 -- The message is of a changing kind, and its numbers are in range.
@@ -31,10 +32,10 @@ records_of messages = map record_of messages
 -- On a device that is made of bytes each record is made of bytes, and `record_size` of them, whatever its gate is.
 abbrev pub RecordsAreBytes : Type 0
 RecordsAreBytes = (l : Layout) (h i : ℕ) (c : List ℕ) → h < 2 → i < l.capacity → device_size l ≤ length c → AreBytes c
-    → (length (record_at l h i c) ≡ record_size) × AreBytes (record_at l h i c)
+    → (length (record_at l h i c) ≡ RECORD_SIZE) × AreBytes (record_at l h i c)
 
 -- The bytes of a bad record may still be read as a change in range (`message_in_fields`): even then they aren't the record of that change.
 -- `IsMessage` isn't asked for, so its data need not be bytes.
 abbrev pub BadRecordIsOfNoChange : Type 0
-BadRecordIsOfNoChange = (g : Geometry) (bytes : List ℕ) → length bytes ≡ record_size → AreBytes bytes → IsNoChangeRecord g bytes
+BadRecordIsOfNoChange = (g : Geometry) (bytes : List ℕ) → length bytes ≡ RECORD_SIZE → AreBytes bytes → IsNoChangeRecord g bytes
     → (m : Msg) → message_in_fields bytes ≡ Some m → IsChangeInRange g m → bytes ≢ record_of m

@@ -1,7 +1,9 @@
 -- Format for clients: What a half holds: its chain byte, its gates, its records, and its front: those before the first gate that isn't 1.
 use Rattle.std.specs.Prelude.{ℕ, zero, suc, ◌+◌, ◌*◌, ◌==◌, List, [], ◌∷◌, take, drop, get_or}
 use Rattle.std.specs.List.{prefix_len}
-use Rattle.device_map.specs.Layout.{Layout, slice, part_bytes, half_part, chain_zone_size, record_size}
+use Rattle.device_map.specs.Layout.{Layout, slice, part_bytes, half_part}
+use Rattle.device_map.specs.declared.layout.TheConstants.{CHAIN_ZONE_SIZE}
+use Rattle.language.specs.declared.TheConstants.{RECORD_SIZE}
 
 -- how many gates are 1 before the first that isn't
 abbrev pub count_open : List ℕ → ℕ
@@ -19,11 +21,11 @@ abbrev pub chain_in : List ℕ → ℕ
 chain_in h = get_or h 0 0
 
 abbrev pub gates_in : ℕ → List ℕ → List ℕ
-gates_in capacity h = slice h chain_zone_size capacity
+gates_in capacity h = slice h CHAIN_ZONE_SIZE capacity
 
 -- the front: the records, each as its bytes, before the first gate that isn't 1
 abbrev pub front_in : ℕ → List ℕ → List (List ℕ)
-front_in capacity h = rows record_size (count_open (gates_in capacity h)) (drop (chain_zone_size + capacity) h)
+front_in capacity h = rows RECORD_SIZE (count_open (gates_in capacity h)) (drop (CHAIN_ZONE_SIZE + capacity) h)
 
 -- ---- of the bytes of a device
 
@@ -38,4 +40,4 @@ abbrev pub front : Layout → ℕ → List ℕ → List (List ℕ)
 front l h c = front_in l.capacity (part_bytes l (half_part h) c)
 
 abbrev pub record_at : Layout → ℕ → ℕ → List ℕ → List ℕ
-record_at l h i c = slice (part_bytes l (half_part h) c) (chain_zone_size + l.capacity + i * record_size) record_size
+record_at l h i c = slice (part_bytes l (half_part h) c) (CHAIN_ZONE_SIZE + l.capacity + i * RECORD_SIZE) RECORD_SIZE

@@ -1,6 +1,7 @@
 -- Statement for engineers: The fields of a log as contracts see them, and what it keeps true of them.
 use Rattle.std.specs.Prelude.{◌≡◌, ◌*◌, ◌<◌, ◌≤◌, min, vec_len}
-use Rattle.device_map.specs.Layout.{records_per_write, record_size}
+use Rattle.language.specs.declared.TheConstants.{RECORD_SIZE}
+use Rattle.oplog.specs.declared.half.TheConstants.{RECORDS_PER_WRITE}
 use Rattle.oplog.specs.Log.{Log}
 use Rattle.oplog.specs.declared.halves.Halves.TheInside.{Inside}
 
@@ -12,4 +13,4 @@ pub record AreHalves (h : Inside) : Type 0 where
   pub current : h.current < 2
   pub used : h.used ≤ h.geometry.half
   -- it has room for the records of one write
-  pub buffer : vec_len h.buffer ≡ min h.geometry.half records_per_write * record_size
+  pub buffer : vec_len h.buffer ≡ min h.geometry.half RECORDS_PER_WRITE * RECORD_SIZE

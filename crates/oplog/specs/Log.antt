@@ -6,12 +6,13 @@ use Rattle.language.specs.declared.Msg.{Msg}
 use Rattle.message.specs.Records.{record_of}
 use Rattle.oplog.specs.declared.fault.LogFault.{LogFault}
 use Rattle.oplog.specs.declared.fault.LogFault.TheVariants.{Device, BadRecord}
-use Rattle.device_map.specs.Layout.{Layout, layout_of, other, records_per_write}
+use Rattle.device_map.specs.Layout.{Layout, layout_of, other}
+use Rattle.oplog.specs.declared.half.TheConstants.{RECORDS_PER_WRITE}
 use Rattle.oplog.specs.Changing.{IsNoChangeRecord}
 
 -- how many batches of up to `records_per_write` records n records make
 abbrev pub batch_count : ℕ → ℕ
-batch_count n = (n + (records_per_write - 1)) / records_per_write
+batch_count n = (n + (RECORDS_PER_WRITE - 1)) / RECORDS_PER_WRITE
 
 pub record Log : Type 0 where
   pub geometry : Geometry

@@ -7,7 +7,8 @@ use Rattle.affinity.specs.Geometry.{stripe_of}
 use Rattle.affinity.specs.Path.{Path}
 use Rattle.affinity.specs.declared.geometry.Geometry.{Geometry}
 use Rattle.byteorder.specs.Endian.{little_number}
-use Rattle.device_map.specs.Layout.{slice, entry_size}
+use Rattle.device_map.specs.Layout.{slice}
+use Rattle.device_map.specs.declared.layout.TheConstants.{BLOCK_ENTRY_SIZE}
 use Rattle.language.specs.Messages.{AreSizedBytes}
 use Rattle.language.specs.Replies.{has_file}
 use Rattle.stripe.specs.Entries.{IsStripePiece}
@@ -69,7 +70,7 @@ pub stripe_is_read : {version : ℕ} {g : Geometry} {s : ℕ} {bytes : List ℕ}
     → IsWholeVolume old → FitsLogical g k → IsWholeLogical k → k.files ≡ l.files
     → (IsTrue good ↔ IsStripePiece g l.files s bytes)
     → (IsTrue good → (f b : ℕ) → blocks_of g k.stripes.items f b ≡ (if stripe_of g f b == s then block_in g bytes f b else blocks_of g l.stripes.items f b))
-    → AreSizedBytes (g.quota * entry_size) bytes → IsPieceOfVolumeRead version g (suc s) bytes good old (record old { logical = Some k })
+    → AreSizedBytes (g.quota * BLOCK_ENTRY_SIZE) bytes → IsPieceOfVolumeRead version g (suc s) bytes good old (record old { logical = Some k })
 stripe_is_read {g} {s} {bytes} {old} {l} was whole fits now_whole files piece blocks are = record {
   fits = record { logical = fits };
   whole = (now_whole, whole.1);

@@ -6,7 +6,7 @@ use Rattle.std.proofs.lemmas.Bool.{and_parts, eqb-true, eq-eqb, ltb-true}
 use Rattle.std.proofs.lemmas.Nat.Bits.{bit_at_above}
 use Rattle.affinity.specs.Geometry.{stripe_of}
 use Rattle.affinity.specs.declared.geometry.Geometry.{Geometry}
-use Rattle.device_map.specs.Layout.{entry_size}
+use Rattle.device_map.specs.declared.layout.TheConstants.{BLOCK_ENTRY_SIZE}
 use Rattle.language.specs.Messages.{IsBlock, AreSizedBytes}
 use Rattle.language.specs.Replies.{has_file}
 use Rattle.language.specs.declared.Block.{Block}
@@ -37,7 +37,7 @@ entries_spelled {g} {x} is a v {s} {p} up fits same = grind (arith, stripe_spell
 -- ---- from bytes
 
 module _ (g : Geometry) (x : State) (is : IsState g x) (a v s files : ℕ) (has : (f : ℕ) → x.files (a, v, f) ≡ has_file files f)
-    (bytes : List ℕ) (are : AreSizedBytes (g.quota * entry_size) bytes) where
+    (bytes : List ℕ) (are : AreSizedBytes (g.quota * BLOCK_ENTRY_SIZE) bytes) where
   abbrev es : List BlockEntry
   es = entries_in g.quota bytes
 
@@ -144,9 +144,9 @@ module _ (g : Geometry) (x : State) (is : IsState g x) (a v s files : ℕ) (has 
   pub stripe_is_piece : bytes ≡ stripe_piece g taken a v s → IsStripePiece g files s bytes
   stripe_is_piece good =
       let ds : List BlockEntry = stripe_entries g taken a v s in
-      let k : ℕ = g.quota * entry_size - length (flat_map entry_bytes ds) in
+      let k : ℕ = g.quota * BLOCK_ENTRY_SIZE - length (flat_map entry_bytes ds) in
       let long : length (flat_map entry_bytes ds) + length (replicate k 0)
-      ≡ g.quota * entry_size = sym (length-append (flat_map entry_bytes ds) (replicate k 0)) ∙ sym (ap (λ (l : List ℕ). length l) good) ∙ are.0 in
+      ≡ g.quota * BLOCK_ENTRY_SIZE = sym (length-append (flat_map entry_bytes ds) (replicate k 0)) ∙ sym (ap (λ (l : List ℕ). length l) good) ∙ are.0 in
       let most : length ds ≤ g.quota = omega (arith, long, length-entries ds all_spellable) in
       let same : es ≡ ds = ap (λ (l : List ℕ). entries_in g.quota l) good ∙ entries_again ds all_spellable g.quota k most in
       record {

@@ -2,7 +2,7 @@
 use Rattle.std.proofs.Common.{◌≡◌, ℕ, zero, suc, ◌*◌, ◌<◌, ◌≤◌, List, [], ◌∷◌, ◌++◌, length, take, drop, replicate, refl, ◌∙◌, ap, arith, length-append}
 use Rattle.std.specs.List.{AllByRecursion, flat_map}
 use Rattle.std.proofs.lemmas.List.{take_at, drop_at, append_assoc}
-use Rattle.device_map.specs.Layout.{entry_size}
+use Rattle.device_map.specs.declared.layout.TheConstants.{BLOCK_ENTRY_SIZE}
 use Rattle.language.specs.declared.TheConstants.{BLOCK_SIZE}
 use Rattle.stripe.specs.Stripe.{BlockEntry}
 use Rattle.stripe.specs.Entries.{entry_bytes, entry_in, entries_in}
@@ -12,10 +12,10 @@ pub record IsSpellable (e : BlockEntry) : Type 0 where
   pub long : length e.content.0 ≡ BLOCK_SIZE
   pub small : e.block < 65536
 
-pub length-entry : (e : BlockEntry) → IsSpellable e → length (entry_bytes e) ≡ entry_size
+pub length-entry : (e : BlockEntry) → IsSpellable e → length (entry_bytes e) ≡ BLOCK_ENTRY_SIZE
 length-entry e is = omega (arith, is.long)
 
-pub length-entries : (es : List BlockEntry) → AllByRecursion IsSpellable es → length (flat_map entry_bytes es) ≡ length es * entry_size
+pub length-entries : (es : List BlockEntry) → AllByRecursion IsSpellable es → length (flat_map entry_bytes es) ≡ length es * BLOCK_ENTRY_SIZE
 length-entries [] all = refl
 length-entries (e ∷ es) all = omega (arith, length-append (entry_bytes e) (flat_map entry_bytes es), length-entry e all.0, length-entries es all.1)
 
@@ -35,7 +35,7 @@ entries_again (e ∷ es) all zero k fits = absurd (omega (arith, fits))
 entries_again (e ∷ es) all (suc n) k fits =
     let rest : List ℕ = flat_map entry_bytes es ++ replicate k 0 in
     let apart : flat_map entry_bytes (e ∷ es) ++ replicate k 0 ≡ entry_bytes e ++ rest = append_assoc (entry_bytes e) (flat_map entry_bytes es) (replicate k 0) in
-    let first : entry_in (take entry_size (entry_bytes e ++ rest)) ≡ e = ap entry_in (take_at (entry_bytes e) rest entry_size (length-entry e all.0)) ∙ entry_again e all.0 in
-    let others : entries_in n (drop entry_size (entry_bytes e ++ rest)) ≡ es = ap (entries_in n) (drop_at (entry_bytes e) rest entry_size (length-entry e all.0))
+    let first : entry_in (take BLOCK_ENTRY_SIZE (entry_bytes e ++ rest)) ≡ e = ap entry_in (take_at (entry_bytes e) rest BLOCK_ENTRY_SIZE (length-entry e all.0)) ∙ entry_again e all.0 in
+    let others : entries_in n (drop BLOCK_ENTRY_SIZE (entry_bytes e ++ rest)) ≡ es = ap (entries_in n) (drop_at (entry_bytes e) rest BLOCK_ENTRY_SIZE (length-entry e all.0))
     ∙ entries_again es all.1 n k (omega (arith, fits)) in
     ap (entries_in (suc n)) apart ∙ (λ i. first i ∷ others i)

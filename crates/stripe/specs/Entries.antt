@@ -4,7 +4,7 @@ use Rattle.std.specs.List.{flat_map, AllByRecursion}
 use Rattle.affinity.specs.Geometry.{stripe_of}
 use Rattle.affinity.specs.declared.geometry.Geometry.{Geometry}
 use Rattle.byteorder.specs.Endian.{little_bytes, little_number}
-use Rattle.device_map.specs.Layout.{entry_size}
+use Rattle.device_map.specs.declared.layout.TheConstants.{BLOCK_ENTRY_SIZE}
 use Rattle.language.specs.Replies.{has_file}
 use Rattle.stripe.specs.Stripe.{BlockEntry, IsAscending}
 
@@ -14,7 +14,7 @@ entry_bytes e = 1 ∷ e.file ∷ [] ++ little_bytes 2 e.block ++ 0 ∷ 0 ∷ 0 �
 
 -- a stripe's piece: its entries one after the other, and zeros after them up to the size of `quota` entries
 abbrev pub stripe_bytes : ℕ → List BlockEntry → List ℕ
-stripe_bytes quota es = flat_map entry_bytes es ++ replicate (quota * entry_size - length (flat_map entry_bytes es)) 0
+stripe_bytes quota es = flat_map entry_bytes es ++ replicate (quota * BLOCK_ENTRY_SIZE - length (flat_map entry_bytes es)) 0
 
 -- the entry that so many bytes decode to
 abbrev pub entry_in : List ℕ → BlockEntry
@@ -23,7 +23,8 @@ entry_in row = record { file = get_or row 1 0; block = little_number 2 (drop 2 r
 -- the entries that bytes begin with, at most n, each beginning with 1
 abbrev pub entries_in : ℕ → List ℕ → List BlockEntry
 entries_in zero bytes = []
-entries_in (suc n) bytes = if get_or bytes 0 0 == 1 then entry_in (take entry_size bytes) ∷ entries_in n (drop entry_size bytes) else []
+entries_in (suc n) bytes =
+    if get_or bytes 0 0 == 1 then entry_in (take BLOCK_ENTRY_SIZE bytes) ∷ entries_in n (drop BLOCK_ENTRY_SIZE bytes) else []
 
 -- ---- pieces
 

@@ -1,6 +1,6 @@
 //! A stripe's piece of an image, an entry for each block that it can hold, from the stripe of a volume and into it.
 ghost use Rattle.std.specs.Prelude.{◌≡◌, ◌↔◌, ◌*◌, ◌<◌, ◌^◌, ◌==◌, ℕ, length, if◌then◌else◌, IfSome, IsTrue};
-ghost use Rattle.device_map.specs.Layout.{entry_size};
+ghost use Rattle.device_map.specs.declared.layout.TheConstants.{BLOCK_ENTRY_SIZE};
 ghost use Rattle.affinity.specs.Geometry.{stripe_of};
 ghost use Rattle.image.specs.Pieces.{block_in, stripe_piece};
 ghost use Rattle.meaning.specs.State.{State, IsState};
@@ -17,7 +17,7 @@ use affinity::Geometry;
 /// that stripe.
 pub(super) fn write_stripe(stripe: &StripeParcel, g: &Geometry, s: usize, out: &mut [u8])
     requires fits { FitsStripe g.now s stripe.now }
-    requires size { length out.old ≡ g.now.quota * entry_size }
+    requires size { length out.old ≡ g.now.quota * BLOCK_ENTRY_SIZE }
     ensures { (x : State) (a v : ℕ) → IsState g.now x
         → ((f b : ℕ) → stripe_of g.now f b ≡ s
         → x.blocks (a, v, f, b) ≡ content_at stripe.now.entries f b)
@@ -36,7 +36,7 @@ pub(super) fn read_stripe(logical: &mut Logical, g: &Geometry, s: usize, bytes: 
     requires fits { FitsLogical g.now logical.old }
     requires whole { IsWholeLogical logical.old }
     requires stripe { s < g.now.stripes }
-    requires size { length bytes.now ≡ g.now.quota * entry_size }
+    requires size { length bytes.now ≡ g.now.quota * BLOCK_ENTRY_SIZE }
     ensures piece { IsTrue result ↔ IsStripePiece g.now logical.old.files s bytes.now }
     ensures files { logical.new.files ≡ logical.old.files }
     ensures blocks { IsTrue result → (f b : ℕ) → blocks_of g.now logical.new.stripes.items f b
@@ -54,7 +54,7 @@ fn read_at(node: &mut Option<StripeParcel>, g: &Geometry, files: u64, s: u16, by
     requires fits { IfSome node.old (FitsStripe g.now s) }
     requires whole { IsWholeChild (λ (p : StripePart). Unit {0}) node.old }
     requires files { files < 2 ^ g.now.files }
-    requires size { length bytes.now ≡ g.now.quota * entry_size }
+    requires size { length bytes.now ≡ g.now.quota * BLOCK_ENTRY_SIZE }
     ensures { IsStripeRead g.now files s bytes.now result node.new }
 {
     let Some(stripe) = node else { unreachable!() };

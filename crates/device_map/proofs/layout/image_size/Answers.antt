@@ -1,18 +1,20 @@
 -- Head, pieces of volumes and pieces of stripes make up the size, which the ranges of a geometry bound.
 use Rattle.std.proofs.Common.{ℕ, ◌+◌, ◌*◌, ◌≤◌, arith}
 use Rattle.std.proofs.lemmas.Nat.{mul-le}
-use Rattle.device_map.specs.Layout.{entry_size, image_head_size, image_size, volume_piece_size}
+use Rattle.device_map.specs.Layout.{image_size}
+use Rattle.device_map.specs.declared.layout.TheConstants.{BLOCK_ENTRY_SIZE, IMAGE_HEAD_SIZE, VOLUME_PIECE_SIZE}
 use Rattle.device_map.proofs.layout.image_size.Goals as goal
 
 pub returns-clause-size : goal.returns-clause-size
 unfolding image_size
-returns-clause-size c = λ i. 64 + c.from.ensures i * c.from-2.ensures i * (64 + c.from-3.ensures i * (c.from-4.ensures i * entry_size))
+returns-clause-size c = λ i. 64 + c.from.ensures i * c.from-2.ensures i * (64 + c.from-3.ensures i * (c.from-4.ensures i * BLOCK_ENTRY_SIZE))
 
-at_most : (a v s q : ℕ) → a ≤ 4 → v ≤ 8 → s ≤ 8 → q ≤ 64 → 64 + a * v * (64 + s * (q * entry_size)) ≤ image_head_size + 32 * (volume_piece_size + 8 * (64 * entry_size))
+at_most : (a v s q : ℕ) → a ≤ 4 → v ≤ 8 → s ≤ 8 → q ≤ 64 → 64 + a * v * (64 + s * (q * BLOCK_ENTRY_SIZE)) ≤ IMAGE_HEAD_SIZE + 32 * (VOLUME_PIECE_SIZE + 8 * (64 * BLOCK_ENTRY_SIZE))
 at_most a v s q few_a few_v few_s few_q =
-    let stripes : s * (q * entry_size) ≤ 8 * (64 * entry_size) = mul-le s (q * entry_size) 8 (64 * entry_size) few_s (omega (arith, few_q)) in
+    let stripes : s * (q * BLOCK_ENTRY_SIZE) ≤ 8 * (64 * BLOCK_ENTRY_SIZE) = mul-le s (q * BLOCK_ENTRY_SIZE) 8 (64 * BLOCK_ENTRY_SIZE) few_s (omega (arith, few_q)) in
     let volumes : a * v ≤ 4 * 8 = mul-le a v 4 8 few_a few_v in
-    let all : a * v * (64 + s * (q * entry_size)) ≤ 32 * (64 + 8 * (64 * entry_size)) = mul-le (a * v) (64 + s * (q * entry_size)) 32 (64 + 8 * (64 * entry_size)) volumes (omega (arith, stripes)) in
+    let all : a * v * (64 + s * (q * BLOCK_ENTRY_SIZE)) ≤ 32 * (64 + 8 * (64 * BLOCK_ENTRY_SIZE)) = mul-le (a * v) (64 + s * (q * BLOCK_ENTRY_SIZE)) 32 (64 + 8 * (64 * BLOCK_ENTRY_SIZE))
+      volumes (omega (arith, stripes)) in
     omega (arith, all)
 
 pub returns-clause-most : goal.returns-clause-most
