@@ -1,4 +1,4 @@
--- Statement for engineers: The buffers of a journal: room for an image, and flags for each of its pieces.
+-- Inner: The buffers of a journal: room for an image, and flags for each of its pieces.
 use Rattle.std.specs.Prelude.{◌≡◌, length}
 use Rattle.affinity.specs.declared.geometry.Geometry.{Geometry}
 use Rattle.device_map.specs.Layout.{image_size}
