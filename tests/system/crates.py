@@ -110,7 +110,7 @@ class Calls(Refused):
 # Where their tests are, and what the names of those begin with.
 TAKE_MEMORY = {
     "plain": ("serial_tests", "plain_"), "parcel": ("serial_tests", "parcel_"), "arena": ("parts_tests", "arena_"), "disk": ("parts_tests", "disk_"),
-    "workers": ("parts_tests", "workers_"), "oplog": ("durability_tests", "oplog_"), "journal": ("durability_tests", "journal_"),
+    "workers": ("parts_tests", "workers_"), "oplog": ("durability_tests", "oplog_"), "checkpoint": ("durability_tests", "checkpoint_"),
     "machine": ("machine_tests", ""),
 }
 STARTS_THREADS = "a_bench_with_no_job_starts_and_ends"

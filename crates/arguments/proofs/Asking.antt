@@ -11,9 +11,9 @@ use Rattle.clap.specs.declared.error.Error.{Error}
 use Rattle.clap.specs.declared.error.kind.ErrorKind.{ErrorKind}
 use Rattle.affinity.proofs.Numbers.{are_in_range}
 use Rattle.arguments.specs.Arguments.{Asks, AreRefused, IsNamed, IsReason, findings, is_mistake}
-use Rattle.arguments.specs.declared.parsing.Request.{Request}
-use Rattle.arguments.specs.declared.parsing.Request.TheVariants.{Help, Plain, Format, Show, Serve}
-use Rattle.arguments.specs.declared.parsing.ArgumentRefusal.TheVariants.{Words as by_words}
+use Rattle.arguments.specs.declared.command_line.Request.{Request}
+use Rattle.arguments.specs.declared.command_line.Request.TheVariants.{Help, Plain, Format, Show, Serve}
+use Rattle.arguments.specs.declared.command_line.ArgumentRefusal.TheVariants.{Words as by_words}
 
 -- ---- words that are refused
 

@@ -8,10 +8,10 @@ use Rattle.clap.specs.declared.error.Error.{Error}
 use Rattle.clap.specs.declared.error.kind.ErrorKind.{ErrorKind}
 use Rattle.clap.specs.declared.error.kind.ErrorKind.TheVariants as kind
 use Rattle.arguments.specs.Arguments.{Asks, IsReason, IsRequested, findings, waffd, answer_by, answer_of, is_mistake}
-use Rattle.arguments.specs.declared.parsing.Request.{Request}
-use Rattle.arguments.specs.declared.parsing.Request.TheVariants.{Help}
-use Rattle.arguments.specs.declared.parsing.ArgumentRefusal.TheVariants.{GeometryOutOfRange}
-use Rattle.arguments.specs.declared.parsing.ArgumentRefusal.{ArgumentRefusal}
+use Rattle.arguments.specs.declared.command_line.Request.{Request}
+use Rattle.arguments.specs.declared.command_line.Request.TheVariants.{Help}
+use Rattle.arguments.specs.declared.command_line.ArgumentRefusal.TheVariants.{GeometryOutOfRange}
+use Rattle.arguments.specs.declared.command_line.ArgumentRefusal.{ArgumentRefusal}
 use Rattle.std.specs.Result.{IfErr, IfOk, MatchResult}
 
 abbrev pub Holds : List Text → Result Request ArgumentRefusal → Type 0

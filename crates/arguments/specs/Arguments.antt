@@ -16,11 +16,11 @@ use Rattle.clap.specs.declared.error.Error.{Error}
 use Rattle.clap.specs.declared.error.kind.ErrorKind.{ErrorKind}
 use Rattle.clap.specs.declared.error.kind.ErrorKind.TheVariants.{DisplayHelp, DisplayVersion}
 use Rattle.clap.specs.declared.error.kind.ErrorKind.TheVariants as kind
-use Rattle.arguments.specs.declared.parsing.Request.{Request}
-use Rattle.arguments.specs.declared.parsing.Request.TheVariants.{Help, Plain, Format, Show, Serve}
-use Rattle.arguments.specs.declared.parsing.ServiceNumbers.{ServiceNumbers}
-use Rattle.arguments.specs.declared.parsing.ArgumentRefusal.{ArgumentRefusal}
-use Rattle.arguments.specs.declared.parsing.ArgumentRefusal.TheVariants.{Words, OutOfMemory, GeometryOutOfRange}
+use Rattle.arguments.specs.declared.command_line.Request.{Request}
+use Rattle.arguments.specs.declared.command_line.Request.TheVariants.{Help, Plain, Format, Show, Serve}
+use Rattle.arguments.specs.declared.command_line.ServiceNumbers.{ServiceNumbers}
+use Rattle.arguments.specs.declared.command_line.ArgumentRefusal.{ArgumentRefusal}
+use Rattle.arguments.specs.declared.command_line.ArgumentRefusal.TheVariants.{Words, OutOfMemory, GeometryOutOfRange}
 
 -- ---- the commands
 

@@ -3,6 +3,6 @@
 //! Nothing here knows what a command does: the numbers that the arguments give are handed on as they are.
 #![tactic(auto)]
 
-mod parsing;
+mod command_line;
 
-pub use parsing::{ArgumentRefusal, Request, ServiceNumbers, read_arguments};
+pub use command_line::{ArgumentRefusal, Request, ServiceNumbers, read_arguments};

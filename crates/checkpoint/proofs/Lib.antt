@@ -1,18 +1,20 @@
--- ---- for the layer above: why a device is refused and what it recovers to otherwise (Refusing, Behind), what a read leaves
--- ---- (Replays), whose header a device has (OneGeometry), and that one which recovers to a state isn't refused (NotRefused)
-pub mod Refusing
-pub mod Behind
-pub mod Replays
-pub mod OneGeometry
-pub mod NotRefused
--- ---- for this crate alone
-mod Changed
-mod Shut
-mod Blank
-mod Laid
+-- The lemmas of this crate: what a crash leaves while the journal logs, makes a point or a cut, and is opened.
+mod Places
+mod Costs
+mod Runs
+mod Patches
+mod Recovering
+mod Forced
+mod Pointing
+mod Cutting
+mod Rows
+mod Logging
+mod Flipping
+mod Piecing
+mod SnapshotBytes
+mod Saving
+mod Finishing
+mod Loaded
 mod Opened
+mod StillRefused
 mod Examples
-mod Served
-mod Recorded
-mod Heads
-mod Walked

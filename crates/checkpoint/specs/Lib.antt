@@ -1,8 +1,12 @@
--- Definitions of a device's header, of recovery and its refusals, of loading and of formatting.
-pub mod Header
-pub mod Recovery
-pub mod Refusals
-pub mod Formatting
-pub mod Loading
-pub mod Shown
-pub mod Version
+-- Definitions of a journal: its calls, dirty flags, images and costs, and what it keeps, from its opening on.
+pub mod DirtyPieces
+pub mod Journal
+pub mod Extents
+pub mod Steps
+pub mod Keeping
+pub mod Buffers
+pub mod Fields
+pub mod Opening
+pub mod Parts
+pub mod Images
+pub mod Costs

@@ -1,26 +1,15 @@
-//! What a device recovers to, how one is made, and what one holds. (Checkpoints are made in `journal`.)
-//!
-//! A device holds the state of its named image with the records in force run on it: `specs/Recovery.antt` defines that
-//! state by its bytes, and `specs/Refusals.antt` which devices are refused and why. `format` makes a device that recovers to the
-//! empty state, and a crash at any moment of it leaves the old device, one that isn't formatted, or the new one.
-//! `inspect` reports what a device holds, or why it is refused, and only reads it. `step` runs one message on a tree of which no part is
-//! lent, as a serial server does: the records in force are run by it.
+//! The durable part of a server: what was carried out is logged on a device, and checkpoints keep the log short. A crash at any moment
+//! leaves a device that recovers to what was logged, with a prefix of what was being logged.
 #![tactic(auto)]
 
-mod fault;
-mod formatting;
-mod header;
-mod header_and_root;
-mod image_reading;
-mod inspecting;
-pub mod laws;
-pub mod loading;
-mod reading;
-mod replaying;
-mod stepping;
+mod checkpoint_steps;
+mod dirty;
+mod extents;
+mod journal;
+mod opening;
+mod snapshot;
 
 pub use device_map::device_len;
-pub use fault::{FormatError, FormatFault, OpenError, OpenFault};
-pub use formatting::format;
-pub use inspecting::{Shown, inspect};
-pub use stepping::step;
+pub use journal::Journal;
+pub use opening::open;
+pub use recovery::{FormatError, FormatFault, OpenError, OpenFault, Shown, format, inspect};

@@ -2,8 +2,8 @@
 use Rattle.std.proofs.Common.{◌≡◌, ◌∙◌, refl, sym, ap, subst, inl, inr, ℕ, List, [], Option, Some, None, codes}
 use Rattle.std.specs.Prelude.{Err, Ok, Result}
 use Rattle.std.proofs.KnownBytes.{Appends-nil}
-use Rattle.checkpoint.specs.declared.fault.FormatFault.TheVariants as formatting
-use Rattle.checkpoint.specs.declared.fault.OpenFault.TheVariants as opening
+use Rattle.recovery.specs.declared.fault.FormatFault.TheVariants as formatting
+use Rattle.recovery.specs.declared.fault.OpenFault.TheVariants as opening
 use Rattle.affinity.specs.declared.geometry.Geometry.{Geometry}
 use Rattle.affinity.specs.Geometry.{numbers_of}
 use Rattle.affinity.specs.Limits.{AreInRange}
@@ -23,10 +23,10 @@ use Rattle.arguments.proofs.Asking.{no_mistake, two_names}
 use Rattle.arguments.specs.Arguments.{Asks, AsksFormat, AsksOutOfRange, RunsNoCommand, AsksPlain, AsksShow, IsReason, command_of, findings, given_to, numbers_in}
 use Rattle.commands.specs.declared.faults.Fault.{Fault}
 use Rattle.commands.specs.declared.faults.Fault.TheVariants.{Write, OutOfMemory, Format as ByFormat, Open as ByOpen}
-use Rattle.arguments.specs.declared.parsing.ArgumentRefusal.{ArgumentRefusal}
-use Rattle.arguments.specs.declared.parsing.ArgumentRefusal.TheVariants as refusal
-use Rattle.arguments.specs.declared.parsing.Request.{Request}
-use Rattle.arguments.specs.declared.parsing.Request.TheVariants.{Help, Plain, Format, Show, Serve}
+use Rattle.arguments.specs.declared.command_line.ArgumentRefusal.{ArgumentRefusal}
+use Rattle.arguments.specs.declared.command_line.ArgumentRefusal.TheVariants as refusal
+use Rattle.arguments.specs.declared.command_line.Request.{Request}
+use Rattle.arguments.specs.declared.command_line.Request.TheVariants.{Help, Plain, Format, Show, Serve}
 
 -- ---- arguments that give no request, or ask for help or the version
 

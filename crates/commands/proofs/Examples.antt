@@ -6,7 +6,7 @@ use Rattle.std.specs.Io.KnownBytes.{Appends}
 use Rattle.std.specs.Fmt.{digits}
 use Rattle.std.specs.Str.{bytes_eq}
 use Rattle.affinity.proofs.Numbers.{small}
-use Rattle.checkpoint.specs.declared.inspecting.Shown.{Shown}
+use Rattle.recovery.specs.declared.inspecting.Shown.{Shown}
 use Rattle.disk.specs.Device.{Medium}
 use Rattle.language.specs.Grammar.{kind_named, message_of}
 use Rattle.language.specs.Lines.{number_in_word}

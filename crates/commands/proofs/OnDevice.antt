@@ -2,10 +2,10 @@
 use Rattle.std.proofs.Common.{◌≡◌, ◌∙◌, ℕ, List, [], Some, None, false, refl, ap, take, replicate, arith}
 use Rattle.std.specs.Prelude.{Result, Ok, Err}
 use Rattle.std.proofs.lemmas.List.{take_all}
-use Rattle.checkpoint.specs.Recovery.{recovered_state}
+use Rattle.recovery.specs.Recovery.{recovered_state}
 use Rattle.disk.proofs.Leaves.{itself}
 use Rattle.disk.specs.Device.{AreBytes, IsCrashImage, Medium}
-use Rattle.journal.specs.Opening.{OpeningCrashImages}
+use Rattle.checkpoint.specs.Opening.{OpeningCrashImages}
 use Rattle.histories.specs.Laws.{IsIdle}
 use Rattle.meaning.specs.Serial.{state_after_all}
 use Rattle.language.specs.declared.Msg.{Msg}

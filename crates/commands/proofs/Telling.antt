@@ -2,8 +2,8 @@
 use Rattle.std.proofs.Common.{◌≡◌, ℕ, List, Option, subst, sym}
 use Rattle.std.specs.Prelude.{Result, Ok, Err, IfErr, OnErr, OnOk}
 use Rattle.std.specs.Io.KnownBytes.{Appends}
-use Rattle.checkpoint.specs.Shown.{IsShown}
-use Rattle.checkpoint.specs.declared.inspecting.Shown.{Shown}
+use Rattle.recovery.specs.Shown.{IsShown}
+use Rattle.recovery.specs.declared.inspecting.Shown.{Shown}
 use Rattle.message.specs.Writing.{AppendsBeginning}
 use Rattle.commands.specs.Ends.{EndsShowing, ShowsBytes}
 use Rattle.commands.specs.Lines.{shown_lines}

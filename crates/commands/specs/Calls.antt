@@ -10,10 +10,10 @@ use Rattle.commands.specs.declared.faults.Fault.TheVariants.{Write, GeometryOutO
 use Rattle.commands.specs.declared.serve_options.ServeOptions.{ServeOptions}
 use Rattle.commands.specs.Services.{within_limits}
 use Rattle.arguments.specs.Arguments.{service_numbers}
-use Rattle.arguments.specs.declared.parsing.Request.{Request}
-use Rattle.arguments.specs.declared.parsing.Request.TheVariants.{Help, Plain, Format, Show, Serve}
-use Rattle.arguments.specs.declared.parsing.ArgumentRefusal.{ArgumentRefusal}
-use Rattle.arguments.specs.declared.parsing.ArgumentRefusal.TheVariants as refusal
+use Rattle.arguments.specs.declared.command_line.Request.{Request}
+use Rattle.arguments.specs.declared.command_line.Request.TheVariants.{Help, Plain, Format, Show, Serve}
+use Rattle.arguments.specs.declared.command_line.ArgumentRefusal.{ArgumentRefusal}
+use Rattle.arguments.specs.declared.command_line.ArgumentRefusal.TheVariants as refusal
 
 -- How the command of a request ends. Help and the version read nothing; their text, and whether it was written, is unknown. The server
 -- has the options given.

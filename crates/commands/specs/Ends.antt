@@ -5,10 +5,10 @@ use Rattle.affinity.specs.declared.geometry.Geometry.{Geometry}
 use Rattle.message.specs.Writing.{AppendsBeginning}
 use Rattle.meaning.specs.State.{empty}
 use Rattle.meaning.specs.Output.{serial_output, AnswersWholeLines, IsBeginning, WritesOutput}
-use Rattle.checkpoint.specs.declared.inspecting.Shown.{Shown}
-use Rattle.checkpoint.specs.Refusals.{IsRefused}
-use Rattle.checkpoint.specs.Shown.{IsShown}
-use Rattle.checkpoint.specs.declared.fault.FormatFault.TheVariants as formatting
+use Rattle.recovery.specs.declared.inspecting.Shown.{Shown}
+use Rattle.recovery.specs.Refusals.{IsRefused}
+use Rattle.recovery.specs.Shown.{IsShown}
+use Rattle.recovery.specs.declared.fault.FormatFault.TheVariants as formatting
 use Rattle.serving.specs.Ends.{Exchange}
 use Rattle.commands.specs.Lines.{formatted_line, shown_lines}
 use Rattle.commands.specs.declared.faults.Fault.{Fault}

@@ -4,8 +4,8 @@ use Rattle.std.specs.declared.io.ErrorKind.{ErrorKind}
 use Rattle.std.specs.declared.io.ErrorKind.TheVariants as kind
 use Rattle.disk.specs.declared.fault.FileFault.{FileFault}
 use Rattle.disk.specs.declared.fault.FileFault.TheVariants as file
-use Rattle.checkpoint.specs.declared.fault.FormatFault.TheVariants as formatting
-use Rattle.checkpoint.specs.declared.fault.OpenFault.TheVariants as opening
+use Rattle.recovery.specs.declared.fault.FormatFault.TheVariants as formatting
+use Rattle.recovery.specs.declared.fault.OpenFault.TheVariants as opening
 use Rattle.plain.specs.declared.fault.PlainFault.{PlainFault}
 use Rattle.plain.specs.declared.fault.PlainFault.TheVariants as plain
 use Rattle.serving.specs.declared.server.ServeFault.{ServeFault}

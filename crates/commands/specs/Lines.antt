@@ -3,7 +3,7 @@ use Rattle.std.specs.Prelude.{ℕ, List, [], ◌∷◌, ◌++◌, codes}
 use Rattle.std.specs.List.{flat_map}
 use Rattle.affinity.specs.Geometry.{numbers_of}
 use Rattle.affinity.specs.declared.geometry.Geometry.{Geometry}
-use Rattle.checkpoint.specs.declared.inspecting.Shown.{Shown}
+use Rattle.recovery.specs.declared.inspecting.Shown.{Shown}
 use Rattle.language.specs.Replies.{output_line, reply_line, spaced}
 use Rattle.device_map.specs.Layout.{device_size, layout_of}
 

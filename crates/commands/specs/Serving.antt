@@ -3,13 +3,13 @@
 use Rattle.std.specs.Prelude.{◌≡◌, ◌≢◌, ◌+◌, ◌≤◌, ℕ, List, [], ◌∷◌, length, take, replicate, Some, None, IfSome, Result, Ok, Err}
 use Rattle.std.specs.Io.KnownBytes.{IsAtEnd}
 use Rattle.affinity.specs.declared.geometry.Geometry.{Geometry}
-use Rattle.checkpoint.specs.Header.{HasHeader}
-use Rattle.checkpoint.specs.Recovery.{recovered_state}
-use Rattle.checkpoint.specs.Refusals.{IsRefused}
-use Rattle.checkpoint.specs.declared.fault.OpenFault.TheVariants as open_faults
+use Rattle.recovery.specs.Header.{HasHeader}
+use Rattle.recovery.specs.Recovery.{recovered_state}
+use Rattle.recovery.specs.Refusals.{IsRefused}
+use Rattle.recovery.specs.declared.fault.OpenFault.TheVariants as open_faults
 use Rattle.disk.specs.Device.{IsCrashImage, Medium}
 use Rattle.disk.specs.Moments.{moment_number}
-use Rattle.journal.specs.Opening.{IsLeftByRefusal, OpeningCrashImages}
+use Rattle.checkpoint.specs.Opening.{IsLeftByRefusal, OpeningCrashImages}
 use Rattle.histories.specs.Incarnations.{Ran}
 use Rattle.incarnations.specs.Incarnations.{IsRunIncarnation}
 use Rattle.incarnations.specs.Machine.{machine_of}

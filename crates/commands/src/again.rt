@@ -1,7 +1,7 @@
 //! The promise of a service over a crash, in bytes alone: what went into two incarnations of a device, and what came out.
 ghost use Rattle.std.specs.Prelude.{◌≡◌, ◌≢◌, ◌<◌, IfOk, IfErr, List};
 ghost use Rattle.affinity.specs.declared.geometry.Geometry.{Geometry};
-ghost use Rattle.checkpoint.specs.Recovery.{recovered_state};
+ghost use Rattle.recovery.specs.Recovery.{recovered_state};
 ghost use Rattle.commands.specs.Promise.{HasRunFrom, HoldsState, OpensUnlessFailed};
 ghost use Rattle.commands.specs.Restarts.{CrashedRun, FollowCrashes, HaveRunFrom};
 ghost use Rattle.commands.specs.declared.faults.Fault.TheVariants as faults;

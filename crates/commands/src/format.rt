@@ -1,6 +1,6 @@
 //! `waffd format`: a device of an empty state, in a file.
 ghost use Rattle.std.specs.Prelude.{◌≡◌, ◌≤◌, IfOk, OnOk, Some, length};
-ghost use Rattle.checkpoint.specs.Recovery.{recovered_state};
+ghost use Rattle.recovery.specs.Recovery.{recovered_state};
 ghost use Rattle.commands.specs.Ends.{EndsFormatting};
 ghost use Rattle.commands.specs.Lines.{formatted_line};
 ghost use Rattle.device_map.specs.Layout.{device_size, layout_of};

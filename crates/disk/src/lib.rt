@@ -15,9 +15,9 @@ mod host;
 mod injected_fault;
 mod memory;
 mod ranges;
-mod span;
 pub mod store;
 mod torn;
+mod unsynced_span;
 
 pub use backed::FileBacked;
 pub use backing::BackingFile;

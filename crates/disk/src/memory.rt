@@ -9,8 +9,8 @@ ghost use Rattle.disk.specs.Torn.{HasPattern};
 use crate::ghost_device::{Call, GhostDevice};
 use crate::injected_fault::{CallCounter, InjectedFault};
 use crate::ranges::{check_range, clear, mark_unsynced, overlay, refresh};
-use crate::span::Span;
 use crate::torn::tear;
+use crate::unsynced_span::Span;
 use crate::{Disk, DiskFault, Torn};
 use std::alloc::{AllocError, Global};
 

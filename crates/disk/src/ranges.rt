@@ -4,7 +4,7 @@ ghost use Rattle.disk.specs.declared.fault.DiskFault.TheVariants.{OutOfRange, De
 ghost use Rattle.disk.specs.Device.{SameOutside, overlaid, marked};
 
 use crate::DiskFault;
-use crate::span::Span;
+use crate::unsynced_span::Span;
 
 /// `OutOfRange` where a device of this length doesn't have n bytes from `at` on; else `at` as an index.
 pub(crate) fn check_range(len: u64, at: u64, n: usize) -> Result<usize, DiskFault>

@@ -1,24 +1,20 @@
-//! Tests of what a device keeps, by the public surfaces of oplog, checkpoint and journal.
+//! Tests of what a device keeps, by the public surfaces of oplog, recovery and checkpoint.
 #![tactic(auto)]
 
 #[cfg(test)]
 mod assertions;
 #[cfg(test)]
-mod checkpoint_formatting;
+mod checkpoint_counting;
 #[cfg(test)]
-mod checkpoint_inspecting;
+mod checkpoint_examples;
+#[cfg(test)]
+mod checkpoint_incarnations;
+#[cfg(test)]
+mod checkpoint_opening;
+#[cfg(test)]
+mod checkpoint_trials;
 #[cfg(test)]
 mod common;
-#[cfg(test)]
-mod journal_counting;
-#[cfg(test)]
-mod journal_examples;
-#[cfg(test)]
-mod journal_incarnations;
-#[cfg(test)]
-mod journal_opening;
-#[cfg(test)]
-mod journal_trials;
 #[cfg(test)]
 mod oplog_common;
 #[cfg(test)]
@@ -27,3 +23,7 @@ mod oplog_crashes;
 mod oplog_examples;
 #[cfg(test)]
 mod oplog_layout;
+#[cfg(test)]
+mod recovery_formatting;
+#[cfg(test)]
+mod recovery_inspecting;

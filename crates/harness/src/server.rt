@@ -6,12 +6,12 @@ ghost use Rattle.parcel.specs.Tree.{IsWholeTree};
 
 use crate::{Counting, Counts, Questions, Wrong, reply_lines};
 use affinity::{Geometry, changing, is_in_range};
-use checkpoint::{OpenFault, device_len, format, step};
+use checkpoint::{Journal, OpenFault, device_len, format, open};
 use disk::{Disk, MemDisk};
-use journal::{Journal, open};
 use language::{Msg, Reply};
 use oplog::LogFault;
 use parcel::Tree;
+use recovery::step;
 use std::alloc::{AllocError, Global};
 
 /// What is done to a server.

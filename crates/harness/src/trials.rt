@@ -3,9 +3,8 @@ ghost use Rattle.std.specs.Prelude.{◌<◌};
 
 use crate::crashes::{KINDS, torn};
 use crate::expected_answers::{Questions, reply_lines};
-use checkpoint::{OpenFault, Shown, inspect};
+use checkpoint::{OpenFault, Shown, inspect, open};
 use disk::MemDisk;
-use journal::open;
 use message::{LONGEST_REPLY, write_reply};
 use std::alloc::{AllocError, AllocFailed, Global};
 

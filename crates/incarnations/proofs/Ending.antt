@@ -3,7 +3,7 @@ use Rattle.std.proofs.Common.{◌≡◌, ℕ, false, List, [], ◌++◌, ap, sym
 use Rattle.std.proofs.lemmas.List.{drop_all, take_all}
 use Rattle.affinity.specs.declared.geometry.Geometry.{Geometry}
 use Rattle.disk.specs.Device.{IsCrashImage}
-use Rattle.journal.specs.Journal.{RecoversWithPrefix}
+use Rattle.checkpoint.specs.Journal.{RecoversWithPrefix}
 use Rattle.histories.proofs.Answering.{answered_left}
 use Rattle.histories.proofs.Idle.{none_logged}
 use Rattle.histories.specs.Crash.{in_doubt}

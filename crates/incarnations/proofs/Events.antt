@@ -12,7 +12,7 @@ use Rattle.affinity.specs.declared.geometry.Geometry.{Geometry}
 use Rattle.disk.proofs.Moments.{started}
 use Rattle.disk.specs.Device.{Medium}
 use Rattle.disk.specs.Moments.{CrashImagesAre}
-use Rattle.journal.specs.Journal.{RecoversWithPrefix}
+use Rattle.checkpoint.specs.Journal.{RecoversWithPrefix}
 use Rattle.histories.proofs.Elements.{in_contained}
 use Rattle.histories.proofs.Outs.{event_keeps_out, event_sees}
 use Rattle.histories.proofs.Sound.{event_sound}

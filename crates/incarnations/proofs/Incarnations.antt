@@ -3,16 +3,16 @@ use Rattle.std.proofs.Common.{◌≡◌, ◌⊎◌, ℕ, ◌≤◌, List, [], �
 use Rattle.std.proofs.lemmas.List.{append-nil}
 use Rattle.std.proofs.lemmas.Option.{same_Some}
 use Rattle.affinity.specs.declared.geometry.Geometry.{Geometry}
-use Rattle.checkpoint.proofs.NotRefused.{is_not_refused, has_header}
-use Rattle.checkpoint.proofs.OneGeometry.{one_geometry}
-use Rattle.checkpoint.specs.Header.{HasHeader}
-use Rattle.checkpoint.specs.Recovery.{recovered_state}
-use Rattle.checkpoint.specs.Refusals.{refused}
+use Rattle.recovery.proofs.NotRefused.{is_not_refused, has_header}
+use Rattle.recovery.proofs.OneGeometry.{one_geometry}
+use Rattle.recovery.specs.Header.{HasHeader}
+use Rattle.recovery.specs.Recovery.{recovered_state}
+use Rattle.recovery.specs.Refusals.{refused}
 use Rattle.disk.proofs.Leaves.{synced_left, itself}
 use Rattle.disk.proofs.Moments.{bytes_since, counts_now, only_now}
 use Rattle.disk.specs.Device.{AreBytes, IsSynced, IsCrashImage, Medium}
 use Rattle.disk.specs.Moments.{left_since, moment_number}
-use Rattle.journal.specs.Opening.{IsPastSync, OpeningCrashImages, RecoversAsBefore}
+use Rattle.checkpoint.specs.Opening.{IsPastSync, OpeningCrashImages, RecoversAsBefore}
 use Rattle.histories.proofs.Incarnations.{all_answered, incarnation_of_run, next_incarnation, no_incarnation}
 use Rattle.histories.specs.Events.{Event, MachineState}
 use Rattle.histories.specs.Incarnations.{IsLeftByIncarnations, Incarnation, Ran, Unopened}

@@ -7,7 +7,7 @@ use Rattle.affinity.specs.declared.geometry.Geometry.{Geometry}
 use Rattle.disk.proofs.Moments.{only_now}
 use Rattle.disk.specs.Device.{IsCrashImage, Medium}
 use Rattle.disk.specs.Moments.{left_since, moment_number}
-use Rattle.journal.specs.Journal.{RecoversWithPrefix}
+use Rattle.checkpoint.specs.Journal.{RecoversWithPrefix}
 use Rattle.histories.proofs.Arrivals.{answered_by_ticket}
 use Rattle.histories.proofs.Crashes.{left_is_committed}
 use Rattle.histories.proofs.Elements.{contains_in, in_contained}

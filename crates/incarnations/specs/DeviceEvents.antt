@@ -1,10 +1,10 @@
 -- Statement for operators: A run on a device, event by event: each with the device as it left it, and what a crash leaves meanwhile.
 use Rattle.std.specs.Prelude.{◌≡◌, ℕ, false, List, [], ◌∷◌, map, Some}
 use Rattle.affinity.specs.declared.geometry.Geometry.{Geometry}
-use Rattle.checkpoint.specs.Recovery.{recovered_state}
+use Rattle.recovery.specs.Recovery.{recovered_state}
 use Rattle.disk.specs.Device.{Medium}
 use Rattle.disk.specs.Moments.{CrashImagesAre}
-use Rattle.journal.specs.Journal.{RecoversWithPrefix}
+use Rattle.checkpoint.specs.Journal.{RecoversWithPrefix}
 use Rattle.histories.specs.Crash.{IsLeftSince, in_doubt}
 use Rattle.histories.specs.Events.{Event, MachineState, touches_device}
 use Rattle.meaning.specs.State.{State}

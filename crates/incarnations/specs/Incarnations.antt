@@ -3,11 +3,11 @@
 use Rattle.std.specs.Prelude.{◌≡◌, ◌⊎◌, ◌≤◌, ℕ, List, [], ◌∷◌, map, Some}
 use Rattle.std.specs.List.{AllByRecursion}
 use Rattle.affinity.specs.declared.geometry.Geometry.{Geometry}
-use Rattle.checkpoint.specs.Header.{HasHeader}
-use Rattle.checkpoint.specs.Recovery.{recovered_state}
+use Rattle.recovery.specs.Header.{HasHeader}
+use Rattle.recovery.specs.Recovery.{recovered_state}
 use Rattle.disk.specs.Device.{Medium, AreBytes, IsSynced}
 use Rattle.disk.specs.Moments.{moment_number, left_since}
-use Rattle.journal.specs.Opening.{OpeningCrashImages}
+use Rattle.checkpoint.specs.Opening.{OpeningCrashImages}
 use Rattle.histories.specs.Events.{Event, MachineState}
 use Rattle.histories.specs.Laws.{IsIdle}
 use Rattle.histories.specs.Incarnations.{AreLogsOf, AllHoldAnswered, Incarnation, Ran, Unopened, in_order}

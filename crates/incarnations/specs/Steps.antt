@@ -1,7 +1,7 @@
 -- Inner: One step of a machine, and of its core alone.
 use Rattle.std.specs.Prelude.{◌≡◌, Bool, [], ◌∷◌}
 use Rattle.disk.specs.Moments.{CrashImagesAre}
-use Rattle.journal.specs.Journal.{RecoversWithPrefix}
+use Rattle.checkpoint.specs.Journal.{RecoversWithPrefix}
 use Rattle.histories.specs.Crash.{in_doubt, to_append}
 use Rattle.histories.specs.Events.{IsAllowed}
 use Rattle.histories.specs.declared.outcomes.Outcome.{Outcome}

@@ -9,9 +9,9 @@ ghost use Rattle.incarnations.specs.Machine.{MachineView, IsEndOfRun, machine_of
 ghost use Rattle.incarnations.specs.DeviceEvents.{RecoversForRun};
 ghost use Rattle.scheduler.specs.CoreView.{CoreView, core_state_of};
 ghost use Rattle.affinity.specs.declared.geometry.Geometry.{Geometry};
-ghost use Rattle.checkpoint.specs.Header.{HasHeader};
-ghost use Rattle.checkpoint.specs.Recovery.{recovered_state};
-ghost use Rattle.checkpoint.specs.Refusals.{refused};
+ghost use Rattle.recovery.specs.Header.{HasHeader};
+ghost use Rattle.recovery.specs.Recovery.{recovered_state};
+ghost use Rattle.recovery.specs.Refusals.{refused};
 ghost use Rattle.disk.specs.Device.{IsSynced, Medium};
 ghost use Rattle.disk.specs.Moments.{moment_number};
 ghost use Rattle.incarnations.specs.Incarnations.{DeviceIncarnation, HasIncarnations, HaveGeometry, LeftByLast, RecoversForIncarnations, incarnations_of};

@@ -5,7 +5,7 @@
 #![tactic(auto)]
 
 mod files;
-mod kinds;
+mod messages;
 
 pub use files::has_file;
 

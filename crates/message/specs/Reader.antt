@@ -4,11 +4,11 @@ use Rattle.std.specs.Option.{option_map}
 use Rattle.std.specs.Io.KnownBytes.{prepend_known, IsAtEnd}
 use Rattle.language.specs.declared.TheConstants.{LONGEST_LINE}
 use Rattle.language.specs.FirstLine.{first_line, GivesLine, PassesLine, IsAtEndOf, LosesLineStart, HasWholeFirstLine}
-use Rattle.message.specs.declared.reading.Found.{Found}
-use Rattle.message.specs.declared.reading.Found.TheVariants.{Line, TooLong, End}
-use Rattle.message.specs.declared.reading.ReadFault.{ReadFault}
-use Rattle.message.specs.declared.reading.Buffered.{Buffered}
-use Rattle.message.specs.declared.reading.LineReader.{LineReader}
+use Rattle.message.specs.declared.line_reader.Found.{Found}
+use Rattle.message.specs.declared.line_reader.Found.TheVariants.{Line, TooLong, End}
+use Rattle.message.specs.declared.line_reader.ReadFault.{ReadFault}
+use Rattle.message.specs.declared.line_reader.Buffered.{Buffered}
+use Rattle.message.specs.declared.line_reader.LineReader.{LineReader}
 
 -- ---- what a reader of lines holds
 

@@ -4,9 +4,9 @@
 mod decoding;
 mod heads;
 mod lent_reader;
+mod line_reader;
 mod parsing;
 mod printing;
-mod reading;
 mod records;
 mod reply_buffer;
 mod sizes;
@@ -19,8 +19,8 @@ pub use language::{
     Refusal, Reply,
 };
 pub use lent_reader::{LentReader, Loan};
+pub use line_reader::{Found, LineReader, ReadFault};
 pub use printing::{no_message_line, write_reply};
-pub use reading::{Found, LineReader, ReadFault};
 pub use records::{decode, encode};
 pub use reply_buffer::{REPLY_BUFFER_SIZE, ReplyBuffer};
 pub use sizes::{know_block, know_label, know_message};

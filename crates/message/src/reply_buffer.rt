@@ -9,8 +9,8 @@ ghost use Rattle.message.specs.Waiting.{FitsReply, all_output};
 ghost use Rattle.message.specs.Writing.{AppendsBeginning};
 ghost use Rattle.language.specs.declared.Reply.TheVariants.{Done, Refused, Block as block_reply};
 
+use crate::line_reader::LineReader;
 use crate::printing::{refusal_line, write_block};
-use crate::reading::LineReader;
 use crate::writing::{WriteFault, write_in_order};
 use crate::{LONGEST_REPLY, no_message_line, write_reply};
 use language::{Block, Refusal, Reply};

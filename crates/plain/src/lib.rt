@@ -3,9 +3,9 @@
 
 mod answering;
 mod fault;
+mod over_streams;
 mod server;
-mod serving;
 
 pub use fault::PlainFault;
 pub use meaning::laws;
-pub use serving::{serve_from, serve_plain};
+pub use over_streams::{serve_from, serve_plain};

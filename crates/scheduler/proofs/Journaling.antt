@@ -3,12 +3,12 @@ use Rattle.std.proofs.Common.{◌≡◌, ℕ, Bool, true, false, List, [], take,
 use Rattle.std.specs.Prelude.{if◌then◌else◌}
 use Rattle.std.proofs.lemmas.Bool.{cond-false, cond-true}
 use Rattle.affinity.specs.declared.geometry.Geometry.{Geometry}
-use Rattle.checkpoint.specs.Recovery.{recovered_state}
+use Rattle.recovery.specs.Recovery.{recovered_state}
 use Rattle.disk.proofs.Moments.{leaves_now, started, weaker}
 use Rattle.disk.specs.Device.{Medium}
 use Rattle.disk.specs.Moments.{CrashImagesAre}
-use Rattle.journal.specs.Journal.{RecoversWithPrefix, committed}
-use Rattle.journal.specs.DirtyPieces.{DirtyPieces}
+use Rattle.checkpoint.specs.Journal.{RecoversWithPrefix, committed}
+use Rattle.checkpoint.specs.DirtyPieces.{DirtyPieces}
 use Rattle.histories.proofs.Sound.{event_sound}
 use Rattle.histories.specs.Laws.{IsSoundCoreState}
 use Rattle.histories.specs.CoreState.{CoreState}

@@ -9,10 +9,10 @@ use Rattle.std.proofs.lemmas.Bool.{ltb-false, true≢false}
 use Rattle.std.proofs.lemmas.List.{drop-map, drop_min, length-drop, length-map, length-take, map-append, take-append-drop, take-map, take_min}
 use Rattle.std.proofs.lemmas.Option.{same_Some}
 use Rattle.arena.specs.ArenaView.{ArenaView, IsPartitioned, capacity_of, chain_at}
-use Rattle.checkpoint.specs.Recovery.{recovered_state}
+use Rattle.recovery.specs.Recovery.{recovered_state}
 use Rattle.disk.specs.Device.{IsCrashImage, Medium}
 use Rattle.disk.specs.Moments.{CrashImagesAre, moment_number}
-use Rattle.journal.specs.Journal.{after_call, AreCarriedOut, JournalView, RecoversWithPrefix, IsRecoverable, committed}
+use Rattle.checkpoint.specs.Journal.{after_call, AreCarriedOut, JournalView, RecoversWithPrefix, IsRecoverable, committed}
 use Rattle.histories.proofs.SerialReplies.{state_after_all-joined}
 use Rattle.histories.specs.Eligible.{changes}
 use Rattle.histories.specs.Events.{batch as batch_of, log, recorded, touches_device}
@@ -30,7 +30,7 @@ use Rattle.scheduler.proofs.Chains.{same_slots}
 use Rattle.scheduler.proofs.Logging.{batch_at, batch_carried, batch_fits, batch_changes, doubt_core, log_core, log_throughout, log_state, same_batch, with_doubt, with_log}
 use Rattle.scheduler.specs.CoreView.{core_state_of, CoreView, RecoversThroughout}
 use Rattle.scheduler.specs.Moving.{HasLogged, changing_in, recorded_in}
-use Rattle.scheduler.specs.declared.core_calls.Core.TheInside.{Inside}
+use Rattle.scheduler.specs.declared.server_core.Core.TheInside.{Inside}
 use Rattle.scheduler.specs.Fields.{IsSoundCore, parts}
 use Rattle.scheduler.specs.Parts.{IsCore, Parts, core_view_of, replied_of, core_state_in}
 use Rattle.scheduler.specs.Slots.{SlotView, slots_on, no_slot, slot_view_at}

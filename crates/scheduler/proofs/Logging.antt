@@ -9,12 +9,12 @@ use Rattle.affinity.specs.Kind.{is_changing}
 use Rattle.affinity.specs.declared.geometry.Geometry.{Geometry}
 use Rattle.affinity.proofs.Elements.{all_join, all_weaker}
 use Rattle.histories.proofs.Apart.{all_recorded}
-use Rattle.checkpoint.specs.Recovery.{recovered_state}
+use Rattle.recovery.specs.Recovery.{recovered_state}
 use Rattle.disk.proofs.Moments.{leaves_now}
 use Rattle.disk.specs.Device.{IsCrashImage, Medium}
 use Rattle.disk.specs.Moments.{CrashImagesAre}
-use Rattle.journal.specs.Journal.{AreCarriedOut, RecoversWithPrefix, committed}
-use Rattle.journal.specs.DirtyPieces.{DirtyPieces}
+use Rattle.checkpoint.specs.Journal.{AreCarriedOut, RecoversWithPrefix, committed}
+use Rattle.checkpoint.specs.DirtyPieces.{DirtyPieces}
 use Rattle.histories.proofs.Lists.{all_back, all_front, before_back, before_front}
 use Rattle.histories.proofs.Room.{log_has_room}
 use Rattle.histories.proofs.Sound.{log_sound}

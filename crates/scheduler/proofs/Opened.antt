@@ -5,7 +5,7 @@ use Rattle.std.proofs.lemmas.List.{length-replicate}
 use Rattle.affinity.specs.declared.geometry.Geometry.{Geometry}
 use Rattle.arena.proofs.Counts.{length-numbers}
 use Rattle.arena.specs.ArenaView.{IsPartitioned, ArenaView, capacity_of, empty_arena}
-use Rattle.journal.specs.Journal.{IsRecoverable, committed}
+use Rattle.checkpoint.specs.Journal.{IsRecoverable, committed}
 use Rattle.histories.proofs.Idle.{idle_sound}
 use Rattle.parcel.proofs.Holding.{holds_alike, holds_whole}
 use Rattle.parcel.specs.Holding.{TreeHolds, nowhere}
@@ -14,7 +14,7 @@ use Rattle.parcel.specs.Tree.{IsIn, IsWholeTree, tree_nodes, state_in}
 use Rattle.meaning.specs.State.{IsState}
 use Rattle.scheduler.specs.Fields.{IsSoundCore}
 use Rattle.scheduler.specs.Parts.{IsCore, Parts, is_below, core_state_in}
-use Rattle.scheduler.specs.declared.core_calls.Core.TheInside.{Inside}
+use Rattle.scheduler.specs.declared.server_core.Core.TheInside.{Inside}
 use Rattle.scheduler.specs.Slots.{phases_of, slots_on}
 use Rattle.scheduler.specs.declared.slot.Slot.{Slot}
 use Rattle.run_queue.specs.RunQueue.{queue_at_start}

@@ -4,11 +4,11 @@ use Rattle.std.specs.Prelude.{if◌then◌else◌, is_some, nat_lt, option_map, 
 use Rattle.std.proofs.lemmas.Bool.{ltb-false, true≢false}
 use Rattle.std.proofs.lemmas.List.{nil_from_length}
 use Rattle.affinity.specs.declared.geometry.Geometry.{Geometry}
-use Rattle.checkpoint.specs.Recovery.{recovered_state}
+use Rattle.recovery.specs.Recovery.{recovered_state}
 use Rattle.disk.specs.Moments.{CrashImagesAre}
 use Rattle.image.specs.Pieces.{piece_count}
-use Rattle.journal.specs.Journal.{JournalView, after_call, committed}
-use Rattle.journal.specs.DirtyPieces.{DirtyPieces, count_dirty, cut_dirty, flipped_dirty, pointed_dirty}
+use Rattle.checkpoint.specs.Journal.{JournalView, after_call, committed}
+use Rattle.checkpoint.specs.DirtyPieces.{DirtyPieces, count_dirty, cut_dirty, flipped_dirty, pointed_dirty}
 use Rattle.histories.specs.Events.{point_refusal}
 use Rattle.histories.specs.Laws.{IsSoundCoreState}
 use Rattle.histories.specs.CoreState.{CoreState, held}
@@ -27,7 +27,7 @@ use Rattle.scheduler.proofs.Counting.{held_count}
 use Rattle.scheduler.proofs.Journaling.{called_sound, step_core, step_throughout, with_journal}
 use Rattle.scheduler.specs.CoreView.{CoreView, RecoversThroughout, core_state_of}
 use Rattle.scheduler.specs.Fields.{IsSoundCore, parts}
-use Rattle.scheduler.specs.declared.core_calls.Core.TheInside.{Inside}
+use Rattle.scheduler.specs.declared.server_core.Core.TheInside.{Inside}
 use Rattle.scheduler.specs.Parts.{IsCore, Parts, entry_of, is_below, core_view_of, reached, core_state_in}
 
 -- ---- where a checkpoint may begin: no message is held, no other one is in progress, the device works

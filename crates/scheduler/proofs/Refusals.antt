@@ -5,13 +5,13 @@ use Rattle.std.proofs.lemmas.Bool.{ltb-false}
 use Rattle.std.proofs.lemmas.List.{take-take}
 use Rattle.std.proofs.lemmas.Option.{same_Some}
 use Rattle.affinity.specs.declared.geometry.Geometry.{Geometry}
-use Rattle.checkpoint.proofs.NotRefused.{is_not_refused, has_header}
-use Rattle.checkpoint.proofs.OneGeometry.{same_geometry}
-use Rattle.checkpoint.specs.Header.{HasHeader, magic}
-use Rattle.checkpoint.specs.Recovery.{recovered_state}
-use Rattle.checkpoint.specs.Refusals.{HasNoGeometry, IsRefused, IsRefusedWith, IsUnformatted, fault_if, refused}
-use Rattle.checkpoint.specs.declared.fault.OpenFault.{OpenFault}
-use Rattle.checkpoint.specs.declared.fault.OpenFault.TheVariants.{Device, TooShort, NotFormatted, BadGeometry, OutOfMemory, BadVersion, BadPiece, BadChain, BadRecord}
+use Rattle.recovery.proofs.NotRefused.{is_not_refused, has_header}
+use Rattle.recovery.proofs.OneGeometry.{same_geometry}
+use Rattle.recovery.specs.Header.{HasHeader, magic}
+use Rattle.recovery.specs.Recovery.{recovered_state}
+use Rattle.recovery.specs.Refusals.{HasNoGeometry, IsRefused, IsRefusedWith, IsUnformatted, fault_if, refused}
+use Rattle.recovery.specs.declared.fault.OpenFault.{OpenFault}
+use Rattle.recovery.specs.declared.fault.OpenFault.TheVariants.{Device, TooShort, NotFormatted, BadGeometry, OutOfMemory, BadVersion, BadPiece, BadChain, BadRecord}
 use Rattle.disk.specs.Device.{AreBytes}
 use Rattle.device_map.specs.Layout.{device_size, layout_of}
 use Rattle.meaning.specs.State.{State}

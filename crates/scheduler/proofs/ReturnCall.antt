@@ -36,7 +36,7 @@ use Rattle.scheduler.proofs.Trees.{apart_earlier, apart_others, back_is_out}
 use Rattle.affinity.proofs.Elements.{all_weaker, any_moved}
 use Rattle.std.proofs.lemmas.List.{map-append}
 use Rattle.scheduler.specs.Jobs.{IsResultOf}
-use Rattle.scheduler.specs.declared.core_calls.Core.TheInside.{Inside}
+use Rattle.scheduler.specs.declared.server_core.Core.TheInside.{Inside}
 use Rattle.scheduler.specs.Fields.{IsSoundCore, parts}
 use Rattle.scheduler.specs.Parts.{IsCore, IsPlaced, Parts, entry_of, queued_of, core_state_in}
 use Rattle.scheduler.specs.Slots.{SlotView, slots_on, slot_view_at}

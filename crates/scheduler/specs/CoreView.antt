@@ -3,7 +3,7 @@ use Rattle.std.specs.Prelude.{◌≡◌, ℕ, Bool, false, List, [], Option, Non
 use Rattle.affinity.specs.declared.geometry.Geometry.{Geometry}
 use Rattle.disk.specs.Device.{Medium, IsCrashImage}
 use Rattle.disk.specs.Moments.{CrashImagesAre}
-use Rattle.journal.specs.Journal.{RecoversWithPrefix}
+use Rattle.checkpoint.specs.Journal.{RecoversWithPrefix}
 use Rattle.histories.specs.CoreState.{Entry, Replied, CoreState}
 use Rattle.language.specs.declared.Msg.{Msg}
 use Rattle.parcel.specs.Tree.{TreeView, state_in}

@@ -4,7 +4,7 @@ use Rattle.arena.specs.ArenaView.{capacity_of}
 use Rattle.scheduler.specs.CoreView.{CoreView}
 use Rattle.scheduler.specs.Parts.{IsCore, Parts, core_view_of}
 use Rattle.scheduler.specs.Slots.{HasChains, phases_of, slots_on}
-use Rattle.scheduler.specs.declared.core_calls.Core.TheInside.{Inside}
+use Rattle.scheduler.specs.declared.server_core.Core.TheInside.{Inside}
 
 module _ {D : Type 0} where
   abbrev pub parts : Inside D → Parts

@@ -4,7 +4,7 @@ use Rattle.std.specs.List.{AllByRecursion, list_any}
 use Rattle.affinity.specs.Interval.{IsAffinityOf}
 use Rattle.affinity.specs.Path.{Path, is_prefix}
 use Rattle.affinity.specs.declared.geometry.Geometry.{Geometry}
-use Rattle.journal.specs.Journal.{JournalView, committed}
+use Rattle.checkpoint.specs.Journal.{JournalView, committed}
 use Rattle.histories.specs.Eligible.{changes, unlogged_changes}
 use Rattle.histories.specs.Laws.{IsSoundCoreState}
 use Rattle.histories.specs.CoreState.{Entry, Replied, CoreState, entries}

@@ -5,14 +5,17 @@
 #![tactic(auto)]
 
 mod arrive_line;
-mod core_calls;
+mod core_memory;
 mod granted;
 mod history;
 pub mod laws;
 mod log_batch;
-mod memory;
+mod server_core;
 mod slot;
 
-pub use core_calls::Core;
+pub use checkpoint::{OpenError, OpenFault};
 pub use granted::Granted;
 pub use histories::{ArriveRefusal, CoreFault, Outcome, PointRefusal, Step};
+pub use language::Reply;
+pub use parcel::Job;
+pub use server_core::Core;

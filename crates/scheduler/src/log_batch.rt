@@ -7,7 +7,7 @@ ghost use Rattle.meaning.specs.Serial.{is_recorded};
 ghost use Rattle.scheduler.specs.Moving.{HasLogged, changing_in, recorded_in};
 ghost use Rattle.scheduler.specs.Slots.{HasChains};
 
-use crate::core_calls::one_if;
+use crate::server_core::one_if;
 use crate::slot::{LOGGED, RAN, Slot};
 use affinity::changing;
 use arena::Arena;

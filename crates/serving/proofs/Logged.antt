@@ -5,7 +5,7 @@ use Rattle.std.specs.List.{AllByRecursion, Contains}
 use Rattle.std.proofs.lemmas.Bool.{true≢false}
 use Rattle.std.proofs.lemmas.List.{length-append, length-map, take_all}
 use Rattle.affinity.specs.declared.geometry.Geometry.{Geometry}
-use Rattle.checkpoint.proofs.NotRefused.{is_not_refused, has_header}
+use Rattle.recovery.proofs.NotRefused.{is_not_refused, has_header}
 use Rattle.disk.proofs.Moments.{counts_now}
 use Rattle.disk.specs.Device.{IsCrashImage}
 use Rattle.disk.specs.Moments.{left_since, moment_number}

@@ -1,7 +1,7 @@
 -- Inner: The fields of a session as contracts see them, and what it keeps true of them between calls.
 use Rattle.std.specs.Prelude.{◌≡◌, ◌==◌, ℕ, Bool, List, Option}
 use Rattle.std.specs.List.{list_any}
-use Rattle.message.specs.declared.reading.LineReader.{LineReader}
+use Rattle.message.specs.declared.line_reader.LineReader.{LineReader}
 use Rattle.message.specs.Reader.{buffered_bytes, has_ended, is_drained, source, unread}
 use Rattle.serving.specs.Output.{Start}
 use Rattle.serving.specs.Session.{SessionInvariantFrom, SessionView}

@@ -4,9 +4,9 @@ use Rattle.std.specs.Prelude.{◌≡◌, ◌⊎◌, ◌+◌, ◌≤◌, ℕ, tru
 use Rattle.std.specs.Io.KnownBytes.{Appends}
 use Rattle.std.specs.List.{Contains}
 use Rattle.affinity.specs.declared.geometry.Geometry.{Geometry}
-use Rattle.checkpoint.specs.Header.{HasHeader}
-use Rattle.checkpoint.specs.Recovery.{recovered_state}
-use Rattle.checkpoint.specs.Refusals.{refused}
+use Rattle.recovery.specs.Header.{HasHeader}
+use Rattle.recovery.specs.Recovery.{recovered_state}
+use Rattle.recovery.specs.Refusals.{refused}
 use Rattle.histories.specs.Events.{recorded}
 use Rattle.histories.specs.Laws.{IsSerialHistory}
 use Rattle.histories.specs.CoreState.{Entry, Replied}

@@ -4,7 +4,7 @@ use Rattle.std.specs.Io.KnownBytes.{Appends}
 use Rattle.std.specs.List.{AllByRecursion}
 use Rattle.affinity.specs.Path.{are_related}
 use Rattle.affinity.specs.declared.geometry.Geometry.{Geometry}
-use Rattle.checkpoint.specs.Recovery.{recovered_state}
+use Rattle.recovery.specs.Recovery.{recovered_state}
 use Rattle.language.specs.Grammar.{message_of}
 use Rattle.language.specs.Lines.{lines}
 use Rattle.language.specs.Messages.{is_in_range, path_of}

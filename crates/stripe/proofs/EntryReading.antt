@@ -115,7 +115,7 @@ module _ (g : Geometry) (files s : ℕ) (bytes : List ℕ) (long : length bytes 
 
     next_at : drop BLOCK_ENTRY_SIZE (drop (n * BLOCK_ENTRY_SIZE) bytes) ≡ drop (suc n * BLOCK_ENTRY_SIZE) bytes
     next_at = let place : n * BLOCK_ENTRY_SIZE + BLOCK_ENTRY_SIZE ≡ suc n * BLOCK_ENTRY_SIZE = omega arith in drop-drop BLOCK_ENTRY_SIZE (n * BLOCK_ENTRY_SIZE) bytes
-      ∙ ap (λ (k : ℕ). drop k bytes) place
+        ∙ ap (λ (k : ℕ). drop k bytes) place
 
     -- the entry that comes next
     marked : get_or (drop (n * BLOCK_ENTRY_SIZE) bytes) 0 0 ≡ 1 → es ++ entry_in (row_at bytes n) ∷ entries_in (g.quota - suc n) (drop (suc n * BLOCK_ENTRY_SIZE) bytes) ≡ entries_in g.quota bytes
@@ -151,11 +151,11 @@ module _ (g : Geometry) (files s : ℕ) (bytes : List ℕ) (long : length bytes 
         spelled ∙ ap (λ (l : List ℕ). l ++ back) (flat_map-append entry_bytes es (e ∷ others)) ∙ append_assoc (flat_map entry_bytes es) (entry_bytes e ++ flat_map entry_bytes others) back
         ∙ ap (λ (l : List ℕ). flat_map entry_bytes es ++ l) (append_assoc (entry_bytes e) (flat_map entry_bytes others) back) in
         let row_long : length (row_at bytes n) ≡ BLOCK_ENTRY_SIZE = length-take-le BLOCK_ENTRY_SIZE (drop (n * BLOCK_ENTRY_SIZE) bytes)
-            (omega (arith, length-drop (n * BLOCK_ENTRY_SIZE) bytes, long, few)) in
+        (omega (arith, length-drop (n * BLOCK_ENTRY_SIZE) bytes, long, few)) in
         record {
           spelled = ap (λ (l : List ℕ). take BLOCK_ENTRY_SIZE (drop (n * BLOCK_ENTRY_SIZE) l)) partitioned
               ∙ ap (take BLOCK_ENTRY_SIZE) (drop_at (flat_map entry_bytes es) (entry_bytes e ++ (flat_map entry_bytes others ++ back))
-                (n * BLOCK_ENTRY_SIZE) (length-front es n (omega (arith, few)) has))
+              (n * BLOCK_ENTRY_SIZE) (length-front es n (omega (arith, few)) has))
               ∙ take_at (entry_bytes e) (flat_map entry_bytes others ++ back) BLOCK_ENTRY_SIZE (length-entry_in (row_at bytes n) row_long);
           fits = (all_back (λ e. fits_stripe g files s e.file e.block ≡ true) es (e ∷ others) (subst (AllByRecursion (λ e. fits_stripe g files s e.file e.block ≡ true)) all is.fit)).0;
           behind = ascending_before es others e (subst IsAscending all is.ascending);

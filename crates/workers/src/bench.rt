@@ -12,10 +12,10 @@ ghost use Rattle.workers.specs.Seats.{IsAtBench, IsBench, IsDispatchSeat, HasCol
 ghost use Rattle.workers.specs.declared.job_cell.CellContent.TheVariants.{Delivered};
 ghost use Rattle.workers.specs.declared.seats.SeatRole.TheVariants.{Dispatcher};
 
+use crate::atomic_steps::{self, BenchInvariant, Words};
 use crate::event_counts::wake_worker;
 use crate::job_cell::JobCell;
 use crate::seats::{DispatchSeat, Seat, SeatRole, WorkSeat, rotate_to};
-use crate::steps::{self, BenchInvariant, Words};
 use crate::words::{DELIVERED, FIRST_PLACE, MOST_PLACES, OFFER_EVENT, STOP};
 use atomic_table::Table;
 use parcel::{Done, Job};
@@ -84,7 +84,7 @@ impl Bench {
         }
         let words = &self.table.shared;
         put_offer(words, &mut seat.seat, &mut seat.lent, k, job);
-        steps::count_up(words, &mut seat.seat, OFFER_EVENT);
+        atomic_steps::count_up(words, &mut seat.seat, OFFER_EVENT);
         wake_worker(words);
         Ok(())
     }
@@ -114,8 +114,8 @@ impl Bench {
         ensures { seat.new ≡ seat.old }
     {
         let words = &self.table.shared;
-        steps::set_word(words, &mut seat.seat, STOP, 1);
-        steps::count_up(words, &mut seat.seat, OFFER_EVENT);
+        atomic_steps::set_word(words, &mut seat.seat, STOP, 1);
+        atomic_steps::count_up(words, &mut seat.seat, OFFER_EVENT);
         words.wake_all(OFFER_EVENT);
     }
 }
@@ -165,7 +165,7 @@ fn seat_workers(
 {
     let mut seats = Vec::with_capacity(alloc, workers)?;
     for _number in 0..workers {
-        let worker = steps::split(words, seat);
+        let worker = atomic_steps::split(words, seat);
         seats.push(WorkSeat { seat: worker })?;
     }
     Ok(seats)
@@ -182,7 +182,7 @@ fn take_slots(words: &Words, seat: &mut Seat, places: usize)
     let mut k = places;
     while 0 < k {
         k -= 1;
-        steps::take_slot(words, seat, k);
+        atomic_steps::take_slot(words, seat, k);
     }
 }
 
@@ -197,8 +197,8 @@ fn put_offer(words: &Words, seat: &mut Seat, lent: &mut [bool], k: usize, job: J
     ensures lent { lent_of seat.new.me.0 ≡ slice_set (lent_of seat.old.me.0) k (Some job) }
 {
     rotate_to(seat, lent, 0, k);
-    steps::lay_job(words, seat, k, job);
-    steps::offer(words, seat, k);
+    atomic_steps::lay_job(words, seat, k, job);
+    atomic_steps::offer(words, seat, k);
     lent[k] = true;
     rotate_to(seat, lent, k + 1, lent.len());
 }
@@ -212,7 +212,7 @@ fn try_collect(words: &Words, seat: &mut Seat, lent: &[bool], k: usize) -> bool
     ensures lost { IsFalse result → seat.new.me ≡ seat.old.me }
 {
     rotate_to(seat, lent, 0, k);
-    if steps::collect(words, seat, k) {
+    if atomic_steps::collect(words, seat, k) {
         return true;
     }
     rotate_to(seat, lent, k, lent.len());
@@ -230,7 +230,7 @@ fn take_delivered(words: &Words, seat: &mut Seat, lent: &mut [bool], k: usize) -
     ensures result { seat.old.me.1 ≡ (k, Some (Delivered result)) ∷ rest seat.old.me.1 }
 {
     lent[k] = false;
-    let done = steps::take_result(words, seat, k);
+    let done = atomic_steps::take_result(words, seat, k);
     rotate_to(seat, lent, k, lent.len());
     done
 }

@@ -2,8 +2,8 @@
 ghost use Rattle.std.specs.Prelude.{◌≡◌};
 ghost use Rattle.workers.specs.Seats.{IsAtBench, IsBench};
 
+use crate::atomic_steps::{self, Words};
 use crate::seats::Seat;
-use crate::steps::{self, Words};
 use crate::words::{DELIVERY_EVENT, OFFER_EVENT, SLEEPERS, SLEPT_AT, SPINNERS, low_half};
 use std::hint::spin_loop;
 use std::sync::Wait;
@@ -25,7 +25,7 @@ pub fn wait_delivery<R: Wait>(words: &Words, seat: &mut Seat, rt: &R, seen: u64)
     if number != seen {
         return number;
     }
-    steps::set_word(words, seat, SLEPT_AT, seen);
+    atomic_steps::set_word(words, seat, SLEPT_AT, seen);
     for _ in rt.forever() {
         number = words.peek(DELIVERY_EVENT);
         if number != seen {
@@ -42,7 +42,7 @@ pub fn signal_delivery(words: &Words, seat: &mut Seat) -> bool
     requires { IsAtBench words.now.table_id seat.old.table_id }
     ensures { (seat.new.table_id ≡ seat.old.table_id) × (seat.new.me ≡ seat.old.me) }
 {
-    let found = steps::count_up(words, seat, DELIVERY_EVENT);
+    let found = atomic_steps::count_up(words, seat, DELIVERY_EVENT);
     let sleeps = words.peek(SLEPT_AT) == found;
     if sleeps {
         words.wake_one(DELIVERY_EVENT);
@@ -90,9 +90,9 @@ pub fn spin_then_sleep<R: Wait>(words: &Words, seat: &mut Seat, rt: &R, seen: u6
     requires { IsAtBench words.now.table_id seat.old.table_id }
     ensures { (seat.new.table_id ≡ seat.old.table_id) × (seat.new.me ≡ seat.old.me) }
 {
-    steps::count_up(words, seat, SPINNERS);
+    atomic_steps::count_up(words, seat, SPINNERS);
     let is_signaled = is_offered_soon(words, seen);
-    steps::count_down(words, seat, SPINNERS);
+    atomic_steps::count_down(words, seat, SPINNERS);
     if !is_signaled {
         sleep(words, seat, rt, seen);
     }
@@ -103,9 +103,9 @@ pub fn sleep<R: Wait>(words: &Words, seat: &mut Seat, rt: &R, seen: u64)
     requires { IsAtBench words.now.table_id seat.old.table_id }
     ensures { (seat.new.table_id ≡ seat.old.table_id) × (seat.new.me ≡ seat.old.me) }
 {
-    steps::count_up(words, seat, SLEEPERS);
+    atomic_steps::count_up(words, seat, SLEEPERS);
     if words.peek(OFFER_EVENT) == seen {
         words.park(rt, OFFER_EVENT, low_half(seen));
     }
-    steps::count_down(words, seat, SLEEPERS);
+    atomic_steps::count_down(words, seat, SLEEPERS);
 }

@@ -2,13 +2,13 @@
 //! is collected there.
 #![tactic(auto)]
 
+mod atomic_steps;
 mod bench;
 mod dispatcher_task;
 mod event_counts;
 mod gate;
 mod job_cell;
 mod seats;
-mod steps;
 mod words;
 mod work;
 

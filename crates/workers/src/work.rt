@@ -5,11 +5,11 @@ ghost use Rattle.workers.specs.Seats.{IsAtBench, IsBench, idle};
 ghost use Rattle.workers.specs.declared.job_cell.CellContent.TheVariants.{Offered};
 ghost use Rattle.workers.specs.declared.seats.SeatRole.TheVariants.{Claimed};
 
+use crate::atomic_steps::{self, Words};
 use crate::bench::Bench;
 use crate::event_counts::{signal_delivery, sleep, spin_then_sleep, wait_delivery, wake_worker};
 use crate::gate::Gate;
 use crate::seats::{DispatchSeat, Seat, WorkSeat};
-use crate::steps::{self, Words};
 use crate::words::{FIRST_PLACE, OFFER_EVENT, OFFERED, STOP};
 use parcel::run;
 use std::alloc::AllocError;
@@ -135,7 +135,7 @@ fn serve_place<G: Gate>(
     if words.peek(k + FIRST_PLACE) != OFFERED {
         return None;
     }
-    if !steps::claim(words, seat, k) {
+    if !atomic_steps::claim(words, seat, k) {
         return None;
     }
     wake_another(words, k, places);
@@ -150,10 +150,10 @@ fn run_claimed<G: Gate>(words: &Words, seat: &mut Seat, k: usize, gate: &G) -> b
     requires claimed { (job : JobView) × (seat.old.me ≡ (Claimed k job, (k, Some (Offered job)) ∷ [])) }
     ensures { (seat.new.table_id ≡ seat.old.table_id) × (seat.new.me ≡ idle) }
 {
-    let job = steps::take_job(words, seat, k);
+    let job = atomic_steps::take_job(words, seat, k);
     gate.before(job.ticket());
     let done = run(job);
-    steps::lay_result(words, seat, k, done);
-    steps::deliver(words, seat, k);
+    atomic_steps::lay_result(words, seat, k, done);
+    atomic_steps::deliver(words, seat, k);
     signal_delivery(words, seat)
 }

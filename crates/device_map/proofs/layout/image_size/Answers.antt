@@ -14,7 +14,7 @@ at_most a v s q few_a few_v few_s few_q =
     let stripes : s * (q * BLOCK_ENTRY_SIZE) ≤ 8 * (64 * BLOCK_ENTRY_SIZE) = mul-le s (q * BLOCK_ENTRY_SIZE) 8 (64 * BLOCK_ENTRY_SIZE) few_s (omega (arith, few_q)) in
     let volumes : a * v ≤ 4 * 8 = mul-le a v 4 8 few_a few_v in
     let all : a * v * (64 + s * (q * BLOCK_ENTRY_SIZE)) ≤ 32 * (64 + 8 * (64 * BLOCK_ENTRY_SIZE)) = mul-le (a * v) (64 + s * (q * BLOCK_ENTRY_SIZE)) 32 (64 + 8 * (64 * BLOCK_ENTRY_SIZE))
-      volumes (omega (arith, stripes)) in
+    volumes (omega (arith, stripes)) in
     omega (arith, all)
 
 pub returns-clause-most : goal.returns-clause-most

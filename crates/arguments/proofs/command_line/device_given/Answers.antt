@@ -1,0 +1,9 @@
+-- The path of the device is the first value of its argument, and the empty text where there is none.
+use Rattle.std.proofs.Common.{arith}
+use Rattle.std.proofs.lemmas.Grind.{common_steps}
+use Rattle.clap.proofs.WalkLemmas.{first_value-rows}
+use Rattle.arguments.proofs.Options.{unwrap_or-now}
+use Rattle.arguments.proofs.command_line.device_given.Goals as goal
+
+pub returns : goal.returns
+returns c = grind (arith, common_steps, unwrap_or-now, first_value-rows)

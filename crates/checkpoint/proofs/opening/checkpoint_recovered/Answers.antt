@@ -1,0 +1,35 @@
+-- All pieces are dirty, so the snapshot is the image of the whole state, and is written in one run.
+use Rattle.std.proofs.Common.{Bool, List, sym, ◌∙◌, ap, subst, arith, true≢false}
+use Rattle.oplog.proofs.Answered.{err_is}
+use Rattle.image.specs.Image.{image_state}
+use Rattle.image.proofs.Reading.{read_again}
+use Rattle.checkpoint.specs.Costs.{count_runs}
+use Rattle.checkpoint.specs.Extents.{AreAllDirty}
+use Rattle.checkpoint.proofs.Costs.{one_run}
+use Rattle.checkpoint.proofs.Rows.{whole_put}
+use Rattle.checkpoint.proofs.Saving.{whole_again}
+use Rattle.parcel.specs.Tree.{state_in}
+use Rattle.checkpoint.proofs.opening.checkpoint_recovered.Goals as goal
+
+pub point_on-requires-clause-image : goal.point_on-requires-clause-image
+point_on-requires-clause-image g c = λ k.
+    let spelled = whole_again (state_in c.args.parts.now.tree) _ c.requires.loaded.geometry c.requires.loaded.all c.deref.ensures.value
+    c.update_snapshot.ensures.image (c.deref-2.ensures.value ∙ whole_put _ c.update_snapshot.ensures.size c.deref_mut.ensures.value c.deref_mut.ensures.len) in
+    ap (image_state c.args.parts.now.halves.geometry) spelled
+    ∙ read_again c.args.parts.now.halves.geometry _ (rw (← c.requires.loaded.geometry) c.requires.loaded.tree.state) ∙ sym (c.requires.recovers k)
+
+pub point_on-requires-clause-clean : goal.point_on-requires-clause-clean
+point_on-requires-clause-clean g c = λ k n few clean.
+    let all = subst (λ (l : List Bool). AreAllDirty c.args.parts.now.halves.geometry l) (sym c.deref-3.ensures.value) c.requires.loaded.all in
+    absurd (true≢false (sym (all n few) ∙ clean))
+
+pub returns-in_err-point_on-clause-costs : goal.returns-in_err-point_on-clause-costs
+returns-in_err-point_on-clause-costs g c =
+    rw (err_is c.from_residual.ensures.1) (λ k.
+    let one = ap count_runs c.deref-3.ensures.value ∙ one_run c.args.parts.now.halves.geometry c.args.parts.now.buffers.other_dirty.items c.requires.loaded.fit.other_dirty c.requires.loaded.all in
+    omega (arith, one, c.in_err-point_on.ensures.costs k))
+
+pub returns-clause-costs : goal.returns-clause-costs
+returns-clause-costs g c = λ k.
+    let one = ap count_runs c.deref-3.ensures.value ∙ one_run c.args.parts.now.halves.geometry c.args.parts.now.buffers.other_dirty.items c.requires.loaded.fit.other_dirty c.requires.loaded.all in
+    omega (arith, one, c.in_ok-point_on.ensures.costs k)

@@ -1,6 +1,0 @@
--- No piece before this one is dirty.
-use Rattle.journal.specs.Keeping.{AreCleanBefore}
-use Rattle.journal.proofs.dirty.first_dirty.Given as goal
-
-abbrev pub invariant-loop-n : goal.invariant-loop-n
-invariant-loop-n l = AreCleanBefore l.n l.dirty

@@ -1,0 +1,85 @@
+-- The records in force are those of the named half, and where it is chained those of the other half behind them.
+use Rattle.std.proofs.Common.{◌≡◌, ◌+◌, ◌≤◌, ℕ, length, Some, sym, ◌∙◌, ap, subst, arith}
+use Rattle.oplog.proofs.Answered.{err_is}
+use Rattle.affinity.specs.declared.geometry.Geometry.{Geometry}
+use Rattle.recovery.specs.Loading.{IsConsistentFault, records_fault}
+use Rattle.recovery.specs.Recovery.{decoding}
+use Rattle.device_map.specs.Layout.{image_part, layout_of, other, part_bytes}
+use Rattle.image.specs.Image.{version_in}
+use Rattle.language.specs.declared.Msg.TheVariants.{Summary}
+use Rattle.meaning.specs.Serial.{reply_to}
+use Rattle.oplog.specs.Front.{front}
+use Rattle.oplog.specs.Log.{Log}
+use Rattle.oplog.specs.Recovery.{run}
+use Rattle.parcel.specs.Tree.{TreeView, state_in}
+use Rattle.recovery.proofs.Behind.{HoldsInForce, alone_in_force, behind_refused, both_in_force, held_before}
+use Rattle.recovery.proofs.Refusing.{behind_header}
+use Rattle.recovery.proofs.Replays.{same_bytes}
+use Rattle.recovery.proofs.inspecting.inspect_on.Goals as goal
+use Rattle.recovery.proofs.inspecting.inspect_on.Goals.{then-named+in_ok-more, else-named}
+
+pub returns-in_err-tree-clause-memory : goal.returns-in_err-tree-clause-memory
+returns-in_err-tree-clause-memory g c =
+    behind_header _ g.D.Disk.keeps (g.D.Disk.medium c.args.disk.now).now
+    (λ k. record { geometry = c.in_ok-geometry.geometry; header = c.in_ok-geometry.ensures.header k; parts = c.in_ok-geometry.ensures.long_enough })
+
+pub returns-in_err-more-clause-refused : goal.returns-in_err-more-clause-refused
+returns-in_err-more-clause-refused g c =
+    rw (err_is c.from_residual-in_err-more.ensures.1) (λ k.
+    let w0 = g.D.Disk.medium c.args.disk.now in
+    let area = c.in_ok-named.named.area in
+    let x = state_in c.load_named.new.tree in
+    let holds =
+    held_before w0 (g.D.Disk.medium c.read_header.new.disk) c.in_ok-tree.ensures.geometry (c.read_header.ensures.call.untouched k) (c.in_ok-named.ensures.loaded k) in
+    let trees = c.in_ok-named.ensures.geometry ∙ c.in_ok-tree.ensures.geometry in
+    let logs = ap (λ (l : Log). l.geometry) c.in_ok-named.ensures.log ∙ c.in_ok-tree.ensures.geometry in
+    let bytes = same_bytes w0 (g.D.Disk.medium c.load_named.new.disk) (c.load_named.ensures.call.untouched k ∙ c.read_header.ensures.call.untouched k) in
+    behind_refused _ _ _ _ (rw c.if-named.true at holds) _
+    (subst (λ o. IsConsistentFault o c.in_err-more.field-0.0) (λ i. records_fault (trees i) x (other area) (front (layout_of (logs i)) (other area) (bytes i)))
+    (c.in_err-more.ensures.refused k)))
+
+pub overflow_add-result : goal.overflow_add-result
+overflow_add-result g c =
+    let more : c.if-named.more ≤ 65535 = elim c.if-named.branch [
+      | then-named+in_ok-more w ↦ omega (arith, w.more-is, w.in_ok-more.ensures.few, c.load_named.new.log.geometry.half_range)
+      | else-named w ↦ omega (arith, w.more-is)
+    ] in
+    omega (arith, more, c.in_ok-named.ensures.few, c.in_ok-tree.tree.geometry.half_range)
+
+pub returns-clause-shown : goal.returns-clause-shown
+returns-clause-shown g c = λ k.
+    let geometry = c.in_ok-geometry.geometry in
+    let w0 = g.D.Disk.medium c.args.disk.now in
+    let area = c.in_ok-named.named.area in
+    let x = state_in c.load_named.new.tree in
+    let only = c.read_header.ensures.call.untouched k in
+    let holds = held_before w0 (g.D.Disk.medium c.read_header.new.disk) c.in_ok-tree.ensures.geometry only (c.in_ok-named.ensures.loaded k) in
+    let trees = c.in_ok-named.ensures.geometry ∙ c.in_ok-tree.ensures.geometry in
+    let logs = ap (λ (l : Log). l.geometry) c.in_ok-named.ensures.log ∙ c.in_ok-tree.ensures.geometry in
+    let same = same_bytes w0 (g.D.Disk.medium c.read_header.new.disk) only in
+    let bytes = same_bytes w0 (g.D.Disk.medium c.load_named.new.disk) (c.load_named.ensures.call.untouched k ∙ only) in
+    let records : c.in_ok-named.named.records ≡ length (front (layout_of geometry) area w0.now) =
+    c.in_ok-named.ensures.records k ∙ (λ i. length (front (layout_of (c.in_ok-tree.ensures.geometry i)) area (same i))) in
+    let all : HoldsInForce geometry w0.now area (c.in_ok-named.named.records + c.if-named.more) (state_in c.if-named.tree) = elim c.if-named.branch [
+      | then-named+in_ok-more w ↦ (
+          let more = w.in_ok-more.ensures.count k ∙ (λ i. length (front (layout_of (logs i)) (other area) (bytes i))) in
+          let done = sym (λ i. run (decoding (trees i)) (Some x) (front (layout_of (logs i)) (other area) (bytes i))) ∙ w.in_ok-more.ensures.done k in
+          rw (w.tree-is, records, w.more-is, more) (both_in_force geometry w0.now area x (rw w.if-named.true at holds) (state_in w.replay.new.tree) done))
+      | else-named w ↦ (
+          rw w.tree-is (subst (λ (n : ℕ). HoldsInForce geometry w0.now area n x) (omega (arith, records, w.more-is))
+          (alone_in_force geometry w0.now area x (rw w.if-named.false at holds))))
+    ] in
+    let kept : c.if-named.tree.geometry ≡ geometry = elim c.if-named.branch [
+      | then-named+in_ok-more w ↦ ap (λ (y : TreeView). y.geometry) w.tree-is ∙ w.in_ok-more.ensures.geometry ∙ trees
+      | else-named w ↦ ap (λ (y : TreeView). y.geometry) w.tree-is ∙ trees
+    ] in
+    record {
+      header = c.in_ok-geometry.ensures.header k;
+      sound = all.accepted;
+      area = holds.named;
+      records = all.counted;
+      version = c.in_ok-named.ensures.version k ∙ (λ i. version_in (part_bytes (layout_of (c.in_ok-tree.ensures.geometry i)) (image_part area) (same i)));
+      state = state_in c.if-named.tree;
+      held = all.held;
+      summary = c.step-summary.ensures.reply ∙ ap (λ (h : Geometry). reply_to h (state_in c.if-named.tree) Summary) kept;
+    }

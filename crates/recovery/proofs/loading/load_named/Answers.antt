@@ -1,0 +1,107 @@
+-- The image is read and the records of its half are run; a fault is the first in the order of the checks.
+use Rattle.std.proofs.Common.{◌≡◌, ℕ, ◌==◌, List, length, None, Option, Some, sym, ◌∙◌, ap, subst}
+use Rattle.oplog.proofs.Answered.{err_is}
+use Rattle.affinity.specs.declared.geometry.Geometry.{Geometry}
+use Rattle.recovery.specs.declared.fault.OpenFault.{OpenFault}
+use Rattle.recovery.specs.declared.fault.OpenFault.TheVariants.{BadChain}
+use Rattle.recovery.specs.Loading.{IsConsistentFault, IsOfHalf, are_both_chained, image_fault, records_fault}
+use Rattle.recovery.specs.Recovery.{decoding}
+use Rattle.recovery.specs.Refusals.{fault_if}
+use Rattle.image.specs.Image.{image_state}
+use Rattle.oplog.specs.Front.{chain, front}
+use Rattle.device_map.specs.Layout.{image_part, layout_of, part_bytes}
+use Rattle.oplog.specs.Log.{Log}
+use Rattle.oplog.specs.Recovery.{named_area, run}
+use Rattle.parcel.specs.Tree.{state_in}
+use Rattle.recovery.proofs.Refusing.{chain_half, chain_refused, image_half, image_refused, named_refused, records_half, records_refused}
+use Rattle.recovery.proofs.Replays.{same_bytes}
+use Rattle.recovery.proofs.loading.load_named.Goals as goal
+
+pub returns-in_err-version-clause-refused : goal.returns-in_err-version-clause-refused
+returns-in_err-version-clause-refused g c =
+    rw (err_is c.from_residual-in_err-version.ensures.1) (λ k.
+    let geometry = c.args.tree.now.geometry in
+    let now = (g.D.Disk.medium c.args.disk.now).now in
+    let first = same_bytes (g.D.Disk.medium c.args.disk.now) (g.D.Disk.medium c.named_area.new.disk) (c.named_area.ensures.call.untouched k) in
+    let names = c.in_ok-area.ensures.area k ∙ ap (λ (h : Geometry). named_area (layout_of h) now) c.geometry-g.ensures in
+    image_refused geometry now (c.requires.header k) c.requires.long_enough c.in_ok-area.area names _
+    (subst (λ (l : List ℕ). IsConsistentFault (image_fault geometry (part_bytes (layout_of geometry) (image_part c.in_ok-area.area) l)) c.in_err-version.field-0.0) first
+    (c.in_err-version.ensures.refused k)))
+
+pub returns-in_err-chained-clause-refused : goal.returns-in_err-chained-clause-refused
+returns-in_err-chained-clause-refused g c =
+    rw (err_is c.from_residual-in_err-chained.ensures.1) (λ k.
+    let geometry = c.args.tree.now.geometry in
+    let now = (g.D.Disk.medium c.args.disk.now).now in
+    let first = same_bytes (g.D.Disk.medium c.args.disk.now) (g.D.Disk.medium c.named_area.new.disk) (c.named_area.ensures.call.untouched k) in
+    let names = c.in_ok-area.ensures.area k ∙ ap (λ (h : Geometry). named_area (layout_of h) now) c.geometry-g.ensures in
+    let second = same_bytes (g.D.Disk.medium c.args.disk.now) (g.D.Disk.medium c.read_image.new.disk) (c.read_image.ensures.call.untouched k ∙ c.named_area.ensures.call.untouched k) in
+    let good = sym (ap (λ (l : List ℕ). image_fault geometry (part_bytes (layout_of geometry) (image_part c.in_ok-area.area) l)) first) ∙ c.in_ok-version.ensures.sound k in
+    chain_refused geometry now (c.requires.header k) c.requires.long_enough c.in_ok-area.area names good _
+    (subst (λ (o : Option OpenFault). IsConsistentFault o c.in_err-chained.field-0.0)
+    (λ i. fault_if (are_both_chained (layout_of (c.geometry-g.ensures i)) (second i)) BadChain None) (c.in_err-chained.ensures.refused k)))
+
+pub returns-in_err-records-clause-refused : goal.returns-in_err-records-clause-refused
+returns-in_err-records-clause-refused g c =
+    rw (err_is c.from_residual-in_err-records.ensures.1) (λ k.
+    let geometry = c.args.tree.now.geometry in
+    let now = (g.D.Disk.medium c.args.disk.now).now in
+    let first = same_bytes (g.D.Disk.medium c.args.disk.now) (g.D.Disk.medium c.named_area.new.disk) (c.named_area.ensures.call.untouched k) in
+    let names = c.in_ok-area.ensures.area k ∙ ap (λ (h : Geometry). named_area (layout_of h) now) c.geometry-g.ensures in
+    let second = same_bytes (g.D.Disk.medium c.args.disk.now) (g.D.Disk.medium c.read_image.new.disk) (c.read_image.ensures.call.untouched k ∙ c.named_area.ensures.call.untouched k) in
+    let third = same_bytes (g.D.Disk.medium c.args.disk.now) (g.D.Disk.medium c.chain_of.new.disk)
+    (c.chain_of.ensures.call.untouched k ∙ c.read_image.ensures.call.untouched k ∙ c.named_area.ensures.call.untouched k) in
+    let good = sym (ap (λ (l : List ℕ). image_fault geometry (part_bytes (layout_of geometry) (image_part c.in_ok-area.area) l)) first) ∙ c.in_ok-version.ensures.sound k in
+    let state = state_in c.read_image.new.tree in
+    let decoded : image_state geometry (part_bytes (layout_of geometry) (image_part c.in_ok-area.area) now) ≡ Some state =
+    sym (ap (λ (l : List ℕ). image_state geometry (part_bytes (layout_of geometry) (image_part c.in_ok-area.area) l)) first) ∙ c.in_ok-version.ensures.read k in
+    let one = sym (λ i. are_both_chained (layout_of (c.geometry-g.ensures i)) (second i)) ∙ c.in_ok-chained.ensures.sound k in
+    let log = ap (λ (l : Log). l.geometry) c.name.ensures ∙ ap (λ (l : Log). l.geometry) c.requires.log in
+    records_refused geometry now (c.requires.header k) c.requires.long_enough c.in_ok-area.area names good state decoded one _
+    (named_refused geometry state c.in_ok-area.area now _
+    (subst (λ (o : Option OpenFault). IsConsistentFault o c.in_err-records.field-0.0)
+    (λ i. records_fault (c.in_ok-version.ensures.geometry i) state c.in_ok-area.area (front (layout_of (log i)) c.in_ok-area.area (third i)))
+    (c.in_err-records.ensures.refused k))))
+
+pub returns-clause-loaded : goal.returns-clause-loaded
+returns-clause-loaded g c = λ k.
+    let geometry = c.args.tree.now.geometry in
+    let now = (g.D.Disk.medium c.args.disk.now).now in
+    let first = same_bytes (g.D.Disk.medium c.args.disk.now) (g.D.Disk.medium c.named_area.new.disk) (c.named_area.ensures.call.untouched k) in
+    let second = same_bytes (g.D.Disk.medium c.args.disk.now) (g.D.Disk.medium c.read_image.new.disk) (c.read_image.ensures.call.untouched k ∙ c.named_area.ensures.call.untouched k) in
+    let third = same_bytes (g.D.Disk.medium c.args.disk.now) (g.D.Disk.medium c.chain_of.new.disk)
+    (c.chain_of.ensures.call.untouched k ∙ c.read_image.ensures.call.untouched k ∙ c.named_area.ensures.call.untouched k) in
+    let state = state_in c.read_image.new.tree in
+    let log = ap (λ (l : Log). l.geometry) c.name.ensures ∙ ap (λ (l : Log). l.geometry) c.requires.log in
+    record {
+      header = c.requires.header k;
+      long_enough = c.requires.long_enough;
+      named = c.in_ok-area.ensures.area k ∙ ap (λ (h : Geometry). named_area (layout_of h) now) c.geometry-g.ensures;
+      chain = c.in_ok-chained.ensures.chained k ∙ (λ i. chain (layout_of (c.geometry-g.ensures i)) c.in_ok-area.area (second i) == 1);
+      one = sym (λ i. are_both_chained (layout_of (c.geometry-g.ensures i)) (second i)) ∙ c.in_ok-chained.ensures.sound k;
+      sound = sym (ap (λ (l : List ℕ). image_fault geometry (part_bytes (layout_of geometry) (image_part c.in_ok-area.area) l)) first) ∙ c.in_ok-version.ensures.sound k;
+      first = state;
+      decoded = sym (ap (λ (l : List ℕ). image_state geometry (part_bytes (layout_of geometry) (image_part c.in_ok-area.area) l)) first) ∙ c.in_ok-version.ensures.read k;
+      ran = sym (λ i. run (decoding (c.in_ok-version.ensures.geometry i)) (Some state) (front (layout_of (log i)) c.in_ok-area.area (third i))) ∙ c.in_ok-records.ensures.done k;
+    }
+
+pub returns-clause-records : goal.returns-clause-records
+returns-clause-records g c = λ k.
+    let third = same_bytes (g.D.Disk.medium c.args.disk.now) (g.D.Disk.medium c.chain_of.new.disk)
+    (c.chain_of.ensures.call.untouched k ∙ c.read_image.ensures.call.untouched k ∙ c.named_area.ensures.call.untouched k) in
+    let log = ap (λ (l : Log). l.geometry) c.name.ensures ∙ ap (λ (l : Log). l.geometry) c.requires.log in
+    c.in_ok-records.ensures.count k ∙ (λ i. length (front (layout_of (log i)) c.in_ok-area.area (third i)))
+
+pub returns-in_err-version-clause-half : goal.returns-in_err-version-clause-half
+returns-in_err-version-clause-half g c =
+    rw (err_is c.from_residual-in_err-version.ensures.1) (λ k. image_half _ _ _ _ (c.in_err-version.ensures.refused k))
+
+pub returns-in_err-chained-clause-half : goal.returns-in_err-chained-clause-half
+returns-in_err-chained-clause-half g c =
+    rw (err_is c.from_residual-in_err-chained.ensures.1) (λ k. chain_half _ _ _ (c.in_err-chained.ensures.refused k))
+
+pub returns-in_err-records-clause-half : goal.returns-in_err-records-clause-half
+returns-in_err-records-clause-half g c =
+    rw (err_is c.from_residual-in_err-records.ensures.1) (λ k.
+    let names = c.in_ok-area.ensures.area k ∙ ap (λ (h : Geometry). named_area (layout_of h) (g.D.Disk.medium c.args.disk.now).now) c.geometry-g.ensures in
+    subst (λ (n : ℕ). IsOfHalf n c.in_err-records.field-0.0) names (records_half c.in_ok-area.area _ _ (c.in_err-records.ensures.refused k)))
