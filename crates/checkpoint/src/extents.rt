@@ -11,7 +11,7 @@ ghost use Rattle.device_map.specs.declared.layout.TheConstants.{BLOCK_ENTRY_SIZE
 
 use affinity::Geometry;
 use device_map::{IMAGE_HEAD_SIZE, image_at};
-use disk::store::write;
+use disk::writes::write;
 use disk::{Disk, DiskFault};
 use image::layout::piece_size;
 

@@ -15,9 +15,9 @@ mod host;
 mod injected_fault;
 mod memory;
 mod ranges;
-pub mod store;
 mod torn;
 mod unsynced_span;
+pub mod writes;
 
 pub use backed::FileBacked;
 pub use backing::BackingFile;

@@ -6,9 +6,8 @@ use crate::Wrong;
 use affinity::{Geometry, is_in_range};
 use language::{Msg, Refusal, Reply};
 use message::{LONGEST_REPLY, parse_line, write_reply};
-use parcel::Tree;
+use parcel::{Tree, step};
 use plain::serve_plain;
-use recovery::step;
 use std::alloc::{AllocError, Global};
 
 /// What a server is asked, so that its answers show all that it holds: `summary` first, then of each volume `usage`, `list` and

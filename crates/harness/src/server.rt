@@ -10,8 +10,7 @@ use checkpoint::{Journal, OpenFault, device_len, format, open};
 use disk::{Disk, MemDisk};
 use language::{Msg, Reply};
 use oplog::LogFault;
-use parcel::Tree;
-use recovery::step;
+use parcel::{Tree, step};
 use std::alloc::{AllocError, Global};
 
 /// What is done to a server.

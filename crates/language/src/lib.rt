@@ -5,9 +5,11 @@
 #![tactic(auto)]
 
 mod files;
+mod known_sizes;
 mod messages;
 
 pub use files::has_file;
+pub use known_sizes::{know_block, know_label, know_message};
 
 /// The size of a block, in bytes.
 pub const BLOCK_SIZE: usize = 512;

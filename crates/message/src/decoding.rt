@@ -1,7 +1,7 @@
 //! Decodes the digits of a block, 32 digits (16 bytes) at a time. No loop ends early at a byte that is no digit, so that the compiler can
 //! use vector instructions: `hex`, which ends at the first such byte, takes many times as long.
 
-ghost use Rattle.std.specs.Prelude.{◌≡◌, ◌≢◌, ◌+◌, ◌*◌, ◌%◌, ◌<◌, ◌≤◌, ℕ, length, slice_index, Ok, Some, None, IsErr, MatchResult};
+ghost use Rattle.std.specs.Prelude.{◌≡◌, ◌+◌, ◌*◌, ◌%◌, ◌<◌, ◌≤◌, ℕ, length, slice_index, Ok, Some, None, IsErr, MatchResult};
 ghost use Rattle.std.specs.Option.{unwrap_or};
 ghost use Rattle.hex.specs.Hex.{decode_sized, hex_digit_value, decode_pairs};
 ghost use Rattle.message.specs.Digits.{AreDecoded, HasNonDigit, value_of};

@@ -9,7 +9,6 @@ mod parsing;
 mod printing;
 mod records;
 mod reply_buffer;
-mod sizes;
 mod writing;
 
 pub use heads::{Head, decode_block, decode_label, head_of_line, parse_line};
@@ -23,5 +22,4 @@ pub use line_reader::{Found, LineReader, ReadFault};
 pub use printing::{no_message_line, write_reply};
 pub use records::{decode, encode};
 pub use reply_buffer::{REPLY_BUFFER_SIZE, ReplyBuffer};
-pub use sizes::{know_block, know_label, know_message};
 pub use writing::{WriteFault, write_in_order};

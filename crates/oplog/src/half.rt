@@ -11,7 +11,7 @@ ghost use Rattle.oplog.specs.Changing.{AreChangesInRange};
 use crate::staging::stage;
 use affinity::Geometry;
 use device_map::{CHAIN_ZONE_SIZE, RECORD_SIZE, half_at};
-use disk::store::store;
+use disk::writes::store;
 use disk::{Disk, DiskFault};
 use language::Msg;
 

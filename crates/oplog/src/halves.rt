@@ -10,7 +10,7 @@ use crate::half::{Half, MOST_RECORDS, RECORDS_PER_WRITE};
 use affinity::{Geometry, changing};
 use device_map::{RECORD_SIZE, ROOT_ZONE_AT};
 use disk::Disk;
-use disk::store::store;
+use disk::writes::store;
 use language::Msg;
 use message::decode;
 use std::alloc::{AllocError, Global};

@@ -12,6 +12,7 @@ pub mod Shows
 pub mod Lending
 pub mod Leaving
 pub mod SerialRuns
+pub mod Served
 pub mod Starting
 mod Examples
 pub mod OneVolume

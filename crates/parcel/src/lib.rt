@@ -7,6 +7,7 @@ pub mod laws;
 mod parts;
 mod pieces;
 mod running;
+mod serial_step;
 mod tree;
 
 pub use image::touched;
@@ -14,5 +15,6 @@ pub use job::{Done, Job};
 pub use parts::{Aggr, Label, Logical, Parcels, Root, Standing, Vol};
 pub use pieces::{BadPiece, read_piece, read_piece_1, write_piece};
 pub use running::run;
+pub use serial_step::step;
 pub use stripe::StripeParcel;
 pub use tree::Tree;

@@ -1,16 +1,16 @@
 //! The parts of a server's state, a type for each kind of node, and `Parcels`: any one of them. A child that is `None` is out (lent);
 //! a volume that isn't made is there, too.
+mod new_parts;
 mod putting;
 mod standings;
-mod starting;
 mod taking;
 mod whole;
 
 use crate::StripeParcel;
 use language::LABEL_SIZE;
+pub(crate) use new_parts::new_root;
 pub(crate) use putting::put_at;
 pub(crate) use standings::{files_of, standing_at, volume_at, volume_mut};
-pub(crate) use starting::new_root;
 pub(crate) use taking::take_at;
 
 /// The Volume Logical of a volume: its files, and below them its stripes.

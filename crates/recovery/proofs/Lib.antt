@@ -12,7 +12,6 @@ mod Blank
 mod Laid
 mod Opened
 mod Examples
-mod Served
 mod Recorded
 mod Heads
 mod Walked

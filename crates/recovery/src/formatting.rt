@@ -21,7 +21,7 @@ use affinity::Geometry;
 use device_map::{
     CHAIN_ZONE_SIZE, ROOT_ZONE_AT, ROOT_ZONE_SIZE, device_len, half_at, image_at, image_size,
 };
-use disk::store::{store, write};
+use disk::writes::{store, write};
 use disk::{Disk, DiskFault};
 use image::layout::VERSION;
 use std::alloc::{AllocError, Global};

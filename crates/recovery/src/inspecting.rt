@@ -6,11 +6,11 @@ ghost use Rattle.recovery.specs.Shown.{IsShown};
 ghost use Rattle.disk.specs.Device.{moments};
 
 use crate::loading::{load_named, read_header, replay, take_loading_memory};
-use crate::serial_step::step;
 use crate::{OpenError, OpenFault};
 use affinity::Geometry;
 use disk::Disk;
 use language::{Msg, Reply};
+use parcel::step;
 use std::alloc::Global;
 
 /// What a device holds.

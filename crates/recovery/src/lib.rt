@@ -3,8 +3,7 @@
 //! A device holds the state of its named image with the records in force run on it: `specs/Recovery.antt` defines that
 //! state by its bytes, and `specs/Refusals.antt` which devices are refused and why. `format` makes a device that recovers to the
 //! empty state, and a crash at any moment of it leaves the old device, one that isn't formatted, or the new one.
-//! `inspect` reports what a device holds, or why it is refused, and only reads it. `step` runs one message on a tree of which no part is
-//! lent, as a serial server does: the records in force are run by it.
+//! `inspect` reports what a device holds, or why it is refused, and only reads it.
 #![tactic(auto)]
 
 mod device_reads;
@@ -16,10 +15,8 @@ mod inspecting;
 pub mod laws;
 pub mod loading;
 mod replaying;
-mod serial_step;
 
 pub use device_map::device_len;
 pub use fault::{FormatError, FormatFault, OpenError, OpenFault};
 pub use formatting::format;
 pub use inspecting::{Shown, inspect};
-pub use serial_step::step;

@@ -9,11 +9,10 @@ ghost use Rattle.oplog.specs.Recovery.{run};
 ghost use Rattle.parcel.specs.Tree.{IsWholeTree, state_in};
 
 use crate::OpenFault;
-use crate::serial_step::step;
 use disk::Disk;
 use language::Reply;
 use oplog::Halves;
-use parcel::Tree;
+use parcel::{Tree, step};
 
 /// Runs record `i` of this half on the tree. `BadRecord` exactly where it can't be run there; then the tree isn't
 /// of use any more. Any other error is `Device`, which is consistent with any bytes (`IsConsistentFault`).

@@ -4,10 +4,9 @@ ghost use Rattle.language.specs.Messages.{is_in_range};
 ghost use Rattle.parcel.specs.Tree.{IsWholeTree, state_in};
 ghost use Rattle.meaning.specs.Serial.{next_state, reply_to};
 
+use crate::{Job, Tree, run};
 use affinity::place_of;
-use language::{Msg, Reply};
-use message::know_message;
-use parcel::{Job, Tree, run};
+use language::{Msg, Reply, know_message};
 
 /// Runs a message that is in range on the whole tree, and gives its reply: the serial step of the tree's state. No part of the tree may be
 /// lent. It takes no memory.

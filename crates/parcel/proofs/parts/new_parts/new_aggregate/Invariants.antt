@@ -3,7 +3,7 @@ use Rattle.std.proofs.Common.{◌≡◌, ◌≤◌, length, vec_capacity}
 use Rattle.std.specs.List.{AllByRecursion}
 use Rattle.parcel.specs.Fits.{IsWholeChild}
 use Rattle.parcel.specs.Parts.{IsNewVolume}
-use Rattle.parcel.proofs.parts.starting.new_aggregate.Given as goal
+use Rattle.parcel.proofs.parts.new_parts.new_aggregate.Given as goal
 
 abbrev pub invariant-loop : goal.invariant-loop
 invariant-loop l = (length l.volumes.items ≡ l.counter) × AllByRecursion (IsWholeChild (IsNewVolume l.g)) l.volumes.items × (l.g.volumes ≤ vec_capacity l.volumes)

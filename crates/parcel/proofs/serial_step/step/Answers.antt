@@ -5,8 +5,8 @@ use Rattle.affinity.specs.declared.geometry.Geometry.{Geometry}
 use Rattle.parcel.specs.Nodes.{tree_state}
 use Rattle.parcel.specs.Tree.{IsIn, tree_nodes}
 use Rattle.meaning.specs.State.{IsState}
-use Rattle.recovery.proofs.Served.{placed, fits_there, goes, stepped, all_in_again, state_again}
-use Rattle.recovery.proofs.serial_step.step.Goals as goal
+use Rattle.parcel.proofs.Served.{placed, fits_there, goes, stepped, all_in_again, state_again}
+use Rattle.parcel.proofs.serial_step.step.Goals as goal
 
 pub restore-requires-clause-fits : goal.restore-requires-clause-fits
 restore-requires-clause-fits c =

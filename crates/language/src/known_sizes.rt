@@ -2,7 +2,7 @@
 
 ghost use Rattle.language.specs.Messages.{AreSizedBytes, IsBlock, IsMessage};
 
-use language::{Block, LABEL_SIZE, Msg};
+use crate::{Block, LABEL_SIZE, Msg};
 
 /// Does nothing: it lets a proof know that a block has `BLOCK_SIZE` bytes.
 pub fn know_block(content: &Block)

@@ -3,7 +3,7 @@ use Rattle.std.proofs.Common.{◌≡◌, ◌≤◌, length, vec_capacity}
 use Rattle.std.specs.List.{AllByRecursion}
 use Rattle.parcel.specs.Fits.{IsWholeChild}
 use Rattle.parcel.specs.Parts.{IsNewAggregate}
-use Rattle.parcel.proofs.parts.starting.new_root.Given as goal
+use Rattle.parcel.proofs.parts.new_parts.new_root.Given as goal
 
 abbrev pub invariant-loop : goal.invariant-loop
 invariant-loop l = (length l.aggregates.items ≡ l.counter) × AllByRecursion (IsWholeChild (IsNewAggregate l.g)) l.aggregates.items × (l.g.aggregates ≤ vec_capacity l.aggregates)

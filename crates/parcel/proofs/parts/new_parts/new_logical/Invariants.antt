@@ -3,7 +3,7 @@ use Rattle.std.proofs.Common.{◌≡◌, ◌≤◌, [], length, vec_capacity}
 use Rattle.std.specs.List.{AllByRecursion}
 use Rattle.parcel.specs.Fits.{IsWholeChild}
 use Rattle.stripe.specs.Stripe.{StripePart}
-use Rattle.parcel.proofs.parts.starting.new_logical.Given as goal
+use Rattle.parcel.proofs.parts.new_parts.new_logical.Given as goal
 
 abbrev pub invariant-loop : goal.invariant-loop
 invariant-loop l = (length l.stripes.items ≡ l.counter) × AllByRecursion
