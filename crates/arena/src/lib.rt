@@ -1,7 +1,7 @@
 //! A fixed array of slots with linked lists (chains) through them. All memory is allocated at the start.
 #![tactic(auto)]
 
-ghost use Rattle.std.specs.Prelude.{◌≡◌, ◌+◌, ◌<◌, length, slice_set, slice_index_or, IsTrue, IsSome, IfOk, Some, option_copied, vec_len};
+ghost use Rattle.std.specs.Prelude.{◌≡◌, ◌+◌, ◌<◌, length, slice_set, slice_index_or, IsTrue, IfOk, Some, option_copied, vec_len};
 ghost use Rattle.std.specs.Option.{option_copied_mut};
 ghost use Rattle.std.specs.Borrow.{sem};
 ghost use Rattle.arena.specs.ArenaView.{IsPartitioned, capacity_of, value_at, holds_value, empty_arena, put_answer, after_put, front_of, next_of, can_move, after_move, after_lend, restore_answer, after_restore, after_take, with_value};

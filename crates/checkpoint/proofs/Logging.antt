@@ -14,7 +14,7 @@ use Rattle.image.specs.Touched.{may_change}
 use Rattle.image.proofs.Untouched.{piece_stays}
 use Rattle.meaning.proofs.Kept.{step_kept}
 use Rattle.std.specs.List.{AllByRecursion}
-use Rattle.checkpoint.specs.Journal.{JournalView, AreCarriedOut, RecoversWithPrefix, IsRecoverable, committed}
+use Rattle.checkpoint.specs.Journal.{JournalView, AreCarriedOut, RecoversWithPrefix, IsRecoverable}
 use Rattle.checkpoint.specs.Keeping.{IsCutIfRunning, IsUpToDate, FitsCutState, IsSoundJournal, image_after_cut, journal_view_of}
 use Rattle.checkpoint.specs.DirtyPieces.{AreBothTouched, DirtiesTouched}
 use Rattle.checkpoint.specs.Steps.{RecoversByArea, run_on}

@@ -1,11 +1,8 @@
 -- The messages that a run answers are the first of those that were logged before it and in it.
 use Rattle.std.proofs.Common.{◌≡◌, ℕ, ◌≤◌, List, [], ◌∷◌, ◌++◌, refl, ap, sym, ◌∙◌, append_assoc, take, drop}
-use Rattle.std.specs.Prelude.{map, filter}
-use Rattle.std.proofs.lemmas.List.{append-nil, map-append}
-use Rattle.std.proofs.lemmas.List.Elements.{filter-append}
+use Rattle.std.proofs.lemmas.List.{append-nil}
 use Rattle.affinity.specs.declared.geometry.Geometry.{Geometry}
 use Rattle.language.specs.declared.Msg.{Msg}
-use Rattle.meaning.specs.Serial.{is_recorded}
 use Rattle.histories.specs.declared.outcomes.Outcome.{Outcome}
 use Rattle.histories.specs.CoreState.{Replied, CoreState}
 use Rattle.histories.specs.Events.{MachineState, Event, recorded}

@@ -6,7 +6,7 @@ use Rattle.meaning.specs.State.{State}
 use Rattle.meaning.specs.Serial.{state_after_all}
 use Rattle.histories.specs.CoreState.{Replied}
 use Rattle.histories.specs.Events.{MachineState, Event, recorded}
-use Rattle.histories.specs.Runs.{IsLegal, end_state, appended_at, logged_at, appended_messages, logged_messages}
+use Rattle.histories.specs.Runs.{IsLegal, end_state, logged_at, appended_messages, logged_messages}
 use Rattle.histories.specs.Crash.{in_doubt, IsLogAfter, IsLeftSince}
 use Rattle.histories.specs.Laws.{IsSoundCoreState}
 use Rattle.histories.proofs.SerialReplies.{state_after_all-joined}

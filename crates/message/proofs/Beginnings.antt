@@ -1,5 +1,5 @@
 -- What was written in part: a beginning of what waits is a beginning of all output.
-use Rattle.std.proofs.Common.{arith, ◌≡◌, ℕ, List, [], Option, Some, None, refl, ap, append-nil}
+use Rattle.std.proofs.Common.{arith, ◌≡◌, ℕ, List, [], ◌++◌, Option, Some, None, refl, ap, ◌∙◌, append_assoc, append-nil}
 use Rattle.std.proofs.lemmas.Grind.{common_steps}
 use Rattle.std.proofs.lemmas.List.{append_cancel_left}
 use Rattle.std.specs.Io.KnownBytes.{Appends}
@@ -9,6 +9,10 @@ use Rattle.message.specs.Writing.{AppendsBeginning}
 pub none_waits : (contents : Option (List ℕ)) → all_output contents [] ≡ contents
 none_waits None = refl
 none_waits (Some bytes) = ap (λ (l : List ℕ). Some l) (append-nil bytes)
+
+-- what begins the first bytes begins all
+pub begins_longer : (before new : Option (List ℕ)) (first rest all : List ℕ) → all ≡ first ++ rest → AppendsBeginning before new first → AppendsBeginning before new all
+begins_longer before new first rest all is b = (b.0, b.1 ++ rest, is ∙ ap (λ (l : List ℕ). l ++ rest) b.2 ∙ append_assoc b.0 b.1 rest, b.3)
 
 -- Some bytes were written. With those that wait they make `all`, and of those that wait a beginning was written.
 module _ (sent waiting all : List ℕ) where

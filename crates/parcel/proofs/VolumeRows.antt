@@ -1,21 +1,25 @@
 -- One volume of an aggregate changes, and the others stay.
 use Rattle.std.proofs.lemmas.Grind.{common_steps}
 use Rattle.std.proofs.Common.{arith, ◌≡◌, ℕ, ◌<◌, Bool, true, false, List, Some, None, refl, ap, sym, ◌∙◌, length, slice_index_or, slice_set, ⊎_elim}
-use Rattle.std.specs.Prelude.{◌&&◌, ◌||◌, ◌==◌, not, if◌then◌else◌, Option}
+use Rattle.std.specs.Prelude.{◌&&◌, ◌||◌, ◌==◌, not, if◌then◌else◌, IfSome, Option}
 use Rattle.std.proofs.lemmas.Bool.{eq-eqb, ne_eqb, cases_eq}
-use Rattle.std.proofs.lemmas.List.{get_or-set_same, get_or-set_other}
+use Rattle.std.specs.Vec.{with_item}
+use Rattle.std.proofs.lemmas.List.{get_or-set_same, get_or-set_other, get_or_read}
 use Rattle.affinity.specs.declared.geometry.Geometry.{Geometry}
 use Rattle.language.specs.declared.Msg.TheVariants.{MakeVol, DropVol}
 use Rattle.language.specs.declared.Refusal.TheVariants.{Range, Exists}
 use Rattle.language.specs.Messages.{is_in_range}
 use Rattle.meaning.specs.Serial.{refusal, effect, no_label}
 use Rattle.meaning.specs.State.{State}
+use Rattle.parcel.specs.Fits.{FitsAggregate, FitsVolume}
 use Rattle.parcel.specs.Shown.{aggregate_facts, child_facts, volume_facts}
 use Rattle.parcel.specs.Steps.{guard, guard_open}
 use Rattle.parcel.specs.Totals.{with_made}
 use Rattle.parcel.specs.Volume.{VolumeFacts, no_facts, facts_if, state_with}
 use Rattle.parcel.specs.declared.parts.Aggr.{Aggr}
 use Rattle.parcel.specs.declared.parts.Vol.{Vol}
+use Rattle.parcel.proofs.ChildRows.{fits_in_place}
+use Rattle.parcel.proofs.Slots.{volume_child}
 
 -- ---- the list of an aggregate's volumes
 
@@ -23,7 +27,7 @@ abbrev pub changed_if : (VolumeFacts → VolumeFacts) → Bool → VolumeFacts �
 changed_if change true h = change h
 changed_if change false h = h
 
-pub set_changes : (g : Geometry) (change : VolumeFacts → VolumeFacts) (xs : List (Option Vol)) (v : ℕ) (y : Option Vol) → v < length xs
+set_changes : (g : Geometry) (change : VolumeFacts → VolumeFacts) (xs : List (Option Vol)) (v : ℕ) (y : Option Vol) → v < length xs
     → child_facts (volume_facts g) y ≡ change (child_facts (volume_facts g) (slice_index_or xs v None))
     → (q : ℕ) → child_facts (volume_facts g) (slice_index_or (slice_set xs v y) q None) ≡ changed_if change (v == q) (child_facts (volume_facts g) (slice_index_or xs q None))
 set_changes g change xs v y lt e q =
@@ -38,6 +42,27 @@ set_changes g change xs v y lt e q =
     ap (child_facts (volume_facts g)) (get_or-set_other xs v q y None (λ is. ne (sym is)))
     ∙ ap (λ t. changed_if change t (child_facts (volume_facts g) (slice_index_or xs q None))) (sym (ne_eqb v q ne)))
     (cases_eq v q)
+
+-- the volume at v, which index n finds
+module _ (g : Geometry) (r : Aggr) (fits : FitsAggregate g r) {v n : ℕ} (is : n ≡ v) (in_range : v < g.volumes) {old : Option Vol} (at : old ≡ slice_index_or r.volumes.items n old) where
+  below : n < length r.volumes.items
+  below = omega (arith, is, in_range, fits.count)
+
+  here : slice_index_or r.volumes.items n None ≡ old
+  here = sym (get_or_read r.volumes.items n old below at None)
+
+  pub it_shows : (part : VolumeFacts → Bool) {b : Bool} → b ≡ part (child_facts (volume_facts g) old) → part (aggregate_facts g r v) ≡ b
+  it_shows part shown = ap (λ k. part (aggregate_facts g r k)) (sym is) ∙ ap (λ o. part (child_facts (volume_facts g) o)) here ∙ sym shown
+
+  module _ (new : Option Vol) where
+    pub still_fits : (IfSome old (FitsVolume g) → IfSome new (FitsVolume g)) → FitsAggregate g (record { volumes = with_item r.volumes n new })
+    still_fits kept_fit = (volume_child g n).put_fits r new fits (kept_fit (fits_in_place (λ v. FitsVolume g) r.volumes.items fits.volumes n old here))
+
+    pub it_changes : (change : VolumeFacts → VolumeFacts) → child_facts (volume_facts g) new ≡ change (child_facts (volume_facts g) old)
+        → (q : ℕ) → child_facts (volume_facts g) (slice_index_or (slice_set r.volumes.items n new) q None) ≡ changed_if change (v == q) (aggregate_facts g r q)
+    it_changes change changes q =
+        set_changes g change r.volumes.items n new below (changes ∙ ap (λ o. change (child_facts (volume_facts g) o)) (sym here)) q
+        ∙ ap (λ k. changed_if change (k == q) (aggregate_facts g r q)) is
 
 -- ---- tests and effects
 

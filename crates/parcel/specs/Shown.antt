@@ -1,7 +1,7 @@
 -- Statement for engineers: The state that parcels show, together with their standing. Of what lies neither at their affinity, nor below or
 -- above it, they show nothing.
-use Rattle.std.specs.Prelude.{ℕ, Bool, false, ◌==◌, List, [], ◌∷◌, slice_index_or, Option, Some, None}
-use Rattle.std.specs.Option.{option_and_then, option_map, unwrap_or, option_map_or}
+use Rattle.std.specs.Prelude.{ℕ, Bool, false, ◌==◌, List, [], ◌∷◌, slice_index_or, Option, None}
+use Rattle.std.specs.Option.{option_and_then, option_map_or}
 use Rattle.affinity.specs.declared.geometry.Geometry.{Geometry}
 use Rattle.affinity.specs.Geometry.{stripe_of}
 use Rattle.affinity.specs.Path.{Path}
@@ -59,7 +59,7 @@ volume_facts g w = record {
 
 -- the facts of a child, and `no_facts` where it is out
 abbrev pub child_facts : {X : Type 0} → (X → VolumeFacts) → Option X → VolumeFacts
-child_facts facts o = unwrap_or (option_map facts o) no_facts
+child_facts facts o = option_map_or facts o no_facts
 
 -- the facts of volume v of an aggregate
 abbrev pub aggregate_facts : Geometry → Aggr → ℕ → VolumeFacts

@@ -1,5 +1,5 @@
 -- Inner: How much volumes hold, and what a volume has that was just made.
-use Rattle.std.specs.Prelude.{ℕ, true, length, Option, Some, None, is_some}
+use Rattle.std.specs.Prelude.{ℕ, true, length, Option, Some, is_some}
 use Rattle.std.specs.Option.{option_map_or}
 use Rattle.affinity.specs.declared.geometry.Geometry.{Geometry}
 use Rattle.language.specs.declared.Block.{Block}

@@ -1,6 +1,6 @@
 -- What was written where a write failed: a beginning of the whole output.
 use Rattle.std.proofs.lemmas.Grind.{common_steps}
-use Rattle.std.proofs.Common.{◌≡◌, ℕ, List, [], ◌∷◌, ◌++◌, length, take, drop, Option, Some, None, refl, sym, ap, ◌∙◌, append_assoc, take-append-drop, take_all, arith}
+use Rattle.std.proofs.Common.{◌≡◌, ℕ, List, [], ◌∷◌, ◌++◌, length, take, Option, Some, None, refl, sym, ap, ◌∙◌, append_assoc, take_all, arith}
 use Rattle.std.specs.Prelude.{IfSome, IsErrOf, OnOk, Result, Ok, Err}
 use Rattle.std.specs.Io.KnownBytes.{Appends}
 use Rattle.std.specs.List.{AllByRecursion}
@@ -8,29 +8,22 @@ use Rattle.affinity.specs.declared.geometry.Geometry.{Geometry}
 use Rattle.language.specs.Lines.{lines}
 use Rattle.message.specs.Waiting.{all_output}
 use Rattle.message.specs.Writing.{AppendsBeginning}
-use Rattle.message.proofs.Beginnings.{begins_all}
+use Rattle.message.proofs.Beginnings.{begins_all, begins_longer}
 use Rattle.meaning.specs.State.{State}
 use Rattle.meaning.specs.Output.{AnswersWholeLines, HasNoNewline, IsBeginning, WritesOutput, joined, output_lines, serial_output, with_newlines}
-use Rattle.meaning.proofs.OutputLemmas.{joined-append, take-output_lines}
+use Rattle.meaning.proofs.OutputLemmas.{begins_whole, take-output_lines}
 use Rattle.plain.specs.declared.fault.PlainFault.{PlainFault}
 use Rattle.plain.specs.declared.fault.PlainFault.TheVariants as faults
 
 module _ (g : Geometry) (start : State) where
-  -- The answers to the first lines are a beginning of the output.
-  begins_whole : (input written : List ℕ) → IsBeginning g start input written → (rest : List ℕ) × (serial_output g start input ≡ written ++ rest)
-  begins_whole input written h =
-      let ls = output_lines g start (lines input) in
-      (joined (drop h.0 ls), ap joined (sym (take-append-drop h.0 ls)) ∙ joined-append (take h.0 ls) (drop h.0 ls) ∙ ap (λ (l : List ℕ). l ++ joined (drop h.0 ls)) (sym h.1))
-
   -- Some bytes were written, and of those that wait a beginning. With all of these the output would be a beginning of the serial one.
   module _ (before old new : Option (List ℕ)) (sent waiting : List ℕ) (whole : Appends before old sent) (begins : AppendsBeginning old new waiting) where
     pub begins_output : (input : Option (List ℕ)) → WritesOutput input before (all_output old waiting) (IsBeginning g start)
         → IfSome input (λ bytes. AppendsBeginning before new (serial_output g start bytes))
     begins_output None h = tt
     begins_output (Some bytes) h =
-        let b = begins_all sent waiting h.0 before old new whole h.1 begins in
-        let all = begins_whole bytes h.0 h.2 in
-        (b.0, b.1 ++ all.0, all.1 ∙ ap (λ (l : List ℕ). l ++ all.0) b.2 ∙ append_assoc b.0 b.1 all.0, b.3)
+        let all = begins_whole g start bytes h.0 h.2 in
+        begins_longer before new h.0 all.0 (serial_output g start bytes) all.1 (begins_all sent waiting h.0 before old new whole h.1 begins)
 
   all_begun : (input written : List ℕ) → written ≡ serial_output g start input → IsBeginning g start input written
   all_begun input written h =

@@ -1,5 +1,5 @@
 -- Inner: The state that the maps of a server hold.
-use Rattle.std.specs.Prelude.{◌≡◌, ℕ, Bool, false, ◌&&◌, ◌==◌, List, Option, None, Some, is_some, unwrap_or}
+use Rattle.std.specs.Prelude.{◌≡◌, ℕ, Bool, false, ◌&&◌, ◌==◌, List, Option, is_some, unwrap_or}
 use Rattle.std.specs.Option.{option_map_or, option_map}
 use Rattle.std.specs.BTreeMap as map
 use Rattle.affinity.specs.declared.geometry.Geometry.{Geometry}

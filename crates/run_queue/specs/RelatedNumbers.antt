@@ -1,5 +1,5 @@
 -- Inner: Which affinities are related, by numbers alone.
-use Rattle.std.specs.Prelude.{ℕ, Bool, ◌||◌, nat_lt, is_some, List, [], ◌∷◌, Option, Some, None, false, take}
+use Rattle.std.specs.Prelude.{ℕ, Bool, ◌||◌, nat_lt, is_some, List, [], ◌∷◌, Option, false, take}
 use Rattle.std.specs.Option.{option_map_or}
 use Rattle.std.specs.List.{find}
 use Rattle.affinity.specs.Path.{Path}

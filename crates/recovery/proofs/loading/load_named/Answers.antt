@@ -15,15 +15,33 @@ use Rattle.oplog.specs.Recovery.{named_area, run}
 use Rattle.parcel.specs.Tree.{state_in}
 use Rattle.recovery.proofs.Refusing.{chain_half, chain_refused, image_half, image_refused, named_refused, records_half, records_refused}
 use Rattle.recovery.proofs.Replays.{same_bytes}
+use Rattle.recovery.proofs.loading.load_named.Given.{Over}
+use Rattle.recovery.proofs.loading.load_named.Goals.{In_ok-area, In_ok-chained, In_ok-version}
 use Rattle.recovery.proofs.loading.load_named.Goals as goal
+
+-- the area that the device names
+names : (g : Over) (c : In_ok-area g) → g.D.Disk.keeps → c.in_ok-area.area ≡ named_area (layout_of c.args.tree.now.geometry) (g.D.Disk.medium c.args.disk.now).now
+names g c k = c.in_ok-area.ensures.area k ∙ ap (λ (h : Geometry). named_area (layout_of h) (g.D.Disk.medium c.args.disk.now).now) c.geometry-g.ensures
+
+-- no call changes what a read gives
+first : (g : Over) (c : In_ok-area g) → g.D.Disk.keeps → (g.D.Disk.medium c.named_area.new.disk).now ≡ (g.D.Disk.medium c.args.disk.now).now
+first g c k = same_bytes (g.D.Disk.medium c.args.disk.now) (g.D.Disk.medium c.named_area.new.disk) (c.named_area.ensures.call.untouched k)
+
+second : (g : Over) (c : In_ok-version g) → g.D.Disk.keeps → (g.D.Disk.medium c.read_image.new.disk).now ≡ (g.D.Disk.medium c.args.disk.now).now
+second g c k = same_bytes (g.D.Disk.medium c.args.disk.now) (g.D.Disk.medium c.read_image.new.disk) (c.read_image.ensures.call.untouched k ∙ c.named_area.ensures.call.untouched k)
+
+third : (g : Over) (c : In_ok-chained g) → g.D.Disk.keeps → (g.D.Disk.medium c.chain_of.new.disk).now ≡ (g.D.Disk.medium c.args.disk.now).now
+third g c k =
+    same_bytes (g.D.Disk.medium c.args.disk.now) (g.D.Disk.medium c.chain_of.new.disk)
+    (c.chain_of.ensures.call.untouched k ∙ c.read_image.ensures.call.untouched k ∙ c.named_area.ensures.call.untouched k)
 
 pub returns-in_err-version-clause-refused : goal.returns-in_err-version-clause-refused
 returns-in_err-version-clause-refused g c =
     rw (err_is c.from_residual-in_err-version.ensures.1) (λ k.
     let geometry = c.args.tree.now.geometry in
     let now = (g.D.Disk.medium c.args.disk.now).now in
-    let first = same_bytes (g.D.Disk.medium c.args.disk.now) (g.D.Disk.medium c.named_area.new.disk) (c.named_area.ensures.call.untouched k) in
-    let names = c.in_ok-area.ensures.area k ∙ ap (λ (h : Geometry). named_area (layout_of h) now) c.geometry-g.ensures in
+    let first = first g (goal.at.returns-in_err-version-clause-refused g c).In_ok-area k in
+    let names = names g (goal.at.returns-in_err-version-clause-refused g c).In_ok-area k in
     image_refused geometry now (c.requires.header k) c.requires.long_enough c.in_ok-area.area names _
     (subst (λ (l : List ℕ). IsConsistentFault (image_fault geometry (part_bytes (layout_of geometry) (image_part c.in_ok-area.area) l)) c.in_err-version.field-0.0) first
     (c.in_err-version.ensures.refused k)))
@@ -33,9 +51,9 @@ returns-in_err-chained-clause-refused g c =
     rw (err_is c.from_residual-in_err-chained.ensures.1) (λ k.
     let geometry = c.args.tree.now.geometry in
     let now = (g.D.Disk.medium c.args.disk.now).now in
-    let first = same_bytes (g.D.Disk.medium c.args.disk.now) (g.D.Disk.medium c.named_area.new.disk) (c.named_area.ensures.call.untouched k) in
-    let names = c.in_ok-area.ensures.area k ∙ ap (λ (h : Geometry). named_area (layout_of h) now) c.geometry-g.ensures in
-    let second = same_bytes (g.D.Disk.medium c.args.disk.now) (g.D.Disk.medium c.read_image.new.disk) (c.read_image.ensures.call.untouched k ∙ c.named_area.ensures.call.untouched k) in
+    let first = first g (goal.at.returns-in_err-chained-clause-refused g c).In_ok-area k in
+    let names = names g (goal.at.returns-in_err-chained-clause-refused g c).In_ok-area k in
+    let second = second g (goal.at.returns-in_err-chained-clause-refused g c).In_ok-version k in
     let good = sym (ap (λ (l : List ℕ). image_fault geometry (part_bytes (layout_of geometry) (image_part c.in_ok-area.area) l)) first) ∙ c.in_ok-version.ensures.sound k in
     chain_refused geometry now (c.requires.header k) c.requires.long_enough c.in_ok-area.area names good _
     (subst (λ (o : Option OpenFault). IsConsistentFault o c.in_err-chained.field-0.0)
@@ -46,11 +64,10 @@ returns-in_err-records-clause-refused g c =
     rw (err_is c.from_residual-in_err-records.ensures.1) (λ k.
     let geometry = c.args.tree.now.geometry in
     let now = (g.D.Disk.medium c.args.disk.now).now in
-    let first = same_bytes (g.D.Disk.medium c.args.disk.now) (g.D.Disk.medium c.named_area.new.disk) (c.named_area.ensures.call.untouched k) in
-    let names = c.in_ok-area.ensures.area k ∙ ap (λ (h : Geometry). named_area (layout_of h) now) c.geometry-g.ensures in
-    let second = same_bytes (g.D.Disk.medium c.args.disk.now) (g.D.Disk.medium c.read_image.new.disk) (c.read_image.ensures.call.untouched k ∙ c.named_area.ensures.call.untouched k) in
-    let third = same_bytes (g.D.Disk.medium c.args.disk.now) (g.D.Disk.medium c.chain_of.new.disk)
-    (c.chain_of.ensures.call.untouched k ∙ c.read_image.ensures.call.untouched k ∙ c.named_area.ensures.call.untouched k) in
+    let first = first g (goal.at.returns-in_err-records-clause-refused g c).In_ok-area k in
+    let names = names g (goal.at.returns-in_err-records-clause-refused g c).In_ok-area k in
+    let second = second g (goal.at.returns-in_err-records-clause-refused g c).In_ok-version k in
+    let third = third g (goal.at.returns-in_err-records-clause-refused g c).In_ok-chained k in
     let good = sym (ap (λ (l : List ℕ). image_fault geometry (part_bytes (layout_of geometry) (image_part c.in_ok-area.area) l)) first) ∙ c.in_ok-version.ensures.sound k in
     let state = state_in c.read_image.new.tree in
     let decoded : image_state geometry (part_bytes (layout_of geometry) (image_part c.in_ok-area.area) now) ≡ Some state =
@@ -67,16 +84,15 @@ pub returns-clause-loaded : goal.returns-clause-loaded
 returns-clause-loaded g c = λ k.
     let geometry = c.args.tree.now.geometry in
     let now = (g.D.Disk.medium c.args.disk.now).now in
-    let first = same_bytes (g.D.Disk.medium c.args.disk.now) (g.D.Disk.medium c.named_area.new.disk) (c.named_area.ensures.call.untouched k) in
-    let second = same_bytes (g.D.Disk.medium c.args.disk.now) (g.D.Disk.medium c.read_image.new.disk) (c.read_image.ensures.call.untouched k ∙ c.named_area.ensures.call.untouched k) in
-    let third = same_bytes (g.D.Disk.medium c.args.disk.now) (g.D.Disk.medium c.chain_of.new.disk)
-    (c.chain_of.ensures.call.untouched k ∙ c.read_image.ensures.call.untouched k ∙ c.named_area.ensures.call.untouched k) in
+    let first = first g (goal.at.returns-clause-loaded g c).In_ok-area k in
+    let second = second g (goal.at.returns-clause-loaded g c).In_ok-version k in
+    let third = third g (goal.at.returns-clause-loaded g c).In_ok-chained k in
     let state = state_in c.read_image.new.tree in
     let log = ap (λ (l : Log). l.geometry) c.name.ensures ∙ ap (λ (l : Log). l.geometry) c.requires.log in
     record {
       header = c.requires.header k;
       long_enough = c.requires.long_enough;
-      named = c.in_ok-area.ensures.area k ∙ ap (λ (h : Geometry). named_area (layout_of h) now) c.geometry-g.ensures;
+      named = names g (goal.at.returns-clause-loaded g c).In_ok-area k;
       chain = c.in_ok-chained.ensures.chained k ∙ (λ i. chain (layout_of (c.geometry-g.ensures i)) c.in_ok-area.area (second i) == 1);
       one = sym (λ i. are_both_chained (layout_of (c.geometry-g.ensures i)) (second i)) ∙ c.in_ok-chained.ensures.sound k;
       sound = sym (ap (λ (l : List ℕ). image_fault geometry (part_bytes (layout_of geometry) (image_part c.in_ok-area.area) l)) first) ∙ c.in_ok-version.ensures.sound k;
@@ -87,8 +103,7 @@ returns-clause-loaded g c = λ k.
 
 pub returns-clause-records : goal.returns-clause-records
 returns-clause-records g c = λ k.
-    let third = same_bytes (g.D.Disk.medium c.args.disk.now) (g.D.Disk.medium c.chain_of.new.disk)
-    (c.chain_of.ensures.call.untouched k ∙ c.read_image.ensures.call.untouched k ∙ c.named_area.ensures.call.untouched k) in
+    let third = third g (goal.at.returns-clause-records g c).In_ok-chained k in
     let log = ap (λ (l : Log). l.geometry) c.name.ensures ∙ ap (λ (l : Log). l.geometry) c.requires.log in
     c.in_ok-records.ensures.count k ∙ (λ i. length (front (layout_of (log i)) c.in_ok-area.area (third i)))
 
@@ -103,5 +118,5 @@ returns-in_err-chained-clause-half g c =
 pub returns-in_err-records-clause-half : goal.returns-in_err-records-clause-half
 returns-in_err-records-clause-half g c =
     rw (err_is c.from_residual-in_err-records.ensures.1) (λ k.
-    let names = c.in_ok-area.ensures.area k ∙ ap (λ (h : Geometry). named_area (layout_of h) (g.D.Disk.medium c.args.disk.now).now) c.geometry-g.ensures in
-    subst (λ (n : ℕ). IsOfHalf n c.in_err-records.field-0.0) names (records_half c.in_ok-area.area _ _ (c.in_err-records.ensures.refused k)))
+    subst (λ (n : ℕ). IsOfHalf n c.in_err-records.field-0.0) (names g (goal.at.returns-in_err-records-clause-half g c).In_ok-area k)
+    (records_half c.in_ok-area.area _ _ (c.in_err-records.ensures.refused k)))

@@ -1,47 +1,27 @@
 -- The one volume of the row that is made has its effect; the others stay, and the row still fits.
-use Rattle.std.proofs.Common.{◌≡◌, ◌<◌, refl, ap, sym, ◌∙◌, length, slice_index_or, slice_set, arith}
-use Rattle.std.specs.Prelude.{◌==◌, None, not}
+use Rattle.std.proofs.Common.{refl, ◌∙◌, arith}
+use Rattle.std.specs.Prelude.{None, not}
 use Rattle.std.proofs.lemmas.List.{get_or_read}
 use Rattle.std.proofs.lemmas.Result.{err_from_is_err_and}
 use Rattle.language.specs.declared.Msg.TheVariants.{MakeVol}
 use Rattle.language.specs.declared.Refusal.TheVariants.{Exists}
-use Rattle.parcel.specs.Fits.{FitsVolume}
-use Rattle.parcel.specs.Shown.{aggregate_facts, child_facts, volume_facts}
 use Rattle.parcel.specs.Steps.{guard}
 use Rattle.parcel.specs.Totals.{with_made}
 use Rattle.parcel.proofs.OneVolume.{passed}
-use Rattle.parcel.proofs.ChildRows.{fits_in_place}
-use Rattle.parcel.proofs.Slots.{volume_child}
-use Rattle.parcel.proofs.VolumeRows.{at_aggregate, set_changes, changed_if, make_tests, effect_make}
+use Rattle.parcel.proofs.VolumeRows.{at_aggregate, make_tests, effect_make, it_changes, it_shows, still_fits}
 use Rattle.parcel.proofs.running.at_aggregate.make_volume.Goals as goal
 
 pub returns-clause-fits : goal.returns-clause-fits
 returns-clause-fits c =
-    let g = c.args.g.now in
-    let row = c.args.aggregate.now.volumes.items in
-    let n = c.from-index.result in
-    let below : n < length row = omega (arith, c.from-index.ensures, c.requires.volume, c.requires.fits.count) in
-    let at = sym (get_or_read row _ _ below c.index_mut.ensures.value None) in
-    (volume_child g n).put_fits c.args.aggregate.now c.make.new.node c.requires.fits (c.make.ensures.fits g (fits_in_place (λ v. FitsVolume g) row c.requires.fits.volumes n _ at))
+    still_fits c.args.g.now c.args.aggregate.now c.requires.fits c.from-index.ensures c.requires.volume c.index_mut.ensures.value c.make.new.node (c.make.ensures.fits c.args.g.now)
 
 pub returns-clause-step : goal.returns-clause-step
 returns-clause-step c =
     let g = c.args.g.now in
     let r = c.args.aggregate.now in
-    let row = r.volumes in
-    let v = c.args.v in
-    let n = c.from-index.result in
-    let below : n < length row.items = omega (arith, c.from-index.ensures, c.requires.volume, c.requires.fits.count) in
-    let at : slice_index_or row.items n None ≡ c.index_mut.result.now = sym (get_or_read row.items _ _ below c.index_mut.ensures.value None) in
-    let seen : slice_index_or row.items v None ≡ c.index.result.now = ap (λ k. slice_index_or row.items k None) (sym c.from-index.ensures)
-    ∙ sym (get_or_read row.items _ _ below c.index.ensures None) in
-    λ a t range. passed g (at_aggregate g a r) (MakeVol a v) _ _ (make_tests g a v r range
-    ∙ (λ i. guard (not ((ap (λ o. (child_facts (volume_facts g) o).made) seen ∙ sym (c.marks-made.ensures.made g)) i)) Exists None)
-    ∙ c.in_ok-guard.ensures None) refl
-    (effect_make a v (aggregate_facts g r) (λ q. child_facts (volume_facts g) (slice_index_or (slice_set row.items n c.make.new.node) q None))
-    (λ q. set_changes g with_made row.items n c.make.new.node below (c.make.ensures.facts g
-    ∙ ap (λ o. with_made (child_facts (volume_facts g) o)) (sym at)) q
-    ∙ ap (λ k. changed_if with_made (k == q) (aggregate_facts g r q)) c.from-index.ensures))
+    let made = it_shows g r c.requires.fits c.from-index.ensures c.requires.volume c.index.ensures (λ h. h.made) (c.marks-made.ensures.made g) in
+    λ a t range. passed g (at_aggregate g a r) (MakeVol a c.args.v) _ _ (make_tests g a c.args.v r range ∙ (λ i. guard (not (made i)) Exists None) ∙ c.in_ok-guard.ensures None) refl
+    (effect_make a c.args.v _ _ (it_changes g r c.requires.fits c.from-index.ensures c.requires.volume c.index_mut.ensures.value c.make.new.node with_made (c.make.ensures.facts g)))
 
 pub returns-in_err-guard-clause-step : goal.returns-in_err-guard-clause-step
 returns-in_err-guard-clause-step c = grind (arith, err_from_is_err_and c.from_residual.result c.from_residual.ensures.1, get_or_read)
