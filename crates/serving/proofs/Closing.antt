@@ -1,9 +1,9 @@
 -- A session that reads no more, and what it promises in the end.
-use Rattle.std.proofs.Common.{arith, ◌≡◌, ◌≢◌, ◌≤◌, ◌<◌, ◌+◌, ◌-◌, ℕ, Bool, true, false, List, [], ◌++◌, Option, Some, None, refl, ap, sym, ◌∙◌, subst, length, map, replicate, append_assoc, take, drop, take-append-drop}
-use Rattle.std.specs.Prelude.{Result, Ok, Err, IfOk, IfSome, MatchResult, OnErr, OnOk}
+use Rattle.std.proofs.Common.{arith, ◌≡◌, ◌≢◌, ◌≤◌, ◌<◌, ◌+◌, ◌-◌, ℕ, Bool, true, false, List, [], ◌++◌, Option, Some, None, refl, ap, sym, ◌∙◌, subst, length, map, replicate, append_assoc}
+use Rattle.std.specs.Prelude.{Result, Ok, Err, IfOk, IfSome, OnErr, OnOk}
 use Rattle.std.specs.Io.KnownBytes.{Appends}
 use Rattle.std.proofs.KnownBytes.{Appends-nil, Appends-trans}
-use Rattle.message.proofs.Beginnings.{begins_all, none_waits}
+use Rattle.message.proofs.Beginnings.{begins_all, begins_longer, none_waits}
 use Rattle.message.specs.Waiting.{all_output}
 use Rattle.message.specs.Writing.{AppendsBeginning}
 use Rattle.std.proofs.lemmas.Bool.{true≢false}
@@ -18,23 +18,22 @@ use Rattle.serving.specs.Progress.{ServingProgress}
 use Rattle.serving.specs.Lending.{NoneInFlight}
 use Rattle.serving.specs.Lines.{Line, answer_text}
 use Rattle.affinity.specs.declared.geometry.Geometry.{Geometry}
-use Rattle.language.specs.Lines.{lines}
-use Rattle.meaning.proofs.OutputLemmas.{joined-append}
-use Rattle.meaning.specs.Output.{IsBeginning, WritesOutput, joined, output_lines, serial_output}
+use Rattle.meaning.proofs.OutputLemmas.{begins_whole}
+use Rattle.meaning.specs.Output.{IsBeginning, WritesOutput, joined, serial_output}
 use Rattle.meaning.specs.State.{State}
 use Rattle.reorder_buffer.specs.ReorderBuffer.{can_retire}
 use Rattle.oplog.specs.Recovery.{records_in}
 use Rattle.serving.specs.Restart.{WritesBeginning}
 use Rattle.serving.specs.Serve.{HasRunWith, FailsWithoutWorkers, ServePromise}
 use Rattle.serving.specs.Runs.{HandsHaveJobs, machine_with_jobs}
-use Rattle.serving.specs.Session.{EndsBy, EndsOrDeclines, HasFinished, SessionProgress, HasHalted, HasEndedReading, CanBegin, IsServed, SessionInvariant, SessionInvariantFrom, SessionView, ReadsOrHasEnded, machine, IsSent, end_of, reported}
+use Rattle.serving.specs.Session.{EndsBy, EndsOrDeclines, HasFinished, SessionProgress, HasEndedReading, CanBegin, IsServed, SessionInvariant, SessionInvariantFrom, SessionView, ReadsOrHasEnded, machine, IsSent, end_of, reported}
 use Rattle.serving.specs.Output.{Start, start_machine}
-use Rattle.serving.specs.declared.session.Halted.{Halted}
 use Rattle.serving.specs.declared.session.ReadEnd.{ReadEnd}
 use Rattle.serving.specs.declared.session.ReadEnd.TheVariants as ends_of_reading
 use Rattle.serving.specs.declared.server.ServeFault.{ServeFault}
 use Rattle.serving.specs.declared.server.ServeFault.TheVariants as faults
-use Rattle.serving.proofs.Newlines.{both as newlines-append, in_answers, newlines}
+use Rattle.language.proofs.Newlines.{both as newlines-append, newlines}
+use Rattle.serving.proofs.Newlines.{in_answers}
 use Rattle.serving.proofs.Promises.{no_memory_ran, runs_to_device, runs_to_last_ticket, runs_to_read, runs_to_write, runs_whole}
 use Rattle.serving.proofs.Starting.{holds_at_start, starts}
 use Rattle.serving.proofs.Served.{ends_at_device, ends_at_read, ends_exhausted, ends_whole, first_answered}
@@ -49,19 +48,6 @@ all_appended (Some sent) bytes = refl
 sent_begins : (b : Bool) (waiting : List ℕ) (whole sent : Option (List ℕ)) → IsSent b waiting whole sent → AppendsBeginning whole sent waiting
 sent_begins true waiting whole sent h = h
 sent_begins false waiting whole sent h = ([], waiting, refl, subst (λ (w : Option (List ℕ)). Appends whole w []) (sym h) (Appends-nil whole))
-
--- A beginning of the answers to the first lines is a beginning of the serial output.
-begins_serially : (g : Geometry) (start : State) (input written : List ℕ) (before new : Option (List ℕ)) → IsBeginning g start input written → AppendsBeginning before new written
-    → AppendsBeginning before new (serial_output g start input)
-begins_serially g start input written before new first b =
-    let ls = output_lines g start (lines input) in
-    let rest = joined (drop first.0 ls) in (
-      b.0,
-      b.1 ++ rest,
-      ap joined (sym (take-append-drop first.0 ls)) ∙ joined-append (take first.0 ls) (drop first.0 ls)
-          ∙ ap (λ (l : List ℕ). l ++ rest) (sym first.1 ∙ b.2) ∙ append_assoc b.0 b.1 rest,
-      b.3,
-    )
 
 -- After what was sent whole, the answers that wait were sent in part: that is a beginning of both.
 -- Of n lines whose answers wait, those that end behind that beginning have a slot each, and at least all slots but n are left.
@@ -90,7 +76,8 @@ module _ (before whole sent : Option (List ℕ)) (waiting text : List ℕ) (n sl
       → WritesOutput input before (all_output whole waiting) (IsBeginning g start) → IfSome input (λ bytes. AppendsBeginning before sent (serial_output g start bytes))
   serially g start b h None first = tt
   serially g start b h (Some bytes) first =
-      begins_serially g start bytes first.0 before sent first.2 (begins_all text waiting first.0 before whole sent grown first.1 (sent_begins b waiting whole sent h))
+      let all = begins_whole g start bytes first.0 first.2 in
+      begins_longer before sent first.0 all.0 (serial_output g start bytes) all.1 (begins_all text waiting first.0 before whole sent grown first.1 (sent_begins b waiting whole sent h))
 
 -- What a server promises at its end: of the run that led there (given what `know_recovery` ensures of the core), and of that end.
 pub record PromisesAll (keeps : Type 0) (start : MachineView) (new : CoreView) (x : Exchange) (result : Result (Unit {0}) ServeFault) : Type 0 where
@@ -210,36 +197,24 @@ pub promises_from : {keeps : Type 0} {s : Start} {old p now : SessionView} → S
 promises_from {old} u is at result e = promises_or_declines u at result (subst (λ (p : SessionView). EndsOrDeclines old p result) (sym is) e)
 
 -- Where each line that was read is answered and nothing has failed, the session ends with what is reported for its `read_end`.
-ended_for : (keeps : Type 0) (o : Option Start) (p : SessionView) → SessionInvariantFrom keeps o p → IsServed p → (read_end : ReadEnd) → p.read_end ≡ Some read_end
-    → EndsBy p (end_of read_end)
-ended_for keeps None p u served read_end is = absurd u
-ended_for keeps (Some s) p u served ends_of_reading.DeviceFailed is = absurd (true≢false (sym (stopped u is).why ∙ served.works))
-ended_for keeps (Some s) p u served read_end is = (served, is)
+ended_for : (p : SessionView) → IsServed p → (read_end : ReadEnd) → read_end ≢ ends_of_reading.DeviceFailed → p.read_end ≡ Some read_end → EndsBy p (end_of read_end)
+ended_for p served ends_of_reading.DeviceFailed possible is = absurd (possible refl)
+ended_for p served read_end possible is = (served, is)
 
 empties_for : (read_end : ReadEnd) (P : Type 0) → (read_end ≡ ends_of_reading.EndOfInput → P) → OnOk (end_of read_end) P
 empties_for ends_of_reading.EndOfInput P emptied = emptied refl
 empties_for read_end P emptied = tt
 
--- By the result of `finish`: the session has finished, or it has halted.
-module _ (keeps : Type 0) (p : SessionView) (same : Type 0) where
-  pub finished : {read_end : ReadEnd} (r : Result (Unit {0}) Halted) → p.read_end ≡ Some read_end
-      → OnOk r ((p.reorder_buffer.lines ≡ []) × (p.reply_buffer ≡ []) × (p.output_failed ≡ false)) → OnOk r (p.core.failed ≡ false)
-      → OnOk r (read_end ≡ ends_of_reading.EndOfInput → keeps → records_in p.core.geometry p.core.medium.now ≡ []) → MatchResult r (λ _. same) (λ _. HasHalted p)
-      → MatchResult r (λ _. (x : ReadEnd) × HasFinished keeps p x) (λ _. HasHalted p)
-  finished {read_end} (Ok x) is all works emptied moves =
-      (read_end, record { is = is; served = record { all_retired = all.0; flushed = all.1; works = works; output_works = all.2 }; emptied = emptied })
-  finished (Err h) is all works emptied moves = moves
-
-so_if : {A : Type 0} (o : Option A) (x : A) (P : A → Type 0) → o ≡ Some x → IfSome o P → P x
-so_if o x P is h = subst (λ (o : Option _). IfSome o P) is h
-
 -- A session that has answered every line returns the result for the reason why it stopped reading (`read_end`).
-pub ends_finished : (keeps : Type 0) (o : Option Start) (p : SessionView) → SessionInvariantFrom keeps o p → (read_end : ReadEnd) → HasFinished keeps p read_end
-    → (result : Result (Unit {0}) ServeFault) → IfSome p.read_end (λ why. result ≡ end_of why)
-    → EndsBy p result × OnOk result (keeps → records_in p.core.geometry p.core.medium.now ≡ [])
-ends_finished keeps o p u read_end f result reported =
-    rw (so_if p.read_end read_end (λ (why : ReadEnd). result ≡ end_of why) f.is reported)
-    (ended_for keeps o p u f.served read_end f.is, empties_for read_end (keeps → records_in p.core.geometry p.core.medium.now ≡ []) f.emptied)
+pub ends_finished : (keeps : Type 0) (p : SessionView) (read_end : ReadEnd) → HasFinished keeps p read_end
+    → EndsBy p (end_of read_end) × OnOk (end_of read_end) (keeps → records_in p.core.geometry p.core.medium.now ≡ [])
+ends_finished keeps p read_end f =
+    (ended_for p f.served read_end f.possible f.is, empties_for read_end (keeps → records_in p.core.geometry p.core.medium.now ≡ []) f.emptied)
+
+-- Where reading ended by a failure of the device, the device has failed.
+pub ended_by_device : (keeps : Type 0) (o : Option Start) (p : SessionView) → SessionInvariantFrom keeps o p → p.read_end ≡ Some ends_of_reading.DeviceFailed → p.core.failed ≡ true
+ended_by_device keeps None p u is = absurd u
+ended_by_device keeps (Some s) p u is = (stopped u is).why
 
 -- With all workers started, a session ends with what is reported (`EndsBy`); if one could not be started, the session is as it was.
 reported_so : (old p : SessionView) (F : Type 0) (r : Result (Result (Unit {0}) ServeFault) F) → IfOk r (λ end. EndsBy p end) → OnErr r (p ≡ old)

@@ -1,11 +1,11 @@
 -- How many messages wait or are held: as many more as arrive, and as many fewer as are answered.
-use Rattle.std.proofs.Common.{◌≡◌, ◌+◌, List, [], ◌∷◌, ◌++◌, ap, length, arith, ℕ}
+use Rattle.std.proofs.Common.{◌≡◌, ◌+◌, List, [], ◌∷◌, ap, length, arith, ℕ}
 use Rattle.std.specs.Prelude.{◌==◌}
 use Rattle.std.proofs.lemmas.List.{length-append}
 use Rattle.language.specs.declared.Reply.{Reply}
 use Rattle.histories.proofs.Full.{length-picked}
 use Rattle.affinity.specs.declared.geometry.Geometry.{Geometry}
-use Rattle.histories.specs.CoreState.{Replied, CoreState, entries, Entry}
+use Rattle.histories.specs.CoreState.{Replied, CoreState, Entry}
 use Rattle.histories.specs.Eligible.{is_eligible}
 use Rattle.histories.specs.Events.{MachineState, Event, give_back}
 use Rattle.histories.specs.Runs.{IsLegal, answered, arrived, end_state}

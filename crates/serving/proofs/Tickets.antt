@@ -6,7 +6,7 @@ use Rattle.histories.proofs.Ways.{Passed, Way, ways}
 use Rattle.histories.proofs.Ways as way
 use Rattle.histories.specs.Events.{Event, MachineState}
 use Rattle.histories.specs.Runs.{IsLegal, arrived, arrives, end_state}
-use Rattle.histories.specs.CoreState.{Entry, CoreState}
+use Rattle.histories.specs.CoreState.{Entry}
 use Rattle.incarnations.specs.Machine.{MachineView, machine_of}
 use Rattle.incarnations.specs.DeviceEvents.{events_of}
 use Rattle.language.specs.declared.Msg.{Msg}

@@ -1,6 +1,6 @@
 -- Statement for operators: A segment of a server's run: its machine (the core; its hands are the bench's places, with the jobs lent there)
 -- before and after, and what a crash meanwhile may leave.
-use Rattle.std.specs.Prelude.{◌≡◌, ◌+◌, ℕ, List, [], map, length, count_by, Option, Some, None}
+use Rattle.std.specs.Prelude.{◌≡◌, ◌+◌, ℕ, List, [], map, length, count_by, Option}
 use Rattle.std.specs.Option.{option_map_or}
 use Rattle.histories.specs.Runs.{answered, arrived}
 use Rattle.histories.specs.CoreState.{Entry, CoreState, held}

@@ -1,5 +1,5 @@
 -- Inner: The state of a session, its invariant since its start, and how a call moves it.
-use Rattle.std.specs.Prelude.{◌≡◌, ◌≢◌, ◌+◌, ◌<◌, ◌≤◌, ◌-◌, ◌^◌, ℕ, Bool, true, false, List, [], ◌++◌, length, map, Option, Some, None, IfSome, IsSomeAnd, IsTrue, OnErr, MatchResult, Result, Ok, Err}
+use Rattle.std.specs.Prelude.{◌≡◌, ◌≢◌, ◌+◌, ◌<◌, ◌≤◌, ◌-◌, ◌^◌, ℕ, Bool, true, false, List, [], ◌++◌, length, map, Option, Some, None, IfSome, IsSomeAnd, IsTrue, OnErr, MatchResult, Result, Ok, Err, MatchOption}
 use Rattle.std.specs.Io.KnownBytes.{IsAtEnd}
 use Rattle.affinity.specs.declared.geometry.Geometry.{Geometry}
 use Rattle.histories.specs.CoreState.{held}
@@ -106,8 +106,7 @@ pub record HasEndedReading (keeps : Type 0) (s : Start) (p : SessionView) (read_
 
 -- A legal run has led to this session, which still reads, or reads no more for this reason.
 abbrev pub ReadsOrHasEnded : Type 0 → Start → SessionView → Option ReadEnd → Type 0
-ReadsOrHasEnded keeps s p None = SessionProgress keeps s p p.unread p.drained
-ReadsOrHasEnded keeps s p (Some read_end) = HasEndedReading keeps s p read_end
+ReadsOrHasEnded keeps s p read_end = MatchOption read_end (SessionProgress keeps s p p.unread p.drained) (HasEndedReading keeps s p)
 
 -- No message was in the core or its `doubt` at the start.
 pub record IsIdleStart (s : Start) : Type 0 where
@@ -242,6 +241,7 @@ pub record IsServed (p : SessionView) : Type 0 where
 pub record HasFinished (keeps : Type 0) (p : SessionView) (read_end : ReadEnd) : Type 0 where
   pub is : p.read_end ≡ Some read_end
   pub served : IsServed p
+  pub possible : read_end ≢ ends_of_reading.DeviceFailed
   pub emptied : read_end ≡ ends_of_reading.EndOfInput → keeps → records_in p.core.geometry p.core.medium.now ≡ []
 
 -- what the server reports where no more was read for this reason, and each line that was read is answered

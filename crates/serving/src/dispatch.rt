@@ -38,42 +38,45 @@ const MAX_POLLS: usize = 16384;
 /// The thread yields the processor once in this many polls.
 const POLLS_PER_YIELD: usize = 32;
 
-/// What was collected in one iteration. `budget` falls with each message, so collecting ends; no contract says that it begins at `BATCH`.
+/// What was collected in one iteration, `BATCH` messages at most.
 #[derive(Clone, Copy)]
 struct Batch {
-    /// How many more messages may be collected before what ran is logged.
-    budget: usize,
+    /// How many messages were collected.
+    collected: usize,
     /// Whether one of the collected messages changed something, so that it has to be written to the log.
     changed: bool,
 }
 
 impl Batch {
     /// A batch in which nothing was collected yet.
-    fn new() -> Batch {
+    fn new() -> Batch
+        ensures { result.collected ≡ 0 }
+    {
         Batch {
-            budget: BATCH,
+            collected: 0,
             changed: false,
         }
     }
 
     /// Counts a message that was collected: `changed` is whether it changed something.
     fn add(&mut self, changed: bool)
-        ensures { self.new.budget ≡ self.old.budget - 1 }
+        requires { self.old.collected < BATCH }
+        ensures { self.new.collected ≡ self.old.collected + 1 }
     {
-        self.budget = self.budget.saturating_sub(1);
+        self.collected += 1;
         self.changed = self.changed || changed;
     }
 
     /// Whether something was collected.
     fn has_results(&self) -> bool {
-        self.budget < BATCH
+        self.collected > 0
     }
 
     /// Whether the batch is full: what ran is to be logged before more is collected.
     fn is_full(&self) -> bool
-        ensures { IsTrue result ↔ (self.now.budget ≡ 0) }
+        ensures { IsTrue result ↔ (BATCH ≤ self.now.collected) }
     {
-        self.budget == 0
+        self.collected >= BATCH
     }
 
     /// Whether the batch is to be logged now: it is full, or it has results of which none needs a write to the log. In both cases waiting
@@ -201,8 +204,9 @@ impl<'c, R: Read, D: Disk, L: ReplySink<D>> Session<'c, R, D, L> {
     fn collect_delivered(&mut self, batch: &mut Batch) -> bool
         ensures moves { HasMoved self.old self.new }
         ensures failed { self.new.core.failed ≡ self.old.core.failed }
-        ensures budget { batch.new.budget ≤ batch.old.budget }
-        ensures less { IsTrue result → batch.new.budget < batch.old.budget }
+        ensures as_many { batch.old.collected ≤ batch.new.collected }
+        ensures more { IsTrue result → batch.old.collected < batch.new.collected }
+        ensures few { batch.old.collected ≤ BATCH → batch.new.collected ≤ BATCH }
         ensures none { IsFalse result → self.new ≡ self.old }
     {
         let mut came = false;
@@ -301,13 +305,6 @@ impl<'c, R: Read, D: Disk, L: ReplySink<D>> Session<'c, R, D, L> {
             self.flush_replies()?;
         }
         Ok(moved)
-    }
-
-    /// Whether the lines with unsent answers are at least half of those that may be outstanding. The answers are sent then, so that new
-    /// lines can be read while the other lines are in progress.
-    fn is_half_unsent(&self) -> bool {
-        let slots = self.reorder_buffer.slots();
-        self.outstanding.saturating_sub(self.reorder_buffer.len()) >= slots - slots / 2
     }
 
     /// Called where nothing was read or collected, or the session has caught up. It sends the answers that wait. If a buffered line may

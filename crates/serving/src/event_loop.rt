@@ -2,10 +2,9 @@
 //! failed, jobs in flight are waited for and their results collected; what ran is logged if the device works, and the answers next in order
 //! are sent if the output works.
 
-ghost use Rattle.std.specs.Prelude.{◌≡◌, Err, IfSome, MatchResult, None, OnOk, Some, [], false};
+ghost use Rattle.std.specs.Prelude.{◌≡◌, ◌≢◌, Err, IfSome, MatchResult, None, OnOk, Some, [], false};
 ghost use Rattle.oplog.specs.Recovery.{records_in};
 ghost use Rattle.serving.specs.Session.{EndsBy, HasFinished, HasHalted, HasReadNothing, IsSessionStep, end_of};
-ghost use Rattle.serving.specs.declared.session.ReadEnd.{ReadEnd};
 ghost use Rattle.serving.specs.declared.session.ReadEnd.TheVariants as ends_of_reading;
 
 use crate::gated_runtime::GatedRuntime;
@@ -17,15 +16,15 @@ use std::io::Read;
 use std::sync::Wait;
 use workers::{DispatcherTask, Gate};
 
-/// What a server reports where it read no more for this reason: no fault at the end of the input. Without a reason it reports none either.
-fn reported_for(read_end: Option<ReadEnd>) -> Result<(), ServeFault>
-    ensures { IfSome read_end (λ why. result ≡ end_of why) }
+/// What a server reports where it read no more for this reason: no fault at the end of the input.
+fn reported_for(read_end: ReadEnd) -> Result<(), ServeFault>
+    ensures { result ≡ end_of read_end }
 {
     match read_end {
-        Some(ReadEnd::EndOfInput) | None => Ok(()),
-        Some(ReadEnd::ReadFailed) => Err(ServeFault::Read),
-        Some(ReadEnd::TicketsExhausted) => Err(ServeFault::Exhausted),
-        Some(ReadEnd::DeviceFailed) => Err(ServeFault::Device),
+        ReadEnd::EndOfInput => Ok(()),
+        ReadEnd::ReadFailed => Err(ServeFault::Read),
+        ReadEnd::TicketsExhausted => Err(ServeFault::Exhausted),
+        ReadEnd::DeviceFailed => Err(ServeFault::Device),
     }
 }
 
@@ -64,34 +63,38 @@ impl<'c, R: Read, D: Disk, L: ReplySink<D>> Session<'c, R, D, L> {
     fn finish(&mut self, read_end: ReadEnd) -> Result<(), Halted>
         requires all_retired { self.old.reorder_buffer.lines ≡ [] }
         requires none { self.old.core.pieces_left ≡ None }
+        requires read_end { self.old.read_end ≡ Some read_end }
         ensures session_step { IsSessionStep self.old self.new result }
         ensures all { OnOk result ((self.new.reorder_buffer.lines ≡ []) × (self.new.reply_buffer ≡ []) × (self.new.output_failed ≡ false)) }
         ensures works { OnOk result (self.new.core.failed ≡ false) }
         ensures emptied { OnOk result (read_end ≡ ends_of_reading.EndOfInput → D.keeps
             → records_in self.new.core.geometry self.new.core.medium.now ≡ []) }
+        ensures possible { OnOk result (read_end ≢ ends_of_reading.DeviceFailed) }
     {
         if self.core.failed() {
             return Err(Halted);
         }
         self.flush_replies()?;
-        // `DeviceFailed` doesn't come here: the test above has halted.
         match read_end {
             ReadEnd::EndOfInput => or_halt(self.core.point()),
-            ReadEnd::ReadFailed | ReadEnd::TicketsExhausted | ReadEnd::DeviceFailed => Ok(()),
+            ReadEnd::ReadFailed | ReadEnd::TicketsExhausted => Ok(()),
+            // The test above has halted.
+            ReadEnd::DeviceFailed => unreachable!(),
         }
     }
 
-    /// Reads lines and answers them, until no more is read and the reply to each line that was read is sent. It waits for input only while
-    /// no line is unanswered (`read_more`).
-    fn serve_lines<W: GatedRuntime>(&mut self, rt: &W) -> Result<(), Halted>
-        ensures served { MatchResult result (λ _. (read_end : ReadEnd) × HasFinished D.keeps self.new read_end) (λ _. HasHalted self.new) }
+    /// Reads lines and answers them, until no more is read and the reply to each line that was read is sent: gives why no more is read.
+    /// It waits for input only while no line is unanswered (`read_more`).
+    fn serve_lines<W: GatedRuntime>(&mut self, rt: &W) -> Result<ReadEnd, Halted>
+        ensures served { MatchResult result (HasFinished D.keeps self.new) (λ _. HasHalted self.new) }
     {
         let mut last = Activity::Busy;
         for _ in rt.forever() {
             let read = self.read_more(last);
             let ended = self.ended();
             if let Some(read_end) = ended {
-                return self.finish(read_end);
+                self.finish(read_end)?;
+                return Ok(read_end);
             }
             last = self.advance(rt, read)?;
         }
@@ -115,7 +118,7 @@ impl<'c, R: Read, D: Disk, L: ReplySink<D>> DispatcherTask<Result<(), ServeFault
     fn run_task<T: Wait, G: Gate>(&mut self, rt: &T, gate: &G) -> Result<(), ServeFault> {
         let rt = &(rt, gate);
         match self.serve_lines(rt) {
-            Ok(()) => reported_for(self.read_end),
+            Ok(read_end) => reported_for(read_end),
             Err(_) => Err(self.end_early(rt)),
         }
     }

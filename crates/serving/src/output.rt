@@ -105,6 +105,13 @@ impl<'c, R: Read, D: Disk, L: ReplySink<D>> Session<'c, R, D, L> {
         }
     }
 
+    /// Whether the lines with unsent answers are at least half of those that may be outstanding. The answers are sent then, so that new
+    /// lines can be read while the other lines are in progress.
+    pub(crate) fn is_half_unsent(&self) -> bool {
+        let slots = self.reorder_buffer.slots();
+        self.outstanding.saturating_sub(self.reorder_buffer.len()) >= slots - slots / 2
+    }
+
     /// Retires the oldest line of the reorder buffer, if its answer is known: the answer goes into the reply buffer. Returns whether it
     /// did.
     fn retire_first(&mut self) -> Result<bool, Halted>

@@ -2,6 +2,7 @@
 use Rattle.std.proofs.Common.{◌≡◌, ◌<◌, ◌≤◌, ◌-◌, length}
 use Rattle.std.specs.Prelude.{IsFalse, IsTrue}
 use Rattle.serving.specs.Session.{HasMoved}
+use Rattle.serving.specs.declared.dispatch.TheConstants.{BATCH}
 use Rattle.serving.proofs.session.Session.collect_delivered.Given as goal
 
 abbrev pub invariant-loop-k : goal.invariant-loop-k
@@ -9,8 +10,9 @@ invariant-loop-k g l = record {
   moves : HasMoved l.initial.self l.self;
   places : length l.self.dispatch_seat.lent ≡ length l.initial.self.dispatch_seat.lent;
   failed : l.self.core.failed ≡ l.initial.self.core.failed;
-  budget : l.batch.budget ≤ l.initial.batch.budget;
-  less : IsTrue l.came → l.batch.budget < l.initial.batch.budget;
+  as_many : l.initial.batch.collected ≤ l.batch.collected;
+  more : IsTrue l.came → l.initial.batch.collected < l.batch.collected;
+  few : l.initial.batch.collected ≤ BATCH → l.batch.collected ≤ BATCH;
   none : IsFalse l.came → l.self ≡ l.initial.self;
 }
 

@@ -1,13 +1,16 @@
 -- The session keeps its invariant; its reorder buffer is still empty when the last checkpoint is made, which fails only where the device
 -- fails.
-use Rattle.std.proofs.Common.{◌≡◌, ap, refl, ◌∙◌}
+use Rattle.std.proofs.Common.{◌≡◌, Some, ap, refl, sym, ◌∙◌}
+use Rattle.std.proofs.lemmas.Bool.{true≢false}
 use Rattle.reorder_buffer.specs.ReorderBuffer.{ReorderBufferView}
 use Rattle.scheduler.proofs.Called.{point_called}
 use Rattle.scheduler.specs.CoreView.{CoreView, core_state_of}
+use Rattle.serving.proofs.Closing.{ended_by_device}
 use Rattle.serving.proofs.Segments.{point_is_quiet}
 use Rattle.serving.proofs.Pointing.{halts_so, point_fails}
 use Rattle.serving.proofs.Invariant.{holds_of, idle_of, on_machine}
 use Rattle.serving.specs.Session.{SessionView}
+use Rattle.serving.specs.declared.session.ReadEnd.{ReadEnd}
 use Rattle.serving.proofs.session.Session.finish.Goals as goal
 
 pub invariant_of-self : goal.invariant_of-self
@@ -31,3 +34,9 @@ returns-in-EndOfInput-clause-session_step g c =
           (core_state_of c.point.new.self ≡ record (core_state_of c.self-2.inside.core) { room = c.self-2.inside.core.geometry.half }) idle.none_held c.point.result
           c.point.ensures.state_after),
     )
+
+-- reading doesn't end by a failure of the device while the device works
+pub unreachable-requires : goal.unreachable-requires
+unreachable-requires g c =
+    let read_end = ap (λ (p : SessionView). p.read_end) c.self.view_is ∙ c.requires.read_end ∙ ap (λ (e : ReadEnd). Some e) c.in-DeviceFailed.is in
+    true≢false (sym (ended_by_device g.D.Disk.keeps _ _ c.self.invariant.run read_end) ∙ sym c.failed.ensures ∙ c.if-failed.false)

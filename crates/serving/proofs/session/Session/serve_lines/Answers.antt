@@ -1,11 +1,15 @@
--- By the result of `finish`: each line that was read is answered and nothing has failed, or the session has halted.
+-- Where `finish` succeeds, each line that was read is answered and nothing has failed.
 use Rattle.std.proofs.Common.{◌∙◌}
-use Rattle.serving.proofs.Closing.{finished}
 use Rattle.serving.proofs.session.Session.serve_lines.Goals as goal
 
 pub returns-in-Some-ended : goal.returns-in-Some-ended
 returns-in-Some-ended g c =
-    let done = c.finish.ensures in
+    let done = c.in_ok-finish.ensures in
     record {
-      served = finished g.D.Disk.keeps _ _ c.finish.result (done.session_step.0 ∙ c.in-Some-ended.ensures.0) done.all done.works done.emptied done.session_step.1;
+      served = record {
+        is = c.finish.ensures.session_step.0 ∙ c.in-Some-ended.ensures.0;
+        served = record { all_retired = done.all.0; flushed = done.all.1; works = done.works; output_works = done.all.2 };
+        possible = done.possible;
+        emptied = done.emptied;
+      };
     }
