@@ -1,10 +1,11 @@
 -- Words (the arguments) that are refused ask for nothing, and a command has one name.
 use Rattle.std.proofs.Common.{arith}
 use Rattle.std.proofs.lemmas.Grind.{common_steps}
-use Rattle.std.proofs.Common.{◌≡◌, ◌∙◌, sym, subst, inl, inr, List, [], ◌∷◌, true, Option}
+use Rattle.std.proofs.Common.{◌≡◌, ◌∙◌, sym, subst, inl, inr, List, [], ◌∷◌, false, true, Option, codes}
 use Rattle.std.specs.List.{list_all}
 use Rattle.std.proofs.lemmas.Bool.{and_parts}
 use Rattle.std.proofs.lemmas.Option.{same_Some}
+use Rattle.std.proofs.lemmas.Slice.Eq.{bytes_eq-Decides}
 use Rattle.affinity.specs.Limits.{AreInRange}
 use Rattle.clap.specs.Words.{IsAmong, Kinds, Row, Text, kind_of}
 use Rattle.clap.specs.declared.error.Error.{Error}
@@ -35,6 +36,10 @@ ask_for_nothing words _ asks (inl wrong) = wrong.0 asks.0
 -- a command has one name
 pub two_names : (name other : Text) (command : Option (Text × List Row)) → IsNamed name command → IsNamed other command → name ≡ other
 two_names name other command named called = same_Some _ _ (sym named ∙ called)
+
+-- `plain` and `serve` differ, though they are of one length
+pub plain_is_not_serve : codes "plain" ≡ codes "serve" → ⊥
+plain_is_not_serve same = let equal : false ≡ true = (bytes_eq-Decides (codes "plain") (codes "serve")).1 same in cc
 
 -- words in which `clap` finds nothing are not refused for a mistake
 pub no_mistake : (words : List Text) (error : Error) → findings words ≡ [] → IsReason words (by_words error) → ⊥

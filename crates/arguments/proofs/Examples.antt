@@ -1,37 +1,30 @@
 -- What words that are written out ask for. The program's own name is any text.
-use Rattle.std.proofs.Common.{◌≡◌, ℕ, List, [], ◌∷◌, Option, Some, codes, refl, ap, sym, subst, lit≤, arith, ◌≤◌}
+use Rattle.std.proofs.Common.{◌≡◌, ℕ, List, [], ◌∷◌, codes, refl, sym, subst, lit≤, arith, ◌≤◌}
+use Rattle.std.proofs.lemmas.Option.{same_Some}
 use Rattle.affinity.specs.Geometry.{default_geometry}
 use Rattle.clap.proofs.OnLiterals.{clap_on_literals}
 use Rattle.arguments.specs.Arguments.{AsksFormat, AsksHelp, RunsNoCommand, AsksOutOfRange, AsksPlain, AsksServeWith, AsksShow, AsksVersion, IsWrong}
-
--- the first letter of a name: two names with different ones differ
-abbrev first_letter : Option (List ℕ) → ℕ
-first_letter (Some (letter ∷ name)) = letter
-first_letter _ = 0
-
--- the first letters of `plain` and `serve` differ
-plain_is_another : ◌≡◌ {A = ℕ} 112 115 → ⊥
-plain_is_another letter = absurd (omega (arith, letter))
+use Rattle.arguments.proofs.Asking.{plain_is_not_serve}
 
 pub asks_plain : (program : List ℕ) → AsksPlain (program ∷ codes "plain" ∷ []) default_geometry
 unfolding clap_on_literals
-asks_plain program = (refl, (λ e. cc, λ e. cc, λ e. plain_is_another (ap first_letter e)), refl)
+asks_plain program = (refl, refl, refl)
 
 pub asks_alone : (words : List (List ℕ)) (program : List ℕ) → words ≡ program ∷ codes "plain" ∷ [] → AsksPlain words default_geometry
 asks_alone words program are = subst (λ (ws : List (List ℕ)). AsksPlain ws default_geometry) (sym are) (asks_plain program)
 
 pub asks_two_files : (program : List ℕ) → AsksPlain (program ∷ codes "plain" ∷ codes "--files" ∷ codes "2" ∷ []) (record default_geometry { files = 2; files_range = (lit≤ tt, lit≤ tt) })
 unfolding clap_on_literals
-asks_two_files program = (refl, (λ e. cc, λ e. cc, λ e. plain_is_another (ap first_letter e)), refl)
+asks_two_files program = (refl, refl, refl)
 
 pub asks_two_files_at_once : (program : List ℕ) → AsksPlain (program ∷ codes "plain" ∷ codes "--files=2" ∷ []) (record default_geometry { files = 2; files_range = (lit≤ tt, lit≤ tt) })
 unfolding clap_on_literals
-asks_two_files_at_once program = (refl, (λ e. cc, λ e. cc, λ e. plain_is_another (ap first_letter e)), refl)
+asks_two_files_at_once program = (refl, refl, refl)
 
 pub asks_short_half : (program : List ℕ) → AsksOutOfRange (program ∷ codes "plain" ∷ codes "--half" ∷ codes "3" ∷ [])
 unfolding clap_on_literals
 asks_short_half program =
-    (refl, (λ e. cc, λ e. plain_is_another (ap first_letter e), λ in_range. let least : 4 ≤ 3 = in_range.7.0 in absurd (omega (arith, least))))
+    (refl, (λ e. cc, λ e. plain_is_not_serve (same_Some _ _ e), λ in_range. let least : 4 ≤ 3 = in_range.7.0 in absurd (omega (arith, least))))
 
 pub asks_help : (program : List ℕ) → AsksHelp (program ∷ codes "--help" ∷ [])
 unfolding clap_on_literals

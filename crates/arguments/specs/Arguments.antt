@@ -2,6 +2,7 @@
 -- `App` is a command with its subcommands (its `top` is the command without them), a `Rule` one argument or option that it takes, and a
 -- `Row` one that was given, with its values.
 use Rattle.std.specs.Prelude.{◌≡◌, ◌≢◌, ◌&&◌, ◌⊎◌, ℕ, Bool, true, false, List, [], ◌∷◌, fold, length, Option, Some, None, option_and_then, option_map, unwrap_or, Result, Ok, Err, codes, if◌then◌else◌, nat_lt, ℤ, pos}
+use Rattle.std.specs.Option.{option_map_or}
 use Rattle.std.specs.Char.{digit_value}
 use Rattle.std.specs.List.{list_all}
 use Rattle.std.specs.Str.Parse.{digits_value, without_leading_plus}
@@ -127,14 +128,14 @@ command_of words = subcommand_of waffd words
 abbrev pub IsNamed : Text → Option (Text × List Row) → Type 0
 IsNamed name command = option_map (λ c. c.0) command ≡ Some name
 
--- The command is `plain`: it is none of the others. Arguments that name no command are refused before.
-abbrev pub IsPlain : Option (Text × List Row) → Type 0
-IsPlain command = (¬ (IsNamed (codes "format") command)) × (¬ (IsNamed (codes "show") command)) × (¬ (IsNamed (codes "serve") command))
+-- There is a command, one of the four.
+abbrev pub NamesCommand : Option (Text × List Row) → Type 0
+NamesCommand command = IsNamed (codes "plain") command ⊎ IsNamed (codes "format") command ⊎ IsNamed (codes "show") command
+    ⊎ IsNamed (codes "serve") command
 
 -- the options that are given to the command
 abbrev pub given_to : Option (Text × List Row) → List Row
-given_to None = []
-given_to (Some command) = command.1
+given_to command = option_map_or (λ c. c.1) command []
 
 -- The result is the geometry of these numbers, or they are refused because one is out of range.
 abbrev pub GivesGeometry : List ℕ → Result Geometry ArgumentRefusal → Type 0
@@ -143,7 +144,7 @@ GivesGeometry numbers (Err refusal) = (refusal ≡ GeometryOutOfRange) × (¬ (A
 
 -- The result is the request that the command makes, or why there is none.
 abbrev pub IsRequested : Option (Text × List Row) → Result Request ArgumentRefusal → Type 0
-IsRequested command (Ok (Plain g)) = IsPlain command × (numbers_of g ≡ numbers_in (given_to command))
+IsRequested command (Ok (Plain g)) = IsNamed (codes "plain") command × (numbers_of g ≡ numbers_in (given_to command))
 IsRequested command (Ok (Format path g)) = IsNamed (codes "format") command × (path.now ≡ device_in (given_to command))
     × (numbers_of g ≡ numbers_in (given_to command))
 IsRequested command (Ok (Show path)) = IsNamed (codes "show") command × (path.now ≡ device_in (given_to command))
@@ -155,7 +156,8 @@ IsRequested command _ = ⊥
 
 -- The arguments ask for service without a device at this geometry.
 abbrev pub AsksPlain : List Text → Geometry → Type 0
-AsksPlain words g = (findings words ≡ []) × IsPlain (command_of words) × (numbers_of g ≡ numbers_in (given_to (command_of words)))
+AsksPlain words g = (findings words ≡ []) × IsNamed (codes "plain") (command_of words)
+    × (numbers_of g ≡ numbers_in (given_to (command_of words)))
 
 -- The arguments ask for a device of this geometry in the file of this path.
 abbrev pub AsksFormat : List Text → Text → Geometry → Type 0

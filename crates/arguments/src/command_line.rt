@@ -1,7 +1,7 @@
 //! The arguments that the program is called with, and what they ask for.
 ghost use Rattle.std.specs.Prelude.{◌≡◌, IfOk, IfErr, false, map, pos, string_bytes};
 ghost use Rattle.clap.specs.Words.{app_of, found_of, rows_of, rule_of, subcommand_rows_of};
-ghost use Rattle.arguments.specs.Arguments.{Asks, GivesGeometry, IsReason, IsRequested, answer_of, device_in, device_rule, number_in, numbers_in, rule_within, service_in, service_numbers, waffd, bare};
+ghost use Rattle.arguments.specs.Arguments.{Asks, GivesGeometry, IsReason, IsRequested, NamesCommand, answer_of, device_in, device_rule, number_in, numbers_in, rule_within, service_in, service_numbers, waffd, bare};
 ghost use Rattle.arguments.specs.Tables.{command_app, with_commands, with_options};
 ghost use Rattle.arguments.specs.declared.command_line.ArgumentRefusal.TheVariants.{OutOfMemory};
 
@@ -312,6 +312,7 @@ fn device_given<'a>(options: &ArgMatches<'a>) -> &'a str
 
 /// What the arguments ask for, where `clap` found nothing wrong with them.
 fn requested<'a>(matches: &ArgMatches<'a>) -> Result<Request<'a>, ArgumentRefusal>
+    requires { NamesCommand (subcommand_rows_of matches.now) }
     ensures { IsRequested (subcommand_rows_of matches.now) result }
 {
     match matches.subcommand() {
@@ -324,9 +325,9 @@ fn requested<'a>(matches: &ArgMatches<'a>) -> Result<Request<'a>, ArgumentRefusa
             device_given(options),
             service_given(options),
         )),
-        Some((_plain, options)) => Ok(Request::Plain(geometry_given(options)?)),
-        // This is never the case: arguments that name no command are refused before.
-        None => Ok(Request::Plain(Geometry::default())),
+        Some(("plain", options)) => Ok(Request::Plain(geometry_given(options)?)),
+        // Arguments that name no command, or another one, were refused before.
+        _ => unreachable!(),
     }
 }
 

@@ -19,7 +19,7 @@ use Rattle.commands.proofs.Services.{service_same}
 use Rattle.commands.specs.Calls.{Ends, Exits, ExitsHelp, ExitsRefused, status_at, status_of_refusal}
 use Rattle.commands.specs.Services.{AsksServe, within_limits}
 use Rattle.commands.specs.Faults.{status_of}
-use Rattle.arguments.proofs.Asking.{no_mistake, two_names}
+use Rattle.arguments.proofs.Asking.{no_mistake, plain_is_not_serve, two_names}
 use Rattle.arguments.specs.Arguments.{Asks, AsksFormat, AsksOutOfRange, RunsNoCommand, AsksPlain, AsksShow, IsReason, command_of, findings, given_to, numbers_in}
 use Rattle.commands.specs.declared.faults.Fault.{Fault}
 use Rattle.commands.specs.declared.faults.Fault.TheVariants.{Write, OutOfMemory, Format as ByFormat, Open as ByOpen}
@@ -73,14 +73,14 @@ pub served : (arguments : List Text) (request : Request) {g : Geometry} (end : R
     → AsksPlain arguments g → Ends request end x → Exits (status_at end) (λ end. EndsInMemory g end x)
 served arguments (Plain h) {g} end {x} given asks ends =
     (end, refl, subst (λ k. EndsInMemory k end x) (geometry_same h g (given.1.1 ∙ sym asks.2)) ends)
-served arguments (Format path h) end given asks ends = absurd (asks.1.0 given.1.0)
-served arguments (Show path) end given asks ends = absurd (asks.1.1 given.1.0)
-served arguments (Serve path s) end given asks ends = absurd (asks.1.2 given.1.0)
+served arguments (Format path h) end given asks ends = let same : codes "plain" ≡ codes "format" = two_names _ _ (command_of arguments) asks.1 given.1.0 in cc
+served arguments (Show path) end given asks ends = let same : codes "plain" ≡ codes "show" = two_names _ _ (command_of arguments) asks.1 given.1.0 in cc
+served arguments (Serve path s) end given asks ends = absurd (plain_is_not_serve (two_names _ _ (command_of arguments) asks.1 given.1.0))
 served arguments (Help text) end given asks ends = absurd (subst (IsAmong (kind_of text)) asks.0 given.0)
 
 pub formatted : (arguments : List Text) (request : Request) {path : List ℕ} (g : Geometry) (end : Result (Unit {0}) Fault) {x : Exchange}
     → Asks arguments request → AsksFormat arguments path g → Ends request end x → Exits (status_at end) (λ end. EndsFormatting g end x.before x.written) × (x.remaining ≡ x.input)
-formatted arguments (Plain h) g end given asks ends = absurd (given.1.0.0 asks.1)
+formatted arguments (Plain h) g end given asks ends = let same : codes "plain" ≡ codes "format" = two_names _ _ (command_of arguments) given.1.0 asks.1 in cc
 formatted arguments (Format there h) g end {x} given asks ends =
     ((end, refl, subst (λ k. EndsFormatting k end x.before x.written) (geometry_same h g (given.1.2 ∙ sym asks.3)) ends.1), ends.0)
 formatted arguments (Show there) g end given asks ends = let same : codes "format" ≡ codes "show" = two_names _ _ (command_of arguments) asks.1 given.1.0 in cc
@@ -89,7 +89,7 @@ formatted arguments (Help text) g end given asks ends = absurd (subst (IsAmong (
 
 pub shown : (arguments : List Text) (request : Request) {path : List ℕ} (end : Result (Unit {0}) Fault) {x : Exchange} → Asks arguments request
     → AsksShow arguments path → Ends request end x → Exits (status_at end) (λ end. EndsShowing end x.before x.written) × (x.remaining ≡ x.input)
-shown arguments (Plain h) end given asks ends = absurd (given.1.0.1 asks.1)
+shown arguments (Plain h) end given asks ends = let same : codes "plain" ≡ codes "show" = two_names _ _ (command_of arguments) given.1.0 asks.1 in cc
 shown arguments (Format there h) end given asks ends = let same : codes "format" ≡ codes "show" = two_names _ _ (command_of arguments) given.1.0 asks.1 in cc
 shown arguments (Show there) end given asks ends = ((end, refl, ends.1), ends.0)
 shown arguments (Serve there s) end given asks ends = let same : codes "show" ≡ codes "serve" = two_names _ _ (command_of arguments) asks.1 given.1.0 in cc
@@ -97,7 +97,7 @@ shown arguments (Help text) end given asks ends = absurd (subst (IsAmong (kind_o
 
 pub served_on : (arguments : List Text) (request : Request) {path : List ℕ} {s : ServeOptions} (end : Result (Unit {0}) Fault) {x : Exchange}
     → Asks arguments request → AsksServe arguments path s → Ends request end x → Exits (status_at end) (λ end. EndsInFile s end x)
-served_on arguments (Plain h) end given asks ends = absurd (given.1.0.2 asks.1)
+served_on arguments (Plain h) end given asks ends = absurd (plain_is_not_serve (two_names _ _ (command_of arguments) given.1.0 asks.1))
 served_on arguments (Format there h) end given asks ends = let same : codes "format" ≡ codes "serve" = two_names _ _ (command_of arguments) given.1.0 asks.1 in cc
 served_on arguments (Show there) end given asks ends = let same : codes "show" ≡ codes "serve" = two_names _ _ (command_of arguments) given.1.0 asks.1 in cc
 served_on arguments (Serve there t) {s} end {x} given asks ends =

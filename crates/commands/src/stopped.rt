@@ -1,5 +1,5 @@
 //! The promise of a service, with the crash point as a variable: a device in memory that stops at any call, and then crashes.
-ghost use Rattle.std.specs.Prelude.{◌≡◌, ◌<◌};
+ghost use Rattle.std.specs.Prelude.{◌<◌};
 ghost use Rattle.disk.specs.Memory.{medium_of, memory_of};
 ghost use Rattle.disk.specs.Torn.{HasPattern};
 ghost use Rattle.serving.specs.Ends.{exchange};

@@ -1,20 +1,32 @@
 -- If clap takes the words, their options give the request; else its error has the kind of a finding in them.
-use Rattle.std.proofs.Common.{◌≡◌, map, string_bytes, subst, true, refl, []}
-use Rattle.clap.specs.Words.{App, HasKind, fault_of, is_simple, is_simple_and_free, subcommand_of, subcommand_rows_of}
-use Rattle.arguments.specs.Arguments.{IsRequested, findings, waffd}
+use Rattle.std.proofs.Common.{◌≡◌, map, string_bytes, subst, sym, true, refl, List, []}
+use Rattle.clap.specs.Words.{App, HasKind, HasMatchesOf, Text, fault_of, is_simple_and_free, subcommand_rows_of}
+use Rattle.clap.specs.declared.parser.matches.ArgMatches.{ArgMatches}
+use Rattle.arguments.specs.Arguments.{IsRequested, NamesCommand, command_of, findings, waffd}
+use Rattle.arguments.proofs.Named.{names_command}
 use Rattle.arguments.proofs.Reading.{Holds, holds, holds_requested, if_err, if_ok}
 use Rattle.arguments.proofs.command_line.read_arguments.Goals as goal
 
--- clap takes the words, and their options give the request
+-- clap takes the words: it finds nothing in them, and its matches are theirs
+nothing : (a : App) (words : List Text) → a ≡ waffd → (is_simple_and_free a ≡ true → fault_of a words ≡ []) → findings words ≡ []
+nothing a words is none = subst (λ b. is_simple_and_free b ≡ true → fault_of b words ≡ []) is none refl
+
+same : (a : App) (words : List Text) (matches : ArgMatches) → a ≡ waffd → HasMatchesOf a words matches → subcommand_rows_of matches ≡ command_of words
+same a words matches is given = (subst (λ b. HasMatchesOf b words matches) is given refl).1
+
+pub requested-requires : goal.requested-requires
+requested-requires c =
+    let words = map string_bytes c.args.words.now in
+    let named = names_command words (nothing _ words c.in_ok-commands.ensures c.in-Ok.ensures.kinds) in
+    subst NamesCommand (sym (same _ words _ c.in_ok-commands.ensures c.in-Ok.ensures.matches)) named
+
+-- their options give the request
 taken : (c : goal.Joined-matches) → Holds (map string_bytes c.args.words.now) c.requested.result
 taken c =
     let words = map string_bytes c.args.words.now in
-    let given = subcommand_rows_of c.in-Ok.matches in
-    let P : App → Type 0 = λ a. is_simple_and_free a ≡ true → fault_of a words ≡ [] in
-    let nothing : findings words ≡ [] = subst P c.in_ok-commands.ensures c.in-Ok.ensures.kinds refl in
-    let Q : App → Type 0 = λ a. is_simple a ≡ true → given ≡ subcommand_of a words in
-    let same : given ≡ subcommand_of waffd words = subst Q c.in_ok-commands.ensures (λ simple. (c.in-Ok.ensures.matches simple).1) refl in
-    holds_requested words c.requested.result nothing (subst (λ s. IsRequested s c.requested.result) same c.requested.ensures)
+    let given = same _ words _ c.in_ok-commands.ensures c.in-Ok.ensures.matches in
+    holds_requested words c.requested.result (nothing _ words c.in_ok-commands.ensures c.in-Ok.ensures.kinds)
+    (subst (λ s. IsRequested s c.requested.result) given c.requested.ensures)
 
 -- clap gives an error for the words
 outcome_of : (c : goal.After-outcome_of) → Holds (map string_bytes c.args.words.now) c.outcome_of.result
