@@ -1,14 +1,15 @@
 //! A second call of `serve`, on the core that the first one gave back; and one after a call for which memory was refused. The core has four
 //! slots, and is `IsIdle` where no message waits or is held. Of the arguments of `serve` the last three are the workers, after how many
-//! records a checkpoint is due (0: only where the log is full), and a hook that does nothing (`OpenGate`). `leaves` and `writes` fail the
-//! test unless the device has this area named and these numbers of volumes, files and blocks, or what was written is as wanted.
+//! records a checkpoint is due (0: only where the log is full), and a hook that does nothing (`OpenGate`). `assert_left` takes the area
+//! that the device names, and its numbers of volumes, files and blocks.
 ghost use Rattle.std.specs.Prelude.{◌≡◌, false, IfOk, IsTrue};
 ghost use Rattle.histories.specs.Laws.{IsIdle};
 ghost use Rattle.scheduler.specs.CoreView.{core_state_of};
 
-use crate::serving_images::leaves;
+use crate::assertions::assert_text;
+use crate::serving_images::assert_left;
 use crate::serving_noting::{ChunkReader, Notes};
-use crate::serving_running::{SMALL, writes};
+use crate::serving_running::SMALL;
 use disk::MemDisk;
 use harness::{Wrong, device_with};
 use scheduler::Core;
@@ -137,8 +138,8 @@ fn a_core_that_came_back_is_served_on(rt: HostRuntime) -> Result<(), Fail> {
     for &(fails, cuts, area) in &TWICE {
         for workers in [1, 2] {
             let (device, output) = serve_twice(&rt, rt.alloc(), workers, fails, cuts)?;
-            writes(&rt, output.as_slice(), ANSWERS);
-            leaves(&rt, rt.alloc(), device, area, [1, 1, 2])?;
+            assert_text(&rt, output.as_slice(), ANSWERS);
+            assert_left(&rt, rt.alloc(), device, area, [1, 1, 2])?;
         }
     }
     Ok(())
@@ -186,7 +187,7 @@ fn lines_are_served_at_the_next_try(rt: HostRuntime) -> Result<(), Fail> {
         return Err(Wrong::OutOfMemory.into());
     };
     let core = serve_at_next_try(&rt, rt.alloc(), core, &mut output)?;
-    writes(&rt, output.as_slice(), b"done\ndone\ndone\n");
-    leaves(&rt, rt.alloc(), core.into_disk(), 0, [1, 1, 1])?;
+    assert_text(&rt, output.as_slice(), b"done\ndone\ndone\n");
+    assert_left(&rt, rt.alloc(), core.into_disk(), 0, [1, 1, 1])?;
     Ok(())
 }

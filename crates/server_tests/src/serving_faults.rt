@@ -1,8 +1,9 @@
 //! Servers on devices that fail at any one call, or stop there and are torn by a crash after that. They are small (`SMALL`: one volume of
 //! two files of four blocks in two stripes, and four records in a half of the log). There are `KINDS` kinds of crash; `torn` gives what
 //! each leaves at the unsynced offsets, and `expected` what the serial server answers to questions after some changes.
+use crate::assertions::assert_true;
 use crate::serving_noting::Notes;
-use crate::serving_running::{ALL_AT_ONCE, End, Left, SMALL, Way, holds, session};
+use crate::serving_running::{ALL_AT_ONCE, End, Left, SMALL, Way, session};
 use affinity::Geometry;
 use checkpoint::OpenFault;
 use disk::MemDisk;
@@ -403,7 +404,7 @@ fn a_device_stops_with_records_in_both_halves(rt: HostRuntime) -> Result<(), Fai
         let (is_met, is_in_a_cut) = stops_in_a_cut(&rt, rt.alloc(), n)?;
         is_found = is_found || is_in_a_cut;
         if !is_met {
-            holds(&rt, is_found);
+            assert_true(&rt, is_found);
             return Ok(());
         }
     }

@@ -1,7 +1,7 @@
 //! Long lines, and what the image has when serving has ended, with several numbers of workers and slots. The server is the small one
-//! (`SMALL`): one volume of two files of four blocks, and four records in a half of the log. `holds` and `writes` fail the test unless a
-//! fact holds, or the bytes that were written are those wanted.
-use crate::serving_running::{SMALL, Way, holds, serial, serve_lines, writes};
+//! (`SMALL`): one volume of two files of four blocks, and four records in a half of the log.
+use crate::assertions::{assert_count, assert_text, assert_true};
+use crate::serving_running::{SMALL, Way, serial, serve_lines};
 use checkpoint::{OpenFault, inspect};
 use disk::MemDisk;
 use harness::{Wrong, device_with};
@@ -19,7 +19,7 @@ fn answers<T: Threads + Wait + Sync + Abort>(
     lines: &[u8],
     want: &[u8],
 ) -> Result<(), Wrong> {
-    writes(rt, serial(alloc, SMALL, lines)?.as_slice(), want);
+    assert_text(rt, serial(alloc, SMALL, lines)?.as_slice(), want);
     for workers in [1, 2, 8] {
         for slots in [1, 2, 16] {
             // `every: 0`: no checkpoint is due by a count of records.
@@ -30,7 +30,7 @@ fn answers<T: Threads + Wait + Sync + Abort>(
             };
             let device = device_with(alloc, SMALL, &[])?;
             let (_, output) = serve_lines(rt, alloc, device, way, lines)?;
-            writes(rt, output.as_slice(), want);
+            assert_text(rt, output.as_slice(), want);
         }
     }
     Ok(())
@@ -82,9 +82,9 @@ const TWO_CHANGES: &[u8] = b"makevol 0 0\ncreate 0 0 0\n";
 
 const THREE_CHANGES: &[u8] = b"makevol 0 0\ncreate 0 0 0\nwrite 0 0 0 0 61\n";
 
-/// Looks at a device on which lines were served to their end: fails the test unless this area is named, its image has version 2 and these
-/// numbers of volumes, files and blocks, and no record is in force. `Unfit` where the device is refused.
-pub(crate) fn leaves(
+/// Asserts of a device on which lines were served to their end that this area is named, its image has version 2 and these numbers of
+/// volumes, files and blocks, and no record is in force. `Unfit` where the device is refused.
+pub(crate) fn assert_left(
     rt: &impl Abort,
     alloc: Global,
     device: MemDisk,
@@ -107,8 +107,10 @@ pub(crate) fn leaves(
         files,
         blocks,
     };
-    let is_new = shown.version == 2 && shown.records == 0;
-    holds(rt, is_new && shown.area == area && shown.summary == summary);
+    assert_count(rt, shown.version as u64, 2);
+    assert_count(rt, shown.records as u64, 0);
+    assert_count(rt, shown.area as u64, area as u64);
+    assert_true(rt, shown.summary == summary);
     Ok(())
 }
 
@@ -123,7 +125,7 @@ fn all_is_in_the_image_at_the_end(rt: HostRuntime) -> Result<(), Fail> {
             };
             let device = device_with(rt.alloc(), SMALL, patches)?;
             let (device, _) = serve_lines(&rt, rt.alloc(), device, way, lines)?;
-            leaves(&rt, rt.alloc(), device, area, counts)?;
+            assert_left(&rt, rt.alloc(), device, area, counts)?;
         }
     }
     Ok(())

@@ -1,7 +1,8 @@
 //! How many lines are open, that is read and not answered in the output: no more than there are slots. The server is the small one
-//! (`SMALL`), with one volume of two files of four blocks. `holds` fails the test unless a fact holds.
+//! (`SMALL`), with one volume of two files of four blocks.
+use crate::assertions::{assert_at_most, assert_count};
 use crate::serving_noting::{Notes, Taking};
-use crate::serving_running::{SMALL, holds};
+use crate::serving_running::SMALL;
 use disk::MemDisk;
 use harness::{Wrong, device_with};
 use message::Msg;
@@ -73,10 +74,11 @@ fn no_further_line_is_read_before_an_answer_is_written(rt: HostRuntime) -> Resul
     for slots in [1, 3, 16] {
         // Before the first answer as many lines are read as there are slots.
         let (read, flushed) = stopped_at(&rt, rt.alloc(), slots, lines.as_slice(), 1)?;
-        holds(&rt, read == slots as u64 && flushed == 0);
+        assert_count(&rt, read, slots as u64);
+        assert_count(&rt, flushed, 0);
         for n in 2..CALLS {
             let (read, flushed) = stopped_at(&rt, rt.alloc(), slots, lines.as_slice(), n)?;
-            holds(&rt, read <= flushed.saturating_add(slots as u64));
+            assert_at_most(&rt, read, flushed.saturating_add(slots as u64));
         }
     }
     Ok(())

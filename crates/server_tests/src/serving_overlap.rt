@@ -1,7 +1,8 @@
 //! Which messages run at once. Here a `Gate` is a hook of the server: a worker calls `before` just before it runs a job, the dispatcher
-//! `answered` just after a message is answered. `writes` fails the test unless the bytes that were written are those wanted.
+//! `answered` just after a message is answered.
+use crate::assertions::assert_text;
 use crate::serving_noting::Notes;
-use crate::serving_running::{ALL_AT_ONCE, End, FLAT, SMALL, Way, serve_lines, session, writes};
+use crate::serving_running::{ALL_AT_ONCE, End, FLAT, SMALL, Way, serve_lines, session};
 use harness::{Wrong, device_with};
 use std::alloc::Global;
 use std::sync::Wait;
@@ -174,7 +175,7 @@ fn runs_at_once<T: Threads + Wait + Sync>(
 fn unrelated_messages_run_at_once(rt: HostRuntime) -> Result<(), Fail> {
     for &row in &AT_ONCE {
         let output = runs_at_once(&rt, rt.alloc(), row)?;
-        writes(&rt, output.as_slice(), row.want);
+        assert_text(&rt, output.as_slice(), row.want);
     }
     Ok(())
 }

@@ -1,11 +1,10 @@
 //! How far the checkpoint in progress goes on after an answer, while a job is in flight, and before a reply is sent. Here a `Gate` is a
 //! hook of the server: a worker calls `before` just before it runs a job, the dispatcher `answered` just after a message is answered.
-//! `ends`, `holds` and `writes` fail the test unless an end, a fact, or what was written is as it has to be; `ALL_AT_ONCE` is streams of
-//! which each call takes all, and none fails; `session` serves lines, and what it leaves is the device, the end and the output.
+//! `ALL_AT_ONCE` is streams of which each call takes all, and none fails; `session` serves lines, and what it leaves is the device, the end
+//! and the output.
+use crate::assertions::{assert_ended, assert_text, assert_true};
 use crate::serving_noting::{ChunkReader, Count, Flag, Notes, Noting};
-use crate::serving_running::{
-    ALL_AT_ONCE, End, Way, ends, holds, serve_lines, serve_on, session, writes,
-};
+use crate::serving_running::{ALL_AT_ONCE, End, Way, serve_lines, serve_on, session};
 use disk::MemDisk;
 use harness::{Wrong, device_with};
 use std::alloc::{AllocError, Global};
@@ -105,10 +104,10 @@ fn at_most_one_piece_is_written_between_answers(rt: HostRuntime) -> Result<(), F
         &gate,
         &notes,
     );
-    ends(&rt, left.end, End::Whole);
-    writes(&rt, left.output.as_slice(), answers.as_slice());
-    holds(&rt, gate.steps.get() > 0);
-    holds(&rt, !gate.is_amiss.get());
+    assert_ended(&rt, left.end, End::Whole);
+    assert_text(&rt, left.output.as_slice(), answers.as_slice());
+    assert_true(&rt, gate.steps.get() > 0);
+    assert_true(&rt, !gate.is_amiss.get());
     Ok(())
 }
 
@@ -189,10 +188,10 @@ fn no_piece_is_written_while_a_job_is_out_and_none_is_answered(
         &gate,
         &notes,
     );
-    ends(&rt, left.end, End::Whole);
-    writes(&rt, left.output.as_slice(), b"done\ndone\n");
+    assert_ended(&rt, left.end, End::Whole);
+    assert_text(&rt, left.output.as_slice(), b"done\ndone\n");
     let written = notes.pieces.get().saturating_sub(gate.pieces.get());
-    holds(&rt, written >= PIECES && !gate.is_amiss.get());
+    assert_true(&rt, written >= PIECES && !gate.is_amiss.get());
     Ok(())
 }
 
@@ -277,9 +276,9 @@ fn no_reply_waits_for_a_whole_checkpoint(rt: HostRuntime) -> Result<(), Fail> {
         &mut writer,
         &gate,
     );
-    ends(&rt, ended.end, End::Whole);
-    writes(&rt, writer.output.as_slice(), b"done\ndone\ndone\ndone\n");
+    assert_ended(&rt, ended.end, End::Whole);
+    assert_text(&rt, writer.output.as_slice(), b"done\ndone\ndone\ndone\n");
     let written = notes.pieces.get().saturating_sub(gate.first.get());
-    holds(&rt, written >= PIECES && !writer.is_amiss.get());
+    assert_true(&rt, written >= PIECES && !writer.is_amiss.get());
     Ok(())
 }

@@ -1,9 +1,10 @@
 //! When records are logged, and when checkpoints are made. Here *points* are checkpoints of both kinds, in one call or online. Of the
-//! servers `SMALL` has four records in a half of the log, and `FLAT` eight, and eight stripes of one block. `holds` fails the test unless a
-//! fact holds; `OpenGate` is hooks that do nothing.
+//! servers `SMALL` has four records in a half of the log, and `FLAT` eight, and eight stripes of one block. `OpenGate` is hooks that do
+//! nothing.
+use crate::assertions::{assert_at_most, assert_count, assert_ended, assert_true};
 use crate::serving_noting::Notes;
 use crate::serving_running::{
-    ALL_AT_ONCE, End, FLAT, Left, SMALL, Streams, Way, holds, serve_lines, session,
+    ALL_AT_ONCE, End, FLAT, Left, SMALL, Streams, Way, serve_lines, session,
 };
 use checkpoint::inspect;
 use harness::{Wrong, device_with};
@@ -64,17 +65,16 @@ fn points_of<T: Threads + Wait + Sync + Abort>(
     let lines = changes(alloc, count)?;
     let left = session(rt, alloc, device, way, &lines, streams, &OpenGate, &notes);
     let Left { device, end, .. } = left;
-    let is_whole = end == End::Whole && notes.taken.get() == count as u64;
-    let all_logged = notes.logged.get() == count as u64;
-    holds(rt, is_whole && all_logged && !notes.is_reply_early.get());
+    assert_ended(rt, end, End::Whole);
+    assert_count(rt, notes.taken.get(), count as u64);
+    assert_count(rt, notes.logged.get(), count as u64);
+    assert_true(rt, !notes.is_reply_early.get());
     let Ok((shown, _)) = inspect(alloc, device) else {
         return Err(Wrong::Unfit);
     };
     // Opening names area 1, and each checkpoint the other one.
-    holds(
-        rt,
-        shown.records == 0 && shown.area as u64 == notes.root_writes.get() % 2,
-    );
+    assert_count(rt, shown.records as u64, 0);
+    assert_count(rt, shown.area as u64, notes.root_writes.get() % 2);
     Ok(notes.root_writes.get().saturating_sub(1))
 }
 
@@ -88,7 +88,8 @@ fn points_are_made_where_they_are_due(rt: HostRuntime) -> Result<(), Fail> {
                 every,
             };
             let points = points_of(&rt, rt.alloc(), count, way, size)?;
-            holds(&rt, least <= points && points <= most);
+            assert_at_most(&rt, least, points);
+            assert_at_most(&rt, points, most);
         }
     }
     Ok(())
@@ -130,7 +131,7 @@ fn syncs_of<T: Threads + Wait + Sync + Abort>(
         &OpenGate,
         &notes,
     );
-    holds(rt, left.end == End::Whole);
+    assert_ended(rt, left.end, End::Whole);
     Ok(notes.syncs.get())
 }
 

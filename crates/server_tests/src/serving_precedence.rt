@@ -1,7 +1,7 @@
-//! Which fault is reported if several come in one session of the small server (`SMALL`: four records in a half of the log). `ends` and
-//! `holds` fail the test unless a session ended so, or a fact holds.
+//! Which fault is reported if several come in one session of the small server (`SMALL`: four records in a half of the log).
+use crate::assertions::{assert_ended, assert_true};
 use crate::serving_noting::Notes;
-use crate::serving_running::{ALL_AT_ONCE, End, Left, SMALL, Streams, Way, ends, holds, session};
+use crate::serving_running::{ALL_AT_ONCE, End, Left, SMALL, Streams, Way, session};
 use checkpoint::OpenFault;
 use disk::MemDisk;
 use harness::{Wrong, device_with};
@@ -73,7 +73,7 @@ fn serve_failing<T: Threads + Wait + Sync + Abort>(
         device: failing.device != 0 && calls >= failing.device,
         writer: failing.writer != 0 && notes.writes.get() >= failing.writer,
     };
-    ends(rt, end, end_of(failed, notes.reads.get() != 0));
+    assert_ended(rt, end, end_of(failed, notes.reads.get() != 0));
     Ok(failed)
 }
 
@@ -113,7 +113,7 @@ fn an_output_fault_is_reported_before_a_device_fault_and_that_before_a_read_faul
         for writer in 0..4 {
             both = fail_each_call(&rt, rt.alloc(), way, writer)? || both;
         }
-        holds(&rt, both);
+        assert_true(&rt, both);
     }
     Ok(())
 }

@@ -51,21 +51,6 @@ pub(crate) struct Ended<D: Disk> {
     pub(crate) end: End,
 }
 
-/// Fails the test unless these bytes, which were written, are those wanted.
-pub(crate) fn writes(rt: &impl Abort, got: &[u8], want: &[u8]) {
-    assert_eq!(rt; str::from_utf8(got), str::from_utf8(want));
-}
-
-/// Fails the test unless this is so.
-pub(crate) fn holds(rt: &impl Abort, fact: bool) {
-    assert!(rt; fact);
-}
-
-/// Fails the test unless a server ended as is wanted.
-pub(crate) fn ends(rt: &impl Abort, got: End, want: End) {
-    assert_eq!(rt; got, want);
-}
-
 /// What the serial server answers to these lines, from the empty state on. `Unfit` where no geometry has these numbers.
 pub(crate) fn serial(alloc: Global, numbers: [u16; 8], lines: &[u8]) -> Result<Vec<u8>, Wrong> {
     let Ok(g) = Geometry::new(numbers) else {

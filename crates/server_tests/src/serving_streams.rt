@@ -1,10 +1,10 @@
-//! How input is read and output is written, and what happens if one of them fails. `ends`, `holds` and `writes` fail the test unless a
-//! session ended so, a fact holds, or what was written is as wanted; `serial` gives what the serial server writes. `SMALL` has one volume
-//! of two files of four blocks, and four records in a half of the log.
+//! How input is read and output is written, and what happens if one of them fails. `serial` gives what the serial server writes. `SMALL`
+//! has one volume of two files of four blocks, and four records in a half of the log.
+use crate::assertions::{assert_at_most, assert_count, assert_ended, assert_text, assert_true};
 use crate::serving_drawing::draw_lines;
 use crate::serving_noting::Notes;
 use crate::serving_running::{
-    ALL_AT_ONCE, End, Left, SMALL, Streams, Way, ends, holds, serial, serve_lines, session, writes,
+    ALL_AT_ONCE, End, Left, SMALL, Streams, Way, serial, serve_lines, session,
 };
 use checkpoint::inspect;
 use harness::{Wrong, device_with};
@@ -87,18 +87,18 @@ fn meets_fault<T: Threads + Wait + Sync + Abort>(
         end,
         output,
     } = serve_new(rt, alloc, way, input, streams, &notes)?;
-    ends(rt, end, End::Fault(ServeFault::Read));
-    writes(rt, output.as_slice(), want.as_slice());
+    assert_ended(rt, end, End::Fault(ServeFault::Read));
+    assert_text(rt, output.as_slice(), want.as_slice());
     let done = want.as_slice().split(|byte| *byte == b'\n');
     let done = done.filter(|line| *line == b"done".as_slice()).count();
     let Ok((shown, _device)) = inspect(alloc, device) else {
         return Err(Wrong::Unfit);
     };
-    holds(rt, !notes.is_late.get());
-    holds(
-        rt,
-        way.every != 0 || (shown.records == done && shown.area == 1),
-    );
+    assert_true(rt, !notes.is_late.get());
+    if way.every == 0 {
+        assert_count(rt, shown.records as u64, done as u64);
+        assert_count(rt, shown.area as u64, 1);
+    }
     Ok(())
 }
 
@@ -136,14 +136,14 @@ fn fails_to_write<T: Threads + Wait + Sync + Abort>(
     } else {
         End::Whole
     };
-    ends(rt, left.end, end);
+    assert_ended(rt, left.end, end);
     let want = serial(alloc, SMALL, LINES)?;
-    let is_beginning = want.as_slice().starts_with(left.output.as_slice());
-    let is_all = left.output.len() == want.len();
-    holds(
-        rt,
-        is_beginning && (is_all || has_failed) && !notes.went_on_after_fault.get(),
-    );
+    if has_failed {
+        assert_true(rt, want.as_slice().starts_with(left.output.as_slice()));
+    } else {
+        assert_text(rt, left.output.as_slice(), want.as_slice());
+    }
+    assert_true(rt, !notes.went_on_after_fault.get());
     Ok(has_failed)
 }
 
@@ -189,10 +189,10 @@ fn calls_of<T: Threads + Wait + Sync + Abort>(
         ..ALL_AT_ONCE
     };
     let left = serve_new(rt, alloc, way, lines, streams, &notes)?;
-    ends(rt, left.end, End::Whole);
+    assert_ended(rt, left.end, End::Whole);
     let want = serial(alloc, SMALL, lines)?;
-    writes(rt, left.output.as_slice(), want.as_slice());
-    holds(rt, !notes.is_late.get());
+    assert_text(rt, left.output.as_slice(), want.as_slice());
+    assert_true(rt, !notes.is_late.get());
     Ok((notes.reads.get(), notes.writes.get()))
 }
 
@@ -224,7 +224,8 @@ fn piped_input_takes_few_calls(rt: HostRuntime) -> Result<(), Fail> {
     for (way, want) in WAYS.iter().zip(WRITES) {
         // The input is read in one go.
         let (reads, writes) = calls_of(&rt, rt.alloc(), *way, lines.as_slice(), 70_000)?;
-        holds(&rt, reads <= 3 && writes == want);
+        assert_at_most(&rt, reads, 3);
+        assert_count(&rt, writes, want);
     }
     Ok(())
 }
@@ -245,11 +246,12 @@ fn no_workers_are_refused(rt: HostRuntime) -> Result<(), Fail> {
         fails_at: 1,
     };
     let left = serve_new(&rt, rt.alloc(), NO_WORKERS, LINES, streams, &notes)?;
-    ends(&rt, left.end, End::Fault(ServeFault::NoWorkers));
-    holds(&rt, notes.reads.get() == 0 && notes.writes.get() == 0);
+    assert_ended(&rt, left.end, End::Fault(ServeFault::NoWorkers));
+    assert_count(&rt, notes.reads.get(), 0);
+    assert_count(&rt, notes.writes.get(), 0);
     // The core was given back untouched: its device can be served on as if nothing had been.
     let (_, output) = serve_lines(&rt, rt.alloc(), left.device, WAYS[0], LINES)?;
     let want = serial(rt.alloc(), SMALL, LINES)?;
-    writes(&rt, output.as_slice(), want.as_slice());
+    assert_text(&rt, output.as_slice(), want.as_slice());
     Ok(())
 }

@@ -1,10 +1,9 @@
 //! A job is kept waiting in its worker until the output is written to: what is dispatched meanwhile if a checkpoint is due, and what is
-//! still logged if the output fails. `ends` and `holds` fail the test unless a session ended so, or a fact holds. Hooks of the server
-//! (`Gate`): a worker calls `before` just before it runs a job, the dispatcher `answered` just after a message is answered.
+//! still logged if the output fails. Hooks of the server (`Gate`): a worker calls `before` just before it runs a job, the dispatcher
+//! `answered` just after a message is answered.
+use crate::assertions::{assert_count, assert_ended, assert_true};
 use crate::serving_noting::{Flag, Notes};
-use crate::serving_running::{
-    ALL_AT_ONCE, End, Left, SMALL, Streams, Way, ends, holds, serve_lines, session,
-};
+use crate::serving_running::{ALL_AT_ONCE, End, Left, SMALL, Streams, Way, serve_lines, session};
 use checkpoint::inspect;
 use disk::MemDisk;
 use harness::{Wrong, device_with};
@@ -101,7 +100,7 @@ fn serve_three<T: Threads + Wait + Sync + Abort>(
     };
     let left = session(rt, alloc, device, way, lines, streams, &gate, &notes);
     let Left { device, end, .. } = left;
-    holds(rt, !gate.gave_up.get() && !notes.is_reply_early.get());
+    assert_true(rt, !gate.gave_up.get() && !notes.is_reply_early.get());
     Ok(Seen {
         end,
         ran_before_cut: gate.ran_before_cut.get(),
@@ -116,8 +115,9 @@ fn nothing_is_dispatched_while_a_checkpoint_is_due(rt: HostRuntime) -> Result<()
     // Once message 0 is answered, message 2 may be dispatched, unless a checkpoint is due: then a cut begins first.
     for (every, ran_before_cut) in [(0, true), (1, false)] {
         let seen = serve_three(&rt, rt.alloc(), every, lines, 0)?;
-        ends(&rt, seen.end, End::Whole);
-        holds(&rt, seen.ran_before_cut == ran_before_cut && seen.answered);
+        assert_ended(&rt, seen.end, End::Whole);
+        assert_true(&rt, seen.ran_before_cut == ran_before_cut);
+        assert_true(&rt, seen.answered);
     }
     Ok(())
 }
@@ -127,11 +127,12 @@ fn jobs_in_flight_are_logged_after_the_output_failed(rt: HostRuntime) -> Result<
     let lines = b"write 0 0 0 0 61\nwrite 0 0 0 1 62\nwrite 0 0 0 1 63\n";
     // No checkpoint is due by a count of records, and the first call of the output fails.
     let seen = serve_three(&rt, rt.alloc(), 0, lines, 1)?;
-    ends(&rt, seen.end, End::Fault(ServeFault::Write));
+    assert_ended(&rt, seen.end, End::Fault(ServeFault::Write));
     let Ok((shown, _)) = inspect(rt.alloc(), seen.device) else {
         return Err(Wrong::Unfit.into());
     };
     // Messages 0 and 1 have records. Message 2, which is related to 1, isn't dispatched any more.
-    holds(&rt, seen.answered && shown.records == 2);
+    assert_true(&rt, seen.answered);
+    assert_count(&rt, shown.records as u64, 2);
     Ok(())
 }
