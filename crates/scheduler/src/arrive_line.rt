@@ -22,8 +22,7 @@ impl<D: Disk> Core<D> {
         match head_of_line(line) {
             Head::Writes(numbers, digits) => {
                 let mut content = Block([0; BLOCK_SIZE]);
-                let is_block = decode_block(digits, &mut content).is_some();
-                if !is_block {
+                if decode_block(digits, &mut content).is_none() {
                     return Ok(None);
                 }
                 let [a, v, f, b] = numbers;
