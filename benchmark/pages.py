@@ -109,7 +109,7 @@ def of_missed(figures):
             shown = number(worst) if number(worst) != number(bound) else f"{worst:.4g}"
             lines.append(f"- {words} {sign} {bound:,g}: {shown}" + f" ({of}), {len(missed)} of {len(values)}" * bool(of))
     yield (f"{len(found) - len(lines)} of {len(found)} targets (`benchmark/targets.py`) are met."
-           + " Missed (the worst value, and how many miss):" * bool(lines))
+           + " Missed (the worst, and how many):" * bool(lines))
     yield from ["", *lines] if lines else []
 
 
