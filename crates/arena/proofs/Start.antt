@@ -1,6 +1,6 @@
 -- The lists as they are at the start: all slots in order on the first list.
 use Rattle.std.proofs.lemmas.Grind.{common_steps}
-use Rattle.std.proofs.Common.{◌≡◌, ℕ, zero, suc, ◌+◌, ◌-◌, ◌<◌, ◌≤◌, List, [], ◌∷◌, replicate, refl, sym, ap, subst, ◌∙◌, inl, inr, arith}
+use Rattle.std.proofs.Common.{◌≡◌, ℕ, zero, suc, ◌+◌, ◌-◌, ◌<◌, ◌≤◌, List, [], ◌∷◌, ◌++◌, length, slice_index, replicate, refl, sym, ap, subst, ◌∙◌, inl, inr, arith}
 use Rattle.std.proofs.lemmas.Bool.{le-ltb, eq-eqb, ne_eqb, cases_eq}
 use Rattle.std.proofs.lemmas.Bool.Decides.{nat_tests}
 use Rattle.std.specs.List.{concat}
@@ -33,6 +33,11 @@ numbers-inside first (suc count) slots fit = (omega arith, numbers-inside (suc f
 pub count_of-empties : (i count : ℕ) → count_of i (concat (replicate count [])) ≡ 0
 count_of-empties i zero = refl
 count_of-empties i (suc count) = count_of-empties i count
+
+-- a row whose elements a function gives, and one more
+pub given-more : (f : ℕ → ℕ) (row : List ℕ) (x : ℕ) {at : ℕ} → length row ≡ at → x ≡ f at → ((a : ℕ) → a < at → slice_index row a ≡ f a)
+    → (a : ℕ) → a < at + 1 → slice_index (row ++ x ∷ []) a ≡ f a
+given-more f row x long is given a below = grind (arith, common_steps, given a)
 
 next-first_end : (slots : ℕ) → next_at_start slots slots ≡ 0
 next-first_end slots = rw (le-ltb slots slots (omega arith), eq-eqb slots slots refl) refl

@@ -1,7 +1,7 @@
 -- A slot is taken off its list.
-use Rattle.std.proofs.lemmas.Grind.{common_steps}
 use Rattle.std.proofs.Common.{◌≡◌, ◌≢◌, ℕ, ◌-◌, ◌<◌, ◌≤◌, List, [], ◌∷◌, map, sym, ap, subst, ◌∙◌, inl, inr, arith}
 use Rattle.std.proofs.lemmas.Bool.{cases_eq}
+use Rattle.std.proofs.lemmas.Bool.Decides.{eqb_tells}
 use Rattle.std.specs.List.{concat}
 use Rattle.arena.specs.Lists.{count_of, without}
 use Rattle.arena.specs.Linked.{IsWay, ring, rings, IsLinked}
@@ -27,11 +27,20 @@ module _ (slots nodes slot : ℕ) (next previous next' previous' : ℕ → ℕ) 
   Follows b a = (next a ≢ slot → next' b ≡ next a) × (next a ≡ slot → next' b ≡ next slot)
 
   follows : (a : ℕ) → a < nodes → a ≢ slot → Follows a a
-  follows a below other = grind (arith, common_steps)
+  follows a below other = (
+    λ onward. unlinked.rest_next a other (λ same. onward (ap next same ∙ linked.next_undoes slot is_node)),
+    λ onto.
+        let same : a ≡ previous slot = sym (linked.previous_undoes a below) ∙ ap previous onto in
+        ap next' same ∙ unlinked.tied_next (λ loop. other (same ∙ loop)),
+  )
 
   way-without : (b a : ℕ) (xs : List ℕ) (z : ℕ) → Follows b a → AreSlots nodes xs → z ≢ slot → IsWay next a xs z → IsWay next' b (without slot xs) z
   way-without b a [] z follow inside apart way = follow.0 (λ same. apart (sym way ∙ same)) ∙ way
-  way-without b a (x ∷ xs) z follow inside apart way = grind (arith, common_steps, way-without b x xs z, way-without x x xs z)
+  way-without b a (x ∷ xs) z follow inside apart way = elim (eqb_tells x slot) [
+    | inl e ↦ rw e.0 (way-without b x xs z
+        (λ _. follow.1 (way.0 ∙ e.1) ∙ ap next (sym e.1), λ _. follow.1 (way.0 ∙ e.1)) inside.1 apart way.1)
+    | inr n ↦ rw n.0 (follow.0 (λ same. n.1 (sym way.0 ∙ same)) ∙ way.0, way-without x x xs z (follows x inside.0 n.1) inside.1 apart way.1)
+  ]
 
   end_apart : (end : ℕ) → slots ≤ end → end ≢ slot
   end_apart end outside same = omega arith
@@ -53,16 +62,52 @@ module _ (slots nodes slot : ℕ) (next previous next' previous' : ℕ → ℕ) 
       (λ e low high. ring-unlinked e low (omega (arith, linked.slots_fit)))
 
   next_below : (a : ℕ) → a < nodes → next' a < nodes
-  next_below a below = grind (arith, common_steps)
+  next_below a below = elim (cases_eq a slot) [
+    | inl e ↦ rw (e, unlinked.alone_next) is_node
+    | inr n ↦ elim (cases_eq a (previous slot)) [
+      | inl p ↦ rw (p, unlinked.tied_next (λ loop. n (p ∙ loop))) (linked.next_below slot is_node)
+      | inr q ↦ rw (unlinked.rest_next a n q) (linked.next_below a below)
+    ]
+  ]
 
   previous_below : (a : ℕ) → a < nodes → previous' a < nodes
-  previous_below a below = grind (arith, common_steps)
+  previous_below a below = elim (cases_eq a slot) [
+    | inl e ↦ rw (e, unlinked.alone_previous) is_node
+    | inr n ↦ elim (cases_eq a (next slot)) [
+      | inl p ↦ rw (p, unlinked.tied_previous (λ loop. n (p ∙ loop))) (linked.previous_below slot is_node)
+      | inr q ↦ rw (unlinked.rest_previous a n q) (linked.previous_below a below)
+    ]
+  ]
 
   next_undoes : (a : ℕ) → a < nodes → next' (previous' a) ≡ a
-  next_undoes a below = grind (arith, common_steps)
+  next_undoes a below = elim (cases_eq a slot) [
+    | inl e ↦ ap (λ x. next' (previous' x)) e ∙ ap next' unlinked.alone_previous ∙ unlinked.alone_next ∙ sym e
+    | inr n ↦ elim (cases_eq a (next slot)) [
+      | inl p ↦
+          let apart : previous slot ≢ slot = (λ loop. n (p ∙ ap next (sym loop) ∙ linked.next_undoes slot is_node)) in
+          ap (λ x. next' (previous' x)) p ∙ ap next' (unlinked.tied_previous (λ loop. n (p ∙ loop))) ∙ unlinked.tied_next apart ∙ sym p
+      | inr q ↦
+          ap next' (unlinked.rest_previous a n q)
+          ∙ unlinked.rest_next (previous a) (λ same. q (sym (linked.next_undoes a below) ∙ ap next same))
+          (λ same. n (sym (linked.next_undoes a below) ∙ ap next same ∙ linked.next_undoes slot is_node))
+          ∙ linked.next_undoes a below
+    ]
+  ]
 
   previous_undoes : (a : ℕ) → a < nodes → previous' (next' a) ≡ a
-  previous_undoes a below = grind (arith, common_steps)
+  previous_undoes a below = elim (cases_eq a slot) [
+    | inl e ↦ ap (λ x. previous' (next' x)) e ∙ ap previous' unlinked.alone_next ∙ unlinked.alone_previous ∙ sym e
+    | inr n ↦ elim (cases_eq a (previous slot)) [
+      | inl p ↦
+          let apart : next slot ≢ slot = (λ loop. n (p ∙ ap previous (sym loop) ∙ linked.previous_undoes slot is_node)) in
+          ap (λ x. previous' (next' x)) p ∙ ap previous' (unlinked.tied_next (λ loop. n (p ∙ loop))) ∙ unlinked.tied_previous apart ∙ sym p
+      | inr q ↦
+          ap previous' (unlinked.rest_next a n q)
+          ∙ unlinked.rest_previous (next a) (λ same. q (sym (linked.previous_undoes a below) ∙ ap previous same))
+          (λ same. n (sym (linked.previous_undoes a below) ∙ ap previous same ∙ linked.previous_undoes slot is_node))
+          ∙ linked.previous_undoes a below
+    ]
+  ]
 
   closed : (end : ℕ) → slots ≤ end → end < nodes → IsWay next' end (ring next' slots end) end
   closed end outside below =

@@ -1,12 +1,30 @@
 -- The slot holds its value, which is lent. What is written back as it was changes nothing.
 use borrow.Follows.Closed.{read_of}
-use Rattle.std.proofs.Common.{slice_set, sym, ap, subst, ◌∙◌, List, Option, None}
-use Rattle.std.proofs.lemmas.List.{get_or_default, set-get_or}
+use Rattle.std.proofs.Common.{slice_set, sym, ap, subst, ◌∙◌, List, Option, None, Some}
+use Rattle.std.proofs.lemmas.List.{get_or_default, set-get_or, length-set}
 use Rattle.std.specs.Option.{ghost_name_of}
 use Rattle.arena.specs.ArenaView.{ArenaView, IsPartitioned, value_at, with_value}
-use Rattle.arena.specs.Invariant.{arena_view_of}
+use Rattle.arena.specs.Invariant.{ArenaRule, arena_view_of}
 use Rattle.arena.proofs.Parts.{held-not_free, held-within, partitioned-restore}
 use Rattle.arena.proofs.Arena.get_mut.Goals as goal
+
+pub invariant_of-self-lent : goal.invariant_of-self-lent
+invariant_of-self-lent g c _ =
+    let values = c.self.inside.values.items in
+    let links = c.self.inside.links in
+    let i = c.args.i in
+    let own = c.self.invariant in
+    let held = sym c.holds.ensures.answer ∙ c.if-not-holds.false in
+    let same = ap (slice_set values i) c.index_mut.ensures.value ∙ set-get_or values i c.index_mut.result.now in (
+      λ w. record {
+        slots = own.slots ∙ sym (length-set values i (Some w));
+        has_free = own.has_free;
+        counted = own.counted;
+        partitioned = partitioned-restore (arena_view_of values links) i w own.partitioned (held-within values i held)
+            (held-not_free (arena_view_of values links) own.partitioned i held);
+      },
+      subst (λ row. ArenaRule row links c.self.inside.free) (sym same) own,
+    )
 
 pub returns : goal.returns
 returns g c =

@@ -1,14 +1,17 @@
 -- The first free slot takes the value.
-use Rattle.std.proofs.lemmas.Grind.{common_steps}
 use Rattle.std.proofs.Common.{sym, ◌∙◌, arith}
 use Rattle.arena.proofs.Keeping.{put-within, put-kept, put-made}
 use Rattle.arena.proofs.Arena.put.Goals as goal
 
 pub unlink-requires : goal.unlink-requires
-unlink-requires g c = grind (arith, common_steps, put-within)
+unlink-requires g c =
+    let within = put-within c.self.invariant (sym c.first.ensures ∙ c.in-Some.is) in
+    omega (arith, c.self.invariant.slots)
 
 pub fill-requires-clause-is_there : goal.fill-requires-clause-is_there
-fill-requires-clause-is_there g c = grind (arith, common_steps, put-within)
+fill-requires-clause-is_there g c =
+    let within = put-within c.self.invariant (sym c.first.ensures ∙ c.in-Some.is) in
+    omega arith
 
 pub invariant_of-self : goal.invariant_of-self
 invariant_of-self g c =

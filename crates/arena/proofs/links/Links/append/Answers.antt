@@ -1,5 +1,4 @@
 -- The four writes are those of `KeepLists-appended`.
-use Rattle.std.proofs.lemmas.Grind.{common_steps}
 use Rattle.std.proofs.Common.{◌≡◌, ◌+◌, ◌<◌, ℕ, List, ap, arith, length}
 use Rattle.std.specs.List.{concat}
 use Rattle.arena.specs.Lists.{count_of}
@@ -9,10 +8,12 @@ use Rattle.arena.proofs.StoredAppending.{KeepLists-appended, lists-appended}
 use Rattle.arena.proofs.links.Links.append.Goals as goal
 
 pub overflow_add-end : goal.overflow_add-end
-overflow_add-end c = grind (arith, common_steps, end-there)
+overflow_add-end c =
+    omega (arith, end-there _ _ _ _ _ c.self.view_is c.self.invariant c.requires.list_is_there)
 
 pub index-before-requires : goal.index-before-requires
-index-before-requires c = grind (arith, common_steps, end-there)
+index-before-requires c =
+    omega (arith, end-there _ _ _ _ _ c.self.view_is c.self.invariant c.requires.list_is_there)
 
 pub index_mut-requires : goal.index_mut-requires
 index_mut-requires c =

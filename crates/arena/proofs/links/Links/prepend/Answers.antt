@@ -1,18 +1,19 @@
 -- The four writes are those of `KeepLists-prepended`.
-use Rattle.std.proofs.lemmas.Grind.{common_steps}
-use Rattle.std.proofs.Common.{◌≡◌, ◌+◌, ◌<◌, arith, length}
+use Rattle.std.proofs.Common.{◌≡◌, ◌+◌, ◌<◌, ℕ, List, ap, arith, length}
 use Rattle.std.specs.List.{concat}
 use Rattle.arena.specs.Lists.{count_of}
-use Rattle.arena.specs.Linked.{stored}
+use Rattle.arena.specs.Linked.{Linked, stored}
 use Rattle.arena.proofs.Stored.{read_end, end-below, end-there, IsWellLinked-linked}
 use Rattle.arena.proofs.StoredPrepending.{KeepLists-prepended, lists-prepended}
 use Rattle.arena.proofs.links.Links.prepend.Goals as goal
 
 pub overflow_add-end : goal.overflow_add-end
-overflow_add-end c = grind (arith, common_steps, end-there)
+overflow_add-end c =
+    omega (arith, end-there _ _ _ _ _ c.self.view_is c.self.invariant c.requires.list_is_there)
 
 pub index-after-requires : goal.index-after-requires
-index-after-requires c = grind (arith, common_steps, end-there)
+index-after-requires c =
+    omega (arith, end-there _ _ _ _ _ c.self.view_is c.self.invariant c.requires.list_is_there)
 
 pub index_mut-requires : goal.index_mut-requires
 index_mut-requires c =
@@ -34,7 +35,13 @@ invariant_of-self c =
     c.self.invariant within list_within nowhere (read_end _ _ _ _ _ c.self.invariant list_within c.index-after.ensures)
 
 pub returns-clause-lists : goal.returns-clause-lists
-returns-clause-lists c = grind (arith, common_steps, lists-prepended, read_end)
+returns-clause-lists c =
+    let within : c.args.slot < c.self.inside.slots = rw (← c.self.view_is) at c.requires.slot_is_there in
+    let list_within : c.args.list < length (stored c.self.inside.slots c.self.inside.next.items).lists = rw (← c.self.view_is) at c.requires.list_is_there in
+    let nowhere : count_of c.args.slot (concat (stored c.self.inside.slots c.self.inside.next.items).lists) ≡ 0 = rw (← c.self.view_is) at c.requires.alone in
+    rw (← c.self.view_is) (ap (λ (lists : List (List ℕ)). let made : Linked = record { slots = c.self.inside.slots; lists = lists } in made)
+    (lists-prepended c.self.inside.slots c.args.slot c.args.list c.index-after.result.now c.self.inside.next.items c.self.inside.previous.items
+    c.self.invariant within list_within nowhere (read_end _ _ _ _ _ c.self.invariant list_within c.index-after.ensures)))
 
 pub returns-clause-sound : goal.returns-clause-sound
 returns-clause-sound c = IsWellLinked-linked c.self.inside.slots _ _ _ (invariant_of-self c).linked
