@@ -2,13 +2,38 @@
 use Rattle.std.proofs.lemmas.Grind.{common_steps}
 use Rattle.std.proofs.Common.{◌≡◌, ◌+◌, ◌<◌, ◌≤◌, ℕ, List, length, take, drop, get_or, subst, arith}
 use Rattle.std.specs.List.{slice_range}
-use Rattle.std.proofs.lemmas.Result.{err_from_is_err_and}
+use Rattle.std.proofs.lemmas.Result.{err_from_is_err_and, IfOk-from_err}
 use Rattle.std.proofs.lemmas.List.Edits.{length-between}
 use Rattle.message.proofs.ReaderLemmas.{NoneFrom, NoneFrom-read, NoneFrom-slice, newline-slice, slice-front, slice-grown, slice-still_none, Keeps-read}
 use Rattle.message.proofs.line_reader.Buffered.read_behind.Goals as goal
 
 pub returns-in_err-count-clause-kept : goal.returns-in_err-count-clause-kept
 returns-in_err-count-clause-kept g c = grind (arith, common_steps, err_from_is_err_and, slice-front)
+
+pub returns-in_err-count-clause-line : goal.returns-in_err-count-clause-line
+returns-in_err-count-clause-line g c =
+    let h = c.args.self.now in
+    slice-still_none h.buffer.items c.read_over.new.buffer.items h.line_start h.line_end (omega (arith, c.read_over.ensures.len)) (omega (arith, h.line_within)) c.requires.line
+
+pub returns-in_err-count-clause-bytes : goal.returns-in_err-count-clause-bytes
+returns-in_err-count-clause-bytes g c = IfOk-from_err _ _ c.from_residual.ensures.0
+
+pub invariant_of-self : goal.invariant_of-self
+invariant_of-self g c =
+    let h = c.args.self.now in
+    let kept = c.read_over.ensures in
+    let before : NoneFrom h.buffer.items h.start h.end = λ m low high. h.none_before m low (omega (arith, high, c.requires.no_newline)) in
+    let behind : NoneFrom c.read_over.new.buffer.items h.end h.newline = λ m low high. absurd (omega (arith, low, high, c.requires.no_newline)) in
+    record {
+      room = omega (arith, kept.len, h.room);
+      line_ordered = h.line_ordered;
+      line_within = omega (arith, kept.len, h.line_within);
+      starts_before = h.starts_before;
+      newline_within = h.newline_within;
+      ends_within = omega (arith, kept.len, h.ends_within);
+      none_before = NoneFrom-read h.buffer.items c.read_over.new.buffer.items h.start h.end h.newline kept.front before behind;
+      newline_there = λ low. absurd (omega (arith, low, c.requires.no_newline));
+    }
 
 pub invariant_of-self-2 : goal.invariant_of-self-2
 invariant_of-self-2 g c =

@@ -1,11 +1,15 @@
 -- A crash in the next batch leaves a prefix of all messages, since the batches before it are in the front.
-use Rattle.std.proofs.Common.{◌≡◌, ◌∙◌, ℕ, ◌+◌, ◌-◌, ◌*◌, ap, length, arith, refl}
+use Rattle.std.proofs.Common.{◌≡◌, ◌∙◌, ℕ, ◌+◌, ◌-◌, ◌*◌, List, ap, length, take, subst, arith, refl}
+use Rattle.std.proofs.lemmas.List.{length-map, length-take-le, take_all}
 use Rattle.std.proofs.lemmas.Result.{err_from_is_err_and}
 use Rattle.disk.specs.Moments.{moment_number}
 use Rattle.oplog.specs.Log.{batch_count}
 use Rattle.oplog.proofs.Costs.{batch_left, one_batch, whole_batch}
 use Rattle.std.proofs.lemmas.Grind.{common_steps}
 use Rattle.device_map.specs.Layout.{layout_of}
+use Rattle.language.specs.declared.Msg.{Msg}
+use Rattle.message.specs.Records.{record_of}
+use Rattle.oplog.specs.Changes.{IsReady, HasAppendedAll}
 use Rattle.oplog.specs.Changing.{records_of}
 use Rattle.oplog.proofs.Batches.{begun, messages_moments, messages_more}
 use Rattle.oplog.proofs.half.Half.append.Goals as goal
@@ -21,6 +25,20 @@ loop-done-init g c = record {
   takes = λ k. omega arith;
   so_far = λ k. begun (layout_of c.args.self.geometry) c.args.self.number c.args.used (records_of c.args.messages.now) (g.D.Disk.medium c.args.disk.now) (c.requires.ready k);
 }
+
+pub append_batch-requires-clause-ready : goal.append_batch-requires-clause-ready
+append_batch-requires-clause-ready g c = λ k.
+    let count : length (records_of (take c.loop-done.done c.args.messages.now)) ≡ c.loop-done.done = length-map _ record_of ∙ length-take-le _ _ c.loop-done.invariant.inside in
+    subst (λ (j : ℕ). IsReady (layout_of c.args.self.geometry) c.args.self.number (c.args.used + j) (g.D.Disk.medium c.loop-done.disk)) count (c.loop-done.invariant.so_far k).has.ready
+
+pub returns-clause-any_moment : goal.returns-clause-any_moment
+returns-clause-any_moment g c = λ k. (c.loop-done.invariant.so_far k).moments
+
+pub returns-clause-added : goal.returns-clause-added
+returns-clause-added g c = λ k.
+    let all : take c.loop-done.done c.args.messages.now ≡ c.args.messages.now = take_all c.loop-done.done c.args.messages.now c.loop-done-test.false in
+    subst (λ (ms : List Msg). HasAppendedAll (layout_of c.args.self.geometry) c.args.self.number c.args.used (records_of ms) (g.D.Disk.medium c.args.disk.now)
+    (g.D.Disk.medium c.loop-done.disk)) all (c.loop-done.invariant.so_far k).has
 
 pub returns-in_err-append_batch-clause-any_moment : goal.returns-in_err-append_batch-clause-any_moment
 returns-in_err-append_batch-clause-any_moment g c = λ k.
