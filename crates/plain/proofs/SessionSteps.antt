@@ -1,18 +1,17 @@
 -- A session of the serial server, from any state on: each step keeps `HasAnswered`, which at the end gives what was written.
-use Rattle.std.proofs.Common.{arith}
-use Rattle.std.proofs.lemmas.Grind.{common_steps}
-use Rattle.std.proofs.Common.{◌≡◌, ℕ, Bool, false, List, [], ◌∷◌, ◌++◌, length, take, Option, Some, None, refl, sym, ap, ◌∙◌, subst, append-nil}
+use Rattle.std.proofs.Common.{◌≡◌, ◌≢◌, ℕ, Bool, false, List, [], ◌∷◌, ◌++◌, length, take, Option, Some, None, refl, sym, ap, ◌∙◌, subst, append_assoc, append-nil, ⊎_elim}
 use Rattle.std.specs.Prelude.{IfSome}
 use Rattle.std.specs.Io.KnownBytes.{Appends, append_known}
 use Rattle.std.proofs.KnownBytes.{Appends-nil, Appends-trans}
 use Rattle.std.proofs.lemmas.List.Elements.{recursion_from_All}
 use Rattle.std.proofs.lemmas.Option.{none-some, same_Some}
+use Rattle.std.proofs.lemmas.Bool.{true≢false}
 use Rattle.affinity.specs.declared.geometry.Geometry.{Geometry}
 use Rattle.language.specs.Lines.{lines}
 use Rattle.language.specs.Grammar.{message_of}
 use Rattle.language.specs.FirstLine.{GivesLine, PassesLine, HasWholeFirstLine, LosesLineStart}
 use Rattle.meaning.specs.State.{State}
-use Rattle.meaning.specs.Output.{answer_line, state_after_line, state_after_lines, output_lines, joined, serial_output, AnswersWholeLines, IsBeginning, WritesOutput}
+use Rattle.meaning.specs.Output.{answer_line, state_after_line, state_after_lines, output_lines, joined, serial_output, with_newlines, AnswersWholeLines, IsBeginning, WritesOutput}
 use Rattle.meaning.specs.Progress.{HasAnswered}
 use Rattle.meaning.proofs.OutputLemmas.{state_after_lines-append, joined-one_more, take-output_lines}
 use Rattle.meaning.proofs.Taking.{takes_nothing, takes_line, takes_long_line}
@@ -25,7 +24,8 @@ appends_more a b c xs h j = subst (λ (z : List ℕ). Appends a c z) (append-nil
 appends_bare : (old sent : Option (List ℕ)) (first rest w : List ℕ) → first ≡ [] → rest ≡ [] → Appends (append_known old first) (append_known sent rest) w → Appends old sent w
 appends_bare None sent first rest w none_first none h = tt
 appends_bare (Some xs) None first rest w none_first none h = absurd h
-appends_bare (Some xs) (Some ys) first rest w none_first none h = grind (arith, common_steps)
+appends_bare (Some xs) (Some ys) first rest w none_first none h =
+    sym (ap (λ z. ys ++ z) none ∙ append-nil ys) ∙ h ∙ ap (λ z. z ++ w) (ap (λ z. xs ++ z) none_first ∙ append-nil xs)
 
 module _ (old mid sent : Option (List ℕ)) {first rest : List ℕ} (none_first : first ≡ []) (none : rest ≡ []) where
   -- nothing waited at the start, and what waited at the end was written
@@ -42,7 +42,10 @@ pub ends : {g : Geometry} {start : State} {input left : Option (List ℕ)} {ende
     → WritesOutput input old new (λ bytes written. written ≡ serial_output g start bytes)
 ends {input = None} h all = tt
 ends {input = Some input} {left = None} h all = absurd (none-some h.taken.0 h.taken.1)
-ends {g} {start} {input = Some input} {left = Some bs} h all = grind (arith, common_steps)
+ends {g} {start} {input = Some input} {left = Some bs} h all =
+    let t = h.taken.2 in
+    let none_left : lines h.taken.0 ≡ [] = ap lines (sym (same_Some bs h.taken.0 h.taken.1) ∙ all) in
+    (joined (output_lines g start h.answered), h.output, sym (ap (λ z. joined (output_lines g start z)) (t.to_come ∙ ap (λ z. h.answered ++ z) none_left ∙ append-nil h.answered)))
 
 -- a read failed
 pub fails : {g : Geometry} {start : State} {input left : Option (List ℕ)} {ended : Bool} {x : State} {old new : Option (List ℕ)} (now_left : Option (List ℕ))
@@ -50,7 +53,23 @@ pub fails : {g : Geometry} {start : State} {input left : Option (List ℕ)} {end
     → ended ≡ false → IfSome left (λ bs. LosesLineStart bs now_left) → WritesOutput input old new (AnswersWholeLines g start now_left)
 fails {input = None} now_left h going lost = tt
 fails {input = Some input} {left = None} now_left h going lost = absurd (none-some h.taken.0 h.taken.1)
-fails {g} {start} {input = Some input} {left = Some bs} now_left h going lost = grind (arith, common_steps, same_Some, recursion_from_All)
+fails {g} {start} {input = Some input} {left = Some bs} now_left h going lost =
+    let t = h.taken.2 in
+    let same = same_Some bs h.taken.0 h.taken.1 in (
+      joined (output_lines g start h.answered),
+      h.output,
+      record {
+        whole = h.answered;
+        begun = lost.got;
+        rest = lost.rest;
+        parts = ⊎_elim (λ e. absurd (true≢false (sym e ∙ going))) (λ whole. whole ∙ ap (λ z. with_newlines h.answered ++ z) (sym same ∙ lost.parts)
+            ∙ sym (append_assoc (with_newlines h.answered) lost.got lost.rest)) t.whole;
+        left_is = lost.left_is;
+        are_lines = t.are_lines;
+        no_line = recursion_from_All (λ b. b ≢ 10) lost.got lost.within_line;
+        answered = refl;
+      },
+    )
 
 -- the session stopped behind a line
 pub stops_short : {g : Geometry} {start : State} {input left : Option (List ℕ)} {ended : Bool} {x : State} {old new : Option (List ℕ)} → HasAnswered g start input left ended x old new

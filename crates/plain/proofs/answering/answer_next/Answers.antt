@@ -1,11 +1,12 @@
 -- Whatever comes next, a line, one too long, the end or a fault, each whole line before it has its answer.
-use Rattle.std.proofs.Common.{arith}
-use Rattle.std.proofs.lemmas.Grind.{common_steps}
-use Rattle.std.proofs.Common.{refl, sym, ap, ◌∙◌, subst, ℕ, List, Option}
+use Rattle.std.proofs.Common.{refl, sym, ap, ◌∙◌, subst, ℕ, List, Option, Ok}
 use Rattle.std.specs.Prelude.{IfSome}
+use Rattle.std.proofs.lemmas.Result.{IfOk-from_err}
+use Rattle.std.proofs.lemmas.Option.{IfSome_then}
 use Rattle.language.specs.FirstLine.{LosesLineStart}
 use Rattle.message.specs.Reader.{unread, line_of, source}
 use Rattle.language.specs.Grammar.{message_of}
+use Rattle.language.specs.Replies.{no_message}
 use Rattle.message.specs.Waiting.{all_output}
 use Rattle.message.proofs.Adding.{adds_so_far}
 use Rattle.plain.specs.Server.{server_state}
@@ -32,7 +33,12 @@ returns-in-Err-answer_line-clause-out_of_memory g c = λ start input before h is
     (stops_short (goes_on {newer = all_output (g.W.Write.contents c.send_before_line.new.w) c.send_before_line.new.out} h c.in_ok-send_before_line.ensures.kept))
 
 pub returns-in-Ok-TooLong-clause-answered : goal.returns-in-Ok-TooLong-clause-answered
-returns-in-Ok-TooLong-clause-answered g c = grind (arith, common_steps, answers_long_line, goes_on, adds_so_far)
+returns-in-Ok-TooLong-clause-answered g c = λ start input before h.
+    let contents = g.W.Write.contents c.send_before_line.new.w in
+    answers_long_line
+    (goes_on {newer = all_output contents c.send_before_line.new.out} h c.in_ok-send_before_line.ensures.kept) (sym c.if-is_drained.ensures.value)
+    (rw c.in-Ok-TooLong.field-0-is at c.in-Ok-TooLong.ensures.found) (rw c.in-Ok-TooLong.field-0-is at c.in-Ok-TooLong.ensures.closes) refl
+    (adds_so_far contents c.send_before_line.new.out c.add_no_message.new.self no_message c.add_no_message.ensures)
 
 pub returns-in-Err-clause-read : goal.returns-in-Err-clause-read
 returns-in-Err-clause-read g c = λ start input before h _.
@@ -41,3 +47,15 @@ returns-in-Err-clause-read g c = λ start input before h _.
     fails (g.R.Read.remaining (source c.next_line.new.self))
     (goes_on {newer = all_output (g.W.Write.contents c.send_before_line.new.w) c.send_before_line.new.out} h c.in_ok-send_before_line.ensures.kept)
     (sym c.if-is_drained.ensures.value) (subst P c.in-Err.ensures.lost c.in-Err.ensures.found)
+
+pub returns-in-Ok-End-clause-answered : goal.returns-in-Ok-End-clause-answered
+returns-in-Ok-End-clause-answered g c = λ start input before h.
+    ends (goes_on {newer = all_output (g.W.Write.contents c.send_before_line.new.w) c.send_before_line.new.out} h c.in_ok-send_before_line.ensures.kept)
+    (IfSome_then (unread g.R.Read.remaining c.args.lines.now) (rw c.in-Ok-End.field-0-is at c.in-Ok-End.ensures.found) (λ bs at_end. at_end.none))
+
+pub returns-in-Ok-End-clause-end : goal.returns-in-Ok-End-clause-end
+returns-in-Ok-End-clause-end g c = λ knows _.
+    c.next_line.ensures.at_end knows (c.next_line.ensures.end (c.in-Ok-End.is ∙ ap Ok c.in-Ok-End.field-0-is))
+
+pub returns-in_err-send_before_line-clause-answered : goal.returns-in_err-send_before_line-clause-answered
+returns-in_err-send_before_line-clause-answered g c = λ start input before h. IfOk-from_err c.from_residual.result _ c.from_residual.ensures.0

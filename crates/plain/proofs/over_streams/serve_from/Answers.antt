@@ -1,18 +1,26 @@
 -- Where memory ran out, what was answered is sent before the end, so the output is a beginning of the serial one. Where that fails, too.
-use Rattle.std.proofs.lemmas.Grind.{common_steps}
-use Rattle.std.proofs.Common.{ℕ, List, Option, ap, arith, ◌∙◌, subst}
+use Rattle.std.proofs.Common.{◌≡◌, ℕ, List, Option, ap, arith, ◌∙◌, subst}
 use Rattle.std.specs.Prelude.{IsErrOf}
+use Rattle.std.proofs.lemmas.Result.{on_ok_weaker}
 use Rattle.message.specs.Waiting.{all_output}
 use Rattle.message.proofs.Beginnings.{none_waits}
 use Rattle.meaning.specs.State.{empty}
-use Rattle.meaning.specs.Output.{IsBeginning, WritesOutput}
+use Rattle.meaning.specs.Output.{IsBeginning, WritesOutput, serial_output}
 use Rattle.plain.specs.declared.fault.PlainFault.TheVariants.{Write}
 use Rattle.plain.proofs.Beginnings.{begins_at_end, begins_output}
 use Rattle.plain.proofs.SessionSteps.{writes_sent}
 use Rattle.plain.proofs.over_streams.serve_from.Goals as goal
 
+pub returns-clause-ok : goal.returns-clause-ok
+returns-clause-ok g c = on_ok_weaker c.answer_lent-answered.result.0
+    (λ whole. writes_sent (g.W.Write.contents c.args.w.now) _ _ c.in-Ok-new.ensures c.in_ok-send.ensures.none_waits
+    (g.R.Read.remaining c.args.r.now) (λ input written. written ≡ serial_output c.args.g.now empty input) whole c.in_ok-send.ensures.kept)
+    c.answer_lent-answered.ensures.ok
+
 pub returns-clause-out_of_memory : goal.returns-clause-out_of_memory
-returns-clause-out_of_memory g c = grind (arith, common_steps, writes_sent)
+returns-clause-out_of_memory g c = λ is.
+    writes_sent (g.W.Write.contents c.args.w.now) _ _ c.in-Ok-new.ensures c.in_ok-send.ensures.none_waits
+    (g.R.Read.remaining c.args.r.now) (IsBeginning c.args.g.now empty) (c.answer_lent-answered.ensures.out_of_memory is) c.in_ok-send.ensures.kept
 
 pub returns-in_err-send-clause-begun : goal.returns-in_err-send-clause-begun
 returns-in_err-send-clause-begun g c = λ is.

@@ -1,12 +1,14 @@
 -- A block in another's place leaves the counts; a new one adds one to its stripe, unless that is full.
-use Rattle.std.proofs.Common.{rules, ◌≡◌, ℕ, ◌+◌, cond, true, false, Some, List, ap, sym, ◌∙◌, subst}
-use Rattle.std.specs.Prelude.{is_some, unwrap_or}
+use Rattle.std.proofs.Common.{rules, ◌≡◌, ℕ, ◌+◌, Bool, cond, true, false, None, Some, List, ap, sym, ◌∙◌, subst}
+use Rattle.std.specs.Prelude.{◌||◌, nat_lt, is_some, unwrap_or, if◌then◌else◌}
 use Rattle.std.specs.BTreeMap as map
 use Rattle.std.specs.BTreeMap.{is_at}
 use Rattle.std.specs.Map.{lookup}
+use Rattle.std.proofs.lemmas.Bool.{le-ltb, lt-ltb}
 use Rattle.affinity.specs.declared.geometry.Geometry.{Geometry}
 use Rattle.language.specs.declared.Block.{Block}
-use Rattle.meaning.specs.State.{State, BlockKey, one_if}
+use Rattle.language.specs.declared.Refusal.TheVariants.{Space}
+use Rattle.meaning.specs.State.{State, BlockKey, blocks_in_stripe, one_if}
 use Rattle.meaning.specs.KeyOrders.{file_order, block_order}
 use Rattle.meaning.proofs.Keys.{one_block}
 use Rattle.plain.specs.Server.{StripeKey, is_stripe, server_state, noted}
@@ -24,6 +26,20 @@ as_noted : (es fs : List (StripeKey × ℕ)) (wanted : StripeKey → ℕ) → es
     → ((k : StripeKey) → unwrap_or (lookup (is_at (file_order k)) fs) 0 ≡ wanted k) → (k : StripeKey) → unwrap_or (lookup (is_at (file_order k)) es) 0
     ≡ wanted k
 as_noted es fs wanted e h k = ap (λ es. unwrap_or (lookup (is_at (file_order k)) es) 0) e ∙ h k
+
+-- no block is there, so the stripe decides
+by_stripe : {n count : ℕ} {there : Bool} (quota : ℕ) (t : Bool) → there ≡ false → count ≡ n → nat_lt count quota ≡ t → (there || nat_lt n quota) ≡ t
+by_stripe {n} {count} quota t absent same h = ap (λ (b : Bool). b || nat_lt n quota) absent ∙ ap (λ n. nat_lt n quota) (sym same) ∙ h
+
+pub returns-then-count-g-clause-room : goal.returns-then-count-g-clause-room
+returns-then-count-g-clause-room c = ap (λ t. if t then None else Some Space) (sym (by_stripe c.args.g.now.quota false (search rules)
+    (c.or_insert-count.ensures.value ∙ ap (λ o. unwrap_or o 0) c.in_ok-self.ensures.value ∙ c.requires.counted (c.args.a, c.args.v, c.group_of.result)
+    ∙ ap (blocks_in_stripe c.args.g.now (server_state c.args.self.now) c.args.a c.args.v) c.group_of.ensures.value) (le-ltb _ _ c.if-count-g.true)))
+
+pub returns-clause-room : goal.returns-clause-room
+returns-clause-room c = ap (λ t. if t then None else Some Space) (sym (by_stripe c.args.g.now.quota true (search rules)
+    (c.or_insert-count.ensures.value ∙ ap (λ o. unwrap_or o 0) c.in_ok-self.ensures.value ∙ c.requires.counted (c.args.a, c.args.v, c.group_of.result)
+    ∙ ap (blocks_in_stripe c.args.g.now (server_state c.args.self.now) c.args.a c.args.v) c.group_of.ensures.value) (lt-ltb _ _ c.if-count-g.false)))
 
 pub returns-in-Some-clause-state : goal.returns-in-Some-clause-state
 returns-in-Some-clause-state c = λ i. record (server_state c.args.self.now) {
