@@ -15,3 +15,4 @@ mod Examples
 mod Recorded
 mod Heads
 mod Walked
+mod Passed

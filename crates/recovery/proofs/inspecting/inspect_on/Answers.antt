@@ -1,10 +1,12 @@
 -- The records in force are those of the named half, and where it is chained those of the other half behind them.
-use Rattle.std.proofs.Common.{◌≡◌, ◌+◌, ◌≤◌, ℕ, length, Some, sym, ◌∙◌, ap, subst, arith}
+use Rattle.std.proofs.Common.{◌≡◌, ◌+◌, ◌≤◌, ℕ, List, length, Some, sym, ◌∙◌, ap, subst, arith}
 use Rattle.oplog.proofs.Answered.{err_is}
 use Rattle.affinity.specs.declared.geometry.Geometry.{Geometry}
+use Rattle.recovery.specs.declared.inspecting.Shown.{Shown}
 use Rattle.recovery.specs.Loading.{IsConsistentFault, records_fault}
 use Rattle.recovery.specs.Recovery.{decoding}
-use Rattle.device_map.specs.Layout.{image_part, layout_of, other, part_bytes}
+use Rattle.recovery.specs.Refusals.{IsRefused}
+use Rattle.device_map.specs.Layout.{device_size, image_part, layout_of, other, part_bytes}
 use Rattle.image.specs.Image.{version_in}
 use Rattle.language.specs.declared.Msg.TheVariants.{Summary}
 use Rattle.meaning.specs.Serial.{reply_to}
@@ -13,6 +15,7 @@ use Rattle.oplog.specs.Log.{Log}
 use Rattle.oplog.specs.Recovery.{run}
 use Rattle.parcel.specs.Tree.{TreeView, state_in}
 use Rattle.recovery.proofs.Behind.{HoldsInForce, alone_in_force, behind_refused, both_in_force, held_before}
+use Rattle.recovery.proofs.Passed.{after, opening_failed}
 use Rattle.recovery.proofs.Refusing.{behind_header}
 use Rattle.recovery.proofs.Replays.{same_bytes}
 use Rattle.recovery.proofs.inspecting.inspect_on.Goals as goal
@@ -83,3 +86,69 @@ returns-clause-shown g c = λ k.
       held = all.held;
       summary = c.step-summary.ensures.reply ∙ ap (λ (h : Geometry). reply_to h (state_in c.if-named.tree) Summary) kept;
     }
+
+pub returns-in_err-geometry-clause-memory : goal.returns-in_err-geometry-clause-memory
+returns-in_err-geometry-clause-memory g c = rw (err_is c.from_residual.ensures.1) (λ is. absurd (c.in_err-geometry.ensures.call.never_out_of_memory is))
+
+pub returns-in_err-geometry-clause-call : goal.returns-in_err-geometry-clause-call
+returns-in_err-geometry-clause-call g c = rw (err_is c.from_residual.ensures.1) (opening_failed Shown c.in_err-geometry.ensures.call)
+
+pub returns-in_err-tree-clause-call : goal.returns-in_err-tree-clause-call
+returns-in_err-tree-clause-call g c =
+    rw (err_is c.from_residual-in_err-tree.ensures.1, c.in_err-tree.ensures.fault) (c.in_ok-geometry.ensures.call.counts, c.in_ok-geometry.ensures.call.len)
+
+pub load_named-requires-clause-long_enough : goal.load_named-requires-clause-long_enough
+load_named-requires-clause-long_enough g c =
+    omega (arith, ap (λ (h : Geometry). device_size (layout_of h)) c.in_ok-tree.ensures.geometry, c.read_header.ensures.call.len, c.in_ok-geometry.ensures.long_enough)
+
+pub load_named-requires-clause-room : goal.load_named-requires-clause-room
+load_named-requires-clause-room g c =
+    omega (arith, ap (λ (h : Geometry). h.quota) c.in_ok-tree.ensures.geometry, c.in_ok-tree.ensures.buffer, ap (λ (l : List ℕ). length l) c.deref_mut.ensures.value)
+
+pub returns-in_err-named-clause-refused : goal.returns-in_err-named-clause-refused
+returns-in_err-named-clause-refused g c =
+    rw (err_is c.from_residual-in_err-named.ensures.1) (λ k.
+    subst (λ (l : List ℕ). IsRefused l c.in_err-named.field-0.0)
+    (same_bytes (g.D.Disk.medium c.args.disk.now) (g.D.Disk.medium c.read_header.new.disk) (c.read_header.ensures.call.untouched k)) (c.in_err-named.ensures.refused k))
+
+pub returns-in_err-named-clause-memory : goal.returns-in_err-named-clause-memory
+returns-in_err-named-clause-memory g c = rw (err_is c.from_residual-in_err-named.ensures.1) (λ is. absurd (c.in_err-named.ensures.call.never_out_of_memory is))
+
+pub returns-in_err-named-clause-call : goal.returns-in_err-named-clause-call
+returns-in_err-named-clause-call g c =
+    rw (err_is c.from_residual-in_err-named.ensures.1) (opening_failed Shown (after c.in_ok-geometry.ensures.call c.in_err-named.ensures.call))
+
+pub replay-requires-clause-usable : goal.replay-requires-clause-usable
+replay-requires-clause-usable g c =
+    let geometry = ap (λ (l : Log). l.geometry) c.in_ok-named.ensures.log ∙ c.in_ok-tree.ensures.geometry in
+    record {
+      not_failed = ap (λ (l : Log). l.failed) c.in_ok-named.ensures.log;
+      long_enough = omega (
+        arith,
+        ap (λ (h : Geometry). device_size (layout_of h)) geometry,
+        c.load_named.ensures.call.len,
+        c.read_header.ensures.call.len,
+        c.in_ok-geometry.ensures.long_enough,
+      );
+    }
+
+pub returns-in_err-more-clause-memory : goal.returns-in_err-more-clause-memory
+returns-in_err-more-clause-memory g c = rw (err_is c.from_residual-in_err-more.ensures.1) (λ is. absurd (c.in_err-more.ensures.call.never_out_of_memory is))
+
+pub returns-in_err-more-clause-call : goal.returns-in_err-more-clause-call
+returns-in_err-more-clause-call g c =
+    rw (err_is c.from_residual-in_err-more.ensures.1) (opening_failed Shown (after c.in_ok-geometry.ensures.call (after c.in_ok-named.ensures.call c.in_err-more.ensures.call)))
+
+pub returns-clause-untouched : goal.returns-clause-untouched
+returns-clause-untouched g c = λ k.
+    let before = c.load_named.ensures.call.untouched k ∙ c.read_header.ensures.call.untouched k in elim c.if-named.branch [
+      | then-named+in_ok-more w ↦ rw w.disk-is (w.replay.ensures.call.untouched k ∙ before)
+      | else-named w ↦ rw w.disk-is before
+    ]
+
+pub returns-clause-call : goal.returns-clause-call
+returns-clause-call g c =
+    let before = after c.in_ok-geometry.ensures.call c.in_ok-named.ensures.call in elim c.if-named.branch [
+      | then-named+in_ok-more w ↦ rw w.disk-is (w.in_ok-more.ensures.call.counts ∙ before.counts, w.in_ok-more.ensures.call.len ∙ before.len)
+      | else-named w ↦ rw w.disk-is (before.counts, before.len)
+    ]

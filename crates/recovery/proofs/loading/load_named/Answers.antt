@@ -1,5 +1,5 @@
 -- The image is read and the records of its half are run; a fault is the first in the order of the checks.
-use Rattle.std.proofs.Common.{◌≡◌, ℕ, ◌==◌, List, length, None, Option, Some, sym, ◌∙◌, ap, subst}
+use Rattle.std.proofs.Common.{◌≡◌, ◌≤◌, ℕ, ◌==◌, List, length, None, Option, Some, sym, ◌∙◌, ap, subst, arith}
 use Rattle.oplog.proofs.Answered.{err_is}
 use Rattle.affinity.specs.declared.geometry.Geometry.{Geometry}
 use Rattle.recovery.specs.declared.fault.OpenFault.{OpenFault}
@@ -7,12 +7,13 @@ use Rattle.recovery.specs.declared.fault.OpenFault.TheVariants.{BadChain}
 use Rattle.recovery.specs.Loading.{IsConsistentFault, IsOfHalf, are_both_chained, image_fault, records_fault}
 use Rattle.recovery.specs.Recovery.{decoding}
 use Rattle.recovery.specs.Refusals.{fault_if}
-use Rattle.image.specs.Image.{image_state}
+use Rattle.image.specs.Image.{image_state, version_in}
 use Rattle.oplog.specs.Front.{chain, front}
-use Rattle.device_map.specs.Layout.{image_part, layout_of, part_bytes}
+use Rattle.device_map.specs.Layout.{device_size, image_part, layout_of, part_bytes}
 use Rattle.oplog.specs.Log.{Log}
 use Rattle.oplog.specs.Recovery.{named_area, run}
 use Rattle.parcel.specs.Tree.{state_in}
+use Rattle.recovery.proofs.Passed.{after, answered, passed_on}
 use Rattle.recovery.proofs.Refusing.{chain_half, chain_refused, image_half, image_refused, named_refused, records_half, records_refused}
 use Rattle.recovery.proofs.Replays.{same_bytes}
 use Rattle.recovery.proofs.loading.load_named.Given.{Over}
@@ -120,3 +121,50 @@ returns-in_err-records-clause-half g c =
     rw (err_is c.from_residual-in_err-records.ensures.1) (λ k.
     subst (λ (n : ℕ). IsOfHalf n c.in_err-records.field-0.0) (names g (goal.at.returns-in_err-records-clause-half g c).In_ok-area k)
     (records_half c.in_ok-area.area _ _ (c.in_err-records.ensures.refused k)))
+
+pub returns-in_err-area-clause-call : goal.returns-in_err-area-clause-call
+returns-in_err-area-clause-call g c = rw (err_is c.from_residual.ensures.1) (passed_on c.in_err-area.ensures.call)
+
+pub read_image-requires-clause-long_enough : goal.read_image-requires-clause-long_enough
+read_image-requires-clause-long_enough g c = subst (λ (n : ℕ). device_size (layout_of c.args.tree.now.geometry) ≤ n) (sym c.named_area.ensures.call.len) c.requires.long_enough
+
+pub returns-in_err-version-clause-call : goal.returns-in_err-version-clause-call
+returns-in_err-version-clause-call g c =
+    rw (err_is c.from_residual-in_err-version.ensures.1) (passed_on (after c.in_ok-area.ensures.call c.in_err-version.ensures.call))
+
+pub chain_of-requires-clause-long_enough : goal.chain_of-requires-clause-long_enough
+chain_of-requires-clause-long_enough g c =
+    omega (arith, ap (λ (h : Geometry). device_size (layout_of h)) c.geometry-g.ensures, c.read_image.ensures.call.len, c.named_area.ensures.call.len, c.requires.long_enough)
+
+pub returns-in_err-chained-clause-call : goal.returns-in_err-chained-clause-call
+returns-in_err-chained-clause-call g c =
+    rw (err_is c.from_residual-in_err-chained.ensures.1) (passed_on (after c.in_ok-area.ensures.call (after c.in_ok-version.ensures.call c.in_err-chained.ensures.call)))
+
+pub replay-requires-clause-usable : goal.replay-requires-clause-usable
+replay-requires-clause-usable g c =
+    let log = ap (λ (l : Log). l.geometry) c.name.ensures ∙ ap (λ (l : Log). l.geometry) c.requires.log in
+    record {
+      not_failed = ap (λ (l : Log). l.failed) c.name.ensures ∙ ap (λ (l : Log). l.failed) c.requires.log;
+      long_enough = omega (
+        arith,
+        ap (λ (h : Geometry). device_size (layout_of h)) log,
+        c.chain_of.ensures.call.len,
+        c.read_image.ensures.call.len,
+        c.named_area.ensures.call.len,
+        c.requires.long_enough,
+      );
+    }
+
+pub returns-in_err-records-clause-call : goal.returns-in_err-records-clause-call
+returns-in_err-records-clause-call g c =
+    rw (err_is c.from_residual-in_err-records.ensures.1)
+    (passed_on (after c.in_ok-area.ensures.call (after c.in_ok-version.ensures.call (after c.in_ok-chained.ensures.call c.in_err-records.ensures.call))))
+
+pub returns-clause-version : goal.returns-clause-version
+returns-clause-version g c = λ k.
+    c.in_ok-version.ensures.version k
+    ∙ ap (λ (l : List ℕ). version_in (part_bytes (layout_of c.args.tree.now.geometry) (image_part c.in_ok-area.area) l)) (first g (goal.at.returns-clause-version g c).In_ok-area k)
+
+pub returns-clause-call : goal.returns-clause-call
+returns-clause-call g c =
+    answered (after c.in_ok-area.ensures.call (after c.in_ok-version.ensures.call (after c.in_ok-chained.ensures.call c.in_ok-records.ensures.call)))
