@@ -7,7 +7,8 @@ use Rattle.std.proofs.lemmas.List.{drop_all, drop_more}
 use Rattle.affinity.specs.declared.geometry.Geometry.{Geometry}
 use Rattle.recovery.specs.declared.fault.OpenFault.{OpenFault}
 use Rattle.recovery.specs.Loading.{NamedHolds}
-use Rattle.disk.specs.Device.{Medium}
+use Rattle.disk.specs.declared.fault.DiskFault.{DiskFault}
+use Rattle.disk.specs.Device.{CountsFault, Medium}
 use Rattle.disk.specs.Moments.{moment_number}
 use Rattle.image.specs.Pieces.{piece_count}
 use Rattle.checkpoint.specs.declared.opening.Parts.{Parts}
@@ -118,6 +119,10 @@ takes_most (Err e) n old new takes = takes
 pub takes_all : {T E : Type 0} (r : Result T E) (n : ℕ) (old new : Medium) → is_err r ≡ false → Costs r n old new → moment_number new ≡ moment_number old + n
 takes_all (Ok x) n old new fine takes = takes
 takes_all (Err e) n old new fine takes = absurd (true≢false fine)
+
+pub faults_stay : {T : Type 0} (r : Result T DiskFault) {old new : ℕ} → is_err r ≡ false → CountsFault r old new → new ≡ old
+faults_stay (Ok x) fine counts = counts
+faults_stay (Err e) fine counts = absurd (true≢false fine)
 
 -- k writes and syncs, of which all but those of the last call were made before it
 pub takes_with : {T E : Type 0} (r : Result T E) (n : ℕ) (old new : Medium) (k : ℕ) (start : Medium) → Costs r n old new → moment_number old + n ≡ moment_number start + k

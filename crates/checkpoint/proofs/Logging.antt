@@ -1,5 +1,5 @@
 -- What a crash leaves while messages are logged, and what the journal keeps once they are.
-use Rattle.std.proofs.Common.{◌≡◌, ℕ, zero, suc, ◌+◌, ◌<◌, Bool, true, false, ◌&&◌, cond, eqb, List, [], ◌∷◌, ◌++◌, length, take, Option, Some, None, is_some, option_map, unwrap_or, refl, sym, ◌∙◌, ap, subst, arith, true≢false, length-append}
+use Rattle.std.proofs.Common.{◌≡◌, ℕ, zero, suc, ◌+◌, ◌-◌, ◌<◌, Bool, true, false, ◌&&◌, cond, eqb, List, [], ◌∷◌, ◌++◌, length, take, Option, Some, None, is_some, option_map, unwrap_or, refl, sym, ◌∙◌, ap, subst, arith, true≢false, length-append}
 use Rattle.std.proofs.lemmas.List.{length-map, take-map}
 use Rattle.std.proofs.lemmas.Slice.Eq.{bytes_eq-Decides}
 use Rattle.std.specs.Str.{bytes_eq}
@@ -10,12 +10,13 @@ use Rattle.disk.specs.Moments.{CrashImagesAre}
 use Rattle.disk.proofs.Leaves.{itself}
 use Rattle.disk.proofs.Moments.{weaker}
 use Rattle.image.specs.Image.{image_head, image_state}
+use Rattle.image.specs.Pieces.{piece_count}
 use Rattle.image.specs.Touched.{may_change}
 use Rattle.image.proofs.Untouched.{piece_stays}
 use Rattle.meaning.proofs.Kept.{step_kept}
 use Rattle.std.specs.List.{AllByRecursion}
 use Rattle.checkpoint.specs.Journal.{JournalView, AreCarriedOut, RecoversWithPrefix, IsRecoverable}
-use Rattle.checkpoint.specs.Keeping.{IsCutIfRunning, IsUpToDate, FitsCutState, IsSoundJournal, image_after_cut, journal_view_of}
+use Rattle.checkpoint.specs.Keeping.{AreCleanBefore, IsCutIfRunning, IsUpToDate, FitsCutState, IsSoundJournal, image_after_cut, journal_view_of}
 use Rattle.checkpoint.specs.DirtyPieces.{AreBothTouched, DirtiesTouched}
 use Rattle.checkpoint.specs.Steps.{RecoversByArea, run_on}
 use Rattle.checkpoint.specs.Journal.{RecoversStill}
@@ -24,6 +25,8 @@ use Rattle.checkpoint.proofs.Cutting.{named_below}
 use Rattle.checkpoint.proofs.Forced.{forced_more, used_most}
 use Rattle.checkpoint.proofs.Recovering.{holds_by, holds_now}
 use Rattle.checkpoint.specs.Fields.{IsJournal, journal_view}
+use Rattle.checkpoint.specs.Buffers.{KeepsBuffers}
+use Rattle.checkpoint.specs.declared.journal.Buffers.{Buffers}
 use Rattle.checkpoint.specs.declared.journal.Journal.TheInside.{Inside}
 use Rattle.oplog.specs.Beyond.{KeepsBeyond}
 use Rattle.language.specs.declared.Msg.{Msg}
@@ -32,7 +35,7 @@ use Rattle.message.specs.Records.{message_in_fields, record_of}
 use Rattle.message.proofs.RecordLemmas.{record_says}
 use Rattle.oplog.specs.Calls.{Grows, HasAdded}
 use Rattle.oplog.specs.Front.{chain, front}
-use Rattle.device_map.specs.Layout.{layout_of, image_part, other}
+use Rattle.device_map.specs.Layout.{layout_of, device_size, image_part, image_size, other}
 use Rattle.oplog.specs.Log.{Log}
 use Rattle.oplog.specs.Changing.{records_of}
 use Rattle.oplog.specs.Recovery.{run, records_in}
@@ -115,6 +118,31 @@ module _ {D : Type 0} {medium : D → Medium} {keeps : Type 0} {j : Inside D} {s
 
   pub fits_of : FitsCutState j.halves j.buffers.pending.items j.pieces_left
   fits_of = kept.fits_cut_state (ap (λ (h : JournalView). h.failed) view ∙ fine)
+
+-- what holds of a journal after a call in which the device failed
+pub failed_kept : {D : Type 0} {medium : D → Medium} {keeps : Type 0} {j : Inside D} {disk : D} {halves : Log} {buffers : Buffers} → IsJournal medium keeps j
+    → halves.geometry ≡ j.halves.geometry → halves.used ≡ j.halves.used → halves.failed ≡ true → length (medium disk).now ≡ length (medium j.disk).now → KeepsBuffers j.buffers buffers
+    → IsJournal medium keeps (record j { disk = disk; halves = halves; buffers = buffers })
+failed_kept {j} kept geometry used failed long same = record {
+  long_enough = omega (arith, kept.long_enough, long, ap (λ (g : Geometry). device_size (layout_of g)) geometry);
+  used = omega (arith, kept.used, used, ap (λ (g : Geometry). g.half) geometry);
+  fit = record {
+    snapshot = same.size ∙ kept.fit.snapshot ∙ sym (ap image_size geometry);
+    named_dirty = ap (λ (b : Buffers). length b.named_dirty.items) same.flags ∙ kept.fit.named_dirty ∙ sym (ap piece_count geometry);
+    other_dirty = ap (λ (b : Buffers). length b.other_dirty.items) same.flags ∙ kept.fit.other_dirty ∙ sym (ap piece_count geometry);
+    pending = ap (λ (b : Buffers). length b.pending.items) same.flags ∙ kept.fit.pending ∙ sym (ap piece_count geometry);
+  };
+  fits_cut_state = λ fine. absurd (true≢false (sym failed ∙ fine));
+  sound = λ fine k. absurd (true≢false (sym failed ∙ fine));
+  next_pending = omega (arith, kept.next_pending, ap (λ (b : Buffers). length b.pending.items) same.flags);
+  clean_before = subst (λ (b : Buffers). AreCleanBefore j.next_pending b.pending.items) (sym same.flags) kept.clean_before;
+}
+
+pub failed_view : (log log' : Log) {named others : List Bool} {pieces_left : Option ℕ} {m m' : Medium} {self : JournalView} → log'.geometry ≡ log.geometry → log'.used ≡ log.used
+    → log'.failed ≡ true → journal_view_of log named others pieces_left m ≡ self → journal_view_of log' named others pieces_left m' ≡ record self { failed = true; medium = m' }
+failed_view log log' {named} {others} {pieces_left} {m} {m'} geometry used failed view =
+    (λ i. record (journal_view_of log named others pieces_left m) { geometry = geometry i; room = (geometry i).half - used i; failed = failed i; medium = m' })
+    ∙ ap (λ (h : JournalView). record h { failed = true; medium = m' }) view
 
 -- what a step leaves of the device, in the words of contracts
 pub still_of : {h self : JournalView} {w1 : Medium} → h ≡ self → RecoversStill h.geometry h.medium w1 → RecoversStill self.geometry self.medium w1

@@ -1,12 +1,13 @@
 -- The synced image and the records behind it recover to the same as the named area, so a torn root byte does no harm.
-use Rattle.std.proofs.Common.{◌≡◌, ◌<◌, sym, ◌∙◌, subst}
+use Rattle.std.proofs.Common.{◌≡◌, ◌<◌, ℕ, sym, ◌∙◌, subst, arith}
 use Rattle.disk.specs.Device.{Medium}
-use Rattle.oplog.specs.Log.{layout_of_log}
+use Rattle.oplog.specs.Log.{CountsLogFault, layout_of_log}
 use Rattle.std.proofs.lemmas.Result.{on_ok_weaker}
 use Rattle.oplog.proofs.Answered.{on_ok}
 use Rattle.oplog.proofs.Beyond.{beyond, beyond_sync, beyond_then}
 use Rattle.oplog.specs.Changes.{IsSameButRoot, Flipped}
 use Rattle.device_map.specs.Layout.{layout_of, other}
+use Rattle.checkpoint.proofs.Costs.{faults_stay, takes_all, takes_most, takes_with}
 use Rattle.checkpoint.proofs.Cutting.{name_moments, named, named_below, sync_moments}
 use Rattle.disk.specs.Device.{synced}
 use Rattle.checkpoint.proofs.checkpoint_steps.flip_on.Given.{Over}
@@ -46,3 +47,23 @@ returns-clause-flipped g c =
     (subst (λ (m : Medium). Flipped (layout_of_log c.args.halves.now) (other c.args.halves.now.named) m (g.D.Disk.medium c.flip_root.new.disk)) (syncs g here k) (flipped k))
     c.requires.usable.long_enough)
     c.flip_root.ensures.flipped
+
+pub returns-then-is_err-clause-costs : goal.returns-then-is_err-clause-costs
+returns-then-is_err-clause-costs g c = λ k. omega (arith, takes_most c.sync_image.result _ _ _ (c.sync_image.ensures.costs k))
+
+pub returns-clause-costs : goal.returns-clause-costs
+returns-clause-costs g c = λ k.
+    let one = takes_all c.sync_image.result _ _ _ (sym c.is_err.ensures.value ∙ c.if-is_err.false) (c.sync_image.ensures.costs k) in
+    takes_with c.flip_root.result _ _ _ 3 (g.D.Disk.medium c.args.disk.now) (c.flip_root.ensures.costs k) (omega (arith, one))
+
+pub flip_root-requires : goal.flip_root-requires
+flip_root-requires g c = record { usable = record { not_failed = c.requires.usable.not_failed; long_enough = omega (arith, c.requires.usable.long_enough, c.sync_image.ensures.call.len) } }
+
+pub returns-clause-call : goal.returns-clause-call
+returns-clause-call g c =
+    let same = faults_stay c.sync_image.result (sym c.is_err.ensures.value ∙ c.if-is_err.false) c.sync_image.ensures.call.counts in
+    record {
+      counts = subst (λ (n : ℕ). CountsLogFault c.flip_root.result n (g.D.Disk.medium c.flip_root.new.disk).faults) same c.flip_root.ensures.call.counts;
+      len = c.flip_root.ensures.call.len ∙ c.sync_image.ensures.call.len;
+      device = c.flip_root.ensures.call.device;
+    }

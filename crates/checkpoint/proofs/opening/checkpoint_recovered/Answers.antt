@@ -1,7 +1,8 @@
 -- All pieces are dirty, so the snapshot is the image of the whole state, and is written in one run.
-use Rattle.std.proofs.Common.{Bool, List, sym, ◌∙◌, ap, subst, arith, true≢false}
+use Rattle.std.proofs.Common.{Bool, List, length, refl, sym, ◌∙◌, ap, subst, arith, true≢false}
 use Rattle.oplog.proofs.Answered.{err_is}
-use Rattle.image.specs.Image.{image_state}
+use Rattle.affinity.specs.declared.geometry.Geometry.{Geometry}
+use Rattle.image.specs.Image.{image_of, image_state}
 use Rattle.image.proofs.Reading.{read_again}
 use Rattle.checkpoint.specs.Costs.{count_runs}
 use Rattle.checkpoint.specs.Extents.{AreAllDirty}
@@ -10,6 +11,28 @@ use Rattle.checkpoint.proofs.Rows.{whole_put}
 use Rattle.checkpoint.proofs.Saving.{whole_again}
 use Rattle.parcel.specs.Tree.{state_in}
 use Rattle.checkpoint.proofs.opening.checkpoint_recovered.Goals as goal
+
+pub returns-in_err-point_on-clause-snapshot : goal.returns-in_err-point_on-clause-snapshot
+returns-in_err-point_on-clause-snapshot g c =
+    whole_again (state_in c.args.parts.now.tree) _ c.requires.loaded.geometry c.requires.loaded.all c.deref.ensures.value
+    c.update_snapshot.ensures.image (whole_put _ c.update_snapshot.ensures.size c.deref_mut.ensures.value c.deref_mut.ensures.len)
+    ∙ sym (ap (λ (g : Geometry). image_of 2 g (state_in c.args.parts.now.tree)) c.requires.loaded.geometry)
+
+pub returns-clause-snapshot : goal.returns-clause-snapshot
+returns-clause-snapshot g c =
+    whole_again (state_in c.args.parts.now.tree) _ c.requires.loaded.geometry c.requires.loaded.all c.deref.ensures.value
+    c.update_snapshot.ensures.image (whole_put _ c.update_snapshot.ensures.size c.deref_mut.ensures.value c.deref_mut.ensures.len)
+    ∙ sym (ap (λ (g : Geometry). image_of 2 g (state_in c.args.parts.now.tree)) c.requires.loaded.geometry)
+
+pub returns-in_err-point_on-clause-room : goal.returns-in_err-point_on-clause-room
+returns-in_err-point_on-clause-room g c =
+    let put = whole_put _ c.update_snapshot.ensures.size c.deref_mut.ensures.value c.deref_mut.ensures.len in
+    record { size = ap length put ∙ c.update_snapshot.ensures.size ∙ ap length c.deref_mut.ensures.value; flags = refl }
+
+pub returns-clause-room : goal.returns-clause-room
+returns-clause-room g c =
+    let put = whole_put _ c.update_snapshot.ensures.size c.deref_mut.ensures.value c.deref_mut.ensures.len in
+    record { size = ap length put ∙ c.update_snapshot.ensures.size ∙ ap length c.deref_mut.ensures.value; flags = refl }
 
 pub point_on-requires-clause-image : goal.point_on-requires-clause-image
 point_on-requires-clause-image g c = λ k.

@@ -1,21 +1,23 @@
 -- What a crash leaves recovers to the committed state with the first m of the messages run on it; all that they touch is dirty.
-use Rattle.std.proofs.Common.{◌≡◌, ℕ, ◌+◌, Some, length, refl, sym, ◌∙◌, ap, subst, arith}
+use Rattle.std.proofs.Common.{◌≡◌, ℕ, ◌+◌, true, Some, Err, length, refl, sym, ◌∙◌, ap, subst, arith}
+use Rattle.oplog.proofs.Answered.{err_is}
 use Rattle.affinity.specs.declared.geometry.Geometry.{Geometry}
 use Rattle.recovery.specs.Recovery.{recovered_state}
-use Rattle.disk.specs.Moments.{CrashImagesAre}
+use Rattle.disk.specs.Moments.{CrashImagesAre, moment_number}
 use Rattle.image.specs.Pieces.{piece_count}
 use Rattle.checkpoint.specs.Journal.{AreCarriedOut, JournalView, RecoversWithPrefix, committed}
 use Rattle.checkpoint.specs.Keeping.{FitsCutState, journal_view_of}
-use Rattle.checkpoint.proofs.Logging.{beyond_of, fits_of, sound_of, log_kept, log_moments, log_records, log_told, placed_used, recoverable_of, sound_along, touched_along}
+use Rattle.checkpoint.proofs.Logging.{beyond_of, failed_kept, failed_view, fits_of, sound_of, log_kept, log_moments, log_records, log_told, placed_used, recoverable_of, sound_along, touched_along}
 use Rattle.checkpoint.proofs.Rows.{same_dirty, whole_put}
 use Rattle.disk.proofs.Moments.{weaker}
 use Rattle.oplog.specs.Beyond.{KeepsBeyond}
 use Rattle.device_map.specs.Layout.{device_size, image_size, layout_of}
-use Rattle.oplog.specs.Log.{Log, layout_of_log}
+use Rattle.oplog.specs.declared.fault.LogFault.{LogFault}
+use Rattle.oplog.specs.Log.{CountsLogFault, Log, layout_of_log, log_after}
 use Rattle.oplog.specs.Recovery.{records_in}
 use Rattle.meaning.specs.State.{State}
 use Rattle.checkpoint.proofs.journal.Journal.log.Given.{Over}
-use Rattle.checkpoint.proofs.journal.Journal.log.Goals.{After-append}
+use Rattle.checkpoint.proofs.journal.Journal.log.Goals.{After-append, In_err-append}
 use Rattle.checkpoint.proofs.journal.Journal.log.Goals as goal
 
 moments : (g : Over) (c : After-append g) → g.D.Disk.keeps → (x : State) → committed c.args.self.now ≡ Some x
@@ -33,6 +35,45 @@ stays g c k =
 out : (g : Over) (c : After-append g) → g.D.Disk.keeps → (x : State) → recovered_state c.self.inside.halves.geometry (g.D.Disk.medium c.self.inside.disk).now ≡ Some x
     → AreCarriedOut c.self.inside.halves.geometry x c.args.messages.now
 out g c k x is = subst (λ (h : JournalView). AreCarriedOut h.geometry x c.args.messages.now) (sym c.self.view_is) (c.requires.carried_out k x (sym (ap committed c.self.view_is) ∙ is))
+
+-- at a fault the log is as it was, but has failed
+failed : (g : Over) (c : In_err-append g) → c.append.new.self ≡ record c.self.inside.halves { failed = true }
+failed g c =
+    c.in_err-append.ensures.log
+    ∙ ap (λ (e : LogFault). log_after {T = Unit {0}} (Err e) c.self.inside.halves (record c.self.inside.halves { used = c.self.inside.halves.used + length c.args.messages.now }))
+    c.in_err-append.ensures.call.device
+
+pub invariant_of-self : goal.invariant_of-self
+invariant_of-self g c =
+    let log = failed g (goal.at.invariant_of-self g c).In_err-append in
+    failed_kept c.self.invariant (ap (λ (l : Log). l.geometry) log) (ap (λ (l : Log). l.used) log) (ap (λ (l : Log). l.failed) log) c.append.ensures.call.len (record { size = refl; flags = refl })
+
+pub returns-in_err-append-clause-after : goal.returns-in_err-append-clause-after
+returns-in_err-append-clause-after g c =
+    let log = failed g (goal.at.returns-in_err-append-clause-after g c).In_err-append in
+    rw (err_is c.from_residual.ensures.1)
+    (failed_view c.self.inside.halves c.append.new.self (ap (λ (l : Log). l.geometry) log) (ap (λ (l : Log). l.used) log) (ap (λ (l : Log). l.failed) log) c.self.view_is)
+
+pub returns-in_err-append-clause-none : goal.returns-in_err-append-clause-none
+returns-in_err-append-clause-none g c = λ none.
+    let counted = subst (λ (e : LogFault). CountsLogFault {T = Unit {0}} (Err e) (g.D.Disk.medium c.self.inside.disk).faults (g.D.Disk.medium c.append.new.disk).faults)
+    c.in_err-append.ensures.call.device c.in_err-append.ensures.call.counts in
+    absurd (omega (arith, counted, ap (λ d. (g.D.Disk.medium d).faults) (c.append.ensures.none none)))
+
+pub returns-in_err-append-clause-costs : goal.returns-in_err-append-clause-costs
+returns-in_err-append-clause-costs g c =
+    rw (err_is c.from_residual.ensures.1) (λ k. omega (arith, ap (λ (h : JournalView). moment_number h.medium) c.self.view_is, c.in_err-append.ensures.costs k))
+
+pub returns-in_err-append-clause-call : goal.returns-in_err-append-clause-call
+returns-in_err-append-clause-call g c = rw (err_is c.from_residual.ensures.1, ← c.self.view_is) c.in_err-append.ensures.call
+
+pub dirty_touched-requires : goal.dirty_touched-requires
+dirty_touched-requires g c =
+    record { size = ap length c.deref_mut.ensures.value ∙ c.self.invariant.fit.named_dirty ∙ sym (ap piece_count (c.geometry-g.ensures ∙ ap (λ (l : Log). l.geometry) c.in_ok-append.ensures.log)) }
+
+pub dirty_touched-requires-2 : goal.dirty_touched-requires-2
+dirty_touched-requires-2 g c =
+    record { size = ap length c.deref_mut-2.ensures.value ∙ c.self.invariant.fit.other_dirty ∙ sym (ap piece_count (c.geometry-g.ensures ∙ ap (λ (l : Log). l.geometry) c.in_ok-append.ensures.log)) }
 
 pub returns-in_err-append-clause-any_moment : goal.returns-in_err-append-clause-any_moment
 returns-in_err-append-clause-any_moment g c = moments g (goal.at.returns-in_err-append-clause-any_moment g c).After-append

@@ -1,17 +1,22 @@
 -- A piece is written into the image that isn't named, so what a crash leaves recovers to the same; one piece fewer is left.
 use Rattle.std.proofs.Common.{◌≡◌, ◌≢◌, ◌<◌, ◌-◌, ℕ, Bool, true, false, List, length, get_or, Option, Some, is_some, option_map, set, unwrap_or, refl, sym, ◌∙◌, ap, subst, arith}
 use Rattle.std.proofs.lemmas.List.{length-set}
+use Rattle.affinity.specs.declared.geometry.Geometry.{Geometry}
+use Rattle.disk.specs.Moments.{moment_number}
+use Rattle.image.specs.Pieces.{piece_count}
 use Rattle.disk.proofs.Leaves.{itself}
 use Rattle.disk.proofs.Moments.{started}
 use Rattle.checkpoint.specs.Journal.{JournalView, IsRecoverable, records, committed}
 use Rattle.checkpoint.specs.Keeping.{AreCleanBefore, FitsCutState, IsSoundJournal}
 use Rattle.checkpoint.specs.DirtyPieces.{count_dirty}
-use Rattle.checkpoint.proofs.Logging.{beyond_of, fits_of, recoverable_of, sound_of, still_of}
+use Rattle.checkpoint.proofs.Costs.{takes_all, takes_most}
+use Rattle.checkpoint.proofs.Logging.{beyond_of, failed_kept, failed_view, fits_of, recoverable_of, sound_of, still_of}
 use Rattle.checkpoint.proofs.Pointing.{other_written}
 use Rattle.checkpoint.proofs.Rows.{clear_set, count_cleared}
 use Rattle.checkpoint.proofs.Piecing.{IsPieced, piece_counted, piece_left, piece_moments, piece_records, none_due, patches_one, piece_same, piece_some, piece_sound, pieced_along, some_left}
 use Rattle.oplog.proofs.Beyond.{beyond, beyond_none}
-use Rattle.device_map.specs.Layout.{layout_of, other}
+use Rattle.device_map.specs.Layout.{device_size, image_size, layout_of, other}
+use Rattle.oplog.specs.Log.{Log}
 use Rattle.oplog.proofs.Answered.{on_ok}
 use Rattle.checkpoint.proofs.journal.Journal.piece.Given.{Over}
 use Rattle.checkpoint.proofs.journal.Journal.piece.Goals.{After-deref-2, In-Some-pieces_left, In_default}
@@ -56,6 +61,48 @@ kept g c k left =
     let due = some_left c.self.inside.pieces_left (ap (λ (h : JournalView). is_some h.pieces_left) c.self.view_is ∙ c.requires.running) in
     piece_sound _ (g.met.D.Disk.bytes c.self.inside.disk) (sound_of c.self.invariant c.self.view_is c.requires.not_failed k) (g.met.D.Disk.bytes c.write_extent.new.disk)
     c.in-Some.n due.0 left due.1 (subst (λ (l : List Bool). c.in-Some.n < length l) c.deref.ensures.value c.in-Some.ensures.inside) (pieced g c k)
+
+pub first_dirty-requires-clause-inside : goal.first_dirty-requires-clause-inside
+first_dirty-requires-clause-inside g c = omega (arith, c.self.invariant.next_pending, ap length c.deref.ensures.value)
+
+pub first_dirty-requires-clause-clear : goal.first_dirty-requires-clause-clear
+first_dirty-requires-clause-clear g c = subst (λ (l : List Bool). AreCleanBefore c.self.inside.next_pending l) (sym c.deref.ensures.value) c.self.invariant.clean_before
+
+pub write_extent-requires-clause-n : goal.write_extent-requires-clause-n
+write_extent-requires-clause-n g c = omega (arith, c.in-Some.ensures.inside, ap length c.deref.ensures.value, c.self.invariant.fit.pending, ap piece_count c.geometry-g.ensures)
+
+pub write_extent-requires-clause-size : goal.write_extent-requires-clause-size
+write_extent-requires-clause-size g c = ap length c.deref-2.ensures.value ∙ c.self.invariant.fit.snapshot ∙ sym (ap image_size c.geometry-g.ensures)
+
+pub write_extent-requires-clause-long_enough : goal.write_extent-requires-clause-long_enough
+write_extent-requires-clause-long_enough g c = omega (arith, c.self.invariant.long_enough, ap (λ (x : Geometry). device_size (layout_of x)) c.geometry-g.ensures)
+
+pub invariant_of-self : goal.invariant_of-self
+invariant_of-self g c =
+    let log = c.fail.ensures.log in
+    failed_kept c.self.invariant (ap (λ (l : Log). l.geometry) log) (ap (λ (l : Log). l.used) log) (ap (λ (l : Log). l.failed) log) c.write_extent.ensures.call.len
+    (record { size = refl; flags = refl })
+
+pub returns-then-is_err-clause-after : goal.returns-then-is_err-clause-after
+returns-then-is_err-clause-after g c =
+    let log = c.fail.ensures.log in
+    failed_view c.self.inside.halves c.fail.new.self (ap (λ (l : Log). l.geometry) log) (ap (λ (l : Log). l.used) log) (ap (λ (l : Log). l.failed) log) c.self.view_is
+
+pub returns-then-is_err-clause-costs : goal.returns-then-is_err-clause-costs
+returns-then-is_err-clause-costs g c = λ some k.
+    omega (arith, ap (λ (h : JournalView). moment_number h.medium) c.self.view_is, takes_most c.write_extent.result _ _ _ (c.write_extent.ensures.costs k))
+
+pub returns-clause-costs : goal.returns-clause-costs
+returns-clause-costs g c = λ some k.
+    let wrote = takes_all c.write_extent.result _ _ _ (sym c.is_err.ensures.value ∙ c.if-is_err.false) (c.write_extent.ensures.costs k) in
+    omega (arith, ap (λ (h : JournalView). moment_number h.medium) c.self.view_is, wrote)
+
+pub returns-in_default-clause-pieces_left : goal.returns-in_default-clause-pieces_left
+returns-in_default-clause-pieces_left g c = ap (option_map (λ (l : ℕ). l - 1)) (none_left g c)
+
+pub returns-in_default-clause-after : goal.returns-in_default-clause-after
+returns-in_default-clause-after g c =
+    ap (λ (o : Option ℕ). record c.args.self.now { pieces_left = o }) (none_left g c ∙ sym (ap (option_map (λ (l : ℕ). l - 1)) (none_left g c)))
 
 pub returns-in_default-clause-recoverable : goal.returns-in_default-clause-recoverable
 returns-in_default-clause-recoverable g c = λ k. subst (λ (h : JournalView). IsRecoverable h) c.self.view_is (recoverable_of (sound_of c.self.invariant c.self.view_is c.requires.not_failed k))

@@ -12,7 +12,7 @@ use Rattle.checkpoint.specs.Journal.{JournalView, committed}
 use Rattle.checkpoint.specs.Keeping.{FitsCutState}
 use Rattle.checkpoint.specs.Steps.{IsPointed}
 use Rattle.checkpoint.proofs.Costs.{few_writes}
-use Rattle.checkpoint.proofs.Logging.{beyond_of, recoverable_of, sound_along, still_of}
+use Rattle.checkpoint.proofs.Logging.{beyond_of, failed_kept, failed_view, fits_of, recoverable_of, sound_along, still_of}
 use Rattle.checkpoint.proofs.Rows.{whole_put}
 use Rattle.recovery.specs.Version.{named_version}
 use Rattle.checkpoint.proofs.Saving.{agrees, is_alone, point_committed, point_sound, pointed_version, reads, Saves, saves}
@@ -37,6 +37,33 @@ made : (g : Over) (c : After-swap_and_clear_dirty g) → g.D.Disk.keeps
 made g c k =
     subst (λ (l : List ℕ). IsPointed c.self.inside.halves l (g.D.Disk.medium c.self.inside.disk) (g.D.Disk.medium c.point_on.new.disk))
     (c.deref-2.ensures.value ∙ whole_put c.update_snapshot.new.bytes c.update_snapshot.ensures.size c.deref_mut.ensures.value c.deref_mut.ensures.len) (c.in_ok-point_on.ensures.pointed k)
+
+pub update_snapshot-requires-clause-dirty : goal.update_snapshot-requires-clause-dirty
+update_snapshot-requires-clause-dirty g c =
+    ap length c.deref.ensures.value ∙ c.self.invariant.fit.named_dirty ∙ ap (λ (h : JournalView). piece_count h.geometry) c.self.view_is ∙ sym (ap piece_count c.requires.geometry)
+
+pub update_snapshot-requires-clause-size : goal.update_snapshot-requires-clause-size
+update_snapshot-requires-clause-size g c =
+    ap length c.deref_mut.ensures.value ∙ c.self.invariant.fit.snapshot ∙ ap (λ (h : JournalView). image_size h.geometry) c.self.view_is ∙ sym (ap image_size c.requires.geometry)
+
+pub point_on-requires-clause-current_is_named : goal.point_on-requires-clause-current_is_named
+point_on-requires-clause-current_is_named g c =
+    subst (λ (o : Option ℕ). FitsCutState c.self.inside.halves c.self.inside.buffers.pending.items o) (ap (λ (h : JournalView). h.pieces_left) c.self.view_is ∙ c.requires.no_cut)
+    (fits_of c.self.invariant c.self.view_is c.requires.not_failed)
+
+pub invariant_of-self : goal.invariant_of-self
+invariant_of-self g c =
+    let snapshot = whole_put c.update_snapshot.new.bytes c.update_snapshot.ensures.size c.deref_mut.ensures.value c.deref_mut.ensures.len in
+    failed_kept c.self.invariant c.point_on.ensures.geometry c.in_err-point_on.ensures.used c.in_err-point_on.ensures.failed c.point_on.ensures.call.len
+    (record { size = ap length snapshot ∙ c.update_snapshot.ensures.size ∙ ap length c.deref_mut.ensures.value; flags = refl })
+
+pub returns-in_err-point_on-clause-after : goal.returns-in_err-point_on-clause-after
+returns-in_err-point_on-clause-after g c =
+    rw (err_is c.from_residual.ensures.1)
+    (failed_view c.self.inside.halves c.point_on.new.halves c.point_on.ensures.geometry c.in_err-point_on.ensures.used c.in_err-point_on.ensures.failed c.self.view_is)
+
+pub returns-in_err-point_on-clause-call : goal.returns-in_err-point_on-clause-call
+returns-in_err-point_on-clause-call g c = rw (err_is c.from_residual.ensures.1, ← c.self.view_is) c.in_err-point_on.ensures.call
 
 pub point_on-requires-clause-alone : goal.point_on-requires-clause-alone
 point_on-requires-clause-alone g c = λ k. is_alone (saved g c k)
