@@ -2,7 +2,8 @@
 use Rattle.std.proofs.lemmas.Grind.{common_steps}
 use Rattle.std.proofs.Common.{◌≡◌, ℕ, ◌+◌, ◌-◌, ◌<◌, List, length, ap, ◌∙◌, arith, slice_index, get_or}
 use Rattle.std.proofs.lemmas.List.{get_or_default}
-use Rattle.arena.specs.Lists.{first_of}
+use Rattle.std.specs.List.{concat}
+use Rattle.arena.specs.Lists.{count_of, first_of}
 use Rattle.arena.specs.Linked.{Linked, list_at, ring, rings, stored, IsLinked, KeepLists, IsWellLinked}
 use Rattle.arena.proofs.Ways.{walk-inside, count_of-no_slot, table-at, length-table}
 use Rattle.arena.proofs.Alone.{count_of-table}
@@ -22,6 +23,16 @@ end-below slots next previous list ok within = grind (arith, common_steps, lengt
 -- the sentinel of a list, as contracts see the list, lies within the arrays
 pub end-there : (slots : ℕ) (next previous : List ℕ) (links : Linked) (list : ℕ) → stored slots next ≡ links → KeepLists slots next previous → list < length links.lists → slots + list < length next
 end-there slots next previous links list view ok within = end-below slots next previous list ok (rw (← view) at within)
+
+-- A slot that is on no list, and a list that is there: what a call asks that puts the one on the other.
+pub record MayAdd (links : Linked) (slot list : ℕ) : Type 0 where
+  pub slot_is_there : slot < links.slots
+  pub list_is_there : list < length links.lists
+  pub alone : count_of slot (concat links.lists) ≡ 0
+
+pub may_add : {stored links : Linked} {slot list : ℕ} → stored ≡ links → slot < links.slots → list < length links.lists → count_of slot (concat links.lists) ≡ 0
+    → MayAdd stored slot list
+may_add view within there nowhere = rw view (record { slot_is_there = within; list_is_there = there; alone = nowhere })
 
 pub list-below : (slots : ℕ) (next : List ℕ) (list : ℕ) → list < length (stored slots next).lists → list < length next - slots
 list-below slots next list within = omega (arith, length-table (ring (λ x. slice_index next x) slots) slots (length next - slots))

@@ -1,21 +1,18 @@
 -- The slot is put last on a list.
 use Rattle.std.proofs.Common.{◌≡◌, ◌≢◌, ℕ, ◌+◌, ◌<◌, List, [], ◌∷◌, ◌++◌, length, sym, ap, subst, ◌∙◌, arith, slice_index, slice_set}
-use Rattle.std.specs.List.{concat}
-use Rattle.arena.specs.Lists.{count_of}
 use Rattle.arena.specs.Linked.{list_at, KeepLists, stored}
 use Rattle.arena.proofs.Alone.{alone-from_times}
 use Rattle.arena.proofs.Inserting.{IsInserted, rings-appended, IsLinked-appended}
-use Rattle.arena.proofs.Stored.{stored-same, end-below, list-below}
+use Rattle.arena.proofs.Stored.{MayAdd, stored-same, end-below, list-below}
 use Rattle.arena.proofs.StoredInserting.{long_next, inserted, KeepLists-by}
 
-module _ (slots slot list before : ℕ) (next previous : List ℕ) (ok : KeepLists slots next previous) (within : slot < slots)
-    (list_within : list < length (stored slots next).lists) (nowhere : count_of slot (concat (stored slots next).lists) ≡ 0)
+module _ (slots slot list before : ℕ) (next previous : List ℕ) (ok : KeepLists slots next previous) (may : MayAdd (stored slots next) slot list)
     (before_is : before ≡ slice_index previous (slots + list)) where
   end_below : slots + list < length next
-  end_below = end-below slots next previous list ok list_within
+  end_below = end-below slots next previous list ok may.list_is_there
 
   alone : slice_index next slot ≡ slot
-  alone = alone-from_times slots (length next) (λ x. slice_index next x) (λ x. slice_index previous x) ok.linked slot within nowhere
+  alone = alone-from_times slots (length next) (λ x. slice_index next x) (λ x. slice_index previous x) ok.linked slot may.slot_is_there may.alone
 
   before_below : before < length next
   before_below = rw before_is (ok.linked.previous_below (slots + list) end_below)
@@ -35,15 +32,15 @@ module _ (slots slot list before : ℕ) (next previous : List ℕ) (ok : KeepLis
   at_last : IsInserted slot (slice_index previous (slots + list)) (λ x. slice_index next x) (λ x. slice_index previous x) (λ x. slice_index next_row x) (λ x. slice_index previous_row x)
   at_last =
       let P : ℕ → Type 0 = λ b. IsInserted slot b (λ x. slice_index next x) (λ x. slice_index previous x) (λ x. slice_index next_row x) (λ x. slice_index previous_row x) in
-      subst P before_is (inserted slots slot before (slots + list) next previous ok within nowhere before_below before_apart to_end)
+      subst P before_is (inserted slots slot before (slots + list) next previous ok may.slot_is_there may.alone before_below before_apart to_end)
 
   pub KeepLists-appended : KeepLists slots next_row previous_row
-  KeepLists-appended = KeepLists-by slots slot before (slots + list) next previous ok within nowhere before_below before_apart to_end
+  KeepLists-appended = KeepLists-by slots slot before (slots + list) next previous ok may.slot_is_there may.alone before_below before_apart to_end
       (IsLinked-appended slots (length next) slot list (λ x. slice_index next x) (λ x. slice_index previous x)
-      (λ x. slice_index next_row x) (λ x. slice_index previous_row x) ok.linked within alone (list-below slots next list list_within) at_last)
+      (λ x. slice_index next_row x) (λ x. slice_index previous_row x) ok.linked may.slot_is_there alone (list-below slots next list may.list_is_there) at_last)
 
   pub lists-appended : (stored slots next_row).lists ≡ slice_set (stored slots next).lists list (list_at (stored slots next) list ++ slot ∷ [])
   lists-appended = stored-same slots next next_row (slice_set (stored slots next).lists list (list_at (stored slots next) list ++ slot ∷ []))
-      (long_next slots slot before (slots + list) next previous ok within nowhere before_below before_apart to_end)
+      (long_next slots slot before (slots + list) next previous ok may.slot_is_there may.alone before_below before_apart to_end)
       (rings-appended slots (length next) slot list (λ x. slice_index next x) (λ x. slice_index previous x)
-      (λ x. slice_index next_row x) (λ x. slice_index previous_row x) ok.linked within alone (list-below slots next list list_within) at_last)
+      (λ x. slice_index next_row x) (λ x. slice_index previous_row x) ok.linked may.slot_is_there alone (list-below slots next list may.list_is_there) at_last)

@@ -17,6 +17,43 @@ pub record IsUnlinked (slot : ℕ) (next previous next' previous' : ℕ → ℕ)
   pub rest_next : (a : ℕ) → a ≢ slot → a ≢ previous slot → next' a ≡ next a
   pub rest_previous : (a : ℕ) → a ≢ slot → a ≢ next slot → previous' a ≡ previous a
 
+-- the same, the other way round
+turned : {slot : ℕ} {next previous next' previous' : ℕ → ℕ} → IsUnlinked slot next previous next' previous' → IsUnlinked slot previous next previous' next'
+turned u = record {
+  alone_next = u.alone_previous;
+  alone_previous = u.alone_next;
+  tied_next = u.tied_previous;
+  tied_previous = u.tied_next;
+  rest_next = u.rest_previous;
+  rest_previous = u.rest_next;
+}
+
+below : {nodes slot : ℕ} {next previous next' previous' : ℕ → ℕ} → IsUnlinked slot next previous next' previous' → slot < nodes
+    → ((a : ℕ) → a < nodes → next a < nodes) → (a : ℕ) → a < nodes → next' a < nodes
+below {slot = slot} {previous = previous} unlinked is_node stays a within = elim (cases_eq a slot) [
+  | inl e ↦ rw (e, unlinked.alone_next) is_node
+  | inr n ↦ elim (cases_eq a (previous slot)) [
+    | inl p ↦ rw (p, unlinked.tied_next (λ loop. n (p ∙ loop))) (stays slot is_node)
+    | inr q ↦ rw (unlinked.rest_next a n q) (stays a within)
+  ]
+]
+
+undoes : {nodes slot : ℕ} {next previous next' previous' : ℕ → ℕ} → IsUnlinked slot next previous next' previous' → slot < nodes
+    → ((a : ℕ) → a < nodes → next (previous a) ≡ a) → (a : ℕ) → a < nodes → next' (previous' a) ≡ a
+undoes {slot = slot} {next = next} {previous = previous} {next' = next'} {previous' = previous'} unlinked is_node undone a within = elim (cases_eq a slot) [
+  | inl e ↦ ap (λ x. next' (previous' x)) e ∙ ap next' unlinked.alone_previous ∙ unlinked.alone_next ∙ sym e
+  | inr n ↦ elim (cases_eq a (next slot)) [
+    | inl p ↦
+        let apart : previous slot ≢ slot = (λ loop. n (p ∙ ap next (sym loop) ∙ undone slot is_node)) in
+        ap (λ x. next' (previous' x)) p ∙ ap next' (unlinked.tied_previous (λ loop. n (p ∙ loop))) ∙ unlinked.tied_next apart ∙ sym p
+    | inr q ↦
+        ap next' (unlinked.rest_previous a n q)
+        ∙ unlinked.rest_next (previous a) (λ same. q (sym (undone a within) ∙ ap next same))
+        (λ same. n (sym (undone a within) ∙ ap next same ∙ undone slot is_node))
+        ∙ undone a within
+  ]
+]
+
 module _ (slots nodes slot : ℕ) (next previous next' previous' : ℕ → ℕ) (linked : IsLinked slots nodes next previous)
     (within : slot < slots) (unlinked : IsUnlinked slot next previous next' previous') where
   is_node : slot < nodes
@@ -62,52 +99,16 @@ module _ (slots nodes slot : ℕ) (next previous next' previous' : ℕ → ℕ) 
       (λ e low high. ring-unlinked e low (omega (arith, linked.slots_fit)))
 
   next_below : (a : ℕ) → a < nodes → next' a < nodes
-  next_below a below = elim (cases_eq a slot) [
-    | inl e ↦ rw (e, unlinked.alone_next) is_node
-    | inr n ↦ elim (cases_eq a (previous slot)) [
-      | inl p ↦ rw (p, unlinked.tied_next (λ loop. n (p ∙ loop))) (linked.next_below slot is_node)
-      | inr q ↦ rw (unlinked.rest_next a n q) (linked.next_below a below)
-    ]
-  ]
+  next_below = below unlinked is_node linked.next_below
 
   previous_below : (a : ℕ) → a < nodes → previous' a < nodes
-  previous_below a below = elim (cases_eq a slot) [
-    | inl e ↦ rw (e, unlinked.alone_previous) is_node
-    | inr n ↦ elim (cases_eq a (next slot)) [
-      | inl p ↦ rw (p, unlinked.tied_previous (λ loop. n (p ∙ loop))) (linked.previous_below slot is_node)
-      | inr q ↦ rw (unlinked.rest_previous a n q) (linked.previous_below a below)
-    ]
-  ]
+  previous_below = below (turned unlinked) is_node linked.previous_below
 
   next_undoes : (a : ℕ) → a < nodes → next' (previous' a) ≡ a
-  next_undoes a below = elim (cases_eq a slot) [
-    | inl e ↦ ap (λ x. next' (previous' x)) e ∙ ap next' unlinked.alone_previous ∙ unlinked.alone_next ∙ sym e
-    | inr n ↦ elim (cases_eq a (next slot)) [
-      | inl p ↦
-          let apart : previous slot ≢ slot = (λ loop. n (p ∙ ap next (sym loop) ∙ linked.next_undoes slot is_node)) in
-          ap (λ x. next' (previous' x)) p ∙ ap next' (unlinked.tied_previous (λ loop. n (p ∙ loop))) ∙ unlinked.tied_next apart ∙ sym p
-      | inr q ↦
-          ap next' (unlinked.rest_previous a n q)
-          ∙ unlinked.rest_next (previous a) (λ same. q (sym (linked.next_undoes a below) ∙ ap next same))
-          (λ same. n (sym (linked.next_undoes a below) ∙ ap next same ∙ linked.next_undoes slot is_node))
-          ∙ linked.next_undoes a below
-    ]
-  ]
+  next_undoes = undoes unlinked is_node linked.next_undoes
 
   previous_undoes : (a : ℕ) → a < nodes → previous' (next' a) ≡ a
-  previous_undoes a below = elim (cases_eq a slot) [
-    | inl e ↦ ap (λ x. previous' (next' x)) e ∙ ap previous' unlinked.alone_next ∙ unlinked.alone_previous ∙ sym e
-    | inr n ↦ elim (cases_eq a (previous slot)) [
-      | inl p ↦
-          let apart : next slot ≢ slot = (λ loop. n (p ∙ ap previous (sym loop) ∙ linked.previous_undoes slot is_node)) in
-          ap (λ x. previous' (next' x)) p ∙ ap previous' (unlinked.tied_next (λ loop. n (p ∙ loop))) ∙ unlinked.tied_previous apart ∙ sym p
-      | inr q ↦
-          ap previous' (unlinked.rest_next a n q)
-          ∙ unlinked.rest_previous (next a) (λ same. q (sym (linked.previous_undoes a below) ∙ ap previous same))
-          (λ same. n (sym (linked.previous_undoes a below) ∙ ap previous same ∙ linked.previous_undoes slot is_node))
-          ∙ linked.previous_undoes a below
-    ]
-  ]
+  previous_undoes = undoes (turned unlinked) is_node linked.previous_undoes
 
   closed : (end : ℕ) → slots ≤ end → end < nodes → IsWay next' end (ring next' slots end) end
   closed end outside below =

@@ -1,9 +1,7 @@
 -- The four writes are those of `KeepLists-appended`.
-use Rattle.std.proofs.Common.{◌≡◌, ◌+◌, ◌<◌, ℕ, List, ap, arith, length}
-use Rattle.std.specs.List.{concat}
-use Rattle.arena.specs.Lists.{count_of}
+use Rattle.std.proofs.Common.{◌+◌, ◌<◌, ℕ, List, ap, arith, length}
 use Rattle.arena.specs.Linked.{Linked, stored}
-use Rattle.arena.proofs.Stored.{read_end_back, end-below, end-there, IsWellLinked-linked}
+use Rattle.arena.proofs.Stored.{may_add, read_end_back, end-below, end-there, IsWellLinked-linked}
 use Rattle.arena.proofs.StoredAppending.{KeepLists-appended, lists-appended}
 use Rattle.arena.proofs.links.Links.append.Goals as goal
 
@@ -28,20 +26,14 @@ index_mut-requires-4 c =
 
 pub invariant_of-self : goal.invariant_of-self
 invariant_of-self c =
-    let within : c.args.slot < c.self.inside.slots = rw (← c.self.view_is) at c.requires.slot_is_there in
-    let list_within : c.args.list < length (stored c.self.inside.slots c.self.inside.next.items).lists = rw (← c.self.view_is) at c.requires.list_is_there in
-    let nowhere : count_of c.args.slot (concat (stored c.self.inside.slots c.self.inside.next.items).lists) ≡ 0 = rw (← c.self.view_is) at c.requires.alone in
-    KeepLists-appended c.self.inside.slots c.args.slot c.args.list c.index-before.result.now c.self.inside.next.items c.self.inside.previous.items
-    c.self.invariant within list_within nowhere (read_end_back _ _ _ _ _ c.self.invariant list_within c.index-before.ensures)
+    let may = may_add c.self.view_is c.requires.slot_is_there c.requires.list_is_there c.requires.alone in
+    KeepLists-appended _ _ _ _ _ _ c.self.invariant may (read_end_back _ _ _ _ _ c.self.invariant may.list_is_there c.index-before.ensures)
 
 pub returns-clause-lists : goal.returns-clause-lists
 returns-clause-lists c =
-    let within : c.args.slot < c.self.inside.slots = rw (← c.self.view_is) at c.requires.slot_is_there in
-    let list_within : c.args.list < length (stored c.self.inside.slots c.self.inside.next.items).lists = rw (← c.self.view_is) at c.requires.list_is_there in
-    let nowhere : count_of c.args.slot (concat (stored c.self.inside.slots c.self.inside.next.items).lists) ≡ 0 = rw (← c.self.view_is) at c.requires.alone in
+    let may = may_add c.self.view_is c.requires.slot_is_there c.requires.list_is_there c.requires.alone in
     rw (← c.self.view_is) (ap (λ (lists : List (List ℕ)). let made : Linked = record { slots = c.self.inside.slots; lists = lists } in made)
-    (lists-appended c.self.inside.slots c.args.slot c.args.list c.index-before.result.now c.self.inside.next.items c.self.inside.previous.items
-    c.self.invariant within list_within nowhere (read_end_back _ _ _ _ _ c.self.invariant list_within c.index-before.ensures)))
+    (lists-appended _ _ _ _ _ _ c.self.invariant may (read_end_back _ _ _ _ _ c.self.invariant may.list_is_there c.index-before.ensures)))
 
 pub returns-clause-sound : goal.returns-clause-sound
 returns-clause-sound c = IsWellLinked-linked c.self.inside.slots _ _ _ (invariant_of-self c).linked
