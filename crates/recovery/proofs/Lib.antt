@@ -15,4 +15,4 @@ mod Examples
 mod Recorded
 mod Heads
 mod Walked
-mod Passed
+mod ReadingCalls

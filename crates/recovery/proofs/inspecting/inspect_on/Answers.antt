@@ -15,7 +15,7 @@ use Rattle.oplog.specs.Log.{Log}
 use Rattle.oplog.specs.Recovery.{run}
 use Rattle.parcel.specs.Tree.{TreeView, state_in}
 use Rattle.recovery.proofs.Behind.{HoldsInForce, alone_in_force, behind_refused, both_in_force, held_before}
-use Rattle.recovery.proofs.Passed.{after, opening_failed}
+use Rattle.recovery.proofs.ReadingCalls.{after, opening_failed}
 use Rattle.recovery.proofs.Refusing.{behind_header}
 use Rattle.recovery.proofs.Replays.{same_bytes}
 use Rattle.recovery.proofs.inspecting.inspect_on.Goals as goal

@@ -4,8 +4,8 @@ use Rattle.recovery.specs.declared.fault.OpenFault.TheVariants.{BadChain}
 use Rattle.recovery.specs.Refusals.{fault_if}
 use Rattle.oplog.specs.Front.{chain}
 use Rattle.device_map.specs.Layout.{layout_of, other}
+use Rattle.recovery.proofs.ReadingCalls.{unwritten}
 use Rattle.recovery.proofs.Refusing.{both_are, one_not}
-use Rattle.recovery.proofs.Replays.{same_bytes}
 use Rattle.recovery.proofs.loading.chain_of.Goals as goal
 
 pub returns-then-not-named_chained-clause-sound : goal.returns-then-not-named_chained-clause-sound
@@ -14,13 +14,13 @@ returns-then-not-named_chained-clause-sound g c = λ k.
 
 pub returns-then-other_chained-clause-refused : goal.returns-then-other_chained-clause-refused
 returns-then-other_chained-clause-refused g c = λ k.
-    let same = same_bytes (g.D.Disk.medium c.args.disk.now) (g.D.Disk.medium c.is_chained.new.disk) (c.is_chained.ensures.call.untouched k) in
+    let same = unwritten c.is_chained.ensures.call k in
     ap (λ (t : Bool). fault_if t BadChain None)
     (both_are (layout_of c.args.g.now) (g.D.Disk.medium c.args.disk.now).now c.args.area c.requires.area (sym (c.in_ok-named_chained.ensures.chained k) ∙ c.if-not-named_chained.false)
     (sym (ap (λ (bytes : List ℕ). chain (layout_of c.args.g.now) (other c.args.area) bytes == 1) same) ∙ sym (c.in_ok-other_chained.ensures.chained k) ∙ c.if-other_chained.true))
 
 pub returns-clause-sound : goal.returns-clause-sound
 returns-clause-sound g c = λ k.
-    let same = same_bytes (g.D.Disk.medium c.args.disk.now) (g.D.Disk.medium c.is_chained.new.disk) (c.is_chained.ensures.call.untouched k) in
+    let same = unwritten c.is_chained.ensures.call k in
     one_not (layout_of c.args.g.now) (g.D.Disk.medium c.args.disk.now).now (other c.args.area) (omega (arith, c.requires.area))
     (sym (ap (λ (bytes : List ℕ). chain (layout_of c.args.g.now) (other c.args.area) bytes == 1) same) ∙ sym (c.in_ok-other_chained.ensures.chained k) ∙ c.if-other_chained.false)

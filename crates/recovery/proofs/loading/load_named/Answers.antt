@@ -13,7 +13,7 @@ use Rattle.device_map.specs.Layout.{device_size, image_part, layout_of, part_byt
 use Rattle.oplog.specs.Log.{Log}
 use Rattle.oplog.specs.Recovery.{named_area, run}
 use Rattle.parcel.specs.Tree.{state_in}
-use Rattle.recovery.proofs.Passed.{after, answered, passed_on}
+use Rattle.recovery.proofs.ReadingCalls.{after, passed_on, returned}
 use Rattle.recovery.proofs.Refusing.{chain_half, chain_refused, image_half, image_refused, named_refused, records_half, records_refused}
 use Rattle.recovery.proofs.Replays.{same_bytes}
 use Rattle.recovery.proofs.loading.load_named.Given.{Over}
@@ -167,4 +167,4 @@ returns-clause-version g c = λ k.
 
 pub returns-clause-call : goal.returns-clause-call
 returns-clause-call g c =
-    answered (after c.in_ok-area.ensures.call (after c.in_ok-version.ensures.call (after c.in_ok-chained.ensures.call c.in_ok-records.ensures.call)))
+    returned (after c.in_ok-area.ensures.call (after c.in_ok-version.ensures.call (after c.in_ok-chained.ensures.call c.in_ok-records.ensures.call)))

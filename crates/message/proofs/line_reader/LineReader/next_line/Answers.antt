@@ -14,15 +14,18 @@ use Rattle.message.specs.declared.line_reader.ReadFault.{ReadFault}
 use Rattle.message.specs.Reader.{Finds, Closes, unread, still_to_come, buffered_bytes}
 use Rattle.message.proofs.line_reader.LineReader.next_line.Goals as goal
 
--- nothing is claimed of bytes that are not known
+-- what is said of the bytes that a reader had is said of what it kept of them, if nothing is claimed of bytes that are not known
+of_what_was : (P : Option (List ℕ) → Type 0) → P None → (a b : Option (List ℕ)) → Keeps a b → P b → P a
+of_what_was P unknown None b kept h = unknown
+of_what_was P unknown (Some xs) None kept h = absurd kept
+of_what_was P unknown (Some xs) (Some ys) kept h = subst (λ (zs : List ℕ). P (Some zs)) kept h
+
 of_unknown : (r : Result Found ReadFault) (line : List ℕ) (left : Option (List ℕ)) → Finds r None line left
 of_unknown (Ok Line) line left = tt
 of_unknown _ line left = tt
 
 of_kept : (a b : Option (List ℕ)) (r : Result Found ReadFault) (line : List ℕ) (left : Option (List ℕ)) → Keeps a b → Finds r b line left → Finds r a line left
-of_kept None b r line left kept h = of_unknown r line left
-of_kept (Some xs) None r line left kept h = absurd kept
-of_kept (Some xs) (Some ys) r line left kept h = subst (λ (zs : List ℕ). Finds r (Some zs) line left) kept h
+of_kept a b r line left = of_what_was (λ bs. Finds r bs line left) (of_unknown r line left) a b
 
 closed_unknown : (r : Result Found ReadFault) (drained : Bool) → Closes r None drained
 closed_unknown (Ok Line) drained = tt
@@ -30,9 +33,7 @@ closed_unknown (Ok TooLong) drained = tt
 closed_unknown _ drained = tt
 
 closed_kept : (a b : Option (List ℕ)) (r : Result Found ReadFault) (drained : Bool) → Keeps a b → Closes r b drained → Closes r a drained
-closed_kept None b r drained kept h = closed_unknown r drained
-closed_kept (Some xs) None r drained kept h = absurd kept
-closed_kept (Some xs) (Some ys) r drained kept h = subst (λ (zs : List ℕ). Closes r (Some zs) drained) kept h
+closed_kept a b r drained = of_what_was (λ bs. Closes r bs drained) (closed_unknown r drained) a b
 
 -- after a fault nothing is held
 of_failed : {R : Type 0} (remaining : R → Option (List ℕ)) (r : LineReader R) (res : Result Found ReadFault) → r.failed ≡ is_err res
