@@ -25,7 +25,7 @@ use Rattle.checkpoint.proofs.Cutting.{named_below}
 use Rattle.checkpoint.proofs.Forced.{forced_more, used_most}
 use Rattle.checkpoint.proofs.Recovering.{holds_by, holds_now}
 use Rattle.checkpoint.specs.Fields.{IsJournal, journal_view}
-use Rattle.checkpoint.specs.Buffers.{KeepsBuffers}
+use Rattle.checkpoint.specs.Buffers.{FitBuffers, KeepsBuffers}
 use Rattle.checkpoint.specs.declared.journal.Buffers.{Buffers}
 use Rattle.checkpoint.specs.declared.journal.Journal.TheInside.{Inside}
 use Rattle.oplog.specs.Beyond.{KeepsBeyond}
@@ -118,6 +118,11 @@ module _ {D : Type 0} {medium : D → Medium} {keeps : Type 0} {j : Inside D} {s
 
   pub fits_of : FitsCutState j.halves j.buffers.pending.items j.pieces_left
   fits_of = kept.fits_cut_state (ap (λ (h : JournalView). h.failed) view ∙ fine)
+
+-- the buffers are as long as a tree of the journal's geometry asks
+pub fit_as : {D : Type 0} {medium : D → Medium} {keeps : Type 0} {j : Inside D} {self : JournalView} {g : Geometry} → IsJournal medium keeps j → journal_view medium j ≡ self
+    → g ≡ self.geometry → FitBuffers g j.buffers
+fit_as {j = j} kept view same = subst (λ (h : Geometry). FitBuffers h j.buffers) (ap (λ (h : JournalView). h.geometry) view ∙ sym same) kept.fit
 
 -- what holds of a journal after a call in which the device failed
 pub failed_kept : {D : Type 0} {medium : D → Medium} {keeps : Type 0} {j : Inside D} {disk : D} {halves : Log} {buffers : Buffers} → IsJournal medium keeps j

@@ -9,7 +9,7 @@ use Rattle.image.specs.Pieces.{piece_count}
 use Rattle.checkpoint.specs.Journal.{JournalView, records, committed}
 use Rattle.checkpoint.specs.Keeping.{FitsCutState, journal_view_of}
 use Rattle.checkpoint.specs.DirtyPieces.{count_dirty, cut_dirty}
-use Rattle.checkpoint.proofs.Logging.{beyond_of, failed_kept, failed_view, fits_of, recoverable_of, sound_along, still_of}
+use Rattle.checkpoint.proofs.Logging.{beyond_of, failed_kept, failed_view, fit_as, fits_of, recoverable_of, sound_along, still_of}
 use Rattle.checkpoint.proofs.Rows.{count_most, whole_items, whole_put}
 use Rattle.checkpoint.proofs.Saving.{cut_committed, cut_sound, is_alone, Saves, saves}
 use Rattle.device_map.specs.Layout.{device_size, image_size, other}
@@ -29,12 +29,10 @@ saved g c k =
     (g.met.D.Disk.bytes c.self.inside.disk) c.deref.ensures.value c.deref_mut.ensures.value c.update_snapshot.ensures.image
 
 pub update_snapshot-requires-clause-dirty : goal.update_snapshot-requires-clause-dirty
-update_snapshot-requires-clause-dirty g c =
-    ap length c.deref.ensures.value ∙ c.self.invariant.fit.named_dirty ∙ ap (λ (h : JournalView). piece_count h.geometry) c.self.view_is ∙ sym (ap piece_count c.requires.geometry)
+update_snapshot-requires-clause-dirty g c = ap length c.deref.ensures.value ∙ (fit_as c.self.invariant c.self.view_is c.requires.geometry).named_dirty
 
 pub update_snapshot-requires-clause-size : goal.update_snapshot-requires-clause-size
-update_snapshot-requires-clause-size g c =
-    ap length c.deref_mut.ensures.value ∙ c.self.invariant.fit.snapshot ∙ ap (λ (h : JournalView). image_size h.geometry) c.self.view_is ∙ sym (ap image_size c.requires.geometry)
+update_snapshot-requires-clause-size g c = ap length c.deref_mut.ensures.value ∙ (fit_as c.self.invariant c.self.view_is c.requires.geometry).snapshot
 
 pub cut_on-requires-clause-current_is_named : goal.cut_on-requires-clause-current_is_named
 cut_on-requires-clause-current_is_named g c =

@@ -12,7 +12,7 @@ use Rattle.checkpoint.specs.Journal.{JournalView, committed}
 use Rattle.checkpoint.specs.Keeping.{FitsCutState}
 use Rattle.checkpoint.specs.Steps.{IsPointed}
 use Rattle.checkpoint.proofs.Costs.{few_writes}
-use Rattle.checkpoint.proofs.Logging.{beyond_of, failed_kept, failed_view, fits_of, recoverable_of, sound_along, still_of}
+use Rattle.checkpoint.proofs.Logging.{beyond_of, failed_kept, failed_view, fit_as, fits_of, recoverable_of, sound_along, still_of}
 use Rattle.checkpoint.proofs.Rows.{whole_put}
 use Rattle.recovery.specs.Version.{named_version}
 use Rattle.checkpoint.proofs.Saving.{agrees, is_alone, point_committed, point_sound, pointed_version, reads, Saves, saves}
@@ -39,12 +39,10 @@ made g c k =
     (c.deref-2.ensures.value ∙ whole_put c.update_snapshot.new.bytes c.update_snapshot.ensures.size c.deref_mut.ensures.value c.deref_mut.ensures.len) (c.in_ok-point_on.ensures.pointed k)
 
 pub update_snapshot-requires-clause-dirty : goal.update_snapshot-requires-clause-dirty
-update_snapshot-requires-clause-dirty g c =
-    ap length c.deref.ensures.value ∙ c.self.invariant.fit.named_dirty ∙ ap (λ (h : JournalView). piece_count h.geometry) c.self.view_is ∙ sym (ap piece_count c.requires.geometry)
+update_snapshot-requires-clause-dirty g c = ap length c.deref.ensures.value ∙ (fit_as c.self.invariant c.self.view_is c.requires.geometry).named_dirty
 
 pub update_snapshot-requires-clause-size : goal.update_snapshot-requires-clause-size
-update_snapshot-requires-clause-size g c =
-    ap length c.deref_mut.ensures.value ∙ c.self.invariant.fit.snapshot ∙ ap (λ (h : JournalView). image_size h.geometry) c.self.view_is ∙ sym (ap image_size c.requires.geometry)
+update_snapshot-requires-clause-size g c = ap length c.deref_mut.ensures.value ∙ (fit_as c.self.invariant c.self.view_is c.requires.geometry).snapshot
 
 pub point_on-requires-clause-current_is_named : goal.point_on-requires-clause-current_is_named
 point_on-requires-clause-current_is_named g c =
