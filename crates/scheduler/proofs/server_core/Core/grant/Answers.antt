@@ -1,5 +1,5 @@
 -- The chosen message has its slot and nothing related is in flight, so the tree lends the parcels at its affinity, for a job that can run.
-use Rattle.std.proofs.Common.{◌+◌, sym, ap, subst, ◌∙◌}
+use Rattle.std.proofs.Common.{◌+◌, sym, ap, subst, arith, ◌∙◌}
 use Rattle.std.specs.Prelude.{nat_lt, option_copied}
 use Rattle.affinity.specs.declared.geometry.Geometry.{Geometry}
 use Rattle.arena.specs.ArenaView.{IsPartitioned}
@@ -38,6 +38,14 @@ new-requires g c = subst (λ (h : Geometry). IsRunnable h c.in-Some.slot.now.mes
     (grant_suits c.self.inside c.self.invariant _ (ap (nat_lt c.self.inside.unlogged) c.room.ensures.room) c.in-Ok.queued c.in-Ok.ensures.next
     c.in-Some.slot.now (sym (ap option_copied c.in-Some.is) ∙ c.get.ensures.value) c.lend.new.self c.in-Some-lend.standing
     c.in-Some-lend.parcels c.in-Some-lend.ensures.some)
+
+pub overflow_add-self : goal.overflow_add-self
+overflow_add-self g c =
+    let after = grant_call c.self.inside c.self.invariant _ (ap (nat_lt c.self.inside.unlogged) c.room.ensures.room) c.in-Ok.queued c.in-Ok.ensures.next
+    c.in-Some.slot.now (sym (ap option_copied c.in-Some.is) ∙ c.get.ensures.value) c.lend.new.self c.in-Some-lend.standing
+    c.in-Some-lend.parcels c.in-Some-lend.ensures.some c.lend.ensures.geometry c.dispatch.new.self c.dispatch.ensures.waiting c.dispatch.ensures.held
+    c.one_if-more.result c.one_if-more.ensures (subst IsPartitioned c.move_to.ensures.arena c.move_to.ensures.partitioned) in
+    omega (arith, after.core.unlogged_is, after.core.sound.room, c.room.ensures.room)
 
 pub invariant_of-self : goal.invariant_of-self
 invariant_of-self g c =

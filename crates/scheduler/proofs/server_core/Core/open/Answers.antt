@@ -1,9 +1,11 @@
 -- Where there is no memory for the core, the device wasn't called; and an opened core keeps what a core keeps.
-use Rattle.std.proofs.Common.{◌≡◌, ◌∙◌, Some, refl, inl, ap, arith}
+use Rattle.std.proofs.Common.{◌≡◌, ◌∙◌, Option, Some, None, map, refl, inl, ap, arith}
+use Rattle.std.proofs.lemmas.List.{length-replicate}
 use Rattle.std.proofs.lemmas.Result.{err_from_is_err_and}
 use Rattle.affinity.specs.declared.geometry.Geometry.{Geometry}
 use Rattle.disk.proofs.Moments.{started}
 use Rattle.disk.specs.Device.{IsCrashImage}
+use Rattle.arena.specs.ArenaView.{ArenaView, capacity_of}
 use Rattle.checkpoint.specs.Journal.{IsRecoverable, committed}
 use Rattle.oplog.proofs.Beyond.{beyond_none}
 use Rattle.device_map.specs.Layout.{layout_of}
@@ -11,6 +13,9 @@ use Rattle.parcel.specs.Tree.{state_in}
 use Rattle.scheduler.proofs.Opened.{opened_sound}
 use Rattle.scheduler.proofs.Refusals.{one_fault, opened_or_refused, recovers_or_refused}
 use Rattle.run_queue.specs.RunQueue.{RunQueueView, queue_at_start}
+use Rattle.scheduler.specs.Parts.{entry_of, replied_of}
+use Rattle.scheduler.specs.Slots.{slots_on}
+use Rattle.scheduler.specs.declared.slot.Slot.{Slot}
 use Rattle.scheduler.proofs.server_core.Core.open.Goals as goal
 
 pub returns-in_default-clause-any_moment : goal.returns-in_default-clause-any_moment
@@ -30,6 +35,23 @@ invariant_of-result g c =
     ∙ ap (λ (h : Geometry). queue_at_start h c.args.slots) c.geometry.ensures in
     opened_sound _ c.args.slots c.in_ok-journal.ensures.tree.0 c.in_ok-journal.ensures.tree.1 holds c.in-Ok.ensures.arena c.in-Ok.ensures.partitioned
     queue c.in-Ok.ensures.batch c.in-Ok.ensures.room c.in-Ok.ensures.replies (refl, refl, refl) c.begun.ensures
+
+pub returns-clause-opened : goal.returns-clause-opened
+returns-clause-opened g c =
+    let arena = c.in-Ok.ensures.arena in
+    let replies = c.in-Ok.memory.replies.items in
+    record {
+      none_waits = ap (λ (r : ArenaView Slot). map entry_of (slots_on r replies 0)) arena;
+      none_in_flight = ap (λ (r : ArenaView Slot). map entry_of (slots_on r replies 1)) arena;
+      none_ran = ap (λ (r : ArenaView Slot). map replied_of (slots_on r replies 2)) arena;
+      none_logged = ap (λ (r : ArenaView Slot). map replied_of (slots_on r replies 3)) arena;
+      room = c.in_ok-journal.ensures.begins.0;
+      next = refl;
+      slots_are = ap (λ (r : ArenaView Slot). capacity_of r) arena ∙ length-replicate {A = Option Slot} c.args.slots None;
+      works = c.in_ok-journal.ensures.begins.2;
+      no_doubt = c.in-Ok.ensures.batch;
+      no_cut = c.in_ok-journal.ensures.begins.1;
+    }
 
 pub returns-in_err-journal-clause-opens : goal.returns-in_err-journal-clause-opens
 returns-in_err-journal-clause-opens g c =
