@@ -63,9 +63,9 @@ impl RunQueue {
         requires { slots < usize.MAX }
         ensures { IfOk result (λ queue. queue ≡ queue_at_start geometry.now slots) }
     {
-        let waiting = Queues::new(alloc, MOST_AFFINITIES, slots)?;
-        let held = Holders::new(alloc, MOST_AFFINITIES)?;
         let ready_table = ReadyTable::new(alloc, MOST_AFFINITIES)?;
+        let held = Holders::new(alloc, MOST_AFFINITIES)?;
+        let waiting = Queues::new(alloc, MOST_AFFINITIES, slots)?;
         Ok(RunQueue {
             geometry: *geometry,
             waiting,

@@ -35,10 +35,11 @@ pub(crate) fn take_memory(alloc: Global, slots: usize) -> Result<CoreMemory, All
     ensures batch { IfOk result (λ m. m.batch.items ≡ []) }
     ensures room { IfOk result (λ m. slots ≤ vec_capacity m.batch) }
 {
+    // Each `?` drops what was taken before it, so what has most to drop is taken last.
     Ok(CoreMemory {
-        slots: Arena::with_capacity(alloc, slots, CHAINS)?,
-        replies: vec![in alloc; Reply::Done; slots]?,
-        queue: RunQueue::new(alloc, &Geometry::default(), slots)?,
         batch: Vec::with_capacity(alloc, slots)?,
+        replies: vec![in alloc; Reply::Done; slots]?,
+        slots: Arena::with_capacity(alloc, slots, CHAINS)?,
+        queue: RunQueue::new(alloc, &Geometry::default(), slots)?,
     })
 }
