@@ -1,5 +1,5 @@
 //! The arguments that the program is called with, and what they ask for.
-ghost use Rattle.std.specs.Prelude.{◌≡◌, IfOk, IfErr, false, map, pos, string_bytes};
+ghost use Rattle.std.specs.Prelude.{◌≡◌, IfOk, IfErr, [], ◌∷◌, false, map, pos, string_bytes};
 ghost use Rattle.clap.specs.Words.{app_of, found_of, rows_of, rule_of, subcommand_rows_of};
 ghost use Rattle.arguments.specs.Arguments.{Asks, GivesGeometry, IsReason, IsRequested, NamesCommand, answer_of, device_in, device_rule, number_in, numbers_in, rule_within, service_in, service_numbers, waffd, bare};
 ghost use Rattle.arguments.specs.Tables.{command_app, with_commands, with_options};
@@ -241,14 +241,25 @@ fn bare<'a>(alloc: Global) -> Command<'a>
         .arg_required_else_help(true)
 }
 
+/// The program with the command of one more row.
+fn with_command<'a>(
+    alloc: Global,
+    program: Command<'a>,
+    row: CommandRow<'a>,
+) -> Result<Command<'a>, AllocError>
+    ensures { IfOk result (λ more. app_of more ≡ with_commands (app_of program.entry) (row.entry ∷ [])) }
+{
+    let (name, about, has_device, options) = row;
+    program.subcommand(command_in_row(alloc, name, about, has_device, options)?)
+}
+
 /// The program with the commands of these rows.
 fn with_commands<'a>(alloc: Global, rows: &[CommandRow<'a>]) -> Result<Command<'a>, AllocError>
     ensures { IfOk result (λ program. app_of program ≡ with_commands bare rows.now) }
 {
     let mut program = bare(alloc);
-    'rows: for &(name, about, has_device, options) in rows {
-        let command = command_in_row(alloc, name, about, has_device, options)?;
-        program = program.subcommand(command)?;
+    'rows: for &row in rows {
+        program = with_command(alloc, program, row)?;
     }
     Ok(program)
 }

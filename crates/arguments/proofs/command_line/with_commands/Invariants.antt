@@ -7,4 +7,4 @@ use Rattle.arguments.proofs.command_line.with_commands.Given as goal
 
 -- the commands of the rows so far are added
 abbrev pub invariant-rows : goal.invariant-rows
-invariant-rows l = app_of l.program ≡ with_commands bare (take l.name-index l.rows)
+invariant-rows l = app_of l.program ≡ with_commands bare (take l.row-index l.rows)
