@@ -1,6 +1,7 @@
 -- A block in another's place leaves the counts; a new one adds one to its stripe, unless that is full.
-use Rattle.std.proofs.Common.{rules, ◌≡◌, ℕ, ◌+◌, Bool, cond, true, false, None, Some, List, ap, sym, ◌∙◌, subst}
+use Rattle.std.proofs.Common.{rules, refl, IsSome, ◌≡◌, ℕ, ◌+◌, Bool, cond, true, false, None, Some, List, ap, sym, ◌∙◌, subst}
 use Rattle.std.specs.Prelude.{◌||◌, nat_lt, is_some, unwrap_or, if◌then◌else◌}
+use Rattle.std.specs.Option.{option_copied_mut}
 use Rattle.std.specs.BTreeMap as map
 use Rattle.std.specs.BTreeMap.{is_at}
 use Rattle.std.specs.Map.{lookup}
@@ -32,31 +33,34 @@ by_stripe : {n count : ℕ} {there : Bool} (quota : ℕ) (t : Bool) → there �
 by_stripe {n} {count} quota t absent same h = ap (λ (b : Bool). b || nat_lt n quota) absent ∙ ap (λ n. nat_lt n quota) (sym same) ∙ h
 
 pub returns-then-count-g-clause-room : goal.returns-then-count-g-clause-room
-returns-then-count-g-clause-room c = ap (λ t. if t then None else Some Space) (sym (by_stripe c.args.g.now.quota false (search rules)
+returns-then-count-g-clause-room c = ap (λ t. if t then None else Some Space) (sym (by_stripe c.args.g.now.quota false
+    (ap is_some (sym c.get_mut.ensures.value) ∙ ap (λ r. is_some (option_copied_mut r)) c.in_default.is)
     (c.or_insert-count.ensures.value ∙ ap (λ o. unwrap_or o 0) c.in_ok-self.ensures.value ∙ c.requires.counted (c.args.a, c.args.v, c.group_of.result)
     ∙ ap (blocks_in_stripe c.args.g.now (server_state c.args.self.now) c.args.a c.args.v) c.group_of.ensures.value) (le-ltb _ _ c.if-count-g.true)))
 
 pub returns-clause-room : goal.returns-clause-room
-returns-clause-room c = ap (λ t. if t then None else Some Space) (sym (by_stripe c.args.g.now.quota true (search rules)
+returns-clause-room c = ap (λ t. if t then None else Some Space) (sym (by_stripe c.args.g.now.quota true
+    (ap is_some (sym c.get_mut.ensures.value) ∙ ap (λ r. is_some (option_copied_mut r)) c.in_default.is)
     (c.or_insert-count.ensures.value ∙ ap (λ o. unwrap_or o 0) c.in_ok-self.ensures.value ∙ c.requires.counted (c.args.a, c.args.v, c.group_of.result)
     ∙ ap (blocks_in_stripe c.args.g.now (server_state c.args.self.now) c.args.a c.args.v) c.group_of.ensures.value) (lt-ltb _ _ c.if-count-g.false)))
 
 pub returns-in-Some-clause-state : goal.returns-in-Some-clause-state
 returns-in-Some-clause-state c = λ i. record (server_state c.args.self.now) {
   blocks = one_block (map.get block_order c.args.self.now.blocks) (map.get block_order (c.get_mut.follows.lender c.args.content.now)) c.args.a c.args.v
-      c.args.f c.args.b c.args.content.now ((c.get_mut.follows.holds c.args.content.now).3 (search rules)).0 i;
+      c.args.f c.args.b c.args.content.now ((c.get_mut.follows.holds c.args.content.now).3
+      (subst IsSome c.get_mut.ensures.value (subst (λ r. IsSome (option_copied_mut r)) (sym c.in-Some.is) refl))).0 i;
 }
 
 pub returns-in-Some-clause-counted : goal.returns-in-Some-clause-counted
 returns-in-Some-clause-counted c =
     let x = server_state c.args.self.now in
-    let was : is_some (x.blocks (c.args.a, c.args.v, c.args.f, c.args.b)) ≡ true = search rules in
+    let was : is_some (x.blocks (c.args.a, c.args.v, c.args.f, c.args.b)) ≡ true = ap is_some (sym c.get_mut.ensures.value) ∙ ap (λ r. is_some (option_copied_mut r)) c.in-Some.is in
     subst (AreCounts c.args.g.now (noted c.args.self.now)) (sym (returns-in-Some-clause-state c))
     (replaced_counts x c.args.a c.args.v c.args.f c.args.b c.args.content.now c.args.g.now (noted c.args.self.now) c.requires.counted was)
 
 pub returns-then-count-g-clause-counted : goal.returns-then-count-g-clause-counted
 returns-then-count-g-clause-counted c =
-    same_counted c.args.g.now (server_state c.args.self.now) _ _ (λ k. search rules)
+    same_counted c.args.g.now (server_state c.args.self.now) _ _ (λ k. ap (λ m. map.get block_order m k) c.get_mut.follows.holds-at-none)
     (as_noted _ _ _ (search rules)
     (λ k. noted_again (map.get file_order c.args.self.now.block_counts) (λ k. lookup (is_at (file_order k)) _) c.args.a c.args.v c.group_of.result c.or_insert-count.result.now
     (λ k. (c.in_ok-self.ensures.update.0 c.or_insert-count.result.now).0 k)
@@ -73,13 +77,14 @@ returns-in_err-insert-clause-counted c =
 pub returns-clause-state : goal.returns-clause-state
 returns-clause-state c = λ i. record (server_state c.args.self.now) {
   blocks = one_block (map.get block_order c.args.self.now.blocks) (map.get block_order c.insert.new.self) c.args.a c.args.v c.args.f c.args.b c.args.content.now
-      (λ k. c.in_ok-insert.ensures.updates.0 k ∙ ap (cond (is_at (block_order (c.args.a, c.args.v, c.args.f, c.args.b)) k) (Some c.args.content.now)) (search rules)) i;
+      (λ k. c.in_ok-insert.ensures.updates.0 k ∙ ap (cond (is_at (block_order (c.args.a, c.args.v, c.args.f, c.args.b)) k) (Some c.args.content.now))
+      (ap (λ m. map.get block_order m k) c.get_mut.follows.holds-at-none)) i;
 }
 
 pub returns-clause-counted : goal.returns-clause-counted
 returns-clause-counted c =
     let x = server_state c.args.self.now in
-    let absent : is_some (x.blocks (c.args.a, c.args.v, c.args.f, c.args.b)) ≡ false = search rules in
+    let absent : is_some (x.blocks (c.args.a, c.args.v, c.args.f, c.args.b)) ≡ false = ap is_some (sym c.get_mut.ensures.value) ∙ ap (λ r. is_some (option_copied_mut r)) c.in_default.is in
     let count = c.or_insert-count.result.now + 1 in
     let more : StripeKey → ℕ = λ k. noted c.args.self.now k + one_if (is_stripe c.args.a c.args.v c.group_of.result k) in
     λ k. as_noted _ _ more (search rules)

@@ -1,7 +1,7 @@
 -- Where there is no memory for the core, the device wasn't called; and an opened core keeps what a core keeps.
 use Rattle.std.proofs.Common.{◌≡◌, ◌∙◌, Option, Some, None, map, refl, inl, ap, arith}
 use Rattle.std.proofs.lemmas.List.{length-replicate}
-use Rattle.std.proofs.lemmas.Result.{err_from_is_err_and}
+use Rattle.oplog.proofs.Answered.{err_is}
 use Rattle.affinity.specs.declared.geometry.Geometry.{Geometry}
 use Rattle.disk.proofs.Moments.{started}
 use Rattle.disk.specs.Device.{IsCrashImage}
@@ -55,15 +55,14 @@ returns-clause-opened g c =
 
 pub returns-in_err-journal-clause-opens : goal.returns-in_err-journal-clause-opens
 returns-in_err-journal-clause-opens g c =
-    let p = err_from_is_err_and c.from_residual.result c.from_residual.ensures.1 in
     let m = g.D.Disk.medium c.args.d in
-    rw (p.1, p.2) (λ h x k stood shown. recovers_or_refused m.now h x c.in_err-journal.field-0.0.fault (g.met.D.Disk.bytes c.args.d) stood shown (c.in_err-journal.ensures.refused k))
+    rw (err_is c.from_residual.ensures.1) (λ h x k stood shown.
+    recovers_or_refused m.now h x c.in_err-journal.field-0.0.fault (g.met.D.Disk.bytes c.args.d) stood shown (c.in_err-journal.ensures.refused k))
 
 pub returns-in_err-journal-clause-exact : goal.returns-in_err-journal-clause-exact
 returns-in_err-journal-clause-exact g c =
-    let p = err_from_is_err_and c.from_residual.result c.from_residual.ensures.1 in
     let m = g.D.Disk.medium c.args.d in
-    rw (p.1, p.2) (λ fault k also also_shown shown. one_fault m.now c.in_err-journal.field-0.0.fault fault shown (c.in_err-journal.ensures.refused k) also_shown also)
+    rw (err_is c.from_residual.ensures.1) (λ fault k also also_shown shown. one_fault m.now c.in_err-journal.field-0.0.fault fault shown (c.in_err-journal.ensures.refused k) also_shown also)
 
 pub returns-clause-exact : goal.returns-clause-exact
 returns-clause-exact g c = λ fault k also shown.
@@ -75,19 +74,38 @@ returns-in_default-clause-beyond g c = λ k h header. beyond_none (layout_of h) 
 
 pub returns-in_err-journal-clause-beyond : goal.returns-in_err-journal-clause-beyond
 returns-in_err-journal-clause-beyond g c =
-    let p = err_from_is_err_and c.from_residual.result c.from_residual.ensures.1 in
-    rw (p.1, p.2) (λ k h header. c.in_err-journal.ensures.beyond k h header)
+    rw (err_is c.from_residual.ensures.1) c.in_err-journal.ensures.beyond
 
 pub returns-clause-beyond : goal.returns-clause-beyond
-returns-clause-beyond g c = λ k h header. c.in_ok-journal.ensures.beyond k h header
+returns-clause-beyond g c = c.in_ok-journal.ensures.beyond
 
 pub returns-in_default-clause-costs : goal.returns-in_default-clause-costs
 returns-in_default-clause-costs g c = λ k. omega arith
 
 pub returns-in_err-journal-clause-costs : goal.returns-in_err-journal-clause-costs
 returns-in_err-journal-clause-costs g c =
-    let p = err_from_is_err_and c.from_residual.result c.from_residual.ensures.1 in
-    rw (p.1, p.2) (λ k. c.in_err-journal.ensures.costs k)
+    rw (err_is c.from_residual.ensures.1) c.in_err-journal.ensures.costs
 
 pub returns-clause-costs : goal.returns-clause-costs
-returns-clause-costs g c = λ k. c.in_ok-journal.ensures.costs k
+returns-clause-costs g c = c.in_ok-journal.ensures.costs
+
+pub returns-in_err-journal-clause-any_moment : goal.returns-in_err-journal-clause-any_moment
+returns-in_err-journal-clause-any_moment g c = rw (err_is c.from_residual.ensures.1) c.in_err-journal.ensures.any_moment
+
+pub returns-in_err-journal-clause-refused : goal.returns-in_err-journal-clause-refused
+returns-in_err-journal-clause-refused g c = rw (err_is c.from_residual.ensures.1) c.in_err-journal.ensures.refused
+
+pub returns-in_err-journal-clause-unwritten : goal.returns-in_err-journal-clause-unwritten
+returns-in_err-journal-clause-unwritten g c = rw (err_is c.from_residual.ensures.1) c.in_err-journal.ensures.unwritten
+
+pub returns-in_err-journal-clause-device : goal.returns-in_err-journal-clause-device
+returns-in_err-journal-clause-device g c = rw (err_is c.from_residual.ensures.1) c.in_err-journal.ensures.device
+
+pub returns-in_err-journal-clause-len : goal.returns-in_err-journal-clause-len
+returns-in_err-journal-clause-len g c = rw (err_is c.from_residual.ensures.1) c.in_err-journal.ensures.len
+
+pub returns-clause-any_moment : goal.returns-clause-any_moment
+returns-clause-any_moment g c = c.in_ok-journal.ensures.any_moment
+
+pub returns-clause-recovered_before : goal.returns-clause-recovered_before
+returns-clause-recovered_before g c = λ k. rw (c.begun.ensures.0, c.begun.ensures.1) (c.in_ok-journal.ensures.opened k).was
