@@ -1,6 +1,6 @@
 -- A line is read, or reading ends; in both cases the session keeps its invariant.
 use Rattle.std.proofs.Common.{◌≡◌, ◌<◌, ◌+◌, ◌∷◌, [], arith, None, Ok, Some, ap, length, map, refl, subst, sym, ◌∙◌}
-use Rattle.std.specs.Prelude.{IfSome, IsTrue}
+use Rattle.std.specs.Prelude.{IfSome, IsTrue, is_none}
 use Rattle.std.specs.Io.KnownBytes.{IsAtEnd}
 use Rattle.std.proofs.lemmas.List.{length-append}
 use Rattle.std.proofs.lemmas.Bool.{and_parts}
@@ -149,3 +149,55 @@ returns-in-Ok-clause-longer g c is =
     let f = c.self.inside in
     let took = c.in-Ok.ensures.takes (map lent_hand f.dispatch_seat.lent) (holds_of g.D.Disk.keeps _ _ c.self.invariant.run) in
     ap length took.2 ∙ length-append f.reorder_buffer.lines (took.0 ∷ []) ∙ ap (λ (p : SessionView). length p.reorder_buffer.lines + 1) c.self.view_is
+
+pub returns-then-is_drained-clause-output_failed : goal.returns-then-is_drained-clause-output_failed
+returns-then-is_drained-clause-output_failed g c = ap (λ (p : SessionView). p.output_failed) c.self.view_is
+
+pub returns-then-is_drained-clause-slots : goal.returns-then-is_drained-clause-slots
+returns-then-is_drained-clause-slots g c = ap (λ (p : SessionView). p.reorder_buffer.slots) c.self.view_is
+
+pub returns-in-Ok-clause-reads : goal.returns-in-Ok-clause-reads
+returns-in-Ok-clause-reads g c = sym (ap (λ (p : SessionView). is_none p.read_end) c.self.view_is ∙ ap is_none c.requires.reads)
+
+pub returns-in-Ok-clause-output_failed : goal.returns-in-Ok-clause-output_failed
+returns-in-Ok-clause-output_failed g c = ap (λ (p : SessionView). p.output_failed) c.self.view_is
+
+pub returns-in-Ok-clause-slots : goal.returns-in-Ok-clause-slots
+returns-in-Ok-clause-slots g c = c.in-Ok.ensures.slots ∙ ap (λ (p : SessionView). p.reorder_buffer.slots) c.self.view_is
+
+pub returns-in-Ok-clause-counted : goal.returns-in-Ok-clause-counted
+returns-in-Ok-clause-counted g c _ = ap (λ (p : SessionView). p.outstanding + 1) c.self.view_is
+
+pub returns-in-Err-take-clause-output_failed : goal.returns-in-Err-take-clause-output_failed
+returns-in-Err-take-clause-output_failed g c = ap (λ (p : SessionView). p.output_failed) c.self.view_is
+
+pub returns-in-Err-take-clause-slots : goal.returns-in-Err-take-clause-slots
+returns-in-Err-take-clause-slots g c = c.in-Err-take.ensures.slots ∙ ap (λ (p : SessionView). p.reorder_buffer.slots) c.self.view_is
+
+pub returns-in-Ok-TooLong-clause-reads : goal.returns-in-Ok-TooLong-clause-reads
+returns-in-Ok-TooLong-clause-reads g c = sym (ap (λ (p : SessionView). is_none p.read_end) c.self.view_is ∙ ap is_none c.requires.reads)
+
+pub returns-in-Ok-TooLong-clause-output_failed : goal.returns-in-Ok-TooLong-clause-output_failed
+returns-in-Ok-TooLong-clause-output_failed g c = ap (λ (p : SessionView). p.output_failed) c.self.view_is
+
+pub returns-in-Ok-TooLong-clause-slots : goal.returns-in-Ok-TooLong-clause-slots
+returns-in-Ok-TooLong-clause-slots g c = c.push.ensures.slots ∙ ap (λ (p : SessionView). p.reorder_buffer.slots) c.self.view_is
+
+pub returns-in-Ok-TooLong-clause-longer : goal.returns-in-Ok-TooLong-clause-longer
+returns-in-Ok-TooLong-clause-longer g c _ =
+    ap length c.push.ensures.lines ∙ length-append c.self.inside.reorder_buffer.lines (NoMessage ∷ []) ∙ ap (λ (p : SessionView). length p.reorder_buffer.lines + 1) c.self.view_is
+
+pub returns-in-Ok-TooLong-clause-counted : goal.returns-in-Ok-TooLong-clause-counted
+returns-in-Ok-TooLong-clause-counted g c _ = ap (λ (p : SessionView). p.outstanding + 1) c.self.view_is
+
+pub returns-in-Ok-End-clause-output_failed : goal.returns-in-Ok-End-clause-output_failed
+returns-in-Ok-End-clause-output_failed g c = ap (λ (p : SessionView). p.output_failed) c.self.view_is
+
+pub returns-in-Ok-End-clause-slots : goal.returns-in-Ok-End-clause-slots
+returns-in-Ok-End-clause-slots g c = ap (λ (p : SessionView). p.reorder_buffer.slots) c.self.view_is
+
+pub returns-in-Err-clause-output_failed : goal.returns-in-Err-clause-output_failed
+returns-in-Err-clause-output_failed g c = ap (λ (p : SessionView). p.output_failed) c.self.view_is
+
+pub returns-in-Err-clause-slots : goal.returns-in-Err-clause-slots
+returns-in-Err-clause-slots g c = ap (λ (p : SessionView). p.reorder_buffer.slots) c.self.view_is

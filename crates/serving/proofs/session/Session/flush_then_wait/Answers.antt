@@ -1,0 +1,88 @@
+-- What was sent takes no step. Behind it a line can be read, a job is in flight, a checkpoint goes on, or nothing has changed.
+use Rattle.std.proofs.Common.{◌≡◌, ap, arith, subst, sym, true≢false, ◌∙◌}
+use Rattle.histories.specs.Progress.{points_left}
+use Rattle.oplog.proofs.Answered.{err_is}
+use Rattle.scheduler.specs.CoreView.{CoreView, core_state_of}
+use Rattle.serving.specs.Lending.{NoneInFlight}
+use Rattle.serving.specs.Session.{CanRead, MovedCheckpoint, SessionView, Waited, steps_ahead}
+use Rattle.workers.specs.Seats.{DispatchSeatView}
+use Rattle.serving.proofs.Going.{steps}
+use Rattle.serving.proofs.session.Session.flush_then_wait.Given.{Over}
+use Rattle.serving.proofs.session.Session.flush_then_wait.Goals.{In_ok-flush_replies}
+use Rattle.serving.proofs.session.Session.flush_then_wait.Goals as goal
+
+to_come : (g : Over) (c : In_ok-flush_replies g) → steps_ahead c.flush_replies.new.self ≡ steps_ahead c.args.self.now
+to_come g c = λ i. steps (core_state_of (c.flush_replies.ensures.same.0 i)) (c.flush_replies.ensures.same.2 i).lent
+
+pub returns-in_err-flush_replies-clause-session_step : goal.returns-in_err-flush_replies-clause-session_step
+returns-in_err-flush_replies-clause-session_step g c = rw (err_is c.from_residual.ensures.1) c.in_err-flush_replies.ensures.step.0
+
+pub returns-then-can_read-clause-session_step : goal.returns-then-can_read-clause-session_step
+returns-then-can_read-clause-session_step g c = c.in_ok-flush_replies.ensures.step.0
+
+pub returns-then-can_read-clause-steps : goal.returns-then-can_read-clause-steps
+returns-then-can_read-clause-steps g c = omega (arith, to_come g (goal.at.returns-then-can_read-clause-steps g c).In_ok-flush_replies)
+
+pub returns-then-can_read-clause-goes_on : goal.returns-then-can_read-clause-goes_on
+returns-then-can_read-clause-goes_on g c _ =
+    let reads = c.can_read.ensures c.if-can_read.true in
+    CanRead reads.0 reads.1 reads.2
+
+pub returns-then-any_lent-clause-session_step : goal.returns-then-any_lent-clause-session_step
+returns-then-any_lent-clause-session_step g c =
+    let sent = c.in_ok-flush_replies.ensures.step.0 in
+    let waited = c.wait_for_worker.ensures.same in
+    (ap (λ (p : SessionView). p.read_end) waited ∙ sent.0, ap (λ (p : SessionView). p.output_failed) waited ∙ sent.1)
+
+pub returns-then-any_lent-clause-steps : goal.returns-then-any_lent-clause-steps
+returns-then-any_lent-clause-steps g c =
+    omega (arith, ap steps_ahead c.wait_for_worker.ensures.same, to_come g (goal.at.returns-then-any_lent-clause-steps g c).In_ok-flush_replies)
+
+pub returns-then-any_lent-clause-goes_on : goal.returns-then-any_lent-clause-goes_on
+returns-then-any_lent-clause-goes_on g c _ =
+    let same = c.wait_for_worker.ensures.same ∙ sym c.self.view_is in
+    Waited (λ none. true≢false (sym c.if-any_lent.true ∙ c.any_lent.ensures.1 (subst (λ (p : SessionView). NoneInFlight p.dispatch_seat.lent) same none)))
+
+pub returns-in_err-stepped-clause-session_step : goal.returns-in_err-stepped-clause-session_step
+returns-in_err-stepped-clause-session_step g c =
+    let stepped = c.in_err-stepped.ensures.session_step in
+    rw (err_is c.from_residual-in_err-stepped.ensures.1) (stepped.0 ∙ c.in_ok-flush_replies.ensures.step.0.0, stepped.1)
+
+pub returns-then-stepped-clause-session_step : goal.returns-then-stepped-clause-session_step
+returns-then-stepped-clause-session_step g c =
+    let sent = c.in_ok-flush_replies.ensures.step.0 in
+    let stepped = c.in_ok-stepped.ensures.session_step in
+    (stepped.0 ∙ sent.0, stepped.1 ∙ sent.1)
+
+pub returns-then-stepped-clause-steps : goal.returns-then-stepped-clause-steps
+returns-then-stepped-clause-steps g c = omega (arith, c.in_ok-stepped.ensures.steps, to_come g (goal.at.returns-then-stepped-clause-steps g c).In_ok-flush_replies)
+
+pub returns-then-stepped-clause-goes_on : goal.returns-then-stepped-clause-goes_on
+returns-then-stepped-clause-goes_on g c _ =
+    MovedCheckpoint (λ same. c.in_ok-stepped.ensures.moved c.if-stepped.true (same ∙ sym (ap (λ (core : CoreView). points_left core.pieces_left) c.flush_replies.ensures.same.0)))
+
+pub returns-else-stepped-clause-session_step : goal.returns-else-stepped-clause-session_step
+returns-else-stepped-clause-session_step g c =
+    let sent = c.in_ok-flush_replies.ensures.step.0 in
+    let stepped = c.in_ok-stepped.ensures.session_step in
+    (stepped.0 ∙ sent.0, stepped.1 ∙ sent.1)
+
+pub returns-else-stepped-clause-idle : goal.returns-else-stepped-clause-idle
+returns-else-stepped-clause-idle g c _ =
+    let sent = c.flush_replies.ensures.same in
+    let stays = c.in_ok-stepped.ensures.stays c.if-stepped.false in
+    let none = subst (λ (p : SessionView). NoneInFlight p.dispatch_seat.lent) c.self.view_is (c.any_lent.ensures.0 c.if-any_lent.false) in
+    record {
+      flushed = c.in_ok-stepped.ensures.same.1 ∙ c.in_ok-flush_replies.ensures.flushed.0;
+      lines = c.in_ok-stepped.ensures.same.0 ∙ sent.1;
+      keeps = (
+        stays.0.0 ∙ ap (λ (core : CoreView). core.geometry) sent.0,
+        stays.0.1 ∙ ap (λ (core : CoreView). core_state_of core) sent.0,
+        stays.0.2 ∙ sent.2,
+      );
+      none_in_flight = subst (λ (s : DispatchSeatView). NoneInFlight s.lent) (sym stays.0.2) none;
+      none_asked = λ asked. stays.2 (c.asks_for_checkpoint.ensures ∙ asked);
+    }
+
+pub returns-else-stepped-clause-steps : goal.returns-else-stepped-clause-steps
+returns-else-stepped-clause-steps g c = omega (arith, c.in_ok-stepped.ensures.steps, to_come g (goal.at.returns-else-stepped-clause-steps g c).In_ok-flush_replies)
