@@ -210,14 +210,28 @@ the_file_is_found m = (
 abbrev sums_up : List (List ℕ) → List ℕ
 sums_up ls = serial_output small (state_after_lines small empty ls) (codes "summary\n")
 
--- behind the lines that are acknowledged so, and whatever part of the others, there is a volume
-has_volume : (n : ℕ) (part : List (List ℕ)) → IsClosedPart small part (take 2 (drop n two_lines)) → codes "done\n" ≡ joined (output_lines small empty (take n two_lines))
-    → bytes_eq (sums_up (take n two_lines ++ part)) (codes "summary 0 0 0\n") ≡ false
+-- one of the two lines is acknowledged so
+one_answer : (n : ℕ) → codes "done\n" ≡ joined (output_lines small empty (take n two_lines)) → n ≡ 1
 unfolding message_of kind_named number_in_word digits
-has_volume zero part closed answers = absurd (omega (arith, ap (λ (bs : List ℕ). length bs) answers))
-has_volume (suc zero) part (inl (rest, is, none)) answers = rw (is, none) refl
-has_volume (suc zero) part (inr (apart, none)) answers = rw none refl
-has_volume (suc (suc n)) part closed answers = absurd (omega (arith, ap (λ (bs : List ℕ). length bs) answers))
+one_answer zero answers = absurd (omega (arith, ap (λ (bs : List ℕ). length bs) answers))
+one_answer (suc zero) answers = refl
+one_answer (suc (suc n)) answers = absurd (omega (arith, ap (λ (bs : List ℕ). length bs) answers))
+
+with_file : sums_up (makes ∷ creates ∷ []) ≡ codes "summary 1 1 0\n"
+unfolding message_of kind_named number_in_word digits
+with_file = refl
+
+without_file : sums_up (makes ∷ []) ≡ codes "summary 1 0 0\n"
+unfolding message_of kind_named number_in_word digits
+without_file = refl
+
+abbrev begins_anew : List ℕ → Bool
+begins_anew bs = bytes_eq bs (codes "summary 0 0 0\n")
+
+-- behind it, and whatever part of the other one, there is a volume
+has_volume : (part : List (List ℕ)) → IsClosedPart small part (creates ∷ []) → begins_anew (sums_up (makes ∷ part)) ≡ false
+has_volume part (inl (rest, is, none)) = ap (λ (p : List (List ℕ)). begins_anew (sums_up (makes ∷ p))) (is ∙ ap (λ (r : List (List ℕ)). creates ∷ r) none) ∙ ap begins_anew with_file
+has_volume part (inr (apart, none)) = ap (λ (p : List (List ℕ)). begins_anew (sums_up (makes ∷ p))) none ∙ ap begins_anew without_file
 
 -- A second server that began with an empty state would have lost the volume.
 it_is_not_begun_anew : (m : Medium) → HaveRunFrom small empty (two_servers m (codes "summary 0 0 0\n")) → ⊥
@@ -226,10 +240,10 @@ it_is_not_begun_anew m h =
     let n = length r.acknowledged in
     let taken : take n two_lines ≡ r.acknowledged = ap (take n) r.first ∙ take_at r.acknowledged r.unacknowledged n refl in
     let others : drop n two_lines ≡ r.unacknowledged = ap (drop n) r.first ∙ drop_at r.acknowledged r.unacknowledged n refl in
-    let closed = rw (← others, h.1.written.1) at r.closed in
     let told = rw (← h.1.written.0) at h.1.recovers.1 in
-    let answers = told ∙ r.answers ∙ ap (λ (ls : List (List ℕ)). joined (output_lines small empty ls)) (sym taken) in
+    let one = one_answer n (told ∙ r.answers ∙ ap (λ (ls : List (List ℕ)). joined (output_lines small empty ls)) (sym taken)) in
+    let closed = rw (← others, h.1.written.1) at r.closed in
     let next = h.1.goes_on.1.all_answered in
     let sums = next.1 ∙ next.2 ∙ ap (λ (x : State). serial_output small x (codes "summary\n"))
-    (r.state ∙ ap (λ (ls : List (List ℕ)). state_after_lines small empty (ls ++ r.part)) (sym taken)) in
-    true≢false (ap (λ (bs : List ℕ). bytes_eq bs (codes "summary 0 0 0\n")) sums ∙ has_volume n r.part closed answers)
+    (r.state ∙ ap (λ (ls : List (List ℕ)). state_after_lines small empty (ls ++ r.part)) (sym taken ∙ ap (λ (k : ℕ). take k two_lines) one)) in
+    true≢false (ap begins_anew sums ∙ has_volume r.part (subst (λ (k : ℕ). IsClosedPart small r.part (take 2 (drop k two_lines))) one closed))
