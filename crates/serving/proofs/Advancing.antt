@@ -34,17 +34,23 @@ pub record Sends (old new : List Line) (before written : Option (List ℕ)) : Ty
   pub output : Appends before written (joined (map answer_text sent_lines))
 
 -- The first of the lines that were not sent are sent now: the others are outstanding still.
-pub sends_on : {keeps : Type 0} {start m : MachineView} {unsent rest : List Line} {input unread : Option (List ℕ)} {ended : Bool} {before old now : Option (List ℕ)}
+unfoldable pub sends_on : {keeps : Type 0} {start m : MachineView} {unsent rest : List Line} {input unread : Option (List ℕ)} {ended : Bool} {before old now : Option (List ℕ)}
     → Sends unsent rest old now → ServingProgress keeps start m unsent input unread ended before old → ServingProgress keeps start m rest input unread ended before now
 sends_on {rest} {before} {old} {now} sends h =
     let s = h.serving in
-    search (
-      rw (sends.were, ← append_assoc h.sent_lines sends.sent_lines rest) at s.known,
-      all_join (λ line. has_answer line ≡ true) h.sent_lines sends.sent_lines s.answered sends.have_answers,
-      rw (← texts_both h.sent_lines sends.sent_lines) at
-          (Appends-trans before old now (joined (map answer_text h.sent_lines)) (joined (map answer_text sends.sent_lines)) h.output sends.output),
-      h,
-    )
+    record {
+      consumed = h.consumed;
+      sent_lines = h.sent_lines ++ sends.sent_lines;
+      takes = h.takes;
+      serving = record {
+        reply_pairs = s.reply_pairs;
+        segment = s.segment;
+        known = rw (sends.were, ← append_assoc h.sent_lines sends.sent_lines rest) at s.known;
+        answered = all_join (λ line. has_answer line ≡ true) h.sent_lines sends.sent_lines s.answered sends.have_answers;
+      };
+      output = rw (← texts_both h.sent_lines sends.sent_lines) at
+          (Appends-trans before old now (joined (map answer_text h.sent_lines)) (joined (map answer_text sends.sent_lines)) h.output sends.output);
+    }
 
 -- ---- what is logged
 

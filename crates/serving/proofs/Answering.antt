@@ -20,7 +20,7 @@ use Rattle.scheduler.specs.CoreView.{CoreView}
 use Rattle.serving.specs.Lines.{Completed, AreKnown, IsKnown, Line, NoMessage, NoneIsTo, OutOfRange, Pending, complete_one, admitted, admitted_in, has_answer, next_ticket, ticketed}
 use Rattle.serving.specs.Progress.{ServingProgress}
 use Rattle.serving.specs.Runs.{HandsHaveJobs, IsInternal, RunsBetween}
-use Rattle.serving.proofs.Chain.{passes_on}
+use Rattle.serving.proofs.Chain.{passes_on, told_as}
 use Rattle.serving.proofs.Segments.{core_is_quiet, step_passes}
 
 module _ (g : Geometry) (reply_pairs : List (ℕ × Reply)) (ticket : ℕ) (reply : Reply) where
@@ -70,7 +70,7 @@ module _ (g : Geometry) (reply_pairs : List (ℕ × Reply)) (ticket : ℕ) (repl
       (known_answered n (message_of l) known k.0, each_answered (next_ticket n (admitted_in g (message_of l))) ls lines k.1)
   each_answered n ls lines k = absurd k
 
-  lines_answered : (n : ℕ) (ls : List (List ℕ)) (sent_lines unsent : List Line) → AllByRecursion (λ line. has_answer line ≡ true) sent_lines
+  pub lines_answered : (n : ℕ) (ls : List (List ℕ)) (sent_lines unsent : List Line) → AllByRecursion (λ line. has_answer line ≡ true) sent_lines
       → AreKnown g reply_pairs n ls (sent_lines ++ unsent) → AreKnown g more n ls (sent_lines ++ map (complete_one ticket reply) unsent)
   lines_answered n ls [] unsent done k = each_answered n ls unsent k
   lines_answered n [] (known ∷ sent_lines) unsent done k = absurd k
@@ -80,7 +80,7 @@ module _ (g : Geometry) (reply_pairs : List (ℕ × Reply)) (ticket : ℕ) (repl
   )
 
 -- A message was answered, and its line in the reorder buffer is completed.
-pub answered_goes_on : {keeps : Type 0} {start old new : MachineView} {ticket : ℕ} {reply : Reply} {unsent : List Line}
+unfoldable pub answered_goes_on : {keeps : Type 0} {start old new : MachineView} {ticket : ℕ} {reply : Reply} {unsent : List Line}
     {input unread : Option (List ℕ)} {ended : Bool} {before written : Option (List ℕ)} → RunsBetween keeps old new [] ((ticket, reply) ∷ [])
     → ServingProgress keeps start old unsent input unread ended before written
     → ServingProgress keeps start new (map (complete_one ticket reply) unsent) input unread ended before written
@@ -88,11 +88,18 @@ answered_goes_on {start} {ticket} {reply} {unsent} p h =
     let g = start.core.geometry in
     let arriving = ticketed start.core.next (admitted g h.consumed) in
     let s = h.serving in
-    search (
-      rw (append-nil arriving) at (passes_on s.segment p),
-      lines_answered g s.reply_pairs ticket reply start.core.next h.consumed h.sent_lines unsent s.answered s.known,
-      h,
-    )
+    record {
+      consumed = h.consumed;
+      sent_lines = h.sent_lines;
+      takes = h.takes;
+      serving = record {
+        reply_pairs = s.reply_pairs ++ (ticket, reply) ∷ [];
+        segment = told_as (passes_on s.segment p) (append-nil arriving) refl;
+        known = lines_answered g s.reply_pairs ticket reply start.core.next h.consumed h.sent_lines unsent s.answered s.known;
+        answered = s.answered;
+      };
+      output = h.output;
+    }
 
 -- The message with this ticket was answered with this reply; or (`None`) no message was answered.
 abbrev pub IsAnswered : Type 0 → MachineView → MachineView → Option (ℕ × Reply) → Type 0

@@ -25,7 +25,7 @@ use Rattle.serving.specs.Progress.{IsServing}
 use Rattle.serving.specs.Lines.{AreKnown, IsKnown, Line, NoneIsTo, OutOfRange, Pending, admitted, admitted_in, next_ticket, ticketed, Completed, NoMessage}
 use Rattle.serving.specs.Reads.{IsRefusedLine, IsTaken}
 use Rattle.serving.specs.Runs.{HandsHaveJobs, RunsBetween}
-use Rattle.serving.proofs.Chain.{passes_on}
+use Rattle.serving.proofs.Chain.{passes_on, told_as}
 use Rattle.serving.proofs.Serial.{admitted-append, messages-ticketed}
 use Rattle.serving.proofs.Served.{ticket_before}
 use Rattle.serving.proofs.Segments.{core_is_quiet, step_passes}
@@ -35,7 +35,7 @@ use Rattle.serving.proofs.Tickets.{next-append, passes_next, ticketed-append}
 -- ---- one line more
 
 module _ (g : Geometry) (reply_pairs : List (ℕ × Reply)) (l : List ℕ) (known : Line) where
-  known_push : (n : ℕ) (ls : List (List ℕ)) (lines : List Line) → AreKnown g reply_pairs n ls lines
+  pub known_push : (n : ℕ) (ls : List (List ℕ)) (lines : List Line) → AreKnown g reply_pairs n ls lines
       → IsKnown g reply_pairs (next_ticket n (admitted g ls)) (message_of l) known → AreKnown g reply_pairs n (ls ++ l ∷ []) (lines ++ known ∷ [])
   known_push n [] [] k one = (one, tt)
   known_push n (y ∷ ls) (x ∷ lines) k one =
@@ -52,7 +52,7 @@ module _ {keeps : Type 0} {start old : MachineView} {consumed : List (List ℕ)}
   next_is = passes_next s.segment ∙ ap (next_ticket start.core.next) (messages-ticketed start.core.next (admitted g consumed))
 
   -- A line was read, and its message has arrived, if it takes a ticket.
-  takes_in : (new : MachineView) (line : List ℕ) (known : Line) → RunsBetween keeps old new (ticketed old.core.next (admitted_in g (message_of line))) []
+  unfoldable pub takes_in : (new : MachineView) (line : List ℕ) (known : Line) → RunsBetween keeps old new (ticketed old.core.next (admitted_in g (message_of line))) []
       → IsKnown g s.reply_pairs old.core.next (message_of line) known → IsServing keeps start new (consumed ++ line ∷ []) sent_lines (unsent ++ known ∷ [])
   takes_in new line known p k =
       let arriving = ticketed start.core.next (admitted g consumed) in
@@ -61,15 +61,16 @@ module _ {keeps : Type 0} {start old : MachineView} {consumed : List (List ℕ)}
       ap (λ (n : ℕ). arriving ++ ticketed n one) next_is ∙ sym (ticketed-append start.core.next (admitted g consumed) one)
       ∙ ap (λ (ms : List Msg). ticketed start.core.next (admitted g consumed ++ ms)) (sym (append-nil one))
       ∙ ap (ticketed start.core.next) (sym (admitted-append g consumed (line ∷ []))) in
-      search (
-        rw (all, append-nil s.reply_pairs) at (passes_on s.segment p),
-        rw (append_assoc sent_lines unsent (known ∷ [])) at
-            (known_push g s.reply_pairs line known start.core.next consumed (sent_lines ++ unsent) s.known (rw next_is at k)),
-        s,
-      )
+      record {
+        reply_pairs = s.reply_pairs;
+        segment = told_as (passes_on s.segment p) all (append-nil s.reply_pairs);
+        known = rw (append_assoc sent_lines unsent (known ∷ [])) at
+            (known_push g s.reply_pairs line known start.core.next consumed (sent_lines ++ unsent) s.known (rw next_is at k));
+        answered = s.answered;
+      }
 
 -- What is known of a line while there are no replies is known with these replies, too, if none of them is to its ticket n.
-known_anyway : (g : Geometry) (reply_pairs : List (ℕ × Reply)) (n : ℕ) (o : Option Msg) (known : Line) → NoneIsTo reply_pairs n → IsKnown g [] n o known
+pub known_anyway : (g : Geometry) (reply_pairs : List (ℕ × Reply)) (n : ℕ) (o : Option Msg) (known : Line) → NoneIsTo reply_pairs n → IsKnown g [] n o known
     → IsKnown g reply_pairs n o known
 known_anyway g reply_pairs n None NoMessage fresh k = k
 known_anyway g reply_pairs n (Some m) OutOfRange fresh k = k
@@ -78,7 +79,7 @@ known_anyway g reply_pairs n (Some m) (Completed t r) fresh k = let none = k.2.1
 known_anyway g reply_pairs n o known fresh k = absurd k
 
 -- After a line is consumed, it is the last of the lines that are not sent.
-pub serves_taken : {keeps : Type 0} {start old new : MachineView} {consumed : List (List ℕ)} {sent_lines unsent : List Line} {known : Line} (line : List ℕ)
+unfoldable pub serves_taken : {keeps : Type 0} {start old new : MachineView} {consumed : List (List ℕ)} {sent_lines unsent : List Line} {known : Line} (line : List ℕ)
     → IsIdle (core_state_of start.core) → IsTaken keeps old new (message_of line) known → IsServing keeps start old consumed sent_lines unsent
     → IsServing keeps start new (consumed ++ line ∷ []) sent_lines (unsent ++ known ∷ [])
 serves_taken {keeps} {start} {old} {new} {known} line idle t s =

@@ -16,7 +16,7 @@ use Rattle.serving.specs.Runs.{RunsBetween}
 abbrev rises : List Event → ℕ
 rises events = count_by (λ e. e.device_failed) events
 
-pub passes_on : {keeps : Type 0} {old mid new : MachineView} {arriving more : List Entry} {reply_pairs others : List (ℕ × Reply)}
+unfoldable pub passes_on : {keeps : Type 0} {old mid new : MachineView} {arriving more : List Entry} {reply_pairs others : List (ℕ × Reply)}
     → RunsBetween keeps old mid arriving reply_pairs → RunsBetween keeps mid new more others → RunsBetween keeps old new (arriving ++ more) (reply_pairs ++ others)
 passes_on {old} h k =
     let j = events_join h.leads k.leads in
@@ -31,3 +31,14 @@ passes_on {old} h k =
           ∙ ap (λ (n : ℕ). old.core.medium.faults + n) (sym (ap rises both
           ∙ sum_by-append (λ (e : Event). if e.device_failed then 1 else 0) (events_of h.device_events) (events_of k.device_events)));
     }
+
+-- The same segment, of which equal arrivals and replies are told.
+abbrev pub told_as : {keeps : Type 0} {old new : MachineView} {arriving come : List Entry} {reply_pairs given : List (ℕ × Reply)}
+    → RunsBetween keeps old new arriving reply_pairs → arriving ≡ come → reply_pairs ≡ given → RunsBetween keeps old new come given
+told_as h come given = record {
+  device_events = h.device_events;
+  leads = h.leads;
+  arrived_are = h.arrived_are ∙ come;
+  reply_pairs_are = h.reply_pairs_are ∙ given;
+  failures = h.failures;
+}

@@ -1,13 +1,13 @@
 -- A session that reads no more, and what it promises in the end.
-use Rattle.std.proofs.Common.{arith, ◌≡◌, ◌≢◌, ◌≤◌, ◌<◌, ◌+◌, ◌-◌, ℕ, Bool, true, false, List, [], ◌++◌, Option, Some, None, refl, ap, sym, ◌∙◌, subst, length, map, replicate, append_assoc}
+use Rattle.std.proofs.Common.{arith, ◌≡◌, ◌≢◌, ◌<◌, ◌-◌, ℕ, Bool, true, false, List, [], Option, Some, None, refl, ap, sym, ◌∙◌, subst, length, map, replicate}
 use Rattle.std.specs.Prelude.{Result, Ok, Err, IfOk, IfSome, OnErr, OnOk}
 use Rattle.std.specs.Io.KnownBytes.{Appends}
-use Rattle.std.proofs.KnownBytes.{Appends-nil, Appends-trans}
 use Rattle.message.proofs.Beginnings.{begins_all, begins_longer, none_waits}
 use Rattle.message.specs.Waiting.{all_output}
 use Rattle.message.specs.Writing.{AppendsBeginning}
 use Rattle.std.proofs.lemmas.Bool.{true≢false}
 use Rattle.std.proofs.lemmas.List.{length-replicate}
+use Rattle.disk.specs.Device.{Medium}
 use Rattle.histories.proofs.Idle.{idle_sound}
 use Rattle.histories.specs.Laws.{IsIdle}
 use Rattle.incarnations.specs.Machine.{MachineView}
@@ -23,55 +23,28 @@ use Rattle.meaning.specs.Output.{IsBeginning, WritesOutput, joined, serial_outpu
 use Rattle.meaning.specs.State.{State}
 use Rattle.reorder_buffer.specs.ReorderBuffer.{can_retire}
 use Rattle.oplog.specs.Recovery.{records_in}
-use Rattle.serving.specs.Restart.{WritesBeginning}
 use Rattle.serving.specs.Serve.{HasRunWith, FailsWithoutWorkers, ServePromise}
 use Rattle.serving.specs.Runs.{HandsHaveJobs, machine_with_jobs}
 use Rattle.serving.specs.Session.{EndsBy, EndsOrDeclines, HasFinished, SessionProgress, HasEndedReading, CanBegin, IsServed, SessionInvariant, SessionInvariantFrom, SessionView, ReadsOrHasEnded, machine, IsSent, end_of, reported}
+use Rattle.serving.specs.Kill.{IsKillSafe}
 use Rattle.serving.specs.Output.{Start, start_machine}
 use Rattle.serving.specs.declared.session.ReadEnd.{ReadEnd}
 use Rattle.serving.specs.declared.session.ReadEnd.TheVariants as ends_of_reading
 use Rattle.serving.specs.declared.server.ServeFault.{ServeFault}
 use Rattle.serving.specs.declared.server.ServeFault.TheVariants as faults
-use Rattle.language.proofs.Newlines.{both as newlines-append, newlines}
+use Rattle.language.proofs.Newlines.{newlines}
 use Rattle.serving.proofs.Newlines.{in_answers}
 use Rattle.serving.proofs.Promises.{no_memory_ran, runs_to_device, runs_to_last_ticket, runs_to_read, runs_to_write, runs_whole}
-use Rattle.serving.proofs.Starting.{holds_at_start, starts}
+use Rattle.serving.proofs.Keeping.{safe_since}
+use Rattle.serving.proofs.Since.{starts_since}
+use Rattle.serving.proofs.Starting.{holds_at_start}
+use Rattle.serving.proofs.Torn.{sent_begins, written_begins}
 use Rattle.serving.proofs.Served.{ends_at_device, ends_at_read, ends_exhausted, ends_whole, first_answered}
 use Rattle.serving.proofs.Invariant.{all_sent, begins_at, sent_so, none_out, progress_at_end, to_reorder_buffer}
 
 -- ---- what it promises
 
-all_appended : (whole : Option (List ℕ)) (bytes : List ℕ) → Appends whole (all_output whole bytes) bytes
-all_appended None bytes = tt
-all_appended (Some sent) bytes = refl
-
-sent_begins : (b : Bool) (waiting : List ℕ) (whole sent : Option (List ℕ)) → IsSent b waiting whole sent → AppendsBeginning whole sent waiting
-sent_begins true waiting whole sent h = h
-sent_begins false waiting whole sent h = ([], waiting, refl, subst (λ (w : Option (List ℕ)). Appends whole w []) (sym h) (Appends-nil whole))
-
--- After what was sent whole, the answers that wait were sent in part: that is a beginning of both.
--- Of n lines whose answers wait, those that end behind that beginning have a slot each, and at least all slots but n are left.
-module _ (before whole sent : Option (List ℕ)) (waiting text : List ℕ) (n slots : ℕ) (grown : Appends before whole text) where
-  written_begins : (b : Bool) → IsSent b waiting whole sent → newlines waiting ≤ n → n ≤ slots
-      → (left : ℕ) × WritesBeginning slots left before sent (all_output whole waiting) × (slots ≤ left + n)
-  written_begins b h few within =
-      let begins = sent_begins b waiting whole sent h in
-      let parts = ap (λ (l : List ℕ). newlines l) begins.2 ∙ newlines-append begins.0 begins.1 in (
-        slots - newlines begins.1,
-        (
-          text ++ waiting,
-          Appends-trans before whole (all_output whole waiting) text waiting grown (all_appended whole waiting),
-          (
-            text ++ begins.0,
-            begins.1,
-            ap (λ (l : List ℕ). text ++ l) begins.2 ∙ sym (append_assoc text begins.0 begins.1),
-            Appends-trans before whole sent text begins.0 grown begins.3,
-          ),
-          omega (arith, parts, few, within),
-        ),
-        omega (arith, parts, few, within),
-      )
-
+module _ (before whole sent : Option (List ℕ)) (waiting text : List ℕ) (grown : Appends before whole text) where
   serially : (g : Geometry) (start : State) (b : Bool) → IsSent b waiting whole sent → (input : Option (List ℕ))
       → WritesOutput input before (all_output whole waiting) (IsBeginning g start) → IfSome input (λ bytes. AppendsBeginning before sent (serial_output g start bytes))
   serially g start b h None first = tt
@@ -153,7 +126,7 @@ module _ {keeps : Type 0} {s : Start} {p : SessionView} (u : SessionInvariant ke
           ends = (
             wound_up h.progress,
             ran,
-            serially s.before h.whole p.sent p.reply_buffer text (length h.waiting) s.core.slots h.progress.output s.core.geometry (committed_in s.core)
+            serially s.before h.whole p.sent p.reply_buffer text h.progress.output s.core.geometry (committed_in s.core)
                 p.output_failed h.output s.input (first_answered keeps start now u.idle (to_reorder_buffer h)),
           );
         }
@@ -227,10 +200,10 @@ emptied_so : (P F : Type 0) (r : Result (Result (Unit {0}) ServeFault) F) → If
 emptied_so P F (Ok end) emptied = emptied
 emptied_so P F (Err f) emptied = tt
 
-module _ (p : SessionView) (P F : Type 0) (r : Result (Result (Unit {0}) ServeFault) F) (gives : IfOk r (λ end. EndsBy p end × OnOk end P)) where
-  both : (q : Result (Result (Unit {0}) ServeFault) F) → IfOk q (λ end. EndsBy p end × OnOk end P)
+module _ (p : SessionView) (P Q F : Type 0) (r : Result (Result (Unit {0}) ServeFault) F) (gives : IfOk r (λ end. EndsBy p end × OnOk end P × Q)) where
+  both : (q : Result (Result (Unit {0}) ServeFault) F) → IfOk q (λ end. EndsBy p end × OnOk end P × Q)
       → IfOk q (λ end. EndsBy p end) × IfOk q (λ end. OnOk end P)
-  both (Ok end) h = h
+  both (Ok end) h = (h.0, h.1)
   both (Err f) h = (tt, tt)
 
   pub ends_or_declines : (old : SessionView) → OnErr r (p ≡ old) → (result : Result (Unit {0}) ServeFault) → result ≡ reported r
@@ -270,7 +243,7 @@ pub record IsUnused (places : ℕ) (input : Option (List ℕ)) (p : SessionView)
   pub some_place : 0 < places
 
 -- A call that may begin satisfies the invariant.
-pub first_at : (keeps : Type 0) {o : Option Start} {p : SessionView} {places : ℕ} {input : Option (List ℕ)} → CanBegin o p.core places input p.sent p.reorder_buffer
+pub first_at : (keeps : Type 0) {o : Option Start} {p : SessionView} {places : ℕ} {input : Option (List ℕ)} → CanBegin o p.core places input p.sent p.sent_at p.reorder_buffer
     → IsUnused places input p → SessionInvariantFrom keeps o p
 first_at keeps {o} {p} {places} {input} r unused =
     let s : Start = record { core = p.core; places = places; input = input; before = p.sent } in
@@ -291,6 +264,11 @@ first_at keeps {o} {p} {places} {input} r unused =
         };
         whole = p.sent;
         output = sent_so p.output_failed p.reply_buffer p.sent unused.output_works;
-        progress = rw (unused.none_lent, r.none, unused.none_read, unused.all) (starts keeps (start_machine s) input p.sent);
+        since = rw (unused.none_lent, r.none, unused.none_read, unused.all, r.at_start) (starts_since keeps s);
       });
     })
+
+-- Where nothing has happened since the start, a kill has lost nothing.
+pub safe_at_start : {keeps : Type 0} {o : Option Start} {s : Start} {sent_at : Medium} → o ≡ Some s → sent_at ≡ s.core.medium → IsIdle (core_state_of s.core)
+    → s.core.failed ≡ false → (s.core.failed ≡ false → s.core.doubt ≡ []) → (keeps → RecoversNow s.core) → IsKillSafe keeps o s.before sent_at s.core
+safe_at_start {keeps} {s} is at idle works none recovers = rw (is, at) (safe_since idle (none works) none recovers (omega arith) (starts_since keeps s))

@@ -1,30 +1,32 @@
 -- What may be sent is held by whatever a crash leaves of the device.
-use Rattle.std.proofs.Common.{◌≡◌, ℕ, ◌+◌, true, List, [], ◌∷◌, ◌++◌, Option, ap, ◌∙◌, length, map, take, append_assoc, arith}
-use Rattle.std.proofs.lemmas.List.{length-append, take-append-le, take-map, take_all}
+use Rattle.std.proofs.Common.{◌≡◌, ℕ, true, List, [], ◌∷◌, ◌++◌, Option, ap, length, map, append_assoc, arith}
+use Rattle.std.proofs.lemmas.List.{length-append}
 use Rattle.std.proofs.KnownBytes.{Appends-trans}
 use Rattle.std.specs.Io.KnownBytes.{Appends}
 use Rattle.affinity.specs.declared.geometry.Geometry.{Geometry}
 use Rattle.affinity.proofs.Elements.{all_join}
 use Rattle.disk.specs.Device.{IsCrashImage}
-use Rattle.disk.specs.Moments.{left_since, moment_number}
 use Rattle.histories.specs.CoreState.{Replied}
-use Rattle.histories.specs.Runs.{logged_messages}
-use Rattle.incarnations.specs.Machine.{machine_of}
-use Rattle.incarnations.specs.DeviceEvents.{DeviceEvent, device_after, events_of}
 use Rattle.language.specs.Grammar.{message_of}
+use Rattle.language.proofs.Newlines.{newlines}
 use Rattle.meaning.specs.Output.{joined}
+use Rattle.message.specs.Waiting.{all_output}
+use Rattle.message.specs.Writing.{AppendsBeginning}
 use Rattle.scheduler.specs.CoreView.{CoreView}
-use Rattle.serving.specs.Ends.{HasRunLines, HasServed, committed_in}
+use Rattle.serving.specs.Ends.{HasServed, committed_in}
+use Rattle.serving.specs.Kill.{Between, Sending, WasKilled}
 use Rattle.serving.specs.Lines.{admitted_in, has_answer, answer_text, next_ticket}
 use Rattle.serving.specs.Logged.{AreInHistory, HoldsSent}
 use Rattle.serving.specs.Output.{MaySendFrom, Start, start_machine}
-use Rattle.serving.specs.Restart.{BytesRecover}
+use Rattle.serving.specs.Restart.{RecoversWritten}
 use Rattle.serving.proofs.Advancing.{texts_both}
-use Rattle.serving.proofs.Logged.{few_answered, holds_logged, holds_sent, written_are_kept}
+use Rattle.serving.proofs.Logged.{holds_sent}
+use Rattle.serving.proofs.Newlines.{in_answers}
 use Rattle.serving.proofs.Recovering.{bytes_recover}
+use Rattle.serving.proofs.Torn.{all_appended, written_begins}
 
 -- The output for the first lines stays so when more lines are read.
-still_in_history : (g : Geometry) (history : List Replied) (n : ℕ) (consumed more lines : List (List ℕ)) → AreInHistory g history n consumed lines
+pub still_in_history : (g : Geometry) (history : List Replied) (n : ℕ) (consumed more lines : List (List ℕ)) → AreInHistory g history n consumed lines
     → AreInHistory g history n (consumed ++ more) lines
 still_in_history g history n consumed more [] k = tt
 still_in_history g history n [] more (line ∷ lines) k = absurd k
@@ -52,28 +54,24 @@ module _ {keeps : Type 0} {s : Start} {sent later : Option (List ℕ)} {now : Co
       → HoldsSent s.core.geometry (committed_in s.core) s.core.slots s.core.next s.input s.before later c
   sent_is_held = holds_sent m.idle served_after_sending s.core.slots served_after_sending.few m.none_in_doubt
 
-  -- ---- the same after more events, with more lines read
+-- ---- where a server is killed
 
-  module _ (lines_since : List (List ℕ)) (events_since : List DeviceEvent) (last : CoreView)
-      (run : HasRunLines keeps (start_machine s) last s.input (m.served.consumed ++ lines_since))
-      (went_on : run.segment.device_events ≡ m.served.run.segment.device_events ++ events_since) where
-    pub recovers_since : keeps → (c : List ℕ) → left_since last.medium (moment_number now.medium) c
-        → BytesRecover s.core.geometry (s.core.slots + length lines_since) (committed_in s.core) s.input s.before later c
-    unfolding served_after_sending
-    recovers_since kept c left =
-        let h = served_after_sending in
-        let g = s.core.geometry in
-        let w = machine_of (start_machine s) in
-        let before = m.served.run.segment.device_events in
-        let events = run.segment.device_events in
-        let n = length before in
-        let many = ap length went_on ∙ length-append before events_since in
-        let first : take n events ≡ before = ap (take n) went_on ∙ take-append-le n before events_since (omega arith) ∙ take_all n before (omega arith) in
-        let at_send : device_after s.core.medium (take n events) ≡ now.medium = ap (λ (es : List DeviceEvent). device_after s.core.medium es) first ∙ h.run.segment.leads.device in
-        let log = logged_messages w (events_of before) in
-        let first_events : take n (events_of events) ≡ events_of before = take-map (λ (e : DeviceEvent). e.event) n events ∙ ap events_of first in
-        let held = rw first_events at (holds_logged m.idle m.none_in_doubt run kept n c (omega (arith, many)) (rw at_send left)) in
-        bytes_recover s.core.next (m.served.consumed ++ lines_since) (map answer_text h.sent_lines) run.first h.output
-        (omega (arith, few_answered m.idle h s.core.slots h.few, length-append m.served.consumed lines_since))
-        (still_in_history g log s.core.next m.served.consumed lines_since (map answer_text h.sent_lines)
-        (written_are_kept m.idle h)) held
+-- in a send, which has sent a beginning of its bytes
+module _ {keeps : Type 0} {s : Start} {sent : Option (List ℕ)} {now : CoreView} {bytes : List ℕ} (m : MaySendFrom keeps s sent now bytes)
+    (torn : Option (List ℕ)) (begun : AppendsBeginning sent torn bytes) where
+  pub recovers_in_send : keeps → (c : List ℕ) → IsCrashImage now.medium c
+      → RecoversWritten s.core.geometry s.core.slots (committed_in s.core) s.input s.before torn c
+  recovers_in_send kept c leaves =
+      let text = joined (map answer_text m.served.sent_lines) in
+      let few = m.served.few in
+      let both = length-append m.next m.rest in
+      let begins = written_begins s.before sent torn bytes text (length m.next) s.core.slots m.served.output true begun
+      (omega (arith, ap (λ (l : List ℕ). newlines l) m.bytes_are, in_answers m.next)) (omega (arith, few, both)) in
+      let h = holds_sent m.idle (served_after_sending m (all_appended sent bytes)) begins.0 (omega (arith, few, both, begins.2)) m.none_in_doubt kept c leaves in
+      (begins.0, all_output sent bytes, begins.1, bytes_recover s.core.next h.consumed h.lines h.first h.output h.few h.kept h.holds)
+
+-- What a server leaves that was killed.
+pub recovers_killed : {keeps : Type 0} (s : Start) (written : Option (List ℕ)) (c : List ℕ) → WasKilled keeps s written c → keeps
+    → RecoversWritten s.core.geometry s.core.slots (committed_in s.core) s.input s.before written c
+recovers_killed s written c (Sending sent now lines may begun left) kept = recovers_in_send may written begun kept c left
+recovers_killed s written c (Between sent_at now safe left) kept = safe kept c left

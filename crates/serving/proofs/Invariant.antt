@@ -30,20 +30,25 @@ use Rattle.serving.specs.Lending.{NoneInFlight}
 use Rattle.serving.specs.Reads.{IsTaken}
 use Rattle.reorder_buffer.specs.ReorderBuffer.{AreConsecutive, ReorderBufferView, can_retire, retired_text, with_tickets}
 use Rattle.serving.specs.Runs.{HandsHaveJobs, IsInternal, RunsBetween, lent_hand, machine_with_jobs}
-use Rattle.serving.specs.Session.{Waits, SessionProgress, HasEndedReading, IsReadEnd, SessionInvariant, SessionInvariantFrom, SessionView, ReadsOrHasEnded, machine, IsSent}
+use Rattle.serving.specs.Session.{Waits, SessionProgress, HasEndedReading, IsReadEnd, SessionInvariant, SessionInvariantFrom, SessionView, ServingSince, ReadsOrHasEnded, machine, IsSent}
 use Rattle.message.specs.Writing.{AppendsBeginning}
+use Rattle.disk.specs.Device.{Medium}
+use Rattle.language.proofs.Newlines.{newlines}
+use Rattle.serving.specs.Kill.{IsKillSafe}
 use Rattle.serving.specs.Output.{MaySend, Start, start_machine}
 use Rattle.serving.specs.declared.session.ReadEnd.{ReadEnd}
 use Rattle.serving.specs.declared.session.ReadEnd.TheVariants as ends_of_reading
 use Rattle.workers.specs.Seats.{DispatchSeatView}
 use Rattle.serving.proofs.Advancing.{Sends, sends_on, texts_both}
-use Rattle.serving.proofs.Answering.{answered_goes_on}
 use Rattle.serving.proofs.Following.{next_follows}
 use Rattle.serving.proofs.Inside.{idle_again}
 use Rattle.serving.proofs.Served.{has_served}
 use Rattle.serving.proofs.Slots.{finds_a_slot}
-use Rattle.serving.proofs.Segments.{quiet_goes_on, still_failed}
-use Rattle.serving.proofs.Taken.{line_goes_on, long_line_goes_on}
+use Rattle.serving.proofs.Keeping.{safe_since}
+use Rattle.serving.proofs.Newlines.{in_answers}
+use Rattle.serving.proofs.Segments.{still_failed}
+use Rattle.serving.proofs.Since.{answered_since, breaks_since, line_since, long_line_since, quiet_since, sends_since}
+use Rattle.serving.proofs.Torn.{all_appended, written_begins}
 use Rattle.serving.proofs.Tickets.{passes_next}
 
 -- ---- lines that are sent, completed or retired
@@ -66,11 +71,14 @@ sent_so true reply_buffer sent works = absurd (true≢false works)
 sent_so false reply_buffer sent works = refl
 
 -- With the answers that wait written after what was sent, their lines are sent.
-sends_waiting : (waiting lines : List Line) (reply_buffer : List ℕ) (sent : Option (List ℕ)) → HaveAnswers waiting → reply_buffer ≡ joined (map answer_text waiting)
+abbrev sends_waiting : (waiting lines : List Line) (reply_buffer : List ℕ) (sent : Option (List ℕ)) → HaveAnswers waiting → reply_buffer ≡ joined (map answer_text waiting)
     → Sends (waiting ++ lines) lines sent (all_output sent reply_buffer)
-sends_waiting waiting lines reply_buffer None answered is = record { sent_lines = waiting; were = refl; have_answers = answered; output = tt }
-sends_waiting waiting lines reply_buffer (Some bytes) answered is =
-    record { sent_lines = waiting; were = refl; have_answers = answered; output = ap (λ (l : List ℕ). bytes ++ l) is }
+sends_waiting waiting lines reply_buffer sent answered is = record {
+  sent_lines = waiting;
+  were = refl;
+  have_answers = answered;
+  output = subst (Appends sent (all_output sent reply_buffer)) is (all_appended sent reply_buffer);
+}
 
 -- A line that has its answer stays as it is when a message is answered.
 is_left : (ticket : ℕ) (reply : Reply) (line : Line) → has_answer line ≡ true → complete_one ticket reply line ≡ line
@@ -192,7 +200,7 @@ module _ (keeps : Type 0) where
           k.holds,
           places ∙ u.places ∙ ap (λ (z : _). z.slots) (sym bench),
           subst (λ (z : TableId). 0 < z.slots) (sym bench) u.some_place,
-          reads_on s p q (passes_next k.segment) (still_failed k.segment) (λ unread drained h. search (quiet_goes_on k.segment h.progress, h)) p.read_end u.reads,
+          reads_on s p q (passes_next k.segment) (still_failed k.segment) (λ unread drained h. search (quiet_since h.since k.segment, h)) p.read_end u.reads,
           u,
         ))
 
@@ -210,7 +218,7 @@ module _ (keeps : Type 0) where
             waits = waits_on h.waits (omega (arith, ap length is, length-map p.reorder_buffer.lines (complete_one ticket reply))) (omega (arith, h.bounded, slots));
             whole = h.whole;
             output = h.output;
-            progress = rw (are_left ticket reply h.waiting p.reorder_buffer.lines h.have_answers, ← is) at (answered_goes_on k.1 h.progress);
+            since = rw (are_left ticket reply h.waiting p.reorder_buffer.lines h.have_answers, ← is) at (answered_since h.since k.1);
           }) p.read_end u.reads,
           u,
         ))
@@ -236,7 +244,7 @@ module _ (keeps : Type 0) where
             };
             whole = h.whole;
             output = sent_on p.output_failed p.reply_buffer bytes _ h.whole p.sent added h.output;
-            progress = rw (f.were, ← append_assoc h.waiting one buffer.lines) at h.progress;
+            since = rw (f.were, ← append_assoc h.waiting one buffer.lines) at h.since;
           }) p.read_end u.reads,
           u,
         ))
@@ -251,10 +259,11 @@ module _ (keeps : Type 0) where
         rw (dropped, added) u
 
     -- All answers that wait are sent.
-    pub on_send : (reply_buffer : List ℕ) (sent : Option (List ℕ)) (n : ℕ) → p.output_failed ≡ false → reply_buffer ≡ [] → Appends p.sent sent p.reply_buffer → n ≡ length p.reorder_buffer.lines
-        → SessionInvariantFrom keeps o (record p { reply_buffer = reply_buffer; sent = sent; outstanding = n })
-    on_send reply_buffer sent n works none appends are =
-        let q : SessionView = record p { reply_buffer = reply_buffer; sent = sent; outstanding = n } in
+    pub on_send : (reply_buffer : List ℕ) (sent : Option (List ℕ)) {sent_at : Medium} (n : ℕ) → p.output_failed ≡ false → reply_buffer ≡ []
+        → Appends p.sent sent p.reply_buffer → sent_at ≡ p.core.medium → n ≡ length p.reorder_buffer.lines
+        → SessionInvariantFrom keeps o (record p { reply_buffer = reply_buffer; sent = sent; sent_at = sent_at; outstanding = n })
+    on_send reply_buffer sent {sent_at} n works none appends at are =
+        let q : SessionView = record p { reply_buffer = reply_buffer; sent = sent; sent_at = sent_at; outstanding = n } in
         goes_to q (λ s u. assumption (
           reads_on s p q refl (λ x. x) (λ unread drained h. record {
             waits = record {
@@ -266,25 +275,33 @@ module _ (keeps : Type 0) where
             };
             whole = sent;
             output = sent_so p.output_failed reply_buffer sent works;
-            progress = sends_on (record {
+            since = rw at (sends_since u.idle (record {
               sent_lines = h.waiting;
               were = refl;
               have_answers = h.have_answers;
               output = rw (all_sent p.output_failed p.reply_buffer h.whole p.sent works h.output, h.reply_buffer_is) at appends;
-            }) h.progress;
+            }) h.since);
           }) p.read_end u.reads,
           u,
         ))
 
     -- The answers could not be sent, but for a beginning of them: the output has failed.
-    pub on_break : (sent : Option (List ℕ)) → p.output_failed ≡ false → AppendsBeginning p.sent sent p.reply_buffer → SessionInvariantFrom keeps o (record p { sent = sent; output_failed = true })
-    on_break sent works begins =
-        let q : SessionView = record p { sent = sent; output_failed = true } in
+    pub on_break : (sent : Option (List ℕ)) (sent_at : Medium) → p.output_failed ≡ false → AppendsBeginning p.sent sent p.reply_buffer → sent_at ≡ p.core.medium
+        → SessionInvariantFrom keeps o (record p { sent = sent; sent_at = sent_at; output_failed = true })
+    on_break sent sent_at works begins at =
+        let q : SessionView = record p { sent = sent; sent_at = sent_at; output_failed = true } in
         goes_to q (λ s u. assumption (
-          reads_on s p q refl (λ x. x) (λ unread drained h. search (
-            subst (λ (w : Option (List ℕ)). AppendsBeginning w sent p.reply_buffer) (all_sent p.output_failed p.reply_buffer h.whole p.sent works h.output) begins,
-            h,
-          )) p.read_end u.reads,
+          reads_on s p q refl (λ x. x) (λ unread drained h.
+              let torn = subst (λ (w : Option (List ℕ)). AppendsBeginning w sent p.reply_buffer) (all_sent p.output_failed p.reply_buffer h.whole p.sent works h.output) begins in
+              let left = written_begins s.before h.whole sent p.reply_buffer (joined (map answer_text h.progress.sent_lines)) (length h.waiting) s.core.slots h.progress.output
+              true torn (omega (arith, ap (λ (l : List ℕ). newlines l) h.reply_buffer_is, in_answers h.waiting)) (omega (arith, h.counted, h.bounded, u.fits)) in
+              record {
+                waits = h.waits;
+                whole = h.whole;
+                output = torn;
+                since = rw at (breaks_since u.idle (sends_waiting h.waiting p.reorder_buffer.lines p.reply_buffer h.whole h.have_answers h.reply_buffer_is)
+                    left.0 left.1 (omega (arith, left.2)) h.since);
+              }) p.read_end u.reads,
           u,
         ))
 
@@ -306,6 +323,14 @@ module _ (keeps : Type 0) where
         have_answers = h.have_answers;
         bytes_are = h.reply_buffer_is;
       }
+
+  -- A kill has lost nothing of what was sent, given what `know_recovery` ensures of the core.
+  pub kill_safe : (o : Option Start) (p : SessionView) → SessionInvariantFrom keeps o p → (p.core.failed ≡ false → p.core.doubt ≡ [])
+      → (keeps → RecoversNow p.core) → IsKillSafe keeps o p.sent p.sent_at p.core
+  kill_safe None p u none recovers = absurd u
+  kill_safe (Some s) p u none recovers =
+      let h = (progress_at_end s p p.read_end u.reads).2 in
+      safe_since u.idle u.none_in_doubt none recovers (omega (arith, length-append h.waiting p.reorder_buffer.lines, h.counted, h.bounded, u.fits)) h.since
 
   -- ---- lines that are read
 
@@ -332,26 +357,26 @@ module _ (keeps : Type 0) where
     module _ (known : Line) (pushed : reorder_buffer.lines ≡ p.reorder_buffer.lines ++ known ∷ []) (going : p.drained ≡ false) (closes : HasWholeFirstLine p.unread drained) where
       on_read : (o : Option Start) → SessionInvariantFrom keeps o p → HandsHaveJobs (machine next)
           → ((s : Start) (unsent : List Line) (whole : Option (List ℕ)) → IsIdle (core_state_of s.core)
-          → ServingProgress keeps (start_machine s) (machine p) unsent s.input p.unread p.drained s.before whole
-          → ServingProgress keeps (start_machine s) (machine next) (unsent ++ known ∷ []) s.input unread drained s.before whole) → SessionInvariantFrom keeps o next
+          → ServingSince keeps s (machine p) unsent p.unread p.drained whole p.sent_at p.sent
+          → ServingSince keeps s (machine next) (unsent ++ known ∷ []) unread drained whole p.sent_at p.sent) → SessionInvariantFrom keeps o next
       on_read o u holds read = goes_to o p u next (λ s u.
           let h = reading s p none u in
           reads_next s u holds (record {
             waits = waits_on h.waits more bounded_next;
             whole = h.whole;
             output = h.output;
-            progress = rw (append_assoc h.waiting p.reorder_buffer.lines (known ∷ []), ← pushed) at (read s _ h.whole u.idle h.progress);
+            since = rw (append_assoc h.waiting p.reorder_buffer.lines (known ∷ []), ← pushed) at (read s _ h.whole u.idle h.since);
           }))
 
       -- A line is read.
       pub on_line : (o : Option Start) (line : List ℕ) → SessionInvariantFrom keeps o p → IsTaken keeps (machine p) (machine next) (message_of line) known
           → IfSome p.unread (λ bs. GivesLine line bs unread) → SessionInvariantFrom keeps o next
-      on_line o line u t found = on_read o u t.holds (λ s unsent whole idle h. line_goes_on idle going closes line t found h)
+      on_line o line u t found = on_read o u t.holds (λ s unsent whole idle h. line_since h idle going closes line t found)
 
       -- A line that is too long is read: it counts as no message.
       pub on_long_line : (o : Option Start) → SessionInvariantFrom keeps o p → IsTaken keeps (machine p) (machine next) None known
           → IfSome p.unread (λ bs. PassesLine bs unread) → SessionInvariantFrom keeps o next
-      on_long_line o u t found = on_read o u t.holds (λ s unsent whole idle h. long_line_goes_on idle going closes t found h)
+      on_long_line o u t found = on_read o u t.holds (λ s unsent whole idle h. long_line_since h idle going closes t found)
 
     -- No more is read for this reason.
     pub on_read_end : (o : Option Start) (read_end : ReadEnd) → SessionInvariantFrom keeps o p → IsInternal keeps (machine p) (machine next) → reorder_buffer.lines ≡ p.reorder_buffer.lines
@@ -365,7 +390,7 @@ module _ (keeps : Type 0) where
             waits = waits_on h.waits more bounded_next;
             whole = h.whole;
             output = h.output;
-            progress = simp (← same) at (quiet_goes_on k.segment h.progress);
+            since = simp (← same) at (quiet_since h.since k.segment);
           };
           why = subst (λ (y : Geometry). IsReadEnd y core p.unread p.drained remaining read_end) h.progress.serving.segment.leads.geometry why;
         } in

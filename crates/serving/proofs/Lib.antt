@@ -23,6 +23,9 @@ mod Served
 mod Advancing
 mod Stopping
 mod Unanswered
+mod Torn
+mod Keeping
+mod Since
 mod Invariant
 mod Going
 mod Resting

@@ -30,6 +30,7 @@ use Rattle.scheduler.specs.CoreView.{CoreView, core_state_of}
 use Rattle.serving.specs.Ends.{HasRunLines, HasServed, committed_in}
 use Rattle.serving.specs.Lines.{Completed, AreKnown, IsKnown, Line, NoMessage, OutOfRange, Pending, admitted, admitted_in, has_answer, next_ticket, answer_text, ticketed}
 use Rattle.serving.specs.Logged.{AreInHistory, HoldsSent, RecoversToHistory, IsInHistory}
+use Rattle.serving.specs.Progress.{IsServing}
 use Rattle.serving.proofs.Serial.{as_many}
 use Rattle.serving.proofs.Tickets.{ticketed-append}
 
@@ -124,32 +125,42 @@ said_of (a ∷ as') p is = ⊎_elim
     (λ (e : p ≡ (a.0, a.2)). (a.1, inl (λ i. ((e i).0, a.1, (e i).1))))
     (λ later. let h = said_of as' p later in (h.0, inr h.1)) is
 
-module _ {keeps : Type 0} {start : MachineView} {new : CoreView} {unsent : List Line} {input before written : Option (List ℕ)}
-    (idle : IsIdle (core_state_of start.core)) (h : HasServed keeps start new unsent input before written) where
-  abbrev run_log : List Replied
-  run_log = logged_messages (machine_of start) (events_of h.run.segment.device_events)
+module _ {keeps : Type 0} {start now : MachineView} {consumed : List (List ℕ)} {sent_lines unsent : List Line}
+    (idle : IsIdle (core_state_of start.core)) (s : IsServing keeps start now consumed sent_lines unsent) where
+  abbrev serving_log : List Replied
+  serving_log = logged_messages (machine_of start) (events_of s.segment.device_events)
 
   -- If the run gave a reply to a message's ticket, the message was logged with that reply.
-  was_logged : (ticket : ℕ) (m : Msg) (reply : Reply) → IsIn (ticket, m) (ticketed start.core.next (admitted start.core.geometry h.consumed))
-      → Contains h.run.reply_pairs (ticket, reply) → Contains run_log (ticket, m, reply)
+  was_logged : (ticket : ℕ) (m : Msg) (reply : Reply) → IsIn (ticket, m) (ticketed start.core.next (admitted start.core.geometry consumed))
+      → Contains s.reply_pairs (ticket, reply) → Contains serving_log (ticket, m, reply)
   was_logged ticket m reply asks told =
       let g = start.core.geometry in
       let w = machine_of start in
-      let p = h.run.segment in
+      let p = s.segment in
       let events = events_of p.device_events in
       let came = arrived events in
       let one = said_of (answered_messages w events) (ticket, reply)
-      (subst (IsIn (ticket, reply)) (sym (run_replies g w events p.leads.legal ∙ p.reply_pairs_are)) (in_contained h.run.reply_pairs (ticket, reply) told)) in
+      (subst (IsIn (ticket, reply)) (sym (run_replies g w events p.leads.legal ∙ p.reply_pairs_are)) (in_contained s.reply_pairs (ticket, reply) told)) in
       let its : IsIn (ticket, one.0) came =
       in_contained came (ticket, one.0)
       (holds_of (λ (a : Replied). Contains came (entry a)) (answered_messages w events) (answered_came g w events p.leads.legal idle) (ticket, one.0, reply) one.1) in
       let same : one.0 ≡ m = ap (λ (e : Entry). e.1)
       (one_message came (run_ascending g w events p.leads.legal) (ticket, one.0) (ticket, m) its
       (subst (IsIn (ticket, m)) (sym p.arrived_are) asks) refl) in
-      contains_in run_log (ticket, m, reply)
+      contains_in serving_log (ticket, m, reply)
       (subst (λ (l : List Replied). IsIn (ticket, m, reply) l) (sym (logged_begins g w events p.leads.legal idle))
       (in_left (ticket, m, reply) (answered_messages w events) (end_state w events).core.logged
       (subst (λ (m' : Msg). IsIn (ticket, m', reply) (answered_messages w events)) same one.1)))
+
+  -- Each line that was sent is in the history of what the run logged (`AreInHistory`).
+  pub serving_kept : AreInHistory start.core.geometry serving_log start.core.next consumed (map answer_text sent_lines)
+  serving_kept = are_kept start.core.geometry s.reply_pairs serving_log
+      (ticketed start.core.next (admitted start.core.geometry consumed)) was_logged start.core.next consumed sent_lines unsent (λ e is. is) s.known s.answered
+
+module _ {keeps : Type 0} {start : MachineView} {new : CoreView} {unsent : List Line} {input before written : Option (List ℕ)}
+    (idle : IsIdle (core_state_of start.core)) (h : HasServed keeps start new unsent input before written) where
+  abbrev run_log : List Replied
+  run_log = logged_messages (machine_of start) (events_of h.run.segment.device_events)
 
   -- No more consumed lines have no answer than these slots, where no more lines are unsent.
   pub few_answered : (slots : ℕ) → length unsent ≤ slots → length h.consumed ≤ length (map answer_text h.sent_lines) + slots
@@ -159,8 +170,7 @@ module _ {keeps : Type 0} {start : MachineView} {new : CoreView} {unsent : List 
 
   -- Each line that was written is in the history of what the run logged (`AreInHistory`).
   pub written_are_kept : AreInHistory start.core.geometry run_log start.core.next h.consumed (map answer_text h.sent_lines)
-  written_are_kept = are_kept start.core.geometry h.run.reply_pairs run_log
-      (ticketed start.core.next (admitted start.core.geometry h.consumed)) was_logged start.core.next h.consumed h.sent_lines unsent (λ e is. is) h.known h.have_answers
+  written_are_kept = serving_kept idle (record { reply_pairs = h.run.reply_pairs; segment = h.run.segment; known = h.known; answered = h.have_answers })
 
   -- Whatever a crash leaves at the end of the run holds what was written.
   pub holds_sent : (slots : ℕ) → length unsent ≤ slots → start.core.doubt ≡ [] → keeps → (c : List ℕ) → IsCrashImage new.medium c

@@ -25,7 +25,7 @@ use Rattle.scheduler.specs.CoreView.{CoreView, RecoversThroughout, core_state_of
 use Rattle.serving.specs.Lines.{Line, admitted, ticketed}
 use Rattle.serving.specs.Progress.{ServingProgress}
 use Rattle.serving.specs.Runs.{HandsHaveJobs, IsInternal, RunsBetween}
-use Rattle.serving.proofs.Chain.{passes_on}
+use Rattle.serving.proofs.Chain.{passes_on, told_as}
 use Rattle.scheduler.proofs.Called.{log_outcome, step_outcome}
 
 counted : (b : Bool) (old new : ℕ) → CountsFailure b old new → new ≡ old + (0 + (if b then 1 else 0))
@@ -39,13 +39,24 @@ module _ {keeps : Type 0} {old new : MachineView} {step : Step} {outcome : Outco
       search (one_leads k, append-nil (arrives step outcome), append-nil (answers outcome), counted k.device_failed old.core.medium.faults new.core.medium.faults k.failures)
 
 -- A segment in which no message arrives and none is answered leaves what is known of the lines as it was.
-pub quiet_goes_on : {keeps : Type 0} {start old new : MachineView} {unsent : List Line} {input unread : Option (List ℕ)} {ended : Bool}
+unfoldable pub quiet_goes_on : {keeps : Type 0} {start old new : MachineView} {unsent : List Line} {input unread : Option (List ℕ)} {ended : Bool}
     {before written : Option (List ℕ)} → RunsBetween keeps old new [] [] → ServingProgress keeps start old unsent input unread ended before written
     → ServingProgress keeps start new unsent input unread ended before written
 quiet_goes_on {keeps} {start} {new} p h =
     let arriving = ticketed start.core.next (admitted start.core.geometry h.consumed) in
     let reply_pairs = h.serving.reply_pairs in
-    search (rw (append-nil arriving, append-nil reply_pairs) at (passes_on h.serving.segment p), h)
+    record {
+      consumed = h.consumed;
+      sent_lines = h.sent_lines;
+      takes = h.takes;
+      serving = record {
+        reply_pairs = reply_pairs;
+        segment = told_as (passes_on h.serving.segment p) (append-nil arriving) (append-nil reply_pairs);
+        known = h.serving.known;
+        answered = h.serving.answered;
+      };
+      output = h.output;
+    }
 
 -- A failed device stays failed.
 run_fails : (g : Geometry) (old : MachineState) (events : List Event) → IsLegal g old events → old.core.failed ≡ true

@@ -75,23 +75,31 @@ still keeps m h = record { holds = h; segment = stays keeps m }
 module _ {keeps : Type 0} {start old new : MachineView} {unsent : List Line} {known : Line} {input unread now_unread : Option (List ℕ)} {ended now_ended : Bool}
     {before written : Option (List ℕ)} (idle : IsIdle (core_state_of start.core)) (going : ended ≡ false) (closes : HasWholeFirstLine unread now_ended) where
   -- The next line was found, and is consumed.
-  pub line_goes_on : (line : List ℕ) → IsTaken keeps old new (message_of line) known → IfSome unread (λ bs. GivesLine line bs now_unread)
+  unfoldable pub line_goes_on : (line : List ℕ) → IsTaken keeps old new (message_of line) known → IfSome unread (λ bs. GivesLine line bs now_unread)
       → ServingProgress keeps start old unsent input unread ended before written
       → ServingProgress keeps start new (unsent ++ known ∷ []) input now_unread now_ended before written
   line_goes_on line t found h =
-      search (takes_line input h.consumed h.takes going (record { given = found; closed = closes }), serves_taken line idle t h.serving, h)
+      record {
+        consumed = h.consumed ++ line ∷ [];
+        sent_lines = h.sent_lines;
+        takes = takes_line input h.consumed h.takes going (record { given = found; closed = closes });
+        serving = serves_taken line idle t h.serving;
+        output = h.output;
+      }
 
   -- The next line was too long: it was skipped, and is consumed as no message.
-  pub long_line_goes_on : IsTaken keeps old new None known → IfSome unread (λ bs. PassesLine bs now_unread)
+  unfoldable pub long_line_goes_on : IsTaken keeps old new None known → IfSome unread (λ bs. PassesLine bs now_unread)
       → ServingProgress keeps start old unsent input unread ended before written
       → ServingProgress keeps start new (unsent ++ known ∷ []) input now_unread now_ended before written
   long_line_goes_on t found h =
       let l = takes_long_line unread h.takes going found closes in
-      search (
-        l.takes,
-        serves_taken l.line idle (subst (λ (o : Option Msg). IsTaken keeps old new o known) (sym l.no_message) t) h.serving,
-        h,
-      )
+      record {
+        consumed = h.consumed ++ l.line ∷ [];
+        sent_lines = h.sent_lines;
+        takes = l.takes;
+        serving = serves_taken l.line idle (subst (λ (o : Option Msg). IsTaken keeps old new o known) (sym l.no_message) t) h.serving;
+        output = h.output;
+      }
 
 -- The input has ended.
 pub at_end : (unread now_unread : Option (List ℕ)) → IfSome unread (λ bs. IsAtEndOf bs now_unread) → IsAtEnd unread

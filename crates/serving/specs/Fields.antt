@@ -1,6 +1,7 @@
 -- Inner: The fields of a session as contracts see them, and what it keeps true of them between calls.
 use Rattle.std.specs.Prelude.{◌≡◌, ◌==◌, ℕ, Bool, List, Option}
 use Rattle.std.specs.List.{list_any}
+use Rattle.disk.specs.Device.{Medium}
 use Rattle.message.specs.declared.line_reader.LineReader.{LineReader}
 use Rattle.message.specs.Reader.{buffered_bytes, has_ended, is_drained, source, unread}
 use Rattle.serving.specs.Output.{Start}
@@ -11,7 +12,7 @@ use Rattle.serving.specs.declared.session.Session.TheInside.{Inside}
 abbrev pub holds_line : {R : Type 0} → LineReader R → Bool
 holds_line r = list_any (λ b. b == 10) (buffered_bytes r.buffered)
 
-module _ {R D L : Type 0} (remaining : R → Option (List ℕ)) (sent : L → Option (List ℕ)) where
+module _ {R D L : Type 0} (remaining : R → Option (List ℕ)) (sent : L → Option (List ℕ)) (sent_at : L → Medium) where
   abbrev pub session_view : Inside R D L → SessionView
   session_view s = record {
     core = s.core;
@@ -19,6 +20,7 @@ module _ {R D L : Type 0} (remaining : R → Option (List ℕ)) (sent : L → Op
     reorder_buffer = s.reorder_buffer;
     reply_buffer = s.reply_buffer;
     sent = sent s.sink;
+    sent_at = sent_at s.sink;
     outstanding = s.outstanding;
     output_failed = s.output_failed;
     read_end = s.read_end;

@@ -12,3 +12,4 @@ pub mod Output
 pub mod Session
 pub mod Fields
 pub mod Restart
+pub mod Kill

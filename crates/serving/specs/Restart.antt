@@ -47,3 +47,10 @@ pub record BytesRecover (g : Geometry) (slots : ℕ) (start : State) (input befo
   pub now : State
   pub holds_now : recovered_state g bytes ≡ Some now
   pub recovers : WritesOutput input before after (RecoversTo g slots start now)
+
+-- The output holds a beginning of what was to be written, which may be all of it (`WritesBeginning`): with all of that it would be `all`.
+-- The bytes recover to the state after the lines answered in `all` and a part of the next `left` ones: so at most as many lines as there
+-- are slots are in that state without their whole answer in the output.
+abbrev pub RecoversWritten : Geometry → ℕ → State → Option (List ℕ) → Option (List ℕ) → Option (List ℕ) → List ℕ → Type 0
+RecoversWritten g slots start input before after bytes = (left : ℕ) × (all : Option (List ℕ)) × WritesBeginning slots left before after all
+    × BytesRecover g left start input before all bytes

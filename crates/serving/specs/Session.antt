@@ -1,10 +1,13 @@
 -- Inner: The state of a session, its invariant since its start, and how a call moves it.
-use Rattle.std.specs.Prelude.{◌≡◌, ◌≢◌, ◌+◌, ◌<◌, ◌≤◌, ◌-◌, ◌^◌, ℕ, Bool, true, false, List, [], ◌++◌, length, map, Option, Some, None, IfSome, IsSomeAnd, IsTrue, OnErr, MatchResult, Result, Ok, Err, MatchOption}
-use Rattle.std.specs.Io.KnownBytes.{IsAtEnd}
+use Rattle.std.specs.Prelude.{◌≡◌, ◌≢◌, ◌+◌, ◌<◌, ◌≤◌, ◌-◌, ◌^◌, ℕ, Bool, true, false, List, [], ◌++◌, length, map, take, Option, Some, None, IfSome, IsSomeAnd, IsTrue, OnErr, MatchResult, Result, Ok, Err, MatchOption}
+use Rattle.std.specs.Io.KnownBytes.{Appends, IsAtEnd}
 use Rattle.affinity.specs.declared.geometry.Geometry.{Geometry}
+use Rattle.disk.specs.Device.{Medium}
 use Rattle.histories.specs.CoreState.{held}
 use Rattle.histories.specs.Laws.{IsIdle}
 use Rattle.histories.specs.Progress.{points_left, steps_to_come}
+use Rattle.histories.specs.Runs.{logged_messages}
+use Rattle.incarnations.specs.DeviceEvents.{DeviceEvent, device_after, events_of}
 use Rattle.incarnations.specs.Machine.{MachineView, machine_of}
 use Rattle.language.specs.Grammar.{message_of}
 use Rattle.language.specs.Messages.{is_in_range}
@@ -16,6 +19,8 @@ use Rattle.scheduler.specs.CoreView.{CoreView, core_state_of}
 use Rattle.serving.specs.Progress.{ServingProgress}
 use Rattle.serving.specs.Lending.{IsBlocked, NoneInFlight, asks_for_checkpoint}
 use Rattle.serving.specs.Lines.{HaveAnswers, Line, answer_text}
+use Rattle.serving.specs.Logged.{AreInHistory}
+use Rattle.serving.specs.Restart.{WritesBeginning}
 use Rattle.reorder_buffer.specs.ReorderBuffer.{ReorderBufferView, can_retire}
 use Rattle.serving.specs.Runs.{HandsHaveJobs, machine_with_jobs}
 use Rattle.oplog.specs.Recovery.{records_in}
@@ -39,6 +44,8 @@ pub record SessionView : Type 0 where
   pub reorder_buffer : ReorderBufferView
   pub reply_buffer : List ℕ
   pub sent : Option (List ℕ)
+  -- the device when the last send began, or at the start of the call
+  pub sent_at : Medium
   -- how many lines were read whose answers are not sent
   pub outstanding : ℕ
   -- whether sending has failed
@@ -88,14 +95,37 @@ pub record Waits (reply_buffer : List ℕ) (outstanding : ℕ) (reorder_buffer :
   pub counted : outstanding ≡ length waiting + length reorder_buffer.lines
   pub bounded : outstanding ≤ reorder_buffer.slots
 
+-- What was sent was on the device when the last send began, at `sent_at`: after this number of events of the run. Each line whose answer
+-- was sent by then, or begun to be sent, needs no record or was logged (`answers`). `left` is how many of the slots are free of those whose
+-- answer wasn't sent whole.
+pub record KeepsSent (s : Start) (sent_at : Medium) (sent : Option (List ℕ)) (consumed : List (List ℕ)) (sent_lines : List Line)
+    (device_events : List DeviceEvent) : Type 0 where
+  pub number : ℕ
+  pub within : number ≤ length device_events
+  pub at_send : device_after s.core.medium (take number device_events) ≡ sent_at
+  pub answers : List (List ℕ)
+  pub logged : AreInHistory s.core.geometry (logged_messages (machine_of (start_machine s)) (take number (events_of device_events)))
+      s.core.next consumed answers
+  pub left : ℕ
+  pub all : Option (List ℕ)
+  pub all_is : Appends s.before all (joined answers)
+  pub begun : WritesBeginning s.core.slots left s.before sent all
+  pub few : length sent_lines + s.core.slots ≤ length answers + left
+
+-- How far the server has come (`ServingProgress`), in a run in which what was sent is kept.
+pub record ServingSince (keeps : Type 0) (s : Start) (now : MachineView) (unsent : List Line) (unread : Option (List ℕ)) (drained : Bool)
+    (whole : Option (List ℕ)) (sent_at : Medium) (sent : Option (List ℕ)) : Type 0 where
+  pub progress : ServingProgress keeps (start_machine s) now unsent s.input unread drained s.before whole
+  pub kept : KeepsSent s sent_at sent progress.consumed progress.sent_lines progress.serving.segment.device_events
+
 -- From the start of the call of `serve` a legal run has led to this session, and `unread` is what is left of the input.
 pub record SessionProgress (keeps : Type 0) (s : Start) (p : SessionView) (unread : Option (List ℕ)) (drained : Bool) : Type 0 where
   pub waits : Waits p.reply_buffer p.outstanding p.reorder_buffer
   pub open waits use *
   pub whole : Option (List ℕ)
   pub output : IsSent p.output_failed p.reply_buffer whole p.sent
-  pub progress : ServingProgress keeps (start_machine s) (machine p) (waits.waiting ++ p.reorder_buffer.lines) s.input unread drained
-      s.before whole
+  pub since : ServingSince keeps s (machine p) (waits.waiting ++ p.reorder_buffer.lines) unread drained whole p.sent_at p.sent
+  pub open since use *
 
 -- A legal run has led to this session, and no more is read, for this reason.
 pub record HasEndedReading (keeps : Type 0) (s : Start) (p : SessionView) (read_end : ReadEnd) : Type 0 where
@@ -131,10 +161,11 @@ abbrev pub SessionInvariantFrom : Type 0 → Option Start → SessionView → Ty
 SessionInvariantFrom keeps start p = IsSomeAnd start (λ s. SessionInvariant keeps s p)
 
 -- A call of `serve` may begin at this start: no message is in the core or its `doubt`, the device has not failed, and the reorder buffer is
--- empty and has room for no more lines than the core has slots.
-pub record CanBegin (start : Option Start) (core : CoreView) (places : ℕ) (input sent : Option (List ℕ))
+-- empty and has room for no more lines than the core has slots. `sent_at`: the device is as the sink has it.
+pub record CanBegin (start : Option Start) (core : CoreView) (places : ℕ) (input sent : Option (List ℕ)) (sent_at : Medium)
     (reorder_buffer : ReorderBufferView) : Type 0 where
   pub is : start ≡ Some (record { core = core; places = places; input = input; before = sent })
+  pub at_start : sent_at ≡ core.medium
   pub idle : IsIdle (core_state_of core)
   pub works : core.failed ≡ false
   pub none_in_doubt : core.doubt ≡ []

@@ -7,6 +7,7 @@ ghost use Rattle.histories.specs.CoreState.{CoreState};
 ghost use Rattle.reorder_buffer.specs.ReorderBuffer.{can_retire};
 ghost use Rattle.scheduler.specs.Calls.{IsGranted};
 ghost use Rattle.scheduler.specs.CoreView.{core_state_of};
+ghost use Rattle.serving.specs.Kill.{IsKillSafe};
 ghost use Rattle.serving.specs.Lending.{DispatchesTo, NoneInFlight, asks_for_checkpoint};
 ghost use Rattle.serving.specs.Session.{HasGoneOn, HasLoggedNothing, HasMoved, HasOnlySent, HasReadNothing, IsAtRest, IsBlockedIn, IsSessionStep, KeepsCoreState, KeepsReadEndAndOutputFailed, NoneUnanswered, steps_ahead};
 ghost use Rattle.serving.specs.declared.dispatch.Blocked.{Blocked};
@@ -224,6 +225,7 @@ impl<'c, R: Read, D: Disk, L: ReplySink<D>> Session<'c, R, D, L> {
     /// Waits for a delivery, while a job is in flight: without one no delivery would come.
     fn wait_for_worker<W: GatedRuntime>(&mut self, rt: &W)
         requires in_flight { NoneInFlight self.old.dispatch_seat.lent → ⊥ }
+        requires safe { IsKillSafe D.keeps L.start self.old.sent self.old.sent_at self.old.core }
         ensures same { self.new ≡ self.old }
     {
         self.bench.wait(rt, &mut self.dispatch_seat);
@@ -243,6 +245,7 @@ impl<'c, R: Read, D: Disk, L: ReplySink<D>> Session<'c, R, D, L> {
             if !is_lent {
                 break;
             }
+            self.know_kill_safe();
             self.wait_for_worker(rt);
         }
     }
@@ -325,6 +328,7 @@ impl<'c, R: Read, D: Disk, L: ReplySink<D>> Session<'c, R, D, L> {
             return Ok(Activity::Busy);
         }
         if self.dispatch_seat.any_lent() {
+            self.know_kill_safe();
             self.wait_for_worker(rt);
             return Ok(Activity::Busy);
         }

@@ -90,6 +90,7 @@ impl<'c, R: Read, D: Disk, L: ReplySink<D>> Session<'c, R, D, L> {
     {
         let mut last = Activity::Busy;
         for _ in rt.forever() {
+            self.know_kill_safe();
             let read = self.read_more(last);
             let ended = self.ended();
             if let Some(read_end) = ended {
@@ -106,11 +107,14 @@ impl<'c, R: Read, D: Disk, L: ReplySink<D>> DispatcherTask<Result<(), ServeFault
     for Session<'c, R, D, L> {
     ghost use Rattle.std.specs.Prelude.{◌≡◌, [], OnOk, false};
     ghost use Rattle.oplog.specs.Recovery.{records_in};
+    ghost use Rattle.serving.specs.Kill.{IsKillSafe};
     ghost use Rattle.serving.specs.Session.{EndsBy};
 
     ghost can_begin = { λ s. s.output_failed ≡ false };
 
-    ghost gives = { λ old new end. EndsBy new end × OnOk end (D.keeps → records_in new.core.geometry new.core.medium.now ≡ []) };
+    // The threads are waited for after it: a kill so far has lost nothing of what was sent, either.
+    ghost gives = { λ old new end. EndsBy new end × OnOk end (D.keeps → records_in new.core.geometry new.core.medium.now ≡ [])
+        × IsKillSafe D.keeps L.start new.sent new.sent_at new.core };
 
     /// Serves line after line until the input ends, with a checkpoint where one is due, and one at the end of the input. When it returns,
     /// the answers are written up to the first line that has none, unless the output failed. If several things fail in one call, an output
@@ -118,8 +122,15 @@ impl<'c, R: Read, D: Disk, L: ReplySink<D>> DispatcherTask<Result<(), ServeFault
     fn run_task<T: Wait, G: Gate>(&mut self, rt: &T, gate: &G) -> Result<(), ServeFault> {
         let rt = &(rt, gate);
         match self.serve_lines(rt) {
-            Ok(read_end) => reported_for(read_end),
-            Err(_) => Err(self.end_early(rt)),
+            Ok(read_end) => {
+                self.know_kill_safe();
+                reported_for(read_end)
+            }
+            Err(_) => {
+                let fault = self.end_early(rt);
+                self.know_kill_safe();
+                Err(fault)
+            }
         }
     }
 

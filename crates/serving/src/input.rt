@@ -8,6 +8,7 @@ ghost use Rattle.language.specs.Grammar.{message_of};
 ghost use Rattle.language.specs.declared.Msg.{Msg};
 ghost use Rattle.scheduler.specs.CoreView.{core_state_of};
 ghost use Rattle.incarnations.specs.declared.hands.HandContent.{HandContent};
+ghost use Rattle.serving.specs.Kill.{IsKillSafe};
 ghost use Rattle.serving.specs.Lines.{Pending};
 ghost use Rattle.serving.specs.Reads.{TakesLine};
 ghost use Rattle.reorder_buffer.specs.ReorderBuffer.{AreConsecutive, with_tickets};
@@ -71,11 +72,12 @@ fn may_read(read_end: Option<ReadEnd>, outstanding: usize, slots: usize) -> bool
 impl<'c, R: Read, D: Disk, L: ReplySink<D>> Session<'c, R, D, L> {
     /// Reads the next line, if there is one, and takes it in. Returns whether it did. If it didn't, no more is read from now on, and
     /// `read_end` says why. It may be called only while fewer lines are outstanding than there are slots. It waits for input where no line
-    /// is buffered: no line may be unanswered then.
+    /// is buffered: no line may be unanswered then, and a kill so far, or while it waits, has lost nothing of what was sent (`safe`).
     fn read_next(&mut self) -> bool
         requires reads { self.old.read_end ≡ None }
         requires room { self.old.outstanding < self.old.reorder_buffer.slots }
         requires none_unanswered { self.old.holds_line ≡ false → NoneUnanswered self.old }
+        requires safe { self.old.holds_line ≡ false → IsKillSafe D.keeps L.start self.old.sent self.old.sent_at self.old.core }
         ensures reads { result ≡ is_none self.new.read_end }
         ensures output_failed { self.new.output_failed ≡ self.old.output_failed }
         ensures slots { self.new.reorder_buffer.slots ≡ self.old.reorder_buffer.slots }
@@ -137,6 +139,7 @@ impl<'c, R: Read, D: Disk, L: ReplySink<D>> Session<'c, R, D, L> {
     /// this server while it waits.
     fn wait_for_line(&mut self) -> Activity
         requires none_unanswered { NoneUnanswered self.old }
+        requires safe { IsKillSafe D.keeps L.start self.old.sent self.old.sent_at self.old.core }
         ensures output_failed { self.new.output_failed ≡ self.old.output_failed }
         ensures slots { self.new.reorder_buffer.slots ≡ self.old.reorder_buffer.slots }
     {
@@ -151,9 +154,11 @@ impl<'c, R: Read, D: Disk, L: ReplySink<D>> Session<'c, R, D, L> {
 
     /// Reads the lines in the input buffer, while fewer lines are outstanding than there are slots. If `last`, what the loop did in its
     /// last iteration, is `Idle`, it waits for a line first. Lines that the same read brings in are read too, so that their changes are
-    /// logged together. None is read once reading has ended.
+    /// logged together. None is read once reading has ended. Each iteration of the loop that never ends calls it: a kill so far has lost
+    /// nothing of what was sent (`safe`).
     pub(crate) fn read_more(&mut self, last: Activity) -> Activity
         requires none_unanswered { last ≡ activities.Idle → NoneUnanswered self.old }
+        requires safe { IsKillSafe D.keeps L.start self.old.sent self.old.sent_at self.old.core }
         ensures output_failed { self.new.output_failed ≡ self.old.output_failed }
     {
         let mut read = match last {

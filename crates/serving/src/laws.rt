@@ -27,12 +27,13 @@ ghost use Rattle.meaning.specs.State.{State};
 ghost use Rattle.scheduler.specs.CoreView.{CoreView, RecoversNow, core_state_of};
 ghost use Rattle.serving.specs.Ends.{EndsWith, exchange, HasRunLines, HasServed, IsQuiesced, committed_in};
 ghost use Rattle.serving.specs.Progress.{ServingProgress};
-ghost use Rattle.serving.specs.Restart.{BytesRecover};
+ghost use Rattle.serving.specs.Kill.{WasKilled};
+ghost use Rattle.serving.specs.Restart.{BytesRecover, RecoversWritten};
 ghost use Rattle.serving.specs.Logged.{AreInHistory, HoldsSent, RecoversToHistory};
-ghost use Rattle.serving.specs.Output.{MaySend, MaySendFrom, Start, SendsNoReply, start_machine};
+ghost use Rattle.serving.specs.Output.{MaySend, Start, SendsNoReply};
 ghost use Rattle.serving.specs.Lines.{AreKnown, Line, admitted, has_answer, answer_text, ticketed};
 ghost use Rattle.incarnations.specs.Machine.{MachineView, machine_of};
-ghost use Rattle.incarnations.specs.DeviceEvents.{DeviceEvent, device_after, events_of};
+ghost use Rattle.incarnations.specs.DeviceEvents.{device_after, events_of};
 ghost use Rattle.serving.specs.Runs.{RunsBetween, unanswered};
 ghost use Rattle.serving.specs.declared.server.ServeFault.TheVariants as faults;
 
@@ -147,18 +148,12 @@ pub fn what_may_be_sent_is_recovered<D: Disk>()
         → BytesRecover s.core.geometry s.core.slots (committed_in s.core) s.input s.before later c }
 {}
 
-/// A kill loses no line that was sent, whenever it comes after the `send` has begun. Since then the run went on to `last`: these further
-/// lines were read, and these further events happened. Whatever a crash leaves of the device, at any moment from the `send` on, recovers to
-/// a state with each line that was sent by it and before it, and with some of the lines after them: of no more than there are slots and
-/// further lines, and where one is left out, so is each later one related to it.
+/// A kill loses no line that was sent, whenever it comes: in a `send`, which may have sent a beginning of its lines, or between two. What a
+/// crash leaves then recovers to a state with each line whose answer was sent, and with at most as many others as there are slots: where
+/// one of these is left out, so is each later one related to it.
 pub fn a_kill_loses_no_line_that_was_sent<D: Disk>()
-    ensures { (s : Start) (sent later : Option (List ℕ)) (now last : CoreView) (bytes : List ℕ)
-        → (may : MaySendFrom D.keeps s sent now bytes) → D.keeps → Appends sent later bytes
-        → (lines_since : List (List ℕ)) (events_since : List DeviceEvent)
-        → (run : HasRunLines D.keeps (start_machine s) last s.input (may.served.consumed ++ lines_since))
-        → run.segment.device_events ≡ may.served.run.segment.device_events ++ events_since
-        → (c : List ℕ) → left_since last.medium (moment_number now.medium) c
-        → BytesRecover s.core.geometry (s.core.slots + length lines_since) (committed_in s.core) s.input s.before later c }
+    ensures { (s : Start) (written : Option (List ℕ)) (c : List ℕ) → WasKilled D.keeps s written c → D.keeps
+        → RecoversWritten s.core.geometry s.core.slots (committed_in s.core) s.input s.before written c }
 {}
 
 /// Nothing may be sent too early: as long as each message that has arrived is still in the core, waiting or held, no call may send a reply

@@ -18,7 +18,10 @@ use std::io::Read;
 pub trait ReplySink<D: Disk> {
     ghost use Rattle.std.specs.Prelude.{List, ℕ, Option, OnErr, OnOk};
     ghost use Rattle.std.specs.Io.KnownBytes.{Appends};
+    ghost use Rattle.std.specs.Prelude.{◌≡◌};
+    ghost use Rattle.disk.specs.Device.{Medium};
     ghost use Rattle.message.specs.Writing.{AppendsBeginning};
+    ghost use Rattle.serving.specs.Kill.{IsKillSafe};
     ghost use Rattle.serving.specs.Output.{MaySend, Start};
 
     /// What the `serve` call whose lines are sent began with (its core, places, input and output); `None` before that call.
@@ -27,14 +30,19 @@ pub trait ReplySink<D: Disk> {
     /// What was sent, if it is known.
     ghost sent: { Self → Option (List ℕ) };
 
-    /// Sends lines, each with its newline, after those that were sent before. `core` is the server's core as it is now: the condition
-    /// speaks of it.
+    /// The server's device as it was when the last `send` began; before the first one, as it was at the start of the `serve` call.
+    ghost sent_at: { Self → Medium };
+
+    /// Sends lines, each with its newline, after those that were sent before. `core` is the server's core as it is now: the conditions
+    /// speak of it. `safe` is of what was sent before: a kill at any moment since the last `send` began has lost none of it.
     ///
     /// # Errors
     ///
     /// `WriteFault` where they could not be sent. Some beginning of them was sent then, perhaps none of them or all.
     fn send(&mut self, lines: &[u8], core: &Core<D>) -> Result<(), WriteFault>
         requires may { MaySend D.keeps start (sent self.old) core.now lines.now }
+        requires safe { IsKillSafe D.keeps start (sent self.old) (sent_at self.old) core.now }
+        ensures at { sent_at self.new ≡ core.now.medium }
         ensures sent { OnOk result (Appends (sent self.old) (sent self.new) lines.now) }
         ensures begun { OnErr result (AppendsBeginning (sent self.old) (sent self.new) lines.now) };
 }

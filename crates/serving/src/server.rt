@@ -12,6 +12,7 @@ ghost use Rattle.histories.specs.Laws.{IsIdle};
 ghost use Rattle.scheduler.specs.CoreView.{RecoversNow, core_state_of};
 ghost use Rattle.language.specs.declared.TheConstants.{LONGEST_LINE};
 ghost use Rattle.serving.specs.Ends.{exchange};
+ghost use Rattle.serving.specs.Kill.{IsKillSafe};
 ghost use Rattle.serving.specs.Serve.{ServePromise, handed_back};
 ghost use Rattle.serving.specs.Session.{CanBegin, reported};
 
@@ -136,11 +137,13 @@ fn serve_borrowed<
     of: PhantomData<N>,
 ) -> (Result<Core<D>, ServeError<D>>, &'a mut R, L)
     requires reader { reader.ghost_name ≡ N.name }
-    requires can_begin { CanBegin L.start core memory.bench.slots (R.remaining reader.now) (L.sent sink) memory.reorder_buffer }
+    requires can_begin { CanBegin L.start core memory.bench.slots (R.remaining reader.now) (L.sent sink) (L.sent_at sink)
+        memory.reorder_buffer }
     requires workers { memory.bench.slots ≢ 0 }
     ensures same { result.1.ghost_name ≡ reader.entry.ghost_name }
     ensures serves { ServePromise D.keeps memory.bench.slots core (handed_back result.0)
         (exchange (R.remaining reader.entry.now) (R.remaining result.1.now) (L.sent sink) (L.sent result.2)) }
+    ensures safe { IsKillSafe D.keeps L.start (L.sent result.2) (L.sent_at result.2) (handed_back result.0).0 }
 {
     let Preallocated {
         input,
@@ -202,11 +205,14 @@ pub fn serve_to<T: Threads + Wait + Sync, R: Read, L: ReplySink<D>, D: Disk + Dr
     gate: &G,
 ) -> (Result<Core<D>, ServeError<D>>, L)
     requires start { L.start ≡ Some (record { core = core; places = workers; input = R.remaining r.old; before = L.sent sink }) }
+    requires at_start { L.sent_at sink ≡ core.medium }
     requires idle { IsIdle (core_state_of core) }
     requires works { core.failed ≡ false }
     requires few { workers ≤ 64 }
-    ensures { ServePromise D.keeps workers core (handed_back result.0)
+    ensures serves { ServePromise D.keeps workers core (handed_back result.0)
         (exchange (R.remaining r.old) (R.remaining r.new) (L.sent sink) (L.sent result.1)) }
+    // A kill at any moment since the last `send` began has lost nothing of what was sent, either.
+    ensures safe { IsKillSafe D.keeps L.start (L.sent result.1) (L.sent_at result.1) (handed_back result.0).0 }
 {
     core.know_recovery();
     if workers == 0 {

@@ -2,6 +2,7 @@
 //! sink. Its invariant: from the start of the call a legal run has led to its present state.
 
 ghost use Rattle.std.specs.Prelude.{◌≡◌, MatchResult, OnOk, Ok};
+ghost use Rattle.serving.specs.Kill.{IsKillSafe};
 
 use crate::checkpoints::CheckpointTrigger;
 use crate::output::ReplySink;
@@ -83,7 +84,18 @@ impl<'c, R: Read, D: Disk, L: ReplySink<D>> Model for Session<'c, R, D, L> {
 
     ghost use Rattle.serving.specs.Fields.{IsSession, session_view};
 
-    ghost view = { session_view R.remaining L.sent };
+    ghost view = { session_view R.remaining L.sent L.sent_at };
 
-    ghost invariant = { IsSession R.remaining L.sent D.keeps L.start };
+    ghost invariant = { IsSession R.remaining L.sent L.sent_at D.keeps L.start };
+}
+
+impl<'c, R: Read, D: Disk, L: ReplySink<D>> Session<'c, R, D, L> {
+    /// Does nothing: its contract states that a kill, at any moment since the last `send` began, has lost nothing of what was sent. Each
+    /// call that may wait has that as its condition (`send`, `read_next`, `wait_for_worker`), and so has each iteration of the loop
+    /// (`read_more`).
+    pub(crate) fn know_kill_safe(&self)
+        ensures { IsKillSafe D.keeps L.start self.now.sent self.now.sent_at self.now.core }
+    {
+        self.core.know_recovery();
+    }
 }

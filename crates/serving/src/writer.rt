@@ -14,6 +14,7 @@ use scheduler::Core;
 use std::alloc::Global;
 use std::io::{Read, Write};
 use std::marker::{Brand, PhantomData};
+use std::snapshot::Snapshot;
 use std::sync::Wait;
 use std::thread::Threads;
 use workers::{Gate, know_returned};
@@ -42,18 +43,23 @@ impl Beginning for Brand {
 }
 
 // A writer that is borrowed, to which lines are sent.
-struct Output<'w, W, B: Beginning> {
+struct Output<'w, W, D: Disk, B: Beginning> {
     w: &'w mut W,
+    // The core as it was when the last lines were sent, or at the start.
+    sent_at: Snapshot<Core<D>>,
     of: PhantomData<B>,
     ghost same: { w.ghost_name ≡ B.name },
 }
 
-impl<'w, D: Disk, W: Write, B: Beginning> ReplySink<D> for Output<'w, W, B> {
+impl<'w, D: Disk, W: Write, B: Beginning> ReplySink<D> for Output<'w, W, D, B> {
     ghost start = { B.start };
 
     ghost sent = { λ o. W.contents o.w.now };
 
-    fn send(&mut self, lines: &[u8], _core: &Core<D>) -> Result<(), WriteFault> {
+    ghost sent_at = { λ o. o.sent_at.value.medium };
+
+    fn send(&mut self, lines: &[u8], core: &Core<D>) -> Result<(), WriteFault> {
+        self.sent_at = Snapshot::of(core);
         write_in_order(self.w, lines)
     }
 }
@@ -86,9 +92,17 @@ fn serve_writer<
     ensures serves { ServePromise D.keeps workers core (handed_back result.0)
         (exchange (R.remaining r.old) (R.remaining r.new) (W.contents w.entry.now) (W.contents result.1.now)) }
 {
-    let output = Output::<W, B> { w, of: PhantomData };
+    let output = Output::<W, D, B> {
+        w,
+        sent_at: Snapshot::of(&core),
+        of: PhantomData,
+    };
     let (ended, output) = serve_to(rt, alloc, core, r, output, workers, every, gate);
-    let Output { w, of: _ } = output;
+    let Output {
+        w,
+        sent_at: _,
+        of: _,
+    } = output;
     (ended, w)
 }
 

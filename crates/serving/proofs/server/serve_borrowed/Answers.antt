@@ -4,11 +4,12 @@ use Rattle.std.specs.Prelude.{OnOk}
 use Rattle.std.proofs.lemmas.Bool.{and_left}
 use Rattle.scheduler.specs.CoreView.{CoreView}
 use Rattle.serving.specs.Ends.{exchange}
+use Rattle.serving.specs.Kill.{IsKillSafe}
 use Rattle.oplog.specs.Recovery.{records_in}
 use Rattle.serving.specs.Session.{SessionView, reported}
 use Rattle.serving.specs.Output.{Start, start_machine}
 use Rattle.serving.proofs.Closing.{PromisesAll, emptied_at_end, ends_or_declines, first_at, promises_from, refuses_none}
-use Rattle.serving.proofs.Invariant.{begun}
+use Rattle.serving.proofs.Invariant.{begun, kill_safe}
 use Rattle.serving.proofs.server.serve_borrowed.Goals as goal
 
 pub invariant_of-session : goal.invariant_of-session
@@ -43,7 +44,8 @@ returns g c =
     let last = c.session.inside in
     let gives = c.with_workers-ended.ensures in
     let end = reported c.with_workers-ended.result in
-    let ends = ends_or_declines now (g.D.Disk.keeps → records_in now.core.geometry now.core.medium.now ≡ []) _ c.with_workers-ended.result gives.gives _ gives.not_begun end refl in
+    let safe = IsKillSafe g.D.Disk.keeps g.L.ReplySink.start now.sent now.sent_at now.core in
+    let ends = ends_or_declines now (g.D.Disk.keeps → records_in now.core.geometry now.core.medium.now ≡ []) safe _ c.with_workers-ended.result gives.gives _ gives.not_begun end refl in
     let all = subst (λ (b : Option (List ℕ)). PromisesAll g.D.Disk.keeps (start_machine s) last.core (exchange s.input b s.before (g.L.ReplySink.sent last.sink)) end)
     (sym (ap (λ (l : _). g.R.Read.remaining l.reader.now) c.into_inner-reader.ensures))
     (promises_from (begun c.requires.can_begin.is c.session.invariant.run) c.session.view_is
@@ -55,6 +57,7 @@ returns g c =
         ends = all.ends;
         no_workers = refuses_none c.args.memory.bench.slots c.requires.workers _ _ end ends;
         emptied = subst (λ (k : CoreView). OnOk end (g.D.Disk.keeps → records_in k.geometry k.medium.now ≡ [])) (sym (ap (λ (p : SessionView). p.core) c.session.view_is))
-            (emptied_at_end now (g.D.Disk.keeps → records_in now.core.geometry now.core.medium.now ≡ []) _ c.with_workers-ended.result gives.gives _ refl);
+            (emptied_at_end now (g.D.Disk.keeps → records_in now.core.geometry now.core.medium.now ≡ []) safe _ c.with_workers-ended.result gives.gives _ refl);
       });
+      safe = rw c.hand_back.ensures.ended (kill_safe g.D.Disk.keeps _ _ c.session.invariant.run c.hand_back.ensures.no_doubt c.hand_back.ensures.recovers);
     }

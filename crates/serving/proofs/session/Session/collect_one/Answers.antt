@@ -36,5 +36,5 @@ returns-clause-moves g c =
     let place = subst (λ (p : SessionView). c.args.k < length p.dispatch_seat.lent) (sym c.self.view_is) c.requires.place in
     let back = c.give_back.ensures.state_after in
     let less = returned old.core.geometry c.args.k _ _ old.dispatch_seat.lent _ _ back.0 place back.1 back.3 s.3 in
-    let new = session_view g.R.Read.remaining g.L.ReplySink.sent (record old { core = c.give_back.new.self; dispatch_seat = c.collect.new.seat }) in
+    let new = session_view g.R.Read.remaining g.L.ReplySink.sent g.L.ReplySink.sent_at (record old { core = c.give_back.new.self; dispatch_seat = c.collect.new.seat }) in
     subst (λ (p : SessionView). HasMoved p new) c.self.view_is (less.0, less.1, (refl, refl), (refl, refl))

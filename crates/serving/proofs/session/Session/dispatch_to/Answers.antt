@@ -29,7 +29,7 @@ returns-clause-moves g c =
     let old = c.self.inside in
     let first = ap (λ (p : SessionView). position is_none p.dispatch_seat.lent) c.self.view_is ∙ c.requires.first in
     let less = dispatched old.core.geometry c.args.k _ _ old.dispatch_seat.lent _ _ first (c.offer_granted.ensures.dispatches _ _ _ c.grant-granted.ensures.state_after) in
-    let new = session_view g.R.Read.remaining g.L.ReplySink.sent (record old { core = c.grant-granted.new.self; dispatch_seat = c.offer_granted.new.dispatch_seat }) in
+    let new = session_view g.R.Read.remaining g.L.ReplySink.sent g.L.ReplySink.sent_at (record old { core = c.grant-granted.new.self; dispatch_seat = c.offer_granted.new.dispatch_seat }) in
     subst (λ (p : SessionView). HasMoved p new) c.self.view_is (less.0, less.1, (refl, refl), (refl, refl))
 
 pub returns-clause-dispatches : goal.returns-clause-dispatches

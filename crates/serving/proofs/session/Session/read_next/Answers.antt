@@ -35,7 +35,7 @@ knows g c = c.next_line.ensures.at_end (knows_of g.D.Disk.keeps _ _ c.self.invar
 stops : (g : Over) (c : After-next_line g) (read_end : ReadEnd)
     → IsReadEnd c.self.inside.core.geometry c.self.inside.core (unread g.R.Read.remaining c.self.inside.line_reader) (is_drained c.self.inside.line_reader)
     (g.R.Read.remaining (source c.next_line.new.self)) read_end
-    → IsSession g.R.Read.remaining g.L.ReplySink.sent g.D.Disk.keeps g.L.ReplySink.start (record c.self.inside { read_end = Some read_end; line_reader = c.next_line.new.self })
+    → IsSession g.R.Read.remaining g.L.ReplySink.sent g.L.ReplySink.sent_at g.D.Disk.keeps g.L.ReplySink.start (record c.self.inside { read_end = Some read_end; line_reader = c.next_line.new.self })
 stops g c read_end why = record {
   run = on_read_end g.D.Disk.keeps _ c.self.inside.core _ _ _ _ _ _ _ (none g c) refl refl (omega (arith, room g c)) (knows g c)
       _ read_end c.self.invariant.run (still g.D.Disk.keeps _ (holds_of g.D.Disk.keeps _ _ c.self.invariant.run)) refl why;
