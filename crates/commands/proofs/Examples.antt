@@ -16,10 +16,12 @@ use Rattle.meaning.specs.State.{State, empty}
 use Rattle.device_map.specs.Layout.{image_size}
 use Rattle.commands.specs.Lines.{formatted_line, shown_lines}
 use Rattle.commands.specs.Promise.{HasRunFrom}
-use Rattle.commands.specs.Restarts.{CrashedRun, HaveRunFrom}
+use Rattle.commands.specs.Restarts.{CrashedRun, HaveRunFrom, Killed, Returned}
 use Rattle.commands.specs.Services.{AsksServe, within_limits}
 use Rattle.commands.specs.declared.faults.Fault.TheVariants.{Device, Write}
+use Rattle.serving.proofs.Recovering.{none_written}
 use Rattle.serving.specs.Restart.{IsClosedPart}
+use Rattle.commands.proofs.Promise.{then_so}
 use Rattle.arguments.proofs.Examples as given
 
 small_is_formatted : formatted_line small ≡ codes "formatted 8840" ++ 10 ∷ []
@@ -128,6 +130,63 @@ it_is_not_lost h =
     true≢false (sym (is_made r.acknowledged r.unacknowledged r.part w.2.1 r.first closed (begins ∙ r.answers))
     ∙ ap (λ (x : State). x.made (0, 0)) (sym r.state ∙ h.goes_on))
 
+-- ---- servers that were killed
+
+-- A server was killed when its output held so much. Its device isn't looked at.
+abbrev killed_at : Medium → List ℕ → CrashedRun
+killed_at m after = record {
+  slots = 1;
+  end = Killed;
+  input = Some (codes "makevol 0 0\nsummary\n");
+  before = Some [];
+  after = Some after;
+  left = m;
+  crashed = m;
+}
+
+-- In the middle of the second answer: to its client it hung up.
+the_second_answer_is_torn : (m : Medium) → HaveRunFrom small empty (killed_at m (codes "done\nsum") ∷ [])
+the_second_answer_is_torn m = (λ fault e. cc e, then_so (λ now made. tt) the_volume_is_there)
+
+-- Before the first answer: the crash has left the volume, and a second server finds it; or it has left none.
+nothing_is_answered : (m : Medium) → HaveRunFrom small empty (killed_at m [] ∷ killed_at m [] ∷ [])
+unfolding message_of kind_named number_in_word digits
+nothing_is_answered m = (
+  λ fault e. cc e,
+  record {
+    now = empty;
+    left = 1;
+    all = Some [];
+    written = ([], refl, ([], [], refl, refl), refl);
+    recovers = ([], refl, none_written small 1 empty (codes "makevol 0 0\nsummary\n"));
+    all_answered = tt;
+    goes_on = (
+      λ fault e. cc e,
+      record {
+        now = state_after_lines small empty (makes ∷ []);
+        left = 1;
+        all = Some [];
+        written = ([], refl, ([], [], refl, refl), refl);
+        recovers = (
+          [],
+          refl,
+          record {
+            acknowledged = [];
+            unacknowledged = makes ∷ asks ∷ [];
+            first = refl;
+            answers = refl;
+            part = makes ∷ [];
+            closed = inl ([], refl, refl);
+            state = refl;
+          },
+        );
+        all_answered = tt;
+        goes_on = tt;
+      },
+    );
+  },
+)
+
 -- ---- two servers, one after the other, and a crash behind each
 
 abbrev creates : List ℕ
@@ -140,7 +199,7 @@ two_lines = makes ∷ creates ∷ []
 abbrev two_servers : Medium → List ℕ → List CrashedRun
 two_servers m summary = record {
   slots = 2;
-  end = Err Device;
+  end = Returned (Err Device);
   input = Some (codes "makevol 0 0\ncreate 0 0 0\n");
   before = Some [];
   after = Some (codes "done\n");
@@ -148,7 +207,7 @@ two_servers m summary = record {
   crashed = m;
 } ∷ record {
   slots = 2;
-  end = Ok tt;
+  end = Returned (Ok tt);
   input = Some (codes "summary\n");
   before = Some [];
   after = Some summary;

@@ -1,6 +1,7 @@
 -- From what a service on a device has done follows the state from which a restart goes on.
-use Rattle.std.proofs.Common.{◌≡◌, ◌⊎◌, ℕ, List, [], ◌∷◌, Option, Some, None, ap, refl, sym, ◌∙◌, subst, inl, inr, ⊎_elim, arith}
+use Rattle.std.proofs.Common.{◌≡◌, ◌⊎◌, ◌≤◌, ℕ, List, [], ◌∷◌, Option, Some, None, ap, refl, sym, ◌∙◌, subst, inl, inr, ⊎_elim, arith}
 use Rattle.std.specs.Prelude.{Result, Ok, Err, OnOk}
+use Rattle.std.specs.Io.KnownBytes.{Appends}
 use Rattle.std.proofs.KnownBytes.{Appends-nil}
 use Rattle.std.proofs.lemmas.Option.{same_Some}
 use Rattle.affinity.specs.declared.geometry.Geometry.{Geometry}
@@ -19,14 +20,16 @@ use Rattle.meaning.specs.State.{State}
 use Rattle.scheduler.proofs.Refusals.{recovers_or_refused}
 use Rattle.scheduler.specs.Opening.{IsShownByBytes}
 use Rattle.serving.proofs.Recovering.{none_written, bytes_recover}
-use Rattle.serving.specs.Restart.{RecoversTo, BytesRecover}
+use Rattle.serving.proofs.Holding.{recovers_killed}
+use Rattle.serving.specs.Restart.{RecoversTo, BytesRecover, RecoversWritten}
 use Rattle.serving.specs.declared.server.ServeFault.{ServeFault}
 use Rattle.commands.proofs.Kept.{all_then, keeps_acknowledged}
 use Rattle.serving.specs.Ends.{Exchange}
 use Rattle.commands.specs.Faults.{command_result}
 use Rattle.commands.specs.Acknowledged.{HoldsAcknowledged}
-use Rattle.commands.specs.Promise.{HasRunFrom, HoldsOfAll, HoldsRecovered, HoldsState, LeavesRun, IsWritten, OpensUnlessFailed}
-use Rattle.commands.specs.Restarts.{CrashedRun, FollowCrashes, HaveRunFrom}
+use Rattle.commands.specs.Kill.{IsKilled, WhileOpening, WhileServing}
+use Rattle.commands.specs.Promise.{HasRunFrom, HoldsOfAll, HoldsRecovered, HoldsState, LeavesKilled, LeavesRun, IsWritten, OpensUnlessFailed}
+use Rattle.commands.specs.Restarts.{CrashedRun, FollowCrashes, HaveRunFrom, IsRunOn, Killed, Returned, RunEnd, promised_end}
 use Rattle.commands.specs.Serving.{EndsOnDevice, CrashesSafely, HasServedBy, RecoveredTo}
 use Rattle.commands.specs.declared.faults.Fault.{Fault}
 use Rattle.commands.specs.declared.faults.Fault.TheVariants as ends
@@ -72,6 +75,26 @@ opened_or : (P : ℕ → Option (List ℕ) → Type 0) (end : Result (Unit {0}) 
 opened_or P (Err (ends.Open fault)) slots before written h = inl (fault, refl)
 opened_or P end slots before written h = inr h
 
+-- A crash at any moment while the device is opened leaves what recovers to the same state.
+crashed_since : (g : Geometry) (old new : Medium) {x : State} → recovered_state g old.now ≡ Some x → IsSynced old → (c : List ℕ)
+    → left_since new (moment_number old) c → OpeningCrashImages old new → recovered_state g c ≡ Some x
+crashed_since g old new {x} made synced c since h =
+    ⊎_elim (λ (was : IsCrashImage old c). ap (recovered_state g) (synced_left old c synced was) ∙ made) (λ (k : RecoversAsBefore old.now c). k.same g x made)
+    (⊎_elim
+    (λ (same : new ≡ h.synced). inl (h.first.each c (subst (λ (m : Medium). left_since m (moment_number old) c) same since)))
+    (λ (past : IsPastSync old h.synced new). ⊎_elim (λ (was : left_since h.synced (moment_number old) c). inl (h.first.each c was))
+    (λ (k : RecoversAsBefore old.now c). inr k)
+    (past.later.before (moment_number old) c h.first.later since)) h.rest)
+
+-- Where nothing was written, bytes that recover to the state of the start are as they may be.
+silent : {g : Geometry} (slots : ℕ) {x : State} (input before written : Option (List ℕ)) (c : List ℕ) → recovered_state g c ≡ Some x → written ≡ before
+    → BytesRecover g slots x input before written c
+silent {g} slots {x} input before written c recovers unwritten = record { now = x; holds_now = recovers; recovers = so input }
+  where
+    so : (input : Option (List ℕ)) → WritesOutput input before written (RecoversTo g slots x x)
+    so None = tt
+    so (Some bytes) = ([], rw unwritten (Appends-nil before), none_written g slots x bytes)
+
 -- One run, on a device that is synced and recovers to state x, and what a crash leaves of it then.
 module _ {keeps : Type 0} (keep : keeps) (g : Geometry) (old new : Medium) {x : State}
     (made : recovered_state g old.now ≡ Some x) (synced : IsSynced old) (c : List ℕ) (leaves : IsCrashImage new c) where
@@ -80,26 +103,16 @@ module _ {keeps : Type 0} (keep : keeps) (g : Geometry) (old new : Medium) {x : 
       let own = opened_so tt made h.recovered_before in
       rw (own.0, own.1) at h.recovered
 
-  -- A crash while the device is opened leaves what recovers to the same state.
+  -- A crash when the device was opened leaves what recovers to the same state.
   crashed_so : OpeningCrashImages old new → recovered_state g c ≡ Some x
-  crashed_so h = ⊎_elim (λ (was : IsCrashImage old c). ap (recovered_state g) (synced_left old c synced was) ∙ made) (λ (k : RecoversAsBefore old.now c). k.same g x made)
-      (⊎_elim
-      (λ (same : new ≡ h.synced).
-      inl (h.first.each c (counts_now h.synced (moment_number old) c h.first.later (subst (λ (m : Medium). IsCrashImage m c) same leaves))))
-      (λ (past : IsPastSync old h.synced new). ⊎_elim (λ (was : left_since h.synced (moment_number old) c). inl (h.first.each c was))
-      (λ (k : RecoversAsBefore old.now c). inr k)
-      (past.later.before (moment_number old) c h.first.later
-      (counts_now new (moment_number old) c (let a = h.first.later in let b = past.later.later in omega (arith, a, b)) leaves))) h.rest)
+  crashed_so h =
+      let later = ⊎_elim (λ (same : new ≡ h.synced). subst (λ (m : Medium). moment_number old ≤ moment_number m) (sym same) h.first.later)
+      (λ (past : IsPastSync old h.synced new). let a = h.first.later in let b = past.later.later in omega (arith, a, b)) h.rest in
+      crashed_since g old new made synced c (counts_now new (moment_number old) c later leaves) h
 
   -- where the device could not be opened
   left_unopened : (input before written : Option (List ℕ)) → OpeningCrashImages old new → written ≡ before → BytesRecover g 0 x input before written c
-  left_unopened input before written opening unwritten =
-      record { now = x; holds_now = crashed_so opening; recovers = silent input }
-    where
-      silent : (input : Option (List ℕ)) → WritesOutput input before written (RecoversTo g 0 x x)
-      silent None = tt
-      silent (Some bytes) =
-          ([], rw unwritten (Appends-nil before), none_written g 0 x bytes)
+  left_unopened input before written opening unwritten = silent 0 input before written c (crashed_so opening) unwritten
 
   module _ (s : ServeOptions) (end : Result (Unit {0}) Fault) (streams : Exchange) where
     run_so : EndsOnDevice keeps s old new end streams → CrashesSafely keeps s old new end streams
@@ -144,10 +157,52 @@ pub then_so : {g : Geometry} {slots : ℕ} {start : State} {end : Result (Unit {
     → ((now : State) → P now → Q now) → HasRunFrom g slots start end input before after P → HasRunFrom g slots start end input before after Q
 then_so f h = record { now = h.now; left = h.left; all = h.all; written = h.written; recovers = h.recovers; all_answered = h.all_answered; goes_on = f h.now h.goes_on }
 
+-- ---- a service that was killed
+
+-- What a crash leaves of one whose output holds so much is as where its output had failed.
+left_written : (g : Geometry) (slots : ℕ) (x : State) (input before after : Option (List ℕ)) (c : List ℕ) → RecoversWritten g slots x input before after c
+    → HasRunFrom g slots x (Err ends.Write) input before after (λ now. recovered_state g c ≡ Some now)
+left_written g slots x input before after c w = record {
+  now = w.3.now;
+  left = w.0;
+  all = w.1;
+  written = w.2;
+  recovers = w.3.recovers;
+  all_answered = tt;
+  goes_on = w.3.holds_now;
+}
+
+-- The same in equal terms.
+written_as : {h g : Geometry} → h ≡ g → {n slots : ℕ} → n ≡ slots → {y x : State} → y ≡ x → {i input : Option (List ℕ)} → i ≡ input
+    → {b before : Option (List ℕ)} → b ≡ before → (after : Option (List ℕ)) (c : List ℕ) → RecoversWritten h n y i b after c
+    → RecoversWritten g slots x input before after c
+written_as geometry slots_are start input_is before_is after c w = rw (geometry, slots_are, start, input_is, before_is) at w
+
+pub killed_so : {keeps : Type 0} (slots : ℕ) (old : Medium) (input before after : Option (List ℕ)) (c : List ℕ) → IsKilled keeps slots old input before after c
+    → LeavesKilled keeps slots old input before after c
+killed_so slots old input before after c (WhileOpening new opening left unwritten) keep g x is =
+    let same = crashed_since g old new is.0 is.1 c left (opening keep) in
+    let begun : Appends before after [] = rw unwritten (Appends-nil before) in
+    left_written g slots x input before after c
+    (slots, before, ([], Appends-nil before, ([], [], refl, begun), omega arith), silent slots input before before c same refl)
+killed_so slots old input before after c (WhileServing s opened input_is before_is killed) keep g x is =
+    let own = opened_so keep is.0 opened.recovered_before in
+    left_written g slots x input before after c
+    (written_as own.0 opened.fresh.slots_are own.1 input_is before_is after c (recovers_killed s after c killed keep))
+
+-- ---- any number of services
+
+-- One run, and the crash behind it.
+run_on : (device : Medium) (run : CrashedRun) (end : RunEnd) → IsRunOn device run end → (g : Geometry) (start : State) → HoldsState g device start
+    → OpensUnlessFailed (promised_end end)
+    × HasRunFrom g run.slots start (promised_end end) run.input run.before run.after (λ now. recovered_state g run.crashed.now ≡ Some now)
+run_on device run (Returned end) r g start is = let h = r.0 tt g start is in (h.0, h.1 run.crashed.now r.1)
+run_on device run Killed r g start is = (λ fault e. cc e, r tt g start is)
+
 -- Each of the servers opened its device, and ran from the state that the crash before had left.
 pub all_go_on : (g : Geometry) (start : State) (device : Medium) (runs : List CrashedRun) → HoldsState g device start → FollowCrashes device runs
     → HaveRunFrom g start runs
 all_go_on g start device [] is follow = tt
 all_go_on g start device (run ∷ runs) is follow =
-    let h = follow.0 tt g start is in
-    (h.0, then_so (λ now left. all_go_on g now run.crashed runs (left, follow.2) follow.3) (h.1 run.crashed.now follow.1))
+    let h = run_on device run run.end follow.0 g start is in
+    (h.0, then_so (λ now left. all_go_on g now run.crashed runs (left, follow.1) follow.2) h.1)

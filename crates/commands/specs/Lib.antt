@@ -7,6 +7,7 @@ pub mod Acknowledged
 pub mod Promise
 pub mod UntilCrash
 pub mod InFile
+pub mod Kill
 pub mod Restarts
 pub mod Services
 pub mod Calls

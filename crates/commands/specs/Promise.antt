@@ -74,6 +74,12 @@ LeavesRun keeps slots old new end input before after = keeps → (g : Geometry) 
     → OpensUnlessFailed end
     × ((c : List ℕ) → IsCrashImage new c → HasRunFrom g slots start end input before after (λ now. recovered_state g c ≡ Some now))
 
+-- The same of a server that was killed when its output held `after`, and of the bytes that a crash left then. It wrote a beginning of what
+-- it was to write, as one whose output has failed: with the end `Write`.
+abbrev pub LeavesKilled : Type 0 → ℕ → Medium → Option (List ℕ) → Option (List ℕ) → Option (List ℕ) → List ℕ → Type 0
+LeavesKilled keeps slots old input before after bytes = keeps → (g : Geometry) (start : State) → HoldsState g old start
+    → HasRunFrom g slots start (Err Write) input before after (λ now. recovered_state g bytes ≡ Some now)
+
 -- ---- all that is promised of a service on a device
 
 -- The service found the device as `old`, left it as `new` and came to this end. Whatever a crash leaves then holds what was sent, and

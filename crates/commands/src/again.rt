@@ -1,8 +1,9 @@
 //! The promise of a service over a crash, in bytes alone: what went into two incarnations of a device, and what came out.
-ghost use Rattle.std.specs.Prelude.{◌≡◌, ◌≢◌, ◌<◌, IfOk, IfErr, List};
+ghost use Rattle.std.specs.Prelude.{◌≡◌, ◌≢◌, ◌<◌, ℕ, IfOk, IfErr, List, Option};
 ghost use Rattle.affinity.specs.declared.geometry.Geometry.{Geometry};
 ghost use Rattle.recovery.specs.Recovery.{recovered_state};
-ghost use Rattle.commands.specs.Promise.{HasRunFrom, HoldsState, OpensUnlessFailed};
+ghost use Rattle.commands.specs.Kill.{IsKilled};
+ghost use Rattle.commands.specs.Promise.{HasRunFrom, HoldsState, LeavesKilled, OpensUnlessFailed};
 ghost use Rattle.commands.specs.Restarts.{CrashedRun, FollowCrashes, HaveRunFrom};
 ghost use Rattle.commands.specs.declared.faults.Fault.TheVariants as faults;
 ghost use Rattle.disk.specs.Device.{IsSynced, Medium};
@@ -16,7 +17,7 @@ use crate::serve_options::ServeOptions;
 use crate::stopped::serve_stopped;
 use affinity::Geometry;
 use checkpoint::{device_len, format};
-use disk::{MemDisk, Torn};
+use disk::{Disk, MemDisk, Torn};
 use std::alloc::Global;
 use std::io::{Read, Write};
 use std::sync::Wait;
@@ -85,8 +86,16 @@ pub fn serve_again<T: Threads + Wait + Sync, R: Read, W: Write, S: Read, V: Writ
     Ok((first, second))
 }
 
-/// Any number of servers: if each runs on what a crash of the one before left of the device, then each runs from the state that this crash
-/// left, and that is as `HasRunFrom` says of the one before. It does nothing; its contract is the law.
+/// A killed service loses nothing that it answered, whenever it was killed: while it opened its device, or while it served. It does
+/// nothing; its contract is the law.
+pub fn a_killed_service_loses_nothing<D: Disk>()
+    ensures { (slots : ℕ) (old : Medium) (input before after : Option (List ℕ)) (c : List ℕ)
+        → IsKilled D.keeps slots old input before after c → LeavesKilled D.keeps slots old input before after c }
+{}
+
+/// Any number of servers, of which some returned and others were killed: if each runs on what a crash of the one before left of the device,
+/// then each runs from the state that this crash left, and that is as `HasRunFrom` says of the one before. It does nothing; its contract is
+/// the law.
 pub fn servers_go_on_over_crashes()
     ensures { (g : Geometry) (start : State) (device : Medium) (runs : List CrashedRun) → HoldsState g device start
         → FollowCrashes device runs → HaveRunFrom g start runs }

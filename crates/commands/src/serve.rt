@@ -1,14 +1,14 @@
 //! `waffd serve`: the lines of the input, answered on the device in a file by workers that run messages at once.
-ghost use Rattle.std.specs.Prelude.{◌≡◌, false, ℕ, List};
+ghost use Rattle.std.specs.Prelude.{◌≡◌, ℕ, List};
+ghost use Rattle.checkpoint.specs.Opening.{OpeningCrashImages};
 ghost use Rattle.disk.specs.Device.{IsCrashImage};
-ghost use Rattle.histories.specs.Laws.{IsIdle};
-ghost use Rattle.scheduler.specs.CoreView.{core_state_of};
 ghost use Rattle.serving.specs.Ends.{exchange};
 ghost use Rattle.serving.specs.Serve.{ServePromise};
 ghost use Rattle.commands.specs.Faults.{command_result};
 ghost use Rattle.commands.specs.Acknowledged.{HoldsAcknowledged};
 ghost use Rattle.commands.specs.Promise.{HoldsOfAll, HoldsRecovered, LeavesRun};
 ghost use Rattle.commands.specs.InFile.{EndsInFile};
+ghost use Rattle.commands.specs.Kill.{HasOpened};
 ghost use Rattle.commands.specs.Serving.{EndsOnDevice, CrashesSafely};
 
 use crate::faults::Fault;
@@ -20,6 +20,7 @@ use std::alloc::Global;
 use std::fs::File;
 use std::io::{Read, Write};
 use std::rt::Files;
+use std::snapshot::Snapshot;
 use std::sync::Wait;
 use std::thread::Threads;
 use workers::OpenGate;
@@ -34,20 +35,23 @@ fn command_result(end: Result<(), ServeFault>) -> Result<(), Fault>
     }
 }
 
-/// Serves with an idle core, and hands it back.
+/// Serves with a core that was just opened, on the device as it is in `found`, and hands the core back. So however the service ends, and if
+/// it never does, it began in the state to which its device had recovered; meanwhile a crash left what `opening` says.
 fn serve_core<T: Threads + Wait + Sync, R: Read, W: Write, D: Disk + Drop>(
     rt: &T,
     alloc: Global,
+    found: Snapshot<D>,
     core: Core<D>,
     service: ServeOptions,
     r: &mut R,
     w: &mut W,
 ) -> (Core<D>, Result<(), ServeFault>)
-    requires idle { IsIdle (core_state_of core) }
-    requires works { core.failed ≡ false }
+    requires opened { HasOpened D.keeps service.slots (D.medium found.value) core }
+    requires opening { D.keeps → OpeningCrashImages (D.medium found.value) core.medium }
     ensures { ServePromise D.keeps service.workers core result
         (exchange (R.remaining r.old) (R.remaining r.new) (W.contents w.old) (W.contents w.new)) }
 {
+    let _ = found;
     let workers = usize::from(service.workers);
     let every = u64::from(service.every);
     // `OpenGate`: no test holds the workers up.
@@ -82,11 +86,12 @@ pub fn serve_on<T: Threads + Wait + Sync, R: Read, W: Write, D: Disk + Drop>(
     ensures goes_on { LeavesRun D.keeps service.slots (D.medium disk) (D.medium result.0) result.1 (R.remaining r.old) (W.contents w.old)
         (W.contents w.new) }
 {
+    let found = Snapshot::of(&disk);
     let core = match Core::open(alloc, disk, usize::from(service.slots)) {
         Ok(core) => core,
         Err(error) => return (error.disk, Err(Fault::from(error.fault))),
     };
-    let (core, end) = serve_core(rt, alloc, core, service, r, w);
+    let (core, end) = serve_core(rt, alloc, found, core, service, r, w);
     core.know_recovery();
     (core.into_disk(), command_result(end))
 }

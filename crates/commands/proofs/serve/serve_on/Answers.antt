@@ -20,6 +20,12 @@ returns-in-Err-clause-goes_on g c =
     (leaves_run c.args.service (g.D.Disk.medium c.args.disk) (g.D.Disk.medium c.in-Err.error.disk) _ (exchange input input before before)
     (g.met.D.Disk.bytes c.args.disk) ((λ k. (refused.refused k, refused.unwritten k)), refl, refl, refused.device) refused.any_moment refl)
 
+pub serve_core-core-requires-clause-opened : goal.serve_core-core-requires-clause-opened
+serve_core-core-requires-clause-opened g c = λ lifetimes bounds. rw c.of-found.ensures (record {
+  fresh = rw c.from.ensures at c.in-Ok.ensures.opened;
+  recovered_before = record { header = c.in-Ok.ensures.header; recovered_before = c.in-Ok.ensures.recovered_before };
+})
+
 pub returns : goal.returns
 returns g c =
     let keeps = g.D.Disk.keeps in
