@@ -1,27 +1,28 @@
 -- What is printed of the small device, which service the arguments of examples ask for, and what is promised to a client that hangs up, and
 -- over two crashes.
-use Rattle.std.proofs.Common.{◌≡◌, ◌≤◌, ◌++◌, ℕ, zero, suc, Bool, true, false, List, [], ◌∷◌, Option, Some, None, Ok, Err, inl, inr, codes, ap, arith, drop, length, lit≤, refl, subst, sym, take, take_at, drop_at, ◌∙◌}
+use Rattle.std.proofs.Common.{◌≡◌, ◌≤◌, ◌++◌, ℕ, zero, suc, Bool, true, false, List, [], ◌∷◌, Option, Some, None, Ok, Err, inl, inr, codes, ap, arith, drop, length, lit≤, refl, subst, sym, take, take_at, drop_at, ◌∙◌, append-nil}
 use Rattle.std.proofs.lemmas.Bool.{true≢false}
+use Rattle.std.proofs.lemmas.List.{map-append}
+use Rattle.std.proofs.lemmas.Option.{same_Some}
 use Rattle.std.specs.Io.KnownBytes.{Appends}
 use Rattle.std.specs.Fmt.{digits}
 use Rattle.std.specs.Str.{bytes_eq}
 use Rattle.affinity.proofs.Numbers.{small}
+use Rattle.affinity.specs.declared.geometry.Geometry.{Geometry}
 use Rattle.recovery.specs.declared.inspecting.Shown.{Shown}
 use Rattle.disk.specs.Device.{Medium}
 use Rattle.language.specs.Grammar.{kind_named, message_of}
 use Rattle.language.specs.Lines.{number_in_word}
 use Rattle.language.specs.declared.Reply.TheVariants.{Summary}
-use Rattle.meaning.specs.Output.{joined, output_lines, serial_output, state_after_lines}
+use Rattle.meaning.specs.Output.{answer_line, joined, output_lines, serial_output, state_after_line, state_after_lines}
 use Rattle.meaning.specs.State.{State, empty}
 use Rattle.device_map.specs.Layout.{image_size}
 use Rattle.commands.specs.Lines.{formatted_line, shown_lines}
 use Rattle.commands.specs.Promise.{HasRunFrom}
-use Rattle.commands.specs.Restarts.{CrashedRun, HaveRunFrom, Killed, Returned}
+use Rattle.commands.specs.Restarts.{AreDurablyLinearizable, CrashedRun, IsHistoryOf, Killed, Operation, Returned, answers_in, lines_in}
 use Rattle.commands.specs.Services.{AsksServe, within_limits}
 use Rattle.commands.specs.declared.faults.Fault.TheVariants.{Device, Write}
-use Rattle.serving.proofs.Recovering.{none_written}
 use Rattle.serving.specs.Restart.{IsClosedPart}
-use Rattle.commands.proofs.Promise.{then_so}
 use Rattle.arguments.proofs.Examples as given
 
 small_is_formatted : formatted_line small ≡ codes "formatted 8840" ++ 10 ∷ []
@@ -88,10 +89,11 @@ the_volume_is_there = record {
   goes_on = refl;
 }
 
-in_part : (part : List (List ℕ)) → IsClosedPart small part (asks ∷ []) → makes_it (makes ∷ part) ≡ true
-unfolding message_of kind_named number_in_word
-in_part part (inl (rest, is, none)) = rw (is, none) refl
-in_part part (inr (apart, none)) = rw none refl
+-- What is so of the first line, and of both, is so of the first one and a part of the other.
+in_part : (so : List (List ℕ) → Bool) (b : Bool) → so (makes ∷ []) ≡ b → so (makes ∷ asks ∷ []) ≡ b → (part : List (List ℕ)) → IsClosedPart small part (asks ∷ [])
+    → so (makes ∷ part) ≡ b
+in_part so b one two part (inl (rest, is, none)) = ap (λ (p : List (List ℕ)). so (makes ∷ p)) (is ∙ ap (λ (r : List (List ℕ)). asks ∷ r) none) ∙ two
+in_part so b one two part (inr (apart, none)) = ap (λ (p : List (List ℕ)). so (makes ∷ p)) none ∙ one
 
 -- A part of no line or of one is a part of one.
 within_one : (left : ℕ) (part others : List (List ℕ)) → left ≤ 1 → IsClosedPart small part (take left others) → IsClosedPart small part (take 1 others)
@@ -101,18 +103,26 @@ within_one zero part (other ∷ others) few closed =
 within_one (suc zero) part others few closed = closed
 within_one (suc (suc n)) part others few closed = absurd (omega (arith, few))
 
--- It is there after the lines whose answers begin so, whatever part of the others comes after them.
-is_made : (acknowledged others part : List (List ℕ)) (rest : List ℕ) → makes ∷ asks ∷ [] ≡ acknowledged ++ others → IsClosedPart small part (take 1 others)
-    → codes "done\nsum" ++ rest ≡ joined (output_lines small empty acknowledged) → makes_it (acknowledged ++ part) ≡ true
+-- It is so after the lines whose answers begin so, whatever part of the others comes after them.
+module _ (so : List (List ℕ) → Bool) (b : Bool) (one : so (makes ∷ []) ≡ b) (two : so (makes ∷ asks ∷ []) ≡ b) where
+  is_so : (acknowledged others part : List (List ℕ)) (rest : List ℕ) → makes ∷ asks ∷ [] ≡ acknowledged ++ others → IsClosedPart small part (take 1 others)
+      → codes "done\nsum" ++ rest ≡ joined (output_lines small empty acknowledged) → so (acknowledged ++ part) ≡ b
+  is_so [] others part rest first closed answers = absurd (omega (arith, ap (λ (bs : List ℕ). length bs) answers))
+  is_so (l ∷ []) others part rest first closed answers =
+      subst (λ (ls : List (List ℕ)). so (ls ++ part) ≡ b) (ap (λ (ls : List (List ℕ)). take 1 ls) first)
+      (in_part so b one two part (subst (λ (ls : List (List ℕ)). IsClosedPart small part (take 1 ls)) (sym (ap (λ (ls : List (List ℕ)). drop 1 ls) first)) closed))
+  is_so (l ∷ m ∷ []) [] part rest first closed answers =
+      subst (λ (ls : List (List ℕ)). so ls ≡ b) (first ∙ ap (λ (p : List (List ℕ)). l ∷ m ∷ p) (sym closed)) two
+  is_so (l ∷ m ∷ []) (o ∷ others) part rest first closed answers = absurd (omega (arith, ap (λ (ls : List (List ℕ)). length ls) first))
+  is_so (l ∷ m ∷ n ∷ ls) others part rest first closed answers = absurd (omega (arith, ap (λ (ls : List (List ℕ)). length ls) first))
+
+makes_one : makes_it (makes ∷ []) ≡ true
 unfolding message_of kind_named number_in_word
-is_made [] others part rest first closed answers = absurd (omega (arith, ap (λ (bs : List ℕ). length bs) answers))
-is_made (l ∷ []) others part rest first closed answers =
-    subst (λ (ls : List (List ℕ)). makes_it (ls ++ part) ≡ true) (ap (λ (ls : List (List ℕ)). take 1 ls) first)
-    (in_part part (subst (λ (ls : List (List ℕ)). IsClosedPart small part (take 1 ls)) (sym (ap (λ (ls : List (List ℕ)). drop 1 ls) first)) closed))
-is_made (l ∷ m ∷ []) [] part rest first closed answers =
-    subst (λ (ls : List (List ℕ)). makes_it ls ≡ true) (first ∙ ap (λ (p : List (List ℕ)). l ∷ m ∷ p) (sym closed)) refl
-is_made (l ∷ m ∷ []) (o ∷ others) part rest first closed answers = absurd (omega (arith, ap (λ (ls : List (List ℕ)). length ls) first))
-is_made (l ∷ m ∷ n ∷ ls) others part rest first closed answers = absurd (omega (arith, ap (λ (ls : List (List ℕ)). length ls) first))
+makes_one = refl
+
+makes_both : makes_it (makes ∷ asks ∷ []) ≡ true
+unfolding message_of kind_named number_in_word
+makes_both = refl
 
 begins_so : (all : Option (List ℕ)) (out rest bytes : List ℕ) → codes "done\nsum" ≡ out → Appends (Some []) all (out ++ rest) → Appends (Some []) all bytes
     → codes "done\nsum" ++ rest ≡ bytes
@@ -127,65 +137,8 @@ it_is_not_lost h =
     let begins = begins_so h.all w.2.0 w.2.1 h.recovers.0 w.2.3 (subst (λ (b : List ℕ). Appends (Some []) h.all b) w.2.2 w.1) h.recovers.1 in
     let few = w.3 in
     let closed = within_one h.left r.part r.unacknowledged (omega (arith, few)) r.closed in
-    true≢false (sym (is_made r.acknowledged r.unacknowledged r.part w.2.1 r.first closed (begins ∙ r.answers))
+    true≢false (sym (is_so makes_it true makes_one makes_both r.acknowledged r.unacknowledged r.part w.2.1 r.first closed (begins ∙ r.answers))
     ∙ ap (λ (x : State). x.made (0, 0)) (sym r.state ∙ h.goes_on))
-
--- ---- servers that were killed
-
--- A server was killed when its output held so much. Its device isn't looked at.
-abbrev killed_at : Medium → List ℕ → CrashedRun
-killed_at m after = record {
-  slots = 1;
-  end = Killed;
-  input = Some (codes "makevol 0 0\nsummary\n");
-  before = Some [];
-  after = Some after;
-  left = m;
-  crashed = m;
-}
-
--- In the middle of the second answer: to its client it hung up.
-the_second_answer_is_torn : (m : Medium) → HaveRunFrom small empty (killed_at m (codes "done\nsum") ∷ [])
-the_second_answer_is_torn m = (λ fault e. cc e, then_so (λ now made. tt) the_volume_is_there)
-
--- Before the first answer: the crash has left the volume, and a second server finds it; or it has left none.
-nothing_is_answered : (m : Medium) → HaveRunFrom small empty (killed_at m [] ∷ killed_at m [] ∷ [])
-unfolding message_of kind_named number_in_word digits
-nothing_is_answered m = (
-  λ fault e. cc e,
-  record {
-    now = empty;
-    left = 1;
-    all = Some [];
-    written = ([], refl, ([], [], refl, refl), refl);
-    recovers = ([], refl, none_written small 1 empty (codes "makevol 0 0\nsummary\n"));
-    all_answered = tt;
-    goes_on = (
-      λ fault e. cc e,
-      record {
-        now = state_after_lines small empty (makes ∷ []);
-        left = 1;
-        all = Some [];
-        written = ([], refl, ([], [], refl, refl), refl);
-        recovers = (
-          [],
-          refl,
-          record {
-            acknowledged = [];
-            unacknowledged = makes ∷ asks ∷ [];
-            first = refl;
-            answers = refl;
-            part = makes ∷ [];
-            closed = inl ([], refl, refl);
-            state = refl;
-          },
-        );
-        all_answered = tt;
-        goes_on = tt;
-      },
-    );
-  },
-)
 
 -- ---- two servers, one after the other, and a crash behind each
 
@@ -195,76 +148,74 @@ creates = codes "create 0 0 0"
 abbrev two_lines : List (List ℕ)
 two_lines = makes ∷ creates ∷ []
 
+-- a server that answered this, and ended without a fault; its device isn't looked at
+abbrev asked_for_a_summary : Medium → List ℕ → CrashedRun
+asked_for_a_summary m summary = record {
+  slots = 2;
+  end = Returned (Ok tt);
+  input = codes "summary\n";
+  before = [];
+  after = summary;
+  left = m;
+  crashed = m;
+}
+
 -- The device of the first one failed when one of two lines was answered. The second one was asked for a summary. No device is looked at.
 abbrev two_servers : Medium → List ℕ → List CrashedRun
 two_servers m summary = record {
   slots = 2;
   end = Returned (Err Device);
-  input = Some (codes "makevol 0 0\ncreate 0 0 0\n");
-  before = Some [];
-  after = Some (codes "done\n");
+  input = codes "makevol 0 0\ncreate 0 0 0\n";
+  before = [];
+  after = codes "done\n";
   left = m;
   crashed = m;
-} ∷ record {
-  slots = 2;
-  end = Returned (Ok tt);
-  input = Some (codes "summary\n");
-  before = Some [];
-  after = Some summary;
-  left = m;
-  crashed = m;
-} ∷ []
+} ∷ asked_for_a_summary m summary ∷ []
+
+abbrev operation : List ℕ → List ℕ → Operation
+operation line answer = record { line = line; answer = answer }
 
 -- The first crash left the file, too, whose line had no answer, and the second server found it.
-the_file_is_found : (m : Medium) → HaveRunFrom small empty (two_servers m (codes "summary 1 1 0\n"))
+the_file_is_found : (m : Medium) → AreDurablyLinearizable small empty (two_servers m (codes "summary 1 1 0\n"))
 unfolding message_of kind_named number_in_word digits
-the_file_is_found m = (
-  λ fault e. cc e,
-  record {
-    now = state_after_lines small empty two_lines;
-    left = 2;
-    all = Some (codes "done\n");
-    written = (refl, refl);
-    recovers = (
-      codes "done\n",
-      refl,
-      record {
-        acknowledged = makes ∷ [];
-        unacknowledged = creates ∷ [];
-        first = refl;
-        answers = refl;
-        part = creates ∷ [];
-        closed = inl ([], refl, refl);
-        state = refl;
-      },
-    );
-    all_answered = tt;
-    goes_on = (
-      λ fault e. cc e,
-      record {
-        now = state_after_lines small empty two_lines;
-        left = 0;
-        all = Some (codes "summary 1 1 0\n");
-        written = (refl, refl);
-        recovers = (
-          codes "summary 1 1 0\n",
+the_file_is_found m =
+    let made = operation makes (codes "done\n") in
+    let created = operation creates (codes "done\n") in
+    let asked = operation asks (codes "summary 1 1 0\n") in (
+      made ∷ created ∷ asked ∷ [],
+      (
+        made ∷ [],
+        created ∷ [],
+        asked ∷ [],
+        refl,
+        record {
+          opened = λ fault e. cc e;
+          left = 2;
+          written = (refl, refl);
+          unacknowledged = creates ∷ [];
+          first = refl;
+          all_answered = tt;
+          closed = inl ([], refl, refl);
+        },
+        (
+          asked ∷ [],
+          [],
+          [],
           refl,
           record {
-            acknowledged = asks ∷ [];
+            opened = λ fault e. cc e;
+            left = 0;
+            written = (refl, refl);
             unacknowledged = [];
             first = refl;
-            answers = refl;
-            part = [];
+            all_answered = refl;
             closed = refl;
-            state = refl;
           },
-        );
-        all_answered = (codes "summary 1 1 0\n", refl, refl);
-        goes_on = tt;
-      },
-    );
-  },
-)
+          refl,
+        ),
+      ),
+      refl,
+    )
 
 abbrev sums_up : List (List ℕ) → List ℕ
 sums_up ls = serial_output small (state_after_lines small empty ls) (codes "summary\n")
@@ -292,17 +243,166 @@ has_volume : (part : List (List ℕ)) → IsClosedPart small part (creates ∷ [
 has_volume part (inl (rest, is, none)) = ap (λ (p : List (List ℕ)). begins_anew (sums_up (makes ∷ p))) (is ∙ ap (λ (r : List (List ℕ)). creates ∷ r) none) ∙ ap begins_anew with_file
 has_volume part (inr (apart, none)) = ap (λ (p : List (List ℕ)). begins_anew (sums_up (makes ∷ p))) none ∙ ap begins_anew without_file
 
--- A second server that began with an empty state would have lost the volume.
-it_is_not_begun_anew : (m : Medium) → HaveRunFrom small empty (two_servers m (codes "summary 0 0 0\n")) → ⊥
-it_is_not_begun_anew m h =
-    let r = h.1.recovers.2 in
-    let n = length r.acknowledged in
-    let taken : take n two_lines ≡ r.acknowledged = ap (take n) r.first ∙ take_at r.acknowledged r.unacknowledged n refl in
-    let others : drop n two_lines ≡ r.unacknowledged = ap (drop n) r.first ∙ drop_at r.acknowledged r.unacknowledged n refl in
-    let told = rw (← h.1.written.0) at h.1.recovers.1 in
-    let one = one_answer n (told ∙ r.answers ∙ ap (λ (ls : List (List ℕ)). joined (output_lines small empty ls)) (sym taken)) in
-    let closed = rw (← others, h.1.written.1) at r.closed in
-    let next = h.1.goes_on.1.all_answered in
-    let sums = next.1 ∙ next.2 ∙ ap (λ (x : State). serial_output small x (codes "summary\n"))
-    (r.state ∙ ap (λ (ls : List (List ℕ)). state_after_lines small empty (ls ++ r.part)) (sym taken ∙ ap (λ (k : ℕ). take k two_lines) one)) in
-    true≢false (ap begins_anew sums ∙ has_volume r.part (subst (λ (k : ℕ). IsClosedPart small r.part (take 2 (drop k two_lines))) one closed))
+-- What one serial server answers to some operations and then to others, it answers to each of the two.
+each_part : (g : Geometry) (x : State) (os later : List Operation) → answers_in (os ++ later) ≡ output_lines g x (lines_in (os ++ later))
+    → (answers_in os ≡ output_lines g x (lines_in os)) × (answers_in later ≡ output_lines g (state_after_lines g x (lines_in os)) (lines_in later))
+each_part g x [] later h = (refl, h)
+each_part g x (o ∷ os) later h =
+    let rest = each_part g (state_after_line g x (message_of o.line)) os later (ap (λ (ws : List (List ℕ)). drop 1 ws) h) in
+    (ap (λ (ws : List (List ℕ)). take 1 ws ++ answers_in os) h ∙ ap (λ (ws : List (List ℕ)). answer_line g x (message_of o.line) ∷ ws) rest.0, rest.1)
+
+-- One that was asked for a summary gives the serial server's.
+summary_given : (m : Medium) (summary : List ℕ) (found : State) (later : List Operation) → IsHistoryOf small (asked_for_a_summary m summary ∷ []) later
+    → answers_in later ≡ output_lines small found (lines_in later) → summary ≡ joined (output_lines small found (asks ∷ []))
+summary_given m summary found later h whole =
+    let asked = h.4 in
+    let next = each_part small found (h.0 ++ h.1) h.2 (subst (λ (os : List Operation). answers_in os ≡ output_lines small found (lines_in os)) h.3 whole) in
+    let alone : asks ∷ [] ≡ lines_in h.0 = asked.first ∙ ap (λ (ls : List (List ℕ)). lines_in h.0 ++ ls) asked.all_answered ∙ append-nil (lines_in h.0) in
+    same_Some _ _ asked.written.0 ∙ ap joined (each_part small found h.0 h.1 next.0).0 ∙ ap (λ (ls : List (List ℕ)). joined (output_lines small found ls)) (sym alone)
+
+-- No one serial server gives these answers: by the second one the volume is lost, which the first one had acknowledged.
+it_is_not_lost_later : (m : Medium) → AreDurablyLinearizable small empty (two_servers m (codes "summary 0 0 0\n")) → ⊥
+it_is_not_lost_later m h =
+    let first = h.1 in
+    let ran = first.4 in
+    let n = length (lines_in first.0) in
+    let taken : take n two_lines ≡ lines_in first.0 = ap (take n) ran.first ∙ take_at (lines_in first.0) ran.unacknowledged n refl in
+    let others : drop n two_lines ≡ ran.unacknowledged = ap (drop n) ran.first ∙ drop_at (lines_in first.0) ran.unacknowledged n refl in
+    let whole = subst (λ (os : List Operation). answers_in os ≡ output_lines small empty (lines_in os)) first.3 h.2 in
+    let parts = each_part small empty (first.0 ++ first.1) first.2 whole in
+    let told = each_part small empty first.0 first.1 parts.0 in
+    let one = one_answer n (same_Some _ _ ran.written.0 ∙ ap joined told.0 ∙ ap (λ (ls : List (List ℕ)). joined (output_lines small empty ls)) (sym taken)) in
+    let closed = subst (λ (k : ℕ). IsClosedPart small (lines_in first.1) (take 2 (drop k two_lines))) one
+    (rw (← others, ran.written.1) at ran.closed) in
+    let found = state_after_lines small empty (lines_in (first.0 ++ first.1)) in
+    let sums = summary_given m (codes "summary 0 0 0\n") found first.2 first.5 parts.1 in
+    let were : lines_in (first.0 ++ first.1) ≡ makes ∷ lines_in first.1 = map-append (λ (o : Operation). o.line) first.0 first.1
+    ∙ ap (λ (ls : List (List ℕ)). ls ++ lines_in first.1) (sym taken ∙ ap (λ (k : ℕ). take k two_lines) one) in
+    true≢false (ap begins_anew (sums ∙ ap sums_up were) ∙ has_volume (lines_in first.1) closed)
+
+-- A server that ends without a fault leaves no line of its input without an answer.
+abbrev a_silent_server : Medium → List CrashedRun
+a_silent_server m = asked_for_a_summary m [] ∷ []
+
+it_is_not_left_out : (m : Medium) → AreDurablyLinearizable small empty (a_silent_server m) → ⊥
+unfolding message_of kind_named number_in_word digits
+it_is_not_left_out m h = absurd (omega (arith, ap (λ (bs : List ℕ). length bs) (summary_given m [] empty h.0 h.1 h.2)))
+
+-- ---- servers that were killed, on the same lines as the client that hung up
+
+-- A server was killed when its output held so much. Its device isn't looked at.
+abbrev killed_at : Medium → List ℕ → CrashedRun
+killed_at m after = record {
+  slots = 1;
+  end = Killed;
+  input = codes "makevol 0 0\nsummary\n";
+  before = [];
+  after = after;
+  left = m;
+  crashed = m;
+}
+
+-- In the middle of the second answer. The next server finds the volume, whose line was answered.
+the_second_answer_is_torn : (m : Medium)
+    → AreDurablyLinearizable small empty (killed_at m (codes "done\nsum") ∷ asked_for_a_summary m (codes "summary 1 0 0\n") ∷ [])
+unfolding message_of kind_named number_in_word digits
+the_second_answer_is_torn m =
+    let made = operation makes (codes "done\n") in
+    let asked = operation asks (codes "summary 1 0 0\n") in (
+      made ∷ asked ∷ asked ∷ [],
+      (
+        made ∷ asked ∷ [],
+        [],
+        asked ∷ [],
+        refl,
+        record {
+          opened = λ fault e. cc e;
+          left = 0;
+          written = (codes "done\nsummary 1 0 0\n", refl, (codes "done\nsum", codes "mary 1 0 0\n", refl, refl), refl);
+          unacknowledged = [];
+          first = refl;
+          all_answered = tt;
+          closed = refl;
+        },
+        (
+          asked ∷ [],
+          [],
+          [],
+          refl,
+          record {
+            opened = λ fault e. cc e;
+            left = 0;
+            written = (refl, refl);
+            unacknowledged = [];
+            first = refl;
+            all_answered = refl;
+            closed = refl;
+          },
+          refl,
+        ),
+      ),
+      refl,
+    )
+
+with_both : begins_anew (sums_up (makes ∷ asks ∷ [])) ≡ false
+unfolding message_of kind_named number_in_word digits
+with_both = refl
+
+-- It can't find the volume lost.
+it_is_not_lost_by_a_kill : (m : Medium)
+    → AreDurablyLinearizable small empty (killed_at m (codes "done\nsum") ∷ asked_for_a_summary m (codes "summary 0 0 0\n") ∷ []) → ⊥
+it_is_not_lost_by_a_kill m h =
+    let first = h.1 in
+    let ran = first.4 in
+    let w = ran.written in
+    let whole = subst (λ (os : List Operation). answers_in os ≡ output_lines small empty (lines_in os)) first.3 h.2 in
+    let parts = each_part small empty (first.0 ++ first.1) first.2 whole in
+    let told = each_part small empty first.0 first.1 parts.0 in
+    let begins = ap (λ (o : List ℕ). o ++ w.2.1) w.2.3 ∙ sym (w.1 ∙ w.2.2) ∙ ap joined told.0 in
+    let few = w.3 in
+    let closed = within_one ran.left (lines_in first.1) ran.unacknowledged (omega (arith, few)) ran.closed in
+    let found = state_after_lines small empty (lines_in (first.0 ++ first.1)) in
+    let sums = summary_given m (codes "summary 0 0 0\n") found first.2 first.5 parts.1 in
+    let were = map-append (λ (o : Operation). o.line) first.0 first.1 in
+    true≢false (ap begins_anew (sums ∙ ap sums_up were)
+    ∙ is_so (λ ls. begins_anew (sums_up ls)) false (ap begins_anew without_file) with_both (lines_in first.0) ran.unacknowledged (lines_in first.1) w.2.1 ran.first closed begins)
+
+-- Before the first answer: the crash has left no volume; or it has left the volume, whose answer did not come out.
+nothing_is_answered : (m : Medium) → AreDurablyLinearizable small empty (killed_at m [] ∷ killed_at m [] ∷ [])
+unfolding message_of kind_named number_in_word digits
+nothing_is_answered m =
+    let made = operation makes (codes "done\n") in (
+      made ∷ [],
+      (
+        [],
+        [],
+        made ∷ [],
+        refl,
+        record {
+          opened = λ fault e. cc e;
+          left = 1;
+          written = ([], refl, ([], [], refl, refl), refl);
+          unacknowledged = makes ∷ asks ∷ [];
+          first = refl;
+          all_answered = tt;
+          closed = inr (tt, refl);
+        },
+        (
+          [],
+          made ∷ [],
+          [],
+          refl,
+          record {
+            opened = λ fault e. cc e;
+            left = 1;
+            written = ([], refl, ([], [], refl, refl), refl);
+            unacknowledged = makes ∷ asks ∷ [];
+            first = refl;
+            all_answered = tt;
+            closed = inl ([], refl, refl);
+          },
+          refl,
+        ),
+      ),
+      refl,
+    )

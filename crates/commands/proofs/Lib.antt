@@ -3,6 +3,7 @@ pub mod Telling
 pub mod OnDevice
 pub mod Kept
 pub mod Promise
+pub mod Durable
 pub mod Services
 pub mod Ending
 mod Examples

@@ -1,5 +1,5 @@
 -- From what a service on a device has done follows the state from which a restart goes on.
-use Rattle.std.proofs.Common.{◌≡◌, ◌⊎◌, ◌≤◌, ℕ, List, [], ◌∷◌, Option, Some, None, ap, refl, sym, ◌∙◌, subst, inl, inr, ⊎_elim, arith}
+use Rattle.std.proofs.Common.{◌≡◌, ◌⊎◌, ◌≤◌, ℕ, List, [], Option, Some, None, ap, refl, sym, ◌∙◌, subst, inl, inr, ⊎_elim, arith}
 use Rattle.std.specs.Prelude.{Result, Ok, Err, OnOk}
 use Rattle.std.specs.Io.KnownBytes.{Appends}
 use Rattle.std.proofs.KnownBytes.{Appends-nil}
@@ -28,8 +28,7 @@ use Rattle.serving.specs.Ends.{Exchange}
 use Rattle.commands.specs.Faults.{command_result}
 use Rattle.commands.specs.Acknowledged.{HoldsAcknowledged}
 use Rattle.commands.specs.Kill.{IsKilled, WhileOpening, WhileServing}
-use Rattle.commands.specs.Promise.{HasRunFrom, HoldsOfAll, HoldsRecovered, HoldsState, LeavesKilled, LeavesRun, IsWritten, OpensUnlessFailed}
-use Rattle.commands.specs.Restarts.{CrashedRun, FollowCrashes, HaveRunFrom, IsRunOn, Killed, Returned, RunEnd, promised_end}
+use Rattle.commands.specs.Promise.{HasRunFrom, HoldsOfAll, HoldsRecovered, LeavesKilled, LeavesRun, IsWritten, OpensUnlessFailed}
 use Rattle.commands.specs.Serving.{EndsOnDevice, CrashesSafely, HasServedBy, RecoveredTo}
 use Rattle.commands.specs.declared.faults.Fault.{Fault}
 use Rattle.commands.specs.declared.faults.Fault.TheVariants as ends
@@ -146,7 +145,7 @@ module _ {keeps : Type 0} (s : ServeOptions) (old new : Medium) (end : Result (U
   -- The service ran from the state that the device held.
   pub leaves_run : AreBytes old.now → EndsOnDevice keeps s old new end streams → CrashesSafely keeps s old new end streams
       → HoldsOfAll end s.slots streams.before streams.written (λ left all. keeps → (c : List ℕ) → IsCrashImage new c → HoldsRecovered left old streams.input streams.before all c)
-      → LeavesRun keeps s.slots old new end streams.input streams.before streams.written
+      → keeps → (g : Geometry) → LeavesRun g (recovered_state g) s.slots old new end streams.input streams.before streams.written
   leaves_run bytes e safe recovers keep g x is = (
     opens_so keep g s old new end streams bytes is.0 e,
     λ c leaves. run_so keep g old new is.0 is.1 c leaves s end streams e safe recovers,
@@ -178,31 +177,14 @@ written_as : {h g : Geometry} → h ≡ g → {n slots : ℕ} → n ≡ slots �
     → RecoversWritten g slots x input before after c
 written_as geometry slots_are start input_is before_is after c w = rw (geometry, slots_are, start, input_is, before_is) at w
 
-pub killed_so : {keeps : Type 0} (slots : ℕ) (old : Medium) (input before after : Option (List ℕ)) (c : List ℕ) → IsKilled keeps slots old input before after c
-    → LeavesKilled keeps slots old input before after c
-killed_so slots old input before after c (WhileOpening new opening left unwritten) keep g x is =
-    let same = crashed_since g old new is.0 is.1 c left (opening keep) in
-    let begun : Appends before after [] = rw unwritten (Appends-nil before) in
-    left_written g slots x input before after c
-    (slots, before, ([], Appends-nil before, ([], [], refl, begun), omega arith), silent slots input before before c same refl)
-killed_so slots old input before after c (WhileServing s opened input_is before_is killed) keep g x is =
-    let own = opened_so keep is.0 opened.recovered_before in
-    left_written g slots x input before after c
-    (written_as own.0 opened.fresh.slots_are own.1 input_is before_is after c (recovers_killed s after c killed keep))
-
--- ---- any number of services
-
--- One run, and the crash behind it.
-run_on : (device : Medium) (run : CrashedRun) (end : RunEnd) → IsRunOn device run end → (g : Geometry) (start : State) → HoldsState g device start
-    → OpensUnlessFailed (promised_end end)
-    × HasRunFrom g run.slots start (promised_end end) run.input run.before run.after (λ now. recovered_state g run.crashed.now ≡ Some now)
-run_on device run (Returned end) r g start is = let h = r.0 tt g start is in (h.0, h.1 run.crashed.now r.1)
-run_on device run Killed r g start is = (λ fault e. cc e, r tt g start is)
-
--- Each of the servers opened its device, and ran from the state that the crash before had left.
-pub all_go_on : (g : Geometry) (start : State) (device : Medium) (runs : List CrashedRun) → HoldsState g device start → FollowCrashes device runs
-    → HaveRunFrom g start runs
-all_go_on g start device [] is follow = tt
-all_go_on g start device (run ∷ runs) is follow =
-    let h = run_on device run run.end follow.0 g start is in
-    (h.0, then_so (λ now left. all_go_on g now run.crashed runs (left, follow.1) follow.2) h.1)
+module _ {keeps : Type 0} (slots : ℕ) (old : Medium) (input before after : Option (List ℕ)) (c : List ℕ) where
+  pub killed_so : IsKilled keeps slots old input before after c → keeps → (g : Geometry) → LeavesKilled g (recovered_state g) slots old input before after c
+  killed_so (WhileOpening new opening left unwritten) keep g x is =
+      let same = crashed_since g old new is.0 is.1 c left (opening keep) in
+      let begun : Appends before after [] = rw unwritten (Appends-nil before) in
+      left_written g slots x input before after c
+      (slots, before, ([], Appends-nil before, ([], [], refl, begun), omega arith), silent slots input before before c same refl)
+  killed_so (WhileServing s opened input_is before_is killed) keep g x is =
+      let own = opened_so keep is.0 opened.recovered_before in
+      left_written g slots x input before after c
+      (written_as own.0 opened.fresh.slots_are own.1 input_is before_is after c (recovers_killed s after c killed keep))

@@ -59,9 +59,9 @@ pub record HoldsRecovered (slots : ℕ) (old : Medium) (input before after : Opt
 
 -- ---- a run on a device
 
--- The device recovers to this state, and all of it is synced.
-abbrev pub HoldsState : Geometry → Medium → State → Type 0
-HoldsState g m x = (recovered_state g m.now ≡ Some x) × IsSynced m
+-- The device recovers to this state, and all of it is synced. `recover` is how bytes recover to a state.
+abbrev pub HoldsState : (List ℕ → Option State) → Medium → State → Type 0
+HoldsState recover m x = (recover m.now ≡ Some x) × IsSynced m
 
 -- A server with this end opened its device, unless that failed or memory was wanting.
 abbrev pub OpensUnlessFailed : Result (Unit {0}) Fault → Type 0
@@ -69,16 +69,18 @@ OpensUnlessFailed end = (fault : OpenFault) → end ≡ Err (Open fault) → (fa
 
 -- If the device held a state, a server opened it, unless that failed or memory was wanting. From that state it ran so, to the state to
 -- which the bytes recover that a crash leaves, whichever these are.
-abbrev pub LeavesRun : Type 0 → ℕ → Medium → Medium → Result (Unit {0}) Fault → Option (List ℕ) → Option (List ℕ) → Option (List ℕ) → Type 0
-LeavesRun keeps slots old new end input before after = keeps → (g : Geometry) (start : State) → HoldsState g old start
+abbrev pub LeavesRun : Geometry → (List ℕ → Option State) → ℕ → Medium → Medium
+    → Result (Unit {0}) Fault → Option (List ℕ) → Option (List ℕ) → Option (List ℕ) → Type 0
+LeavesRun g recover slots old new end input before after = (start : State) → HoldsState recover old start
     → OpensUnlessFailed end
-    × ((c : List ℕ) → IsCrashImage new c → HasRunFrom g slots start end input before after (λ now. recovered_state g c ≡ Some now))
+    × ((c : List ℕ) → IsCrashImage new c → HasRunFrom g slots start end input before after (λ now. recover c ≡ Some now))
 
 -- The same of a server that was killed when its output held `after`, and of the bytes that a crash left then. It wrote a beginning of what
 -- it was to write, as one whose output has failed: with the end `Write`.
-abbrev pub LeavesKilled : Type 0 → ℕ → Medium → Option (List ℕ) → Option (List ℕ) → Option (List ℕ) → List ℕ → Type 0
-LeavesKilled keeps slots old input before after bytes = keeps → (g : Geometry) (start : State) → HoldsState g old start
-    → HasRunFrom g slots start (Err Write) input before after (λ now. recovered_state g bytes ≡ Some now)
+abbrev pub LeavesKilled : Geometry → (List ℕ → Option State) → ℕ → Medium
+    → Option (List ℕ) → Option (List ℕ) → Option (List ℕ) → List ℕ → Type 0
+LeavesKilled g recover slots old input before after bytes = (start : State) → HoldsState recover old start
+    → HasRunFrom g slots start (Err Write) input before after (λ now. recover bytes ≡ Some now)
 
 -- ---- all that is promised of a service on a device
 
@@ -92,4 +94,4 @@ pub record ServicePromise (keeps : Type 0) (s : ServeOptions) (old new : Medium)
       → HoldsAcknowledged left old x.input x.before all c)
   pub recovers : HoldsOfAll end s.slots x.before x.written (λ left all. keeps → (c : List ℕ) → IsCrashImage new c
       → HoldsRecovered left old x.input x.before all c)
-  pub goes_on : LeavesRun keeps s.slots old new end x.input x.before x.written
+  pub goes_on : keeps → (g : Geometry) → LeavesRun g (recovered_state g) s.slots old new end x.input x.before x.written

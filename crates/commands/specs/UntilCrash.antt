@@ -1,6 +1,7 @@
 -- Statement for engineers: What it is to serve a device in memory until it crashes.
 use Rattle.std.specs.Prelude.{◌≡◌, Result}
 use Rattle.affinity.specs.declared.geometry.Geometry.{Geometry}
+use Rattle.recovery.specs.Recovery.{recovered_state}
 use Rattle.disk.specs.Device.{IsCrashImage, Medium}
 use Rattle.disk.specs.Memory.{Memory, after_crash}
 use Rattle.disk.specs.declared.torn.Torn.{Torn}
@@ -20,5 +21,5 @@ pub record ServesUntilCrash (s : ServeOptions) (old : Medium) (torn : Torn) (lef
   pub crashed : (left ≡ after_crash torn ended) × IsCrashImage ended.medium left.medium.now
   pub kept : HoldsOfAll end s.slots x.before x.written (λ lines all. HoldsAcknowledged lines old x.input x.before all left.medium.now)
   pub recovers : HoldsOfAll end s.slots x.before x.written (λ lines all. HoldsRecovered lines old x.input x.before all left.medium.now)
-  pub goes_on : (g : Geometry) (start : State) → HoldsState g old start
-      → HasRunFrom g s.slots start end x.input x.before x.written (HoldsState g left.medium)
+  pub goes_on : (g : Geometry) (start : State) → HoldsState (recovered_state g) old start
+      → HasRunFrom g s.slots start end x.input x.before x.written (HoldsState (recovered_state g) left.medium)

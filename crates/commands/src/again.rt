@@ -4,7 +4,7 @@ ghost use Rattle.affinity.specs.declared.geometry.Geometry.{Geometry};
 ghost use Rattle.recovery.specs.Recovery.{recovered_state};
 ghost use Rattle.commands.specs.Kill.{IsKilled};
 ghost use Rattle.commands.specs.Promise.{HasRunFrom, HoldsState, LeavesKilled, OpensUnlessFailed};
-ghost use Rattle.commands.specs.Restarts.{CrashedRun, FollowCrashes, HaveRunFrom};
+ghost use Rattle.commands.specs.Restarts.{AreDurablyLinearizable, CrashedRun, FollowCrashes};
 ghost use Rattle.commands.specs.declared.faults.Fault.TheVariants as faults;
 ghost use Rattle.disk.specs.Device.{IsSynced, Medium};
 ghost use Rattle.disk.specs.Memory.{medium_of};
@@ -45,9 +45,9 @@ fn serve_next<T: Threads + Wait + Sync, R: Read, W: Write>(
     r: &mut R,
     w: &mut W,
 ) -> Result<(), Fault>
-    ensures run { (g : Geometry) (start : State) → HoldsState g (medium_of disk) start → HasRunFrom g service.slots start result
-        (R.remaining r.old) (W.contents w.old) (W.contents w.new) (λ now. Unit {0}) }
-    ensures opens { (g : Geometry) (start : State) → HoldsState g (medium_of disk) start → OpensUnlessFailed result }
+    ensures run { (g : Geometry) (start : State) → HoldsState (recovered_state g) (medium_of disk) start → HasRunFrom g service.slots start
+        result (R.remaining r.old) (W.contents w.old) (W.contents w.new) (λ now. Unit {0}) }
+    ensures opens { (g : Geometry) (start : State) → HoldsState (recovered_state g) (medium_of disk) start → OpensUnlessFailed result }
 {
     let (_disk, end) = serve_on(rt, alloc, disk, service, r, w);
     end
@@ -90,13 +90,15 @@ pub fn serve_again<T: Threads + Wait + Sync, R: Read, W: Write, S: Read, V: Writ
 /// nothing; its contract is the law.
 pub fn a_killed_service_loses_nothing<D: Disk>()
     ensures { (slots : ℕ) (old : Medium) (input before after : Option (List ℕ)) (c : List ℕ)
-        → IsKilled D.keeps slots old input before after c → LeavesKilled D.keeps slots old input before after c }
+        → IsKilled D.keeps slots old input before after c
+        → D.keeps → (g : Geometry) → LeavesKilled g (recovered_state g) slots old input before after c }
 {}
 
-/// Any number of servers, of which some returned and others were killed: if each runs on what a crash of the one before left of the device,
-/// then each runs from the state that this crash left, and that is as `HasRunFrom` says of the one before. It does nothing; its contract is
-/// the law.
-pub fn servers_go_on_over_crashes()
-    ensures { (g : Geometry) (start : State) (device : Medium) (runs : List CrashedRun) → HoldsState g device start
-        → FollowCrashes device runs → HaveRunFrom g start runs }
+/// Any number of servers, of which some returned and others were killed, each on what a crash of the one before left of the device: all
+/// that they answered is what one serial server answers that never crashes. How bytes recover to a state is for the caller to choose: for
+/// `recovered_state g`, `serve_on` promises its part of those that returned, and `a_killed_service_loses_nothing` of those that were
+/// killed. It does nothing; its contract is the law.
+pub fn servers_are_durably_linearizable()
+    ensures { (g : Geometry) (recover : List ℕ → Option State) (start : State) (device : Medium) (runs : List CrashedRun)
+        → HoldsState recover device start → FollowCrashes g recover device runs → AreDurablyLinearizable g start runs }
 {}

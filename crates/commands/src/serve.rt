@@ -1,6 +1,8 @@
 //! `waffd serve`: the lines of the input, answered on the device in a file by workers that run messages at once.
 ghost use Rattle.std.specs.Prelude.{◌≡◌, ℕ, List};
+ghost use Rattle.affinity.specs.declared.geometry.Geometry.{Geometry};
 ghost use Rattle.checkpoint.specs.Opening.{OpeningCrashImages};
+ghost use Rattle.recovery.specs.Recovery.{recovered_state};
 ghost use Rattle.disk.specs.Device.{IsCrashImage};
 ghost use Rattle.serving.specs.Ends.{exchange};
 ghost use Rattle.serving.specs.Serve.{ServePromise};
@@ -83,8 +85,8 @@ pub fn serve_on<T: Threads + Wait + Sync, R: Read, W: Write, D: Disk + Drop>(
     ensures recovers { HoldsOfAll result.1 service.slots (W.contents w.old) (W.contents w.new)
         (λ left all. D.keeps → (c : List ℕ) → IsCrashImage (D.medium result.0) c
         → HoldsRecovered left (D.medium disk) (R.remaining r.old) (W.contents w.old) all c) }
-    ensures goes_on { LeavesRun D.keeps service.slots (D.medium disk) (D.medium result.0) result.1 (R.remaining r.old) (W.contents w.old)
-        (W.contents w.new) }
+    ensures goes_on { D.keeps → (g : Geometry) → LeavesRun g (recovered_state g) service.slots (D.medium disk) (D.medium result.0) result.1
+        (R.remaining r.old) (W.contents w.old) (W.contents w.new) }
 {
     let found = Snapshot::of(&disk);
     let core = match Core::open(alloc, disk, usize::from(service.slots)) {

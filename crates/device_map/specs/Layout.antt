@@ -1,4 +1,4 @@
--- Format for clients: The map of a device: six parts in a row (header, root zone, half 0, half 1, image 0, image 1). All sizes and
+-- Format for operators: The map of a device: six parts in a row (header, root zone, half 0, half 1, image 0, image 1). All sizes and
 -- places are in bytes.
 use Rattle.std.specs.Prelude.{ℕ, zero, suc, ◌+◌, ◌-◌, ◌*◌, List, [], ◌∷◌, take, drop, get_or}
 use Rattle.affinity.specs.declared.geometry.Geometry.{Geometry}

@@ -1,4 +1,4 @@
--- Format for clients: An image: a head with the version, then the pieces of a state. In each version a state has one
+-- Format for operators: An image: a head with the version, then the pieces of a state. In each version a state has one
 -- encoding, and bytes are an image exactly where they are the image of what they decode to.
 use Rattle.std.specs.Prelude.{◌≡◌, ℕ, zero, suc, ◌<◌, Bool, true, ◌&&◌, ◌||◌, ◌==◌, if◌then◌else◌, List, ◌∷◌, ◌++◌, get_or, replicate, Option, Some, None}
 use Rattle.std.specs.Str.{bytes_eq}

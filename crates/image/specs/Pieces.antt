@@ -1,4 +1,4 @@
--- Format for clients: The pieces of an image: for each volume one piece with its flags, files and label, and one for each of its stripes.
+-- Format for operators: The pieces of an image: for each volume one piece with its flags, files and label, and one for each of its stripes.
 use Rattle.std.specs.Prelude.{ℕ, zero, suc, ◌+◌, ◌*◌, ◌/◌, ◌%◌, Bool, true, ◌&&◌, ◌==◌, nat_lt, if◌then◌else◌, List, [], ◌∷◌, ◌++◌, get_or, replicate, unwrap_or, Option, Some, None}
 use Rattle.affinity.specs.Geometry.{stripe_of}
 use Rattle.affinity.specs.declared.geometry.Geometry.{Geometry}

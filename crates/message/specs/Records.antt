@@ -1,4 +1,4 @@
--- Format for clients: The records of messages, each of `RECORD_SIZE` bytes.
+-- Format for operators: The records of messages, each of `RECORD_SIZE` bytes.
 use Rattle.std.specs.Prelude.{ℕ, ◌<◌, ◌-◌, List, [], ◌∷◌, ◌++◌, take, drop, find, replicate, slice_index, ◌==◌, Option, option_map}
 use Rattle.std.specs.List.{AllByRecursion}
 use Rattle.affinity.specs.declared.kinds.Kind.{Kind}

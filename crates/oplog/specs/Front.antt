@@ -1,4 +1,4 @@
--- Format for clients: What a half holds: its chain byte, its gates, its records, and its front: those before the first gate that isn't 1.
+-- Format for operators: What a half holds: its chain byte, its gates, its records, and its front: those before the first gate that isn't 1.
 use Rattle.std.specs.Prelude.{ℕ, zero, suc, ◌+◌, ◌*◌, ◌==◌, List, [], ◌∷◌, take, drop, get_or}
 use Rattle.std.specs.List.{prefix_len}
 use Rattle.device_map.specs.Layout.{Layout, slice, part_bytes, half_part}

@@ -1,4 +1,4 @@
--- Statement for clients: What a device recovers to: the state of an image with the records in force run on it.
+-- Statement for operators: What a device recovers to: the state of an image with the records in force run on it.
 use Rattle.std.specs.Prelude.{ℕ, Bool, not, ◌&&◌, ◌==◌, nat_le, if◌then◌else◌, List, [], ◌∷◌, ◌++◌, length, get_or, Option, Some, None}
 use Rattle.affinity.specs.declared.geometry.Geometry.{Geometry}
 use Rattle.device_map.specs.Layout.{Layout, layout_of, part_bytes, device_size, header_part, root_part, image_part, other}

@@ -1,4 +1,4 @@
--- Format for clients: The header of a device: that it is formatted, and its server's geometry.
+-- Format for operators: The header of a device: that it is formatted, and its server's geometry.
 use Rattle.std.specs.Prelude.{◌≡◌, ℕ, Bool, List, [], ◌∷◌, ◌++◌, take, replicate}
 use Rattle.std.specs.List.{flat_map}
 use Rattle.std.specs.Str.{bytes_eq}

@@ -1,4 +1,4 @@
--- Statement for clients: What a device recovers to: the state of its named image, with the records in force run on it.
+-- Statement for operators: What a device recovers to: the state of its named image, with the records in force run on it.
 use Rattle.std.specs.Prelude.{ℕ, Bool, ◌&&◌, if◌then◌else◌, List, Option, Some, None}
 use Rattle.std.specs.Str.{bytes_eq}
 use Rattle.affinity.specs.declared.geometry.Geometry.{Geometry}

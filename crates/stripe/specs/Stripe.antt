@@ -1,4 +1,4 @@
--- Statement for clients: The blocks of one stripe of a volume, as contracts see them.
+-- Statement for operators: The blocks of one stripe of a volume, as contracts see them.
 use Rattle.std.specs.Prelude.{◌≡◌, ◌⊎◌, ℕ, ◌<◌, ◌≤◌, ◌&&◌, ◌==◌, if◌then◌else◌, List, [], ◌∷◌, length, Option, Some, None}
 use Rattle.std.specs.List.{AllByRecursion}
 use Rattle.language.specs.declared.Block.{Block}
