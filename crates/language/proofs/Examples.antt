@@ -10,6 +10,24 @@ use Rattle.language.specs.Lines.{lines, number_in_word, block_in_word, label_in_
 use Rattle.language.specs.Grammar.{message_of, kind_named}
 use Rattle.language.specs.Replies.{reply_line, no_message, shown, files_text}
 use Rattle.language.specs.FirstLine.{first_line, behind_first_line}
+use Rattle.language.specs.declared.TheConstants.{BLOCK_SIZE, LABEL_SIZE, RECORD_SIZE, LONGEST_LINE, LONGEST_REPLY}
+
+-- ---- the sizes that definitions cite
+
+block_size : BLOCK_SIZE ≡ 512
+block_size = refl
+
+label_size : LABEL_SIZE ≡ 32
+label_size = refl
+
+record_size : RECORD_SIZE ≡ 520
+record_size = refl
+
+longest_line : LONGEST_LINE ≡ 1100
+longest_line = refl
+
+longest_reply : LONGEST_REPLY ≡ 1031
+longest_reply = refl
 
 -- ---- lines that are messages
 
@@ -24,6 +42,11 @@ create = refl
 write_two_bytes : message_of (codes "write 0 0 0 0 6162") ≡ Some (Write 0 0 0 0 (record { 0 = 97 ∷ 98 ∷ replicate 510 0 }))
 unfolding message_of kind_named number_in_word block_in_word bytes_in_word hex_on_literals
 write_two_bytes = refl
+
+write_longest :
+    message_of (codes "write 65535 65535 65535 65535 " ++ replicate 1024 48) ≡ Some (Write 65535 65535 65535 65535 (record { 0 = replicate 512 0 }))
+unfolding message_of kind_named number_in_word block_in_word bytes_in_word hex_on_literals
+write_longest = refl
 
 write_upper_case : message_of (codes "write 1 2 3 4 aBcD") ≡ Some (Write 1 2 3 4 (record { 0 = 171 ∷ 205 ∷ replicate 510 0 }))
 unfolding message_of kind_named number_in_word block_in_word bytes_in_word hex_on_literals
