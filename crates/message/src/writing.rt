@@ -38,5 +38,6 @@ pub fn write_in_order<W: Write>(w: &mut W, bytes: &[u8]) -> Result<(), WriteFaul
             }
         }
     }
+    // No run that ends comes here: it would have called the writer 2^64 - 1 times.
     Err(WriteFault)
 }

@@ -188,6 +188,68 @@ fn after_each_write_that_fails_nothing_more_is_written(rt: HostRuntime) -> Resul
     Ok(())
 }
 
+/// Interrupts every other write, beginning with the first, and takes at most three bytes at a time.
+#[derive(Drop)]
+struct Interrupting<'a> {
+    calls: usize,
+    taken: &'a mut Vec<u8>,
+}
+
+impl Write for Interrupting<'_> {
+    fn write(&mut self, buf: &[u8]) -> io::Result<usize> {
+        self.calls = self.calls.saturating_add(1);
+        if self.calls % 2 == 1 {
+            return Err(io::Error::from(ErrorKind::Interrupted));
+        }
+        self.taken.write(&buf[..buf.len().min(3)])
+    }
+
+    fn flush(&mut self) -> io::Result<()> {
+        Ok(())
+    }
+}
+
+#[test]
+fn a_write_that_is_interrupted_is_made_again(rt: HostRuntime) -> Result<(), Fail> {
+    let mut taken = room(rt.alloc())?;
+    let mut output = Interrupting {
+        calls: 0,
+        taken: &mut taken,
+    };
+    let end = served_into(rt.alloc(), SMALL, LINES, &mut output);
+    assert_equal(&rt, end, Ok(()));
+    // Three bytes at a time, the 34 of the first four replies take 12 writes, the 14 of the last one 5, each after one that is interrupted.
+    assert_equal(&rt, output.calls, 34);
+    assert_text(&rt, taken.as_slice(), REPLIES);
+    Ok(())
+}
+
+/// Takes nothing, and reports no error.
+#[derive(Drop)]
+struct Full {
+    calls: usize,
+}
+
+impl Write for Full {
+    fn write(&mut self, _buf: &[u8]) -> io::Result<usize> {
+        self.calls = self.calls.saturating_add(1);
+        Ok(0)
+    }
+
+    fn flush(&mut self) -> io::Result<()> {
+        Ok(())
+    }
+}
+
+#[test]
+fn a_writer_that_takes_nothing_has_failed(rt: HostRuntime) -> Result<(), Fail> {
+    let mut output = Full { calls: 0 };
+    let end = served_into(rt.alloc(), SMALL, LINES, &mut output);
+    assert_equal(&rt, end, Err(PlainFault::Write));
+    assert_equal(&rt, output.calls, 1);
+    Ok(())
+}
+
 /// Pairs of lines. The second ones take memory for a volume, for a block and for the number of blocks in its stripe, the first ones none.
 const TAKES_MEMORY: &[u8] = b"summary
 makevol 0 0
