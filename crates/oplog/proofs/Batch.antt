@@ -1,4 +1,4 @@
--- A batch of records: what a crash leaves while first their bodies (`record_size` bytes each) and then their gates are written, and what is there
+-- A batch of records: what a crash leaves while first their bodies (`RECORD_SIZE` bytes each) and then their gates are written, and what is there
 -- at the end.
 use Rattle.std.proofs.Common.{◌≡◌, ℕ, ◌+◌, ◌-◌, ◌*◌, ◌<◌, ◌≤◌, List, [], length, take, drop, replicate, sym, ◌∙◌, ap, subst, arith}
 use Rattle.std.proofs.lemmas.List.{length-replicate}

@@ -16,7 +16,7 @@ pub record HasMoreIn (capacity : ℕ) (more : List (List ℕ)) (old new : List �
   pub chain_zone : take 64 new ≡ take 64 old
   pub front : front_in capacity new ≡ front_in capacity old ++ more
 
--- where the body of record k (its `record_size` bytes) begins
+-- where the body of record k (its `RECORD_SIZE` bytes) begins
 abbrev pub body_at : ℕ → ℕ → ℕ
 body_at capacity k = 64 + capacity + k * RECORD_SIZE
 

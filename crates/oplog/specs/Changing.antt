@@ -29,7 +29,7 @@ records_of messages = map record_of messages
 
 -- ---- laws of bad records: those that a read answers with `BadRecord`, as their bytes are the record of no change in range
 
--- On a device that is made of bytes each record is made of bytes, and `record_size` of them, whatever its gate is.
+-- On a device that is made of bytes each record is made of bytes, and `RECORD_SIZE` of them, whatever its gate is.
 abbrev pub RecordsAreBytes : Type 0
 RecordsAreBytes = (l : Layout) (h i : ℕ) (c : List ℕ) → h < 2 → i < l.capacity → device_size l ≤ length c → AreBytes c
     → (length (record_at l h i c) ≡ RECORD_SIZE) × AreBytes (record_at l h i c)

@@ -10,7 +10,7 @@ use Rattle.device_map.specs.Layout.{Layout, layout_of, other}
 use Rattle.oplog.specs.declared.half.TheConstants.{RECORDS_PER_WRITE}
 use Rattle.oplog.specs.Changing.{IsNoChangeRecord}
 
--- how many batches of up to `records_per_write` records n records make
+-- how many batches of up to `RECORDS_PER_WRITE` records n records make
 abbrev pub batch_count : ℕ → ℕ
 batch_count n = (n + (RECORDS_PER_WRITE - 1)) / RECORDS_PER_WRITE
 

@@ -26,7 +26,7 @@ CountsOpenFault (Err _) old new = new ≡ old
 abbrev pub IsOpeningCall : {T : Type 0} → Result T OpenFault → Medium → Medium → Type 0
 IsOpeningCall result old new = CountsOpenFault result old.faults new.faults × (length new.now ≡ length old.now)
 
--- What every step that only reads does: the same, no moment is added, and it takes no memory.
+-- What every step that only reads does: the same, no moment is added, and it never reports `OutOfMemory`.
 pub record IsReadingCall {T : Type 0} (keeps : Type 0) (result : Result T OpenFault) (old new : Medium) : Type 0 where
   pub counts : CountsOpenFault result old.faults new.faults
   pub len : length new.now ≡ length old.now

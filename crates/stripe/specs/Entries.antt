@@ -1,4 +1,4 @@
--- Format for operators: The blocks of a stripe as bytes: an entry of `entry_size` bytes for each.
+-- Format for operators: The blocks of a stripe as bytes: an entry of `BLOCK_ENTRY_SIZE` bytes for each.
 use Rattle.std.specs.Prelude.{◌≡◌, ℕ, Bool, true, ◌&&◌, nat_lt, zero, suc, ◌*◌, ◌-◌, ◌==◌, List, [], ◌∷◌, ◌++◌, length, take, drop, get_or, replicate, if◌then◌else◌}
 use Rattle.std.specs.List.{flat_map, AllByRecursion}
 use Rattle.affinity.specs.Geometry.{stripe_of}

@@ -1,4 +1,4 @@
--- The records so far lie in a row at the front, `record_size` bytes each.
+-- The records so far lie in a row at the front, `RECORD_SIZE` bytes each.
 use Rattle.std.proofs.Common.{◌≡◌, ◌*◌, ◌≤◌, length, take}
 use Rattle.std.specs.List.{concat}
 use Rattle.language.specs.declared.TheConstants.{RECORD_SIZE}
