@@ -4,16 +4,17 @@
 //! What a device recovers to comes from the layer above, as a `Decoding`: `read` gives the state that
 //! an image holds, `apply` what a record makes of a state, and `is_header` recognizes the device's header.
 //!
-//! All laws but the last two are of a sequence of calls. They assume to which state the device recovers before it (most also which area
+//! All laws but the last three are of a sequence of calls. They assume to which state the device recovers before it (most also which area
 //! it names, and which half is current), and say to which state whatever a crash leaves recovers, by which area and with which half as
 //! the current one. The calls named below are those of `Halves`.
 
-ghost use Rattle.std.specs.Prelude.{◌≡◌, ◌<◌, ℕ, [], List, get_or, length};
+ghost use Rattle.std.specs.Prelude.{◌≡◌, ◌==◌, ◌*◌, ◌<◌, ◌≤◌, ℕ, false, [], List, get_or, length};
+ghost use Rattle.affinity.specs.declared.geometry.Geometry.{Geometry};
 ghost use Rattle.oplog.specs.Crash.{AllRecover, AppendRecovers, ChainRecovers, ChainedRecovers, ClearRecovers, FlipRecovers, ImageRecovers, TornRootRecovers};
-ghost use Rattle.oplog.specs.Front.{front, record_at};
-ghost use Rattle.device_map.specs.Layout.{Layout};
+ghost use Rattle.oplog.specs.Front.{chain, front, record_at};
+ghost use Rattle.device_map.specs.Layout.{Layout, layout_of};
 ghost use Rattle.oplog.specs.Changing.{BadRecordIsOfNoChange, RecordsAreBytes};
-ghost use Rattle.oplog.specs.Recovery.{Decoding};
+ghost use Rattle.oplog.specs.Recovery.{Decoding, named_area, records_in};
 
 /// While records are appended to the current half, a crash leaves a device that recovers to what it
 /// recovered to before, with the first m of them run on it, for some m; once `append` is done, with all.
@@ -53,4 +54,12 @@ pub fn a_bad_record_says_no_message()
 /// For each i below the count that `front` returns, `record` reads record i of the front.
 pub fn the_front_is_what_is_read()
     ensures { (l : Layout) (h i : ℕ) (c : List ℕ) → i < length (front l h c) → get_or (front l h c) i [] ≡ record_at l h i c }
+{}
+
+/// Recovery replays at most as many records as two halves hold, whatever bytes a device has; where the named half isn't chained, as many
+/// as one half.
+pub fn recovery_replays_at_most_two_halves()
+    ensures two { (g : Geometry) (c : List ℕ) → length (records_in g c) ≤ 2 * g.half }
+    ensures one { (g : Geometry) (c : List ℕ) → (chain (layout_of g) (named_area (layout_of g) c) c == 1) ≡ false
+        → length (records_in g c) ≤ g.half }
 {}
