@@ -6,11 +6,26 @@ use Rattle.disk.proofs.Leaves.{synced_left}
 use Rattle.device_map.specs.Layout.{Layout}
 use Rattle.oplog.specs.Front.{count_open, front}
 use Rattle.oplog.specs.Changes.{HasAppendedPrefix}
+use Rattle.oplog.specs.Log.{batch_count}
 use Rattle.oplog.specs.Recovery.{Decoding, named_area, current_of, in_force, recovers}
+use Rattle.oplog.specs.declared.half.TheConstants.{RECORDS_PER_WRITE}
 
 -- the half whose front is the last one in force
 abbrev current : Layout → List ℕ → ℕ
 current l c = current_of l (named_area l c) c
+
+-- ---- a batch has at most 64 records
+records_per_write : RECORDS_PER_WRITE ≡ 64
+records_per_write = refl
+
+no_batch : batch_count 0 ≡ 0
+no_batch = refl
+
+one_batch : batch_count 64 ≡ 1
+one_batch = refl
+
+two_batches : batch_count 65 ≡ 2
+two_batches = refl
 
 -- ---- the front ends at the first gate that isn't 1
 second_is_not_open : count_open (1 ∷ 77 ∷ 1 ∷ 0 ∷ []) ≡ 1
