@@ -1,4 +1,5 @@
-"""What a test reaches: its own text, and that of the constants, functions and types of its crate that it names, and so on from these."""
+"""What a test reaches: its own text, and that of the constants, functions and types of its crate that it names, and
+so on from these."""
 import functools
 import pathlib
 import re
@@ -15,7 +16,8 @@ FAILS = re.compile(r"\bassert(?:_eq|_ne)?!|\bFail::new\(|\bErr\(Wrong::")
 
 @functools.cache
 def items(crate, module):
-    """The items of a module, with their texts, and what it uses of others: (module, item). Nothing if the crate has no such module."""
+    """The items of a module, with their texts, and what it uses of others: (module, item). Nothing if the crate has
+    no such module."""
     path = CRATES / crate / "src" / f"{module}.rt"
     if not path.is_file() or f"mod {module};" not in path.with_name("lib.rt").read_text(encoding="utf-8"):
         return {}, {}
@@ -38,7 +40,8 @@ def on_one_line(text):
 
 
 def reached(test):
-    """What CRATE::MODULE::TEST reaches, on one line; nothing where it isn't there, isn't marked `#[test]`, or reaches nothing that can fail."""
+    """What CRATE::MODULE::TEST reaches, on one line; nothing where it isn't there, isn't marked `#[test]`, or reaches
+    nothing that can fail."""
     crate, module, name = test.split("::")
     if "#[test]" not in items(crate, module)[0].get(name, ""):
         return ""
