@@ -6,7 +6,6 @@ from datetime import date
 from statistics import median
 
 from figures_file import EVERY, GEOMETRIES, MORE_READS, OF_WAFFD, ORDINARY, PATH, PIPED, PLAIN, SERVED, Figures, Missing, served
-from targets import targets
 from programs import TOP
 
 COLUMNS = 140
@@ -97,22 +96,6 @@ def of_others(figures):
            f"`benchmark/lines.rs`): {listed(lines)}.")
 
 
-def of_missed(figures):
-    """Each target that is not met, of both geometries together where the bound is the same."""
-    found, lines = {}, []
-    for *target, values in targets(figures):
-        found.setdefault(tuple(target), []).extend(values)
-    for (words, sign, bound), values in found.items():
-        missed = [value for value in values if (value[0] > bound if sign == "≤" else value[0] < bound)]
-        if missed:
-            worst, of = max(missed) if sign == "≤" else min(missed)
-            shown = number(worst) if number(worst) != number(bound) else f"{worst:.4g}"
-            lines.append(f"- {words} {sign} {bound:,g}: {shown}" + f" ({of}), {len(missed)} of {len(values)}" * bool(of))
-    yield (f"{len(found) - len(lines)} of {len(found)} targets (`benchmark/targets.py`) are met."
-           + " Missed (the worst, and how many):" * bool(lines))
-    yield from ["", *lines] if lines else []
-
-
 def of_speed(figures):
     """The few figures of the front page: writes with 64 and 256 slots."""
     rows = [served(geometry, "write", slots) for geometry in GEOMETRIES for slots in (64, 256)]
@@ -124,7 +107,7 @@ def of_speed(figures):
            f"server is {batch} times as fast as `waffd` with 2 workers; {twice} times, if it locks stripes and syncs as often.")
 
 
-PAGES = {"docs/speed.md": {"run": of_run, "table": of_table, "others": of_others, "missed": of_missed}, "README.md": {"speed": of_speed}}
+PAGES = {"docs/speed.md": {"run": of_run, "table": of_table, "others": of_others}, "README.md": {"speed": of_speed}}
 
 
 def wrapped(lines, indent):
