@@ -55,8 +55,7 @@ class Scripts(Case):
 class Model(Case):
     @unittest.skipUnless(shutil.which("spin") and shutil.which("gcc"), "spin or gcc isn't installed")
     def test_searches(self):
-        """each search of tests/model ends as it has to: no deadlock, no place with two owners, no lost wake-up, and
-        each planted bug is found"""
+        """each search of tests/model ends as it has to, and each planted bug is found"""
         search = os.path.join(TOP, "tests", "model", "search")
         self.assertEqual(subprocess.run([search], check=False).returncode, 0)
 
@@ -284,8 +283,7 @@ TRIED = (
 
 class Try(Case):
     def test_arguments(self):
-        """./try says that nothing is proved, and runs `rt try` in the folder of the program, with the whole path of a
-        device."""
+        """./try runs `rt try` in the folder of the program, with the whole path of a device."""
         self.put_script("rt", '#!/bin/sh\necho "$*"\npwd\n')
         os.makedirs(self.at("crates/waffd"))
         shutil.copy(os.path.join(TOP, "try"), self.folder)
