@@ -97,7 +97,7 @@ PROGRAM = "#!/bin/sh\necho \"ran $*\"\nexit 7\n"
 NOT_RUN = 4
 BUILT = b"waffd: all of it is proved first; meanwhile ./try runs it unproved, in a minute or two\nbuilt\n"
 OLD = (b"waffd: a source is newer than the program, which is not run: ./build proves what has changed, and builds it "
-       b"anew (in a copy, where nothing but times has changed, that takes less than a minute)\n")
+       b"anew (in a copy, where nothing but times has changed, that takes a minute or so)\n")
 RAN = (7, b"ran serve d --every 2\n")
 
 
@@ -175,14 +175,16 @@ stamp=$(cat src/lib.rt)
 for below in ../*; do
     [ "$below" = "../$crate" ] || stamp="$stamp, $(cat "$below/out/rlib/stamp")" || exit 3
 done
-mkdir -p out/rlib
-[ ! -f out/rlib/stamp ] || [ "$stamp" != "$(cat out/rlib/stamp)" ] || exit 0
+kept=out/rlib/stamp
+[ "$1" != run ] || kept=out/waffd.stamp
+mkdir -p "${kept%/*}"
+[ ! -f "$kept" ] || [ "$stamp" != "$(cat "$kept")" ] || exit 0
 echo "$1 $crate" >> "$NOTES"
 case $stamp in
 *wrong*) echo "$crate has an open goal"; exit 1 ;;
 *slow*) sleep 60 ;;
 esac
-echo "$stamp" > out/rlib/stamp
+echo "$stamp" > "$kept"
 [ "$1" != run ] || echo "the program" > out/waffd
 """
 WHOLE = "lib disk\nrun waffd\n"
@@ -239,7 +241,9 @@ class Build(Case):
         self.assertTrue(self.is_there("waffd/out/waffd") and self.is_there("waffd/out/built"))
         self.assertFalse(self.is_there("machine/out"))
         self.put_source("machine", "another")
+        os.utime(self.at("tree/crates/waffd/out/built"), (1000, 1000))
         self.builds("nothing of the program has changed", 0, "")
+        self.assertGreater(os.path.getmtime(self.at("tree/crates/waffd/out/built")), 1000)
         self.put_source("disk", "another")
         self.builds("a crate has changed", 0, WHOLE)
 
