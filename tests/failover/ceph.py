@@ -1,4 +1,5 @@
 """The same on Ceph RBD: a monitor and three OSDs on this machine, and one image, which either guest may open."""
+import enum
 import json
 import os
 import subprocess
@@ -11,41 +12,62 @@ from pair import HERE, OTHER, Machine
 from program import put_bytes
 from servers import SMALL, WIDE
 
-PACKAGES = {"ceph-mon": "ceph-mon", "ceph-osd": "ceph-osd", "rbd": "ceph-common", "ceph": "ceph-common",
-            "/usr/lib/x86_64-linux-gnu/qemu/block-rbd.so": "qemu-block-extra"}
-BACK = "[client]\nrbd_cache_policy = writeback\nrbd_cache_writethrough_until_flush = false\n"  # the cache of the client, from the beginning
-CACHES = {"": "ceph.conf,cache.no-flush=off", "writes back": "back.conf,cache.no-flush=off", "flushes are dropped": "back.conf,cache.no-flush=on"}
+PACKAGES = {
+    "ceph-mon": "ceph-mon",
+    "ceph-osd": "ceph-osd",
+    "rbd": "ceph-common",
+    "ceph": "ceph-common",
+    "/usr/lib/x86_64-linux-gnu/qemu/block-rbd.so": "qemu-block-extra",
+}
+OSDS = 3
+# The cache of the client writes back from the beginning.
+WRITE_BACK = "[client]\nrbd_cache_policy = writeback\nrbd_cache_writethrough_until_flush = false\n"
+
+
+class Cache(enum.Enum):
+    """The cache of the client: the file of its configuration, and whether QEMU hands flushes on."""
+
+    AS_USUAL = "ceph.conf,cache.no-flush=off"
+    WRITES_BACK = "back.conf,cache.no-flush=off"
+    DROPS_FLUSHES = "back.conf,cache.no-flush=on"
 
 
 class Cluster:
     """Three copies of each object, of which two have to be written."""
 
     def __init__(self, folder):
-        self.folder, self.osds, os.environ["CEPH_CONF"] = folder, {}, f"{folder}/ceph.conf"
+        self.folder = folder
+        self.osds = {}
+        os.environ["CEPH_CONF"] = f"{folder}/ceph.conf"
         os.makedirs(f"{folder}/run")
         with open(f"{HERE}/ceph.conf", encoding="utf-8") as file:
-            put_bytes(f"{folder}/ceph.conf", (conf := file.read().replace("FOLDER", folder)).encode())
-        put_bytes(f"{folder}/back.conf", (conf + BACK).encode())
+            configuration = file.read().replace("FOLDER", folder)
+        put_bytes(f"{folder}/ceph.conf", configuration.encode())
+        put_bytes(f"{folder}/back.conf", (configuration + WRITE_BACK).encode())
         self.run("ceph-mon --mkfs -i a")
         self.monitor = self.start("ceph-mon -f -i a")
         self.until(lambda: self.run("ceph mon stat"))
-        for number in range(3):
-            self.run(f"ceph osd new {(uuid := uuid4())}")
+        for number in range(OSDS):
+            identifier = uuid4()
+            self.run(f"ceph osd new {identifier}")
             os.mkdir(f"{folder}/osd.{number}")
-            self.run(f"ceph-osd -i {number} --mkfs --osd-uuid {uuid}")
+            self.run(f"ceph-osd -i {number} --mkfs --osd-uuid {identifier}")
             self.start_osd(number)
-        for words in ("ceph osd pool create rbd 8 8", "rbd create r --size 64M"):
-            self.run(words)
+        self.run("ceph osd pool create rbd 8 8")
+        self.run("rbd create r --size 64M")
 
     def start(self, words):
+        """A process that doesn't outlive this one."""
         with open(f"{self.folder}/out", "ab") as out:
             return subprocess.Popen(["setpriv", "--pdeathsig", "KILL", *words.split()], stdout=out, stderr=out)
 
     def run(self, words):
+        """What a command prints, nothing where it fails."""
         end = subprocess.run(words.split(), capture_output=True, timeout=60, check=False)
         return end.stdout.decode() if end.returncode == 0 else ""
 
     def until(self, done):
+        """Waits until this holds."""
         end = time.monotonic() + 60
         while not done():
             if time.monotonic() > end:
@@ -53,8 +75,13 @@ class Cluster:
             time.sleep(0.2)
 
     def start_osd(self, number):
+        """Starts it, and waits until it serves."""
         self.osds[number] = self.start(f"ceph-osd -f -i {number}")
-        self.until(lambda: json.loads(self.run("ceph osd stat -f json") or "{}").get("num_up_osds") == len(self.osds))
+        self.until(lambda: self.count_of_osds() == len(self.osds))
+
+    def count_of_osds(self):
+        """How many serve, or None where the cluster doesn't say it."""
+        return json.loads(self.run("ceph osd stat -f json") or "{}").get("num_up_osds")
 
     def kill_osd(self, number):
         self.osds[number].kill()
@@ -72,12 +99,19 @@ class Cluster:
 
 
 class RbdChain(Chain):
+    """A chain on an image of the cluster. The cache is that of the case, or drawn."""
+
     def __init__(self, setup, cluster, case, seed, end):
         super().__init__(setup, {"A": "", "B": ""}, case._replace(config=""), seed, end)
-        self.cluster, self.cache = cluster, case.config if case.config is not None else self.chance.choice(("", "writes back"))
+        self.cluster = cluster
+        self.cache = case.config
+        if self.cache is None:
+            self.cache = self.chance.choice((Cache.AS_USUAL, Cache.WRITES_BACK))
 
     def boot(self, name):
-        return Machine(self.pair, name, f"driver=rbd,node-name=disk,pool=rbd,image=r,conf={self.cluster.folder}/{CACHES[self.cache]}")
+        """A machine boots, and opens the image."""
+        disk = f"driver=rbd,node-name=disk,pool=rbd,image=r,conf={self.cluster.folder}/{self.cache.value}"
+        return Machine(self.pair, name, disk)
 
     def begin(self):
         self.begin_on(self.boot("A"), (SMALL, WIDE))
@@ -87,17 +121,21 @@ class RbdChain(Chain):
         return True
 
     def lose_machine(self):
-        """The other opens the image once the first is off. It waits for the end of the first's watch, unless its client is refused before."""
+        """The other opens the image once the first is off. It waits for the end of the first's watch, unless its client
+        is refused before."""
         self.leave_in_flight()
-        began, old, what = time.monotonic(), self.primary, self.chance.choice(("failovers", "failovers by blocklist"))
+        began = time.monotonic()
+        old = self.primary
+        is_refused = self.chance.choice((False, True))
+        what = "failovers by blocklist" if is_refused else "failovers"
         self.cut(old.name)
-        if "blocklist" in what:
+        if is_refused:
             self.cluster.refuse_clients()
         self.take_over(self.boot(OTHER[old.name]), began, what)
 
     def lose_osd(self):
         """The server waits for the rest of the cluster to go on, and answers; or its machine is lost, too."""
-        number = self.chance.randrange(3)
+        number = self.chance.randrange(OSDS)
         self.leave_in_flight()
         self.cluster.kill_osd(number)
         if self.chance.random() < 0.5:
@@ -110,19 +148,23 @@ class RbdChain(Chain):
     def refuse_machine(self):
         """The first runs on, but its client is refused. What it still answers has to be there."""
         self.work()
-        began, old = time.monotonic(), self.primary
+        began = time.monotonic()
+        old = self.primary
         self.cluster.refuse_clients()
         new = self.boot(OTHER[old.name])
         self.send(self.surely_changed(), 0)
         old.wait(lambda: b"fault\n" in old.heard["control"], 20)
-        self.counts["refused servers that ended by a device fault"] += b"device fault" in old.heard["control"]
+        if b"device fault" in old.heard["control"]:
+            self.counts["refused servers that ended by a device fault"] += 1
         self.take_over(new, began, "failovers from a machine that runs on")
-        old.cut("")
+        old.cut()
 
     def random_failures(self):
+        """Until the time is over."""
+        moves = [self.lose_machine] * 3 + [self.lose_osd] * 2 + [self.refuse_machine]
         self.begin()
         while time.monotonic() < self.end:
-            self.chance.choice((self.lose_machine,) * 3 + (self.lose_osd, self.lose_osd, self.refuse_machine))()
+            self.chance.choice(moves)()
             self.work()
 
 
@@ -144,11 +186,13 @@ def two_servers(chain):
     old.feed(b"makevol 0 0\nunseal 0 0\nusage 0 0\n")
     old.wait(lambda: False, 2)
     for one in (old, chain.primary):
-        one.cut("")
+        one.cut()
     chain.take_over(chain.boot("A"), time.monotonic(), "failovers")
 
 
 RANDOM = Case("chain on Ceph", RbdChain.random_failures, None)
-CASES = (Case("right: the cache of the client writes back", lose_machines, "writes back"),
-         Case("WRONG: the same, and flushes are dropped", lose_machines, "flushes are dropped", (), True),
-         Case("WRONG: two servers", two_servers, "", (), True))
+CASES = (
+    Case("right: the cache of the client writes back", lose_machines, Cache.WRITES_BACK),
+    Case("WRONG: the same, and flushes are dropped", lose_machines, Cache.DROPS_FLUSHES, is_wrong=True),
+    Case("WRONG: two servers", two_servers, Cache.AS_USUAL, is_wrong=True),
+)

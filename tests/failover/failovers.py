@@ -1,16 +1,21 @@
-"""Chains of failures of two machines that hold one device, and the judgement of what a machine that goes on finds there."""
+"""Chains of failures of two machines that hold one device, and the judgement of what a machine that goes on finds
+there."""
 import collections
 import random
 import time
 
-from lives import NEVER, Phase, read
+from lives import NEVER, Kind, Phase, read
 from machine import Dead
 from meaning import empty_state, lines_that_make, lines_that_read, options_of, state_of_replies
-from pair import MKFS, OTHER, Pair
+from pair import MKFS, OTHER, Pair, Special
 from servers import COMMON, NARROW, SMALL, WIDE, Drawing, plain, text_of
 
 GEOMETRIES = (SMALL, WIDE, WIDE, NARROW, COMMON)
-Case = collections.namedtuple("Case", "name moves config special is_wrong", defaults=("", (), False))  # what fails, and what is special there
+LONGEST_REPLIES = 60  # seconds
+SHOWN = 12  # notes of a chain that doesn't end well
+
+# What fails, by which moves of a chain, and what is otherwise there: in the configuration, and anywhere else.
+Case = collections.namedtuple("Case", "name moves config special is_wrong", defaults=("", Special.NOTHING, False))
 
 
 class Violation(Exception):
@@ -21,18 +26,29 @@ class Chain:
     """The server runs on `primary`. The other machine may be off, behind or in sync."""
 
     def __init__(self, setup, disks, case, seed, end):
-        self.name, self.end, self.start = f"{case.name}, seed {seed}", end, time.monotonic()
-        self.counts, self.times, self.notes = collections.Counter(), collections.defaultdict(list), []
+        self.case = case
+        self.seed = seed
+        self.end = end
+        self.start = time.monotonic()
+        self.counts = collections.Counter()
+        self.times = collections.defaultdict(list)
+        self.notes = []
         self.chance = random.Random(f"failover {seed}")
         self.pair = Pair(setup, disks, self.chance, self.note, case.config, case.special)
-        self.primary, self.g, self.state, self.drawing, self.lines, self.reads = None, None, None, None, [], 0
+        self.primary = None
+        self.g = None
+        self.state = None  # of the device when the server was started
+        self.drawing = None
+        self.lines = []  # that the server was sent
+        self.reads = 0  # how many of these it was asked first
 
     def note(self, text):
         self.notes.append(f"{time.monotonic() - self.start:7.2f} {text}")
 
     def tell(self, text):
+        """Notes and prints it."""
         self.note(text)
-        print(f"{self.name}: {text}", flush=True)
+        print(f"{self.case.name}, seed {self.seed}: {text}", flush=True)
 
     def run(self, case):
         """What happened last is printed where it doesn't end well."""
@@ -47,8 +63,9 @@ class Chain:
             self.tell(f"broken: {dead!r:.1500}")
         finally:
             self.pair.end()
-        if self.counts["violations"] * (not case.is_wrong) + self.counts["chains that broke"]:
-            print("\n".join(f"    {note}" for note in self.notes[-12:]), flush=True)
+        is_unexpected = self.counts["violations"] > 0 and not case.is_wrong
+        if is_unexpected or self.counts["chains that broke"] > 0:
+            print("\n".join(f"    {note}" for note in self.notes[-SHOWN:]), flush=True)
 
     def other(self):
         return self.pair.machines[OTHER[self.primary.name]]
@@ -73,13 +90,15 @@ class Chain:
 
     def make_device(self, geometries):
         self.g = self.chance.choice(geometries)
-        self.state, self.drawing = empty_state(self.g), Drawing(self.chance.random(), self.g)
+        self.state = empty_state(self.g)
+        self.drawing = Drawing(self.chance.random(), self.g)
         status, said = self.primary.ask("did /bin/waffd format /mnt/d", *options_of(self.g))
         if status:
             raise Dead(f"format: {said}")
         self.serve()
         volumes = [f"{a} {v}" for a in range(self.g.aggregates) for v in range(self.g.volumes)]
-        self.send([f"makevol {volume}" for volume in volumes] + [f"create {volume} 0" for volume in volumes])
+        made = [f"makevol {volume}" for volume in volumes]
+        self.send(made + [f"create {volume} 0" for volume in volumes])
 
     def join(self):
         """The other boots, and comes in sync."""
@@ -93,23 +112,31 @@ class Chain:
             raise Dead(f"they don't come in sync: {self.pair.state(one)} {one.console()}")
 
     def promote(self, one, patience=30):
-        """Whether it became the primary, and has mounted the file system. It is refused until it knows that the other is gone."""
-        end, words = time.monotonic() + patience, "did drbdadm primary r0" + " --force" * ("forces" in self.pair.special)
-        while (answer := one.ask(words))[0] and time.monotonic() < end:
+        """Whether it became the primary, and has mounted the file system. It is refused until it knows that the other
+        is gone."""
+        words = "did drbdadm primary r0"
+        if Special.FORCES in self.pair.special:
+            words += " --force"
+        end = time.monotonic() + patience
+        status, said = one.ask(words)
+        while status and time.monotonic() < end:
             one.wait(lambda: False, 0.3)
-        if answer[0]:
-            self.note(f"{one.name} isn't promoted: {answer[1].decode()!r:.300}")
+            status, said = one.ask(words)
+        if status:
+            self.note(f"{one.name} isn't promoted: {said.decode()!r:.300}")
             return False
         self.mount(one, "/dev/drbd0")
         return True
 
     def mount(self, one, disk):
         began = time.monotonic()
-        if refused := one.mount("ext4", disk):
+        refused = one.mount("ext4", disk)
+        if refused:
             raise Violation(f"{one.name} doesn't mount: {refused}")
         self.times["mount"].append(time.monotonic() - began)
 
     def cut(self, *names):
+        """The power of these machines, at one moment."""
         for name in names:
             self.pair.machines[name].cut(self.chance.choice(self.pair.modes))
         self.counts["power cuts"] += len(names)
@@ -120,26 +147,37 @@ class Chain:
         chance = self.chance
         self.lines = []
         self.primary.heard["output"].clear()
-        drawn = f"--workers {chance.choice((1, 2, 4))} --slots {chance.choice((1, 4, 16, 64))} --every {chance.choice((0, 0, 3, 20))}"
+        workers = chance.choice((1, 2, 4))
+        slots = chance.choice((1, 4, 16, 64))
+        every = chance.choice((0, 0, 3, 20))
+        drawn = f"--workers {workers} --slots {slots} --every {every}"
         self.primary.ask("run /bin/waffd serve /mnt/d", options or drawn)
-        self.send(reads := lines_that_read(self.g))
+        reads = lines_that_read(self.g)
+        self.send(reads)
         self.reads = len(reads)
-        if state_of_replies(self.g, bytes(self.primary.heard["output"]).decode().splitlines()) != self.state:
+        replies = bytes(self.primary.heard["output"]).decode().splitlines()
+        if state_of_replies(self.g, replies) != self.state:
             raise Violation("the server finds another state")
 
-    def send(self, lines, due=None, patience=60):
-        """Sends lines. Whether so many of their replies came in time, or all of them."""
-        one, output = self.primary, self.primary.heard["output"]
-        due = len(self.lines) + (len(lines) if due is None else due)
+    def send(self, lines, due=None, patience=None):
+        """Sends lines. Whether so many of their replies came in time, or all of them. They have to come where no
+        patience is given."""
+        one = self.primary
+        output = one.heard["output"]
+        if due is None:
+            due = len(lines)
+        wanted = len(self.lines) + due
         self.lines = self.lines + lines
         one.feed(text_of(lines))
-        if one.wait(lambda: output.count(b"\n") >= due, patience):
+        if one.wait(lambda: output.count(b"\n") >= wanted, LONGEST_REPLIES if patience is None else patience):
             return True
-        if patience == 60:
-            raise Dead(f"replies don't come: {output.count(10)} of {due}, {bytes(one.heard['control'])[:300]}")
+        if patience is None:
+            heard = bytes(one.heard["control"])[:300]
+            raise Dead(f"replies don't come: {output.count(10)} of {wanted}, {heard}")
         return False
 
     def surely_changed(self):
+        """Lines of which the last one changes something, whatever is there."""
         return ["makevol 0 0", "unseal 0 0", f"setlabel 0 0 {self.drawing.data(32)}"]
 
     def change(self):
@@ -149,6 +187,7 @@ class Chain:
         return time.monotonic() - began
 
     def work(self):
+        """Sends random lines."""
         for _ in range(self.chance.randint(1, 3)):
             self.send(self.drawing.lines(self.chance.randint(1, 60)))
 
@@ -159,27 +198,38 @@ class Chain:
         self.primary.wait(lambda: False, self.chance.choice((0, 0, 0.005, 0.02, 0.1)))
 
     def judge(self, one, output, lines):
-        """What this machine finds, by what came out of the server before. Of the lines and acknowledged changes, how many."""
+        """What this machine finds, by what came out of the server before. Of the lines and acknowledged changes, how
+        many."""
         status, data = one.ask("get /mnt/d")
-        phase, made, found = Phase("serve", self.g, self.state, lines), lines_that_make(self.g, self.state), read(None if status else data)
+        if status:
+            data = None
+        phase = Phase(Kind.SERVE, self.g, self.state, lines)
         phase.heard = [(0, output)]
-        if problem := phase.problem(NEVER, None if status else data):
+        problem = phase.problem(NEVER, data)
+        if problem:
             raise Violation(f"{one.name} finds: {problem}")
-        if not text_of(plain(self.g, made + lines)[len(made):]).startswith(output):
+        made = lines_that_make(self.g, self.state)
+        wanted = text_of(plain(self.g, made + lines)[len(made):])
+        if not wanted.startswith(output):
             raise Violation(f"it answered other than the serial server: {output[-200:]!r}")
         status, shown = one.ask("did /bin/waffd show /mnt/d")
-        if status or f"records {found[2]}\n" not in shown.decode():
+        _, state, records = read(data)
+        if status or f"records {records}\n" not in shown.decode():
             raise Violation(f"show: {status} {shown}")
-        self.state, answered, done = found[1], output.count(b"\n") - self.reads, output.count(b"done\n")
+        self.state = state
+        answered = output.count(b"\n") - self.reads
+        done = output.count(b"done\n")
         self.counts.update({"devices judged": 1, "lines answered": max(0, answered), "changes acknowledged": done})
         return f"{answered} lines answered, {done} changes acknowledged, none missing"
 
     def take_over(self, one, began, what):
         """Whether this machine goes on from where the server was, which is judged."""
-        output, lines = bytes(self.primary.heard["output"]), self.lines
+        output = bytes(self.primary.heard["output"])
+        lines = self.lines
         if not self.promote(one):
             return False
-        self.times[f"{what}, until mounted"].append(seconds := time.monotonic() - began)
+        seconds = time.monotonic() - began
+        self.times[f"{what}, until mounted"].append(seconds)
         judged = self.judge(one, output, lines)
         self.primary = one
         self.serve()
@@ -209,7 +259,8 @@ class Chain:
     def lose_primary(self):
         """Both were in sync: the other takes over."""
         self.leave_in_flight()
-        began, other = time.monotonic(), self.other()
+        began = time.monotonic()
+        other = self.other()
         self.cut(self.primary.name)
         if not self.take_over(other, began, "failovers"):
             raise Dead("no failover")
@@ -245,7 +296,8 @@ class Chain:
     def lose_survivor(self):
         """The other is off or behind: it must not take over. The one that went on alone comes back, and does."""
         self.leave_in_flight()
-        began, name = time.monotonic(), self.primary.name
+        began = time.monotonic()
+        name = self.primary.name
         self.cut(name)
         other = self.other() or self.boot_other()
         if self.pair.survivor == name:
@@ -255,16 +307,19 @@ class Chain:
         if not self.take_over(self.pair.boot(name), began, "survivors lost"):
             raise Dead("it isn't promoted again")
 
+    def moves(self):
+        """What may happen next, the likelier ones more than once."""
+        if not self.other():
+            return [self.join] * 4 + [self.boot_other] * 2 + [self.lose_survivor]
+        if self.pair.in_sync(self.primary):
+            return [self.lose_primary] * 6 + [self.lose_secondary, self.lose_link, self.lose_both]
+        return [self.work] * 4 + [lambda: self.wait_in_sync(self.primary)] * 4 + [self.lose_survivor]
+
     def random_failures(self):
         """Until the time is over."""
         self.begin()
         while time.monotonic() < self.end:
-            moves = (self.work,) * 4 + (lambda: self.wait_in_sync(self.primary),) * 4 + (self.lose_survivor,)
-            if not self.other():
-                moves = (self.join,) * 4 + (self.boot_other,) * 2 + (self.lose_survivor,)
-            elif self.pair.in_sync(self.primary):
-                moves = (self.lose_primary,) * 6 + (self.lose_secondary, self.lose_link, self.lose_both)
-            self.chance.choice(moves)()
+            self.chance.choice(self.moves())()
             self.work()
         if not self.other():
             self.join()

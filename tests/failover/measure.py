@@ -2,22 +2,24 @@
 import time
 
 from failovers import Case
-from pair import OTHER, Machine
+from pair import OTHER, Machine, Special
 from planted import NO_FLUSHES
 from servers import COMMON
 
 LINES = {1: 200, 16: 800}  # by slots
-PLAIN, ONE_MACHINE, SLOW_LINK = "plain disk", "one machine", "link of 5 ms"
+LINK_SECONDS = 0.005  # that a frame takes on a slow link
 
 
 def measure(chain):
-    if PLAIN in chain.pair.special:
+    """How long a server takes for a hundred lines, with 1 slot and with 16."""
+    special = chain.pair.special
+    if Special.PLAIN_DISK in special:
         chain.begin_on(Machine(chain.pair, "A"), (COMMON,))
     else:
         chain.begin((COMMON,))
-    if ONE_MACHINE in chain.pair.special:
+    if Special.ONE_MACHINE in special:
         chain.cut(OTHER[chain.primary.name])
-    chain.pair.delay = 0.005 * (SLOW_LINK in chain.pair.special)
+    chain.pair.delay = LINK_SECONDS if Special.SLOW_LINK in special else 0
     for one in chain.pair.alive():
         one.hold = 0
     for slots, count in LINES.items():
@@ -25,8 +27,14 @@ def measure(chain):
         chain.serve(f"--slots {slots}")
         began = time.monotonic()
         chain.send([f"write 0 {n % 4} 0 {n // 4 % 64} {n + 1:08x}" for n in range(count)])
-        chain.times[f"{chain.name.partition(', seed')[0]}, {slots} slots, 100 lines"].append((time.monotonic() - began) * 100 / count)
+        seconds = (time.monotonic() - began) * 100 / count
+        chain.times[f"{chain.case.name}, {slots} slots, 100 lines"].append(seconds)
 
 
-CASES = (Case("plain disk", measure, "", (PLAIN,)), Case("DRBD, one machine lost", measure, "", (ONE_MACHINE,)), Case("protocol C", measure),
-         Case("protocol C without flushes", measure, NO_FLUSHES), Case("protocol C, a link of 5 ms each way", measure, "", (SLOW_LINK,)))
+CASES = (
+    Case("plain disk", measure, special=Special.PLAIN_DISK),
+    Case("DRBD, one machine lost", measure, special=Special.ONE_MACHINE),
+    Case("protocol C", measure),
+    Case("protocol C without flushes", measure, NO_FLUSHES),
+    Case("protocol C, a link of 5 ms each way", measure, special=Special.SLOW_LINK),
+)

@@ -1,22 +1,25 @@
-"""What is configured wrong and loses acknowledged changes, each beside the same failures with the right configuration."""
+"""What is configured wrong and loses acknowledged changes, each beside the same failures with the right
+configuration."""
 import contextlib
 import time
 
 from failovers import Case, Chain
-from machine import Dead
+from machine import Dead, Kept
+from pair import Special
 
 NO_FENCING = "s/resource-and-stonith/dont-care/"
 GOES_ON = "s/resource-and-stonith/resource-only/"  # the primary, while the other is being fenced
 NO_FLUSHES = "s/resource-and-stonith;/& disk-flushes no; md-flushes no;/"
 PROTOCOL_A = f"s/protocol C/protocol A/; {GOES_ON}"  # DRBD refuses it with resource-and-stonith
-SECONDARY_ALONE = "the secondary alone comes back"
 
 
 def lose_primary(chain):
     """The other takes over if it may, else the first comes back."""
-    name, began = chain.primary.name, time.monotonic()
+    name = chain.primary.name
+    began = time.monotonic()
     chain.cut(name)
-    chain.pair.link, chain.pair.delay = True, 0
+    chain.pair.link = True
+    chain.pair.delay = 0
     other = chain.other() or chain.boot_other()
     if not chain.take_over(other, began, "failovers"):
         chain.counts["promotions of an old disk refused"] += 1
@@ -50,7 +53,8 @@ def slow_fencing(chain):
     chain.work()
     chain.pair.cut_link()
     has_answered = chain.send(chain.surely_changed(), patience=15)
-    chain.note(f"the primary {'has answered' if has_answered else 'waits'}, {chain.pair.state(chain.primary)}")
+    what = "has answered" if has_answered else "waits"
+    chain.note(f"the primary {what}, {chain.pair.state(chain.primary)}")
     lose_primary(chain)
 
 
@@ -58,7 +62,8 @@ def two_primaries(chain):
     """The link is cut and the secondary is promoted at once. What the first answers from then on is to be there."""
     chain.begin()
     chain.pair.cut_link()
-    one, other = chain.primary, chain.other()
+    one = chain.primary
+    other = chain.other()
     with contextlib.suppress(Dead):  # it may be fenced first
         chain.promote(other, 20)
     if not one.is_off:
@@ -68,16 +73,20 @@ def two_primaries(chain):
 
 
 def both_lose_power(chain):
-    """At one moment, right after a reply. Each disk keeps what it has flushed, which took the secondary 300 ms. One machine comes back."""
+    """At one moment, right after a reply. Each disk keeps what it has flushed, which took the secondary 300 ms. One
+    machine comes back."""
     chain.begin()
-    chain.pair.modes = ("none",)
+    chain.pair.modes = (Kept.NONE,)
     chain.work()
-    chain.other().slow, chain.other().hold = 0.3, 1.0
+    secondary = chain.other()
+    secondary.slow = 0.3
+    secondary.hold = 1.0
     for _ in range(3):
         chain.change()
     began = time.monotonic()
     chain.cut("A", "B")
-    if not chain.take_over(chain.pair.boot("B" if SECONDARY_ALONE in chain.pair.special else "A"), began, "both lost"):
+    name = "B" if Special.SECONDARY_ALONE in chain.pair.special else "A"
+    if not chain.take_over(chain.pair.boot(name), began, "both lost"):
         raise Dead("no promotion")
 
 
@@ -85,16 +94,22 @@ RANDOM = Case("chain", Chain.random_failures)
 CASES = (
     Case("right: slow link", slow_link),
     Case("right: slow link, the primary goes on while it fences", slow_link, GOES_ON),
-    Case("WRONG: slow link, protocol A", slow_link, PROTOCOL_A, (), True),
+    Case("WRONG: slow link, protocol A", slow_link, PROTOCOL_A, is_wrong=True),
     Case("right: an old disk", old_disk),
-    Case("WRONG: an old disk, the manager forgets who went on alone", old_disk, "", ("forgets",), True),
-    Case("WRONG: an old disk, fencing dont-care", old_disk, NO_FENCING, ("forgets",), True),
-    Case("WRONG: an old disk, promoted by --force", old_disk, "", ("forces",), True),
-    Case("right: slow fencing", slow_fencing, "", ("A isn't answered",)),
-    Case("WRONG: slow fencing, the primary goes on while it fences", slow_fencing, GOES_ON, ("A isn't answered",), True),
+    Case("WRONG: an old disk, the manager forgets who went on alone", old_disk,
+         special=Special.FORGETS, is_wrong=True),
+    Case("WRONG: an old disk, fencing dont-care", old_disk, NO_FENCING, Special.FORGETS, is_wrong=True),
+    Case("WRONG: an old disk, promoted by --force", old_disk, special=Special.FORCES, is_wrong=True),
+    Case("right: slow fencing", slow_fencing, special=Special.A_IS_NOT_ANSWERED),
+    Case("WRONG: slow fencing, the primary goes on while it fences", slow_fencing, GOES_ON,
+         Special.A_IS_NOT_ANSWERED, is_wrong=True),
     Case("right: two primaries", two_primaries),
-    Case("WRONG: two primaries, fencing dont-care", two_primaries, NO_FENCING, ("forgets",), True),
-    Case("WRONG: two primaries, a handler that cuts nothing", two_primaries, "", ("forgets", "lies"), True),
+    Case("WRONG: two primaries, fencing dont-care", two_primaries, NO_FENCING, Special.FORGETS, is_wrong=True),
+    Case("WRONG: two primaries, a handler that cuts nothing", two_primaries,
+         special=Special.FORGETS | Special.LIES, is_wrong=True),
     Case("right: both lose power, the primary alone comes back", both_lose_power),
-    Case("WRONG: both lose power, the secondary alone comes back", both_lose_power, "", (SECONDARY_ALONE,), True),
-    Case("WRONG: both lose power without flushes, the secondary alone comes back", both_lose_power, NO_FLUSHES, (SECONDARY_ALONE,), True))
+    Case("WRONG: both lose power, the secondary alone comes back", both_lose_power,
+         special=Special.SECONDARY_ALONE, is_wrong=True),
+    Case("WRONG: both lose power without flushes, the secondary alone comes back", both_lose_power, NO_FLUSHES,
+         Special.SECONDARY_ALONE, is_wrong=True),
+)

@@ -1,5 +1,6 @@
 #!/bin/sh
-# A machine joins: its name, the last number of its address, what sed is to make wrong in the configuration, and whether its disk is new.
+# A machine joins: its name, the last number of its address, what sed is to make wrong in the configuration, and
+# whether its disk is new.
 mkdir -p /run/lock /var/lock /var/run/drbd /var/lib/drbd
 hostname "$1"
 ip link set eth0 up

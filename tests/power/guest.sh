@@ -1,6 +1,7 @@
 #!/bin/busybox sh
-# The first process of the guest. It runs each line that comes on the serial port 1 as a command of this shell, and answers there: a line
-# (a word, a number, a length) and so many bytes. What the program puts out goes to port 2, what shim.c reports to port 3.
+# The first process of the guest. It runs each line that comes on the serial port 1 as a command of this shell, and
+# answers there: a line (a word, a number, a length) and so many bytes. What the program puts out goes to port 2, what
+# shim.c reports to port 3.
 
 tell() { # WORD NUMBER FILE
     echo "$1 $2 $(stat -c %s "$3")" >&3

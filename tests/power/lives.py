@@ -1,6 +1,8 @@
 """Lives of `format` and `serve` in a guest, cuts of its power in them, and the judgement of what each cut has left."""
 import collections
+import enum
 import gzip
+import math
 import os
 import pickle
 import random
@@ -8,21 +10,43 @@ import struct
 import time
 
 from layout import image_at, recovered
-from machine import MODES, Dead, Guest, Log, private_copy
+from machine import MODES, Dead, Guest, Kept, Log, private_copy
 from meaning import Search, empty_state, lines_that_make, lines_that_read, options_of, state_of_replies
 from program import put_bytes, run
 from servers import COMMON, NARROW, SMALL, WIDE, Drawing, plain, replies_of, text_of
 
-LIVES, IMAGES, KEPT = 4, 40, 2  # of a chain: its lives, the images of each, and of how many violations an image is kept
-COUNTS = ("lives", "images", "cuts with acknowledged changes", "byte checks", "violations", "torn disks not mounted", "guests that died")
-KILLED, NEVER, LIES = 128 + 9, 1 << 60, "lies"
-EMPTIED = struct.pack("<cQQ", b"T", 0, 0)  # as shim.c would report that `format` opens the file
+LIVES = 4  # of a chain
+IMAGES = 40  # of a life
+MOST_KEPT = 2  # violations of a chain of which the image is kept
+COUNTS = (
+    "lives", "images", "cuts with acknowledged changes", "byte checks", "violations", "torn disks not mounted",
+    "guests that died")
+ALWAYS_TOLD = 5  # of these counts; each of the others where there are any
+KILLED = 128 + 9
+START_NOISE = "noise >/dev/null 2>&1 & echo $! >/tmp/noise"
+STOP_NOISE = "kill -9 $(cat /tmp/noise)"
+NEVER = math.inf  # a moment, and a number of lines or of events, that doesn't come
+HEAD_OF_EVENT = struct.Struct("<cQQ")  # as shim.c reports what is done to the file: a kind, a place and a length
+EMPTIED = HEAD_OF_EVENT.pack(b"T", 0, 0)  # as it would report that `format` opens the file
+
+# A bug that is planted: in shim.c, which is told of it by a word, or in the disk.
+Bug = collections.namedtuple("Bug", "name word disk_lies")
+
+
+class Kind(enum.Enum):
+    """What a phase is."""
+
+    FOUND = "found"  # before the first program
+    FORMAT = "format"
+    SERVE = "serve"
 
 
 def read(data):
     """What these bytes recover to, or why they don't."""
+    if data is None:
+        return "the file isn't there"
     try:
-        return "the file isn't there" if data is None else recovered(data)
+        return recovered(data)
     except ValueError as refused:
         return str(refused)
 
@@ -31,92 +55,146 @@ class Phase:
     """One program of a life with the state of the device when it starts, or, as the first one, what is found there."""
 
     def __init__(self, kind, g=None, state=None, lines=()):
-        self.kind, self.g, self.state, self.lines, self.start, self.heard = kind, g, state, lines, 0, ()
+        self.kind = kind
+        self.g = g
+        self.state = state
+        self.lines = lines
+        self.start = 0
+        self.heard = ()
 
     def told(self, cut):
+        """What the program had put out before this event."""
         return b"".join(data for at, data in self.heard if at <= cut)
 
     def problem(self, cut, data):
-        found, told = read(data), self.told(cut)
+        """What is wrong with the bytes that a cut at this event has left, or None."""
+        found = read(data)
+        told = self.told(cut)
         if self.state is None:
             return None if data is None else "a file is there that nobody has made"
-        if self.kind == "format" and not told and found in ("not formatted", "device too short"):
+        if self.kind is Kind.FORMAT and not told and found in ("not formatted", "device too short"):
             return None
         if isinstance(found, str) or found[0] != self.g:
             return str(found)[:100]
-        answered = told.count(b"\n") + (told[-1:] not in (b"", b"\n"))
-        is_right = found[1] == self.state and (self.kind == "found" or found[2] == 0 and len(data) == image_at(self.g, 2))
-        if self.kind == "serve":
-            is_right = Search(self.g, self.state, self.lines, answered, found[1]).find() is not None
-        return None if is_right else f"of {answered} lines that were answered a change is missing, or none has made what is there"
+        answered = told.count(b"\n")
+        if told and not told.endswith(b"\n"):
+            answered += 1
+        if self.may_leave(found, len(data), answered):
+            return None
+        return f"of {answered} lines that were answered a change is missing, or none has made what is there"
+
+    def may_leave(self, found, size, answered):
+        """Whether a device of this size that recovers so may be left after so many answers."""
+        g, state, records = found
+        if self.kind is Kind.SERVE:
+            return Search(g, self.state, self.lines, answered, state).find() is not None
+        if self.kind is Kind.FORMAT and (records != 0 or size != image_at(g, 2)):
+            return False
+        return state == self.state
 
 
 class Synced:
-    """The file as docs/device.md has it, from what shim.c has reported: its bytes at the last sync, and where it was written since."""
+    """The file as docs/device.md has it, from what shim.c has reported: its bytes at the last sync, and where it was
+    written since."""
 
     def __init__(self, start, heard):
-        self.start, self.events, rest = start, [], b""
+        self.start = start
+        self.events = []  # the number of the disk's event then, the kind, the place and the bytes
+        rest = b""
         for when, data in heard:
             rest += data
-            while len(rest) >= 17 and len(rest) >= (end := 17 + struct.unpack_from("<Q", rest, 9)[0]):
-                self.events.append((when, rest[:1], struct.unpack_from("<Q", rest, 1)[0], rest[17:end]))
+            while len(rest) >= HEAD_OF_EVENT.size:
+                kind, at, length = HEAD_OF_EVENT.unpack_from(rest)
+                end = HEAD_OF_EVENT.size + length
+                if len(rest) < end:
+                    break
+                self.events.append((when, kind, at, rest[HEAD_OF_EVENT.size:end]))
                 rest = rest[end:]
 
     def problem(self, cut, data):
         """What is wrong with bytes that were synced. Nothing is while the length isn't synced."""
-        now, synced, since = bytearray(self.start or b""), self.start, []
+        now = bytearray(self.start or b"")
+        synced = self.start
+        written_since = []
         for _, kind, at, new in [event for event in self.events if event[0] <= cut]:
             if kind == b"S":
-                synced, since = bytes(now), []
+                synced = bytes(now)
+                written_since = []
             elif kind == b"T":
-                now, synced = now[:at].ljust(at, b"\0"), None
+                now = now[:at].ljust(at, b"\0")
+                synced = None
             else:
                 now[at:at + len(new)] = new
-                since.append(slice(at, at + len(new)))
+                written_since.append(slice(at, at + len(new)))
+        if synced is None:
+            return None
         left = bytearray(data or b"")
-        for part in since if synced is not None and len(left) == len(synced) else ():
-            left[part] = synced[part]
-        return None if synced is None or left == synced else f"synced bytes have changed, or of {len(synced)} there are {len(left)}"
+        if len(left) == len(synced):
+            for part in written_since:
+                left[part] = synced[part]
+        if left == synced:
+            return None
+        return f"synced bytes have changed, or of {len(synced)} there are {len(left)}"
 
 
 class Life:
     """What ran on a disk until its power was cut."""
 
     def __init__(self, path, found, words):
-        self.path, self.phases, self.synced, self.words = path, [found], None, words
+        self.path = path
+        self.phases = [found]
+        self.synced = None
+        self.words = words
 
     def problem(self, cut, data):
-        """A program that has told nothing may have synced nothing: then the file may be as the one before has left it."""
+        """A program that has told nothing may have synced nothing: then the file may be as the one before has left
+        it."""
         started = [phase for phase in self.phases if phase.start <= cut]
         problem = started[-1].problem(cut, data)
         while problem and len(started) > 1 and not started.pop().told(cut):
-            problem = started[-1].problem(cut, data) and problem
-        return problem or (self.synced and self.synced.problem(cut, data))
+            if started[-1].problem(cut, data) is None:
+                problem = None
+        if problem is None and self.synced is not None:
+            problem = self.synced.problem(cut, data)
+        return problem
 
 
 class Chain:
-    """Lives on one disk, each on what a cut in the one before has left. A bug may be planted: what shim.c is told, or LIES."""
+    """Lives on one disk, each on what a cut in the one before has left. A bug may be planted."""
 
-    def __init__(self, setup, name, seed, bug="", keep="", end=NEVER):
-        self.setup, self.name, self.seed, self.bug, self.keep, self.end = setup, name, seed, bug, keep, end
-        self.chance, self.counts, self.seen = random.Random(f"{name} {seed}"), collections.Counter(), set()
-        self.guest, self.life, self.path, self.found, self.base, self.drawn = None, None, None, Phase("found"), setup.fresh, 0
+    def __init__(self, setup, name, seed, bug=None, keep="", end=NEVER):
+        self.setup = setup
+        self.name = name
+        self.seed = seed
+        self.bug = bug
+        self.keep = keep
+        self.end = end
+        self.chance = random.Random(f"{name} {seed}")
+        self.counts = collections.Counter()
+        self.seen = set()  # bytes of the file that the program has been tried on
+        self.guest = None
+        self.life = None
+        self.path = None  # of the file in the guest
+        self.found = Phase(Kind.FOUND)
+        self.base = setup.fresh  # the disk that the next life starts on, or None where no image could be recovered
+        self.drawn = 0  # how many data were drawn
         self.scratch = f"{setup.folder}/{name}-{seed}"
 
     def run(self):
+        """Lives until the time is over: what was counted."""
         try:
             self.guest = Guest(self.setup, self.base, random.Random(self.chance.random()))
             while self.base and self.counts["lives"] < LIVES and time.monotonic() < self.end:
                 self.cut(self.live())
                 self.tell(told(self.counts))
         except (Dead, OSError, ValueError, AssertionError) as dead:
-            self.tell(f"{dead!r} {self.life and self.life.words}", "guests that died")
+            self.counts["guests that died"] += 1
+            self.tell(f"{dead!r} {self.life.words if self.life else None}")
         if self.guest:
             self.guest.qemu.kill()
         return self.counts
 
-    def tell(self, text, kind=""):
-        self.counts[kind] += 1
+    def tell(self, text):
         print(f"{self.name}, chain {self.seed}, life {self.counts['lives']}: {text}", flush=True)
 
     def file(self):
@@ -126,132 +204,241 @@ class Chain:
 
     def recover(self, disk):
         """What the system says where it doesn't mount this disk, and the bytes of the file."""
-        self.guest.disk, self.guest.log, self.guest.hold = disk, Log(""), 0
+        self.guest.disk = disk
+        self.guest.log = Log("")
+        self.guest.hold = 0
         refused = self.guest.mount(self.setup.module)
-        data = None if refused else self.file()
-        if not refused and self.guest.ask("did umount /mnt")[0]:
+        if refused:
+            return refused, None
+        data = self.file()
+        if self.guest.ask("did umount /mnt")[0]:
             raise Dead("it can't be unmounted")
-        return refused, data
+        return None, data
 
     def live(self):
-        """Runs programs on the disk, with a log of it."""
-        chance, guest, log = self.chance, self.guest, Log(self.base, self.bug == LIES)
-        guest.disk, guest.log, guest.hold = private_copy(self.base), log, chance.choice((0, 0.3, 0.6))
-        pace, noisy, reports = chance.choice((1, 10, 500)), chance.random() < 0.3, chance.random() < 0.5
-        guest.ask(f"echo {pace} | tee /proc/sys/vm/dirty_writeback_centisecs >/proc/sys/vm/dirty_expire_centisecs; did true")
+        """Runs programs on the disk, and returns the disk's log."""
+        chance = self.chance
+        guest = self.guest
+        log = Log(self.base, lies=self.bug is not None and self.bug.disk_lies)
+        guest.disk = private_copy(self.base)
+        guest.log = log
+        guest.hold = chance.choice((0, 0.3, 0.6))
+        pace = chance.choice((1, 10, 500))
+        is_noisy = chance.random() < 0.3
+        is_reported = chance.random() < 0.5
+        guest.ask(f"echo {pace} | tee /proc/sys/vm/dirty_writeback_centisecs "
+                  ">/proc/sys/vm/dirty_expire_centisecs; did true")
         self.path = self.path or chance.choice(("/mnt/d", "/mnt/d", "/mnt/sub/d"))
-        if problem := guest.mount(self.setup.module) or self.found.problem(0, before := self.file()):
-            raise Dead(f"it isn't as it was found: {problem}")
-        guest.ask(f"mkdir -p {os.path.dirname(self.path)}; {'noise >/dev/null 2>&1 & echo $! >/tmp/noise; ' * noisy}did true")
-        self.life = Life(self.path, self.found, f"noise {noisy}, reports {reports}, hold {guest.hold}, write-back {pace}")
+        before = self.mount_as_found()
+        folder = os.path.dirname(self.path)
+        guest.ask(f"mkdir -p {folder}; {START_NOISE}; did true" if is_noisy else f"mkdir -p {folder}; did true")
+        words = f"noise {is_noisy}, reports {is_reported}, hold {guest.hold}, write-back {pace}"
+        self.life = Life(self.path, self.found, words)
         self.counts["lives"] += 1
-        self.run_programs(["LD_PRELOAD=/bin/shim.so", "REPORTED=1" * reports, self.bug.replace(LIES, "")])
-        self.life.synced = Synced(before, log.heard["reports"]) if reports else None
-        guest.ask("kill -9 $(cat /tmp/noise); " * noisy + ("did umount /mnt" if chance.random() < 0.5 else "did true"))
+        self.run_programs(self.environment(is_reported))
+        if is_reported:
+            self.life.synced = Synced(before, log.heard["reports"])
+        last = "did umount /mnt" if chance.random() < 0.5 else "did true"
+        guest.ask(f"{STOP_NOISE}; {last}" if is_noisy else last)
         guest.wait(lambda: not guest.held)
-        guest.log, guest.hold = Log(""), 0
+        guest.log = Log("")
+        guest.hold = 0
         guest.ask("while grep -q ' /mnt ' /proc/mounts; do umount /mnt || usleep 1000; done; did true")
         return log
 
-    def run_programs(self, env):
+    def mount_as_found(self):
+        """Mounts the disk, whose file has to be as the judgement of the last cut found it. The bytes of the file."""
+        refused = self.guest.mount(self.setup.module)
+        if refused:
+            raise Dead(f"it isn't as it was found: {refused}")
+        data = self.file()
+        problem = self.found.problem(0, data)
+        if problem:
+            raise Dead(f"it isn't as it was found: {problem}")
+        return data
+
+    def environment(self, is_reported):
+        """What the environment of a program has, as words in front of it."""
+        words = ["LD_PRELOAD=/bin/shim.so"]
+        if is_reported:
+            words.append("REPORTED=1")
+        if self.bug is not None and self.bug.word:
+            words.append(self.bug.word)
+        return words
+
+    def run_programs(self, environment):
         """`format` where there is no device, seldom over one; then `serve`, and some of it is killed."""
-        chance, g, state, times = self.chance, self.found.g, self.found.state, self.chance.choice((1, 2, 2, 3))
+        chance = self.chance
+        g = self.found.g
+        state = self.found.state
+        times = chance.choice((1, 2, 2, 3))
         if state is None or chance.random() < 0.15:
-            g, times = chance.choice((SMALL, SMALL, WIDE, WIDE, NARROW, COMMON)), times - 1
+            g = chance.choice((SMALL, SMALL, WIDE, WIDE, NARROW, COMMON))
             state = empty_state(g)
+            times -= 1
             self.guest.log.heard["reports"].append((len(self.guest.log.events), EMPTIED))
-            self.run_program(Phase("format", g, state), [*env, "/bin/waffd format", self.path, *options_of(g)], b"formatted %d\n" % image_at(g, 2))
+            words = [*environment, "/bin/waffd format", self.path, *options_of(g)]
+            self.run_program(Phase(Kind.FORMAT, g, state), words, b"formatted %d\n" % image_at(g, 2))
         for _ in range(times):
-            drawing, made = Drawing(chance.random(), g), lines_that_make(g, state)
-            drawing.count = self.drawn  # so that nobody in this chain has written such data before
-            phase = Phase("serve", g, state, drawing.lines(chance.choice((10, 40, 40, 120))))
-            self.drawn, wanted = drawing.count, text_of(plain(g, made + phase.lines)[len(made):])
-            options = f"--workers {chance.choice((1, 2, 4))} --slots {chance.choice((1, 4, 16, 64))} --every {chance.choice((0, 0, 3, 20))}"
-            kill_at = chance.randrange(len(phase.lines)) if chance.random() < 0.5 else NEVER
-            self.run_program(phase, [*env, "/bin/waffd serve", self.path, options], wanted, kill_at)
-            data = self.file()
-            if problem := phase.problem(NEVER, data):
-                self.tell_problem(f"without a cut: {problem}")
-            state = recovered(data)[1]
+            state = self.run_server(environment, g, state)
+
+    def run_server(self, environment, g, state):
+        """Runs `serve` on random lines, and judges what it leaves: the state."""
+        chance = self.chance
+        drawing = Drawing(chance.random(), g)
+        drawing.count = self.drawn  # so that nobody in this chain has written such data before
+        phase = Phase(Kind.SERVE, g, state, drawing.lines(chance.choice((10, 40, 40, 120))))
+        self.drawn = drawing.count
+        made = lines_that_make(g, state)
+        wanted = text_of(plain(g, made + phase.lines)[len(made):])
+        workers = chance.choice((1, 2, 4))
+        slots = chance.choice((1, 4, 16, 64))
+        every = chance.choice((0, 0, 3, 20))
+        options = f"--workers {workers} --slots {slots} --every {every}"
+        kill_at = chance.randrange(len(phase.lines)) if chance.random() < 0.5 else NEVER
+        self.run_program(phase, [*environment, "/bin/waffd serve", self.path, options], wanted, kill_at)
+        data = self.file()
+        problem = phase.problem(NEVER, data)
+        if problem:
+            self.tell_problem(f"without a cut: {problem}")
+        return recovered(data)[1]
 
     def run_program(self, phase, words, wanted, kill_at=NEVER):
-        """Runs it to its end, or until it has answered so many lines, with its input in parts. It has to answer what is wanted."""
-        guest, log, chance, sent, due = self.guest, self.guest.log, self.chance, 0, 0
-        most, begin, phase.start = chance.choice((1, 12, 12, 120)), len(log.heard["output"]), len(log.events)
+        """Runs it to its end, or until it has answered so many lines. It has to answer what is wanted."""
+        guest = self.guest
+        log = guest.log
+        most = self.chance.choice((1, 12, 12, 120))
+        begin = len(log.heard["output"])
+        phase.start = len(log.events)
         guest.heard["output"].clear()
         self.life.phases.append(phase)
         self.life.words += ", " + " ".join(words)
         guest.ask("run", *words)
-        while sent < len(phase.lines) and due < kill_at:
-            part = phase.lines[sent:sent + chance.randint(1, most)]
-            sent += len(part)
-            due = sent if chance.random() < 0.7 else due
-            guest.feed(text_of(part))
-            if not guest.wait(lambda: guest.heard["output"].count(b"\n") >= min(due, kill_at) or guest.heard["control"].startswith(b"exit")):
-                raise Dead("replies don't come")
-            guest.wait(lambda: False, chance.choice((0, 0, 0.005, 0.02)))
+        self.feed(phase.lines, most, kill_at)
         guest.tell("exec 4>&-" if kill_at == NEVER else "kill -9 $(cat /tmp/program)")
         word, status, said = guest.answer()
         guest.wait(lambda: False, 0.02)
-        phase.heard, output = log.heard["output"][begin:], bytes(guest.heard["output"])
-        was_killed = status == KILLED and kill_at != NEVER
-        if word != "exit" or not (wanted.startswith(output) if was_killed else status == 0 and output == wanted):
+        phase.heard = log.heard["output"][begin:]
+        output = bytes(guest.heard["output"])
+        if status == KILLED and kill_at != NEVER:
+            is_right = wanted.startswith(output)
+        else:
+            is_right = status == 0 and output == wanted
+        if word != "exit" or not is_right:
             at = len(os.path.commonprefix([wanted, output]))
-            self.tell_problem(f"it ends with {word} {status} {said[:200]!r}, and puts out {output[at:][:99]!r} for {wanted[at:][:99]!r} at {at}")
+            self.tell_problem(f"it ends with {word} {status} {said[:200]!r}, and puts out {output[at:][:99]!r} "
+                              f"for {wanted[at:][:99]!r} at {at}")
+
+    def feed(self, lines, most, kill_at):
+        """Gives the program its lines in parts of as many at most, and waits for the replies to some of the parts,
+        until it has answered as many as it is killed at."""
+        guest = self.guest
+        chance = self.chance
+        sent = 0
+        due = 0
+        while sent < len(lines) and due < kill_at:
+            part = lines[sent:sent + chance.randint(1, most)]
+            sent += len(part)
+            if chance.random() < 0.7:
+                due = sent
+            guest.feed(text_of(part))
+            wanted = min(due, kill_at)
+            if not guest.wait(lambda: guest.heard["output"].count(b"\n") >= wanted
+                              or guest.heard["control"].startswith(b"exit")):
+                raise Dead("replies don't come")
+            guest.wait(lambda: False, chance.choice((0, 0, 0.005, 0.02)))
 
     def cut(self, log):
-        """Makes images of the disk after cuts of its power, and judges each. The next life goes on from one of them, if there is one."""
-        chance, base, replies = self.chance, None, [at for phase in self.life.phases for at, _ in phase.heard]
+        """Makes images of the disk after cuts of its power, and judges each. The next life goes on from one of them, if
+        there is one."""
+        base = None
+        replies = [at for phase in self.life.phases for at, _ in phase.heard]
         for _ in range(IMAGES):
-            places = [chance.randint(0, len(log.events)) for _ in range(chance.choice((1, 5)))] if chance.random() < 0.6 else [chance.choice(replies or [0])]
-            case = max(places, key=lambda at: len(log.before(at)[1])), chance.choice(MODES), chance.random()
+            case = self.drawn_cut(log, replies)
             left = self.judge(log, *case) if time.monotonic() < self.end else None
-            if left and (base is None or chance.random() < 0.2):
-                base, self.found = case, Phase("found", *left[:2])
-        if base:
-            put_bytes(f"{self.scratch}-next", log.image(*base)[0])
-            os.replace(f"{self.scratch}-next", self.scratch)  # what the log stands on is still open
-        self.base = self.scratch if base else None
+            if left and (base is None or self.chance.random() < 0.2):
+                base = case
+                self.found = Phase(Kind.FOUND, *left[:2])
+        if base is None:
+            self.base = None
+            return
+        put_bytes(f"{self.scratch}-next", log.image(*base)[0])
+        os.replace(f"{self.scratch}-next", self.scratch)  # what the log stands on is still open
+        self.base = self.scratch
+
+    def drawn_cut(self, log, replies):
+        """Behind which event the power is cut, what the disk keeps, and the seed of what is drawn for that."""
+        chance = self.chance
+        if chance.random() < 0.6:
+            count = chance.choice((1, 5))
+            places = [chance.randint(0, len(log.events)) for _ in range(count)]
+        else:
+            places = [chance.choice(replies or [0])]
+        at = max(places, key=lambda place: len(log.before(place)[1]))
+        mode = chance.choice(MODES)
+        return at, mode, chance.random()
 
     def judge(self, log, at, mode, seed):
         """What the image of a cut recovers to, or None."""
         disk, kept = log.image(at, mode, seed)
         self.counts["images"] += 1
         refused, data = self.recover(disk)
-        if refused and mode == "torn 512":  # a file system may rest on the 4,096 bytes that a disk writes whole
+        if refused and mode is Kept.TORN_512:  # a file system may rest on the 4,096 bytes that a disk writes whole
             self.counts["torn disks not mounted"] += 1
             return None
-        self.counts["cuts with acknowledged changes"] += any(b"done\n" in phase.told(at) for phase in self.life.phases)
-        self.counts["byte checks"] += self.life.synced is not None
+        if any(b"done\n" in phase.told(at) for phase in self.life.phases):
+            self.counts["cuts with acknowledged changes"] += 1
+        if self.life.synced is not None:
+            self.counts["byte checks"] += 1
         found = read(data)
         try:
-            problem = f"it doesn't mount: {refused}" if refused else self.life.problem(at, data)
-            if not problem and not isinstance(found, str) and data not in self.seen:
-                put_bytes(path := f"{self.scratch}-device", data)
-                shown, read_lines = replies_of(run(["show", path]), "show"), text_of(lines_that_read(found[0]))
-                is_same = state_of_replies(found[0], replies_of(run(["serve", path], read_lines), "serve")) == found[1]
-                problem = None if is_same and f"records {found[2]}" in shown else "the program finds another state"
+            problem = f"it doesn't mount: {refused}" if refused else self.problem(at, data, found)
         except AssertionError as error:  # the program refuses it, or there are too many ways to look at
             problem = str(error)
         self.seen.add(data)
         if problem:
-            self.tell_problem(f"cut {at} of {len(log.events)}, {kept}: {problem}", at, log.image(at, mode, seed)[0])
-        return None if problem or isinstance(found, str) else found
+            self.tell_problem(f"cut {at} of {len(log.events)}, {kept}: {problem}")
+            self.keep_image(at, problem, log.image(at, mode, seed)[0])
+            return None
+        return None if isinstance(found, str) else found
 
-    def tell_problem(self, problem, at=None, disk=None):
-        self.tell(f"VIOLATION: {problem}; {self.life.words}", "violations")
-        self.end = 0 if self.bug else self.end  # it is found
-        if disk is not None and self.counts["violations"] <= KEPT:
-            path = f"{self.keep}/{self.name}-{self.seed}-{self.counts['lives']}-{at}"
-            os.makedirs(self.keep, exist_ok=True)
-            with gzip.open(f"{path}.img.gz", "wb", 1) as image, open(f"{path}.case", "wb") as case:
-                image.write(disk)
-                pickle.dump((self.name, at, self.life, problem), case)
-            self.tell(f"kept: {path}.img.gz")
+    def problem(self, at, data, found):
+        """What is wrong with the bytes of the file after a cut, or with what the program finds in them."""
+        problem = self.life.problem(at, data)
+        if problem or isinstance(found, str) or data in self.seen:
+            return problem
+        g, state, records = found
+        path = f"{self.scratch}-device"
+        put_bytes(path, data)
+        shown = replies_of(run(["show", path]), "show")
+        replies = replies_of(run(["serve", path], text_of(lines_that_read(g))), "serve")
+        if state_of_replies(g, replies) != state or f"records {records}" not in shown:
+            return "the program finds another state"
+        return None
+
+    def tell_problem(self, problem):
+        """Counts a violation. Where a bug was planted it is found, and the chain ends."""
+        self.counts["violations"] += 1
+        self.tell(f"VIOLATION: {problem}; {self.life.words}")
+        if self.bug is not None:
+            self.end = time.monotonic()
+
+    def keep_image(self, at, problem, disk):
+        """Keeps the disk of one of the first violations, with all that is needed to look at it again."""
+        if self.counts["violations"] > MOST_KEPT:
+            return
+        path = f"{self.keep}/{self.name}-{self.seed}-{self.counts['lives']}-{at}"
+        os.makedirs(self.keep, exist_ok=True)
+        with gzip.open(f"{path}.img.gz", "wb", 1) as image, open(f"{path}.case", "wb") as case:
+            image.write(disk)
+            pickle.dump((self.name, at, self.life, problem), case)
+        self.tell(f"kept: {path}.img.gz")
 
 
 def told(counts):
-    return ", ".join(f"{counts[name]} {name}" for number, name in enumerate(COUNTS) if counts[name] or number < 5)
+    """The counts as they are printed."""
+    shown = [name for number, name in enumerate(COUNTS) if counts[name] or number < ALWAYS_TOLD]
+    return ", ".join(f"{counts[name]} {name}" for name in shown)
 
 
 def look(setup, path, name, at, life, problem):
@@ -259,7 +446,9 @@ def look(setup, path, name, at, life, problem):
     chain = Chain(setup, name, 0)
     with gzip.open(path) as file:
         put_bytes(chain.scratch, file.read())
-    chain.path, chain.guest = life.path, Guest(setup, chain.scratch, chain.chance)
+    chain.path = life.path
+    chain.guest = Guest(setup, chain.scratch, chain.chance)
     refused, data = chain.recover(private_copy(chain.scratch))
     put_bytes(path.replace(".img.gz", ".device"), data or b"")
-    print(f"{life.words}\nthen: {problem}\nnow: {f'it does not mount: {refused}' if refused else life.problem(at, data)}")
+    now = f"it does not mount: {refused}" if refused else life.problem(at, data)
+    print(f"{life.words}\nthen: {problem}\nnow: {now}")

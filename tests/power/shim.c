@@ -1,6 +1,7 @@
-/* Lies in the guest between the program and the GNU C library at the calls of its device. With REPORTED it reports on descriptor 9 each write and
- * change of length before it is made, and each sync once it has succeeded: a kind (W, T or S), a place, a length and the bytes. Bugs: SKIP=7 leaves
- * out each seventh sync, LATE makes each only at the next call, so what the program says in between comes before it. */
+/* Lies in the guest between the program and the GNU C library at the calls of its device. With REPORTED it reports on
+ * descriptor 9 each write and change of length before it is made, and each sync once it has succeeded: a kind (W, T or
+ * S), a place, a length and the bytes. Bugs: SKIP=7 leaves out each seventh sync, LATE makes each only at the next
+ * call, so what the program says in between comes before it. */
 #include <stdint.h>
 #include <stdlib.h>
 #include <unistd.h>
@@ -10,8 +11,13 @@ static int late = -1; /* the file whose sync is still to be made */
 static long syncs;
 
 static void report(char kind, uint64_t at, const void *bytes, uint64_t length) {
-    struct { const char *bytes; uint64_t length; } parts[] = {{&kind, 1}, {(char *)&at, 8}, {(char *)&length, 8}, {bytes, length}};
-    for (int i = 0; getenv("REPORTED") && i < 4; i++)
+    struct {
+        const char *bytes;
+        uint64_t length;
+    } parts[] = {{&kind, 1}, {(char *)&at, 8}, {(char *)&length, 8}, {bytes, length}};
+    if (!getenv("REPORTED"))
+        return;
+    for (int i = 0; i < 4; i++)
         for (uint64_t done = 0; done < parts[i].length;) {
             long more = syscall(SYS_write, 9, parts[i].bytes + done, parts[i].length - done);
             done += more > 0 ? (uint64_t)more : 0;
