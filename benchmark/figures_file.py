@@ -1,4 +1,5 @@
-"""The file of figures: what one run has measured, each value once for each of its rounds, and which rows there have to be."""
+"""The file of figures: what one run has measured, each value once for each of its rounds, and which rows there have
+to be."""
 import json
 import pathlib
 import re
@@ -26,6 +27,7 @@ class Missing(Exception):
 
 
 def served(geometry, mix, slots, output="file"):
+    """A row of the part `serve`."""
     return f"serve {geometry} {mix} {slots} {output}"
 
 
@@ -34,7 +36,10 @@ def wanted():
     yield "disk"
     for geometry in GEOMETRIES:
         yield f"opening {geometry}"
-        yield from (served(geometry, *of, output) for output, rows in (("file", SERVED), ("pipe", PIPED)) for of in rows)
+        for mix, slots in SERVED:
+            yield served(geometry, mix, slots)
+        for mix, slots in PIPED:
+            yield served(geometry, mix, slots, "pipe")
     yield "every default"
     yield from (f"plain {mix}" for mix in PLAIN)
 
@@ -43,18 +48,26 @@ def programs_of(row):
     """The programs that take turns in a row."""
     if row.endswith(" pipe"):
         return "waffd 2", "batch", "twice"
-    return {"disk": ("disk",), "opening": (*OF_WAFFD, "floor"), "serve": (*ORDINARY, *OF_WAFFD),
-            "every": tuple(f"every {every}" for every in EVERY), "plain": ("serial", "waffd")}[row.split()[0]]
+    of_part = {
+        "disk": ("disk",),
+        "opening": (*OF_WAFFD, "floor"),
+        "serve": (*ORDINARY, *OF_WAFFD),
+        "every": tuple(f"every {every}" for every in EVERY),
+        "plain": ("serial", "waffd"),
+    }
+    return of_part[row.split()[0]]
 
 
 class Figures:
     """What the file has: of the run, and each row with the values of its programs."""
 
     def __init__(self, told):
-        self.told, self.rows = told, told["rows"]
+        self.told = told
+        self.rows = told["rows"]
 
     @staticmethod
     def read():
+        """The figures of the file."""
         return Figures(json.loads(PATH.read_text(encoding="utf-8")))
 
     def values(self, row, program, what):
@@ -69,7 +82,8 @@ class Figures:
 
     def ratio(self, row, program, other, what):
         """The median of the ratios of the first program to the other, round by round."""
-        return median(one / two for one, two in zip(self.values(row, program, what), self.values(row, other, what)))
+        rounds = zip(self.values(row, program, what), self.values(row, other, what))
+        return median(one / two for one, two in rounds)
 
     def holes(self):
         """What is missing of a whole run."""

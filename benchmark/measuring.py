@@ -1,5 +1,7 @@
-"""Measures the rows of the file of figures. The programs of a row take turns, so that what else the machine does meets all of them."""
+"""Measures the rows of the file of figures. The programs of a row take turns, so that what else the machine does
+meets all of them."""
 import collections
+import contextlib
 import os
 import shutil
 import subprocess
@@ -12,22 +14,40 @@ from programs import GREATEST, LONGEST_RUN, PROGRAM, Failed, Programs, done
 SYNCS = 500  # of a round, for the time of one
 RECORD = 520  # bytes of a record of the log
 LEAST_SYNC = 5  # microseconds; a sync of less reaches no disk
+BYTES_A_LINE = 1200  # at most, in the log of the ordinary server
+MORE_BYTES = 1000000  # that this log is longer
 
 
 class Measuring(Programs):
+    """Measures rows: so many rounds, of so many lines."""
+
     def __init__(self, repeat, lines, *folders):
         super().__init__(*folders)
-        self.repeat, self.lines, self.starts = repeat, lines, {}
+        self.repeat = repeat
+        self.lines = lines
+        self.starts = {}  # by geometry, what each program asks for to answer one line
 
     def measure(self, row):
         """The values of each program of a row."""
         part, *of_row = row.split()
-        found = self.in_turns(programs_of(row), getattr(self, "of_" + part)(*of_row))
-        return {program: {what: [round(value, DIGITS[what]) for value in values] for what, values in of_program.items()}
-                for program, of_program in found.items()}
+        parts = {
+            "disk": self.of_disk,
+            "opening": self.of_opening,
+            "serve": self.of_serve,
+            "every": self.of_every,
+            "plain": self.of_plain,
+        }
+        found = self.in_turns(programs_of(row), parts[part](*of_row))
+        return {program: self.rounded(of_program) for program, of_program in found.items()}
+
+    @staticmethod
+    def rounded(of_program):
+        """The values as they are kept."""
+        return {what: [round(value, DIGITS[what]) for value in values] for what, values in of_program.items()}
 
     def in_turns(self, programs, run):
-        """The values of all rounds, by program, as `run` gives them. In each round all run, and another one first than in the last."""
+        """The values of all rounds, by program, as `run` gives them. In each round all run, and another one first
+        than in the last."""
         found = {program: collections.defaultdict(list) for program in programs}
         for turn in range(self.repeat):
             first = turn % len(programs)
@@ -37,6 +57,7 @@ class Measuring(Programs):
         return found
 
     def of_disk(self):
+        """A sync of the disk."""
         return lambda _: {"us": self.sync_time()}
 
     def sync_time(self):
@@ -57,47 +78,69 @@ class Measuring(Programs):
     def run(self, geometry, program, slots, output="file"):
         """One run of a program on the input, with a fresh device or log."""
         kind, _, workers = program.partition(" ")
-        path = self.copied(f"{geometry}.{'device' if workers else 'log'}")
-        served = [PROGRAM, "serve", path, "--workers", workers, "--slots", slots]
-        return self.counted(served if workers else [self.at(f"server.{geometry}"), kind, path, slots], output)
+        if kind == "waffd":
+            path = self.copied(f"{geometry}.device")
+            return self.counted([PROGRAM, "serve", path, "--workers", workers, "--slots", slots], output)
+        path = self.copied(f"{geometry}.log")
+        return self.counted([self.at(f"server.{geometry}"), kind, path, slots], output)
 
     def start(self, geometry):
-        """What each program asks for to answer one line, and the floor of an opening: all rounds. Measured once for a geometry."""
+        """What each program asks for to answer one line, and the floor of an opening: all rounds. Measured once for a
+        geometry."""
         def run(program):
             if program != "floor":
                 return self.run(geometry, program, "16")
-            return {"first": int(done([self.at(f"server.{geometry}"), "floor", self.copied(f"{geometry}.device")]))}
+            words = [self.at(f"server.{geometry}"), "floor", self.copied(f"{geometry}.device")]
+            return {"first": int(done(words))}
 
         if geometry not in self.starts:
-            # The device and the log of the geometry, with all that the lines use.
-            device, log = self.at(f"{geometry}.device"), self.at(f"{geometry}.log")
-            numbers = GREATEST if geometry == "greatest" else {}
-            server = self.build("serve/server.rs", f"server.{geometry}", **{name.upper(): str(number) for name, number in numbers.items()})
-            done([PROGRAM, "format", device, *(f"--{name}={number}" for name, number in numbers.items())])
-            self.write_input([self.build("serve/lines.rs", "lines"), "fill", "0", geometry])
-            size = os.path.getsize(self.stream("input")) + self.lines * 1200 + 1000000
-            done([server, "make", log, str(size)])
-            self.counted([PROGRAM, "serve", device, "--workers", "4", "--slots", "64"])
-            self.counted([server, "batch", log, "1024"])
+            self.make(geometry)
             self.write_input(["echo", "summary"])
             self.starts[geometry] = self.in_turns((*ORDINARY, *OF_WAFFD, "floor"), run)
         return self.starts[geometry]
 
+    def make(self, geometry):
+        """The ordinary server, and the device and the log of the geometry, with all that the lines use."""
+        device = self.at(f"{geometry}.device")
+        log = self.at(f"{geometry}.log")
+        numbers = GREATEST if geometry == "greatest" else {}
+        env = {name.upper(): str(number) for name, number in numbers.items()}
+        server = self.build("serve/server.rs", f"server.{geometry}", **env)
+        done([PROGRAM, "format", device, *(f"--{name}={number}" for name, number in numbers.items())])
+        self.write_input([self.build("serve/lines.rs", "lines"), "fill", "0", geometry])
+        size = os.path.getsize(self.stream("input")) + self.lines * BYTES_A_LINE + MORE_BYTES
+        done([server, "make", log, str(size)])
+        self.counted([PROGRAM, "serve", device, "--workers", "4", "--slots", "64"])
+        self.counted([server, "batch", log, "1024"])
+
     def of_opening(self, geometry):
+        """The time to the first reply."""
         firsts = {program: iter(found["first"]) for program, found in self.start(geometry).items()}
         return lambda program: {"ms": next(firsts[program]) / 1000}
 
     def of_serve(self, geometry, mix, slots, output):
+        """Lines of a mix with so many slots, into a file or a pipe."""
         starts = self.start(geometry)
-        lines = self.lines * (MORE_READS if mix == "read" else 1) // (FEWER_ALONE if slots == "1" else 1)
+        lines = self.lines
+        if mix == "read":
+            lines *= MORE_READS
+        if slots == "1":
+            lines //= FEWER_ALONE
         self.write_input([self.at("lines"), mix, str(lines), geometry])
         changes = self.count_lines("input", b"write")
-        return lambda program: self.net(self.run(geometry, program, slots, output), starts[program], lines, changes)
+
+        def run(program):
+            counts = self.run(geometry, program, slots, output)
+            return self.net(counts, starts[program], lines, changes)
+
+        return run
 
     @staticmethod
     def net(counts, start, lines, changes):
-        """What a run's lines took, without the opening: times count from the first reply, and calls less those of a run of one line."""
-        wall, cpu = counts["wall"] - counts["first"], counts["cpu"] - counts["first_cpu"]
+        """What a run's lines took, without the opening: times count from the first reply, and calls less those of a
+        run of one line."""
+        wall = counts["wall"] - counts["first"]
+        cpu = counts["cpu"] - counts["first_cpu"]
         if wall <= 0 or cpu <= 0:
             raise Failed("all replies came with the first one")
         found = {"lines/s": lines * 1e6 / wall, "cpu us": cpu / lines, "peak MB": counts["peak"] / 1000}
@@ -107,30 +150,41 @@ class Measuring(Programs):
         return found
 
     def of_every(self, geometry):
+        """Writes with 16 slots and 2 workers; and the records in force after a hard stop, with the time to the next
+        first reply."""
         start = self.start(geometry)["waffd 2"]
 
         def run(program):
-            """Writes with 16 slots and 2 workers; and the records in force after a hard stop, with the time to the next first reply."""
             words = ["--workers", "2", "--slots", "16", "--every", program.split()[1]]
             self.write_input([self.at("lines"), "write", str(self.lines), geometry])
             counts = self.counted([PROGRAM, "serve", self.copied(f"{geometry}.device"), *words])
-            found = self.net(counts, start, self.lines, self.lines)
+            net = self.net(counts, start, self.lines, self.lines)
+            found = {what: net[what] for what in ("lines/s", "syncs", "bytes")}
             path = self.copied(f"{geometry}.device")
             self.stop_hard([PROGRAM, "serve", path, *words])
-            records = next(line.split()[1] for line in done([PROGRAM, "show", path]).splitlines() if line.startswith("records "))
+            found["records"] = self.records_in_force(path)
             self.write_input(["echo", "summary"])
-            first = self.counted([PROGRAM, "serve", path, "--workers", "2"])["first"]
-            return {**{what: found[what] for what in ("lines/s", "syncs", "bytes")}, "records": int(records), "ms": first / 1000}
+            found["ms"] = self.counted([PROGRAM, "serve", path, "--workers", "2"])["first"] / 1000
+            return found
 
         return run
 
+    @staticmethod
+    def records_in_force(path):
+        """How many records the next start replays, as `show` has it."""
+        shown = dict(line.split(" ", 1) for line in done([PROGRAM, "show", path]).splitlines())
+        return int(shown["records"])
+
     def stop_hard(self, words):
         """Kills a server once it has answered all lines of an input that doesn't end."""
-        with open(self.stream("output"), "wb") as sink, open(self.stream("input"), "rb") as source, \
-                subprocess.Popen(words, stdin=subprocess.PIPE, stdout=sink, bufsize=0) as child:
+        with contextlib.ExitStack() as files:
+            sink = files.enter_context(open(self.stream("output"), "wb"))
+            source = files.enter_context(open(self.stream("input"), "rb"))
+            child = files.enter_context(subprocess.Popen(words, stdin=subprocess.PIPE, stdout=sink, bufsize=0))
             try:
                 shutil.copyfileobj(source, child.stdin)
-                wanted, until = self.count_lines("input"), time.monotonic() + LONGEST_RUN
+                wanted = self.count_lines("input")
+                until = time.monotonic() + LONGEST_RUN
                 while self.count_lines("output") < wanted:
                     if child.poll() is not None or time.monotonic() > until:
                         raise Failed(f"{' '.join(words)} has not answered all lines")
@@ -139,8 +193,10 @@ class Measuring(Programs):
                 child.kill()
 
     def of_plain(self, mix):
+        """Lines of a mix to the serial server, and to an ordinary one."""
         self.write_input([self.build("lines.rs", "plain_lines"), mix, str(self.lines * MORE_READS)])
-        commands, lines = {"serial": [self.build("serial.rs", "serial")], "waffd": [PROGRAM, "plain"]}, self.count_lines("input")
+        commands = {"serial": [self.build("serial.rs", "serial")], "waffd": [PROGRAM, "plain"]}
+        lines = self.count_lines("input")
 
         def run(program):
             """Microseconds of a line."""

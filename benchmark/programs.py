@@ -9,7 +9,8 @@ import tempfile
 HERE = os.path.dirname(os.path.realpath(__file__))
 TOP = os.path.dirname(HERE)
 PROGRAM = os.environ.get("PROGRAM", os.path.join(TOP, "crates", "waffd", "out", "waffd"))
-GREATEST = {"aggregates": 4, "volumes": 8, "stripes": 8, "width": 64, "files": 64, "blocks": 256, "quota": 64, "half": 1024}
+GREATEST = {
+    "aggregates": 4, "volumes": 8, "stripes": 8, "width": 64, "files": 64, "blocks": 256, "quota": 64, "half": 1024}
 IN_MEMORY = "/dev/shm"
 ROOM = 2 << 30  # bytes for inputs and outputs
 LONGEST_RUN = 300  # seconds
@@ -36,12 +37,14 @@ def done(words, stdout=subprocess.PIPE, **more):
     except subprocess.TimeoutExpired as late:
         raise Failed(str(late)) from None
     if end.returncode:
-        raise Failed(f"{' '.join(words)} ended with status {end.returncode}: {((end.stdout or '') + end.stderr).strip()[-1000:]}")
+        said = ((end.stdout or "") + end.stderr).strip()[-1000:]
+        raise Failed(f"{' '.join(words)} ended with status {end.returncode}: {said}")
     return end.stdout
 
 
 def room_for_streams():
-    """A folder in memory for inputs and outputs, so that the disk has the devices alone; else that for temporary files."""
+    """A folder in memory for inputs and outputs, so that the disk has the devices alone; else that for temporary
+    files."""
     has_room = os.access(IN_MEMORY, os.W_OK) and shutil.disk_usage(IN_MEMORY).free >= ROOM
     return IN_MEMORY if has_room else tempfile.gettempdir()
 
@@ -50,13 +53,15 @@ class Programs:
     """The programs, in a folder beside the devices, and their streams in another."""
 
     def __init__(self, folder, streams):
-        self.folder, self.streams = folder, streams
+        self.folder = folder
+        self.streams = streams
 
     def at(self, name):
         """A device, or what is built."""
         return os.path.join(self.folder, name)
 
     def stream(self, name):
+        """An input or an output."""
         return os.path.join(self.streams, name)
 
     def build(self, source, name, *compiler, **env):
@@ -87,21 +92,29 @@ class Programs:
         return path
 
     def counted(self, words, output="file"):
-        """Runs a program on the input, into a file, also through a pipe: what it asked for. Refuses an output that differs from that of the
-        first run on this input."""
+        """Runs a program on the input, into a file, also through a pipe: what it asked for. Refuses an output that
+        differs from that of the first run on this input."""
         counts = self.at("counts")
         library = self.build("serve/counts.c", "counts.so", "cc", "-O2", "-shared", "-fPIC")
         env = dict(os.environ, LD_PRELOAD=library, COUNTS=counts)
         with contextlib.ExitStack() as files:
-            source, sink = (files.enter_context(open(self.stream(name), mode)) for name, mode in (("input", "rb"), ("output", "wb")))
+            source = files.enter_context(open(self.stream("input"), "rb"))
+            sink = files.enter_context(open(self.stream("output"), "wb"))
             if output == "pipe":
-                sink = files.enter_context(subprocess.Popen(["cat"], stdin=subprocess.PIPE, stdout=sink)).stdin
+                reader = subprocess.Popen(["cat"], stdin=subprocess.PIPE, stdout=sink)
+                sink = files.enter_context(reader).stdin
             done(words, sink, stdin=source, env=env, timeout=LONGEST_RUN)
         with open(counts, encoding="ascii") as file:
             found = dict(zip(COUNTS, map(int, file.read().split())))
         os.unlink(counts)
-        if not os.path.exists(self.stream("expected")):
-            os.replace(self.stream("output"), self.stream("expected"))
-        elif not filecmp.cmp(self.stream("output"), self.stream("expected"), shallow=False):
-            raise Failed(f"{' '.join(words)} answered otherwise than the program before it")
+        self.compare_output(words)
         return found
+
+    def compare_output(self, words):
+        """The output of the first run on this input is kept, and that of each other one has to be the same."""
+        output = self.stream("output")
+        expected = self.stream("expected")
+        if not os.path.exists(expected):
+            os.replace(output, expected)
+        elif not filecmp.cmp(output, expected, shallow=False):
+            raise Failed(f"{' '.join(words)} answered otherwise than the program before it")
