@@ -1,6 +1,6 @@
 //! An ordinary serial server over `BTreeMap`s, unproved: what `waffd plain` is measured against.
-//! It gives the same bytes for the same input, at the default geometry; another one is given when this is compiled, by the
-//! environment (AGGREGATES=4 VOLUMES=8 ..). benchmark/serve/server.rs takes its messages from here.
+//! It gives the same bytes for the same input, at the default geometry; another one is given when this is compiled, by
+//! the environment (AGGREGATES=4 VOLUMES=8 ..). benchmark/serve/server.rs takes its messages from here.
 
 use std::collections::{BTreeMap, BTreeSet};
 use std::io::{self, BufRead, BufReader, BufWriter, Write};

@@ -3,8 +3,8 @@
  *
  *     WALL CPU PEAK SYNCS WRITES WRITTEN READS READ FIRST FIRST_CPU
  *
- * microseconds from the start and of processor time, the peak of memory in KB, calls and bytes, and the microseconds from the
- * start to the first write to standard output, with the processor time until then. */
+ * microseconds from the start and of processor time, the peak of memory in KB, calls and bytes, and the microseconds
+ * from the start to the first write to standard output, with the processor time until then. */
 #define _GNU_SOURCE
 #include <fcntl.h>
 #include <stdatomic.h>
@@ -51,8 +51,8 @@ __attribute__((destructor)) static void tell(void) {
         return;
     long wall = now() - start;
     int file = open(path, O_WRONLY | O_CREAT | O_TRUNC | O_CLOEXEC, 0600);
-    dprintf(file, "%ld %ld %ld %ld %ld %ld %ld %ld %ld %ld\n", wall, cpu(), peak(), syncs, writes, written, reads, bytes_read,
-            first, first_cpu);
+    dprintf(file, "%ld %ld %ld %ld %ld %ld %ld %ld %ld %ld\n", wall, cpu(), peak(), syncs, writes, written, reads,
+            bytes_read, first, first_cpu);
     close(file);
 }
 

@@ -1,15 +1,15 @@
 //! An ordinary durable server, unproved: what `waffd serve` is measured beside. It has its messages of
-//! benchmark/serial.rs, and a log of the lines that changed something, which it reads again at its start. It takes as many
-//! lines as may be outstanding, as far as they are there, runs them, makes one write and one sync of the changes among them, and
-//! replies. It makes no checkpoints, so its log holds all changes.
+//! benchmark/serial.rs, and a log of the lines that changed something, which it reads again at its start. It takes as
+//! many lines as may be outstanding, as far as they are there, runs them, makes one write and one sync of the changes
+//! among them, and replies. It makes no checkpoints, so its log holds all changes.
 //!
 //!     server make LOG BYTES          makes a log for so many bytes
 //!     server batch LOG LINES         serves with so many outstanding lines
 //!     server stripe LOG LINES        the same, but a change keeps its stripe until it is logged
-//!     server twice LOG LINES         the same, and the head of a batch is written and synced behind its lines, as `waffd` does
-//!                                    with its records and gates
-//!     server floor DEVICE            what opening a device has to do at least: microseconds of reading half of it, writing
-//!                                    that back, and five syncs
+//!     server twice LOG LINES         the same, and the head of a batch is written and synced behind its lines, as
+//!                                    `waffd` does with its records and gates
+//!     server floor DEVICE            what opening a device has to do at least: microseconds of reading half of it,
+//!                                    writing that back, and five syncs
 
 #[path = "../serial.rs"]
 #[allow(dead_code)] // the serial server has words and a `main` of its own
