@@ -1,5 +1,6 @@
-"""What a device's file holds after each refusal of `serve`, after `serve` and after the next one; each call of the device fails in turn, alone
-and with all behind it, and the next run has all that was acknowledged. What `format` syncs before it tells that it has made a device."""
+"""What a device's file holds after each refusal of `serve`, after `serve` and after the next one; each call of the
+device fails in turn, alone and with all behind it, and the next run has all that was acknowledged. What `format`
+syncs before it tells that it has made a device."""
 import os
 import re
 import shutil
@@ -7,43 +8,66 @@ import subprocess
 import unittest
 
 from meaning import options_of
-from program import DEVICE_FAULT, EACH_KIND, MADE, PROGRAM, READ_FAULT, REPLIES, Case, bytes_of, is_beginning, put_bytes, run
-from servers import CHAIN_0, CHAIN_1, GATE_0, GATE_1, GREATEST, IMAGE_0, IMAGE_1, RECORD_0, ROOT, SMALL, Device, File, text_of, with_bytes
+from program import (
+    DEVICE_FAULT, EACH_KIND, MADE, PROGRAM, READ_FAULT, REPLIES, Case, bytes_of, is_beginning, put_bytes, run)
+from servers import (
+    CHAIN_0, CHAIN_1, GATE_0, GATE_1, GREATEST, IMAGE_0, IMAGE_1, RECORD_0, ROOT, SMALL, Device, File, text_of,
+    with_bytes)
 
 TOLD = b"formatted 8840\n"
-CALLS_OF_FORMAT = 13  # the syncs of the new file and of its folder, one more and a read, then six writes and three syncs
+# The syncs of the new file and of its folder, one more and a read, then six writes and three syncs.
+CALLS_OF_FORMAT = 13
 NOBODY = 65534
 LEAST_CALLS = 50  # of the device, while some thirty changes are logged
 # What is set in a device that was just formatted, and how it is reported.
 DAMAGED = (
-    ("not formatted", (0, 0)), ("not formatted", (1, 0)), ("bad geometry", (8, 5)), ("bad geometry", (24, 1)),
-    ("bad version", (IMAGE_0, 0)), ("bad version", (IMAGE_0, 3)), ("bad version", (IMAGE_0 + 1, 1)), ("bad version", (ROOT, 1)),
-    ("bad piece 0", (4488, 2)), ("bad piece 1", (4552, 1)), ("bad piece 2", (5592, 2)), ("bad record 0 0", (GATE_0, 1)),
-    ("bad record 0 0", (GATE_0, 1), (RECORD_0, 9)), ("bad record 0 0", (GATE_0, 1), (RECORD_0, 2)),
-    ("bad record 0 1", (GATE_0, 1), (RECORD_0, 1), (193, 1), (716, 1)), ("bad chain", (CHAIN_0, 1), (CHAIN_1, 1)))
-
-
-READS = {"not formatted": 1, "bad geometry": 1, "bad version": 3, "bad piece 0": 4, "bad piece 1": 5, "bad piece 2": 6, "bad chain": 8,
-         "bad record 0 0": 9, "bad record 0 1": 10}  # of the device, each of another part, up to the one that is bad
+    ("not formatted", (0, 0)),
+    ("not formatted", (1, 0)),
+    ("bad geometry", (8, 5)),
+    ("bad geometry", (24, 1)),
+    ("bad version", (IMAGE_0, 0)),
+    ("bad version", (IMAGE_0, 3)),
+    ("bad version", (IMAGE_0 + 1, 1)),
+    ("bad version", (ROOT, 1)),
+    ("bad piece 0", (4488, 2)),
+    ("bad piece 1", (4552, 1)),
+    ("bad piece 2", (5592, 2)),
+    ("bad record 0 0", (GATE_0, 1)),
+    ("bad record 0 0", (GATE_0, 1), (RECORD_0, 9)),
+    ("bad record 0 0", (GATE_0, 1), (RECORD_0, 2)),
+    ("bad record 0 1", (GATE_0, 1), (RECORD_0, 1), (193, 1), (716, 1)),
+    ("bad chain", (CHAIN_0, 1), (CHAIN_1, 1)))
+# Of the device, each of another part, up to the one that is bad.
+READS = {
+    "not formatted": 1, "bad geometry": 1, "bad version": 3, "bad piece 0": 4, "bad piece 1": 5, "bad piece 2": 6,
+    "bad chain": 8, "bad record 0 0": 9, "bad record 0 1": 10}
 PIECES = 4 * 8 * (1 + 8)  # of an image of the greatest device
 
 
 class NoFile(Case):
+    """What is no file."""
+
     def test_no_file(self):
         """a folder, a pipe and a block device are no devices"""
-        pipe, image = self.at("pipe"), self.at("image")
+        pipe = self.at("pipe")
         os.mkfifo(pipe)
+        image = self.at("image")
         put_bytes(image, bytes(1 << 20))
+        paths = [self.folder, pipe]
         looped = subprocess.run(["losetup", "--find", "--show", image], capture_output=True, text=True, check=False)
-        if block := looped.stdout.strip():
+        block = looped.stdout.strip()
+        if block:
             self.addCleanup(subprocess.run, ["losetup", "--detach", block], check=True)
-        for path in filter(None, (self.folder, pipe, block)):
+            paths.append(block)
+        for path in paths:
             for command in ("format", "show", "serve"):
                 self.ends(f"{command} of {path}", run([command, path], MADE), 1, b"", DEVICE_FAULT)
         self.assertEqual(bytes_of(image), bytes(1 << 20))
 
 
 class Damage(Case):
+    """Devices of which some bytes are wrong."""
+
     def refuses(self, name, file, data, text):
         """Checks that `serve` refuses a device of these bytes, and leaves them."""
         put_bytes(file.path, data)
@@ -52,7 +76,8 @@ class Damage(Case):
     def test_damage(self):
         file = File(self.folder)
         rows = [(f"where {changes} are set", with_bytes(file.formatted, *changes), text) for text, *changes in DAMAGED]
-        rows += [(f"of {length} bytes", file.formatted[:length], "device too short") for length in (0, 127, 8839)]
+        for length in (0, 127, 8839):
+            rows.append((f"of {length} bytes", file.formatted[:length], "device too short"))
         for name, data, text in rows:
             self.refuses(name, file, data, text)
             self.holds("and the file stays", file.path, data)
@@ -60,14 +85,18 @@ class Damage(Case):
     def test_a_bad_record_behind_a_cut(self):
         """The checkpoint that was cut short is finished before the record of the other half is looked at."""
         file = File(self.folder)
+        cut_short = with_bytes(file.formatted, (CHAIN_0, 1), (GATE_1, 1))
         finished = with_bytes(file.opened, (CHAIN_0, 1), (GATE_1, 1))
-        for name, data in (("with a bad record behind a cut", with_bytes(file.formatted, (CHAIN_0, 1), (GATE_1, 1))), ("refused before", finished)):
+        for name, data in (("with a bad record behind a cut", cut_short), ("refused before", finished)):
             self.refuses(name, file, data, "bad record 1 0")
             self.holds("and that checkpoint is finished", file.path, finished)
 
 
 class Files(Case):
+    """What the file holds after a run, and what the next run finds."""
+
     def shows(self, name, file, area, records, summary):
+        """A check of what `show` prints."""
         with self.subTest(name):
             shown = run(["show", file.path])[1].decode().splitlines()  # with the geometry and the version
             self.assertEqual(shown[1:4], [f"area {area}", f"records {records}", f"summary {summary}"])
@@ -81,12 +110,15 @@ class Files(Case):
         self.holds("leaves an opened device", file.path, file.opened)
 
     def test_changes(self):
-        file, three = File(self.folder), b"".join(MADE.splitlines(keepends=True)[:3])
+        file = File(self.folder)
+        three = b"".join(MADE.splitlines(keepends=True)[:3])
         for every, area in ((0, 0), (2, 1)):
             file.format()
-            self.ends(f"three changes, every {every}", file.serve(three, "--every", str(every)), 0, b"done\ndone\ndone\n", b"")
+            end = file.serve(three, "--every", str(every))
+            self.ends(f"three changes, every {every}", end, 0, b"done\ndone\ndone\n", b"")
             self.shows("are in the last point", file, area, 0, "1 1 1")
-            self.ends("and in the next run", file.serve(b"read 0 0 0 0\nsummary\n"), 0, b"block 6162\nsummary 1 1 1\n", b"")
+            end = file.serve(b"read 0 0 0 0\nsummary\n")
+            self.ends("and in the next run", end, 0, b"block 6162\nsummary 1 1 1\n", b"")
 
     def test_a_failed_read(self):
         file = File(self.folder)
@@ -104,31 +136,42 @@ class Files(Case):
 
 
 class Calls(Case):
+    """How many calls of the device a run makes."""
+
     def makes(self, name, words, reads, changes=None):
-        """Checks how many reads of the device, and how many writes and syncs, if that is given, a run of these words makes."""
+        """Checks how many reads of the device a run of these words makes, and how many writes and syncs, if that is
+        given."""
         with self.subTest(name):
             _, (calls, changing, *_) = self.between("stop.c").counts(self.at("counts"), words)
-            self.assertEqual((calls - changing, changing), (reads, changing if changes is None else changes))
+            self.assertEqual(calls - changing, reads)
+            if changes is not None:
+                self.assertEqual(changing, changes)
 
     def test_refusals(self):
-        """What is refused was read up to its first fault, and `serve` has made two syncs: the file's, and the opening's first."""
+        """What is refused was read up to its first fault, and `serve` has made two syncs: the file's, and the opening's
+        first."""
         file = File(self.folder)
         for text, *changes in DAMAGED:
             put_bytes(file.path, with_bytes(file.formatted, *changes))
+            reads = READS[text]
             for command, syncs in (("show", 0), ("serve", 2)):
-                self.makes(f"{command} where {changes} are set: {READS[text]} reads and {syncs} syncs", [command, file.path], READS[text], syncs)
+                name = f"{command} where {changes} are set: {reads} reads and {syncs} syncs"
+                self.makes(name, [command, file.path], reads, syncs)
 
     def test_each_part_is_read_once(self):
         """The header, the root byte, an image's head and its pieces, the chain byte and the commit bytes."""
         run(["format", self.at("great"), *options_of(GREATEST)])
         for command in ("show", "serve"):
-            self.makes(f"{command} reads each part of the greatest device once", [command, self.at("great")], 5 + PIECES)
+            name = f"{command} reads each part of the greatest device once"
+            self.makes(name, [command, self.at("great")], 5 + PIECES)
 
 
 class DeviceFaults(Case):
+    """Each call of the device fails in turn, alone or with all behind it."""
+
     def test_each_call(self):
-        """Each call of the device fails in turn, alone or with all behind it."""
-        lines, between = (EACH_KIND * 3).decode().splitlines(), self.between("stop.c")
+        lines = (EACH_KIND * 3).decode().splitlines()
+        between = self.between("stop.c")
         for turn in ("FAIL_CALL", "FAIL_CALLS_FROM"):
             for slots, every in ((1, 2), (16, 0)):
                 def attempt(number):
@@ -143,22 +186,33 @@ class DeviceFaults(Case):
 
 
 class Formatting(Case):
+    """What `format` calls, and where it fails."""
+
     @unittest.skipUnless(shutil.which("strace"), "strace isn't installed, so what `format` syncs isn't seen")
     def test_syncs(self):
         """The file and then its folder are synced, then what is written to the file, and then the line is printed."""
-        top = os.path.realpath(self.folder)
-        for name, path in (("in a folder", self.at("made")), ("in this folder", "made_here"), ("over a file", self.at("made"))):
+        rows = (("in a folder", self.at("made")), ("in this folder", "made_here"), ("over a file", self.at("made")))
+        for name, path in rows:
             with self.subTest(f"format syncs the file, its folder, and what it writes: {name}"):
-                strace = ("strace", "-y", "-e", "trace=fsync,fdatasync,pwrite64,write", "-o", self.at("found"), PROGRAM)
-                self.has_ended(run(["format", path, *options_of(SMALL)], program=strace, cwd=self.folder), 0, TOLD, b"")
-                calls = re.findall(r"^(\w+)\(\d+<(.*?)>.* = (?!-)", bytes_of(self.at("found")).decode(), re.M)
-                file = os.path.join(top, os.path.basename(path))
-                changing = [name for name, of in calls if of == file]
-                self.assertEqual(calls[:2], [("fsync", file), ("fsync", top)])
-                self.assertEqual((calls[-1][0], changing[-1], len(changing) + 2), ("write", "fdatasync", len(calls)), f"{calls}")
+                self.syncs_in_order(path)
+
+    def syncs_in_order(self, path):
+        """Looks at the calls of `format`, of which none but the first is a sync of the folder."""
+        strace = ("strace", "-y", "-e", "trace=fsync,fdatasync,pwrite64,write", "-o", self.at("found"), PROGRAM)
+        end = run(["format", path, *options_of(SMALL)], program=strace, cwd=self.folder)
+        self.has_ended(end, 0, TOLD, b"")
+        calls = re.findall(r"^(\w+)\(\d+<(.*?)>.* = (?!-)", bytes_of(self.at("found")).decode(), re.M)
+        folder = os.path.realpath(self.folder)
+        file = os.path.join(folder, os.path.basename(path))
+        self.assertEqual(calls[:2], [("fsync", file), ("fsync", folder)])
+        of_file = [name for name, of in calls if of == file]
+        self.assertEqual(len(of_file), len(calls) - 2, f"beside the folder's sync and the line: {calls}")
+        self.assertEqual(of_file[-1], "fdatasync", f"{calls}")
+        self.assertEqual(calls[-1][0], "write", f"{calls}")
 
     def test_a_folder_that_may_not_be_read(self):
-        """A folder that lets this user make files and not read it: the new file's name isn't synced, and that is no fault."""
+        """A folder that lets this user make files and not read it: the new file's name isn't synced, and that is no
+        fault."""
         closed = self.at("closed")
         os.mkdir(closed)
         os.chmod(closed, 0o333)
@@ -169,28 +223,45 @@ class Formatting(Case):
         self.ends("format in a folder that can't be read", end, 0, TOLD, b"")
 
     def test_a_folder_that_can_not_be_opened(self):
-        """Any other refusal to open the folder is a fault: here the new file takes the last number that a file may have."""
-        words, limited = ["format", self.at("made"), *options_of(SMALL)], 'ulimit -n {} && exec "$0" "$@"'
-        ends = (run(words, program=["sh", "-c", limited.format(most), PROGRAM]) for most in range(4, 64))
-        self.has_ended(next(end for end in ends if os.path.exists(self.at("made"))), 1, b"", DEVICE_FAULT)
+        """Any other refusal to open the folder is a fault: here the new file takes the last number that a file may
+        have."""
+        words = ["format", self.at("made"), *options_of(SMALL)]
+        for most in range(4, 64):
+            limited = f'ulimit -n {most} && exec "$0" "$@"'
+            end = run(words, program=["sh", "-c", limited, PROGRAM])
+            if os.path.exists(self.at("made")):
+                self.has_ended(end, 1, b"", DEVICE_FAULT)
+                return
+        self.fail("no limit lets the file be made")
 
     def test_the_calls_of_a_great_format(self):
-        """The image of the greatest device has 8,521,792 bytes: they take 130 writes of 65,536 bytes, and one of the rest."""
-        end, (calls, *_) = self.between("stop.c").counts(self.at("counts"), ["format", self.at("great"), *options_of(GREATEST)])
+        """The image of the greatest device has 8,521,792 bytes: they take 130 writes of 65,536 bytes, and one of the
+        rest."""
+        words = ["format", self.at("great"), *options_of(GREATEST)]
+        end, (calls, *_) = self.between("stop.c").counts(self.at("counts"), words)
         self.has_ended(end, 0, b"formatted 18110848\n", b"")
         self.assertEqual(calls, CALLS_OF_FORMAT + 130)
 
     def test_faults(self):
         """Each call of the device fails in turn, alone or with all behind it: nothing is printed but the fault."""
-        words, between = ["format", self.at("faulty"), *options_of(SMALL)], self.between("stop.c")
-        for over in (False, True):
+        for is_over in (False, True):
             for turn in ("FAIL_CALL", "FAIL_CALLS_FROM"):
-                def attempt(number):
-                    if os.path.exists(self.at("faulty")):
-                        os.unlink(self.at("faulty"))
-                    if over:
-                        run(words)
-                    return between.run(turn, number, words)
+                self.fails_in_turn(turn, is_over)
 
-                self.each(f"{turn}: format {'over a device' if over else 'of a new file'}", CALLS_OF_FORMAT, attempt,
-                          lambda end: self.has_ended(end, 1, b"", DEVICE_FAULT))
+    def fails_in_turn(self, turn, is_over):
+        """Checks `format` of a new file, or over a device, of which each call fails."""
+        words = ["format", self.at("faulty"), *options_of(SMALL)]
+        between = self.between("stop.c")
+
+        def attempt(number):
+            if os.path.exists(self.at("faulty")):
+                os.unlink(self.at("faulty"))
+            if is_over:
+                run(words)
+            return between.run(turn, number, words)
+
+        def judge(end):
+            self.has_ended(end, 1, b"", DEVICE_FAULT)
+
+        what = "over a device" if is_over else "of a new file"
+        self.each(f"{turn}: format {what}", CALLS_OF_FORMAT, attempt, judge)

@@ -10,8 +10,9 @@ import re
 Geometry = collections.namedtuple("Geometry", "aggregates volumes stripes width files blocks quota half")
 Volume = collections.namedtuple("Volume", "sealed files label")
 
-FIELDS = {"makevol": 2, "dropvol": 2, "create": 3, "delete": 3, "seal": 2, "unseal": 2, "write": 4, "punch": 4,
-          "read": 4, "list": 2, "usage": 2, "summary": 0, "setlabel": 2, "label": 2}
+FIELDS = {  # how many numbers a message has, in the order of the kinds
+    "makevol": 2, "dropvol": 2, "create": 3, "delete": 3, "seal": 2, "unseal": 2, "write": 4, "punch": 4, "read": 4,
+    "list": 2, "usage": 2, "summary": 0, "setlabel": 2, "label": 2}
 NO_VOLUME_IS_FINE = ("makevol", "summary")
 MAY_BE_SEALED = ("makevol", "seal", "unseal", "read", "list", "usage", "summary", "label")
 WANT_THE_FILE = ("delete", "write", "punch", "read")
@@ -22,10 +23,12 @@ MOST_WAYS = 20000  # that are looked at for one kill
 
 
 def options_of(g):
+    """The options of a command with this geometry."""
     return [word for name, number in g._asdict().items() for word in (f"--{name}", str(number))]
 
 
 def group(g, file, block):
+    """The stripe of a block."""
     return (file + block // g.width) % g.stripes
 
 
@@ -46,9 +49,12 @@ def cut(data):
 def message_of(line):
     """The words of a line that is a message, else None."""
     kind, *words = line.split(" ")
-    if len(line) > LONGEST_LINE or kind not in FIELDS or len(words) != FIELDS[kind] + (kind in MOST_DIGITS):
+    if len(line) > LONGEST_LINE or kind not in FIELDS:
         return None
-    numbers, data = words[:FIELDS[kind]], words[FIELDS[kind]:]
+    numbers = words[:FIELDS[kind]]
+    data = words[FIELDS[kind]:]
+    if len(numbers) != FIELDS[kind] or len(data) != (1 if kind in MOST_DIGITS else 0):
+        return None
     if not all(re.fullmatch("0|[1-9][0-9]*", number) and int(number) < 65536 for number in numbers):
         return None
     if not all(re.fullmatch("([0-9A-Fa-f]{2})+", digits) and len(digits) <= MOST_DIGITS[kind] for digits in data):
@@ -57,6 +63,7 @@ def message_of(line):
 
 
 def in_range(g, message):
+    """Whether a device of this geometry has what it names."""
     limits = (g.aggregates, g.volumes, g.files, g.blocks)
     return all(number < limit for number, limit in zip(message[1], limits))
 
@@ -76,6 +83,7 @@ def place(g, message):
 
 
 def related(one, other):
+    """Whether one of two places is the other, or lies above it."""
     least = min(len(one), len(other))
     return one[:least] == other[:least]
 
@@ -106,7 +114,7 @@ def changed_pieces(g, state, message):
     kind, n, data = message
     if kind in ("read", "list", "usage", "summary", "label"):
         return {}
-    a, v = n[0], n[1]
+    a, v = n[:2]
     volume = state[a, v]
     stripes = [(a, v, s) for s in range(g.stripes)]
     if kind == "makevol":
@@ -134,7 +142,9 @@ def changes_of(g, state, line):
     message = message_of(line)
     if message is None or not in_range(g, message):
         return None, {}
-    return message, {} if refusal(g, state, message) else changed_pieces(g, state, message)
+    if refusal(g, state, message):
+        return message, {}
+    return message, changed_pieces(g, state, message)
 
 
 def lines_that_read(g):
@@ -152,7 +162,9 @@ def state_of_replies(g, replies):
     replies = iter(replies)
     next(replies)  # the summary gives no more than the others
     for a, v in itertools.product(range(g.aggregates), range(g.volumes)):
-        usage, files, label = next(replies), next(replies), next(replies)
+        usage = next(replies)
+        files = next(replies)
+        label = next(replies)
         if usage != "error volume":
             numbers = frozenset(int(n) for n in files.split()[1:])
             state[a, v] = Volume(usage.endswith(" sealed"), numbers, label.split()[1])
@@ -184,13 +196,17 @@ class Search:
     message waits until the related ones before it are in the log; so where one isn't, none related to it is."""
 
     def __init__(self, g, start, lines, answered, left):
-        self.g, self.lines, self.answered, self.left = g, lines, answered, left
+        self.g = g
+        self.lines = lines
+        self.answered = answered
+        self.left = left
         # The ways that are left to try: the next line, the state, the lines in the log as a chain from the last one
         # back, and the places in the tree where a message isn't in the log.
         self.ways = [(0, start, (), frozenset())]
 
     def walk(self, begin, state, logged, waiting):
-        """Goes on from this line. What is in the log then, or None where that doesn't lead to the state that was left."""
+        """Goes on from this line. What is in the log then, or None where that doesn't lead to the state that was
+        left."""
         for at in range(begin, len(self.lines)):
             if () in waiting:
                 break
@@ -203,19 +219,22 @@ class Search:
                     return None
                 waiting |= {path}
             elif pieces:
-                with_it = {**state, **pieces}, (self.lines[at], logged)
+                state_with_it = {**state, **pieces}
+                logged_with_it = (self.lines[at], logged)
                 if at >= self.answered and self.may_be_missing(state, path):
-                    self.ways.append((at + 1, *with_it, waiting))
+                    self.ways.append((at + 1, state_with_it, logged_with_it, waiting))
                     waiting |= {path}
                 else:
-                    state, logged = with_it
+                    state = state_with_it
+                    logged = logged_with_it
         return logged if state == self.left else None
 
     def may_be_missing(self, state, path):
         """Whether what messages at this place and below may set is as it was left. The volume's piece has more than
         the files, and more than the label."""
         if len(path) == 3:
-            now, left = state[path[:2]], self.left[path[:2]]
+            now = state[path[:2]]
+            left = self.left[path[:2]]
             if left is None or path[2] == 1:
                 return left is not None and now.label == left.label
             if now.files != left.files:

@@ -1,6 +1,6 @@
-"""The program as a process: exit statuses, streams that are closed, full or of the wrong kind, terminals and
-pipes, one read or write that fails; that a reply comes before the next line is sent, how many calls of the system piped input takes, and what
-is told to whoever operates a server."""
+"""The program as a process: exit statuses, streams that are closed, full or of the wrong kind, terminals and pipes,
+one read or write that fails; that a reply comes before the next line is sent, how many calls of the system piped
+input takes, and what is told to whoever operates a server."""
 import os
 import pty
 import re
@@ -9,19 +9,26 @@ import shutil
 import signal
 import socket
 import subprocess
+import termios
 import time
 import unittest
 
-from program import DEVICE_FAULT, MADE, PATIENCE, PROGRAM, READ_FAULT, REPLIES, WRITE_FAULT, Case, bytes_of, is_beginning, put_bytes, read_until, run
+from program import (
+    DEVICE_FAULT, MADE, PATIENCE, PROGRAM, READ_FAULT, REPLIES, WRITE_FAULT, Case, bytes_of, is_beginning, put_bytes,
+    read_until, run)
 from examples import Examples
 from servers import COMMON, SMALL, Device, File, text_of
 
 HELP = ("--help", "-h", "help", "plain --help", "help plain", "serve --help", "serve -h", "help serve")
-WRONG_WORDS = ("", "flat", "help flat", "--plain", "plain x", "plain --files", "plain --files two", "plain --files 65536")
-WRONG_OPTIONS = ("", "DEVICE other", "DEVICE --what", "DEVICE --workers", "DEVICE --workers x", "DEVICE --workers 65", "DEVICE --workers=-1",
-                 "DEVICE --slots 0", "DEVICE --slots 1025", "DEVICE --every 1025", "DEVICE --workers 2 --workers 2", "DEVICE --files 2")
-OPTIONS = ("DEVICE", "--workers 1 DEVICE", "DEVICE --workers=64 --slots=1024 --every=1024", "DEVICE --slots 1 --every 1",
-           "--every 0 DEVICE --workers 8")
+WRONG_WORDS = (
+    "", "flat", "help flat", "--plain", "plain x", "plain --files", "plain --files two", "plain --files 65536")
+WRONG_OPTIONS = (
+    "", "DEVICE other", "DEVICE --what", "DEVICE --workers", "DEVICE --workers x", "DEVICE --workers 65",
+    "DEVICE --workers=-1", "DEVICE --slots 0", "DEVICE --slots 1025", "DEVICE --every 1025",
+    "DEVICE --workers 2 --workers 2", "DEVICE --files 2")
+OPTIONS = (
+    "DEVICE", "--workers 1 DEVICE", "DEVICE --workers=64 --slots=1024 --every=1024", "DEVICE --slots 1 --every 1",
+    "--every 0 DEVICE --workers 8")
 
 
 def is_version(text):
@@ -32,14 +39,23 @@ def is_version(text):
 
 
 def is_of_clap(text):
+    """Whether a fault is told by the parser of the command line, and not by the program."""
     return bool(text) and not text.startswith(b"waffd: ")
 
 
 class Statuses(Case):
+    """How the program ends by the words that it is given."""
+
     def test_help(self):
         for text in HELP:
-            usage = f"Usage: {os.path.basename(PROGRAM)}{' serve' * ('serve' in text)}".encode()
-            self.ends("help: " + text, run(text.split(), MADE), 0, lambda output: usage in output, b"")
+            usage = f"Usage: {os.path.basename(PROGRAM)}"
+            if "serve" in text:
+                usage += " serve"
+
+            def has_usage(output):
+                return usage.encode() in output
+
+            self.ends("help: " + text, run(text.split(), MADE), 0, has_usage, b"")
         for word in ("--version", "-V"):
             self.ends(f"version: {word}", run([word], MADE), 0, is_version, b"")
 
@@ -48,18 +64,22 @@ class Statuses(Case):
         self.ends("plain on no input", run(["plain"]), 0, b"", b"")
         for text in WRONG_WORDS:
             self.ends("wrong words: " + (text or "none"), run(text.split(), MADE), 2, b"", is_of_clap)
-        self.ends("words that are not UTF-8", run([b"plain", b"\xff"], MADE), 2, b"", lambda text: b"invalid UTF-8" in text)
+        end = run([b"plain", b"\xff"], MADE)
+        self.ends("words that are not UTF-8", end, 2, b"", lambda text: b"invalid UTF-8" in text)
         for number in ("0", "65"):
-            self.ends(f"--files {number}", run(["plain", "--files", number], MADE), 2, b"", b"waffd: geometry out of range\n")
+            end = run(["plain", "--files", number], MADE)
+            self.ends(f"--files {number}", end, 2, b"", b"waffd: geometry out of range\n")
 
     def test_serve(self):
         file = File(self.folder)
         for text in WRONG_OPTIONS:
-            self.ends("wrong words: serve " + text, run(["serve", *text.replace("DEVICE", file.path).split()], MADE), 2, b"", is_of_clap)
+            end = run(["serve", *text.replace("DEVICE", file.path).split()], MADE)
+            self.ends("wrong words: serve " + text, end, 2, b"", is_of_clap)
             self.holds("and the file stays", file.path, file.formatted)
         for text in OPTIONS:
             file.format()
-            self.ends("serve " + text, run(["serve", *text.replace("DEVICE", file.path).split()], MADE), 0, REPLIES, b"")
+            end = run(["serve", *text.replace("DEVICE", file.path).split()], MADE)
+            self.ends("serve " + text, end, 0, REPLIES, b"")
         for path in (self.at("none"), self.at("none/device"), self.folder, "/dev/null", "/dev/full", "/dev/tty"):
             self.ends(f"serve {path}", run(["serve", path], MADE), 1, b"", DEVICE_FAULT)
         with self.subTest("and no file is made"):
@@ -79,18 +99,32 @@ class Statuses(Case):
 
 
 class Streams(Case):
+    """Standard input, output and error that are closed, full or of the wrong kind."""
+
+    def opened(self, path, mode):
+        """A file that is closed at the end of the test."""
+        file = open(path, mode)
+        self.addCleanup(file.close)
+        return file
+
     def streams(self):
         """What is wrong with streams: how a run that answers lines ends then, and the streams."""
         ours, theirs = os.pipe()
         os.close(ours)
         self.addCleanup(os.close, theirs)
-        return (("standard input closed", (1, b"", READ_FAULT), {"closed": [0]}), ("standard output closed", (1, b"", WRITE_FAULT), {"closed": [1]}),
-                ("standard error closed", (0, REPLIES, b""), {"closed": [2]}), ("output and error closed", (1, b"", b""), {"closed": [1, 2]}),
-                ("all closed", (1, b"", b""), {"closed": [0, 1, 2]}),
-                ("standard input for writing alone", (1, b"", READ_FAULT), {"stdin": open("/dev/null", "wb")}),
-                ("standard output for reading alone", (1, None, WRITE_FAULT), {"stdout": open("/dev/null", "rb")}),
-                ("to a full device", (1, None, WRITE_FAULT), {"stdout": open("/dev/full", "wb")}),
-                ("to a pipe that nobody reads", (1, None, WRITE_FAULT), {"stdout": theirs}))
+        for_writing = self.opened("/dev/null", "wb")
+        for_reading = self.opened("/dev/null", "rb")
+        full = self.opened("/dev/full", "wb")
+        return (
+            ("standard input closed", (1, b"", READ_FAULT), {"closed": [0]}),
+            ("standard output closed", (1, b"", WRITE_FAULT), {"closed": [1]}),
+            ("standard error closed", (0, REPLIES, b""), {"closed": [2]}),
+            ("output and error closed", (1, b"", b""), {"closed": [1, 2]}),
+            ("all closed", (1, b"", b""), {"closed": [0, 1, 2]}),
+            ("standard input for writing alone", (1, b"", READ_FAULT), {"stdin": for_writing}),
+            ("standard output for reading alone", (1, None, WRITE_FAULT), {"stdout": for_reading}),
+            ("to a full device", (1, None, WRITE_FAULT), {"stdout": full}),
+            ("to a pipe that nobody reads", (1, None, WRITE_FAULT), {"stdout": theirs}))
 
     def test_plain(self):
         for name, wanted, streams in self.streams():
@@ -98,40 +132,55 @@ class Streams(Case):
         self.ends("standard error closed, wrong words", run(["flat"], closed=[2]), 2, b"", b"")
         for word in ("--help", "--version"):
             self.ends(f"{word} with the output closed", run([word], closed=[1]), 1, b"", WRITE_FAULT)
-        self.ends("--help to a full device", run(["--help"], stdout=open("/dev/full", "wb")), 1, None, WRITE_FAULT)
+        full = self.opened("/dev/full", "wb")
+        self.ends("--help to a full device", run(["--help"], stdout=full), 1, None, WRITE_FAULT)
 
     def test_serve(self):
         file = File(self.folder)
-        for name, wanted, streams in (*self.streams(), ("output closed and no input", (0, b"", b""), {"closed": [1], "given": b""})):
+        no_input = ("output closed and no input", (0, b"", b""), {"closed": [1], "given": b""})
+        for name, wanted, streams in (*self.streams(), no_input):
             file.format()
             self.ends(f"serve, {name}", file.serve(**{"given": MADE, **streams}), *wanted)
-            self.ends("and the next run goes on", file.serve(b"summary\n"), 0, lambda text: text.startswith(b"summary "), b"")
+            end = file.serve(b"summary\n")
+            self.ends("and the next run goes on", end, 0, lambda text: text.startswith(b"summary "), b"")
 
     def test_numbers(self):
         """With a stream closed its number is taken, by something that can't be written, before a file is opened."""
         for closed in ([1], [2], [1, 2]):
-            ours, theirs = os.pipe()
-            child = self.started([PROGRAM, "plain"], stdin=ours, stdout=subprocess.DEVNULL, stderr=subprocess.DEVNULL,
-                                 preexec_fn=lambda: [os.close(number) for number in closed])
-            os.close(ours)
-            time.sleep(0.3)  # it waits for input now
             with self.subTest(f"the number of a closed stream is taken: {closed}"):
-                for number in closed:
-                    flags = int(bytes_of(f"/proc/{child.pid}/fdinfo/{number}").split(b"flags:")[1].split()[0], 8)
-                    self.assertEqual(flags & os.O_ACCMODE, os.O_RDONLY)
+                self.takes_numbers(closed)
+
+    def takes_numbers(self, closed):
+        """Looks at the numbers while a run waits for input."""
+        def close():
+            for number in closed:
+                os.close(number)
+
+        ours, theirs = os.pipe()
+        child = self.started([PROGRAM, "plain"], stdin=ours, stdout=subprocess.DEVNULL, stderr=subprocess.DEVNULL,
+                             preexec_fn=close)
+        os.close(ours)
+        time.sleep(0.3)  # it waits for input now
+        try:
+            for number in closed:
+                shown = bytes_of(f"/proc/{child.pid}/fdinfo/{number}")
+                flags = int(shown.split(b"flags:")[1].split()[0], 8)
+                self.assertEqual(flags & os.O_ACCMODE, os.O_RDONLY)
+        finally:
             os.close(theirs)
             child.wait(PATIENCE)
 
     def test_devices(self):
         """A device's file never takes the number of a stream that is closed, so no text is printed into it."""
-        made, path, told = self.at("made"), self.at("device"), b"formatted 1332608\n"
+        made = self.at("made")
+        path = self.at("device")
+        told = b"formatted 1332608\n"
         self.ends("format tells the length", run(["format", made]), 0, told, b"")
         with self.subTest("the file has that length"):
             self.assertEqual(os.path.getsize(made), 1332608)
         whole = bytes_of(made)
-        for closed in ([1], [2], [0, 1, 2]):
-            end = run(["format", path], closed=closed)
-            self.ends(f"format with {closed} closed", end, int(1 in closed), b"" if 1 in closed else told, b"" if 2 in closed else WRITE_FAULT)
+        for closed, *wanted in (([1], 1, b"", WRITE_FAULT), ([2], 0, told, b""), ([0, 1, 2], 1, b"", b"")):
+            self.ends(f"format with {closed} closed", run(["format", path], closed=closed), *wanted)
             self.holds("and the device has no text in it", path, whole)
             os.unlink(path)
         self.ends("show of no file with 2 closed", run(["show", self.at("none")], closed=[2]), 1, b"", b"")
@@ -140,20 +189,36 @@ class Streams(Case):
 
 
 # Lines that a client sends at once, with their replies.
-CONVERSATION = ((b"makevol 0 0\n", b"done\n"), (b"create 0 0 0\nsummary\n", b"done\nsummary 1 1 0\n"),
-                (b"what\n", b"error line\n"), (b"read 0 0 0 0\n", b"hole\n"), (b"write 0 0 0 0 61\n", b"done\n"),
-                (b"write 0 0 0 1 62\nwrite 0 0 0 2 63\nread 0 0 0 1\n", b"done\ndone\nblock 62\n"),
-                (b"punch 0 0 0 0\n", b"done\n"), (b"sum", b""), (b"mary\n", b"summary 1 1 2\n"))
+CONVERSATION = (
+    (b"makevol 0 0\n", b"done\n"),
+    (b"create 0 0 0\nsummary\n", b"done\nsummary 1 1 0\n"),
+    (b"what\n", b"error line\n"),
+    (b"read 0 0 0 0\n", b"hole\n"),
+    (b"write 0 0 0 0 61\n", b"done\n"),
+    (b"write 0 0 0 1 62\nwrite 0 0 0 2 63\nread 0 0 0 1\n", b"done\ndone\nblock 62\n"),
+    (b"punch 0 0 0 0\n", b"done\n"),
+    (b"sum", b""),
+    (b"mary\n", b"summary 1 1 2\n"))
+
+
+def without_echo(terminal):
+    """Has a terminal send back nothing but what is written to it, byte for byte."""
+    attributes = termios.tcgetattr(terminal)
+    attributes[1] &= ~termios.ONLCR
+    attributes[3] &= ~termios.ECHO
+    termios.tcsetattr(terminal, termios.TCSANOW, attributes)
 
 
 class Conversations(Case):
     """A client that waits for each reply."""
 
     def converse(self, child, name, to, source, end):
+        """Checks that each reply comes before the next line is sent, and that `end` ends the process."""
         with self.subTest("a reply comes before the next line is sent: " + name):
             for line, reply in CONVERSATION:
                 os.write(to, line)
-                self.assertEqual(read_until(source, lambda found: len(found) >= len(reply)), reply, f"after {line!r}")
+                found = read_until(source, lambda found: len(found) >= len(reply))
+                self.assertEqual(found, reply, f"after {line!r}")
         end()
         with self.subTest("and the end of the input ends it, once"):
             self.assertEqual(child.wait(PATIENCE), 0)
@@ -165,7 +230,7 @@ class Conversations(Case):
 
     def at_a_terminal(self, words):
         ours, theirs = pty.openpty()
-        os.system(f"stty -F {os.ttyname(theirs)} -echo -onlcr")
+        without_echo(theirs)
         child = self.started([PROGRAM, *words], stdin=theirs, stdout=theirs, start_new_session=True)
         self.converse(child, f"at a terminal, {words[0]}", ours, ours, lambda: os.write(ours, b"\x04"))
         os.close(ours)
@@ -187,28 +252,45 @@ class Conversations(Case):
 class SingleFaults(Case):
     """One read of the input, or one write of the output, fails."""
 
+    def setUp(self):
+        super().setUp()
+        self.refusing = self.between("refuse.c")
+
+    def refuse(self, name, least, turn, word, lines, output, told):
+        """Checks runs of a word of which each read, or each write, fails."""
+        def attempt(number):
+            return self.refusing.run(turn, number, [word], lines)
+
+        def judge(end):
+            self.has_ended(end, 1, output, told)
+
+        self.each(name, least, attempt, judge)
+
     def test_plain(self):
         # Replies of 200 KiB, more than one write takes, which differ from place to place.
-        blocks = b"".join(b"write 0 0 0 %d %s\nread 0 0 0 %d\n" % (i % 64, b"%04x" % i * 200, i % 64) for i in range(1, 400))
-        long, between = b"makevol 0 0\ncreate 0 0 0\n" + blocks, self.between("refuse.c")
-        status, whole, _ = run(["plain"], long)
+        changes = [(i % 64, b"%04x" % i * 200) for i in range(1, 400)]
+        blocks = b"".join(b"write 0 0 0 %d %s\nread 0 0 0 %d\n" % (block, data, block) for block, data in changes)
+        lines = b"makevol 0 0\ncreate 0 0 0\n" + blocks
+        status, whole, _ = run(["plain"], lines)
         with self.subTest("a long input"):
             self.assertTrue(status == 0 and len(whole) > 200000)
 
-        for name, least, turn, word, output, told in (
-                ("plain, a read fails", 2, "FAIL_READ", "plain", lambda output: is_beginning(output, whole), READ_FAULT),
-                ("plain, a write fails, and none follows", 2, "FAIL_WRITE", "plain", whole.startswith, WRITE_FAULT),
-                ("help, a write fails", 1, "FAIL_WRITE", "--help", None, WRITE_FAULT)):
-            self.each(name, least, lambda number: between.run(turn, number, [word], long), lambda end: self.has_ended(end, 1, output, told))
+        def begins(output):
+            return is_beginning(output, whole)
+
+        self.refuse("plain, a read fails", 2, "FAIL_READ", "plain", lines, begins, READ_FAULT)
+        name = "plain, a write fails, and none follows"
+        self.refuse(name, 2, "FAIL_WRITE", "plain", lines, whole.startswith, WRITE_FAULT)
+        self.refuse("help, a write fails", 1, "FAIL_WRITE", "--help", lines, None, WRITE_FAULT)
 
     def test_serve(self):
-        changes = ["makevol 0 0", "create 0 0 0"] + [f"write 0 0 0 {i % 4} {i:04x}{'5a' * 200}" for i in range(1, 400)]
+        changes = ["makevol 0 0", "create 0 0 0"]
+        changes += [f"write 0 0 0 {i % 4} {i:04x}{'5a' * 200}" for i in range(1, 400)]
         lines = [line for i, change in enumerate(changes) for line in (change, f"read 0 0 0 {i % 4}")]
-        between = self.between("refuse.c")
         for turn, told in (("FAIL_READ", READ_FAULT), ("FAIL_WRITE", WRITE_FAULT)):
             def attempt(number):
                 self.device = Device(self.folder, (SMALL, 2, 64, 0))
-                return between.run(turn, number, self.device.words(), text_of(lines))
+                return self.refusing.run(turn, number, self.device.words(), text_of(lines))
 
             def judge(end):
                 self.has_ended(end, 1, None, told)
@@ -222,28 +304,41 @@ LINES_A_CALL = 4  # at least, of reads of the input and of writes of the output
 
 
 class Calls(Case):
+    """How many calls of the system piped input takes. What is answered is written before a wait for the workers, so how
+    many writes there are is the scheduler's."""
+
     def test_piped_input(self):
-        """How many calls of the system piped input takes. What is answered is written before a wait for the workers, so how many writes there
-        are is the scheduler's."""
-        between, volumes = self.between("stop.c"), range(COMMON.volumes)
+        between = self.between("stop.c")
+        volumes = range(COMMON.volumes)
         made = [line for v in volumes for line in (f"makevol 0 {v}", f"create 0 {v} 0")]
         for kind, data in (("read", ""), ("write", " 6162")):
-            lines = [f"{kind} 0 {i % len(volumes)} 0 {i // len(volumes) % COMMON.blocks}{data}" for i in range(COUNTED_LINES)]
+            turns = [divmod(number, len(volumes)) for number in range(COUNTED_LINES)]
+            lines = [f"{kind} 0 {v} 0 {block % COMMON.blocks}{data}" for block, v in turns]
             put_bytes(self.at("lines"), text_of(made + lines))
             device = Device(self.folder, (COMMON, 2, 256, 0))
             with open(self.at("lines"), "rb") as given:
                 end, (calls, _, reads, writes) = between.counts(self.at("counts"), device.words(), stdin=given)
-            with self.subTest(f"{COUNTED_LINES} {kind} lines take {reads} reads, {writes} writes, {calls} calls of the device"):
+            taken = f"{reads} reads, {writes} writes, {calls} calls of the device"
+            with self.subTest(f"{COUNTED_LINES} {kind} lines take {taken}"):
                 self.has_ended(end, 0, None, b"")
                 self.assertLessEqual((reads + writes) * LINES_A_CALL, COUNTED_LINES)
 
 
-LINE, DONE = b"makevol 0 0\n", b"done\n"
+LINE = b"makevol 0 0\n"
+DONE = b"done\n"
 ENDING = (signal.SIGTERM, signal.SIGINT, signal.SIGHUP, signal.SIGKILL)
 
 
+def take_signals():
+    """A signal that is ignored here, as SIGINT is in the background, isn't by the server."""
+    for number in ENDING:
+        if number != signal.SIGKILL:
+            signal.signal(number, signal.SIG_DFL)
+
+
 class Operating(Case):
-    """What docs/program.md says to whoever operates a server: signals, one server at a time, `show` beside one, a server on a socket."""
+    """What docs/program.md says to whoever operates a server: signals, one server at a time, `show` beside one, a
+    server on a socket."""
 
     def setUp(self):
         super().setUp()
@@ -251,19 +346,23 @@ class Operating(Case):
         self.has_ended(run(["format", self.device]), 0)
 
     def serve(self, *before, **streams):
-        # A signal that is ignored here, as SIGINT is in the background, isn't by the server.
-        more = {"preexec_fn": lambda: [signal.signal(number, signal.SIG_DFL) for number in ENDING[:-1]],
-                "stdin": subprocess.PIPE, "stdout": subprocess.PIPE, "stderr": subprocess.PIPE, **streams}
-        return self.started([*before, PROGRAM, "serve", self.device], bufsize=0, **more)
+        """A server that runs, with pipes where no other streams are given."""
+        pipes = {"stdin": subprocess.PIPE, "stdout": subprocess.PIPE, "stderr": subprocess.PIPE}
+        how = {"preexec_fn": take_signals, **pipes, **streams}
+        return self.started([*before, PROGRAM, "serve", self.device], bufsize=0, **how)
 
     def replies(self, server, line, reply):
+        """Asserts that a line has this reply."""
         server.stdin.write(line)
         self.assertEqual(server.stdout.readline(), reply)
 
     def has_stopped(self, server, status, output=b"", faults=b"", given=None):
-        self.assertEqual((server.communicate(given, timeout=PATIENCE), server.returncode), ((output, faults), status))
+        """Asserts that a server ends so at the end of its input."""
+        printed = server.communicate(given, timeout=PATIENCE)
+        self.assertEqual((printed, server.returncode), ((output, faults), status))
 
     def has_records(self, count):
+        """Asserts that so many records are in force."""
         self.assertIn(b"records %d\n" % count, run(["show", self.device])[1])
 
     def test_signals(self):
@@ -294,27 +393,34 @@ class Operating(Case):
 
     def test_socket(self):
         """a connection that blocks is both streams of a server"""
-        with socket.create_server(("127.0.0.1", 0)) as listener, socket.create_connection(listener.getsockname()) as client:
+        with socket.create_server(("127.0.0.1", 0)) as listener:
+            client = socket.create_connection(listener.getsockname())
             connection = listener.accept()[0]
+        with client:
             server = self.serve(stdin=connection, stdout=connection)
             connection.close()
             client.sendall(b"summary\nwhat\n")
             client.shutdown(socket.SHUT_WR)
             with client.makefile("rb") as replies:
                 self.assertEqual(replies.read(), b"summary 0 0 0\nerror line\n")
-            self.assertEqual((server.communicate(timeout=PATIENCE)[1], server.returncode), (b"", 0))
+            faults = server.communicate(timeout=PATIENCE)[1]
+            self.assertEqual((faults, server.returncode), (b"", 0))
 
     def test_socket_that_does_not_block(self):
         """a socket that doesn't block ends a server with a read fault"""
         ours, theirs = socket.socketpair()
         theirs.setblocking(False)
         server = self.serve(stdin=theirs, stdout=theirs)
-        self.assertEqual((server.communicate(timeout=PATIENCE)[1], server.returncode), (READ_FAULT, 1))
+        faults = server.communicate(timeout=PATIENCE)[1]
+        self.assertEqual((faults, server.returncode), (READ_FAULT, 1))
         ours.close()
         theirs.close()
 
     def test_limit(self):
         """a write beyond ulimit -f ends a server by a signal"""
-        server = self.serve(preexec_fn=lambda: resource.setrlimit(resource.RLIMIT_FSIZE, (1000, 1000)))
+        def limit():
+            resource.setrlimit(resource.RLIMIT_FSIZE, (1000, 1000))
+
+        server = self.serve(preexec_fn=limit)
         server.communicate(b"summary\n", timeout=PATIENCE)
         self.assertEqual(server.returncode, -signal.SIGXFSZ)

@@ -16,21 +16,33 @@ PATIENCE = 10  # seconds to wait for a reply or an end
 LONGEST_RUN = 600  # seconds that a run may take
 MOST_TURNS = 10000  # of calls or requests that fail
 
-READ_FAULT, WRITE_FAULT = b"waffd: read fault\n", b"waffd: write fault\n"
-DEVICE_FAULT, NO_MEMORY = b"waffd: device fault\n", b"waffd: out of memory\n"
+READ_FAULT = b"waffd: read fault\n"
+WRITE_FAULT = b"waffd: write fault\n"
+DEVICE_FAULT = b"waffd: device fault\n"
+NO_MEMORY = b"waffd: out of memory\n"
 
 MADE = b"makevol 0 0\ncreate 0 0 0\nwrite 0 0 0 0 6162\nread 0 0 0 0\n"
 REPLIES = b"done\ndone\ndone\nblock 6162\n"
-EACH_KIND = (b"makevol 0 0\ncreate 0 0 0\ncreate 0 0 1\nwrite 0 0 0 0 6162\nlist 0 0\nusage 0 0\nsummary\n"
-             b"setlabel 0 0 6162\nlabel 0 0\nseal 0 0\nunseal 0 0\npunch 0 0 0 0\nread 0 0 0 0\ndelete 0 0 1\ndropvol 0 0\n")
+EACH_KIND = (
+    b"makevol 0 0\ncreate 0 0 0\ncreate 0 0 1\nwrite 0 0 0 0 6162\nlist 0 0\nusage 0 0\nsummary\n"
+    b"setlabel 0 0 6162\nlabel 0 0\nseal 0 0\nunseal 0 0\npunch 0 0 0 0\nread 0 0 0 0\ndelete 0 0 1\ndropvol 0 0\n")
 
 
 def run(words, given=b"", env=None, closed=(), program=(PROGRAM,), **more):
     """Runs a program to its end: status, standard output, standard error."""
-    more = {"stdout": subprocess.PIPE, "timeout": LONGEST_RUN, **({} if "stdin" in more else {"input": given}), **more}
+    def close():
+        for number in closed:
+            os.close(number)
+
+    how = {"stdout": subprocess.PIPE, "stderr": subprocess.PIPE, "timeout": LONGEST_RUN, **more}
+    if "stdin" not in how:
+        how["input"] = given
+    if env is not None:
+        how["env"] = {**os.environ, **env}
+    if closed:
+        how["preexec_fn"] = close
     try:
-        end = subprocess.run([*program, *words], stderr=subprocess.PIPE, check=False, env=dict(os.environ, **(env or {})),
-                             preexec_fn=(lambda: [os.close(number) for number in closed]) if closed else None, **more)
+        end = subprocess.run([*program, *words], check=False, **how)
     except subprocess.TimeoutExpired:
         return None, b"", b"no end"
     return end.returncode, end.stdout or b"", end.stderr
@@ -38,10 +50,12 @@ def run(words, given=b"", env=None, closed=(), program=(PROGRAM,), **more):
 
 def read_until(source, is_enough, size=1, patience=PATIENCE):
     """What comes, so many bytes at a time, until it is enough, there is no more, or patience ended."""
-    found, end = b"", time.monotonic() + patience
+    descriptor = source if isinstance(source, int) else source.fileno()
+    found = b""
+    end = time.monotonic() + patience
     with contextlib.suppress(ConnectionResetError):  # there is no more, and the other side hasn't read all
-        while not is_enough(found) and select.select([source], [], [], max(0, end - time.monotonic()))[0]:
-            piece = os.read(source if isinstance(source, int) else source.fileno(), size)
+        while not is_enough(found) and select.select([descriptor], [], [], max(0, end - time.monotonic()))[0]:
+            piece = os.read(descriptor, size)
             if not piece:
                 break
             found += piece
@@ -54,10 +68,12 @@ def is_beginning(found, whole):
 
 
 def bytes_of(path):
+    """What a file holds."""
     return pathlib.Path(path).read_bytes()
 
 
 def put_bytes(path, data):
+    """Has a file hold this alone."""
     pathlib.Path(path).write_bytes(data)
 
 
@@ -72,7 +88,8 @@ class Between:
 
     def env(self, **turns):
         """What the environment of a run has to have, so that this happens."""
-        return {"LD_PRELOAD": self.library, "HAPPENED": self.mark, **{name: str(value) for name, value in turns.items()}}
+        words = {name: str(value) for name, value in turns.items()}
+        return {"LD_PRELOAD": self.library, "HAPPENED": self.mark, **words}
 
     def happened(self):
         """Whether it has happened; asked once a run."""
@@ -88,18 +105,22 @@ class Between:
         return end if self.happened() else None
 
     def counts(self, path, words, given=b"", **streams):
-        """How a run ended, and how many calls of the device, of these those that change it, reads and writes it made."""
+        """How a run ended, and how many calls of the device, of these those that change it, reads and writes it
+        made."""
         end = run(words, given, self.env(COUNTS=path), **streams)
         return end, struct.unpack("4q", bytes_of(path))
 
 
 class Case(unittest.TestCase):
+    """Tests in a folder of their own."""
+
     def setUp(self):
         folder = tempfile.TemporaryDirectory()
         self.addCleanup(folder.cleanup)
         self.folder = folder.name
 
     def at(self, name):
+        """A path in the folder."""
         return os.path.join(self.folder, name)
 
     def put_script(self, path, text):
@@ -116,15 +137,20 @@ class Case(unittest.TestCase):
         return child
 
     def between(self, source):
+        """The program with this file of tests/inject."""
         return Between(self.folder, source)
 
     def has_ended(self, end, status, output=None, faults=None):
         """Asserts that a run ended so. A wanted text may be a test."""
         for what, found, wanted in zip(("status", "output", "faults"), end, (status, output, faults)):
-            if wanted is not None and not (wanted(found) if callable(wanted) else found == wanted):
+            if wanted is None:
+                continue
+            is_right = wanted(found) if callable(wanted) else found == wanted
+            if not is_right:
                 self.fail(f"{what} {found!r:.200}, all: {end[0]} {end[1][-80:]!r} {end[2][-120:]!r}")
 
     def ends(self, name, end, *wanted):
+        """A check that a run ended so."""
         with self.subTest(name):
             self.has_ended(end, *wanted)
 
@@ -134,17 +160,20 @@ class Case(unittest.TestCase):
             self.assertTrue(bytes_of(path) == data, "other bytes")
 
     def each(self, name, least, attempt, judge):
-        """A check of calls or requests that fail in turn: `attempt` is given 1, 2 and so on, until there is no such call, so no end. `judge` is
-        given each end. Fewer than `least` can't be all that there are. How many there were."""
+        """A check of calls or requests that fail in turn: `attempt` is given 1, 2 and so on, until there is no such
+        call, so no end. `judge` is given each end. Fewer than `least` can't be all that there are. How many there
+        were."""
         number = 0
         with self.subTest(name):
-            while (end := attempt(number + 1)) is not None:
+            end = attempt(1)
+            while end is not None:
                 number += 1
                 self.assertLess(number, MOST_TURNS, "too many")
                 try:
                     judge(end)
                 except AssertionError as error:
                     raise AssertionError(f"number {number}: {error}") from None
+                end = attempt(number + 1)
             self.assertGreaterEqual(number, least, "so many there have to be")
             print(f"       {number} of them:")
         return number

@@ -4,7 +4,8 @@ import random
 import shutil
 
 from program import REFERENCE, bytes_of, put_bytes, run
-from meaning import FIELDS, MOST_DIGITS, Geometry, Search, empty_state, lines_that_make, lines_that_read, options_of, state_of_replies
+from meaning import (
+    FIELDS, MOST_DIGITS, Geometry, Search, empty_state, lines_that_make, lines_that_read, options_of, state_of_replies)
 
 SMALL = Geometry(1, 1, 2, 1, 2, 4, 2, 4)
 WIDE = Geometry(2, 2, 2, 1, 2, 4, 2, 8)
@@ -12,13 +13,20 @@ NARROW = Geometry(1, 1, 1, 64, 1, 4, 1, 4)
 COMMON = Geometry(1, 4, 4, 4, 16, 64, 64, 256)
 GREATEST = Geometry(4, 8, 8, 64, 64, 256, 64, 1024)
 
-# Places of the small device: the root zone, the two images, and the chain byte, the first gate and the first record of each half.
-ROOT, IMAGE_0, IMAGE_1 = 64, 4424, 6632
-CHAIN_0, GATE_0, RECORD_0 = 128, 192, 196
-CHAIN_1, GATE_1 = 2276, 2340
+# Places of the small device: the root zone, the two images, and the chain byte, the first gate and the first record
+# of each half.
+ROOT = 64
+IMAGE_0 = 4424
+IMAGE_1 = 6632
+CHAIN_0 = 128
+GATE_0 = 192
+RECORD_0 = 196
+CHAIN_1 = 2276
+GATE_1 = 2340
 
 
 def text_of(lines):
+    """What a client sends of these lines."""
     return "".join(line + "\n" for line in lines).encode()
 
 
@@ -35,10 +43,19 @@ def plain(g, lines):
 
 
 def with_bytes(data, *changes):
+    """These bytes, of which some have other values."""
     data = bytearray(data)
     for at, byte in changes:
         data[at] = byte
     return bytes(data)
+
+
+def count_of_answers(output):
+    """How many lines were answered, the last one perhaps in part."""
+    count = output.count(b"\n")
+    if output and not output.endswith(b"\n"):
+        count += 1
+    return count
 
 
 class File:
@@ -52,9 +69,11 @@ class File:
         self.opened = with_bytes(self.formatted, (ROOT, 1), (IMAGE_1, 2))
 
     def serve(self, given=b"", *options, **streams):
+        """The end of a server of it."""
         return run(["serve", self.path, *options], given, **streams)
 
     def format(self):
+        """The file has the bytes again that `format` gave it."""
         put_bytes(self.path, self.formatted)
 
 
@@ -72,32 +91,39 @@ class Device:
         return f"{tuple(self.g)}, {self.workers} workers, {self.slots} slots, every {self.every}"
 
     def words(self, path=None):
-        return ["serve", path or self.path, "--workers", str(self.workers), "--slots", str(self.slots), "--every", str(self.every)]
+        """The words of a server of it, or of its copy."""
+        options = ["--workers", str(self.workers), "--slots", str(self.slots), "--every", str(self.every)]
+        return ["serve", path or self.path, *options]
 
     def judge(self, lines, output, whole):
-        """Asserts that what came out for these lines, and what the next run answers, may be. That is run on a copy: so this file stays as it
-        was left."""
-        made, reads = lines_that_make(self.g, self.state), lines_that_read(self.g)
+        """Asserts that what came out for these lines, and what the next run answers, may be. That is run on a copy:
+        so this file stays as it was left."""
+        made = lines_that_make(self.g, self.state)
+        reads = lines_that_read(self.g)
         wanted = text_of(plain(self.g, made + lines)[len(made):])
         if not wanted.startswith(output) or (whole and output != wanted):
             raise AssertionError(f"it answered other than the serial server, in the first {len(output)} bytes")
-        answered = len(lines) if whole else output.count(b"\n") + (not output.endswith(b"\n") and output != b"")
+        answered = len(lines) if whole else count_of_answers(output)
         shutil.copyfile(self.path, self.copy)
         told = replies_of(run(self.words(self.copy), text_of(reads)), "the next run")
         left = state_of_replies(self.g, told)
         logged = Search(self.g, self.state, lines, answered, left).find()
         if logged is None:
-            raise AssertionError(f"of {answered} lines that were answered a change is missing, or what is there none has made")
+            what = "a change is missing, or what is there none has made"
+            raise AssertionError(f"of {answered} lines that were answered {what}")
         if plain(self.g, made + logged + reads)[len(made + logged):] != told:
             raise AssertionError("the serial server has another state")
         self.state = left
 
 
-WEIGHTS = {"write": 48, "punch": 8, "read": 10, "create": 9, "delete": 2, "seal": 2, "unseal": 4, "makevol": 5, "dropvol": 1,
-           "list": 2, "usage": 2, "summary": 1, "setlabel": 5, "label": 3}
-NO_MESSAGES = ("", "what", "READ 0 0 0 0", "read 0 0 0", "summary 0", " summary", "write 0 0 0 0 6", "read 00 0 0 0",
-               "read 0 0 0 65536", "a" * 1101, "write 0 0 0 0 " + "61" * 513)
-KINDS, SHARES = zip(*WEIGHTS.items())
+WEIGHTS = {
+    "write": 48, "punch": 8, "read": 10, "create": 9, "delete": 2, "seal": 2, "unseal": 4, "makevol": 5, "dropvol": 1,
+    "list": 2, "usage": 2, "summary": 1, "setlabel": 5, "label": 3}
+KINDS = list(WEIGHTS)
+SHARES = list(WEIGHTS.values())
+NO_MESSAGES = (
+    "", "what", "READ 0 0 0 0", "read 0 0 0", "summary 0", " summary", "write 0 0 0 0 6", "read 00 0 0 0",
+    "read 0 0 0 65536", "a" * 1101, "write 0 0 0 0 " + "61" * 513)
 MOST = (2, 3, 3, 12)  # aggregates, volumes of each, files and blocks: so random messages meet
 
 
@@ -105,22 +131,35 @@ class Drawing:
     """Draws lines. No two writes have the same data, so each change that was lost is seen."""
 
     def __init__(self, seed, g):
-        self.random, self.g, self.count = random.Random(seed), g, 0
+        self.random = random.Random(seed)
+        self.g = g
+        self.count = 0  # how many data were drawn
 
     def data(self, most):
+        """Digits of so many bytes at most: a number of their own, and behind it the same bytes now and then."""
         self.count += 1
-        digits = "%08x" % self.count
-        padded = self.random.randrange(8) == 0
-        return digits + "5a" * self.random.randrange(most - 3) if padded else digits
+        digits = f"{self.count:08x}"
+        if self.random.randrange(8) == 0:
+            padding = self.random.randrange(most - 3)
+            digits += "5a" * padding
+        return digits
+
+    def number(self, is_out, limit, most):
+        """A number of a message: out of range, or a small one."""
+        return limit if is_out else self.random.randrange(min(limit, most))
 
     def line(self):
+        """Seldom one that is no message."""
         if self.random.randrange(50) == 0:
             return self.random.choice(NO_MESSAGES)
         kind = self.random.choices(KINDS, SHARES)[0]
         limits = (self.g.aggregates, self.g.volumes, self.g.files, self.g.blocks)[:FIELDS[kind]]
-        is_out = [self.random.randrange(200) == 0 for _ in limits]  # of range
-        numbers = [limit if out else self.random.randrange(min(limit, most)) for out, limit, most in zip(is_out, limits, MOST)]
-        return " ".join([kind, *map(str, numbers), *([self.data(MOST_DIGITS[kind] // 2)] if kind in MOST_DIGITS else [])])
+        are_out = [self.random.randrange(200) == 0 for _ in limits]
+        words = [kind]
+        words += [str(self.number(*of)) for of in zip(are_out, limits, MOST)]
+        if kind in MOST_DIGITS:
+            words.append(self.data(MOST_DIGITS[kind] // 2))
+        return " ".join(words)
 
     def lines(self, count):
         return [self.line() for _ in range(count)]
