@@ -223,8 +223,9 @@ class Formatting(Case):
         self.ends("format in a folder that can't be read", end, 0, TOLD, b"")
 
     def test_a_folder_that_can_not_be_opened(self):
-        """Any other refusal to open the folder is a fault: here the new file takes the last number that a file may
-        have."""
+        """Any other refusal to open the folder is a fault.
+
+        Here the new file takes the last number that a file may have."""
         words = ["format", self.at("made"), *options_of(SMALL)]
         for most in range(4, 64):
             limited = f'ulimit -n {most} && exec "$0" "$@"'
@@ -235,8 +236,9 @@ class Formatting(Case):
         self.fail("no limit lets the file be made")
 
     def test_the_calls_of_a_great_format(self):
-        """The image of the greatest device has 8,521,792 bytes: they take 130 writes of 65,536 bytes, and one of the
-        rest."""
+        """The greatest image takes 130 writes of 65,536 bytes, and one of the rest.
+
+        It has 8,521,792 bytes."""
         words = ["format", self.at("great"), *options_of(GREATEST)]
         end, (calls, *_) = self.between("stop.c").counts(self.at("counts"), words)
         self.has_ended(end, 0, b"formatted 18110848\n", b"")
