@@ -1,6 +1,7 @@
 -- How many steps are to come in a session: none of its calls raises that but reading.
-use Rattle.std.proofs.Common.{◌≡◌, ℕ, ◌+◌, ◌*◌, ◌<◌, ◌≤◌, Bool, true, false, List, [], ◌∷◌, Option, Some, None, refl, ap, sym, ◌∙◌, length, map, get_or, set, arith}
-use Rattle.std.specs.Prelude.{Result, Ok, Err, IfOk, IsFalse, cond, count_by, is_none, is_some, position}
+use Rattle.std.proofs.Common.{◌≡◌, ℕ, ◌+◌, ◌*◌, ◌<◌, ◌≤◌, Bool, true, false, List, [], ◌∷◌, Option, Some, None, refl, ap, sym, subst, ◌∙◌, inl, inr, ⊎_elim, length, map, get_or, set, arith}
+use Rattle.std.specs.Prelude.{◌⊎◌, ◌&&◌, not, Result, Ok, Err, IfNone, IfOk, IfSome, IsFalse, IsTrue, cond, count_by, is_none, is_some, position}
+use Rattle.std.proofs.lemmas.Bool.{true≢false}
 use Rattle.std.proofs.lemmas.List.{length-append, take-append-drop}
 use Rattle.std.proofs.lemmas.List.Quantifiers.{position-Some}
 use Rattle.std.proofs.lemmas.List.Sums.{sum_by-cons, sum_by-set}
@@ -14,13 +15,16 @@ use Rattle.histories.specs.declared.outcomes.CoreFault.{CoreFault}
 use Rattle.incarnations.specs.Machine.{hand_of as hand_in}
 use Rattle.parcel.specs.Run.{JobView}
 use Rattle.scheduler.specs.Calls.{IsLogStep}
-use Rattle.serving.specs.Lending.{DispatchesTo, IsBlocked}
+use Rattle.serving.specs.Checkpoints.{IsDue}
+use Rattle.serving.specs.Lending.{DispatchesTo, IsBlocked, asks_for_checkpoint}
 use Rattle.serving.specs.Runs.{lent_hand}
-use Rattle.serving.specs.Session.{CanRead, HasGoneOn, HasLoggedNothing, HasMoved, MovedCheckpoint, NoneUnanswered, Rests, SessionView, TookStep, Waited, steps_ahead}
+use Rattle.serving.specs.Session.{Advanced, Began, CallsForCheckpoint, CanRead, CheckpointStep, HasGoneOn, HasLoggedNothing, HasMoved, IsBlockedIn, KeepsCoreState, MovedCheckpoint, NoneUnanswered, Rests, SessionView, TookStep, Waited, steps_ahead}
+use Rattle.serving.specs.declared.checkpoints.CheckpointTrigger.{CheckpointTrigger}
 use Rattle.serving.specs.declared.session.Activity.{Activity}
 use Rattle.serving.specs.declared.session.Activity.TheVariants as activities
 use Rattle.serving.specs.declared.dispatch.Blocked.{Blocked}
 use Rattle.serving.specs.declared.dispatch.Blocked.TheVariants as blocked
+use Rattle.serving.proofs.Resting.{still_blocked}
 
 -- ---- the jobs that are lent
 
@@ -53,10 +57,9 @@ none_weighs (Some job) e = cc
 abbrev pub steps : CoreState → List (Option JobView) → ℕ
 steps w lent = 5 * length w.waiting + (3 * length w.in_flight + jobs lent) + 2 * length w.ran + length w.logged
 
--- As many steps as before are to come, and the checkpoint in progress is as it was.
-still : (old new : CoreState) (lent after : List (Option JobView)) → new ≡ old → after ≡ lent → (steps new after ≤ steps old lent) × (new.pieces_left ≡ old.pieces_left)
-still old new lent after same places =
-    let many : steps new after ≡ steps old lent = λ i. steps (same i) (places i) in (omega (arith, many), ap (λ (w : CoreState). w.pieces_left) same)
+-- A message took a step, or nothing has changed.
+abbrev pub HasStepped : CoreState → CoreState → List (Option JobView) → List (Option JobView) → Type 0
+HasStepped old new lent after = (steps new after < steps old lent) ⊎ ((new ≡ old) × (after ≡ lent))
 
 nothing_done : (g : Geometry) (old new : CoreState) (lent : List (Option JobView)) (why : Blocked) → IsBlocked g old new lent why → new ≡ old
 nothing_done g old new lent blocked.NoPlace is = is.1
@@ -66,17 +69,19 @@ nothing_done g old new lent blocked.Failed is = is.1
 
 module _ (g : Geometry) (k : ℕ) (old new : CoreState) (lent after : List (Option JobView)) where
   pub dispatched : (what : Result (Unit {0}) Blocked) → position is_none lent ≡ Some k → DispatchesTo g k old lent new after what
-      → (steps new after ≤ steps old lent) × (new.pieces_left ≡ old.pieces_left)
+      → HasStepped old new lent after × (new.pieces_left ≡ old.pieces_left)
   dispatched (Ok _) first d =
       let grant = d.1 in
       let at = position-Some is_none lent k None first in
       let fewer = length-picked (is_eligible g old) old.waiting grant.found grant.first in
       rw (grant.state_after, d.2)
-      (omega (arith, fewer, length-append {A = Entry}, jobs-set lent k (Some d.0) at.0, none_weighs (get_or lent k None) at.1), refl)
-  dispatched (Err why) first d = still old new lent after (nothing_done g old new lent why d.0) d.1
+      (inl (omega (arith, fewer, length-append {A = Entry}, jobs-set lent k (Some d.0) at.0, none_weighs (get_or lent k None) at.1)), refl)
+  dispatched (Err why) first d =
+      let same = nothing_done g old new lent why d.0 in
+      (inr (same, d.1), ap (λ (w : CoreState). w.pieces_left) same)
 
   pub returned : (ticket : ℕ) (found : Entry × List Entry) → k < length lent → find_in_flight old ticket ≡ Some found → new ≡ give_back g old found → after ≡ set lent k None
-      → (steps new after ≤ steps old lent) × (new.pieces_left ≡ old.pieces_left)
+      → (steps new after < steps old lent) × (new.pieces_left ≡ old.pieces_left)
   returned ticket found within first is places =
       rw (is, places) (omega (arith, length-picked _ old.in_flight found first, length-append {A = Replied}, jobs-set lent k None within), refl)
 
@@ -87,20 +92,69 @@ logged_some g old new lent n (Ok count) s =
     rw s.2 (omega (arith, parts, length-append {A = Replied}))
 logged_some g old new lent n (Err e) s = tt
 
+-- ---- how the session moves
+
+pub keeps_ahead : (p q : SessionView) → KeepsCoreState p q → steps_ahead q ≡ steps_ahead p
+keeps_ahead p q keeps = λ i. steps (keeps.1 i) (keeps.2 i).lent
+
+keep_on : (p q r : SessionView) → KeepsCoreState p q → KeepsCoreState q r → KeepsCoreState p r
+keep_on p q r first later = (later.0 ∙ first.0, later.1 ∙ first.1, later.2 ∙ first.2)
+
+-- no more steps are to come than before
+pub moved_ahead : (p q : SessionView) → HasMoved p q → steps_ahead q ≤ steps_ahead p
+moved_ahead p q m = ⊎_elim (λ (less : steps_ahead q < steps_ahead p). omega (arith, less))
+    (λ (keeps : KeepsCoreState p q). omega (arith, keeps_ahead p q keeps)) m.moved
+
+-- ---- why a checkpoint begins
+
+-- Where nothing but the output has changed, there is the same reason for a checkpoint.
+pub calls_still : (p q : SessionView) → KeepsCoreState p q → q.trigger ≡ p.trigger → CallsForCheckpoint q → CallsForCheckpoint p
+calls_still p q keeps count reason =
+    let pieces_left = ap (λ (w : CoreState). w.pieces_left) keeps.1 in
+    ⊎_elim (λ (due : IsDue q.trigger q.core.pieces_left).
+    inl (subst (IsDue p.trigger) pieces_left (subst (λ (t : CheckpointTrigger). IsDue t q.core.pieces_left) count due)))
+    (λ (full : IsBlockedIn q blocked.NoRoom). inr (still_blocked q p (Some blocked.NoRoom) (sym keeps.0, sym keeps.1, sym keeps.2) full)) reason
+
+module _ (q r : SessionView) (why : Option Blocked) where
+  -- Where nothing was logged, there is still the reason for which no message was dispatched.
+  pub reason_is : IfSome why (IsBlockedIn q) → IfNone why (IsDue q.trigger q.core.pieces_left) → (moved : Bool) → (IsFalse moved → HasLoggedNothing q r)
+      → (asked : Bool) → asked ≡ (not moved && asks_for_checkpoint why) → IsTrue asked → CallsForCheckpoint r
+  reason_is is due true nothing asked what asks = absurd (true≢false (sym asks ∙ what))
+  reason_is is due false nothing asked what asks = is_kept why is due (nothing refl) (sym what ∙ asks)
+    where
+      is_kept : (why : Option Blocked) → IfSome why (IsBlockedIn q) → IfNone why (IsDue q.trigger q.core.pieces_left) → HasLoggedNothing q r
+          → asks_for_checkpoint why ≡ true → CallsForCheckpoint r
+      is_kept None is due same asks = inl (subst (IsDue r.trigger) (sym (ap (λ (w : CoreState). w.pieces_left) same.keeps.1))
+          (subst (λ (t : CheckpointTrigger). IsDue t q.core.pieces_left) (sym same.trigger) due))
+      is_kept (Some blocked.NoRoom) is due same asks = inr (still_blocked q r (Some blocked.NoRoom) same.keeps is)
+      is_kept (Some _) is due same asks = absurd (true≢false (sym asks))
+
 -- ---- an iteration
 
 -- from p by a dispatch to q, from there by what was logged and answered to r, and then to s
 module _ (p q r s : SessionView) (dispatch : HasMoved p q) where
-  since_before : steps_ahead r ≤ steps_ahead q → HasLoggedNothing q r → HasGoneOn r s → HasGoneOn p s
-  since_before few nothing (TookStep less) = let before = dispatch.0 in TookStep (omega (arith, less, few, before))
-  since_before few nothing (MovedCheckpoint moved) = MovedCheckpoint (λ same.
-      moved (same ∙ ap points_left (sym (ap (λ (w : CoreState). w.pieces_left) nothing.keeps.1 ∙ dispatch.1))))
-  since_before few nothing (Waited in_flight) = Waited in_flight
-  since_before few nothing (CanRead reads room buffered) = CanRead reads room buffered
-  since_before few nothing (Rests none) = Rests none
+  -- a message was dispatched or came back; or nothing has changed so far
+  checkpoint_moves : steps_ahead s ≤ steps_ahead r → HasLoggedNothing q r → CheckpointStep r s → HasGoneOn p s
+  checkpoint_moves few nothing (Advanced fewer count) =
+      let same = ap points_left (ap (λ (w : CoreState). w.pieces_left) nothing.keeps.1 ∙ dispatch.pieces_left) in
+      MovedCheckpoint (Advanced (omega (arith, fewer, same)) (count ∙ nothing.trigger ∙ dispatch.trigger))
+  checkpoint_moves few nothing (Began reason none n begun restarted) =
+      let before = keeps_ahead q r nothing.keeps in
+      ⊎_elim (λ (less : steps_ahead q < steps_ahead p). TookStep (omega (arith, less, few, before)))
+      (λ (kept : KeepsCoreState p q).
+      let same = ap (λ (w : CoreState). w.pieces_left) nothing.keeps.1 ∙ dispatch.pieces_left in
+      MovedCheckpoint (Began (calls_still p r (keep_on p q r kept nothing.keeps) (nothing.trigger ∙ dispatch.trigger) reason)
+      (sym same ∙ none) n begun restarted)) dispatch.moved
+
+  since_before : steps_ahead r ≤ steps_ahead q → steps_ahead s ≤ steps_ahead r → HasLoggedNothing q r → HasGoneOn r s → HasGoneOn p s
+  since_before few later nothing (TookStep less) = let before = moved_ahead p q dispatch in TookStep (omega (arith, less, few, before))
+  since_before few later nothing (MovedCheckpoint step) = checkpoint_moves later nothing step
+  since_before few later nothing (Waited in_flight flushed none) = Waited in_flight flushed none
+  since_before few later nothing (CanRead can) = CanRead can
+  since_before few later nothing (Rests none) = Rests none
 
   pub has_gone_on : (moved : Bool) (activity : Activity) → steps_ahead r + cond moved 1 0 ≤ steps_ahead q → (IsFalse moved → HasLoggedNothing q r)
       → steps_ahead s ≤ steps_ahead r → (activity ≡ activities.Busy → HasGoneOn r s) → (activity ≡ activities.Idle → NoneUnanswered s) → HasGoneOn p s
-  has_gone_on true activity less nothing few busy idle = let before = dispatch.0 in TookStep (omega (arith, less, few, before))
-  has_gone_on false activities.Busy less nothing few busy idle = since_before (omega (arith, less)) (nothing refl) (busy refl)
+  has_gone_on true activity less nothing few busy idle = let before = moved_ahead p q dispatch in TookStep (omega (arith, less, few, before))
+  has_gone_on false activities.Busy less nothing few busy idle = since_before (omega (arith, less)) few (nothing refl) (busy refl)
   has_gone_on false activities.Idle less nothing few busy idle = Rests (idle refl)

@@ -30,6 +30,7 @@ use Rattle.serving.specs.Lending.{NoneInFlight}
 use Rattle.serving.specs.Reads.{IsTaken}
 use Rattle.reorder_buffer.specs.ReorderBuffer.{AreConsecutive, ReorderBufferView, can_retire, retired_text, with_tickets}
 use Rattle.serving.specs.Runs.{HandsHaveJobs, IsInternal, RunsBetween, lent_hand, machine_with_jobs}
+use Rattle.serving.specs.declared.checkpoints.CheckpointTrigger.{CheckpointTrigger}
 use Rattle.serving.specs.Session.{Waits, SessionProgress, HasEndedReading, IsReadEnd, SessionInvariant, SessionInvariantFrom, SessionView, ServingSince, ReadsOrHasEnded, machine, IsSent}
 use Rattle.message.specs.Writing.{AppendsBeginning}
 use Rattle.disk.specs.Device.{Medium}
@@ -201,6 +202,15 @@ module _ (keeps : Type 0) where
           places ∙ u.places ∙ ap (λ (z : _). z.slots) (sym bench),
           subst (λ (z : TableId). 0 < z.slots) (sym bench) u.some_place,
           reads_on s p q (passes_next k.segment) (still_failed k.segment) (λ unread drained h. search (quiet_since h.since k.segment, h)) p.read_end u.reads,
+          u,
+        ))
+
+    -- What is counted towards the next checkpoint is free.
+    pub on_trigger : (trigger : CheckpointTrigger) → SessionInvariantFrom keeps o (record p { trigger = trigger })
+    on_trigger trigger =
+        let q : SessionView = record p { trigger = trigger } in
+        goes_to q (λ s u. assumption (
+          reads_on s p q refl (λ x. x) (λ unread drained h. record { waits = h.waits; whole = h.whole; output = h.output; since = h.since }) p.read_end u.reads,
           u,
         ))
 

@@ -1,6 +1,6 @@
 -- What was sent was on the device when the last send began: so much stays true while events follow and lines are read, and begins anew with
 -- each send. So a kill at any moment since then has lost none of it.
-use Rattle.std.proofs.Common.{arith, ◌≡◌, ◌≤◌, ◌+◌, ℕ, Bool, true, false, List, [], ◌++◌, Option, ap, sym, refl, ◌∙◌, length, map, take, append-nil}
+use Rattle.std.proofs.Common.{arith, ◌≡◌, ◌≤◌, ◌+◌, ℕ, Bool, false, List, [], ◌++◌, Option, ap, sym, refl, ◌∙◌, length, map, take, append-nil}
 use Rattle.std.specs.Io.KnownBytes.{Appends}
 use Rattle.std.proofs.KnownBytes.{Appends-nil}
 use Rattle.std.proofs.lemmas.List.{length-append, length-map, take-append-le, take-map, take_all}

@@ -1,6 +1,6 @@
 -- Steps of a checkpoint fail only where the device does.
 use Rattle.std.proofs.Common.{◌≡◌, ◌≢◌, ℕ, true, false, List, [], length, Option, Some, None, Result, Ok, Err, refl, ap, sym, subst, ◌∙◌}
-use Rattle.std.specs.Prelude.{Bool, if◌then◌else◌, is_some, nat_lt, IfOk, IsFalse, MatchBool, MatchResult, OnErr, OnOk}
+use Rattle.std.specs.Prelude.{Bool, if◌then◌else◌, is_some, nat_lt, IfOk, IsFalse, IsTrue, MatchBool, MatchResult, OnErr, OnOk}
 use Rattle.std.proofs.lemmas.Bool.{true≢false}
 use Rattle.std.proofs.lemmas.Option.{none-some}
 use Rattle.histories.specs.Events.{point_refusal}
@@ -8,6 +8,7 @@ use Rattle.histories.specs.CoreState.{Entry, CoreState, held}
 use Rattle.histories.specs.declared.outcomes.PointRefusal.{PointRefusal}
 use Rattle.histories.specs.declared.outcomes.PointRefusal.TheVariants as points
 use Rattle.scheduler.specs.Calls.{IsCheckpointStep}
+use Rattle.serving.specs.Session.{Began, CallsForCheckpoint, CheckpointStep, SessionView}
 use Rattle.serving.specs.declared.session.Halted.{Halted}
 
 -- ---- why a step is refused
@@ -40,6 +41,14 @@ pub stands_still : (A B C asked : Type 0) {K L : Type 0} (result : Result Bool H
 stands_still A B C asked (Ok true) begun keeps on = λ e. absurd (true≢false e)
 stands_still A B C asked (Ok false) begun keeps on = λ e. (on (keeps e), begun.0, λ _. begun.1)
 stands_still A B C asked (Err y) begun keeps on = tt
+
+-- Where one has begun, there was a reason, and its count starts anew.
+pub begins : (B : Type 0) (old new : SessionView) → CallsForCheckpoint old → old.core.pieces_left ≡ None → (result : Result Bool Halted)
+    → IfOk result (λ it. MatchBool it ((n : ℕ) × (new.core.pieces_left ≡ Some n)) B) → IfOk result (λ it. IsTrue it → new.trigger.logged_since ≡ 0)
+    → IfOk result (λ it. IsTrue it → CheckpointStep old new)
+begins B old new reason none (Ok true) begun restarted = λ e. Began reason none begun.0 begun.1 (restarted e)
+begins B old new reason none (Ok false) begun restarted = λ e. absurd (true≢false (sym e))
+begins B old new reason none (Err y) begun restarted = tt
 
 -- ---- where a point is to begin and none is in progress
 

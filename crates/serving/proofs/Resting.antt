@@ -1,6 +1,6 @@
 -- Where a session is at rest, nothing waits in its core: the message with the least ticket could be dispatched, or lacks only room in the
 -- log. So each line that was read is retired.
-use Rattle.std.proofs.Common.{◌≡◌, ◌≢◌, ℕ, ◌<◌, zero, suc, Bool, false, List, [], ◌∷◌, ◌++◌, Option, Some, None, refl, ap, sym, ◌∙◌, length, replicate, arith}
+use Rattle.std.proofs.Common.{◌≡◌, ◌≢◌, ℕ, ◌<◌, zero, suc, Bool, true, false, List, [], ◌∷◌, ◌++◌, Option, Some, None, refl, ap, sym, ◌∙◌, length, replicate, arith}
 use Rattle.std.specs.Prelude.{cond, IfSome, is_none, position}
 use Rattle.std.proofs.lemmas.Bool.{true≢false, lt-ltb}
 use Rattle.std.proofs.lemmas.Option.{none-some}
@@ -13,7 +13,7 @@ use Rattle.reorder_buffer.specs.ReorderBuffer.{ReorderBufferView, can_retire}
 use Rattle.parcel.specs.Run.{JobView}
 use Rattle.scheduler.specs.Calls.{IsNoGrant}
 use Rattle.scheduler.specs.CoreView.{core_state_of}
-use Rattle.serving.specs.Lending.{IsBlocked}
+use Rattle.serving.specs.Lending.{IsBlocked, asks_for_checkpoint}
 use Rattle.serving.specs.Session.{IsAtRest, KeepsCoreState, HasLoggedNothing, HasOnlySent, SessionInvariantFrom, SessionView}
 use Rattle.serving.specs.Output.{Start}
 use Rattle.serving.specs.declared.dispatch.Blocked.{Blocked}
@@ -71,14 +71,16 @@ pub still_blocked : (p q : SessionView) (why : Option Blocked) → KeepsCoreStat
 still_blocked p q why k is =
     rw (k.1, k.0, k.2) is
 
-pub comes_to_rest : (p q r : SessionView) (why : Option Blocked)
-    → IfSome why (IsBlocked p.core.geometry (core_state_of p.core) (core_state_of p.core) p.dispatch_seat.lent) → HasLoggedNothing p q
-    → can_retire q.reorder_buffer.lines ≡ false → HasOnlySent q r why → IsAtRest r why
-comes_to_rest p q r why blocked l last s = assumption (
-  still_blocked q r why s.keeps (still_blocked p q why l.keeps blocked),
-  ap (λ (w : CoreState). w.ran) s.keeps.1 ∙ l.none_ran,
-  ap (λ (w : CoreState). w.logged) s.keeps.1 ∙ l.none_logged,
-  ap (λ (w : CoreState). w.failed) s.keeps.1 ∙ l.works,
-  ap (λ (b : ReorderBufferView). can_retire b.lines) s.lines ∙ last,
-  s,
-)
+module _ (p q r : SessionView) (why : Option Blocked) where
+  pub comes_to_rest : (is_asked_for : Bool) → (asks_for_checkpoint why ≡ true → is_asked_for ≡ true)
+      → IfSome why (IsBlocked p.core.geometry (core_state_of p.core) (core_state_of p.core) p.dispatch_seat.lent) → HasLoggedNothing p q
+      → can_retire q.reorder_buffer.lines ≡ false → HasOnlySent q r is_asked_for → IsAtRest r why
+  comes_to_rest is_asked_for asks blocked l last s = assumption (
+    still_blocked q r why s.keeps (still_blocked p q why l.keeps blocked),
+    ap (λ (w : CoreState). w.ran) s.keeps.1 ∙ l.none_ran,
+    ap (λ (w : CoreState). w.logged) s.keeps.1 ∙ l.none_logged,
+    ap (λ (w : CoreState). w.failed) s.keeps.1 ∙ l.works,
+    ap (λ (b : ReorderBufferView). can_retire b.lines) s.lines ∙ last,
+    (λ (asked : asks_for_checkpoint why ≡ true). s.none_asked (asks asked)),
+    s,
+  )

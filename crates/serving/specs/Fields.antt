@@ -19,6 +19,7 @@ module _ {R D L : Type 0} (remaining : R → Option (List ℕ)) (sent : L → Op
     dispatch_seat = s.dispatch_seat;
     reorder_buffer = s.reorder_buffer;
     reply_buffer = s.reply_buffer;
+    trigger = s.trigger;
     sent = sent s.sink;
     sent_at = sent_at s.sink;
     outstanding = s.outstanding;

@@ -5,6 +5,7 @@ pub use Rattle.reorder_buffer.specs.ReorderBuffer
 pub mod Runs
 pub mod Progress
 pub mod Lending
+pub mod Checkpoints
 pub mod Reads
 pub mod Ends
 pub mod Serve

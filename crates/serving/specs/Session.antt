@@ -1,5 +1,5 @@
 -- Inner: The state of a session, its invariant since its start, and how a call moves it.
-use Rattle.std.specs.Prelude.{◌≡◌, ◌≢◌, ◌+◌, ◌<◌, ◌≤◌, ◌-◌, ◌^◌, ℕ, Bool, true, false, List, [], ◌++◌, length, map, take, Option, Some, None, IfSome, IsSomeAnd, IsTrue, OnErr, MatchResult, Result, Ok, Err, MatchOption}
+use Rattle.std.specs.Prelude.{◌≡◌, ◌≢◌, ◌⊎◌, ◌+◌, ◌<◌, ◌≤◌, ◌-◌, ◌^◌, ℕ, Bool, true, false, List, [], ◌++◌, length, map, take, Option, Some, None, IfSome, IsSomeAnd, IsTrue, OnErr, MatchResult, Result, Ok, Err, MatchOption}
 use Rattle.std.specs.Io.KnownBytes.{Appends, IsAtEnd}
 use Rattle.affinity.specs.declared.geometry.Geometry.{Geometry}
 use Rattle.disk.specs.Device.{Medium}
@@ -16,6 +16,7 @@ use Rattle.language.specs.declared.Msg.{Msg}
 use Rattle.meaning.specs.Output.{joined}
 use Rattle.message.specs.Writing.{AppendsBeginning}
 use Rattle.scheduler.specs.CoreView.{CoreView, core_state_of}
+use Rattle.serving.specs.Checkpoints.{IsDue}
 use Rattle.serving.specs.Progress.{ServingProgress}
 use Rattle.serving.specs.Lending.{IsBlocked, NoneInFlight, asks_for_checkpoint}
 use Rattle.serving.specs.Lines.{HaveAnswers, Line, answer_text}
@@ -25,7 +26,9 @@ use Rattle.reorder_buffer.specs.ReorderBuffer.{ReorderBufferView, can_retire}
 use Rattle.serving.specs.Runs.{HandsHaveJobs, machine_with_jobs}
 use Rattle.oplog.specs.Recovery.{records_in}
 use Rattle.serving.specs.Output.{Start, start_machine}
+use Rattle.serving.specs.declared.checkpoints.CheckpointTrigger.{CheckpointTrigger}
 use Rattle.serving.specs.declared.dispatch.Blocked.{Blocked}
+use Rattle.serving.specs.declared.dispatch.Blocked.TheVariants as blocked
 use Rattle.serving.specs.declared.session.Halted.{Halted}
 use Rattle.serving.specs.declared.session.ReadEnd.{ReadEnd}
 use Rattle.serving.specs.declared.session.ReadEnd.TheVariants as ends_of_reading
@@ -43,6 +46,8 @@ pub record SessionView : Type 0 where
   -- the lines that were read and not retired yet, the answers that wait to be sent, and what was sent
   pub reorder_buffer : ReorderBufferView
   pub reply_buffer : List ℕ
+  -- after how many records a checkpoint is due, and how many were logged since the last one began
+  pub trigger : CheckpointTrigger
   pub sent : Option (List ℕ)
   -- the device when the last send began, or at the start of the call
   pub sent_at : Medium
@@ -195,26 +200,47 @@ KeepsCoreState old new = (new.core.geometry ≡ old.core.geometry) × (core_stat
 abbrev pub steps_ahead : SessionView → ℕ
 steps_ahead p = steps_to_come (machine_of (machine p))
 
--- No more steps are to come than before, and the checkpoint in progress is as it was. Nothing was read, and the output has not failed.
-abbrev pub HasMoved : SessionView → SessionView → Type 0
-HasMoved old new = (steps_ahead new ≤ steps_ahead old) × (new.core.pieces_left ≡ old.core.pieces_left)
-    × KeepsReadEndAndOutputFailed old new × HasReadNothing old new
+-- A message took a step, so that fewer are to come; or the core state and what is lent are as before. The checkpoint in progress is as it
+-- was, and so is the count towards the next one. Nothing was read, and the output has not failed.
+pub record HasMoved (old new : SessionView) : Type 0 where
+  pub moved : (steps_ahead new < steps_ahead old) ⊎ KeepsCoreState old new
+  pub pieces_left : new.core.pieces_left ≡ old.core.pieces_left
+  pub trigger : new.trigger ≡ old.trigger
+  pub as_before : KeepsReadEndAndOutputFailed old new
+  pub unread : HasReadNothing old new
 
 -- No message of this session is dispatched, for this reason.
 abbrev pub IsBlockedIn : SessionView → Blocked → Type 0
 IsBlockedIn p why = IsBlocked p.core.geometry (core_state_of p.core) (core_state_of p.core) p.dispatch_seat.lent why
 
+-- There is a reason to begin a checkpoint: one is due by the count of records, or a message lacks only room in the log.
+abbrev pub CallsForCheckpoint : SessionView → Type 0
+CallsForCheckpoint p = IsDue p.trigger p.core.pieces_left ⊎ IsBlockedIn p blocked.NoRoom
+
+-- How a checkpoint has moved.
+pub data CheckpointStep (old new : SessionView) : Type 0 where
+  -- the one in progress took a step: a piece of the image was written, or it ended; the count towards the next one is as it was
+  Advanced : (fewer : points_left new.core.pieces_left + 1 ≡ points_left old.core.pieces_left) → (count : new.trigger ≡ old.trigger)
+      → CheckpointStep old new
+  -- one has begun, for a reason; its count starts anew, so that the next one isn't due by it before more records are logged
+  Began : (reason : CallsForCheckpoint old) → (none : old.core.pieces_left ≡ None) → (n : ℕ) → (begun : new.core.pieces_left ≡ Some n)
+      → (restarted : new.trigger.logged_since ≡ 0) → CheckpointStep old new
+
+-- A line is buffered, and may be read.
+abbrev pub CanReadLine : SessionView → Type 0
+CanReadLine p = (p.read_end ≡ None) × (p.outstanding < p.reorder_buffer.slots) × (p.holds_line ≡ true)
+
 -- How an iteration of the loop has gone on.
 pub data HasGoneOn (old new : SessionView) : Type 0 where
   -- a message took a step: fewer are to come
   TookStep : (less : steps_ahead new < steps_ahead old) → HasGoneOn old new
-  -- a checkpoint began, went on or ended
-  MovedCheckpoint : (moved : points_left new.core.pieces_left ≢ points_left old.core.pieces_left) → HasGoneOn old new
-  -- it waited while a job was in flight, which still is
-  Waited : (in_flight : NoneInFlight new.dispatch_seat.lent → ⊥) → HasGoneOn old new
-  -- a line is buffered, and can be read
-  CanRead : (reads : new.read_end ≡ None) → (room : new.outstanding < new.reorder_buffer.slots) → (buffered : new.holds_line ≡ true)
+  -- the checkpoint in progress took a step, or one has begun
+  MovedCheckpoint : (step : CheckpointStep old new) → HasGoneOn old new
+  -- a job is in flight, and it has waited for a worker: all answers are sent that waited, and no line could be read
+  Waited : (in_flight : NoneInFlight new.dispatch_seat.lent → ⊥) → (flushed : new.reply_buffer ≡ []) → (none : CanReadLine new → ⊥)
       → HasGoneOn old new
+  -- a line is buffered, and can be read
+  CanRead : (can : CanReadLine new) → HasGoneOn old new
   -- no line is unanswered
   Rests : (none : NoneUnanswered new) → HasGoneOn old new
 
@@ -237,15 +263,15 @@ pub record HasLoggedNothing (old new : SessionView) : Type 0 where
   pub none_logged : new.core.logged ≡ []
   pub works : new.core.failed ≡ false
   pub keeps : KeepsCoreState old new
+  pub trigger : new.trigger ≡ old.trigger
 
--- The answers that waited are sent, and nothing else has changed. No job is in flight; if a checkpoint is to begin, since no message is
--- dispatched for this reason (`None`: one is due), a message is held.
-pub record HasOnlySent (old new : SessionView) (why : Option Blocked) : Type 0 where
+-- The answers that waited are sent, and nothing else has changed. No job is in flight; if a checkpoint is asked for, a message is held.
+pub record HasOnlySent (old new : SessionView) (is_asked_for : Bool) : Type 0 where
   pub flushed : new.reply_buffer ≡ []
   pub lines : new.reorder_buffer ≡ old.reorder_buffer
   pub keeps : KeepsCoreState old new
   pub none_in_flight : NoneInFlight new.dispatch_seat.lent
-  pub none_asked : asks_for_checkpoint why ≡ true → held (core_state_of new.core) ≢ []
+  pub none_asked : is_asked_for ≡ true → held (core_state_of new.core) ≢ []
 
 -- Nothing is left to do: no message is dispatched, for this reason (`None`: a checkpoint is due), though no job is in flight and no
 -- checkpoint is to begin. Nothing that ran or is logged is left, and the oldest line, if there is one, has no answer.

@@ -1,11 +1,12 @@
 //! Checkpoints of a session: when one is due, how it begins, and how it is carried to its end step by step.
 
-ghost use Rattle.std.specs.Prelude.{◌≡◌, ◌≢◌, ◌+◌, ℕ, [], None, Some, IfOk, IsFalse, IsTrue, MatchBool, MatchResult, OnOk, false};
+ghost use Rattle.std.specs.Prelude.{◌≡◌, ◌≢◌, ◌↔◌, ◌+◌, ℕ, [], None, Some, IfOk, IsFalse, IsTrue, MatchBool, MatchResult, OnOk, false};
 ghost use Rattle.histories.specs.declared.outcomes.PointRefusal.TheVariants.{Held};
 ghost use Rattle.histories.specs.CoreState.{held};
 ghost use Rattle.scheduler.specs.CoreView.{core_state_of};
 ghost use Rattle.histories.specs.Progress.{points_left};
-ghost use Rattle.serving.specs.Session.{IsSessionStep, KeepsCoreState, steps_ahead};
+ghost use Rattle.serving.specs.Checkpoints.{IsDue, trigger_after};
+ghost use Rattle.serving.specs.Session.{CheckpointStep, IsSessionStep, KeepsCoreState, CallsForCheckpoint, steps_ahead};
 
 use crate::output::ReplySink;
 use crate::session::{Halted, Session};
@@ -14,7 +15,7 @@ use histories::PointRefusal;
 use language::Reply;
 use std::io::Read;
 
-/// When checkpoints are due. A wrong count makes them at other times, which no contract forbids.
+/// When checkpoints are due.
 #[derive(Clone, Copy)]
 pub(crate) struct CheckpointTrigger {
     /// After how many records a checkpoint is due; 0: none is due by their count.
@@ -25,28 +26,36 @@ pub(crate) struct CheckpointTrigger {
 
 impl CheckpointTrigger {
     /// A trigger that has counted nothing yet.
-    pub(crate) fn new(every: u64) -> CheckpointTrigger {
+    pub(crate) fn new(every: u64) -> CheckpointTrigger
+        ensures { (result.every ≡ every) × (result.logged_since ≡ 0) }
+    {
         CheckpointTrigger {
             every,
             logged_since: 0,
         }
     }
 
-    /// Counts a message with this reply, if it was a change that was carried out: it has a record in the log.
-    pub(crate) fn count(&mut self, reply: &Reply) {
+    /// Counts a message with this reply, if it was a change that was carried out: it has a record in the log. The count saturates.
+    pub(crate) fn count(&mut self, reply: &Reply)
+        ensures { self.new ≡ trigger_after self.old reply.now }
+    {
         if matches!(reply, Reply::Done) {
             self.logged_since = self.logged_since.saturating_add(1);
         }
     }
 
     /// A checkpoint has begun: the count starts anew.
-    fn restart(&mut self) {
+    fn restart(&mut self)
+        ensures { (self.new.every ≡ self.old.every) × (self.new.logged_since ≡ 0) }
+    {
         self.logged_since = 0;
     }
 
     /// Whether a checkpoint is due by the record count. None is due while one is in progress (`pieces_left` is its number of unwritten
     /// pieces; `None` if none is).
-    pub(crate) fn is_due(&self, pieces_left: Option<usize>) -> bool {
+    pub(crate) fn is_due(&self, pieces_left: Option<usize>) -> bool
+        ensures { IsTrue result ↔ IsDue self.now pieces_left }
+    {
         pieces_left.is_none() && self.every != 0 && self.logged_since >= self.every
     }
 }
@@ -74,6 +83,7 @@ impl<'c, R: Read, D: Disk, L: ReplySink<D>> Session<'c, R, D, L> {
             ((self.new.core.pieces_left ≡ None) × (self.old.core.pieces_left ≡ None))) }
         ensures none { IfOk result (λ moved. IsFalse moved → self.new ≡ self.old) }
         ensures steps { OnOk result (steps_ahead self.new ≡ steps_ahead self.old) }
+        ensures trigger { self.new.trigger ≡ self.old.trigger }
     {
         let Some(pieces_left) = self.core.pieces_left() else {
             return Ok(false);
@@ -90,12 +100,15 @@ impl<'c, R: Read, D: Disk, L: ReplySink<D>> Session<'c, R, D, L> {
         }
     }
 
-    /// Begins a checkpoint if no message is held, else does nothing. Returns whether one has begun. No checkpoint may be in progress.
+    /// Begins a checkpoint if no message is held, else does nothing. Returns whether one has begun. No checkpoint may be in progress, and
+    /// there has to be a reason for one: a server that begins them without could make checkpoints for ever, and never read a line.
     pub(crate) fn begin_checkpoint(&mut self) -> Result<bool, Halted>
         requires none { self.old.core.pieces_left ≡ None }
+        requires reason { CallsForCheckpoint self.old }
         ensures session_step { IsSessionStep self.old self.new result }
         ensures begun { IfOk result (λ it. MatchBool it ((n : ℕ) × (self.new.core.pieces_left ≡ Some n))
             ((self.new.core.pieces_left ≡ None) × (held (core_state_of self.new.core) ≢ []))) }
+        ensures restarted { IfOk result (λ it. IsTrue it → self.new.trigger.logged_since ≡ 0) }
         ensures stays { IfOk result (λ it. IsFalse it → KeepsCoreState self.old self.new) }
         ensures steps { OnOk result (steps_ahead self.new ≡ steps_ahead self.old) }
         ensures same { (self.new.reorder_buffer ≡ self.old.reorder_buffer) × (self.new.reply_buffer ≡ self.old.reply_buffer) }
@@ -110,10 +123,11 @@ impl<'c, R: Read, D: Disk, L: ReplySink<D>> Session<'c, R, D, L> {
     }
 
     /// Called where no job is in flight and no message may be dispatched or read. It takes one step of the checkpoint in progress; if there
-    /// is none, it begins one where it is due or `is_asked_for`. Returns whether it did either.
+    /// is none, it begins one where it is due or `is_asked_for`, which takes a reason. Returns whether it did either.
     pub(crate) fn advance_or_begin_checkpoint(&mut self, is_asked_for: bool) -> Result<bool, Halted>
+        requires reason { IsTrue is_asked_for → CallsForCheckpoint self.old }
         ensures session_step { IsSessionStep self.old self.new result }
-        ensures moved { IfOk result (λ it. IsTrue it → points_left self.new.core.pieces_left ≢ points_left self.old.core.pieces_left) }
+        ensures moved { IfOk result (λ it. IsTrue it → CheckpointStep self.old self.new) }
         ensures same { (self.new.reorder_buffer ≡ self.old.reorder_buffer) × (self.new.reply_buffer ≡ self.old.reply_buffer) }
         ensures steps { OnOk result (steps_ahead self.new ≡ steps_ahead self.old) }
         ensures stays { IfOk result (λ it. IsFalse it → KeepsCoreState self.old self.new × (self.new.core.pieces_left ≡ None)

@@ -1,15 +1,16 @@
 //! One iteration of a session. Messages are dispatched; what was collected is logged by one call and answered, with a step of the
 //! checkpoint in progress after each answer. Where nothing else can be done, it waits for a result, or advances or begins a checkpoint.
 
-ghost use Rattle.std.specs.Prelude.{◌≡◌, ◌+◌, ◌<◌, ◌≤◌, ◌-◌, cond, ◌↔◌, IfNone, IfOk, IfSome, IsFalse, Option, IsTrue, OnErr, OnOk, Some, [], None, false, is_none, length, position, true};
+ghost use Rattle.std.specs.Prelude.{◌≡◌, ◌+◌, ◌<◌, ◌≤◌, ◌-◌, ◌&&◌, not, cond, ◌↔◌, IfNone, IfOk, IfSome, IsFalse, Option, IsTrue, OnErr, OnOk, Some, [], None, false, is_none, length, position, true};
 ghost use Rattle.affinity.specs.declared.geometry.Geometry.{Geometry};
 ghost use Rattle.histories.specs.CoreState.{CoreState};
 ghost use Rattle.reorder_buffer.specs.ReorderBuffer.{can_retire};
 ghost use Rattle.scheduler.specs.Calls.{IsGranted};
 ghost use Rattle.scheduler.specs.CoreView.{core_state_of};
 ghost use Rattle.serving.specs.Kill.{IsKillSafe};
+ghost use Rattle.serving.specs.Checkpoints.{IsDue};
 ghost use Rattle.serving.specs.Lending.{DispatchesTo, NoneInFlight, asks_for_checkpoint};
-ghost use Rattle.serving.specs.Session.{HasGoneOn, HasLoggedNothing, HasMoved, HasOnlySent, HasReadNothing, IsAtRest, IsBlockedIn, IsSessionStep, KeepsCoreState, KeepsReadEndAndOutputFailed, NoneUnanswered, steps_ahead};
+ghost use Rattle.serving.specs.Session.{HasGoneOn, HasLoggedNothing, HasMoved, HasOnlySent, HasReadNothing, IsAtRest, IsBlockedIn, IsSessionStep, KeepsCoreState, KeepsReadEndAndOutputFailed, CallsForCheckpoint, NoneUnanswered, steps_ahead};
 ghost use Rattle.serving.specs.declared.dispatch.Blocked.{Blocked};
 ghost use Rattle.serving.specs.declared.session.Activity.TheVariants as activities;
 
@@ -101,11 +102,11 @@ enum Blocked {
 }
 
 /// Whether a checkpoint is to begin once no message is held: `why` says that one is due (`None`), or that a message lacks only room in the
-/// log.
-fn asks_for_checkpoint(why: Option<Blocked>) -> bool
-    ensures { result ≡ asks_for_checkpoint why }
+/// log. Where something was logged or answered since (`moved`), `why` may not hold any more.
+fn asks_for_checkpoint(moved: bool, why: Option<Blocked>) -> bool
+    ensures { result ≡ (not moved && asks_for_checkpoint why) }
 {
-    matches!(why, None | Some(Blocked::NoRoom))
+    !moved && matches!(why, None | Some(Blocked::NoRoom))
 }
 
 /// If a job was granted (dispatched by the core), offers it to the workers at place k of the bench, the first free place. Inlined, so that
@@ -176,6 +177,7 @@ impl<'c, R: Read, D: Disk, L: ReplySink<D>> Session<'c, R, D, L> {
     fn dispatch_ready(&mut self) -> Option<Blocked>
         ensures moves { HasMoved self.old self.new }
         ensures ended { IfSome result (IsBlockedIn self.new) }
+        ensures due { IfNone result (IsDue self.new.trigger self.new.core.pieces_left) }
     {
         if self.trigger.is_due(self.core.pieces_left()) {
             None
@@ -256,6 +258,7 @@ impl<'c, R: Read, D: Disk, L: ReplySink<D>> Session<'c, R, D, L> {
     fn dispatch_and_collect(&mut self) -> Option<Blocked>
         ensures moves { HasMoved self.old self.new }
         ensures ended { IfSome result (IsBlockedIn self.new) }
+        ensures due { IfNone result (IsDue self.new.trigger self.new.core.pieces_left) }
     {
         let mut why = self.dispatch_ready();
         let mut batch = Batch::new();
@@ -285,6 +288,7 @@ impl<'c, R: Read, D: Disk, L: ReplySink<D>> Session<'c, R, D, L> {
         ensures none { IfOk result (λ count. count ≡ 0 → KeepsCoreState self.old self.new) }
         ensures steps { IfOk result (λ count. steps_ahead self.new + count ≡ steps_ahead self.old) }
         ensures failed { OnErr result (self.new.core.failed ≡ true) }
+        ensures trigger { self.new.trigger ≡ self.old.trigger }
     {
         let count = self.core.slots(); // more messages than slots can't have run
         or_halt(self.core.log(count))
@@ -312,14 +316,15 @@ impl<'c, R: Read, D: Disk, L: ReplySink<D>> Session<'c, R, D, L> {
 
     /// Called where nothing was read or collected, or the session has caught up. It sends the answers that wait. If a buffered line may
     /// then be read, it returns. Else, if a job is in flight, it waits for a delivery; if none is, it calls `advance_or_begin_checkpoint`.
-    /// `why` is what `dispatch_ready` gave.
+    /// `is_asked_for`: a checkpoint is to begin, which takes a reason.
     fn flush_then_wait<W: GatedRuntime>(
         &mut self,
         rt: &W,
-        why: Option<Blocked>,
+        is_asked_for: bool,
     ) -> Result<Activity, Halted>
+        requires reason { IsTrue is_asked_for → CallsForCheckpoint self.old }
         ensures session_step { IsSessionStep self.old self.new result }
-        ensures idle { IfOk result (λ activity. activity ≡ activities.Idle → HasOnlySent self.old self.new why) }
+        ensures idle { IfOk result (λ activity. activity ≡ activities.Idle → HasOnlySent self.old self.new is_asked_for) }
         ensures steps { OnOk result (steps_ahead self.new ≤ steps_ahead self.old) }
         ensures goes_on { IfOk result (λ activity. activity ≡ activities.Busy → HasGoneOn self.old self.new) }
     {
@@ -332,7 +337,7 @@ impl<'c, R: Read, D: Disk, L: ReplySink<D>> Session<'c, R, D, L> {
             self.wait_for_worker(rt);
             return Ok(Activity::Busy);
         }
-        let stepped = self.advance_or_begin_checkpoint(asks_for_checkpoint(why))?;
+        let stepped = self.advance_or_begin_checkpoint(is_asked_for)?;
         Ok(if stepped {
             Activity::Busy
         } else {
@@ -372,7 +377,8 @@ impl<'c, R: Read, D: Disk, L: ReplySink<D>> Session<'c, R, D, L> {
         if (moved || matches!(read, Activity::Busy)) && !caught_up {
             return Ok(Activity::Busy);
         }
-        let activity = self.flush_then_wait(rt, why)?;
+        let is_asked_for = asks_for_checkpoint(moved, why);
+        let activity = self.flush_then_wait(rt, is_asked_for)?;
         self.know_rest();
         Ok(activity)
     }

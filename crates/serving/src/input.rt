@@ -13,7 +13,7 @@ ghost use Rattle.serving.specs.Lines.{Pending};
 ghost use Rattle.serving.specs.Reads.{TakesLine};
 ghost use Rattle.reorder_buffer.specs.ReorderBuffer.{AreConsecutive, with_tickets};
 ghost use Rattle.serving.specs.Runs.{HandsHaveJobs};
-ghost use Rattle.serving.specs.Session.{NoneUnanswered};
+ghost use Rattle.serving.specs.Session.{CanReadLine, NoneUnanswered};
 ghost use Rattle.serving.specs.declared.session.Activity.TheVariants as activities;
 
 use crate::output::ReplySink;
@@ -122,15 +122,14 @@ impl<'c, R: Read, D: Disk, L: ReplySink<D>> Session<'c, R, D, L> {
 
     /// Whether a line in the input buffer may be read.
     pub(crate) fn can_read(&self) -> bool
-        ensures { IsTrue result → (self.now.read_end ≡ None) × (self.now.outstanding < self.now.reorder_buffer.slots)
-            × (self.now.holds_line ≡ true) }
+        ensures { IsTrue result ↔ CanReadLine self.now }
     {
         may_read(self.read_end, self.outstanding, self.reorder_buffer.slots()) && self.holds_line()
     }
 
     /// Whether a line is in the input buffer: it is read without waiting.
     fn holds_line(&self) -> bool
-        ensures { IsTrue result → self.now.holds_line ≡ true }
+        ensures { IsTrue result ↔ (self.now.holds_line ≡ true) }
     {
         self.line_reader.holds_line()
     }
@@ -154,12 +153,13 @@ impl<'c, R: Read, D: Disk, L: ReplySink<D>> Session<'c, R, D, L> {
 
     /// Reads the lines in the input buffer, while fewer lines are outstanding than there are slots. If `last`, what the loop did in its
     /// last iteration, is `Idle`, it waits for a line first. Lines that the same read brings in are read too, so that their changes are
-    /// logged together. None is read once reading has ended. Each iteration of the loop that never ends calls it: a kill so far has lost
-    /// nothing of what was sent (`safe`).
+    /// logged together. None is read once reading has ended, and none is left that can be read (`all_read`). Each iteration of the loop
+    /// that never ends calls it: a kill so far has lost nothing of what was sent (`safe`).
     pub(crate) fn read_more(&mut self, last: Activity) -> Activity
         requires none_unanswered { last ≡ activities.Idle → NoneUnanswered self.old }
         requires safe { IsKillSafe D.keeps L.start self.old.sent self.old.sent_at self.old.core }
         ensures output_failed { self.new.output_failed ≡ self.old.output_failed }
+        ensures all_read { CanReadLine self.new → ⊥ }
     {
         let mut read = match last {
             Activity::Idle => self.wait_for_line(),

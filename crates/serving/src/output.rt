@@ -59,6 +59,7 @@ impl<'c, R: Read, D: Disk, L: ReplySink<D>> Session<'c, R, D, L> {
         ensures state_after { core_state_of self.new.core ≡ record (core_state_of self.old.core) { logged = self.new.core.logged } }
         ensures fewer { IsTrue result → length self.new.core.logged + 1 ≡ length self.old.core.logged }
         ensures none { IsFalse result → (self.new.core.logged ≡ []) × KeepsCoreState self.old self.new }
+        ensures trigger { IsFalse result → self.new.trigger ≡ self.old.trigger }
         ensures steps { IsTrue result → steps_ahead self.new + 1 ≡ steps_ahead self.old }
     {
         self.core.know_recovery();
@@ -77,6 +78,7 @@ impl<'c, R: Read, D: Disk, L: ReplySink<D>> Session<'c, R, D, L> {
         ensures step { IsOutputStep self.old self.new result }
         ensures same { (self.new.core ≡ self.old.core) × (self.new.reorder_buffer ≡ self.old.reorder_buffer)
             × (self.new.dispatch_seat ≡ self.old.dispatch_seat) }
+        ensures trigger { self.new.trigger ≡ self.old.trigger }
         ensures flushed { OnOk result ((self.new.reply_buffer ≡ []) × (self.new.output_failed ≡ false)) }
     {
         if self.output_failed {
@@ -104,6 +106,7 @@ impl<'c, R: Read, D: Disk, L: ReplySink<D>> Session<'c, R, D, L> {
         ensures step { IsOutputStep self.old self.new result }
         ensures same { (self.new.core ≡ self.old.core) × (self.new.reorder_buffer ≡ self.old.reorder_buffer)
             × (self.new.dispatch_seat ≡ self.old.dispatch_seat) }
+        ensures trigger { self.new.trigger ≡ self.old.trigger }
         ensures room { OnOk result (FitsReply self.new.reply_buffer) }
     {
         if self.reply_buffer.has_room() {
@@ -125,6 +128,7 @@ impl<'c, R: Read, D: Disk, L: ReplySink<D>> Session<'c, R, D, L> {
     fn retire_first(&mut self) -> Result<bool, Halted>
         ensures step { IsOutputStep self.old self.new result }
         ensures same { (self.new.core ≡ self.old.core) × (self.new.dispatch_seat ≡ self.old.dispatch_seat) }
+        ensures trigger { self.new.trigger ≡ self.old.trigger }
         ensures fewer { IfOk result (λ it. IsTrue it → length self.new.reorder_buffer.lines + 1 ≡ length self.old.reorder_buffer.lines) }
         ensures last { IfOk result (λ it. IsFalse it → can_retire self.new.reorder_buffer.lines ≡ false) }
     {
@@ -137,6 +141,7 @@ impl<'c, R: Read, D: Disk, L: ReplySink<D>> Session<'c, R, D, L> {
     pub(crate) fn retire_ready(&mut self) -> Result<(), Halted>
         ensures step { IsOutputStep self.old self.new result }
         ensures same { (self.new.core ≡ self.old.core) × (self.new.dispatch_seat ≡ self.old.dispatch_seat) }
+        ensures trigger { self.new.trigger ≡ self.old.trigger }
         ensures last { OnOk result (can_retire self.new.reorder_buffer.lines ≡ false) }
     {
         while self.retire_first()? {}

@@ -2,7 +2,7 @@
 use Rattle.std.proofs.Common.{refl}
 use Rattle.incarnations.proofs.Events.{answer_step}
 use Rattle.serving.proofs.Answering.{is_answered_so, none_answered}
-use Rattle.serving.proofs.Invariant.{holds_of, on_answer, on_machine}
+use Rattle.serving.proofs.Invariant.{holds_of, on_answer, on_machine, on_trigger}
 use Rattle.serving.proofs.session.Session.answer_first.Goals as goal
 
 pub invariant_of-self : goal.invariant_of-self
@@ -25,7 +25,7 @@ invariant_of-self-2 g c =
     (answer_step g.D.Disk.keeps old new c.know_recovery.ensures.no_doubt c.know_recovery.ensures.now c.answer-first.ensures.geometry c.answer-first.ensures.untouched
     c.answer-first.result c.answer-first.ensures.state_after) _ (holds_of g.D.Disk.keeps _ _ c.self.invariant.run) in
     record {
-      run = on_answer g.D.Disk.keeps _ _ c.self.invariant.run _ _ _ _
-          (rw c.in-Some.is at so) c.answer.ensures.lines c.answer.ensures.slots;
+      run = on_trigger g.D.Disk.keeps _ _ (on_answer g.D.Disk.keeps _ _ c.self.invariant.run _ _ _ _
+          (rw c.in-Some.is at so) c.answer.ensures.lines c.answer.ensures.slots) _;
       bench = c.self.invariant.bench;
     }

@@ -5,7 +5,7 @@ use Rattle.scheduler.specs.CoreView.{core_state_of}
 use Rattle.serving.specs.Session.{SessionView}
 use Rattle.serving.proofs.Pointing.{halts, stays, waits}
 use Rattle.serving.proofs.Segments.{cut_is_quiet}
-use Rattle.serving.proofs.Invariant.{holds_of, on_machine}
+use Rattle.serving.proofs.Invariant.{holds_of, on_machine, on_trigger}
 use Rattle.serving.proofs.session.Session.begin_checkpoint.Goals as goal
 
 pub invariant_of-self : goal.invariant_of-self
@@ -14,7 +14,10 @@ invariant_of-self g c =
     let new = c.cut.new.self in
     let quiet = cut_is_quiet g.D.Disk.keeps old new c.cut.ensures.geometry c.cut.ensures.any_moment c.cut.result
     (cut_called old.geometry (core_state_of old) (core_state_of new) c.cut.result c.cut.ensures.state_after) c.cut.ensures.counts in
-    record { run = on_machine g.D.Disk.keeps _ _ c.self.invariant.run _ _ (quiet _ (holds_of g.D.Disk.keeps _ _ c.self.invariant.run)) refl refl; bench = c.self.invariant.bench }
+    record {
+      run = on_trigger g.D.Disk.keeps _ _ (on_machine g.D.Disk.keeps _ _ c.self.invariant.run _ _ (quiet _ (holds_of g.D.Disk.keeps _ _ c.self.invariant.run)) refl refl) _;
+      bench = c.self.invariant.bench;
+    }
 
 pub invariant_of-self-in-Err : goal.invariant_of-self-in-Err
 invariant_of-self-in-Err g c =

@@ -1,5 +1,5 @@
 -- What was collected is given to the core, and the session keeps its invariant.
-use Rattle.std.proofs.Common.{◌<◌, List, Option, None, ap, length, sym, subst, ◌∙◌, refl}
+use Rattle.std.proofs.Common.{◌<◌, List, Option, None, ap, inl, length, sym, subst, ◌∙◌, refl}
 use Rattle.std.proofs.lemmas.List.{length-set}
 use Rattle.parcel.specs.Run.{JobView}
 use Rattle.serving.specs.Fields.{session_view}
@@ -37,4 +37,5 @@ returns-clause-moves g c =
     let back = c.give_back.ensures.state_after in
     let less = returned old.core.geometry c.args.k _ _ old.dispatch_seat.lent _ _ back.0 place back.1 back.3 s.3 in
     let new = session_view g.R.Read.remaining g.L.ReplySink.sent g.L.ReplySink.sent_at (record old { core = c.give_back.new.self; dispatch_seat = c.collect.new.seat }) in
-    subst (λ (p : SessionView). HasMoved p new) c.self.view_is (less.0, less.1, (refl, refl), (refl, refl))
+    subst (λ (p : SessionView). HasMoved p new) c.self.view_is
+    (record { moved = inl less.0; pieces_left = less.1; trigger = refl; as_before = (refl, refl); unread = (refl, refl) })

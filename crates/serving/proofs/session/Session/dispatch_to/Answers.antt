@@ -1,5 +1,5 @@
 -- The lemmas on what is dispatched; and the session keeps its invariant.
-use Rattle.std.proofs.Common.{ap, subst, ◌∙◌, refl}
+use Rattle.std.proofs.Common.{◌≡◌, ap, inl, inr, subst, ◌∙◌, ⊎_elim, refl}
 use Rattle.std.specs.Prelude.{is_none, position}
 use Rattle.scheduler.specs.CoreView.{core_state_of}
 use Rattle.serving.specs.Lending.{DispatchesTo}
@@ -30,7 +30,14 @@ returns-clause-moves g c =
     let first = ap (λ (p : SessionView). position is_none p.dispatch_seat.lent) c.self.view_is ∙ c.requires.first in
     let less = dispatched old.core.geometry c.args.k _ _ old.dispatch_seat.lent _ _ first (c.offer_granted.ensures.dispatches _ _ _ c.grant-granted.ensures.state_after) in
     let new = session_view g.R.Read.remaining g.L.ReplySink.sent g.L.ReplySink.sent_at (record old { core = c.grant-granted.new.self; dispatch_seat = c.offer_granted.new.dispatch_seat }) in
-    subst (λ (p : SessionView). HasMoved p new) c.self.view_is (less.0, less.1, (refl, refl), (refl, refl))
+    subst (λ (p : SessionView). HasMoved p new) c.self.view_is (record {
+      moved = ⊎_elim inl (λ (same : (core_state_of c.grant-granted.new.self ≡ core_state_of old.core) × (c.offer_granted.new.dispatch_seat.lent ≡ old.dispatch_seat.lent)).
+          inr (c.grant-granted.ensures.geometry, same.0, λ i. record { bench = c.offer_granted.ensures.bench i; lent = same.1 i })) less.0;
+      pieces_left = less.1;
+      trigger = refl;
+      as_before = (refl, refl);
+      unread = (refl, refl);
+    })
 
 pub returns-clause-dispatches : goal.returns-clause-dispatches
 returns-clause-dispatches g c =

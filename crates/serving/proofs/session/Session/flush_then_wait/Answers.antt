@@ -4,15 +4,37 @@ use Rattle.histories.specs.Progress.{points_left}
 use Rattle.oplog.proofs.Answered.{err_is}
 use Rattle.scheduler.specs.CoreView.{CoreView, core_state_of}
 use Rattle.serving.specs.Lending.{NoneInFlight}
-use Rattle.serving.specs.Session.{CanRead, MovedCheckpoint, SessionView, Waited, steps_ahead}
+use Rattle.serving.specs.Session.{Advanced, Began, CallsForCheckpoint, CanRead, CanReadLine, CheckpointStep, MovedCheckpoint, SessionView, Waited, steps_ahead}
 use Rattle.workers.specs.Seats.{DispatchSeatView}
-use Rattle.serving.proofs.Going.{steps}
+use Rattle.serving.proofs.Going.{calls_still, steps}
 use Rattle.serving.proofs.session.Session.flush_then_wait.Given.{Over}
 use Rattle.serving.proofs.session.Session.flush_then_wait.Goals.{In_ok-flush_replies}
 use Rattle.serving.proofs.session.Session.flush_then_wait.Goals as goal
 
 to_come : (g : Over) (c : In_ok-flush_replies g) → steps_ahead c.flush_replies.new.self ≡ steps_ahead c.args.self.now
 to_come g c = λ i. steps (core_state_of (c.flush_replies.ensures.same.0 i)) (c.flush_replies.ensures.same.2 i).lent
+
+pub advance_or_begin_checkpoint-requires : goal.advance_or_begin_checkpoint-requires
+advance_or_begin_checkpoint-requires g c =
+    let sent = c.flush_replies.ensures.same in
+    record {
+      reason = λ asked. calls_still c.flush_replies.new.self c.args.self.now
+          (sym (ap (λ (core : CoreView). core.geometry) sent.0), sym (ap (λ (core : CoreView). core_state_of core) sent.0), sym sent.2)
+          (sym c.flush_replies.ensures.trigger) (c.requires.reason asked);
+    }
+
+-- what was sent gives no reason for a checkpoint
+reason_before : (g : Over) (c : In_ok-flush_replies g) → CallsForCheckpoint c.flush_replies.new.self → CallsForCheckpoint c.args.self.now
+reason_before g c =
+    let sent = c.flush_replies.ensures.same in
+    calls_still c.args.self.now c.flush_replies.new.self
+    (ap (λ (core : CoreView). core.geometry) sent.0, ap (λ (core : CoreView). core_state_of core) sent.0, sent.2) c.flush_replies.ensures.trigger
+
+steps_from : (g : Over) (c : In_ok-flush_replies g) {new : SessionView} → CheckpointStep c.flush_replies.new.self new → CheckpointStep c.args.self.now new
+steps_from g c (Advanced fewer count) =
+    Advanced (fewer ∙ ap (λ (core : CoreView). points_left core.pieces_left) c.flush_replies.ensures.same.0) (count ∙ c.flush_replies.ensures.trigger)
+steps_from g c (Began reason none n begun restarted) =
+    Began (reason_before g c reason) (sym (ap (λ (core : CoreView). core.pieces_left) c.flush_replies.ensures.same.0) ∙ none) n begun restarted
 
 pub returns-in_err-flush_replies-clause-session_step : goal.returns-in_err-flush_replies-clause-session_step
 returns-in_err-flush_replies-clause-session_step g c = rw (err_is c.from_residual.ensures.1) c.in_err-flush_replies.ensures.step.0
@@ -25,8 +47,7 @@ returns-then-can_read-clause-steps g c = omega (arith, to_come g (goal.at.return
 
 pub returns-then-can_read-clause-goes_on : goal.returns-then-can_read-clause-goes_on
 returns-then-can_read-clause-goes_on g c _ =
-    let reads = c.can_read.ensures c.if-can_read.true in
-    CanRead reads.0 reads.1 reads.2
+    CanRead (c.can_read.ensures.0 c.if-can_read.true)
 
 pub returns-then-any_lent-clause-session_step : goal.returns-then-any_lent-clause-session_step
 returns-then-any_lent-clause-session_step g c =
@@ -40,8 +61,11 @@ returns-then-any_lent-clause-steps g c =
 
 pub returns-then-any_lent-clause-goes_on : goal.returns-then-any_lent-clause-goes_on
 returns-then-any_lent-clause-goes_on g c _ =
-    let same = c.wait_for_worker.ensures.same ∙ sym c.self.view_is in
+    let waited = c.wait_for_worker.ensures.same in
+    let same = waited ∙ sym c.self.view_is in
     Waited (λ none. true≢false (sym c.if-any_lent.true ∙ c.any_lent.ensures.1 (subst (λ (p : SessionView). NoneInFlight p.dispatch_seat.lent) same none)))
+    (ap (λ (p : SessionView). p.reply_buffer) waited ∙ c.in_ok-flush_replies.ensures.flushed.0)
+    (λ can. true≢false (sym (c.can_read.ensures.1 (subst CanReadLine waited can)) ∙ c.if-can_read.false))
 
 pub returns-in_err-stepped-clause-session_step : goal.returns-in_err-stepped-clause-session_step
 returns-in_err-stepped-clause-session_step g c =
@@ -59,7 +83,7 @@ returns-then-stepped-clause-steps g c = omega (arith, c.in_ok-stepped.ensures.st
 
 pub returns-then-stepped-clause-goes_on : goal.returns-then-stepped-clause-goes_on
 returns-then-stepped-clause-goes_on g c _ =
-    MovedCheckpoint (λ same. c.in_ok-stepped.ensures.moved c.if-stepped.true (same ∙ sym (ap (λ (core : CoreView). points_left core.pieces_left) c.flush_replies.ensures.same.0)))
+    MovedCheckpoint (steps_from g (goal.at.returns-then-stepped-clause-goes_on g c).In_ok-flush_replies (c.in_ok-stepped.ensures.moved c.if-stepped.true))
 
 pub returns-else-stepped-clause-session_step : goal.returns-else-stepped-clause-session_step
 returns-else-stepped-clause-session_step g c =
@@ -81,7 +105,7 @@ returns-else-stepped-clause-idle g c _ =
         stays.0.2 ∙ sent.2,
       );
       none_in_flight = subst (λ (s : DispatchSeatView). NoneInFlight s.lent) (sym stays.0.2) none;
-      none_asked = λ asked. stays.2 (c.asks_for_checkpoint.ensures ∙ asked);
+      none_asked = stays.2;
     }
 
 pub returns-else-stepped-clause-steps : goal.returns-else-stepped-clause-steps

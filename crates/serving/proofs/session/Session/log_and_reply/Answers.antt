@@ -46,6 +46,7 @@ logged_nothing g c none =
         state ∙ was.2.1,
         same.1 ∙ answered.1.2 ∙ was.2.2,
       );
+      trigger = c.retire_ready.ensures.trigger ∙ c.loop-moved-test.ensures.trigger refl ∙ c.loop-moved.invariant.trigger none;
     }
 
 pub loop-moved-init : goal.loop-moved-init
@@ -55,6 +56,7 @@ loop-moved-init g c =
       as_before = (refl, refl);
       steps = omega (arith, some_logged c.in_ok-moved.field-0, logged.steps);
       none = λ few. (logged.logged, logged.works.1, logged.none (omega (arith, ltb-false 0 c.in_ok-moved.field-0 few)));
+      trigger = λ few. logged.trigger;
     }
 
 pub loop-moved-smaller : goal.loop-moved-smaller
@@ -69,6 +71,7 @@ loop-moved-preserved g c =
       as_before = (went.session_step.0 ∙ answered.as_before.0 ∙ was.as_before.0, went.session_step.1 ∙ answered.as_before.1 ∙ was.as_before.1);
       steps = omega (arith, went.steps, answered.steps refl, was.steps);
       none = λ f. absurd (true≢false f);
+      trigger = λ f. absurd (true≢false f);
     }
 
 pub returns-in_err-moved-clause-session_step : goal.returns-in_err-moved-clause-session_step
@@ -115,6 +118,7 @@ returns-in_ok-flush_replies-clause-none g c none =
         ap (λ (core : CoreView). core_state_of core) same.0 ∙ was.keeps.1,
         same.2 ∙ was.keeps.2,
       );
+      trigger = c.flush_replies.ensures.trigger ∙ was.trigger;
     }
 
 pub returns-in_ok-flush_replies-clause-steps : goal.returns-in_ok-flush_replies-clause-steps

@@ -9,6 +9,7 @@ invariant-loop-moved g l = record {
   as_before : KeepsReadEndAndOutputFailed l.initial.self l.self;
   steps : steps_ahead l.self + cond l.moved 1 0 ≤ steps_ahead l.fn.self;
   none : IsFalse l.moved → (l.self.core.ran ≡ []) × (l.self.core.failed ≡ false) × KeepsCoreState l.fn.self l.self;
+  trigger : IsFalse l.moved → l.self.trigger ≡ l.fn.self.trigger;
 }
 
 abbrev pub decreases-loop-moved : goal.decreases-loop-moved

@@ -8,6 +8,7 @@ invariant-loop g l = record {
   as_before : KeepsReadEndAndOutputFailed l.initial.self l.self;
   unread : HasReadNothing l.initial.self l.self;
   same : (l.self.core ≡ l.initial.self.core) × (l.self.dispatch_seat ≡ l.initial.self.dispatch_seat);
+  trigger : l.self.trigger ≡ l.initial.self.trigger;
 }
 
 abbrev pub decreases-loop : goal.decreases-loop
