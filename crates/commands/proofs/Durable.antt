@@ -64,7 +64,7 @@ none_left g x (l ∷ ls) h =
 
 -- An end without a fault leaves no line behind those that were acknowledged.
 module _ (g : Geometry) (start : State) (slots left : ℕ) (input before after : List ℕ) (acknowledged others : List (List ℕ)) where
-  leaves_none : (end : Result (Unit {0}) Fault) → lines input ≡ acknowledged ++ others
+  pub leaves_none : (end : Result (Unit {0}) Fault) → lines input ≡ acknowledged ++ others
       → IsWritten end slots left (Some before) (Some after) (Some (before ++ joined (output_lines g start acknowledged)))
       → OnOk end (WritesOutput (Some input) (Some before) (Some after) (λ bytes out. out ≡ serial_output g start bytes)) → OnOk end (others ≡ [])
   leaves_none (Err fault) parts written whole = tt
@@ -78,7 +78,7 @@ module _ (g : Geometry) (start : State) (slots left : ℕ) (input before after :
 
 -- ---- one run, and all
 
-has_all : (all : Option (List ℕ)) (before out : List ℕ) → Appends (Some before) all out → all ≡ Some (before ++ out)
+pub has_all : (all : Option (List ℕ)) (before out : List ℕ) → Appends (Some before) all out → all ≡ Some (before ++ out)
 has_all None before out h = absurd h
 has_all (Some all) before out h = ap (λ (bs : List ℕ). Some bs) h
 
@@ -105,7 +105,7 @@ module _ (g : Geometry) (start now : State) (run : CrashedRun) where
       }
 
 -- One run, which returned or was killed, and the crash behind it.
-run_on : (g : Geometry) (recover : List ℕ → Option State) (device : Medium) (run : CrashedRun) (end : RunEnd) → IsRunOn g recover device run end → (start : State)
+pub run_on : (g : Geometry) (recover : List ℕ → Option State) (device : Medium) (run : CrashedRun) (end : RunEnd) → IsRunOn g recover device run end → (start : State)
     → HoldsState recover device start → OpensUnlessFailed (promised_end end)
     × HasRunFrom g run.slots start (promised_end end) (Some run.input) (Some run.before) (Some run.after) (λ now. recover run.crashed.now ≡ Some now)
 run_on g recover device run (Returned end) r start is = let h = r.0 start is in (h.0, h.1 run.crashed.now r.1)

@@ -4,6 +4,7 @@ pub mod OnDevice
 pub mod Kept
 pub mod Promise
 pub mod Durable
+pub mod Agreeing
 pub mod Services
 pub mod Ending
 mod Examples

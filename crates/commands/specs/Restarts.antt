@@ -83,3 +83,14 @@ IsHistoryOf g (run ∷ runs) history = (acknowledged : List Operation) × (part 
 abbrev pub AreDurablyLinearizable : Geometry → State → List CrashedRun → Type 0
 AreDurablyLinearizable g start runs =
     (history : List Operation) × IsHistoryOf g runs history × (answers_in history ≡ output_lines g start (lines_in history))
+
+-- ---- what two of them do
+
+-- Both runs have written the same bytes behind what their outputs held, and what a crash left of either device recovers to one state.
+pub record HaveAgreed (recover : List ℕ → Option State) (one other : CrashedRun) : Type 0 where
+  pub written : List ℕ
+  pub wrote : one.after ≡ one.before ++ written
+  pub other_wrote : other.after ≡ other.before ++ written
+  pub state : State
+  pub recovers : recover one.crashed.now ≡ Some state
+  pub other_recovers : recover other.crashed.now ≡ Some state

@@ -1,10 +1,10 @@
 //! The promise of a service over a crash, in bytes alone: what went into two incarnations of a device, and what came out.
-ghost use Rattle.std.specs.Prelude.{◌≡◌, ◌≢◌, ◌<◌, ℕ, IfOk, IfErr, List, Option};
+ghost use Rattle.std.specs.Prelude.{◌≡◌, ◌≢◌, ◌<◌, ℕ, IfOk, IfErr, List, Ok, Option};
 ghost use Rattle.affinity.specs.declared.geometry.Geometry.{Geometry};
 ghost use Rattle.recovery.specs.Recovery.{recovered_state};
 ghost use Rattle.commands.specs.Kill.{IsKilled};
 ghost use Rattle.commands.specs.Promise.{HasRunFrom, HoldsState, LeavesKilled, OpensUnlessFailed};
-ghost use Rattle.commands.specs.Restarts.{AreDurablyLinearizable, CrashedRun, FollowCrashes};
+ghost use Rattle.commands.specs.Restarts.{AreDurablyLinearizable, CrashedRun, FollowCrashes, HaveAgreed, IsRunOn, Returned};
 ghost use Rattle.commands.specs.declared.faults.Fault.TheVariants as faults;
 ghost use Rattle.disk.specs.Device.{IsSynced, Medium};
 ghost use Rattle.disk.specs.Memory.{medium_of};
@@ -101,4 +101,14 @@ pub fn a_killed_service_loses_nothing<D: Disk>()
 pub fn servers_are_durably_linearizable()
     ensures { (g : Geometry) (recover : List ℕ → Option State) (start : State) (device : Medium) (runs : List CrashedRun)
         → HoldsState recover device start → FollowCrashes g recover device runs → AreDurablyLinearizable g start runs }
+{}
+
+/// Two services that ended without a fault, on devices that held one state, and with the same input: they have written the same bytes, and
+/// leave one state, whatever a crash then does. Their numbers of workers and of slots may differ, and their workers may have been scheduled
+/// in any way. So who sends one input to two of them has a replica. It does nothing; its contract is the law.
+pub fn services_without_a_fault_agree()
+    ensures { (g : Geometry) (recover : List ℕ → Option State) (start : State) (device other_device : Medium) (one other : CrashedRun)
+        → HoldsState recover device start → HoldsState recover other_device start
+        → one.end ≡ Returned (Ok tt) → other.end ≡ Returned (Ok tt) → other.input ≡ one.input
+        → IsRunOn g recover device one one.end → IsRunOn g recover other_device other other.end → HaveAgreed recover one other }
 {}
