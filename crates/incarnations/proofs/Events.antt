@@ -72,6 +72,7 @@ module _ (keeps : Type 0) (old new : CoreView) (none : old.failed ≡ false → 
     called = called;
     geometry = geometry;
     failures = ap (λ (m : Medium). m.faults) same;
+    untouched = λ none_touched. same;
     any_moment = λ kept. quiet_moments old new (to_append (core_state_of old) step) none (recovers kept) same;
   }
 
@@ -93,6 +94,7 @@ module _ (keeps : Type 0) (old new : CoreView) (hands : List HandContent) (step 
     allowed = k.called (map hand_of hands);
     geometry = k.geometry;
     failures = k.failures;
+    untouched = k.untouched;
     any_moment = k.any_moment;
   }
 
@@ -125,6 +127,7 @@ module _ (keeps : Type 0) (old new : CoreView) (hands after : List HandContent) 
     allowed = record { to_write = 0; at_most = omega arith; does = does };
     geometry = geometry;
     failures = ap (λ (m : Medium). m.faults) same;
+    untouched = λ none_touched. same;
     any_moment = λ keeps. quiet_moments old new (to_append (core_state_of old) step) none (recovers keeps) same;
   }
 

@@ -1,6 +1,6 @@
 -- A run of steps, extended by one step, and what a crash of it leaves.
-use Rattle.std.proofs.Common.{◌≡◌, ◌⊎◌, ℕ, zero, suc, ◌+◌, ◌<◌, ◌≤◌, false, List, [], ◌∷◌, ◌++◌, refl, ap, sym, ◌∙◌, subst, length, take, drop, get_or, set, inl, inr, ⊎_elim, arith}
-use Rattle.std.specs.Prelude.{map}
+use Rattle.std.proofs.Common.{◌≡◌, ◌⊎◌, ℕ, zero, suc, ◌+◌, ◌<◌, ◌≤◌, Bool, true, false, add-zero, List, [], ◌∷◌, ◌++◌, refl, ap, sym, ◌∙◌, subst, length, take, drop, get_or, set, inl, inr, ⊎_elim, arith}
+use Rattle.std.specs.Prelude.{cond, map}
 use Rattle.std.specs.List.{AllByRecursion}
 use Rattle.std.proofs.lemmas.List.{map-append, take_more, take_more_set}
 use Rattle.affinity.specs.declared.geometry.Geometry.{Geometry}
@@ -15,7 +15,7 @@ use Rattle.histories.proofs.Joining.{runs_join}
 use Rattle.histories.proofs.Runs.{run_follows}
 use Rattle.histories.proofs.Sound.{run_sound}
 use Rattle.histories.specs.Crash.{IsLogAfter, in_doubt}
-use Rattle.histories.specs.Events.{Event, MachineState, touches_device}
+use Rattle.histories.specs.Events.{Event, MachineState}
 use Rattle.histories.specs.Laws.{AreUnrelated, IsJoined, IsSoundCoreState}
 use Rattle.histories.specs.Runs.{IsLegal, appended_messages, end_state}
 use Rattle.histories.specs.CoreState.{held}
@@ -27,8 +27,8 @@ use Rattle.incarnations.specs.DeviceEvents.{AreSafe, DeviceEvent, RecoversForRun
 use Rattle.incarnations.specs.Steps.{IsMachineStep}
 use Rattle.language.specs.declared.Msg.{Msg}
 use Rattle.meaning.specs.Serial.{state_after_all}
-use Rattle.scheduler.specs.Calls.{CountsFailure}
 use Rattle.incarnations.specs.declared.hands.HandContent.{HandContent}
+use Rattle.scheduler.specs.Calls.{CountsFailure}
 use Rattle.scheduler.specs.CoreView.{CoreView, RecoversNow, core_state_of}
 
 -- ---- what a crash of a run leaves
@@ -108,19 +108,21 @@ module _ (g : Geometry) where
   safe-append w m [] ys h k = k
   safe-append w m (s ∷ xs) ys h k = (h.0, safe-append s.event.state_after s.medium xs ys h.1 k)
 
+agrees-append : (w : MachineState) (m : Medium) (xs ys : List DeviceEvent) → AgreeWithDevice w m xs
+    → AgreeWithDevice (end_state w (events_of xs)) (device_after m xs) ys → AgreeWithDevice w m (xs ++ ys)
+agrees-append w m [] ys h k = k
+agrees-append w m (s ∷ xs) ys h k = (h.0, h.1, agrees-append s.event.state_after s.medium xs ys h.2 k)
+
 pub after-append : (m : Medium) (xs ys : List DeviceEvent) → device_after m (xs ++ ys) ≡ device_after (device_after m xs) ys
 after-append m [] ys = refl
 after-append m (s ∷ xs) ys = after-append s.medium xs ys
 
-agrees-push : (w : MachineState) (m : Medium) (device_events : List DeviceEvent) (device_event : DeviceEvent) → AgreeWithDevice w m device_events
-    → CountsFailure device_event.event.device_failed (device_after m device_events).faults device_event.medium.faults
-    → (touches_device (end_state w (events_of device_events)).core device_event.event.step ≡ false → device_event.medium ≡ device_after m device_events)
-    → AgreeWithDevice w m (device_events ++ device_event ∷ [])
-agrees-push w m [] device_event agrees counts quiet = (counts, quiet, tt)
-agrees-push w m (s ∷ device_events) device_event agrees counts quiet = (agrees.0, agrees.1, agrees-push s.event.state_after s.medium device_events device_event agrees.2 counts quiet)
+counted : (b : Bool) (old new : ℕ) → CountsFailure b old new → new ≡ old + cond b 1 0
+counted true old new h = h
+counted false old new h = h ∙ sym (add-zero old)
 
 pub none_lead : (keeps : Type 0) (m : MachineView) → LeadTo keeps m m []
-none_lead keeps m = record { legal = tt; ends = refl; geometry = refl; device = refl; any_moment = λ kept. tt }
+none_lead keeps m = record { legal = tt; ends = refl; geometry = refl; device = refl; agrees = tt; any_moment = λ kept. tt }
 
 -- a step as an event
 abbrev pub step_event : {keeps : Type 0} {old new : MachineView} {step : Step} {outcome : Outcome} → IsMachineStep keeps old new step outcome → DeviceEvent
@@ -129,7 +131,14 @@ step_event {new} {step} {outcome} k =
 
 pub one_leads : {keeps : Type 0} {old new : MachineView} {step : Step} {outcome : Outcome} → (k : IsMachineStep keeps old new step outcome)
     → LeadTo keeps old new (step_event k ∷ [])
-one_leads k = record { legal = (k.allowed, tt); ends = refl; geometry = k.geometry; device = refl; any_moment = λ kept. (k.any_moment kept, tt) }
+one_leads {old} {new} k = record {
+  legal = (k.allowed, tt);
+  ends = refl;
+  geometry = k.geometry;
+  device = refl;
+  agrees = (counted k.device_failed old.core.medium.faults new.core.medium.faults k.failures, k.untouched, tt);
+  any_moment = λ kept. (k.any_moment kept, tt);
+}
 
 -- Where the first events end, others go on.
 module _ {keeps : Type 0} {old mid new : MachineView} {xs ys : List DeviceEvent} (h : LeadTo keeps old mid xs) (k : LeadTo keeps mid new ys) where
@@ -147,18 +156,18 @@ module _ {keeps : Type 0} {old mid new : MachineView} {xs ys : List DeviceEvent}
         ends = ap (λ (es : List Event). end_state w es) both ∙ events_join.end_state_is ∙ ap (λ (x : MachineState). end_state x (events_of ys)) h.ends ∙ k.ends;
         geometry = k.geometry ∙ h.geometry;
         device = after-append old.core.medium xs ys ∙ ap (λ (m : Medium). device_after m ys) h.device ∙ k.device;
+        agrees = agrees-append w old.core.medium xs ys h.agrees (rw (h.ends, h.device) k.agrees);
         any_moment = λ kept. safe-append g w old.core.medium xs ys (h.any_moment kept)
             (rw (h.ends, h.device, ← h.geometry) (k.any_moment kept));
       }
 
 pub no_device_events : (keeps : Type 0) (m : MachineView) → HasDeviceEvents keeps m m [] []
-no_device_events keeps m = record { device_events = []; leads = none_lead keeps m; of_steps = refl; with_outcomes = refl; agrees = tt }
+no_device_events keeps m = record { device_events = []; leads = none_lead keeps m; of_steps = refl; with_outcomes = refl }
 
 pub more_device_events : {keeps : Type 0} {old now new : MachineView} {asked : List Step} {came : List Outcome} {step : Step} {outcome : Outcome}
     → HasDeviceEvents keeps old now asked came → IsMachineStep keeps now new step outcome
-    → (touches_device (core_state_of now.core) step ≡ false → new.core.medium ≡ now.core.medium)
     → HasDeviceEvents keeps old new (asked ++ step ∷ []) (came ++ outcome ∷ [])
-more_device_events {old} {new} {step} {outcome} h k quiet =
+more_device_events {step} {outcome} h k =
     let device_event = step_event k in
     let events = events_of h.device_events in
     let pushed : events_of (h.device_events ++ device_event ∷ []) ≡ events ++ device_event.event ∷ [] = map-append (λ (s : DeviceEvent). s.event) h.device_events (device_event ∷ []) in
@@ -168,9 +177,6 @@ more_device_events {old} {new} {step} {outcome} h k quiet =
       of_steps = ap (map (λ (e : Event). e.step)) pushed ∙ map-append (λ (e : Event). e.step) events (device_event.event ∷ []) ∙ ap (λ (l : List Step). l ++ step ∷ []) h.of_steps;
       with_outcomes = ap (map (λ (e : Event). e.outcome)) pushed ∙ map-append (λ (e : Event). e.outcome) events (device_event.event ∷ [])
           ∙ ap (λ (l : List Outcome). l ++ outcome ∷ []) h.with_outcomes;
-      agrees = agrees-push (machine_of old) old.core.medium h.device_events device_event h.agrees
-          (rw h.leads.device k.failures)
-          (λ none. quiet (ap (λ (x : MachineState). touches_device x.core step) (sym h.leads.ends) ∙ none) ∙ sym h.leads.device);
     }
 
 -- ---- the whole run
@@ -213,7 +219,6 @@ pub next_device_events : {keeps : Type 0} {old : MachineView} {core : CoreView} 
     (came : List Outcome) {outcome : Outcome} → lent ≡ hands → (i < length asked) × (i < length came)
     → HasDeviceEvents keeps old (record { core = core; hands = hands }) (take i asked) (take i came)
     → IsMachineStep keeps (record { core = core; hands = lent }) new (get_or asked i d) outcome
-    → (touches_device (core_state_of core) (get_or asked i d) ≡ false → new.core.medium ≡ core.medium)
     → HasDeviceEvents keeps old new (take (i + 1) asked) (take (i + 1) (set came i outcome))
-next_device_events asked {i} d came {outcome} same within h k quiet =
-    rw (take_more asked i d within.0, take_more_set came i outcome within.1) (more_device_events h (rw same at k) quiet)
+next_device_events asked {i} d came {outcome} same within h k =
+    rw (take_more asked i d within.0, take_more_set came i outcome within.1) (more_device_events h (rw same at k))

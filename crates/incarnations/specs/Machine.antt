@@ -59,13 +59,15 @@ pub record HoldsJobs (g : Geometry) (w : CoreState) (hands : List HandContent) :
 
 -- ---- runs
 
--- These events are a legal run from one machine to the other. A crash at any moment of an event leaves the state committed before it, with
--- a prefix of what the event appends or, once the device has failed, of `doubt`.
+-- These events are a legal run from one machine to the other. Each reports whether the device failed in it, and left the device alone where
+-- its step touches none. A crash at any moment of an event leaves the state committed before it, with a prefix of what the event appends
+-- or, once the device has failed, of `doubt`.
 pub record LeadTo (keeps : Type 0) (old new : MachineView) (device_events : List DeviceEvent) : Type 0 where
   pub legal : IsLegal old.core.geometry (machine_of old) (events_of device_events)
   pub ends : end_state (machine_of old) (events_of device_events) ≡ machine_of new
   pub geometry : new.core.geometry ≡ old.core.geometry
   pub device : device_after old.core.medium device_events ≡ new.core.medium
+  pub agrees : AgreeWithDevice (machine_of old) old.core.medium device_events
   pub any_moment : keeps → AreSafe old.core.geometry (machine_of old) old.core.medium device_events
 
 -- For every k: a crash at any moment since event number k ended leaves a device that recovers to the state committed after some event from
@@ -81,8 +83,6 @@ pub record HasDeviceEvents (keeps : Type 0) (old new : MachineView) (asked : Lis
   pub leads : LeadTo keeps old new device_events
   pub of_steps : map (λ e. e.step) (events_of device_events) ≡ asked
   pub with_outcomes : map (λ e. e.outcome) (events_of device_events) ≡ came
-  -- each event reports whether the device failed in it, and left the device alone where its step touches none
-  pub agrees : AgreeWithDevice (machine_of old) old.core.medium device_events
 
 -- What a machine promises of a run of steps, sensible or not.
 pub record HasRun (keeps : Type 0) (old new : MachineView) (asked : List Step) (came : List Outcome) : Type 0 where

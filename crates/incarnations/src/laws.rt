@@ -1,12 +1,13 @@
 //! What holds of a device over many incarnations: the law of incarnations. No function here does anything; its
 //! contract is the law.
-ghost use Rattle.std.specs.Prelude.{◌≡◌, ℕ, List, Some, None, length};
+ghost use Rattle.std.specs.Prelude.{◌≡◌, ◌+◌, ℕ, List, Some, None, cond, false, length};
 ghost use Rattle.disk.specs.Device.{IsCrashImage};
-ghost use Rattle.histories.specs.Events.{Event};
+ghost use Rattle.histories.specs.Events.{Event, MachineState};
 ghost use Rattle.histories.specs.Laws.{IsIdle, IsSoundCoreState};
 ghost use Rattle.histories.specs.Incarnations.{HoldsAnswered, Ran};
 ghost use Rattle.incarnations.specs.Machine.{MachineView, IsEndOfRun, machine_of};
-ghost use Rattle.incarnations.specs.DeviceEvents.{RecoversForRun};
+ghost use Rattle.histories.specs.Runs.{IsLegal, end_state};
+ghost use Rattle.incarnations.specs.DeviceEvents.{AgreeWithDevice, DeviceEvent, IsFailStop, RecoversForRun, device_after, events_of};
 ghost use Rattle.scheduler.specs.CoreView.{CoreView, core_state_of};
 ghost use Rattle.affinity.specs.declared.geometry.Geometry.{Geometry};
 ghost use Rattle.recovery.specs.Header.{HasHeader};
@@ -51,4 +52,15 @@ pub fn a_crash_behind_a_run_leaves_what_was_answered()
         → IsEndOfRun start events new → IsCrashImage new.medium c
         → (h : RecoversForRun start.core.geometry (machine_of start) events (length events) c)
         × HoldsAnswered (Ran (machine_of start) events (length events)) h.left.log }
+{}
+
+/// Once a call of the device has failed, none is made any more: neither another write, nor a sync again after one that failed. If the
+/// device has failed in the first k events of a run, it is left as it was after these. So of a run in which the core didn't fail no call
+/// of the device failed, and of one in which it did, one.
+pub fn a_device_that_failed_is_not_called_again()
+    ensures fail_stop { (g : Geometry) (start : MachineState) (m : Medium) (device_events : List DeviceEvent)
+        → IsLegal g start (events_of device_events) → AgreeWithDevice start m device_events → IsFailStop start m device_events }
+    ensures counts { (g : Geometry) (start : MachineState) (m : Medium) (device_events : List DeviceEvent)
+        → IsLegal g start (events_of device_events) → AgreeWithDevice start m device_events → start.core.failed ≡ false
+        → (device_after m device_events).faults ≡ m.faults + cond (end_state start (events_of device_events)).core.failed 1 0 }
 {}

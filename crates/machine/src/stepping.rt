@@ -1,6 +1,4 @@
 //! One step of a machine.
-ghost use Rattle.std.specs.Prelude.{◌≡◌, false};
-ghost use Rattle.histories.specs.Events.{touches_device};
 ghost use Rattle.histories.specs.declared.outcomes.Step.TheVariants as steps;
 ghost use Rattle.incarnations.specs.Machine.{HoldsJobs};
 ghost use Rattle.incarnations.specs.Steps.{IsCoreStep, IsMachineStep};
@@ -23,7 +21,6 @@ pub(crate) fn make_step<D: Disk>(
     ensures step { IsMachineStep D.keeps (record { core = core.old; hands = hands.old })
         (record { core = core.new; hands = hands.new }) step.now result }
     ensures holds { HoldsJobs core.new.geometry (core_state_of core.new) hands.new }
-    ensures untouched { touches_device (core_state_of core.old) step.now ≡ false → core.new.medium ≡ core.old.medium }
 {
     match *step {
         Step::Arrive(message) => take_in(core, &message),
@@ -47,7 +44,6 @@ fn grant<D: Disk>(core: &mut Core<D>, hands: &mut [HandContent]) -> Outcome
     ensures step { IsMachineStep D.keeps (record { core = core.old; hands = hands.old })
         (record { core = core.new; hands = hands.new }) steps.Grant result }
     ensures holds { HoldsJobs core.new.geometry (core_state_of core.new) hands.new }
-    ensures untouched { core.new.medium ≡ core.old.medium }
 {
     core.know_recovery();
     let Some(hand) = first_empty(hands) else {
@@ -89,7 +85,6 @@ fn give_back<D: Disk>(core: &mut Core<D>, hands: &mut [HandContent], hand: usize
     ensures step { IsMachineStep D.keeps (record { core = core.old; hands = hands.old })
         (record { core = core.new; hands = hands.new }) (steps.Back hand) result }
     ensures holds { HoldsJobs core.new.geometry (core_state_of core.new) hands.new }
-    ensures untouched { core.new.medium ≡ core.old.medium }
 {
     core.know_recovery();
     if hand >= hands.len() {
@@ -106,8 +101,7 @@ fn give_back<D: Disk>(core: &mut Core<D>, hands: &mut [HandContent], hand: usize
 // ---- steps of the core alone
 
 fn take_in<D: Disk>(core: &mut Core<D>, message: &Msg) -> Outcome
-    ensures step { IsCoreStep D.keeps core.old core.new (steps.Arrive message.now) result }
-    ensures untouched { core.new.medium ≡ core.old.medium }
+    ensures { IsCoreStep D.keeps core.old core.new (steps.Arrive message.now) result }
 {
     core.know_recovery();
     match core.arrive(message) {
@@ -117,8 +111,7 @@ fn take_in<D: Disk>(core: &mut Core<D>, message: &Msg) -> Outcome
 }
 
 fn log<D: Disk>(core: &mut Core<D>, count: usize) -> Outcome
-    ensures step { IsCoreStep D.keeps core.old core.new (steps.Log count) result }
-    ensures untouched { touches_device (core_state_of core.old) (steps.Log count) ≡ false → core.new.medium ≡ core.old.medium }
+    ensures { IsCoreStep D.keeps core.old core.new (steps.Log count) result }
 {
     match core.log(count) {
         Ok(logged) => Outcome::Logged(logged),
@@ -127,8 +120,7 @@ fn log<D: Disk>(core: &mut Core<D>, count: usize) -> Outcome
 }
 
 fn answer<D: Disk>(core: &mut Core<D>) -> Outcome
-    ensures step { IsCoreStep D.keeps core.old core.new steps.Answer result }
-    ensures untouched { core.new.medium ≡ core.old.medium }
+    ensures { IsCoreStep D.keeps core.old core.new steps.Answer result }
 {
     core.know_recovery();
     match core.answer() {
@@ -138,8 +130,7 @@ fn answer<D: Disk>(core: &mut Core<D>) -> Outcome
 }
 
 fn point<D: Disk>(core: &mut Core<D>) -> Outcome
-    ensures step { IsCoreStep D.keeps core.old core.new steps.Point result }
-    ensures untouched { touches_device (core_state_of core.old) steps.Point ≡ false → core.new.medium ≡ core.old.medium }
+    ensures { IsCoreStep D.keeps core.old core.new steps.Point result }
 {
     match core.point() {
         Ok(()) => Outcome::Pointed,
@@ -148,8 +139,7 @@ fn point<D: Disk>(core: &mut Core<D>) -> Outcome
 }
 
 fn cut<D: Disk>(core: &mut Core<D>) -> Outcome
-    ensures step { IsCoreStep D.keeps core.old core.new steps.Cut result }
-    ensures untouched { touches_device (core_state_of core.old) steps.Cut ≡ false → core.new.medium ≡ core.old.medium }
+    ensures { IsCoreStep D.keeps core.old core.new steps.Cut result }
 {
     match core.cut() {
         Ok(()) => Outcome::Cut,
@@ -158,8 +148,7 @@ fn cut<D: Disk>(core: &mut Core<D>) -> Outcome
 }
 
 fn piece<D: Disk>(core: &mut Core<D>) -> Outcome
-    ensures step { IsCoreStep D.keeps core.old core.new steps.Piece result }
-    ensures untouched { touches_device (core_state_of core.old) steps.Piece ≡ false → core.new.medium ≡ core.old.medium }
+    ensures { IsCoreStep D.keeps core.old core.new steps.Piece result }
 {
     match core.piece() {
         Ok(pieces_left) => Outcome::Left(pieces_left),
@@ -168,8 +157,7 @@ fn piece<D: Disk>(core: &mut Core<D>) -> Outcome
 }
 
 fn flip<D: Disk>(core: &mut Core<D>) -> Outcome
-    ensures step { IsCoreStep D.keeps core.old core.new steps.Flip result }
-    ensures untouched { touches_device (core_state_of core.old) steps.Flip ≡ false → core.new.medium ≡ core.old.medium }
+    ensures { IsCoreStep D.keeps core.old core.new steps.Flip result }
 {
     match core.flip() {
         Ok(()) => Outcome::Flipped,

@@ -1,9 +1,6 @@
 -- Segments of a run, one after the other.
-use Rattle.std.proofs.Common.{◌≡◌, ℕ, ◌+◌, List, ◌++◌, ap, sym, ◌∙◌, add_assoc}
-use Rattle.std.specs.Prelude.{count_by, if◌then◌else◌}
+use Rattle.std.proofs.Common.{◌≡◌, ℕ, List, ◌++◌, ap, ◌∙◌}
 use Rattle.std.proofs.lemmas.List.{map-append}
-use Rattle.std.proofs.lemmas.List.Sums.{sum_by-append}
-use Rattle.histories.specs.Events.{Event}
 use Rattle.histories.specs.Runs.{answered, arrived}
 use Rattle.histories.specs.CoreState.{Entry}
 use Rattle.language.specs.declared.Reply.{Reply}
@@ -12,13 +9,9 @@ use Rattle.incarnations.specs.Machine.{MachineView}
 use Rattle.incarnations.specs.DeviceEvents.{DeviceEvent, events_of}
 use Rattle.serving.specs.Runs.{RunsBetween}
 
--- how many of the events report that the device failed
-abbrev rises : List Event → ℕ
-rises events = count_by (λ e. e.device_failed) events
-
 unfoldable pub passes_on : {keeps : Type 0} {old mid new : MachineView} {arriving more : List Entry} {reply_pairs others : List (ℕ × Reply)}
     → RunsBetween keeps old mid arriving reply_pairs → RunsBetween keeps mid new more others → RunsBetween keeps old new (arriving ++ more) (reply_pairs ++ others)
-passes_on {old} h k =
+passes_on h k =
     let j = events_join h.leads k.leads in
     let both : events_of (h.device_events ++ k.device_events) ≡ events_of h.device_events ++ events_of k.device_events = map-append (λ (s : DeviceEvent). s.event) h.device_events k.device_events in
     record {
@@ -26,10 +19,6 @@ passes_on {old} h k =
       leads = lead_on h.leads k.leads;
       arrived_are = ap arrived both ∙ j.arrived_is ∙ (λ i. h.arrived_are i ++ k.arrived_are i);
       reply_pairs_are = ap answered both ∙ j.answered_is ∙ (λ i. h.reply_pairs_are i ++ k.reply_pairs_are i);
-      failures = k.failures ∙ ap (λ (n : ℕ). n + rises (events_of k.device_events)) h.failures
-          ∙ add_assoc old.core.medium.faults (rises (events_of h.device_events)) (rises (events_of k.device_events))
-          ∙ ap (λ (n : ℕ). old.core.medium.faults + n) (sym (ap rises both
-          ∙ sum_by-append (λ (e : Event). if e.device_failed then 1 else 0) (events_of h.device_events) (events_of k.device_events)));
     }
 
 -- The same segment, of which equal arrivals and replies are told.
@@ -40,5 +29,4 @@ told_as h come given = record {
   leads = h.leads;
   arrived_are = h.arrived_are ∙ come;
   reply_pairs_are = h.reply_pairs_are ∙ given;
-  failures = h.failures;
 }

@@ -1,12 +1,9 @@
 -- One step of a run, after those before it.
-use Rattle.std.proofs.Common.{◌≡◌, ℕ, Bool, List, [], ◌∷◌, Result, Ok, Err, refl, ap, sym, ◌∙◌, append-nil, false, true, ◌+◌, add-zero, Option}
-use Rattle.std.specs.Prelude.{if◌then◌else◌}
-use Rattle.affinity.specs.declared.geometry.Geometry.{Geometry}
-use Rattle.histories.proofs.Failures.{failure_lasts}
+use Rattle.std.proofs.Common.{◌≡◌, ℕ, Bool, List, [], Result, Ok, Err, refl, ap, sym, ◌∙◌, append-nil, false, true, Option}
 use Rattle.histories.specs.Crash.{to_append}
-use Rattle.histories.specs.Events.{Event, MachineState, batch}
+use Rattle.histories.specs.Events.{MachineState, batch, touches_device}
 use Rattle.histories.specs.Laws.{dispatches_or_returns}
-use Rattle.histories.specs.Runs.{IsLegal, answers, arrives, end_state}
+use Rattle.histories.specs.Runs.{answers, arrives}
 use Rattle.histories.specs.CoreState.{Entry}
 use Rattle.histories.specs.declared.outcomes.CoreFault.{CoreFault}
 use Rattle.histories.specs.declared.outcomes.Outcome.{Outcome}
@@ -15,6 +12,7 @@ use Rattle.histories.specs.declared.outcomes.PointRefusal.{PointRefusal}
 use Rattle.histories.specs.declared.outcomes.Step.{Step}
 use Rattle.histories.specs.declared.outcomes.Step.TheVariants as steps
 use Rattle.incarnations.proofs.Events.{core_holds, core_step}
+use Rattle.incarnations.proofs.FailStop.{run_fails}
 use Rattle.incarnations.proofs.Running.{one_leads}
 use Rattle.incarnations.specs.Machine.{MachineView, machine_of}
 use Rattle.incarnations.specs.Steps.{IsCoreStep, IsMachineStep}
@@ -28,15 +26,10 @@ use Rattle.serving.specs.Runs.{HandsHaveJobs, IsInternal, RunsBetween}
 use Rattle.serving.proofs.Chain.{passes_on, told_as}
 use Rattle.scheduler.proofs.Called.{log_outcome, step_outcome}
 
-counted : (b : Bool) (old new : ℕ) → CountsFailure b old new → new ≡ old + (0 + (if b then 1 else 0))
-counted true old new h = h
-counted false old new h = h ∙ sym (add-zero old)
-
 module _ {keeps : Type 0} {old new : MachineView} {step : Step} {outcome : Outcome} (k : IsMachineStep keeps old new step outcome) where
   -- A step is a segment of a run.
   pub step_passes : RunsBetween keeps old new (arrives step outcome) (answers outcome)
-  step_passes =
-      search (one_leads k, append-nil (arrives step outcome), append-nil (answers outcome), counted k.device_failed old.core.medium.faults new.core.medium.faults k.failures)
+  step_passes = search (one_leads k, append-nil (arrives step outcome), append-nil (answers outcome))
 
 -- A segment in which no message arrives and none is answered leaves what is known of the lines as it was.
 unfoldable pub quiet_goes_on : {keeps : Type 0} {start old new : MachineView} {unsent : List Line} {input unread : Option (List ℕ)} {ended : Bool}
@@ -59,11 +52,6 @@ quiet_goes_on {keeps} {start} {new} p h =
     }
 
 -- A failed device stays failed.
-run_fails : (g : Geometry) (old : MachineState) (events : List Event) → IsLegal g old events → old.core.failed ≡ true
-    → (end_state old events).core.failed ≡ true
-run_fails g old [] legal failed = failed
-run_fails g old (event ∷ events) legal failed = run_fails g event.state_after events legal.1 (failure_lasts g old event legal.0 failed).failed
-
 pub still_failed : {keeps : Type 0} {old new : MachineView} {arriving : List Entry} {reply_pairs : List (ℕ × Reply)} → RunsBetween keeps old new arriving reply_pairs
     → old.core.failed ≡ true → new.core.failed ≡ true
 still_failed {old} p failed =
@@ -97,13 +85,15 @@ no_answer_of_point made none (Err why) = refl
 module _ (keeps : Type 0) (old new : CoreView) (geometry : new.geometry ≡ old.geometry) where
   abbrev IsStepOf : Step → Outcome → Bool → Type 0
   IsStepOf step outcome device_failed = IsCallEvent old.geometry (core_state_of old) (core_state_of new) step outcome device_failed → CountsFailure device_failed old.medium.faults new.medium.faults
+      → (touches_device (core_state_of old) step ≡ false → new.medium ≡ old.medium)
       → (hands : List HandContent) → HandsHaveJobs (record { core = old; hands = hands })
       → IsInternal keeps (record { core = old; hands = hands }) (record { core = new; hands = hands })
 
   call_is_quiet : (step : Step) (outcome : Outcome) (device_failed : Bool) → dispatches_or_returns step ≡ false → arrives step outcome ≡ [] → answers outcome ≡ []
       → (keeps → RecoversThroughout (to_append (core_state_of old) step) old new) → IsStepOf step outcome device_failed
-  call_is_quiet step outcome device_failed still come told moments called counts hands h = core_is_quiet step outcome
-      (record { device_failed = device_failed; called = called; geometry = geometry; failures = counts; any_moment = moments }) still come told h
+  call_is_quiet step outcome device_failed still come told moments called counts untouched hands h = core_is_quiet step outcome
+      (record { device_failed = device_failed; called = called; geometry = geometry; failures = counts; untouched = untouched; any_moment = moments })
+      still come told h
 
   pub log_is_quiet : (n : ℕ) (r : Result ℕ CoreFault) → (keeps → RecoversThroughout (batch (core_state_of old) n) old new)
       → IsStepOf (steps.Log n) (log_outcome r) (log_device_failed r)

@@ -1,5 +1,5 @@
 -- Where a server begins: nothing is read or written, nothing is lent, and no message is in it.
-use Rattle.std.proofs.Common.{◌≡◌, ℕ, zero, suc, false, List, [], Option, Some, None, refl, ap, sym, ◌∙◌, subst, map, add-zero, replicate}
+use Rattle.std.proofs.Common.{◌≡◌, ℕ, zero, suc, false, List, [], Option, Some, None, refl, ap, sym, ◌∙◌, subst, map, replicate}
 use Rattle.std.proofs.lemmas.Option.{none-some}
 use Rattle.std.proofs.KnownBytes.{Appends-nil}
 use Rattle.histories.specs.Laws.{IsSoundCoreState}
@@ -27,7 +27,6 @@ module _ (keeps : Type 0) (start : MachineView) where
     leads = none_lead keeps start;
     arrived_are = refl;
     reply_pairs_are = refl;
-    failures = sym (add-zero start.core.medium.faults);
   }
 
   unfoldable pub starts : (input before : Option (List ℕ)) → ServingProgress keeps start start [] input input false before before

@@ -1,6 +1,6 @@
 -- Statement for operators: A segment of a server's run: its machine (the core; its hands are the bench's places, with the jobs lent there)
 -- before and after, and what a crash meanwhile may leave.
-use Rattle.std.specs.Prelude.{◌≡◌, ◌+◌, ℕ, List, [], map, length, count_by, Option}
+use Rattle.std.specs.Prelude.{◌≡◌, ◌+◌, ℕ, List, [], map, length, Option}
 use Rattle.std.specs.Option.{option_map_or}
 use Rattle.histories.specs.Runs.{answered, arrived}
 use Rattle.histories.specs.CoreState.{Entry, CoreState, held}
@@ -29,14 +29,12 @@ abbrev pub unanswered : CoreState → ℕ
 unanswered w = length w.waiting + length (held w)
 
 -- From one machine to the other there is a legal run, in which these messages arrive and these are answered: its events, each with
--- the device as it left it.
+-- the device as it left it, which failed as often as they say.
 pub record RunsBetween (keeps : Type 0) (old new : MachineView) (arriving : List Entry) (reply_pairs : List (ℕ × Reply)) : Type 0 where
   pub device_events : List DeviceEvent
   pub leads : LeadTo keeps old new device_events
   pub arrived_are : arrived (events_of device_events) ≡ arriving
   pub reply_pairs_are : answered (events_of device_events) ≡ reply_pairs
-  -- the device failed as often as the events say
-  pub failures : new.core.medium.faults ≡ old.core.medium.faults + count_by (λ e. e.device_failed) (events_of device_events)
 
 -- ---- what the hands have
 

@@ -31,7 +31,7 @@ loop-i-preserved g c =
     let more : HasDeviceEvents g.D.Disk.keeps c.args.self.now new (take (c.loop-i.i + 1) c.args.steps.now)
     (take (c.loop-i.i + 1) (slice_set c.loop-i.outcomes c.loop-i.i c.make_step.result)) =
     next_device_events {new = new} c.args.steps.now _ c.loop-i.outcomes c.deref_mut.ensures.value (c.loop-i-test.true, within)
-    c.loop-i.invariant.ran c.make_step.ensures.step c.make_step.ensures.untouched in
+    c.loop-i.invariant.ran c.make_step.ensures.step in
     let kept : (with_items c.loop-i.self-inside.hands c.make_step.new.hands).items ≡ c.make_step.new.hands =
     with_items_is c.loop-i.self-inside.hands c.make_step.new.hands (c.make_step.auto.hands ∙ c.deref_mut.ensures.len) in
     record {

@@ -13,7 +13,7 @@ invariant_of-self g c =
     let old = c.self.inside.core in
     let new = c.cut.new.self in
     let quiet = cut_is_quiet g.D.Disk.keeps old new c.cut.ensures.geometry c.cut.ensures.any_moment c.cut.result
-    (cut_called old.geometry (core_state_of old) (core_state_of new) c.cut.result c.cut.ensures.state_after) c.cut.ensures.counts in
+    (cut_called old.geometry (core_state_of old) (core_state_of new) c.cut.result c.cut.ensures.state_after) c.cut.ensures.counts c.cut.ensures.untouched in
     record {
       run = on_trigger g.D.Disk.keeps _ _ (on_machine g.D.Disk.keeps _ _ c.self.invariant.run _ _ (quiet _ (holds_of g.D.Disk.keeps _ _ c.self.invariant.run)) refl refl) _;
       bench = c.self.invariant.bench;
@@ -24,7 +24,7 @@ invariant_of-self-in-Err g c =
     let old = c.self.inside.core in
     let new = c.cut.new.self in
     let quiet = cut_is_quiet g.D.Disk.keeps old new c.cut.ensures.geometry c.cut.ensures.any_moment c.cut.result
-    (cut_called old.geometry (core_state_of old) (core_state_of new) c.cut.result c.cut.ensures.state_after) c.cut.ensures.counts in
+    (cut_called old.geometry (core_state_of old) (core_state_of new) c.cut.result c.cut.ensures.state_after) c.cut.ensures.counts c.cut.ensures.untouched in
     record { run = on_machine g.D.Disk.keeps _ _ c.self.invariant.run _ _ (quiet _ (holds_of g.D.Disk.keeps _ _ c.self.invariant.run)) refl refl; bench = c.self.invariant.bench }
 
 pub returns-in-Err-clause-session_step : goal.returns-in-Err-clause-session_step
