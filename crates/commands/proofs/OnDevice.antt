@@ -1,12 +1,16 @@
 -- What a service on a device has done, from what its server promises.
-use Rattle.std.proofs.Common.{◌≡◌, ◌∙◌, ℕ, List, [], Some, None, false, refl, ap, take, replicate, arith}
-use Rattle.std.specs.Prelude.{Result, Ok, Err}
+use Rattle.std.proofs.Common.{◌≡◌, ◌∙◌, ◌+◌, ◌≤◌, ℕ, Bool, List, [], Some, None, true, false, refl, ap, take, replicate, arith}
+use Rattle.std.specs.Prelude.{Result, Ok, Err, cond}
 use Rattle.std.proofs.lemmas.List.{take_all}
 use Rattle.recovery.specs.Recovery.{recovered_state}
 use Rattle.disk.proofs.Leaves.{itself}
 use Rattle.disk.specs.Device.{AreBytes, IsCrashImage, Medium}
 use Rattle.checkpoint.specs.Opening.{OpeningCrashImages}
+use Rattle.histories.proofs.Room.{at_most_one}
+use Rattle.histories.specs.Events.{MachineState}
 use Rattle.histories.specs.Laws.{IsIdle}
+use Rattle.incarnations.proofs.FailStop.{fail_stop, fails_once}
+use Rattle.incarnations.specs.Machine.{machine_of}
 use Rattle.meaning.specs.Serial.{state_after_all}
 use Rattle.language.specs.declared.Msg.{Msg}
 use Rattle.scheduler.specs.CoreView.{IsJustOpened, CoreView, RecoversNow, core_state_of}
@@ -16,12 +20,37 @@ use Rattle.serving.specs.Serve.{ServePromise}
 use Rattle.serving.specs.declared.server.ServeFault.{ServeFault}
 use Rattle.serving.specs.declared.server.ServeFault.TheVariants as faults
 use Rattle.commands.specs.Faults.{command_result}
-use Rattle.commands.specs.Serving.{EndsOnDevice, CrashesSafely, HasServedBy, HasServedNothing, IsIncarnation, RecoversDurably, RecoveredTo, ServedDevice}
+use Rattle.commands.specs.Serving.{CountsFaults, EndsOnDevice, CrashesSafely, HasServedBy, HasServedNothing, IsIncarnation, RecoversDurably, RecoveredTo, ServedDevice}
 use Rattle.commands.specs.declared.serve_options.ServeOptions.{ServeOptions}
 
 -- no message is in a core that was just opened
 pub is_idle : (slots : ℕ) (c : CoreView) → IsJustOpened slots c → IsIdle (core_state_of c)
 is_idle slots c just = record { none_waits = just.none_waits; none_held = rw (just.none_logged, just.none_ran, just.none_in_flight) refl }
+
+-- ---- how often the device failed
+
+module _ {keeps : Type 0} (workers : ℕ) (old : Medium) (start now : CoreView) (x : Exchange) (no_fault : start.medium.faults ≡ old.faults)
+    (works : start.failed ≡ false) where
+  fails_if : (end : Result (Unit {0}) ServeFault) → ServePromise keeps workers start (now, end) x → now.medium.faults ≡ old.faults + cond now.failed 1 0
+  fails_if end served =
+      let segment = served.run.served.run.segment in
+      let machine = machine_of (machine_with_jobs start (replicate workers None)) in
+      let once = fails_once start.geometry machine start.medium segment.device_events segment.leads.legal segment.leads.agrees works in
+      let last = ap {B = ℕ} (λ (w : MachineState). cond w.core.failed 1 0) segment.leads.ends in
+      let after = ap (λ (m : Medium). m.faults) segment.leads.device in
+      omega (arith, once, last, after, no_fault)
+
+  by_end : (failed : Bool) (end : Result (Unit {0}) ServeFault) → now.failed ≡ failed → ServePromise keeps workers start (now, end) x
+      → now.medium.faults ≡ old.faults + cond failed 1 0
+  by_end failed end is served = rw is at (fails_if end served)
+
+  pub faults_counted : (end : Result (Unit {0}) ServeFault) → ServePromise keeps workers start (now, end) x → CountsFaults old now.medium end
+  faults_counted (Err faults.Device) served = by_end true (Err faults.Device) served.ends.0 served
+  faults_counted (Err faults.Write) served = omega (arith, fails_if (Err faults.Write) served, at_most_one now.failed)
+  faults_counted (Err faults.NoWorkers) served = ap (λ (c : CoreView). c.medium.faults) served.ends.0 ∙ no_fault
+  faults_counted (Err faults.OutOfMemory) served = ap (λ (c : CoreView). c.medium.faults) served.ends.0 ∙ no_fault
+  faults_counted (Ok done) served = let none = by_end false (Ok done) served.ends.1 served in omega (arith, none)
+  faults_counted (Err fault) served = let none = by_end false (Err fault) served.ends.1 served in omega (arith, none)
 
 -- ---- the run
 
@@ -39,18 +68,24 @@ module _ (keeps : Type 0) (s : ServeOptions) (old : Medium) (start now : CoreVie
   }
 
   abbrev pub has_served_by : IsJustOpened s.slots start → RecoveredTo keeps old start.geometry (committed_in start)
-      → (keeps → OpeningCrashImages old start.medium)
+      → (keeps → OpeningCrashImages old start.medium) → start.medium.faults ≡ old.faults
       → ServePromise keeps s.workers start (now, end) x
       → (keeps → RecoversNow now) → HasServedBy keeps s old now.medium end x
-  has_served_by fresh before opening served leaves = record {
+  has_served_by fresh before opening no_fault served leaves = record {
     start = start;
     now = now;
     fresh = fresh;
     recovered_before = before;
     opening = opening;
+    no_fault = no_fault;
     served = served;
     leaves = leaves;
     given_back = refl;
+    counts = faults_counted s.workers old start now x no_fault fresh.works end served;
+    fail_stop =
+        let segment = served.run.served.run.segment in
+        fail_stop start.geometry (machine_of (machine_with_jobs start (replicate s.workers None))) start.medium segment.device_events
+        segment.leads.legal segment.leads.agrees;
     incarnation = is_incarnation fresh before served.run.served.run;
   }
 

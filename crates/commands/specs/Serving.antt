@@ -13,7 +13,7 @@ use Rattle.checkpoint.specs.Opening.{IsLeftByRefusal, OpeningCrashImages}
 use Rattle.histories.specs.Incarnations.{Ran}
 use Rattle.incarnations.specs.Incarnations.{IsRunIncarnation}
 use Rattle.incarnations.specs.Machine.{machine_of}
-use Rattle.incarnations.specs.DeviceEvents.{DeviceEvent, device_after, events_of}
+use Rattle.incarnations.specs.DeviceEvents.{DeviceEvent, IsFailStop, device_after, events_of}
 use Rattle.language.specs.Lines.{lines}
 use Rattle.message.specs.Writing.{AppendsBeginning}
 use Rattle.meaning.specs.Output.{IsBeginning, WritesOutput, serial_output}
@@ -24,6 +24,7 @@ use Rattle.serving.specs.Runs.{machine_with_jobs}
 use Rattle.oplog.specs.Recovery.{records_in}
 use Rattle.serving.specs.Serve.{ServePromise}
 use Rattle.serving.specs.declared.server.ServeFault.{ServeFault}
+use Rattle.serving.specs.declared.server.ServeFault.TheVariants as serve_faults
 use Rattle.commands.specs.Faults.{command_result}
 use Rattle.commands.specs.declared.faults.Fault.{Fault}
 use Rattle.commands.specs.declared.faults.Fault.TheVariants.{Read, Write, OutOfMemory, Device, NoWorkers, NoTicketLeft, Open}
@@ -58,6 +59,12 @@ pub record ServedDevice (keeps : Type 0) (old new : Medium) : Type 0 where
 -- Nothing was served: no input was read and no output written. The device was opened, and recovers to the same state as before.
 abbrev pub HasServedNothing : Type 0 → Medium → Medium → Exchange → Type 0
 HasServedNothing keeps old new x = (w : ServedDevice keeps old new) × (w.end ≡ w.start) × (x.remaining ≡ x.input) × (x.written ≡ x.before)
+
+-- How many calls of the device failed, by this end: one where that is reported; where the output failed, perhaps one; else none.
+abbrev pub CountsFaults : Medium → Medium → Result (Unit {0}) ServeFault → Type 0
+CountsFaults old new (Err serve_faults.Device) = new.faults ≡ old.faults + 1
+CountsFaults old new (Err serve_faults.Write) = new.faults ≤ old.faults + 1
+CountsFaults old new _ = new.faults ≡ old.faults
 
 -- What each end promises.
 -- No fault: the input has ended, and the output is that of the serial server for all of it, from the state to which the device
@@ -111,10 +118,16 @@ pub record HasServedBy (keeps : Type 0) (s : ServeOptions) (old new : Medium) (e
   pub fresh : IsJustOpened s.slots start
   pub recovered_before : RecoveredTo keeps old start.geometry (committed_in start)
   pub opening : keeps → OpeningCrashImages old start.medium
+  -- no call of the device failed while it was opened
+  pub no_fault : start.medium.faults ≡ old.faults
   pub served : ServePromise keeps s.workers start (now, end) x
   -- whatever a crash leaves now recovers to the committed state with a prefix of the messages in `doubt`
   pub leaves : keeps → RecoversNow now
   pub given_back : new ≡ now.medium
+  -- a call of the device failed exactly where that is reported; once one has failed, the service makes no further call
+  pub counts : CountsFaults old new end
+  pub fail_stop : IsFailStop (machine_of (machine_with_jobs start (replicate s.workers None))) start.medium
+      served.run.served.run.segment.device_events
   pub incarnation : keeps → IsIncarnation s start old new served.run.served.run.segment.device_events
 
 -- `HasServedBy` holds; or the device could not be opened. A crash during the opening leaves what a crash before it might have left or,

@@ -38,7 +38,7 @@ returns g c =
     (g.W.Write.contents c.serve_core-core.new.w) in
     let by = has_served_by keeps service old start now end streams (rw c.from.ensures at c.in-Ok.ensures.opened)
     (record { header = c.in-Ok.ensures.header; recovered_before = c.in-Ok.ensures.recovered_before })
-    c.in-Ok.ensures.any_moment c.serve_core-core.ensures c.know_recovery.ensures.now in
+    c.in-Ok.ensures.any_moment c.in-Ok.ensures.no_fault c.serve_core-core.ensures c.know_recovery.ensures.now in
     let ends = ends_on_device end by c.know_recovery.ensures.no_doubt (rw c.into_disk.ensures at (g.met.D.Disk.bytes c.into_disk.result)) in
     rw (c.into_disk.ensures, c.command_result.ensures) (record {
       ends = ends;
