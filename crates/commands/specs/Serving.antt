@@ -124,7 +124,7 @@ pub record HasServedBy (keeps : Type 0) (s : ServeOptions) (old new : Medium) (e
   -- whatever a crash leaves now recovers to the committed state with a prefix of the messages in `doubt`
   pub leaves : keeps → RecoversNow now
   pub given_back : new ≡ now.medium
-  -- a call of the device failed exactly where that is reported; once one has failed, the service makes no further call
+  -- how many calls of the device failed; and after the event in which one has failed, the service makes no further call
   pub counts : CountsFaults old new end
   pub fail_stop : IsFailStop (machine_of (machine_with_jobs start (replicate s.workers None))) start.medium
       served.run.served.run.segment.device_events

@@ -54,9 +54,9 @@ pub fn a_crash_behind_a_run_leaves_what_was_answered()
         × HoldsAnswered (Ran (machine_of start) events (length events)) h.left.log }
 {}
 
-/// Once a call of the device has failed, none is made any more: neither another write, nor a sync again after one that failed. If the
-/// device has failed in the first k events of a run, it is left as it was after these. So of a run in which the core didn't fail no call
-/// of the device failed, and of one in which it did, one.
+/// After the event in which a call of the device has failed, none is made any more: neither another write, nor a sync again after one that
+/// failed. If the device has failed in the first k events of a run, it is left as it was after these. So no call of the device failed in a
+/// run in which the core didn't fail, and one did in a run in which it did.
 pub fn a_device_that_failed_is_not_called_again()
     ensures fail_stop { (g : Geometry) (start : MachineState) (m : Medium) (device_events : List DeviceEvent)
         → IsLegal g start (events_of device_events) → AgreeWithDevice start m device_events → IsFailStop start m device_events }
