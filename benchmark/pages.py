@@ -35,6 +35,11 @@ def listed(words):
     return f"{', '.join(map(str, words[:-1]))} and {words[-1]}"
 
 
+def at_each_geometry(values):
+    """`one at the default geometry and two at the greatest`."""
+    return listed([f"{value} at the {geometry} geometry" for value, geometry in zip(values, GEOMETRIES)])
+
+
 def spread(values):
     """Half of the distance of the least and the greatest value, in percent of the median."""
     return (max(values) - min(values)) / median(values) * 50
@@ -52,10 +57,11 @@ def of_run(figures):
     spreads = sorted(spread(figures.values(row, program, "lines/s")) for row in rows for program in programs)
     text = (
         f"{day.day} {day:%B %Y}, commit `{told['commit'][:10]}`, `{told['version']}`; {machine['processors']} "
-        f"processors ({machine['model']}), {machine['kernel']}. Medians of {told['repeat']} rounds; {lines:,} lines, "
-        f"of reads {lines * MORE_READS:,}, with 1 slot a tenth. The disk takes {number(median(disk))} microseconds "
-        f"({span(disk)}) to write and sync a record. Speeds of the rounds: ±{median(spreads):.0f} percent as a rule, "
-        f"±{spreads[-1]:.0f} at most.")
+        f"processors ({machine['model']}), {machine['kernel']}. Each number is the median of {told['repeat']} rounds. "
+        f"A row of writes or mixed lines has {lines:,} lines, one of reads {lines * MORE_READS:,}, and one with 1 slot "
+        f"a tenth of that. The disk takes {number(median(disk))} microseconds ({span(disk)}) to write and sync a "
+        f"record. From round to round speeds differ by ±{median(spreads):.0f} percent as a rule, and by "
+        f"±{spreads[-1]:.0f} percent at most.")
     if told["load"] > BUSY:
         text += f" **The machine did other work** (load {told['load']})."
     yield text
@@ -89,32 +95,36 @@ def of_table(figures):
 
 
 def of_memory(figures):
-    """What checkpoints write, and the peaks of memory."""
+    """What a change writes, and the peaks of memory."""
     sizes = [figures.median(served(geometry, "write", 64), MAIN, "bytes") for geometry in GEOMETRIES]
-    parts = listed([f"{number((size - LOGGED) / size * 100)} percent of {size:,.0f}" for size in sizes])
-    yield f"- Checkpoints write {parts} bytes a change, with 64 slots; the log takes {LOGGED}."
+    parts = listed([number((size - LOGGED) / size * 100) for size in sizes])
+    costs = at_each_geometry([f"{size:,.0f} bytes" for size in sizes])
+    yield (
+        f"- **Bytes written**: with 64 slots a change costs {costs}. Of these {LOGGED} go to the log, and the rest "
+        f"({parts} percent) to checkpoints.")
     peaks = []
     for geometry in GEOMETRIES:
         rows = [served(geometry, mix, slots) for mix, slots in SERVED]
-        peaks.append(span([figures.median(row, program, "peak MB") for row in rows for program in OF_WAFFD]))
-    yield f"- Peak of memory: {listed(peaks)} MB."
+        peaks.append(span([figures.median(row, program, "peak MB") for row in rows for program in OF_WAFFD]) + " MB")
+    yield f"- **Memory**: at its peak {at_each_geometry(peaks)}."
 
 
 def of_starts(figures):
     """The first reply, after an end in order and after a kill."""
     openings = [f"opening {geometry}" for geometry in GEOMETRIES]
-    times = listed([number(figures.median(row, MAIN, "ms")) for row in openings])
+    times = at_each_geometry([f"{number(figures.median(row, MAIN, 'ms'))} ms" for row in openings])
     floors = listed([number(figures.ratio(row, MAIN, "floor", "ms")) for row in openings])
     yield (
-        f"- First reply: after {times} ms, {floors} times what a plain program takes to read half of the device, "
-        "write half and sync five times.")
+        f"- **The first reply** comes after {times}. That is {floors} times what a plain program takes to read half "
+        "of the device, write half and sync five times.")
 
     def of_every(what):
         return listed([number(figures.median("every default", f"every {every}", what)) for every in EVERY])
 
     yield (
-        f"- `--every` {listed(EVERY)} (writes, default geometry, 16 slots): {of_every('lines/s')} lines/s; after a "
-        f"kill {of_every('records')} records to replay, and {of_every('ms')} ms to the next first reply.")
+        f"- **`--every`** {listed(EVERY)}, with writes at the default geometry and 16 slots: {of_every('lines/s')} "
+        f"lines a second. After a kill there were {of_every('records')} records to replay, and the next server's first "
+        f"reply came after {of_every('ms')} ms.")
 
 
 def of_plain(figures):
@@ -125,8 +135,9 @@ def of_plain(figures):
         speed = figures.ratio(f"plain {mix}", "serial", "waffd", "cpu us")
         shown.append(f"{mix} {time} ({speed:.2f})")
     yield (
-        "- `plain`, processor time a line in microseconds (its speed in multiples of `benchmark/serial.rs`, on the "
-        f"mixes of `benchmark/lines.rs`): {listed(shown)}.")
+        "- **`plain`**, on the mixes of lines of `benchmark/lines.rs`: microseconds of processor time for a line and, "
+        "in brackets, how many times as fast it is as an ordinary serial server (`benchmark/serial.rs`): "
+        f"{listed(shown)}.")
 
 
 def of_others(figures):
@@ -134,6 +145,18 @@ def of_others(figures):
     yield from of_memory(figures)
     yield from of_starts(figures)
     yield from of_plain(figures)
+
+
+def of_one_stripe(figures):
+    """What the rows with 1 slot show of a single stripe."""
+    alone = [served(geometry, "write", 1) for geometry in GEOMETRIES]
+    speeds = at_each_geometry([f"{figures.median(row, MAIN, 'lines/s'):,.0f} lines a second" for row in alone])
+    syncs = listed([f"{figures.median(row, MAIN, 'syncs'):,.0f}" for row in alone])
+    yield (
+        "No row writes to **one stripe** alone. A batch has at most one change of a stripe, so such a line takes at "
+        "least two syncs, however many slots there are. The rows `write 1` have batches of one change, too, because "
+        f"only one line is outstanding. With 2 workers they show {speeds}, and {syncs} syncs for 1,000 changes. For "
+        "one stripe more slots can only spare what a line costs beside its syncs.")
 
 
 def of_speed(figures):
@@ -149,14 +172,14 @@ def of_speed(figures):
     speeds = span([round(speed, -3) for speed in medians("lines/s")])
     sync = number(figures.median("disk", "disk", "us"))
     yield (
-        f"Over all stripes, with 64 or 256 slots, {speeds} writes of full blocks a second, and "
-        f"{span(medians('syncs'))} syncs for 1,000 of them; the disk takes {sync} microseconds to write and sync a "
-        f"record. An ordinary unproved Rust server is {times_as_fast('batch')} times as fast as `waffd` with 2 "
-        f"workers; {times_as_fast('twice')} times, if it locks stripes and syncs as often.")
+        f"With writes spread over all stripes, and 64 or 256 slots, `waffd` does {speeds} writes of full blocks a "
+        f"second, at {span(medians('syncs'))} syncs for 1,000 of them. The disk takes {sync} microseconds to write and "
+        f"sync a record. An ordinary unproved Rust server is {times_as_fast('batch')} times as fast as `waffd` with 2 "
+        f"workers, or {times_as_fast('twice')} times if it, too, locks stripes and syncs twice for each batch.")
 
 
 PAGES = {
-    "docs/speed.md": {"run": of_run, "table": of_table, "others": of_others},
+    "docs/speed.md": {"run": of_run, "table": of_table, "others": of_others, "stripe": of_one_stripe},
     "README.md": {"speed": of_speed},
 }
 
