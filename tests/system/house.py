@@ -13,7 +13,7 @@ from program import TOP, Case, run
 
 SCRIPTS = {
     "tests/lint/words": "each public word of the definitions has one meaning",
-    "tests/lint/names": "each name in a comment is there",
+    "tests/lint/names": "each name in a comment and in the map of the code is there",
     "tests/lint/form": "each clause, function, file and page has the form that it is to have",
     "tests/lint/fixed": "no line of a table of what is fixed was taken out, and no decision",
     "tests/lint/wrong_bodies": "each wrong body has its edit or test",
