@@ -15,9 +15,9 @@ use Rattle.commands.specs.declared.faults.Fault.{Fault}
 use Rattle.commands.specs.declared.faults.Fault.TheVariants.{Write, Device, NoWorkers, OutOfMemory, Open}
 use Rattle.commands.specs.declared.serve_options.ServeOptions.{ServeOptions}
 
--- `all` is what the output holds; where a write failed, what it would hold with all that was to be written (`WritesBeginning`). At most
--- `left` lines that were read are not answered in `all`: where the device failed, as many as there are slots; where neither failed, none.
--- Where no line was read, nothing was written.
+-- `all` is the output as the server meant it: what is there or, if a write failed, what would be there if that write had succeeded
+-- (`WritesBeginning`). At most `left` lines that were read are not answered in `all`: if the device failed, as many as there are slots; if
+-- neither failed, none. If no line was read, nothing was written.
 abbrev pub IsWritten : Result (Unit {0}) Fault → ℕ → ℕ → Option (List ℕ) → Option (List ℕ) → Option (List ℕ) → Type 0
 IsWritten (Err Write) slots left before after all = WritesBeginning slots left before after all
 IsWritten (Err Device) slots left before after all = (after ≡ all) × (left ≡ slots)
@@ -32,9 +32,9 @@ abbrev pub HoldsOfAll : Result (Unit {0}) Fault → ℕ → Option (List ℕ) �
 HoldsOfAll (Err (Open fault)) slots before after P = after ≡ before
 HoldsOfAll end slots before after P = (left : ℕ) × (all : Option (List ℕ)) × IsWritten end slots left before after all × P left all
 
--- A server ran from the state `start` on one input and came to this end, and a crash left another state, of which `next` is true. What it
--- wrote is the serial server's output for the first lines of its input, however it ended. `next` may be that another server ran so from
--- that state, on what the crash left, and a further one after it: one record in the other for each.
+-- A server ran from the state `start` on one input and came to this end, and a crash left another state, of which `next` is true. However
+-- it ended, what it wrote is the serial server's output for the first lines of its input. `next` says what happened afterwards. To speak of
+-- several restarts, put one `HasRunFrom` into the `next` of another.
 pub record HasRunFrom (g : Geometry) (slots : ℕ) (start : State) (end : Result (Unit {0}) Fault)
     (input before after : Option (List ℕ)) (next : State → Type 0) : Type 0 where
   -- the state that the crash left

@@ -29,12 +29,13 @@ use workers::{Bench, DispatchSeat, MOST_PLACES};
 /// their gates.
 const BATCH: usize = MOST_PLACES;
 
-// A poll that ends before the last place could wait for a result whose signal it has seen.
+// If a batch could not hold a result from every place, a poll might end early, miss a result whose signal the loop has already seen, and
+// the loop would then sleep in spite of it.
 const _: () = prove!(MOST_PLACES <= BATCH);
 
 /// After this many polls in succession without a result, each of all places, the batch is logged as it is. They take about ten times as
-/// long as a thread takes to wake up. Each result restarts the count, so a reply may wait for as many polls once more for each later
-/// result of its batch.
+/// long as a thread takes to wake up. The count restarts with every result, so in the worst case a reply waits for so many polls once for
+/// each later result of its batch.
 const MAX_POLLS: usize = 16384;
 
 /// The thread yields the processor once in this many polls.

@@ -112,8 +112,8 @@ pub fn serving_ends_as_the_serial_server<D: Disk>()
 
 /// Where `doubt` was empty in the beginning, the device holds what was answered. Each line that was written for a message with a ticket is
 /// of a message that was logged in the run, with that ticket and that reply. After a crash at any moment since event number k ended, the
-/// device recovers to the state after all that was logged by then, perhaps with more of the messages that arrived. After a crash when the
-/// server has ended, it recovers so for all that was logged in the run.
+/// device recovers to the state after all that was logged by then, perhaps with more of the messages that arrived. After a crash that
+/// comes once the server has ended, it recovers in the same sense to the state after all that the run logged.
 pub fn what_was_sent_is_on_the_device<D: Disk>()
     ensures logged { (start : MachineView) (new : CoreView) (input : Option (List ℕ)) (consumed : List (List ℕ))
         → IsIdle (core_state_of start.core) → start.core.doubt ≡ [] → (h : HasRunLines D.keeps start new input consumed) → D.keeps
