@@ -89,8 +89,8 @@ fn first_sync<D: Disk>(disk: &mut D) -> Result<(), OpenFault>
 
 /// Finishes a cut that was in progress: an image of its state, which the tree holds, is written into the other area, which is then
 /// named. The state of the cut is that of the named image with the records of the named half run on it, without those of the other half.
-/// In clause `recovers`, `true` says that the named half is chained. Clause `room` is not of the log: all flags stay, and so does the size
-/// of the snapshot.
+/// In clause `recovers`, `true` says that the named half is chained. Clause `room` speaks of the buffers in memory, and not of the log: all
+/// flags stay, and so does the size of the snapshot.
 fn finish_cut<D: Disk>(parts: &mut Parts, disk: &mut D) -> Result<(), LogFault>
     requires loaded { AreLoaded parts.old (D.medium disk.old) }
     requires synced { D.keeps → IsSynced (D.medium disk.old) }

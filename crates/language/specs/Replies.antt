@@ -8,7 +8,7 @@ use Rattle.language.specs.declared.Refusal.TheVariants.{Range, Volume, Exists, S
 use Rattle.language.specs.declared.Reply.{Reply}
 use Rattle.language.specs.declared.Reply.TheVariants.{Done, Hole, Block as Found, Files, Usage, Summary, Refused, Label}
 
--- a byte in front of others, unless it is a zero in front of nothing
+-- a byte followed by the others; a zero that nothing follows is dropped
 abbrev pub prepended : ℕ → List ℕ → List ℕ
 prepended b [] = if b == 0 then [] else b ∷ []
 prepended b (c ∷ cs) = b ∷ c ∷ cs

@@ -1,7 +1,7 @@
 -- Statement for engineers: What a device recovers to after a crash, for the layer above, without the places of bytes. Most laws take
--- `CrashRecovers` of the device before a sequence of calls. Those of a crash during the calls give `RecoversBy`, or what is built on it, of
--- whatever it leaves. Those of the device after the calls (`AllRecover`, `ChainedRecovers`, `FlipRecovers`) give `CrashRecovers`, which the
--- next law takes.
+-- `CrashRecovers` of the device before a sequence of calls. A law about a crash during the calls concludes `RecoversBy`, or what is built
+-- on it, of whatever the crash leaves. A law about the device after the calls (`AllRecover`, `ChainedRecovers`, `FlipRecovers`) concludes
+-- `CrashRecovers`, which the next law takes: so laws can be chained.
 use Rattle.std.specs.Prelude.{◌≡◌, ◌≢◌, ◌<◌, ◌≤◌, ℕ, List, [], length, take, Option}
 use Rattle.disk.specs.Device.{Medium, IsCrashImage}
 use Rattle.disk.specs.Moments.{CrashImagesAre}

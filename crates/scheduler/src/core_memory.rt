@@ -35,7 +35,7 @@ pub(crate) fn take_memory(alloc: Global, slots: usize) -> Result<CoreMemory, All
     ensures batch { IfOk result (λ m. m.batch.items ≡ []) }
     ensures room { IfOk result (λ m. slots ≤ vec_capacity m.batch) }
 {
-    // Each `?` drops what was taken before it, so what has most to drop is taken last.
+    // Each `?` drops all that was taken before it, which takes time to prove: so what has most to drop is taken last.
     Ok(CoreMemory {
         batch: Vec::with_capacity(alloc, slots)?,
         replies: vec![in alloc; Reply::Done; slots]?,
