@@ -297,10 +297,10 @@ pub fn hands_hold_what_is_in_flight()
 {}
 
 /// From a sound machine state whose hands have what is in flight, with at least one hand and a device that works: if anything waits or is
-/// held, some event that is no arrival may come and leaves less to do. Whichever such events come, there are no more than work is left, and
-/// there is another one until nothing waits and nothing is held. Some legal run of them ends so. So whatever has happened since a start
-/// with nothing waiting, nothing held and every hand empty, each message that arrived can be answered, once, as long as the device works.
-/// Checkpoints are made online, of n pieces each, for any number n that a cut may have.
+/// held, at least one event other than an arrival is allowed, and leaves less to do. Whichever such events come, there are no more than
+/// work is left, and there is another one until nothing waits and nothing is held. Some legal run of them ends so. So whatever has happened
+/// since a start with nothing waiting, nothing held and every hand empty, each message that arrived can be answered, once, as long as the
+/// device works. Checkpoints are made online, of n pieces each, for any number n that a cut may have.
 pub fn all_can_be_answered()
     ensures step { (g : Geometry) (n : ℕ) → n ≤ piece_count g → (w : MachineState) → IsSoundCoreState g w.core
         → w.core.failed ≡ false → HandsHold w → 0 < length w.hands → IsBusy w.core → CanStep g n w }

@@ -13,8 +13,9 @@ use Rattle.serving.specs.declared.server.ServeError.{ServeError}
 use Rattle.serving.specs.declared.server.ServeFault.{ServeFault}
 use Rattle.serving.specs.declared.server.ServeFault.TheVariants as faults
 
--- `all` is what the output holds; where it failed, what it would hold with all that was to be written (`WritesBeginning`). At most `left`
--- lines that were read have no reply in `all`: where the device failed, as many as there are slots; where nothing failed, none.
+-- `all` is the output as the server meant it: what is there or, if the output failed, what would be there if that write had succeeded
+-- (`WritesBeginning`). At most `left` lines that were read have no reply in `all`: if the device failed, as many as there are slots; if
+-- nothing failed, none.
 abbrev pub IsWrittenAtEnd : Result (Unit {0}) ServeFault → ℕ → ℕ → Option (List ℕ) → Option (List ℕ) → Option (List ℕ) → Type 0
 IsWrittenAtEnd (Err faults.Write) slots left before written all = WritesBeginning slots left before written all
 IsWrittenAtEnd (Err faults.Device) slots left before written all = (written ≡ all) × (left ≡ slots)
