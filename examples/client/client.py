@@ -1,0 +1,200 @@
+#!/usr/bin/env python3
+"""A client of `waffd serve`: sends lines before earlier ones have their replies, and knows which have none at the end.
+
+    examples/client/client.py SOCKET     sends the lines of its standard input to the front's server, and prints the
+                                         replies; with status 1, on standard error, the lines that have none
+"""
+import argparse
+import collections
+import contextlib
+import fcntl
+import itertools
+import socket
+import subprocess
+import sys
+import threading
+import time
+
+PIECE = 256  # lines that `answers` sends together
+PIECES = 8  # that it has in flight: enough for a server with 1,024 slots
+PATIENCE = 20  # seconds for a socket to be there, as systemd may start the server just now
+TRIES = 5  # servers in a row that end before their first reply
+
+# Lines that are sent together, and the replies that have come. It is over once there are all, or no more will come.
+Request = collections.namedtuple("Request", "lines replies is_over")
+
+
+class Lost(Exception):
+    """There will be no more replies. `unanswered` are the lines without one, in order: each that was sent may have been
+    carried out or not. `status` is the server's, below 0 where a signal ended it; 0 where a connection has ended."""
+
+    def __init__(self, status, why, unanswered):
+        super().__init__(why)
+        self.status = status
+        self.unanswered = unanswered
+
+
+def locked(device):
+    """The file of a device, locked as by flock until it is closed here and in each process that was given it."""
+    file = open(device, "rb")
+    fcntl.flock(file, fcntl.LOCK_EX | fcntl.LOCK_NB)
+    return file
+
+
+class Pipes:
+    """A server of one's own, of a locked file. It keeps the lock if this process ends before it. It has a session of
+    its own, so that an interrupt at the terminal doesn't kill it."""
+
+    def __init__(self, file, program="./waffd", options=()):
+        pipes = {"stdin": subprocess.PIPE, "stdout": subprocess.PIPE, "stderr": subprocess.PIPE}
+        words = [program, "serve", file.name, *options]
+        self.child = subprocess.Popen(words, pass_fds=(file.fileno(),), start_new_session=True, **pipes)
+        self.lines, self.replies = self.child.stdin, self.child.stdout
+        self.end_input, self.cut = self.lines.close, self.child.kill
+
+    def end(self):
+        """Its status, and what is to be said of it."""
+        faults = self.child.stderr.read().decode(errors="replace").strip()
+        status = self.child.wait()
+        return status, f"waffd has ended with status {status}{faults and ': '}{faults}"
+
+
+class Socket:
+    """A connection to the front, which may not be there yet."""
+
+    def __init__(self, path):
+        last_try = time.monotonic() + PATIENCE
+        self.socket = socket.socket(socket.AF_UNIX)
+        while self.socket.connect_ex(path) != 0:
+            time.sleep(0.05)
+            if time.monotonic() > last_try:
+                raise ConnectionError(f"nobody serves {path}")
+        self.lines = self.socket.makefile("wb")
+        self.replies = self.socket.makefile("rb")
+        self.end_input = lambda: self.socket.shutdown(socket.SHUT_WR)
+        self.cut = self.socket.close
+
+    def end(self):
+        self.socket.close()
+        return 0, "the connection has ended"
+
+
+class Client:
+    """One connection, by Pipes or by a Socket. Any number of threads may use it. A thread of its own takes each reply
+    as it comes, so that the server never waits until its output is read."""
+
+    def __init__(self, link):
+        self.link = link
+        self.requests = collections.deque()  # those that aren't answered, in the order of their lines
+        self.ended = None  # the status, and what is to be said
+        self.lock = threading.Lock()  # held so that lines are sent in the order of `requests`, before the end
+        self.reader = threading.Thread(target=self.take_replies, daemon=True)
+        self.reader.start()
+
+    def send(self, lines):
+        """Sends lines without waiting for their replies: the request."""
+        request = Request(list(lines), [], threading.Event())
+        if any("\n" in line for line in request.lines):
+            raise ValueError("a line with a newline in it")
+        text = "".join(line + "\n" for line in request.lines)
+        with self.lock, contextlib.suppress(OSError):  # of an end, which the other thread finds, too
+            if request.lines:
+                self.requests.append(request)
+            if self.ended:
+                request.is_over.set()
+            else:
+                self.link.lines.write(text.encode(errors="surrogateescape"))
+                self.link.lines.flush()
+        return request
+
+    def replies(self, request):
+        """The replies to a request, once there are all. If some are missing it fails behind those that came."""
+        if request.lines:
+            request.is_over.wait()
+        yield from request.replies
+        if len(request.replies) < len(request.lines):
+            self.check()
+
+    def ask(self, lines):
+        """The replies to these lines, which are sent together."""
+        return list(self.replies(self.send(lines)))
+
+    def answers(self, lines):
+        """The replies to any number of lines, of which some are always in flight."""
+        lines = iter(lines)
+        pieces = iter(lambda: list(itertools.islice(lines, PIECE)), [])
+        requests = collections.deque(map(self.send, itertools.islice(pieces, PIECES)))
+        while requests:
+            yield from self.replies(requests.popleft())
+            requests.extend(map(self.send, itertools.islice(pieces, 1)))
+
+    def check(self):
+        """Fails if there are no more replies."""
+        if self.ended:
+            requests = list(self.requests)
+            raise Lost(*self.ended, [line for request in requests for line in request.lines[len(request.replies):]])
+
+    def close(self):
+        """Ends the input, and waits until all is answered and the server has ended. Fails if that isn't in order."""
+        with self.lock, contextlib.suppress(OSError):
+            self.link.end_input()
+        self.reader.join()
+        if self.requests or self.ended[0] != 0:
+            self.check()
+
+    def take_replies(self):
+        """Gives each reply to the oldest line without one, up to the end. The beginning of a line, which a killed
+        server may leave there, is no reply."""
+        try:
+            for line in self.link.replies:
+                if line.endswith(b"\n"):
+                    request = self.requests[0]
+                    request.replies.append(line[:-1].decode())
+                    if len(request.replies) == len(request.lines):
+                        self.requests.popleft()
+                        request.is_over.set()
+        except (OSError, IndexError, UnicodeDecodeError):  # it was cut off, or isn't a server
+            self.link.cut()
+        ended = self.link.end()
+        with self.lock:
+            self.ended = ended
+            for request in self.requests:
+                request.is_over.set()
+
+
+def carry_out(connect, lines):
+    """The replies to these lines, over any number of kills and lost connections: `connect` gives a new link, and the
+    lines without a reply are sent again, in order. protocol.md says what that means where they had been carried out."""
+    lines = iter(lines)
+    tries = 0
+    while True:
+        client = Client(connect())
+        try:
+            for reply in client.answers(lines):
+                tries = 0
+                yield reply
+            return client.close()
+        except Lost as lost:
+            tries += 1
+            if tries == TRIES or lost.status > 0:
+                raise
+            lines = itertools.chain(lost.unanswered, lines)
+
+
+def main():
+    parser = argparse.ArgumentParser(description=__doc__, formatter_class=argparse.RawDescriptionHelpFormatter)
+    parser.add_argument("socket", metavar="SOCKET")
+    try:
+        client = Client(Socket(parser.parse_args().socket))
+        rest = b""  # behind the last newline
+        for piece in iter(lambda: sys.stdin.buffer.read1(1 << 16), b""):
+            *lines, rest = (rest + piece).split(b"\n")
+            for reply in client.replies(client.send(line.decode(errors="surrogateescape") for line in lines)):
+                print(reply, flush=True)
+        client.close()
+    except (OSError, Lost) as error:
+        sys.exit("\n".join([f"client: {error}", *getattr(error, "unanswered", [])]))
+
+
+if __name__ == "__main__":
+    main()

@@ -1,0 +1,204 @@
+"""The client of examples/client, and the one on docs/program.md: what they take for a reply, what a client may leave
+unread, which lines have no reply after a kill, and what it leaves to send these again."""
+import contextlib
+import fcntl
+import os
+import re
+import struct
+import subprocess
+import sys
+import termios
+import textwrap
+import threading
+import time
+import unittest.mock
+
+from program import PATIENCE, PROGRAM, TOP, Case, bytes_of, run
+from meaning import changes_of, empty_state, lines_that_read, refusal
+from servers import COMMON, GREATEST, SMALL, WIDE, Device, Drawing, plain, replies_of, text_of
+
+sys.path.append(os.path.join(TOP, "examples", "client"))
+import client
+
+LONGEST_REPLY = 1031
+ROOM = 32 << 10  # bytes that a pipe takes in any case: half of what Linux has for one
+# In the place of the program: one reply, and the beginning of another one.
+TORN = "#!/bin/sh\nread line\nprintf 'done\\nblock 5a5a'\nkill -KILL $$\n"
+FULL_BLOCK = ["makevol 0 0", "create 0 0 0", f"write 0 0 0 0 {'5a' * 512}"]
+FULL_REPLY = f"block {'5a' * 512}"
+# Geometry, workers, slots and every.
+SERVERS = ((SMALL, 2, 16, 0), (WIDE, 4, 64, 3), (COMMON, 2, 16, 0), (COMMON, 2, 1024, 100))
+KILLS = max(4, int(os.environ.get("KILLS", 80)) // 8)  # over all of these servers
+MOST_TRIES = 1000
+LINES = 4000
+
+
+def link_to(device, *words, program=PROGRAM):
+    """A server of this device."""
+    with client.locked(device) as file:
+        return client.Pipes(file, program, words)
+
+
+def lines_that_pass(g, lines):
+    """Those of the lines that a serial server doesn't refuse where it is given no others."""
+    state = empty_state(g)
+    found = []
+    for line in lines:
+        message, pieces = changes_of(g, state, line)
+        if message is not None and refusal(g, state, message) is None:
+            found.append(line)
+            state.update(pieces)
+    return found
+
+
+class Replies(Case):
+    """What is a reply, and what becomes of lines that have none."""
+
+    def setUp(self):
+        super().setUp()
+        self.device = self.at("d")
+        self.has_ended(run(["format", self.device]), 0)
+
+    def connects(self, *words, program=PROGRAM):
+        """A client of a server of its own, which doesn't outlive the test."""
+        link = link_to(self.device, *words, program=program)
+        self.addCleanup(link.child.wait)
+        self.addCleanup(link.child.kill)
+        return client.Client(link)
+
+    def is_lost(self, replies, count):
+        """Asserts that a server is lost behind so many replies: what is told of it."""
+        found = []
+        with self.assertRaises(client.Lost) as raised:
+            found.extend(replies)
+        self.assertEqual(len(found), count)
+        return raised.exception
+
+    def test_a_torn_reply(self):
+        """the beginning of a reply is none: its line is unanswered, and so are those that come later"""
+        self.put_script("torn", TORN)
+        torn = self.connects(program=self.at("torn"))
+        lost = self.is_lost(torn.replies(torn.send(["seal 0 0", "read 0 0 0 0", "summary"])), 1)
+        self.assertEqual((lost.unanswered, lost.status), (["read 0 0 0 0", "summary"], -9))
+        later = self.is_lost(torn.answers(["label 0 0"] * 3), 0)
+        self.assertEqual(later.unanswered, [*lost.unanswered, *["label 0 0"] * 3])
+        self.assertRaises(client.Lost, torn.close)
+
+    def test_the_page(self):
+        """nor does the client of docs/program.md take it for one"""
+        self.put_script("waffd", TORN)
+        page = bytes_of(os.path.join(TOP, "docs", "program.md")).decode()
+        text = textwrap.dedent(re.search(r"^\n((?: {4}import .*\n)(?: {4}.*\n|\n)*)", page, re.M)[1])
+        end = run(["-c", text], program=[sys.executable], cwd=self.folder)
+        self.has_ended(end, 1, b"", lambda faults: faults.endswith(b"EOFError: no whole reply\n"))
+
+    def test_a_kill(self):
+        """a killed server leaves whole replies, and each line has one or is unanswered"""
+        server = self.connects("--slots", "1024")
+        self.assertEqual(server.ask(FULL_BLOCK), ["done"] * 3)
+        lines = [f"read 0 0 0 {number % 2}" for number in range(20000)]
+        request = server.send(lines)
+        server.link.child.kill()
+        found = []
+        with self.assertRaises(client.Lost) as raised:
+            found.extend(server.replies(request))
+        self.assertEqual(found, [(FULL_REPLY, "hole")[number % 2] for number in range(len(found))])
+        self.assertEqual(raised.exception.unanswered, lines[len(found):])
+
+    def test_a_fault(self):
+        """a server with a fault isn't started again, and its text is told"""
+        os.truncate(self.device, 100)
+        lost = self.is_lost(client.carry_out(lambda: link_to(self.device), ["summary"]), 0)
+        self.assertEqual((lost.status, lost.unanswered), (1, ["summary"]))
+        self.assertEqual(str(lost), "waffd has ended with status 1: waffd: device too short")
+
+    def test_threads(self):
+        """each of many threads gets the replies to its own lines"""
+        server = self.connects()
+        server.ask(["makevol 0 0", "create 0 0 0"])
+
+        def work(number):
+            lines = [f"write 0 0 0 {number} {number:02x}{turn:02x}11" for turn in range(100)]
+            wanted = [reply for turn in range(100) for reply in ("done", f"block {number:02x}{turn:02x}11")]
+            asked = [line for change in lines for line in (change, f"read 0 0 0 {number}")]
+            found[number] = server.ask(asked) == wanted
+
+        found = {}
+        threads = [threading.Thread(target=work, args=(number,)) for number in range(16)]
+        for thread in threads:
+            thread.start()
+        for thread in threads:
+            thread.join()
+        self.assertEqual(found, dict.fromkeys(range(16), True))
+        server.close()
+
+
+class Unread(Case):
+    """How much a client may send without reading."""
+
+    def test_what_is_not_read(self):
+        """as many lines as the page says are all answered before a reply is read, at any number of slots"""
+        page = bytes_of(os.path.join(TOP, "docs", "protocol.md")).decode()
+        count = ROOM // LONGEST_REPLY
+        changes = ROOM // len(b"error exists\n")
+        self.assertIn(f"\n- {count} lines of any kind", page)
+        self.assertIn(f"\n- {changes:,} lines that change", page)
+        run(["format", self.at("d")])
+        run(["serve", self.at("d")], text_of(FULL_BLOCK))
+        for slots in ("1", "2", "4", "6", "16", "1024"):
+            words = [PROGRAM, "serve", self.at("d"), "--slots", slots]
+            server = self.started(words, stdin=subprocess.PIPE, stdout=subprocess.PIPE, bufsize=0)
+            server.stdin.write(b"read 0 0 0 0\n" * count)
+            self.assertEqual(self.unread(server.stdout, count * LONGEST_REPLY), count * LONGEST_REPLY, slots)
+            server.communicate()
+
+    def unread(self, pipe, size):
+        """How many bytes are in a pipe, once these are so many or patience ended."""
+        end = time.monotonic() + PATIENCE
+        found = 0
+        while found < size and time.monotonic() < end:
+            found = struct.unpack("i", fcntl.ioctl(pipe, termios.FIONREAD, bytes(4)))[0]
+            time.sleep(0.01)
+        return found
+
+    def test_all_at_once(self):
+        """a client sends far more than two pipes hold, and gets each reply"""
+        run(["format", self.at("d")])
+        server = client.Client(link_to(self.at("d")))
+        replies = server.ask([*FULL_BLOCK, *["read 0 0 0 0"] * 20000])
+        self.assertEqual(replies, ["done"] * 3 + [FULL_REPLY] * 20000)
+        server.close()
+
+
+class Kills(Case):
+    """Servers are killed, and new ones get the lines without a reply again, in order."""
+
+    def test_sent_again(self):
+        """over any number of kills, lines that aren't refused leave the state that they make without a kill"""
+        for server in SERVERS:
+            device = Device(self.folder, server)
+            with self.subTest(f"{KILLS // len(SERVERS)} kills, and what has no reply is sent again: {device}"):
+                self.goes_on(device)
+
+    def goes_on(self, device):
+        """Asserts that all lines are carried out, though servers are killed on the way."""
+        drawing = Drawing(f"clients {device}", device.g)
+        lines = lines_that_pass(device.g, drawing.lines(LINES))
+        kills = []
+
+        def connect():
+            link = link_to(*device.words()[1:])
+            if len(kills) < KILLS // len(SERVERS):
+                seconds = drawing.random.choice((0.01, 0.03, 0.1)) * drawing.random.random()
+                kills.append(threading.Timer(seconds, link.child.kill))
+                kills[-1].start()
+            return link
+
+        with unittest.mock.patch.object(client, "TRIES", MOST_TRIES):
+            replies = list(client.carry_out(connect, lines))
+        self.assertEqual(len(replies), len(lines))
+        for kill in kills:
+            kill.join()
+        reads = lines_that_read(device.g)
+        told = replies_of(run(device.words(), text_of(reads)), "the next run")
+        self.assertTrue(told == plain(device.g, lines + reads)[len(lines):], "it has another state")
