@@ -3,19 +3,21 @@
     nbdkit python plugin.py device=FILE [waffd=PROGRAM]
 
 The README beside this file shows how to format the file, how to use the disk, and what it promises. Three parts:
-where the sectors lie, the server with the lines that it hasn't answered yet, and the calls that nbdkit makes.
+where the sectors lie, the server, and the calls that nbdkit makes. Lines and replies are examples/client's: any number
+of requests are in flight, and each that has no reply when the server ends is an error.
 """
-import collections
 import contextlib
 import errno
-import fcntl
-import io
 import os
-import queue
 import subprocess
+import sys
 import threading
 
 import nbdkit
+
+TOP = os.path.join(os.path.dirname(os.path.abspath(__file__)), os.pardir, os.pardir)
+sys.path.insert(0, os.path.join(TOP, "examples", "client"))
+import client
 
 API_VERSION = 2  # of nbdkit
 
@@ -73,116 +75,38 @@ def sector_of(reply):
     return bytes.fromhex(digits).ljust(SECTOR, b"\0")
 
 
+# ---- the server
+
+
 class ServerFault(Exception):
-    """The server could not be started, it ended, or it refused what it should have done."""
+    """The server could not be started, or it refused what it should have done."""
 
 
-class Request:
-    """So many lines, and the replies that came so far."""
-
-    def __init__(self, count):
-        self.count = count
-        self.replies = []
-        self.is_over = threading.Event()  # each line is answered, or none will be any more
-
-    def is_answered(self):
-        return len(self.replies) == self.count
+def ask(server, lines):
+    """The replies to these lines. A server that has ended isn't given any more."""
+    server.check()
+    return server.ask(lines)
 
 
-class Server:
-    """One run of `waffd serve`. Any number of threads may ask at once. Lines are answered in their order, so a reply
-    belongs to the oldest request that isn't answered."""
-
-    def __init__(self, program, device):
-        self._child = waffd(subprocess.Popen, program, "serve", device, "--slots", "1024")
-        self.fault = None  # why it has ended
-        # Held so that at one moment a request is outstanding, its lines are to be written, and there is no fault.
-        self._lock = threading.Lock()
-        self._open_requests = collections.deque()  # in the order of their lines
-        self._to_write = queue.SimpleQueue()  # texts of whole lines; None is the end of the input
-        works = (self._write_lines, self._read_replies)
-        self._threads = [threading.Thread(target=work, daemon=True) for work in works]
-        for thread in self._threads:
-            thread.start()
-
-    def ask(self, lines):
-        """Sends the lines in one piece, and returns their replies once all have come. Where the server ends before
-        that, or has ended, it reports that by a fault: nobody waits for a reply that can't come."""
-        request = Request(len(lines))
-        with self._lock:
-            self.check()
-            self._open_requests.append(request)
-            self._to_write.put("".join(line + "\n" for line in lines).encode())
-        request.is_over.wait()
-        if not request.is_answered():
-            self.check()
-        return request.replies
-
-    def change(self, lines, also_fine=()):
-        """Sends lines that change something. Once this returns, all of them are in the server's log on the device."""
-        for line, reply in zip(lines, self.ask(lines)):
-            if reply != "done" and reply not in also_fine:
-                raise ServerFault(f"{line[:40]} was answered: {reply}")
-
-    def check(self):
-        """Raises the fault with which the server has ended."""
-        if self.fault is not None:
-            raise ServerFault(self.fault)
-
-    def stop(self):
-        """Ends the input. The server answers what it has read, makes its last checkpoint and ends."""
-        self._to_write.put(None)
-        for thread in self._threads:
-            thread.join()
-
-    def _write_lines(self):
-        """Writes what is to be written, up to the end of the input. Where the server has ended, a write or the close
-        fails. The other thread reports that."""
-        with contextlib.suppress(OSError), self._child.stdin as lines:
-            for text in iter(self._to_write.get, None):
-                lines.write(text)
-                lines.flush()
-
-    def _read_replies(self):
-        """Gives each reply to the request that is due, up to the server's end."""
-        try:
-            for line in self._child.stdout:
-                if line.endswith(b"\n"):  # the beginning of a line, which a killed server may leave, is no reply
-                    request = self._open_requests[0]
-                    request.replies.append(line[:-1].decode())
-                    if request.is_answered():
-                        self._open_requests.popleft()
-                        request.is_over.set()
-        except Exception:
-            self._child.kill()  # it isn't a server
-            raise
-        finally:
-            self._end()
-
-    def _end(self):
-        """Reports to all who wait, and all who will ask, why there is no reply."""
-        status = self._child.wait()
-        faults = self._child.stderr.read().decode(errors="replace").strip()
-        fault = f"waffd has ended with status {status}"
-        if faults:
-            fault += f": {faults}"
-        with self._lock:
-            self.fault = fault
-        for request in self._open_requests:
-            request.is_over.set()
-        self._to_write.put(None)
+def change(server, lines, also_fine=()):
+    """Sends lines that change something. Once this returns, all of them are in the server's log on the device."""
+    for line, reply in zip(lines, ask(server, lines)):
+        if reply != "done" and reply not in also_fine:
+            raise ServerFault(f"{line[:40]} was answered: {reply}")
 
 
-def waffd(start, program, command, device, *options):
-    """A process of the program, by subprocess.run or Popen. A second server of one device would destroy it, so its
-    file is locked. The process keeps the lock as long as it runs, also where nbdkit has ended before it. It isn't in
-    nbdkit's session, so that an interrupt at the terminal goes to nbdkit alone, which then ends it in order."""
+def stop(server):
+    """Ends the input. The server answers what it has read, makes its last checkpoint and ends, if it hasn't before."""
+    with contextlib.suppress(client.Lost):
+        server.close()
+
+
+def with_device(start, device):
+    """What `start` gives for the device's file, which is locked: a second server would destroy it. A process that is
+    given the file keeps the lock as long as it runs, also where nbdkit has ended before it."""
     try:
-        with io.open(device, "r+b", buffering=0) as file:
-            fcntl.flock(file, fcntl.LOCK_EX | fcntl.LOCK_NB)
-            pipes = {"stdin": subprocess.PIPE, "stdout": subprocess.PIPE, "stderr": subprocess.PIPE}
-            words = [program, command, device, *options]
-            return start(words, pass_fds=(file.fileno(),), start_new_session=True, **pipes)
+        with client.locked(device) as file:
+            return start(file)
     except BlockingIOError as error:
         raise ServerFault(f"{device} is served already") from error
     except OSError as error:
@@ -194,7 +118,6 @@ def waffd(start, program, command, device, *options):
 #
 # An exception is an EIO for the client, unless another error was set.
 
-TOP = os.path.join(os.path.dirname(os.path.abspath(__file__)), os.pardir, os.pardir)
 words = {"waffd": os.path.join(TOP, "waffd")}
 server = None
 starting = threading.Lock()
@@ -218,9 +141,13 @@ def thread_model():
     return nbdkit.THREAD_MODEL_PARALLEL
 
 
+def show(file):
+    return subprocess.run([words["waffd"], "show", file.name], capture_output=True, check=False)
+
+
 def get_ready():
     """Whether the file is a device of the geometry that is wanted, before any client comes."""
-    shown = waffd(subprocess.run, words["waffd"], "show", words["device"])
+    shown = with_device(show, words["device"])
     if shown.returncode != 0:
         raise ServerFault(shown.stderr.decode(errors="replace").strip())
     if shown.stdout.decode().splitlines()[:1] != [GEOMETRY]:
@@ -236,19 +163,23 @@ def after_fork():
 def cleanup():
     """Ends it in order."""
     if server is not None:
-        server.stop()
+        stop(server)
+
+
+def start(file):
+    return client.Client(client.Pipes(file, words["waffd"], ("--slots", "1024")))
 
 
 def running_server():
     """The server. Where none was started yet, or the last one has ended, a new one is started."""
     global server
     with starting:
-        if server is None or server.fault is not None:
-            new = Server(words["waffd"], words["device"])
+        if server is None or server.ended is not None:
+            new = with_device(start, words["device"])
             try:
-                new.change(lines_that_make_files(), also_fine=("error exists",))
-            except ServerFault:
-                new.stop()
+                change(new, lines_that_make_files(), also_fine=("error exists",))
+            except (ServerFault, client.Lost):
+                stop(new)
                 raise
             server = new
         return server
@@ -286,7 +217,7 @@ def sectors_of(count, offset):
 
 def pread(handle, buffer, offset, flags):
     lines = [f"read {place_of(sector)}" for sector in sectors_of(len(buffer), offset)]
-    buffer[:] = b"".join(map(sector_of, handle.ask(lines)))
+    buffer[:] = b"".join(map(sector_of, ask(handle, lines)))
 
 
 def pwrite(handle, buffer, offset, flags):
@@ -294,11 +225,11 @@ def pwrite(handle, buffer, offset, flags):
     for at, sector in enumerate(sectors_of(len(buffer), offset)):
         data = bytes(buffer[at * SECTOR:(at + 1) * SECTOR]).rstrip(b"\0")  # what a line leaves out are zeros
         lines.append(f"write {place_of(sector)} {data.hex() or '00'}")
-    handle.change(lines)
+    change(handle, lines)
 
 
 def trim(handle, count, offset, flags):
-    handle.change([f"punch {place_of(sector)}" for sector in sectors_of(count, offset)])
+    change(handle, [f"punch {place_of(sector)}" for sector in sectors_of(count, offset)])
 
 
 def zero(handle, count, offset, flags):
