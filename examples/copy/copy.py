@@ -1,62 +1,165 @@
 #!/usr/bin/env python3
-"""Copies what a device of `waffd` holds to a new device of another geometry, by messages.
+"""Copies what a device of `waffd` holds, by messages: to a new device of any geometry that holds it, or as lines.
 
-    examples/copy/copy.py OLD NEW [PROGRAM]     PROGRAM is ./waffd, if none is named
+    examples/copy/copy.py FROM [TO [PROGRAM]]     PROGRAM is ./waffd, if none is named
 
-NEW has to be formatted and empty. All of OLD is read first: what doesn't fit is printed, and NEW stays empty. Both are
-locked, as by flock.
+FROM is a device, the socket of a server that runs behind examples/service/front.py, or `-`, for the standard input:
+lines that a copy has written. TO is a device that was formatted and is empty, or `-`, for lines on the standard
+output, which is also what a copy without TO writes. All is read first: what doesn't fit is printed, and TO stays
+empty. Devices are locked, as by flock.
 """
 import argparse
 import collections
-import fcntl
+import contextlib
+import itertools
 import os
+import stat
 import subprocess
 import sys
 
+sys.path.append(os.path.join(os.path.dirname(os.path.realpath(__file__)), os.pardir, "client"))
+import client
+
 Geometry = collections.namedtuple("Geometry", "aggregates volumes stripes width files blocks quota half")
-Volume = collections.namedtuple("Volume", "label is_sealed files blocks")  # blocks: (file, block) -> data
-NOTHING = "0 0 0"  # volumes, files and blocks of an empty device
+Lines = collections.namedtuple("Lines", "first creates writes last")  # that make a volume, in this order
+GREATEST = Geometry(4, 8, 8, 64, 64, 256, 64, 1024)
+OPTIONS = ("--slots", "1024")
+LOG_WRITE = 64  # changes at most, no two of one stripe
+NOTHING = "summary 0 0 0"
+STREAM = "-"  # in the place of a device
+END = "summary"  # the last line, so that lines that were cut off are known
 
 
-def run(program, *words, lines=()):
-    """What a command prints; where it is given lines, a reply for each."""
-    given = "".join(line + "\n" for line in lines)
-    end = subprocess.run([program, *words], input=given, stdout=subprocess.PIPE, text=True, check=False)
-    printed = end.stdout.splitlines()
-    has_replies = not lines or len(printed) == len(lines)
-    if end.returncode or not has_replies:
-        sys.exit(f"copy: {program} {' '.join(words)} ended with {end.returncode}")
-    return printed
+class Volume:
+    """A volume, at first as `makevol` makes it."""
+
+    def __init__(self):
+        self.label = "00"
+        self.is_sealed = False
+        self.files = []
+        self.blocks = {}  # (file, block) -> data
+        self.size = 0  # how many blocks there are, of which some may have to be read yet
 
 
-def shown(program, device):
-    """The geometry of a device, and how much it holds."""
-    lines = dict(line.split(" ", 1) for line in run(program, "show", device))
-    return Geometry(*map(int, lines["geometry"].split())), lines["summary"]
+def summary_of(volumes):
+    """What a server answers that holds these volumes."""
+    files = sum(len(volume.files) for volume in volumes.values())
+    blocks = sum(len(volume.blocks) for volume in volumes.values())
+    return f"summary {len(volumes)} {files} {blocks}"
 
 
-def read_volumes(program, device, g):
+# ---- reading
+
+
+def limits(server):
+    """How many aggregates, volumes and blocks there may be: a number that is greater is answered `error range`."""
+    lines_of_each = (
+        [f"usage {a} 0" for a in range(GREATEST.aggregates)],
+        [f"usage 0 {v}" for v in range(GREATEST.volumes)],
+        [f"read 0 0 0 {b}" for b in range(GREATEST.blocks)])
+    return [sum(reply != "error range" for reply in server.ask(lines)) for lines in lines_of_each]
+
+
+def read_volumes(server, aggregates, volumes):
     """Each volume that is made, by its aggregate and its number, without its blocks."""
-    places = [(a, v) for a in range(g.aggregates) for v in range(g.volumes)]
-    lines = [f"{word} {a} {v}" for a, v in places for word in ("label", "usage", "list")]
-    replies = run(program, "serve", device, lines=lines)
-    volumes = {}
+    places = list(itertools.product(range(aggregates), range(volumes)))
+    replies = server.ask([f"{word} {a} {v}" for a, v in places for word in ("label", "usage", "list")])
+    found = {}
     for place, label, usage, listed in zip(places, replies[::3], replies[1::3], replies[2::3]):
         if label != "error volume":
-            files = [int(number) for number in listed.split()[1:]]
-            volumes[place] = Volume(label.split()[1], usage.endswith(" sealed"), files, {})
+            volume = found[place] = Volume()
+            volume.label = label.split()[1]
+            volume.is_sealed = usage.endswith(" sealed")
+            volume.size = int(usage.split()[2])
+            volume.files = [int(number) for number in listed.split()[1:]]
+    return found
+
+
+def read_all(server):
+    """What a server holds. Of each volume a file is read, then of each the next one, until it has all its blocks: so
+    volumes are read side by side."""
+    aggregates, volumes, blocks = limits(server)
+    found = read_volumes(server, aggregates, volumes)
+    for at in range(GREATEST.files):
+        names = []
+        for place, volume in found.items():
+            if at < len(volume.files) and len(volume.blocks) < volume.size:
+                names += [(place, volume.files[at], block) for block in range(blocks)]
+        replies = server.answers(f"read {a} {v} {file} {block}" for (a, v), file, block in names)
+        for (place, file, block), reply in zip(names, replies):
+            if reply != "hole":
+                found[place].blocks[file, block] = reply.split()[1]
+    if server.ask(["summary"]) != [summary_of(found)]:
+        sys.exit("copy: what was read is not what is there")
+    return found
+
+
+def volumes_of(lines):
+    """The volumes that these lines make, which a copy has written."""
+    if lines[-1:] != [END]:
+        sys.exit(f"copy: the lines were cut off, as the last one is not `{END}`")
+    volumes = collections.defaultdict(Volume)
+    for number, line in enumerate(lines[:-1], 1):
+        words = line.split(" ")
+        try:
+            place = (int(words[1]), int(words[2]))
+            add(volumes[place], words[0], words[3:])
+        except (ValueError, IndexError):
+            sys.exit(f"copy: line {number} is none that a copy writes: {line[:60]}")
     return volumes
 
 
-def read_all(program, device, g):
-    """What a device holds: each volume that is made, by its aggregate and its number."""
-    volumes = read_volumes(program, device, g)
-    names = [(place, f, b) for place, volume in volumes.items() for f in volume.files for b in range(g.blocks)]
-    replies = run(program, "serve", device, lines=[f"read {a} {v} {f} {b}" for (a, v), f, b in names])
-    for (place, f, b), reply in zip(names, replies):
-        if reply != "hole":
-            volumes[place].blocks[f, b] = reply.split()[1]
-    return volumes
+def add(volume, kind, words):
+    """Adds what a line makes to its volume."""
+    if kind == "setlabel":
+        volume.label = words[0]
+    elif kind == "create":
+        volume.files.append(int(words[0]))
+    elif kind == "write":
+        volume.blocks[int(words[0]), int(words[1])] = words[2]
+    elif kind == "seal":
+        volume.is_sealed = True
+    elif kind != "makevol":
+        raise ValueError(kind)
+
+
+# ---- writing
+
+
+def lines_that_make(place, volume):
+    """Lines that make a volume where there is none."""
+    at = "{} {}".format(*place)
+    first = [f"makevol {at}", f"setlabel {at} {volume.label}"]
+    creates = [f"create {at} {file}" for file in volume.files]
+    writes = [f"write {at} {file} {block} {data}" for (file, block), data in volume.blocks.items()]
+    last = [f"seal {at}"] if volume.is_sealed else []
+    return Lines(first, creates, writes, last)
+
+
+def in_turn(lists):
+    """The first of each list, then the second of each, and so on."""
+    return [item for row in itertools.zip_longest(*lists) for item in row if item is not None]
+
+
+def stripe_of(file, block, g):
+    """The number of a block's stripe in its volume."""
+    return (file + block // g.width) % g.stripes
+
+
+def lines_for(volumes, g):
+    """Lines that make all volumes, in an order that is fast. A write of the log takes one line each of many stripes. A
+    checkpoint writes each stripe anew that was changed since the one before. So the lines go to as many stripes in turn
+    as a write of the log takes, until these are done."""
+    made = [lines_that_make(place, volume) for place, volume in volumes.items()]
+    writes = collections.defaultdict(list)
+    for (place, volume), lines in zip(volumes.items(), made):
+        for (file, block), line in zip(volume.blocks, lines.writes):
+            writes[place, stripe_of(file, block, g)].append(line)
+    stripes = sorted(writes)
+    found = in_turn(lines.first for lines in made) + in_turn(lines.creates for lines in made)
+    for at in range(0, len(stripes), LOG_WRITE):
+        found += in_turn(writes[stripe] for stripe in stripes[at:at + LOG_WRITE])
+    return found + in_turn(lines.last for lines in made)
 
 
 def misfits(volumes, g):
@@ -64,59 +167,81 @@ def misfits(volumes, g):
     for (a, v), volume in volumes.items():
         if a >= g.aggregates or v >= g.volumes:
             yield f"volume {a} {v} is out of range"
-        for f in volume.files:
-            if f >= g.files:
-                yield f"volume {a} {v}: file {f} is out of range"
-        for f, b in volume.blocks:
-            if b >= g.blocks:
-                yield f"volume {a} {v}: block {b} of file {f} is out of range"
-        stripes = collections.Counter((f + b // g.width) % g.stripes for f, b in volume.blocks)
-        for s, count in sorted(stripes.items()):
+        for file in volume.files:
+            if file >= g.files:
+                yield f"volume {a} {v}: file {file} is out of range"
+        for file, block in volume.blocks:
+            if block >= g.blocks:
+                yield f"volume {a} {v}: block {block} of file {file} is out of range"
+        stripes = collections.Counter(stripe_of(file, block, g) for file, block in volume.blocks)
+        for stripe, count in sorted(stripes.items()):
             if count > g.quota:
-                yield f"volume {a} {v}: stripe {s} would have {count} blocks"
+                yield f"volume {a} {v}: stripe {stripe} would have {count} blocks"
 
 
-def lines_that_make(volumes):
-    """Lines that lead from an empty device to these volumes. A volume is sealed last."""
-    for (a, v), volume in volumes.items():
-        yield f"makevol {a} {v}"
-        yield f"setlabel {a} {v} {volume.label}"
-        for f in volume.files:
-            yield f"create {a} {v} {f}"
-        for (f, b), data in volume.blocks.items():
-            yield f"write {a} {v} {f} {b} {data}"
-        if volume.is_sealed:
-            yield f"seal {a} {v}"
+def geometry_of(program, device):
+    """The geometry of a device, which has to be empty."""
+    end = subprocess.run([program, "show", device], stdout=subprocess.PIPE, text=True, check=False)
+    if end.returncode:
+        sys.exit(f"copy: {program} show {device} ended with {end.returncode}")
+    lines = end.stdout.splitlines()
+    if NOTHING not in lines:
+        sys.exit("the new device isn't empty")
+    return Geometry(*map(int, lines[0].split()[1:]))
 
 
-def lock(old_file, new_file):
-    """Locks both devices, which have to be two files."""
-    if os.path.sameopenfile(old_file.fileno(), new_file.fileno()):
-        sys.exit(f"copy: {old_file.name} and {new_file.name} are one file")
-    for file in (old_file, new_file):
-        fcntl.flock(file, fcntl.LOCK_EX | fcntl.LOCK_NB)
-
-
-def copy(program, old, new):
-    """Copies between two devices that are locked: how much the new one holds then."""
-    old_geometry, held = shown(program, old)
-    new_geometry, before = shown(program, new)
-    volumes = read_all(program, old, old_geometry)
-    found = list(misfits(volumes, new_geometry))
+def write_all(volumes, file, program, g):
+    """Makes these volumes on a device that is locked."""
+    found = list(misfits(volumes, g))
     if found:
         sys.exit("\n".join(found))
-    if before != NOTHING:
-        sys.exit("the new device isn't empty")
-    replies = run(program, "serve", new, lines=list(lines_that_make(volumes)))
-    if set(replies) - {"done"} or shown(program, new)[1] != held:
+    server = client.Client(client.Pipes(file, program, OPTIONS))
+    lines = lines_for(volumes, g)
+    for line, reply in zip(lines, server.answers(lines)):
+        if reply != "done":
+            sys.exit(f"copy: {line[:60]} was answered: {reply}")
+    if server.ask(["summary"]) != [summary_of(volumes)]:
         sys.exit("copy: the new device has something else")
-    return held
+    server.close()
+
+
+# ---- the whole
+
+
+def volumes_at(source, file, program):
+    """What is to be copied: lines of the standard input, what a server holds, or what a device does that is locked."""
+    if source == STREAM:
+        return volumes_of(sys.stdin.read().splitlines())
+    link = client.Pipes(file, program, OPTIONS) if file else client.Socket(source)
+    server = client.Client(link)
+    volumes = read_all(server)
+    server.close()
+    return volumes
+
+
+def copy(source, target, program):
+    """Copies: what was copied."""
+    with contextlib.ExitStack() as locks:
+        files = {}
+        for path in (source, target):
+            if path != STREAM and not stat.S_ISSOCK(os.stat(path).st_mode):
+                files[path] = locks.enter_context(client.locked(path))
+        if target == STREAM:
+            volumes = volumes_at(source, files.get(source), program)
+            for place, volume in volumes.items():
+                sys.stdout.writelines(line + "\n" for lines in lines_that_make(place, volume) for line in lines)
+            print(END, flush=True)
+        else:
+            g = geometry_of(program, target)
+            volumes = volumes_at(source, files.get(source), program)
+            write_all(volumes, files[target], program, g)
+    return volumes
 
 
 def arguments():
     parser = argparse.ArgumentParser(description=__doc__, formatter_class=argparse.RawDescriptionHelpFormatter)
-    parser.add_argument("old", metavar="OLD", help="the device that is read")
-    parser.add_argument("new", metavar="NEW", help="the device that is written")
+    parser.add_argument("source", metavar="FROM", help="a device, a socket, or - for lines")
+    parser.add_argument("target", metavar="TO", nargs="?", default=STREAM, help="a new device, or - for lines")
     parser.add_argument("program", metavar="PROGRAM", nargs="?", default="./waffd")
     return parser.parse_args()
 
@@ -124,12 +249,15 @@ def arguments():
 def main():
     given = arguments()
     try:
-        with open(given.old, "rb") as old_file, open(given.new, "rb") as new_file:
-            lock(old_file, new_file)
-            held = copy(given.program, given.old, given.new)
+        if STREAM not in (given.source, given.target) and os.path.samefile(given.source, given.target):
+            sys.exit(f"copy: {given.source} and {given.target} are one file")
+        volumes = copy(given.source, given.target, given.program)
+    except client.Lost as lost:
+        sys.exit(f"copy: {lost}")
     except OSError as error:
         sys.exit(f"copy: {error.filename or 'a device is locked'}: {error.strerror}")
-    print(f"copied {held}")
+    told = summary_of(volumes).replace("summary", "copied")
+    print(told, file=sys.stderr if given.target == STREAM else sys.stdout)
 
 
 if __name__ == "__main__":

@@ -1,6 +1,7 @@
 """What the pages tell whoever operates a server: the unit and the commands of examples/service; the copy; the stack;
 what a crash leaves."""
 import fcntl
+import itertools
 import os
 import re
 import shlex
@@ -8,6 +9,7 @@ import shutil
 import signal
 import socket
 import subprocess
+import sys
 import time
 import unittest
 
@@ -15,13 +17,19 @@ from program import LONGEST_RUN, PATIENCE, PROGRAM, TOP, Case, bytes_of, put_byt
 from meaning import Geometry, lines_that_read, options_of
 from servers import COMMON, GREATEST, Drawing, replies_of, text_of
 
+sys.path.append(os.path.join(TOP, "examples", "client"))
+import client
+
 SERVICE = os.path.join(TOP, "examples", "service")
 COPY = os.path.join(TOP, "examples", "copy", "copy.py")
+SOCKET = "/run/waffd/socket"
 FIRST_SYNC_OF_A_CHANGE = 6  # the opening makes five
 FULL_BLOCK = b"makevol 0 0\ncreate 0 0 0\nwrite 0 0 0 0 " + b"61" * 512 + b"\n"
 # A socket takes these lines, but not their replies.
 MANY = [f"setlabel 0 0 {number:04x}01\n".encode() + b"read 0 0 0 0\n" * 200 for number in range(80)]
 REPLIES_OF_ONE = 201  # to the lines of one of these
+LAST_LABEL = "ff"
+MANY_CHANGES = ["makevol 0 0", *["setlabel 0 0 61"] * 5000, f"setlabel 0 0 {LAST_LABEL}"]
 # Runs front.py, which is the first of the words behind, with another patience.
 HURRIED = ("python3", "-c", """
 import os, sys
@@ -132,6 +140,43 @@ class Service(Case):
         self.assertIn(b"records 0\n", run(["show", self.device])[1])
         self.assertFalse(os.path.exists(self.at("run/waffd.fault")))
 
+    def test_a_kill(self):
+        """a client of examples/client goes on where the server is killed and the unit starts it again"""
+        server = self.starts()
+        replies = client.carry_out(lambda: client.Socket(self.at("run/waffd/socket")), iter(MANY_CHANGES))
+        found = list(itertools.islice(replies, 100))
+        subprocess.run(["pkill", "-KILL", "-P", str(server.pid)], check=True)
+        self.has_stopped(server, 128 + signal.SIGKILL)
+        self.starts()
+        self.assertEqual([*found, *replies], ["done"] * len(MANY_CHANGES))
+        self.asks(self.connects(), b"label 0 0\n", f"label {LAST_LABEL}\n".encode())
+
+    def test_copy_of_a_server_that_runs(self):
+        """a copy through the front has what was answered before it was let in, and nothing of who comes after
+
+        All three are connected before the first has gone."""
+        server = self.starts()
+        first = self.connects()
+        self.asks(first, b"summary\n", b"summary 0 0 0\n")
+        copying = self.started([COPY, self.at("run/waffd/socket")], stdout=subprocess.PIPE, stderr=subprocess.PIPE)
+        self.waits_for_connections(3)
+        last = self.connects()
+        last.sendall(b"makevol 0 1\nwrite 0 0 0 0 62\n")
+        self.asks(first, FULL_BLOCK, b"done\n" * 3)
+        first.close()
+        lines, told = copying.communicate(timeout=PATIENCE)
+        made = FULL_BLOCK.replace(b"create", b"setlabel 0 0 00\ncreate")
+        self.assertEqual((lines, told), (made + b"summary\n", b"copied 1 1 1\n"))
+        self.assertEqual(read_until(last, lambda found: found.count(b"\n") == 2), b"done\n" * 2)
+        server.kill()
+
+    def waits_for_connections(self, count):
+        """Until so many ends have the name of the socket: the listening one, and one for each client."""
+        name = self.at("run/waffd/socket").encode()
+        end = time.monotonic() + PATIENCE
+        while bytes_of("/proc/net/unix").count(name) < count and time.monotonic() < end:
+            time.sleep(0.01)
+
     def test_stop(self):
         """at a stop a slow client gets the reply of each line that was read, and no other line is run
 
@@ -217,6 +262,66 @@ class Copy(Case):
             reads = text_of(lines_that_read(COMMON))
             self.assertEqual(run(["serve", self.at("new")], reads), run(["serve", self.at("old")], reads))
 
+    def test_lines(self):
+        """random states become lines, which make the same state again on devices of other geometries, and in plain"""
+        for seed, to in enumerate((COMMON, GREATEST, Geometry(2, 4, 8, 1, 16, 64, 8, 4))):
+            self.device("old", COMMON, [*Drawing(seed, COMMON).lines(1000), "makevol 0 3", "seal 0 3"])
+            self.device("new", to)
+            reads = text_of(lines_that_read(COMMON))
+            status, lines, told = self.copies("old")
+            self.assertEqual(status, 0)
+            self.has_ended(self.copies("-", "new", given=lines), 0, told, b"")
+            self.assertEqual(run(["serve", self.at("new")], reads), run(["serve", self.at("old")], reads))
+            self.assertEqual(self.copies("new")[1], lines)
+            replies = replies_of(run(["plain", *options_of(to)], lines), "plain")
+            self.assertEqual(set(replies[:-1]), {"done"})
+            self.assertEqual(replies[-1], told.decode().strip().replace("copied", "summary"))
+
+    def copies(self, source, target="-", given=b""):
+        """The end of a copy of a device, or of lines."""
+        words = [path if path == "-" else self.at(path) for path in (source, target)]
+        return run([COPY, *words, PROGRAM], given, program=[])
+
+    def test_lines_that_are_cut_off(self):
+        """lines that end early, and others than a copy writes, are refused, and the new device stays empty"""
+        self.device("old", COMMON, ["makevol 0 3", "create 0 3 9", "write 0 3 9 0 6162"])
+        self.device("new", COMMON)
+        new = bytes_of(self.at("new"))
+        lines = self.copies("old")[1]
+        for length in range(len(lines) - 1):
+            if length % 5 == 0 or length > len(lines) - 10:
+                cut_off = b"copy: the lines were cut off, as the last one is not `summary`\n"
+                self.has_ended(self.copies("-", "new", given=lines[:length]), 1, b"", cut_off)
+        for wrong in (b"punch 0 3 9 0", b"create 0 3", b"write 0 3 9 x 61", b""):
+            told = b"copy: line 1 is none that a copy writes: %s\n" % wrong
+            self.has_ended(self.copies("-", "new", given=wrong + b"\n" + lines), 1, b"", told)
+        self.holds("the new device stays", self.at("new"), new)
+
+    def test_the_greatest(self):
+        """a full device of the greatest geometry is copied with few syncs"""
+        volumes = list(itertools.product(range(GREATEST.aggregates), range(GREATEST.volumes)))
+        blocks = list(itertools.product(range(GREATEST.quota), (0, 4), range(0, GREATEST.blocks, GREATEST.width)))
+        lines = [f"makevol {a} {v}" for a, v in volumes]
+        lines += [f"create {a} {v} {file}" for file in (0, 4) for a, v in volumes]
+        lines += [f"write {a} {v} {f} {b + at} {at:02x}{v:02x}" for at, f, b in blocks for a, v in volumes]
+        self.device("old", GREATEST, lines)
+        self.device("new", GREATEST)
+        began = time.monotonic()
+        self.has_ended(self.copy(), 0, b"copied 32 64 16384\n", b"")
+        print(f"       {time.monotonic() - began:.1f} s:")
+        self.assertEqual(self.copies("new")[1], self.copies("old")[1])
+
+    def test_show(self):
+        """show refuses a copy that was cut off, or whose bytes are another's"""
+        self.device("old", COMMON, ["makevol 0 3"])
+        whole = bytes_of(self.at("old"))
+        rows = (
+            (whole, b""), (whole[:-1], b"waffd: device too short\n"),
+            (bytes(len(whole)), b"waffd: not formatted\n"), (whole + bytes(9), b""))
+        for data, text in rows:
+            put_bytes(self.at("copy"), data)
+            self.assertEqual(run(["show", self.at("copy")])[2], text)
+
     def test_what_does_not_fit(self):
         """what doesn't fit is told before anything is written, and so is a new device that isn't empty"""
         held = ["makevol 0 3", "create 0 3 9", *(f"write 0 3 9 {block} 61" for block in (0, 1, 63))]
@@ -241,7 +346,8 @@ class Copy(Case):
         self.device("old", COMMON, ["makevol 0 3"])
         page = bytes_of(os.path.join(os.path.dirname(COPY), "README.md")).decode()
         for command in re.findall(r"^    (.*)", page, re.M):
-            subprocess.run(command, shell=True, cwd=self.folder, check=True, stdout=subprocess.DEVNULL)
+            if SOCKET not in command:  # there is none
+                subprocess.run(command, shell=True, cwd=self.folder, check=True, capture_output=True)
         self.assertEqual(replies_of(run(["serve", self.at("new")], b"summary\n"), "serve"), ["summary 1 0 0"])
         for words in (["missing", "new"], ["old", "missing"], ["old", "new", "missing"]):
             self.has_refused(words, b"copy: missing: No such file or directory\n")
