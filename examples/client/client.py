@@ -19,9 +19,7 @@ PIECE = 256  # lines that `answers` sends together
 PIECES = 8  # that it has in flight: enough for a server with 1,024 slots
 PATIENCE = 20  # seconds for a socket to be there, as systemd may start the server just now
 TRIES = 5  # servers in a row that end before their first reply
-
-# Lines that are sent together, and the replies that have come. It is over once there are all, or no more will come.
-Request = collections.namedtuple("Request", "lines replies is_over")
+Request = collections.namedtuple("Request", "lines replies is_over")  # over: with all replies, or no more will come
 
 
 class Lost(Exception):
@@ -42,8 +40,7 @@ def locked(device):
 
 
 class Pipes:
-    """A server of one's own, of a locked file. It keeps the lock if this process ends before it. It has a session of
-    its own, so that an interrupt at the terminal doesn't kill it."""
+    """A server of one's own, of a locked file. It keeps the lock, and isn't killed by an interrupt at the terminal."""
 
     def __init__(self, file, program="./waffd", options=()):
         pipes = {"stdin": subprocess.PIPE, "stdout": subprocess.PIPE, "stderr": subprocess.PIPE}
@@ -56,7 +53,8 @@ class Pipes:
         """Its status, and what is to be said of it."""
         faults = self.child.stderr.read().decode(errors="replace").strip()
         status = self.child.wait()
-        return status, f"waffd has ended with status {status}{faults and ': '}{faults}"
+        why = f"waffd has ended with status {status}"
+        return status, f"{why}: {faults}" if faults else why
 
 
 class Socket:
@@ -65,12 +63,15 @@ class Socket:
     def __init__(self, path):
         last_try = time.monotonic() + PATIENCE
         self.socket = socket.socket(socket.AF_UNIX)
-        while self.socket.connect_ex(path) != 0:
-            time.sleep(0.05)
-            if time.monotonic() > last_try:
-                raise ConnectionError(f"nobody serves {path}")
-        self.lines = self.socket.makefile("wb")
-        self.replies = self.socket.makefile("rb")
+        while True:
+            try:
+                self.socket.connect(path)
+                break
+            except (FileNotFoundError, ConnectionRefusedError):
+                if time.monotonic() > last_try:
+                    raise
+                time.sleep(0.05)
+        self.lines, self.replies = self.socket.makefile("wb"), self.socket.makefile("rb")
         self.end_input = lambda: self.socket.shutdown(socket.SHUT_WR)
         self.cut = self.socket.close
 
@@ -94,16 +95,16 @@ class Client:
     def send(self, lines):
         """Sends lines without waiting for their replies: the request."""
         request = Request(list(lines), [], threading.Event())
-        if any("\n" in line for line in request.lines):
+        text = "".join(line + "\n" for line in request.lines).encode(errors="surrogateescape")
+        if text.count(b"\n") != len(request.lines):
             raise ValueError("a line with a newline in it")
-        text = "".join(line + "\n" for line in request.lines)
         with self.lock, contextlib.suppress(OSError):  # of an end, which the other thread finds, too
             if request.lines:
                 self.requests.append(request)
             if self.ended:
                 request.is_over.set()
             else:
-                self.link.lines.write(text.encode(errors="surrogateescape"))
+                self.link.lines.write(text)
                 self.link.lines.flush()
         return request
 
@@ -131,8 +132,8 @@ class Client:
     def check(self):
         """Fails if there are no more replies."""
         if self.ended:
-            requests = list(self.requests)
-            raise Lost(*self.ended, [line for request in requests for line in request.lines[len(request.replies):]])
+            unanswered = [line for request in list(self.requests) for line in request.lines[len(request.replies):]]
+            raise Lost(*self.ended, unanswered)
 
     def close(self):
         """Ends the input, and waits until all is answered and the server has ended. Fails if that isn't in order."""
@@ -143,8 +144,7 @@ class Client:
             self.check()
 
     def take_replies(self):
-        """Gives each reply to the oldest line without one, up to the end. The beginning of a line, which a killed
-        server may leave there, is no reply."""
+        """Gives each reply to the oldest line without one. The beginning of a line, which a kill leaves, is none."""
         try:
             for line in self.link.replies:
                 if line.endswith(b"\n"):
