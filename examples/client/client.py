@@ -18,7 +18,6 @@ import time
 PIECE = 256  # lines that `answers` sends together
 PIECES = 8  # that it has in flight: enough for a server with 1,024 slots
 PATIENCE = 20  # seconds for a socket to be there, as systemd may start the server just now
-TRIES = 5  # servers in a row that end before their first reply
 Request = collections.namedtuple("Request", "lines replies is_over")  # over: with all replies, or no more will come
 
 
@@ -28,8 +27,7 @@ class Lost(Exception):
 
     def __init__(self, status, why, unanswered):
         super().__init__(why)
-        self.status = status
-        self.unanswered = unanswered
+        self.status, self.unanswered = status, unanswered
 
 
 def locked(device):
@@ -53,8 +51,7 @@ class Pipes:
         """Its status, and what is to be said of it."""
         faults = self.child.stderr.read().decode(errors="replace").strip()
         status = self.child.wait()
-        why = f"waffd has ended with status {status}"
-        return status, f"{why}: {faults}" if faults else why
+        return status, f"waffd has ended with status {status}: {faults}".rstrip(": ")
 
 
 class Socket:
@@ -80,9 +77,16 @@ class Socket:
         return 0, "the connection has ended"
 
 
+def whole_lines(file):
+    """The lines of a stream, as many at a time as are there. What a kill leaves behind the last newline is none."""
+    rest = b""
+    for piece in iter(lambda: file.read1(1 << 16), b""):
+        *lines, rest = (rest + piece).split(b"\n")
+        yield [line.decode(errors="surrogateescape") for line in lines]
+
+
 class Client:
-    """One connection, by Pipes or by a Socket. Any number of threads may use it. A thread of its own takes each reply
-    as it comes, so that the server never waits until its output is read."""
+    """One connection, for any number of threads. One of its own takes each reply as it comes: none stays unread."""
 
     def __init__(self, link):
         self.link = link
@@ -144,16 +148,18 @@ class Client:
             self.check()
 
     def take_replies(self):
-        """Gives each reply to the oldest line without one. The beginning of a line, which a kill leaves, is none."""
+        """Gives each reply to the oldest line without one."""
         try:
-            for line in self.link.replies:
-                if line.endswith(b"\n"):
+            for lines in whole_lines(self.link.replies):
+                while lines:
                     request = self.requests[0]
-                    request.replies.append(line[:-1].decode())
+                    missing = len(request.lines) - len(request.replies)
+                    request.replies.extend(lines[:missing])
+                    del lines[:missing]
                     if len(request.replies) == len(request.lines):
                         self.requests.popleft()
                         request.is_over.set()
-        except (OSError, IndexError, UnicodeDecodeError):  # it was cut off, or isn't a server
+        except (OSError, IndexError):  # it was cut off, or isn't a server
             self.link.cut()
         ended = self.link.end()
         with self.lock:
@@ -163,20 +169,16 @@ class Client:
 
 
 def carry_out(connect, lines):
-    """The replies to these lines, over any number of kills and lost connections: `connect` gives a new link, and the
-    lines without a reply are sent again, in order. protocol.md says what that means where they had been carried out."""
+    """The replies to these lines, over any number of kills and lost connections: `connect` gives a new link, or fails,
+    and lines without a reply are sent again, in order. protocol.md says what that means where they were carried out."""
     lines = iter(lines)
-    tries = 0
     while True:
         client = Client(connect())
         try:
-            for reply in client.answers(lines):
-                tries = 0
-                yield reply
+            yield from client.answers(lines)
             return client.close()
         except Lost as lost:
-            tries += 1
-            if tries == TRIES or lost.status > 0:
+            if lost.status > 0:
                 raise
             lines = itertools.chain(lost.unanswered, lines)
 
@@ -186,10 +188,8 @@ def main():
     parser.add_argument("socket", metavar="SOCKET")
     try:
         client = Client(Socket(parser.parse_args().socket))
-        rest = b""  # behind the last newline
-        for piece in iter(lambda: sys.stdin.buffer.read1(1 << 16), b""):
-            *lines, rest = (rest + piece).split(b"\n")
-            for reply in client.replies(client.send(line.decode(errors="surrogateescape") for line in lines)):
+        for lines in whole_lines(sys.stdin.buffer):
+            for reply in client.replies(client.send(lines)):
                 print(reply, flush=True)
         client.close()
     except (OSError, Lost) as error:

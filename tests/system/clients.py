@@ -1,9 +1,9 @@
 """The client of examples/client, and the one on docs/program.md: what they take for a reply, what a client may leave
 unread, which lines have no reply after a kill, and what it leaves to send these again."""
-import contextlib
 import fcntl
 import os
 import re
+import signal
 import struct
 import subprocess
 import sys
@@ -28,8 +28,7 @@ FULL_BLOCK = ["makevol 0 0", "create 0 0 0", f"write 0 0 0 0 {'5a' * 512}"]
 FULL_REPLY = f"block {'5a' * 512}"
 # Geometry, workers, slots and every.
 SERVERS = ((SMALL, 2, 16, 0), (WIDE, 4, 64, 3), (COMMON, 2, 16, 0), (COMMON, 2, 1024, 100))
-KILLS = max(4, int(os.environ.get("KILLS", 80)) // 8)  # over all of these servers
-MOST_TRIES = 1000
+KILLS = max(40, int(os.environ.get("KILLS", 0)) // 8)  # over all of these servers
 LINES = 4000
 
 
@@ -177,28 +176,33 @@ class Kills(Case):
         """over any number of kills, lines that aren't refused leave the state that they make without a kill"""
         for server in SERVERS:
             device = Device(self.folder, server)
-            with self.subTest(f"{KILLS // len(SERVERS)} kills, and what has no reply is sent again: {device}"):
+            with self.subTest(f"{KILLS // len(SERVERS)} kills, and lines without a reply are sent again: {device}"):
                 self.goes_on(device)
 
     def goes_on(self, device):
-        """Asserts that all lines are carried out, though servers are killed on the way."""
+        """Asserts that all lines are carried out, though servers are killed on the way: one at each of these replies,
+        and each third one in its opening."""
         drawing = Drawing(f"clients {device}", device.g)
         lines = lines_that_pass(device.g, drawing.lines(LINES))
-        kills = []
+        moments = set(drawing.random.sample(range(len(lines)), KILLS // len(SERVERS)))
+        links = []
 
         def connect():
-            link = link_to(*device.words()[1:])
-            if len(kills) < KILLS // len(SERVERS):
-                seconds = drawing.random.choice((0.01, 0.03, 0.1)) * drawing.random.random()
-                kills.append(threading.Timer(seconds, link.child.kill))
-                kills[-1].start()
-            return link
+            links.append(link_to(*device.words()[1:]))
+            if len(links) % 3 == 0:
+                time.sleep(0.01 * drawing.random.random())
+                links[-1].child.kill()
+            return links[-1]
 
-        with unittest.mock.patch.object(client, "TRIES", MOST_TRIES):
-            replies = list(client.carry_out(connect, lines))
+        replies = []
+        with unittest.mock.patch.multiple(client, PIECE=8):  # few in flight, so that each moment is one of its own
+            for reply in client.carry_out(connect, lines):
+                replies.append(reply)
+                if len(replies) in moments:
+                    links[-1].child.kill()
         self.assertEqual(len(replies), len(lines))
-        for kill in kills:
-            kill.join()
+        killed = sum(link.child.wait() == -signal.SIGKILL for link in links)
+        self.assertGreaterEqual(killed, len(moments) // 2)
         reads = lines_that_read(device.g)
         told = replies_of(run(device.words(), text_of(reads)), "the next run")
         self.assertTrue(told == plain(device.g, lines + reads)[len(lines):], "it has another state")
