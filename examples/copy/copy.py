@@ -81,14 +81,15 @@ def read_all(server):
     aggregates, volumes, blocks = limits(server)
     found = read_volumes(server, aggregates, volumes)
     for at in range(GREATEST.files):
-        names = []
-        for place, volume in found.items():
+        requests = []
+        for (a, v), volume in found.items():
             if at < len(volume.files) and len(volume.blocks) < volume.size:
-                names += [(place, volume.files[at], block) for block in range(blocks)]
-        replies = server.answers(f"read {a} {v} {file} {block}" for (a, v), file, block in names)
-        for (place, file, block), reply in zip(names, replies):
-            if reply != "hole":
-                found[place].blocks[file, block] = reply.split()[1]
+                request = server.send(f"read {a} {v} {volume.files[at]} {block}" for block in range(blocks))
+                requests.append((volume, request))
+        for volume, request in requests:
+            for block, reply in enumerate(server.replies(request)):
+                if reply != "hole":
+                    volume.blocks[volume.files[at], block] = reply.split()[1]
     if server.ask(["summary"]) != [summary_of(found)]:
         sys.exit("copy: what was read is not what is there")
     return found

@@ -298,7 +298,7 @@ class Copy(Case):
         self.holds("the new device stays", self.at("new"), new)
 
     def test_the_greatest(self):
-        """a full device of the greatest geometry is copied with few syncs"""
+        """a full device of the greatest geometry is copied"""
         volumes = list(itertools.product(range(GREATEST.aggregates), range(GREATEST.volumes)))
         blocks = list(itertools.product(range(GREATEST.quota), (0, 4), range(0, GREATEST.blocks, GREATEST.width)))
         lines = [f"makevol {a} {v}" for a, v in volumes]
