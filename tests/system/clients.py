@@ -83,13 +83,24 @@ class Replies(Case):
         self.assertEqual(later.unanswered, [*lost.unanswered, *["label 0 0"] * 3])
         self.assertRaises(client.Lost, torn.close)
 
+    def runs_a_page(self, *path):
+        """The end of the program on a page, in the folder."""
+        page = bytes_of(os.path.join(TOP, *path)).decode()
+        text = re.search(r"^\n((?: {4}import .*\n)(?: {4}.*\n|\n)*)", page, re.M)[1]
+        return run(["-c", textwrap.dedent(text)], program=[sys.executable], cwd=self.folder)
+
     def test_the_page(self):
         """nor does the client of docs/program.md take it for one"""
         self.put_script("waffd", TORN)
-        page = bytes_of(os.path.join(TOP, "docs", "program.md")).decode()
-        text = textwrap.dedent(re.search(r"^\n((?: {4}import .*\n)(?: {4}.*\n|\n)*)", page, re.M)[1])
-        end = run(["-c", text], program=[sys.executable], cwd=self.folder)
+        end = self.runs_a_page("docs", "program.md")
         self.has_ended(end, 1, b"", lambda faults: faults.endswith(b"EOFError: no whole reply\n"))
+
+    def test_the_readme(self):
+        """the program of the README does what it says"""
+        os.symlink(os.path.abspath(PROGRAM), self.at("waffd"))
+        os.symlink(os.path.join(TOP, "examples"), self.at("examples"))
+        self.has_ended(self.runs_a_page("examples", "client", "README.md"), 0, b"", b"")
+        self.has_ended(run(["serve", self.device], b"summary\n"), 0, b"summary 1 1 64\n", b"")
 
     def test_a_kill(self):
         """a killed server leaves whole replies, and each line has one or is unanswered"""

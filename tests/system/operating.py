@@ -170,6 +170,16 @@ class Service(Case):
         self.assertEqual(read_until(last, lambda found: found.count(b"\n") == 2), b"done\n" * 2)
         server.kill()
 
+    def test_copy_that_is_lost(self):
+        """a copy whose server is killed tells so, and has written nothing"""
+        server = self.starts()
+        self.asks(self.connects(), b"summary\n", b"summary 0 0 0\n")
+        copying = self.started([COPY, self.at("run/waffd/socket")], stdout=subprocess.PIPE, stderr=subprocess.PIPE)
+        self.waits_for_connections(3)
+        subprocess.run(["pkill", "-KILL", "-P", str(server.pid)], check=True)
+        self.assertEqual(copying.communicate(timeout=PATIENCE), (b"", b"copy: the connection has ended\n"))
+        self.assertEqual(copying.returncode, 1)
+
     def waits_for_connections(self, count):
         """Until so many ends have the name of the socket: the listening one, and one for each client."""
         name = self.at("run/waffd/socket").encode()
