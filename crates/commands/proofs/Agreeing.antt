@@ -1,14 +1,14 @@
 -- A service without a fault writes the serial server's output, and leaves its last state: so two of them agree.
-use Rattle.std.proofs.Common.{◌≡◌, List, ◌++◌, Option, Some, ap, sym, ◌∙◌, subst, append-nil, take, ℕ}
+use Rattle.std.proofs.Common.{◌≡◌, List, ◌++◌, Option, Some, ap, sym, ◌∙◌, subst, take, ℕ}
 use Rattle.std.specs.Prelude.{Result, Ok}
 use Rattle.affinity.specs.declared.geometry.Geometry.{Geometry}
 use Rattle.disk.specs.Device.{Medium}
 use Rattle.language.specs.Lines.{lines}
-use Rattle.meaning.specs.Output.{joined, output_lines, serial_output, state_after_lines}
+use Rattle.meaning.specs.Output.{serial_output, state_after_lines}
 use Rattle.meaning.specs.State.{State}
 use Rattle.serving.specs.Restart.{IsClosedPart}
 use Rattle.commands.specs.Promise.{HoldsState, IsWritten}
-use Rattle.commands.specs.Restarts.{CrashedRun, HaveAgreed, IsRunOn, Returned, RunEnd}
+use Rattle.commands.specs.Restarts.{CrashedRun, HaveAgreed, IsRunOn, Returned}
 use Rattle.commands.specs.declared.faults.Fault.{Fault}
 use Rattle.commands.proofs.Durable.{has_all, leaves_none, run_on}
 

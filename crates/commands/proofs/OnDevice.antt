@@ -1,5 +1,5 @@
 -- What a service on a device has done, from what its server promises.
-use Rattle.std.proofs.Common.{◌≡◌, ◌∙◌, ◌+◌, ◌≤◌, ℕ, Bool, List, [], Some, None, true, false, refl, ap, take, replicate, arith}
+use Rattle.std.proofs.Common.{◌≡◌, ◌∙◌, ◌+◌, ℕ, Bool, List, [], Some, None, true, false, refl, ap, take, replicate, arith}
 use Rattle.std.specs.Prelude.{Result, Ok, Err, cond}
 use Rattle.std.proofs.lemmas.List.{take_all}
 use Rattle.recovery.specs.Recovery.{recovered_state}
