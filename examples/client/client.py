@@ -2,7 +2,8 @@
 """A client of `waffd serve`: sends lines before earlier ones have their replies, and knows which have none at the end.
 
     examples/client/client.py SOCKET     sends the lines of its standard input to the front's server, and prints the
-                                         replies; with status 1, on standard error, the lines that have none
+                                         replies; if the connection is lost, with status 1, also the lines without a
+                                         reply, sent or not, on standard error
 """
 import argparse
 import collections
@@ -183,17 +184,30 @@ def carry_out(connect, lines):
             lines = itertools.chain(lost.unanswered, lines)
 
 
+def pieces_of(file):
+    """The lines of a stream, as many at a time as are there. The last one may lack its newline."""
+    for piece in iter(lambda: file.read1(1 << 16), b""):
+        if not piece.endswith(b"\n"):
+            piece += file.readline().rstrip(b"\n") + b"\n"
+        yield piece.decode(errors="surrogateescape").split("\n")[:-1]
+
+
 def main():
     parser = argparse.ArgumentParser(description=__doc__, formatter_class=argparse.RawDescriptionHelpFormatter)
     parser.add_argument("socket", metavar="SOCKET")
+    pieces = pieces_of(sys.stdin.buffer)
     try:
         client = Client(Socket(parser.parse_args().socket))
-        for lines in whole_lines(sys.stdin.buffer):
+        for lines in pieces:
             for reply in client.replies(client.send(lines)):
                 print(reply, flush=True)
         client.close()
     except (OSError, Lost) as error:
-        sys.exit("\n".join([f"client: {error}", *getattr(error, "unanswered", [])]))
+        print(f"client: {error}", *getattr(error, "unanswered", []), sep="\n", file=sys.stderr)
+        with contextlib.suppress(OSError):
+            sys.stdout.close()  # so nobody waits for another reply before the input ends
+        sys.stderr.writelines(line + "\n" for lines in pieces for line in lines)
+        sys.exit(1)
 
 
 if __name__ == "__main__":

@@ -1,9 +1,11 @@
 """The client of examples/client, and the one on docs/program.md: what they take for a reply, what a client may leave
 unread, which lines have no reply after a kill, and what it leaves to send these again."""
 import fcntl
+import itertools
 import os
 import re
 import signal
+import socket
 import struct
 import subprocess
 import sys
@@ -13,7 +15,7 @@ import threading
 import time
 import unittest.mock
 
-from program import PATIENCE, PROGRAM, TOP, Case, bytes_of, run
+from program import PATIENCE, PROGRAM, TOP, Case, bytes_of, read_until, run
 from meaning import changes_of, empty_state, lines_that_read, refusal
 from servers import COMMON, GREATEST, SMALL, WIDE, Device, Drawing, plain, replies_of, text_of
 
@@ -26,6 +28,7 @@ ROOM = 32 << 10  # bytes that a pipe takes in any case: half of what Linux has f
 TORN = "#!/bin/sh\nread line\nprintf 'done\\nblock 5a5a'\nkill -KILL $$\n"
 FULL_BLOCK = ["makevol 0 0", "create 0 0 0", f"write 0 0 0 0 {'5a' * 512}"]
 FULL_REPLY = f"block {'5a' * 512}"
+COMMAND = os.path.join(TOP, "examples", "client", "client.py")
 # Geometry, workers, slots and every.
 SERVERS = ((SMALL, 2, 16, 0), (WIDE, 4, 64, 3), (COMMON, 2, 16, 0), (COMMON, 2, 1024, 100))
 KILLS = max(40, int(os.environ.get("KILLS", 0)) // 8)  # over all of these servers
@@ -141,6 +144,58 @@ class Replies(Case):
             thread.join()
         self.assertEqual(found, dict.fromkeys(range(16), True))
         server.close()
+
+
+class Command(Case):
+    """The command, with a front that hangs up behind some replies."""
+
+    def listens(self, count):
+        """A front whose only client gets so many replies."""
+        listener = socket.socket(socket.AF_UNIX)
+        listener.bind(self.at("socket"))
+        listener.listen()
+
+        def serve():
+            with listener, listener.accept()[0] as connection, connection.makefile("rb") as lines:
+                for line in itertools.islice(lines, count):
+                    connection.sendall(b"done\n" if line.endswith(b"\n") else b"")
+
+        serving = threading.Thread(target=serve)
+        serving.start()
+        self.addCleanup(serving.join)
+
+    def end(self, given, **streams):
+        """The end of a client that is given this."""
+        return run([self.at("socket")], given, program=[COMMAND], **streams)
+
+    def test_the_last_line(self):
+        """a last line without a newline is one, too"""
+        self.listens(2)
+        self.has_ended(self.end(b"makevol 0 0\nseal 0 0"), 0, b"done\ndone\n", b"")
+
+    def test_lost(self):
+        """at a loss it prints the lines without a reply, also those that weren't sent"""
+        self.listens(5)
+        lines = text_of(map(str, range(20000)))
+        told = b"client: the connection has ended\n" + text_of(map(str, range(5, 20000)))
+        self.has_ended(self.end(lines), 1, b"done\n" * 5, told)
+
+    def test_end_of_the_replies(self):
+        """a program that waits for a reply finds their end, and may then end its lines"""
+        self.listens(1)
+        streams = {"stdin": subprocess.PIPE, "stdout": subprocess.PIPE, "stderr": subprocess.PIPE}
+        child = self.started([COMMAND, self.at("socket")], bufsize=0, **streams)
+        for line, reply in ((b"list 0 0\n", b"done\n"), (b"summary\n", b"")):
+            child.stdin.write(line)
+            self.assertEqual(read_until(child.stdout, lambda found: found.endswith(b"\n")), reply)
+        faults = child.communicate(b"seal 0 0")[1]
+        self.assertEqual(faults, b"client: the connection has ended\nsummary\nseal 0 0\n")
+
+    def test_a_full_disk(self):
+        """where its replies can't be written it tells so, and which lines were not sent"""
+        self.listens(1)
+        with open("/dev/full", "wb") as full:
+            self.has_ended(self.end(b"summary\n", stdout=full), 1, b"", b"client: [Errno 28] No space left on device\n")
 
 
 class Unread(Case):
