@@ -220,13 +220,21 @@ def volumes_at(source, file, program):
     return volumes
 
 
+def locked(path):
+    """The file of a device, locked until it is closed."""
+    try:
+        return client.locked(path)
+    except BlockingIOError:
+        sys.exit(f"copy: {path} is locked: another process has it")
+
+
 def copy(source, target, program):
     """Copies: what was copied."""
     with contextlib.ExitStack() as locks:
         files = {}
         for path in (source, target):
             if path != STREAM and not stat.S_ISSOCK(os.stat(path).st_mode):
-                files[path] = locks.enter_context(client.locked(path))
+                files[path] = locks.enter_context(locked(path))
         if target == STREAM:
             volumes = volumes_at(source, files.get(source), program)
             for place, volume in volumes.items():
@@ -255,8 +263,8 @@ def main():
         volumes = copy(given.source, given.target, given.program)
     except client.Lost as lost:
         sys.exit(f"copy: {lost}")
-    except OSError as error:
-        sys.exit(f"copy: {error.filename or 'a device is locked'}: {error.strerror}")
+    except OSError as error:  # without a name where a stream can't be written
+        sys.exit(": ".join(filter(None, ("copy", error.filename, error.strerror))))
     told = summary_of(volumes).replace("summary", "copied")
     print(told, file=sys.stderr if given.target == STREAM else sys.stdout)
 

@@ -363,12 +363,14 @@ class Copy(Case):
             self.has_refused(words, b"copy: missing: No such file or directory\n")
         with open(self.at("new"), "rb") as file:
             fcntl.flock(file, fcntl.LOCK_EX)
-            self.has_refused(["old", "new"], b"copy: a device is locked: Resource temporarily unavailable\n")
+            self.has_refused(["old", "new"], b"copy: new is locked: another process has it\n")
         self.has_refused(["old", "old"], b"copy: old and old are one file\n")
+        with open("/dev/full", "wb") as full:
+            self.has_refused(["old"], b"copy: No space left on device\n", stdout=full)
 
-    def has_refused(self, words, text):
+    def has_refused(self, words, text, **streams):
         """Asserts that a copy ends so in the folder of the devices."""
-        self.has_ended(run(words, program=[COPY], cwd=self.folder), 1, b"", text)
+        self.has_ended(run(words, program=[COPY], cwd=self.folder, **streams), 1, b"", text)
 
 
 class Stack(Case):
