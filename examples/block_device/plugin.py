@@ -167,7 +167,7 @@ def cleanup():
 
 
 def start(file):
-    return client.Client(client.Pipes(file, words["waffd"], ("--slots", "1024")))
+    return client.start(file, words["waffd"], ("--slots", "1024"))
 
 
 def running_server():

@@ -38,60 +38,38 @@ def locked(device):
     return file
 
 
-class Pipes:
-    """A server of one's own, of a locked file. It keeps the lock, and isn't killed by an interrupt at the terminal."""
-
-    def __init__(self, file, program="./waffd", options=()):
-        pipes = {"stdin": subprocess.PIPE, "stdout": subprocess.PIPE, "stderr": subprocess.PIPE}
-        words = [program, "serve", file.name, *options]
-        self.child = subprocess.Popen(words, pass_fds=(file.fileno(),), start_new_session=True, **pipes)
-        self.lines, self.replies = self.child.stdin, self.child.stdout
-        self.end_input, self.cut = self.lines.close, self.child.kill
-
-    def end(self):
-        """Its status, and what is to be said of it."""
-        faults = self.child.stderr.read().decode(errors="replace").strip()
-        status = self.child.wait()
-        return status, f"waffd has ended with status {status}: {faults}".rstrip(": ")
+def start(file, program="./waffd", options=()):
+    """A client of a new server of a locked file. It keeps the lock; an interrupt at the terminal doesn't kill it."""
+    ours, theirs = socket.socketpair()
+    with theirs:
+        process = subprocess.Popen(
+            [program, "serve", file.name, *options], stdin=theirs, stdout=theirs, stderr=subprocess.PIPE,
+            pass_fds=(file.fileno(),), start_new_session=True)
+    return Client(ours, process)
 
 
-class Socket:
-    """A connection to the front, which may not be there yet."""
-
-    def __init__(self, path):
-        last_try = time.monotonic() + PATIENCE
-        self.socket = socket.socket(socket.AF_UNIX)
-        while True:
-            try:
-                self.socket.connect(path)
-                break
-            except (FileNotFoundError, ConnectionRefusedError):
-                if time.monotonic() > last_try:
-                    raise
-                time.sleep(0.05)
-        self.lines, self.replies = self.socket.makefile("wb"), self.socket.makefile("rb")
-        self.end_input = lambda: self.socket.shutdown(socket.SHUT_WR)
-        self.cut = self.socket.close
-
-    def end(self):
-        self.socket.close()
-        return 0, "the connection has ended"
-
-
-def whole_lines(file):
-    """The lines of a stream, as many at a time as are there. What a kill leaves behind the last newline is none."""
-    rest = b""
-    for piece in iter(lambda: file.read1(1 << 16), b""):
-        *lines, rest = (rest + piece).split(b"\n")
-        yield [line.decode(errors="surrogateescape") for line in lines]
+def connect(path):
+    """A client of the server behind the front that listens here, which may not be there yet."""
+    last_try = time.monotonic() + PATIENCE
+    connection = socket.socket(socket.AF_UNIX)
+    while True:
+        try:
+            connection.connect(path)
+            return Client(connection)
+        except (FileNotFoundError, ConnectionRefusedError):
+            if time.monotonic() > last_try:
+                raise
+            time.sleep(0.05)
 
 
 class Client:
     """One connection, for any number of threads. One of its own takes each reply as it comes: none stays unread."""
 
-    def __init__(self, link):
-        self.link = link
-        self.requests = collections.deque()  # those that aren't answered, in the order of their lines
+    def __init__(self, connection, process=None):
+        self.connection, self.process = connection, process
+        self.requests = collections.deque()  # those that were sent and aren't answered, in the order of their lines
+        self.unsent = []  # lines that came when no more were sent
+        self.is_open = True  # until the end of the input, or of the server
         self.ended = None  # the status, and what is to be said
         self.lock = threading.Lock()  # held so that lines are sent in the order of `requests`, before the end
         self.reader = threading.Thread(target=self.take_replies, daemon=True)
@@ -104,21 +82,20 @@ class Client:
         if text.count(b"\n") != len(request.lines):
             raise ValueError("a line with a newline in it")
         with self.lock, contextlib.suppress(OSError):  # of an end, which the other thread finds, too
-            if request.lines:
+            if self.is_open and request.lines:
                 self.requests.append(request)
-            if self.ended:
-                request.is_over.set()
+                self.connection.sendall(text)
             else:
-                self.link.lines.write(text)
-                self.link.lines.flush()
+                self.unsent += request.lines
+                request.is_over.set()
         return request
 
     def replies(self, request):
         """The replies to a request, once there are all. If some are missing it fails behind those that came."""
-        if request.lines:
-            request.is_over.wait()
+        request.is_over.wait()
         yield from request.replies
         if len(request.replies) < len(request.lines):
+            self.reader.join()
             self.check()
 
     def ask(self, lines):
@@ -137,44 +114,47 @@ class Client:
     def check(self):
         """Fails if there are no more replies."""
         if self.ended:
-            unanswered = [line for request in list(self.requests) for line in request.lines[len(request.replies):]]
-            raise Lost(*self.ended, unanswered)
+            sent = [line for request in self.requests for line in request.lines[len(request.replies):]]
+            raise Lost(*self.ended, sent + self.unsent)
 
     def close(self):
         """Ends the input, and waits until all is answered and the server has ended. Fails if that isn't in order."""
         with self.lock, contextlib.suppress(OSError):
-            self.link.end_input()
+            self.is_open = False
+            self.connection.shutdown(socket.SHUT_WR)
         self.reader.join()
         if self.requests or self.ended[0] != 0:
             self.check()
 
     def take_replies(self):
-        """Gives each reply to the oldest line without one."""
-        try:
-            for lines in whole_lines(self.link.replies):
-                while lines:
+        """Gives each reply to the oldest line without one. What a kill leaves behind the last newline is none."""
+        replies = self.connection.makefile(errors="replace", newline="\n")
+        with replies, contextlib.suppress(OSError, IndexError):  # of a reset; of a reply without a line
+            for reply in replies:
+                if reply.endswith("\n"):
                     request = self.requests[0]
-                    missing = len(request.lines) - len(request.replies)
-                    request.replies.extend(lines[:missing])
-                    del lines[:missing]
+                    request.replies.append(reply[:-1])
                     if len(request.replies) == len(request.lines):
-                        self.requests.popleft()
-                        request.is_over.set()
-        except (OSError, IndexError):  # it was cut off, or isn't a server
-            self.link.cut()
-        ended = self.link.end()
+                        self.requests.popleft().is_over.set()
+        self.connection.shutdown(socket.SHUT_RDWR)  # so no other thread goes on sending
+        status, why = 0, "the connection has ended"
+        if self.process:
+            faults = self.process.communicate()[1].decode(errors="replace").strip()
+            status = self.process.returncode
+            why = f"waffd has ended with status {status}: {faults}".rstrip(": ")
         with self.lock:
-            self.ended = ended
+            self.is_open, self.ended = False, (status, why)
             for request in self.requests:
                 request.is_over.set()
+            self.connection.close()
 
 
-def carry_out(connect, lines):
-    """The replies to these lines, over any number of kills and lost connections: `connect` gives a new link, or fails,
-    and lines without a reply are sent again, in order. protocol.md says what that means where they were carried out."""
+def carry_out(new_client, lines):
+    """The replies to these lines, over any number of kills and lost connections: `new_client` connects, or fails, and
+    lines without a reply are sent again, in order. protocol.md says what that means where they were carried out."""
     lines = iter(lines)
     while True:
-        client = Client(connect())
+        client = new_client()
         try:
             yield from client.answers(lines)
             return client.close()
@@ -197,7 +177,7 @@ def main():
     parser.add_argument("socket", metavar="SOCKET")
     pieces = pieces_of(sys.stdin.buffer)
     try:
-        client = Client(Socket(parser.parse_args().socket))
+        client = connect(parser.parse_args().socket)
         for lines in pieces:
             for reply in client.replies(client.send(lines)):
                 print(reply, flush=True)

@@ -196,7 +196,7 @@ def write_all(volumes, file, program, g):
     found = list(misfits(volumes, g))
     if found:
         sys.exit("\n".join(found))
-    server = client.Client(client.Pipes(file, program, OPTIONS))
+    server = client.start(file, program, OPTIONS)
     lines = lines_for(volumes, g)
     for line, reply in zip(lines, server.answers(lines)):
         if reply != "done":
@@ -213,8 +213,7 @@ def volumes_at(source, file, program):
     """What is to be copied: lines of the standard input, what a server holds, or what a device does that is locked."""
     if source == STREAM:
         return volumes_of(sys.stdin.read().splitlines())
-    link = client.Pipes(file, program, OPTIONS) if file else client.Socket(source)
-    server = client.Client(link)
+    server = client.start(file, program, OPTIONS) if file else client.connect(source)
     volumes = read_all(server)
     server.close()
     return volumes

@@ -35,10 +35,10 @@ KILLS = max(40, int(os.environ.get("KILLS", 0)) // 8)  # over all of these serve
 LINES = 4000
 
 
-def link_to(device, *words, program=PROGRAM):
-    """A server of this device."""
+def client_of(device, *words, program=PROGRAM):
+    """A client of a server of its own, of this device."""
     with client.locked(device) as file:
-        return client.Pipes(file, program, words)
+        return client.start(file, program, words)
 
 
 def lines_that_pass(g, lines):
@@ -63,10 +63,10 @@ class Replies(Case):
 
     def connects(self, *words, program=PROGRAM):
         """A client of a server of its own, which doesn't outlive the test."""
-        link = link_to(self.device, *words, program=program)
-        self.addCleanup(link.child.wait)
-        self.addCleanup(link.child.kill)
-        return client.Client(link)
+        server = client_of(self.device, *words, program=program)
+        self.addCleanup(server.process.wait)
+        self.addCleanup(server.process.kill)
+        return server
 
     def is_lost(self, replies, count):
         """Asserts that a server is lost behind so many replies: what is told of it."""
@@ -111,7 +111,7 @@ class Replies(Case):
         self.assertEqual(server.ask(FULL_BLOCK), ["done"] * 3)
         lines = [f"read 0 0 0 {number % 2}" for number in range(20000)]
         request = server.send(lines)
-        server.link.child.kill()
+        server.process.kill()
         found = []
         with self.assertRaises(client.Lost) as raised:
             found.extend(server.replies(request))
@@ -121,9 +121,25 @@ class Replies(Case):
     def test_a_fault(self):
         """a server with a fault isn't started again, and its text is told"""
         os.truncate(self.device, 100)
-        lost = self.is_lost(client.carry_out(lambda: link_to(self.device), ["summary"]), 0)
+        lost = self.is_lost(client.carry_out(lambda: client_of(self.device), ["summary"]), 0)
         self.assertEqual((lost.status, lost.unanswered), (1, ["summary"]))
         self.assertEqual(str(lost), "waffd has ended with status 1: waffd: device too short")
+
+    def test_lines_behind_the_end(self):
+        """lines that come while a client is being closed are lost, and it is closed in order all the same"""
+        server = self.connects()
+        server.process.send_signal(signal.SIGSTOP)
+        closed = []
+        closing = threading.Thread(target=lambda: closed.append(server.close()))
+        closing.start()
+        while server.is_open:
+            time.sleep(0.01)
+        late = server.send(["seal 0 0"])
+        server.process.send_signal(signal.SIGCONT)
+        lost = self.is_lost(server.replies(late), 0)
+        self.assertEqual((lost.status, lost.unanswered), (0, ["seal 0 0"]))
+        closing.join()
+        self.assertEqual(closed, [None])
 
     def test_threads(self):
         """each of many threads gets the replies to its own lines"""
@@ -144,6 +160,29 @@ class Replies(Case):
             thread.join()
         self.assertEqual(found, dict.fromkeys(range(16), True))
         server.close()
+
+
+class Ends(Case):
+    """A client whose server is a socket of the test."""
+
+    def setUp(self):
+        super().setUp()
+        ours, self.server = socket.socketpair()
+        self.addCleanup(self.server.close)
+        self.server.settimeout(PATIENCE)
+        self.client = client.Client(ours)
+
+    def test_no_server(self):
+        """more replies than lines end the connection, though a thread is sending, and its descriptor is closed"""
+        lines = ["x" * 1000] * 1000
+        asking = threading.Thread(target=self.client.ask, args=(lines,), daemon=True)
+        asking.start()
+        self.server.recv(1, socket.MSG_PEEK)
+        self.server.sendall(b"done\n" * 1001)
+        asking.join(PATIENCE)
+        self.assertFalse(asking.is_alive())
+        self.client.reader.join()
+        self.assertEqual(self.client.connection.fileno(), -1)
 
 
 class Command(Case):
@@ -229,7 +268,7 @@ class Unread(Case):
     def test_all_at_once(self):
         """a client sends far more than two pipes hold, and gets each reply"""
         run(["format", self.at("d")])
-        server = client.Client(link_to(self.at("d")))
+        server = client_of(self.at("d"))
         replies = server.ask([*FULL_BLOCK, *["read 0 0 0 0"] * 20000])
         self.assertEqual(replies, ["done"] * 3 + [FULL_REPLY] * 20000)
         server.close()
@@ -251,23 +290,23 @@ class Kills(Case):
         drawing = Drawing(f"clients {device}", device.g)
         lines = lines_that_pass(device.g, drawing.lines(LINES))
         moments = set(drawing.random.sample(range(len(lines)), KILLS // len(SERVERS)))
-        links = []
+        servers = []
 
-        def connect():
-            links.append(link_to(*device.words()[1:]))
-            if len(links) % 3 == 0:
+        def new_client():
+            servers.append(client_of(*device.words()[1:]))
+            if len(servers) % 3 == 0:
                 time.sleep(0.01 * drawing.random.random())
-                links[-1].child.kill()
-            return links[-1]
+                servers[-1].process.kill()
+            return servers[-1]
 
         replies = []
         with unittest.mock.patch.multiple(client, PIECE=8):  # few in flight, so that each moment is one of its own
-            for reply in client.carry_out(connect, lines):
+            for reply in client.carry_out(new_client, lines):
                 replies.append(reply)
                 if len(replies) in moments:
-                    links[-1].child.kill()
+                    servers[-1].process.kill()
         self.assertEqual(len(replies), len(lines))
-        killed = sum(link.child.wait() == -signal.SIGKILL for link in links)
+        killed = sum(server.process.wait() == -signal.SIGKILL for server in servers)
         self.assertGreaterEqual(killed, len(moments) // 2)
         reads = lines_that_read(device.g)
         told = replies_of(run(device.words(), text_of(reads)), "the next run")

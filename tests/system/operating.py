@@ -143,7 +143,7 @@ class Service(Case):
     def test_a_kill(self):
         """a client of examples/client goes on where the server is killed and the unit starts it again"""
         server = self.starts()
-        replies = client.carry_out(lambda: client.Socket(self.at("run/waffd/socket")), iter(MANY_CHANGES))
+        replies = client.carry_out(lambda: client.connect(self.at("run/waffd/socket")), iter(MANY_CHANGES))
         found = list(itertools.islice(replies, 100))
         subprocess.run(["pkill", "-KILL", "-P", str(server.pid)], check=True)
         self.has_stopped(server, 128 + signal.SIGKILL)
