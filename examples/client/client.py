@@ -62,7 +62,7 @@ def connect(path):
             time.sleep(0.05)
 
 
-class Client:
+class Client(contextlib.AbstractContextManager):
     """One connection, for any number of threads. One of its own takes each reply as it comes: none stays unread."""
 
     def __init__(self, connection, process=None):
@@ -74,6 +74,11 @@ class Client:
         self.lock = threading.Lock()  # held so that lines are sent in the order of `requests`, before the end
         self.reader = threading.Thread(target=self.take_replies, daemon=True)
         self.reader.start()
+
+    def __exit__(self, kind, error, trace):
+        """Closes it. If the block has failed, its error is raised, and not what `close` meets."""
+        with contextlib.suppress(Lost) if kind else contextlib.nullcontext():
+            self.close()
 
     def send(self, lines):
         """Sends lines without waiting for their replies: the request."""
@@ -154,10 +159,10 @@ def carry_out(new_client, lines):
     lines without a reply are sent again, in order. protocol.md says what that means where they were carried out."""
     lines = iter(lines)
     while True:
-        client = new_client()
         try:
-            yield from client.answers(lines)
-            return client.close()
+            with new_client() as client:
+                yield from client.answers(lines)
+            return
         except Lost as lost:
             if lost.status > 0:
                 raise
@@ -177,11 +182,10 @@ def main():
     parser.add_argument("socket", metavar="SOCKET")
     pieces = pieces_of(sys.stdin.buffer)
     try:
-        client = connect(parser.parse_args().socket)
-        for lines in pieces:
-            for reply in client.replies(client.send(lines)):
-                print(reply, flush=True)
-        client.close()
+        with connect(parser.parse_args().socket) as client:
+            for lines in pieces:
+                for reply in client.replies(client.send(lines)):
+                    print(reply, flush=True)
     except (OSError, Lost) as error:
         print(f"client: {error}", *getattr(error, "unanswered", []), sep="\n", file=sys.stderr)
         with contextlib.suppress(OSError):

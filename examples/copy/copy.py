@@ -196,14 +196,13 @@ def write_all(volumes, file, program, g):
     found = list(misfits(volumes, g))
     if found:
         sys.exit("\n".join(found))
-    server = client.start(file, program, OPTIONS)
     lines = lines_for(volumes, g)
-    for line, reply in zip(lines, server.answers(lines)):
-        if reply != "done":
-            sys.exit(f"copy: {line[:60]} was answered: {reply}")
-    if server.ask(["summary"]) != [summary_of(volumes)]:
-        sys.exit("copy: the new device has something else")
-    server.close()
+    with client.start(file, program, OPTIONS) as server:
+        for line, reply in zip(lines, server.answers(lines)):
+            if reply != "done":
+                sys.exit(f"copy: {line[:60]} was answered: {reply}")
+        if server.ask(["summary"]) != [summary_of(volumes)]:
+            sys.exit("copy: the new device has something else")
 
 
 # ---- the whole
@@ -213,10 +212,8 @@ def volumes_at(source, file, program):
     """What is to be copied: lines of the standard input, what a server holds, or what a device does that is locked."""
     if source == STREAM:
         return volumes_of(sys.stdin.read().splitlines())
-    server = client.start(file, program, OPTIONS) if file else client.connect(source)
-    volumes = read_all(server)
-    server.close()
-    return volumes
+    with client.start(file, program, OPTIONS) if file else client.connect(source) as server:
+        return read_all(server)
 
 
 def locked(path):

@@ -125,6 +125,18 @@ class Replies(Case):
         self.assertEqual((lost.status, lost.unanswered), (1, ["summary"]))
         self.assertEqual(str(lost), "waffd has ended with status 1: waffd: device too short")
 
+    def test_broken_off(self):
+        """where the caller breaks off, or a line can't be sent, the server has ended in order"""
+        lines = itertools.chain(["makevol 0 0"], itertools.repeat("seal 0 0"))
+        replies = client.carry_out(lambda: client_of(self.device), lines)
+        self.assertEqual(next(replies), "done")
+        replies.close()
+        client.locked(self.device).close()
+        self.has_ended(run(["show", self.device]), 0, lambda text: b"records 0\nsummary 1 0 0\n" in text)
+        with self.assertRaises(ValueError):
+            list(client.carry_out(lambda: client_of(self.device), ["two\nlines"]))
+        client.locked(self.device).close()
+
     def test_lines_behind_the_end(self):
         """lines that come while a client is being closed are lost, and it is closed in order all the same"""
         server = self.connects()
