@@ -18,13 +18,13 @@ import time
 
 PIECE = 256  # lines that `answers` sends together
 PIECES = 8  # that it has in flight: enough for a server with 1,024 slots
-PATIENCE = 20  # seconds for a socket to be there, as systemd may start the server just now
+PAUSES = (0, 1, 2, 3, 4, 5)  # seconds before a new start, after so many without a reply; then `carry_out` gives up
 Request = collections.namedtuple("Request", "lines replies is_over")  # over: with all replies, or no more will come
 
 
 class Lost(Exception):
     """There will be no more replies. `unanswered` are the lines without one, in order: each that was sent may have been
-    carried out or not. `status` is the server's, below 0 where a signal ended it; 0 where a connection has ended."""
+    carried out or not. `status` is the server's, below 0 where a signal ended it; 0 where there is no connection."""
 
     def __init__(self, status, why, unanswered):
         super().__init__(why)
@@ -49,17 +49,13 @@ def start(file, program="./waffd", options=()):
 
 
 def connect(path):
-    """A client of the server behind the front that listens here, which may not be there yet."""
-    last_try = time.monotonic() + PATIENCE
+    """A client of the server behind the front that listens here."""
     connection = socket.socket(socket.AF_UNIX)
-    while True:
-        try:
-            connection.connect(path)
-            return Client(connection)
-        except (FileNotFoundError, ConnectionRefusedError):
-            if time.monotonic() > last_try:
-                raise
-            time.sleep(0.05)
+    try:
+        connection.connect(path)
+    except OSError as error:
+        raise Lost(0, f"{path}: {error.strerror}", []) from error
+    return Client(connection)
 
 
 class Client(contextlib.AbstractContextManager):
@@ -157,16 +153,22 @@ class Client(contextlib.AbstractContextManager):
 def carry_out(new_client, lines):
     """The replies to these lines, over any number of kills and lost connections: `new_client` connects, or fails, and
     lines without a reply are sent again, in order. protocol.md says what that means where they were carried out."""
-    lines = iter(lines)
+    lines, again = iter(lines), iter([])
+    starts = 0  # since the last reply
     while True:
+        starts += 1
         try:
             with new_client() as client:
-                yield from client.answers(lines)
+                for reply in client.answers(itertools.chain(again, lines)):
+                    starts = 0
+                    yield reply
             return
         except Lost as lost:
-            if lost.status > 0:
+            lost.unanswered += again
+            if lost.status > 0 or starts == len(PAUSES):
                 raise
-            lines = itertools.chain(lost.unanswered, lines)
+            again = iter(lost.unanswered)
+            time.sleep(PAUSES[starts])
 
 
 def pieces_of(file):

@@ -125,6 +125,15 @@ class Replies(Case):
         self.assertEqual((lost.status, lost.unanswered), (1, ["summary"]))
         self.assertEqual(str(lost), "waffd has ended with status 1: waffd: device too short")
 
+    def test_starts_without_a_reply(self):
+        """where each server is killed before it answers, there are a few starts, with longer and longer pauses"""
+        self.put_script("killed", "#!/bin/sh\nkill -KILL $$\n")
+        with unittest.mock.patch("time.sleep") as sleep:
+            replies = client.carry_out(lambda: client_of(self.device, program=self.at("killed")), ["summary"])
+            lost = self.is_lost(replies, 0)
+        self.assertEqual((lost.status, lost.unanswered), (-signal.SIGKILL, ["summary"]))
+        self.assertEqual(sleep.mock_calls, [unittest.mock.call(pause) for pause in (1, 2, 3, 4, 5)])
+
     def test_broken_off(self):
         """where the caller breaks off, or a line can't be sent, the server has ended in order"""
         lines = itertools.chain(["makevol 0 0"], itertools.repeat("seal 0 0"))
@@ -231,6 +240,11 @@ class Command(Case):
         told = b"client: the connection has ended\n" + text_of(map(str, range(5, 20000)))
         self.has_ended(self.end(lines), 1, b"done\n" * 5, told)
 
+    def test_nobody_listens(self):
+        """so it does where nobody listens"""
+        told = f"client: {self.at('socket')}: No such file or directory\nlist 0 0\nsummary\n".encode()
+        self.has_ended(self.end(b"list 0 0\nsummary"), 1, b"", told)
+
     def test_end_of_the_replies(self):
         """a program that waits for a reply finds their end, and may then end its lines"""
         self.listens(1)
@@ -312,7 +326,8 @@ class Kills(Case):
             return servers[-1]
 
         replies = []
-        with unittest.mock.patch.multiple(client, PIECE=8):  # few in flight, so that each moment is one of its own
+        # Few lines are in flight, so that each moment is one of its own.
+        with unittest.mock.patch.multiple(client, PIECE=8, PAUSES=(0,) * 6):
             for reply in client.carry_out(new_client, lines):
                 replies.append(reply)
                 if len(replies) in moments:
