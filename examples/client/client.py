@@ -16,8 +16,7 @@ import sys
 import threading
 import time
 
-PIECE = 256  # lines that `answers` sends together
-PIECES = 8  # that it has in flight: enough for a server with 1,024 slots
+IN_FLIGHT = 2048  # lines that `answers` sends ahead, at most: enough for a server with 1,024 slots
 PAUSES = (0, 1, 2, 3, 4, 5)  # seconds before a new start, after so many without a reply; then `carry_out` gives up
 Request = collections.namedtuple("Request", "lines replies is_over")  # over: with all replies, or no more will come
 
@@ -103,14 +102,15 @@ class Client(contextlib.AbstractContextManager):
         """The replies to these lines, which are sent together."""
         return list(self.replies(self.send(lines)))
 
-    def answers(self, lines):
-        """The replies to any number of lines, of which some are always in flight."""
-        lines = iter(lines)
-        pieces = iter(lambda: list(itertools.islice(lines, PIECE)), [])
-        requests = collections.deque(map(self.send, itertools.islice(pieces, PIECES)))
-        while requests:
-            yield from self.replies(requests.popleft())
-            requests.extend(map(self.send, itertools.islice(pieces, 1)))
+    def answers(self, lines, together=1):
+        """The replies to any number of lines. So many are sent together; what came is given before more is drawn."""
+        lines, requests = iter(lines), collections.deque()
+        for piece in iter(lambda: list(itertools.islice(lines, together)), []):
+            requests.append(self.send(piece))
+            while requests and (len(requests) * together >= IN_FLIGHT or requests[0].is_over.is_set()):
+                yield from self.replies(requests.popleft())
+        for request in requests:
+            yield from self.replies(request)
 
     def check(self):
         """Fails if there are no more replies."""
@@ -150,7 +150,7 @@ class Client(contextlib.AbstractContextManager):
             self.connection.close()
 
 
-def carry_out(new_client, lines):
+def carry_out(new_client, lines, together=1):
     """The replies to these lines, over any number of kills and lost connections: `new_client` connects, or fails, and
     lines without a reply are sent again, in order. protocol.md says what that means where they were carried out."""
     lines, again = iter(lines), iter([])
@@ -159,7 +159,7 @@ def carry_out(new_client, lines):
         starts += 1
         try:
             with new_client() as client:
-                for reply in client.answers(itertools.chain(again, lines)):
+                for reply in client.answers(itertools.chain(again, lines), together):
                     starts = 0
                     yield reply
             return

@@ -24,6 +24,7 @@ Geometry = collections.namedtuple("Geometry", "aggregates volumes stripes width 
 Lines = collections.namedtuple("Lines", "first creates writes last")  # that make a volume, in this order
 GREATEST = Geometry(4, 8, 8, 64, 64, 256, 64, 1024)
 OPTIONS = ("--slots", "1024")
+TOGETHER = 256  # lines that are sent at once
 LOG_WRITE = 64  # changes at most, no two of one stripe
 NOTHING = "summary 0 0 0"
 STREAM = "-"  # in the place of a device
@@ -198,7 +199,7 @@ def write_all(volumes, file, program, g):
         sys.exit("\n".join(found))
     lines = lines_for(volumes, g)
     with client.start(file, program, OPTIONS) as server:
-        for line, reply in zip(lines, server.answers(lines)):
+        for line, reply in zip(lines, server.answers(lines, TOGETHER)):
             if reply != "done":
                 sys.exit(f"copy: {line[:60]} was answered: {reply}")
         if server.ask(["summary"]) != [summary_of(volumes)]:

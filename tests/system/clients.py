@@ -82,7 +82,7 @@ class Replies(Case):
         torn = self.connects(program=self.at("torn"))
         lost = self.is_lost(torn.replies(torn.send(["seal 0 0", "read 0 0 0 0", "summary"])), 1)
         self.assertEqual((lost.unanswered, lost.status), (["read 0 0 0 0", "summary"], -9))
-        later = self.is_lost(torn.answers(["label 0 0"] * 3), 0)
+        later = self.is_lost(torn.replies(torn.send(["label 0 0"] * 3)), 0)
         self.assertEqual(later.unanswered, [*lost.unanswered, *["label 0 0"] * 3])
         self.assertRaises(client.Lost, torn.close)
 
@@ -192,6 +192,24 @@ class Ends(Case):
         self.addCleanup(self.server.close)
         self.server.settimeout(PATIENCE)
         self.client = client.Client(ours)
+
+    def test_a_slow_source(self):
+        """a line is sent before the next one is drawn, and a reply that has come is given before that"""
+        found = []
+        counts = []
+
+        def lines():
+            for number in range(3):
+                yield str(number)
+                counts.append(len(found))
+                self.assertEqual(self.server.recv(100), f"{number}\n".encode())
+                self.server.sendall(b"done\n")
+                while self.client.requests:
+                    time.sleep(0.01)
+
+        for reply in self.client.answers(lines()):
+            found.append(reply)
+        self.assertEqual((found, counts), (["done"] * 3, [0, 1, 2]))
 
     def test_no_server(self):
         """more replies than lines end the connection, though a thread is sending, and its descriptor is closed"""
@@ -327,8 +345,8 @@ class Kills(Case):
 
         replies = []
         # Few lines are in flight, so that each moment is one of its own.
-        with unittest.mock.patch.multiple(client, PIECE=8, PAUSES=(0,) * 6):
-            for reply in client.carry_out(new_client, lines):
+        with unittest.mock.patch.multiple(client, IN_FLIGHT=64, PAUSES=(0,) * 6):
+            for reply in client.carry_out(new_client, lines, 8):
                 replies.append(reply)
                 if len(replies) in moments:
                     servers[-1].process.kill()
