@@ -146,6 +146,18 @@ class Replies(Case):
             list(client.carry_out(lambda: client_of(self.device), ["two\nlines"]))
         client.locked(self.device).close()
 
+    def test_a_server_that_hangs(self):
+        """a program may wait for a reply as long as it likes, and then kill the server or end the connection"""
+        for breaks_off in (
+                lambda server: server.process.kill(), lambda server: server.connection.shutdown(socket.SHUT_RDWR)):
+            server = self.connects()
+            server.process.send_signal(signal.SIGSTOP)
+            request = server.send(["summary"])
+            self.assertFalse(request.is_over.wait(0.1))
+            breaks_off(server)
+            server.process.send_signal(signal.SIGCONT)
+            self.assertEqual(self.is_lost(server.replies(request), 0).unanswered, ["summary"])
+
     def test_lines_behind_the_end(self):
         """lines that come while a client is being closed are lost, and it is closed in order all the same"""
         server = self.connects()
