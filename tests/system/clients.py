@@ -1,5 +1,5 @@
-"""The client of examples/client, and the one on docs/program.md: what they take for a reply, what a client may leave
-unread, which lines have no reply after a kill, and what it leaves to send these again."""
+"""The client of examples/client, its command, and the client on docs/program.md: what they take for a reply, what a
+client may leave unread, which lines have no reply after a kill, and what it leaves to send these again."""
 import fcntl
 import itertools
 import os
