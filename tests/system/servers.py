@@ -58,6 +58,25 @@ def count_of_answers(output):
     return count
 
 
+def state_left(g, start, lines, output, told, whole=False):
+    """The state that a server has left, by what the next one told of it. It began with the state `start`, was given
+    these lines, and this came out. Asserts that what came out may be, and the state too."""
+    made = lines_that_make(g, start)
+    reads = lines_that_read(g)
+    wanted = text_of(plain(g, made + lines)[len(made):])
+    if not wanted.startswith(output) or (whole and output != wanted):
+        raise AssertionError(f"it answered other than the serial server, in the first {len(output)} bytes")
+    answered = len(lines) if whole else count_of_answers(output)
+    left = state_of_replies(g, told)
+    logged = Search(g, start, lines, answered, left).find()
+    if logged is None:
+        what = "a change is missing, or what is there none has made"
+        raise AssertionError(f"of {answered} lines that were answered {what}")
+    if plain(g, made + logged + reads)[len(made + logged):] != told:
+        raise AssertionError("the serial server has another state")
+    return left
+
+
 class File:
     """The file of a small device, as it was formatted and as the opening of a server leaves it."""
 
@@ -98,22 +117,10 @@ class Device:
     def judge(self, lines, output, whole):
         """Asserts that what came out for these lines, and what the next run answers, may be. That is run on a copy:
         so this file stays as it was left."""
-        made = lines_that_make(self.g, self.state)
-        reads = lines_that_read(self.g)
-        wanted = text_of(plain(self.g, made + lines)[len(made):])
-        if not wanted.startswith(output) or (whole and output != wanted):
-            raise AssertionError(f"it answered other than the serial server, in the first {len(output)} bytes")
-        answered = len(lines) if whole else count_of_answers(output)
         shutil.copyfile(self.path, self.copy)
-        told = replies_of(run(self.words(self.copy), text_of(reads)), "the next run")
-        left = state_of_replies(self.g, told)
-        logged = Search(self.g, self.state, lines, answered, left).find()
-        if logged is None:
-            what = "a change is missing, or what is there none has made"
-            raise AssertionError(f"of {answered} lines that were answered {what}")
-        if plain(self.g, made + logged + reads)[len(made + logged):] != told:
-            raise AssertionError("the serial server has another state")
-        self.state = left
+        reads = text_of(lines_that_read(self.g))
+        told = replies_of(run(self.words(self.copy), reads), "the next run")
+        self.state = state_left(self.g, self.state, lines, output, told, whole)
 
 
 WEIGHTS = {
