@@ -32,6 +32,8 @@ MODES = (
 PIECES = {Kept.TORN_4096: 4096, Kept.TORN_512: 512}  # in bytes
 PORTS = ("control", "output", "reports")
 PATIENCE = 120  # seconds for an answer of the guest
+# Of the kernel. A busy host may serve no timer in the time in which it looks for one.
+COMMAND_LINE = "console=ttyS0 panic=-1 quiet mitigations=off tsc=unstable nokaslr no_timer_check"
 SERVED = "driver=nbd,node-name=disk,server.type=unix,server.path={0}/disk,export=disk,cache.no-flush=off"  # from here
 
 # The protocol of NBD: requests and answers, and what is agreed on before the first request.
@@ -124,19 +126,26 @@ class Log:
         return disk, told
 
 
+def emulator(processor, mebibytes, processors, translated):
+    """The first words of QEMU, without help of the processor. It ends with the process that has started it, and where
+    the guest reboots. So many mebibytes are for translated code."""
+    return [
+        "setpriv", "--pdeathsig", "KILL",
+        "qemu-system-x86_64", "-accel", f"tcg,thread=multi,tb-size={translated}", "-machine", "q35", "-cpu", processor,
+        "-smp", str(processors), "-m", str(mebibytes), "-nodefaults", "-no-user-config", "-display", "none",
+        "-no-reboot"]
+
+
 def command(setup, ports, words, blockdev):
-    """QEMU without help of the processor. The guest's reports and requests keep their order (`ioeventfd=off`), its
-    writes aren't merged. A busy host may serve no timer in the time in which the kernel looks for one."""
-    command_line = "console=ttyS0 loglevel=4 panic=-1 quiet mitigations=off tsc=unstable nokaslr no_timer_check"
+    """The words of QEMU. The guest's reports and requests keep their order (`ioeventfd=off`), its writes aren't
+    merged."""
     disk = "virtio-blk-pci,drive=disk,write-cache=on,ioeventfd=off,discard=off,write-zeroes=off,request-merging=off"
     found = [
-        "setpriv", "--pdeathsig", "KILL",
-        "qemu-system-x86_64", "-accel", "tcg,thread=multi,tb-size=128", "-machine", "q35", "-cpu", "max", "-smp", "2",
-        "-m", "448", "-nodefaults", "-no-user-config", "-display", "none", "-no-reboot",
+        *emulator("max", 448, 2, translated=128),
         "-serial", "file:{0}/console",
         "-kernel", setup.kernel,
         "-initrd", setup.initrd,
-        "-append", command_line,
+        "-append", f"{COMMAND_LINE} loglevel=4",
         "-blockdev", blockdev,
         "-device", disk,
         "-device", "virtio-serial-pci,ioeventfd=off,max_ports=8",

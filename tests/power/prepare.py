@@ -38,16 +38,28 @@ SYSTEMS = {
 Setup = collections.namedtuple("Setup", "folder kernel initrd fresh module")  # of one file system
 
 
+def lacking_packages(needed):
+    """The command that installs what is missing of these programs or files, each of which has its package; or None."""
+    packages = [package for word, package in needed.items() if not shutil.which(word, os.F_OK)]
+    if packages:
+        return "apt-get install " + " ".join(dict.fromkeys(packages))
+    return None
+
+
 def lacking(kernel, more=()):
     """What is to be done first. `more` are programs or files that are needed, too, and the packages that have them."""
-    needed = {**PACKAGES, **dict(more)}
-    packages = [package for word, package in needed.items() if not shutil.which(word, os.F_OK)]
-    checks = (
-        (not packages, "apt-get install " + " ".join(dict.fromkeys(packages))),
-        (glob.glob(f"{kernel}/boot/vmlinuz-*"), NO_KERNEL.format(kernel)),
-        (os.access(program.PROGRAM, os.X_OK), f"There is no program at {program.PROGRAM}: ./build makes it."),
-    )
-    return [text for is_there, text in checks if not is_there]
+    found = [lacking_packages({**PACKAGES, **dict(more)})]
+    if not glob.glob(f"{kernel}/boot/vmlinuz-*"):
+        found.append(NO_KERNEL.format(kernel))
+    found.append(lacking_program())
+    return [text for text in found if text]
+
+
+def lacking_program():
+    """What is to be done first, if there is no program to try; or None."""
+    if os.access(program.PROGRAM, os.X_OK):
+        return None
+    return f"There is no program at {program.PROGRAM}: ./build makes it."
 
 
 def modules(folder, names):
