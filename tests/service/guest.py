@@ -1,0 +1,164 @@
+"""A guest with Debian under QEMU, on a disk that ./image has made. Its host, which is here, runs commands in it, talks
+to sockets in it, and cuts its power.
+
+A slow or busy host needs more patience: SLOW=3 in the environment waits three times as long.
+"""
+import contextlib
+import json
+import os
+import socket
+import subprocess
+import sys
+import time
+
+from agent import PORT
+from machine import COMMAND_LINE, Dead, emulator
+
+SLOW = float(os.environ.get("SLOW", "1"))
+PATIENCE = 300 * SLOW  # seconds for a command
+BOOT = 900 * SLOW  # seconds until the guest runs commands
+PROCESSOR = "Nehalem"  # x86-64-v2, which is what the program needs
+ADDRESS = "52:54:00:00:00:01"  # of the network card towards the host: ./image configures it by this address
+PACKAGES = {"qemu-system-x86_64": "qemu-system-x86", "qemu-img": "qemu-utils", "ip": "iproute2"}
+
+
+class Guest:
+    """A guest on the disk of the folder `image`, which stays as it is: what this guest changes is in `folder`. `disks`
+    are the files of further disks, in order, `more` further words of QEMU. A port of the host leads to the agent."""
+
+    def __init__(self, folder, name, image, port, disks=(), more=(), mebibytes=512, processors=2):
+        self.folder = folder
+        self.name = name
+        self.image = image
+        self.port = port
+        self.disks = list(disks)
+        self.more = more
+        self.size = (mebibytes, processors)
+        self.qemu = None
+        self.root = f"{folder}/{name}.qcow2"
+        below = ("-b", f"{image}/root.img", "-F", "raw")
+        subprocess.run(["qemu-img", "create", "-q", "-f", "qcow2", *below, self.root], check=True)
+
+    def at(self, what):
+        """The path of a file of this guest."""
+        return f"{self.folder}/{self.name}.{what}"
+
+    def command(self):
+        """The words of QEMU. The disks are files of a host that goes on, so a cut of the power takes away nothing that
+        they have been given; tests/power has disks that lose what wasn't flushed."""
+        mebibytes, processors = self.size
+        found = [
+            *emulator(PROCESSOR, mebibytes, processors, translated=256),
+            "-serial", f"file:{self.at('console')}",
+            "-kernel", f"{self.image}/kernel",
+            "-initrd", f"{self.image}/initrd",
+            "-append", f"root=/dev/vda rw {COMMAND_LINE} systemd.hostname={self.name}",
+            "-qmp", f"unix:{self.at('qmp')},server=on,wait=off",
+            "-device", "virtio-rng-pci",
+            "-netdev", f"user,id=host,hostfwd=tcp:127.0.0.1:{self.port}-:{PORT}",
+            "-device", f"virtio-net-pci,netdev=host,mac={ADDRESS},romfile=",
+            *self.more]
+        found += self.disk("root", self.root, "format=qcow2,cache=unsafe")
+        for number, path in enumerate(self.disks):
+            found += self.disk(f"disk{number}", path, "format=raw,cache=writeback")
+        return found
+
+    @staticmethod
+    def disk(name, path, options):
+        """The words of QEMU for a disk."""
+        return ["-drive", f"file={path},if=none,id={name},{options}", "-device", f"virtio-blk-pci,drive={name}"]
+
+    # ---- its power
+
+    def boot(self):
+        """Switches it on: how many seconds it takes until it runs commands."""
+        self.start()
+        return self.wait_up()
+
+    def start(self):
+        with open(self.at("qemu"), "ab") as told:
+            self.qemu = subprocess.Popen(self.command(), stdin=subprocess.DEVNULL, stdout=told, stderr=told)
+
+    def wait_up(self):
+        began = time.monotonic()
+        while time.monotonic() < began + BOOT and self.qemu.poll() is None:
+            with contextlib.suppress(OSError, ValueError):
+                self.run("true", patience=10)
+                return time.monotonic() - began
+            time.sleep(0.3)
+        raise Dead(f"{self.name} doesn't boot: {self.console()}")
+
+    def cut(self):
+        """Cuts its power, at once."""
+        if self.qemu:
+            self.qemu.kill()
+            self.qemu.wait()
+            self.qemu = None
+
+    def is_off(self, patience=PATIENCE):
+        """Whether it switches itself off in this time, as it also does where it is to reboot."""
+        with contextlib.suppress(subprocess.TimeoutExpired):
+            self.qemu.wait(patience)
+            self.qemu = None
+        return self.qemu is None
+
+    def console(self):
+        """The last of what its kernel has printed."""
+        with open(self.at("console"), errors="replace") as file:
+            return file.read()[-1000:]
+
+    # ---- its agent
+
+    def begin(self, word, text, patience=PATIENCE):
+        """A connection to the agent that begins so."""
+        one = socket.create_connection(("127.0.0.1", self.port), patience)
+        one.sendall(json.dumps([word, text]).encode() + b"\n")
+        return one
+
+    def run(self, command, patience=PATIENCE):
+        """The status and the output of a command of the shell."""
+        with self.begin("run", command, patience) as one:
+            told = b"".join(iter(lambda: one.recv(1 << 16), b""))
+        status, _, output = told.partition(b"\n")
+        return int(status), output.decode(errors="replace")
+
+    def does(self, command, patience=PATIENCE):
+        """The output of a command that has to succeed."""
+        status, output = self.run(command, patience)
+        if status:
+            raise Dead(f"{self.name}: {command}: {status} {output}")
+        return output
+
+    def put(self, path, data):
+        """Writes a file."""
+        with self.begin("put", path) as one:
+            one.sendall(data)
+            one.shutdown(socket.SHUT_WR)
+            one.recv(1)
+
+    def connect(self, path):
+        """A connection to a socket that has this name in the guest."""
+        return self.begin("connect", path)
+
+    # ---- QEMU itself
+
+    def ask_qemu(self, command, **arguments):
+        """What QEMU answers to a command of its monitor, for instance to `set_link`."""
+        with socket.socket(socket.AF_UNIX) as one, contextlib.closing(one.makefile("rw")) as file:
+            one.connect(self.at("qmp"))
+            file.readline()
+            for asked in ({"execute": "qmp_capabilities"}, {"execute": command, "arguments": arguments}):
+                file.write(json.dumps(asked) + "\n")
+                file.flush()
+                answer = json.loads(file.readline())
+                while "event" in answer:
+                    answer = json.loads(file.readline())
+        return answer
+
+
+def go_alone():
+    """Goes on in a network namespace of its own, which has a loopback and nothing else."""
+    if "ALONE" not in os.environ:
+        words = ["unshare", "--net", sys.executable, *sys.argv]
+        os.execvpe(words[0], words, {**os.environ, "ALONE": "1"})
+    subprocess.run(["ip", "link", "set", "lo", "up"], check=True)
