@@ -1,15 +1,18 @@
 #!/usr/bin/env python3
 """Lets one client after the other talk to one server of `waffd`, which stays.
 
-    front.py SOCKET COMMAND ..      the command starts the server; SOCKET must not be there, and is made with the rights
-                                    that the umask leaves
+    front.py [--idle SECONDS] SOCKET COMMAND ..     the command starts the server; SOCKET must not be there, and is made
+                                                    with the rights that the umask leaves
 
-The next client is let in when each line of the one before has its reply, read or not. A client that keeps one waiting
-for PATIENCE counts as gone. What was sent behind the last newline is dropped. SIGTERM ends the server in order, by
-the end of its input. The status is the server's, or 70.
+The first client is let in once the server has opened the device, which systemd is told then (`Type=notify`). The next
+one is let in when each line of the one before has its reply, read or not. A client that keeps a reply waiting for
+PATIENCE counts as gone. With --idle, one that has all of its replies and sends nothing more is let go after SECONDS to
+twice as many. What was sent behind the last newline is dropped. SIGTERM ends the server in order, by the end of its
+input. The status is the server's, or 70.
 """
 import argparse
 import contextlib
+import os
 import signal
 import socket
 import struct
@@ -29,14 +32,22 @@ class Front:
     There are three threads: `let_in` takes the lines of one client after the other, `hand_back`, the main one, takes
     the replies, and `end` waits for SIGTERM."""
 
-    def __init__(self, listener, server):
+    def __init__(self, listener, server, idle):
         self.listener = listener
         self.server = server
+        self.idle = idle  # seconds for which a client may be silent that has all of its replies; 0 for any number
         self.client = None  # `let_in` alone changes it, while no reply is owed
         self.owed = 0  # lines that were handed on and have no reply yet
         self.change = threading.Condition()  # of `owed`
         self.is_ending = False
         self.writing = threading.Lock()  # held for whole lines, so that the input ends behind one
+
+    def has_opened(self):
+        """Asks the server for a summary and waits for the reply, as the first reply comes once the device is open.
+        Whether it came: the server may have a fault before, or SIGTERM may have ended its input."""
+        with contextlib.suppress(OSError, ValueError), self.writing:
+            self.server.stdin.write(b"summary\n")
+        return self.server.stdout.readline().endswith(b"\n")
 
     def let_in(self):
         """Lets clients in for ever, each once the one before has gone and no reply is owed to it. So each reply
@@ -44,6 +55,7 @@ class Front:
         while True:
             self.client = self.listener.accept()[0]
             self.client.setsockopt(socket.SOL_SOCKET, socket.SO_SNDTIMEO, struct.pack("ll", PATIENCE, 0))
+            self.client.setsockopt(socket.SOL_SOCKET, socket.SO_RCVTIMEO, struct.pack("ll", self.idle, 0))
             with contextlib.suppress(OSError, ValueError):  # it has gone, or the input has ended
                 self.take_lines()
             with self.change:
@@ -51,10 +63,17 @@ class Front:
             self.client.close()
 
     def take_lines(self):
-        """Hands on the whole lines of the client, up to the end of what it sends or to SIGTERM."""
+        """Hands on the whole lines of the client, up to the end of what it sends, to SIGTERM, or until it is silent
+        for `idle` seconds in none of which a reply is owed to it."""
         rest = b""  # behind the last newline
         while not self.is_ending:
-            piece = self.client.recv(SIZE)
+            has_all = self.owed == 0  # only this thread makes it more
+            try:
+                piece = self.client.recv(SIZE)
+            except BlockingIOError:  # nothing came for `idle` seconds
+                if has_all:
+                    return
+                continue
             if not piece:
                 return
             lines, newline, rest = (rest[:LONGEST] + piece).rpartition(b"\n")
@@ -101,21 +120,40 @@ def listen(path):
     return listener
 
 
-def serve(path, command):
+def tell_systemd(text):
+    """Tells systemd something of this unit, if it has started us and wants to know."""
+    path = os.environ.get("NOTIFY_SOCKET")
+    if path:
+        name = path.replace("@", "\0", 1) if path.startswith("@") else path
+        with socket.socket(socket.AF_UNIX, socket.SOCK_DGRAM) as one:
+            one.sendto(text, name)
+
+
+def serve(path, command, idle):
     """Starts the server, and lets clients in until it ends: its status."""
     listener = listen(path)
     server = subprocess.Popen(command, bufsize=0, stdin=subprocess.PIPE, stdout=subprocess.PIPE)
     signal.pthread_sigmask(signal.SIG_BLOCK, {signal.SIGTERM})
-    front = Front(listener, server)
-    for work in (front.let_in, front.end):
-        threading.Thread(target=work, daemon=True).start()
-    front.hand_back()
+    front = Front(listener, server, idle)
+    threading.Thread(target=front.end, daemon=True).start()
+    if front.has_opened():
+        tell_systemd(b"READY=1")
+        threading.Thread(target=front.let_in, daemon=True).start()
+        front.hand_back()
     status = server.wait()
     return status if status >= 0 else 128 - status
 
 
+def seconds(text):
+    """A whole number of seconds."""
+    if not text.isdecimal():
+        raise argparse.ArgumentTypeError(f"{text!r} is no whole number of seconds")
+    return int(text)
+
+
 def arguments(words):
     parser = argparse.ArgumentParser(description=__doc__, formatter_class=argparse.RawDescriptionHelpFormatter)
+    parser.add_argument("--idle", metavar="SECONDS", type=seconds, default=0, help="how long a client may be silent")
     parser.add_argument("socket", metavar="SOCKET", help="where clients connect")
     parser.add_argument("command", metavar="COMMAND", nargs=argparse.REMAINDER, help="what starts the server")
     given = parser.parse_args(words)
@@ -127,7 +165,7 @@ def arguments(words):
 def main(words):
     given = arguments(words)
     try:
-        return serve(given.socket, given.command)
+        return serve(given.socket, given.command, given.idle)
     except (OSError, RuntimeError) as error:
         print(f"front: {given.socket}, {given.command[0]}: {error}", file=sys.stderr)
         return FAILED

@@ -30,6 +30,16 @@ MANY = [f"setlabel 0 0 {number:04x}01\n".encode() + b"read 0 0 0 0\n" * 200 for 
 REPLIES_OF_ONE = 201  # to the lines of one of these
 LAST_LABEL = "ff"
 MANY_CHANGES = ["makevol 0 0", *["setlabel 0 0 61"] * 5000, f"setlabel 0 0 {LAST_LABEL}"]
+# In the place of the server: its first reply comes once there is a file, each other one two seconds after its line.
+SLOW_SERVER = """#!/bin/sh
+read line
+until [ -e open ]; do sleep 0.01; done
+echo "$line"
+while read line; do
+    sleep 2
+    echo "$line"
+done
+"""
 # Runs front.py, which is the first of the words behind, with another patience.
 HURRIED = ("python3", "-c", """
 import os, sys
@@ -71,7 +81,7 @@ class Service(Case):
         """What the commands of a part of the page print, of one block."""
         part = self.page.partition(f"\n## {heading}\n")[2].partition("\n## ")[0]
         blocks = re.findall(r"(?:^    .*\n)+", part, re.M)
-        script = "useradd() { :; }; systemctl() { :; }\n" + blocks[number].replace("\n    ", "\n")
+        script = "useradd() { :; }; systemctl() { :; }; sync() { :; }\n" + blocks[number].replace("\n    ", "\n")
         return subprocess.run(["sh", "-e", "-c", script], cwd=TOP, check=True, stdout=subprocess.PIPE).stdout
 
     def starts(self, *before):
@@ -139,6 +149,51 @@ class Service(Case):
         self.has_stopped(server, 0)
         self.assertIn(b"records 0\n", run(["show", self.device])[1])
         self.assertFalse(os.path.exists(self.at("run/waffd.fault")))
+
+    def starts_slow_server(self, **env):
+        """A front that lets a silent client go after a second, of a server whose device takes some time to open."""
+        self.put_script("slow", SLOW_SERVER)
+        os.makedirs(self.at("run/waffd"))
+        words = [self.at("usr/local/lib/waffd/front.py"), "--idle", "1", self.at("run/waffd/socket"), self.at("slow")]
+        return self.started(words, cwd=self.folder, env={**os.environ, **env})
+
+    def test_ready(self):
+        """systemd is told that the unit has started once the device is open; a client that came before waits"""
+        told = socket.socket(socket.AF_UNIX, socket.SOCK_DGRAM)
+        self.addCleanup(told.close)
+        told.bind(self.at("notify"))
+        self.starts_slow_server(NOTIFY_SOCKET=self.at("notify"))
+        first = self.connects()
+        first.sendall(b"first\n")
+        told.settimeout(0.5)
+        self.assertRaises(TimeoutError, told.recv, 100)
+        put_bytes(self.at("open"), b"")
+        told.settimeout(PATIENCE)
+        self.assertEqual(told.recv(100), b"READY=1")
+        self.asks(first, b"", b"first\n")
+
+    def test_a_stop_in_the_opening(self):
+        """SIGTERM while the device is opened ends the server in order; a server that can't open it ends the front"""
+        server = self.starts_slow_server()
+        self.connects()
+        server.send_signal(signal.SIGTERM)
+        time.sleep(0.1)
+        put_bytes(self.at("open"), b"")
+        self.assertEqual(server.wait(PATIENCE), 0)
+        put_bytes(self.device, b"no device")
+        server = self.starts()
+        self.has_stopped(server, 1, b"waffd: device too short\n")
+
+    def test_idle(self):
+        """a client that has its replies and is silent for the limit is let go, and one that waits for a reply isn't"""
+        put_bytes(self.at("open"), b"")
+        self.starts_slow_server()
+        first = self.connects()
+        second = self.connects()
+        self.asks(first, b"first\n", b"first\n")
+        second.sendall(b"second\n")
+        self.assertEqual(read_until(first, lambda found: False), b"")
+        self.asks(second, b"", b"second\n")
 
     def test_a_kill(self):
         """a client of examples/client goes on where the server is killed and the unit starts it again"""
@@ -227,10 +282,12 @@ class Service(Case):
             self.assertIn(status, final)
 
     def test_backup(self):
-        """the commands of the page back a device up, and restore it for its user alone"""
+        """the commands of the page back a device up, restore it for its user alone, and keep it if repeated"""
         for number, line in enumerate((b"makevol 0 0\n", b"makevol 0 1\n")):
             run(["serve", self.device], line)
             self.does("Back up, restore, upgrade", number)
+        self.does("Back up, restore, upgrade", 2)
+        self.does("Install it")
         self.assertEqual(run(["serve", self.device], b"summary\n")[1], b"summary 1 0 0\n")
         self.assertEqual(os.stat(self.device).st_mode & 0o777, 0o600)
 
