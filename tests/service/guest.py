@@ -95,8 +95,14 @@ class Guest:
             self.qemu.wait()
             self.qemu = None
 
+    def goes_off(self, command):
+        """Whether this command has it switch itself off. It also does where it is to reboot."""
+        with contextlib.suppress(OSError, ValueError):  # the agent may end before it has answered
+            self.run(command)
+        return self.is_off()
+
     def is_off(self, patience=PATIENCE):
-        """Whether it switches itself off in this time, as it also does where it is to reboot."""
+        """Whether it is off, or switches itself off in this time."""
         with contextlib.suppress(subprocess.TimeoutExpired):
             self.qemu.wait(patience)
             self.qemu = None

@@ -7,7 +7,7 @@ import time
 
 from guest import PATIENCE
 from machine import Dead
-from meaning import empty_state, lines_that_read
+from meaning import empty_state, lines_that_read, state_of_replies
 from servers import COMMON, Drawing, state_left, text_of
 
 SOCKET = "/run/waffd/socket"
@@ -54,6 +54,16 @@ class Session:
         self.answered += piece.count(b"\n")
         return piece != b""
 
+    def hears_its_end(self, seconds):
+        """Whether the connection ends in this time, without anything that comes before."""
+        self.socket.settimeout(seconds)
+        try:
+            return self.socket.recv(1) == b""
+        except ConnectionError:
+            return True
+        except OSError:  # the time is over
+            return False
+
     def go_on(self, lines=()):
         """Sends lines, and listens until the connection ends."""
         if self.send(lines):
@@ -98,16 +108,24 @@ class Clients:
         time.sleep(2 * self.chance.random())
         return one
 
-    def judge(self, guests, old, seconds=PATIENCE):
-        """What a next client finds of the one before, in words. It fails where a change is missing that was
-        acknowledged, or where something is there that nobody has made."""
-        old.socket.close()
+    def read_all(self, guests, seconds):
+        """What a next client is told of all that the server holds."""
         one = self.session(guests, seconds)
         skipped = len(one.heard)
         if not one.send(lines_that_read(COMMON), WINDOW_OF_READS):
             raise Dead("no server tells what it holds")
         one.socket.close()
-        told = one.heard[skipped:].decode().splitlines()
+        return one.heard[skipped:].decode().splitlines()
+
+    def look(self, guests, seconds=PATIENCE):
+        """What is found now is what has to be there from now on."""
+        self.state = state_of_replies(COMMON, self.read_all(guests, seconds))
+
+    def judge(self, guests, old, seconds=PATIENCE):
+        """What a next client finds of the one before, in words. It fails where a change is missing that was
+        acknowledged, or where something is there that nobody has made."""
+        old.socket.close()
+        told = self.read_all(guests, seconds)
         self.state = state_left(COMMON, self.state, old.sent, old.heard, told)
         changes = old.heard.count(b"done\n")
         return f"none missing of {changes} changes, {old.answered} of {len(old.sent)} lines answered"
