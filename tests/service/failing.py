@@ -5,6 +5,7 @@ from trial import DEVICE, FAULT, LOCK, PROGRAM_THERE
 
 SECTORS = "$(blockdev --getsz /dev/vdb)"
 FAULT_LINE = "waffd: device fault"
+JOB_FAILED = "Job for waffd.service failed"
 NO_MEMORY = "waffd: out of memory"
 LITTLE_MEMORY = "/usr/bin/prlimit --as=20480000 "  # too little for the threads' stacks
 ERROR_OF_DISK = "dm-|vdb|EXT4|JBD2|I/O"
@@ -86,7 +87,8 @@ def statuses(trial):
     one.socket.close()
     guest.does("systemctl stop waffd")
     with trial.away(PROGRAM_THERE):
-        trial.equals("where there is no program a start fails", trial.starts()[0], 1)
+        status, told = trial.starts()
+        trial.check("where there is no program a start fails", status == 1 and JOB_FAILED in told, (status, told))
         trial.is_down_with("it is down with 69", "69")
         guest.does(f"install -m 755 /dev/null {PROGRAM_THERE}")
         trial.equals("nor does one succeed where the program is empty", trial.starts()[0], 1)

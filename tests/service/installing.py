@@ -8,7 +8,7 @@ from sessions import SOCKET
 from trial import BACK_UP, DEVICE, FAULT, INSTALL, LOCK, PROGRAM_THERE, TALK, UNIT
 
 FORMATTED = "formatted 1332608"
-SOON = 15  # seconds from the page's commands to the cut of the power: the kernel writes files back after 30
+SOON = 15  # seconds from the page's commands to a cut of the power: the kernel writes files back after 30
 MOST_EXPOSURE = 3.0
 BARE = (r"NoNewPrivs:\s1$", r"CapBnd:\s0+$", r"CapEff:\s0+$", r"Seccomp:\s2$")  # of /proc/PID/status
 RIGHTS = f"700 waffd {SOCKET}\n700 waffd /srv/waffd\n600 waffd {LOCK}\n"
@@ -118,26 +118,31 @@ def again(trial):
     trial.judge("installed again where it was stopped", one)
 
 
-def early(trial):
-    """The power is cut soon after an installation: all files are there, and whole."""
+def removed(trial):
+    """A client's session, after which all but the data is gone, as before an installation."""
     one = trial.through()
     one.socket.close()
-    trial.guest.does("rm -r /usr/local/lib/waffd /usr/local/bin/waffd; systemctl disable --now waffd; sync")
-    end = trial.page_does(INSTALL)
-    trial.check("installed anew", end[0] == 0 and "formatted" not in end[1], end)
-    trial.cut_and_boot(SOON)
-    trial.equals("after a cut soon after the installation all files are whole", trial.differing_files(), "")
-    trial.runs("the unit is enabled, and runs")
-    trial.judge("a cut soon after the installation", one)
+    trial.guest.does("systemctl disable --now waffd; rm -r /usr/local/lib/waffd /usr/local/bin/waffd; sync")
+    return one
+
+
+def early(trial):
+    """The power is cut soon after an installation: all files are there, and whole."""
+    for seconds in (0, SOON):
+        one = removed(trial)
+        end = trial.page_does(INSTALL)
+        trial.check("installed anew", end[0] == 0 and "formatted" not in end[1], end)
+        trial.cut_and_boot(seconds)
+        trial.equals(f"after a cut {seconds} s after the installation all files are whole", trial.differing_files(), "")
+        trial.runs("the unit is enabled, and runs")
+        trial.judge(f"a cut {seconds} s after the installation", one)
 
 
 def unsynced(trial):
-    """The same without the page's `sync`: so the trial would notice if it were needed in vain."""
-    one = trial.through()
-    one.socket.close()
-    trial.guest.does("rm -r /usr/local/lib/waffd /usr/local/bin/waffd; systemctl disable --now waffd; sync")
+    """The same without the page's `sync`. If this made no difference the trial would notice nothing."""
+    one = removed(trial)
     trial.commands(trial.block(INSTALL).replace("\nsync\n", "\n"))
-    trial.cut_and_boot(SOON)
+    trial.cut_and_boot()
     found = trial.differing_files()
     trial.check("without the page's sync a cut leaves files that aren't whole", found != "")
     trial.tell(found)
@@ -162,10 +167,10 @@ def upgrade(trial):
     one.socket.close()
     trial.guest.does("sync")
     trial.equals("upgraded once more", trial.page_does(BACK_UP, 2), (0, ""))
-    trial.cut_and_boot(SOON)
-    trial.equals("after a cut soon after an upgrade all files are whole", trial.differing_files(), "")
+    trial.cut_and_boot()
+    trial.equals("after a cut right behind an upgrade all files are whole", trial.differing_files(), "")
     trial.runs("the unit runs")
-    trial.judge("a cut soon after an upgrade", one)
+    trial.judge("a cut right behind an upgrade", one)
 
 
 def backup(trial):
