@@ -19,6 +19,7 @@ import struct
 import subprocess
 import sys
 import threading
+import time
 
 PATIENCE = 60  # seconds: systemd kills after 90
 SIZE = 1 << 16  # of what is read at once
@@ -53,7 +54,7 @@ class Front:
         """Lets clients in for ever, each once the one before has gone and no reply is owed to it. So each reply
         belongs to the client that is in."""
         while True:
-            self.client = self.listener.accept()[0]
+            self.client = self.next_client()
             self.client.setsockopt(socket.SOL_SOCKET, socket.SO_SNDTIMEO, struct.pack("ll", PATIENCE, 0))
             self.client.setsockopt(socket.SOL_SOCKET, socket.SO_RCVTIMEO, struct.pack("ll", self.idle, 0))
             with contextlib.suppress(OSError, ValueError):  # it has gone, or the input has ended
@@ -61,6 +62,13 @@ class Front:
             with self.change:
                 self.change.wait_for(lambda: self.owed == 0)
             self.client.close()
+
+    def next_client(self):
+        """The next client, once there is one that can be let in."""
+        while True:
+            with contextlib.suppress(OSError):  # it has gone already, or there are too many open files
+                return self.listener.accept()[0]
+            time.sleep(1)
 
     def take_lines(self):
         """Hands on the whole lines of the client, up to the end of what it sends, to SIGTERM, or until it is silent
