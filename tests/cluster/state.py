@@ -1,0 +1,77 @@
+"""What the two machines show of themselves."""
+import contextlib
+import re
+import time
+
+from guest import SLOW
+from machine import Dead
+from sessions import SOCKET
+
+PATIENCE = 1200 * SLOW  # seconds until the machines have done what they have to
+LOOK = 20 * SLOW  # seconds for a look at a machine, which may be busy or not up yet
+PAUSE = 4  # seconds between two looks
+IN_SYNC = re.compile(r"cs:Connected .* ds:UpToDate/UpToDate")
+STARTED = ("fence-alpha", "fence-beta", "fs", "waffd")
+SHOWN = ("Online: [ alpha beta ]", "Promoted: [", "Unpromoted: [")
+CONSTRAINT = "drbd-fence-by-handler"  # its name begins so
+
+
+class View:
+    """Of the machines of a cluster. `tell` is called with what has come about, and how long that took."""
+
+    def __init__(self, cluster, tell):
+        self.cluster = cluster
+        self.tell = tell
+
+    def looks(self, name, command):
+        """What a command prints on this machine; nothing where it is off, or doesn't answer."""
+        with contextlib.suppress(OSError, ValueError, Dead):
+            one = self.cluster.machines[name]
+            if one.is_on():
+                return one.run(command, LOOK)[1]
+        return ""
+
+    def drbd(self, name):
+        return self.looks(name, "cat /proc/drbd")
+
+    def crm(self, name):
+        return self.looks(name, "crm_mon -1")
+
+    def is_primary(self, name):
+        return "ro:Primary/" in self.drbd(name)
+
+    def serves(self, name):
+        """Whether the service's socket is there. This is asked rarely, as each question takes the time of a guest."""
+        return self.looks(name, f"test -S {SOCKET} && echo yes") == "yes\n"
+
+    def primary(self):
+        """The name of the machine that is primary."""
+        for name in self.cluster.machines:
+            if self.is_primary(name):
+                return name
+        raise Dead("none is primary")
+
+    def are_online(self):
+        return "Online: [ alpha beta ]" in self.crm("alpha")
+
+    def is_whole(self):
+        """Whether both are in sync, no constraint of a handler is left, and the service runs."""
+        if not all(IN_SYNC.search(self.drbd(name)) for name in self.cluster.machines):
+            return False
+        shown = self.looks("alpha", "crm_mon -1 && cibadmin -Q -o constraints")
+        is_started = all(re.search(rf"{name}\s+\(.*\):\s+Started", shown) for name in STARTED)
+        return is_started and all(text in shown for text in SHOWN) and CONSTRAINT not in shown
+
+    def waits_for(self, what, is_so, seconds=PATIENCE):
+        """Whether it came about in this time."""
+        began = time.monotonic()
+        while time.monotonic() < began + seconds:
+            if is_so():
+                if time.monotonic() - began > PAUSE:
+                    self.tell(f"{what}: after {time.monotonic() - began:.0f} s")
+                return True
+            time.sleep(PAUSE)
+        self.tell(f"NOT {what}, in {seconds:.0f} s")
+        for name in self.cluster.machines:
+            self.tell(f"{name}: " + self.looks(name, "cat /proc/drbd; crm_mon -1 -r; journalctl -n 30 -p 5 --no-pager"))
+        return False
