@@ -1,0 +1,125 @@
+"""What is configured wrong in the cluster, each with the failure by which it has to be found. The same failures with
+the right configuration are in every chain."""
+import collections
+import contextlib
+import time
+
+from failovers import SOME_SECONDS, Chain, Violation
+from link import OTHER, Cut
+from machine import Dead
+from state import SLOW
+
+# What is made wrong by commands on both machines, or on the one that serves; by which failure it is found.
+Case = collections.namedtuple("Case", "name failure everywhere once lies", defaults=("", "", False))
+
+STANDALONE_SECONDS = 240 * SLOW  # that both machines have for finding each other again
+HANDLER = "sed -i 's/crm-fence-peer.sh [^\"]*/crm-fence-peer.sh {0}/' /etc/drbd.conf"
+
+
+def go_on_alone(chain, name):
+    """The other machine is promoted, too, and what its client finds is judged by what the first one answers."""
+    client = chain.steady(name)
+    time.sleep(SOME_SECONDS)
+    chain.cluster.cut_link(Cut.FRAMES)
+    took_over = chain.view.waits_for(f"{OTHER[name]} is primary", lambda: chain.view.is_primary(OTHER[name]))
+    if not took_over:
+        raise Dead(chain.view.drbd(OTHER[name]))
+    since = time.monotonic()
+    if not chain.view.waits_for("the first one answers, too", lambda: client.moments[-1] > since + SOME_SECONDS):
+        raise Dead(chain.view.drbd(name))
+    client.end(SOME_SECONDS)
+    chain.judge(f"both are primary: {OTHER[name]}", client, OTHER[name])
+
+
+def two_primaries(chain):
+    """The link is cut, and no machine is off."""
+    go_on_alone(chain, chain.view.primary())
+
+
+def old_disk(chain):
+    """DRBD's part of the link is cut, the primary goes on alone and is lost, and the other takes over."""
+    name, other = chain.roles()
+    client = chain.steady(name)
+    time.sleep(SOME_SECONDS)
+    chain.lose_drbd(client, name)
+    began = time.monotonic()
+    chain.cut(name)
+    chain.cluster.broken = {name}
+    chain.goes_on("an old disk", client, began, other)
+
+
+def unconfirmed(chain):
+    """The link is cut, no fence device answers, and the primary goes on all the same; then it is fenced."""
+    name, other = chain.roles()
+    client = chain.steady(name)
+    time.sleep(SOME_SECONDS)
+    chain.silence_and_cut(name)
+    chain.tell(f"no reply for {client.waits_since():.0f} s, longest wait {client.longest_wait():.0f} s")
+    began = time.monotonic()
+    chain.cluster.broken = {name}
+    chain.cluster.bmcs[name].speak()
+    chain.wait_for_fencing(name)
+    chain.goes_on("slow fencing", client, began, other)
+
+
+def unconfirmed_without_coordinator(chain):
+    """The same, where Pacemaker's coordinator is on the other machine, so that a new one has to be elected first."""
+    name, _ = chain.roles()
+    if f"Current DC: {name}" in chain.view.crm(name):
+        chain.fail(Chain.switch_over)
+    unconfirmed(chain)
+
+
+def former_secondary(chain):
+    """Both lose power, and the former secondary alone comes back."""
+    name, other = chain.roles()
+    chain.busy()
+    chain.cut(name, other)
+    chain.watch_alone(other)
+
+
+def lost_address(chain):
+    """The cable is out for a while. Behind it DRBD has to find the other machine again."""
+    name, other = chain.roles()
+    client = chain.steady(name)
+    time.sleep(SOME_SECONDS)
+    chain.cluster.cut_link(Cut.CARRIER)
+    chain.wait_for_fencing(other)
+    chain.watch_the_wait("link cut", client, name)
+    chain.cluster.mend_link()
+    with contextlib.suppress(Dead):
+        chain.machines[other].wait_up()
+    if not chain.view.waits_for("in sync", chain.view.is_whole, STANDALONE_SECONDS):
+        raise Violation(f"they don't come in sync: {chain.view.drbd(name)}")
+
+
+CASES = (
+    Case("STONITH off", two_primaries, once="pcs property set stonith-enabled=false"),
+    Case("a fence device that lies", two_primaries, lies=True),
+    Case("DRBD without fencing", old_disk,
+         everywhere="sed -i 's/resource-and-stonith/dont-care/' /etc/drbd.conf; drbdadm adjust r0"),
+    Case("the handler's own timeout", unconfirmed, everywhere=HANDLER.format("--dc-timeout 86400")),
+    Case("the handler's own dc-timeout", unconfirmed_without_coordinator, everywhere=HANDLER.format("--timeout 86400")),
+    Case("no-quorum-policy=ignore", former_secondary, once="pcs property set no-quorum-policy=ignore"),
+    Case("wait_for_all: 0", former_secondary,
+         everywhere="sed -i 's/two_node: 1/&\\n    wait_for_all: 0/' /etc/corosync/corosync.conf"),
+    Case("an address that goes with the carrier", lost_address,
+         everywhere="sed -i /Carrier/d /etc/systemd/network/link.network; networkctl reload"),
+)
+
+
+def try_case(chain, case):
+    """Whether it is found."""
+    chain.begin()
+    chain.cluster.lies = case.lies
+    if case.everywhere:
+        for one in chain.machines.values():
+            one.does(f"{case.everywhere}; sync")
+    if case.once:
+        chain.machines["alpha"].does(case.once)
+    try:
+        case.failure(chain)
+    except Violation as problem:
+        chain.tell(f"found: {problem}")
+        return True
+    return False
