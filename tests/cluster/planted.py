@@ -17,18 +17,18 @@ HANDLER = "sed -i 's/crm-fence-peer.sh [^\"]*/crm-fence-peer.sh {0}/' /etc/drbd.
 
 
 def go_on_alone(chain, name):
-    """The other machine is promoted, too, and what its client finds is judged by what the first one answers."""
+    """The other machine serves, too, and what its client finds is judged by what the first one answers."""
+    other = OTHER[name]
     client = chain.steady(name)
     time.sleep(SOME_SECONDS)
     chain.cluster.cut_link(Cut.FRAMES)
-    took_over = chain.view.waits_for(f"{OTHER[name]} is primary", lambda: chain.view.is_primary(OTHER[name]))
-    if not took_over:
-        raise Dead(chain.view.drbd(OTHER[name]))
+    if not chain.view.waits_for(f"{other} serves", lambda: chain.view.serves(other)):
+        raise Dead(chain.view.drbd(other))
     since = time.monotonic()
     if not chain.view.waits_for("the first one answers, too", lambda: client.moments[-1] > since + SOME_SECONDS):
         raise Dead(chain.view.drbd(name))
     client.end(SOME_SECONDS)
-    chain.judge(f"both are primary: {OTHER[name]}", client, OTHER[name])
+    chain.judge(f"both serve: {other}", client, other)
 
 
 def two_primaries(chain):
