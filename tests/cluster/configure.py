@@ -18,7 +18,7 @@ TAKEN = {
     "examples/service/waffd.service": f"{TOP}/examples/service/waffd.service",
     "examples/client/client.py": f"{TOP}/examples/client/client.py",
 }
-LINK_FILE = "/etc/systemd/network/link.network"
+LINK_FILE = "/etc/systemd/network/05-link.network"
 # The way to the fence devices, which are at the host. And a guest's card has the name that its bus gives it.
 HOST_FILE = "/etc/systemd/network/host.network"
 WAY_TO_THE_HOST = "\n[Route]\nDestination=192.0.2.0/24\nGateway=10.0.2.2\n"
@@ -70,12 +70,12 @@ class Setup:
         network = self.page.file(LINK_FILE).decode().replace("10.0.0.1", f"10.0.0.{NUMBERS[name]}")
         card = one.does("basename $(dirname $(grep -l 52:54:00:00:01 /sys/class/net/*/address))").strip()
         one.put(LINK_FILE, re.sub("Name=.*", f"Name={card}", network).encode())
-        first = self.page.block("remove what they have written:\n")
+        first = self.page.block("remove what they have written:")
         commands = [line for line in first.splitlines() if not line.startswith("apt-get ")]
         one.does("\n".join(["set -e", *commands, "networkctl reload"]))
         for path in ("/etc/corosync/corosync.conf", "/etc/drbd.conf"):
             one.put(path, self.page.file(path))
-        self.tell(one.does("cd taken && set -e\n" + self.page.block("has to be the same on both:\n")))
+        self.tell(one.does("cd taken && set -e\n" + self.page.block("it is the same on both:")))
 
     def make_device(self, one):
         def are_connected():
@@ -84,15 +84,15 @@ class Setup:
 
         if not self.view.waits_for("DRBD is connected", are_connected):
             raise Dead(one.does("cat /proc/drbd; ip address"))
-        self.tell(one.does("set -e\n" + self.page.block("Then, on `alpha`:\n")))
+        self.tell(one.does("set -e\n" + self.page.block("Then, on `alpha`:")))
 
     def start(self, name, one):
-        self.tell(f"{name}: " + one.does(self.page.block("let Pacemaker have the disk:\n")))
+        self.tell(f"{name}: " + one.does(self.page.block("let Pacemaker have the disk:")))
 
     def push(self, one):
         """The resources."""
         began = time.monotonic()
-        self.tell(one.does("set -ex\n" + self.page.block("on one of them:\n"), PATIENCE))
+        self.tell(one.does("set -ex\n" + self.page.block("configure it, on one of them:"), PATIENCE))
         self.tell(f"pcs took {time.monotonic() - began:.0f} s")
         if not self.view.waits_for("both are in sync, and one serves", self.view.is_whole):
             raise Dead("the service doesn't start")

@@ -34,8 +34,9 @@ class Page:
         self.text = bytes_of(os.path.join(TOP, "docs", "failover.md")).decode()
 
     def blocks(self, after, count):
-        """So many blocks behind these words."""
-        found = BLOCK.findall(self.text.partition(after)[2])[:count]
+        """So many blocks behind these words, which may be on two lines."""
+        words = re.search(r"\s+".join(map(re.escape, after.split())), self.text)
+        found = BLOCK.findall(self.text[words.end():])[:count] if words else []
         if len(found) < count:
             raise ValueError(f"docs/failover.md has no such block behind {after!r}")
         return [emulated(re.sub("^    ", "", block, flags=re.M).strip("\n") + "\n") for block in found]
@@ -53,4 +54,4 @@ class Page:
 
     def file(self, path):
         """The file that the page has for this path: the block behind its name and a colon."""
-        return self.block(f"`{path}`:\n").encode()
+        return self.block(f"`{path}`:").encode()

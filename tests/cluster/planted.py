@@ -104,7 +104,7 @@ CASES = (
     Case("wait_for_all: 0", former_secondary,
          everywhere="sed -i 's/two_node: 1/&\\n    wait_for_all: 0/' /etc/corosync/corosync.conf"),
     Case("an address that goes with the carrier", lost_address,
-         everywhere="sed -i /Carrier/d /etc/systemd/network/link.network; networkctl reload"),
+         everywhere="sed -i /Carrier/d /etc/systemd/network/*link.network; networkctl reload"),
 )
 
 
