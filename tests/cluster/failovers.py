@@ -130,6 +130,7 @@ class Chain:
         began = time.monotonic()
         self.cut(name)
         self.goes_on("primary lost", client, began, other)
+        self.tell(self.view.steps(other))
 
     def lose_secondary(self):
         """The primary waits until the other's power was cut by the fence device, and goes on."""

@@ -14,6 +14,17 @@ IN_SYNC = re.compile(r"cs:Connected .* ds:UpToDate/UpToDate")
 STARTED = ("fence-alpha", "fence-beta", "fs", "waffd")
 SHOWN = ("Online: [ alpha beta ]", "Promoted: [", "Unpromoted: [")
 CONSTRAINT = "drbd-fence-by-handler"  # its name begins so
+# What the journal has at each step of a takeover, as seen from the machine that takes over.
+STEPS = {
+    "DRBD misses the other one": r"peer\( \w+ -> Unknown \)",
+    "so does Corosync": "A new membership",
+    "fencing is asked for": "Requesting fencing",
+    "the other one is fenced": "Operation 'reboot' targeting",
+    "the disk is primary": r"role\( Secondary -> Primary \)",
+    "it is mounted": "mounted filesystem",
+    "waffd has started": "Result of start operation for waffd",
+}
+JOURNAL = "journalctl --boot --lines 3000 --output short-monotonic --no-pager --quiet"
 
 
 class View:
@@ -23,12 +34,12 @@ class View:
         self.cluster = cluster
         self.tell = tell
 
-    def looks(self, name, command):
+    def looks(self, name, command, seconds=LOOK):
         """What a command prints on this machine; nothing where it is off, or doesn't answer."""
         with contextlib.suppress(OSError, ValueError, Dead):
             one = self.cluster.machines[name]
             if one.is_on():
-                return one.run(command, LOOK)[1]
+                return one.run(command, seconds)[1]
         return ""
 
     def drbd(self, name):
@@ -61,6 +72,17 @@ class View:
         shown = self.looks("alpha", "crm_mon -1 && cibadmin -Q -o constraints")
         is_started = all(re.search(rf"{name}\s+\(.*\):\s+Started", shown) for name in STARTED)
         return is_started and all(text in shown for text in SHOWN) and CONSTRAINT not in shown
+
+    def steps(self, name):
+        """The last time of each step of a takeover by this machine, in seconds behind the first step."""
+        journal = self.looks(name, JOURNAL, 4 * LOOK)
+        times = {}
+        for step, words in STEPS.items():
+            found = re.findall(rf"^\[ *([\d.]+)\].*{words}", journal, re.M)
+            if found:
+                times[step] = float(found[-1])
+        first = min(times.values(), default=0)
+        return ", ".join(f"{step} {moment - first:.0f} s" for step, moment in times.items())
 
     def waits_for(self, what, is_so, seconds=PATIENCE):
         """Whether it came about in this time."""
