@@ -224,22 +224,50 @@ class Chain:
         self.goes_on("planned switch", client, began, other)
         self.machines[name].does(f"pcs node unstandby {name}")
 
+    def stop_and_start(self):
+        """The service alone, as the page says. Its disk stays mounted meanwhile."""
+        name, _ = self.roles()
+        client = self.steady(name)
+        time.sleep(SOME_SECONDS)
+        began = time.monotonic()
+        self.machines[name].does("pcs resource disable waffd")
+        if not self.view.waits_for(f"{name} doesn't serve", lambda: self.view.is_stopped(name)):
+            raise Dead(self.view.crm(name))
+        shown = self.machines[name].does("/usr/local/bin/waffd show /srv/waffd/device")
+        self.check("it has ended in order: no record is left", "records 0\n" in shown, shown)
+        self.machines[name].does("pcs resource enable waffd")
+        self.goes_on("stopped and started", client, began, name)
+
+    def stop_all(self):
+        """Both machines are switched off in order, the one that serves last, and on again."""
+        name, other = self.roles()
+        client = self.steady(name)
+        time.sleep(SOME_SECONDS)
+        for one in (other, name):
+            self.check(f"{one} is off", self.machines[one].goes_off("systemctl poweroff"))
+        self.switch_on(other)
+        self.come_back("both switched off and on", client, name)
+
     def lose_both(self):
         """The former secondary comes back first. It must neither serve nor have the other fenced, until that has come
         back, too."""
         name, other = self.roles()
         client = self.busy()
         self.cut(name, other)
-        client.thread.join(END_SECONDS)
         self.watch_alone(other)
+        self.come_back("both lost", client, name)
+
+    def come_back(self, what, client, name):
+        """This machine has power again, as the other one has already, and one of them serves."""
+        client.thread.join(END_SECONDS)
         began = time.monotonic()
         self.switch_on(name)
         self.wait_up(name)
         if not self.view.waits_for("one serves", lambda: any(map(self.view.serves, self.machines))):
-            raise Dead("both lost: none serves")
+            raise Dead(f"{what}: none serves")
         seconds = time.monotonic() - began
-        self.judge(f"both lost, {seconds:.0f} s after the second has power", client, self.view.primary())
-        self.counts_as("both lost", seconds)
+        self.judge(f"{what}, {seconds:.0f} s after the second has power", client, self.view.primary())
+        self.counts_as(what, seconds)
 
     def watch_alone(self, name):
         """This machine boots, and must do nothing while it is alone."""
@@ -314,8 +342,8 @@ class Chain:
         self.wait_until_whole(name)
 
     FAILURES = (
-        lose_primary, lose_secondary, lose_link, lose_replication, kill_server, fail_device, switch_over, lose_both,
-        go_on_by_hand, slow_fencing)
+        lose_primary, lose_secondary, lose_link, lose_replication, kill_server, fail_device, switch_over,
+        stop_and_start, stop_all, lose_both, go_on_by_hand, slow_fencing)
 
     def drawn(self, count):
         """So many failures, each kind before any comes twice."""

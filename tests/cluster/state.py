@@ -55,6 +55,9 @@ class View:
         """Whether the service's socket is there. This is asked rarely, as each question takes the time of a guest."""
         return self.looks(name, f"test -S {SOCKET} && echo yes") == "yes\n"
 
+    def is_stopped(self, name):
+        return self.looks(name, "systemctl is-active waffd") == "inactive\n"
+
     def primary(self):
         """The name of the machine that is primary."""
         for name in self.cluster.machines:
