@@ -137,11 +137,17 @@ def tell_systemd(text):
             one.sendto(text, name)
 
 
+def let_sigterm_in():
+    """In the server's process: SIGTERM ends it, as it ends any program."""
+    signal.pthread_sigmask(signal.SIG_UNBLOCK, {signal.SIGTERM})
+
+
 def serve(path, command, idle):
     """Starts the server, and lets clients in until it ends: its status."""
     listener = listen(path)
-    server = subprocess.Popen(command, bufsize=0, stdin=subprocess.PIPE, stdout=subprocess.PIPE)
-    signal.pthread_sigmask(signal.SIG_BLOCK, {signal.SIGTERM})
+    signal.pthread_sigmask(signal.SIG_BLOCK, {signal.SIGTERM})  # `end` waits for it
+    pipes = {"stdin": subprocess.PIPE, "stdout": subprocess.PIPE}
+    server = subprocess.Popen(command, bufsize=0, preexec_fn=let_sigterm_in, **pipes)
     front = Front(listener, server, idle)
     threading.Thread(target=front.end, daemon=True).start()
     if front.has_opened():

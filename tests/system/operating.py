@@ -33,6 +33,7 @@ MANY_CHANGES = ["makevol 0 0", *["setlabel 0 0 61"] * 5000, f"setlabel 0 0 {LAST
 # In the place of the server: its first reply comes once there is a file, each other one two seconds after its line.
 SLOW_SERVER = """#!/bin/sh
 read line
+: >started
 until [ -e open ]; do sleep 0.01; done
 echo "$line"
 while read line; do
@@ -175,11 +176,12 @@ class Service(Case):
     def test_a_stop_in_the_opening(self):
         """SIGTERM while the device is opened ends the server in order; a server that can't open it ends the front"""
         server = self.starts_slow_server()
-        self.connects()
+        while not os.path.exists(self.at("started")):
+            time.sleep(0.01)
         server.send_signal(signal.SIGTERM)
         time.sleep(0.1)
         put_bytes(self.at("open"), b"")
-        self.assertEqual(server.wait(PATIENCE), 0)
+        self.assertEqual(server.wait(LONGEST_RUN), 0)
         put_bytes(self.device, b"no device")
         server = self.starts()
         self.has_stopped(server, 1, b"waffd: device too short\n")
