@@ -266,7 +266,7 @@ class Service(Case):
         client.sendall(b"".join(lines))
         client.recv(1, socket.MSG_PEEK)  # the first lines have been read
         server.send_signal(signal.SIGTERM)
-        replies = read_until(client, slow_down, size)
+        replies = read_until(client, slow_down, size, LONGEST_RUN)
         self.has_stopped(server, 0)
         return replies
 
