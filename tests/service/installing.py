@@ -138,24 +138,8 @@ def early(trial):
         trial.judge(f"a cut {seconds} s after the installation", one)
 
 
-def unsynced(trial):
-    """The same without the page's `sync`. If this made no difference the trial would notice nothing."""
-    one = removed(trial)
-    trial.commands(trial.block(INSTALL).replace("\nsync\n", "\n"))
-    trial.cut_and_boot()
-    found = trial.differing_files()
-    trial.check("without the page's sync a cut leaves files that aren't whole", found != "")
-    trial.tell(found)
-    trial.tell(trial.guest.run("systemctl is-active waffd; systemctl is-enabled waffd")[1])
-    end = trial.page_does(INSTALL)
-    trial.equals("the page's commands mend that", trial.differing_files(), "")
-    trial.check("and format nothing", "formatted" not in end[1], end)
-    trial.runs("the unit runs again")
-    trial.judge("installed without the sync", one)
-
-
 def upgrade(trial):
-    """The page's one command, with the power cut soon after it."""
+    """The page's one command, with the power cut right behind it."""
     trial.guest.put("/root/repository/crates/waffd/out/waffd", bytes_of(PROGRAM) + b"a later version")
     one = trial.busy()
     trial.equals("the page's command upgrades it, and prints nothing", trial.page_does(BACK_UP, 2), (0, ""))
