@@ -19,8 +19,8 @@ use Rattle.meaning.specs.Output.{WritesOutput, serial_output}
 use Rattle.meaning.specs.State.{State}
 use Rattle.scheduler.proofs.Refusals.{recovers_or_refused}
 use Rattle.scheduler.specs.Opening.{IsShownByBytes}
-use Rattle.serving.proofs.Recovering.{none_written, bytes_recover}
-use Rattle.serving.proofs.Holding.{recovers_killed}
+use Rattle.serving.proofs.RecoversWritten.{none_written, bytes_recover}
+use Rattle.serving.proofs.MaySend.{recovers_killed}
 use Rattle.serving.specs.Restart.{RecoversTo, BytesRecover, RecoversWritten}
 use Rattle.serving.specs.declared.server.ServeFault.{ServeFault}
 use Rattle.commands.proofs.Kept.{all_then, keeps_acknowledged}

@@ -40,16 +40,16 @@ use Rattle.serving.specs.Output.{MaySend, Start, start_machine}
 use Rattle.serving.specs.declared.session.ReadEnd.{ReadEnd}
 use Rattle.serving.specs.declared.session.ReadEnd.TheVariants as ends_of_reading
 use Rattle.workers.specs.Seats.{DispatchSeatView}
-use Rattle.serving.proofs.Advancing.{Sends, sends_on, texts_both}
-use Rattle.serving.proofs.Following.{next_follows}
-use Rattle.serving.proofs.Inside.{idle_again}
-use Rattle.serving.proofs.Served.{has_served}
+use Rattle.serving.proofs.SentLines.{Sends, sends_on, texts_both}
+use Rattle.serving.proofs.TicketOrder.{next_follows}
+use Rattle.serving.proofs.Outstanding.{idle_again}
+use Rattle.serving.proofs.AreServed.{has_served}
 use Rattle.serving.proofs.Slots.{finds_a_slot}
-use Rattle.serving.proofs.Keeping.{safe_since}
+use Rattle.serving.proofs.KeepsSent.{safe_since}
 use Rattle.serving.proofs.Newlines.{in_answers}
 use Rattle.serving.proofs.Segments.{still_failed}
-use Rattle.serving.proofs.Since.{answered_since, breaks_since, line_since, long_line_since, quiet_since, sends_since}
-use Rattle.serving.proofs.Torn.{all_appended, written_begins}
+use Rattle.serving.proofs.ServingSince.{answered_since, breaks_since, line_since, long_line_since, quiet_since, sends_since}
+use Rattle.serving.proofs.TornSend.{all_appended, written_begins}
 use Rattle.serving.proofs.Tickets.{passes_next}
 
 -- ---- lines that are sent, completed or retired

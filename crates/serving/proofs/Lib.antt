@@ -1,38 +1,38 @@
 -- ---- for the crates above: what was sent, what a device holds of it, and what a restart goes on from
 pub mod Logged
-pub mod Holding
-pub mod Recovering
+pub mod MaySend
+pub mod RecoversWritten
 -- ---- this crate's own
 mod Chain
 mod Tickets
 mod Segments
-mod Returning
-mod Sending
-mod Answering
-mod Starting
-mod Arriving
-mod Pointing
+mod Collected
+mod DispatchesTo
+mod AnsweredLine
+mod Start
+mod TakesLine
+mod CheckpointSteps
 mod Places
-mod Taken
-mod Following
+mod TakesLines
+mod TicketOrder
 mod Serial
-mod Counting
-mod Inside
+mod MessageCounts
+mod Outstanding
 mod Slots
-mod Served
-mod Advancing
-mod Stopping
-mod Unanswered
-mod Torn
-mod Keeping
-mod Since
+mod AreServed
+mod SentLines
+mod IsReadEnd
+mod NoneUnanswered
+mod TornSend
+mod KeepsSent
+mod ServingSince
 mod Invariant
-mod Going
-mod Resting
-mod Promises
-mod Closing
+mod StepsAhead
+mod IsAtRest
+mod ServePromise
+mod SessionEnds
 mod Newlines
-mod Silence
+mod NoEarlyReply
 mod SortedLogs
 mod Examples
 mod Restarts

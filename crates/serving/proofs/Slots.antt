@@ -13,8 +13,8 @@ use Rattle.incarnations.specs.DeviceEvents.{events_of}
 use Rattle.language.specs.declared.Msg.{Msg}
 use Rattle.language.specs.declared.Reply.{Reply}
 use Rattle.scheduler.specs.CoreView.{core_state_of}
-use Rattle.serving.proofs.Inside.{few_inside}
-use Rattle.serving.proofs.Stopping.{shows}
+use Rattle.serving.proofs.Outstanding.{few_inside}
+use Rattle.serving.proofs.IsReadEnd.{shows}
 use Rattle.serving.specs.Progress.{ServingProgress}
 use Rattle.serving.specs.Lines.{Line}
 use Rattle.serving.specs.Runs.{RunsBetween}

@@ -3,7 +3,7 @@ use Rattle.std.proofs.Common.{◌≡◌, Err, Ok, Some, subst, sym, ◌∙◌}
 use Rattle.std.specs.Prelude.{slice_set}
 use Rattle.std.proofs.lemmas.Option.{MatchOption-at_none}
 use Rattle.scheduler.specs.Calls.{IsGranted}
-use Rattle.serving.proofs.Sending.{nothing_there}
+use Rattle.serving.proofs.DispatchesTo.{nothing_there}
 use Rattle.workers.specs.Rule.{lent_at}
 use Rattle.serving.proofs.dispatch.offer_granted.Goals as goal
 

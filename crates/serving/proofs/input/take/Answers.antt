@@ -8,7 +8,7 @@ use Rattle.language.specs.Grammar.{message_of}
 use Rattle.scheduler.specs.Calls.{ArrivesByLine}
 use Rattle.serving.specs.Lines.{NoMessage, OutOfRange, Pending}
 use Rattle.serving.specs.Runs.{HandsHaveJobs}
-use Rattle.serving.proofs.Taken.{ComesSo, comes_as, next_of_line, not_full}
+use Rattle.serving.proofs.TakesLines.{ComesSo, comes_as, next_of_line, not_full}
 use Rattle.serving.proofs.input.take.Given.{Over}
 use Rattle.serving.proofs.input.take.Goals.{After-arrive_line}
 use Rattle.serving.proofs.input.take.Goals as goal

@@ -1,5 +1,5 @@
 -- What was logged when the lines were sent is on the device at each moment since.
-use Rattle.serving.proofs.Holding.{recovers_killed}
+use Rattle.serving.proofs.MaySend.{recovers_killed}
 use Rattle.serving.proofs.laws.a_kill_loses_no_line_that_was_sent.Goals as goal
 
 pub returns : goal.returns

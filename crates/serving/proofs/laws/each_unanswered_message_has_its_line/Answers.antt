@@ -1,5 +1,5 @@
 -- The lemma on how many messages are in the core.
-use Rattle.serving.proofs.Inside.{few_inside}
+use Rattle.serving.proofs.Outstanding.{few_inside}
 use Rattle.serving.proofs.laws.each_unanswered_message_has_its_line.Goals as goal
 
 pub returns : goal.returns

@@ -1,5 +1,5 @@
 -- The lemmas on how many messages are in the core, and on its slots.
-use Rattle.serving.proofs.Inside.{passes_count}
+use Rattle.serving.proofs.Outstanding.{passes_count}
 use Rattle.serving.proofs.Slots.{finds_a_slot, passes_slots}
 use Rattle.serving.proofs.laws.unanswered_are_arrived_less_answered.Goals as goal
 

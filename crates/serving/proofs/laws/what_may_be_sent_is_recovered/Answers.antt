@@ -1,6 +1,6 @@
 -- A crash image that holds what was sent recovers to a state with those lines and a closed part of the rest.
-use Rattle.serving.proofs.Holding.{sent_is_held}
-use Rattle.serving.proofs.Recovering.{bytes_recover}
+use Rattle.serving.proofs.MaySend.{sent_is_held}
+use Rattle.serving.proofs.RecoversWritten.{bytes_recover}
 use Rattle.serving.proofs.laws.what_may_be_sent_is_recovered.Goals as goal
 
 pub returns : goal.returns

@@ -8,7 +8,7 @@ use Rattle.serving.specs.Kill.{IsKillSafe}
 use Rattle.oplog.specs.Recovery.{records_in}
 use Rattle.serving.specs.Session.{SessionView, reported}
 use Rattle.serving.specs.Output.{Start, start_machine}
-use Rattle.serving.proofs.Closing.{PromisesAll, emptied_at_end, ends_or_declines, first_at, promises_from, refuses_none}
+use Rattle.serving.proofs.SessionEnds.{PromisesAll, emptied_at_end, ends_or_declines, first_at, promises_from, refuses_none}
 use Rattle.serving.proofs.Invariant.{begun, kill_safe}
 use Rattle.serving.proofs.server.serve_borrowed.Goals as goal
 

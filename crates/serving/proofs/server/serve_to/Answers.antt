@@ -1,7 +1,7 @@
 -- What is promised without workers or memory, and what is promised of a server that ran.
 use Rattle.std.proofs.Common.{refl, rules}
-use Rattle.serving.proofs.Closing.{safe_at_start, serves_as}
-use Rattle.serving.proofs.Promises.{no_memory_ran, no_workers_ran}
+use Rattle.serving.proofs.SessionEnds.{safe_at_start, serves_as}
+use Rattle.serving.proofs.ServePromise.{no_memory_ran, no_workers_ran}
 use Rattle.serving.proofs.server.serve_to.Goals as goal
 
 pub returns-then-workers-eq0 : goal.returns-then-workers-eq0

@@ -1,5 +1,5 @@
 -- A session that has answered every line returns the result for the reason why it stopped reading.
-use Rattle.serving.proofs.Closing.{ends_finished}
+use Rattle.serving.proofs.SessionEnds.{ends_finished}
 use Rattle.serving.proofs.event_loop.SessionDispatcherTaskResultUnitServeFault.run_task.Goals as goal
 
 pub returns-in-Ok : goal.returns-in-Ok

@@ -3,7 +3,7 @@ use Rattle.std.proofs.Common.{◌≡◌, ap, false, refl, ◌∙◌}
 use Rattle.scheduler.proofs.Called.{cut_called}
 use Rattle.scheduler.specs.CoreView.{core_state_of}
 use Rattle.serving.specs.Session.{SessionView}
-use Rattle.serving.proofs.Pointing.{halts, stays, waits}
+use Rattle.serving.proofs.CheckpointSteps.{halts, stays, waits}
 use Rattle.serving.proofs.Segments.{cut_is_quiet}
 use Rattle.serving.proofs.Invariant.{holds_of, on_machine, on_trigger}
 use Rattle.serving.proofs.session.Session.begin_checkpoint.Goals as goal

@@ -4,8 +4,8 @@ use Rattle.std.proofs.lemmas.List.{length-set}
 use Rattle.parcel.specs.Run.{JobView}
 use Rattle.serving.specs.Fields.{session_view}
 use Rattle.serving.specs.Session.{HasMoved, SessionView}
-use Rattle.serving.proofs.Returning.{came_back, gives_back}
-use Rattle.serving.proofs.Going.{returned}
+use Rattle.serving.proofs.Collected.{came_back, gives_back}
+use Rattle.serving.proofs.StepsAhead.{returned}
 use Rattle.serving.proofs.Invariant.{holds_of, on_machine}
 use Rattle.serving.proofs.session.Session.collect_one.Goals as goal
 

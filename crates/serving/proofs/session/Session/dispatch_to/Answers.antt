@@ -5,8 +5,8 @@ use Rattle.scheduler.specs.CoreView.{core_state_of}
 use Rattle.serving.specs.Lending.{DispatchesTo}
 use Rattle.serving.specs.Fields.{session_view}
 use Rattle.serving.specs.Session.{HasMoved, SessionView}
-use Rattle.serving.proofs.Going.{dispatched}
-use Rattle.serving.proofs.Sending.{as_many, sends}
+use Rattle.serving.proofs.StepsAhead.{dispatched}
+use Rattle.serving.proofs.DispatchesTo.{as_many, sends}
 use Rattle.serving.proofs.Invariant.{holds_of, on_machine}
 use Rattle.serving.proofs.session.Session.dispatch_to.Goals as goal
 

@@ -5,9 +5,9 @@ use Rattle.std.proofs.lemmas.Bool.{true≢false}
 use Rattle.reorder_buffer.specs.ReorderBuffer.{ReorderBufferView}
 use Rattle.scheduler.proofs.Called.{point_called}
 use Rattle.scheduler.specs.CoreView.{CoreView, core_state_of}
-use Rattle.serving.proofs.Closing.{ended_by_device}
+use Rattle.serving.proofs.SessionEnds.{ended_by_device}
 use Rattle.serving.proofs.Segments.{point_is_quiet}
-use Rattle.serving.proofs.Pointing.{halts_so, point_fails}
+use Rattle.serving.proofs.CheckpointSteps.{halts_so, point_fails}
 use Rattle.serving.proofs.Invariant.{holds_of, idle_of, on_machine}
 use Rattle.serving.specs.Session.{SessionView}
 use Rattle.serving.specs.declared.session.ReadEnd.{ReadEnd}

@@ -6,7 +6,7 @@ use Rattle.scheduler.specs.CoreView.{CoreView, core_state_of}
 use Rattle.serving.specs.Lending.{NoneInFlight}
 use Rattle.serving.specs.Session.{Advanced, Began, CallsForCheckpoint, CanRead, CanReadLine, CheckpointStep, MovedCheckpoint, SessionView, Waited, steps_ahead}
 use Rattle.workers.specs.Seats.{DispatchSeatView}
-use Rattle.serving.proofs.Going.{calls_still, steps}
+use Rattle.serving.proofs.StepsAhead.{calls_still, steps}
 use Rattle.serving.proofs.session.Session.flush_then_wait.Given.{Over}
 use Rattle.serving.proofs.session.Session.flush_then_wait.Goals.{In_ok-flush_replies}
 use Rattle.serving.proofs.session.Session.flush_then_wait.Goals as goal

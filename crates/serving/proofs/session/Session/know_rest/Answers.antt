@@ -1,7 +1,7 @@
 -- The lemma on a session at rest.
 use Rattle.std.proofs.Common.{◌≡◌, [], subst}
 use Rattle.serving.specs.Session.{IsAtRest, SessionView}
-use Rattle.serving.proofs.Resting.{retired_at_rest}
+use Rattle.serving.proofs.IsAtRest.{retired_at_rest}
 use Rattle.serving.proofs.session.Session.know_rest.Goals as goal
 
 pub returns : goal.returns

@@ -7,7 +7,7 @@ use Rattle.oplog.proofs.Answered.{err_is}
 use Rattle.reorder_buffer.specs.ReorderBuffer.{ReorderBufferView, can_retire}
 use Rattle.scheduler.specs.CoreView.{CoreView, core_state_of}
 use Rattle.serving.specs.Session.{HasLoggedNothing, KeepsReadEndAndOutputFailed, steps_ahead}
-use Rattle.serving.proofs.Going.{steps}
+use Rattle.serving.proofs.StepsAhead.{steps}
 use Rattle.serving.proofs.session.Session.log_and_reply.Given.{Over}
 use Rattle.serving.proofs.session.Session.log_and_reply.Goals.{In_ok-retire_ready}
 use Rattle.serving.proofs.session.Session.log_and_reply.Goals as goal

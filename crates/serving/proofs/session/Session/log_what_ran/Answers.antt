@@ -3,8 +3,8 @@ use Rattle.std.proofs.Common.{◌≡◌, ◌+◌, ap, refl, ◌∙◌}
 use Rattle.scheduler.proofs.Called.{log_called}
 use Rattle.scheduler.specs.CoreView.{core_state_of}
 use Rattle.serving.specs.Session.{SessionView, steps_ahead}
-use Rattle.serving.proofs.Going.{logged_some, steps}
-use Rattle.serving.proofs.Advancing.{at_ok, log_of_none, or_halts}
+use Rattle.serving.proofs.StepsAhead.{logged_some, steps}
+use Rattle.serving.proofs.SentLines.{at_ok, log_of_none, or_halts}
 use Rattle.serving.proofs.Segments.{log_is_quiet}
 use Rattle.serving.proofs.Invariant.{holds_of, on_machine}
 use Rattle.serving.proofs.session.Session.log_what_ran.Goals as goal

@@ -18,7 +18,7 @@ use Rattle.scheduler.specs.CoreView.{CoreView, core_state_of}
 use Rattle.serving.specs.Lines.{Completed, HaveAnswers, AreKnown, IsKnown, Line, NoMessage, OutOfRange, Pending, admitted, admitted_in, next_ticket, answer_text, ticketed}
 use Rattle.serving.specs.Runs.{unanswered}
 use Rattle.serving.specs.Output.{MaySendFrom, MaySend, Start, SendsNoReply}
-use Rattle.serving.proofs.Inside.{idle_inside, passes_count}
+use Rattle.serving.proofs.Outstanding.{idle_inside, passes_count}
 use Rattle.serving.proofs.Tickets.{passes_next}
 
 -- a line that is answered without a reply to a message in range: it is no message, or one that is out of range

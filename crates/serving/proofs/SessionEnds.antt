@@ -34,12 +34,12 @@ use Rattle.serving.specs.declared.server.ServeFault.{ServeFault}
 use Rattle.serving.specs.declared.server.ServeFault.TheVariants as faults
 use Rattle.language.proofs.Newlines.{newlines}
 use Rattle.serving.proofs.Newlines.{in_answers}
-use Rattle.serving.proofs.Promises.{no_memory_ran, runs_to_device, runs_to_last_ticket, runs_to_read, runs_to_write, runs_whole}
-use Rattle.serving.proofs.Keeping.{safe_since}
-use Rattle.serving.proofs.Since.{starts_since}
-use Rattle.serving.proofs.Starting.{holds_at_start}
-use Rattle.serving.proofs.Torn.{sent_begins, written_begins}
-use Rattle.serving.proofs.Served.{ends_at_device, ends_at_read, ends_exhausted, ends_whole, first_answered}
+use Rattle.serving.proofs.ServePromise.{no_memory_ran, runs_to_device, runs_to_last_ticket, runs_to_read, runs_to_write, runs_whole}
+use Rattle.serving.proofs.KeepsSent.{safe_since}
+use Rattle.serving.proofs.ServingSince.{starts_since}
+use Rattle.serving.proofs.Start.{holds_at_start}
+use Rattle.serving.proofs.TornSend.{sent_begins, written_begins}
+use Rattle.serving.proofs.AreServed.{ends_at_device, ends_at_read, ends_exhausted, ends_whole, first_answered}
 use Rattle.serving.proofs.Invariant.{all_sent, begins_at, sent_so, none_out, progress_at_end, to_reorder_buffer}
 
 -- ---- what it promises

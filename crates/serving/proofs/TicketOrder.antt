@@ -8,7 +8,7 @@ use Rattle.language.specs.declared.Reply.{Reply}
 use Rattle.serving.specs.Progress.{IsServing}
 use Rattle.serving.specs.Lines.{Completed, AreKnown, IsKnown, Line, NoMessage, OutOfRange, Pending, admitted, admitted_in, next_ticket}
 use Rattle.reorder_buffer.specs.ReorderBuffer.{HaveTicketsFrom, AreConsecutive, with_tickets}
-use Rattle.serving.proofs.Arriving.{next_is}
+use Rattle.serving.proofs.TakesLine.{next_is}
 use Rattle.serving.proofs.Tickets.{next-append}
 
 module _ (g : Geometry) (reply_pairs : List (ℕ × Reply)) where

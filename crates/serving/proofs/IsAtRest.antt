@@ -19,7 +19,7 @@ use Rattle.serving.specs.Output.{Start}
 use Rattle.serving.specs.declared.dispatch.Blocked.{Blocked}
 use Rattle.serving.specs.declared.dispatch.Blocked.TheVariants as blocked
 use Rattle.serving.proofs.Invariant.{ask, none_out, progress_at_end, to_reorder_buffer}
-use Rattle.serving.proofs.Unanswered.{no_line}
+use Rattle.serving.proofs.NoneUnanswered.{no_line}
 
 -- ---- nothing waits
 

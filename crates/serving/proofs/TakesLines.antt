@@ -22,8 +22,8 @@ use Rattle.serving.specs.Progress.{ServingProgress}
 use Rattle.serving.specs.Lines.{Line, NoMessage, OutOfRange, Pending}
 use Rattle.serving.specs.Reads.{IsRefusedLine, IsTaken}
 use Rattle.serving.specs.Runs.{HandsHaveJobs, IsInternal}
-use Rattle.serving.proofs.Arriving.{ArrivesSo, arrives_so, serves_taken, ticket_is_next}
-use Rattle.serving.proofs.Starting.{stays}
+use Rattle.serving.proofs.TakesLine.{ArrivesSo, arrives_so, serves_taken, ticket_is_next}
+use Rattle.serving.proofs.Start.{stays}
 
 -- A line that is no message takes no ticket.
 pub takes_none : (keeps : Type 0) (m : MachineView) → HandsHaveJobs m → IsTaken keeps m m None NoMessage

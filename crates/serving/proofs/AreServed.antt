@@ -32,7 +32,7 @@ use Rattle.incarnations.specs.Machine.{MachineView, machine_of}
 use Rattle.incarnations.specs.DeviceEvents.{events_of}
 use Rattle.serving.specs.declared.server.ServeFault.TheVariants as faults
 use Rattle.serving.specs.declared.session.ReadEnd.TheVariants as ends_of_reading
-use Rattle.serving.proofs.Inside.{idle_again}
+use Rattle.serving.proofs.Outstanding.{idle_again}
 use Rattle.serving.proofs.Serial.{HaveSerialReplies, all_lines_answered, asked_leads_there, messages-ticketed, next_from, sent_lines_are_serial, ticket_earlier}
 
 module _ (keeps : Type 0) (start now : MachineView) (idle : IsIdle (core_state_of start.core)) where

@@ -19,11 +19,11 @@ use Rattle.serving.specs.Lines.{admitted_in, has_answer, answer_text, next_ticke
 use Rattle.serving.specs.Logged.{AreInHistory, HoldsSent}
 use Rattle.serving.specs.Output.{MaySendFrom, Start, start_machine}
 use Rattle.serving.specs.Restart.{RecoversWritten}
-use Rattle.serving.proofs.Advancing.{texts_both}
+use Rattle.serving.proofs.SentLines.{texts_both}
 use Rattle.serving.proofs.Logged.{holds_sent}
 use Rattle.serving.proofs.Newlines.{in_answers}
-use Rattle.serving.proofs.Recovering.{bytes_recover}
-use Rattle.serving.proofs.Torn.{all_appended, written_begins}
+use Rattle.serving.proofs.RecoversWritten.{bytes_recover}
+use Rattle.serving.proofs.TornSend.{all_appended, written_begins}
 
 -- The output for the first lines stays so when more lines are read.
 pub still_in_history : (g : Geometry) (history : List Replied) (n : ℕ) (consumed more lines : List (List ℕ)) → AreInHistory g history n consumed lines

@@ -16,14 +16,14 @@ use Rattle.serving.specs.Reads.{IsTaken}
 use Rattle.serving.specs.Restart.{WritesBeginning}
 use Rattle.serving.specs.Runs.{RunsBetween}
 use Rattle.serving.specs.Session.{ServingSince}
-use Rattle.serving.proofs.Advancing.{Sends, sends_on}
-use Rattle.serving.proofs.Answering.{answered_goes_on}
-use Rattle.serving.proofs.Arriving.{serves_taken, takes_in}
+use Rattle.serving.proofs.SentLines.{Sends, sends_on}
+use Rattle.serving.proofs.AnsweredLine.{answered_goes_on}
+use Rattle.serving.proofs.TakesLine.{serves_taken, takes_in}
 use Rattle.serving.proofs.Chain.{passes_on}
-use Rattle.serving.proofs.Keeping.{keeps_first, keeps_now, keeps_on, keeps_quiet}
+use Rattle.serving.proofs.KeepsSent.{keeps_first, keeps_now, keeps_on, keeps_quiet}
 use Rattle.serving.proofs.Segments.{quiet_goes_on}
-use Rattle.serving.proofs.Starting.{starts, stays}
-use Rattle.serving.proofs.Taken.{line_goes_on, long_line_goes_on}
+use Rattle.serving.proofs.Start.{starts, stays}
+use Rattle.serving.proofs.TakesLines.{line_goes_on, long_line_goes_on}
 
 module _ {keeps : Type 0} {s : Start} {old new : MachineView} {unsent : List Line} {unread : Option (List ℕ)} {drained : Bool} {whole sent : Option (List ℕ)}
     {sent_at : Medium} (h : ServingSince keeps s old unsent unread drained whole sent_at sent) where

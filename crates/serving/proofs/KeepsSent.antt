@@ -16,11 +16,11 @@ use Rattle.serving.specs.Output.{Start, start_machine}
 use Rattle.serving.specs.Progress.{IsServing}
 use Rattle.serving.specs.Restart.{WritesBeginning}
 use Rattle.serving.specs.Session.{KeepsSent, ServingSince}
-use Rattle.serving.proofs.Holding.{still_in_history}
+use Rattle.serving.proofs.MaySend.{still_in_history}
 use Rattle.serving.proofs.Logged.{holds_logged, serving_kept}
-use Rattle.serving.proofs.Recovering.{bytes_recover}
+use Rattle.serving.proofs.RecoversWritten.{bytes_recover}
 use Rattle.serving.proofs.Serial.{as_many}
-use Rattle.serving.proofs.Served.{has_served}
+use Rattle.serving.proofs.AreServed.{has_served}
 
 -- ---- what stays true
 

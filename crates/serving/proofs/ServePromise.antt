@@ -17,8 +17,8 @@ use Rattle.serving.specs.Restart.{WritesBeginning}
 use Rattle.serving.specs.Serve.{AreUnsent, HasRunWith, IsWrittenAtEnd}
 use Rattle.serving.specs.declared.server.ServeFault.{ServeFault}
 use Rattle.serving.specs.declared.server.ServeFault.TheVariants as faults
-use Rattle.serving.proofs.Served.{has_served}
-use Rattle.serving.proofs.Starting.{starts}
+use Rattle.serving.proofs.AreServed.{has_served}
+use Rattle.serving.proofs.Start.{starts}
 
 -- ---- the run
 

@@ -22,7 +22,7 @@ use Rattle.scheduler.specs.CoreView.{core_state_of}
 use Rattle.serving.specs.Progress.{ServingProgress, IsServing}
 use Rattle.serving.specs.Lines.{Completed, AreKnown, IsKnown, Line, NoMessage, OutOfRange, Pending, admitted, admitted_in, has_answer, next_ticket, ticketed}
 use Rattle.serving.specs.Runs.{RunsBetween, unanswered}
-use Rattle.serving.proofs.Counting.{run_counts}
+use Rattle.serving.proofs.MessageCounts.{run_counts}
 
 -- ---- how many of the replies are to a ticket or to a later one
 

@@ -27,9 +27,9 @@ use Rattle.serving.specs.Reads.{IsRefusedLine, IsTaken}
 use Rattle.serving.specs.Runs.{HandsHaveJobs, RunsBetween}
 use Rattle.serving.proofs.Chain.{passes_on, told_as}
 use Rattle.serving.proofs.Serial.{admitted-append, messages-ticketed}
-use Rattle.serving.proofs.Served.{ticket_before}
+use Rattle.serving.proofs.AreServed.{ticket_before}
 use Rattle.serving.proofs.Segments.{core_is_quiet, step_passes}
-use Rattle.serving.proofs.Stopping.{Shows, shows}
+use Rattle.serving.proofs.IsReadEnd.{Shows, shows}
 use Rattle.serving.proofs.Tickets.{next-append, passes_next, ticketed-append}
 
 -- ---- one line more

@@ -24,7 +24,7 @@ use Rattle.serving.specs.declared.session.Activity.{Activity}
 use Rattle.serving.specs.declared.session.Activity.TheVariants as activities
 use Rattle.serving.specs.declared.dispatch.Blocked.{Blocked}
 use Rattle.serving.specs.declared.dispatch.Blocked.TheVariants as blocked
-use Rattle.serving.proofs.Resting.{still_blocked}
+use Rattle.serving.proofs.IsAtRest.{still_blocked}
 
 -- ---- the jobs that are lent
 
