@@ -350,7 +350,7 @@ stopsignal:
 }
 
 /* --------------------------------------------------------------------------------------------------------------------- the workers */
-/* What a worker does between two steps on words: goes on to the next place, or ends its round (Bench::work, serve_round). `last` is asked only whether
+/* What a worker does between two steps on words: goes on to the next place, or ends its round (Bench::work, try_places). `last` is asked only whether
  * it is Woke, so Served is kept as Idle there. */
 #ifdef BUG_SPINLATE
 #define PAYSPIN if :: owe -> owe = 0; SPINNERS-- :: else -> skip fi

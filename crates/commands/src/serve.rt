@@ -39,7 +39,7 @@ fn command_result(end: Result<(), ServeFault>) -> Result<(), Fault>
 
 /// Serves with a core that was just opened, on the device as it is in `found`, and hands the core back. So however the service ends, and if
 /// it never does, it began in the state to which its device had recovered; meanwhile a crash left what `opening` says.
-fn serve_core<T: Threads + Wait + Sync, R: Read, W: Write, D: Disk + Drop>(
+fn run_opened<T: Threads + Wait + Sync, R: Read, W: Write, D: Disk + Drop>(
     rt: &T,
     alloc: Global,
     found: Snapshot<D>,
@@ -93,7 +93,7 @@ pub fn serve_on<T: Threads + Wait + Sync, R: Read, W: Write, D: Disk + Drop>(
         Ok(core) => core,
         Err(error) => return (error.disk, Err(Fault::from(error.fault))),
     };
-    let (core, end) = serve_core(rt, alloc, found, core, service, r, w);
+    let (core, end) = run_opened(rt, alloc, found, core, service, r, w);
     core.know_recovery();
     (core.into_disk(), command_result(end))
 }

@@ -85,7 +85,7 @@ impl<'c, R: Read, D: Disk, L: ReplySink<D>> Session<'c, R, D, L> {
 
     /// Reads lines and answers them, until no more is read and the reply to each line that was read is sent: gives why no more is read.
     /// It waits for input only while no line is unanswered (`read_more`).
-    fn serve_lines<W: GatedRuntime>(&mut self, rt: &W) -> Result<ReadEnd, Halted>
+    fn run_loop<W: GatedRuntime>(&mut self, rt: &W) -> Result<ReadEnd, Halted>
         ensures served { MatchResult result (HasFinished D.keeps self.new) (λ _. HasHalted self.new) }
     {
         let mut last = Activity::Busy;
@@ -121,7 +121,7 @@ impl<'c, R: Read, D: Disk, L: ReplySink<D>> DispatcherTask<Result<(), ServeFault
     /// failure is reported rather than a device failure, and a device failure rather than any other.
     fn run_task<T: Wait, G: Gate>(&mut self, rt: &T, gate: &G) -> Result<(), ServeFault> {
         let rt = &(rt, gate);
-        match self.serve_lines(rt) {
+        match self.run_loop(rt) {
             Ok(read_end) => {
                 self.know_kill_safe();
                 reported_for(read_end)

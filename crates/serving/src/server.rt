@@ -117,7 +117,7 @@ fn hand_back<D: Disk>(
 }
 
 // Serves the lines of a reader that is borrowed, and hands back the reader and the sink, too.
-fn serve_borrowed<
+fn run_session<
     'a,
     'c,
     T: Threads + Wait + Sync,
@@ -223,7 +223,7 @@ pub fn serve_to<T: Threads + Wait + Sync, R: Read, L: ReplySink<D>, D: Disk + Dr
         let fault = ServeFault::OutOfMemory;
         return (Err(ServeError { core, fault }), sink);
     };
-    let (ended, reader, sink) = serve_borrowed::<T, R, L, D, G, Brand>(
+    let (ended, reader, sink) = run_session::<T, R, L, D, G, Brand>(
         rt,
         core,
         r,

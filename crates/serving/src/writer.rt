@@ -65,7 +65,7 @@ impl<'w, D: Disk, W: Write, B: Beginning> ReplySink<D> for Output<'w, W, D, B> {
 }
 
 // Serves with a borrowed writer as the output, and gives it back.
-fn serve_writer<
+fn with_writer<
     'w,
     T: Threads + Wait + Sync,
     R: Read,
@@ -131,7 +131,7 @@ pub fn serve<T: Threads + Wait + Sync, R: Read, W: Write, D: Disk + Drop, G: Gat
     ensures { ServePromise D.keeps workers core (handed_back result)
         (exchange (R.remaining r.old) (R.remaining r.new) (W.contents w.old) (W.contents w.new)) }
 {
-    let (ended, w) = serve_writer::<T, R, W, D, G, Brand>(
+    let (ended, w) = with_writer::<T, R, W, D, G, Brand>(
         rt, alloc, core, r, w, workers, every, gate,
     );
     know_returned(w);

@@ -42,7 +42,7 @@ impl Bench {
             if words.peek(STOP) != 0 {
                 break;
             }
-            match serve_round(words, &mut worker_seat, places, gate) {
+            match try_places(words, &mut worker_seat, places, gate) {
                 // A worker whose delivery woke the dispatcher doesn't spin: where other threads keep the processors busy, it would wait for
                 // their time slices each time it yields.
                 Round::Idle if last == Round::Woke => {
@@ -104,7 +104,7 @@ fn wake_another(words: &Words, k: usize, places: usize)
 }
 
 // Tries each place once, and does the job of each place that it could claim.
-fn serve_round<G: Gate>(words: &Words, seat: &mut Seat, places: usize, gate: &G) -> Round
+fn try_places<G: Gate>(words: &Words, seat: &mut Seat, places: usize, gate: &G) -> Round
     requires bench { IsAtBench words.now.table_id seat.old.table_id }
     requires places { places ≡ words.now.table_id.slots }
     requires idle { seat.old.me ≡ idle }
@@ -112,7 +112,7 @@ fn serve_round<G: Gate>(words: &Words, seat: &mut Seat, places: usize, gate: &G)
 {
     let mut round = Round::Idle;
     for k in 0..places {
-        if let Some(woke) = serve_place(words, seat, k, places, gate) {
+        if let Some(woke) = run_place(words, seat, k, places, gate) {
             round = if woke { Round::Woke } else { Round::Served };
         }
     }
@@ -120,7 +120,7 @@ fn serve_round<G: Gate>(words: &Words, seat: &mut Seat, places: usize, gate: &G)
 }
 
 // Does the job of a place if it can be claimed. Returns `None` if it can't, else whether its delivery signaled the dispatcher to wake.
-fn serve_place<G: Gate>(
+fn run_place<G: Gate>(
     words: &Words,
     seat: &mut Seat,
     k: usize,

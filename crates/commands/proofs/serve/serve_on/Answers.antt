@@ -20,8 +20,8 @@ returns-in-Err-clause-goes_on g c =
     (leaves_run c.args.service (g.D.Disk.medium c.args.disk) (g.D.Disk.medium c.in-Err.error.disk) _ (exchange input input before before)
     (g.met.D.Disk.bytes c.args.disk) ((λ k. (refused.refused k, refused.unwritten k)), refl, refl, refused.device) refused.any_moment refl)
 
-pub serve_core-core-requires-clause-opened : goal.serve_core-core-requires-clause-opened
-serve_core-core-requires-clause-opened g c = λ lifetimes bounds. rw c.of-found.ensures (record {
+pub run_opened-core-requires-clause-opened : goal.run_opened-core-requires-clause-opened
+run_opened-core-requires-clause-opened g c = λ lifetimes bounds. rw c.of-found.ensures (record {
   fresh = rw c.from.ensures at c.in-Ok.ensures.opened;
   recovered_before = record { header = c.in-Ok.ensures.header; recovered_before = c.in-Ok.ensures.recovered_before };
 })
@@ -32,13 +32,13 @@ returns g c =
     let service = c.args.service in
     let old = g.D.Disk.medium c.args.disk in
     let start = c.in-Ok.core in
-    let now = c.serve_core-core.result.0 in
-    let end = c.serve_core-core.result.1 in
-    let streams = exchange (g.R.Read.remaining c.args.r.now) (g.R.Read.remaining c.serve_core-core.new.r) (g.W.Write.contents c.args.w.now)
-    (g.W.Write.contents c.serve_core-core.new.w) in
+    let now = c.run_opened-core.result.0 in
+    let end = c.run_opened-core.result.1 in
+    let streams = exchange (g.R.Read.remaining c.args.r.now) (g.R.Read.remaining c.run_opened-core.new.r) (g.W.Write.contents c.args.w.now)
+    (g.W.Write.contents c.run_opened-core.new.w) in
     let by = has_served_by keeps service old start now end streams (rw c.from.ensures at c.in-Ok.ensures.opened)
     (record { header = c.in-Ok.ensures.header; recovered_before = c.in-Ok.ensures.recovered_before })
-    c.in-Ok.ensures.any_moment c.in-Ok.ensures.no_fault c.serve_core-core.ensures c.know_recovery.ensures.now in
+    c.in-Ok.ensures.any_moment c.in-Ok.ensures.no_fault c.run_opened-core.ensures c.know_recovery.ensures.now in
     let ends = ends_on_device end by c.know_recovery.ensures.no_doubt (rw c.into_disk.ensures at (g.met.D.Disk.bytes c.into_disk.result)) in
     rw (c.into_disk.ensures, c.command_result.ensures) (record {
       ends = ends;

@@ -34,6 +34,6 @@ returns-in_default g c =
 
 pub returns : goal.returns
 returns g c = record {
-  serves = serves_as c.in-Ok.ensures.places (search rules) c.serve_borrowed-ended.ensures.serves;
-  safe = c.serve_borrowed-ended.ensures.safe;
+  serves = serves_as c.in-Ok.ensures.places (search rules) c.run_session-ended.ensures.serves;
+  safe = c.run_session-ended.ensures.safe;
 }

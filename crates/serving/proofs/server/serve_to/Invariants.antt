@@ -2,5 +2,5 @@
 use Rattle.serving.proofs.server.serve_to.Given as goal
 
 -- the loan of the reader
-abbrev pub ghosts-serve_borrowed : goal.ghosts-serve_borrowed
-ghosts-serve_borrowed g a = record { name = a.reader.ghost_name }
+abbrev pub ghosts-run_session : goal.ghosts-run_session
+ghosts-run_session g a = record { name = a.reader.ghost_name }

@@ -3,8 +3,8 @@ use Rattle.std.proofs.Common.{Some}
 use Rattle.serving.proofs.writer.serve.Given as goal
 
 -- where the call begins, and the loan of the writer
-abbrev pub ghosts-serve_writer : goal.ghosts-serve_writer
-ghosts-serve_writer g a = record {
+abbrev pub ghosts-with_writer : goal.ghosts-with_writer
+ghosts-with_writer g a = record {
   start = Some (record {
     core = a.core;
     places = a.workers;

@@ -1,6 +1,6 @@
 -- Where `finish` succeeds, each line that was read is answered and nothing has failed.
 use Rattle.std.proofs.Common.{◌∙◌}
-use Rattle.serving.proofs.session.Session.serve_lines.Goals as goal
+use Rattle.serving.proofs.session.Session.run_loop.Goals as goal
 
 pub returns-in-Some-ended : goal.returns-in-Some-ended
 returns-in-Some-ended g c =
