@@ -7,10 +7,9 @@ ghost use Rattle.oplog.specs.Recovery.{records_in};
 ghost use Rattle.serving.specs.Session.{EndsBy, HasFinished, HasHalted, HasReadNothing, IsSessionStep, end_of};
 ghost use Rattle.serving.specs.declared.session.ReadEnd.TheVariants as ends_of_reading;
 
-use crate::gated_runtime::GatedRuntime;
 use crate::output::ReplySink;
 use crate::server::ServeFault;
-use crate::session::{Activity, Halted, ReadEnd, Session, or_halt};
+use crate::session::{Activity, GatedRuntime, Halted, ReadEnd, Session, or_halt};
 use disk::Disk;
 use std::io::Read;
 use std::sync::Wait;

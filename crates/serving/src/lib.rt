@@ -1,19 +1,20 @@
 //! Serving lines: what a server that runs many messages at once has written when it ends, and that it is what the serial
 //! server writes.
 //!
-//! `serve_to` is the whole call, with its memory and its threads, for any sink of lines; `serve` is the same for a writer. The definitions
-//! are in `specs/`, and the laws that they obey are the contracts of the functions of `laws`, which do nothing. `session` has what a server
-//! holds while it serves, and what is always true of it. `input` reads a line. An iteration of `dispatch` dispatches messages, collects
-//! results, logs them and answers them. `output` sends the lines of the reorder buffer that are next in order, under the condition of
-//! `ReplySink`. Checkpoints are made in `checkpoints`, and `event_loop` has the loop from line to line
-//! with its ends.
+//! `serve_to` is the whole call, with its memory and its threads, for any sink of lines (`server`); `serve` is the same for a writer
+//! (`writer`). The definitions are in `specs/`, and the laws that they obey are the contracts of the functions of `laws`, which do nothing.
+//! `session` has what a server holds while it serves, and what is always true of it. `event_loop` has the loop from line to line with its
+//! ends. Each time round, `input` reads lines, and `iteration` works them off: `dispatch` hands messages to the workers, `collect` takes
+//! their results back, `output` sends the lines of the reorder buffer that are next in order, under the condition of `ReplySink`, and
+//! `checkpoints` makes checkpoints.
 #![tactic(auto)]
 
 mod checkpoints;
+mod collect;
 mod dispatch;
 mod event_loop;
-mod gated_runtime;
 mod input;
+mod iteration;
 pub mod laws;
 mod output;
 mod server;

@@ -6,8 +6,7 @@ ghost use Rattle.scheduler.specs.CoreView.{core_state_of};
 ghost use Rattle.reorder_buffer.specs.ReorderBuffer.{can_retire};
 ghost use Rattle.serving.specs.Session.{HasReadNothing, KeepsCoreState, KeepsReadEndAndOutputFailed, IsOutputStep, steps_ahead};
 
-use crate::gated_runtime::GatedRuntime;
-use crate::session::{Halted, Session};
+use crate::session::{GatedRuntime, Halted, Session};
 use disk::Disk;
 use message::WriteFault;
 use scheduler::Core;

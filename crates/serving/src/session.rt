@@ -12,7 +12,8 @@ use reorder_buffer::ReorderBuffer;
 use scheduler::Core;
 use std::io::Read;
 use std::marker::Model;
-use workers::{Bench, DispatchSeat};
+use std::sync::Wait;
+use workers::{Bench, DispatchSeat, Gate};
 
 /// Why a session reads no more.
 #[derive(Clone, Copy)]
@@ -47,6 +48,19 @@ pub(crate) fn or_halt<T, E: Copy>(answer: Result<T, E>) -> Result<T, Halted>
     match answer {
         Ok(made) => Ok(made),
         Err(_) => Err(Halted),
+    }
+}
+
+/// What a session is given beside its bench: a runtime, through which it waits, and the `Gate` (hooks for tests) whose hook is called for
+/// each answered message.
+pub(crate) trait GatedRuntime: Wait {
+    /// The message of this ticket was just answered.
+    fn answered(&self, ticket: u64);
+}
+
+impl<'g, T: Wait, G: Gate> GatedRuntime for (&'g T, &'g G) {
+    fn answered(&self, ticket: u64) {
+        self.1.answered(ticket);
     }
 }
 

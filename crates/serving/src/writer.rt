@@ -43,7 +43,7 @@ impl Beginning for Brand {
 }
 
 // A writer that is borrowed, to which lines are sent.
-struct Output<'w, W, D: Disk, B: Beginning> {
+struct WriterSink<'w, W, D: Disk, B: Beginning> {
     w: &'w mut W,
     // The core as it was when the last lines were sent, or at the start.
     sent_at: Snapshot<Core<D>>,
@@ -51,7 +51,7 @@ struct Output<'w, W, D: Disk, B: Beginning> {
     ghost same: { w.ghost_name ≡ B.name },
 }
 
-impl<'w, D: Disk, W: Write, B: Beginning> ReplySink<D> for Output<'w, W, D, B> {
+impl<'w, D: Disk, W: Write, B: Beginning> ReplySink<D> for WriterSink<'w, W, D, B> {
     ghost start = { B.start };
 
     ghost sent = { λ o. W.contents o.w.now };
@@ -92,17 +92,17 @@ fn with_writer<
     ensures serves { ServePromise D.keeps workers core (handed_back result.0)
         (exchange (R.remaining r.old) (R.remaining r.new) (W.contents w.entry.now) (W.contents result.1.now)) }
 {
-    let output = Output::<W, D, B> {
+    let sink = WriterSink::<W, D, B> {
         w,
         sent_at: Snapshot::of(&core),
         of: PhantomData,
     };
-    let (ended, output) = serve_to(rt, alloc, core, r, output, workers, every, gate);
-    let Output {
+    let (ended, sink) = serve_to(rt, alloc, core, r, sink, workers, every, gate);
+    let WriterSink {
         w,
         sent_at: _,
         of: _,
-    } = output;
+    } = sink;
     (ended, w)
 }
 

@@ -2,7 +2,7 @@
 use Rattle.std.proofs.Common.{◌≡◌, ◌<◌, ◌≤◌, ◌-◌, length}
 use Rattle.std.specs.Prelude.{IsFalse, IsTrue}
 use Rattle.serving.specs.Session.{HasMoved}
-use Rattle.serving.specs.declared.dispatch.TheConstants.{BATCH}
+use Rattle.serving.specs.declared.collect.TheConstants.{BATCH}
 use Rattle.serving.proofs.session.Session.collect_delivered.Given as goal
 
 abbrev pub invariant-loop-k : goal.invariant-loop-k

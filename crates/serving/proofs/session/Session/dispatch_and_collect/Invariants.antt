@@ -4,7 +4,7 @@ use Rattle.std.proofs.Common.{◌≤◌, ◌+◌, ◌-◌, ◌*◌}
 use Rattle.std.specs.Prelude.{IfNone, IfSome}
 use Rattle.serving.specs.Checkpoints.{IsDue}
 use Rattle.serving.specs.Session.{HasMoved, IsBlockedIn}
-use Rattle.serving.specs.declared.dispatch.TheConstants.{BATCH, MAX_POLLS}
+use Rattle.serving.specs.declared.collect.TheConstants.{BATCH, MAX_POLLS}
 use Rattle.serving.proofs.session.Session.dispatch_and_collect.Given as goal
 
 abbrev pub invariant-loop-polls : goal.invariant-loop-polls
