@@ -1,9 +1,11 @@
 //! Where a server sends its lines, and what it sends: nothing but what a crash of the device can't take back.
 
-ghost use Rattle.std.specs.Prelude.{◌≡◌, ◌+◌, [], false, length, IfOk, IsFalse, IsTrue, OnOk};
+ghost use Rattle.std.specs.Prelude.{◌≡◌, ◌+◌, List, [], ◌∷◌, false, length, IfOk, IsFalse, IsTrue, OnOk};
+ghost use Rattle.histories.specs.CoreState.{Replied};
 ghost use Rattle.message.specs.Waiting.{FitsReply};
 ghost use Rattle.scheduler.specs.CoreView.{core_state_of};
 ghost use Rattle.reorder_buffer.specs.ReorderBuffer.{can_retire};
+ghost use Rattle.serving.specs.Checkpoints.{trigger_after};
 ghost use Rattle.serving.specs.Session.{HasReadNothing, KeepsCoreState, KeepsReadEndAndOutputFailed, IsOutputStep, steps_ahead};
 
 use crate::session::{GatedRuntime, Halted, Session};
@@ -59,6 +61,8 @@ impl<'c, R: Read, D: Disk, L: ReplySink<D>> Session<'c, R, D, L> {
         ensures fewer { IsTrue result → length self.new.core.logged + 1 ≡ length self.old.core.logged }
         ensures none { IsFalse result → (self.new.core.logged ≡ []) × KeepsCoreState self.old self.new }
         ensures trigger { IsFalse result → self.new.trigger ≡ self.old.trigger }
+        ensures counted { (first : Replied) (later : List Replied) → self.old.core.logged ≡ first ∷ later
+            → self.new.trigger ≡ trigger_after self.old.trigger first.2 }
         ensures steps { IsTrue result → steps_ahead self.new + 1 ≡ steps_ahead self.old }
     {
         self.core.know_recovery();
