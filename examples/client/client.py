@@ -182,16 +182,15 @@ def pieces_of(file):
 def main():
     parser = argparse.ArgumentParser(description=__doc__, formatter_class=argparse.RawDescriptionHelpFormatter)
     parser.add_argument("socket", metavar="SOCKET")
+    path = parser.parse_args().socket
     pieces = pieces_of(sys.stdin.buffer)
-    try:
-        with connect(parser.parse_args().socket) as client:
+    try:  # At a loss the output is closed at once, so that nobody waits for another reply before the input ends.
+        with open(1, "w", encoding="utf-8") as output, connect(path) as client:
             for lines in pieces:
                 for reply in client.replies(client.send(lines)):
-                    print(reply, flush=True)
+                    print(reply, file=output, flush=True)
     except (OSError, Lost) as error:
         print(f"client: {error}", *getattr(error, "unanswered", []), sep="\n", file=sys.stderr)
-        with contextlib.suppress(OSError):
-            sys.stdout.close()  # so nobody waits for another reply before the input ends
         sys.stderr.writelines(line + "\n" for lines in pieces for line in lines)
         sys.exit(1)
 

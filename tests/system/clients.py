@@ -4,6 +4,7 @@ import fcntl
 import itertools
 import os
 import re
+import select
 import signal
 import socket
 import struct
@@ -283,6 +284,7 @@ class Command(Case):
         for line, reply in ((b"list 0 0\n", b"done\n"), (b"summary\n", b"")):
             child.stdin.write(line)
             self.assertEqual(read_until(child.stdout, lambda found: found.endswith(b"\n")), reply)
+        self.assertTrue(select.select([child.stdout], [], [], 0)[0])  # the end
         faults = child.communicate(b"seal 0 0")[1]
         self.assertEqual(faults, b"client: the connection has ended\nsummary\nseal 0 0\n")
 
