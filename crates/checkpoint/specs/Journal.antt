@@ -5,8 +5,8 @@ use Rattle.recovery.specs.Recovery.{recovered_state}
 use Rattle.disk.specs.Device.{Medium, IsCrashImage}
 use Rattle.disk.specs.Moments.{CrashImagesAre}
 use Rattle.checkpoint.specs.DirtyPieces.{DirtyPieces}
-use Rattle.language.specs.declared.Msg.{Msg}
-use Rattle.language.specs.Messages.{IsMessage}
+use Rattle.protocol.specs.declared.Msg.{Msg}
+use Rattle.protocol.specs.Messages.{IsMessage}
 use Rattle.oplog.specs.Changing.{IsChangeInRange}
 use Rattle.oplog.specs.Recovery.{records_in}
 use Rattle.meaning.specs.Serial.{state_after_all, is_recorded, next_state, reply_to}

@@ -7,7 +7,7 @@ ghost use Rattle.meaning.specs.Serial.{key};
 
 use affinity::Geometry;
 use image::touched;
-use language::Msg;
+use protocol::Msg;
 use std::mem;
 
 /// How many flags are set: of dirty pieces, or of those pending in a cut.

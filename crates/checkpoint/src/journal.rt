@@ -21,7 +21,7 @@ use crate::dirty::{clear_dirty, count_dirty, dirty_touched, first_dirty, swap_an
 use crate::extents::write_extent;
 use crate::snapshot::update_snapshot;
 use disk::Disk;
-use language::Msg;
+use protocol::Msg;
 use oplog::{Halves, LogFault};
 use parcel::Tree;
 use std::marker::Model;

@@ -3,7 +3,7 @@ use Rattle.std.proofs.Common.{◌≡◌, List, ◌++◌, Option, Some, ap, sym, 
 use Rattle.std.specs.Prelude.{Result, Ok}
 use Rattle.affinity.specs.declared.geometry.Geometry.{Geometry}
 use Rattle.disk.specs.Device.{Medium}
-use Rattle.language.specs.Lines.{lines}
+use Rattle.protocol.specs.Lines.{lines}
 use Rattle.meaning.specs.Output.{serial_output, state_after_lines}
 use Rattle.meaning.specs.State.{State}
 use Rattle.serving.specs.Restart.{IsClosedPart}

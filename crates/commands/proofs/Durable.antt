@@ -6,10 +6,10 @@ use Rattle.std.proofs.lemmas.List.{append_cancel_left, map-append}
 use Rattle.std.proofs.lemmas.Option.{same_Some}
 use Rattle.affinity.specs.declared.geometry.Geometry.{Geometry}
 use Rattle.disk.specs.Device.{Medium}
-use Rattle.language.specs.Grammar.{message_of}
-use Rattle.language.specs.Lines.{lines}
-use Rattle.language.specs.Replies.{output_line, reply_text}
-use Rattle.language.specs.declared.Msg.{Msg}
+use Rattle.protocol.specs.Grammar.{message_of}
+use Rattle.protocol.specs.Lines.{lines}
+use Rattle.protocol.specs.Replies.{output_line, reply_text}
+use Rattle.protocol.specs.declared.Msg.{Msg}
 use Rattle.meaning.proofs.OutputLemmas.{joined-append, output_lines-append}
 use Rattle.meaning.specs.Output.{WritesOutput, answer_line, joined, output_lines, serial_output, state_after_line, state_after_lines}
 use Rattle.meaning.specs.Serial.{reply_to}

@@ -11,9 +11,9 @@ use Rattle.affinity.proofs.Numbers.{small}
 use Rattle.affinity.specs.declared.geometry.Geometry.{Geometry}
 use Rattle.recovery.specs.declared.inspecting.Shown.{Shown}
 use Rattle.disk.specs.Device.{Medium}
-use Rattle.language.specs.Grammar.{kind_named, message_of}
-use Rattle.language.specs.Lines.{number_in_word}
-use Rattle.language.specs.declared.Reply.TheVariants.{Summary}
+use Rattle.protocol.specs.Grammar.{kind_named, message_of}
+use Rattle.protocol.specs.Lines.{number_in_word}
+use Rattle.protocol.specs.declared.Reply.TheVariants.{Summary}
 use Rattle.meaning.specs.Output.{answer_line, joined, output_lines, serial_output, state_after_line, state_after_lines}
 use Rattle.meaning.specs.State.{State, empty}
 use Rattle.device_map.specs.Layout.{image_size}

@@ -4,7 +4,7 @@ use Rattle.std.specs.List.{flat_map}
 use Rattle.affinity.specs.Geometry.{numbers_of}
 use Rattle.affinity.specs.declared.geometry.Geometry.{Geometry}
 use Rattle.recovery.specs.declared.inspecting.Shown.{Shown}
-use Rattle.language.specs.Replies.{output_line, reply_line, spaced}
+use Rattle.protocol.specs.Replies.{output_line, reply_line, spaced}
 use Rattle.device_map.specs.Layout.{device_size, layout_of}
 
 -- a word, and behind it a space and the decimal digits of each number

@@ -3,7 +3,7 @@
 use Rattle.std.specs.Prelude.{◌≡◌, ℕ, List, [], ◌∷◌, ◌++◌, map, take, Option, Some, Result, Err, OnOk}
 use Rattle.affinity.specs.declared.geometry.Geometry.{Geometry}
 use Rattle.disk.specs.Device.{IsCrashImage, IsSynced, Medium}
-use Rattle.language.specs.Lines.{lines}
+use Rattle.protocol.specs.Lines.{lines}
 use Rattle.meaning.specs.Output.{joined, output_lines}
 use Rattle.meaning.specs.State.{State}
 use Rattle.serving.specs.Restart.{IsClosedPart}

@@ -14,7 +14,7 @@ use Rattle.histories.specs.Incarnations.{Ran}
 use Rattle.incarnations.specs.Incarnations.{IsRunIncarnation}
 use Rattle.incarnations.specs.Machine.{machine_of}
 use Rattle.incarnations.specs.DeviceEvents.{DeviceEvent, IsFailStop, device_after, events_of}
-use Rattle.language.specs.Lines.{lines}
+use Rattle.protocol.specs.Lines.{lines}
 use Rattle.message.specs.Writing.{AppendsBeginning}
 use Rattle.meaning.specs.Output.{IsBeginning, WritesOutput, serial_output}
 use Rattle.meaning.specs.State.{State}

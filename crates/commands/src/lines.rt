@@ -2,7 +2,7 @@
 ghost use Rattle.std.specs.Prelude.{◌≡◌, ◌++◌, IfErr, OnErr, OnOk};
 ghost use Rattle.std.specs.Io.KnownBytes.{Appends};
 ghost use Rattle.std.specs.List.{flat_map};
-ghost use Rattle.language.specs.Replies.{spaced};
+ghost use Rattle.protocol.specs.Replies.{spaced};
 ghost use Rattle.message.specs.Writing.{AppendsBeginning};
 ghost use Rattle.commands.specs.Lines.{number_line};
 

@@ -1,7 +1,7 @@
 //! `waffd show`: what the device in a file holds.
 ghost use Rattle.std.specs.Prelude.{◌≡◌, ◌++◌, IfOk, OnOk};
 ghost use Rattle.affinity.specs.Geometry.{numbers_of};
-ghost use Rattle.language.specs.Replies.{reply_line};
+ghost use Rattle.protocol.specs.Replies.{reply_line};
 ghost use Rattle.commands.specs.Ends.{EndsShowing, ShowsBytes};
 ghost use Rattle.commands.specs.Lines.{shown_lines};
 
@@ -10,7 +10,7 @@ use crate::lines::{add_line, write_lines};
 use affinity::Geometry;
 use checkpoint::{Shown, inspect};
 use disk::{Disk, FileDisk};
-use language::Reply;
+use protocol::Reply;
 use message::{LONGEST_REPLY, write_reply};
 use std::alloc::{AllocError, Global};
 use std::fs::File;

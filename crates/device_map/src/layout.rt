@@ -4,7 +4,7 @@ ghost use Rattle.std.specs.Prelude.{◌≡◌, ◌<◌, ◌≤◌, ◌+◌, ◌*
 ghost use Rattle.device_map.specs.Layout.{layout_of, part_at, device_size, half_part, half_size, image_part, image_size};
 
 use affinity::Geometry;
-use language::{BLOCK_SIZE, RECORD_SIZE};
+use protocol::{BLOCK_SIZE, RECORD_SIZE};
 
 /// The size of the header, with which a device begins.
 pub const HEADER_SIZE: usize = 64;

@@ -4,7 +4,7 @@ ghost use Rattle.parcel.specs.Tree.{IsWholeTree};
 
 use crate::Wrong;
 use affinity::{Geometry, is_in_range};
-use language::{Msg, Refusal, Reply};
+use protocol::{Msg, Refusal, Reply};
 use message::{LONGEST_REPLY, parse_line, write_reply};
 use parcel::{Tree, step};
 use plain::serve_plain;

@@ -8,7 +8,7 @@ use crate::{Counting, Counts, Questions, Wrong, reply_lines};
 use affinity::{Geometry, changing, is_in_range};
 use checkpoint::{Journal, OpenFault, device_len, format, open};
 use disk::{Disk, MemDisk};
-use language::{Msg, Reply};
+use protocol::{Msg, Reply};
 use oplog::LogFault;
 use parcel::{Tree, step};
 use std::alloc::{AllocError, Global};

@@ -5,7 +5,7 @@ use Rattle.std.specs.List.{AllByRecursion}
 use Rattle.std.proofs.lemmas.List.{take-append-drop}
 use Rattle.affinity.specs.declared.geometry.Geometry.{Geometry}
 use Rattle.affinity.specs.Path.{are_related}
-use Rattle.language.specs.Messages.{path_of}
+use Rattle.protocol.specs.Messages.{path_of}
 use Rattle.meaning.specs.Serial.{state_after_all, next_state}
 use Rattle.meaning.specs.Order.{messages_of}
 use Rattle.meaning.specs.Subtrees.{AgreeOn}

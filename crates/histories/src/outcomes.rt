@@ -1,6 +1,6 @@
 //! The steps of a machine, their outcomes, and why one is refused.
 
-use language::{Msg, Reply};
+use protocol::{Msg, Reply};
 
 /// What a machine (the model of a server: a core with hands) is to do. Hands are named by their number, from 0 on.
 #[derive(Clone, Copy, Debug, PartialEq, Eq)]

@@ -13,7 +13,7 @@ use Rattle.affinity.specs.declared.geometry.Geometry.{Geometry}
 use Rattle.affinity.proofs.Placed.{group_below}
 use Rattle.affinity.proofs.Elements.{all_take, all_drop}
 use Rattle.device_map.specs.Layout.{slice}
-use Rattle.language.specs.Messages.{AreSizedBytes}
+use Rattle.protocol.specs.Messages.{AreSizedBytes}
 use Rattle.meaning.specs.State.{State, VolumeKey, IsState}
 use Rattle.image.specs.Pieces.{pieces_of_volume, piece_count, piece_at, piece_size, piece_of, aggregate_of, volume_of, part_of, volume_piece_number, has_volume, is_made_in, is_sealed_in, has_file_in, label_in, block_in, decoded_by, stripe_piece_number}
 use Rattle.image.specs.Image.{image_head, image_of, image_state, is_image, is_version, has_head, version_in, piece_in, decoded_state, decoded_before, is_good, AreGood}

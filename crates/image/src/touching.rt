@@ -4,7 +4,7 @@ ghost use Rattle.image.specs.Touched.{may_change, may_change_part};
 
 use crate::layout::place_of_piece;
 use affinity::{Geometry, changing, group_of};
-use language::Msg;
+use protocol::Msg;
 
 /// Whether a message may change piece `n` of an image. It may change pieces of its own volume alone, and none if it only asks.
 /// A piece that it may not change stays as it is, whatever the reply is (`laws::an_untouched_piece_stays`).

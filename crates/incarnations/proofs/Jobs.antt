@@ -4,8 +4,8 @@ use Rattle.std.specs.List.{Contains}
 use Rattle.affinity.specs.Path.{are_related}
 use Rattle.affinity.specs.declared.geometry.Geometry.{Geometry}
 use Rattle.histories.specs.CoreState.{CoreState}
-use Rattle.language.specs.Messages.{path_of}
-use Rattle.language.specs.declared.Msg.{Msg}
+use Rattle.protocol.specs.Messages.{path_of}
+use Rattle.protocol.specs.declared.Msg.{Msg}
 use Rattle.parcel.specs.Run.{JobView}
 use Rattle.parcel.specs.declared.job.Done.{Done}
 use Rattle.meaning.proofs.Agree.{agree-sym, agree-trans}

@@ -8,7 +8,7 @@ use crate::hands::{first_empty, run_in, take_result};
 use disk::Disk;
 use histories::{Outcome, Step};
 use incarnations::HandContent;
-use language::Msg;
+use protocol::Msg;
 use scheduler::{Core, Granted};
 
 /// Makes one step, and returns its outcome.

@@ -7,7 +7,7 @@ use Rattle.std.proofs.lemmas.Nat.{or_lt, and_le_l}
 use Rattle.std.proofs.lemmas.Nat.Bits.{bit_at_above, bit_at_set_same, bit_at_set_other, bit_at_clear_same, bit_at_clear_other, bit_at-zero}
 use Rattle.std.proofs.Math.Pow.{pow-lt}
 use Rattle.std.proofs.Math.Nat.{pow-le-pow_right}
-use Rattle.language.specs.Replies.{has_file}
+use Rattle.protocol.specs.Replies.{has_file}
 
 pub has_none : (f : ℕ) → has_file 0 f ≡ false
 has_none f = ap (λ n. n == 1) (bit_at-zero f)

@@ -6,7 +6,7 @@ use Rattle.std.proofs.lemmas.Bool.{cases_lt, cases_eq, eq-eqb, ne_eqb, eqb-true,
 use Rattle.std.proofs.lemmas.Nat.{mod-pow-add, ones_cat, ones_le_self, zero_from_ones}
 use Rattle.std.proofs.lemmas.Nat.Bits.{bit_at_above, bit_at-lt, same_from_bits}
 use Rattle.std.proofs.Math.Nat.{mod-eq_of_lt}
-use Rattle.language.specs.Replies.{has_file}
+use Rattle.protocol.specs.Replies.{has_file}
 use Rattle.meaning.specs.State.{sum_below, count_below, one_if}
 use Rattle.meaning.proofs.FileBits.{none_below}
 

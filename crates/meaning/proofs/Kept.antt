@@ -8,12 +8,12 @@ use Rattle.affinity.specs.Geometry.{stripe_of}
 use Rattle.affinity.specs.Path.{is_prefix, stripe}
 use Rattle.affinity.specs.Place.{are_below, limits}
 use Rattle.affinity.specs.declared.kinds.Kind.TheVariants as kinds
-use Rattle.language.specs.declared.Block.{Block}
-use Rattle.language.specs.declared.Msg.{Msg}
-use Rattle.language.specs.declared.Msg.TheVariants.{MakeVol, DropVol, Create, Delete, Seal, Unseal, Write, Punch, Read, SetLabel}
-use Rattle.language.specs.declared.Refusal.{Refusal}
-use Rattle.language.specs.declared.Refusal.TheVariants.{Space}
-use Rattle.language.specs.Messages.{IsMessage, kind, four_numbers}
+use Rattle.protocol.specs.declared.Block.{Block}
+use Rattle.protocol.specs.declared.Msg.{Msg}
+use Rattle.protocol.specs.declared.Msg.TheVariants.{MakeVol, DropVol, Create, Delete, Seal, Unseal, Write, Punch, Read, SetLabel}
+use Rattle.protocol.specs.declared.Refusal.{Refusal}
+use Rattle.protocol.specs.declared.Refusal.TheVariants.{Space}
+use Rattle.protocol.specs.Messages.{IsMessage, kind, four_numbers}
 use Rattle.meaning.specs.State.{State, IsState, empty, BlockKey, is_file, is_block, is_block_of_file, one_if, blocks_in_stripe}
 use Rattle.meaning.specs.Serial.{checks, passes, refusal, effect, accepted_reply, reply_and_state, next_state, state_after_all}
 use Rattle.meaning.specs.Laws.{outside}

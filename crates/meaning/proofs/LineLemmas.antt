@@ -3,7 +3,7 @@ use Rattle.std.proofs.Common.{◌≡◌, ◌≢◌, ℕ, ◌⊎◌, inl, inr, Bo
 use Rattle.std.specs.Prelude.{◌==◌, Contains, if◌then◌else◌}
 use Rattle.std.proofs.lemmas.List.Elements.{All-from_recursion}
 use Rattle.std.proofs.lemmas.Bool.{eqb-true, eq-eqb, true≢false}
-use Rattle.language.specs.FirstLine.{first_line, behind_first_line}
+use Rattle.protocol.specs.FirstLine.{first_line, behind_first_line}
 use Rattle.meaning.specs.Output.{HasNoNewline}
 
 first_with : (b : ℕ) (bs : List ℕ) (t : Bool) → (b == 10) ≡ t → HasNoNewline (first_line bs) → HasNoNewline (if t then [] else b ∷ first_line bs)

@@ -3,8 +3,8 @@ use Rattle.std.proofs.Common.{◌≡◌, ℕ, List, [], ◌∷◌, ◌++◌, len
 use Rattle.std.specs.List.{AllByRecursion}
 use Rattle.std.proofs.lemmas.List.Concat.{flat_map-append}
 use Rattle.affinity.specs.declared.geometry.Geometry.{Geometry}
-use Rattle.language.specs.Grammar.{message_of}
-use Rattle.language.specs.Lines.{lines}
+use Rattle.protocol.specs.Grammar.{message_of}
+use Rattle.protocol.specs.Lines.{lines}
 use Rattle.meaning.specs.State.{State}
 use Rattle.meaning.specs.Output.{answer_line, state_after_line, state_after_lines, output_lines, joined, serial_output, with_newlines, HasNoNewline, IsBeginning}
 

@@ -4,11 +4,11 @@ use Rattle.std.specs.Prelude.{Contains, IfSome, replicate}
 use Rattle.std.proofs.lemmas.List.{length-replicate}
 use Rattle.std.proofs.lemmas.Option.{none-some, same_Some}
 use Rattle.std.proofs.lemmas.Bool.{true≢false}
-use Rattle.language.specs.declared.TheConstants.{LONGEST_LINE}
-use Rattle.language.specs.Lines.{lines}
-use Rattle.language.specs.Grammar.{message_of}
-use Rattle.language.specs.FirstLine.{first_line, behind_first_line, GivesLine, PassesLine, HasWholeFirstLine}
-use Rattle.language.proofs.FirstLines.{too_long, lines-first}
+use Rattle.protocol.specs.declared.TheConstants.{LONGEST_LINE}
+use Rattle.protocol.specs.Lines.{lines}
+use Rattle.protocol.specs.Grammar.{message_of}
+use Rattle.protocol.specs.FirstLine.{first_line, behind_first_line, GivesLine, PassesLine, HasWholeFirstLine}
+use Rattle.protocol.proofs.FirstLines.{too_long, lines-first}
 use Rattle.meaning.specs.Output.{with_newlines}
 use Rattle.meaning.specs.Progress.{AreTaken, TakesLines}
 use Rattle.meaning.proofs.LineLemmas.{first_has_none, first_ends}

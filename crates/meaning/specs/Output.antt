@@ -4,10 +4,10 @@ use Rattle.std.specs.Prelude.{◌≡◌, ◌≢◌, ℕ, List, [], ◌∷◌, �
 use Rattle.std.specs.Io.KnownBytes.{Appends}
 use Rattle.std.specs.List.{flat_map, AllByRecursion}
 use Rattle.affinity.specs.declared.geometry.Geometry.{Geometry}
-use Rattle.language.specs.declared.Msg.{Msg}
-use Rattle.language.specs.Lines.{lines}
-use Rattle.language.specs.Grammar.{message_of}
-use Rattle.language.specs.Replies.{reply_line, no_message}
+use Rattle.protocol.specs.declared.Msg.{Msg}
+use Rattle.protocol.specs.Lines.{lines}
+use Rattle.protocol.specs.Grammar.{message_of}
+use Rattle.protocol.specs.Replies.{reply_line, no_message}
 use Rattle.meaning.specs.State.{State}
 use Rattle.meaning.specs.Serial.{reply_to, next_state}
 

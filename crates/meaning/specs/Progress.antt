@@ -4,7 +4,7 @@ use Rattle.std.specs.Prelude.{◌≡◌, ◌⊎◌, ℕ, Bool, true, List, ◌++
 use Rattle.std.specs.List.{AllByRecursion}
 use Rattle.std.specs.Io.KnownBytes.{Appends}
 use Rattle.affinity.specs.declared.geometry.Geometry.{Geometry}
-use Rattle.language.specs.Lines.{lines}
+use Rattle.protocol.specs.Lines.{lines}
 use Rattle.meaning.specs.State.{State}
 use Rattle.meaning.specs.Output.{state_after_lines, output_lines, joined, with_newlines, HasNoNewline}
 

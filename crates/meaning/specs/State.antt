@@ -2,9 +2,9 @@
 use Rattle.std.specs.Prelude.{◌≡◌, ℕ, zero, suc, ◌+◌, ◌<◌, ◌≤◌, Bool, true, false, not, ◌&&◌, ◌||◌, ◌==◌, List, if◌then◌else◌, Option, Some, None, is_some, IfSome}
 use Rattle.affinity.specs.declared.geometry.Geometry.{Geometry}
 use Rattle.affinity.specs.Geometry.{stripe_of}
-use Rattle.language.specs.declared.TheConstants.{LABEL_SIZE}
-use Rattle.language.specs.declared.Block.{Block}
-use Rattle.language.specs.Messages.{IsBlock, AreSizedBytes}
+use Rattle.protocol.specs.declared.TheConstants.{LABEL_SIZE}
+use Rattle.protocol.specs.declared.Block.{Block}
+use Rattle.protocol.specs.Messages.{IsBlock, AreSizedBytes}
 
 -- ---- sets and maps
 

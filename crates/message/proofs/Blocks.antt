@@ -11,9 +11,9 @@ use Rattle.std.specs.List.{AllPass}
 use Rattle.hex.specs.Hex.{decode_of, decode_sized, is_hex_digit}
 use Rattle.hex.specs.declared.error.FromHexError.{FromHexError}
 use Rattle.hex.proofs.HexLemmas.{decode_of-ok}
-use Rattle.language.specs.declared.TheConstants.{BLOCK_SIZE, LABEL_SIZE}
-use Rattle.language.specs.declared.Block.{Block}
-use Rattle.language.specs.Lines.{bytes_in_word, block_in_word, label_in_word, padded}
+use Rattle.protocol.specs.declared.TheConstants.{BLOCK_SIZE, LABEL_SIZE}
+use Rattle.protocol.specs.declared.Block.{Block}
+use Rattle.protocol.specs.Lines.{bytes_in_word, block_in_word, label_in_word, padded}
 use Rattle.message.proofs.Words.{HasNoSpace}
 
 -- w is the hexadecimal digits of `bytes`, of which there are 1 to `size`

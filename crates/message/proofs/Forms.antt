@@ -3,13 +3,13 @@ use Rattle.std.proofs.Common.{arith, ◌≡◌, ℕ, List, [], ◌∷◌, Option
 use Rattle.std.proofs.lemmas.Grind.{common_steps}
 use Rattle.std.specs.Option.{option_map}
 use Rattle.affinity.specs.declared.kinds.Kind.TheVariants.{Summary}
-use Rattle.language.specs.declared.Block.{Block}
-use Rattle.language.specs.declared.Msg.{Msg}
-use Rattle.language.specs.Lines.{words, number_in_word, block_in_word, label_in_word}
+use Rattle.protocol.specs.declared.Block.{Block}
+use Rattle.protocol.specs.declared.Msg.{Msg}
+use Rattle.protocol.specs.Lines.{words, number_in_word, block_in_word, label_in_word}
 use Rattle.message.proofs.Words.{only, only-words, words_some}
 use Rattle.message.proofs.Numbers.{number_no_space}
 use Rattle.message.proofs.Blocks.{block_no_space, label_no_space}
-use Rattle.language.specs.Grammar.{◌>>=◌, first_number, of_volume, of_file, of_block, of_data, of_label, of_kind}
+use Rattle.protocol.specs.Grammar.{◌>>=◌, first_number, of_volume, of_file, of_block, of_data, of_label, of_kind}
 
 -- k applied to the number that the first of several words encodes, and to the words after it
 abbrev pub onward : (ℕ → List (List ℕ) → Option Msg) → List (List ℕ) → Option Msg

@@ -8,9 +8,9 @@ use Rattle.std.proofs.lemmas.Option.{same_Some}
 use Rattle.std.proofs.lemmas.Slice.Eq.{bytes_eq-Decides}
 use Rattle.affinity.specs.declared.kinds.Kind.{Kind}
 use Rattle.affinity.specs.declared.kinds.Kind.TheVariants.{MakeVol, Summary}
-use Rattle.language.specs.declared.TheConstants.{LONGEST_LINE}
-use Rattle.language.specs.Lines.{words}
-use Rattle.language.specs.Grammar.{message_of, of_words, of_kind, keyword, kind_named, all_kinds, ◌>>=◌}
+use Rattle.protocol.specs.declared.TheConstants.{LONGEST_LINE}
+use Rattle.protocol.specs.Lines.{words}
+use Rattle.protocol.specs.Grammar.{message_of, of_words, of_kind, keyword, kind_named, all_kinds, ◌>>=◌}
 use Rattle.message.proofs.Words.{none_before, words_whole, goes_on}
 
 pub by_words : (line : List ℕ) (ws : List (List ℕ)) → length line ≤ LONGEST_LINE → words line ≡ ws → message_of line ≡ of_words ws

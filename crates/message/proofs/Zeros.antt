@@ -3,7 +3,7 @@ use Rattle.std.proofs.lemmas.Grind.{common_steps}
 use Rattle.std.proofs.Common.{◌≡◌, ℕ, ◌-◌, ◌<◌, ◌≤◌, List, [], ◌∷◌, ◌++◌, length, get_or, take, refl, ap, ◌∙◌, arith}
 use Rattle.std.proofs.lemmas.Bool.{ne_eqb, cond-false}
 use Rattle.std.proofs.lemmas.List.{take_more}
-use Rattle.language.specs.Replies.{prepended, without_trailing_zeros, at_least_one}
+use Rattle.protocol.specs.Replies.{prepended, without_trailing_zeros, at_least_one}
 
 zero_goes : (xs : List ℕ) → without_trailing_zeros (xs ++ 0 ∷ []) ≡ without_trailing_zeros xs
 zero_goes [] = refl

@@ -4,11 +4,11 @@ use Rattle.std.specs.List.{AllByRecursion}
 use Rattle.affinity.specs.declared.kinds.Kind.{Kind}
 use Rattle.affinity.specs.declared.kinds.Kind.TheVariants as kinds
 use Rattle.byteorder.specs.Endian.{little_bytes, little_number}
-use Rattle.language.specs.declared.TheConstants.{BLOCK_SIZE, LABEL_SIZE}
-use Rattle.language.specs.declared.Msg.{Msg}
-use Rattle.language.specs.declared.Msg.TheVariants.{MakeVol, DropVol, Create, Delete, Seal, Unseal, Write, Punch, Read, List as ListFiles, Usage, Summary, SetLabel, Label}
-use Rattle.language.specs.Messages.{kind, four_numbers}
-use Rattle.language.specs.Grammar.{all_kinds}
+use Rattle.protocol.specs.declared.TheConstants.{BLOCK_SIZE, LABEL_SIZE}
+use Rattle.protocol.specs.declared.Msg.{Msg}
+use Rattle.protocol.specs.declared.Msg.TheVariants.{MakeVol, DropVol, Create, Delete, Seal, Unseal, Write, Punch, Read, List as ListFiles, Usage, Summary, SetLabel, Label}
+use Rattle.protocol.specs.Messages.{kind, four_numbers}
+use Rattle.protocol.specs.Grammar.{all_kinds}
 
 -- the code of a kind, which is the first byte of a record
 abbrev pub kind_number : Kind → ℕ

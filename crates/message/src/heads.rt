@@ -2,10 +2,10 @@
 //! behind the keyword the argument `line` is the rest of the line.
 
 ghost use Rattle.std.specs.Prelude.{◌≡◌, ◌↔◌, [], Option, MatchOption, Some, None, unwrap_or};
-ghost use Rattle.language.specs.declared.Msg.{Msg};
-ghost use Rattle.language.specs.declared.Msg.TheVariants.{Write as write, SetLabel as set_label};
-ghost use Rattle.language.specs.Lines.{words, block_in_word, bytes_in_word, label_in_word};
-ghost use Rattle.language.specs.Grammar.{message_of, Spells, of_kind, of_data, of_label};
+ghost use Rattle.protocol.specs.declared.Msg.{Msg};
+ghost use Rattle.protocol.specs.declared.Msg.TheVariants.{Write as write, SetLabel as set_label};
+ghost use Rattle.protocol.specs.Lines.{words, block_in_word, bytes_in_word, label_in_word};
+ghost use Rattle.protocol.specs.Grammar.{message_of, Spells, of_kind, of_data, of_label};
 ghost use Rattle.message.specs.Heads.{IsHead};
 ghost use Rattle.message.specs.declared.heads.Head.TheVariants.{NoMessage};
 
@@ -17,7 +17,7 @@ use crate::parsing::{
 };
 use crate::records::assembled;
 use affinity::Kind;
-use language::{BLOCK_SIZE, Block, LABEL_SIZE, Msg};
+use protocol::{BLOCK_SIZE, Block, LABEL_SIZE, Msg};
 
 /// What a line is, its data not decoded. It is a few bytes, where a `Msg` has room for a block.
 #[derive(Clone, Copy)]

@@ -1,4 +1,4 @@
-//! Reads and writes the language of the server: messages as input lines, replies as output lines, and records.
+//! Reads and writes the lines of the protocol: messages as input lines, replies as output lines, and records.
 #![tactic(auto)]
 
 mod decoding;
@@ -13,7 +13,7 @@ mod writing;
 
 pub use heads::{Head, decode_block, decode_label, head_of_line, parse_line};
 // A reader that is lent to a `LineReader`; its type parameter, a `Loan`, says which one it is.
-pub use language::{
+pub use protocol::{
     BLOCK_SIZE, Block, LABEL_SIZE, LONGEST_LINE, LONGEST_REPLY, LONGEST_TEXT, Msg, RECORD_SIZE,
     Refusal, Reply,
 };

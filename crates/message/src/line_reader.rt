@@ -5,7 +5,7 @@
 //! nothing left.
 ghost use Rattle.std.specs.Prelude.{◌≡◌, ◌≢◌, ℕ, ◌+◌, ◌-◌, ◌<◌, ◌≤◌, ◌↔◌, ◌⊎◌, [], true, false, length, take, drop, slice_index, IsTrue, IsFalse, IsOk, IsErr, is_err, IfSome, IfOk, OnOk, OnErr, Contains, vec_len};
 ghost use Rattle.std.specs.Io.KnownBytes.{Keeps, Consumes, IsAtEnd, prepend_known};
-ghost use Rattle.language.specs.declared.TheConstants.{LONGEST_LINE};
+ghost use Rattle.protocol.specs.declared.TheConstants.{LONGEST_LINE};
 
 use crate::LONGEST_LINE;
 use memchr::memchr;
@@ -75,7 +75,7 @@ fn read_over<R: Read>(reader: &mut R, buffer: &mut Vec<u8>, at: usize) -> Result
 }
 
 impl Buffered {
-    ghost use Rattle.language.specs.FirstLine.{first_line, behind_first_line, IsWithinLine};
+    ghost use Rattle.protocol.specs.FirstLine.{first_line, behind_first_line, IsWithinLine};
     ghost use Rattle.message.specs.Reader.{buffered_bytes, given_line};
 
     fn new(buffer: Vec<u8>) -> Buffered
@@ -233,7 +233,7 @@ pub struct LineReader<R> {
 }
 
 impl<R: Read> LineReader<R> {
-    ghost use Rattle.language.specs.FirstLine.{first_line, behind_first_line, IsWithinLine, LosesLineStart, HasWholeFirstLine};
+    ghost use Rattle.protocol.specs.FirstLine.{first_line, behind_first_line, IsWithinLine, LosesLineStart, HasWholeFirstLine};
     ghost use Rattle.message.specs.Reader.{buffered_bytes, HoldsEnough, unread, line_of, HoldsLine, has_ended, has_failed, source, Finds, Closes, is_drained, KnowsEnd};
 
     /// A reader of lines over a reader, before its first read. The buffer takes the longest line and its newline.

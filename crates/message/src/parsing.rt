@@ -4,15 +4,15 @@
 ghost use Rattle.std.specs.Prelude.{◌≡◌, ◌≢◌, ℕ, ◌<◌, ◌≤◌, ◌∷◌, [], true, ◌↔◌, length, slice_index, IsTrue, IfSome, MatchOption, option_map};
 ghost use Rattle.std.specs.Str.{all_ascii_digits};
 ghost use Rattle.std.specs.Str.Parse.{digits_value};
-ghost use Rattle.language.specs.declared.Msg.{Msg};
-ghost use Rattle.language.specs.Lines.{words, number_in_word, bytes_in_word};
-ghost use Rattle.language.specs.Grammar.{first_number, of_volume, of_file, of_block, kind_named};
-ghost use Rattle.language.specs.Messages.{filled};
+ghost use Rattle.protocol.specs.declared.Msg.{Msg};
+ghost use Rattle.protocol.specs.Lines.{words, number_in_word, bytes_in_word};
+ghost use Rattle.protocol.specs.Grammar.{first_number, of_volume, of_file, of_block, kind_named};
+ghost use Rattle.protocol.specs.Messages.{filled};
 ghost use Rattle.message.specs.Numbers.{AreInFront, HasTooMuchInFront};
 
 use crate::LONGEST_LINE;
 use affinity::Kind;
-use language::{Block, Msg};
+use protocol::{Block, Msg};
 
 /// How many bytes the longest keyword has.
 const LONGEST_KEYWORD: usize = 8;

@@ -2,14 +2,14 @@
 
 ghost use Rattle.std.specs.Prelude.{◌≡◌, ◌↔◌, ◌-◌, true, Some, take, drop, length, IfSome, IsTrue, slice_index};
 ghost use Rattle.affinity.specs.declared.kinds.Kind.{Kind};
-ghost use Rattle.language.specs.Messages.{IsMessage, is_in_range};
+ghost use Rattle.protocol.specs.Messages.{IsMessage, is_in_range};
 ghost use Rattle.message.specs.Heads.{has_data};
 ghost use Rattle.message.specs.Records.{FitsRecord, assembled, data_of, message_in_fields, record_head, kind_number, kind_numbered, record_of};
-ghost use Rattle.language.specs.declared.Msg.{Msg};
+ghost use Rattle.protocol.specs.declared.Msg.{Msg};
 
 use affinity::{Geometry, Kind, is_in_range};
 use byteorder::{ByteOrder, LittleEndian};
-use language::{BLOCK_SIZE, Block, LABEL_SIZE, Msg, RECORD_SIZE};
+use protocol::{BLOCK_SIZE, Block, LABEL_SIZE, Msg, RECORD_SIZE};
 
 /// Writes the record of a message into `out`, all of it. The message's aggregate, volume and file
 /// are at most 255 each.

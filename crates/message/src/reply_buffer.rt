@@ -4,16 +4,16 @@
 ghost use Rattle.std.specs.Prelude.{◌≡◌, ◌+◌, ◌≤◌, ◌⊎◌, ◌↔◌, [], ◌++◌, length, take, vec_len, IsTrue, IsOk, IfOk, OnOk, OnErr};
 ghost use Rattle.std.specs.Io.KnownBytes.{Appends};
 ghost use Rattle.message.specs.Reader.{HoldsLine};
-ghost use Rattle.language.specs.Replies.{no_message, reply_line};
+ghost use Rattle.protocol.specs.Replies.{no_message, reply_line};
 ghost use Rattle.message.specs.Waiting.{FitsReply, all_output};
 ghost use Rattle.message.specs.Writing.{AppendsBeginning};
-ghost use Rattle.language.specs.declared.Reply.TheVariants.{Done, Refused, Block as block_reply};
+ghost use Rattle.protocol.specs.declared.Reply.TheVariants.{Done, Refused, Block as block_reply};
 
 use crate::line_reader::LineReader;
 use crate::printing::{refusal_line, write_block};
 use crate::writing::{WriteFault, write_in_order};
 use crate::{LONGEST_REPLY, no_message_line, write_reply};
-use language::{Block, Refusal, Reply};
+use protocol::{Block, Refusal, Reply};
 use std::alloc::{AllocError, Global};
 use std::io::{Read, Write};
 use std::marker::Model;

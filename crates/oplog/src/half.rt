@@ -13,7 +13,7 @@ use affinity::Geometry;
 use device_map::{CHAIN_ZONE_SIZE, RECORD_SIZE, half_at};
 use disk::writes::store;
 use disk::{Disk, DiskFault};
-use language::Msg;
+use protocol::Msg;
 
 /// How many records are written at a time, at most.
 pub(crate) const RECORDS_PER_WRITE: usize = 64;

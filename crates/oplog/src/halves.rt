@@ -1,7 +1,7 @@
 //! The two halves of a log as one value.
 ghost use Rattle.std.specs.Prelude.{◌≡◌, ◌+◌, ◌*◌, ◌<◌, ◌≤◌, true, false, length, IfOk, IfSome, IsNone, OnOk};
 ghost use Rattle.disk.specs.Device.{moments};
-ghost use Rattle.language.specs.Messages.{IsMessage};
+ghost use Rattle.protocol.specs.Messages.{IsMessage};
 ghost use Rattle.message.specs.Records.{record_of};
 ghost use Rattle.oplog.specs.Changing.{AreChangesInRange, IsChangeInRange, IsNoChangeRecord};
 
@@ -11,7 +11,7 @@ use affinity::{Geometry, changing};
 use device_map::{RECORD_SIZE, ROOT_ZONE_AT};
 use disk::Disk;
 use disk::writes::store;
-use language::Msg;
+use protocol::Msg;
 use message::decode;
 use std::alloc::{AllocError, Global};
 use std::marker::Model;

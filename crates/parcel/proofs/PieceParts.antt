@@ -9,8 +9,8 @@ use Rattle.affinity.specs.declared.geometry.Geometry.{Geometry}
 use Rattle.byteorder.specs.Endian.{little_number}
 use Rattle.device_map.specs.Layout.{slice}
 use Rattle.device_map.specs.declared.layout.TheConstants.{BLOCK_ENTRY_SIZE}
-use Rattle.language.specs.Messages.{AreSizedBytes}
-use Rattle.language.specs.Replies.{has_file}
+use Rattle.protocol.specs.Messages.{AreSizedBytes}
+use Rattle.protocol.specs.Replies.{has_file}
 use Rattle.stripe.specs.Entries.{IsStripePiece}
 use Rattle.image.specs.Pieces.{block_in, piece_count, aggregate_of, volume_of as volume_number}
 use Rattle.image.proofs.Numbers.{in_aggregates, in_volumes}

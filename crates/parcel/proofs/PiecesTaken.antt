@@ -7,8 +7,8 @@ use Rattle.affinity.specs.Geometry.{stripe_of}
 use Rattle.affinity.specs.Interval.{IsPath}
 use Rattle.affinity.specs.Path.{is_prefix, volume}
 use Rattle.affinity.specs.declared.geometry.Geometry.{Geometry}
-use Rattle.language.specs.Messages.{AreSizedBytes}
-use Rattle.language.specs.Replies.{has_file}
+use Rattle.protocol.specs.Messages.{AreSizedBytes}
+use Rattle.protocol.specs.Replies.{has_file}
 use Rattle.meaning.specs.Laws.{outside}
 use Rattle.meaning.specs.Subtrees.{OfMade, OfSealed, OfLabel, OfFile, OfBlock, AgreeOn}
 use Rattle.meaning.specs.State.{State, IsState}

@@ -5,7 +5,7 @@ use Rattle.std.proofs.lemmas.Bool.{and_parts, cond-false, or_left, or_right}
 use Rattle.affinity.specs.declared.geometry.Geometry.{Geometry}
 use Rattle.affinity.specs.Interval.{IsPath}
 use Rattle.affinity.specs.Path.{Path, is_prefix, are_related}
-use Rattle.language.specs.Messages.{path_of, IsMessage}
+use Rattle.protocol.specs.Messages.{path_of, IsMessage}
 use Rattle.meaning.specs.State.{State, IsState}
 use Rattle.meaning.specs.Serial.{next_state}
 use Rattle.meaning.specs.Subtrees.{AgreeOn, subtree, standing}

@@ -4,8 +4,8 @@ use Rattle.affinity.specs.declared.geometry.Geometry.{Geometry}
 use Rattle.affinity.specs.Interval.{Interval, IsAffinityOf}
 use Rattle.affinity.specs.Path.{Path}
 use Rattle.affinity.proofs.Preorder.{path_unique}
-use Rattle.language.specs.declared.Msg.{Msg}
-use Rattle.language.specs.Messages.{path_of}
+use Rattle.protocol.specs.declared.Msg.{Msg}
+use Rattle.protocol.specs.Messages.{path_of}
 use Rattle.parcel.specs.Fits.{Fits, IsKindOf, IsRunnable}
 use Rattle.parcel.specs.declared.parts.Parcels.{Parcels}
 

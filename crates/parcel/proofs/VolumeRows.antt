@@ -6,9 +6,9 @@ use Rattle.std.proofs.lemmas.Bool.{eq-eqb, ne_eqb, cases_eq}
 use Rattle.std.specs.Vec.{with_item}
 use Rattle.std.proofs.lemmas.List.{get_or-set_same, get_or-set_other, get_or_read}
 use Rattle.affinity.specs.declared.geometry.Geometry.{Geometry}
-use Rattle.language.specs.declared.Msg.TheVariants.{MakeVol, DropVol}
-use Rattle.language.specs.declared.Refusal.TheVariants.{Range, Exists}
-use Rattle.language.specs.Messages.{is_in_range}
+use Rattle.protocol.specs.declared.Msg.TheVariants.{MakeVol, DropVol}
+use Rattle.protocol.specs.declared.Refusal.TheVariants.{Range, Exists}
+use Rattle.protocol.specs.Messages.{is_in_range}
 use Rattle.meaning.specs.Serial.{refusal, effect, no_label}
 use Rattle.meaning.specs.State.{State}
 use Rattle.parcel.specs.Fits.{FitsAggregate, FitsVolume}

@@ -1,6 +1,6 @@
 -- Statement for engineers: What a run means for any state of which its job had a part, and for the tree that lent it.
 use Rattle.std.specs.Prelude.{◌≡◌}
-use Rattle.language.specs.Messages.{path_of}
+use Rattle.protocol.specs.Messages.{path_of}
 use Rattle.meaning.specs.State.{State}
 use Rattle.meaning.specs.Serial.{reply_to, next_state}
 use Rattle.affinity.specs.declared.geometry.Geometry.{Geometry}

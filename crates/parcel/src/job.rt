@@ -4,7 +4,7 @@ ghost use Rattle.parcel.specs.Fits.{IsRunnable};
 
 use crate::{Parcels, Standing};
 use affinity::Geometry;
-use language::{Msg, Reply};
+use protocol::{Msg, Reply};
 use std::marker::Model;
 
 /// A message with what it runs on.

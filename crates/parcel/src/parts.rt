@@ -7,7 +7,7 @@ mod taking;
 mod whole;
 
 use crate::StripeParcel;
-use language::LABEL_SIZE;
+use protocol::LABEL_SIZE;
 pub(crate) use new_parts::new_root;
 pub(crate) use putting::put_at;
 pub(crate) use standings::{files_of, standing_at, volume_at, volume_mut};

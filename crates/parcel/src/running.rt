@@ -20,7 +20,7 @@ use at_logical::run_at_logical;
 use at_root::run_at_root;
 use at_stripe::run_at_stripe;
 use at_volume::run_at_volume;
-use language::{Msg, Reply};
+use protocol::{Msg, Reply};
 
 /// Runs a job: the serial server, in the state that the job's parcels and standing show, gives this reply;
 /// afterwards they show the state in which it is then.

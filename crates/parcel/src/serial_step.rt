@@ -1,12 +1,12 @@
 //! Runs one message on a tree of which no part is lent.
 ghost use Rattle.std.specs.Prelude.{◌≡◌, true};
-ghost use Rattle.language.specs.Messages.{is_in_range};
+ghost use Rattle.protocol.specs.Messages.{is_in_range};
 ghost use Rattle.parcel.specs.Tree.{IsWholeTree, state_in};
 ghost use Rattle.meaning.specs.Serial.{next_state, reply_to};
 
 use crate::{Job, Tree, run};
 use affinity::place_of;
-use language::{Msg, Reply, know_message};
+use protocol::{Msg, Reply, know_message};
 
 /// Runs a message that is in range on the whole tree, and gives its reply: the serial step of the tree's state. No part of the tree may be
 /// lent. It takes no memory.

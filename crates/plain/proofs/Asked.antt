@@ -5,7 +5,7 @@ use Rattle.std.proofs.Common.{◌≡◌, ℕ, false, List, Some}
 use Rattle.affinity.specs.declared.geometry.Geometry.{Geometry}
 use Rattle.affinity.specs.declared.kinds.Kind.{Kind}
 use Rattle.affinity.specs.declared.kinds.Kind.TheVariants as kinds
-use Rattle.language.specs.Messages.{IsMessage}
+use Rattle.protocol.specs.Messages.{IsMessage}
 use Rattle.message.specs.Heads.{message_without_data, has_data, IsWithoutData}
 use Rattle.meaning.specs.State.{State}
 use Rattle.meaning.specs.Serial.{refusal, refusal_by}

@@ -7,9 +7,9 @@ use Rattle.std.proofs.lemmas.List.Elements.{recursion_from_All}
 use Rattle.std.proofs.lemmas.Option.{none-some, same_Some}
 use Rattle.std.proofs.lemmas.Bool.{true≢false}
 use Rattle.affinity.specs.declared.geometry.Geometry.{Geometry}
-use Rattle.language.specs.Lines.{lines}
-use Rattle.language.specs.Grammar.{message_of}
-use Rattle.language.specs.FirstLine.{GivesLine, PassesLine, HasWholeFirstLine, LosesLineStart}
+use Rattle.protocol.specs.Lines.{lines}
+use Rattle.protocol.specs.Grammar.{message_of}
+use Rattle.protocol.specs.FirstLine.{GivesLine, PassesLine, HasWholeFirstLine, LosesLineStart}
 use Rattle.meaning.specs.State.{State}
 use Rattle.meaning.specs.Output.{answer_line, state_after_line, state_after_lines, output_lines, joined, serial_output, with_newlines, AnswersWholeLines, IsBeginning, WritesOutput}
 use Rattle.meaning.specs.Progress.{HasAnswered}

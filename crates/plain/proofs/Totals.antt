@@ -4,8 +4,8 @@ use Rattle.std.specs.Prelude.{if◌then◌else◌, None, Some, count_ones}
 use Rattle.std.specs.BTreeMap as map
 use Rattle.std.proofs.lemmas.Nat.{mul-le}
 use Rattle.affinity.specs.declared.geometry.Geometry.{Geometry}
-use Rattle.language.specs.declared.Block.{Block}
-use Rattle.language.specs.Replies.{has_file}
+use Rattle.protocol.specs.declared.Block.{Block}
+use Rattle.protocol.specs.Replies.{has_file}
 use Rattle.plain.specs.declared.server.Server.{Server}
 use Rattle.plain.specs.declared.server.Volume.{Volume}
 use Rattle.meaning.specs.State.{State, Map, VolumeKey, BlockKey, IsState, one_if, sum_below, count_below, file_count, block_count, sum_over_volumes}

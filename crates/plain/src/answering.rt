@@ -4,12 +4,12 @@
 
 ghost use Rattle.std.specs.Prelude.{◌≡◌, ◌<◌, ◌++◌, ℕ, List, [], Option, Some, true, false, is_ok, option_map, IfOk, IfSome, OnOk, IsErrOf, IsFalse, MatchBool, unwrap_or, vec_len};
 ghost use Rattle.std.specs.Io.KnownBytes.{Appends, IsAtEnd};
-ghost use Rattle.language.specs.declared.TheConstants.{LONGEST_LINE};
-ghost use Rattle.language.specs.Grammar.{message_of};
+ghost use Rattle.protocol.specs.declared.TheConstants.{LONGEST_LINE};
+ghost use Rattle.protocol.specs.Grammar.{message_of};
 ghost use Rattle.message.specs.Reader.{unread, is_drained, source, KnowsEnd};
 ghost use Rattle.message.specs.Waiting.{FitsReply, all_output};
 ghost use Rattle.message.specs.Writing.{AppendsBeginning};
-ghost use Rattle.language.specs.Lines.{block_in_word, label_in_word};
+ghost use Rattle.protocol.specs.Lines.{block_in_word, label_in_word};
 ghost use Rattle.message.specs.Heads.{IsWithoutData, labeling, message_without_data, writing};
 ghost use Rattle.affinity.specs.Kind.{is_changing};
 ghost use Rattle.affinity.specs.declared.kinds.Kind.TheVariants as kinds;
@@ -17,9 +17,9 @@ ghost use Rattle.meaning.specs.Serial.{done_or_refused};
 ghost use Rattle.meaning.specs.State.{State, empty};
 ghost use Rattle.plain.specs.Answering.{AnswersLine};
 ghost use Rattle.plain.specs.Server.{server_state, IsConsistent};
-ghost use Rattle.language.specs.Replies.{reply_line};
-ghost use Rattle.language.specs.declared.Msg.{Msg};
-ghost use Rattle.language.specs.declared.Reply.TheVariants.{Label as shows_label};
+ghost use Rattle.protocol.specs.Replies.{reply_line};
+ghost use Rattle.protocol.specs.declared.Msg.{Msg};
+ghost use Rattle.protocol.specs.declared.Reply.TheVariants.{Label as shows_label};
 ghost use Rattle.meaning.specs.Serial.{accepted_reply, no_label};
 ghost use Rattle.meaning.specs.Progress.{HasAnswered};
 ghost use Rattle.meaning.specs.Output.{serial_output, AnswersWholeLines, IsBeginning, WritesOutput};
@@ -27,7 +27,7 @@ ghost use Rattle.meaning.specs.Output.{serial_output, AnswersWholeLines, IsBegin
 use crate::PlainFault;
 use crate::server::Server;
 use affinity::{Geometry, Kind, changing};
-use language::{BLOCK_SIZE, Block, Refusal, Reply};
+use protocol::{BLOCK_SIZE, Block, Refusal, Reply};
 use message::{
     Found, Head, LentReader, LineReader, Loan, ReplyBuffer, WriteFault, decode_block, decode_label,
     head_of_line,

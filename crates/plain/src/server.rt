@@ -9,7 +9,7 @@ ghost use Rattle.meaning.specs.Serial.{done_or_refused, reply_to, next_state};
 ghost use Rattle.plain.specs.Server.{server_state, IsConsistent};
 
 use affinity::{Geometry, Kind, is_in_range};
-use language::{Block, LABEL_SIZE, Msg, Refusal, know_block, know_label};
+use protocol::{Block, LABEL_SIZE, Msg, Refusal, know_block, know_label};
 use std::alloc::{AllocError, Global};
 use std::collections::BTreeMap;
 

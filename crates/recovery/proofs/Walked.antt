@@ -16,7 +16,7 @@ use Rattle.image.specs.Pieces.{aggregate_of, block_in, part_of, piece_at, piece_
 use Rattle.image.proofs.Joining.{piece_inside, whole_image}
 use Rattle.image.proofs.Numbers.{number_there}
 use Rattle.image.proofs.Walk.{good_is_read, good_is_seen}
-use Rattle.language.specs.Messages.{AreSizedBytes as Holds}
+use Rattle.protocol.specs.Messages.{AreSizedBytes as Holds}
 use Rattle.device_map.specs.Layout.{device_size, image_part, layout_of, part_bytes, part_at, part_size, slice}
 use Rattle.oplog.proofs.Slices.{image_sized, part_inside, slice_slice}
 use Rattle.meaning.specs.State.{State, empty, is_block_of}

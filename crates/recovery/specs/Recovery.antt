@@ -4,8 +4,8 @@ use Rattle.std.specs.Str.{bytes_eq}
 use Rattle.affinity.specs.declared.geometry.Geometry.{Geometry}
 use Rattle.recovery.specs.Header.{is_header}
 use Rattle.image.specs.Image.{image_state}
-use Rattle.language.specs.declared.Msg.{Msg}
-use Rattle.language.specs.Messages.{is_in_range}
+use Rattle.protocol.specs.declared.Msg.{Msg}
+use Rattle.protocol.specs.Messages.{is_in_range}
 use Rattle.message.specs.Records.{message_in_fields, record_of}
 use Rattle.device_map.specs.Layout.{layout_of}
 use Rattle.oplog.specs.Recovery.{Decoding, recovers}

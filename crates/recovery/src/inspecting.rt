@@ -9,7 +9,7 @@ use crate::loading::{load_named, read_header, replay, take_loading_memory};
 use crate::{OpenError, OpenFault};
 use affinity::Geometry;
 use disk::Disk;
-use language::{Msg, Reply};
+use protocol::{Msg, Reply};
 use parcel::step;
 use std::alloc::Global;
 

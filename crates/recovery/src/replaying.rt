@@ -10,7 +10,7 @@ ghost use Rattle.parcel.specs.Tree.{IsWholeTree, state_in};
 
 use crate::OpenFault;
 use disk::Disk;
-use language::Reply;
+use protocol::Reply;
 use oplog::Halves;
 use parcel::{Tree, step};
 

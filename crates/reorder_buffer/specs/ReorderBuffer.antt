@@ -2,10 +2,10 @@
 -- retired.
 use Rattle.std.specs.Prelude.{◌≡◌, ◌<◌, ℕ, ◌+◌, ◌==◌, Bool, true, false, List, [], ◌∷◌, Option, Some, None, get_or, if◌then◌else◌, length, map, set}
 use Rattle.std.specs.List.{AllByRecursion}
-use Rattle.language.specs.Replies.{reply_line, no_message}
-use Rattle.language.specs.declared.Reply.{Reply}
-use Rattle.language.specs.declared.Reply.TheVariants.{Refused}
-use Rattle.language.specs.declared.Refusal.TheVariants.{Range}
+use Rattle.protocol.specs.Replies.{reply_line, no_message}
+use Rattle.protocol.specs.declared.Reply.{Reply}
+use Rattle.protocol.specs.declared.Reply.TheVariants.{Refused}
+use Rattle.protocol.specs.declared.Refusal.TheVariants.{Range}
 pub use Rattle.reorder_buffer.specs.declared.reorder_buffer.Line.{Line}
 pub use Rattle.reorder_buffer.specs.declared.reorder_buffer.Line.TheVariants.{NoMessage, OutOfRange, Pending, Completed}
 pub use Rattle.reorder_buffer.specs.declared.reorder_buffer.LineKind.{LineKind}

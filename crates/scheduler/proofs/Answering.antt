@@ -13,7 +13,7 @@ use Rattle.histories.proofs.Lists.{all_back, all_front}
 use Rattle.histories.proofs.Sound.{answer_sound}
 use Rattle.histories.specs.Laws.{AreUnrelated}
 use Rattle.histories.specs.CoreState.{entries, are_related_entries}
-use Rattle.language.specs.Messages.{path_of}
+use Rattle.protocol.specs.Messages.{path_of}
 use Rattle.scheduler.proofs.Counting.{AreClaimed, HasHeld}
 use Rattle.scheduler.proofs.Tests.{any_answered, any_filter}
 use Rattle.scheduler.specs.Parts.{IsCore, IsPlaced, Parts, entry_of, replied_of, queued_of, core_state_in}

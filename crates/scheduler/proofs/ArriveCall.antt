@@ -10,9 +10,9 @@ use Rattle.histories.specs.Events.{arrive}
 use Rattle.histories.specs.CoreState.{Entry, held}
 use Rattle.histories.specs.declared.outcomes.ArriveRefusal.TheVariants as arrivals
 use Rattle.histories.specs.declared.outcomes.Outcome.TheVariants as outcomes
-use Rattle.language.specs.Messages.{is_in_range}
-use Rattle.language.specs.declared.Msg.{Msg}
-use Rattle.language.specs.declared.Reply.TheVariants.{Done}
+use Rattle.protocol.specs.Messages.{is_in_range}
+use Rattle.protocol.specs.declared.Msg.{Msg}
+use Rattle.protocol.specs.declared.Reply.TheVariants.{Done}
 use Rattle.scheduler.proofs.Arriving.{arrival_core, arrival_state, has_slot, with_arrival}
 use Rattle.scheduler.proofs.Choosing.{any_map}
 use Rattle.scheduler.proofs.Counting.{messages_counted}

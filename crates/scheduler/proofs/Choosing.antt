@@ -14,7 +14,7 @@ use Rattle.histories.specs.Events.{grant_refusal}
 use Rattle.histories.specs.Laws.{AreAscending}
 use Rattle.histories.specs.CoreState.{Entry, CoreState, entries, entry, are_related_entries}
 use Rattle.histories.specs.declared.outcomes.Outcome.TheVariants as outcomes
-use Rattle.language.specs.Messages.{path_of}
+use Rattle.protocol.specs.Messages.{path_of}
 use Rattle.scheduler.specs.Calls.{IsGranted}
 use Rattle.scheduler.specs.Parts.{ArePlaced, IsCore, IsPlaced, Parts, entry_of, held_any, replied_of, queued_of, core_state_in}
 use Rattle.scheduler.specs.Slots.{Phases, SlotView}

@@ -17,10 +17,10 @@ use Rattle.histories.proofs.Lists.{all_back}
 use Rattle.histories.specs.Eligible.{is_eligible}
 use Rattle.histories.specs.Events.{grant}
 use Rattle.histories.specs.CoreState.{Entry, CoreState}
-use Rattle.language.specs.Messages.{path_of}
-use Rattle.language.specs.declared.Msg.{Msg}
-use Rattle.language.specs.declared.Reply.{Reply}
-use Rattle.language.specs.declared.Reply.TheVariants.{Done}
+use Rattle.protocol.specs.Messages.{path_of}
+use Rattle.protocol.specs.declared.Msg.{Msg}
+use Rattle.protocol.specs.declared.Reply.{Reply}
+use Rattle.protocol.specs.declared.Reply.TheVariants.{Done}
 use Rattle.parcel.specs.Fits.{IsRunnable}
 use Rattle.parcel.specs.Run.{JobView, Shows}
 use Rattle.parcel.specs.Tree.{HasGap, LendsAt, TreeView, tree_nodes}

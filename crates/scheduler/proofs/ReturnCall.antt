@@ -17,10 +17,10 @@ use Rattle.arena.specs.ArenaView.{IsPartitioned, after_move, capacity_of, chain_
 use Rattle.histories.proofs.Lists.{all_back, all_front, all_without, any_none}
 use Rattle.histories.specs.Events.{give_back, find_in_flight}
 use Rattle.histories.specs.CoreState.{entries, Entry, CoreState, are_related_entries}
-use Rattle.language.specs.Messages.{path_of}
-use Rattle.language.specs.declared.Msg.{Msg}
-use Rattle.language.specs.declared.Reply.{Reply}
-use Rattle.language.specs.declared.Reply.TheVariants.{Done}
+use Rattle.protocol.specs.Messages.{path_of}
+use Rattle.protocol.specs.declared.Msg.{Msg}
+use Rattle.protocol.specs.declared.Reply.{Reply}
+use Rattle.protocol.specs.declared.Reply.TheVariants.{Done}
 use Rattle.parcel.proofs.Lending.{kind_of}
 use Rattle.parcel.proofs.Serving.{fits_where_lent}
 use Rattle.parcel.specs.Fits.{Fits, IsKindOf}

@@ -8,7 +8,7 @@ use Rattle.histories.proofs.Outs.{event_sees}
 use Rattle.histories.specs.Events.{Event, MachineState, IsAllowed}
 use Rattle.histories.specs.Laws.{IsSoundCoreState}
 use Rattle.histories.specs.CoreState.{Entry, CoreState}
-use Rattle.language.specs.Messages.{path_of}
+use Rattle.protocol.specs.Messages.{path_of}
 use Rattle.parcel.proofs.SerialRuns.{serial_run}
 use Rattle.parcel.specs.Fits.{IsRunnable}
 use Rattle.parcel.specs.Run.{JobView, IsJobRun, Shows}

@@ -20,7 +20,7 @@ use Rattle.histories.proofs.Lists.{all_back, all_front, before_back, before_firs
 use Rattle.histories.proofs.Outs.{entries_leave}
 use Rattle.histories.proofs.Sound.{row_of}
 use Rattle.histories.proofs.SerialReplies.{state_after_all-append}
-use Rattle.language.specs.Messages.{IsMessage, path_of}
+use Rattle.protocol.specs.Messages.{IsMessage, path_of}
 use Rattle.parcel.proofs.Holding.{can_be_lent, holds_alike, lent_holds, lent_shows, place_is_out, restored_holds}
 use Rattle.parcel.specs.Fits.{Fits}
 use Rattle.parcel.specs.Holding.{IsApart, TreeHolds, with_place}

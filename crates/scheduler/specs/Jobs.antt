@@ -3,7 +3,7 @@ use Rattle.std.specs.Prelude.{◌≡◌}
 use Rattle.std.specs.List.{Contains}
 use Rattle.affinity.specs.declared.geometry.Geometry.{Geometry}
 use Rattle.histories.specs.CoreState.{CoreState}
-use Rattle.language.specs.Messages.{path_of}
+use Rattle.protocol.specs.Messages.{path_of}
 use Rattle.parcel.specs.Fits.{IsRunnable}
 use Rattle.parcel.specs.Run.{JobView, Shows}
 use Rattle.parcel.specs.RunLaws.{IsLentOf}

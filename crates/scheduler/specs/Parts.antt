@@ -8,8 +8,8 @@ use Rattle.checkpoint.specs.Journal.{JournalView, committed}
 use Rattle.histories.specs.Eligible.{changes, unlogged_changes}
 use Rattle.histories.specs.Laws.{IsSoundCoreState}
 use Rattle.histories.specs.CoreState.{Entry, Replied, CoreState, entries}
-use Rattle.language.specs.Messages.{IsMessage, is_in_range, path_of}
-use Rattle.language.specs.declared.Msg.{Msg}
+use Rattle.protocol.specs.Messages.{IsMessage, is_in_range, path_of}
+use Rattle.protocol.specs.declared.Msg.{Msg}
 use Rattle.parcel.specs.Holding.{TreeHolds}
 use Rattle.parcel.specs.Tree.{TreeView, tree_nodes}
 use Rattle.meaning.specs.Order.{messages_of}

@@ -1,13 +1,13 @@
 //! Messages that arrive by the lines that encode them.
 
 ghost use Rattle.std.specs.Prelude.{◌≡◌};
-ghost use Rattle.language.specs.Grammar.{message_of};
+ghost use Rattle.protocol.specs.Grammar.{message_of};
 ghost use Rattle.scheduler.specs.Calls.{ArrivesByLine};
 
 use crate::Core;
 use disk::Disk;
 use histories::ArriveRefusal;
-use language::{BLOCK_SIZE, Block, Msg};
+use protocol::{BLOCK_SIZE, Block, Msg};
 use message::{Head, decode_block, head_of_line};
 
 impl<D: Disk> Core<D> {

@@ -7,7 +7,7 @@ ghost use Rattle.run_queue.specs.RunQueue.{queue_at_start};
 use crate::slot::{CHAINS, Slot};
 use affinity::Geometry;
 use arena::Arena;
-use language::{Msg, Reply};
+use protocol::{Msg, Reply};
 use run_queue::RunQueue;
 use std::alloc::{AllocError, Global};
 

@@ -2,7 +2,7 @@
 //! which exist in proofs alone, so they take no memory.
 ghost use Rattle.std.specs.Prelude.{◌≡◌, ◌++◌, []};
 
-use language::Msg;
+use protocol::Msg;
 use parcel::Tree;
 use std::marker::Model;
 use std::mem;

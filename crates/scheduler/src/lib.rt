@@ -16,6 +16,6 @@ mod slot;
 pub use checkpoint::{OpenError, OpenFault};
 pub use granted::Granted;
 pub use histories::{ArriveRefusal, CoreFault, Outcome, PointRefusal, Step};
-pub use language::Reply;
+pub use protocol::Reply;
 pub use parcel::Job;
 pub use server_core::Core;

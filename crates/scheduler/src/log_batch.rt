@@ -11,7 +11,7 @@ use crate::server_core::one_if;
 use crate::slot::{LOGGED, RAN, Slot};
 use affinity::changing;
 use arena::Arena;
-use language::{Msg, Reply};
+use protocol::{Msg, Reply};
 
 // Whether the log keeps a message with this reply: a change that was carried out.
 fn is_recorded(message: &Msg, reply: &Reply) -> bool

@@ -38,7 +38,7 @@ use arena::Arena;
 use checkpoint::{Journal, OpenError, OpenFault};
 use disk::Disk;
 use histories::{ArriveRefusal, CoreFault, PointRefusal};
-use language::{Msg, Reply, know_message};
+use protocol::{Msg, Reply, know_message};
 use parcel::{Done, Job, Tree};
 use run_queue::{QueuedMessage, RunQueue};
 use std::alloc::Global;

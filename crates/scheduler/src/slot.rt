@@ -1,7 +1,7 @@
 //! What a core keeps of a message, and the chains of the arena that show how far each message has come.
 
 use affinity::Affinity;
-use language::Msg;
+use protocol::Msg;
 
 /// How many chains there are: linked lists of the arena's slots.
 pub(crate) const CHAINS: usize = 4;

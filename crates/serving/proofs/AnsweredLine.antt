@@ -12,9 +12,9 @@ use Rattle.incarnations.proofs.Events.{core_holds, core_step}
 use Rattle.incarnations.specs.Machine.{MachineView}
 use Rattle.incarnations.specs.Steps.{IsCoreStep}
 use Rattle.incarnations.specs.declared.hands.HandContent.{HandContent}
-use Rattle.language.specs.Grammar.{message_of}
-use Rattle.language.specs.declared.Msg.{Msg}
-use Rattle.language.specs.declared.Reply.{Reply}
+use Rattle.protocol.specs.Grammar.{message_of}
+use Rattle.protocol.specs.declared.Msg.{Msg}
+use Rattle.protocol.specs.declared.Reply.{Reply}
 use Rattle.scheduler.specs.Calls.{answer_outcome}
 use Rattle.scheduler.specs.CoreView.{CoreView}
 use Rattle.serving.specs.Lines.{Completed, AreKnown, IsKnown, Line, NoMessage, NoneIsTo, OutOfRange, Pending, complete_one, admitted, admitted_in, has_answer, next_ticket, ticketed}

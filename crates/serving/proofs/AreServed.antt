@@ -14,10 +14,10 @@ use Rattle.histories.specs.Events.{MachineState}
 use Rattle.histories.specs.Laws.{IsIdle, IsSoundCoreState}
 use Rattle.histories.specs.CoreState.{Entry}
 use Rattle.histories.specs.Runs.{arrived}
-use Rattle.language.proofs.FirstLines.{lines-first}
-use Rattle.language.specs.Lines.{lines}
-use Rattle.language.specs.FirstLine.{LosesLineStart, behind_first_line}
-use Rattle.language.specs.declared.Reply.{Reply}
+use Rattle.protocol.proofs.FirstLines.{lines-first}
+use Rattle.protocol.specs.Lines.{lines}
+use Rattle.protocol.specs.FirstLine.{LosesLineStart, behind_first_line}
+use Rattle.protocol.specs.declared.Reply.{Reply}
 use Rattle.meaning.specs.Order.{by_ticket, messages_of, serial_replies}
 use Rattle.meaning.specs.Output.{AnswersWholeLines, IsBeginning, WritesOutput, joined, output_lines, state_after_lines, with_newlines}
 use Rattle.meaning.specs.Progress.{AreTaken, TakesLines}

@@ -17,11 +17,11 @@ use Rattle.incarnations.specs.Machine.{MachineView, hand_of as hand_in, machine_
 use Rattle.parcel.specs.Run.{JobView}
 use Rattle.histories.specs.declared.outcomes.ArriveRefusal.TheVariants as arrivals
 use Rattle.histories.specs.declared.outcomes.Outcome.TheVariants.{ArriveRefused}
-use Rattle.language.specs.Grammar.{message_of}
-use Rattle.language.specs.FirstLine.{GivesLine, HasWholeFirstLine, PassesLine}
+use Rattle.protocol.specs.Grammar.{message_of}
+use Rattle.protocol.specs.FirstLine.{GivesLine, HasWholeFirstLine, PassesLine}
 use Rattle.message.specs.Waiting.{all_output}
-use Rattle.language.specs.declared.Msg.{Msg}
-use Rattle.language.specs.declared.Reply.{Reply}
+use Rattle.protocol.specs.declared.Msg.{Msg}
+use Rattle.protocol.specs.declared.Reply.{Reply}
 use Rattle.scheduler.specs.CoreView.{CoreView, RecoversNow, core_state_of}
 use Rattle.serving.specs.Progress.{ServingProgress}
 use Rattle.meaning.specs.Output.{joined}
@@ -34,7 +34,7 @@ use Rattle.serving.specs.declared.checkpoints.CheckpointTrigger.{CheckpointTrigg
 use Rattle.serving.specs.Session.{Waits, SessionProgress, HasEndedReading, IsReadEnd, SessionInvariant, SessionInvariantFrom, SessionView, ServingSince, ReadsOrHasEnded, machine, IsSent}
 use Rattle.message.specs.Writing.{AppendsBeginning}
 use Rattle.disk.specs.Device.{Medium}
-use Rattle.language.proofs.Newlines.{newlines}
+use Rattle.protocol.proofs.Newlines.{newlines}
 use Rattle.serving.specs.Kill.{IsKillSafe}
 use Rattle.serving.specs.Output.{MaySend, Start, start_machine}
 use Rattle.serving.specs.declared.session.ReadEnd.{ReadEnd}

@@ -10,10 +10,10 @@ use Rattle.histories.specs.declared.outcomes.ArriveRefusal.TheVariants as arriva
 use Rattle.histories.specs.declared.outcomes.Outcome.{Outcome}
 use Rattle.histories.specs.declared.outcomes.Outcome.TheVariants as outcomes
 use Rattle.incarnations.specs.Machine.{MachineView}
-use Rattle.language.specs.Grammar.{message_of}
-use Rattle.language.specs.Messages.{is_in_range}
-use Rattle.language.specs.FirstLine.{GivesLine}
-use Rattle.language.specs.declared.Msg.{Msg}
+use Rattle.protocol.specs.Grammar.{message_of}
+use Rattle.protocol.specs.Messages.{is_in_range}
+use Rattle.protocol.specs.FirstLine.{GivesLine}
+use Rattle.protocol.specs.declared.Msg.{Msg}
 use Rattle.scheduler.specs.CoreView.{core_state_of}
 use Rattle.serving.specs.Reads.{IsRefusedLine, read_end_of}
 use Rattle.serving.specs.Runs.{unanswered}

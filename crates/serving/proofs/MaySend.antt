@@ -7,8 +7,8 @@ use Rattle.affinity.specs.declared.geometry.Geometry.{Geometry}
 use Rattle.affinity.proofs.Elements.{all_join}
 use Rattle.disk.specs.Device.{IsCrashImage}
 use Rattle.histories.specs.CoreState.{Replied}
-use Rattle.language.specs.Grammar.{message_of}
-use Rattle.language.proofs.Newlines.{newlines}
+use Rattle.protocol.specs.Grammar.{message_of}
+use Rattle.protocol.proofs.Newlines.{newlines}
 use Rattle.meaning.specs.Output.{joined}
 use Rattle.message.specs.Waiting.{all_output}
 use Rattle.message.specs.Writing.{AppendsBeginning}

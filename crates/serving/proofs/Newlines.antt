@@ -1,7 +1,7 @@
 -- The answer to a line has one newline, at its end: so a text of answers has no more newlines than there are answers.
 use Rattle.std.proofs.Common.{◌≤◌, List, [], ◌∷◌, length, map, arith}
-use Rattle.language.specs.Replies.{reply_text}
-use Rattle.language.proofs.Newlines.{both, in_reply, newlines}
+use Rattle.protocol.specs.Replies.{reply_text}
+use Rattle.protocol.proofs.Newlines.{both, in_reply, newlines}
 use Rattle.meaning.specs.Output.{joined}
 use Rattle.serving.specs.Lines.{Completed, Line, answer_text}
 

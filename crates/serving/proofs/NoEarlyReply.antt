@@ -7,11 +7,11 @@ use Rattle.std.proofs.lemmas.List.{length-map, nil_from_length}
 use Rattle.affinity.specs.declared.geometry.Geometry.{Geometry}
 use Rattle.histories.proofs.Elements.{in_contained}
 use Rattle.histories.specs.CoreState.{Entry}
-use Rattle.language.specs.Grammar.{message_of}
-use Rattle.language.specs.Replies.{no_message, reply_line}
-use Rattle.language.specs.declared.Msg.{Msg}
-use Rattle.language.specs.declared.Refusal.TheVariants.{Range}
-use Rattle.language.specs.declared.Reply.TheVariants.{Done, Refused}
+use Rattle.protocol.specs.Grammar.{message_of}
+use Rattle.protocol.specs.Replies.{no_message, reply_line}
+use Rattle.protocol.specs.declared.Msg.{Msg}
+use Rattle.protocol.specs.declared.Refusal.TheVariants.{Range}
+use Rattle.protocol.specs.declared.Reply.TheVariants.{Done, Refused}
 use Rattle.meaning.specs.Order.{messages_of}
 use Rattle.meaning.specs.Output.{joined}
 use Rattle.scheduler.specs.CoreView.{CoreView, core_state_of}

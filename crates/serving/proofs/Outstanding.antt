@@ -14,10 +14,10 @@ use Rattle.histories.specs.Runs.{end_state}
 use Rattle.histories.specs.CoreState.{CoreState, Entry, held}
 use Rattle.incarnations.specs.Machine.{MachineView, machine_of}
 use Rattle.incarnations.specs.DeviceEvents.{events_of}
-use Rattle.language.specs.Grammar.{message_of}
-use Rattle.language.specs.Messages.{is_in_range}
-use Rattle.language.specs.declared.Msg.{Msg}
-use Rattle.language.specs.declared.Reply.{Reply}
+use Rattle.protocol.specs.Grammar.{message_of}
+use Rattle.protocol.specs.Messages.{is_in_range}
+use Rattle.protocol.specs.declared.Msg.{Msg}
+use Rattle.protocol.specs.declared.Reply.{Reply}
 use Rattle.scheduler.specs.CoreView.{core_state_of}
 use Rattle.serving.specs.Progress.{ServingProgress, IsServing}
 use Rattle.serving.specs.Lines.{Completed, AreKnown, IsKnown, Line, NoMessage, OutOfRange, Pending, admitted, admitted_in, has_answer, next_ticket, ticketed}

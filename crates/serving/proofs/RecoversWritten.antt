@@ -5,14 +5,14 @@ use Rattle.std.specs.List.{AllByRecursion, Contains}
 use Rattle.std.proofs.lemmas.Bool.{true≢false}
 use Rattle.std.proofs.Math.Bool.{and-false}
 use Rattle.affinity.specs.declared.geometry.Geometry.{Geometry}
-use Rattle.language.specs.Grammar.{message_of}
-use Rattle.language.specs.Lines.{lines}
-use Rattle.language.specs.Messages.{is_in_range}
-use Rattle.language.specs.Replies.{reply_line}
-use Rattle.language.specs.declared.Msg.{Msg}
-use Rattle.language.specs.declared.Refusal.TheVariants.{Range}
-use Rattle.language.specs.declared.Reply.{Reply}
-use Rattle.language.specs.declared.Reply.TheVariants.{Refused}
+use Rattle.protocol.specs.Grammar.{message_of}
+use Rattle.protocol.specs.Lines.{lines}
+use Rattle.protocol.specs.Messages.{is_in_range}
+use Rattle.protocol.specs.Replies.{reply_line}
+use Rattle.protocol.specs.declared.Msg.{Msg}
+use Rattle.protocol.specs.declared.Refusal.TheVariants.{Range}
+use Rattle.protocol.specs.declared.Reply.{Reply}
+use Rattle.protocol.specs.declared.Reply.TheVariants.{Refused}
 use Rattle.meaning.specs.Order.{by_ticket, messages_of}
 use Rattle.meaning.specs.Output.{WritesOutput, answer_line, joined, output_lines, state_after_line, state_after_lines}
 use Rattle.meaning.specs.Serial.{state_after_all, next_state, reply_to}

@@ -10,14 +10,14 @@ use Rattle.affinity.specs.declared.kinds.Kind.TheVariants as kinds
 use Rattle.affinity.specs.Place.{is_in_range as numbers_are_in_range}
 use Rattle.histories.proofs.Elements.{in_contained}
 use Rattle.histories.proofs.SerialReplies.{IsIn}
-use Rattle.language.specs.Grammar.{message_of}
-use Rattle.language.specs.Messages.{is_in_range, kind, four_numbers}
-use Rattle.language.specs.Replies.{reply_line}
-use Rattle.language.specs.declared.Msg.{Msg}
-use Rattle.language.specs.declared.Refusal.{Refusal}
-use Rattle.language.specs.declared.Refusal.TheVariants.{Range}
-use Rattle.language.specs.declared.Reply.{Reply}
-use Rattle.language.specs.declared.Reply.TheVariants.{Refused}
+use Rattle.protocol.specs.Grammar.{message_of}
+use Rattle.protocol.specs.Messages.{is_in_range, kind, four_numbers}
+use Rattle.protocol.specs.Replies.{reply_line}
+use Rattle.protocol.specs.declared.Msg.{Msg}
+use Rattle.protocol.specs.declared.Refusal.{Refusal}
+use Rattle.protocol.specs.declared.Refusal.TheVariants.{Range}
+use Rattle.protocol.specs.declared.Reply.{Reply}
+use Rattle.protocol.specs.declared.Reply.TheVariants.{Refused}
 use Rattle.meaning.proofs.OutputLemmas.{take-output_lines}
 use Rattle.meaning.specs.Order.{messages_of, serial_replies}
 use Rattle.meaning.specs.Output.{answer_line, output_lines, state_after_line, state_after_lines}

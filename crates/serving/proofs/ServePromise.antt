@@ -5,7 +5,7 @@ use Rattle.std.specs.Io.KnownBytes.{IsAtEnd}
 use Rattle.std.proofs.lemmas.Option.{none-some, same_Some}
 use Rattle.histories.specs.Laws.{IsIdle}
 use Rattle.incarnations.specs.Machine.{MachineView}
-use Rattle.language.specs.Lines.{lines}
+use Rattle.protocol.specs.Lines.{lines}
 use Rattle.meaning.specs.Progress.{TakesLines}
 use Rattle.scheduler.specs.CoreView.{CoreView, RecoversNow, core_state_of}
 use Rattle.serving.specs.Ends.{HasServed}

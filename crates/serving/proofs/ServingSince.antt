@@ -5,9 +5,9 @@ use Rattle.std.proofs.lemmas.List.{length-append}
 use Rattle.disk.specs.Device.{Medium}
 use Rattle.histories.specs.Laws.{IsIdle}
 use Rattle.incarnations.specs.Machine.{MachineView}
-use Rattle.language.specs.Grammar.{message_of}
-use Rattle.language.specs.FirstLine.{GivesLine, HasWholeFirstLine, PassesLine}
-use Rattle.language.specs.declared.Reply.{Reply}
+use Rattle.protocol.specs.Grammar.{message_of}
+use Rattle.protocol.specs.FirstLine.{GivesLine, HasWholeFirstLine, PassesLine}
+use Rattle.protocol.specs.declared.Reply.{Reply}
 use Rattle.meaning.specs.Output.{joined}
 use Rattle.scheduler.specs.CoreView.{core_state_of}
 use Rattle.serving.specs.Lines.{Line, answer_text, complete_one}

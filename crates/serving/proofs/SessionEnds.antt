@@ -32,7 +32,7 @@ use Rattle.serving.specs.declared.session.ReadEnd.{ReadEnd}
 use Rattle.serving.specs.declared.session.ReadEnd.TheVariants as ends_of_reading
 use Rattle.serving.specs.declared.server.ServeFault.{ServeFault}
 use Rattle.serving.specs.declared.server.ServeFault.TheVariants as faults
-use Rattle.language.proofs.Newlines.{newlines}
+use Rattle.protocol.proofs.Newlines.{newlines}
 use Rattle.serving.proofs.Newlines.{in_answers}
 use Rattle.serving.proofs.ServePromise.{no_memory_ran, runs_to_device, runs_to_last_ticket, runs_to_read, runs_to_write, runs_whole}
 use Rattle.serving.proofs.KeepsSent.{safe_since}

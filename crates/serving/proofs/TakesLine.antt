@@ -14,13 +14,13 @@ use Rattle.histories.specs.declared.outcomes.Step.TheVariants as steps
 use Rattle.incarnations.proofs.Events.{core_holds, core_step}
 use Rattle.incarnations.specs.Steps.{IsCoreStep}
 use Rattle.incarnations.specs.declared.hands.HandContent.{HandContent}
-use Rattle.language.specs.Messages.{is_in_range}
+use Rattle.protocol.specs.Messages.{is_in_range}
 use Rattle.scheduler.specs.Calls.{arrive_outcome as arrived_so}
 use Rattle.scheduler.specs.CoreView.{CoreView, core_state_of}
 use Rattle.incarnations.specs.Machine.{MachineView}
-use Rattle.language.specs.Grammar.{message_of}
-use Rattle.language.specs.declared.Msg.{Msg}
-use Rattle.language.specs.declared.Reply.{Reply}
+use Rattle.protocol.specs.Grammar.{message_of}
+use Rattle.protocol.specs.declared.Msg.{Msg}
+use Rattle.protocol.specs.declared.Reply.{Reply}
 use Rattle.serving.specs.Progress.{IsServing}
 use Rattle.serving.specs.Lines.{AreKnown, IsKnown, Line, NoneIsTo, OutOfRange, Pending, admitted, admitted_in, next_ticket, ticketed, Completed, NoMessage}
 use Rattle.serving.specs.Reads.{IsRefusedLine, IsTaken}

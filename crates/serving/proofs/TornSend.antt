@@ -2,7 +2,7 @@
 use Rattle.std.proofs.Common.{arith, ◌≤◌, ◌+◌, ◌-◌, ℕ, Bool, true, false, List, [], ◌++◌, Option, Some, None, refl, ap, sym, ◌∙◌, subst, append_assoc}
 use Rattle.std.specs.Io.KnownBytes.{Appends}
 use Rattle.std.proofs.KnownBytes.{Appends-nil, Appends-trans}
-use Rattle.language.proofs.Newlines.{both as newlines-append, newlines}
+use Rattle.protocol.proofs.Newlines.{both as newlines-append, newlines}
 use Rattle.message.specs.Waiting.{all_output}
 use Rattle.message.specs.Writing.{AppendsBeginning}
 use Rattle.serving.specs.Restart.{WritesBeginning}

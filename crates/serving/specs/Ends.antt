@@ -5,11 +5,11 @@ use Rattle.affinity.specs.declared.geometry.Geometry.{Geometry}
 use Rattle.histories.specs.Laws.{IsIdle}
 use Rattle.incarnations.specs.Machine.{MachineView, RecoversFromRun}
 use Rattle.incarnations.specs.declared.hands.HandContent.{HandContent}
-use Rattle.language.specs.Grammar.{message_of}
-use Rattle.language.specs.Lines.{lines}
-use Rattle.language.specs.Messages.{is_in_range}
-use Rattle.language.specs.declared.Msg.{Msg}
-use Rattle.language.specs.declared.Reply.{Reply}
+use Rattle.protocol.specs.Grammar.{message_of}
+use Rattle.protocol.specs.Lines.{lines}
+use Rattle.protocol.specs.Messages.{is_in_range}
+use Rattle.protocol.specs.declared.Msg.{Msg}
+use Rattle.protocol.specs.declared.Reply.{Reply}
 use Rattle.message.specs.Writing.{AppendsBeginning}
 use Rattle.meaning.specs.Output.{AnswersWholeLines, IsBeginning, WritesOutput, joined, output_lines, serial_output, state_after_lines}
 use Rattle.meaning.specs.State.{State}

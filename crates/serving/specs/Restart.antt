@@ -5,10 +5,10 @@ use Rattle.std.specs.List.{AllByRecursion}
 use Rattle.affinity.specs.Path.{are_related}
 use Rattle.affinity.specs.declared.geometry.Geometry.{Geometry}
 use Rattle.recovery.specs.Recovery.{recovered_state}
-use Rattle.language.specs.Grammar.{message_of}
-use Rattle.language.specs.Lines.{lines}
-use Rattle.language.specs.Messages.{is_in_range, path_of}
-use Rattle.language.specs.declared.Msg.{Msg}
+use Rattle.protocol.specs.Grammar.{message_of}
+use Rattle.protocol.specs.Lines.{lines}
+use Rattle.protocol.specs.Messages.{is_in_range, path_of}
+use Rattle.protocol.specs.declared.Msg.{Msg}
 use Rattle.message.specs.Writing.{AppendsBeginning}
 use Rattle.meaning.specs.Output.{WritesOutput, joined, output_lines, state_after_lines}
 use Rattle.meaning.specs.State.{State}

@@ -9,10 +9,10 @@ use Rattle.histories.specs.Progress.{points_left, steps_to_come}
 use Rattle.histories.specs.Runs.{logged_messages}
 use Rattle.incarnations.specs.DeviceEvents.{DeviceEvent, device_after, events_of}
 use Rattle.incarnations.specs.Machine.{MachineView, machine_of}
-use Rattle.language.specs.Grammar.{message_of}
-use Rattle.language.specs.Messages.{is_in_range}
-use Rattle.language.specs.FirstLine.{GivesLine, LosesLineStart}
-use Rattle.language.specs.declared.Msg.{Msg}
+use Rattle.protocol.specs.Grammar.{message_of}
+use Rattle.protocol.specs.Messages.{is_in_range}
+use Rattle.protocol.specs.FirstLine.{GivesLine, LosesLineStart}
+use Rattle.protocol.specs.declared.Msg.{Msg}
 use Rattle.meaning.specs.Output.{joined}
 use Rattle.message.specs.Writing.{AppendsBeginning}
 use Rattle.scheduler.specs.CoreView.{CoreView, core_state_of}

@@ -12,7 +12,7 @@ use crate::output::ReplySink;
 use crate::session::{Halted, Session};
 use disk::Disk;
 use histories::PointRefusal;
-use language::Reply;
+use protocol::Reply;
 use std::io::Read;
 
 /// When checkpoints are due.

@@ -11,7 +11,7 @@ use crate::dispatch::Blocked;
 use crate::output::ReplySink;
 use crate::session::{GatedRuntime, Session};
 use disk::Disk;
-use language::Reply;
+use protocol::Reply;
 use std::hint::spin_loop;
 use std::io::Read;
 use std::thread::yield_now;

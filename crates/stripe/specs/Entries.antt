@@ -5,7 +5,7 @@ use Rattle.affinity.specs.Geometry.{stripe_of}
 use Rattle.affinity.specs.declared.geometry.Geometry.{Geometry}
 use Rattle.byteorder.specs.Endian.{little_bytes, little_number}
 use Rattle.device_map.specs.declared.layout.TheConstants.{BLOCK_ENTRY_SIZE}
-use Rattle.language.specs.Replies.{has_file}
+use Rattle.protocol.specs.Replies.{has_file}
 use Rattle.stripe.specs.Stripe.{BlockEntry, IsAscending}
 
 -- an entry: 1, the file, the block with the lower byte first, four zeros, the content

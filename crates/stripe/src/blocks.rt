@@ -5,7 +5,7 @@ ghost use Rattle.stripe.specs.Stripe.{StripeRule, HoldsContent, content_at};
 ghost use Rattle.stripe.specs.Index.{IsSplit, IsAt, IsGap, rewritten};
 
 use arena::Arena;
-use language::Block;
+use protocol::Block;
 use std::alloc::{AllocError, Global};
 use std::marker::Model;
 

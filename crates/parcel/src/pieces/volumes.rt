@@ -10,7 +10,7 @@ use affinity::Geometry;
 use byteorder::{ByteOrder, LittleEndian};
 use device_map::VOLUME_PIECE_SIZE;
 use image::layout::VERSION;
-use language::LABEL_SIZE;
+use protocol::LABEL_SIZE;
 
 /// Where the files and the label are in a volume's piece, and the zeros after them.
 const FILES_AT: usize = 8;

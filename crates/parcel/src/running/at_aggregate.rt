@@ -2,8 +2,8 @@
 
 ghost use Rattle.std.specs.Prelude.{◌≡◌, ℕ, ◌<◌, true, None, IfSome};
 ghost use Rattle.affinity.specs.declared.geometry.Geometry.{Geometry};
-ghost use Rattle.language.specs.declared.Msg.{Msg};
-ghost use Rattle.language.specs.Messages.{is_in_range};
+ghost use Rattle.protocol.specs.declared.Msg.{Msg};
+ghost use Rattle.protocol.specs.Messages.{is_in_range};
 ghost use Rattle.parcel.specs.Fits.{FitsAggregate, FitsLogical, FitsVolume, IsWholeAggregate, IsWholeChild, IsWholeLogical, IsWholeVolume, IsRunnable};
 ghost use Rattle.parcel.specs.Run.{IsStepOn};
 ghost use Rattle.parcel.specs.Shown.{blocks_of, child_facts, volume_facts};
@@ -17,7 +17,7 @@ use super::at_logical::remove_blocks;
 use super::refusals::{guard, guard_open, reply_to_change};
 use crate::{Aggr, Label, Logical, Vol};
 use affinity::Geometry;
-use language::{LABEL_SIZE, Msg, Refusal, Reply};
+use protocol::{LABEL_SIZE, Msg, Refusal, Reply};
 
 /// Whether the volume at one index is made, and whether it is sealed.
 fn marks(node: &Option<Vol>) -> (bool, bool)

@@ -1,6 +1,6 @@
 //! Messages at the label of a volume: they set it and ask for it.
 
-ghost use Rattle.language.specs.declared.Msg.{Msg};
+ghost use Rattle.protocol.specs.declared.Msg.{Msg};
 ghost use Rattle.parcel.specs.Fits.{IsRunnable};
 ghost use Rattle.parcel.specs.Run.{IsStepOn};
 ghost use Rattle.parcel.specs.Shown.{label_facts};
@@ -10,7 +10,7 @@ ghost use Rattle.parcel.specs.declared.parts.Parcels.{Parcels};
 use super::refusals::{guard_open, reply_to_change};
 use crate::{Label, Standing};
 use affinity::Geometry;
-use language::{LABEL_SIZE, Msg, Refusal, Reply};
+use protocol::{LABEL_SIZE, Msg, Refusal, Reply};
 
 /// Sets the label.
 fn set_label(

@@ -1,7 +1,7 @@
 //! Messages at a Volume Logical, the files of a volume with its stripes: they make, remove and list files.
 
 ghost use Rattle.std.specs.Prelude.{◌≡◌, ℕ, ◌<◌, slice_index_or, None, vec_len};
-ghost use Rattle.language.specs.declared.Msg.{Msg};
+ghost use Rattle.protocol.specs.declared.Msg.{Msg};
 ghost use Rattle.parcel.specs.Dropping.{Removes, is_removed};
 ghost use Rattle.parcel.specs.Fits.{FitsLogical, IsWholeLogical, IsRunnable};
 ghost use Rattle.parcel.specs.Run.{IsStepOn};
@@ -12,7 +12,7 @@ ghost use Rattle.parcel.specs.declared.parts.Parcels.{Parcels};
 use super::refusals::{guard, guard_file, guard_open, reply_to_change};
 use crate::{Logical, Standing, StripeParcel};
 use affinity::Geometry;
-use language::{Msg, Refusal, Reply, has_file};
+use protocol::{Msg, Refusal, Reply, has_file};
 
 /// Makes a file, without blocks.
 fn create(logical: &mut Logical, g: &Geometry, standing: Standing, f: u16) -> Result<(), Refusal>

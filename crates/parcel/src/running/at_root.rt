@@ -1,6 +1,6 @@
 //! Messages at the whole server: they ask how much all volumes hold.
 
-ghost use Rattle.language.specs.declared.Msg.{Msg};
+ghost use Rattle.protocol.specs.declared.Msg.{Msg};
 ghost use Rattle.parcel.specs.Fits.{FitsRoot, IsRunnable};
 ghost use Rattle.parcel.specs.Run.{IsSerialStep, IsStepOn};
 ghost use Rattle.parcel.specs.Shown.{root_facts};
@@ -11,7 +11,7 @@ ghost use Rattle.parcel.specs.declared.parts.Standing.{Standing};
 use super::totals::root_totals;
 use crate::Root;
 use affinity::Geometry;
-use language::{Msg, Reply};
+use protocol::{Msg, Reply};
 
 /// How much all volumes hold, and how many they are.
 fn summary(root: &Root, g: &Geometry) -> Reply

@@ -3,7 +3,7 @@
 ghost use Rattle.std.specs.Prelude.{◌≡◌, ◌<◌, ◌||◌, is_some, length, nat_lt};
 ghost use Rattle.affinity.specs.declared.geometry.Geometry.{Geometry};
 ghost use Rattle.affinity.specs.Geometry.{stripe_of};
-ghost use Rattle.language.specs.declared.Msg.{Msg};
+ghost use Rattle.protocol.specs.declared.Msg.{Msg};
 ghost use Rattle.parcel.specs.Fits.{FitsStripe, IsRunnable};
 ghost use Rattle.parcel.specs.Run.{IsStepOn};
 ghost use Rattle.parcel.specs.Shown.{stripe_facts};
@@ -14,7 +14,7 @@ ghost use Rattle.parcel.specs.declared.parts.Parcels.{Parcels};
 use super::refusals::{guard, guard_file, reply_to_change};
 use crate::{Standing, StripeParcel};
 use affinity::Geometry;
-use language::{Block, Msg, Refusal, Reply, has_file};
+use protocol::{Block, Msg, Refusal, Reply, has_file};
 
 /// Whether a block is there already, or there is room for one more.
 fn has_space(stripe: &StripeParcel, g: &Geometry, f: u16, b: u16) -> bool

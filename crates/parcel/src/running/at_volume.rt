@@ -2,7 +2,7 @@
 
 ghost use Rattle.std.specs.Prelude.{◌≡◌, if◌then◌else◌};
 ghost use Rattle.affinity.specs.declared.geometry.Geometry.{Geometry};
-ghost use Rattle.language.specs.declared.Msg.{Msg};
+ghost use Rattle.protocol.specs.declared.Msg.{Msg};
 ghost use Rattle.parcel.specs.Fits.{FitsVolume, IsRunnable};
 ghost use Rattle.parcel.specs.Run.{IsStepOn};
 ghost use Rattle.parcel.specs.Shown.{volume_facts};
@@ -14,7 +14,7 @@ use super::refusals::{guard, reply_to_change};
 use super::totals::volume_totals;
 use crate::Vol;
 use affinity::Geometry;
-use language::{Msg, Refusal, Reply};
+use protocol::{Msg, Refusal, Reply};
 
 /// Seals or unseals the volume, whether it was sealed or not.
 fn set_sealed(volume: &mut Vol, sealed: bool) -> Result<(), Refusal>

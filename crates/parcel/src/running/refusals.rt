@@ -3,12 +3,12 @@
 //! that the volume is made and then that it isn't sealed, before `later`.
 
 ghost use Rattle.std.specs.Prelude.{◌≡◌};
-ghost use Rattle.language.specs.declared.Refusal.{Refusal};
-ghost use Rattle.language.specs.declared.Refusal.TheVariants.{File};
+ghost use Rattle.protocol.specs.declared.Refusal.{Refusal};
+ghost use Rattle.protocol.specs.declared.Refusal.TheVariants.{File};
 ghost use Rattle.parcel.specs.Shown.{has_file};
 ghost use Rattle.parcel.specs.Steps.{Decides, guard, guard_open, reply_to_change};
 
-use language::{Refusal, Reply, has_file};
+use protocol::{Refusal, Reply, has_file};
 
 /// Refuses for this reason, unless the check is passed.
 pub(crate) fn guard(passes: bool, why: Refusal) -> Result<(), Refusal>

@@ -2,15 +2,15 @@
 
 ghost use Rattle.std.specs.Prelude.{◌≡◌, ◌<◌, [], ◌∷◌, IfOk, OnErr, None, Some, is_some, if◌then◌else◌};
 ghost use Rattle.affinity.specs.declared.kinds.Kind.TheVariants as kinds;
-ghost use Rattle.language.specs.declared.Msg.{Msg};
-ghost use Rattle.language.specs.declared.Refusal.{Refusal};
+ghost use Rattle.protocol.specs.declared.Msg.{Msg};
+ghost use Rattle.protocol.specs.declared.Refusal.{Refusal};
 ghost use Rattle.meaning.specs.Serial.{passes, effect};
 ghost use Rattle.plain.specs.Server.{server_state, HasRightCounts};
 
 use super::Server;
 use super::places::Place;
 use affinity::{Geometry, group_of};
-use language::{Block, Msg, Refusal};
+use protocol::{Block, Msg, Refusal};
 use std::alloc::AllocError;
 
 impl Server {

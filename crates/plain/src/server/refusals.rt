@@ -2,13 +2,13 @@
 
 ghost use Rattle.std.specs.Prelude.{◌≡◌, if◌then◌else◌, None, Some, false};
 ghost use Rattle.message.specs.Heads.{has_data};
-ghost use Rattle.language.specs.declared.Refusal.TheVariants.{Exists, File, Sealed, Volume};
+ghost use Rattle.protocol.specs.declared.Refusal.TheVariants.{Exists, File, Sealed, Volume};
 ghost use Rattle.meaning.specs.Serial.{refusal_by};
 ghost use Rattle.plain.specs.Server.{server_state};
 
 use super::Server;
 use affinity::{Geometry, Kind, is_in_range};
-use language::{Refusal, has_file};
+use protocol::{Refusal, has_file};
 
 /// A refusal where a check fails.
 fn refused_if(fails: bool, why: Refusal) -> Option<Refusal>

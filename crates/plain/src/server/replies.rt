@@ -1,7 +1,7 @@
 //! The reply to a message that passes its checks.
 
 ghost use Rattle.std.specs.Prelude.{◌≡◌, IfNone, IfSome, unwrap_or};
-ghost use Rattle.language.specs.declared.Reply.TheVariants.{Block as shows, Hole, Label as shows_label};
+ghost use Rattle.protocol.specs.declared.Reply.TheVariants.{Block as shows, Hole, Label as shows_label};
 ghost use Rattle.affinity.specs.declared.kinds.Kind.TheVariants as kinds;
 ghost use Rattle.message.specs.Heads.{message_without_data};
 ghost use Rattle.meaning.specs.Serial.{accepted_reply, no_label, step};
@@ -10,7 +10,7 @@ ghost use Rattle.plain.specs.Server.{server_state, IsConsistent};
 use super::Server;
 use super::places::Place;
 use affinity::Geometry;
-use language::{Block, LABEL_SIZE, Reply};
+use protocol::{Block, LABEL_SIZE, Reply};
 
 impl Server {
     /// The label of a volume.

@@ -2,14 +2,14 @@
 
 ghost use Rattle.std.specs.Prelude.{◌≡◌};
 ghost use Rattle.affinity.specs.declared.geometry.Geometry.{Geometry};
-ghost use Rattle.language.specs.declared.Msg.{Msg};
+ghost use Rattle.protocol.specs.declared.Msg.{Msg};
 ghost use Rattle.meaning.specs.State.{file_count, block_count, sum_over_volumes};
 ghost use Rattle.meaning.specs.Serial.{accepted_reply};
 ghost use Rattle.plain.specs.Server.{server_state, HasRightCounts, IsConsistent};
 
 use super::Server;
 use affinity::Geometry;
-use language::{Msg, Reply};
+use protocol::{Msg, Reply};
 
 impl Server {
     /// Which files a volume has: file `f` is bit `f` of the number.

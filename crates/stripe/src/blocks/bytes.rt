@@ -9,7 +9,7 @@ ghost use Rattle.stripe.specs.Stripe.{PrecedesBlock};
 use super::StripeParcel;
 use affinity::{Geometry, group_of};
 use device_map::BLOCK_ENTRY_SIZE;
-use language::{BLOCK_SIZE, Block, has_file};
+use protocol::{BLOCK_SIZE, Block, has_file};
 
 /// How many bytes come before the content of a block in its entry.
 const ENTRY_HEAD: usize = BLOCK_ENTRY_SIZE - BLOCK_SIZE;

@@ -1,7 +1,7 @@
 -- Behind what was there are the numbers so far, each after a space.
 use Rattle.std.proofs.Common.{◌≡◌, ◌++◌, take}
 use Rattle.std.specs.List.{flat_map}
-use Rattle.language.specs.Replies.{spaced}
+use Rattle.protocol.specs.Replies.{spaced}
 use Rattle.commands.proofs.lines.add_numbers.Given as goal
 
 -- the numbers so far are there

@@ -2,8 +2,8 @@
 use Rattle.std.proofs.lemmas.Grind.{common_steps}
 use Rattle.std.proofs.Common.{◌≡◌, ℕ, ◌-◌, ◌<◌, Some, List, [], ◌∷◌, get_or, length, take, drop, arith}
 use Rattle.std.proofs.lemmas.List.{take_all}
-use Rattle.language.specs.Lines.{words, number_in_word}
-use Rattle.language.specs.Grammar.{first_number}
+use Rattle.protocol.specs.Lines.{words, number_in_word}
+use Rattle.protocol.specs.Grammar.{first_number}
 use Rattle.message.proofs.Words.{words_space}
 use Rattle.message.proofs.Forms.{first_number_some}
 use Rattle.message.proofs.Numbers.{number_no_space, one_digit}

@@ -2,7 +2,7 @@
 use Rattle.std.proofs.Common.{◌≡◌, ◌⊎◌, length, inl, inr, refl, sym, ap, ◌∙◌}
 use Rattle.std.specs.Str.{bytes_eq}
 use Rattle.affinity.specs.declared.kinds.Kind.TheVariants.{MakeVol, DropVol, Create, Delete, Seal, Unseal, Read, List as ListFiles, Summary, SetLabel}
-use Rattle.language.specs.Grammar.{keyword}
+use Rattle.protocol.specs.Grammar.{keyword}
 use Rattle.message.proofs.Keywords.{no_length, passes}
 use Rattle.message.proofs.parsing.kind_named.Goals as goal
 

@@ -2,7 +2,7 @@
 use Rattle.std.proofs.lemmas.Grind.{common_steps}
 use Rattle.std.proofs.Common.{length, ap, arith}
 use Rattle.std.proofs.lemmas.List.{take_all}
-use Rattle.language.specs.Replies.{without_trailing_zeros}
+use Rattle.protocol.specs.Replies.{without_trailing_zeros}
 use Rattle.message.proofs.Zeros.{one_fewer, last_stays}
 use Rattle.message.proofs.printing.shown_size.Goals as goal
 

@@ -1,6 +1,6 @@
 -- Behind the bytes that are left there are zeros alone, so the bytes without their last zeros are as at first.
 use Rattle.std.proofs.Common.{◌≡◌, ◌≤◌, take, length}
-use Rattle.language.specs.Replies.{without_trailing_zeros}
+use Rattle.protocol.specs.Replies.{without_trailing_zeros}
 use Rattle.message.proofs.printing.shown_size.Given as goal
 
 abbrev pub invariant-loop-size : goal.invariant-loop-size

@@ -1,6 +1,6 @@
 -- The files below the place are listed, in at most 11 bytes each.
 use Rattle.std.proofs.Common.{◌≤◌, ◌+◌, ◌-◌, ◌*◌, codes, ◌++◌}
-use Rattle.language.specs.Replies.{AppendsText, files_below}
+use Rattle.protocol.specs.Replies.{AppendsText, files_below}
 use Rattle.message.proofs.printing.write_files.Given as goal
 
 abbrev pub invariant-loop-from : goal.invariant-loop-from

@@ -2,8 +2,8 @@
 use Rattle.std.proofs.Common.{◌≡◌, ◌∙◌, ◌++◌, ◌∷◌, ◌<◌, ℕ, List, [], take, slice_index, refl, sym, ap, subst, arith}
 use Rattle.std.specs.List.{AllByRecursion}
 use Rattle.byteorder.specs.Endian.{little_bytes}
-use Rattle.language.specs.Messages.{kind, numbers, filled, four_numbers}
-use Rattle.language.specs.declared.Msg.{Msg}
+use Rattle.protocol.specs.Messages.{kind, numbers, filled, four_numbers}
+use Rattle.protocol.specs.declared.Msg.{Msg}
 use Rattle.message.specs.Records.{kind_number, FitsRecord}
 use Rattle.message.proofs.records.head_of.Goals as goal
 

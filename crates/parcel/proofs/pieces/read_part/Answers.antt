@@ -2,7 +2,7 @@
 use Rattle.std.proofs.Common.{◌≡◌, ℕ, suc, ◌-◌, ◌*◌, sym, ap, subst, arith, ◌∙◌, Some}
 use Rattle.affinity.proofs.Elements.{all_bytes}
 use Rattle.device_map.specs.declared.layout.TheConstants.{BLOCK_ENTRY_SIZE}
-use Rattle.language.specs.Messages.{AreSizedBytes}
+use Rattle.protocol.specs.Messages.{AreSizedBytes}
 use Rattle.image.specs.Pieces.{piece_part_size}
 use Rattle.parcel.specs.Pieces.{IsPieceOfVolumeRead}
 use Rattle.parcel.proofs.PieceParts.{stripe_is_read, volume_is_read}

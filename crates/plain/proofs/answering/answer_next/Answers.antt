@@ -3,10 +3,10 @@ use Rattle.std.proofs.Common.{refl, sym, ap, ◌∙◌, subst, ℕ, List, Option
 use Rattle.std.specs.Prelude.{IfSome}
 use Rattle.std.proofs.lemmas.Result.{IfOk-from_err}
 use Rattle.std.proofs.lemmas.Option.{IfSome_then}
-use Rattle.language.specs.FirstLine.{LosesLineStart}
+use Rattle.protocol.specs.FirstLine.{LosesLineStart}
 use Rattle.message.specs.Reader.{unread, line_of, source}
-use Rattle.language.specs.Grammar.{message_of}
-use Rattle.language.specs.Replies.{no_message}
+use Rattle.protocol.specs.Grammar.{message_of}
+use Rattle.protocol.specs.Replies.{no_message}
 use Rattle.message.specs.Waiting.{all_output}
 use Rattle.message.proofs.Adding.{adds_so_far}
 use Rattle.plain.specs.Server.{server_state}

@@ -4,7 +4,7 @@ use Rattle.affinity.specs.declared.geometry.Geometry.{Geometry}
 use Rattle.affinity.specs.Interval.{IsAffinityOf}
 use Rattle.affinity.specs.Path.{Path}
 use Rattle.affinity.specs.Place.{path_of_kind}
-use Rattle.language.specs.Messages.{kind, path_of}
+use Rattle.protocol.specs.Messages.{kind, path_of}
 use Rattle.parcel.specs.Fits.{Fits, IsKindOf, IsRunnable}
 use Rattle.parcel.specs.Run.{JobView}
 use Rattle.parcel.proofs.Serving.{fits_where_lent}

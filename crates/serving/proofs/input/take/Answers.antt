@@ -4,7 +4,7 @@ use Rattle.histories.specs.declared.outcomes.ArriveRefusal.TheVariants as arriva
 use Rattle.reorder_buffer.specs.ReorderBuffer.{AreConsecutive, with_tickets}
 use Rattle.histories.specs.declared.outcomes.ArriveRefusal.{ArriveRefusal}
 use Rattle.incarnations.specs.declared.hands.HandContent.{HandContent}
-use Rattle.language.specs.Grammar.{message_of}
+use Rattle.protocol.specs.Grammar.{message_of}
 use Rattle.scheduler.specs.Calls.{ArrivesByLine}
 use Rattle.serving.specs.Lines.{NoMessage, OutOfRange, Pending}
 use Rattle.serving.specs.Runs.{HandsHaveJobs}

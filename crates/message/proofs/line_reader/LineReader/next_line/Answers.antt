@@ -6,7 +6,7 @@ use Rattle.std.proofs.lemmas.Result.{err_from_is_err_and}
 use Rattle.std.proofs.KnownBytes.{prepend_known-nil}
 use Rattle.std.specs.List.{slice_range}
 use Rattle.std.specs.Io.KnownBytes.{Keeps, prepend_known}
-use Rattle.language.specs.FirstLine.{LosesLineStart}
+use Rattle.protocol.specs.FirstLine.{LosesLineStart}
 use Rattle.message.specs.declared.line_reader.LineReader.{LineReader}
 use Rattle.message.specs.declared.line_reader.Found.{Found}
 use Rattle.message.specs.declared.line_reader.Found.TheVariants.{Line, TooLong}

@@ -1,7 +1,7 @@
 -- Bytes that are dropped lie before the first newline, since none was held: so only the front of one line is lost.
 use Rattle.std.proofs.Common.{IfSome}
 use Rattle.std.specs.Io.KnownBytes.{prepend_known}
-use Rattle.language.specs.FirstLine.{LosesLineStart}
+use Rattle.protocol.specs.FirstLine.{LosesLineStart}
 use Rattle.message.specs.Reader.{buffered_bytes, still_to_come, unread}
 use Rattle.message.proofs.ReaderLemmas.{LosesLineStart-cleared, LosesLineStart-kept, LosesLineStart-trans}
 use Rattle.message.proofs.line_reader.LineReader.skip.Given as given

@@ -1,6 +1,6 @@
 -- No newline is held and the input goes on; what is unread has lost no more than the front of its first line.
 use Rattle.std.proofs.Common.{◌≡◌, [], false, IfSome}
-use Rattle.language.specs.FirstLine.{IsWithinLine, LosesLineStart}
+use Rattle.protocol.specs.FirstLine.{IsWithinLine, LosesLineStart}
 use Rattle.message.specs.Reader.{buffered_bytes, unread, line_of, has_failed}
 use Rattle.message.proofs.line_reader.LineReader.skip.Given as goal
 

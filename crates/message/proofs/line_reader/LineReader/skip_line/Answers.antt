@@ -3,7 +3,7 @@ use Rattle.std.proofs.Common.{◌≡◌, ◌⊎◌, inl, inr, true, IfSome}
 use Rattle.std.specs.List.{Contains}
 use Rattle.std.specs.Prelude.{◌&&◌}
 use Rattle.std.proofs.KnownBytes.{Keeps-refl}
-use Rattle.language.specs.FirstLine.{LosesLineStart, behind_first_line}
+use Rattle.protocol.specs.FirstLine.{LosesLineStart, behind_first_line}
 use Rattle.message.specs.Reader.{buffered_bytes, still_to_come, unread, are_none}
 use Rattle.message.proofs.ReaderLemmas.{IsWhole-known_end, passed, LosesLineStart-kept, HasWholeFirstLine-buffered, HasWholeFirstLine-behind}
 use Rattle.message.proofs.line_reader.LineReader.skip_line.Given as given

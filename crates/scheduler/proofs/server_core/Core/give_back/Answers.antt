@@ -7,7 +7,7 @@ use Rattle.affinity.specs.Path.{Path}
 use Rattle.arena.specs.ArenaView.{IsPartitioned}
 use Rattle.histories.specs.Events.{give_back, find_in_flight}
 use Rattle.histories.specs.CoreState.{Entry}
-use Rattle.language.specs.Messages.{four_numbers, kind}
+use Rattle.protocol.specs.Messages.{four_numbers, kind}
 use Rattle.parcel.specs.Fits.{Fits, IsKindOf}
 use Rattle.parcel.specs.Tree.{IsOut, RestoresAt, tree_nodes}
 use Rattle.parcel.specs.declared.parts.Parcels.{Parcels}

@@ -4,7 +4,7 @@ use Rattle.std.specs.Prelude.{IfSome, IsTrue, is_none}
 use Rattle.std.specs.Io.KnownBytes.{IsAtEnd}
 use Rattle.std.proofs.lemmas.List.{length-append}
 use Rattle.std.proofs.lemmas.Bool.{and_parts}
-use Rattle.language.specs.FirstLine.{GivesLine}
+use Rattle.protocol.specs.FirstLine.{GivesLine}
 use Rattle.message.specs.Reader.{has_ended, is_drained, source, unread}
 use Rattle.serving.specs.Lines.{NoMessage}
 use Rattle.serving.specs.Reads.{read_end_of}

@@ -1,4 +1,4 @@
-//! The language of the server: messages and replies as values, and which line spells which.
+//! The protocol of the server: messages and replies as values, and which line spells which.
 //!
 //! The definitions are in `specs`. No code runs here but what gives the kind of a message and its numbers, and which
 //! files a volume has.

@@ -1,6 +1,6 @@
 //! The sizes of what is in a message, made known to proofs: of a block and of a label.
 
-ghost use Rattle.language.specs.Messages.{AreSizedBytes, IsBlock, IsMessage};
+ghost use Rattle.protocol.specs.Messages.{AreSizedBytes, IsBlock, IsMessage};
 
 use crate::{Block, LABEL_SIZE, Msg};
 

@@ -2,10 +2,10 @@
 use Rattle.std.proofs.Common.{arith, ◌≡◌, ◌≢◌, ℕ, ◌<◌, eqb, List, [], ◌∷◌, length, None, refl, sym, ap}
 use Rattle.std.proofs.lemmas.Grind.{common_steps}
 use Rattle.std.proofs.lemmas.Bool.{cond-true, cond-false, eq-eqb, ne_eqb, lt-ltb}
-use Rattle.language.specs.declared.TheConstants.{LONGEST_LINE}
-use Rattle.language.specs.Lines.{lines, in_first}
-use Rattle.language.specs.Grammar.{message_of}
-use Rattle.language.specs.FirstLine.{first_line, behind_first_line}
+use Rattle.protocol.specs.declared.TheConstants.{LONGEST_LINE}
+use Rattle.protocol.specs.Lines.{lines, in_first}
+use Rattle.protocol.specs.Grammar.{message_of}
+use Rattle.protocol.specs.FirstLine.{first_line, behind_first_line}
 
 pub first_line-newline : (b : ℕ) (bs : List ℕ) → b ≡ 10 → first_line (b ∷ bs) ≡ []
 first_line-newline b bs is = cond-true (eqb b 10) [] (b ∷ first_line bs) (eq-eqb b 10 is)

@@ -1,7 +1,7 @@
 //! The kind of a message, and its numbers.
 
 ghost use Rattle.std.specs.Prelude.{◌≡◌};
-ghost use Rattle.language.specs.Messages.{kind, four_numbers};
+ghost use Rattle.protocol.specs.Messages.{kind, four_numbers};
 
 use crate::Msg;
 use affinity::Kind;

@@ -1,7 +1,7 @@
 //! Which files a volume has.
 
 ghost use Rattle.std.specs.Prelude.{◌≡◌};
-ghost use Rattle.language.specs.Replies.{has_file};
+ghost use Rattle.protocol.specs.Replies.{has_file};
 
 /// Whether a file is one of those that a number encodes: file f by bit f.
 pub fn has_file(files: u64, file: u16) -> bool
