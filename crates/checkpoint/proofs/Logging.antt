@@ -29,7 +29,7 @@ use Rattle.checkpoint.specs.Buffers.{FitBuffers, KeepsBuffers}
 use Rattle.checkpoint.specs.declared.journal.Buffers.{Buffers}
 use Rattle.checkpoint.specs.declared.journal.Journal.TheInside.{Inside}
 use Rattle.oplog.specs.Beyond.{KeepsBeyond}
-use Rattle.protocol.specs.declared.Msg.{Msg}
+use Rattle.protocol.specs.declared.messages.Msg.{Msg}
 use Rattle.protocol.specs.Messages.{is_in_range}
 use Rattle.message.specs.Records.{message_in_fields, record_of}
 use Rattle.message.proofs.RecordLemmas.{record_says}

@@ -13,7 +13,7 @@ use Rattle.oplog.specs.Changes.{IsReady}
 use Rattle.oplog.specs.Crash.{RecoversBy}
 use Rattle.oplog.specs.Front.{chain, front, front_in, rows}
 use Rattle.device_map.specs.Layout.{Layout, layout_of, part_bytes, device_size, header_part, half_part, image_part, other}
-use Rattle.protocol.specs.declared.TheConstants.{RECORD_SIZE}
+use Rattle.protocol.specs.declared.sizes.TheConstants.{RECORD_SIZE}
 use Rattle.oplog.specs.Recovery.{current_of, in_force, is_laid_out, run, recovers_by_area}
 use Rattle.meaning.specs.State.{State}
 

@@ -5,7 +5,7 @@ use Rattle.std.proofs.lemmas.Bool.{cases_eq, cases_lt, eqb-true, false_from_ne_t
 use Rattle.std.specs.Prelude.{◌==◌}
 use Rattle.image.specs.Touched.{may_change, may_change_part}
 use Rattle.image.proofs.Numbers.{in_parts, number_there}
-use Rattle.protocol.specs.declared.Msg.{Msg}
+use Rattle.protocol.specs.declared.messages.Msg.{Msg}
 use Rattle.std.proofs.lemmas.List.{ext_get_or, get_or-set_other, get_or-set_same, length-set, take_more, append-nil, drop_all, take_all}
 use Rattle.std.proofs.Math.Seq.{take-add}
 use Rattle.affinity.specs.declared.geometry.Geometry.{Geometry}

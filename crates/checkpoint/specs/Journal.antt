@@ -5,7 +5,7 @@ use Rattle.recovery.specs.Recovery.{recovered_state}
 use Rattle.disk.specs.Device.{Medium, IsCrashImage}
 use Rattle.disk.specs.Moments.{CrashImagesAre}
 use Rattle.checkpoint.specs.DirtyPieces.{DirtyPieces}
-use Rattle.protocol.specs.declared.Msg.{Msg}
+use Rattle.protocol.specs.declared.messages.Msg.{Msg}
 use Rattle.protocol.specs.Messages.{IsMessage}
 use Rattle.oplog.specs.Changing.{IsChangeInRange}
 use Rattle.oplog.specs.Recovery.{records_in}

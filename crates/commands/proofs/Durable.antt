@@ -9,7 +9,7 @@ use Rattle.disk.specs.Device.{Medium}
 use Rattle.protocol.specs.Grammar.{message_of}
 use Rattle.protocol.specs.Lines.{lines}
 use Rattle.protocol.specs.Replies.{output_line, reply_text}
-use Rattle.protocol.specs.declared.Msg.{Msg}
+use Rattle.protocol.specs.declared.messages.Msg.{Msg}
 use Rattle.meaning.proofs.OutputLemmas.{joined-append, output_lines-append}
 use Rattle.meaning.specs.Output.{WritesOutput, answer_line, joined, output_lines, serial_output, state_after_line, state_after_lines}
 use Rattle.meaning.specs.Serial.{reply_to}

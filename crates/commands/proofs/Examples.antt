@@ -13,7 +13,7 @@ use Rattle.recovery.specs.declared.inspecting.Shown.{Shown}
 use Rattle.disk.specs.Device.{Medium}
 use Rattle.protocol.specs.Grammar.{kind_named, message_of}
 use Rattle.protocol.specs.Lines.{number_in_word}
-use Rattle.protocol.specs.declared.Reply.TheVariants.{Summary}
+use Rattle.protocol.specs.declared.replies.Reply.TheVariants.{Summary}
 use Rattle.meaning.specs.Output.{answer_line, joined, output_lines, serial_output, state_after_line, state_after_lines}
 use Rattle.meaning.specs.State.{State, empty}
 use Rattle.device_map.specs.Layout.{image_size}

@@ -12,7 +12,7 @@ use Rattle.histories.specs.Laws.{IsIdle}
 use Rattle.incarnations.proofs.FailStop.{fail_stop, fails_once}
 use Rattle.incarnations.specs.Machine.{machine_of}
 use Rattle.meaning.specs.Serial.{state_after_all}
-use Rattle.protocol.specs.declared.Msg.{Msg}
+use Rattle.protocol.specs.declared.messages.Msg.{Msg}
 use Rattle.scheduler.specs.CoreView.{IsJustOpened, CoreView, RecoversNow, core_state_of}
 use Rattle.serving.specs.Ends.{Exchange, HasRunLines, committed_in}
 use Rattle.serving.specs.Runs.{machine_with_jobs}

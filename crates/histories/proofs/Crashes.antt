@@ -1,7 +1,7 @@
 -- What a crash of a legal run may leave.
 use Rattle.std.proofs.Common.{◌≡◌, ℕ, zero, suc, ◌≤◌, List, [], ◌∷◌, ◌++◌, refl, ap, sym, ◌∙◌, append_assoc, take, drop, arith}
 use Rattle.affinity.specs.declared.geometry.Geometry.{Geometry}
-use Rattle.protocol.specs.declared.Msg.{Msg}
+use Rattle.protocol.specs.declared.messages.Msg.{Msg}
 use Rattle.meaning.specs.State.{State}
 use Rattle.meaning.specs.Serial.{state_after_all}
 use Rattle.histories.specs.CoreState.{Replied}

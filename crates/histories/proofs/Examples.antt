@@ -4,12 +4,12 @@ use Rattle.std.specs.Prelude.{◌-◌, ◌^◌, None, IsPermutation}
 use Rattle.std.proofs.lemmas.Bool.{true≢false}
 use Rattle.std.proofs.lemmas.List.Sorted.{Contains-permutation, IsPermutation-middle, length_permutation}
 use Rattle.affinity.proofs.Numbers.{small}
-use Rattle.protocol.specs.declared.Block.{Block}
-use Rattle.protocol.specs.declared.Msg.{Msg}
-use Rattle.protocol.specs.declared.Msg.TheVariants.{MakeVol, Create, Write, Read, Summary as AskSummary, SetLabel, Label as AskLabel}
-use Rattle.protocol.specs.declared.Refusal.TheVariants.{Exists}
-use Rattle.protocol.specs.declared.Reply.{Reply}
-use Rattle.protocol.specs.declared.Reply.TheVariants.{Done, Summary, Refused}
+use Rattle.protocol.specs.declared.messages.Block.{Block}
+use Rattle.protocol.specs.declared.messages.Msg.{Msg}
+use Rattle.protocol.specs.declared.messages.Msg.TheVariants.{MakeVol, Create, Write, Read, Summary as AskSummary, SetLabel, Label as AskLabel}
+use Rattle.protocol.specs.declared.replies.Refusal.TheVariants.{Exists}
+use Rattle.protocol.specs.declared.replies.Reply.{Reply}
+use Rattle.protocol.specs.declared.replies.Reply.TheVariants.{Done, Summary, Refused}
 use Rattle.meaning.specs.State.{State, empty}
 use Rattle.meaning.specs.Order.{InOrderIfRelated}
 use Rattle.meaning.specs.Serial.{state_after_all, next_state}

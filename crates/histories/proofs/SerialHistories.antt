@@ -10,7 +10,7 @@ use Rattle.std.proofs.lemmas.List.Sorted.{IsPermutation-append_left}
 use Rattle.std.proofs.lemmas.Map.Keys.{IsDistinct-IsPermutation}
 use Rattle.affinity.specs.declared.geometry.Geometry.{Geometry}
 use Rattle.affinity.proofs.Elements.{all_weaker}
-use Rattle.protocol.specs.declared.Msg.{Msg}
+use Rattle.protocol.specs.declared.messages.Msg.{Msg}
 use Rattle.meaning.specs.State.{State}
 use Rattle.meaning.specs.Order.{InOrderIfRelated, KeepsOrder, serial_replies}
 use Rattle.histories.specs.CoreState.{Entry, Replied, CoreState, entries, entry}

@@ -4,7 +4,7 @@ use Rattle.std.specs.Prelude.{◌==◌}
 use Rattle.std.specs.List.{AllByRecursion}
 use Rattle.std.proofs.lemmas.List.{take-append-drop, length-append}
 use Rattle.affinity.specs.declared.geometry.Geometry.{Geometry}
-use Rattle.protocol.specs.declared.Msg.{Msg}
+use Rattle.protocol.specs.declared.messages.Msg.{Msg}
 use Rattle.affinity.proofs.Elements.{all_join, all_weaker}
 use Rattle.meaning.specs.Serial.{reply_to}
 use Rattle.histories.specs.CoreState.{Entry, Replied, CoreState, entries, held}

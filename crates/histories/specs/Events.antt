@@ -3,7 +3,7 @@ use Rattle.std.specs.Prelude.{◌≡◌, ℕ, zero, suc, ◌+◌, ◌-◌, ◌^�
 use Rattle.std.specs.Option.{unwrap_or}
 use Rattle.std.specs.List.{list_any}
 use Rattle.affinity.specs.declared.geometry.Geometry.{Geometry}
-use Rattle.protocol.specs.declared.Msg.{Msg}
+use Rattle.protocol.specs.declared.messages.Msg.{Msg}
 use Rattle.protocol.specs.Messages.{is_in_range}
 use Rattle.image.specs.Pieces.{piece_count}
 use Rattle.meaning.specs.Serial.{reply_to, state_after_all, is_recorded}

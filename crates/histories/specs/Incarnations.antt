@@ -1,7 +1,7 @@
 -- Statement for operators: Incarnations: a server is opened, it runs, and a crash ends it. Then it is opened again.
 use Rattle.std.specs.Prelude.{◌≡◌, ℕ, ◌≤◌, List, [], ◌∷◌, ◌++◌, length, take}
 use Rattle.affinity.specs.declared.geometry.Geometry.{Geometry}
-use Rattle.protocol.specs.declared.Msg.{Msg}
+use Rattle.protocol.specs.declared.messages.Msg.{Msg}
 use Rattle.meaning.specs.State.{State, empty}
 use Rattle.meaning.specs.Serial.{state_after_all}
 use Rattle.histories.specs.Events.{MachineState, Event}

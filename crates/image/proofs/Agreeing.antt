@@ -3,7 +3,7 @@ use Rattle.std.proofs.Common.{◌≡◌, ℕ, zero, suc, ◌≤◌, Bool, true, 
 use Rattle.std.specs.Prelude.{if◌then◌else◌}
 use Rattle.affinity.specs.Geometry.{stripe_of}
 use Rattle.affinity.specs.declared.geometry.Geometry.{Geometry}
-use Rattle.protocol.specs.declared.Block.{Block}
+use Rattle.protocol.specs.declared.messages.Block.{Block}
 use Rattle.meaning.specs.State.{State}
 use Rattle.stripe.specs.Stripe.{BlockEntry}
 use Rattle.image.specs.Pieces.{piece_size, piece_of, aggregate_of, volume_of, volume_piece_number, stripe_piece_number, volume_piece, stripe_piece, stripe_entries, entry_if, joined_below, decoded_by}

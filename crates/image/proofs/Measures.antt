@@ -6,9 +6,9 @@ use Rattle.std.proofs.lemmas.List.{length-replicate}
 use Rattle.affinity.specs.Geometry.{stripe_of}
 use Rattle.affinity.specs.declared.geometry.Geometry.{Geometry}
 use Rattle.device_map.specs.declared.layout.TheConstants.{BLOCK_ENTRY_SIZE}
-use Rattle.protocol.specs.declared.TheConstants.{LABEL_SIZE}
+use Rattle.protocol.specs.declared.sizes.TheConstants.{LABEL_SIZE}
 use Rattle.protocol.specs.Messages.{IsBlock, AreSizedBytes}
-use Rattle.protocol.specs.declared.Block.{Block}
+use Rattle.protocol.specs.declared.messages.Block.{Block}
 use Rattle.stripe.specs.Stripe.{BlockEntry}
 use Rattle.affinity.proofs.Elements.{all_join}
 use Rattle.meaning.specs.State.{State, VolumeKey, BlockKey, IsState, sum_below, blocks_in_stripe}

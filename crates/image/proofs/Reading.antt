@@ -11,10 +11,10 @@ use Rattle.affinity.specs.declared.geometry.Geometry.{Geometry}
 use Rattle.byteorder.specs.Endian.{little_bytes, little_number}
 use Rattle.device_map.specs.Layout.{slice}
 use Rattle.device_map.specs.declared.layout.TheConstants.{BLOCK_ENTRY_SIZE}
-use Rattle.protocol.specs.declared.TheConstants.{LABEL_SIZE}
+use Rattle.protocol.specs.declared.sizes.TheConstants.{LABEL_SIZE}
 use Rattle.protocol.specs.Messages.{AreSizedBytes}
 use Rattle.protocol.specs.Replies.{has_file}
-use Rattle.protocol.specs.declared.Block.{Block}
+use Rattle.protocol.specs.declared.messages.Block.{Block}
 use Rattle.meaning.specs.Serial.{file_bits}
 use Rattle.meaning.specs.State.{State, VolumeKey, FileKey, BlockKey, IsState, one_if}
 use Rattle.stripe.specs.Entries.{entry_bytes, entries_in}

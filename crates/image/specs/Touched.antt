@@ -3,8 +3,8 @@ use Rattle.std.specs.Prelude.{ℕ, suc, Bool, true, ◌&&◌, ◌==◌}
 use Rattle.affinity.specs.Geometry.{stripe_of}
 use Rattle.affinity.specs.Kind.{is_changing}
 use Rattle.affinity.specs.declared.geometry.Geometry.{Geometry}
-use Rattle.protocol.specs.declared.Msg.{Msg}
-use Rattle.protocol.specs.declared.Msg.TheVariants.{DropVol, Delete, Write, Punch}
+use Rattle.protocol.specs.declared.messages.Msg.{Msg}
+use Rattle.protocol.specs.declared.messages.Msg.TheVariants.{DropVol, Delete, Write, Punch}
 use Rattle.protocol.specs.Messages.{kind}
 use Rattle.meaning.specs.Serial.{key}
 use Rattle.meaning.specs.State.{is_volume}

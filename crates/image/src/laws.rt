@@ -8,7 +8,7 @@ ghost use Rattle.image.specs.Image.{AreGood, has_head, image_of, is_good, image_
 ghost use Rattle.image.specs.Pieces.{aggregate_of, part_of, piece_at, piece_count, piece_of, piece_size, stripe_entries, volume_of};
 ghost use Rattle.image.specs.Touched.{may_change};
 ghost use Rattle.protocol.specs.Messages.{AreSizedBytes};
-ghost use Rattle.protocol.specs.declared.Msg.{Msg};
+ghost use Rattle.protocol.specs.declared.messages.Msg.{Msg};
 ghost use Rattle.device_map.specs.Layout.{image_size};
 ghost use Rattle.meaning.specs.Serial.{next_state};
 ghost use Rattle.meaning.specs.State.{State, IsState};

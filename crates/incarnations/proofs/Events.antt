@@ -33,8 +33,8 @@ use Rattle.incarnations.specs.Machine.{HoldsJobs, IsHandOf, hand_at, hand_of, ma
 use Rattle.incarnations.specs.Steps.{IsCoreStep, IsMachineStep}
 use Rattle.incarnations.specs.declared.hands.HandContent.{HandContent}
 use Rattle.incarnations.specs.declared.hands.HandContent.TheVariants as has
-use Rattle.protocol.specs.declared.Msg.{Msg}
-use Rattle.protocol.specs.declared.Reply.{Reply}
+use Rattle.protocol.specs.declared.messages.Msg.{Msg}
+use Rattle.protocol.specs.declared.replies.Reply.{Reply}
 use Rattle.parcel.specs.Run.{JobView, IsJobRun}
 use Rattle.parcel.specs.declared.job.Done.{Done}
 use Rattle.meaning.specs.Serial.{state_after_all}

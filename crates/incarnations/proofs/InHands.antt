@@ -18,7 +18,7 @@ use Rattle.incarnations.proofs.Jobs.{SeesSame, job_stays, result_stays}
 use Rattle.incarnations.specs.Machine.{HoldsJobs, IsHandOf, hand_at, ticket_in}
 use Rattle.incarnations.specs.declared.hands.HandContent.{HandContent}
 use Rattle.incarnations.specs.declared.hands.HandContent.TheVariants as has
-use Rattle.protocol.specs.declared.Msg.{Msg}
+use Rattle.protocol.specs.declared.messages.Msg.{Msg}
 
 -- two numbers are one, or not
 pub one_or_other : (i k : ℕ) → (i ≡ k) ⊎ (i ≢ k)

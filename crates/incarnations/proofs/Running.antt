@@ -25,7 +25,7 @@ use Rattle.incarnations.proofs.Events.{some_of}
 use Rattle.incarnations.specs.Machine.{LeadTo, MachineView, HasRun, HasDeviceEvents, RecoversFromRun, machine_of}
 use Rattle.incarnations.specs.DeviceEvents.{AreSafe, DeviceEvent, RecoversForRun, AgreeWithDevice, device_after, events_of}
 use Rattle.incarnations.specs.Steps.{IsMachineStep}
-use Rattle.protocol.specs.declared.Msg.{Msg}
+use Rattle.protocol.specs.declared.messages.Msg.{Msg}
 use Rattle.meaning.specs.Serial.{state_after_all}
 use Rattle.incarnations.specs.declared.hands.HandContent.{HandContent}
 use Rattle.scheduler.specs.Calls.{CountsFailure}

@@ -12,7 +12,7 @@ use Rattle.histories.specs.declared.outcomes.Step.{Step}
 use Rattle.incarnations.specs.DeviceEvents.{DeviceEvent, AreSafe, RecoversForRun, AgreeWithDevice, device_after, events_of}
 use Rattle.incarnations.specs.declared.hands.HandContent.{HandContent}
 use Rattle.incarnations.specs.declared.hands.HandContent.TheVariants as has
-use Rattle.protocol.specs.declared.Reply.{Reply}
+use Rattle.protocol.specs.declared.replies.Reply.{Reply}
 use Rattle.meaning.specs.Order.{by_ticket, serial_replies}
 use Rattle.scheduler.specs.Jobs.{IsJobOf, IsResultOf}
 use Rattle.scheduler.specs.CoreView.{CoreView, RecoversNow, core_state_of}

@@ -1,9 +1,9 @@
 -- What is asked of a block that is there, and what is written over it, passes all checks.
 use Rattle.std.proofs.Common.{arith, ◌≡◌, ℕ, Some}
 use Rattle.affinity.specs.declared.geometry.Geometry.{Geometry}
-use Rattle.protocol.specs.declared.Msg.TheVariants.{Read}
-use Rattle.protocol.specs.declared.Block.{Block}
-use Rattle.protocol.specs.declared.Reply.TheVariants.{Block as shows}
+use Rattle.protocol.specs.declared.messages.Msg.TheVariants.{Read}
+use Rattle.protocol.specs.declared.messages.Block.{Block}
+use Rattle.protocol.specs.declared.replies.Reply.TheVariants.{Block as shows}
 use Rattle.meaning.specs.State.{State, IsState}
 use Rattle.meaning.specs.Serial.{step}
 

@@ -7,11 +7,11 @@ use Rattle.affinity.specs.declared.geometry.Geometry.{Geometry}
 use Rattle.affinity.specs.Geometry.{stripe_of}
 use Rattle.affinity.specs.Path.{Path, is_prefix, are_related, volume, logical, stripe, label}
 use Rattle.affinity.proofs.Paths.{is_prefix-refl, are_related-refl, beginnings_related, unrelated_below, unrelated_turned}
-use Rattle.protocol.specs.declared.Msg.{Msg}
-use Rattle.protocol.specs.declared.Msg.TheVariants.{MakeVol, DropVol, Create, Delete, Seal, Unseal, Write, Punch, Read, List as ListFiles, Usage as AskUsage, Summary as AskSummary, SetLabel, Label as AskLabel}
-use Rattle.protocol.specs.declared.Refusal.{Refusal}
-use Rattle.protocol.specs.declared.Refusal.TheVariants.{Volume, Sealed, File, Space}
-use Rattle.protocol.specs.declared.Reply.TheVariants.{Files, Usage, Summary, Label}
+use Rattle.protocol.specs.declared.messages.Msg.{Msg}
+use Rattle.protocol.specs.declared.messages.Msg.TheVariants.{MakeVol, DropVol, Create, Delete, Seal, Unseal, Write, Punch, Read, List as ListFiles, Usage as AskUsage, Summary as AskSummary, SetLabel, Label as AskLabel}
+use Rattle.protocol.specs.declared.replies.Refusal.{Refusal}
+use Rattle.protocol.specs.declared.replies.Refusal.TheVariants.{Volume, Sealed, File, Space}
+use Rattle.protocol.specs.declared.replies.Reply.TheVariants.{Files, Usage, Summary, Label}
 use Rattle.protocol.specs.Messages.{kind, four_numbers, path_of}
 use Rattle.meaning.specs.State.{State, sum_below, one_if, blocks_in_stripe, sum_over_volumes}
 use Rattle.meaning.specs.Serial.{key, checks, passes, refusal, effect, accepted_reply, reply_and_state, reply_to, next_state, block_reply, no_label}

@@ -8,11 +8,11 @@ use Rattle.affinity.specs.Geometry.{stripe_of}
 use Rattle.affinity.specs.Path.{is_prefix, stripe}
 use Rattle.affinity.specs.Place.{are_below, limits}
 use Rattle.affinity.specs.declared.kinds.Kind.TheVariants as kinds
-use Rattle.protocol.specs.declared.Block.{Block}
-use Rattle.protocol.specs.declared.Msg.{Msg}
-use Rattle.protocol.specs.declared.Msg.TheVariants.{MakeVol, DropVol, Create, Delete, Seal, Unseal, Write, Punch, Read, SetLabel}
-use Rattle.protocol.specs.declared.Refusal.{Refusal}
-use Rattle.protocol.specs.declared.Refusal.TheVariants.{Space}
+use Rattle.protocol.specs.declared.messages.Block.{Block}
+use Rattle.protocol.specs.declared.messages.Msg.{Msg}
+use Rattle.protocol.specs.declared.messages.Msg.TheVariants.{MakeVol, DropVol, Create, Delete, Seal, Unseal, Write, Punch, Read, SetLabel}
+use Rattle.protocol.specs.declared.replies.Refusal.{Refusal}
+use Rattle.protocol.specs.declared.replies.Refusal.TheVariants.{Space}
 use Rattle.protocol.specs.Messages.{IsMessage, kind, four_numbers}
 use Rattle.meaning.specs.State.{State, IsState, empty, BlockKey, is_file, is_block, is_block_of_file, one_if, blocks_in_stripe}
 use Rattle.meaning.specs.Serial.{checks, passes, refusal, effect, accepted_reply, reply_and_state, next_state, state_after_all}

@@ -2,8 +2,8 @@
 use Rattle.std.specs.Prelude.{◌≡◌, ℕ, zero, suc, ◌+◌, ◌<◌, ◌≤◌, Bool, true, false, not, ◌&&◌, ◌||◌, ◌==◌, List, if◌then◌else◌, Option, Some, None, is_some, IfSome}
 use Rattle.affinity.specs.declared.geometry.Geometry.{Geometry}
 use Rattle.affinity.specs.Geometry.{stripe_of}
-use Rattle.protocol.specs.declared.TheConstants.{LABEL_SIZE}
-use Rattle.protocol.specs.declared.Block.{Block}
+use Rattle.protocol.specs.declared.sizes.TheConstants.{LABEL_SIZE}
+use Rattle.protocol.specs.declared.messages.Block.{Block}
 use Rattle.protocol.specs.Messages.{IsBlock, AreSizedBytes}
 
 -- ---- sets and maps

@@ -5,9 +5,9 @@ ghost use Rattle.std.specs.Prelude.{◌≡◌, ℕ, true, false, List, Some, IsP
 ghost use Rattle.std.specs.List.{AllByRecursion};
 ghost use Rattle.affinity.specs.declared.geometry.Geometry.{Geometry};
 ghost use Rattle.affinity.specs.Path.{are_related};
-ghost use Rattle.protocol.specs.declared.Msg.{Msg};
-ghost use Rattle.protocol.specs.declared.Refusal.{Refusal};
-ghost use Rattle.protocol.specs.declared.Reply.TheVariants.{Refused};
+ghost use Rattle.protocol.specs.declared.messages.Msg.{Msg};
+ghost use Rattle.protocol.specs.declared.replies.Refusal.{Refusal};
+ghost use Rattle.protocol.specs.declared.replies.Reply.TheVariants.{Refused};
 ghost use Rattle.protocol.specs.Messages.{path_of, IsMessage};
 ghost use Rattle.meaning.specs.State.{State, IsState, empty};
 ghost use Rattle.meaning.specs.Serial.{refusal, reply_to, next_state, state_after_all, is_recorded};

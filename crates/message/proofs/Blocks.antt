@@ -11,8 +11,8 @@ use Rattle.std.specs.List.{AllPass}
 use Rattle.hex.specs.Hex.{decode_of, decode_sized, is_hex_digit}
 use Rattle.hex.specs.declared.error.FromHexError.{FromHexError}
 use Rattle.hex.proofs.HexLemmas.{decode_of-ok}
-use Rattle.protocol.specs.declared.TheConstants.{BLOCK_SIZE, LABEL_SIZE}
-use Rattle.protocol.specs.declared.Block.{Block}
+use Rattle.protocol.specs.declared.sizes.TheConstants.{BLOCK_SIZE, LABEL_SIZE}
+use Rattle.protocol.specs.declared.messages.Block.{Block}
 use Rattle.protocol.specs.Lines.{bytes_in_word, block_in_word, label_in_word, padded}
 use Rattle.message.proofs.Words.{HasNoSpace}
 

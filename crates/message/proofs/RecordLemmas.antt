@@ -9,10 +9,10 @@ use Rattle.byteorder.specs.Endian.{little_bytes, little_number}
 use Rattle.affinity.specs.declared.kinds.Kind.{Kind}
 use Rattle.affinity.specs.declared.kinds.Kind.TheVariants as kinds
 use Rattle.affinity.specs.declared.geometry.Geometry.{Geometry}
-use Rattle.protocol.specs.declared.TheConstants.{BLOCK_SIZE, LABEL_SIZE, RECORD_SIZE}
-use Rattle.protocol.specs.declared.Block.{Block}
-use Rattle.protocol.specs.declared.Msg.{Msg}
-use Rattle.protocol.specs.declared.Msg.TheVariants.{Create, Delete, Write, Punch, Read, Summary, SetLabel}
+use Rattle.protocol.specs.declared.sizes.TheConstants.{BLOCK_SIZE, LABEL_SIZE, RECORD_SIZE}
+use Rattle.protocol.specs.declared.messages.Block.{Block}
+use Rattle.protocol.specs.declared.messages.Msg.{Msg}
+use Rattle.protocol.specs.declared.messages.Msg.TheVariants.{Create, Delete, Write, Punch, Read, Summary, SetLabel}
 use Rattle.protocol.specs.Messages.{kind, numbers, filled, four_numbers, is_in_range, AreSizedBytes, IsMessage}
 use Rattle.message.specs.Records.{FitsRecord, assembled, data_of, message_in_fields, record_head, kind_number, kind_numbered, record_of}
 use borrow.Rule.Slice.PartMut.{put_mid, post_of}

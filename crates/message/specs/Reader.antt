@@ -2,7 +2,7 @@
 use Rattle.std.specs.Prelude.{ℕ, ◌<◌, ◌⊎◌, ◌&&◌, Bool, true, false, List, [], ◌∷◌, length, slice_range, Option, Result, Ok, Err, IsTrue, IfSome, Contains}
 use Rattle.std.specs.Option.{option_map}
 use Rattle.std.specs.Io.KnownBytes.{prepend_known, IsAtEnd}
-use Rattle.protocol.specs.declared.TheConstants.{LONGEST_LINE}
+use Rattle.protocol.specs.declared.sizes.TheConstants.{LONGEST_LINE}
 use Rattle.protocol.specs.FirstLine.{first_line, GivesLine, PassesLine, IsAtEndOf, LosesLineStart, HasWholeFirstLine}
 use Rattle.message.specs.declared.line_reader.Found.{Found}
 use Rattle.message.specs.declared.line_reader.Found.TheVariants.{Line, TooLong, End}

@@ -1,7 +1,7 @@
 -- Statement for engineers: What a writer holds together with what waits to be written to it.
 use Rattle.std.specs.Prelude.{◌≤◌, ◌+◌, ℕ, List, length, Option}
 use Rattle.std.specs.Io.KnownBytes.{append_known}
-use Rattle.protocol.specs.declared.TheConstants.{LONGEST_REPLY}
+use Rattle.protocol.specs.declared.sizes.TheConstants.{LONGEST_REPLY}
 
 -- all output, where it is known what the writer holds: the bytes that it holds, and then those that wait to be written
 abbrev pub all_output : Option (List ℕ) → List ℕ → Option (List ℕ)

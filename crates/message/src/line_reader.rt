@@ -5,7 +5,7 @@
 //! nothing left.
 ghost use Rattle.std.specs.Prelude.{◌≡◌, ◌≢◌, ℕ, ◌+◌, ◌-◌, ◌<◌, ◌≤◌, ◌↔◌, ◌⊎◌, [], true, false, length, take, drop, slice_index, IsTrue, IsFalse, IsOk, IsErr, is_err, IfSome, IfOk, OnOk, OnErr, Contains, vec_len};
 ghost use Rattle.std.specs.Io.KnownBytes.{Keeps, Consumes, IsAtEnd, prepend_known};
-ghost use Rattle.protocol.specs.declared.TheConstants.{LONGEST_LINE};
+ghost use Rattle.protocol.specs.declared.sizes.TheConstants.{LONGEST_LINE};
 
 use crate::LONGEST_LINE;
 use memchr::memchr;

@@ -3,7 +3,7 @@
 ghost use Rattle.std.specs.Prelude.{◌≡◌, ◌<◌, ◌≤◌, ◌+◌, ◌*◌, length, take, drop};
 ghost use Rattle.hex.specs.Hex.{encode_lower};
 ghost use Rattle.protocol.specs.Replies.{AppendsText, at_least_one, no_message, reply_line, reply_text, shown, spaced, without_trailing_zeros};
-ghost use Rattle.protocol.specs.declared.Reply.TheVariants.{Block as block_reply, Files as files_reply, Usage as usage_reply, Summary as summary_reply, Refused};
+ghost use Rattle.protocol.specs.declared.replies.Reply.TheVariants.{Block as block_reply, Files as files_reply, Usage as usage_reply, Summary as summary_reply, Refused};
 
 use itoa::Buffer;
 use protocol::{Block, LONGEST_REPLY, LONGEST_TEXT, Refusal, Reply};

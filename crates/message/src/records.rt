@@ -5,7 +5,7 @@ ghost use Rattle.affinity.specs.declared.kinds.Kind.{Kind};
 ghost use Rattle.protocol.specs.Messages.{IsMessage, is_in_range};
 ghost use Rattle.message.specs.Heads.{has_data};
 ghost use Rattle.message.specs.Records.{FitsRecord, assembled, data_of, message_in_fields, record_head, kind_number, kind_numbered, record_of};
-ghost use Rattle.protocol.specs.declared.Msg.{Msg};
+ghost use Rattle.protocol.specs.declared.messages.Msg.{Msg};
 
 use affinity::{Geometry, Kind, is_in_range};
 use byteorder::{ByteOrder, LittleEndian};

@@ -7,7 +7,7 @@ ghost use Rattle.message.specs.Reader.{HoldsLine};
 ghost use Rattle.protocol.specs.Replies.{no_message, reply_line};
 ghost use Rattle.message.specs.Waiting.{FitsReply, all_output};
 ghost use Rattle.message.specs.Writing.{AppendsBeginning};
-ghost use Rattle.protocol.specs.declared.Reply.TheVariants.{Done, Refused, Block as block_reply};
+ghost use Rattle.protocol.specs.declared.replies.Reply.TheVariants.{Done, Refused, Block as block_reply};
 
 use crate::line_reader::LineReader;
 use crate::printing::{refusal_line, write_block};

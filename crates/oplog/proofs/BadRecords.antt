@@ -6,7 +6,7 @@ use Rattle.disk.specs.Device.{AreBytes}
 use Rattle.disk.proofs.Bytes.{bytes-range, byte-get_or}
 use Rattle.message.proofs.RecordLemmas.{whole_if_decoded}
 use Rattle.device_map.specs.Layout.{part_at, part_size, half_part}
-use Rattle.protocol.specs.declared.TheConstants.{RECORD_SIZE}
+use Rattle.protocol.specs.declared.sizes.TheConstants.{RECORD_SIZE}
 use Rattle.oplog.specs.Changing.{RecordsAreBytes, BadRecordIsOfNoChange}
 use Rattle.oplog.proofs.Slices.{slice_slice, half_sized, half_inside}
 

@@ -7,7 +7,7 @@ use Rattle.disk.specs.Device.{AreBytes, Medium, SameOutside, overlaid}
 use Rattle.disk.proofs.Leaves.{itself, synced_left, synced_range, range_kept}
 use Rattle.disk.proofs.Overlays.{range-overlaid, length-overlaid}
 use Rattle.device_map.specs.Layout.{Layout, slice, part_bytes, part_at, part_size, half_part, half_size, device_size}
-use Rattle.protocol.specs.declared.TheConstants.{RECORD_SIZE}
+use Rattle.protocol.specs.declared.sizes.TheConstants.{RECORD_SIZE}
 use Rattle.oplog.specs.Front.{gates_in, count_open}
 use Rattle.oplog.specs.Changes.{IsSameBut, HasAppended, HasAppendedPrefix, IsReady, HasAppendedAll}
 use Rattle.disk.specs.Store.{After, Stored}

@@ -5,7 +5,7 @@ use Rattle.std.proofs.lemmas.List.{append-nil, drop-drop, take-append-drop, take
 use Rattle.disk.specs.Device.{SameOutside}
 use Rattle.disk.proofs.Outside.{same_take, same_drop, same_before}
 use Rattle.device_map.specs.Layout.{slice}
-use Rattle.protocol.specs.declared.TheConstants.{RECORD_SIZE}
+use Rattle.protocol.specs.declared.sizes.TheConstants.{RECORD_SIZE}
 use Rattle.oplog.specs.Front.{count_open, rows, gates_in, front_in}
 use Rattle.oplog.proofs.Slices.{within, slice_slice}
 use Rattle.oplog.proofs.Gates.{torn_gates, full_gates, still_shut}

@@ -3,7 +3,7 @@ use Rattle.std.specs.Prelude.{ℕ, zero, suc, ◌+◌, ◌*◌, ◌==◌, List, 
 use Rattle.std.specs.List.{prefix_len}
 use Rattle.device_map.specs.Layout.{Layout, slice, part_bytes, half_part}
 use Rattle.device_map.specs.declared.layout.TheConstants.{CHAIN_ZONE_SIZE}
-use Rattle.protocol.specs.declared.TheConstants.{RECORD_SIZE}
+use Rattle.protocol.specs.declared.sizes.TheConstants.{RECORD_SIZE}
 
 -- how many gates are 1 before the first that isn't
 abbrev pub count_open : List ℕ → ℕ

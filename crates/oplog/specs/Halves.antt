@@ -1,6 +1,6 @@
 -- Statement for engineers: The fields of a log as contracts see them, and what it keeps true of them.
 use Rattle.std.specs.Prelude.{◌≡◌, ◌*◌, ◌<◌, ◌≤◌, min, vec_len}
-use Rattle.protocol.specs.declared.TheConstants.{RECORD_SIZE}
+use Rattle.protocol.specs.declared.sizes.TheConstants.{RECORD_SIZE}
 use Rattle.oplog.specs.declared.half.TheConstants.{RECORDS_PER_WRITE}
 use Rattle.oplog.specs.Log.{Log}
 use Rattle.oplog.specs.declared.halves.Halves.TheInside.{Inside}

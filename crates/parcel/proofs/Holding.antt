@@ -8,7 +8,7 @@ use Rattle.affinity.specs.Interval.{IsPath}
 use Rattle.affinity.specs.Path.{Path, is_prefix, are_related}
 use Rattle.affinity.proofs.Paths.{unrelated_below, unrelated_turned}
 use Rattle.affinity.proofs.Placed.{IsPath-path_of_kind}
-use Rattle.protocol.specs.declared.Msg.{Msg}
+use Rattle.protocol.specs.declared.messages.Msg.{Msg}
 use Rattle.protocol.specs.Messages.{path_of, is_in_range, kind, four_numbers, IsMessage}
 use Rattle.meaning.specs.State.{State, IsState}
 use Rattle.meaning.specs.Serial.{reply_to, next_state}

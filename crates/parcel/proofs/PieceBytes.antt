@@ -2,7 +2,7 @@
 use Rattle.std.proofs.Common.{◌≡◌, ℕ, ◌-◌, Bool, true, List, [], ◌∷◌, ◌++◌, length, take, drop, replicate, sym, ◌∙◌, ap, arith, append_assoc, append-nil, length-append, length-take}
 use Rattle.std.proofs.lemmas.List.{take_at, drop_at, drop_all}
 use Rattle.byteorder.specs.Endian.{little_bytes}
-use Rattle.protocol.specs.declared.TheConstants.{LABEL_SIZE}
+use Rattle.protocol.specs.declared.sizes.TheConstants.{LABEL_SIZE}
 use Rattle.meaning.specs.State.{one_if}
 use Rattle.parcel.specs.Pieces.{spelled}
 use Rattle.parcel.specs.declared.pieces.volumes.VolumePiece.{VolumePiece}

@@ -5,7 +5,7 @@ use Rattle.affinity.specs.declared.kinds.Kind.{Kind}
 use Rattle.affinity.specs.Interval.{Interval, IsAffinityOf}
 use Rattle.affinity.specs.Path.{Path}
 use Rattle.affinity.specs.Place.{path_of_kind}
-use Rattle.protocol.specs.declared.Msg.{Msg}
+use Rattle.protocol.specs.declared.messages.Msg.{Msg}
 use Rattle.protocol.specs.Messages.{IsMessage, kind, four_numbers, path_of}
 use Rattle.parcel.specs.Fits.{Fits, IsKindOf}
 use Rattle.parcel.specs.Nodes.{Nodes, tree_state}

@@ -4,7 +4,7 @@ use Rattle.affinity.specs.declared.geometry.Geometry.{Geometry}
 use Rattle.affinity.specs.Interval.{Interval, IsAffinityOf}
 use Rattle.affinity.specs.Path.{Path}
 use Rattle.affinity.proofs.Preorder.{path_unique}
-use Rattle.protocol.specs.declared.Msg.{Msg}
+use Rattle.protocol.specs.declared.messages.Msg.{Msg}
 use Rattle.protocol.specs.Messages.{path_of}
 use Rattle.parcel.specs.Fits.{Fits, IsKindOf, IsRunnable}
 use Rattle.parcel.specs.declared.parts.Parcels.{Parcels}

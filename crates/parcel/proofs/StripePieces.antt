@@ -9,7 +9,7 @@ use Rattle.affinity.specs.declared.geometry.Geometry.{Geometry}
 use Rattle.device_map.specs.declared.layout.TheConstants.{BLOCK_ENTRY_SIZE}
 use Rattle.protocol.specs.Messages.{IsBlock, AreSizedBytes}
 use Rattle.protocol.specs.Replies.{has_file}
-use Rattle.protocol.specs.declared.Block.{Block}
+use Rattle.protocol.specs.declared.messages.Block.{Block}
 use Rattle.meaning.specs.State.{State, BlockKey, IsState, is_block_of, one_if, blocks_in_stripe}
 use Rattle.meaning.proofs.Sums.{sum_same}
 use Rattle.stripe.specs.Entries.{entry_bytes, entries_in, stripe_bytes, fits_stripe, IsStripePiece}

@@ -2,7 +2,7 @@
 use Rattle.std.proofs.Common.{◌≡◌, ℕ, ◌≤◌, List, Some, None, ap, sym, ◌∙◌, slice_index_or, arith}
 use Rattle.std.specs.Prelude.{Option, IfSome}
 use Rattle.affinity.specs.declared.geometry.Geometry.{Geometry}
-use Rattle.protocol.specs.declared.Block.{Block}
+use Rattle.protocol.specs.declared.messages.Block.{Block}
 use Rattle.meaning.specs.State.{State, blocks_in_stripe}
 use Rattle.meaning.proofs.Sums.{sum_same, sum_zero}
 use Rattle.parcel.specs.Fits.{FitsStripe}

@@ -6,8 +6,8 @@ use Rattle.std.proofs.lemmas.Bool.{eq-eqb, ne_eqb, cases_eq}
 use Rattle.std.specs.Vec.{with_item}
 use Rattle.std.proofs.lemmas.List.{get_or-set_same, get_or-set_other, get_or_read}
 use Rattle.affinity.specs.declared.geometry.Geometry.{Geometry}
-use Rattle.protocol.specs.declared.Msg.TheVariants.{MakeVol, DropVol}
-use Rattle.protocol.specs.declared.Refusal.TheVariants.{Range, Exists}
+use Rattle.protocol.specs.declared.messages.Msg.TheVariants.{MakeVol, DropVol}
+use Rattle.protocol.specs.declared.replies.Refusal.TheVariants.{Range, Exists}
 use Rattle.protocol.specs.Messages.{is_in_range}
 use Rattle.meaning.specs.Serial.{refusal, effect, no_label}
 use Rattle.meaning.specs.State.{State}

@@ -4,7 +4,7 @@ use Rattle.std.specs.Option.{option_and_then}
 use Rattle.affinity.specs.declared.geometry.Geometry.{Geometry}
 use Rattle.affinity.specs.Geometry.{stripe_of}
 use Rattle.affinity.specs.Path.{Path, is_prefix, volume, logical, stripe, label}
-use Rattle.protocol.specs.declared.Block.{Block}
+use Rattle.protocol.specs.declared.messages.Block.{Block}
 use Rattle.meaning.specs.State.{State}
 use Rattle.stripe.specs.Stripe.{StripePart, content_at}
 use Rattle.parcel.specs.Shown.{has_file}

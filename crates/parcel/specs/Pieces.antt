@@ -4,7 +4,7 @@ use Rattle.std.specs.Option.{option_map}
 use Rattle.affinity.specs.Geometry.{stripe_of}
 use Rattle.affinity.specs.declared.geometry.Geometry.{Geometry}
 use Rattle.byteorder.specs.Endian.{little_number}
-use Rattle.protocol.specs.declared.TheConstants.{LABEL_SIZE}
+use Rattle.protocol.specs.declared.sizes.TheConstants.{LABEL_SIZE}
 use Rattle.stripe.specs.Entries.{IsStripePiece}
 use Rattle.stripe.specs.Stripe.{StripePart}
 use Rattle.device_map.specs.Layout.{slice}

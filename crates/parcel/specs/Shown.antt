@@ -5,7 +5,7 @@ use Rattle.std.specs.Option.{option_and_then, option_map_or}
 use Rattle.affinity.specs.declared.geometry.Geometry.{Geometry}
 use Rattle.affinity.specs.Geometry.{stripe_of}
 use Rattle.affinity.specs.Path.{Path}
-use Rattle.protocol.specs.declared.Block.{Block}
+use Rattle.protocol.specs.declared.messages.Block.{Block}
 pub use Rattle.protocol.specs.Replies.{has_file}
 use Rattle.meaning.specs.State.{State}
 use Rattle.stripe.specs.Stripe.{StripePart, content_at}

@@ -1,11 +1,11 @@
 -- Inner: A message about one volume: its checks, and its step on what the volume has.
 use Rattle.std.specs.Prelude.{◌≡◌, ℕ, Bool, true, not, if◌then◌else◌, Option, Some, Result, Ok, Err}
 use Rattle.affinity.specs.declared.geometry.Geometry.{Geometry}
-use Rattle.protocol.specs.declared.Msg.{Msg}
-use Rattle.protocol.specs.declared.Refusal.{Refusal}
-use Rattle.protocol.specs.declared.Refusal.TheVariants.{Volume, Sealed}
-use Rattle.protocol.specs.declared.Reply.{Reply}
-use Rattle.protocol.specs.declared.Reply.TheVariants.{Done, Refused}
+use Rattle.protocol.specs.declared.messages.Msg.{Msg}
+use Rattle.protocol.specs.declared.replies.Refusal.{Refusal}
+use Rattle.protocol.specs.declared.replies.Refusal.TheVariants.{Volume, Sealed}
+use Rattle.protocol.specs.declared.replies.Reply.{Reply}
+use Rattle.protocol.specs.declared.replies.Reply.TheVariants.{Done, Refused}
 use Rattle.protocol.specs.Messages.{is_in_range}
 use Rattle.parcel.specs.Run.{IsSerialStep}
 use Rattle.parcel.specs.Volume.{VolumeFacts, one_volume}

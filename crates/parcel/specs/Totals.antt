@@ -2,7 +2,7 @@
 use Rattle.std.specs.Prelude.{ℕ, true, length, Option, Some, is_some}
 use Rattle.std.specs.Option.{option_map_or}
 use Rattle.affinity.specs.declared.geometry.Geometry.{Geometry}
-use Rattle.protocol.specs.declared.Block.{Block}
+use Rattle.protocol.specs.declared.messages.Block.{Block}
 use Rattle.meaning.specs.State.{sum_below, count_below, one_if}
 use Rattle.meaning.specs.Serial.{no_label}
 use Rattle.stripe.specs.Stripe.{StripePart}

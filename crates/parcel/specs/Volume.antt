@@ -1,6 +1,6 @@
 -- Statement for engineers: The facts of a volume (what can be asked of it), and the state that has given facts for each volume.
 use Rattle.std.specs.Prelude.{ℕ, Bool, true, false, ◌&&◌, ◌==◌, List, Option, None}
-use Rattle.protocol.specs.declared.Block.{Block}
+use Rattle.protocol.specs.declared.messages.Block.{Block}
 use Rattle.meaning.specs.State.{State}
 use Rattle.meaning.specs.Subtrees.{Fact, OfMade, OfSealed, OfLabel, OfFile, OfBlock, Value}
 

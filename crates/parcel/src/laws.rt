@@ -5,7 +5,7 @@ ghost use Rattle.std.specs.Prelude.{◌≡◌, ◌++◌, [], is_some, Bool, fals
 ghost use Rattle.affinity.specs.Interval.{IsPath};
 ghost use Rattle.affinity.specs.Path.{Path, are_related};
 ghost use Rattle.affinity.specs.declared.geometry.Geometry.{Geometry};
-ghost use Rattle.protocol.specs.declared.Msg.{Msg};
+ghost use Rattle.protocol.specs.declared.messages.Msg.{Msg};
 ghost use Rattle.protocol.specs.Messages.{IsMessage, path_of};
 ghost use Rattle.meaning.specs.Laws.{outside};
 ghost use Rattle.meaning.specs.Serial.{next_state, reply_to};

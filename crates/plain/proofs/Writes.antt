@@ -5,8 +5,8 @@ use Rattle.std.proofs.Common.{◌≡◌, ℕ, ◌+◌, ◌<◌, true, false, sym
 use Rattle.std.specs.Prelude.{is_some}
 use Rattle.affinity.specs.declared.geometry.Geometry.{Geometry}
 use Rattle.affinity.specs.Geometry.{stripe_of}
-use Rattle.protocol.specs.declared.Block.{Block}
-use Rattle.protocol.specs.declared.Msg.TheVariants.{Write}
+use Rattle.protocol.specs.declared.messages.Block.{Block}
+use Rattle.protocol.specs.declared.messages.Msg.TheVariants.{Write}
 use Rattle.meaning.specs.State.{State, BlockKey, one_if, blocks_in_stripe}
 use Rattle.meaning.specs.Serial.{effect}
 use Rattle.plain.specs.Server.{StripeKey, is_stripe}

@@ -1,7 +1,7 @@
 -- Inner: What the answer to one line does.
 use Rattle.std.specs.Prelude.{◌≡◌, ◌++◌, Bool, List, ℕ, Option, IsTrue, IsFalse}
 use Rattle.affinity.specs.declared.geometry.Geometry.{Geometry}
-use Rattle.protocol.specs.declared.Msg.{Msg}
+use Rattle.protocol.specs.declared.messages.Msg.{Msg}
 use Rattle.meaning.specs.Output.{answer_line, state_after_line}
 use Rattle.plain.specs.declared.server.Server.{Server}
 use Rattle.plain.specs.Server.{server_state, IsConsistent}

@@ -3,7 +3,7 @@ use Rattle.std.specs.Prelude.{◌≡◌, ℕ, Bool, false, ◌&&◌, ◌==◌, L
 use Rattle.std.specs.Option.{option_map_or, option_map}
 use Rattle.std.specs.BTreeMap as map
 use Rattle.affinity.specs.declared.geometry.Geometry.{Geometry}
-use Rattle.protocol.specs.declared.Block.{Block}
+use Rattle.protocol.specs.declared.messages.Block.{Block}
 use Rattle.protocol.specs.Replies.{has_file}
 use Rattle.meaning.specs.State.{State, Map, VolumeKey, BlockKey, IsState, blocks_in_stripe}
 use Rattle.meaning.specs.KeyOrders.{volume_order, file_order, block_order}

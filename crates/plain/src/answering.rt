@@ -4,7 +4,7 @@
 
 ghost use Rattle.std.specs.Prelude.{◌≡◌, ◌<◌, ◌++◌, ℕ, List, [], Option, Some, true, false, is_ok, option_map, IfOk, IfSome, OnOk, IsErrOf, IsFalse, MatchBool, unwrap_or, vec_len};
 ghost use Rattle.std.specs.Io.KnownBytes.{Appends, IsAtEnd};
-ghost use Rattle.protocol.specs.declared.TheConstants.{LONGEST_LINE};
+ghost use Rattle.protocol.specs.declared.sizes.TheConstants.{LONGEST_LINE};
 ghost use Rattle.protocol.specs.Grammar.{message_of};
 ghost use Rattle.message.specs.Reader.{unread, is_drained, source, KnowsEnd};
 ghost use Rattle.message.specs.Waiting.{FitsReply, all_output};
@@ -18,8 +18,8 @@ ghost use Rattle.meaning.specs.State.{State, empty};
 ghost use Rattle.plain.specs.Answering.{AnswersLine};
 ghost use Rattle.plain.specs.Server.{server_state, IsConsistent};
 ghost use Rattle.protocol.specs.Replies.{reply_line};
-ghost use Rattle.protocol.specs.declared.Msg.{Msg};
-ghost use Rattle.protocol.specs.declared.Reply.TheVariants.{Label as shows_label};
+ghost use Rattle.protocol.specs.declared.messages.Msg.{Msg};
+ghost use Rattle.protocol.specs.declared.replies.Reply.TheVariants.{Label as shows_label};
 ghost use Rattle.meaning.specs.Serial.{accepted_reply, no_label};
 ghost use Rattle.meaning.specs.Progress.{HasAnswered};
 ghost use Rattle.meaning.specs.Output.{serial_output, AnswersWholeLines, IsBeginning, WritesOutput};

@@ -1,6 +1,6 @@
 -- Statement for engineers: The first line of some bytes, and what a reader of lines finds in them.
 use Rattle.std.specs.Prelude.{◌≡◌, ◌≢◌, ℕ, ◌<◌, ◌⊎◌, ◌==◌, Bool, true, List, [], ◌∷◌, ◌++◌, length, if◌then◌else◌, Option, Some, IfSome, All, Contains}
-use Rattle.protocol.specs.declared.TheConstants.{LONGEST_LINE}
+use Rattle.protocol.specs.declared.sizes.TheConstants.{LONGEST_LINE}
 
 -- the bytes before the first newline, or all of them
 abbrev pub first_line : List ℕ → List ℕ

@@ -3,10 +3,10 @@ use Rattle.std.specs.Prelude.{◌≡◌, ℕ, zero, suc, ◌+◌, ◌==◌, List
 use Rattle.std.specs.Fmt.{decimal}
 use Rattle.std.specs.Int.{bit_at}
 use Rattle.hex.specs.Hex.{encode_lower}
-use Rattle.protocol.specs.declared.Refusal.{Refusal}
-use Rattle.protocol.specs.declared.Refusal.TheVariants.{Range, Volume, Exists, Sealed, File, Space}
-use Rattle.protocol.specs.declared.Reply.{Reply}
-use Rattle.protocol.specs.declared.Reply.TheVariants.{Done, Hole, Block as Found, Files, Usage, Summary, Refused, Label}
+use Rattle.protocol.specs.declared.replies.Refusal.{Refusal}
+use Rattle.protocol.specs.declared.replies.Refusal.TheVariants.{Range, Volume, Exists, Sealed, File, Space}
+use Rattle.protocol.specs.declared.replies.Reply.{Reply}
+use Rattle.protocol.specs.declared.replies.Reply.TheVariants.{Done, Hole, Block as Found, Files, Usage, Summary, Refused, Label}
 
 -- a byte followed by the others; a zero that nothing follows is dropped
 abbrev pub prepended : ℕ → List ℕ → List ℕ

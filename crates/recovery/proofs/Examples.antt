@@ -9,9 +9,9 @@ use Rattle.recovery.specs.declared.fault.OpenFault.TheVariants.{TooShort, BadVer
 use Rattle.recovery.specs.Header.{header_of}
 use Rattle.recovery.specs.Recovery.{recovered_state}
 use Rattle.recovery.specs.Refusals.{HasNoGeometry, IsUnformatted, refused}
-use Rattle.protocol.specs.declared.Reply.{Reply}
-use Rattle.protocol.specs.declared.Reply.TheVariants.{Summary}
-use Rattle.protocol.specs.declared.Msg.TheVariants.{Summary as AskSummary}
+use Rattle.protocol.specs.declared.replies.Reply.{Reply}
+use Rattle.protocol.specs.declared.replies.Reply.TheVariants.{Summary}
+use Rattle.protocol.specs.declared.messages.Msg.TheVariants.{Summary as AskSummary}
 use Rattle.message.specs.Records.{data_of, message_in_fields, kind_numbered}
 use Rattle.device_map.specs.Layout.{layout_of, device_size, image_size}
 use Rattle.meaning.specs.Serial.{reply_to}

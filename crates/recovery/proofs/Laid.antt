@@ -18,7 +18,7 @@ use Rattle.image.proofs.Reading.{read_again}
 use Rattle.oplog.proofs.Slices.{nothing_over}
 use Rattle.oplog.specs.Front.{chain, front, gates, count_open, rows}
 use Rattle.device_map.specs.Layout.{Layout, slice, layout_of, part_bytes, part_at, device_size, half_part, half_size, header_part, image_part, image_size}
-use Rattle.protocol.specs.declared.TheConstants.{RECORD_SIZE}
+use Rattle.protocol.specs.declared.sizes.TheConstants.{RECORD_SIZE}
 use Rattle.oplog.specs.Recovery.{named_area, in_force, is_laid_out, run, recovers_by_area}
 use Rattle.oplog.proofs.Slices.{slice_slice}
 use Rattle.meaning.specs.State.{State, empty}

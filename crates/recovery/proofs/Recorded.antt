@@ -10,11 +10,11 @@ use Rattle.recovery.specs.declared.fault.OpenFault.TheVariants as faults
 use Rattle.recovery.specs.Loading.{IsConsistentFault, fault_of_log, record_fault}
 use Rattle.recovery.specs.Recovery.{after_record, apply_decoded, is_record_there}
 use Rattle.recovery.specs.Refusals.{fault_if}
-use Rattle.protocol.specs.declared.TheConstants.{RECORD_SIZE}
+use Rattle.protocol.specs.declared.sizes.TheConstants.{RECORD_SIZE}
 use Rattle.disk.specs.Device.{AreBytes}
-use Rattle.protocol.specs.declared.Msg.{Msg}
-use Rattle.protocol.specs.declared.Reply.{Reply}
-use Rattle.protocol.specs.declared.Reply.TheVariants.{Done}
+use Rattle.protocol.specs.declared.messages.Msg.{Msg}
+use Rattle.protocol.specs.declared.replies.Reply.{Reply}
+use Rattle.protocol.specs.declared.replies.Reply.TheVariants.{Done}
 use Rattle.protocol.specs.Messages.{IsMessage, is_in_range, kind}
 use Rattle.message.specs.Records.{message_in_fields, record_of}
 use Rattle.message.proofs.RecordLemmas.{record_says}

@@ -5,7 +5,7 @@ use Rattle.recovery.specs.Header.{HasHeader}
 use Rattle.recovery.specs.Recovery.{recovered_state}
 use Rattle.recovery.specs.Refusals.{refused}
 use Rattle.image.specs.Image.{version_in}
-use Rattle.protocol.specs.declared.Msg.TheVariants.{Summary}
+use Rattle.protocol.specs.declared.messages.Msg.TheVariants.{Summary}
 use Rattle.device_map.specs.Layout.{layout_of, image_part, part_bytes}
 use Rattle.oplog.specs.Recovery.{in_force, named_area}
 use Rattle.meaning.specs.Serial.{reply_to}

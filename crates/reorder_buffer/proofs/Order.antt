@@ -1,7 +1,7 @@
 -- Lines whose tickets go up by one: each has its place, and an answer leaves the others as they are.
 use Rattle.std.proofs.lemmas.Grind.{common_steps}
 use Rattle.std.proofs.Common.{◌≡◌, ℕ, ◌+◌, ◌<◌, ◌≤◌, zero, suc, List, [], ◌∷◌, ◌⊎◌, inl, inr, length, map, set, get_or, refl, ap, sym, ◌∙◌, subst, arith}
-use Rattle.protocol.specs.declared.Reply.{Reply}
+use Rattle.protocol.specs.declared.replies.Reply.{Reply}
 use Rattle.reorder_buffer.specs.ReorderBuffer.{Completed, Line, NoMessage, OutOfRange, Pending, complete_one, HaveTicketsFrom, HasTicket}
 
 -- a line that is pending or completed is that of a message with some ticket

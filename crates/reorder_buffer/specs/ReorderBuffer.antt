@@ -3,9 +3,9 @@
 use Rattle.std.specs.Prelude.{◌≡◌, ◌<◌, ℕ, ◌+◌, ◌==◌, Bool, true, false, List, [], ◌∷◌, Option, Some, None, get_or, if◌then◌else◌, length, map, set}
 use Rattle.std.specs.List.{AllByRecursion}
 use Rattle.protocol.specs.Replies.{reply_line, no_message}
-use Rattle.protocol.specs.declared.Reply.{Reply}
-use Rattle.protocol.specs.declared.Reply.TheVariants.{Refused}
-use Rattle.protocol.specs.declared.Refusal.TheVariants.{Range}
+use Rattle.protocol.specs.declared.replies.Reply.{Reply}
+use Rattle.protocol.specs.declared.replies.Reply.TheVariants.{Refused}
+use Rattle.protocol.specs.declared.replies.Refusal.TheVariants.{Range}
 pub use Rattle.reorder_buffer.specs.declared.reorder_buffer.Line.{Line}
 pub use Rattle.reorder_buffer.specs.declared.reorder_buffer.Line.TheVariants.{NoMessage, OutOfRange, Pending, Completed}
 pub use Rattle.reorder_buffer.specs.declared.reorder_buffer.LineKind.{LineKind}

@@ -8,7 +8,7 @@ use Rattle.arena.specs.Lists.{without}
 use Rattle.arena.specs.ArenaView.{IsPartitioned, ArenaView, after_take, capacity_of, chain_at, front_of, value_at}
 use Rattle.histories.specs.Events.{answer}
 use Rattle.histories.specs.declared.outcomes.Outcome.TheVariants as outcomes
-use Rattle.protocol.specs.declared.Reply.TheVariants.{Done}
+use Rattle.protocol.specs.declared.replies.Reply.TheVariants.{Done}
 use Rattle.scheduler.proofs.Answering.{answer_core, answer_front, with_answer}
 use Rattle.scheduler.proofs.Chains.{TakenSlot, slot_taken}
 use Rattle.scheduler.specs.declared.server_core.Core.TheInside.{Inside}

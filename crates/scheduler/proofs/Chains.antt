@@ -8,8 +8,8 @@ use Rattle.arena.specs.Lists.{count_of, without}
 use Rattle.arena.specs.ArenaView.{ArenaView, IsPartitioned, after_move, after_put, after_take, can_move, capacity_of, chain_at, holds_value, moved, put_into, value_at}
 use Rattle.arena.proofs.ArenaLemmas.{chain-moved_other, chain-moved_same, chain-without, chained-apart, chained-holds, chained-once, length-moved}
 use Rattle.arena.proofs.Counts.{count_of-append, count_of-at, count_of-cons_same, without-absent}
-use Rattle.protocol.specs.declared.Reply.{Reply}
-use Rattle.protocol.specs.declared.Reply.TheVariants.{Done}
+use Rattle.protocol.specs.declared.replies.Reply.{Reply}
+use Rattle.protocol.specs.declared.replies.Reply.TheVariants.{Done}
 use Rattle.scheduler.specs.Slots.{HasChains, SlotView, slots_on, no_slot, slot_view_at}
 use Rattle.scheduler.specs.declared.slot.Slot.{Slot}
 use Rattle.scheduler.proofs.Splits.{MapSplit, map_same, map_split, count_of-split, without-split}

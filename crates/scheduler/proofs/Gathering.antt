@@ -14,9 +14,9 @@ use Rattle.arena.proofs.Counts.{count_of-append, count_of-at, count_of-cons_is, 
 use Rattle.histories.specs.Eligible.{changes}
 use Rattle.histories.specs.Events.{recorded}
 use Rattle.histories.specs.CoreState.{Replied}
-use Rattle.protocol.specs.declared.Msg.{Msg}
-use Rattle.protocol.specs.declared.Reply.{Reply}
-use Rattle.protocol.specs.declared.Reply.TheVariants.{Done}
+use Rattle.protocol.specs.declared.messages.Msg.{Msg}
+use Rattle.protocol.specs.declared.replies.Reply.{Reply}
+use Rattle.protocol.specs.declared.replies.Reply.TheVariants.{Done}
 use Rattle.meaning.specs.Serial.{is_recorded}
 use Rattle.scheduler.proofs.GrantCall.{some_value}
 use Rattle.scheduler.proofs.Shifting.{left_over, some_first}

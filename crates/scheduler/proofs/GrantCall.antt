@@ -18,9 +18,9 @@ use Rattle.histories.specs.Eligible.{is_eligible}
 use Rattle.histories.specs.Events.{grant}
 use Rattle.histories.specs.CoreState.{Entry, CoreState}
 use Rattle.protocol.specs.Messages.{path_of}
-use Rattle.protocol.specs.declared.Msg.{Msg}
-use Rattle.protocol.specs.declared.Reply.{Reply}
-use Rattle.protocol.specs.declared.Reply.TheVariants.{Done}
+use Rattle.protocol.specs.declared.messages.Msg.{Msg}
+use Rattle.protocol.specs.declared.replies.Reply.{Reply}
+use Rattle.protocol.specs.declared.replies.Reply.TheVariants.{Done}
 use Rattle.parcel.specs.Fits.{IsRunnable}
 use Rattle.parcel.specs.Run.{JobView, Shows}
 use Rattle.parcel.specs.Tree.{HasGap, LendsAt, TreeView, tree_nodes}

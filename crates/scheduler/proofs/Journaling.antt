@@ -14,7 +14,7 @@ use Rattle.histories.specs.Laws.{IsSoundCoreState}
 use Rattle.histories.specs.CoreState.{CoreState}
 use Rattle.histories.specs.declared.outcomes.Outcome.{Outcome}
 use Rattle.histories.specs.declared.outcomes.Step.{Step}
-use Rattle.protocol.specs.declared.Msg.{Msg}
+use Rattle.protocol.specs.declared.messages.Msg.{Msg}
 use Rattle.meaning.specs.Serial.{state_after_all}
 use Rattle.meaning.specs.State.{State}
 use Rattle.scheduler.specs.Calls.{IsCallEvent}

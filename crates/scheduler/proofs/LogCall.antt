@@ -17,8 +17,8 @@ use Rattle.histories.proofs.SerialReplies.{state_after_all-joined}
 use Rattle.histories.specs.Eligible.{changes}
 use Rattle.histories.specs.Events.{batch as batch_of, log, recorded, touches_device}
 use Rattle.histories.specs.declared.outcomes.Step.TheVariants as steps
-use Rattle.protocol.specs.declared.Msg.{Msg}
-use Rattle.protocol.specs.declared.Reply.TheVariants.{Done}
+use Rattle.protocol.specs.declared.messages.Msg.{Msg}
+use Rattle.protocol.specs.declared.replies.Reply.TheVariants.{Done}
 use Rattle.disk.specs.Store.{Costs}
 use Rattle.oplog.specs.Changing.{AreChangesInRange}
 use Rattle.oplog.specs.declared.fault.LogFault.{LogFault}

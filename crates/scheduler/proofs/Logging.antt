@@ -24,7 +24,7 @@ use Rattle.histories.specs.Events.{batch, log, recorded}
 use Rattle.histories.specs.Laws.{AreUnrelated, HaveRepliesAt, IsSoundCoreState}
 use Rattle.histories.specs.CoreState.{Replied, CoreState, entries}
 use Rattle.protocol.specs.Messages.{IsMessage, is_in_range, kind}
-use Rattle.protocol.specs.declared.Msg.{Msg}
+use Rattle.protocol.specs.declared.messages.Msg.{Msg}
 use Rattle.oplog.specs.Changing.{AreChangesInRange, IsChangeInRange}
 use Rattle.parcel.specs.Holding.{TreeHolds}
 use Rattle.parcel.specs.Tree.{tree_nodes}

@@ -5,7 +5,7 @@ use Rattle.affinity.specs.Place.{is_in_range as numbers_are_in_range, path_of_ki
 use Rattle.affinity.specs.declared.geometry.Geometry.{Geometry}
 use Rattle.affinity.specs.declared.kinds.Kind.{Kind}
 use Rattle.protocol.specs.Messages.{four_numbers, is_in_range, kind, path_of}
-use Rattle.protocol.specs.declared.Msg.{Msg}
+use Rattle.protocol.specs.declared.messages.Msg.{Msg}
 
 module _ {h g : Geometry} {k : Kind} {n : List ℕ} (m : Msg) where
   pub range_of : h ≡ g → k ≡ kind m → n ≡ four_numbers m → true ≡ numbers_are_in_range h k n → is_in_range g m ≡ true

@@ -18,9 +18,9 @@ use Rattle.histories.proofs.Lists.{all_back, all_front, all_without, any_none}
 use Rattle.histories.specs.Events.{give_back, find_in_flight}
 use Rattle.histories.specs.CoreState.{entries, Entry, CoreState, are_related_entries}
 use Rattle.protocol.specs.Messages.{path_of}
-use Rattle.protocol.specs.declared.Msg.{Msg}
-use Rattle.protocol.specs.declared.Reply.{Reply}
-use Rattle.protocol.specs.declared.Reply.TheVariants.{Done}
+use Rattle.protocol.specs.declared.messages.Msg.{Msg}
+use Rattle.protocol.specs.declared.replies.Reply.{Reply}
+use Rattle.protocol.specs.declared.replies.Reply.TheVariants.{Done}
 use Rattle.parcel.proofs.Lending.{kind_of}
 use Rattle.parcel.proofs.Serving.{fits_where_lent}
 use Rattle.parcel.specs.Fits.{Fits, IsKindOf}

@@ -12,7 +12,7 @@ use Rattle.histories.specs.Events.{give_back, find_in_flight}
 use Rattle.histories.specs.Laws.{HaveDistinctTickets, IsSoundCoreState}
 use Rattle.histories.specs.CoreState.{Entry}
 use Rattle.protocol.specs.Messages.{path_of}
-use Rattle.protocol.specs.declared.Reply.{Reply}
+use Rattle.protocol.specs.declared.replies.Reply.{Reply}
 use Rattle.parcel.specs.Fits.{Fits}
 use Rattle.parcel.specs.Holding.{TreeHolds}
 use Rattle.parcel.specs.Run.{Shows}

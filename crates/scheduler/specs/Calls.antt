@@ -13,8 +13,8 @@ use Rattle.histories.specs.declared.outcomes.Outcome.TheVariants as outcomes
 use Rattle.histories.specs.declared.outcomes.PointRefusal.{PointRefusal}
 use Rattle.histories.specs.declared.outcomes.PointRefusal.TheVariants as points
 use Rattle.histories.specs.declared.outcomes.Step.{Step}
-use Rattle.protocol.specs.declared.Msg.{Msg}
-use Rattle.protocol.specs.declared.Reply.{Reply}
+use Rattle.protocol.specs.declared.messages.Msg.{Msg}
+use Rattle.protocol.specs.declared.replies.Reply.{Reply}
 use Rattle.scheduler.specs.Jobs.{IsJobOf}
 use Rattle.scheduler.specs.CoreView.{CoreView, core_state_of}
 use Rattle.scheduler.specs.declared.granted.Granted.{Granted}

@@ -5,7 +5,7 @@ use Rattle.disk.specs.Device.{Medium, IsCrashImage}
 use Rattle.disk.specs.Moments.{CrashImagesAre}
 use Rattle.checkpoint.specs.Journal.{RecoversWithPrefix}
 use Rattle.histories.specs.CoreState.{Entry, Replied, CoreState}
-use Rattle.protocol.specs.declared.Msg.{Msg}
+use Rattle.protocol.specs.declared.messages.Msg.{Msg}
 use Rattle.parcel.specs.Tree.{TreeView, state_in}
 use Rattle.meaning.specs.Serial.{state_after_all}
 

@@ -1,6 +1,6 @@
 -- Inner: What contracts know of a core's past.
 use Rattle.std.specs.Prelude.{List, [], ◌++◌}
-use Rattle.protocol.specs.declared.Msg.{Msg}
+use Rattle.protocol.specs.declared.messages.Msg.{Msg}
 use Rattle.parcel.specs.Tree.{TreeView}
 use Rattle.scheduler.specs.declared.history.Appended.{Appended, Nothing, After'}
 

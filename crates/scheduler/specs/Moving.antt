@@ -3,8 +3,8 @@ use Rattle.std.specs.Prelude.{◌≡◌, ℕ, List, ◌++◌, map, take, drop, c
 use Rattle.arena.specs.ArenaView.{ArenaView, chain_at, value_at}
 use Rattle.histories.specs.Eligible.{changes}
 use Rattle.histories.specs.Events.{recorded}
-use Rattle.protocol.specs.declared.Msg.{Msg}
-use Rattle.protocol.specs.declared.Reply.{Reply}
+use Rattle.protocol.specs.declared.messages.Msg.{Msg}
+use Rattle.protocol.specs.declared.replies.Reply.{Reply}
 use Rattle.scheduler.specs.Parts.{replied_of}
 use Rattle.scheduler.specs.Slots.{HasChains, no_slot, slot_view_at}
 use Rattle.scheduler.specs.declared.slot.Slot.{Slot}

@@ -9,7 +9,7 @@ use Rattle.histories.specs.Eligible.{changes, unlogged_changes}
 use Rattle.histories.specs.Laws.{IsSoundCoreState}
 use Rattle.histories.specs.CoreState.{Entry, Replied, CoreState, entries}
 use Rattle.protocol.specs.Messages.{IsMessage, is_in_range, path_of}
-use Rattle.protocol.specs.declared.Msg.{Msg}
+use Rattle.protocol.specs.declared.messages.Msg.{Msg}
 use Rattle.parcel.specs.Holding.{TreeHolds}
 use Rattle.parcel.specs.Tree.{TreeView, tree_nodes}
 use Rattle.meaning.specs.Order.{messages_of}

@@ -1,9 +1,9 @@
 -- Statement for engineers: The messages of a core in its slots, by how far each has come.
 use Rattle.std.specs.Prelude.{◌≡◌, ℕ, List, length, map, get_or, unwrap_or}
 use Rattle.arena.specs.ArenaView.{IsPartitioned, ArenaView, chain_at, value_at}
-use Rattle.protocol.specs.declared.Msg.TheVariants.{Summary}
-use Rattle.protocol.specs.declared.Reply.{Reply}
-use Rattle.protocol.specs.declared.Reply.TheVariants.{Done}
+use Rattle.protocol.specs.declared.messages.Msg.TheVariants.{Summary}
+use Rattle.protocol.specs.declared.replies.Reply.{Reply}
+use Rattle.protocol.specs.declared.replies.Reply.TheVariants.{Done}
 use Rattle.scheduler.specs.declared.slot.Slot.{Slot}
 
 -- a slot with its number, and the reply that lies at this number

@@ -13,8 +13,8 @@ use Rattle.incarnations.specs.Machine.{MachineView}
 use Rattle.incarnations.specs.Steps.{IsCoreStep}
 use Rattle.incarnations.specs.declared.hands.HandContent.{HandContent}
 use Rattle.protocol.specs.Grammar.{message_of}
-use Rattle.protocol.specs.declared.Msg.{Msg}
-use Rattle.protocol.specs.declared.Reply.{Reply}
+use Rattle.protocol.specs.declared.messages.Msg.{Msg}
+use Rattle.protocol.specs.declared.replies.Reply.{Reply}
 use Rattle.scheduler.specs.Calls.{answer_outcome}
 use Rattle.scheduler.specs.CoreView.{CoreView}
 use Rattle.serving.specs.Lines.{Completed, AreKnown, IsKnown, Line, NoMessage, NoneIsTo, OutOfRange, Pending, complete_one, admitted, admitted_in, has_answer, next_ticket, ticketed}

@@ -5,9 +5,9 @@ use Rattle.affinity.proofs.Numbers.{small}
 use Rattle.histories.proofs.Elements.{in_contained}
 use Rattle.protocol.specs.Grammar.{kind_named, message_of}
 use Rattle.protocol.specs.Lines.{number_in_word}
-use Rattle.protocol.specs.declared.Msg.TheVariants.{MakeVol, Create, Summary as AskSummary}
-use Rattle.protocol.specs.declared.Reply.{Reply}
-use Rattle.protocol.specs.declared.Reply.TheVariants.{Done, Summary}
+use Rattle.protocol.specs.declared.messages.Msg.TheVariants.{MakeVol, Create, Summary as AskSummary}
+use Rattle.protocol.specs.declared.replies.Reply.{Reply}
+use Rattle.protocol.specs.declared.replies.Reply.TheVariants.{Done, Summary}
 use Rattle.meaning.specs.Output.{joined, output_lines}
 use Rattle.meaning.specs.State.{empty}
 use Rattle.serving.specs.Lines.{Completed, AreKnown, NoMessage, NoneIsTo, OutOfRange, Pending, admitted, next_ticket, answer_text, ticketed}

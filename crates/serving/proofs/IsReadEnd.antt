@@ -13,7 +13,7 @@ use Rattle.incarnations.specs.Machine.{MachineView}
 use Rattle.protocol.specs.Grammar.{message_of}
 use Rattle.protocol.specs.Messages.{is_in_range}
 use Rattle.protocol.specs.FirstLine.{GivesLine}
-use Rattle.protocol.specs.declared.Msg.{Msg}
+use Rattle.protocol.specs.declared.messages.Msg.{Msg}
 use Rattle.scheduler.specs.CoreView.{core_state_of}
 use Rattle.serving.specs.Reads.{IsRefusedLine, read_end_of}
 use Rattle.serving.specs.Runs.{unanswered}

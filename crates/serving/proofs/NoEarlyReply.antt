@@ -9,9 +9,9 @@ use Rattle.histories.proofs.Elements.{in_contained}
 use Rattle.histories.specs.CoreState.{Entry}
 use Rattle.protocol.specs.Grammar.{message_of}
 use Rattle.protocol.specs.Replies.{no_message, reply_line}
-use Rattle.protocol.specs.declared.Msg.{Msg}
-use Rattle.protocol.specs.declared.Refusal.TheVariants.{Range}
-use Rattle.protocol.specs.declared.Reply.TheVariants.{Done, Refused}
+use Rattle.protocol.specs.declared.messages.Msg.{Msg}
+use Rattle.protocol.specs.declared.replies.Refusal.TheVariants.{Range}
+use Rattle.protocol.specs.declared.replies.Reply.TheVariants.{Done, Refused}
 use Rattle.meaning.specs.Order.{messages_of}
 use Rattle.meaning.specs.Output.{joined}
 use Rattle.scheduler.specs.CoreView.{CoreView, core_state_of}

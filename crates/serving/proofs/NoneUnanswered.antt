@@ -18,8 +18,8 @@ use Rattle.histories.specs.Runs.{IsLegal, answered_messages, arrived, end_state,
 use Rattle.incarnations.specs.DeviceEvents.{events_of}
 use Rattle.incarnations.specs.Machine.{MachineView, machine_of}
 use Rattle.protocol.specs.Grammar.{message_of}
-use Rattle.protocol.specs.declared.Msg.{Msg}
-use Rattle.protocol.specs.declared.Reply.{Reply}
+use Rattle.protocol.specs.declared.messages.Msg.{Msg}
+use Rattle.protocol.specs.declared.replies.Reply.{Reply}
 use Rattle.reorder_buffer.specs.ReorderBuffer.{can_retire}
 use Rattle.scheduler.specs.CoreView.{core_state_of}
 use Rattle.serving.specs.Lines.{AreKnown, IsKnown, Line, Pending, NoneIsTo, admitted, admitted_in, next_ticket, ticketed}

@@ -9,10 +9,10 @@ use Rattle.protocol.specs.Grammar.{message_of}
 use Rattle.protocol.specs.Lines.{lines}
 use Rattle.protocol.specs.Messages.{is_in_range}
 use Rattle.protocol.specs.Replies.{reply_line}
-use Rattle.protocol.specs.declared.Msg.{Msg}
-use Rattle.protocol.specs.declared.Refusal.TheVariants.{Range}
-use Rattle.protocol.specs.declared.Reply.{Reply}
-use Rattle.protocol.specs.declared.Reply.TheVariants.{Refused}
+use Rattle.protocol.specs.declared.messages.Msg.{Msg}
+use Rattle.protocol.specs.declared.replies.Refusal.TheVariants.{Range}
+use Rattle.protocol.specs.declared.replies.Reply.{Reply}
+use Rattle.protocol.specs.declared.replies.Reply.TheVariants.{Refused}
 use Rattle.meaning.specs.Order.{by_ticket, messages_of}
 use Rattle.meaning.specs.Output.{WritesOutput, answer_line, joined, output_lines, state_after_line, state_after_lines}
 use Rattle.meaning.specs.Serial.{state_after_all, next_state, reply_to}

@@ -17,7 +17,7 @@ use Rattle.incarnations.proofs.Running.{one_leads}
 use Rattle.incarnations.specs.Machine.{MachineView, machine_of}
 use Rattle.incarnations.specs.Steps.{IsCoreStep, IsMachineStep}
 use Rattle.incarnations.specs.declared.hands.HandContent.{HandContent}
-use Rattle.protocol.specs.declared.Reply.{Reply}
+use Rattle.protocol.specs.declared.replies.Reply.{Reply}
 use Rattle.scheduler.specs.Calls.{CountsFailure, IsCallEvent, log_device_failed, checkpoint_device_failed}
 use Rattle.scheduler.specs.CoreView.{CoreView, RecoversThroughout, core_state_of}
 use Rattle.serving.specs.Lines.{Line, admitted, ticketed}

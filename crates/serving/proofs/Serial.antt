@@ -13,11 +13,11 @@ use Rattle.histories.proofs.SerialReplies.{IsIn}
 use Rattle.protocol.specs.Grammar.{message_of}
 use Rattle.protocol.specs.Messages.{is_in_range, kind, four_numbers}
 use Rattle.protocol.specs.Replies.{reply_line}
-use Rattle.protocol.specs.declared.Msg.{Msg}
-use Rattle.protocol.specs.declared.Refusal.{Refusal}
-use Rattle.protocol.specs.declared.Refusal.TheVariants.{Range}
-use Rattle.protocol.specs.declared.Reply.{Reply}
-use Rattle.protocol.specs.declared.Reply.TheVariants.{Refused}
+use Rattle.protocol.specs.declared.messages.Msg.{Msg}
+use Rattle.protocol.specs.declared.replies.Refusal.{Refusal}
+use Rattle.protocol.specs.declared.replies.Refusal.TheVariants.{Range}
+use Rattle.protocol.specs.declared.replies.Reply.{Reply}
+use Rattle.protocol.specs.declared.replies.Reply.TheVariants.{Refused}
 use Rattle.meaning.proofs.OutputLemmas.{take-output_lines}
 use Rattle.meaning.specs.Order.{messages_of, serial_replies}
 use Rattle.meaning.specs.Output.{answer_line, output_lines, state_after_line, state_after_lines}

@@ -7,7 +7,7 @@ use Rattle.histories.specs.Laws.{IsIdle}
 use Rattle.incarnations.specs.Machine.{MachineView}
 use Rattle.protocol.specs.Grammar.{message_of}
 use Rattle.protocol.specs.FirstLine.{GivesLine, HasWholeFirstLine, PassesLine}
-use Rattle.protocol.specs.declared.Reply.{Reply}
+use Rattle.protocol.specs.declared.replies.Reply.{Reply}
 use Rattle.meaning.specs.Output.{joined}
 use Rattle.scheduler.specs.CoreView.{core_state_of}
 use Rattle.serving.specs.Lines.{Line, answer_text, complete_one}

@@ -9,7 +9,7 @@ use Rattle.std.proofs.lemmas.Map.Keys.{IsDistinct-IsPermutation}
 use Rattle.histories.proofs.SerialHistories.{same_turned, distinct_ascending, one_ticket}
 use Rattle.affinity.specs.declared.geometry.Geometry.{Geometry}
 use Rattle.affinity.proofs.Elements.{all_weaker}
-use Rattle.protocol.specs.declared.Reply.{Reply}
+use Rattle.protocol.specs.declared.replies.Reply.{Reply}
 use Rattle.meaning.specs.Laws.{AreInOrder}
 use Rattle.meaning.specs.Order.{by_ticket, messages_of, inserted_by_ticket, serial_replies, InOrderIfRelated, KeepsOrder}
 use Rattle.meaning.specs.Serial.{state_after_all, is_recorded, next_state, reply_to}

@@ -19,8 +19,8 @@ use Rattle.scheduler.specs.Calls.{arrive_outcome as arrived_so}
 use Rattle.scheduler.specs.CoreView.{CoreView, core_state_of}
 use Rattle.incarnations.specs.Machine.{MachineView}
 use Rattle.protocol.specs.Grammar.{message_of}
-use Rattle.protocol.specs.declared.Msg.{Msg}
-use Rattle.protocol.specs.declared.Reply.{Reply}
+use Rattle.protocol.specs.declared.messages.Msg.{Msg}
+use Rattle.protocol.specs.declared.replies.Reply.{Reply}
 use Rattle.serving.specs.Progress.{IsServing}
 use Rattle.serving.specs.Lines.{AreKnown, IsKnown, Line, NoneIsTo, OutOfRange, Pending, admitted, admitted_in, next_ticket, ticketed, Completed, NoMessage}
 use Rattle.serving.specs.Reads.{IsRefusedLine, IsTaken}

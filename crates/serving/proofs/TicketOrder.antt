@@ -3,8 +3,8 @@ use Rattle.std.proofs.Common.{◌≡◌, ℕ, List, [], ◌∷◌, ◌++◌, Opt
 use Rattle.affinity.specs.declared.geometry.Geometry.{Geometry}
 use Rattle.incarnations.specs.Machine.{MachineView}
 use Rattle.protocol.specs.Grammar.{message_of}
-use Rattle.protocol.specs.declared.Msg.{Msg}
-use Rattle.protocol.specs.declared.Reply.{Reply}
+use Rattle.protocol.specs.declared.messages.Msg.{Msg}
+use Rattle.protocol.specs.declared.replies.Reply.{Reply}
 use Rattle.serving.specs.Progress.{IsServing}
 use Rattle.serving.specs.Lines.{Completed, AreKnown, IsKnown, Line, NoMessage, OutOfRange, Pending, admitted, admitted_in, next_ticket}
 use Rattle.reorder_buffer.specs.ReorderBuffer.{HaveTicketsFrom, AreConsecutive, with_tickets}

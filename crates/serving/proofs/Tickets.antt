@@ -9,8 +9,8 @@ use Rattle.histories.specs.Runs.{IsLegal, arrived, arrives, end_state}
 use Rattle.histories.specs.CoreState.{Entry}
 use Rattle.incarnations.specs.Machine.{MachineView, machine_of}
 use Rattle.incarnations.specs.DeviceEvents.{events_of}
-use Rattle.protocol.specs.declared.Msg.{Msg}
-use Rattle.protocol.specs.declared.Reply.{Reply}
+use Rattle.protocol.specs.declared.messages.Msg.{Msg}
+use Rattle.protocol.specs.declared.replies.Reply.{Reply}
 use Rattle.meaning.specs.Order.{messages_of}
 use Rattle.serving.specs.Lines.{next_ticket, ticketed}
 use Rattle.serving.specs.Runs.{RunsBetween}

@@ -1,7 +1,7 @@
 -- Inner: When a checkpoint is due.
 use Rattle.std.specs.Prelude.{◌≡◌, ◌≢◌, ◌+◌, ◌-◌, ◌^◌, ◌≤◌, ℕ, Option, None, min}
-use Rattle.protocol.specs.declared.Reply.{Reply}
-use Rattle.protocol.specs.declared.Reply.TheVariants as replies
+use Rattle.protocol.specs.declared.replies.Reply.{Reply}
+use Rattle.protocol.specs.declared.replies.Reply.TheVariants as replies
 use Rattle.serving.specs.declared.checkpoints.CheckpointTrigger.{CheckpointTrigger}
 
 -- A checkpoint is due by the count of records: none is in progress, and since the last one began as many records were logged as was asked

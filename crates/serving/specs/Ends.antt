@@ -8,8 +8,8 @@ use Rattle.incarnations.specs.declared.hands.HandContent.{HandContent}
 use Rattle.protocol.specs.Grammar.{message_of}
 use Rattle.protocol.specs.Lines.{lines}
 use Rattle.protocol.specs.Messages.{is_in_range}
-use Rattle.protocol.specs.declared.Msg.{Msg}
-use Rattle.protocol.specs.declared.Reply.{Reply}
+use Rattle.protocol.specs.declared.messages.Msg.{Msg}
+use Rattle.protocol.specs.declared.replies.Reply.{Reply}
 use Rattle.message.specs.Writing.{AppendsBeginning}
 use Rattle.meaning.specs.Output.{AnswersWholeLines, IsBeginning, WritesOutput, joined, output_lines, serial_output, state_after_lines}
 use Rattle.meaning.specs.State.{State}

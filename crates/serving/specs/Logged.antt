@@ -13,10 +13,10 @@ use Rattle.histories.specs.CoreState.{Entry, Replied}
 use Rattle.protocol.specs.Grammar.{message_of}
 use Rattle.protocol.specs.Messages.{is_in_range}
 use Rattle.protocol.specs.Replies.{reply_line, no_message}
-use Rattle.protocol.specs.declared.Msg.{Msg}
-use Rattle.protocol.specs.declared.Reply.{Reply}
-use Rattle.protocol.specs.declared.Reply.TheVariants.{Refused}
-use Rattle.protocol.specs.declared.Refusal.TheVariants.{Range}
+use Rattle.protocol.specs.declared.messages.Msg.{Msg}
+use Rattle.protocol.specs.declared.replies.Reply.{Reply}
+use Rattle.protocol.specs.declared.replies.Reply.TheVariants.{Refused}
+use Rattle.protocol.specs.declared.replies.Refusal.TheVariants.{Range}
 use Rattle.meaning.specs.Output.{joined}
 use Rattle.meaning.specs.Serial.{state_after_all}
 use Rattle.meaning.specs.State.{State}

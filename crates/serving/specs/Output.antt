@@ -4,8 +4,8 @@ use Rattle.std.specs.List.{AllByRecursion}
 use Rattle.histories.specs.Laws.{IsIdle}
 use Rattle.incarnations.specs.Machine.{MachineView}
 use Rattle.protocol.specs.Replies.{no_message, reply_line}
-use Rattle.protocol.specs.declared.Refusal.TheVariants.{Range}
-use Rattle.protocol.specs.declared.Reply.TheVariants.{Refused}
+use Rattle.protocol.specs.declared.replies.Refusal.TheVariants.{Range}
+use Rattle.protocol.specs.declared.replies.Reply.TheVariants.{Refused}
 use Rattle.meaning.specs.Output.{joined}
 use Rattle.scheduler.specs.CoreView.{CoreView, core_state_of}
 use Rattle.serving.specs.Ends.{HasServed}

@@ -3,7 +3,7 @@
 use Rattle.std.specs.Prelude.{ℕ, Bool, List, ◌++◌, map, Option}
 use Rattle.std.specs.Io.KnownBytes.{Appends}
 use Rattle.incarnations.specs.Machine.{MachineView}
-use Rattle.protocol.specs.declared.Reply.{Reply}
+use Rattle.protocol.specs.declared.replies.Reply.{Reply}
 use Rattle.meaning.specs.Output.{joined}
 use Rattle.meaning.specs.Progress.{TakesLines}
 use Rattle.serving.specs.Lines.{AreKnown, HaveAnswers, Line, admitted, answer_text, ticketed}

@@ -8,7 +8,7 @@ use Rattle.incarnations.specs.Machine.{LeadTo, MachineView, HoldsJobs}
 use Rattle.incarnations.specs.DeviceEvents.{DeviceEvent, events_of}
 use Rattle.incarnations.specs.declared.hands.HandContent.{HandContent}
 use Rattle.incarnations.specs.declared.hands.HandContent.TheVariants as has
-use Rattle.protocol.specs.declared.Reply.{Reply}
+use Rattle.protocol.specs.declared.replies.Reply.{Reply}
 use Rattle.parcel.specs.Run.{JobView}
 use Rattle.scheduler.specs.CoreView.{CoreView, core_state_of}
 

@@ -12,7 +12,7 @@ use Rattle.incarnations.specs.Machine.{MachineView, machine_of}
 use Rattle.protocol.specs.Grammar.{message_of}
 use Rattle.protocol.specs.Messages.{is_in_range}
 use Rattle.protocol.specs.FirstLine.{GivesLine, LosesLineStart}
-use Rattle.protocol.specs.declared.Msg.{Msg}
+use Rattle.protocol.specs.declared.messages.Msg.{Msg}
 use Rattle.meaning.specs.Output.{joined}
 use Rattle.message.specs.Writing.{AppendsBeginning}
 use Rattle.scheduler.specs.CoreView.{CoreView, core_state_of}

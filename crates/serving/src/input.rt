@@ -5,7 +5,7 @@ ghost use Rattle.histories.specs.Events.{arrive};
 ghost use Rattle.histories.specs.declared.outcomes.ArriveRefusal.TheVariants as arrivals;
 ghost use Rattle.histories.specs.declared.outcomes.Outcome.TheVariants as outcomes;
 ghost use Rattle.protocol.specs.Grammar.{message_of};
-ghost use Rattle.protocol.specs.declared.Msg.{Msg};
+ghost use Rattle.protocol.specs.declared.messages.Msg.{Msg};
 ghost use Rattle.scheduler.specs.CoreView.{core_state_of};
 ghost use Rattle.incarnations.specs.declared.hands.HandContent.{HandContent};
 ghost use Rattle.serving.specs.Kill.{IsKillSafe};

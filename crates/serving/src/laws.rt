@@ -16,10 +16,10 @@ ghost use Rattle.histories.specs.declared.outcomes.Outcome.TheVariants as outcom
 ghost use Rattle.protocol.specs.Grammar.{message_of};
 ghost use Rattle.protocol.specs.Messages.{is_in_range};
 ghost use Rattle.protocol.specs.FirstLine.{GivesLine, LosesLineStart};
-ghost use Rattle.protocol.specs.declared.Msg.{Msg};
+ghost use Rattle.protocol.specs.declared.messages.Msg.{Msg};
 ghost use Rattle.protocol.specs.Replies.{reply_line};
-ghost use Rattle.protocol.specs.declared.Reply.{Reply};
-ghost use Rattle.protocol.specs.declared.Reply.TheVariants.{Done};
+ghost use Rattle.protocol.specs.declared.replies.Reply.{Reply};
+ghost use Rattle.protocol.specs.declared.replies.Reply.TheVariants.{Done};
 ghost use Rattle.meaning.specs.Order.{serial_replies};
 ghost use Rattle.meaning.specs.Output.{output_lines, state_after_lines};
 ghost use Rattle.meaning.specs.Serial.{state_after_all};

@@ -10,7 +10,7 @@
 ghost use Rattle.std.specs.Prelude.{◌≡◌, ◌≢◌, ◌<◌, ◌≤◌, All, false, [], None, IfOk, Some, replicate, vec_len};
 ghost use Rattle.histories.specs.Laws.{IsIdle};
 ghost use Rattle.scheduler.specs.CoreView.{RecoversNow, core_state_of};
-ghost use Rattle.protocol.specs.declared.TheConstants.{LONGEST_LINE};
+ghost use Rattle.protocol.specs.declared.sizes.TheConstants.{LONGEST_LINE};
 ghost use Rattle.serving.specs.Ends.{exchange};
 ghost use Rattle.serving.specs.Kill.{IsKillSafe};
 ghost use Rattle.serving.specs.Serve.{ServePromise, handed_back};

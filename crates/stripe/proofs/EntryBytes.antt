@@ -3,7 +3,7 @@ use Rattle.std.proofs.Common.{◌≡◌, ℕ, zero, suc, ◌*◌, ◌<◌, ◌�
 use Rattle.std.specs.List.{AllByRecursion, flat_map}
 use Rattle.std.proofs.lemmas.List.{take_at, drop_at, append_assoc}
 use Rattle.device_map.specs.declared.layout.TheConstants.{BLOCK_ENTRY_SIZE}
-use Rattle.protocol.specs.declared.TheConstants.{BLOCK_SIZE}
+use Rattle.protocol.specs.declared.sizes.TheConstants.{BLOCK_SIZE}
 use Rattle.stripe.specs.Stripe.{BlockEntry}
 use Rattle.stripe.specs.Entries.{entry_bytes, entry_in, entries_in}
 

@@ -4,7 +4,7 @@ use Rattle.std.proofs.lemmas.Bool.Decides.{eqb_tells}
 use Rattle.std.proofs.lemmas.List.{length-set}
 use Rattle.std.specs.List.{AllByRecursion}
 use Rattle.affinity.proofs.Elements.{all_take, all_drop, all_join, all_weaker}
-use Rattle.protocol.specs.declared.Block.{Block}
+use Rattle.protocol.specs.declared.messages.Block.{Block}
 use Rattle.stripe.specs.Stripe.{BlockEntry, content_at, ComesBefore, IsAscending, PrecedesBlock}
 use Rattle.stripe.specs.Index.{no_entry, IsSplit, IsAt, IsGap, rewritten}
 

@@ -3,7 +3,7 @@ use Rattle.std.proofs.Common.{◌≡◌, ◌≢◌, ℕ, zero, suc, ◌+◌, ◌
 use Rattle.std.proofs.lemmas.Bool.Decides.{eqb_tells}
 use Rattle.std.specs.List.{AllByRecursion, concat}
 use Rattle.std.specs.List.Sorted.{IsPartitionedBy, IsPartitionPoint}
-use Rattle.protocol.specs.declared.Block.{Block}
+use Rattle.protocol.specs.declared.messages.Block.{Block}
 use Rattle.arena.specs.Lists.{count_of, without}
 use Rattle.arena.proofs.Parts.{count_of-tail, value-same, value-other, held-within, held-not_free, partitioned-restore}
 use Rattle.std.proofs.lemmas.List.{length-replicate, length-set, take-map, drop-map, map-append}

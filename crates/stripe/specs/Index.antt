@@ -1,7 +1,7 @@
 -- Statement for engineers: How a `StripeParcel` keeps its blocks.
 use Rattle.std.specs.Prelude.{◌≡◌, true, ℕ, ◌+◌, ◌<◌, ◌≤◌, List, [], length, map, take, drop, slice_index_or, slice_set, unwrap_or, Option, None, IsTrue}
 use Rattle.std.specs.List.{AllByRecursion}
-use Rattle.protocol.specs.declared.Block.{Block}
+use Rattle.protocol.specs.declared.messages.Block.{Block}
 use Rattle.arena.specs.Lists.{count_of}
 use Rattle.arena.specs.ArenaView.{ArenaView, capacity_of, holds_value, IsPartitioned}
 use Rattle.stripe.specs.declared.blocks.IndexEntry.{IndexEntry}

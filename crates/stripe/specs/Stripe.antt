@@ -1,7 +1,7 @@
 -- Statement for operators: The blocks of one stripe of a volume, as contracts see them.
 use Rattle.std.specs.Prelude.{◌≡◌, ◌⊎◌, ℕ, ◌<◌, ◌≤◌, ◌&&◌, ◌==◌, if◌then◌else◌, List, [], ◌∷◌, length, Option, Some, None}
 use Rattle.std.specs.List.{AllByRecursion}
-use Rattle.protocol.specs.declared.Block.{Block}
+use Rattle.protocol.specs.declared.messages.Block.{Block}
 
 -- a block of a file, and what it holds
 pub record BlockEntry : Type 0 where

@@ -1,6 +1,6 @@
 //! Messages at the label of a volume: they set it and ask for it.
 
-ghost use Rattle.protocol.specs.declared.Msg.{Msg};
+ghost use Rattle.protocol.specs.declared.messages.Msg.{Msg};
 ghost use Rattle.parcel.specs.Fits.{IsRunnable};
 ghost use Rattle.parcel.specs.Run.{IsStepOn};
 ghost use Rattle.parcel.specs.Shown.{label_facts};

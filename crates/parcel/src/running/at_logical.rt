@@ -1,7 +1,7 @@
 //! Messages at a Volume Logical, the files of a volume with its stripes: they make, remove and list files.
 
 ghost use Rattle.std.specs.Prelude.{◌≡◌, ℕ, ◌<◌, slice_index_or, None, vec_len};
-ghost use Rattle.protocol.specs.declared.Msg.{Msg};
+ghost use Rattle.protocol.specs.declared.messages.Msg.{Msg};
 ghost use Rattle.parcel.specs.Dropping.{Removes, is_removed};
 ghost use Rattle.parcel.specs.Fits.{FitsLogical, IsWholeLogical, IsRunnable};
 ghost use Rattle.parcel.specs.Run.{IsStepOn};

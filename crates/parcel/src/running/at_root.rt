@@ -1,6 +1,6 @@
 //! Messages at the whole server: they ask how much all volumes hold.
 
-ghost use Rattle.protocol.specs.declared.Msg.{Msg};
+ghost use Rattle.protocol.specs.declared.messages.Msg.{Msg};
 ghost use Rattle.parcel.specs.Fits.{FitsRoot, IsRunnable};
 ghost use Rattle.parcel.specs.Run.{IsSerialStep, IsStepOn};
 ghost use Rattle.parcel.specs.Shown.{root_facts};

@@ -3,7 +3,7 @@
 ghost use Rattle.std.specs.Prelude.{◌≡◌, ◌<◌, ◌||◌, is_some, length, nat_lt};
 ghost use Rattle.affinity.specs.declared.geometry.Geometry.{Geometry};
 ghost use Rattle.affinity.specs.Geometry.{stripe_of};
-ghost use Rattle.protocol.specs.declared.Msg.{Msg};
+ghost use Rattle.protocol.specs.declared.messages.Msg.{Msg};
 ghost use Rattle.parcel.specs.Fits.{FitsStripe, IsRunnable};
 ghost use Rattle.parcel.specs.Run.{IsStepOn};
 ghost use Rattle.parcel.specs.Shown.{stripe_facts};

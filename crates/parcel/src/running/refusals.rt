@@ -3,8 +3,8 @@
 //! that the volume is made and then that it isn't sealed, before `later`.
 
 ghost use Rattle.std.specs.Prelude.{◌≡◌};
-ghost use Rattle.protocol.specs.declared.Refusal.{Refusal};
-ghost use Rattle.protocol.specs.declared.Refusal.TheVariants.{File};
+ghost use Rattle.protocol.specs.declared.replies.Refusal.{Refusal};
+ghost use Rattle.protocol.specs.declared.replies.Refusal.TheVariants.{File};
 ghost use Rattle.parcel.specs.Shown.{has_file};
 ghost use Rattle.parcel.specs.Steps.{Decides, guard, guard_open, reply_to_change};
 

@@ -2,8 +2,8 @@
 
 ghost use Rattle.std.specs.Prelude.{◌≡◌, ◌<◌, [], ◌∷◌, IfOk, OnErr, None, Some, is_some, if◌then◌else◌};
 ghost use Rattle.affinity.specs.declared.kinds.Kind.TheVariants as kinds;
-ghost use Rattle.protocol.specs.declared.Msg.{Msg};
-ghost use Rattle.protocol.specs.declared.Refusal.{Refusal};
+ghost use Rattle.protocol.specs.declared.messages.Msg.{Msg};
+ghost use Rattle.protocol.specs.declared.replies.Refusal.{Refusal};
 ghost use Rattle.meaning.specs.Serial.{passes, effect};
 ghost use Rattle.plain.specs.Server.{server_state, HasRightCounts};
 

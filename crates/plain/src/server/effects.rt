@@ -2,7 +2,7 @@
 
 ghost use Rattle.std.specs.Prelude.{◌≡◌, ◌<◌, OnOk, OnErr, None, true, false, if◌then◌else◌};
 ghost use Rattle.affinity.specs.declared.geometry.Geometry.{Geometry};
-ghost use Rattle.protocol.specs.declared.Msg.{Msg};
+ghost use Rattle.protocol.specs.declared.messages.Msg.{Msg};
 ghost use Rattle.message.specs.Heads.{message_without_data, has_data};
 ghost use Rattle.meaning.specs.Serial.{refusal, effect};
 ghost use Rattle.plain.specs.Server.{server_state, HasRightCounts, IsConsistent};

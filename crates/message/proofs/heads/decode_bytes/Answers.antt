@@ -1,7 +1,7 @@
 -- Pairs of digits, one to as many as a block has bytes, are decoded to the front of the zeros; all else spells no bytes.
 use Rattle.std.proofs.lemmas.Grind.{common_steps}
 use Rattle.std.proofs.Common.{sym, refl, arith}
-use Rattle.protocol.specs.declared.TheConstants.{BLOCK_SIZE}
+use Rattle.protocol.specs.declared.sizes.TheConstants.{BLOCK_SIZE}
 use Rattle.message.proofs.Blocks.{no_bytes, bytes_decoded, bytes_not_decoded}
 use Rattle.message.proofs.heads.decode_bytes.Goals as goal
 

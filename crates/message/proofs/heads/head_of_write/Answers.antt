@@ -1,7 +1,7 @@
 -- The four numbers are read one behind the other; where one is missing, the line spells no write.
 use Rattle.std.proofs.Common.{arith, ◌∙◌}
 use Rattle.std.proofs.lemmas.Grind.{common_steps}
-use Rattle.protocol.specs.declared.Msg.TheVariants.{Write as write}
+use Rattle.protocol.specs.declared.messages.Msg.TheVariants.{Write as write}
 use Rattle.protocol.specs.Lines.{words}
 use Rattle.message.proofs.Forms.{onward_some, of_digits, of_digits-told, from_block, from_file, from_volume, from_block-onward, from_file-onward, from_volume-onward, of_data-onward}
 use Rattle.message.proofs.heads.head_of_write.Goals as goal

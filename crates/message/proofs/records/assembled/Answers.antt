@@ -1,6 +1,6 @@
 -- A label is the first bytes of the data.
 use Rattle.std.proofs.Common.{◌≡◌, length, length-take-le, ap, sym, arith}
-use Rattle.protocol.specs.declared.TheConstants.{BLOCK_SIZE, LABEL_SIZE}
+use Rattle.protocol.specs.declared.sizes.TheConstants.{BLOCK_SIZE, LABEL_SIZE}
 use Rattle.message.specs.Heads.{has_data}
 use Rattle.message.proofs.records.assembled.Goals as goal
 

@@ -5,7 +5,7 @@ use Rattle.std.proofs.lemmas.Option.{same_Some}
 use Rattle.affinity.specs.declared.kinds.Kind.{Kind}
 use Rattle.affinity.specs.declared.geometry.Geometry.{Geometry}
 use Rattle.affinity.specs.Place.{is_in_range as are_in_range}
-use Rattle.protocol.specs.declared.Msg.{Msg}
+use Rattle.protocol.specs.declared.messages.Msg.{Msg}
 use Rattle.protocol.specs.Messages.{kind, four_numbers, is_in_range}
 use Rattle.message.specs.Records.{record_of}
 use Rattle.message.proofs.RecordLemmas.{data_there, decodes_none, decodes_some, head_there, record_by_parts, whole_if_decoded, room_if_decoded}

@@ -1,6 +1,6 @@
 -- Head and data are written one behind the other: a block, a label with zeros, or zeros alone.
 use Rattle.std.proofs.Common.{◌≡◌, ◌+◌, ◌-◌, ℕ, List, length, ◌++◌, replicate, refl, ap, sym, ◌∙◌}
-use Rattle.protocol.specs.declared.TheConstants.{BLOCK_SIZE, LABEL_SIZE}
+use Rattle.protocol.specs.declared.sizes.TheConstants.{BLOCK_SIZE, LABEL_SIZE}
 use Rattle.message.specs.Records.{record_head, data_of}
 use Rattle.message.proofs.RecordLemmas.{put_together, put_label, length_head, length_behind, length_label, length_zeros, data_of_write, data_of_setlabel, zeros_else}
 use borrow.Rule.Slice.PartMut.{put_mid, post_of}

@@ -1,7 +1,7 @@
 -- The number of a kind that does not exist gives no message; else the fields are the message's kind and numbers, and all behind them its data.
 use Rattle.std.proofs.Common.{◌≡◌, ℕ, List, drop, take, length-drop, ◌∙◌, arith}
 use Rattle.std.proofs.lemmas.List.{take_all}
-use Rattle.protocol.specs.declared.TheConstants.{BLOCK_SIZE}
+use Rattle.protocol.specs.declared.sizes.TheConstants.{BLOCK_SIZE}
 use Rattle.message.specs.Records.{assembled}
 use Rattle.message.proofs.RecordLemmas.{no_fields, some_fields}
 use Rattle.message.proofs.records.message_in_fields.Goals as goal

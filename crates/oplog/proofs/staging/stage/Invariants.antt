@@ -1,7 +1,7 @@
 -- The records so far lie in a row at the front, `RECORD_SIZE` bytes each.
 use Rattle.std.proofs.Common.{◌≡◌, ◌*◌, ◌≤◌, length, take}
 use Rattle.std.specs.List.{concat}
-use Rattle.protocol.specs.declared.TheConstants.{RECORD_SIZE}
+use Rattle.protocol.specs.declared.sizes.TheConstants.{RECORD_SIZE}
 use Rattle.oplog.specs.Changing.{records_of}
 use Rattle.oplog.proofs.RecordRows.{AreRows}
 use Rattle.oplog.proofs.staging.stage.Given as goal

@@ -8,7 +8,7 @@ use Rattle.recovery.specs.Recovery.{decoding}
 use Rattle.recovery.specs.Refusals.{IsRefused}
 use Rattle.device_map.specs.Layout.{device_size, image_part, layout_of, other, part_bytes}
 use Rattle.image.specs.Image.{version_in}
-use Rattle.protocol.specs.declared.Msg.TheVariants.{Summary}
+use Rattle.protocol.specs.declared.messages.Msg.TheVariants.{Summary}
 use Rattle.meaning.specs.Serial.{reply_to}
 use Rattle.oplog.specs.Front.{front}
 use Rattle.oplog.specs.Log.{Log}

@@ -3,7 +3,7 @@ use Rattle.std.proofs.lemmas.Grind.{common_steps}
 use Rattle.std.proofs.Common.{◌≡◌, ◌⊎◌, ◌<◌, inl, inr, true, length, arith}
 use Rattle.std.specs.List.{Contains}
 use Rattle.std.proofs.lemmas.Bool.{iff_false}
-use Rattle.protocol.specs.declared.TheConstants.{LONGEST_LINE}
+use Rattle.protocol.specs.declared.sizes.TheConstants.{LONGEST_LINE}
 use Rattle.protocol.specs.FirstLine.{first_line}
 use Rattle.message.specs.Reader.{buffered_bytes, still_to_come, unread, given_line}
 use Rattle.message.proofs.ReaderLemmas.{IsWhole-known_end, PassesLine-buffered, GivesLine-buffered, HasWholeFirstLine-buffered}

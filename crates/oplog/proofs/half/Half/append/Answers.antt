@@ -7,7 +7,7 @@ use Rattle.oplog.specs.Log.{batch_count}
 use Rattle.oplog.proofs.Costs.{batch_left, one_batch, whole_batch}
 use Rattle.std.proofs.lemmas.Grind.{common_steps}
 use Rattle.device_map.specs.Layout.{layout_of}
-use Rattle.protocol.specs.declared.Msg.{Msg}
+use Rattle.protocol.specs.declared.messages.Msg.{Msg}
 use Rattle.message.specs.Records.{record_of}
 use Rattle.oplog.specs.Changes.{IsReady, HasAppendedAll}
 use Rattle.oplog.specs.Changing.{records_of}

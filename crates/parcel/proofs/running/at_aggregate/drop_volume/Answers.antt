@@ -3,7 +3,7 @@ use Rattle.std.proofs.Common.{refl, ◌∙◌, arith}
 use Rattle.std.specs.Prelude.{None}
 use Rattle.std.proofs.lemmas.List.{get_or_read}
 use Rattle.std.proofs.lemmas.Result.{err_from_is_err_and}
-use Rattle.protocol.specs.declared.Msg.TheVariants.{DropVol}
+use Rattle.protocol.specs.declared.messages.Msg.TheVariants.{DropVol}
 use Rattle.parcel.specs.Steps.{guard_open}
 use Rattle.parcel.specs.Volume.{no_facts}
 use Rattle.parcel.proofs.OneVolume.{passed}

@@ -3,8 +3,8 @@ use Rattle.std.proofs.Common.{refl, ◌∙◌, arith}
 use Rattle.std.specs.Prelude.{None, not}
 use Rattle.std.proofs.lemmas.List.{get_or_read}
 use Rattle.std.proofs.lemmas.Result.{err_from_is_err_and}
-use Rattle.protocol.specs.declared.Msg.TheVariants.{MakeVol}
-use Rattle.protocol.specs.declared.Refusal.TheVariants.{Exists}
+use Rattle.protocol.specs.declared.messages.Msg.TheVariants.{MakeVol}
+use Rattle.protocol.specs.declared.replies.Refusal.TheVariants.{Exists}
 use Rattle.parcel.specs.Steps.{guard}
 use Rattle.parcel.specs.Totals.{with_made}
 use Rattle.parcel.proofs.OneVolume.{passed}

@@ -1,9 +1,9 @@
 -- The bits of the files that the volume has are the reply, for a list that passes its check.
 use Rattle.std.proofs.Common.{◌^◌, Bool, None, Some, refl, ap, sym, ◌∙◌}
 use Rattle.std.specs.Prelude.{if◌then◌else◌}
-use Rattle.protocol.specs.declared.Msg.TheVariants.{List as ListFiles}
-use Rattle.protocol.specs.declared.Refusal.TheVariants.{Volume}
-use Rattle.protocol.specs.declared.Reply.TheVariants.{Files}
+use Rattle.protocol.specs.declared.messages.Msg.TheVariants.{List as ListFiles}
+use Rattle.protocol.specs.declared.replies.Refusal.TheVariants.{Volume}
+use Rattle.protocol.specs.declared.replies.Reply.TheVariants.{Files}
 use Rattle.meaning.specs.State.{sum_below}
 use Rattle.parcel.specs.Shown.{logical_facts}
 use Rattle.parcel.specs.Volume.{one_volume}

@@ -3,10 +3,10 @@ use Rattle.std.proofs.Common.{arith}
 use Rattle.std.proofs.Common.{◌≡◌, ℕ, Bool, refl, ap, sym, ◌∙◌, length}
 use Rattle.std.proofs.lemmas.Result.{err_from_is_err_and}
 use Rattle.affinity.specs.Geometry.{stripe_of}
-use Rattle.protocol.specs.declared.Msg.TheVariants.{Write}
+use Rattle.protocol.specs.declared.messages.Msg.TheVariants.{Write}
 use Rattle.meaning.specs.State.{blocks_in_stripe}
 use Rattle.std.specs.Prelude.{◌||◌, None, is_some, nat_lt}
-use Rattle.protocol.specs.declared.Refusal.TheVariants.{Space}
+use Rattle.protocol.specs.declared.replies.Refusal.TheVariants.{Space}
 use Rattle.parcel.specs.Shown.{stripe_facts}
 use Rattle.parcel.specs.Steps.{guard}
 use Rattle.stripe.specs.Stripe.{content_at}

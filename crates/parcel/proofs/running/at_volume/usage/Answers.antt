@@ -1,8 +1,8 @@
 -- The totals of the volume and its seal are the reply, for a usage that passes its check.
 use Rattle.std.proofs.Common.{Bool, None, refl, ap, sym, ◌∙◌}
-use Rattle.protocol.specs.declared.Msg.TheVariants.{Usage as AskUsage}
-use Rattle.protocol.specs.declared.Refusal.TheVariants.{Volume}
-use Rattle.protocol.specs.declared.Reply.TheVariants.{Usage}
+use Rattle.protocol.specs.declared.messages.Msg.TheVariants.{Usage as AskUsage}
+use Rattle.protocol.specs.declared.replies.Refusal.TheVariants.{Volume}
+use Rattle.protocol.specs.declared.replies.Reply.TheVariants.{Usage}
 use Rattle.meaning.specs.State.{count_below}
 use Rattle.parcel.specs.Shown.{volume_facts}
 use Rattle.parcel.specs.Steps.{guard}

@@ -5,9 +5,9 @@ use Rattle.std.proofs.Common.{◌≡◌, ℕ, None, Some, Option, Bor, sym, slic
 use Rattle.std.specs.Prelude.{IfSome}
 use Rattle.std.specs.Option.{option_copied}
 use Rattle.affinity.specs.declared.geometry.Geometry.{Geometry}
-use Rattle.protocol.specs.declared.Block.{Block}
-use Rattle.protocol.specs.declared.Msg.TheVariants.{Read}
-use Rattle.protocol.specs.declared.Reply.TheVariants.{Block as shows}
+use Rattle.protocol.specs.declared.messages.Block.{Block}
+use Rattle.protocol.specs.declared.messages.Msg.TheVariants.{Read}
+use Rattle.protocol.specs.declared.replies.Reply.TheVariants.{Block as shows}
 use Rattle.meaning.specs.State.{State, IsState}
 use Rattle.meaning.specs.Serial.{step}
 use Rattle.meaning.proofs.ByKind.{read_told}

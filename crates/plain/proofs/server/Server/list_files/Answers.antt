@@ -2,7 +2,7 @@
 use Rattle.std.proofs.Common.{arith}
 use Rattle.std.proofs.lemmas.Grind.{common_steps}
 use Rattle.std.proofs.Common.{ap, sym}
-use Rattle.protocol.specs.declared.Reply.TheVariants.{Files}
+use Rattle.protocol.specs.declared.replies.Reply.TheVariants.{Files}
 use Rattle.std.specs.BTreeMap as map
 use Rattle.meaning.specs.KeyOrders.{volume_order, block_order}
 use Rattle.plain.proofs.Totals.{listed, none_listed}

@@ -4,8 +4,8 @@ use Rattle.std.specs.Prelude.{not, find, slice_index, if◌then◌else◌}
 use Rattle.affinity.specs.declared.geometry.Geometry.{Geometry}
 use Rattle.affinity.specs.declared.kinds.Kind.{Kind}
 use Rattle.affinity.specs.Place.{is_in_range}
-use Rattle.protocol.specs.declared.Refusal.{Refusal}
-use Rattle.protocol.specs.declared.Refusal.TheVariants.{Range, Volume, Exists, Sealed, File}
+use Rattle.protocol.specs.declared.replies.Refusal.{Refusal}
+use Rattle.protocol.specs.declared.replies.Refusal.TheVariants.{Range, Volume, Exists, Sealed, File}
 use Rattle.meaning.specs.State.{State}
 use Rattle.meaning.specs.Serial.{refusal_by, checks, passes}
 use Rattle.plain.specs.Server.{server_state}

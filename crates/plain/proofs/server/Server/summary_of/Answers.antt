@@ -1,7 +1,7 @@
 -- All keys are in range, so the lengths of the two maps are totals, which fit into 32 bits.
 use Rattle.std.proofs.lemmas.Grind.{common_steps}
 use Rattle.std.proofs.Common.{◌∙◌, arith}
-use Rattle.protocol.specs.declared.Reply.TheVariants.{Summary}
+use Rattle.protocol.specs.declared.replies.Reply.TheVariants.{Summary}
 use Rattle.plain.specs.Server.{server_state}
 use Rattle.plain.proofs.Totals.{volumes_total, blocks_total, volumes-few, blocks-few}
 use Rattle.plain.proofs.server.Server.summary_of.Goals as goal

@@ -6,11 +6,11 @@ use Rattle.affinity.specs.declared.geometry.Geometry.{Geometry}
 use Rattle.message.specs.Heads.{writing}
 use Rattle.affinity.specs.declared.kinds.Kind.TheVariants as kinds
 use Rattle.affinity.specs.Place.{is_in_range}
-use Rattle.protocol.specs.declared.Block.{Block}
-use Rattle.protocol.specs.declared.Msg.{Msg}
-use Rattle.protocol.specs.declared.Refusal.{Refusal}
-use Rattle.protocol.specs.declared.Refusal.TheVariants.{Range, Volume, Sealed, File, Space}
-use Rattle.protocol.specs.declared.Reply.TheVariants.{Done}
+use Rattle.protocol.specs.declared.messages.Block.{Block}
+use Rattle.protocol.specs.declared.messages.Msg.{Msg}
+use Rattle.protocol.specs.declared.replies.Refusal.{Refusal}
+use Rattle.protocol.specs.declared.replies.Refusal.TheVariants.{Range, Volume, Sealed, File, Space}
+use Rattle.protocol.specs.declared.replies.Reply.TheVariants.{Done}
 use Rattle.protocol.specs.Messages.{IsMessage}
 use Rattle.meaning.specs.State.{State, IsState}
 use Rattle.meaning.specs.Serial.{refusal, passes, effect, reply_and_state, done_or_refused, reply_to, next_state}

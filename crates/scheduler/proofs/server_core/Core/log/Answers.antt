@@ -14,7 +14,7 @@ use Rattle.scheduler.specs.CoreView.{CoreView, core_state_of}
 use Rattle.scheduler.specs.Fields.{parts}
 use Rattle.scheduler.specs.Parts.{core_state_in}
 use Rattle.arena.specs.ArenaView.{chain_at}
-use Rattle.protocol.specs.declared.Reply.{Reply}
+use Rattle.protocol.specs.declared.replies.Reply.{Reply}
 use Rattle.scheduler.specs.Moving.{recorded_in}
 use Rattle.scheduler.proofs.server_core.Core.log.Given.{Over}
 use Rattle.scheduler.proofs.server_core.Core.log.Goals.{After-deref-2}

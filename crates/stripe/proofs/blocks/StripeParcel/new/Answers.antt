@@ -1,7 +1,7 @@
 -- All slots are free, and the index is empty.
 use Rattle.std.proofs.Common.{arith, None, Option}
 use Rattle.std.proofs.lemmas.List.{length-replicate}
-use Rattle.protocol.specs.declared.Block.{Block}
+use Rattle.protocol.specs.declared.messages.Block.{Block}
 use Rattle.stripe.proofs.IndexLemmas.{stored-empty}
 use Rattle.stripe.proofs.blocks.StripeParcel.new.Goals as goal
 

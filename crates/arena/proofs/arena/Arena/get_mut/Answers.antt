@@ -6,7 +6,7 @@ use Rattle.std.specs.Option.{ghost_name_of}
 use Rattle.arena.specs.ArenaView.{ArenaView, IsPartitioned, value_at, with_value}
 use Rattle.arena.specs.Invariant.{ArenaRule, arena_view_of}
 use Rattle.arena.proofs.Parts.{held-not_free, held-within, partitioned-restore}
-use Rattle.arena.proofs.Arena.get_mut.Goals as goal
+use Rattle.arena.proofs.arena.Arena.get_mut.Goals as goal
 
 pub invariant_of-self-lent : goal.invariant_of-self-lent
 invariant_of-self-lent g c _ =

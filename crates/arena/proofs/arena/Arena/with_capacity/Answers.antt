@@ -2,7 +2,7 @@
 use Rattle.std.proofs.Common.{◌≡◌, ◌∙◌, ◌++◌, ◌∷◌, [], arith, ap, length, None, Option}
 use Rattle.std.proofs.lemmas.List.{length-replicate, replicate_more}
 use Rattle.arena.proofs.Keeping.{start-kept}
-use Rattle.arena.proofs.Arena.with_capacity.Goals as goal
+use Rattle.arena.proofs.arena.Arena.with_capacity.Goals as goal
 
 pub push_reserved-requires : goal.push_reserved-requires
 push_reserved-requires g c = omega (arith, c.loop.invariant.room, c.loop-test.true, ap length c.loop.invariant.empty, length-replicate {A = Option g.row.T.Denot} c.loop.counter None)
