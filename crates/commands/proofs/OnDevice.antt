@@ -9,8 +9,8 @@ use Rattle.checkpoint.specs.Opening.{OpeningCrashImages}
 use Rattle.histories.proofs.Room.{at_most_one}
 use Rattle.histories.specs.Events.{MachineState}
 use Rattle.histories.specs.Laws.{IsIdle}
-use Rattle.incarnations.proofs.FailStop.{fail_stop, fails_once}
-use Rattle.incarnations.specs.Machine.{machine_of}
+use Rattle.scheduler.proofs.FailStop.{fail_stop, fails_once}
+use Rattle.scheduler.specs.Machine.{machine_of}
 use Rattle.meaning.specs.Serial.{state_after_all}
 use Rattle.protocol.specs.declared.messages.Msg.{Msg}
 use Rattle.scheduler.specs.CoreView.{IsJustOpened, CoreView, RecoversNow, core_state_of}

@@ -11,9 +11,9 @@ use Rattle.disk.specs.Device.{IsCrashImage, Medium}
 use Rattle.disk.specs.Moments.{moment_number}
 use Rattle.checkpoint.specs.Opening.{IsLeftByRefusal, OpeningCrashImages}
 use Rattle.histories.specs.Incarnations.{Ran}
-use Rattle.incarnations.specs.Incarnations.{IsRunIncarnation}
-use Rattle.incarnations.specs.Machine.{machine_of}
-use Rattle.incarnations.specs.DeviceEvents.{DeviceEvent, IsFailStop, device_after, events_of}
+use Rattle.scheduler.specs.Incarnations.{IsRunIncarnation}
+use Rattle.scheduler.specs.Machine.{machine_of}
+use Rattle.scheduler.specs.DeviceEvents.{DeviceEvent, IsFailStop, device_after, events_of}
 use Rattle.protocol.specs.Lines.{lines}
 use Rattle.message.specs.Writing.{AppendsBeginning}
 use Rattle.meaning.specs.Output.{IsBeginning, WritesOutput, serial_output}

@@ -5,9 +5,9 @@ use Rattle.affinity.specs.declared.geometry.Geometry.{Geometry}
 use Rattle.histories.specs.Events.{Empty, Hand}
 use Rattle.histories.specs.Laws.{IsSoundCoreState}
 use Rattle.histories.specs.CoreState.{CoreState}
-use Rattle.incarnations.specs.Machine.{HoldsJobs, IsHandOf, hand_at, hand_of, ticket_in}
-use Rattle.incarnations.specs.declared.hands.HandContent.{HandContent}
-use Rattle.incarnations.specs.declared.hands.HandContent.TheVariants as has
+use Rattle.scheduler.specs.Machine.{HoldsJobs, IsHandOf, hand_at, hand_of, ticket_in}
+use Rattle.scheduler.specs.declared.hands.HandContent.{HandContent}
+use Rattle.scheduler.specs.declared.hands.HandContent.TheVariants as has
 
 empty_at : (n i : ℕ) → hand_at (replicate n has.Empty) i ≡ has.Empty
 empty_at zero zero = refl

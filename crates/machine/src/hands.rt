@@ -1,10 +1,10 @@
 //! What is done with hands.
 ghost use Rattle.std.specs.Prelude.{position, ◌≡◌};
 ghost use Rattle.histories.specs.Events.{is_empty};
-ghost use Rattle.incarnations.specs.Hands.{IsTakenFrom, IsRunIn};
-ghost use Rattle.incarnations.specs.Machine.{hand_of};
+ghost use Rattle.scheduler.specs.Hands.{IsTakenFrom, IsRunIn};
+ghost use Rattle.scheduler.specs.Machine.{hand_of};
 
-use incarnations::HandContent;
+use scheduler::HandContent;
 use parcel::{Done, run};
 use std::mem;
 

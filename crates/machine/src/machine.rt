@@ -1,14 +1,14 @@
 //! The machine itself.
 ghost use Rattle.std.specs.Prelude.{◌≡◌, IfErr, IfOk, length, replicate};
 ghost use Rattle.histories.specs.Events.{Empty};
-ghost use Rattle.incarnations.specs.Machine.{HasRun, machine_of};
-ghost use Rattle.incarnations.specs.declared.hands.HandContent.TheVariants as has;
+ghost use Rattle.scheduler.specs.Machine.{HasRun, machine_of};
+ghost use Rattle.scheduler.specs.declared.hands.HandContent.TheVariants as has;
 ghost use Rattle.scheduler.specs.CoreView.{core_state_of};
 
 use crate::stepping::make_step;
 use disk::Disk;
 use histories::{Outcome, Step};
-use incarnations::HandContent;
+use scheduler::HandContent;
 use scheduler::Core;
 use std::alloc::{AllocError, Global};
 use std::marker::Model;
@@ -27,7 +27,7 @@ pub struct MachineError<D: Disk> {
 }
 
 impl<D: Disk> Model for Machine<D> {
-    ghost use Rattle.incarnations.specs.Machine.{MachineView, HoldsJobs};
+    ghost use Rattle.scheduler.specs.Machine.{MachineView, HoldsJobs};
     ghost use Rattle.scheduler.specs.CoreView.{core_state_of};
 
     ghost Value = { MachineView };

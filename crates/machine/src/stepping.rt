@@ -1,13 +1,13 @@
 //! One step of a machine.
 ghost use Rattle.histories.specs.declared.outcomes.Step.TheVariants as steps;
-ghost use Rattle.incarnations.specs.Machine.{HoldsJobs};
-ghost use Rattle.incarnations.specs.Steps.{IsCoreStep, IsMachineStep};
+ghost use Rattle.scheduler.specs.Machine.{HoldsJobs};
+ghost use Rattle.scheduler.specs.Steps.{IsCoreStep, IsMachineStep};
 ghost use Rattle.scheduler.specs.CoreView.{core_state_of};
 
 use crate::hands::{first_empty, run_in, take_result};
 use disk::Disk;
 use histories::{Outcome, Step};
-use incarnations::HandContent;
+use scheduler::HandContent;
 use protocol::Msg;
 use scheduler::{Core, Granted};
 

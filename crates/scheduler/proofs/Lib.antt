@@ -2,6 +2,13 @@
 pub mod Called
 pub mod Refusals
 pub mod Staying
+-- ---- for a server of lines: each step is an event, and what a crash leaves of a run
+pub mod Events
+pub mod Running
+pub mod FailStop
+-- ---- for the machine
+pub mod InHands
+pub mod Jobs
 -- ---- this crate's own
 mod Examples
 mod Splits
@@ -26,3 +33,6 @@ mod Shifting
 mod Gathering
 mod LogCall
 mod Opened
+-- what the incarnations of a device leave
+mod Incarnations
+mod Ending

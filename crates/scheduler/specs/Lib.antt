@@ -1,4 +1,5 @@
--- Definitions of a core: its calls, its core state and its jobs, and what a crash leaves of its device.
+-- Definitions of a core: its calls, its core state and its jobs, and what a crash leaves of its device; and of runs on a device:
+-- machines, which are cores with hands for the jobs in flight, their steps, events with the device, and incarnations.
 pub mod CoreView
 pub mod Jobs
 pub mod Calls
@@ -8,3 +9,8 @@ pub mod Parts
 pub mod Fields
 pub mod Moving
 pub mod History
+pub mod Machine
+pub mod Steps
+pub mod Hands
+pub mod DeviceEvents
+pub mod Incarnations

@@ -8,10 +8,10 @@ use Rattle.histories.proofs.Elements.{contains_in, in_contained}
 use Rattle.histories.proofs.SerialReplies.{IsIn, in_left, in_right}
 use Rattle.histories.specs.declared.outcomes.Outcome.TheVariants as outcomes
 use Rattle.histories.specs.declared.outcomes.Step.TheVariants as steps
-use Rattle.incarnations.proofs.Events.{core_holds, core_step}
-use Rattle.incarnations.specs.Machine.{MachineView}
-use Rattle.incarnations.specs.Steps.{IsCoreStep}
-use Rattle.incarnations.specs.declared.hands.HandContent.{HandContent}
+use Rattle.scheduler.proofs.Events.{core_holds, core_step}
+use Rattle.scheduler.specs.Machine.{MachineView}
+use Rattle.scheduler.specs.Steps.{IsCoreStep}
+use Rattle.scheduler.specs.declared.hands.HandContent.{HandContent}
 use Rattle.protocol.specs.Grammar.{message_of}
 use Rattle.protocol.specs.declared.messages.Msg.{Msg}
 use Rattle.protocol.specs.declared.replies.Reply.{Reply}

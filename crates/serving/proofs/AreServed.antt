@@ -6,7 +6,7 @@ use Rattle.std.proofs.lemmas.Bool.{true≢false}
 use Rattle.std.proofs.lemmas.List.Elements.{recursion_from_All}
 use Rattle.std.proofs.lemmas.Option.{none-some, same_Some}
 use Rattle.affinity.specs.declared.geometry.Geometry.{Geometry}
-use Rattle.incarnations.proofs.Running.{left_since_event}
+use Rattle.scheduler.proofs.Running.{left_since_event}
 use Rattle.histories.proofs.Arrivals.{answered_by_ticket, arrived_by_ticket, committed_by_ticket}
 use Rattle.histories.proofs.Idle.{idle_sound}
 use Rattle.histories.proofs.SerialReplies.{IsIn}
@@ -28,8 +28,8 @@ use Rattle.serving.specs.Ends.{AreFirst, AreServed, EndsWith, HasServed, IsQuies
 use Rattle.serving.specs.Progress.{ServingProgress, IsServing}
 use Rattle.serving.specs.Session.{IsReadEnd}
 use Rattle.serving.specs.Lines.{Line, admitted, next_ticket, answer_text, ticketed}
-use Rattle.incarnations.specs.Machine.{MachineView, machine_of}
-use Rattle.incarnations.specs.DeviceEvents.{events_of}
+use Rattle.scheduler.specs.Machine.{MachineView, machine_of}
+use Rattle.scheduler.specs.DeviceEvents.{events_of}
 use Rattle.serving.specs.declared.server.ServeFault.TheVariants as faults
 use Rattle.serving.specs.declared.session.ReadEnd.TheVariants as ends_of_reading
 use Rattle.serving.proofs.Outstanding.{idle_again}

@@ -4,9 +4,9 @@ use Rattle.std.proofs.lemmas.List.{map-append}
 use Rattle.histories.specs.Runs.{answered, arrived}
 use Rattle.histories.specs.CoreState.{Entry}
 use Rattle.protocol.specs.declared.replies.Reply.{Reply}
-use Rattle.incarnations.proofs.Running.{events_join, lead_on}
-use Rattle.incarnations.specs.Machine.{MachineView}
-use Rattle.incarnations.specs.DeviceEvents.{DeviceEvent, events_of}
+use Rattle.scheduler.proofs.Running.{events_join, lead_on}
+use Rattle.scheduler.specs.Machine.{MachineView}
+use Rattle.scheduler.specs.DeviceEvents.{DeviceEvent, events_of}
 use Rattle.serving.specs.Runs.{RunsBetween}
 
 unfoldable pub passes_on : {keeps : Type 0} {old mid new : MachineView} {arriving more : List Entry} {reply_pairs others : List (ℕ × Reply)}

@@ -11,11 +11,11 @@ use Rattle.histories.specs.declared.outcomes.Outcome.{Outcome}
 use Rattle.histories.specs.declared.outcomes.Outcome.TheVariants as outcomes
 use Rattle.histories.specs.declared.outcomes.Step.TheVariants as steps
 use Rattle.histories.specs.Runs.{answers}
-use Rattle.incarnations.proofs.Events.{failed_step, grant_holds, grant_step, no_grant_step, position_map, position_within, still_holds}
-use Rattle.incarnations.specs.Machine.{hand_of as to_hand}
-use Rattle.incarnations.specs.Steps.{IsMachineStep}
-use Rattle.incarnations.specs.declared.hands.HandContent.{HandContent}
-use Rattle.incarnations.specs.declared.hands.HandContent.TheVariants as has
+use Rattle.scheduler.proofs.Events.{failed_step, grant_holds, grant_step, no_grant_step, position_map, position_within, still_holds}
+use Rattle.scheduler.specs.Machine.{hand_of as to_hand}
+use Rattle.scheduler.specs.Steps.{IsMachineStep}
+use Rattle.scheduler.specs.declared.hands.HandContent.{HandContent}
+use Rattle.scheduler.specs.declared.hands.HandContent.TheVariants as has
 use Rattle.parcel.specs.Run.{JobView}
 use Rattle.scheduler.specs.Calls.{IsGrantOf, IsNoGrant}
 use Rattle.scheduler.specs.CoreView.{CoreView, RecoversNow, core_state_of}

@@ -12,8 +12,8 @@ use Rattle.histories.proofs.Full.{last_none_out}
 use Rattle.histories.proofs.Idle.{none_in_flight}
 use Rattle.histories.specs.CoreState.{Entry}
 use Rattle.histories.specs.Laws.{IsIdle, full_hands}
-use Rattle.incarnations.specs.DeviceEvents.{events_of}
-use Rattle.incarnations.specs.Machine.{MachineView, hand_of as hand_in, machine_of}
+use Rattle.scheduler.specs.DeviceEvents.{events_of}
+use Rattle.scheduler.specs.Machine.{MachineView, hand_of as hand_in, machine_of}
 use Rattle.parcel.specs.Run.{JobView}
 use Rattle.histories.specs.declared.outcomes.ArriveRefusal.TheVariants as arrivals
 use Rattle.histories.specs.declared.outcomes.Outcome.TheVariants.{ArriveRefused}

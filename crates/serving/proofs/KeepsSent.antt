@@ -6,8 +6,8 @@ use Rattle.std.proofs.KnownBytes.{Appends-nil}
 use Rattle.std.proofs.lemmas.List.{length-append, length-map, take-append-le, take-map, take_all}
 use Rattle.disk.specs.Device.{Medium}
 use Rattle.histories.specs.Laws.{IsIdle}
-use Rattle.incarnations.specs.DeviceEvents.{DeviceEvent, device_after, events_of}
-use Rattle.incarnations.specs.Machine.{MachineView}
+use Rattle.scheduler.specs.DeviceEvents.{DeviceEvent, device_after, events_of}
+use Rattle.scheduler.specs.Machine.{MachineView}
 use Rattle.meaning.specs.Output.{joined}
 use Rattle.scheduler.specs.CoreView.{RecoversNow, core_state_of}
 use Rattle.serving.specs.Kill.{IsKillSafeFrom}

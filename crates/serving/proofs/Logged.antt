@@ -19,8 +19,8 @@ use Rattle.histories.specs.Events.{Event, MachineState, recorded}
 use Rattle.histories.specs.Laws.{IsIdle, ticket_replies}
 use Rattle.histories.specs.Runs.{answered_messages, arrived, arrives, end_state, logged_messages}
 use Rattle.histories.specs.CoreState.{Entry, Replied, entry}
-use Rattle.incarnations.specs.Machine.{MachineView, machine_of}
-use Rattle.incarnations.specs.DeviceEvents.{DeviceEvent, RecoversForRun, device_after, events_of}
+use Rattle.scheduler.specs.Machine.{MachineView, machine_of}
+use Rattle.scheduler.specs.DeviceEvents.{DeviceEvent, RecoversForRun, device_after, events_of}
 use Rattle.protocol.specs.Grammar.{message_of}
 use Rattle.protocol.specs.declared.messages.Msg.{Msg}
 use Rattle.protocol.specs.declared.replies.Reply.{Reply}

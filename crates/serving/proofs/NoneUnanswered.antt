@@ -15,8 +15,8 @@ use Rattle.histories.specs.CoreState.{Entry, Replied, entries}
 use Rattle.histories.specs.Events.{Event, MachineState}
 use Rattle.histories.specs.Laws.{IsIdle, ticket_replies}
 use Rattle.histories.specs.Runs.{IsLegal, answered_messages, arrived, end_state, logged_messages}
-use Rattle.incarnations.specs.DeviceEvents.{events_of}
-use Rattle.incarnations.specs.Machine.{MachineView, machine_of}
+use Rattle.scheduler.specs.DeviceEvents.{events_of}
+use Rattle.scheduler.specs.Machine.{MachineView, machine_of}
 use Rattle.protocol.specs.Grammar.{message_of}
 use Rattle.protocol.specs.declared.messages.Msg.{Msg}
 use Rattle.protocol.specs.declared.replies.Reply.{Reply}

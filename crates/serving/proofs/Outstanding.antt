@@ -12,8 +12,8 @@ use Rattle.histories.specs.Events.{MachineState}
 use Rattle.histories.specs.Laws.{IsIdle}
 use Rattle.histories.specs.Runs.{end_state}
 use Rattle.histories.specs.CoreState.{CoreState, Entry, held}
-use Rattle.incarnations.specs.Machine.{MachineView, machine_of}
-use Rattle.incarnations.specs.DeviceEvents.{events_of}
+use Rattle.scheduler.specs.Machine.{MachineView, machine_of}
+use Rattle.scheduler.specs.DeviceEvents.{events_of}
 use Rattle.protocol.specs.Grammar.{message_of}
 use Rattle.protocol.specs.Messages.{is_in_range}
 use Rattle.protocol.specs.declared.messages.Msg.{Msg}

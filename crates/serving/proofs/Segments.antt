@@ -11,12 +11,12 @@ use Rattle.histories.specs.declared.outcomes.Outcome.TheVariants as outcomes
 use Rattle.histories.specs.declared.outcomes.PointRefusal.{PointRefusal}
 use Rattle.histories.specs.declared.outcomes.Step.{Step}
 use Rattle.histories.specs.declared.outcomes.Step.TheVariants as steps
-use Rattle.incarnations.proofs.Events.{core_holds, core_step}
-use Rattle.incarnations.proofs.FailStop.{run_fails}
-use Rattle.incarnations.proofs.Running.{one_leads}
-use Rattle.incarnations.specs.Machine.{MachineView, machine_of}
-use Rattle.incarnations.specs.Steps.{IsCoreStep, IsMachineStep}
-use Rattle.incarnations.specs.declared.hands.HandContent.{HandContent}
+use Rattle.scheduler.proofs.Events.{core_holds, core_step}
+use Rattle.scheduler.proofs.FailStop.{run_fails}
+use Rattle.scheduler.proofs.Running.{one_leads}
+use Rattle.scheduler.specs.Machine.{MachineView, machine_of}
+use Rattle.scheduler.specs.Steps.{IsCoreStep, IsMachineStep}
+use Rattle.scheduler.specs.declared.hands.HandContent.{HandContent}
 use Rattle.protocol.specs.declared.replies.Reply.{Reply}
 use Rattle.scheduler.specs.Calls.{CountsFailure, IsCallEvent, log_device_failed, checkpoint_device_failed}
 use Rattle.scheduler.specs.CoreView.{CoreView, RecoversThroughout, core_state_of}

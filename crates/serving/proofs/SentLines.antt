@@ -14,7 +14,7 @@ use Rattle.std.specs.Io.KnownBytes.{Appends}
 use Rattle.std.specs.List.{AllByRecursion}
 use Rattle.meaning.proofs.OutputLemmas.{joined-append}
 use Rattle.affinity.proofs.Elements.{all_join}
-use Rattle.incarnations.specs.Machine.{MachineView}
+use Rattle.scheduler.specs.Machine.{MachineView}
 use Rattle.serving.specs.Progress.{ServingProgress}
 use Rattle.serving.specs.Lines.{Line, has_answer, answer_text}
 use Rattle.meaning.specs.Output.{joined}

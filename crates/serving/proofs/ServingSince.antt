@@ -4,7 +4,7 @@ use Rattle.std.specs.Prelude.{IfSome}
 use Rattle.std.proofs.lemmas.List.{length-append}
 use Rattle.disk.specs.Device.{Medium}
 use Rattle.histories.specs.Laws.{IsIdle}
-use Rattle.incarnations.specs.Machine.{MachineView}
+use Rattle.scheduler.specs.Machine.{MachineView}
 use Rattle.protocol.specs.Grammar.{message_of}
 use Rattle.protocol.specs.FirstLine.{GivesLine, HasWholeFirstLine, PassesLine}
 use Rattle.protocol.specs.declared.replies.Reply.{Reply}

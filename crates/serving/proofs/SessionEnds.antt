@@ -10,7 +10,7 @@ use Rattle.std.proofs.lemmas.List.{length-replicate}
 use Rattle.disk.specs.Device.{Medium}
 use Rattle.histories.proofs.Idle.{idle_sound}
 use Rattle.histories.specs.Laws.{IsIdle}
-use Rattle.incarnations.specs.Machine.{MachineView}
+use Rattle.scheduler.specs.Machine.{MachineView}
 use Rattle.parcel.specs.Run.{JobView}
 use Rattle.scheduler.specs.CoreView.{CoreView, RecoversNow, core_state_of}
 use Rattle.serving.specs.Ends.{EndsWith, Exchange, IsQuiesced, committed_in, exchange}

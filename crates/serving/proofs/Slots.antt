@@ -8,8 +8,8 @@ use Rattle.histories.specs.Runs.{IsLegal, end_state}
 use Rattle.histories.specs.CoreState.{Entry}
 use Rattle.histories.specs.declared.outcomes.ArriveRefusal.TheVariants as arrivals
 use Rattle.histories.specs.declared.outcomes.Outcome.TheVariants as outcomes
-use Rattle.incarnations.specs.Machine.{MachineView, machine_of}
-use Rattle.incarnations.specs.DeviceEvents.{events_of}
+use Rattle.scheduler.specs.Machine.{MachineView, machine_of}
+use Rattle.scheduler.specs.DeviceEvents.{events_of}
 use Rattle.protocol.specs.declared.messages.Msg.{Msg}
 use Rattle.protocol.specs.declared.replies.Reply.{Reply}
 use Rattle.scheduler.specs.CoreView.{core_state_of}

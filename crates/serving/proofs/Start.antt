@@ -3,9 +3,9 @@ use Rattle.std.proofs.Common.{◌≡◌, ℕ, zero, suc, false, List, [], Option
 use Rattle.std.proofs.lemmas.Option.{none-some}
 use Rattle.std.proofs.KnownBytes.{Appends-nil}
 use Rattle.histories.specs.Laws.{IsSoundCoreState}
-use Rattle.incarnations.proofs.Running.{none_lead}
-use Rattle.incarnations.specs.Machine.{MachineView, IsHandOf, hand_at, ticket_in}
-use Rattle.incarnations.specs.declared.hands.HandContent.TheVariants as has
+use Rattle.scheduler.proofs.Running.{none_lead}
+use Rattle.scheduler.specs.Machine.{MachineView, IsHandOf, hand_at, ticket_in}
+use Rattle.scheduler.specs.declared.hands.HandContent.TheVariants as has
 use Rattle.meaning.proofs.Taking.{takes_nothing}
 use Rattle.scheduler.specs.CoreView.{CoreView, core_state_of}
 use Rattle.serving.specs.Progress.{ServingProgress}

@@ -12,7 +12,7 @@ use Rattle.histories.specs.Eligible.{is_eligible}
 use Rattle.histories.specs.Events.{Hand, find_in_flight, give_back}
 use Rattle.histories.specs.Progress.{has_job, points_left}
 use Rattle.histories.specs.declared.outcomes.CoreFault.{CoreFault}
-use Rattle.incarnations.specs.Machine.{hand_of as hand_in}
+use Rattle.scheduler.specs.Machine.{hand_of as hand_in}
 use Rattle.parcel.specs.Run.{JobView}
 use Rattle.scheduler.specs.Calls.{IsLogStep}
 use Rattle.serving.specs.Checkpoints.{IsDue}

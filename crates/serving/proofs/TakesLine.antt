@@ -11,13 +11,13 @@ use Rattle.histories.specs.declared.outcomes.ArriveRefusal.TheVariants as arriva
 use Rattle.histories.specs.declared.outcomes.Outcome.{Outcome}
 use Rattle.histories.specs.declared.outcomes.Outcome.TheVariants as outcomes
 use Rattle.histories.specs.declared.outcomes.Step.TheVariants as steps
-use Rattle.incarnations.proofs.Events.{core_holds, core_step}
-use Rattle.incarnations.specs.Steps.{IsCoreStep}
-use Rattle.incarnations.specs.declared.hands.HandContent.{HandContent}
+use Rattle.scheduler.proofs.Events.{core_holds, core_step}
+use Rattle.scheduler.specs.Steps.{IsCoreStep}
+use Rattle.scheduler.specs.declared.hands.HandContent.{HandContent}
 use Rattle.protocol.specs.Messages.{is_in_range}
 use Rattle.scheduler.specs.Calls.{arrive_outcome as arrived_so}
 use Rattle.scheduler.specs.CoreView.{CoreView, core_state_of}
-use Rattle.incarnations.specs.Machine.{MachineView}
+use Rattle.scheduler.specs.Machine.{MachineView}
 use Rattle.protocol.specs.Grammar.{message_of}
 use Rattle.protocol.specs.declared.messages.Msg.{Msg}
 use Rattle.protocol.specs.declared.replies.Reply.{Reply}

@@ -9,9 +9,9 @@ use Rattle.histories.specs.declared.outcomes.ArriveRefusal.{ArriveRefusal}
 use Rattle.histories.specs.declared.outcomes.ArriveRefusal.TheVariants as arrivals
 use Rattle.histories.specs.declared.outcomes.Outcome.{Outcome}
 use Rattle.histories.specs.declared.outcomes.Outcome.TheVariants as outcomes
-use Rattle.incarnations.proofs.Events.{arrive_step}
-use Rattle.incarnations.specs.Machine.{MachineView}
-use Rattle.incarnations.specs.declared.hands.HandContent.{HandContent}
+use Rattle.scheduler.proofs.Events.{arrive_step}
+use Rattle.scheduler.specs.Machine.{MachineView}
+use Rattle.scheduler.specs.declared.hands.HandContent.{HandContent}
 use Rattle.protocol.specs.Grammar.{message_of}
 use Rattle.protocol.specs.FirstLine.{GivesLine, IsAtEndOf, HasWholeFirstLine, PassesLine}
 use Rattle.protocol.specs.declared.messages.Msg.{Msg}

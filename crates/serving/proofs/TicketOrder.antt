@@ -1,7 +1,7 @@
 -- The lines of the reorder buffer that have tickets have them in order, and the next ticket is the one after theirs.
 use Rattle.std.proofs.Common.{◌≡◌, ℕ, List, [], ◌∷◌, ◌++◌, Option, Some, None, refl, sym, subst}
 use Rattle.affinity.specs.declared.geometry.Geometry.{Geometry}
-use Rattle.incarnations.specs.Machine.{MachineView}
+use Rattle.scheduler.specs.Machine.{MachineView}
 use Rattle.protocol.specs.Grammar.{message_of}
 use Rattle.protocol.specs.declared.messages.Msg.{Msg}
 use Rattle.protocol.specs.declared.replies.Reply.{Reply}

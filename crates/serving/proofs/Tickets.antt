@@ -7,8 +7,8 @@ use Rattle.histories.proofs.Ways as way
 use Rattle.histories.specs.Events.{Event, MachineState}
 use Rattle.histories.specs.Runs.{IsLegal, arrived, arrives, end_state}
 use Rattle.histories.specs.CoreState.{Entry}
-use Rattle.incarnations.specs.Machine.{MachineView, machine_of}
-use Rattle.incarnations.specs.DeviceEvents.{events_of}
+use Rattle.scheduler.specs.Machine.{MachineView, machine_of}
+use Rattle.scheduler.specs.DeviceEvents.{events_of}
 use Rattle.protocol.specs.declared.messages.Msg.{Msg}
 use Rattle.protocol.specs.declared.replies.Reply.{Reply}
 use Rattle.meaning.specs.Order.{messages_of}

@@ -3,8 +3,8 @@ use Rattle.std.specs.Prelude.{◌≡◌, ◌≤◌, ◌-◌, ◌^◌, ℕ, true,
 use Rattle.std.specs.Io.KnownBytes.{Appends, IsAtEnd}
 use Rattle.affinity.specs.declared.geometry.Geometry.{Geometry}
 use Rattle.histories.specs.Laws.{IsIdle}
-use Rattle.incarnations.specs.Machine.{MachineView, RecoversFromRun}
-use Rattle.incarnations.specs.declared.hands.HandContent.{HandContent}
+use Rattle.scheduler.specs.Machine.{MachineView, RecoversFromRun}
+use Rattle.scheduler.specs.declared.hands.HandContent.{HandContent}
 use Rattle.protocol.specs.Grammar.{message_of}
 use Rattle.protocol.specs.Lines.{lines}
 use Rattle.protocol.specs.Messages.{is_in_range}

@@ -4,10 +4,10 @@ use Rattle.std.specs.Prelude.{◌≡◌, ◌+◌, ℕ, List, [], map, length, Op
 use Rattle.std.specs.Option.{option_map_or}
 use Rattle.histories.specs.Runs.{answered, arrived}
 use Rattle.histories.specs.CoreState.{Entry, CoreState, held}
-use Rattle.incarnations.specs.Machine.{LeadTo, MachineView, HoldsJobs}
-use Rattle.incarnations.specs.DeviceEvents.{DeviceEvent, events_of}
-use Rattle.incarnations.specs.declared.hands.HandContent.{HandContent}
-use Rattle.incarnations.specs.declared.hands.HandContent.TheVariants as has
+use Rattle.scheduler.specs.Machine.{LeadTo, MachineView, HoldsJobs}
+use Rattle.scheduler.specs.DeviceEvents.{DeviceEvent, events_of}
+use Rattle.scheduler.specs.declared.hands.HandContent.{HandContent}
+use Rattle.scheduler.specs.declared.hands.HandContent.TheVariants as has
 use Rattle.protocol.specs.declared.replies.Reply.{Reply}
 use Rattle.parcel.specs.Run.{JobView}
 use Rattle.scheduler.specs.CoreView.{CoreView, core_state_of}

@@ -1,6 +1,6 @@
 -- Statement for operators: What a call of `serve` promises, by its result.
 use Rattle.std.specs.Prelude.{◌≡◌, ◌≢◌, ◌≤◌, ℕ, false, List, [], length, Option, None, IfSome, Result, Ok, Err, OnOk, replicate}
-use Rattle.incarnations.specs.Machine.{MachineView}
+use Rattle.scheduler.specs.Machine.{MachineView}
 use Rattle.protocol.specs.Lines.{lines}
 use Rattle.oplog.specs.Recovery.{records_in}
 use Rattle.scheduler.specs.CoreView.{CoreView}

@@ -7,8 +7,8 @@ use Rattle.histories.specs.CoreState.{held}
 use Rattle.histories.specs.Laws.{IsIdle}
 use Rattle.histories.specs.Progress.{points_left, steps_to_come}
 use Rattle.histories.specs.Runs.{logged_messages}
-use Rattle.incarnations.specs.DeviceEvents.{DeviceEvent, device_after, events_of}
-use Rattle.incarnations.specs.Machine.{MachineView, machine_of}
+use Rattle.scheduler.specs.DeviceEvents.{DeviceEvent, device_after, events_of}
+use Rattle.scheduler.specs.Machine.{MachineView, machine_of}
 use Rattle.protocol.specs.Grammar.{message_of}
 use Rattle.protocol.specs.Messages.{is_in_range}
 use Rattle.protocol.specs.FirstLine.{GivesLine, LosesLineStart}

@@ -7,7 +7,7 @@ ghost use Rattle.histories.specs.declared.outcomes.Outcome.TheVariants as outcom
 ghost use Rattle.protocol.specs.Grammar.{message_of};
 ghost use Rattle.protocol.specs.declared.messages.Msg.{Msg};
 ghost use Rattle.scheduler.specs.CoreView.{core_state_of};
-ghost use Rattle.incarnations.specs.declared.hands.HandContent.{HandContent};
+ghost use Rattle.scheduler.specs.declared.hands.HandContent.{HandContent};
 ghost use Rattle.serving.specs.Kill.{IsKillSafe};
 ghost use Rattle.serving.specs.Lines.{Pending};
 ghost use Rattle.serving.specs.Reads.{TakesLine};

@@ -32,8 +32,8 @@ ghost use Rattle.serving.specs.Restart.{BytesRecover, RecoversWritten};
 ghost use Rattle.serving.specs.Logged.{AreInHistory, HoldsSent, RecoversToHistory};
 ghost use Rattle.serving.specs.Output.{MaySend, Start, SendsNoReply};
 ghost use Rattle.serving.specs.Lines.{AreKnown, Line, admitted, has_answer, answer_text, ticketed};
-ghost use Rattle.incarnations.specs.Machine.{MachineView, machine_of};
-ghost use Rattle.incarnations.specs.DeviceEvents.{device_after, events_of};
+ghost use Rattle.scheduler.specs.Machine.{MachineView, machine_of};
+ghost use Rattle.scheduler.specs.DeviceEvents.{device_after, events_of};
 ghost use Rattle.serving.specs.Runs.{RunsBetween, unanswered};
 ghost use Rattle.serving.specs.declared.server.ServeFault.TheVariants as faults;
 

@@ -6,9 +6,9 @@ use Rattle.std.proofs.lemmas.List.{take_all, with_items_is}
 use Rattle.histories.specs.Laws.{IsSoundCoreState}
 use Rattle.histories.specs.declared.outcomes.Outcome.{Outcome}
 use Rattle.histories.specs.declared.outcomes.Step.{Step}
-use Rattle.incarnations.proofs.Running.{has_run, next_device_events, no_device_events}
-use Rattle.incarnations.specs.Machine.{MachineView, HasDeviceEvents, HoldsJobs}
-use Rattle.incarnations.specs.declared.hands.HandContent.{HandContent}
+use Rattle.scheduler.proofs.Running.{has_run, next_device_events, no_device_events}
+use Rattle.scheduler.specs.Machine.{MachineView, HasDeviceEvents, HoldsJobs}
+use Rattle.scheduler.specs.declared.hands.HandContent.{HandContent}
 use Rattle.scheduler.specs.CoreView.{core_state_of}
 use Rattle.machine.proofs.machine.Machine.run.Goals as goal
 

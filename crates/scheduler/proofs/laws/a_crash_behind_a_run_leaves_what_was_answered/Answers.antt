@@ -1,8 +1,8 @@
 -- The lemmas on the end of a run.
 use Rattle.histories.proofs.Idle.{idle_sound}
-use Rattle.incarnations.proofs.Ending.{ended_so, holds_answered}
+use Rattle.scheduler.proofs.Ending.{ended_so, holds_answered}
 use Rattle.scheduler.specs.CoreView.{core_state_of}
-use Rattle.incarnations.proofs.laws.a_crash_behind_a_run_leaves_what_was_answered.Goals as goal
+use Rattle.scheduler.proofs.laws.a_crash_behind_a_run_leaves_what_was_answered.Goals as goal
 
 pub returns-clause-run : goal.returns-clause-run
 returns-clause-run c = λ start events new b sound h left.

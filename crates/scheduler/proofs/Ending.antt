@@ -11,11 +11,11 @@ use Rattle.histories.specs.Events.{Event, MachineState, recorded}
 use Rattle.histories.specs.Laws.{IsIdle, IsSoundCoreState}
 use Rattle.histories.specs.Incarnations.{HoldsAnswered, Ran}
 use Rattle.histories.specs.Runs.{IsLegal, end_state}
-use Rattle.incarnations.proofs.Events.{some_of}
-use Rattle.incarnations.proofs.Running.{RecoversSince, recovers_for_run}
-use Rattle.incarnations.specs.Machine.{MachineView, machine_of}
-use Rattle.incarnations.specs.DeviceEvents.{RecoversForRun}
-use Rattle.incarnations.specs.declared.hands.HandContent.{HandContent}
+use Rattle.scheduler.proofs.Events.{some_of}
+use Rattle.scheduler.proofs.Running.{RecoversSince, recovers_for_run}
+use Rattle.scheduler.specs.Machine.{MachineView, machine_of}
+use Rattle.scheduler.specs.DeviceEvents.{RecoversForRun}
+use Rattle.scheduler.specs.declared.hands.HandContent.{HandContent}
 use Rattle.scheduler.specs.CoreView.{CoreView, RecoversNow, core_state_of}
 
 module _ (start : MachineView) (new : CoreView) (hands : List HandContent) (events : List Event)

@@ -1,6 +1,6 @@
 -- The lemmas on a device that has failed.
-use Rattle.incarnations.proofs.FailStop.{fail_stop, fails_once}
-use Rattle.incarnations.proofs.laws.a_device_that_failed_is_not_called_again.Goals as goal
+use Rattle.scheduler.proofs.FailStop.{fail_stop, fails_once}
+use Rattle.scheduler.proofs.laws.a_device_that_failed_is_not_called_again.Goals as goal
 
 pub returns-clause-fail_stop : goal.returns-clause-fail_stop
 returns-clause-fail_stop c = fail_stop

@@ -6,7 +6,7 @@ use Rattle.histories.specs.Crash.{in_doubt, to_append}
 use Rattle.histories.specs.Events.{IsAllowed, touches_device}
 use Rattle.histories.specs.declared.outcomes.Outcome.{Outcome}
 use Rattle.histories.specs.declared.outcomes.Step.{Step}
-use Rattle.incarnations.specs.Machine.{MachineView, machine_of}
+use Rattle.scheduler.specs.Machine.{MachineView, machine_of}
 use Rattle.scheduler.specs.Calls.{CountsFailure, IsCallEvent}
 use Rattle.scheduler.specs.CoreView.{CoreView, RecoversThroughout, core_state_of}
 

@@ -9,9 +9,9 @@ use Rattle.histories.specs.Runs.{IsLegal, answered, arrived, end_state, logged_m
 use Rattle.histories.specs.CoreState.{CoreState, entries, held}
 use Rattle.histories.specs.declared.outcomes.Outcome.{Outcome}
 use Rattle.histories.specs.declared.outcomes.Step.{Step}
-use Rattle.incarnations.specs.DeviceEvents.{DeviceEvent, AreSafe, RecoversForRun, AgreeWithDevice, device_after, events_of}
-use Rattle.incarnations.specs.declared.hands.HandContent.{HandContent}
-use Rattle.incarnations.specs.declared.hands.HandContent.TheVariants as has
+use Rattle.scheduler.specs.DeviceEvents.{DeviceEvent, AreSafe, RecoversForRun, AgreeWithDevice, device_after, events_of}
+use Rattle.scheduler.specs.declared.hands.HandContent.{HandContent}
+use Rattle.scheduler.specs.declared.hands.HandContent.TheVariants as has
 use Rattle.protocol.specs.declared.replies.Reply.{Reply}
 use Rattle.meaning.specs.Order.{by_ticket, serial_replies}
 use Rattle.scheduler.specs.Jobs.{IsJobOf, IsResultOf}

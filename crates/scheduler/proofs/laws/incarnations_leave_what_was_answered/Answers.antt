@@ -1,6 +1,6 @@
 -- The lemmas on incarnations.
-use Rattle.incarnations.proofs.Incarnations.{incarnations_agree, incarnations_open, incarnations_recover}
-use Rattle.incarnations.proofs.laws.incarnations_leave_what_was_answered.Goals as goal
+use Rattle.scheduler.proofs.Incarnations.{incarnations_agree, incarnations_open, incarnations_recover}
+use Rattle.scheduler.proofs.laws.incarnations_leave_what_was_answered.Goals as goal
 
 pub returns-clause-geometry : goal.returns-clause-geometry
 returns-clause-geometry c = incarnations_agree

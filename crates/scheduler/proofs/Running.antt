@@ -21,13 +21,13 @@ use Rattle.histories.specs.Runs.{IsLegal, appended_messages, end_state}
 use Rattle.histories.specs.CoreState.{held}
 use Rattle.histories.specs.declared.outcomes.Outcome.{Outcome}
 use Rattle.histories.specs.declared.outcomes.Step.{Step}
-use Rattle.incarnations.proofs.Events.{some_of}
-use Rattle.incarnations.specs.Machine.{LeadTo, MachineView, HasRun, HasDeviceEvents, RecoversFromRun, machine_of}
-use Rattle.incarnations.specs.DeviceEvents.{AreSafe, DeviceEvent, RecoversForRun, AgreeWithDevice, device_after, events_of}
-use Rattle.incarnations.specs.Steps.{IsMachineStep}
+use Rattle.scheduler.proofs.Events.{some_of}
+use Rattle.scheduler.specs.Machine.{LeadTo, MachineView, HasRun, HasDeviceEvents, RecoversFromRun, machine_of}
+use Rattle.scheduler.specs.DeviceEvents.{AreSafe, DeviceEvent, RecoversForRun, AgreeWithDevice, device_after, events_of}
+use Rattle.scheduler.specs.Steps.{IsMachineStep}
 use Rattle.protocol.specs.declared.messages.Msg.{Msg}
 use Rattle.meaning.specs.Serial.{state_after_all}
-use Rattle.incarnations.specs.declared.hands.HandContent.{HandContent}
+use Rattle.scheduler.specs.declared.hands.HandContent.{HandContent}
 use Rattle.scheduler.specs.Calls.{CountsFailure}
 use Rattle.scheduler.specs.CoreView.{CoreView, RecoversNow, core_state_of}
 

@@ -14,10 +14,10 @@ use Rattle.histories.specs.Eligible.{is_eligible, next_eligible}
 use Rattle.histories.specs.Events.{give_back, grant, find_in_flight}
 use Rattle.histories.specs.Laws.{IsSoundCoreState}
 use Rattle.histories.specs.CoreState.{Entry, CoreState}
-use Rattle.incarnations.proofs.Jobs.{SeesSame, job_stays, result_stays}
-use Rattle.incarnations.specs.Machine.{HoldsJobs, IsHandOf, hand_at, ticket_in}
-use Rattle.incarnations.specs.declared.hands.HandContent.{HandContent}
-use Rattle.incarnations.specs.declared.hands.HandContent.TheVariants as has
+use Rattle.scheduler.proofs.Jobs.{SeesSame, job_stays, result_stays}
+use Rattle.scheduler.specs.Machine.{HoldsJobs, IsHandOf, hand_at, ticket_in}
+use Rattle.scheduler.specs.declared.hands.HandContent.{HandContent}
+use Rattle.scheduler.specs.declared.hands.HandContent.TheVariants as has
 use Rattle.protocol.specs.declared.messages.Msg.{Msg}
 
 -- two numbers are one, or not

@@ -16,7 +16,7 @@ use Rattle.checkpoint.specs.Opening.{IsPastSync, OpeningCrashImages, RecoversAsB
 use Rattle.histories.proofs.Incarnations.{all_answered, incarnation_of_run, next_incarnation, no_incarnation}
 use Rattle.histories.specs.Events.{Event, MachineState}
 use Rattle.histories.specs.Incarnations.{IsLeftByIncarnations, Incarnation, Ran, Unopened}
-use Rattle.incarnations.specs.Incarnations.{DeviceIncarnation, HasIncarnations, HaveGeometry, IsIncarnationOf, IsOfGeometry, IsPassedOn, IsRunIncarnation, LeftByLast, RecoversForIncarnations, incarnations_of}
+use Rattle.scheduler.specs.Incarnations.{DeviceIncarnation, HasIncarnations, HaveGeometry, IsIncarnationOf, IsOfGeometry, IsPassedOn, IsRunIncarnation, LeftByLast, RecoversForIncarnations, incarnations_of}
 use Rattle.meaning.specs.State.{State, empty}
 
 -- What a crash leaves while a device is opened, it might have left before, or it recovers to the same.

@@ -27,12 +27,12 @@ use Rattle.histories.specs.declared.outcomes.Outcome.{Outcome}
 use Rattle.histories.specs.declared.outcomes.Outcome.TheVariants as outcomes
 use Rattle.histories.specs.declared.outcomes.Step.{Step}
 use Rattle.histories.specs.declared.outcomes.Step.TheVariants as steps
-use Rattle.incarnations.proofs.InHands.{granted_is_fresh, granted_stays, hands_stay, holds_set, one_or_other, returned_stays}
-use Rattle.incarnations.specs.Hands.{IsRunIn, IsTakenFrom}
-use Rattle.incarnations.specs.Machine.{HoldsJobs, IsHandOf, hand_at, hand_of, machine_of, ticket_in}
-use Rattle.incarnations.specs.Steps.{IsCoreStep, IsMachineStep}
-use Rattle.incarnations.specs.declared.hands.HandContent.{HandContent}
-use Rattle.incarnations.specs.declared.hands.HandContent.TheVariants as has
+use Rattle.scheduler.proofs.InHands.{granted_is_fresh, granted_stays, hands_stay, holds_set, one_or_other, returned_stays}
+use Rattle.scheduler.specs.Hands.{IsRunIn, IsTakenFrom}
+use Rattle.scheduler.specs.Machine.{HoldsJobs, IsHandOf, hand_at, hand_of, machine_of, ticket_in}
+use Rattle.scheduler.specs.Steps.{IsCoreStep, IsMachineStep}
+use Rattle.scheduler.specs.declared.hands.HandContent.{HandContent}
+use Rattle.scheduler.specs.declared.hands.HandContent.TheVariants as has
 use Rattle.protocol.specs.declared.messages.Msg.{Msg}
 use Rattle.protocol.specs.declared.replies.Reply.{Reply}
 use Rattle.parcel.specs.Run.{JobView, IsJobRun}

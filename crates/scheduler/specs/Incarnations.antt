@@ -12,7 +12,7 @@ use Rattle.histories.specs.Events.{Event, MachineState}
 use Rattle.histories.specs.Laws.{IsIdle}
 use Rattle.histories.specs.Incarnations.{AreLogsOf, AllHoldAnswered, Incarnation, Ran, Unopened, in_order}
 use Rattle.histories.specs.Runs.{IsLegal}
-use Rattle.incarnations.specs.DeviceEvents.{RecoversForRun}
+use Rattle.scheduler.specs.DeviceEvents.{RecoversForRun}
 use Rattle.protocol.specs.declared.messages.Msg.{Msg}
 use Rattle.meaning.specs.Serial.{state_after_all}
 use Rattle.meaning.specs.State.{empty}

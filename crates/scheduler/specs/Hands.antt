@@ -1,7 +1,7 @@
 -- Inner: What is done in one hand.
 use Rattle.std.specs.Prelude.{◌≡◌, Bool, true, false, Option, Some, None}
-use Rattle.incarnations.specs.declared.hands.HandContent.{HandContent}
-use Rattle.incarnations.specs.declared.hands.HandContent.TheVariants.{Empty, Job, Result}
+use Rattle.scheduler.specs.declared.hands.HandContent.{HandContent}
+use Rattle.scheduler.specs.declared.hands.HandContent.TheVariants.{Empty, Job, Result}
 use Rattle.parcel.specs.Run.{IsJobRun}
 use Rattle.parcel.specs.declared.job.Done.{Done}
 

@@ -9,7 +9,7 @@ use Rattle.histories.specs.CoreState.{CoreState}
 use Rattle.histories.specs.Runs.{IsLegal, end_state}
 use Rattle.histories.specs.declared.outcomes.Step.{Step}
 use Rattle.histories.specs.declared.outcomes.Step.TheVariants as steps
-use Rattle.incarnations.specs.DeviceEvents.{AgreeWithDevice, DeviceEvent, IsFailStop, device_after, events_of}
+use Rattle.scheduler.specs.DeviceEvents.{AgreeWithDevice, DeviceEvent, IsFailStop, device_after, events_of}
 
 -- no step of a failed core touches the device
 none_touched : (w : CoreState) (step : Step) → w.failed ≡ true → touches_device w step ≡ false
