@@ -1,6 +1,7 @@
 -- Statement for engineers: The ranges of a geometry's numbers. They are not in Geometry.antt, since `Geometry` keeps them in ghost fields,
 -- and a ghost field can cite no module that names its struct.
 use Rattle.std.specs.Prelude.{ℕ, ◌≤◌, List, [], ◌∷◌}
+use Rattle.affinity.specs.declared.limits.TheConstants.{LEAST_RECORDS, MOST_AGGREGATES, MOST_BLOCKS, MOST_FILES, MOST_QUOTA, MOST_RECORDS, MOST_STRIPES, MOST_VOLUMES, MOST_WIDTH}
 
 -- from `least` to `most`, both included
 abbrev pub IsWithin : ℕ → ℕ → ℕ → Type 0
@@ -10,12 +11,12 @@ IsWithin least most n = (least ≤ n) × (n ≤ most)
 -- blocks in one stripe); how many files a volume has, and blocks a file; the quota of a stripe; and the records of a half of the log.
 abbrev pub AreInRange : List ℕ → Type 0
 AreInRange (aggregates ∷ volumes ∷ stripes ∷ width ∷ files ∷ blocks ∷ quota ∷ half ∷ []) =
-    IsWithin 1 4 aggregates
-    × IsWithin 1 8 volumes
-    × IsWithin 1 8 stripes
-    × IsWithin 1 64 width
-    × IsWithin 1 64 files
-    × IsWithin 1 256 blocks
-    × IsWithin 1 64 quota
-    × IsWithin 4 1024 half
+    IsWithin 1 MOST_AGGREGATES aggregates
+    × IsWithin 1 MOST_VOLUMES volumes
+    × IsWithin 1 MOST_STRIPES stripes
+    × IsWithin 1 MOST_WIDTH width
+    × IsWithin 1 MOST_FILES files
+    × IsWithin 1 MOST_BLOCKS blocks
+    × IsWithin 1 MOST_QUOTA quota
+    × IsWithin LEAST_RECORDS MOST_RECORDS half
 AreInRange _ = ⊥

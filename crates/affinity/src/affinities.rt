@@ -4,6 +4,7 @@ ghost use Rattle.affinity.specs.Interval.{Interval, IsPath, IsAffinity, IsAffini
 ghost use Rattle.affinity.specs.Path.{Path, are_related};
 ghost use Rattle.affinity.specs.Place.{path};
 ghost use Rattle.affinity.specs.declared.geometry.Geometry.{Geometry};
+ghost use Rattle.affinity.specs.declared.limits.TheConstants.{AGGREGATE_AFFINITIES, MOST_AFFINITIES, VOLUME_AFFINITIES};
 
 use crate::{Geometry, Place};
 use std::marker::Model;
@@ -112,7 +113,7 @@ pub fn related(a: Affinity, b: Affinity) -> bool
 /// How many affinities a volume has, not how much it holds: itself, its logical one, the stripes and its label.
 fn volume_size(g: &Geometry) -> u16
     ensures value { result ≡ volume_size g.now }
-    ensures most { result ≤ 11 }
+    ensures most { result ≤ VOLUME_AFFINITIES }
 {
     3 + g.stripes
 }
@@ -120,7 +121,7 @@ fn volume_size(g: &Geometry) -> u16
 /// How many affinities an aggregate has: itself, and those of its volumes.
 fn aggregate_size(g: &Geometry) -> u16
     ensures value { result ≡ aggregate_size g.now }
-    ensures most { result ≤ 89 }
+    ensures most { result ≤ AGGREGATE_AFFINITIES }
 {
     1 + g.volumes * volume_size(g)
 }
@@ -130,7 +131,7 @@ fn volume_number(g: &Geometry, a: u16, v: u16) -> u16
     requires aggregate { a < g.now.aggregates }
     requires volume { v < g.now.volumes }
     ensures value { result ≡ volume_number g.now a v }
-    ensures most { result ≤ 346 }
+    ensures most { result + VOLUME_AFFINITIES ≤ MOST_AFFINITIES }
 {
     2 + a * aggregate_size(g) + v * volume_size(g)
 }

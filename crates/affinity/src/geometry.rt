@@ -1,7 +1,12 @@
 //! The geometry of a server: its eight sizes.
 ghost use Rattle.std.specs.Prelude.{◌≡◌, ◌↔◌, IsOk, IfOk};
 ghost use Rattle.affinity.specs.Limits.{IsWithin, AreInRange};
+ghost use Rattle.affinity.specs.declared.limits.TheConstants.{LEAST_RECORDS, MOST_AGGREGATES, MOST_BLOCKS, MOST_FILES, MOST_QUOTA, MOST_RECORDS, MOST_STRIPES, MOST_VOLUMES, MOST_WIDTH};
 
+use crate::limits::{
+    LEAST_RECORDS, MOST_AGGREGATES, MOST_BLOCKS, MOST_FILES, MOST_QUOTA, MOST_RECORDS,
+    MOST_STRIPES, MOST_VOLUMES, MOST_WIDTH,
+};
 use std::error::Error;
 use std::fmt;
 
@@ -31,14 +36,14 @@ pub struct Geometry {
 
     /// Records in each half of the log, 4 to 1024.
     pub half: u16,
-    pub ghost aggregates_range: { IsWithin 1 4 aggregates },
-    pub ghost volumes_range: { IsWithin 1 8 volumes },
-    pub ghost stripes_range: { IsWithin 1 8 stripes },
-    pub ghost width_range: { IsWithin 1 64 width },
-    pub ghost files_range: { IsWithin 1 64 files },
-    pub ghost blocks_range: { IsWithin 1 256 blocks },
-    pub ghost quota_range: { IsWithin 1 64 quota },
-    pub ghost half_range: { IsWithin 4 1024 half },
+    pub ghost aggregates_range: { IsWithin 1 MOST_AGGREGATES aggregates },
+    pub ghost volumes_range: { IsWithin 1 MOST_VOLUMES volumes },
+    pub ghost stripes_range: { IsWithin 1 MOST_STRIPES stripes },
+    pub ghost width_range: { IsWithin 1 MOST_WIDTH width },
+    pub ghost files_range: { IsWithin 1 MOST_FILES files },
+    pub ghost blocks_range: { IsWithin 1 MOST_BLOCKS blocks },
+    pub ghost quota_range: { IsWithin 1 MOST_QUOTA quota },
+    pub ghost half_range: { IsWithin LEAST_RECORDS MOST_RECORDS half },
 }
 
 /// A number of a geometry that is out of its range.
@@ -84,14 +89,14 @@ impl Geometry {
             half,
         ] = n;
         Ok(Geometry {
-            aggregates: within(1, 4, aggregates)?,
-            volumes: within(1, 8, volumes)?,
-            stripes: within(1, 8, stripes)?,
-            width: within(1, 64, width)?,
-            files: within(1, 64, files)?,
-            blocks: within(1, 256, blocks)?,
-            quota: within(1, 64, quota)?,
-            half: within(4, 1024, half)?,
+            aggregates: within(1, MOST_AGGREGATES, aggregates)?,
+            volumes: within(1, MOST_VOLUMES, volumes)?,
+            stripes: within(1, MOST_STRIPES, stripes)?,
+            width: within(1, MOST_WIDTH, width)?,
+            files: within(1, MOST_FILES, files)?,
+            blocks: within(1, MOST_BLOCKS, blocks)?,
+            quota: within(1, MOST_QUOTA, quota)?,
+            half: within(LEAST_RECORDS, MOST_RECORDS, half)?,
         })
     }
 

@@ -5,6 +5,7 @@
 mod affinities;
 mod geometry;
 mod kinds;
+pub mod limits;
 mod places;
 
 pub use affinities::{Affinity, related};
