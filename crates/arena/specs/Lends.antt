@@ -2,7 +2,7 @@
 use Rattle.std.specs.Prelude.{ℕ, Option}
 use Rattle.std.specs.Borrow.{LendsIf, Fml, RattleType, MutBor}
 use Rattle.arena.specs.ArenaView.{ArenaView, with_value}
-use Rattle.arena.specs.contracts.Arena.{the_row}
+use Rattle.arena.specs.contracts.arena.Arena.{the_row}
 
 module _ (T : RattleType) (arena : MutBor (ArenaView T.Denot)) (i : ℕ) where
   -- once the borrow ends, the slot holds the last value that was written through it; at `None` nothing was borrowed, and the arena stays as

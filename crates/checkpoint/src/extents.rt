@@ -8,6 +8,7 @@ ghost use Rattle.disk.specs.Store.{CrashesChangeOnly, Costs};
 ghost use Rattle.oplog.specs.Changes.{IsReady, IsSameBut};
 ghost use Rattle.device_map.specs.Layout.{slice, layout_of, device_size, image_part, image_size};
 ghost use Rattle.device_map.specs.declared.layout.TheConstants.{BLOCK_ENTRY_SIZE, IMAGE_HEAD_SIZE};
+ghost use Rattle.affinity.specs.declared.limits.TheConstants.{MOST_QUOTA};
 
 use affinity::Geometry;
 use device_map::{IMAGE_HEAD_SIZE, image_at};
@@ -15,10 +16,10 @@ use disk::writes::write;
 use disk::{Disk, DiskFault};
 use image::layout::piece_size;
 
-/// How many bytes extent `n` of an image has. (`most`: a head, and the largest piece of any geometry, 64 entries.)
+/// How many bytes extent `n` of an image has. (`most`: a head, and the largest piece of any geometry.)
 fn extent_size(g: &Geometry, n: usize) -> usize
     ensures size { result ≡ extent_size g.now n }
-    ensures most { result ≤ IMAGE_HEAD_SIZE + 64 * BLOCK_ENTRY_SIZE }
+    ensures most { result ≤ IMAGE_HEAD_SIZE + MOST_QUOTA * BLOCK_ENTRY_SIZE }
 {
     if n == 0 {
         IMAGE_HEAD_SIZE + piece_size(g, n)

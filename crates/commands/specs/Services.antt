@@ -4,10 +4,11 @@ use Rattle.clap.specs.Words.{Text}
 use Rattle.commands.specs.Serving.{options_in_order}
 use Rattle.commands.specs.declared.serve_options.ServeOptions.{ServeOptions}
 use Rattle.arguments.specs.Arguments.{IsNamed, command_of, device_in, findings, given_to, service_in}
+use Rattle.affinity.specs.declared.limits.TheConstants.{MOST_SLOTS, MOST_WORKERS}
 
 -- the numbers of a server's options, from those that the arguments give: at most 64 workers and 1 to 1024 slots, whatever they say
 abbrev pub within_limits : List ℕ → List ℕ
-within_limits (workers ∷ slots ∷ others) = min workers 64 ∷ max (min slots 1024) 1 ∷ others
+within_limits (workers ∷ slots ∷ others) = min workers MOST_WORKERS ∷ max (min slots MOST_SLOTS) 1 ∷ others
 within_limits others = others
 
 -- The arguments ask for service with the device in the file of this path. `findings`: a call for help or the version, or mistakes.

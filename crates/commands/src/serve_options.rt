@@ -1,10 +1,8 @@
 //! How many workers, outstanding lines and records between checkpoints a server on a device has.
 ghost use Rattle.std.specs.Prelude.{◌≤◌};
+ghost use Rattle.affinity.specs.declared.limits.TheConstants.{MOST_SLOTS, MOST_WORKERS};
 
-/// How many workers a server has at most.
-const MOST_WORKERS: u16 = 64;
-
-const MOST_SLOTS: u16 = 1024;
+use affinity::limits::{MOST_SLOTS, MOST_WORKERS};
 
 /// The options of a server on a device.
 #[derive(Clone, Copy, Debug)]
@@ -18,9 +16,9 @@ pub struct ServeOptions {
     /// How many records are logged before a checkpoint is made. With 0 a checkpoint is made only where the log has no room, and at the end
     /// of the input.
     pub every: u16,
-    pub ghost few: { workers ≤ 64 },
+    pub ghost few: { workers ≤ MOST_WORKERS },
     pub ghost some: { 1 ≤ slots },
-    pub ghost most: { slots ≤ 1024 },
+    pub ghost most: { slots ≤ MOST_SLOTS },
 }
 
 impl ServeOptions {

@@ -2,6 +2,7 @@
 //! in a row: header, root zone, half 0, half 1, image 0, image 1.
 ghost use Rattle.std.specs.Prelude.{◌≡◌, ◌<◌, ◌≤◌, ◌+◌, ◌*◌};
 ghost use Rattle.device_map.specs.Layout.{layout_of, part_at, device_size, half_part, half_size, image_part, image_size};
+ghost use Rattle.affinity.specs.declared.limits.TheConstants.{MOST_AGGREGATES, MOST_QUOTA, MOST_RECORDS, MOST_STRIPES, MOST_VOLUMES};
 
 use affinity::Geometry;
 use protocol::{BLOCK_SIZE, RECORD_SIZE};
@@ -30,7 +31,7 @@ pub const BLOCK_ENTRY_SIZE: usize = 8 + BLOCK_SIZE;
 /// The size of each half, which holds `g.half` records.
 pub fn half_size(g: &Geometry) -> usize
     ensures size { result ≡ half_size g.now.half }
-    ensures most { result ≤ half_size 1024 }
+    ensures most { result ≤ half_size MOST_RECORDS }
 {
     let capacity = usize::from(g.half);
     CHAIN_ZONE_SIZE + (capacity + capacity * RECORD_SIZE)
@@ -39,7 +40,7 @@ pub fn half_size(g: &Geometry) -> usize
 /// The size of each image: at most that of 32 volumes with 8 full stripes, some 8.5 million.
 pub fn image_size(g: &Geometry) -> usize
     ensures size { result ≡ image_size g.now }
-    ensures most { result ≤ IMAGE_HEAD_SIZE + 32 * (VOLUME_PIECE_SIZE + 8 * (64 * BLOCK_ENTRY_SIZE)) }
+    ensures most { result ≤ IMAGE_HEAD_SIZE + MOST_AGGREGATES * MOST_VOLUMES * (VOLUME_PIECE_SIZE + MOST_STRIPES * (MOST_QUOTA * BLOCK_ENTRY_SIZE)) }
 {
     let volumes = usize::from(g.aggregates) * usize::from(g.volumes);
     let stripes = usize::from(g.stripes) * (usize::from(g.quota) * BLOCK_ENTRY_SIZE);

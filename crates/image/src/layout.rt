@@ -5,6 +5,7 @@ ghost use Rattle.std.specs.Prelude.{◌≡◌, ◌*◌, ◌<◌, ◌≤◌};
 ghost use Rattle.image.specs.Image.{image_head};
 ghost use Rattle.image.specs.Pieces.{aggregate_of, part_of, piece_count, piece_size, volume_of};
 ghost use Rattle.device_map.specs.declared.layout.TheConstants.{BLOCK_ENTRY_SIZE};
+ghost use Rattle.affinity.specs.declared.limits.TheConstants.{MOST_PIECES, MOST_QUOTA};
 
 use affinity::Geometry;
 use device_map::{BLOCK_ENTRY_SIZE, IMAGE_HEAD_SIZE, VOLUME_PIECE_SIZE};
@@ -19,7 +20,7 @@ pub const FIRST_VERSION: u8 = 1;
 pub fn piece_count(g: &Geometry) -> usize
     ensures count { result ≡ piece_count g.now }
     ensures some { 0 < result }
-    ensures most { result ≤ 288 }
+    ensures most { result ≤ MOST_PIECES }
 {
     usize::from(g.aggregates) * usize::from(g.volumes) * (1 + usize::from(g.stripes))
 }
@@ -28,7 +29,7 @@ pub fn piece_count(g: &Geometry) -> usize
 pub fn largest_piece(g: &Geometry) -> usize
     ensures size { result ≡ g.now.quota * BLOCK_ENTRY_SIZE }
     ensures some { 0 < result }
-    ensures most { result ≤ 64 * BLOCK_ENTRY_SIZE }
+    ensures most { result ≤ MOST_QUOTA * BLOCK_ENTRY_SIZE }
 {
     usize::from(g.quota) * BLOCK_ENTRY_SIZE
 }
@@ -37,7 +38,7 @@ pub fn largest_piece(g: &Geometry) -> usize
 pub fn piece_size(g: &Geometry, n: usize) -> usize
     ensures size { result ≡ piece_size g.now n }
     ensures within { result ≤ g.now.quota * BLOCK_ENTRY_SIZE }
-    ensures most { result ≤ 64 * BLOCK_ENTRY_SIZE }
+    ensures most { result ≤ MOST_QUOTA * BLOCK_ENTRY_SIZE }
 {
     if n % (1 + usize::from(g.stripes)) == 0 {
         VOLUME_PIECE_SIZE

@@ -5,6 +5,7 @@ ghost use Rattle.hex.specs.Hex.{encode_lower};
 ghost use Rattle.protocol.specs.Replies.{AppendsText, at_least_one, no_message, reply_line, reply_text, shown, spaced, without_trailing_zeros};
 ghost use Rattle.protocol.specs.declared.replies.Reply.TheVariants.{Block as block_reply, Files as files_reply, Usage as usage_reply, Summary as summary_reply, Refused};
 
+use affinity::limits::MOST_FILES;
 use itoa::Buffer;
 use protocol::{Block, LONGEST_REPLY, LONGEST_TEXT, Refusal, Reply};
 
@@ -111,7 +112,7 @@ fn write_files(files: u64, out: &mut [u8; LONGEST_REPLY]) -> usize
 {
     let mut end = append(b"files", out, 0);
     let mut from = 0u32;
-    while from < 64 {
+    while from < u32::from(MOST_FILES) {
         let left = files >> from;
         if left == 0 {
             return end;

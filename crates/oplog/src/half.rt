@@ -10,6 +10,7 @@ ghost use Rattle.oplog.specs.Changing.{AreChangesInRange};
 
 use crate::staging::stage;
 use affinity::Geometry;
+use affinity::limits::MOST_RECORDS;
 use device_map::{CHAIN_ZONE_SIZE, RECORD_SIZE, half_at};
 use disk::writes::store;
 use disk::{Disk, DiskFault};
@@ -18,13 +19,10 @@ use protocol::Msg;
 /// How many records are written at a time, at most.
 pub(crate) const RECORDS_PER_WRITE: usize = 64;
 
-/// How many records a half can hold, at most.
-pub(crate) const MOST_RECORDS: usize = 1024;
-
 const OPEN_GATES: [u8; RECORDS_PER_WRITE] = [1; RECORDS_PER_WRITE];
 
 /// How many bytes lie before the records of a half, at most: its chain byte, the bytes beside it, and its gates.
-const MOST_BYTES_BEFORE_RECORDS: usize = CHAIN_ZONE_SIZE + MOST_RECORDS;
+const MOST_BYTES_BEFORE_RECORDS: usize = CHAIN_ZONE_SIZE + MOST_RECORDS as usize;
 
 const ZEROS: [u8; MOST_BYTES_BEFORE_RECORDS] = [0; MOST_BYTES_BEFORE_RECORDS];
 

@@ -6,8 +6,9 @@ ghost use Rattle.message.specs.Records.{record_of};
 ghost use Rattle.oplog.specs.Changing.{AreChangesInRange, IsChangeInRange, IsNoChangeRecord};
 
 use crate::LogFault;
-use crate::half::{Half, MOST_RECORDS, RECORDS_PER_WRITE};
+use crate::half::{Half, RECORDS_PER_WRITE};
 use affinity::{Geometry, changing};
+use affinity::limits::MOST_RECORDS;
 use device_map::{RECORD_SIZE, ROOT_ZONE_AT};
 use disk::Disk;
 use disk::writes::store;
@@ -253,7 +254,7 @@ impl Halves {
     {
         let (geometry, number) = (self.geometry, half);
         let half = Half { geometry, number };
-        let mut gates = [0; MOST_RECORDS];
+        let mut gates = [0; MOST_RECORDS as usize];
         match half.front(disk, &mut gates[..half.capacity()]) {
             Ok(count) => Ok(count),
             Err(_) => Err(self.fail()),

@@ -1,5 +1,5 @@
 -- Format for clients: Which lines spell which messages.
-use Rattle.std.specs.Prelude.{◌≡◌, ℕ, ◌<◌, ◌≤◌, nat_lt, List, [], ◌∷◌, ◌++◌, length, map, find, codes, if◌then◌else◌, Option, Some, None, Ok}
+use Rattle.std.specs.Prelude.{◌≡◌, ℕ, ◌^◌, ◌<◌, ◌≤◌, nat_lt, List, [], ◌∷◌, ◌++◌, length, map, find, codes, if◌then◌else◌, Option, Some, None, Ok}
 use Rattle.std.specs.List.{AllByRecursion, join_with_byte}
 use Rattle.std.specs.Str.{bytes_eq}
 use Rattle.std.specs.Fmt.{decimal}
@@ -146,6 +146,6 @@ IsData _ behind = behind ≡ []
 pub record Spells (line : List ℕ) (m : Msg) : Type 0 where
   pub words_behind : List (List ℕ)
   pub parts : line ≡ join_with_byte 32 (keyword (kind m) ∷ map decimal (numbers m) ++ words_behind)
-  pub fits : AllByRecursion (λ n. n < 65536) (numbers m)
+  pub fits : AllByRecursion (λ n. n < 2 ^ 16) (numbers m)
   pub content : IsData m words_behind
   pub short : length line ≤ LONGEST_LINE

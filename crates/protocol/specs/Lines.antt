@@ -1,5 +1,5 @@
 -- Format for clients: The lines of an input, the words of a line, and what a word encodes.
-use Rattle.std.specs.Prelude.{ℕ, ◌-◌, ◌*◌, Bool, ◌&&◌, ◌||◌, not, ◌==◌, nat_lt, nat_le, List, [], ◌∷◌, ◌++◌, length, replicate, slice_index, if◌then◌else◌, Option, Some, None, option_map}
+use Rattle.std.specs.Prelude.{ℕ, ◌-◌, ◌*◌, ◌^◌, Bool, ◌&&◌, ◌||◌, not, ◌==◌, nat_lt, nat_le, List, [], ◌∷◌, ◌++◌, length, replicate, slice_index, if◌then◌else◌, Option, Some, None, option_map}
 use Rattle.std.specs.Result.{result_ok}
 use Rattle.std.specs.Str.{all_ascii_digits}
 use Rattle.std.specs.Str.Parse.{digits_value}
@@ -28,7 +28,7 @@ is_numeral word = all_ascii_digits word && nat_lt 0 (length word) && (not (slice
 
 -- the number from 0 to 65535 that a word encodes, if it encodes one
 unfoldable pub number_in_word : List ℕ → Option ℕ
-number_in_word word = if is_numeral word && nat_lt (digits_value 10 word) 65536 then Some (digits_value 10 word) else None
+number_in_word word = if is_numeral word && nat_lt (digits_value 10 word) (2 ^ 16) then Some (digits_value 10 word) else None
 
 -- the bytes, with zeros after them up to `size` bytes
 abbrev pub padded : ℕ → List ℕ → List ℕ

@@ -3,6 +3,7 @@ use Rattle.std.specs.Prelude.{◌≡◌, ℕ, zero, suc, ◌+◌, ◌==◌, List
 use Rattle.std.specs.Fmt.{decimal}
 use Rattle.std.specs.Int.{bit_at}
 use Rattle.hex.specs.Hex.{encode_lower}
+use Rattle.affinity.specs.declared.limits.TheConstants.{MOST_FILES}
 use Rattle.protocol.specs.declared.replies.Refusal.{Refusal}
 use Rattle.protocol.specs.declared.replies.Refusal.TheVariants.{Range, Volume, Exists, Sealed, File, Space}
 use Rattle.protocol.specs.declared.replies.Reply.{Reply}
@@ -51,7 +52,7 @@ files_below files (suc f) = files_below files f ++ (if has_file files f then spa
 
 -- a space and its number for each file of the set, in ascending order
 unfoldable pub files_text : ℕ → List ℕ
-files_text files = files_below files 64
+files_text files = files_below files MOST_FILES
 
 -- the text of a reply
 abbrev pub reply_text : Reply → List ℕ

@@ -4,6 +4,7 @@ ghost use Rattle.std.specs.Prelude.{◌≡◌};
 ghost use Rattle.protocol.specs.Replies.{has_file};
 
 use crate::{Block, LABEL_SIZE};
+use affinity::limits::MOST_FILES;
 
 /// Why a message was refused.
 #[derive(Clone, Copy, Debug, PartialEq, Eq)]
@@ -55,5 +56,5 @@ pub enum Reply {
 pub fn has_file(files: u64, file: u16) -> bool
     ensures { result ≡ has_file files file }
 {
-    file < 64 && (files >> file) & 1 == 1
+    file < MOST_FILES && (files >> file) & 1 == 1
 }

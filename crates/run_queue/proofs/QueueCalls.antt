@@ -25,7 +25,7 @@ use Rattle.run_queue.proofs.Chains.{default_at}
 
 -- ---- the start
 
--- a geometry has at most 357 affinities (`MOST_AFFINITIES`), so 357 queues serve any geometry
+-- a geometry has at most `MOST_AFFINITIES`, so as many queues serve any geometry
 all_below : (g : Geometry) → affinity_count g ≤ 357
 all_below g = grind (arith, common_steps)
 

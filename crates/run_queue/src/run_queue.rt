@@ -11,11 +11,9 @@ use crate::ready_table::{CHUNK, ReadyTable};
 use crate::update_ready::{update_ready, update_ready_related};
 use crate::waiting::Queues;
 use affinity::{Affinity, Geometry, Place};
+use affinity::limits::MOST_AFFINITIES;
 use std::alloc::{AllocError, Global};
 use std::marker::Model;
-
-/// How many affinities the greatest geometry has.
-const MOST_AFFINITIES: usize = 357;
 
 /// The waiting and the held messages, each with a slot of its own.
 ///
@@ -63,9 +61,9 @@ impl RunQueue {
         requires { slots < usize.MAX }
         ensures { IfOk result (λ queue. queue ≡ queue_at_start geometry.now slots) }
     {
-        let ready_table = ReadyTable::new(alloc, MOST_AFFINITIES)?;
-        let held = Holders::new(alloc, MOST_AFFINITIES)?;
-        let waiting = Queues::new(alloc, MOST_AFFINITIES, slots)?;
+        let ready_table = ReadyTable::new(alloc, usize::from(MOST_AFFINITIES))?;
+        let held = Holders::new(alloc, usize::from(MOST_AFFINITIES))?;
+        let waiting = Queues::new(alloc, usize::from(MOST_AFFINITIES), slots)?;
         Ok(RunQueue {
             geometry: *geometry,
             waiting,

@@ -3,6 +3,7 @@ ghost use Rattle.std.specs.Prelude.{◌≡◌, ◌≤◌, [], IfOk, length, vec_
 ghost use Rattle.affinity.specs.Geometry.{default_geometry};
 ghost use Rattle.arena.specs.ArenaView.{IsPartitioned, empty_arena};
 ghost use Rattle.run_queue.specs.RunQueue.{queue_at_start};
+ghost use Rattle.affinity.specs.declared.limits.TheConstants.{MOST_SLOTS};
 
 use crate::slot::{CHAINS, Slot};
 use affinity::Geometry;
@@ -27,7 +28,7 @@ pub(crate) struct CoreMemory {
 /// Memory for `slots` messages, with none in it. The device's geometry isn't known yet: the run queue begins with the default
 /// geometry (`default_geometry` in clauses), which `set_geometry` replaces, and has room for any. `AllocError` where there is no memory.
 pub(crate) fn take_memory(alloc: Global, slots: usize) -> Result<CoreMemory, AllocError>
-    requires few { slots ≤ 1024 }
+    requires few { slots ≤ MOST_SLOTS }
     ensures arena { IfOk result (λ m. m.slots ≡ empty_arena slots 4) }
     ensures partitioned { IfOk result (λ m. IsPartitioned m.slots) }
     ensures replies { IfOk result (λ m. length m.replies.items ≡ slots) }

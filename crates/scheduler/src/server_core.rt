@@ -26,6 +26,7 @@ ghost use Rattle.scheduler.specs.Slots.{HasChains};
 ghost use Rattle.scheduler.specs.Jobs.{IsResultOf};
 ghost use Rattle.scheduler.specs.CoreView.{IsJustOpened, CoreView, RecoversNow, RecoversThroughout, core_state_of};
 ghost use Rattle.scheduler.specs.Opening.{IsShownByBytes};
+ghost use Rattle.affinity.specs.declared.limits.TheConstants.{MOST_SLOTS};
 
 use crate::Granted;
 use crate::core_memory::{CoreMemory, take_memory};
@@ -108,7 +109,7 @@ impl<D: Disk> Core<D> {
     /// opened core no message waits or is held, the next ticket is 0, and the log has all its room, with no record in force.
     pub fn open(alloc: Global, d: D, slots: usize) -> Result<Core<D>, OpenError<D>>
         // With no slot no message could ever arrive.
-        requires slots { (0 < slots) × (slots ≤ 1024) }
+        requires slots { (0 < slots) × (slots ≤ MOST_SLOTS) }
         ensures opened { IfOk result (IsJustOpened slots) }
         ensures header { IfOk result (λ core. D.keeps → HasHeader core.geometry (D.medium d).now) }
         ensures recovered_before { IfOk result (λ core. D.keeps →

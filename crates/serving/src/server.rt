@@ -15,6 +15,7 @@ ghost use Rattle.serving.specs.Ends.{exchange};
 ghost use Rattle.serving.specs.Kill.{IsKillSafe};
 ghost use Rattle.serving.specs.Serve.{ServePromise, handed_back};
 ghost use Rattle.serving.specs.Session.{CanBegin, reported};
+ghost use Rattle.affinity.specs.declared.limits.TheConstants.{MOST_WORKERS};
 
 use crate::checkpoints::CheckpointTrigger;
 use crate::output::ReplySink;
@@ -79,7 +80,7 @@ struct Preallocated {
 // Takes the memory for lines of which at most `slots` are outstanding, and opens a bench with a place for each worker. Contracts call the
 // number of places `bench.slots`; it has nothing to do with the `slots` for lines.
 fn take_memory(alloc: Global, slots: usize, workers: usize) -> Result<Preallocated, AllocError>
-    requires { workers ≤ 64 }
+    requires { workers ≤ MOST_WORKERS }
     ensures slots { IfOk result (λ memory. memory.reorder_buffer.slots ≡ slots) }
     ensures places { IfOk result (λ memory. memory.bench.slots ≡ workers) }
 {
@@ -208,7 +209,7 @@ pub fn serve_to<T: Threads + Wait + Sync, R: Read, L: ReplySink<D>, D: Disk + Dr
     requires at_start { L.sent_at sink ≡ core.medium }
     requires idle { IsIdle (core_state_of core) }
     requires works { core.failed ≡ false }
-    requires few { workers ≤ 64 }
+    requires few { workers ≤ MOST_WORKERS }
     ensures serves { ServePromise D.keeps workers core (handed_back result.0)
         (exchange (R.remaining r.old) (R.remaining r.new) (L.sent sink) (L.sent result.1)) }
     // A kill at any moment since the last `send` began has lost nothing of what was sent, either.

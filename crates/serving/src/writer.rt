@@ -5,6 +5,7 @@ ghost use Rattle.histories.specs.Laws.{IsIdle};
 ghost use Rattle.scheduler.specs.CoreView.{core_state_of};
 ghost use Rattle.serving.specs.Ends.{exchange};
 ghost use Rattle.serving.specs.Serve.{ServePromise, handed_back};
+ghost use Rattle.affinity.specs.declared.limits.TheConstants.{MOST_WORKERS};
 
 use crate::output::ReplySink;
 use crate::server::{ServeError, serve_to};
@@ -87,7 +88,7 @@ fn with_writer<
     requires start { B.start ≡ Some (record { core = core; places = workers; input = R.remaining r.old; before = W.contents w.now }) }
     requires idle { IsIdle (core_state_of core) }
     requires works { core.failed ≡ false }
-    requires few { workers ≤ 64 }
+    requires few { workers ≤ MOST_WORKERS }
     ensures same { result.1.ghost_name ≡ w.entry.ghost_name }
     ensures serves { ServePromise D.keeps workers core (handed_back result.0)
         (exchange (R.remaining r.old) (R.remaining r.new) (W.contents w.entry.now) (W.contents result.1.now)) }
@@ -127,7 +128,7 @@ pub fn serve<T: Threads + Wait + Sync, R: Read, W: Write, D: Disk + Drop, G: Gat
 ) -> Result<Core<D>, ServeError<D>>
     requires idle { IsIdle (core_state_of core) }
     requires works { core.failed ≡ false }
-    requires few { workers ≤ 64 }
+    requires few { workers ≤ MOST_WORKERS }
     ensures { ServePromise D.keeps workers core (handed_back result)
         (exchange (R.remaining r.old) (R.remaining r.new) (W.contents w.old) (W.contents w.new)) }
 {

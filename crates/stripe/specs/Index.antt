@@ -8,6 +8,7 @@ use Rattle.stripe.specs.declared.blocks.IndexEntry.{IndexEntry}
 use Rattle.affinity.specs.declared.geometry.Geometry.{Geometry}
 use Rattle.stripe.specs.Entries.{entry_bytes, entry_in, fits_stripe}
 use Rattle.stripe.specs.Stripe.{BlockEntry, PrecedesBlock, ComesBefore, IsAscending}
+use Rattle.affinity.specs.declared.limits.TheConstants.{MOST_QUOTA}
 
 -- what is looked up where a slot is empty: no real block has no bytes
 abbrev pub no_block : Block
@@ -36,7 +37,7 @@ pub record IsStored (arena : ArenaView Block) (index : List IndexEntry) : Type 0
   pub once : (i : ℕ) → count_of i (slots_of index) ≤ 1
   pub hold : (i : ℕ) → 0 < count_of i (slots_of index) → IsTrue (holds_value arena i)
   pub free : length arena.free + length index ≡ capacity_of arena
-  pub small : capacity_of arena ≤ 64
+  pub small : capacity_of arena ≤ MOST_QUOTA
 
 -- n blocks come before block b of file f: the first n
 pub record IsSplit (es : List BlockEntry) (f b n : ℕ) : Type 0 where

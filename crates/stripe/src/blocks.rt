@@ -3,6 +3,7 @@ ghost use Rattle.std.specs.Prelude.{◌≡◌, ◌<◌, ◌≤◌, ◌&&◌, ◌
 ghost use Rattle.std.specs.List.{remove_range};
 ghost use Rattle.stripe.specs.Stripe.{StripeRule, HoldsContent, content_at};
 ghost use Rattle.stripe.specs.Index.{IsSplit, IsAt, IsGap, rewritten};
+ghost use Rattle.affinity.specs.declared.limits.TheConstants.{MOST_QUOTA};
 
 use arena::Arena;
 use protocol::Block;
@@ -39,7 +40,7 @@ impl Model for StripeParcel {
 impl StripeParcel {
     /// An empty stripe that can hold `quota` blocks.
     pub fn new(alloc: Global, quota: usize) -> Result<StripeParcel, AllocError>
-        requires most { quota ≤ 64 }
+        requires most { quota ≤ MOST_QUOTA }
         ensures { IfOk result (λ s. s ≡ record { quota = quota; entries = [] }) }
     {
         // An arena with 0 chains: the index has the order.
@@ -111,7 +112,7 @@ impl StripeParcel {
     /// How many blocks come before block `b` of file `f`.
     fn count_before(&self, f: usize, b: usize) -> usize
         ensures parts { IsSplit self.now.entries f b result }
-        ensures most { length self.now.entries ≤ 64 }
+        ensures most { length self.now.entries ≤ MOST_QUOTA }
         ensures kept { StripeRule self.now }
     {
         self.index.partition_point(|index_entry| {
@@ -123,7 +124,7 @@ impl StripeParcel {
     /// The position of a block in the index, or as `Err` the one at which it would be inserted.
     fn find(&self, f: u16, b: u16) -> Result<usize, usize>
         ensures found { MatchResult result (IsAt self.now.entries f b) (IsGap self.now.entries f b) }
-        ensures most { length self.now.entries ≤ 64 }
+        ensures most { length self.now.entries ≤ MOST_QUOTA }
         ensures kept { StripeRule self.now }
     {
         let n = self.count_before(usize::from(f), usize::from(b));

@@ -1,6 +1,8 @@
 //! The words of the table, each by its number, and the values of a place's word.
 ghost use Rattle.std.specs.Prelude.{◌≡◌, ◌%◌, ◌^◌};
 
+use affinity::limits::MOST_WORKERS;
+
 /// The word that is 0 at first, and 1 once the bench is stopped.
 pub const STOP: usize = 0;
 
@@ -23,8 +25,8 @@ pub const SLEPT_AT: usize = 5;
 /// How many words there are before those of the places.
 pub const FIRST_PLACE: usize = 6;
 
-/// The most places that a bench may have.
-pub const MOST_PLACES: usize = 64;
+/// The most places that a bench may have: one for each worker.
+pub const MOST_PLACES: usize = MOST_WORKERS as usize;
 
 /// A place's word: nothing is lent there.
 pub const EMPTY: u64 = 0;

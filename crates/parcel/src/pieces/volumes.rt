@@ -7,6 +7,7 @@ ghost use Rattle.parcel.specs.Shown.{shown_label};
 use crate::parts::files_of;
 use crate::{Label, Vol};
 use affinity::Geometry;
+use affinity::limits::MOST_FILES;
 use byteorder::{ByteOrder, LittleEndian};
 use device_map::VOLUME_PIECE_SIZE;
 use image::layout::VERSION;
@@ -43,7 +44,7 @@ fn label_of(volume: &Vol) -> [u8; LABEL_SIZE]
 fn all_files(g: &Geometry) -> u64
     ensures { result ≡ 2 ^ g.now.files - 1 }
 {
-    u64::MAX >> (64 - g.files)
+    u64::MAX >> (MOST_FILES - g.files)
 }
 
 /// The label in the bytes of a volume's piece. Before version 2 there is none, and zeros are given for it.

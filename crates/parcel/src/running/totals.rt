@@ -5,6 +5,7 @@ ghost use Rattle.parcel.specs.Fits.{FitsAggregate, FitsLogical, FitsRoot, FitsVo
 ghost use Rattle.parcel.specs.Shown.{blocks_of, aggregate_facts, child_facts, root_facts, volume_facts};
 ghost use Rattle.stripe.specs.Stripe.{StripeRule};
 ghost use Rattle.parcel.specs.Totals.{block_total, entry_count, sum_totals, totals_of};
+ghost use Rattle.affinity.specs.declared.limits.TheConstants.{MOST_QUOTA};
 
 use crate::{Aggr, Logical, Root, StripeParcel, Vol};
 use affinity::Geometry;
@@ -42,7 +43,7 @@ impl Totals {
 
 /// How many blocks lie in a stripe: none where it is lent.
 fn entry_count(node: &Option<StripeParcel>) -> u32
-    requires { IfSome node.now (λ p. p.quota ≤ 64) }
+    requires { IfSome node.now (λ p. p.quota ≤ MOST_QUOTA) }
     ensures count { result ≡ entry_count node.now }
     ensures kept { IfSome node.now StripeRule }
 {

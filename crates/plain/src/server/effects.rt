@@ -6,6 +6,7 @@ ghost use Rattle.protocol.specs.declared.messages.Msg.{Msg};
 ghost use Rattle.message.specs.Heads.{message_without_data, has_data};
 ghost use Rattle.meaning.specs.Serial.{refusal, effect};
 ghost use Rattle.plain.specs.Server.{server_state, HasRightCounts, IsConsistent};
+ghost use Rattle.affinity.specs.declared.limits.TheConstants.{MOST_FILES};
 
 use super::{Server, Volume};
 use affinity::{Geometry, Kind};
@@ -44,7 +45,7 @@ impl Server {
     /// Makes a file in a volume that is made.
     pub(super) fn insert_file(&mut self, a: u16, v: u16, f: u16)
         requires made { (server_state self.old).made (a, v) ≡ true }
-        requires file { f < 64 }
+        requires file { f < MOST_FILES }
         ensures state { server_state self.new ≡ effect (server_state self.old) (Msg.Create a v f) }
         ensures counted { (g : Geometry) → HasRightCounts g self.old → HasRightCounts g self.new }
     {

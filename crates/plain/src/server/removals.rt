@@ -8,6 +8,7 @@ ghost use Rattle.meaning.specs.State.{BlockKey, one_if, is_block_of, is_block_of
 ghost use Rattle.meaning.specs.Serial.{effect};
 ghost use Rattle.plain.specs.Server.{StripeKey, is_stripe, server_state, noted, HasRightCounts, IsConsistent};
 ghost use Rattle.meaning.specs.Removals.{without_blocks};
+ghost use Rattle.affinity.specs.declared.limits.TheConstants.{MOST_FILES};
 
 use super::Server;
 use super::places::Place;
@@ -67,7 +68,7 @@ impl Server {
 
     /// Removes a file with its blocks. It takes no memory.
     pub(super) fn remove_file(&mut self, g: &Geometry, a: u16, v: u16, f: u16)
-        requires file { f < 64 }
+        requires file { f < MOST_FILES }
         requires made { (server_state self.old).made (a, v) ≡ true }
         requires sound { IsConsistent g.now self.old }
         ensures state { server_state self.new ≡ effect (server_state self.old) (Msg.Delete a v f) }
