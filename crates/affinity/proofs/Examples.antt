@@ -8,6 +8,7 @@ use Rattle.affinity.specs.declared.geometry.Geometry.{Geometry}
 use Rattle.affinity.specs.Path.{are_related, serial, aggregate, volume, logical, stripe, label}
 use Rattle.affinity.specs.Place.{is_in_range, path_of_kind}
 use Rattle.affinity.specs.declared.kinds.Kind.TheVariants.{MakeVol, DropVol, Create, Delete, Seal, Unseal, Write, Punch, Read, List as ListFiles, Usage, Summary, SetLabel, Label}
+use Rattle.affinity.specs.declared.limits.TheConstants.{MOST_AGGREGATES, MOST_VOLUMES, MOST_STRIPES, MOST_WIDTH, MOST_FILES, MOST_BLOCKS, MOST_QUOTA, LEAST_RECORDS, MOST_RECORDS, MOST_WORKERS, MOST_SLOTS, VOLUME_AFFINITIES, AGGREGATE_AFFINITIES, MOST_AFFINITIES, MOST_PIECES}
 
 -- the stripes of some blocks, at the small geometry and at the default one
 first_block : stripe_of small 0 0 ≡ 0
@@ -150,3 +151,49 @@ last_volume_numbers = refl
 
 last_label_numbers : interval two_of_each (label 1 1) ≡ record { number = 22; end = 23 }
 last_label_numbers = refl
+
+-- ---- the limits, and what follows from them
+most_aggregates : MOST_AGGREGATES ≡ 4
+most_aggregates = refl
+
+most_volumes : MOST_VOLUMES ≡ 8
+most_volumes = refl
+
+most_stripes : MOST_STRIPES ≡ 8
+most_stripes = refl
+
+most_width : MOST_WIDTH ≡ 64
+most_width = refl
+
+most_files : MOST_FILES ≡ 64
+most_files = refl
+
+most_blocks : MOST_BLOCKS ≡ 256
+most_blocks = refl
+
+most_quota : MOST_QUOTA ≡ 64
+most_quota = refl
+
+least_records : LEAST_RECORDS ≡ 4
+least_records = refl
+
+most_records : MOST_RECORDS ≡ 1024
+most_records = refl
+
+most_workers : MOST_WORKERS ≡ 64
+most_workers = refl
+
+most_slots : MOST_SLOTS ≡ 1024
+most_slots = refl
+
+volume_affinities : VOLUME_AFFINITIES ≡ 11
+volume_affinities = refl
+
+aggregate_affinities : AGGREGATE_AFFINITIES ≡ 89
+aggregate_affinities = refl
+
+most_affinities : MOST_AFFINITIES ≡ 357
+most_affinities = refl
+
+most_pieces : MOST_PIECES ≡ 288
+most_pieces = refl

@@ -4,7 +4,7 @@ use Rattle.std.proofs.lemmas.Grind.{common_steps}
 use Rattle.std.proofs.lemmas.Nat.{mod_below}
 use Rattle.std.specs.Prelude.{List}
 use Rattle.affinity.specs.Geometry.{stripe_of}
-use Rattle.affinity.specs.Interval.{IsPath}
+use Rattle.affinity.specs.Path.{IsPath}
 use Rattle.affinity.specs.Place.{is_in_range, path_of_kind, path_of_numbers}
 use Rattle.affinity.specs.declared.kinds.Kind.{Kind}
 use Rattle.affinity.specs.declared.kinds.Kind.TheVariants.{MakeVol, DropVol, Write, Punch, Read, Summary}

@@ -6,8 +6,8 @@ use Rattle.std.specs.Prelude.{nat_le, ◌||◌, ◌-◌, ◌/◌, ◌%◌, if◌
 use Rattle.std.proofs.lemmas.Bool.{cases_order}
 use Rattle.std.proofs.lemmas.Bool.Decides.{nat_tests}
 use Rattle.std.proofs.lemmas.Nat.{row_fits}
-use Rattle.affinity.specs.Path.{Path, is_prefix, are_related, serial, aggregate, volume, logical, stripe, label}
-use Rattle.affinity.specs.Interval.{IsPath, IsAffinityOf, Interval, interval, contains, preorder_number, subtree_size, volume_number, volume_size, aggregate_size, affinity_count}
+use Rattle.affinity.specs.Path.{Path, is_prefix, are_related, serial, aggregate, volume, logical, stripe, label, IsPath}
+use Rattle.affinity.specs.Interval.{IsAffinityOf, Interval, interval, contains, preorder_number, subtree_size, volume_number, volume_size, aggregate_size, affinity_count}
 use Rattle.affinity.specs.declared.geometry.Geometry.{Geometry}
 
 -- ---- among the paths of one volume

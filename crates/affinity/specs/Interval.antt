@@ -1,7 +1,7 @@
 -- Statement for engineers: Affinities as intervals of numbers. The tree of a server is numbered in preorder: an affinity and all that lie
 -- below it have the numbers from its own number, which is the least of them, up to its end, the end excluded.
 use Rattle.std.specs.Prelude.{◌≡◌, ℕ, zero, suc, ◌+◌, ◌*◌, ◌<◌, [], ◌∷◌, Bool, ◌&&◌, nat_le, nat_lt}
-use Rattle.affinity.specs.Path.{Path}
+use Rattle.affinity.specs.Path.{Path, IsPath}
 use Rattle.affinity.specs.declared.geometry.Geometry.{Geometry}
 
 -- the number of an affinity, and the first number after those below it
@@ -20,16 +20,6 @@ aggregate_size g = 1 + g.volumes * volume_size g
 -- how many affinities a server has: itself, and those of its aggregates
 abbrev pub affinity_count : Geometry → ℕ
 affinity_count g = 1 + g.aggregates * aggregate_size g
-
--- The path is that of an affinity of the geometry: each number is below its limit. A third number is 0 (files and blocks) or 1 (the label).
-abbrev pub IsPath : Geometry → Path → Type 0
-IsPath g [] = Unit {0}
-IsPath g (a ∷ []) = a < g.aggregates
-IsPath g (a ∷ v ∷ []) = (a < g.aggregates) × (v < g.volumes)
-IsPath g (a ∷ v ∷ zero ∷ []) = (a < g.aggregates) × (v < g.volumes)
-IsPath g (a ∷ v ∷ zero ∷ s ∷ []) = (a < g.aggregates) × (v < g.volumes) × (s < g.stripes)
-IsPath g (a ∷ v ∷ suc zero ∷ []) = (a < g.aggregates) × (v < g.volumes)
-IsPath g _ = ⊥
 
 -- the number of the affinity of volume v of aggregate a
 abbrev pub volume_number : Geometry → ℕ → ℕ → ℕ

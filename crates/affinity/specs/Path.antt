@@ -1,5 +1,6 @@
 -- Statement for clients: Paths name the affinities of a server: each begins with the paths of those above it.
-use Rattle.std.specs.Prelude.{ℕ, Bool, true, false, ◌&&◌, ◌||◌, ◌==◌, List, [], ◌∷◌}
+use Rattle.std.specs.Prelude.{ℕ, zero, suc, ◌<◌, Bool, true, false, ◌&&◌, ◌||◌, ◌==◌, List, [], ◌∷◌}
+use Rattle.affinity.specs.declared.geometry.Geometry.{Geometry}
 
 -- the numbers from the root down: the aggregate, the volume, and 0 (the volume's files and blocks) or 1 (its label); after 0 the stripe.
 -- A path may end after any of these.
@@ -37,3 +38,13 @@ stripe a v s = a ∷ v ∷ 0 ∷ s ∷ []
 -- a volume's label
 abbrev pub label : ℕ → ℕ → Path
 label a v = a ∷ v ∷ 1 ∷ []
+
+-- The path is that of an affinity of the geometry: each number is below its limit. A third number is 0 (files and blocks) or 1 (the label).
+abbrev pub IsPath : Geometry → Path → Type 0
+IsPath g [] = Unit {0}
+IsPath g (a ∷ []) = a < g.aggregates
+IsPath g (a ∷ v ∷ []) = (a < g.aggregates) × (v < g.volumes)
+IsPath g (a ∷ v ∷ zero ∷ []) = (a < g.aggregates) × (v < g.volumes)
+IsPath g (a ∷ v ∷ zero ∷ s ∷ []) = (a < g.aggregates) × (v < g.volumes) × (s < g.stripes)
+IsPath g (a ∷ v ∷ suc zero ∷ []) = (a < g.aggregates) × (v < g.volumes)
+IsPath g _ = ⊥

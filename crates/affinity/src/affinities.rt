@@ -1,7 +1,7 @@
 //! Affinities as numbers, and which of them are related.
 ghost use Rattle.std.specs.Prelude.{◌≡◌, ◌+◌, ◌^◌, ◌<◌, ◌≤◌, ◌||◌};
-ghost use Rattle.affinity.specs.Interval.{Interval, IsPath, IsAffinity, IsAffinityOf, contains, volume_size, aggregate_size, volume_number};
-ghost use Rattle.affinity.specs.Path.{Path, are_related};
+ghost use Rattle.affinity.specs.Interval.{Interval, IsAffinity, IsAffinityOf, contains, volume_size, aggregate_size, volume_number};
+ghost use Rattle.affinity.specs.Path.{Path, are_related, IsPath};
 ghost use Rattle.affinity.specs.Place.{path};
 ghost use Rattle.affinity.specs.declared.geometry.Geometry.{Geometry};
 ghost use Rattle.affinity.specs.declared.limits.TheConstants.{AGGREGATE_AFFINITIES, MOST_AFFINITIES, VOLUME_AFFINITIES};

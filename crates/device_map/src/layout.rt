@@ -40,7 +40,8 @@ pub fn half_size(g: &Geometry) -> usize
 /// The size of each image: at most that of 32 volumes with 8 full stripes, some 8.5 million.
 pub fn image_size(g: &Geometry) -> usize
     ensures size { result ≡ image_size g.now }
-    ensures most { result ≤ IMAGE_HEAD_SIZE + MOST_AGGREGATES * MOST_VOLUMES * (VOLUME_PIECE_SIZE + MOST_STRIPES * (MOST_QUOTA * BLOCK_ENTRY_SIZE)) }
+    ensures most { result
+        ≤ IMAGE_HEAD_SIZE + MOST_AGGREGATES * MOST_VOLUMES * (VOLUME_PIECE_SIZE + MOST_STRIPES * (MOST_QUOTA * BLOCK_ENTRY_SIZE)) }
 {
     let volumes = usize::from(g.aggregates) * usize::from(g.volumes);
     let stripes = usize::from(g.stripes) * (usize::from(g.quota) * BLOCK_ENTRY_SIZE);

@@ -4,8 +4,7 @@ use Rattle.std.proofs.Common.{◌≡◌, Bool, true, false, [], ◌∷◌, refl,
 use Rattle.std.specs.Prelude.{◌||◌, not, Option, None, Some, is_some}
 use Rattle.std.proofs.lemmas.Bool.{cond-false, cond-true, false_from_ne_true, not_from_false, not-true, or_cases, or_left, or_parts, or_right, true≢false}
 use Rattle.affinity.specs.declared.geometry.Geometry.{Geometry}
-use Rattle.affinity.specs.Interval.{IsPath}
-use Rattle.affinity.specs.Path.{Path, is_prefix, are_related}
+use Rattle.affinity.specs.Path.{Path, is_prefix, are_related, IsPath}
 use Rattle.affinity.proofs.Paths.{unrelated_below, unrelated_turned}
 use Rattle.affinity.proofs.Placed.{IsPath-path_of_kind}
 use Rattle.protocol.specs.declared.messages.Msg.{Msg}

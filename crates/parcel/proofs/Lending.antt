@@ -5,8 +5,7 @@ use Rattle.std.specs.Prelude.{◌==◌, Option, None, Some, is_some, Result, Ok,
 use Rattle.std.proofs.lemmas.Bool.{and_parts, cond-true, eq-eqb, eqb-true, true≢false}
 use Rattle.std.proofs.lemmas.List.{append-nil}
 use Rattle.affinity.specs.declared.geometry.Geometry.{Geometry}
-use Rattle.affinity.specs.Interval.{IsPath}
-use Rattle.affinity.specs.Path.{Path, is_prefix}
+use Rattle.affinity.specs.Path.{Path, is_prefix, IsPath}
 use Rattle.parcel.specs.Fits.{Fits, IsKindOf}
 use Rattle.parcel.specs.Nodes.{Nodes, child_nodes, root_nodes, parcels_nodes, put_at, PutsBack}
 use Rattle.parcel.specs.Parts.{TakesParcels, Puts}

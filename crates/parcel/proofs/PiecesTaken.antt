@@ -4,8 +4,7 @@ use Rattle.std.proofs.Common.{◌≡◌, ℕ, zero, suc, Bool, true, false, ◌&
 use Rattle.std.specs.Prelude.{◌↔◌, ◌==◌, if◌then◌else◌, IfSome, IsTrue}
 use Rattle.meaning.proofs.Keys.{picks_volume}
 use Rattle.affinity.specs.Geometry.{stripe_of}
-use Rattle.affinity.specs.Interval.{IsPath}
-use Rattle.affinity.specs.Path.{is_prefix, volume}
+use Rattle.affinity.specs.Path.{is_prefix, volume, IsPath}
 use Rattle.affinity.specs.declared.geometry.Geometry.{Geometry}
 use Rattle.protocol.specs.Messages.{AreSizedBytes}
 use Rattle.protocol.specs.Replies.{has_file}

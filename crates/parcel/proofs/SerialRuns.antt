@@ -3,8 +3,7 @@ use Rattle.std.proofs.Common.{◌≡◌, true, false, [], refl, sym, ap, subst, 
 use Rattle.std.specs.Prelude.{◌&&◌, not, None, is_some}
 use Rattle.std.proofs.lemmas.Bool.{and_parts, cond-false, or_left, or_right}
 use Rattle.affinity.specs.declared.geometry.Geometry.{Geometry}
-use Rattle.affinity.specs.Interval.{IsPath}
-use Rattle.affinity.specs.Path.{Path, is_prefix, are_related}
+use Rattle.affinity.specs.Path.{Path, is_prefix, are_related, IsPath}
 use Rattle.protocol.specs.Messages.{path_of, IsMessage}
 use Rattle.meaning.specs.State.{State, IsState}
 use Rattle.meaning.specs.Serial.{next_state}

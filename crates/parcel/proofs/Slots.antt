@@ -5,8 +5,7 @@ use Rattle.std.specs.Option.{option_and_then, option_map}
 use Rattle.std.specs.Vec.{with_item}
 use Rattle.std.proofs.lemmas.Bool.{eqb-true, true≢false}
 use Rattle.std.proofs.lemmas.List.{append-nil, get_or_read, length-set}
-use Rattle.affinity.specs.Path.{Path, is_prefix, aggregate, volume, logical}
-use Rattle.affinity.specs.Interval.{IsPath}
+use Rattle.affinity.specs.Path.{Path, is_prefix, aggregate, volume, logical, IsPath}
 use Rattle.affinity.specs.declared.geometry.Geometry.{Geometry}
 use Rattle.parcel.specs.Fits.{FitsStripe, FitsLogical, FitsVolume, FitsAggregate, FitsRoot}
 use Rattle.parcel.specs.Lends.{aggregate_of_tree, volume_of_tree, logical_of_tree, with_aggregate, with_volume, with_logical}

@@ -4,8 +4,7 @@ use Rattle.std.specs.Prelude.{None, Some, is_some, slice_index_or, IfSome, IsSom
 use Rattle.std.specs.Vec.{with_item}
 use Rattle.std.proofs.lemmas.Bool.{and_from, eq-eqb, or_left, true≢false}
 use Rattle.std.proofs.lemmas.List.{append-nil}
-use Rattle.affinity.specs.Interval.{IsPath}
-use Rattle.affinity.specs.Path.{Path, is_prefix, aggregate, volume, logical, stripe, label}
+use Rattle.affinity.specs.Path.{Path, is_prefix, aggregate, volume, logical, stripe, label, IsPath}
 use Rattle.affinity.specs.declared.geometry.Geometry.{Geometry}
 use Rattle.stripe.specs.Stripe.{StripePart}
 use Rattle.parcel.specs.Fits.{Fits, FitsStripe, FitsLogical, FitsVolume, FitsAggregate, FitsRoot, IsKindOf, IsWholeLogical, IsWholeVolume, IsWholeAggregate, IsWholeRoot}

@@ -1,8 +1,7 @@
 -- Statement for engineers: How a tree agrees with the serial server's state while parcels are out at several places.
 use Rattle.std.specs.Prelude.{◌≡◌, Bool, true, false, not, ◌||◌, None}
 use Rattle.affinity.specs.declared.geometry.Geometry.{Geometry}
-use Rattle.affinity.specs.Interval.{IsPath}
-use Rattle.affinity.specs.Path.{Path, is_prefix, are_related}
+use Rattle.affinity.specs.Path.{Path, is_prefix, are_related, IsPath}
 use Rattle.meaning.specs.Subtrees.{AgreeOn}
 use Rattle.meaning.specs.State.{State, IsState}
 use Rattle.parcel.specs.Nodes.{Nodes, tree_state}

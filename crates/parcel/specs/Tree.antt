@@ -1,8 +1,7 @@
 -- Statement for operators: The tree of a server's parcels, some of which may be out, and what it is to lend and to restore.
 use Rattle.std.specs.Prelude.{◌≡◌, zero, true, false, [], ◌∷◌, ◌++◌, Option, None, is_some, IfSome}
 use Rattle.affinity.specs.declared.geometry.Geometry.{Geometry}
-use Rattle.affinity.specs.Interval.{IsPath}
-use Rattle.affinity.specs.Path.{Path, is_prefix, are_related, volume, logical}
+use Rattle.affinity.specs.Path.{Path, is_prefix, are_related, volume, logical, IsPath}
 use Rattle.meaning.specs.State.{State, IsState}
 use Rattle.parcel.specs.Fits.{Fits, FitsRoot, IsKindOf}
 use Rattle.parcel.specs.Nodes.{Nodes, child_nodes, root_nodes, parcels_nodes, node_made, node_sealed, node_files, tree_state, TakesOut, PutsBack}

@@ -2,8 +2,7 @@
 //! function here does anything; its contract is the law.
 
 ghost use Rattle.std.specs.Prelude.{◌≡◌, ◌++◌, [], is_some, Bool, false, true};
-ghost use Rattle.affinity.specs.Interval.{IsPath};
-ghost use Rattle.affinity.specs.Path.{Path, are_related};
+ghost use Rattle.affinity.specs.Path.{Path, are_related, IsPath};
 ghost use Rattle.affinity.specs.declared.geometry.Geometry.{Geometry};
 ghost use Rattle.protocol.specs.declared.messages.Msg.{Msg};
 ghost use Rattle.protocol.specs.Messages.{IsMessage, path_of};

@@ -4,8 +4,8 @@ use Rattle.std.proofs.Common.{◌≡◌, ◌∙◌, ℕ, zero, suc, ◌<◌, Boo
 use Rattle.std.specs.Prelude.{◌==◌}
 use Rattle.std.specs.List.{list_any}
 use Rattle.std.proofs.lemmas.Bool.{eq-eqb, eqb-true, and_from, true≢false}
-use Rattle.affinity.specs.Path.{Path, is_prefix}
-use Rattle.affinity.specs.Interval.{Interval, IsPath, IsAffinity, IsAffinityOf, contains, preorder_number, affinity_count}
+use Rattle.affinity.specs.Path.{Path, is_prefix, IsPath}
+use Rattle.affinity.specs.Interval.{Interval, IsAffinity, IsAffinityOf, contains, preorder_number, affinity_count}
 use Rattle.affinity.specs.declared.geometry.Geometry.{Geometry}
 use Rattle.affinity.proofs.Paths.{is_prefix-refl}
 use Rattle.affinity.proofs.Preorder.{is_prefix-contains, path_at, path_at-number}

@@ -1,8 +1,8 @@
 //! Conflicts: whether a waiting message is kept back by others.
 ghost use Rattle.std.specs.Prelude.{◌≡◌, ℕ, true, false};
 ghost use Rattle.std.specs.List.{list_any};
-ghost use Rattle.affinity.specs.Interval.{IsPath, IsAffinity, IsAffinityOf, contains, preorder_number};
-ghost use Rattle.affinity.specs.Path.{Path};
+ghost use Rattle.affinity.specs.Interval.{IsAffinity, IsAffinityOf, contains, preorder_number};
+ghost use Rattle.affinity.specs.Path.{Path, IsPath};
 ghost use Rattle.affinity.specs.Place.{path};
 ghost use Rattle.run_queue.specs.Invariant.{ArePlacedInOrder};
 ghost use Rattle.run_queue.specs.Order.{is_conflict_free};

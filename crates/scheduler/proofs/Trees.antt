@@ -7,8 +7,7 @@ use Rattle.std.proofs.lemmas.List.{take-append-drop}
 use Rattle.std.proofs.lemmas.List.Folds.{list_any-append}
 use Rattle.std.proofs.Math.Bool.{or-false, or_comm}
 use Rattle.affinity.proofs.Paths.{unrelated_below, unrelated_turned}
-use Rattle.affinity.specs.Interval.{IsPath}
-use Rattle.affinity.specs.Path.{Path, are_related, is_prefix}
+use Rattle.affinity.specs.Path.{Path, are_related, is_prefix, IsPath}
 use Rattle.affinity.specs.declared.geometry.Geometry.{Geometry}
 use Rattle.affinity.proofs.Elements.{all_weaker, any_moved}
 use Rattle.histories.specs.Eligible.{next_eligible}

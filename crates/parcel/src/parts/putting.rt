@@ -1,6 +1,6 @@
 //! Parts are put back into the tree, each into its own slot.
 ghost use Rattle.std.specs.Prelude.{IfSome};
-ghost use Rattle.affinity.specs.Interval.{IsPath};
+ghost use Rattle.affinity.specs.Path.{IsPath};
 ghost use Rattle.affinity.specs.Place.{path};
 ghost use Rattle.parcel.specs.Fits.{Fits, IsKindOf, FitsRoot};
 ghost use Rattle.parcel.specs.Parts.{Fills, PutsAt};

@@ -1,6 +1,6 @@
 //! Parts are taken out of the tree, where nothing of them, above them or below them is out.
 ghost use Rattle.std.specs.Prelude.{IfSome};
-ghost use Rattle.affinity.specs.Interval.{IsPath};
+ghost use Rattle.affinity.specs.Path.{IsPath};
 ghost use Rattle.affinity.specs.Place.{path};
 ghost use Rattle.parcel.specs.Fits.{FitsRoot};
 ghost use Rattle.parcel.specs.Parts.{TakesWhole, TakesAt};

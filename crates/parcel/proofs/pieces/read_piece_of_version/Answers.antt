@@ -1,8 +1,7 @@
 -- The bytes were read into the volume of the piece; if they are good, the state is the one before, with the piece taken in.
 use Rattle.std.proofs.Common.{◌≡◌, ℕ, List, true≢false, None, refl, sym, ◌∙◌, ap, subst}
-use Rattle.affinity.specs.Interval.{IsPath}
 use Rattle.affinity.specs.declared.geometry.Geometry.{Geometry}
-use Rattle.affinity.specs.Path.{volume}
+use Rattle.affinity.specs.Path.{volume, IsPath}
 use Rattle.affinity.proofs.Elements.{all_bytes}
 use Rattle.meaning.specs.State.{State, IsState}
 use Rattle.image.specs.Pieces.{aggregate_of, volume_of, part_of, piece_of, part_piece, piece_part_size, with_part, with_piece}
