@@ -8,7 +8,7 @@ use Rattle.parcel.specs.Run.{JobView}
 use Rattle.parcel.specs.declared.job.Done.{Done}
 use Rattle.workers.specs.Rule.{LentJobs, lent_at}
 use Rattle.workers.specs.Steps.{SeatState, Offers, job_on}
-use Rattle.workers.specs.Seats.{IsBench, IsDispatchSeat, lent_of, empty_slots, empty_slots_from}
+use Rattle.workers.specs.Seats.{IsBench, IsDispatchSeat, places_of, lent_of, empty_slots, empty_slots_from}
 use Rattle.workers.specs.declared.job_cell.CellContent.{CellContent}
 use Rattle.workers.specs.declared.job_cell.CellContent.TheVariants.{Offered, Delivered}
 use Rattle.workers.specs.declared.seats.SeatRole.TheVariants.{Dispatcher, Claimed}
@@ -58,7 +58,7 @@ pub rotated_to_end : (j : ℕ) {n : ℕ} {ls : LentJobs} {m w : SeatState} → m
     ≡ (Dispatcher 0 ls, empty_slots 0 ls)
 rotated_to_end j {n} {ls} e f long = f ∙ (ap (λ (y : SeatState). (y.0, empty_slots_from n (lent_of y.0))) e ∙ λ i. (Dispatcher 0 ls, spare_from_end n ls long i))
 
-pub dispatch_seat_of : {z : TableId} {m : SeatState} {fs : List Bool} {ls : LentJobs} → IsBench z → m ≡ (Dispatcher 0 ls, empty_slots 0 ls) → fs ≡ map is_some ls → length fs ≡ z.slots
+pub dispatch_seat_of : {z : TableId} {m : SeatState} {fs : List Bool} {ls : LentJobs} → IsBench z → m ≡ (Dispatcher 0 ls, empty_slots 0 ls) → fs ≡ map is_some ls → length fs ≡ places_of z
     → IsDispatchSeat z m fs
 dispatch_seat_of bench e f long = grind (arith, common_steps)
 
@@ -70,7 +70,7 @@ mapped_length (x ∷ xs) = ap suc (mapped_length xs)
 pub counted : (fs : List Bool) (ls : LentJobs) → fs ≡ map is_some ls → length fs ≡ length ls
 counted fs ls e = ap length e ∙ mapped_length ls
 
-pub within : {z : TableId} {m : SeatState} {fs : List Bool} (k : ℕ) → IsDispatchSeat z m fs → k < z.slots → k < length (lent_of m.0)
+pub within : {z : TableId} {m : SeatState} {fs : List Bool} (k : ℕ) → IsDispatchSeat z m fs → k < places_of z → k < length (lent_of m.0)
 within {m = m} {fs = fs} k d h = let e = counted fs (lent_of m.0) d.flagged in let p = d.places in omega arith
 
 pub one_result : (a b : Done) → Some (Delivered a) ≡ Some (Delivered b) → a ≡ b

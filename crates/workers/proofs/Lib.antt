@@ -1,4 +1,5 @@
 -- The lemmas of this crate: the rule of the bench at each step, and the dispatcher's seat with its slots.
+mod Examples
 pub mod Rows
 pub mod Keeps
 pub mod Turning

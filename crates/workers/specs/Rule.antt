@@ -10,6 +10,7 @@ use Rattle.workers.specs.declared.job_cell.CellContent.{CellContent}
 use Rattle.workers.specs.declared.job_cell.CellContent.TheVariants.{Offered, Delivered}
 use Rattle.workers.specs.declared.seats.SeatRole.{SeatRole}
 use Rattle.workers.specs.declared.seats.SeatRole.TheVariants.{Dispatcher, Claimed}
+use Rattle.workers.specs.declared.words.TheConstants.{FIRST_PLACE, EMPTY, OFFERED, CLAIMED, DELIVERED}
 
 -- the table as plain data: its words, its slots (`homes`), and what each seat knows (`views`)
 abbrev pub BenchTable : Type 0
@@ -26,21 +27,21 @@ LentJobs = List (Option JobView)
 abbrev pub lent_at : LentJobs → ℕ → Option JobView
 lent_at lent k = slice_index_or lent k None
 
--- Word 0 is the stop word; 1 and 2 are the event counts of offers and of deliveries; 3 and 4 count the workers that sleep and that spin;
--- 5 is the count of deliveries at which the dispatcher slept last. The rule says nothing of these six. Behind them each place has its word:
--- `word_index k` is the position of that of place k, not its value.
+-- The rule says nothing of the words before `FIRST_PLACE`, which serve to wait and to stop (`src/words.rt`). Behind them each place has its
+-- word: `word_index k` is the position of that of place k, not its value.
 abbrev pub word_index : ℕ → ℕ
-word_index k = k + 6
+word_index k = k + FIRST_PLACE
 
 -- The state of place k, by its word, by what is lent there and by where its slot is. While the bench is being opened, the dispatcher's
 -- seat takes the slots from the last place down: those of the places below `untaken` are still in the table. Once the bench is open,
 -- `untaken` is 0.
 pub data PlaceState (untaken k word : ℕ) (lent : Option JobView) (slot : SlotState) : Type 0 where
-  is_empty : word ≡ 0 → lent ≡ None → (k < untaken → slot ≡ some None) → (untaken ≤ k → slot ≡ none) → PlaceState untaken k word lent slot
-  is_offered : (job : JobView) → word ≡ 1 → lent ≡ Some job → slot ≡ some (Some (Offered job)) → PlaceState untaken k word lent slot
-  is_claimed : (job : JobView) → word ≡ 2 → lent ≡ Some job → slot ≡ none → PlaceState untaken k word lent slot
-  is_delivered : (job : JobView) (done : Done) → word ≡ 3 → lent ≡ Some job → slot ≡ some (Some (Delivered done)) → IsJobRun job done
+  is_empty : word ≡ EMPTY → lent ≡ None → (k < untaken → slot ≡ some None) → (untaken ≤ k → slot ≡ none)
       → PlaceState untaken k word lent slot
+  is_offered : (job : JobView) → word ≡ OFFERED → lent ≡ Some job → slot ≡ some (Some (Offered job)) → PlaceState untaken k word lent slot
+  is_claimed : (job : JobView) → word ≡ CLAIMED → lent ≡ Some job → slot ≡ none → PlaceState untaken k word lent slot
+  is_delivered : (job : JobView) (done : Done) → word ≡ DELIVERED → lent ≡ Some job → slot ≡ some (Some (Delivered done))
+      → IsJobRun job done → PlaceState untaken k word lent slot
 
 -- There is one dispatcher, which knows what is lent. A worker that has claimed a place has the job that is lent there, and no other worker
 -- has claimed that place.
@@ -53,7 +54,7 @@ pub record BenchRule (s : BenchTable) : Type 0 where
   pub dispatcher : get_elem? s.views dispatch_seat ≡ some (Dispatcher untaken lent)
   pub no_other : (seat r : ℕ) (l : LentJobs) → get_elem? s.views seat ≡ some (Dispatcher r l) → seat ≡ dispatch_seat
   pub claims : (seat k : ℕ) (job : JobView) → get_elem? s.views seat ≡ some (Claimed k job)
-      → (slice_index s.words (word_index k) ≡ 2) × (lent_at lent k ≡ Some job)
+      → (slice_index s.words (word_index k) ≡ CLAIMED) × (lent_at lent k ≡ Some job)
   pub one_claim : (seat other k : ℕ) (job job' : JobView) → get_elem? s.views seat ≡ some (Claimed k job)
       → get_elem? s.views other ≡ some (Claimed k job') → seat ≡ other
   pub places : (k : ℕ) (slot : SlotState) → get_elem? s.homes k ≡ some slot

@@ -9,15 +9,20 @@ use Rattle.workers.specs.declared.job_cell.CellContent.{CellContent}
 use Rattle.workers.specs.declared.job_cell.CellContent.TheVariants.{Delivered}
 use Rattle.workers.specs.declared.seats.SeatRole.{SeatRole}
 use Rattle.workers.specs.declared.seats.SeatRole.TheVariants.{Dispatcher, Idle}
+use Rattle.workers.specs.declared.words.TheConstants.{FIRST_PLACE, MOST_PLACES}
 
 -- the dispatcher's seat: which bench it belongs to, and the job that is lent at each place
 pub record DispatchSeatView : Type 0 where
   pub bench : TableId
   pub lent : List (Option JobView)
 
--- a table that serves as a bench: six words and one for each of its places, of which there are at most 64
+-- how many places a bench has: its table has a slot for each
+abbrev pub places_of : TableId → ℕ
+places_of z = z.slots
+
+-- a table that serves as a bench: it has a word for each of its places, behind the words before `FIRST_PLACE`
 abbrev pub IsBench : TableId → Type 0
-IsBench z = (z.words ≡ z.slots + 6) × (z.slots ≤ 64)
+IsBench z = (z.words ≡ places_of z + FIRST_PLACE) × (places_of z ≤ MOST_PLACES)
 
 -- a seat at this table, which serves as a bench
 abbrev pub IsAtBench : TableId → TableId → Type 0
@@ -49,7 +54,7 @@ pub record IsDispatchSeat (z : TableId) (me : Me (Option CellContent) SeatRole) 
   pub bench : IsBench z
   pub seat : me ≡ (Dispatcher 0 (lent_of me.0), empty_slots 0 (lent_of me.0))
   pub flagged : flags ≡ map is_some (lent_of me.0)
-  pub places : length flags ≡ z.slots
+  pub places : length flags ≡ places_of z
 
 -- A dispatcher's seat that has just collected at place k, where a job was lent: it took the slot there, with the result of that job.
 pub record HasCollected (k : ℕ) (lent : List (Option JobView)) (me : Me (Option CellContent) SeatRole) : Type 0 where

@@ -1,5 +1,5 @@
 -- Statement for engineers: What a seat knows after each kind of step: a relation of the seat before, the number found and the seat after.
--- The bench is a table of slots, one for each place, each with an atomic number, its word: 0 empty, 1 offered, 2 claimed, 3 delivered. A
+-- The bench is a table of slots, one for each place, each with an atomic number, its word (`EMPTY`, `OFFERED`, `CLAIMED` or `DELIVERED`). A
 -- step finds the number that the word had.
 use Rattle.std.specs.Prelude.{◌≡◌, ◌≢◌, ℕ, List, ◌∷◌, slice_set, Option, None, Some}
 use Rattle.atomic_table.specs.Table.{Me, Step, rest}
@@ -11,6 +11,7 @@ use Rattle.workers.specs.declared.job_cell.CellContent.{CellContent}
 use Rattle.workers.specs.declared.job_cell.CellContent.TheVariants.{Offered, Delivered}
 use Rattle.workers.specs.declared.seats.SeatRole.{SeatRole}
 use Rattle.workers.specs.declared.seats.SeatRole.TheVariants.{Dispatcher, Idle, Claimed}
+use Rattle.workers.specs.declared.words.TheConstants.{OFFERED, DELIVERED}
 
 -- what a seat knows, and the slots that it has, the one taken last first
 abbrev pub SeatState : Type 0
@@ -30,23 +31,23 @@ TakesSlot k m w = w ≡ (Dispatcher k (lent_of m.0), (k, None) ∷ m.1)
 abbrev pub Offers : ℕ → SeatState → SeatState → Type 0
 Offers k m w = w ≡ (Dispatcher 0 (slice_set (lent_of m.0) k (job_on m.1)), rest m.1)
 
--- A try to claim: a worker takes the slot of place k with the job if it found the word 1 (offered); else nothing changes.
+-- A try to claim: a worker takes the slot of place k with the job if it found the word `OFFERED`; else nothing changes.
 abbrev pub Claims : ℕ → SeatState → ℕ → SeatState → Type 0
 Claims k m found w =
-    (found ≡ 1 → (job : JobView) × (w ≡ (Claimed k job, (k, Some (Offered job)) ∷ m.1)))
-    × (found ≢ 1 → w ≡ m)
+    (found ≡ OFFERED → (job : JobView) × (w ≡ (Claimed k job, (k, Some (Offered job)) ∷ m.1)))
+    × (found ≢ OFFERED → w ≡ m)
 
 -- The worker's slot goes back to the table with the result, and the worker is idle.
 abbrev pub Delivers : SeatState → SeatState → Type 0
 Delivers m w = w ≡ (Idle, rest m.1)
 
--- A try to collect: the dispatcher takes the slot of place k with the result of the job lent there if it found the word 3 (delivered); else
+-- A try to collect: the dispatcher takes the slot of place k with the result of the job lent there if it found the word `DELIVERED`; else
 -- nothing changes.
 abbrev pub Collects : ℕ → SeatState → ℕ → SeatState → Type 0
 Collects k m found w =
-    (found ≡ 3 → (job : JobView) × (done : Done) × (lent_at (lent_of m.0) k ≡ Some job) × IsJobRun job done
+    (found ≡ DELIVERED → (job : JobView) × (done : Done) × (lent_at (lent_of m.0) k ≡ Some job) × IsJobRun job done
     × (w ≡ (Dispatcher 0 (slice_set (lent_of m.0) k None), (k, Some (Delivered done)) ∷ m.1)))
-    × (found ≢ 3 → w ≡ m)
+    × (found ≢ DELIVERED → w ≡ m)
 
 -- The relation holds for the place whose word this step changes. `st.word` and `word_index k` are positions among the words, no values.
 abbrev pub OfPlace : {F : Type 0} → (ℕ → SeatState → ℕ → SeatState → Type 0) → Step F → SeatState → ℕ → SeatState → Type 0

@@ -6,7 +6,7 @@ ghost use Rattle.atomic_table.specs.Table.{rest};
 ghost use Rattle.parcel.specs.Run.{JobView, IsJobRun};
 ghost use Rattle.parcel.specs.declared.job.Done.{Done as TheDone};
 ghost use Rattle.workers.specs.Rule.{LentJobs, BenchRule, lent_at};
-ghost use Rattle.workers.specs.Seats.{IsAtBench, lent_of, idle};
+ghost use Rattle.workers.specs.Seats.{IsAtBench, lent_of, idle, places_of};
 ghost use Rattle.workers.specs.Steps.{TakesSlot, Offers, Claims, Delivers, Collects, OfPlace};
 ghost use Rattle.workers.specs.declared.job_cell.CellContent.TheVariants.{Offered, Delivered};
 ghost use Rattle.workers.specs.declared.seats.SeatRole.TheVariants.{Dispatcher, Idle, Claimed};
@@ -89,7 +89,7 @@ pub fn split(words: &Words, seat: &mut Seat) -> Seat
 /// Takes the slot of place k, the last place whose slot was not taken yet.
 pub fn take_slot(words: &Words, seat: &mut Seat, k: usize)
     requires bench { IsAtBench words.now.table_id seat.old.table_id }
-    requires place { k < words.now.table_id.slots }
+    requires place { k < places_of words.now.table_id }
     requires untaken { (lent : LentJobs) × (slots : _) × (seat.old.me ≡ (Dispatcher (k + 1) lent, slots)) × (lent_at lent k ≡ None) }
     ensures bench { seat.new.table_id ≡ seat.old.table_id }
     ensures take_slot { TakesSlot k seat.old.me seat.new.me }
@@ -100,7 +100,7 @@ pub fn take_slot(words: &Words, seat: &mut Seat, k: usize)
 /// Offers the job in the slot that the dispatcher's seat took last. The slot goes back to the table.
 pub fn offer(words: &Words, seat: &mut Seat, k: usize)
     requires bench { IsAtBench words.now.table_id seat.old.table_id }
-    requires place { k < words.now.table_id.slots }
+    requires place { k < places_of words.now.table_id }
     requires job { (lent : LentJobs) × (job : JobView) × (slots : _) × (seat.old.me ≡ (Dispatcher 0 lent, (k, Some (Offered job)) ∷ slots))
         × (lent_at lent k ≡ None) }
     ensures bench { seat.new.table_id ≡ seat.old.table_id }
@@ -112,7 +112,7 @@ pub fn offer(words: &Words, seat: &mut Seat, k: usize)
 /// Takes the job of place k, if it still has one that nobody claimed, and returns whether it did. It tries once.
 pub fn claim(words: &Words, seat: &mut Seat, k: usize) -> bool
     requires bench { IsAtBench words.now.table_id seat.old.table_id }
-    requires place { k < words.now.table_id.slots }
+    requires place { k < places_of words.now.table_id }
     requires idle { seat.old.me ≡ idle }
     ensures bench { seat.new.table_id ≡ seat.old.table_id }
     ensures won { IsTrue result → (job : JobView) × (seat.new.me ≡ (Claimed k job, (k, Some (Offered job)) ∷ [])) }
@@ -124,7 +124,7 @@ pub fn claim(words: &Words, seat: &mut Seat, k: usize) -> bool
 /// Delivers the result in the slot of the place that the seat has claimed.
 pub fn deliver(words: &Words, seat: &mut Seat, k: usize)
     requires bench { IsAtBench words.now.table_id seat.old.table_id }
-    requires place { k < words.now.table_id.slots }
+    requires place { k < places_of words.now.table_id }
     requires result { (job : JobView) × (done : TheDone) × (seat.old.me ≡ (Claimed k job, (k, Some (Delivered done)) ∷ []))
         × IsJobRun job done }
     ensures bench { seat.new.table_id ≡ seat.old.table_id }
@@ -136,7 +136,7 @@ pub fn deliver(words: &Words, seat: &mut Seat, k: usize)
 /// Takes the slot of place k with the result of its job, if that was delivered, and returns whether it did. It tries once.
 pub fn collect(words: &Words, seat: &mut Seat, k: usize) -> bool
     requires bench { IsAtBench words.now.table_id seat.old.table_id }
-    requires place { k < words.now.table_id.slots }
+    requires place { k < places_of words.now.table_id }
     requires dispatch_seat { (lent : LentJobs) × (slots : _) × (seat.old.me ≡ (Dispatcher 0 lent, slots)) }
     ensures bench { seat.new.table_id ≡ seat.old.table_id }
     ensures won { IsTrue result → (job : JobView) × (done : TheDone) × (lent_at (lent_of seat.old.me.0) k ≡ Some job) × IsJobRun job done

@@ -8,7 +8,7 @@ ghost use Rattle.std.specs.Prelude.{◌≡◌, ◌+◌, ◌<◌, ◌≤◌, [], 
 ghost use Rattle.atomic_table.specs.Table.{rest};
 ghost use Rattle.parcel.specs.Run.{JobView, IsJobRun};
 ghost use Rattle.workers.specs.Rule.{LentJobs, lent_at};
-ghost use Rattle.workers.specs.Seats.{IsAtBench, IsBench, IsDispatchSeat, HasCollected, lent_of, empty_slots};
+ghost use Rattle.workers.specs.Seats.{IsAtBench, IsBench, IsDispatchSeat, HasCollected, lent_of, places_of, empty_slots};
 ghost use Rattle.workers.specs.declared.job_cell.CellContent.TheVariants.{Delivered};
 ghost use Rattle.workers.specs.declared.seats.SeatRole.TheVariants.{Dispatcher};
 
@@ -22,8 +22,7 @@ use parcel::{Done, Job};
 use std::alloc::{AllocError, Global};
 use std::marker::Model;
 
-/// The table at which one dispatcher and its workers meet. A contract sees the table's identity; its `slots` is the number of
-/// places, and has nothing to do with the `slots` for lines.
+/// The table at which one dispatcher and its workers meet. A contract sees the table's identity, and `places_of` it, the number of places.
 pub struct Bench {
     pub(crate) table: Table<JobCell, SeatRole, usize, BenchInvariant, Global>,
 }
@@ -54,7 +53,7 @@ impl Bench {
         workers: usize,
     ) -> Result<(Bench, DispatchSeat, Vec<WorkSeat>), AllocError>
         requires { places ≤ MOST_PLACES }
-        ensures places { IfOk result (λ r. r.0.slots ≡ places) }
+        ensures places { IfOk result (λ r. places_of r.0 ≡ places) }
         ensures dispatcher { IfOk result (λ r. (r.1.bench ≡ r.0) × (r.1.lent ≡ replicate places None)) }
         ensures workers { IfOk result (λ r. (vec_len r.2 ≡ workers) × All (λ w. w ≡ r.0) r.2.items) }
     {
@@ -74,7 +73,7 @@ impl Bench {
     /// Offers a job to the workers at place k, and wakes one that sleeps if none spins. Hands the job back if the place is taken.
     #[inline(always)]
     pub fn offer(&self, seat: &mut DispatchSeat, k: usize, job: Job) -> Result<(), Job>
-        requires { (seat.old.bench ≡ self.now) × (k < self.now.slots) }
+        requires { (seat.old.bench ≡ self.now) × (k < places_of self.now) }
         ensures bench { seat.new.bench ≡ seat.old.bench }
         ensures answer { MatchOption (lent_at seat.old.lent k)
             ((result ≡ Ok tt) × (seat.new.lent ≡ slice_set seat.old.lent k (Some job))) (λ _. (result ≡ Err job) × (seat.new ≡ seat.old)) }
@@ -92,7 +91,7 @@ impl Bench {
     /// Takes the result of the job that was last offered at place k through this seat, if it was delivered. It tries once and waits for
     /// nobody.
     pub fn collect(&self, seat: &mut DispatchSeat, k: usize) -> Option<Done>
-        requires { (seat.old.bench ≡ self.now) × (k < self.now.slots) }
+        requires { (seat.old.bench ≡ self.now) × (k < places_of self.now) }
         ensures bench { seat.new.bench ≡ seat.old.bench }
         ensures some { IfSome result (λ done. (job : JobView) × (lent_at seat.old.lent k ≡ Some job) × IsJobRun job done
             × (seat.new.lent ≡ slice_set seat.old.lent k None)) }
@@ -134,7 +133,7 @@ fn lay(
 >
     requires places { places ≤ MOST_PLACES }
     requires words { words.now ≡ replicate (places + FIRST_PLACE) 0 }
-    ensures table { IfOk result (λ r. IsBench r.0.shared.table_id × (r.0.shared.table_id.slots ≡ places)) }
+    ensures table { IfOk result (λ r. IsBench r.0.shared.table_id × (places_of r.0.shared.table_id ≡ places)) }
     ensures seat { IfOk result (λ r. (r.1.table_id ≡ r.0.shared.table_id) × (r.1.me ≡ (Dispatcher places (replicate places None), []))) }
 {
     let cells = empty_cells(alloc, places)?;
@@ -174,7 +173,7 @@ fn seat_workers(
 // Takes the slots of all places, from the last one down, so that they are in order.
 fn take_slots(words: &Words, seat: &mut Seat, places: usize)
     requires bench { IsAtBench words.now.table_id seat.old.table_id }
-    requires places { places ≡ words.now.table_id.slots }
+    requires places { places ≡ places_of words.now.table_id }
     requires seat { seat.old.me ≡ (Dispatcher places (replicate places None), []) }
     ensures bench { seat.new.table_id ≡ seat.old.table_id }
     ensures seat { seat.new.me ≡ (Dispatcher 0 (replicate places None), empty_slots 0 (replicate places None)) }
@@ -189,7 +188,7 @@ fn take_slots(words: &Words, seat: &mut Seat, places: usize)
 // Offers a job at a free place.
 #[inline(always)]
 fn put_offer(words: &Words, seat: &mut Seat, lent: &mut [bool], k: usize, job: Job)
-    requires bench { (seat.old.table_id ≡ words.now.table_id) × (k < words.now.table_id.slots) }
+    requires bench { (seat.old.table_id ≡ words.now.table_id) × (k < places_of words.now.table_id) }
     requires dispatch_seat { IsDispatchSeat words.now.table_id seat.old.me lent.old }
     requires empty { lent_at (lent_of seat.old.me.0) k ≡ None }
     ensures bench { seat.new.table_id ≡ seat.old.table_id }
@@ -205,7 +204,7 @@ fn put_offer(words: &Words, seat: &mut Seat, lent: &mut [bool], k: usize, job: J
 
 // Takes the slot of place k, if the result of its job was delivered. Else nothing changes. Returns whether it was.
 fn try_collect(words: &Words, seat: &mut Seat, lent: &[bool], k: usize) -> bool
-    requires bench { (seat.old.table_id ≡ words.now.table_id) × (k < words.now.table_id.slots) }
+    requires bench { (seat.old.table_id ≡ words.now.table_id) × (k < places_of words.now.table_id) }
     requires dispatch_seat { IsDispatchSeat words.now.table_id seat.old.me lent.now }
     ensures bench { seat.new.table_id ≡ seat.old.table_id }
     ensures won { IsTrue result → HasCollected k (lent_of seat.old.me.0) seat.new.me }
@@ -221,9 +220,9 @@ fn try_collect(words: &Words, seat: &mut Seat, lent: &[bool], k: usize) -> bool
 
 // Takes the result out of the slot of place k, which `try_collect` has just taken.
 fn take_delivered(words: &Words, seat: &mut Seat, lent: &mut [bool], k: usize) -> Done
-    requires bench { (seat.old.table_id ≡ words.now.table_id) × (k < words.now.table_id.slots) × IsBench words.now.table_id }
+    requires bench { (seat.old.table_id ≡ words.now.table_id) × (k < places_of words.now.table_id) × IsBench words.now.table_id }
     requires won { (jobs : LentJobs) × HasCollected k jobs seat.old.me × (lent.old ≡ map is_some jobs)
-        × (length lent.old ≡ words.now.table_id.slots) }
+        × (length lent.old ≡ places_of words.now.table_id) }
     ensures bench { seat.new.table_id ≡ seat.old.table_id }
     ensures dispatch_seat { IsDispatchSeat words.now.table_id seat.new.me lent.new }
     ensures lent { lent_of seat.new.me.0 ≡ lent_of seat.old.me.0 }

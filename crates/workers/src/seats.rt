@@ -2,7 +2,7 @@
 ghost use Rattle.std.specs.Prelude.{◌≡◌, ◌+◌, ◌<◌, ◌≤◌, length, map, position, replicate, Option, None, is_some, is_none, not, IsFalse, ◌↔◌};
 ghost use Rattle.std.specs.List.{list_any};
 ghost use Rattle.workers.specs.Rule.{lent_at};
-ghost use Rattle.workers.specs.Seats.{lent_of, empty_slots_from};
+ghost use Rattle.workers.specs.Seats.{lent_of, places_of, empty_slots_from};
 
 use crate::job_cell::JobCell;
 use parcel::Job;
@@ -59,7 +59,7 @@ impl DispatchSeat {
     /// How many places its bench has.
     pub fn places(&self) -> usize
         ensures lent_length { result ≡ length self.now.lent }
-        ensures bench { result ≡ self.now.bench.slots }
+        ensures bench { result ≡ places_of self.now.bench }
     {
         self.lent.len()
     }

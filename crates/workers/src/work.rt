@@ -1,7 +1,7 @@
 //! What a worker does.
 ghost use Rattle.std.specs.Prelude.{◌≡◌, ◌<◌, [], ◌∷◌, Some, All};
 ghost use Rattle.parcel.specs.Run.{JobView};
-ghost use Rattle.workers.specs.Seats.{IsAtBench, IsBench, idle};
+ghost use Rattle.workers.specs.Seats.{IsAtBench, IsBench, idle, places_of};
 ghost use Rattle.workers.specs.declared.job_cell.CellContent.TheVariants.{Offered};
 ghost use Rattle.workers.specs.declared.seats.SeatRole.TheVariants.{Claimed};
 
@@ -93,7 +93,7 @@ impl Bench {
 // one, which is busy now with the job that it has claimed.
 fn wake_another(words: &Words, k: usize, places: usize)
     requires bench { IsBench words.now.table_id }
-    requires places { (k < places) × (places ≡ words.now.table_id.slots) }
+    requires places { (k < places) × (places ≡ places_of words.now.table_id) }
 {
     for other in k + 1..places {
         if words.peek(other + FIRST_PLACE) == OFFERED {
@@ -106,7 +106,7 @@ fn wake_another(words: &Words, k: usize, places: usize)
 // Tries each place once, and does the job of each place that it could claim.
 fn try_places<G: Gate>(words: &Words, seat: &mut Seat, places: usize, gate: &G) -> Round
     requires bench { IsAtBench words.now.table_id seat.old.table_id }
-    requires places { places ≡ words.now.table_id.slots }
+    requires places { places ≡ places_of words.now.table_id }
     requires idle { seat.old.me ≡ idle }
     ensures { (seat.new.table_id ≡ seat.old.table_id) × (seat.new.me ≡ idle) }
 {
@@ -128,7 +128,7 @@ fn run_place<G: Gate>(
     gate: &G,
 ) -> Option<bool>
     requires bench { IsAtBench words.now.table_id seat.old.table_id }
-    requires place { (k < places) × (places ≡ words.now.table_id.slots) }
+    requires place { (k < places) × (places ≡ places_of words.now.table_id) }
     requires idle { seat.old.me ≡ idle }
     ensures { (seat.new.table_id ≡ seat.old.table_id) × (seat.new.me ≡ idle) }
 {
@@ -146,7 +146,7 @@ fn run_place<G: Gate>(
 // slept, or this was the first delivery of all.
 fn run_claimed<G: Gate>(words: &Words, seat: &mut Seat, k: usize, gate: &G) -> bool
     requires bench { IsAtBench words.now.table_id seat.old.table_id }
-    requires place { k < words.now.table_id.slots }
+    requires place { k < places_of words.now.table_id }
     requires claimed { (job : JobView) × (seat.old.me ≡ (Claimed k job, (k, Some (Offered job)) ∷ [])) }
     ensures { (seat.new.table_id ≡ seat.old.table_id) × (seat.new.me ≡ idle) }
 {
