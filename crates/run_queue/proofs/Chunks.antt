@@ -12,6 +12,7 @@ use Rattle.run_queue.specs.RunQueue.{has_room}
 use Rattle.run_queue.specs.ReadyTable.{AreLowerBounds, IsEntryRight, earliest_from, if_passes, ready_in, rank_of}
 use Rattle.run_queue.specs.Order.{Ascend, earlier}
 use Rattle.run_queue.specs.declared.queued_message.QueuedMessage.{QueuedMessage}
+use Rattle.run_queue.specs.declared.ready_table.TheConstants.{CHUNK, NO_RANK}
 use Rattle.run_queue.proofs.Earliest.{first_below, below-step}
 use Rattle.run_queue.proofs.Chains.{default_at}
 use Rattle.run_queue.proofs.Ready.{room-at}
@@ -27,32 +28,32 @@ pub least-kept : (ready_table : List (Option QueuedMessage)) (least : List ℕ) 
 least-kept ready_table least n o here are same chunk i below = grind (arith, common_steps)
 
 -- else the least rank of n's chunk is found anew
-pub least-found : (ready_table : List (Option QueuedMessage)) (least : List ℕ) (n found : ℕ) (o : Option QueuedMessage) → AreLowerBounds ready_table least → n / 16 < length least
-    → ((i : ℕ) → i < 16 → found ≤ rank_of (ready_in (slice_set ready_table n o) (16 * (n / 16) + i)))
-    → AreLowerBounds (slice_set ready_table n o) (slice_set least (n / 16) found)
-least-found ready_table least n found o are here new chunk i below = elim (cases_eq chunk (n / 16)) [
+pub least-found : (ready_table : List (Option QueuedMessage)) (least : List ℕ) (n found : ℕ) (o : Option QueuedMessage) → AreLowerBounds ready_table least → n / CHUNK < length least
+    → ((i : ℕ) → i < CHUNK → found ≤ rank_of (ready_in (slice_set ready_table n o) (CHUNK * (n / CHUNK) + i)))
+    → AreLowerBounds (slice_set ready_table n o) (slice_set least (n / CHUNK) found)
+least-found ready_table least n found o are here new chunk i below = elim (cases_eq chunk (n / CHUNK)) [
   | inl at ↦ (let low = new i below in
-      let value = ap (λ k. get_or (slice_set least (n / 16) found) k 0) at ∙ get_or-set_same least (n / 16) found 0 here in
-      let update_ready = ap (λ k. rank_of (ready_in (slice_set ready_table n o) (16 * k + i))) at in
+      let value = ap (λ k. get_or (slice_set least (n / CHUNK) found) k 0) at ∙ get_or-set_same least (n / CHUNK) found 0 here in
+      let update_ready = ap (λ k. rank_of (ready_in (slice_set ready_table n o) (CHUNK * k + i))) at in
       omega (arith, low, value, update_ready))
   | inr other ↦ (let low = are chunk i below in
-      let over : n < 16 * (n / 16 + 1) = lt-mul-div-succ n (omega arith) in
-      let under = mul-div-le n 16 in
-      let away : 16 * chunk + i ≢ n = λ same. other (omega (arith, over, under, same, below)) in
-      let value = get_or-set_other least (n / 16) chunk found 0 other in
-      let update_ready = ap (λ m. rank_of m) (ready_in-other ready_table n (16 * chunk + i) o away) in
+      let over : n < CHUNK * (n / CHUNK + 1) = lt-mul-div-succ n (omega arith) in
+      let under = mul-div-le n CHUNK in
+      let away : CHUNK * chunk + i ≢ n = λ same. other (omega (arith, over, under, same, below)) in
+      let value = get_or-set_other least (n / CHUNK) chunk found 0 other in
+      let update_ready = ap (λ m. rank_of m) (ready_in-other ready_table n (CHUNK * chunk + i) o away) in
       omega (arith, low, value, update_ready))
 ]
 
 -- ---- at the start
 
-pub none-least : (numbers chunks : ℕ) → AreLowerBounds (replicate numbers None) (replicate chunks 18446744073709551615)
+pub none-least : (numbers chunks : ℕ) → AreLowerBounds (replicate numbers None) (replicate chunks NO_RANK)
 none-least numbers chunks chunk i below =
-    let none = ap (λ m. rank_of m) (default_at {A = Option QueuedMessage} numbers (16 * chunk + i) None) in
+    let none = ap (λ m. rank_of m) (default_at {A = Option QueuedMessage} numbers (CHUNK * chunk + i) None) in
     let low = at_most chunks chunk in
     omega (arith, none, low)
   where
-    at_most : (chunks chunk : ℕ) → get_or (replicate chunks 18446744073709551615) chunk 0 ≤ 18446744073709551615
+    at_most : (chunks chunk : ℕ) → get_or (replicate chunks NO_RANK) chunk 0 ≤ NO_RANK
     at_most zero chunk = omega arith
     at_most (suc chunks) zero = omega arith
     at_most (suc chunks) (suc chunk) = at_most chunks chunk

@@ -9,9 +9,10 @@ use Rattle.std.proofs.Math.Bool.{or-false}
 use Rattle.affinity.specs.Interval.{IsAffinity, contains, affinity_count}
 use Rattle.affinity.specs.declared.geometry.Geometry.{Geometry}
 use Rattle.run_queue.specs.RunQueue.{are_related_intervals, is_free_of, has_room, has_number, next_queued}
-use Rattle.run_queue.specs.ReadyTable.{earliest_from, if_passes, last_rank, ready_in, rank_of}
+use Rattle.run_queue.specs.ReadyTable.{earliest_from, if_passes, ready_in, rank_of}
 use Rattle.run_queue.specs.Order.{Ascend, waits_for, is_conflict_free, earlier}
 use Rattle.run_queue.specs.declared.queued_message.QueuedMessage.{QueuedMessage}
+use Rattle.run_queue.specs.declared.ready_table.TheConstants.{LAST_RANK}
 use Rattle.run_queue.proofs.ByTicket.{next_is_first}
 use Rattle.run_queue.proofs.Nearby.{contains-own, number-below}
 use Rattle.run_queue.proofs.Clearing.{find-cons, find-skip, find-all, find-passes, has_own}
@@ -47,17 +48,17 @@ itself : (t : QueuedMessage) → earlier (Some t) (Some t) ≡ Some t
 itself t = rw (false_from_ne_true (nat_lt t.ticket t.ticket) (λ less. let below = ltb-true t.ticket t.ticket less in omega (arith, below))) refl
 
 -- a message with a rank above that of the best one so far (o) is passed over
-pub passed : (p : QueuedMessage → Bool) (o m : Option QueuedMessage) → min (rank_of o) last_rank < rank_of m → earlier o (if_passes p m) ≡ o
+pub passed : (p : QueuedMessage → Bool) (o m : Option QueuedMessage) → min (rank_of o) LAST_RANK < rank_of m → earlier o (if_passes p m) ≡ o
 passed p o None later = refl
-passed p None (Some t) later = absurd (let low = min-le_right t.ticket last_rank in omega (arith, later, low))
+passed p None (Some t) later = absurd (let low = min-le_right t.ticket LAST_RANK in omega (arith, later, low))
 passed p (Some d) (Some t) later = by (p t)
   where
     is_later : d.ticket < t.ticket
-    is_later = elim (leb_tells d.ticket last_rank) [
-      | inl e ↦ (let first = min-eq_left e.1 in let low = min-le_left t.ticket last_rank in
-          omega (arith, later, ap (λ (k : ℕ). min k last_rank) first, first, low))
-      | inr e ↦ absurd (let first = min-eq_right (let above = e.1 in let upper : last_rank ≤ d.ticket = omega (arith, above) in upper) in let low = min-le_right t.ticket last_rank in
-          omega (arith, later, ap (λ (k : ℕ). min k last_rank) first, (let itself : last_rank ≤ last_rank = omega arith in min-eq_left itself), low))
+    is_later = elim (leb_tells d.ticket LAST_RANK) [
+      | inl e ↦ (let first = min-eq_left e.1 in let low = min-le_left t.ticket LAST_RANK in
+          omega (arith, later, ap (λ (k : ℕ). min k LAST_RANK) first, first, low))
+      | inr e ↦ absurd (let first = min-eq_right (let above = e.1 in let upper : LAST_RANK ≤ d.ticket = omega (arith, above) in upper) in let low = min-le_right t.ticket LAST_RANK in
+          omega (arith, later, ap (λ (k : ℕ). min k LAST_RANK) first, (let itself : LAST_RANK ≤ LAST_RANK = omega arith in min-eq_left itself), low))
     ]
 
     by : (b : Bool) → earlier (Some d) (if b then Some t else None) ≡ Some d
@@ -66,7 +67,7 @@ passed p (Some d) (Some t) later = by (p t)
 
 -- n entries are passed over if all their ranks are above
 pub all-passed : (p : QueuedMessage → Bool) (ready_table : List (Option QueuedMessage)) (from n : ℕ) (o : Option QueuedMessage)
-    → ((i : ℕ) → i < n → min (rank_of o) last_rank < rank_of (ready_in ready_table (from + i))) → earliest_from p ready_table from n o ≡ o
+    → ((i : ℕ) → i < n → min (rank_of o) LAST_RANK < rank_of (ready_in ready_table (from + i))) → earliest_from p ready_table from n o ≡ o
 all-passed p ready_table from zero o later = refl
 all-passed p ready_table from (suc n) o later =
     ap (λ (best : Option QueuedMessage). earlier best (if_passes p (ready_in ready_table (from + n)))) (all-passed p ready_table from n o (λ i below. later i (omega (arith, below))))

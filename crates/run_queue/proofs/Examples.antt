@@ -6,6 +6,7 @@ use Rattle.affinity.specs.Path.{Path, serial, volume, logical, stripe, label}
 use Rattle.run_queue.specs.RunQueue.{are_related_intervals, next_queued, without_slot, without_number, holds_at}
 use Rattle.run_queue.specs.Slots.{count_in_slot}
 use Rattle.run_queue.specs.declared.queued_message.QueuedMessage.{QueuedMessage}
+use Rattle.run_queue.specs.declared.ready_table.TheConstants.{CHUNK, LAST_RANK, NO_RANK}
 
 abbrev queued : ℕ → Path → Bool → ℕ → QueuedMessage
 queued slot path changing ticket = record { slot = slot; affinity = interval small path; changing = changing; ticket = ticket }
@@ -122,3 +123,14 @@ twice = refl
 -- a wrong order of what waits would give another message
 other_order : next_queued true [] (other_write ∷ create ∷ []) ≡ Some other_write
 other_order = refl
+
+-- ---- the constants of the ready table
+
+chunk : CHUNK ≡ 16
+chunk = refl
+
+last_rank : LAST_RANK ≡ 18446744073709551614
+last_rank = refl
+
+no_rank : NO_RANK ≡ 18446744073709551615
+no_rank = refl

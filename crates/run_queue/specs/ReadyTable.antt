@@ -7,6 +7,7 @@ use Rattle.affinity.specs.declared.geometry.Geometry.{Geometry}
 use Rattle.run_queue.specs.RunQueue.{are_related_intervals, has_number}
 use Rattle.run_queue.specs.Order.{earlier, is_conflict_free}
 use Rattle.run_queue.specs.declared.queued_message.QueuedMessage.{QueuedMessage}
+use Rattle.run_queue.specs.declared.ready_table.TheConstants.{CHUNK, LAST_RANK, NO_RANK}
 
 -- the message, if there is one and it passes the test
 abbrev pub if_passes : (QueuedMessage → Bool) → Option QueuedMessage → Option QueuedMessage
@@ -34,14 +35,10 @@ abbrev pub AreRelatedRight : Geometry → Interval → List QueuedMessage → Li
 AreRelatedRight g a held waiting ready_table = (b : Interval) → IsAffinity g b → are_related_intervals a b ≡ true
     → IsEntryRight held waiting ready_table b.number
 
--- the greatest rank of a message
-abbrev pub last_rank : ℕ
-last_rank = 18446744073709551614
-
 -- the rank of an entry: the ticket of its message (the two greatest tickets share one rank). `None` ranks last.
 abbrev pub rank_of : Option QueuedMessage → ℕ
-rank_of None = 18446744073709551615
-rank_of (Some t) = min t.ticket last_rank
+rank_of None = NO_RANK
+rank_of (Some t) = min t.ticket LAST_RANK
 
 -- the earliest of `best` and those ready messages, at the n numbers from `from` on, that pass the test
 abbrev pub earliest_from : (QueuedMessage → Bool) → List (Option QueuedMessage) → ℕ → ℕ → Option QueuedMessage → Option QueuedMessage
@@ -49,6 +46,6 @@ earliest_from p ready_table from zero best = best
 earliest_from p ready_table from (suc n) best =
     earlier (earliest_from p ready_table from n best) (if_passes p (ready_in ready_table (from + n)))
 
--- The rank kept for a chunk is no greater than that of any of its sixteen entries.
+-- The rank kept for a chunk is no greater than that of any of its entries.
 abbrev pub AreLowerBounds : List (Option QueuedMessage) → List ℕ → Type 0
-AreLowerBounds ready_table least = (chunk i : ℕ) → i < 16 → get_or least chunk 0 ≤ rank_of (ready_in ready_table (16 * chunk + i))
+AreLowerBounds ready_table least = (chunk i : ℕ) → i < CHUNK → get_or least chunk 0 ≤ rank_of (ready_in ready_table (CHUNK * chunk + i))

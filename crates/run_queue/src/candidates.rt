@@ -1,5 +1,5 @@
 //! Which of the conflict-free messages is dispatched first.
-ghost use Rattle.std.specs.Prelude.{◌≡◌, ◌*◌, ◌≤◌, option_copied};
+ghost use Rattle.std.specs.Prelude.{◌≡◌, ◌*◌, ◌^◌, ◌≤◌, option_copied};
 ghost use Rattle.run_queue.specs.RunQueue.{has_room};
 ghost use Rattle.run_queue.specs.Order.{is_earlier, earlier};
 ghost use Rattle.run_queue.specs.ReadyTable.{earliest_from, if_passes, ready_in};
@@ -40,16 +40,16 @@ fn better(log_has_room: bool, ready_table: &ReadyTable, best: usize, number: usi
 }
 
 /// The affinity number at which the earliest of some ready messages waits. Candidates are the one at number `best`, and those in a chunk
-/// (16 numbers in a row) for which the log has room.
+/// (`CHUNK` numbers in a row) for which the log has room.
 pub(crate) fn best_in(
     log_has_room: bool,
     ready_table: &ReadyTable,
     best: usize,
     chunk: usize,
 ) -> usize
-    requires { chunk ≤ 4096 }
+    requires { CHUNK * chunk ≤ 2 ^ 16 }
     ensures { ready_in ready_table.now result
-        ≡ earliest_from (has_room log_has_room) ready_table.now (16 * chunk) 16 (ready_in ready_table.now best) }
+        ≡ earliest_from (has_room log_has_room) ready_table.now (CHUNK * chunk) CHUNK (ready_in ready_table.now best) }
 {
     let mut found = best;
     for number in chunk * CHUNK..(chunk + 1) * CHUNK {

@@ -1,6 +1,6 @@
 //! The ready table: for each affinity number the first message that waits there, if it is conflict-free, whatever room the log has.
-ghost use Rattle.std.specs.Prelude.{◌≡◌, ◌+◌, ◌*◌, ◌<◌, ◌≤◌, ℕ, get_or, length, min, replicate, slice_set, option_copied, IfOk, None};
-ghost use Rattle.run_queue.specs.ReadyTable.{last_rank, ready_in, rank_of};
+ghost use Rattle.std.specs.Prelude.{◌≡◌, ◌+◌, ◌*◌, ◌^◌, ◌<◌, ◌≤◌, ℕ, get_or, length, min, replicate, slice_set, option_copied, IfOk, None};
+ghost use Rattle.run_queue.specs.ReadyTable.{ready_in, rank_of};
 
 use crate::QueuedMessage;
 use std::alloc::{AllocError, Global};
@@ -9,8 +9,11 @@ use std::marker::Model;
 /// How many affinity numbers there are in a chunk, a part of the table.
 pub(crate) const CHUNK: usize = 16;
 
-/// The last rank that a ready message may have. The greatest `u64` means that none is ready.
-const LAST_RANK: u64 = u64::MAX - 1;
+/// The rank where no message is ready.
+pub(crate) const NO_RANK: u64 = u64::MAX;
+
+/// The last rank that a ready message may have.
+pub(crate) const LAST_RANK: u64 = NO_RANK - 1;
 
 /// For each number of an affinity the first message that waits there, if it is conflict-free.
 ///
@@ -42,15 +45,15 @@ impl Model for ReadyTable {
 impl ReadyTable {
     /// `numbers` entries, none of them set. `AllocError` where there is no memory.
     pub(crate) fn new(alloc: Global, numbers: usize) -> Result<ReadyTable, AllocError>
-        requires { numbers ≤ 65536 }
+        requires { numbers ≤ 2 ^ 16 }
         ensures { IfOk result (λ ready_table. ready_table ≡ replicate numbers None) }
     {
         let mut ready = Vec::with_capacity(alloc, numbers)?;
         for _ in 0..numbers {
             ready.push_reserved(None);
         }
-        let ranks = vec![in alloc; u64::MAX; numbers]?;
-        let least = vec![in alloc; u64::MAX; numbers / CHUNK + 1]?;
+        let ranks = vec![in alloc; NO_RANK; numbers]?;
+        let least = vec![in alloc; NO_RANK; numbers / CHUNK + 1]?;
         Ok(ReadyTable {
             ready,
             ranks,
@@ -72,26 +75,26 @@ impl ReadyTable {
         self.ready.get(number)?.as_ref()
     }
 
-    /// The rank of the ready message at a number, or the greatest `u64` if there is none.
+    /// The rank of the ready message at a number, or `NO_RANK` if there is none.
     pub(crate) fn rank(&self, number: usize) -> u64
         ensures { result ≡ rank_of (ready_in self.now number) }
     {
         match self.ranks.get(number) {
             Some(rank) => *rank,
-            None => u64::MAX,
+            None => NO_RANK,
         }
     }
 
     /// The rank at `number`, or the last rank where no message is ready there: a ready message with a greater rank came later.
     pub(crate) fn bound(&self, number: usize) -> u64
-        ensures { result ≡ min (rank_of (ready_in self.now number)) last_rank }
+        ensures { result ≡ min (rank_of (ready_in self.now number)) LAST_RANK }
     {
         self.rank(number).min(LAST_RANK)
     }
 
     /// The least rank in a chunk: no ready message there has a lower one.
     pub(crate) fn least(&self, chunk: usize) -> u64
-        ensures { (i : ℕ) → i < 16 → result ≤ rank_of (ready_in self.now (16 * chunk + i)) }
+        ensures { (i : ℕ) → i < CHUNK → result ≤ rank_of (ready_in self.now (CHUNK * chunk + i)) }
     {
         match self.least.get(chunk) {
             Some(least) => *least,
@@ -121,16 +124,16 @@ fn rank_of(ready: &Option<QueuedMessage>) -> u64
 {
     match ready {
         Some(queued) => queued.ticket.min(LAST_RANK),
-        None => u64::MAX,
+        None => NO_RANK,
     }
 }
 
 // The least of the ranks in a chunk, which begins at this number.
 fn least_from(ranks: &[u64], from: usize) -> u64
-    requires { from ≤ 65536 }
-    ensures { (i : ℕ) → i < 16 → result ≤ get_or ranks.now (from + i) 18446744073709551615 }
+    requires { from ≤ 2 ^ 16 }
+    ensures { (i : ℕ) → i < CHUNK → result ≤ get_or ranks.now (from + i) NO_RANK }
 {
-    let mut least = u64::MAX;
+    let mut least = NO_RANK;
     for number in from..ranks.len().min(from + CHUNK) {
         least = least.min(ranks[number]);
     }

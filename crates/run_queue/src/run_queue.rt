@@ -1,5 +1,5 @@
 //! Waiting and held messages, and which of them is dispatched next.
-ghost use Rattle.std.specs.Prelude.{◌≡◌, ◌+◌, ◌*◌, ◌<◌, ◌≤◌, ◌++◌, ◌∷◌, true, false, [], length, IfOk, IfSome, IfNone};
+ghost use Rattle.std.specs.Prelude.{◌≡◌, ◌+◌, ◌*◌, ◌^◌, ◌<◌, ◌≤◌, ◌++◌, ◌∷◌, true, false, [], length, IfOk, IfSome, IfNone};
 ghost use Rattle.std.specs.List.{list_any};
 ghost use Rattle.affinity.specs.Interval.{IsAffinity, affinity_count};
 ghost use Rattle.run_queue.specs.RunQueue.{next_queued, has_slot, has_number, without_slot, without_number, holds_at};
@@ -46,8 +46,8 @@ impl Model for RunQueue {
 
 /// How many chunks the ready table has for the affinities of a geometry, of which there are `affinity_count`.
 fn chunks_of(g: &Geometry) -> usize
-    ensures few { result ≤ 4097 }
-    ensures all { affinity_count g.now ≤ 16 * result }
+    ensures few { CHUNK * result ≤ 2 ^ 16 + CHUNK }
+    ensures all { affinity_count g.now ≤ CHUNK * result }
 {
     usize::from(Affinity::at(g, Place::Serial).end()) / CHUNK + 1
 }

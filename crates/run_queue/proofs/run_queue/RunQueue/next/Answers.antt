@@ -5,6 +5,7 @@ use Rattle.std.proofs.Common.{◌≡◌, ◌∙◌, ◌+◌, ◌*◌, sym, ap, a
 use Rattle.run_queue.specs.RunQueue.{has_room}
 use Rattle.run_queue.specs.ReadyTable.{earliest_from, ready_in}
 use Rattle.run_queue.specs.declared.queued_message.QueuedMessage.{QueuedMessage}
+use Rattle.run_queue.specs.declared.ready_table.TheConstants.{CHUNK}
 use Rattle.run_queue.proofs.Chunks.{below-from}
 use Rattle.run_queue.proofs.Earliest.{first_below, below-start, below-all, all-passed}
 use Rattle.run_queue.proofs.run_queue.RunQueue.next.Goals.{then-least-bound, else-least-bound}
@@ -19,15 +20,15 @@ loop-chunk-preserved c =
     let held = c.self.inside.held.messages in
     let waiting = c.self.inside.waiting.messages in
     let ready_table = c.self.inside.ready_table in
-    let from = 16 * c.loop-chunk.chunk in
-    let next : from + 16 ≡ 16 * (c.loop-chunk.chunk + 1) = omega arith in
-    let step : earliest_from (has_room room) ready_table from 16 (ready_in ready_table c.loop-chunk.best) ≡ first_below room held waiting (16 * (c.loop-chunk.chunk + 1)) =
-    ap (λ (o : Option QueuedMessage). earliest_from (has_room room) ready_table from 16 o) c.loop-chunk.invariant
-    ∙ below-from c.self.inside.geometry room held waiting c.self.invariant.queued.placed.waiting_placed c.self.invariant.queued.placed.ascends ready_table c.self.invariant.right.right from 16
+    let from = CHUNK * c.loop-chunk.chunk in
+    let next : from + CHUNK ≡ CHUNK * (c.loop-chunk.chunk + 1) = omega arith in
+    let step : earliest_from (has_room room) ready_table from CHUNK (ready_in ready_table c.loop-chunk.best) ≡ first_below room held waiting (CHUNK * (c.loop-chunk.chunk + 1)) =
+    ap (λ (o : Option QueuedMessage). earliest_from (has_room room) ready_table from CHUNK o) c.loop-chunk.invariant
+    ∙ below-from c.self.inside.geometry room held waiting c.self.invariant.queued.placed.waiting_placed c.self.invariant.queued.placed.ascends ready_table c.self.invariant.right.right from CHUNK
     ∙ ap (λ n. first_below room held waiting n) next in
     elim c.if-least-bound.branch [
       | then-least-bound w ↦ ap (λ i. ready_in ready_table i) w.best-is ∙ w.best_in-best.ensures ∙ step
-      | else-least-bound w ↦ ap (λ i. ready_in ready_table i) w.best-is ∙ sym (all-passed (has_room room) ready_table from 16 (ready_in ready_table c.loop-chunk.best)
+      | else-least-bound w ↦ ap (λ i. ready_in ready_table i) w.best-is ∙ sym (all-passed (has_room room) ready_table from CHUNK (ready_in ready_table c.loop-chunk.best)
           (λ i below. let low = c.least.ensures i below in omega (arith, low, w.if-least-bound.false, c.bound.ensures))) ∙ step
     ]
 

@@ -1,9 +1,10 @@
 -- The best ready message so far is the first that may be dispatched at a number of an earlier chunk.
 use Rattle.std.proofs.Common.{◌≡◌, ◌*◌}
 use Rattle.run_queue.specs.ReadyTable.{ready_in}
+use Rattle.run_queue.specs.declared.ready_table.TheConstants.{CHUNK}
 use Rattle.run_queue.proofs.Earliest.{first_below}
 use Rattle.run_queue.proofs.run_queue.RunQueue.next.Given as goal
 
 abbrev pub invariant-loop-chunk : goal.invariant-loop-chunk
 invariant-loop-chunk l =
-    ready_in l.self-inside.ready_table l.best ≡ first_below l.log_has_room l.self-inside.held.messages l.self-inside.waiting.messages (16 * l.chunk)
+    ready_in l.self-inside.ready_table l.best ≡ first_below l.log_has_room l.self-inside.held.messages l.self-inside.waiting.messages (CHUNK * l.chunk)
