@@ -16,6 +16,7 @@ use Rattle.scheduler.specs.Fields.{IsSoundCore, parts}
 use Rattle.scheduler.specs.Parts.{IsCore, Parts, core_state_in}
 use Rattle.scheduler.specs.Slots.{SlotView, no_slot, slot_view_at}
 use Rattle.scheduler.specs.declared.slot.Slot.{Slot}
+use Rattle.scheduler.specs.declared.slot.TheConstants.{WAITING, IN_FLIGHT, RAN, LOGGED}
 use Rattle.run_queue.specs.RunQueue.{RunQueueView, without_number}
 
 -- the number of the first slot of a chain is below the arena's capacity
@@ -25,7 +26,7 @@ front_low arena c i partitioned first =
     let all = count_of-append i arena.free (concat arena.chains) in
     partitioned.within i (omega (arith, some, all))
 
-module _ {D : Type 0} {keeps : Type 0} (core : Inside D) (is : IsSoundCore keeps core) (slot : ℕ) (first : front_of core.slots 3 ≡ Some slot)
+module _ {D : Type 0} {keeps : Type 0} (core : Inside D) (is : IsSoundCore keeps core) (slot : ℕ) (first : front_of core.slots LOGGED ≡ Some slot)
     (taken : Slot) (value : value_at core.slots slot ≡ Some taken) where
   abbrev p : Parts
   p = parts core
@@ -34,15 +35,15 @@ module _ {D : Type 0} {keeps : Type 0} (core : Inside D) (is : IsSoundCore keeps
   x = (slot, taken, get_or core.replies.items slot Done)
 
   abbrev behind : List SlotView
-  behind = map (slot_view_at core.slots core.replies.items) (without slot (chain_at core.slots 3))
+  behind = map (slot_view_at core.slots core.replies.items) (without slot (chain_at core.slots LOGGED))
 
   whole : p.phases.logged ≡ x ∷ behind
-  whole = ap (map (slot_view_at core.slots core.replies.items)) (chain-front core.slots slot 3 is.chains.partitioned first)
+  whole = ap (map (slot_view_at core.slots core.replies.items)) (chain-front core.slots slot LOGGED is.chains.partitioned first)
       ∙ (λ i. (slot, unwrap_or (value i) no_slot, get_or core.replies.items slot Done) ∷ behind)
 
-  taken_slot : TakenSlot core.slots (after_take core.slots slot) core.replies.items 3 behind
-  taken_slot = slot_taken core.slots core.replies.items is.chains slot 3 (without slot (chain_at core.slots 3))
-      (chain-front core.slots slot 3 is.chains.partitioned first)
+  taken_slot : TakenSlot core.slots (after_take core.slots slot) core.replies.items LOGGED behind
+  taken_slot = slot_taken core.slots core.replies.items is.chains slot LOGGED (without slot (chain_at core.slots LOGGED))
+      (chain-front core.slots slot LOGGED is.chains.partitioned first)
 
   abbrev turned : RunQueueView
   turned = record core.queue { held = without_number taken.affinity.number core.queue.held }
@@ -53,9 +54,9 @@ module _ {D : Type 0} {keeps : Type 0} (core : Inside D) (is : IsSoundCore keeps
   after_is : parts answered ≡ with_answer p behind (suc p.free) taken.affinity.number
   after_is = λ i. record (with_answer p behind (suc p.free) taken.affinity.number) {
     phases = record {
-      waiting = taken_slot.stays 0 (λ same. omega (arith, same)) i;
-      in_flight = taken_slot.stays 1 (λ same. omega (arith, same)) i;
-      ran = taken_slot.stays 2 (λ same. omega (arith, same)) i;
+      waiting = taken_slot.stays WAITING (λ same. omega (arith, same)) i;
+      in_flight = taken_slot.stays IN_FLIGHT (λ same. omega (arith, same)) i;
+      ran = taken_slot.stays RAN (λ same. omega (arith, same)) i;
       logged = taken_slot.left i;
     };
     free = taken_slot.free i;
@@ -64,11 +65,11 @@ module _ {D : Type 0} {keeps : Type 0} (core : Inside D) (is : IsSoundCore keeps
 
   pub answer_call : IsPartitioned (after_take core.slots slot) → IsSoundCore keeps answered
   answer_call partitioned = record {
-    chains = record { partitioned = partitioned; four = taken_slot.four ∙ is.chains.four };
+    chains = record { partitioned = partitioned; chain_count = taken_slot.chain_count ∙ is.chains.chain_count };
     core = subst (IsCore keeps) (sym after_is) (answer_core keeps p is.core x behind whole (suc p.free) refl);
     batch = subst (λ (n : ℕ). n ≤ vec_capacity core.batch) (sym taken_slot.size) is.batch;
     replies = is.replies ∙ sym taken_slot.size;
-    ran = is.ran ∙ sym (ap length (taken_slot.stays 2 (λ same. omega (arith, same))));
+    ran = is.ran ∙ sym (ap length (taken_slot.stays RAN (λ same. omega (arith, same))));
   }
 
   pub answer_call_state : (outcomes.Answered taken.ticket (get_or core.replies.items slot Done), core_state_in (parts answered)) ≡ answer (core_state_in p) (core_state_in p).logged

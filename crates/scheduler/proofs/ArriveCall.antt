@@ -22,6 +22,7 @@ use Rattle.scheduler.specs.Fields.{IsSoundCore, parts}
 use Rattle.scheduler.specs.Parts.{IsCore, IsPlaced, Parts, entry_of, queued_of, core_state_in}
 use Rattle.scheduler.specs.Slots.{SlotView, slots_on}
 use Rattle.scheduler.specs.declared.slot.Slot.{Slot}
+use Rattle.scheduler.specs.declared.slot.TheConstants.{WAITING, IN_FLIGHT, RAN, LOGGED}
 use Rattle.run_queue.specs.RunQueue.{CameBefore, RunQueueView, has_slot as has_slot_of}
 use Rattle.std.proofs.lemmas.Bool.{le-leb, lt-leb}
 
@@ -72,7 +73,7 @@ module _ {D : Type 0} {keeps : Type 0} (core : Inside D) (is : IsSoundCore keeps
     split : (rest : List ℕ) × (core.slots.free ≡ slot ∷ rest)
     split = first_free core.slots.free value slot put
 
-    joined_slot : JoinedSlot core.slots (after_move (after_put core.slots value) slot 0) core.replies.items slot 0 value
+    joined_slot : JoinedSlot core.slots (after_move (after_put core.slots value) slot WAITING) core.replies.items slot WAITING value
     joined_slot = slot_joined core.slots core.replies.items is.chains slot 0 (omega arith) split.0 value split.1
 
     pub arrive_later : CameBefore core.next core.queue.waiting
@@ -88,8 +89,8 @@ module _ {D : Type 0} {keeps : Type 0} (core : Inside D) (is : IsSoundCore keeps
     pub arrive_new : list_any (has_slot_of slot) (core.queue.waiting ++ core.queue.held) ≡ false
     arrive_new =
         list_any-append (has_slot_of slot) core.queue.waiting core.queue.held
-        ∙ (λ i. (ap (list_any (has_slot_of slot)) is.core.queue_waiting ∙ any_map queued_of (has_slot_of slot) p.phases.waiting ∙ none_there 0) i || is.core.queue_held (has_slot_of slot) i)
-        ∙ (λ i. none_there 3 i || (none_there 2 i || none_there 1 i))
+        ∙ (λ i. (ap (list_any (has_slot_of slot)) is.core.queue_waiting ∙ any_map queued_of (has_slot_of slot) p.phases.waiting ∙ none_there WAITING) i || is.core.queue_held (has_slot_of slot) i)
+        ∙ (λ i. none_there LOGGED i || (none_there RAN i || none_there IN_FLIGHT i))
 
     abbrev x : SlotView
     x = (slot, value, get_or core.replies.items slot Done)
@@ -98,30 +99,30 @@ module _ {D : Type 0} {keeps : Type 0} (core : Inside D) (is : IsSoundCore keeps
     turned = record core.queue { waiting = core.queue.waiting ++ queued_of x ∷ [] }
 
     abbrev pub arrived : Inside D
-    arrived = record core { slots = after_move (after_put core.slots value) slot 0; queue = turned; next = core.next + 1 }
+    arrived = record core { slots = after_move (after_put core.slots value) slot WAITING; queue = turned; next = core.next + 1 }
 
     abbrev new_free : ℕ
-    new_free = length (after_move (after_put core.slots value) slot 0).free
+    new_free = length (after_move (after_put core.slots value) slot WAITING).free
 
     after_is : parts arrived ≡ with_arrival p x new_free
     after_is = λ i. record (with_arrival p x new_free) {
       phases = record {
         waiting = joined_slot.joined i;
-        in_flight = joined_slot.stays 1 (λ same. omega (arith, same)) i;
-        ran = joined_slot.stays 2 (λ same. omega (arith, same)) i;
-        logged = joined_slot.stays 3 (λ same. omega (arith, same)) i;
+        in_flight = joined_slot.stays IN_FLIGHT (λ same. omega (arith, same)) i;
+        ran = joined_slot.stays RAN (λ same. omega (arith, same)) i;
+        logged = joined_slot.stays LOGGED (λ same. omega (arith, same)) i;
       };
       capacity = joined_slot.size i;
     }
 
     module _ (ticket : value.ticket ≡ core.next) (placed : IsPlaced core.journal.geometry x) where
-      pub arrive_call : IsPartitioned (after_move (after_put core.slots value) slot 0) → IsSoundCore keeps arrived
+      pub arrive_call : IsPartitioned (after_move (after_put core.slots value) slot WAITING) → IsSoundCore keeps arrived
       arrive_call partitioned = record {
-        chains = record { partitioned = partitioned; four = joined_slot.four ∙ is.chains.four };
+        chains = record { partitioned = partitioned; chain_count = joined_slot.chain_count ∙ is.chains.chain_count };
         core = subst (IsCore keeps) (sym after_is) (arrival_core keeps p is.core x new_free ticket placed joined_slot.free);
         batch = subst (λ (n : ℕ). n ≤ vec_capacity core.batch) (sym joined_slot.size) is.batch;
         replies = is.replies ∙ sym joined_slot.size;
-        ran = is.ran ∙ sym (ap length (joined_slot.stays 2 (λ same. omega (arith, same))));
+        ran = is.ran ∙ sym (ap length (joined_slot.stays RAN (λ same. omega (arith, same))));
       }
 
       pub arrive_state : core.journal.failed ≡ false → is_in_range core.journal.geometry m ≡ true → (core.next == 2 ^ 64 - 1) ≡ false

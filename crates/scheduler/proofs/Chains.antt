@@ -12,6 +12,7 @@ use Rattle.protocol.specs.declared.replies.Reply.{Reply}
 use Rattle.protocol.specs.declared.replies.Reply.TheVariants.{Done}
 use Rattle.scheduler.specs.Slots.{HasChains, SlotView, slots_on, no_slot, slot_view_at}
 use Rattle.scheduler.specs.declared.slot.Slot.{Slot}
+use Rattle.scheduler.specs.declared.slot.TheConstants.{CHAINS}
 use Rattle.scheduler.proofs.Splits.{MapSplit, map_same, map_split, count_of-split, without-split}
 
 -- ---- a slot that moves from one chain to another
@@ -59,9 +60,9 @@ pub record MovedSlot (arena new : ArenaView Slot) (replies new_replies : List Re
   pub stays : (d : ℕ) → d ≢ from → d ≢ to → slots_on new new_replies d ≡ slots_on arena replies d
   pub free : new.free ≡ arena.free
   pub values : new.values ≡ arena.values
-  pub four : length new.chains ≡ length arena.chains
+  pub chain_count : length new.chains ≡ length arena.chains
 
-module _ (arena : ArenaView Slot) (replies new_replies : List Reply) (is : HasChains arena) (from to : ℕ) (low : to < 4) (other : to ≢ from)
+module _ (arena : ArenaView Slot) (replies new_replies : List Reply) (is : HasChains arena) (from to : ℕ) (low : to < CHAINS) (other : to ≢ from)
     (before : List SlotView) (x : SlotView) (behind : List SlotView) (recovers_at : slots_on arena replies from ≡ before ++ x ∷ behind)
     (agree : (j : ℕ) → j ≢ x.0 → get_or new_replies j Done ≡ get_or replies j Done) where
   split : MapSplit (slot_view_at arena replies) (chain_at arena from) before x behind
@@ -71,7 +72,7 @@ module _ (arena : ArenaView Slot) (replies new_replies : List Reply) (is : HasCh
   number = ap (λ (y : SlotView). y.0) split.at_is
 
   there : to < length arena.chains
-  there = let four = is.four in omega (arith, four, low)
+  there = let chain_count = is.chain_count in omega (arith, chain_count, low)
 
   abbrev new : ArenaView Slot
   new = after_move arena split.at to
@@ -118,7 +119,7 @@ module _ (arena : ArenaView Slot) (replies new_replies : List Reply) (is : HasCh
             ∙ elsewhere (chain_at arena d) (none_elsewhere d not_from);
         free = ap (λ (r : ArenaView Slot). r.free) (arena_moved arena is.partitioned split.at from to there other split.front split.back split.whole);
         values = same_values;
-        four = four_moved arena is.partitioned split.at from to there other split.front split.back split.whole;
+        chain_count = four_moved arena is.partitioned split.at from to there other split.front split.back split.whole;
       }
     where
       moved_place : ◌≡◌ {A = SlotView} (slot_view_at new new_replies split.at) (x.0, x.1, get_or new_replies x.0 Done)
@@ -135,13 +136,13 @@ pub record JoinedSlot (arena new : ArenaView Slot) (replies : List Reply) (i to 
   pub stays : (d : ℕ) → d ≢ to → slots_on new replies d ≡ slots_on arena replies d
   pub free : length arena.free ≡ suc (length new.free)
   pub size : capacity_of new ≡ capacity_of arena
-  pub four : length new.chains ≡ length arena.chains
+  pub chain_count : length new.chains ≡ length arena.chains
   pub low : i < capacity_of arena
   pub none_had : (d : ℕ) → count_of i (chain_at arena d) ≡ 0
 
-module _ (arena : ArenaView Slot) (replies : List Reply) (is : HasChains arena) (i to : ℕ) (low : to < 4) (rest : List ℕ) (value : Slot) (free : arena.free ≡ i ∷ rest) where
+module _ (arena : ArenaView Slot) (replies : List Reply) (is : HasChains arena) (i to : ℕ) (low : to < CHAINS) (rest : List ℕ) (value : Slot) (free : arena.free ≡ i ∷ rest) where
   room_there : to < length arena.chains
-  room_there = let four = is.four in omega (arith, four, low)
+  room_there = let chain_count = is.chain_count in omega (arith, chain_count, low)
 
   abbrev put : ArenaView Slot
   put = record arena { values = slice_set arena.values i (Some value); free = rest }
@@ -189,7 +190,7 @@ module _ (arena : ArenaView Slot) (replies : List Reply) (is : HasChains arena) 
         ∙ without-absent i (chain_at arena d) (off_chain d)) ∙ new_elsewhere (chain_at arena d) (off_chain d);
     free = ap length free ∙ ap (λ n. suc n) (sym (ap (λ (r : ArenaView Slot). length r.free) arena_joined));
     size = ap (λ (r : ArenaView Slot). capacity_of r) arena_joined ∙ length-set arena.values i (Some value);
-    four = ap (λ (r : ArenaView Slot). length r.chains) arena_joined ∙ length-moved arena.chains i to;
+    chain_count = ap (λ (r : ArenaView Slot). length r.chains) arena_joined ∙ length-moved arena.chains i to;
     low = in_arena;
     none_had = off_chain;
   }
@@ -204,7 +205,7 @@ pub record TakenSlot (arena new : ArenaView Slot) (replies : List Reply) (from :
   pub stays : (d : ℕ) → d ≢ from → slots_on new replies d ≡ slots_on arena replies d
   pub free : length new.free ≡ suc (length arena.free)
   pub size : capacity_of new ≡ capacity_of arena
-  pub four : length new.chains ≡ length arena.chains
+  pub chain_count : length new.chains ≡ length arena.chains
 
 module _ (arena : ArenaView Slot) (replies : List Reply) (is : HasChains arena) (i from : ℕ) (back : List ℕ) (whole : chain_at arena from ≡ i ∷ back) where
   abbrev taken_arena : ArenaView Slot
@@ -241,5 +242,5 @@ module _ (arena : ArenaView Slot) (replies : List Reply) (is : HasChains arena) 
             ∙ without-absent i (chain_at arena d) (gone_elsewhere d not_from)) ∙ taken_elsewhere (chain_at arena d) (gone_elsewhere d not_from);
         free = ap (λ (r : ArenaView Slot). length r.free) arena_taken;
         size = ap (λ (r : ArenaView Slot). capacity_of r) arena_taken ∙ length-set arena.values i None;
-        four = ap (λ (r : ArenaView Slot). length r.chains) arena_taken ∙ length-map arena.chains (without i);
+        chain_count = ap (λ (r : ArenaView Slot). length r.chains) arena_taken ∙ length-map arena.chains (without i);
       }

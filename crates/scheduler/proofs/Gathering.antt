@@ -25,6 +25,7 @@ use Rattle.scheduler.specs.Moving.{changing_in, recorded_in}
 use Rattle.scheduler.specs.Parts.{replied_of}
 use Rattle.scheduler.specs.Slots.{HasChains, SlotView, no_slot, slot_view_at}
 use Rattle.scheduler.specs.declared.slot.Slot.{Slot}
+use Rattle.scheduler.specs.declared.slot.TheConstants.{RAN}
 use Rattle.histories.proofs.Runs.{recorded-append}
 
 -- ---- the slot behind one on its chain
@@ -105,19 +106,19 @@ any_ticket t u m r = elim (is_recorded m r) as (λ b. map (λ (a : Replied). a.1
   | false ↦ refl
 ]
 
-module _ (arena : ArenaView Slot) (replies : List Reply) (is : HasChains arena) (n i : ℕ) (first : first_of (drop n (chain_at arena 2)) ≡ Some i) where
+module _ (arena : ArenaView Slot) (replies : List Reply) (is : HasChains arena) (n i : ℕ) (first : first_of (drop n (chain_at arena RAN)) ≡ Some i) where
   abbrev xs : List ℕ
-  xs = chain_at arena 2
+  xs = chain_at arena RAN
 
   chained : 0 < count_of i xs
   chained = subst (λ (l : List ℕ). 0 < count_of i l) (sym (cut_at n i xs first)) (count_of-split i (take n xs) (drop (suc n) xs))
 
   pub ran_is_there : value_at arena i ≡ None → ⊥
-  ran_is_there none = some_value (value_at arena i) (chained-holds arena i 2 is.partitioned chained) none
+  ran_is_there none = some_value (value_at arena i) (chained-holds arena i RAN is.partitioned chained) none
 
   pub ran_next : next_of arena i ≡ first_of (drop (n + 1) xs)
   ran_next = let count : suc n ≡ n + 1 = omega arith in
-      next_on arena 2 i (take n xs) (drop (suc n) xs) is.partitioned (cut_at n i xs first) ∙ ap (λ (m : ℕ). first_of (drop m xs)) count
+      next_on arena RAN i (take n xs) (drop (suc n) xs) is.partitioned (cut_at n i xs first) ∙ ap (λ (m : ℕ). first_of (drop m xs)) count
 
   module _ (slot : Slot) (value : Some slot ≡ value_at arena i) where
     slot_is : unwrap_or (value_at arena i) no_slot ≡ slot
@@ -141,5 +142,5 @@ module _ (arena : ArenaView Slot) (replies : List Reply) (is : HasChains arena) 
         ∙ sym (gathered_append arena replies (take n xs) (i ∷ []))
         ∙ ap (recorded_in arena replies) (sym (take_one n i xs first))
 
-pub ran_goes_on : (arena : ArenaView Slot) (n count : ℕ) → n < count → count ≤ length (chain_at arena 2) → first_of (drop n (chain_at arena 2)) ≡ None → ⊥
-ran_goes_on arena n count low few none = some_first (drop n (chain_at arena 2)) (left_over n (chain_at arena 2) (omega (arith, low, few))) none
+pub ran_goes_on : (arena : ArenaView Slot) (n count : ℕ) → n < count → count ≤ length (chain_at arena RAN) → first_of (drop n (chain_at arena RAN)) ≡ None → ⊥
+ran_goes_on arena n count low few none = some_first (drop n (chain_at arena RAN)) (left_over n (chain_at arena RAN) (omega (arith, low, few))) none

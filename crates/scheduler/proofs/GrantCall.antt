@@ -38,6 +38,7 @@ use Rattle.scheduler.specs.Fields.{IsSoundCore, parts}
 use Rattle.scheduler.specs.Parts.{IsCore, IsPlaced, Parts, entry_of, queued_of, core_state_in}
 use Rattle.scheduler.specs.Slots.{SlotView, no_slot, slot_view_at}
 use Rattle.scheduler.specs.declared.slot.Slot.{Slot}
+use Rattle.scheduler.specs.declared.slot.TheConstants.{WAITING, IN_FLIGHT, RAN, LOGGED}
 use Rattle.run_queue.specs.RunQueue.{HasJoined, RunQueueView, next_queued, without_slot}
 use Rattle.run_queue.specs.declared.queued_message.QueuedMessage.{QueuedMessage}
 
@@ -68,24 +69,24 @@ module _ {D : Type 0} {keeps : Type 0} (core : Inside D) (is : IsSoundCore keeps
   pub number : x.0 ≡ queued.slot
   number = ap (λ (t : QueuedMessage). t.slot) chosen.queued
 
-  split : MapSplit (slot_view_at core.slots core.replies.items) (chain_at core.slots 0) chosen.before x chosen.behind
-  split = map_split (slot_view_at core.slots core.replies.items) (chain_at core.slots 0) chosen.before x chosen.behind chosen.whole
+  split : MapSplit (slot_view_at core.slots core.replies.items) (chain_at core.slots WAITING) chosen.before x chosen.behind
+  split = map_split (slot_view_at core.slots core.replies.items) (chain_at core.slots WAITING) chosen.before x chosen.behind chosen.whole
 
   at_queued : split.at ≡ queued.slot
   at_queued = ap (λ (y : SlotView). y.0) split.at_is ∙ number
 
-  recovers : 0 < count_of split.at (chain_at core.slots 0)
+  recovers : 0 < count_of split.at (chain_at core.slots WAITING)
   recovers = subst (λ xs. 0 < count_of split.at xs) (sym split.whole) (count_of-split split.at split.front split.back)
 
   pub grant_has_slot : value_at core.slots queued.slot ≡ None → ⊥
   grant_has_slot none = some_value (value_at core.slots queued.slot) (subst (λ n. is_some (value_at core.slots n) ≡ true) at_queued
-      (chained-holds core.slots split.at 0 is.chains.partitioned recovers)) none
+      (chained-holds core.slots split.at WAITING is.chains.partitioned recovers)) none
 
   pub grant_slot : (slot : Slot) → Some slot ≡ value_at core.slots queued.slot → x.1 ≡ slot
   grant_slot slot value = sym (ap (λ (y : SlotView). y.1) split.at_is) ∙ ap (λ n. unwrap_or (value_at core.slots n) no_slot) at_queued ∙ ap (λ o. unwrap_or o no_slot) (sym value)
 
-  pub granted_slot : MovedSlot core.slots (after_move core.slots queued.slot 1) core.replies.items core.replies.items 0 1 chosen.before x chosen.behind
-  granted_slot = slot_moved core.slots core.replies.items core.replies.items is.chains 0 1 (omega arith) (λ same. omega (arith, same)) chosen.before x chosen.behind chosen.whole
+  pub granted_slot : MovedSlot core.slots (after_move core.slots queued.slot IN_FLIGHT) core.replies.items core.replies.items WAITING IN_FLIGHT chosen.before x chosen.behind
+  granted_slot = slot_moved core.slots core.replies.items core.replies.items is.chains WAITING IN_FLIGHT (omega arith) (λ same. omega (arith, same)) chosen.before x chosen.behind chosen.whole
       (λ j other. refl) queued.slot (sym number)
 
   pub grant_place : IsPlaced core.journal.geometry x
@@ -105,7 +106,7 @@ module _ {D : Type 0} {keeps : Type 0} (core : Inside D) (is : IsSoundCore keeps
       (none (path_of core.journal.geometry x.1.message) grant_path))
 
   once_there : count_of split.at (split.front ++ split.at ∷ split.back) ≤ 1
-  once_there = subst (λ xs. count_of split.at xs ≤ 1) split.whole (chained-once core.slots split.at 0 is.chains.partitioned)
+  once_there = subst (λ xs. count_of split.at xs ≤ 1) split.whole (chained-once core.slots split.at WAITING is.chains.partitioned)
 
   pub grant_others : AllByRecursion (λ y. (y.0 == x.0) ≡ false) (chosen.before ++ chosen.behind)
   grant_others =
@@ -119,7 +120,7 @@ module _ {D : Type 0} {keeps : Type 0} (core : Inside D) (is : IsSoundCore keeps
 
   -- ---- what holds afterwards
 
-  grant_size : capacity_of (after_move core.slots queued.slot 1) ≡ capacity_of core.slots
+  grant_size : capacity_of (after_move core.slots queued.slot IN_FLIGHT) ≡ capacity_of core.slots
   grant_size = ap (λ (vs : List (Option Slot)). length vs) granted_slot.values
 
   module _ (slot : Slot) (value : Some slot ≡ value_at core.slots queued.slot) (lent : TreeView) (standing : Standing) (parcels : Parcels)
@@ -136,7 +137,7 @@ module _ {D : Type 0} {keeps : Type 0} (core : Inside D) (is : IsSoundCore keeps
         (waits : went ≡ record core.queue { waiting = without_slot queued.slot core.queue.waiting; held = went.held }) (joined : HasJoined queued core.queue.held went.held)
         (more : ℕ) (is_more : more ≡ cond queued.changing 1 0) where
       abbrev pub granted : Inside D
-      granted = record core { slots = after_move core.slots queued.slot 1; tree = lent; queue = went; unlogged = core.unlogged + more }
+      granted = record core { slots = after_move core.slots queued.slot IN_FLIGHT; tree = lent; queue = went; unlogged = core.unlogged + more }
 
       abbrev found : Entry × List Entry
       found = (entry_of x, map entry_of (chosen.before ++ chosen.behind))
@@ -155,8 +156,8 @@ module _ {D : Type 0} {keeps : Type 0} (core : Inside D) (is : IsSoundCore keeps
         phases = record {
           waiting = granted_slot.left i;
           in_flight = (granted_slot.joined ∙ (λ j. p.phases.in_flight ++ (x.0, x.1, reply_there j) ∷ [])) i;
-          ran = granted_slot.stays 2 (λ same. omega (arith, same)) (λ same. omega (arith, same)) i;
-          logged = granted_slot.stays 3 (λ same. omega (arith, same)) (λ same. omega (arith, same)) i;
+          ran = granted_slot.stays RAN (λ same. omega (arith, same)) (λ same. omega (arith, same)) i;
+          logged = granted_slot.stays LOGGED (λ same. omega (arith, same)) (λ same. omega (arith, same)) i;
         };
         free = ap (λ (fs : List ℕ). length fs) granted_slot.free i;
         capacity = grant_size i;
@@ -167,14 +168,14 @@ module _ {D : Type 0} {keeps : Type 0} (core : Inside D) (is : IsSoundCore keeps
       joined_at : HasJoined (queued_of x) core.queue.held went.held
       joined_at = subst (λ (t : QueuedMessage). HasJoined t core.queue.held went.held) (sym chosen.queued) joined
 
-      pub grant_call : IsPartitioned (after_move core.slots queued.slot 1) → IsSoundCore keeps granted
+      pub grant_call : IsPartitioned (after_move core.slots queued.slot IN_FLIGHT) → IsSoundCore keeps granted
       grant_call partitioned = record {
-        chains = record { partitioned = partitioned; four = granted_slot.four ∙ is.chains.four };
+        chains = record { partitioned = partitioned; chain_count = granted_slot.chain_count ∙ is.chains.chain_count };
         core = subst (IsCore keeps) (sym after_is)
             (grant_core keeps p is.core chosen.before x chosen.behind chosen.whole lent went.held chosen.picked joined_at (same_geometry ∙ is.core.geometry) standing parcels lends_place);
         batch = subst (λ (n : ℕ). n ≤ vec_capacity core.batch) (sym grant_size) is.batch;
         replies = is.replies ∙ sym grant_size;
-        ran = is.ran ∙ sym (ap (λ (ps : List SlotView). length ps) (granted_slot.stays 2 (λ same. omega (arith, same)) (λ same. omega (arith, same))));
+        ran = is.ran ∙ sym (ap (λ (ps : List SlotView). length ps) (granted_slot.stays RAN (λ same. omega (arith, same)) (λ same. omega (arith, same))));
       }
 
       grant_call_state : core_state_in (parts granted) ≡ grant (core_state_in p) found

@@ -35,6 +35,7 @@ use Rattle.scheduler.specs.Fields.{IsSoundCore, parts}
 use Rattle.scheduler.specs.Parts.{IsCore, Parts, core_view_of, replied_of, core_state_in}
 use Rattle.scheduler.specs.Slots.{SlotView, slots_on, no_slot, slot_view_at}
 use Rattle.scheduler.specs.declared.slot.Slot.{Slot}
+use Rattle.scheduler.specs.declared.slot.TheConstants.{WAITING, IN_FLIGHT, RAN, LOGGED, CHAINS}
 
 -- ---- the journal's answer
 
@@ -66,7 +67,7 @@ none_to_log false many works quiet = let few = ltb-false 0 many quiet in omega (
 pub record Gathers {D : Type 0} (core : Inside D) (n count : ℕ) (messages : Vec Msg Global) (passed : List Msg) : Type 0 where
   pub works : core.journal.failed ≡ false
   pub is_least : count ≡ min n core.ran
-  pub gathered : messages.items ≡ recorded_in core.slots core.replies.items (take count (chain_at core.slots 2))
+  pub gathered : messages.items ≡ recorded_in core.slots core.replies.items (take count (chain_at core.slots RAN))
   pub handed_on : passed ≡ messages.items
 
 module _ {D : Type 0} {keeps : Type 0} (core : Inside D) (is : IsSoundCore keeps core) {n count : ℕ} {messages : Vec Msg Global} {passed : List Msg}
@@ -75,10 +76,10 @@ module _ {D : Type 0} {keeps : Type 0} (core : Inside D) (is : IsSoundCore keeps
   p = parts core
 
   abbrev slots : List ℕ
-  slots = chain_at core.slots 2
+  slots = chain_at core.slots RAN
 
   abbrev ran_slots : List SlotView
-  ran_slots = slots_on core.slots core.replies.items 2
+  ran_slots = slots_on core.slots core.replies.items RAN
 
   min_is : count ≡ min n (length ran_slots)
   min_is = gathered.is_least ∙ ap (λ (m : ℕ). min n m) is.ran
@@ -199,18 +200,18 @@ module _ {D : Type 0} {keeps : Type 0} (core : Inside D) (is : IsSoundCore keeps
       moved_places : (ys : List ℕ) → map (slot_view_at moved core.replies.items) ys ≡ map (slot_view_at core.slots core.replies.items) ys
       moved_places ys = λ z. map (λ i. (i, unwrap_or (slice_index_or (has.values z) i None) no_slot, get_or core.replies.items i Done)) ys
 
-      ran_now : slots_on moved core.replies.items 2 ≡ drop n ran_slots
-      ran_now = moved_places (chain_at moved 2) ∙ ap (map (slot_view_at core.slots core.replies.items)) has.ran ∙ sym (drop-map (slot_view_at core.slots core.replies.items) count slots) ∙ drop_is
+      ran_now : slots_on moved core.replies.items RAN ≡ drop n ran_slots
+      ran_now = moved_places (chain_at moved RAN) ∙ ap (map (slot_view_at core.slots core.replies.items)) has.ran ∙ sym (drop-map (slot_view_at core.slots core.replies.items) count slots) ∙ drop_is
 
-      logged_now : slots_on moved core.replies.items 3 ≡ slots_on core.slots core.replies.items 3 ++ take n ran_slots
-      logged_now = moved_places (chain_at moved 3) ∙ ap (map (slot_view_at core.slots core.replies.items)) has.logged
-          ∙ map-append (slot_view_at core.slots core.replies.items) (chain_at core.slots 3) (take count slots)
-          ∙ ap (λ (l : List SlotView). slots_on core.slots core.replies.items 3 ++ l) (sym (take-map (slot_view_at core.slots core.replies.items) count slots) ∙ take_is)
+      logged_now : slots_on moved core.replies.items LOGGED ≡ slots_on core.slots core.replies.items LOGGED ++ take n ran_slots
+      logged_now = moved_places (chain_at moved LOGGED) ∙ ap (map (slot_view_at core.slots core.replies.items)) has.logged
+          ∙ map-append (slot_view_at core.slots core.replies.items) (chain_at core.slots LOGGED) (take count slots)
+          ∙ ap (λ (l : List SlotView). slots_on core.slots core.replies.items LOGGED ++ l) (sym (take-map (slot_view_at core.slots core.replies.items) count slots) ∙ take_is)
 
       log_size : capacity_of moved ≡ capacity_of core.slots
       log_size = ap (λ (vs : List (Option Slot)). length vs) has.values
 
-      log_ran : core.ran - count ≡ length (slots_on moved core.replies.items 2)
+      log_ran : core.ran - count ≡ length (slots_on moved core.replies.items RAN)
       log_ran =
           let now = ap (λ (l : List SlotView). length l) ran_now ∙ length-drop n ran_slots in
           let were = is.ran in
@@ -220,8 +221,8 @@ module _ {D : Type 0} {keeps : Type 0} (core : Inside D) (is : IsSoundCore keeps
       after_is : parts logged ≡ with_log p n (core.unlogged - logged_changes) room new.dirty new.medium
       after_is = λ i. record (with_log p n (core.unlogged - logged_changes) room new.dirty new.medium) {
         phases = record {
-          waiting = same_slots core.slots moved core.replies.items 0 has.values has.waiting i;
-          in_flight = same_slots core.slots moved core.replies.items 1 has.values has.in_flight i;
+          waiting = same_slots core.slots moved core.replies.items WAITING has.values has.waiting i;
+          in_flight = same_slots core.slots moved core.replies.items IN_FLIGHT has.values has.in_flight i;
           ran = ran_now i;
           logged = logged_now i;
         };
@@ -245,9 +246,9 @@ module _ {D : Type 0} {keeps : Type 0} (core : Inside D) (is : IsSoundCore keeps
           (record core.journal { room = room; dirty = new.dirty; medium = new.medium })
       recovers_at keep c leaves = ap (λ (j : JournalView). recovered_state j.geometry c) (sym made) ∙ (recovers keep).each c leaves ∙ ap committed made
 
-      pub log_call : IsPartitioned moved → length moved.chains ≡ 4 → vec_capacity emptied ≡ vec_capacity core.batch → IsSoundCore keeps logged
-      log_call partitioned four same_capacity = record {
-        chains = record { partitioned = partitioned; four = four };
+      pub log_call : IsPartitioned moved → length moved.chains ≡ CHAINS → vec_capacity emptied ≡ vec_capacity core.batch → IsSoundCore keeps logged
+      log_call partitioned chain_count same_capacity = record {
+        chains = record { partitioned = partitioned; chain_count = chain_count };
         core = subst (IsCore keeps) (sym after_is) (log_core keeps p is.core gathered.works n (core.unlogged - logged_changes) new.dirty new.medium
             (unlogged_is logged_changes logged_changes_is) settles_at recovers_at);
         batch = subst (λ (m : ℕ). m ≤ vec_capacity emptied) (sym log_size) (subst (λ (m : ℕ). capacity_of core.slots ≤ m) (sym same_capacity) is.batch);

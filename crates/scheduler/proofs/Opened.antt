@@ -17,12 +17,13 @@ use Rattle.scheduler.specs.Parts.{IsCore, Parts, is_below, core_state_in}
 use Rattle.scheduler.specs.declared.server_core.Core.TheInside.{Inside}
 use Rattle.scheduler.specs.Slots.{phases_of, slots_on}
 use Rattle.scheduler.specs.declared.slot.Slot.{Slot}
+use Rattle.scheduler.specs.declared.slot.TheConstants.{RAN, CHAINS}
 use Rattle.run_queue.specs.RunQueue.{queue_at_start}
 
 module _ {D : Type 0} {keeps : Type 0} (core : Inside D) (n : ℕ) (same : core.tree.geometry ≡ core.journal.geometry) (whole : IsWholeTree core.tree)
     (holds : keeps → (committed core.journal ≡ Some (state_in core.tree)) × IsRecoverable core.journal) where
   abbrev none : ArenaView Slot
-  none = empty_arena n 4
+  none = empty_arena n CHAINS
 
   abbrev opened : Parts
   opened = record {
@@ -74,7 +75,7 @@ module _ {D : Type 0} {keeps : Type 0} (core : Inside D) (n : ℕ) (same : core.
   opened_sound arena_is partitioned queue_is batch_is room replies_are counts history =
       let slots : capacity_of core.slots ≡ n = ap (λ (r : ArenaView Slot). capacity_of r) arena_is ∙ size in
       record {
-        chains = record { partitioned = partitioned; four = ap (λ (r : ArenaView Slot). length r.chains) arena_is };
+        chains = record { partitioned = partitioned; chain_count = ap (λ (r : ArenaView Slot). length r.chains) arena_is };
         core = subst (IsCore keeps) (λ i. record opened {
           phases = phases_of (sym arena_is i) core.replies.items;
           free = length (sym arena_is i).free;
@@ -88,5 +89,5 @@ module _ {D : Type 0} {keeps : Type 0} (core : Inside D) (n : ℕ) (same : core.
         }) opened_core;
         batch = subst (λ (m : ℕ). m ≤ vec_capacity core.batch) (sym slots) room;
         replies = replies_are ∙ sym slots;
-        ran = counts.2 ∙ ap (λ (r : ArenaView Slot). length (slots_on r core.replies.items 2)) (sym arena_is);
+        ran = counts.2 ∙ ap (λ (r : ArenaView Slot). length (slots_on r core.replies.items RAN)) (sym arena_is);
       }

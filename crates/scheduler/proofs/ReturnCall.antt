@@ -41,6 +41,7 @@ use Rattle.scheduler.specs.Fields.{IsSoundCore, parts}
 use Rattle.scheduler.specs.Parts.{IsCore, IsPlaced, Parts, entry_of, queued_of, core_state_in}
 use Rattle.scheduler.specs.Slots.{SlotView, slots_on, slot_view_at}
 use Rattle.scheduler.specs.declared.slot.Slot.{Slot}
+use Rattle.scheduler.specs.declared.slot.TheConstants.{WAITING, IN_FLIGHT, RAN, LOGGED}
 use Rattle.run_queue.specs.RunQueue.{has_number, has_slot, holds_at}
 
 -- ---- the slot of an entry
@@ -172,15 +173,15 @@ module _ {D : Type 0} {keeps : Type 0} (core : Inside D) (is : IsSoundCore keeps
       slot_is : slot ≡ x.0
       slot_is = holder_is keeps p is.core recovers.before x recovers.behind recovers.whole slot (ap (λ (m : ℕ). list_any (holds_at m slot) core.queue.held) (sym number_same) ∙ has)
 
-      split : MapSplit (slot_view_at core.slots core.replies.items) (chain_at core.slots 1) recovers.before x recovers.behind
-      split = map_split (slot_view_at core.slots core.replies.items) (chain_at core.slots 1) recovers.before x recovers.behind recovers.whole
+      split : MapSplit (slot_view_at core.slots core.replies.items) (chain_at core.slots IN_FLIGHT) recovers.before x recovers.behind
+      split = map_split (slot_view_at core.slots core.replies.items) (chain_at core.slots IN_FLIGHT) recovers.before x recovers.behind recovers.whole
 
       at_slot : split.at ≡ slot
       at_slot = ap (λ (y : SlotView). y.0) split.at_is ∙ sym slot_is
 
       pub back_low : slot < capacity_of core.slots
       back_low =
-          let some = chained-listed core.slots split.at 1 (subst (λ xs. 0 < count_of split.at xs) (sym split.whole) (count_of-split split.at split.front split.back)) in
+          let some = chained-listed core.slots split.at IN_FLIGHT (subst (λ xs. 0 < count_of split.at xs) (sym split.whole) (count_of-split split.at split.front split.back)) in
           let all = count_of-append split.at core.slots.free (concat core.slots.chains) in
           subst (λ n. n < capacity_of core.slots) at_slot (is.chains.partitioned.within split.at (omega (arith, some, all)))
 
@@ -192,8 +193,8 @@ module _ {D : Type 0} {keeps : Type 0} (core : Inside D) (is : IsSoundCore keeps
         abbrev y : SlotView
         y = (x.0, x.1, done.reply)
 
-        moved_slot : MovedSlot core.slots (after_move core.slots slot 2) core.replies.items new_replies 1 2 recovers.before x recovers.behind
-        moved_slot = slot_moved core.slots core.replies.items new_replies is.chains 1 2 (omega arith) (λ same. omega (arith, same)) recovers.before x recovers.behind recovers.whole
+        moved_slot : MovedSlot core.slots (after_move core.slots slot RAN) core.replies.items new_replies IN_FLIGHT RAN recovers.before x recovers.behind
+        moved_slot = slot_moved core.slots core.replies.items new_replies is.chains IN_FLIGHT RAN (omega arith) (λ same. omega (arith, same)) recovers.before x recovers.behind recovers.whole
             (λ j other. get_or-set_other core.replies.items slot j reply Done (λ same. other (same ∙ slot_is))) slot slot_is
 
         there : slot < length core.replies.items
@@ -203,21 +204,21 @@ module _ {D : Type 0} {keeps : Type 0} (core : Inside D) (is : IsSoundCore keeps
         reply_here = ap (λ n. get_or new_replies n Done) (sym slot_is) ∙ get_or-set_same core.replies.items slot reply Done there ∙ reply_is
 
         abbrev pub returned : Inside D
-        returned = record core { slots = after_move core.slots slot 2; replies = with_item core.replies slot reply; tree = now; ran = core.ran + 1 }
+        returned = record core { slots = after_move core.slots slot RAN; replies = with_item core.replies slot reply; tree = now; ran = core.ran + 1 }
 
-        joined : slots_on (after_move core.slots slot 2) new_replies 2 ≡ p.phases.ran ++ y ∷ []
+        joined : slots_on (after_move core.slots slot RAN) new_replies RAN ≡ p.phases.ran ++ y ∷ []
         joined = moved_slot.joined ∙ (λ j. p.phases.ran ++ (x.0, x.1, reply_here j) ∷ [])
 
-        back_size : capacity_of (after_move core.slots slot 2) ≡ capacity_of core.slots
+        back_size : capacity_of (after_move core.slots slot RAN) ≡ capacity_of core.slots
         back_size = ap (λ (vs : List (Option Slot)). length vs) moved_slot.values
 
         after_is : parts returned ≡ with_return p (recovers.before ++ recovers.behind) y now
         after_is = λ i. record (with_return p (recovers.before ++ recovers.behind) y now) {
           phases = record {
-            waiting = moved_slot.stays 0 (λ same. omega (arith, same)) (λ same. omega (arith, same)) i;
+            waiting = moved_slot.stays WAITING (λ same. omega (arith, same)) (λ same. omega (arith, same)) i;
             in_flight = moved_slot.left i;
             ran = joined i;
-            logged = moved_slot.stays 3 (λ same. omega (arith, same)) (λ same. omega (arith, same)) i;
+            logged = moved_slot.stays LOGGED (λ same. omega (arith, same)) (λ same. omega (arith, same)) i;
           };
           free = ap (λ (fs : List ℕ). length fs) moved_slot.free i;
           capacity = back_size i;
@@ -238,9 +239,9 @@ module _ {D : Type 0} {keeps : Type 0} (core : Inside D) (is : IsSoundCore keeps
         reply_same : done.reply ≡ reply_to core.journal.geometry (core_state_in p).committed x.1.message
         reply_same = result.reply ∙ ap (reply_to core.journal.geometry (core_state_in p).committed) (sym message_is)
 
-        pub back_call : IsPartitioned (after_move core.slots slot 2) → IsSoundCore keeps returned
+        pub back_call : IsPartitioned (after_move core.slots slot RAN) → IsSoundCore keeps returned
         back_call partitioned = record {
-          chains = record { partitioned = partitioned; four = moved_slot.four ∙ is.chains.four };
+          chains = record { partitioned = partitioned; chain_count = moved_slot.chain_count ∙ is.chains.chain_count };
           core = subst (IsCore keeps) (sym after_is)
               (return_core keeps p is.core recovers.before x recovers.behind recovers.whole done.reply reply_same now (same_geometry ∙ is.core.geometry) result.standing done.parcels put fits shows);
           batch = subst (λ (n : ℕ). n ≤ vec_capacity core.batch) (sym back_size) is.batch;

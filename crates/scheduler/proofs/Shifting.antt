@@ -7,6 +7,7 @@ use Rattle.scheduler.proofs.Chains.{chain_joined, chain_left, chain_stays, four_
 use Rattle.scheduler.specs.Moving.{HasLogged}
 use Rattle.scheduler.specs.Slots.{HasChains}
 use Rattle.scheduler.specs.declared.slot.Slot.{Slot}
+use Rattle.scheduler.specs.declared.slot.TheConstants.{WAITING, IN_FLIGHT, RAN, LOGGED}
 use Rattle.std.proofs.Common.{rules}
 use Rattle.std.proofs.lemmas.List.{append-nil, length-drop}
 
@@ -28,43 +29,43 @@ left_over n xs low = simp length-drop (omega (arith, low))
 -- ---- what ran is logged
 
 pub none_logged : (arena : ArenaView Slot) → HasChains arena → HasLogged 0 arena arena
-none_logged arena is = let logged = sym (append-nil (chain_at arena 3)) in search (rules, logged, is)
+none_logged arena is = let logged = sym (append-nil (chain_at arena LOGGED)) in search (rules, logged, is)
 
 pub some_first : (xs : List ℕ) → 0 < length xs → first_of xs ≡ None → ⊥
 some_first [] some none = omega (arith, some)
 some_first (x ∷ xs) some none = absurd (cc)
 
-pub first_is_there : (arena : ArenaView Slot) → 0 < length (chain_at arena 2) → front_of arena 2 ≡ None → ⊥
-first_is_there arena some none = some_first (chain_at arena 2) some none
+pub first_is_there : (arena : ArenaView Slot) → 0 < length (chain_at arena RAN) → front_of arena RAN ≡ None → ⊥
+first_is_there arena some none = some_first (chain_at arena RAN) some none
 
-module _ (arena : ArenaView Slot) (is : HasChains arena) (i : ℕ) (first : front_of arena 2 ≡ Some i) (partitioned : IsPartitioned (after_move arena i 3)) where
-  whole : chain_at arena 2 ≡ [] ++ i ∷ without i (chain_at arena 2)
-  whole = chain-front arena i 2 is.partitioned first
+module _ (arena : ArenaView Slot) (is : HasChains arena) (i : ℕ) (first : front_of arena RAN ≡ Some i) (partitioned : IsPartitioned (after_move arena i LOGGED)) where
+  whole : chain_at arena RAN ≡ [] ++ i ∷ without i (chain_at arena RAN)
+  whole = chain-front arena i RAN is.partitioned first
 
-  there : 3 < length arena.chains
-  there = let four = is.four in omega (arith, four)
+  there : LOGGED < length arena.chains
+  there = let chain_count = is.chain_count in omega (arith, chain_count)
 
-  other : ◌≢◌ {A = ℕ} 3 2
+  other : ◌≢◌ {A = ℕ} LOGGED RAN
   other same = omega (arith, same)
 
-  pub first_logged : HasLogged 1 arena (after_move arena i 3)
+  pub first_logged : HasLogged 1 arena (after_move arena i LOGGED)
   first_logged = record {
-    ran = chain_left arena is.partitioned i 2 3 there other [] (without i (chain_at arena 2)) whole ∙ sym (ap (λ (l : List ℕ). drop 1 l) whole);
-    logged = chain_joined arena is.partitioned i 2 3 there other [] (without i (chain_at arena 2)) whole ∙ sym (ap (λ (l : List ℕ). chain_at arena 3 ++ take 1 l) whole);
-    waiting = chain_stays arena is.partitioned i 2 3 there other [] (without i (chain_at arena 2)) whole 0 (λ same. omega (arith, same)) (λ same. omega (arith, same));
-    in_flight = chain_stays arena is.partitioned i 2 3 there other [] (without i (chain_at arena 2)) whole 1 (λ same. omega (arith, same)) (λ same. omega (arith, same));
-    values = ap (λ (r : ArenaView Slot). r.values) (arena_moved arena is.partitioned i 2 3 there other [] (without i (chain_at arena 2)) whole);
-    free = ap (λ (r : ArenaView Slot). r.free) (arena_moved arena is.partitioned i 2 3 there other [] (without i (chain_at arena 2)) whole);
-    chains = record { partitioned = partitioned; four = four_moved arena is.partitioned i 2 3 there other [] (without i (chain_at arena 2)) whole ∙ is.four };
+    ran = chain_left arena is.partitioned i RAN LOGGED there other [] (without i (chain_at arena RAN)) whole ∙ sym (ap (λ (l : List ℕ). drop 1 l) whole);
+    logged = chain_joined arena is.partitioned i RAN LOGGED there other [] (without i (chain_at arena RAN)) whole ∙ sym (ap (λ (l : List ℕ). chain_at arena LOGGED ++ take 1 l) whole);
+    waiting = chain_stays arena is.partitioned i RAN LOGGED there other [] (without i (chain_at arena RAN)) whole WAITING (λ same. omega (arith, same)) (λ same. omega (arith, same));
+    in_flight = chain_stays arena is.partitioned i RAN LOGGED there other [] (without i (chain_at arena RAN)) whole IN_FLIGHT (λ same. omega (arith, same)) (λ same. omega (arith, same));
+    values = ap (λ (r : ArenaView Slot). r.values) (arena_moved arena is.partitioned i RAN LOGGED there other [] (without i (chain_at arena RAN)) whole);
+    free = ap (λ (r : ArenaView Slot). r.free) (arena_moved arena is.partitioned i RAN LOGGED there other [] (without i (chain_at arena RAN)) whole);
+    chains = record { partitioned = partitioned; chain_count = four_moved arena is.partitioned i RAN LOGGED there other [] (without i (chain_at arena RAN)) whole ∙ is.chain_count };
   }
 
 pub one_more_logged : (n : ℕ) (a b c : ArenaView Slot) → HasLogged n a b → HasLogged 1 b c → HasLogged (n + 1) a c
 one_more_logged n a b c h k =
     let count : suc n ≡ n + 1 = omega arith in
     subst (λ (m : ℕ). HasLogged m a c) count (record {
-      ran = k.ran ∙ ap (λ (l : List ℕ). drop 1 l) h.ran ∙ drop_more n (chain_at a 2);
-      logged = k.logged ∙ (λ i. h.logged i ++ take 1 (h.ran i)) ∙ append_assoc (chain_at a 3) (take n (chain_at a 2)) (take 1 (drop n (chain_at a 2)))
-          ∙ ap (λ (l : List ℕ). chain_at a 3 ++ l) (take_more n (chain_at a 2));
+      ran = k.ran ∙ ap (λ (l : List ℕ). drop 1 l) h.ran ∙ drop_more n (chain_at a RAN);
+      logged = k.logged ∙ (λ i. h.logged i ++ take 1 (h.ran i)) ∙ append_assoc (chain_at a LOGGED) (take n (chain_at a RAN)) (take 1 (drop n (chain_at a RAN)))
+          ∙ ap (λ (l : List ℕ). chain_at a LOGGED ++ l) (take_more n (chain_at a RAN));
       waiting = k.waiting ∙ h.waiting;
       in_flight = k.in_flight ∙ h.in_flight;
       values = k.values ∙ h.values;

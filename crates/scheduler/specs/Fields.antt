@@ -5,6 +5,7 @@ use Rattle.scheduler.specs.CoreView.{CoreView}
 use Rattle.scheduler.specs.Parts.{IsCore, Parts, core_view_of}
 use Rattle.scheduler.specs.Slots.{HasChains, phases_of, slots_on}
 use Rattle.scheduler.specs.declared.server_core.Core.TheInside.{Inside}
+use Rattle.scheduler.specs.declared.slot.TheConstants.{RAN}
 
 module _ {D : Type 0} where
   abbrev pub parts : Inside D → Parts
@@ -32,4 +33,4 @@ module _ {D : Type 0} where
     -- a batch may have a record of each slot, and each slot has a place for its reply
     pub batch : capacity_of c.slots ≤ vec_capacity c.batch
     pub replies : length c.replies.items ≡ capacity_of c.slots
-    pub ran : c.ran ≡ length (slots_on c.slots c.replies.items 2)
+    pub ran : c.ran ≡ length (slots_on c.slots c.replies.items RAN)

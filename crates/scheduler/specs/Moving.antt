@@ -8,6 +8,7 @@ use Rattle.protocol.specs.declared.replies.Reply.{Reply}
 use Rattle.scheduler.specs.Parts.{replied_of}
 use Rattle.scheduler.specs.Slots.{HasChains, no_slot, slot_view_at}
 use Rattle.scheduler.specs.declared.slot.Slot.{Slot}
+use Rattle.scheduler.specs.declared.slot.TheConstants.{WAITING, IN_FLIGHT, RAN, LOGGED}
 
 -- those of the messages in these slots that the log keeps
 abbrev pub recorded_in : ArenaView Slot → List Reply → List ℕ → List Msg
@@ -19,10 +20,10 @@ changing_in arena slots = count_by (λ i. changes (unwrap_or (value_at arena i) 
 
 -- The slots of the first n messages that ran moved to the end of the chain of those that are logged, and nothing else has changed.
 pub record HasLogged (n : ℕ) (old new : ArenaView Slot) : Type 0 where
-  pub ran : chain_at new 2 ≡ drop n (chain_at old 2)
-  pub logged : chain_at new 3 ≡ chain_at old 3 ++ take n (chain_at old 2)
-  pub waiting : chain_at new 0 ≡ chain_at old 0
-  pub in_flight : chain_at new 1 ≡ chain_at old 1
+  pub ran : chain_at new RAN ≡ drop n (chain_at old RAN)
+  pub logged : chain_at new LOGGED ≡ chain_at old LOGGED ++ take n (chain_at old RAN)
+  pub waiting : chain_at new WAITING ≡ chain_at old WAITING
+  pub in_flight : chain_at new IN_FLIGHT ≡ chain_at old IN_FLIGHT
   pub values : new.values ≡ old.values
   pub free : new.free ≡ old.free
   pub chains : HasChains new

@@ -5,6 +5,7 @@ use Rattle.protocol.specs.declared.messages.Msg.TheVariants.{Summary}
 use Rattle.protocol.specs.declared.replies.Reply.{Reply}
 use Rattle.protocol.specs.declared.replies.Reply.TheVariants.{Done}
 use Rattle.scheduler.specs.declared.slot.Slot.{Slot}
+use Rattle.scheduler.specs.declared.slot.TheConstants.{WAITING, IN_FLIGHT, RAN, LOGGED, CHAINS}
 
 -- a slot with its number, and the reply that lies at this number
 abbrev pub SlotView : Type 0
@@ -29,16 +30,16 @@ pub record Phases : Type 0 where
   pub ran : List SlotView
   pub logged : List SlotView
 
--- Chain 0 has the messages that wait, chain 1 those in flight, chain 2 those that ran, and chain 3 those that are logged.
+-- the slots on each of the arena's chains
 abbrev pub phases_of : ArenaView Slot → List Reply → Phases
 phases_of arena replies = record {
-  waiting = slots_on arena replies 0;
-  in_flight = slots_on arena replies 1;
-  ran = slots_on arena replies 2;
-  logged = slots_on arena replies 3;
+  waiting = slots_on arena replies WAITING;
+  in_flight = slots_on arena replies IN_FLIGHT;
+  ran = slots_on arena replies RAN;
+  logged = slots_on arena replies LOGGED;
 }
 
--- The arena has four chains, as above, and a slot is on one of them at most, or free (`IsPartitioned` allows slots that are neither).
+-- The arena has these chains, and a slot is on one of them at most, or free (`IsPartitioned` allows slots that are neither).
 pub record HasChains (arena : ArenaView Slot) : Type 0 where
   pub partitioned : IsPartitioned arena
-  pub four : length arena.chains ≡ 4
+  pub chain_count : length arena.chains ≡ CHAINS

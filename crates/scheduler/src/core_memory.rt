@@ -29,7 +29,7 @@ pub(crate) struct CoreMemory {
 /// geometry (`default_geometry` in clauses), which `set_geometry` replaces, and has room for any. `AllocError` where there is no memory.
 pub(crate) fn take_memory(alloc: Global, slots: usize) -> Result<CoreMemory, AllocError>
     requires few { slots ≤ MOST_SLOTS }
-    ensures arena { IfOk result (λ m. m.slots ≡ empty_arena slots 4) }
+    ensures arena { IfOk result (λ m. m.slots ≡ empty_arena slots CHAINS) }
     ensures partitioned { IfOk result (λ m. IsPartitioned m.slots) }
     ensures replies { IfOk result (λ m. length m.replies.items ≡ slots) }
     ensures queue { IfOk result (λ m. m.queue ≡ queue_at_start default_geometry slots) }

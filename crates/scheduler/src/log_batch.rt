@@ -1,5 +1,4 @@
-//! The messages that ran: what is to be logged of them, and how they become those that are logged. In clauses chain 2 of the arena is that
-//! of the messages that ran, chain 3 that of the logged ones.
+//! The messages that ran: what is to be logged of them, and how they become those that are logged.
 ghost use Rattle.std.specs.Prelude.{◌≡◌, ◌≤◌, ◌<◌, ◌+◌, [], ◌∷◌, ◌++◌, length, take, vec_capacity};
 ghost use Rattle.arena.specs.ArenaView.{capacity_of, chain_at};
 ghost use Rattle.histories.specs.Events.{recorded};
@@ -41,13 +40,13 @@ pub(crate) fn collect_recorded(
     batch: &mut Vec<Msg>,
 ) -> usize
     requires chains { HasChains slots.now }
-    requires count { count ≤ length (chain_at slots.now 2) }
+    requires count { count ≤ length (chain_at slots.now RAN) }
     requires replies { length replies.now ≡ capacity_of slots.now }
     requires empty { batch.old.items ≡ [] }
     requires room { capacity_of slots.now ≤ vec_capacity batch.old }
-    ensures batch { batch.new.items ≡ recorded_in slots.now replies.now (take count (chain_at slots.now 2)) }
+    ensures batch { batch.new.items ≡ recorded_in slots.now replies.now (take count (chain_at slots.now RAN)) }
     ensures capacity { vec_capacity batch.new ≡ vec_capacity batch.old }
-    ensures changing { result ≡ changing_in slots.now (take count (chain_at slots.now 2)) }
+    ensures changing { result ≡ changing_in slots.now (take count (chain_at slots.now RAN)) }
 {
     let mut at = slots.front(RAN);
     let mut found = 0;
@@ -66,7 +65,7 @@ pub(crate) fn collect_recorded(
 // Moves the first message that ran to the end of the logged list.
 fn move_first(slots: &mut Arena<Slot>)
     requires chains { HasChains slots.old }
-    requires some { 0 < length (chain_at slots.old 2) }
+    requires some { 0 < length (chain_at slots.old RAN) }
     ensures { HasLogged 1 slots.old slots.new }
 {
     let Some(slot) = slots.front(RAN) else {
@@ -78,7 +77,7 @@ fn move_first(slots: &mut Arena<Slot>)
 /// Moves the first `count` messages that ran to the end of the logged list.
 pub(crate) fn move_ran(slots: &mut Arena<Slot>, count: usize)
     requires chains { HasChains slots.old }
-    requires count { count ≤ length (chain_at slots.old 2) }
+    requires count { count ≤ length (chain_at slots.old RAN) }
     ensures { HasLogged count slots.old slots.new }
 {
     for _ in 0..count {

@@ -69,7 +69,7 @@ pub struct Core<D: Disk> {
     /// How many changing messages are in flight, or ran and are not logged yet.
     unlogged: usize,
 
-    /// How many messages ran and are not logged yet: those on chain 2 of `slots`.
+    /// How many messages ran and are not logged yet: those on the chain `RAN` of `slots`.
     ran: usize,
     history: History,
 }
@@ -93,10 +93,11 @@ pub(crate) fn one_if(is_so: bool) -> usize
     if is_so { 1 } else { 0 }
 }
 
-// Whether any message is held: in flight, ran or logged (chains 1, 2 and 3 of `slot.rt`).
+// Whether any message is held: in flight, ran or logged.
 fn holds_any(slots: &Arena<Slot>) -> bool
     requires { HasChains slots.now }
-    ensures { result ≡ nat_lt 0 (length (chain_at slots.now 3) + (length (chain_at slots.now 2) + length (chain_at slots.now 1))) }
+    ensures { result ≡ nat_lt 0
+        (length (chain_at slots.now LOGGED) + (length (chain_at slots.now RAN) + length (chain_at slots.now IN_FLIGHT))) }
 {
     slots.front(IN_FLIGHT).is_some() || slots.front(RAN).is_some() || slots.front(LOGGED).is_some()
 }

@@ -5,6 +5,7 @@ use Rattle.affinity.specs.Kind.{is_changing}
 use Rattle.histories.proofs.Room.{at_most_one}
 use Rattle.scheduler.proofs.Gathering.{chain_short, changing_more, gathered_more, ran_goes_on, ran_is_there, ran_next}
 use Rattle.scheduler.proofs.log_batch.collect_recorded.Goals as goal
+use Rattle.scheduler.specs.declared.slot.TheConstants.{RAN}
 
 pub loop-init : goal.loop-init
 loop-init c = record {
@@ -29,7 +30,7 @@ push_if_recorded-requires c = record {
       let few = c.loop.invariant.short in
       let low = c.loop-test.true in
       let count = c.requires.count in
-      let chain = chain_short c.args.slots.now 2 c.requires.chains.partitioned in
+      let chain = chain_short c.args.slots.now RAN c.requires.chains.partitioned in
       let room = c.requires.room in
       let same = c.loop.invariant.capacity in
       omega (arith, few, low, count, chain, room, same);

@@ -4,14 +4,15 @@ use Rattle.std.specs.Prelude.{vec_capacity}
 use Rattle.arena.specs.Lists.{first_of}
 use Rattle.arena.specs.ArenaView.{chain_at}
 use Rattle.scheduler.specs.Moving.{changing_in, recorded_in}
+use Rattle.scheduler.specs.declared.slot.TheConstants.{RAN}
 use Rattle.scheduler.proofs.log_batch.collect_recorded.Given as goal
 
 abbrev pub invariant-loop : goal.invariant-loop
 invariant-loop l = record {
-  at : l.at ≡ first_of (drop l.counter (chain_at l.slots 2));
-  found : l.found ≡ changing_in l.slots (take l.counter (chain_at l.slots 2));
+  at : l.at ≡ first_of (drop l.counter (chain_at l.slots RAN));
+  found : l.found ≡ changing_in l.slots (take l.counter (chain_at l.slots RAN));
   few : l.found ≤ l.counter;
-  batch : l.batch.items ≡ recorded_in l.slots l.replies (take l.counter (chain_at l.slots 2));
+  batch : l.batch.items ≡ recorded_in l.slots l.replies (take l.counter (chain_at l.slots RAN));
   short : length l.batch.items ≤ l.counter;
   capacity : vec_capacity l.batch ≡ vec_capacity l.initial.batch;
 }

@@ -9,11 +9,12 @@ use Rattle.scheduler.proofs.AnswerCall.{answer_call, answer_call_state, front_lo
 use Rattle.scheduler.specs.CoreView.{CoreView, core_state_of}
 use Rattle.scheduler.specs.Fields.{IsSoundCore, parts}
 use Rattle.scheduler.specs.Parts.{core_state_in}
+use Rattle.scheduler.specs.declared.slot.TheConstants.{LOGGED}
 use Rattle.scheduler.proofs.server_core.Core.answer.Goals as goal
 
 pub index-reply-requires : goal.index-reply-requires
 index-reply-requires g c =
-    let low = front_low c.self.inside.slots 3 c.in_ok-slot.slot c.self.invariant.chains.partitioned (sym c.front.ensures.slot ∙ c.in_ok-slot.was) in
+    let low = front_low c.self.inside.slots LOGGED c.in_ok-slot.slot c.self.invariant.chains.partitioned (sym c.front.ensures.slot ∙ c.in_ok-slot.was) in
     let size = c.self.invariant.replies in
     omega (arith, low, size)
 
@@ -28,7 +29,7 @@ pub returns-clause-state_after : goal.returns-clause-state_after
 returns-clause-state_after g c =
     let first = sym c.front.ensures.slot ∙ c.in_ok-slot.was in
     let value = sym c.take.ensures.answer ∙ c.in-Some.is in
-    let under = front_low c.self.inside.slots 3 c.in_ok-slot.slot c.self.invariant.chains.partitioned first in
+    let under = front_low c.self.inside.slots LOGGED c.in_ok-slot.slot c.self.invariant.chains.partitioned first in
     let size = c.self.invariant.replies in
     let low : c.in_ok-slot.slot < length c.self.inside.replies.items = omega (arith, under, size) in
     (λ i. (

@@ -12,6 +12,7 @@ use Rattle.scheduler.specs.CoreView.{CoreView, core_state_of}
 use Rattle.scheduler.specs.Fields.{IsSoundCore, parts}
 use Rattle.scheduler.specs.Parts.{core_state_in}
 use Rattle.scheduler.specs.declared.slot.Slot.{Slot}
+use Rattle.scheduler.specs.declared.slot.TheConstants.{WAITING}
 use Rattle.scheduler.proofs.server_core.Core.arrive.Goals as goal
 
 pub invariant_of-self : goal.invariant_of-self
@@ -44,7 +45,7 @@ arrive-requires-clause-new_slot g c = arrive_new c.self.inside c.self.invariant
 
 pub invariant_of-self-2 : goal.invariant_of-self-2
 invariant_of-self-2 g c =
-    let rows = c.move_to.ensures.arena ∙ ap (λ (r : ArenaView Slot). after_move r c.in-Ok.slot 0) c.put.ensures.arena in
+    let rows = c.move_to.ensures.arena ∙ ap (λ (r : ArenaView Slot). after_move r c.in-Ok.slot WAITING) c.put.ensures.arena in
     let queue = c.arrive.ensures ∙ ap (λ (b : Bool). record c.self.inside.queue {
       waiting = c.self.inside.queue.waiting ++ record { slot = c.in-Ok.slot; affinity = c.in-Some.affinity; changing = b; ticket = c.self.inside.next } ∷ [];
     }) (c.changing.ensures ∙ ap is_changing c.kind-2.ensures) in
@@ -58,7 +59,7 @@ invariant_of-self-2 g c =
 
 pub returns-clause-state_after : goal.returns-clause-state_after
 returns-clause-state_after g c =
-    let rows = c.move_to.ensures.arena ∙ ap (λ (r : ArenaView Slot). after_move r c.in-Ok.slot 0) c.put.ensures.arena in
+    let rows = c.move_to.ensures.arena ∙ ap (λ (r : ArenaView Slot). after_move r c.in-Ok.slot WAITING) c.put.ensures.arena in
     let queue = c.arrive.ensures ∙ ap (λ (b : Bool). record c.self.inside.queue {
       waiting = c.self.inside.queue.waiting ++ record { slot = c.in-Ok.slot; affinity = c.in-Some.affinity; changing = b; ticket = c.self.inside.next } ∷ [];
     }) (c.changing.ensures ∙ ap is_changing c.kind-2.ensures) in

@@ -16,6 +16,7 @@ use Rattle.scheduler.specs.Parts.{core_state_in}
 use Rattle.arena.specs.ArenaView.{chain_at}
 use Rattle.protocol.specs.declared.replies.Reply.{Reply}
 use Rattle.scheduler.specs.Moving.{recorded_in}
+use Rattle.scheduler.specs.declared.slot.TheConstants.{RAN}
 use Rattle.scheduler.proofs.server_core.Core.log.Given.{Over}
 use Rattle.scheduler.proofs.server_core.Core.log.Goals.{After-deref-2}
 use Rattle.scheduler.proofs.server_core.Core.log.Goals as goal
@@ -25,7 +26,7 @@ gathered g c = record {
   works = sym c.failed.ensures ∙ c.if-failed.false;
   is_least = c.min-count.ensures;
   gathered = c.collect_recorded-changing_count.ensures.batch
-      ∙ ap (λ (rs : List Reply). recorded_in c.self.inside.slots rs (take c.min-count.result (chain_at c.self.inside.slots 2))) c.deref.ensures.value;
+      ∙ ap (λ (rs : List Reply). recorded_in c.self.inside.slots rs (take c.min-count.result (chain_at c.self.inside.slots RAN))) c.deref.ensures.value;
   handed_on = c.deref-2.ensures.value;
 }
 
@@ -86,7 +87,7 @@ invariant_of-self-2 g c =
     (on_ok c.log.result _ (sym c.is_err.ensures.value ∙ c.if-is_err.false) c.log.ensures.recoverable) c.move_ran.new.slots c.move_ran.ensures
     c.collect_recorded-changing_count.result c.collect_recorded-changing_count.ensures.changing c.note.new.self c.note.ensures
     c.clear.new.self c.clear.ensures.items
-    c.move_ran.ensures.chains.partitioned c.move_ran.ensures.chains.four (c.clear.ensures.capacity ∙ c.collect_recorded-changing_count.ensures.capacity)
+    c.move_ran.ensures.chains.partitioned c.move_ran.ensures.chains.chain_count (c.clear.ensures.capacity ∙ c.collect_recorded-changing_count.ensures.capacity)
 
 pub returns-clause-state_after : goal.returns-clause-state_after
 returns-clause-state_after g c =

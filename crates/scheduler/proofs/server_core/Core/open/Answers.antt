@@ -16,6 +16,7 @@ use Rattle.run_queue.specs.RunQueue.{RunQueueView, queue_at_start}
 use Rattle.scheduler.specs.Parts.{entry_of, replied_of}
 use Rattle.scheduler.specs.Slots.{slots_on}
 use Rattle.scheduler.specs.declared.slot.Slot.{Slot}
+use Rattle.scheduler.specs.declared.slot.TheConstants.{WAITING, IN_FLIGHT, RAN, LOGGED}
 use Rattle.scheduler.proofs.server_core.Core.open.Goals as goal
 
 pub returns-in_default-clause-any_moment : goal.returns-in_default-clause-any_moment
@@ -41,10 +42,10 @@ returns-clause-opened g c =
     let arena = c.in-Ok.ensures.arena in
     let replies = c.in-Ok.memory.replies.items in
     record {
-      none_waits = ap (λ (r : ArenaView Slot). map entry_of (slots_on r replies 0)) arena;
-      none_in_flight = ap (λ (r : ArenaView Slot). map entry_of (slots_on r replies 1)) arena;
-      none_ran = ap (λ (r : ArenaView Slot). map replied_of (slots_on r replies 2)) arena;
-      none_logged = ap (λ (r : ArenaView Slot). map replied_of (slots_on r replies 3)) arena;
+      none_waits = ap (λ (r : ArenaView Slot). map entry_of (slots_on r replies WAITING)) arena;
+      none_in_flight = ap (λ (r : ArenaView Slot). map entry_of (slots_on r replies IN_FLIGHT)) arena;
+      none_ran = ap (λ (r : ArenaView Slot). map replied_of (slots_on r replies RAN)) arena;
+      none_logged = ap (λ (r : ArenaView Slot). map replied_of (slots_on r replies LOGGED)) arena;
       room = c.in_ok-journal.ensures.begins.0;
       next = refl;
       slots_are = ap (λ (r : ArenaView Slot). capacity_of r) arena ∙ length-replicate {A = Option Slot} c.args.slots None;
