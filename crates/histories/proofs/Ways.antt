@@ -1,5 +1,5 @@
 -- The ways that an event can go: one case analysis of the steps, which the lemmas on events share.
-use Rattle.std.proofs.Common.{◌≡◌, ℕ, zero, suc, ◌+◌, ◌-◌, ◌^◌, ◌<◌, ◌≤◌, Bool, true, false, List, [], ◌∷◌, ◌++◌, Option, Some, None, refl, ap, sym, ◌∙◌, subst, take, length, arith}
+use Rattle.std.proofs.Common.{◌≡◌, ℕ, zero, suc, ◌+◌, ◌<◌, ◌≤◌, Bool, true, false, List, [], ◌∷◌, ◌++◌, Option, Some, None, refl, ap, sym, ◌∙◌, subst, take, length, arith}
 use Rattle.std.specs.Prelude.{◌&&◌, not, if◌then◌else◌, is_none, is_some, nat_lt, nat_le, ◌==◌, MatchBool, get_or, slice_get, set, position}
 use Rattle.std.specs.List.{list_any}
 use Rattle.std.proofs.lemmas.Bool.{true≢false, ltb-false, leb-false}
@@ -20,7 +20,7 @@ use Rattle.histories.specs.declared.outcomes.ArriveRefusal.TheVariants as arriva
 use Rattle.histories.specs.declared.outcomes.CoreFault.TheVariants as faults
 use Rattle.histories.specs.declared.outcomes.PointRefusal.{PointRefusal}
 use Rattle.histories.specs.declared.outcomes.PointRefusal.TheVariants as points
-use Rattle.histories.specs.CoreState.{Entry, Replied, CoreState, held}
+use Rattle.histories.specs.CoreState.{Entry, Replied, CoreState, held, most_tickets}
 use Rattle.histories.specs.Eligible.{changes, lacks_only_room, unlogged_changes, next_eligible}
 use Rattle.histories.specs.Events.{Hand, MachineState, Empty, Job, Result, Event, IsAllowed, IsFault, IsWithoutFault, arrive, grant, give_back, find_in_flight, batch, in_core, recorded, log, answer, point_refusal, piece_refusal, flip_refusal, unfinished_refusal, unless_refused, pieces_after, grant_to, run_hand, result_in, back_from, is_empty, apply_step, fail_step, touches_device}
 use Rattle.histories.specs.Runs.{answered_at, logged_at, arrives, answers}
@@ -94,7 +94,7 @@ module _ (g : Geometry) (w : MachineState) where
       let P = λ (x : Outcome × CoreState). At (steps.Arrive m) (in_core w x) in
       either P w.core.failed _ _ (λ e. no arrivals.Failed) (λ works.
       either P (not (is_in_range g m)) _ _ (λ e. no arrivals.Range) (λ e.
-      either P (w.core.next == 2 ^ 64 - 1) _ _ (λ e. no arrivals.Exhausted) (λ e.
+      either P (w.core.next == most_tickets) _ _ (λ e. no arrivals.Exhausted) (λ e.
       either P (nat_le w.core.slots (length w.core.waiting + length (held w.core))) _ _ (λ e. no arrivals.Full) (λ e.
       Arrives m works (leb-false w.core.slots (length w.core.waiting + length (held w.core)) e)))))
     where

@@ -1,11 +1,15 @@
 -- Statement for operators: The core state: the messages that a server has taken in, how far each has come, and what has been committed.
-use Rattle.std.specs.Prelude.{ℕ, Bool, List, ◌++◌, map, Option}
+use Rattle.std.specs.Prelude.{ℕ, ◌-◌, ◌^◌, Bool, List, ◌++◌, map, Option}
 use Rattle.affinity.specs.declared.geometry.Geometry.{Geometry}
 use Rattle.affinity.specs.Path.{are_related}
 use Rattle.protocol.specs.declared.messages.Msg.{Msg}
 use Rattle.protocol.specs.declared.replies.Reply.{Reply}
 use Rattle.protocol.specs.Messages.{path_of}
 use Rattle.meaning.specs.State.{State}
+
+-- how many tickets there are: a core gives those below this number, from 0 on
+abbrev pub most_tickets : ℕ
+most_tickets = 2 ^ 64 - 1
 
 -- a message with its ticket: (ticket, message)
 abbrev pub Entry : Type 0

@@ -1,5 +1,5 @@
 -- Statement for operators: Events: what each step does to the core state and to the hands of a machine, and which outcome it has.
-use Rattle.std.specs.Prelude.{◌≡◌, ℕ, zero, suc, ◌+◌, ◌-◌, ◌^◌, ◌≤◌, Bool, true, false, not, ◌&&◌, ◌==◌, nat_lt, nat_le, List, [], ◌∷◌, ◌++◌, map, filter, length, take, drop, if◌then◌else◌, Option, Some, None, is_some, is_none, position, slice_get, set, MatchBool}
+use Rattle.std.specs.Prelude.{◌≡◌, ℕ, zero, suc, ◌+◌, ◌-◌, ◌≤◌, Bool, true, false, not, ◌&&◌, ◌==◌, nat_lt, nat_le, List, [], ◌∷◌, ◌++◌, map, filter, length, take, drop, if◌then◌else◌, Option, Some, None, is_some, is_none, position, slice_get, set, MatchBool}
 use Rattle.std.specs.Option.{unwrap_or}
 use Rattle.std.specs.List.{list_any}
 use Rattle.affinity.specs.declared.geometry.Geometry.{Geometry}
@@ -15,7 +15,7 @@ use Rattle.histories.specs.declared.outcomes.ArriveRefusal.TheVariants as arriva
 use Rattle.histories.specs.declared.outcomes.CoreFault.TheVariants as faults
 use Rattle.histories.specs.declared.outcomes.PointRefusal.{PointRefusal}
 use Rattle.histories.specs.declared.outcomes.PointRefusal.TheVariants as points
-use Rattle.histories.specs.CoreState.{Entry, Replied, CoreState, held}
+use Rattle.histories.specs.CoreState.{Entry, Replied, CoreState, held, most_tickets}
 use Rattle.histories.specs.Eligible.{pick, next_eligible, lacks_only_room}
 
 -- ---- what each step does to the core, where the device doesn't fail
@@ -25,7 +25,7 @@ abbrev pub arrive : Geometry → CoreState → Msg → Outcome × CoreState
 arrive g w m =
     if w.failed then (outcomes.ArriveRefused arrivals.Failed, w)
     else if not (is_in_range g m) then (outcomes.ArriveRefused arrivals.Range, w)
-    else if w.next == 2 ^ 64 - 1 then (outcomes.ArriveRefused arrivals.Exhausted, w)
+    else if w.next == most_tickets then (outcomes.ArriveRefused arrivals.Exhausted, w)
     else if nat_le w.slots (length w.waiting + length (held w)) then (outcomes.ArriveRefused arrivals.Full, w)
     else (outcomes.Ticket w.next, record w { waiting = w.waiting ++ (w.next, m) ∷ []; next = w.next + 1 })
 

@@ -1,5 +1,5 @@
 -- The call that takes a message in, by what its callees give.
-use Rattle.std.proofs.Common.{Bool, ◌≡◌, ℕ, ◌+◌, ◌-◌, ◌^◌, ◌<◌, true, false, List, [], ◌∷◌, ◌++◌, map, length, get_or, Ok, Err, refl, ap, sym, subst, ◌∙◌, arith, ◌≤◌}
+use Rattle.std.proofs.Common.{Bool, ◌≡◌, ℕ, ◌+◌, ◌<◌, true, false, List, [], ◌∷◌, ◌++◌, map, length, get_or, Ok, Err, refl, ap, sym, subst, ◌∙◌, arith, ◌≤◌}
 use Rattle.std.specs.Prelude.{◌==◌, ◌||◌, if◌then◌else◌, nat_le, not, vec_capacity}
 use Rattle.std.specs.List.{AllByRecursion, list_any}
 use Rattle.std.proofs.lemmas.List.Folds.{list_any-append}
@@ -7,7 +7,7 @@ use Rattle.arena.specs.ArenaView.{IsPartitioned, after_move, after_put, capacity
 use Rattle.scheduler.proofs.GrantCall.{numbers_off}
 use Rattle.histories.proofs.Lists.{all_back, any_none}
 use Rattle.histories.specs.Events.{arrive}
-use Rattle.histories.specs.CoreState.{Entry, held}
+use Rattle.histories.specs.CoreState.{Entry, held, most_tickets}
 use Rattle.histories.specs.declared.outcomes.ArriveRefusal.TheVariants as arrivals
 use Rattle.histories.specs.declared.outcomes.Outcome.TheVariants as outcomes
 use Rattle.protocol.specs.Messages.{is_in_range}
@@ -46,7 +46,7 @@ module _ {D : Type 0} {keeps : Type 0} (core : Inside D) (is : IsSoundCore keeps
   m = value.message
 
   -- where the message is refused neither for the device, nor for its numbers, nor for want of tickets
-  tested : core.journal.failed ≡ false → is_in_range core.journal.geometry m ≡ true → (core.next == 2 ^ 64 - 1) ≡ false
+  tested : core.journal.failed ≡ false → is_in_range core.journal.geometry m ≡ true → (core.next == most_tickets) ≡ false
       → (b : Bool) → nat_le (capacity_of core.slots) (length (core_state_in p).waiting + length (held (core_state_in p))) ≡ b
       → arrive core.journal.geometry (core_state_in p) m ≡ (if b then (outcomes.ArriveRefused arrivals.Full, core_state_in p)
       else (outcomes.Ticket core.next, record (core_state_in p) { waiting = (core_state_in p).waiting ++ (core.next, m) ∷ []; next = core.next + 1 }))
@@ -61,7 +61,7 @@ module _ {D : Type 0} {keeps : Type 0} (core : Inside D) (is : IsSoundCore keeps
     pub full_arena : after_put core.slots value ≡ core.slots
     full_arena = ap (λ fs. put_into core.slots fs value) (none_free core.slots.free value back full)
 
-    pub full_state : core.journal.failed ≡ false → is_in_range core.journal.geometry m ≡ true → (core.next == 2 ^ 64 - 1) ≡ false
+    pub full_state : core.journal.failed ≡ false → is_in_range core.journal.geometry m ≡ true → (core.next == most_tickets) ≡ false
         → (outcomes.ArriveRefused arrivals.Full, core_state_in p) ≡ arrive core.journal.geometry (core_state_in p) m
     full_state works range more =
         let count = messages_counted p in
@@ -125,7 +125,7 @@ module _ {D : Type 0} {keeps : Type 0} (core : Inside D) (is : IsSoundCore keeps
         ran = is.ran ∙ sym (ap length (joined_slot.stays RAN (λ same. omega (arith, same))));
       }
 
-      pub arrive_state : core.journal.failed ≡ false → is_in_range core.journal.geometry m ≡ true → (core.next == 2 ^ 64 - 1) ≡ false
+      pub arrive_state : core.journal.failed ≡ false → is_in_range core.journal.geometry m ≡ true → (core.next == most_tickets) ≡ false
           → (outcomes.Ticket core.next, core_state_in (parts arrived)) ≡ arrive core.journal.geometry (core_state_in p) m
       arrive_state works range more =
           (λ i. (outcomes.Ticket core.next, (ap core_state_in after_is ∙ arrival_state keeps p is.core x new_free ticket placed joined_slot.free) i))

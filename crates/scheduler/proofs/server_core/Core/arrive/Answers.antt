@@ -3,6 +3,7 @@ use Rattle.std.proofs.Common.{◌+◌, Bool, [], ◌∷◌, ◌++◌, refl, sym,
 use Rattle.std.proofs.lemmas.Bool.{ne_eqb}
 use Rattle.affinity.specs.Kind.{is_changing}
 use Rattle.arena.specs.ArenaView.{ArenaView, IsPartitioned, after_move}
+use Rattle.histories.specs.CoreState.{most_tickets}
 use Rattle.histories.specs.Events.{arrive}
 use Rattle.histories.specs.declared.outcomes.ArriveRefusal.TheVariants as arrivals
 use Rattle.histories.specs.declared.outcomes.Outcome.TheVariants as outcomes
@@ -28,7 +29,7 @@ returns-in_default-put-clause-state_after g c =
     (λ i. (outcomes.ArriveRefused arrivals.Full, core_state_in (parts (record c.self.inside { slots = (c.put.ensures.arena ∙ same) i }))))
     ∙ full_state c.self.inside c.self.invariant (record { ticket = c.self.inside.next; message = c.args.m.now; affinity = c.in-Some.affinity })
     c.in_default-put.field-0 (sym c.put.ensures.answer ∙ c.in_default-put.is) (sym c.failed.ensures ∙ c.if-failed.false)
-    (range_of c.args.m.now c.geometry-g.ensures c.kind.ensures c.numbers.ensures c.in-Some.ensures.in_range) (ne_eqb c.self.inside.next 18446744073709551615 c.if-self.false)
+    (range_of c.args.m.now c.geometry-g.ensures c.kind.ensures c.numbers.ensures c.in-Some.ensures.in_range) (ne_eqb c.self.inside.next most_tickets c.if-self.false)
     ∙ ap (λ (o : CoreView). arrive o.geometry (core_state_of o) c.args.m.now) c.self.view_is
 
 pub arrive-requires-clause-later : goal.arrive-requires-clause-later
@@ -70,5 +71,5 @@ returns-clause-state_after g c =
       range = range_of c.args.m.now c.geometry-g.ensures c.kind.ensures c.numbers.ensures c.in-Some.ensures.in_range;
       message = c.know_message.ensures;
     }) (sym c.failed.ensures ∙ c.if-failed.false)
-    (range_of c.args.m.now c.geometry-g.ensures c.kind.ensures c.numbers.ensures c.in-Some.ensures.in_range) (ne_eqb c.self.inside.next 18446744073709551615 c.if-self.false)
+    (range_of c.args.m.now c.geometry-g.ensures c.kind.ensures c.numbers.ensures c.in-Some.ensures.in_range) (ne_eqb c.self.inside.next most_tickets c.if-self.false)
     ∙ ap (λ (o : CoreView). arrive o.geometry (core_state_of o) c.args.m.now) c.self.view_is
