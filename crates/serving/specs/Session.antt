@@ -34,7 +34,7 @@ use Rattle.serving.specs.declared.session.ReadEnd.{ReadEnd}
 use Rattle.serving.specs.declared.session.ReadEnd.TheVariants as ends_of_reading
 use Rattle.serving.specs.declared.server.ServeFault.{ServeFault}
 use Rattle.serving.specs.declared.server.ServeFault.TheVariants as faults
-use Rattle.workers.specs.Seats.{DispatchSeatView}
+use Rattle.workers.specs.Seats.{DispatchSeatView, places_of}
 
 -- ---- where a session is
 
@@ -156,8 +156,8 @@ pub record SessionInvariant (keeps : Type 0) (s : Start) (p : SessionView) : Typ
   pub fits : p.reorder_buffer.slots ≤ s.core.slots
   -- each hand that isn't empty has the job of a message in flight
   pub holds : HandsHaveJobs (machine p)
-  pub places : length p.dispatch_seat.lent ≡ p.dispatch_seat.bench.slots
-  pub some_place : 0 < p.dispatch_seat.bench.slots
+  pub places : length p.dispatch_seat.lent ≡ places_of p.dispatch_seat.bench
+  pub some_place : 0 < places_of p.dispatch_seat.bench
   pub knows : IsTrue p.ended → IsAtEnd p.remaining
   pub reads : ReadsOrHasEnded keeps s p p.read_end
 

@@ -10,6 +10,7 @@ ghost use Rattle.serving.specs.Checkpoints.{IsDue};
 ghost use Rattle.serving.specs.Lending.{DispatchesTo};
 ghost use Rattle.serving.specs.Session.{HasMoved, IsBlockedIn};
 ghost use Rattle.serving.specs.declared.dispatch.Blocked.{Blocked};
+ghost use Rattle.workers.specs.Seats.{places_of};
 
 use crate::output::ReplySink;
 use crate::session::Session;
@@ -41,7 +42,7 @@ fn offer_granted(
     granted: Granted,
 ) -> Result<(), Blocked>
     requires bench { dispatch_seat.old.bench ≡ bench.now }
-    requires place { k < bench.now.slots }
+    requires place { k < places_of bench.now }
     requires first { position is_none dispatch_seat.old.lent ≡ Some k }
     ensures bench { dispatch_seat.new.bench ≡ dispatch_seat.old.bench }
     ensures dispatches { (g : Geometry) (old new : CoreState) → IsGranted g old new granted

@@ -16,6 +16,7 @@ ghost use Rattle.serving.specs.Kill.{IsKillSafe};
 ghost use Rattle.serving.specs.Serve.{ServePromise, handed_back};
 ghost use Rattle.serving.specs.Session.{CanBegin, reported};
 ghost use Rattle.affinity.specs.declared.limits.TheConstants.{MOST_WORKERS};
+ghost use Rattle.workers.specs.Seats.{places_of};
 
 use crate::checkpoints::CheckpointTrigger;
 use crate::output::ReplySink;
@@ -74,15 +75,14 @@ struct Preallocated {
     ghost none_read: { reorder_buffer.lines ≡ [] },
     ghost none_waits: { reply_buffer ≡ [] },
     ghost at_bench: { (dispatch_seat.bench ≡ bench) × All (λ w. w ≡ bench) seats.items },
-    ghost none_lent: { dispatch_seat.lent ≡ replicate bench.slots None },
+    ghost none_lent: { dispatch_seat.lent ≡ replicate (places_of bench) None },
 }
 
-// Takes the memory for lines of which at most `slots` are outstanding, and opens a bench with a place for each worker. Contracts call the
-// number of places `bench.slots`; it has nothing to do with the `slots` for lines.
+// Takes the memory for lines of which at most `slots` are outstanding, and opens a bench with a place for each worker.
 fn take_memory(alloc: Global, slots: usize, workers: usize) -> Result<Preallocated, AllocError>
     requires { workers ≤ MOST_WORKERS }
     ensures slots { IfOk result (λ memory. memory.reorder_buffer.slots ≡ slots) }
-    ensures places { IfOk result (λ memory. memory.bench.slots ≡ workers) }
+    ensures places { IfOk result (λ memory. places_of memory.bench ≡ workers) }
 {
     let input = vec![in alloc; 0; READ_SIZE]?;
     let reorder_buffer = ReorderBuffer::new(alloc, slots)?;
@@ -138,11 +138,11 @@ fn run_session<
     of: PhantomData<N>,
 ) -> (Result<Core<D>, ServeError<D>>, &'a mut R, L)
     requires reader { reader.ghost_name ≡ N.name }
-    requires can_begin { CanBegin L.start core memory.bench.slots (R.remaining reader.now) (L.sent sink) (L.sent_at sink)
+    requires can_begin { CanBegin L.start core (places_of memory.bench) (R.remaining reader.now) (L.sent sink) (L.sent_at sink)
         memory.reorder_buffer }
-    requires workers { memory.bench.slots ≢ 0 }
+    requires workers { places_of memory.bench ≢ 0 }
     ensures same { result.1.ghost_name ≡ reader.entry.ghost_name }
-    ensures serves { ServePromise D.keeps memory.bench.slots core (handed_back result.0)
+    ensures serves { ServePromise D.keeps (places_of memory.bench) core (handed_back result.0)
         (exchange (R.remaining reader.entry.now) (R.remaining result.1.now) (L.sent sink) (L.sent result.2)) }
     ensures safe { IsKillSafe D.keeps L.start (L.sent result.2) (L.sent_at result.2) (handed_back result.0).0 }
 {
