@@ -12,11 +12,11 @@ use Rattle.arena.specs.ArenaView.{ArenaView, IsPartitioned, capacity_of, value_a
 use Rattle.arena.proofs.Counts.{count_of-append as on-append, count_of-cons_is as on-cons_is, count_of-at as on-at, without-absent as on-absent}
 use Rattle.arena.proofs.ArenaLemmas.{chain-without, chain-moved_same, chain-moved_other, length-moved, chained-holds, chained-apart, front-chained, chain-front}
 use Rattle.run_queue.specs.RunQueue.{has_slot, has_number, without_slot, CameBefore}
-use Rattle.run_queue.specs.Slots.{count_in_slot}
+use Rattle.run_queue.specs.Slots.{slots_in, count_in_slot}
 use Rattle.run_queue.specs.Order.{Ascend}
 use Rattle.run_queue.specs.Queues.{Waiting, present, by_ticket, waiting_in, queued_in, IsQueued}
 use Rattle.run_queue.specs.declared.queued_message.QueuedMessage.{QueuedMessage}
-use Rattle.run_queue.proofs.SlotCounts.{count_in_slot-cons_is, count_in_slot-filter}
+use Rattle.run_queue.proofs.SlotCounts.{count_in_slot-filter}
 use Rattle.run_queue.proofs.Sorting.{ascend-filter, ascend-last, order-come, order-leave, length-all, without-absent}
 
 -- ---- at the start
@@ -253,7 +253,7 @@ module _ (arena : ArenaView QueuedMessage) (n i : ℕ) (t : QueuedMessage) (q : 
       rest_without : count_in_slot t.slot (queued_in arena (without i (chain_at arena n))) ≡ 0
       rest_without =
           let all = subst (λ (ts : List QueuedMessage). count_in_slot t.slot ts ≤ 1) parts few in
-          omega (arith, all, count_in_slot-cons_is t.slot t (queued_in arena (without i (chain_at arena n))) refl)
+          omega (arith, all, on-cons_is t.slot t.slot (slots_in (queued_in arena (without i (chain_at arena n)))) refl)
 
       drops : without_slot t.slot (t ∷ queued_in arena (without i (chain_at arena n))) ≡ queued_in arena (without i (chain_at arena n))
       drops = rw (eq-eqb t.slot t.slot refl) (without-absent t.slot (queued_in arena (without i (chain_at arena n))) rest_without)

@@ -8,6 +8,7 @@ use Rattle.std.proofs.lemmas.List.{length-replicate}
 use Rattle.affinity.specs.Interval.{IsAffinity, affinity_count}
 use Rattle.affinity.specs.declared.geometry.Geometry.{Geometry}
 use Rattle.run_queue.specs.RunQueue.{IsNext, are_related_intervals, is_free_of, has_room, has_slot, has_number, holds_at, without_slot, without_number, next_queued, CameBefore}
+use Rattle.arena.proofs.Counts.{count_of-cons_is, count_of-cons_other}
 use Rattle.run_queue.specs.Slots.{count_in_slot}
 use Rattle.run_queue.specs.Order.{is_conflict_free}
 use Rattle.run_queue.specs.Queues.{Waiting, HeldMessages, HasInserted, IsFirstGone}
@@ -15,7 +16,7 @@ use Rattle.run_queue.specs.ReadyTable.{IsEntryRight, StayRight, AreRelatedRight}
 use Rattle.run_queue.specs.Invariant.{AreQueued, AreEntriesRight, QueueInvariant}
 use Rattle.run_queue.specs.declared.queued_message.QueuedMessage.{QueuedMessage}
 use Rattle.run_queue.proofs.ByTicket.{next_is_first}
-use Rattle.run_queue.proofs.SlotCounts.{limit-most, count_in_slot-append, count_in_slot-cons_is, count_in_slot-cons_other, in_slots-arrived, room-arrived, in_slots-gone, in_slots-freed}
+use Rattle.run_queue.proofs.SlotCounts.{limit-most, count_in_slot-append, in_slots-arrived, room-arrived, in_slots-gone, in_slots-freed}
 use Rattle.run_queue.proofs.Sorting.{all-filter, all-last, ascend-filter, ascend-last}
 use Rattle.run_queue.proofs.Clearing.{find-all, find-passes, any-found}
 use Rattle.run_queue.proofs.Earliest.{own_overlap, clear-first}
@@ -163,7 +164,7 @@ all-between P [] high t all here = (here, all)
 all-between P (d ∷ low) high t all here = (all.0, all-between P low high t all.1 here)
 
 count_in_slot-between : (s : ℕ) (low high : List QueuedMessage) (t : QueuedMessage) → count_in_slot s (low ++ t ∷ high) ≡ count_in_slot s ((low ++ high) ++ t ∷ [])
-count_in_slot-between s low high t = grind (arith, common_steps, count_in_slot-append, count_in_slot-cons_is, count_in_slot-cons_other)
+count_in_slot-between s low high t = grind (arith, common_steps, count_in_slot-append, count_of-cons_is, count_of-cons_other)
 
 pub messages-gone : {g : Geometry} {slots : ℕ} {w : Waiting} {h k : HeldMessages} (t : QueuedMessage) → AreQueued g slots w h → IsAffinity g t.affinity
     → list_any (has_slot t.slot) w.messages ≡ true → k ≡ record h { messages = k.messages } → HasInserted t h.messages k.messages

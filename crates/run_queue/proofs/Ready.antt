@@ -10,13 +10,13 @@ use Rattle.std.proofs.Math.Bool.{or_comm}
 use Rattle.affinity.specs.Interval.{Interval, IsAffinity, contains, affinity_count}
 use Rattle.affinity.specs.declared.geometry.Geometry.{Geometry}
 use Rattle.run_queue.specs.RunQueue.{are_related_intervals, is_free_of, has_room, has_slot, has_number, without_slot, without_number, CameBefore}
+use Rattle.arena.proofs.Counts.{count_of-cons_is, count_of-cons_other}
 use Rattle.run_queue.specs.Slots.{count_in_slot}
 use Rattle.run_queue.specs.Order.{Ascend, waits_for, is_conflict_free}
 use Rattle.run_queue.specs.Queues.{HasInserted}
 use Rattle.run_queue.specs.ReadyTable.{if_passes, ready_at, IsEntryRight, StayRight, AreRelatedRight}
 use Rattle.run_queue.specs.declared.queued_message.QueuedMessage.{QueuedMessage}
 use Rattle.run_queue.proofs.Nearby.{number-below, same_path}
-use Rattle.run_queue.proofs.SlotCounts.{count_in_slot-cons_is, count_in_slot-cons_other}
 use Rattle.run_queue.proofs.Clearing.{find-cons, find-skip, find-all, find-passes, any-found}
 use Rattle.run_queue.proofs.Earliest.{dispatchable_at, none_at, some_at, empty_at}
 
@@ -113,7 +113,7 @@ alone : (p : QueuedMessage → Bool) (ts : List QueuedMessage) (t : QueuedMessag
     → AllByRecursion (λ u. has_slot t.slot u ≡ true → u ≡ t) ts
 alone p [] t found once = tt
 alone p (d ∷ ts) t found once =
-    grind (arith, common_steps, alone p ts t, find-cons, count_in_slot-cons_is, none-alone, find-skip, there-found, count_in_slot-cons_other)
+    grind (arith, common_steps, alone p ts t, find-cons, count_of-cons_is, none-alone, find-skip, there-found, count_of-cons_other)
 
 find-without : (p : QueuedMessage → Bool) (ts : List QueuedMessage) (t : QueuedMessage) → AllByRecursion (λ u. has_slot t.slot u ≡ true → u ≡ t) ts → p t ≡ false
     → find p (without_slot t.slot ts) ≡ find p ts

@@ -1,33 +1,30 @@
 -- How often slots occur in lists, and how long lists are.
 use Rattle.std.proofs.lemmas.Grind.{common_steps}
-use Rattle.std.proofs.Common.{◌≡◌, ◌≢◌, ℕ, zero, suc, ◌+◌, ◌<◌, ◌≤◌, Bool, true, false, List, [], ◌∷◌, ◌++◌, filter, refl, sym, inl, inr, arith, length}
+use Rattle.std.proofs.Common.{◌≡◌, ◌≢◌, ℕ, zero, suc, ◌+◌, ◌<◌, ◌≤◌, Bool, true, false, List, [], ◌∷◌, ◌++◌, filter, refl, sym, ap, ◌∙◌, inl, inr, arith, length}
 use Rattle.std.specs.Prelude.{if◌then◌else◌, nat_lt}
 use Rattle.std.specs.List.{list_any}
-use Rattle.std.proofs.lemmas.Bool.{eq-eqb, ne_eqb, cases_eq, or_parts, true≢false}
-use Rattle.std.proofs.lemmas.List.{length-append}
+use Rattle.std.proofs.lemmas.Bool.{cases_eq, or_parts, true≢false}
+use Rattle.std.proofs.lemmas.List.{length-append, map-append}
+use Rattle.arena.specs.Lists.{count_of, without}
+use Rattle.arena.proofs.Counts.{count_of-append, count_of-without_same, count_of-without_other}
 use Rattle.run_queue.specs.RunQueue.{has_slot, without_slot}
-use Rattle.run_queue.specs.Slots.{count_in_slot, AreInSlots}
+use Rattle.run_queue.specs.Slots.{slots_in, count_in_slot, AreInSlots}
 use Rattle.run_queue.specs.declared.queued_message.QueuedMessage.{QueuedMessage}
 
 -- ---- how often a slot occurs in a list
 
-pub count_in_slot-cons_is : (s : ℕ) (t : QueuedMessage) (ts : List QueuedMessage) → t.slot ≡ s → count_in_slot s (t ∷ ts) ≡ suc (count_in_slot s ts)
-count_in_slot-cons_is s t ts same = rw (eq-eqb t.slot s same) refl
-
-pub count_in_slot-cons_other : (s : ℕ) (t : QueuedMessage) (ts : List QueuedMessage) → t.slot ≢ s → count_in_slot s (t ∷ ts) ≡ count_in_slot s ts
-count_in_slot-cons_other s t ts other = rw (ne_eqb t.slot s other) refl
-
 pub count_in_slot-append : (s : ℕ) (ts us : List QueuedMessage) → count_in_slot s (ts ++ us) ≡ count_in_slot s ts + count_in_slot s us
-count_in_slot-append s [] us = omega arith
-count_in_slot-append s (t ∷ ts) us = grind (arith, common_steps, count_in_slot-append s ts us)
+count_in_slot-append s ts us = ap (count_of s) (map-append (λ (t : QueuedMessage). t.slot) ts us) ∙ count_of-append s (slots_in ts) (slots_in us)
+
+slots-without : (s : ℕ) (ts : List QueuedMessage) → slots_in (without_slot s ts) ≡ without s (slots_in ts)
+slots-without s [] = refl
+slots-without s (t ∷ ts) = grind (arith, common_steps, slots-without s ts)
 
 pub count_in_slot-without_same : (s : ℕ) (ts : List QueuedMessage) → count_in_slot s (without_slot s ts) ≡ 0
-count_in_slot-without_same s [] = refl
-count_in_slot-without_same s (t ∷ ts) = grind (arith, common_steps, count_in_slot-without_same s ts)
+count_in_slot-without_same s ts = ap (count_of s) (slots-without s ts) ∙ count_of-without_same s (slots_in ts)
 
 pub count_in_slot-without_other : (s r : ℕ) (ts : List QueuedMessage) → s ≢ r → count_in_slot s (without_slot r ts) ≡ count_in_slot s ts
-count_in_slot-without_other s r [] other = refl
-count_in_slot-without_other s r (t ∷ ts) other = grind (arith, common_steps, count_in_slot-without_other s r ts other)
+count_in_slot-without_other s r ts other = ap (count_of s) (slots-without r ts) ∙ count_of-without_other s r (slots_in ts) other
 
 pub count_in_slot-filter : (p : QueuedMessage → Bool) (s : ℕ) (ts : List QueuedMessage) → count_in_slot s (filter p ts) ≤ count_in_slot s ts
 count_in_slot-filter p s [] = omega arith

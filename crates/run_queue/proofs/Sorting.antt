@@ -5,12 +5,12 @@ use Rattle.std.specs.Prelude.{slice_set}
 use Rattle.std.specs.List.{AllByRecursion}
 use Rattle.std.proofs.lemmas.Bool.{eq-eqb, lt-ltb}
 use Rattle.std.proofs.lemmas.Bool.Decides.{eqb_tells}
+use Rattle.arena.proofs.Counts.{count_of-cons_is, count_of-cons_other}
 use Rattle.run_queue.specs.RunQueue.{without_slot, CameBefore}
-use Rattle.run_queue.specs.Slots.{count_in_slot}
+use Rattle.run_queue.specs.Slots.{slots_in, count_in_slot}
 use Rattle.run_queue.specs.Order.{Ascend}
 use Rattle.run_queue.specs.Queues.{present, insert, by_ticket}
 use Rattle.run_queue.specs.declared.queued_message.QueuedMessage.{QueuedMessage}
-use Rattle.run_queue.proofs.SlotCounts.{count_in_slot-cons_is, count_in_slot-cons_other}
 
 -- ---- all of a list
 
@@ -92,7 +92,7 @@ without-absent s (t ∷ ts) none = grind (arith, common_steps, without-absent s 
 without-insert_same : (s : ℕ) (x : QueuedMessage) (ts : List QueuedMessage) → x.slot ≡ s → count_in_slot s ts ≡ 0 → without_slot s (insert x ts) ≡ ts
 without-insert_same s x [] same none = rw (eq-eqb x.slot s same) refl
 without-insert_same s x (d ∷ ts) same none =
-    grind (arith, common_steps, without-insert_same s x ts same, count_in_slot-cons_is, eq-eqb, without-absent, count_in_slot-cons_other)
+    grind (arith, common_steps, without-insert_same s x ts same, count_of-cons_is, eq-eqb, without-absent, count_of-cons_other)
 
 insert-first : (x : QueuedMessage) (ts : List QueuedMessage) → AllByRecursion (λ d. x.ticket < d.ticket) ts → insert x ts ≡ x ∷ ts
 insert-first x [] h = refl
@@ -112,10 +112,10 @@ there-at : (entries : List (Option QueuedMessage)) (i : ℕ) (t : QueuedMessage)
     → 1 ≤ count_in_slot t.slot (by_ticket (present entries))
 there-at [] i t h = absurd (cc)
 there-at (None ∷ entries) zero t h = absurd (cc)
-there-at (Some x ∷ entries) zero t h = grind (arith, common_steps, count_in_slot-insert, count_in_slot-cons_is)
+there-at (Some x ∷ entries) zero t h = grind (arith, common_steps, count_in_slot-insert, count_of-cons_is)
 there-at (None ∷ entries) (suc i) t h = there-at entries i t h
 there-at (Some x ∷ entries) (suc i) t h =
-    grind (arith, common_steps, there-at entries i t h, count_in_slot-insert, count_in_slot-cons_is, count_in_slot-cons_other)
+    grind (arith, common_steps, there-at entries i t h, count_in_slot-insert, count_of-cons_is, count_of-cons_other)
 
 -- a message whose entry is emptied is gone, and the others stay in order
 pub order-leave : (entries : List (Option QueuedMessage)) (i : ℕ) (t : QueuedMessage) → slice_index_or entries i None ≡ Some t
@@ -123,13 +123,13 @@ pub order-leave : (entries : List (Option QueuedMessage)) (i : ℕ) (t : QueuedM
     → by_ticket (present (slice_set entries i None)) ≡ without_slot t.slot (by_ticket (present entries))
 order-leave [] i t there once ascends = absurd (cc)
 order-leave (None ∷ entries) zero t there once ascends = absurd (cc)
-order-leave (Some x ∷ entries) zero t there once ascends = grind (arith, common_steps, count_in_slot-insert, without-insert_same, count_in_slot-cons_is)
+order-leave (Some x ∷ entries) zero t there once ascends = grind (arith, common_steps, count_in_slot-insert, without-insert_same, count_of-cons_is)
 order-leave (None ∷ entries) (suc i) t there once ascends = order-leave entries i t there once ascends
 order-leave (Some x ∷ entries) (suc i) t there once ascends =
     let ws = by_ticket (present entries) in
     let count = count_in_slot-insert t.slot x ws in
     let rest = there-at entries i t there in
     elim (eqb_tells x.slot t.slot) [
-      | inl e ↦ absurd (omega (arith, once, count, rest, count_in_slot-cons_is t.slot x ws e.1))
-      | inr n ↦ grind (arith, common_steps, order-leave entries i t there, count_in_slot-cons_other, ascend-insert, filter-insert)
+      | inl e ↦ absurd (omega (arith, once, count, rest, count_of-cons_is t.slot x.slot (slots_in ws) e.1))
+      | inr n ↦ grind (arith, common_steps, order-leave entries i t there, count_of-cons_other, ascend-insert, filter-insert)
     ]
