@@ -97,6 +97,3 @@ free-view entries n stand = held-same _ _ _ _ (length-set {A = Option QueuedMess
 
 pub found-past : (entries : List (Option QueuedMessage)) (n : ℕ) → AreByNumberFrom 0 entries → length entries ≤ n → find (has_number n) (present entries) ≡ None
 found-past entries n stand past = found-at entries n stand ∙ get_or_past entries n None past
-
-pub free-past : (entries : List (Option QueuedMessage)) (n : ℕ) → AreByNumberFrom 0 entries → length entries ≤ n → without_number n (present entries) ≡ present entries
-free-past entries n stand past = without-none n (present entries) (found-past entries n stand past)

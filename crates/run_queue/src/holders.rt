@@ -40,15 +40,11 @@ impl Holders {
         Ok(Holders { entries })
     }
 
-    /// The message held at a number.
+    /// The message held at a number. `None` where none is, and so at a number that no affinity has.
     pub(crate) fn at(&self, number: usize) -> Option<QueuedMessage>
         ensures { result ≡ find (has_number number) self.now.messages }
     {
-        if number < self.entries.len() {
-            self.entries[number]
-        } else {
-            None
-        }
+        *self.entries.get(number)?
     }
 
     /// One more message is held, at a number where none is. `HasInserted`: the new list is the old one with it inserted somewhere.
@@ -62,12 +58,13 @@ impl Holders {
         self.entries[number] = Some(queued);
     }
 
-    /// The message that is held at a number, if there is one, is held no longer.
-    pub(crate) fn free(&mut self, number: usize)
-        ensures { self.new ≡ record self.old { messages = without_number number self.old.messages } }
+    /// The message that is held at a number is held no longer, and is returned. `None` where none is held.
+    pub(crate) fn free(&mut self, number: usize) -> Option<QueuedMessage>
+        ensures answer { result ≡ find (has_number number) self.old.messages }
+        ensures freed { self.new ≡ record self.old { messages = without_number number self.old.messages } }
     {
-        if number < self.entries.len() {
-            self.entries[number] = None;
-        }
+        let queued = self.at(number)?;
+        self.entries[number] = None;
+        Some(queued)
     }
 }

@@ -153,8 +153,7 @@ impl RunQueue {
         ensures { self.new ≡ record self.old { held = without_number a.number self.old.held } }
     {
         let number = usize::from(a.number());
-        if let Some(queued) = self.held.at(number) {
-            self.held.free(number);
+        if let Some(queued) = self.held.free(number) {
             update_ready_related(
                 &mut self.ready_table,
                 &self.geometry,

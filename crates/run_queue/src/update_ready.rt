@@ -39,6 +39,7 @@ pub(crate) fn update_ready(
     ensures right { IsEntryRight held.now.messages waiting.now.messages ready_table.new number }
     ensures others { StayRight held.now.messages waiting.now.messages ready_table.old ready_table.new }
 {
+    // At a number that the table lacks no message waits, since no affinity has it: so there is nothing to update.
     if number < ready_table.len() {
         ready_table.set(number, ready_at(g, held, waiting, number));
     }

@@ -5,8 +5,8 @@ use Rattle.std.proofs.lemmas.Option.{slice_get_read, get_or_from_slice_get}
 use Rattle.run_queue.proofs.HeldMessages.{found-at, found-past}
 use Rattle.run_queue.proofs.holders.Holders.at.Goals as goal
 
-pub returns-then-number-len : goal.returns-then-number-len
-returns-then-number-len c = grind (arith, common_steps, slice_get_read, get_or_from_slice_get, found-at)
+pub returns : goal.returns
+returns c = grind (arith, common_steps, slice_get_read, get_or_from_slice_get, found-at)
 
-pub returns-else-number-len : goal.returns-else-number-len
-returns-else-number-len c = grind (arith, common_steps, found-past)
+pub returns-in_err-get : goal.returns-in_err-get
+returns-in_err-get c = grind (arith, common_steps, found-past)
