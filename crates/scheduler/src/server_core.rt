@@ -359,10 +359,9 @@ impl<D: Disk> Core<D> {
         if let Some(why) = self.point_refusal() {
             return Err(why);
         }
-        match self.journal.point(&self.tree) {
-            Ok(()) => Ok(()),
-            Err(_) => Err(PointRefusal::Device),
-        }
+        self.journal
+            .point(&self.tree)
+            .map_err(|_| PointRefusal::Device)
     }
 
     /// Begins an online checkpoint, where no message is held. It will hold what is committed now, and goes on while messages are served.
@@ -402,10 +401,7 @@ impl<D: Disk> Core<D> {
         let Some(_) = self.journal.pieces_left() else {
             return Err(PointRefusal::NotRunning);
         };
-        match self.journal.piece() {
-            Ok(pieces_left) => Ok(pieces_left),
-            Err(_) => Err(PointRefusal::Device),
-        }
+        self.journal.piece().map_err(|_| PointRefusal::Device)
     }
 
     /// Ends the online checkpoint in progress, once every piece is written.
@@ -428,10 +424,7 @@ impl<D: Disk> Core<D> {
         if pieces_left > 0 {
             return Err(PointRefusal::Unfinished);
         }
-        match self.journal.flip() {
-            Ok(()) => Ok(()),
-            Err(_) => Err(PointRefusal::Device),
-        }
+        self.journal.flip().map_err(|_| PointRefusal::Device)
     }
 
     /// How many messages the core can have at once, waiting or held.
