@@ -44,8 +44,7 @@ impl<D: Disk> Machine<D> {
         ensures kept { IfOk result (λ m. m.core ≡ core) }
         ensures refused { IfErr result (λ e. e.core ≡ core) }
     {
-        // Called for its contract: the core state is sound, which the machine keeps from here on.
-        core.slots();
+        core.know_recovery();
         match empty_hands(alloc, hands) {
             Ok(hands) => Ok(Machine { core, hands }),
             Err(_) => Err(MachineError { core }),

@@ -449,8 +449,9 @@ impl<D: Disk> Core<D> {
         self.journal.failed()
     }
 
-    /// Does nothing: its contract states what a crash leaves now.
+    /// Does nothing: its contract states what a core keeps true, that its core state is sound, and what a crash leaves now.
     pub fn know_recovery(&self)
+        ensures sound { IsSoundCoreState self.now.geometry (core_state_of self.now) }
         ensures no_doubt { self.now.failed ≡ false → self.now.doubt ≡ [] }
         ensures now { D.keeps → RecoversNow self.now }
     {

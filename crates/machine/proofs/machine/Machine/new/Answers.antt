@@ -8,7 +8,7 @@ use Rattle.machine.proofs.machine.Machine.new.Goals as goal
 
 pub invariant_of-result : goal.invariant_of-result
 invariant_of-result g c = subst (λ (hs : List HandContent). HoldsJobs c.args.core.geometry (core_state_of c.args.core) hs) (sym c.in-Ok.ensures)
-    (empty_hold c.args.core.geometry (core_state_of c.args.core) c.args.hands c.slots.ensures.sound)
+    (empty_hold c.args.core.geometry (core_state_of c.args.core) c.args.hands c.know_recovery.ensures.sound)
 
 pub returns-in-Ok-clause-made : goal.returns-in-Ok-clause-made
 returns-in-Ok-clause-made g c = λ i. record { core = core_state_of c.args.core; hands = (ap (map hand_of) c.in-Ok.ensures ∙ all_empty c.args.hands) i }
