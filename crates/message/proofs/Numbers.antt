@@ -1,13 +1,14 @@
 -- What a word encodes as a number.
 use Rattle.std.proofs.lemmas.Grind.{common_steps}
-use Rattle.std.proofs.Common.{◌≡◌, ℕ, zero, suc, ◌+◌, ◌-◌, ◌*◌, ◌<◌, ◌^◌, true, false, List, [], ◌∷◌, length, get_or, take, Some, None, refl, ap, sym, ◌∙◌, arith}
-use Rattle.std.specs.Prelude.{◌==◌, nat_le}
+use Rattle.std.proofs.Common.{◌≡◌, ℕ, zero, suc, ◌+◌, ◌-◌, ◌*◌, ◌<◌, ◌^◌, true, false, List, [], ◌∷◌, length, get_or, take, Some, None, refl, ap, sym, ◌∙◌, inl, inr, arith}
+use Rattle.std.specs.Prelude.{◌&&◌, ◌||◌, not, ◌==◌, nat_lt, nat_le}
 use Rattle.std.specs.Char.{is_ascii_digit, digit_value}
 use Rattle.std.specs.Int.{IsInRange}
 use Rattle.std.specs.Str.{all_ascii_digits}
 use Rattle.std.specs.Str.Parse.{digits_value}
 use Rattle.std.specs.Fmt.{decimal}
-use Rattle.std.proofs.lemmas.Bool.{and_parts, and_from, ne_eqb, lt-ltb, leb-true, cond-true}
+use Rattle.std.proofs.lemmas.Bool.{and_parts, and_from, or_cases, or_left, or_right, not-true, not_from_false, eqb-true, eq-eqb, ne_eqb, ltb-true, lt-ltb, leb-true, true≢false, cond-true, cases_eq}
+use Rattle.std.proofs.lemmas.Option.{cond_some}
 use Rattle.std.proofs.lemmas.Str.Parse.{IsNumeralModel, numerals_by_value, tells_all_ascii_digits, digits_value-take-le}
 use Rattle.std.proofs.lemmas.Int.Digits.{digits_value_more}
 use Rattle.std.proofs.lemmas.Fmt.{decimal-digits_value, digits_decimal, digits_value-decimal, decimal_nonempty, first_decimal, decimal_digit}
@@ -25,13 +26,35 @@ pub record IsNumber (w : List ℕ) : Type 0 where
   pub plain : get_or w 0 0 ≡ 48 → length w ≡ 1
   pub fits : digits_value 10 w < 65536
 
+-- what the test of a numeral says: digits, at least one, and no leading zero
+numeral_parts : (w : List ℕ) → is_numeral w ≡ true → (all_ascii_digits w ≡ true) × (0 < length w) × (get_or w 0 0 ≡ 48 → length w ≡ 1)
+numeral_parts w h =
+    let p = and_parts (all_ascii_digits w && nat_lt 0 (length w)) (not (get_or w 0 0 == 48) || (length w == 1)) h in
+    let q = and_parts (all_ascii_digits w) (nat_lt 0 (length w)) p.0 in (
+      q.0,
+      ltb-true 0 (length w) q.1,
+      λ zero_first. elim (or_cases (not (get_or w 0 0 == 48)) (length w == 1) p.1) [
+        | inl other ↦ absurd (true≢false (sym (eq-eqb (get_or w 0 0) 48 zero_first) ∙ not-true (get_or w 0 0 == 48) other))
+        | inr one ↦ eqb-true (length w) 1 one
+      ],
+    )
+
 is_numeral_from : (w : List ℕ) → IsNumber w → is_numeral w ≡ true
-is_numeral_from w h = grind (arith, common_steps)
+is_numeral_from w h =
+    and_from _ _ (and_from _ _ h.digits (lt-ltb 0 (length w) h.some))
+    (elim (cases_eq (get_or w 0 0) 48) [
+      | inl zero_first ↦ or_right (not (get_or w 0 0 == 48)) (length w == 1) (eq-eqb (length w) 1 (h.plain zero_first))
+      | inr other ↦ or_left (not (get_or w 0 0 == 48)) (length w == 1) (not_from_false (get_or w 0 0 == 48) (ne_eqb (get_or w 0 0) 48 other))
+    ])
 
 -- a word that encodes a number
 pub number_parts : (w : List ℕ) (n : ℕ) → number_in_word w ≡ Some n → IsNumber w × (digits_value 10 w ≡ n)
 unfolding number_in_word
-number_parts w n h = grind (arith, common_steps)
+number_parts w n h =
+    let p = cond_some (is_numeral w && nat_lt (digits_value 10 w) 65536) (digits_value 10 w) n h in
+    let q = and_parts (is_numeral w) (nat_lt (digits_value 10 w) 65536) p.0 in
+    let r = numeral_parts w q.0 in
+    (record { digits = r.0; some = r.1; plain = r.2; fits = ltb-true (digits_value 10 w) 65536 q.1 }, p.1)
 
 pub number_from : (w : List ℕ) → IsNumber w → number_in_word w ≡ Some (digits_value 10 w)
 unfolding number_in_word
@@ -53,13 +76,22 @@ decimal-number w n h =
     (ap decimal (sym p.1) ∙ e, rw p.1 at fits)
 
 decimal_plain : (n : ℕ) → n < 65536 → get_or (decimal n) 0 0 ≡ 48 → length (decimal n) ≡ 1
-decimal_plain n h e = grind (arith, common_steps, decimal_digit, first_decimal)
+decimal_plain n h e =
+    elim (cases_eq n 0) [
+      | inl none ↦ rw none (ap length (decimal_digit 0 (omega arith)))
+      | inr more ↦ let first = first_decimal n (omega arith) (omega arith) in absurd (omega arith)
+    ]
 
 pub IsNumber-decimal : (n : ℕ) → n < 65536 → IsNumber (decimal n)
-IsNumber-decimal n h = grind (arith, common_steps, digits_value-decimal, own, digits_decimal, decimal_nonempty, decimal_plain)
+IsNumber-decimal n h =
+    let wide : n < 2 ^ 64 = omega arith in
+    let value : digits_value 10 (decimal n) ≡ n = digits_value-decimal own n wide in
+    record { digits = digits_decimal own n wide; some = decimal_nonempty n wide; plain = decimal_plain n h; fits = omega arith }
 
 pub number-decimal : (n : ℕ) → n < 65536 → number_in_word (decimal n) ≡ Some n
-number-decimal n h = grind (arith, common_steps, number_from, IsNumber-decimal, digits_value-decimal, own)
+number-decimal n h =
+    let wide : n < 2 ^ 64 = omega arith in
+    number_from (decimal n) (IsNumber-decimal n h) ∙ ap Some (digits_value-decimal own n wide)
 
 -- ---- digits one by one
 

@@ -1,6 +1,5 @@
 -- The two definitions agree: the message that the words of a line make (`message_of`), and the lines that spell a message (`Spells`).
-use Rattle.std.proofs.Common.{arith, ◌≡◌, ℕ, ◌<◌, ◌≤◌, Bool, true, List, [], ◌∷◌, ◌++◌, map, length, Option, Some, None, refl, ap, sym, subst, ◌∙◌, inl, inr}
-use Rattle.std.proofs.lemmas.Grind.{common_steps}
+use Rattle.std.proofs.Common.{◌≡◌, ℕ, ◌<◌, ◌≤◌, Bool, true, List, [], ◌∷◌, ◌++◌, map, length, Option, Some, None, refl, ap, sym, subst, ◌∙◌, inl, inr}
 use Rattle.std.specs.Prelude.{◌&&◌, not, ◌==◌, nat_lt, ◌↔◌}
 use Rattle.std.specs.List.{AllByRecursion, join_with_byte}
 use Rattle.std.specs.Fmt.{decimal}
@@ -119,18 +118,27 @@ record Plain (m : Msg) (k : Kind) (ns : List ℕ) : Type 0 where
   pub no_data : IsData m []
 
 plain_spells : {line : List ℕ} {m : Msg} {k : Kind} {ns : List ℕ} {args : List (List ℕ)} → Plain m k ns → length line ≤ LONGEST_LINE → words line ≡ keyword k ∷ args → Say args ns → Spells line m
-plain_spells {line} {m} {k} {ns} form short e spelled = grind (arith, common_steps, append-nil, spell)
+plain_spells {line} {m} {k} {ns} form short e spelled =
+    let all : words line ≡ keyword (kind m) ∷ map decimal (numbers m) ++ [] = e ∙ ap (λ (vs : List (List ℕ)). keyword k ∷ vs) spelled.words ∙ sym (append-nil (keyword k ∷ map decimal ns))
+    ∙ (λ i. keyword (sym form.kinded i) ∷ map decimal (sym form.numbered i) ++ []) in
+    spell line m [] short all (subst (λ (ks : List ℕ). AreSmall ks) (sym form.numbered) spelled.small) form.no_data
 
 -- a line with the keyword of a kind, and behind it the words of a message
 module _ (line : List ℕ) (args : List (List ℕ)) (m : Msg) (short : length line ≤ LONGEST_LINE) where
   volume_spells : (make : ℕ → ℕ → Msg) (k : Kind) → ((a v : ℕ) → Plain (make a v) k (a ∷ v ∷ [])) → words line ≡ keyword k ∷ args → of_volume make args ≡ Some m → Spells line m
-  volume_spells make k form e h = grind (arith, common_steps, volume_spelled, plain_spells)
+  volume_spells make k form e h =
+      let s = volume_spelled make args m h in
+      subst (λ (n : Msg). Spells line n) (sym s.2) (plain_spells (form s.0 s.1) short e s.3)
 
   file_spells : (make : ℕ → ℕ → ℕ → Msg) (k : Kind) → ((a v f : ℕ) → Plain (make a v f) k (a ∷ v ∷ f ∷ [])) → words line ≡ keyword k ∷ args → of_file make args ≡ Some m → Spells line m
-  file_spells make k form e h = grind (arith, common_steps, file_spelled, plain_spells)
+  file_spells make k form e h =
+      let s = file_spelled make args m h in
+      subst (λ (n : Msg). Spells line n) (sym s.3) (plain_spells (form s.0 s.1 s.2) short e s.4)
 
   block_spells : (make : ℕ → ℕ → ℕ → ℕ → Msg) (k : Kind) → ((a v f b : ℕ) → Plain (make a v f b) k (a ∷ v ∷ f ∷ b ∷ [])) → words line ≡ keyword k ∷ args → of_block make args ≡ Some m → Spells line m
-  block_spells make k form e h = grind (arith, common_steps, block_spelled, plain_spells)
+  block_spells make k form e h =
+      let s = block_spelled make args m h in
+      subst (λ (n : Msg). Spells line n) (sym s.4) (plain_spells (form s.0 s.1 s.2 s.3) short e s.5)
 
   write_spells : words line ≡ keyword kinds.Write ∷ args → of_data Write args ≡ Some m → Spells line m
   write_spells e h =
@@ -211,29 +219,45 @@ data_no_space _ behind h = none_no_space behind h
 
 -- the words of a line that spells a message
 spelled_words : (line : List ℕ) (m : Msg) (s : Spells line m) → words line ≡ keyword (kind m) ∷ map decimal (numbers m) ++ s.words_behind
-spelled_words line m s = grind (arith, common_steps, HasNoSpace, data_no_space, numbers_no_space, words-join, keyword_no_space)
+spelled_words line m s =
+    let behind : AllByRecursion HasNoSpace s.words_behind = data_no_space m s.words_behind s.content in
+    let all : AllByRecursion HasNoSpace (map decimal (numbers m) ++ s.words_behind) = numbers_no_space (numbers m) s.words_behind s.fits behind in
+    ap words s.parts ∙ words-join (keyword (kind m)) (map decimal (numbers m) ++ s.words_behind) (keyword_no_space (kind m), all)
 
 spelled_as : (line : List ℕ) (m : Msg) (s : Spells line m) → message_of line ≡ of_kind (kind m) (map decimal (numbers m) ++ s.words_behind)
 spelled_as line m s = with_kind line (keyword (kind m)) (map decimal (numbers m) ++ s.words_behind) (kind m) s.short (spelled_words line m s) (sym (keyword_names (kind m)))
 
+-- Nothing is behind the numbers, or one word of data is, and the decimal text of each number encodes that number. So the numbers make the
+-- message again.
+
 volume_read : (make : ℕ → ℕ → Msg) {a v : ℕ} {behind : List (List ℕ)} → AreSmall (a ∷ v ∷ []) → behind ≡ [] → of_volume make (map decimal (a ∷ v ∷ []) ++ behind) ≡ Some (make a v)
-volume_read make {a} {v} h none = grind (arith, common_steps, number-decimal)
+volume_read make {a} {v} h none =
+    ap (λ (ws : List (List ℕ)). of_volume make (map decimal (a ∷ v ∷ []) ++ ws)) none
+    ∙ rw (number-decimal a h.0, number-decimal v h.1.0) refl
 
 file_read : (make : ℕ → ℕ → ℕ → Msg) {a v f : ℕ} {behind : List (List ℕ)} → AreSmall (a ∷ v ∷ f ∷ []) → behind ≡ [] → of_file make (map decimal (a ∷ v ∷ f ∷ []) ++ behind) ≡ Some (make a v f)
-file_read make {a} {v} {f} h none = grind (arith, common_steps, number-decimal)
+file_read make {a} {v} {f} h none =
+    ap (λ (ws : List (List ℕ)). of_file make (map decimal (a ∷ v ∷ f ∷ []) ++ ws)) none
+    ∙ rw (number-decimal a h.0, number-decimal v h.1.0, number-decimal f h.1.1.0) refl
 
 block_read : (make : ℕ → ℕ → ℕ → ℕ → Msg) {a v f b : ℕ} {behind : List (List ℕ)} → AreSmall (a ∷ v ∷ f ∷ b ∷ []) → behind ≡ []
     → of_block make (map decimal (a ∷ v ∷ f ∷ b ∷ []) ++ behind) ≡ Some (make a v f b)
-block_read make {a} {v} {f} {b} h none = grind (arith, common_steps, number-decimal)
+block_read make {a} {v} {f} {b} h none =
+    ap (λ (ws : List (List ℕ)). of_block make (map decimal (a ∷ v ∷ f ∷ b ∷ []) ++ ws)) none
+    ∙ rw (number-decimal a h.0, number-decimal v h.1.0, number-decimal f h.1.1.0, number-decimal b h.1.1.1.0) refl
 
 data_read : (make : ℕ → ℕ → ℕ → ℕ → Block → Msg) {a v f b : ℕ} {content : Block} {digits : List ℕ} {behind : List (List ℕ)}
     → AreSmall (a ∷ v ∷ f ∷ b ∷ []) → behind ≡ digits ∷ [] → block_in_word digits ≡ Some content
     → of_data make (map decimal (a ∷ v ∷ f ∷ b ∷ []) ++ behind) ≡ Some (make a v f b content)
-data_read make {a} {v} {f} {b} h is spelled = grind (arith, common_steps, number-decimal)
+data_read make {a} {v} {f} {b} h is spelled =
+    ap (λ (ws : List (List ℕ)). of_data make (map decimal (a ∷ v ∷ f ∷ b ∷ []) ++ ws)) is
+    ∙ rw (number-decimal a h.0, number-decimal v h.1.0, number-decimal f h.1.1.0, number-decimal b h.1.1.1.0, spelled) refl
 
 label_read : (make : ℕ → ℕ → List ℕ → Msg) {a v : ℕ} {bytes digits : List ℕ} {behind : List (List ℕ)} → AreSmall (a ∷ v ∷ []) → behind ≡ digits ∷ [] → label_in_word digits ≡ Some bytes
     → of_label make (map decimal (a ∷ v ∷ []) ++ behind) ≡ Some (make a v bytes)
-label_read make {a} {v} h is spelled = grind (arith, common_steps, number-decimal)
+label_read make {a} {v} h is spelled =
+    ap (λ (ws : List (List ℕ)). of_label make (map decimal (a ∷ v ∷ []) ++ ws)) is
+    ∙ rw (number-decimal a h.0, number-decimal v h.1.0, spelled) refl
 
 -- what a line spells is what its words make
 made_again : (m : Msg) (behind : List (List ℕ)) → AreSmall (numbers m) → IsData m behind → of_kind (kind m) (map decimal (numbers m) ++ behind) ≡ Some m
