@@ -22,9 +22,10 @@ impl Server {
         ensures state { server_state self.new ≡ server_state self.old }
         ensures blocks { self.new.blocks ≡ self.old.blocks }
     {
-        if let Some(count) = self.block_counts.get_mut(&(a, v, s)) {
-            *count -= 1;
-        }
+        let Some(count) = self.block_counts.get_mut(&(a, v, s)) else {
+            unreachable!()
+        };
+        *count -= 1;
     }
 
     /// Takes a block out of its file, where there is one.
@@ -75,9 +76,10 @@ impl Server {
         ensures counted { HasRightCounts g.now self.new }
     {
         self.clear_file(g, a, v, f);
-        if let Some(volume) = self.volumes.get_mut(&(a, v)) {
-            volume.files &= !(1 << f);
-        }
+        let Some(volume) = self.volumes.get_mut(&(a, v)) else {
+            unreachable!()
+        };
+        volume.files &= !(1 << f);
     }
 
     /// The file and the number of a block of the volume, where it has one.

@@ -12,8 +12,8 @@ use Rattle.plain.proofs.Totals.{files_fit}
 use Rattle.plain.proofs.Volumes.{no_file_state}
 use Rattle.plain.proofs.server.Server.remove_file.Goals as goal
 
-pub returns-in-Some-clause-state : goal.returns-in-Some-clause-state
-returns-in-Some-clause-state c =
+pub returns-clause-state : goal.returns-clause-state
+returns-clause-state c =
     let g = c.args.g.now in
     let volumes = map.get volume_order c.clear_file.new.self.volumes in
     let blocks = map.get block_order c.clear_file.new.self.blocks in
@@ -27,6 +27,7 @@ returns-in-Some-clause-state c =
     (without_bit_has c.in-Some.volume.now.files c.args.f c.requires.file (files_fit g volumes blocks state c.args.a c.args.v was))
     ∙ ap (λ (y : State). record y { files = dropping (is_file c.args.a c.args.v c.args.f) y.files }) c.clear_file.ensures.state
 
-pub returns-in_default-clause-state : goal.returns-in_default-clause-state
-returns-in_default-clause-state c = absurd (true≢false (sym c.requires.made
+-- to clear the file leaves its volume made
+pub unreachable-requires : goal.unreachable-requires
+unreachable-requires c = absurd (true≢false (sym c.requires.made
     ∙ sym (ap (λ (y : State). y.made (c.args.a, c.args.v)) c.clear_file.ensures.state) ∙ ap is_some (sym c.in_default.ensures.value)))
