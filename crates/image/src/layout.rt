@@ -47,12 +47,14 @@ pub fn piece_size(g: &Geometry, n: usize) -> usize
     }
 }
 
-/// What a piece is of: its aggregate, its volume, and as `part` 0 for the volume's own piece and `s + 1`
-/// for that of stripe s.
+/// What a piece is of: a part of a volume of an aggregate.
 #[derive(Clone, Copy)]
 pub struct PiecePlace {
+    /// The number of the aggregate.
     pub aggregate: usize,
+    /// The number of the volume in its aggregate.
     pub volume: usize,
+    /// The part of the volume: 0 is its own piece, `s + 1` that of stripe s.
     pub part: usize,
 }
 
