@@ -98,7 +98,7 @@ impl VolumePiece {
         out[..FILES_AT].copy_from_slice(&[1, u8::from(self.sealed), 0, 0, 0, 0, 0, 0]);
         LittleEndian::write_u64(&mut out[FILES_AT..LABEL_AT], self.files);
         out[LABEL_AT..ZEROS_AT].copy_from_slice(&self.label);
-        out[ZEROS_AT..].copy_from_slice(&[0; 16]);
+        out[ZEROS_AT..].fill(0);
     }
 
     /// Gives a volume the flags, the files and the label.
