@@ -1,15 +1,15 @@
 -- What was taken out of the tree was lent, and what was put back was restored.
-use Rattle.std.proofs.Common.{arith}
-use Rattle.std.proofs.Common.{◌≡◌, zero, suc, true, [], ◌∷◌, ◌++◌, refl, sym, ap, ◌∙◌}
-use Rattle.std.specs.Prelude.{◌==◌, Option, None, Some, is_some, Result, Ok, Err, MatchResult, IfNone}
-use Rattle.std.proofs.lemmas.Bool.{and_parts, cond-true, eq-eqb, eqb-true, true≢false}
+use Rattle.std.proofs.Common.{◌≡◌, zero, suc, true, List, [], ◌∷◌, ◌++◌, refl, sym, ap, subst, ◌∙◌, ⊎_elim}
+use Rattle.std.specs.Prelude.{◌==◌, Option, None, Some, is_some, slice_index_or, Result, Ok, Err, MatchResult, IfNone}
+use Rattle.std.proofs.lemmas.Bool.{and_parts, cond-true, eq-eqb, eqb-true, or_cases, true≢false}
 use Rattle.std.proofs.lemmas.List.{append-nil}
 use Rattle.affinity.specs.declared.geometry.Geometry.{Geometry}
 use Rattle.affinity.specs.Path.{Path, is_prefix, IsPath}
 use Rattle.parcel.specs.Fits.{Fits, IsKindOf}
-use Rattle.parcel.specs.Nodes.{Nodes, child_nodes, root_nodes, parcels_nodes, put_at, PutsBack}
+use Rattle.parcel.specs.Nodes.{Node, Nodes, child_nodes, children_nodes, leaf, stripe_nodes, label_nodes, logical_nodes, volume_nodes, aggregate_nodes, root_nodes, parcels_nodes, put_at, PutsBack}
 use Rattle.parcel.specs.Parts.{TakesParcels, Puts}
 use Rattle.parcel.specs.Tree.{LendsAt, RestoresAt, standing_at}
+use Rattle.parcel.specs.declared.parts.Vol.{Vol}
 use Rattle.parcel.specs.declared.parts.Root.{Root}
 use Rattle.parcel.specs.declared.parts.Parcels.{Parcels}
 use Rattle.parcel.specs.declared.parts.Parcels.TheVariants as parcels
@@ -35,11 +35,65 @@ begins_split (x ∷ p) (y ∷ q) h =
     let rest = begins_split p q both.1 in
     (rest.0, sym (ap (λ z. z ∷ q) (eqb-true x y both.0)) ∙ ap (λ r. x ∷ r) rest.1)
 
+-- ---- the nodes above one that is in are in
+
+abbrev IsClosed : Nodes → Type 0
+IsClosed n = (q r : Path) → is_some (n (q ++ r)) ≡ true → is_some (n q) ≡ true
+
+child_closed : {X : Type 0} (nodes : X → Nodes) → ((x : X) → IsClosed (nodes x)) → (o : Option X) → IsClosed (child_nodes nodes o)
+child_closed nodes h None q r there = there
+child_closed nodes h (Some x) q r there = h x q r there
+
+row_closed : {X : Type 0} (nodes : X → Nodes) → ((x : X) → IsClosed (nodes x)) → (own : Node) (xs : List (Option X)) → IsClosed (children_nodes nodes own xs)
+row_closed nodes h own xs [] r there = refl
+row_closed nodes h own xs (i ∷ q) r there = child_closed nodes h (slice_index_or xs i None) q r there
+
+leaf_closed : (own : Node) → IsClosed (leaf own)
+leaf_closed own [] r there = refl
+leaf_closed own (i ∷ q) r there = there
+
+volume_closed : (w : Vol) → IsClosed (volume_nodes w)
+volume_closed w [] r there = refl
+volume_closed w (zero ∷ q) r there = child_closed logical_nodes (λ l. row_closed stripe_nodes (λ p. leaf_closed _) _ l.stripes.items) w.logical q r there
+volume_closed w (suc zero ∷ q) r there = child_closed label_nodes (λ l. leaf_closed _) w.label q r there
+volume_closed w (suc (suc i) ∷ q) r there = there
+
+tree_closed : (o : Option Root) → IsClosed (child_nodes root_nodes o)
+tree_closed = child_closed root_nodes (λ r. row_closed aggregate_nodes (λ a. row_closed volume_nodes volume_closed _ a.volumes.items) _ r.aggregates.items)
+
 -- ---- what was taken out was lent, and what was put back was restored
 
 pub lent_from_taken : {g : Geometry} {p : Path} {t : Standing} {l : Parcels} (o : Option Root) {new : Nodes} → IsPath g p → TakesParcels g p l (child_nodes root_nodes o) new
     → t ≡ standing_at p (child_nodes root_nodes o) → LendsAt g p t l (child_nodes root_nodes o) new
-lent_from_taken {g} {p} {t} {l} o path h stands = grind (arith, kind_of g p l h.fits, append-nil p, begins_split, related_shown, whole_is_in)
+lent_from_taken {g} {p} {t} {l} o path h stands = record {
+  all_in = λ q there related. ⊎_elim (at_or_below q there) (above q) (or_cases (is_prefix p q) (is_prefix q p) related);
+  fits = h.fits;
+  parcels = h.parcels;
+  standing = stands;
+  shows = related_shown g p t l old (kind_of g p l h.fits) h.parcels stands;
+  rest = h.rest;
+}
+  where
+    old : Nodes
+    old = child_nodes root_nodes o
+
+    -- what was taken is whole, and it is what was in from p on
+    in_below : (q : Path) → IsPath g (p ++ q) → is_some (old (p ++ q)) ≡ true
+    in_below q there = ap is_some (h.parcels q) ∙ whole_is_in g p l h.fits q there
+
+    here : is_some (old p) ≡ true
+    here = subst (λ r. is_some (old r) ≡ true) (append-nil p) (in_below [] (subst (IsPath g) (sym (append-nil p)) path))
+
+    at_or_below : (q : Path) → IsPath g q → is_prefix p q ≡ true → is_some (old q) ≡ true
+    at_or_below q there below =
+        let rest = begins_split p q below in
+        subst (λ r. is_some (old r) ≡ true) (sym rest.1) (in_below rest.0 (subst (IsPath g) rest.1 there))
+
+    -- p is in, so each node above it is
+    above : (q : Path) → is_prefix q p ≡ true → is_some (old q) ≡ true
+    above q begins =
+        let rest = begins_split q p begins in
+        tree_closed o q rest.0 (subst (λ r. is_some (old r) ≡ true) rest.1 here)
 
 pub put_there : (p q : Path) (part old : Nodes) → put_at p part old (p ++ q) ≡ part q
 put_there [] q part old = refl
