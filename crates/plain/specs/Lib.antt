@@ -1,4 +1,4 @@
 -- Definitions of the maps that the serial server keeps.
-pub mod Places
+pub mod Keys
 pub mod Server
 pub mod Answering

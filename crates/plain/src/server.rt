@@ -15,14 +15,14 @@ use std::collections::BTreeMap;
 
 mod blocks;
 mod effects;
+mod keys;
 mod lookups;
-mod places;
 mod refusals;
 mod removals;
 mod replies;
 mod totals;
 
-use places::Place;
+use keys::BlockKey;
 
 /// What a volume has besides its blocks.
 #[derive(Clone, Copy)]
@@ -40,8 +40,8 @@ pub(crate) struct Server {
     /// The volumes that exist.
     volumes: BTreeMap<(u16, u16), Volume>,
 
-    /// The blocks, by their places.
-    blocks: BTreeMap<Place, Block>,
+    /// The blocks, by their keys.
+    blocks: BTreeMap<BlockKey, Block>,
 
     /// How many blocks each stripe of a volume has, so that no write has to count them. A stripe
     /// without an entry has none.

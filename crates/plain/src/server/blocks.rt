@@ -8,7 +8,7 @@ ghost use Rattle.meaning.specs.Serial.{passes, effect};
 ghost use Rattle.plain.specs.Server.{server_state, HasRightCounts};
 
 use super::Server;
-use super::places::Place;
+use super::keys::BlockKey;
 use affinity::{Geometry, group_of};
 use protocol::{Block, Msg, Refusal};
 use std::alloc::AllocError;
@@ -27,7 +27,7 @@ impl Server {
         content: &Block,
     ) -> Result<Option<Refusal>, AllocError>
         requires file { f < g.now.files }
-        requires place { b < g.now.blocks }
+        requires block { b < g.now.blocks }
         requires counted { HasRightCounts g.now self.old }
         ensures room { IfOk result (λ why. why
             ≡ (if passes g.now (server_state self.old) kinds.Write (a ∷ v ∷ f ∷ b ∷ []) Refusal.Space then None else Some Refusal.Space)) }
@@ -36,8 +36,8 @@ impl Server {
         ensures unchanged { OnErr result (server_state self.new ≡ server_state self.old) }
         ensures counted { HasRightCounts g.now self.new }
     {
-        if let Some(place) = self.blocks.get_mut(&Place { b, f, v, a }) {
-            *place = *content;
+        if let Some(block) = self.blocks.get_mut(&BlockKey { b, f, v, a }) {
+            *block = *content;
             return Ok(None);
         }
         let stripe = (a, v, group_of(g, f, b));
@@ -45,7 +45,7 @@ impl Server {
         if *count >= g.quota {
             return Ok(Some(Refusal::Space));
         }
-        self.blocks.insert(Place { b, f, v, a }, *content)?;
+        self.blocks.insert(BlockKey { b, f, v, a }, *content)?;
         *count += 1;
         Ok(None)
     }

@@ -11,7 +11,7 @@ ghost use Rattle.meaning.specs.Removals.{without_blocks};
 ghost use Rattle.affinity.specs.declared.limits.TheConstants.{MOST_FILES};
 
 use super::Server;
-use super::places::Place;
+use super::keys::BlockKey;
 use affinity::{Geometry, group_of};
 
 impl Server {
@@ -36,7 +36,7 @@ impl Server {
         ensures len { btree_map_len self.new.blocks + one_if (is_some ((server_state self.old).blocks (a, v, f, b)))
             ≡ btree_map_len self.old.blocks }
     {
-        if self.blocks.remove(&Place { b, f, v, a }).is_some() {
+        if self.blocks.remove(&BlockKey { b, f, v, a }).is_some() {
             self.note_one_less(a, v, group_of(g, f, b));
         }
     }
@@ -47,7 +47,7 @@ impl Server {
         ensures none { IfNone result ((k : BlockKey) → is_block_of_file a v f k ≡ true
             → is_some ((server_state self.now).blocks k) ≡ false) }
     {
-        let (key, _) = self.blocks.range(Place { b: 0, f, v, a }..).next()?;
+        let (key, _) = self.blocks.range(BlockKey { b: 0, f, v, a }..).next()?;
         let (of_a, of_v, of_f, b) = key.numbers();
         if of_a == a && of_v == v && of_f == f {
             Some(b)
@@ -88,7 +88,7 @@ impl Server {
         ensures none { IfNone result ((k : BlockKey) → is_block_of a v k ≡ true
             → is_some ((server_state self.now).blocks k) ≡ false) }
     {
-        let (key, _) = self.blocks.range(Place { b: 0, f: 0, v, a }..).next()?;
+        let (key, _) = self.blocks.range(BlockKey { b: 0, f: 0, v, a }..).next()?;
         let (of_a, of_v, f, b) = key.numbers();
         if of_a == a && of_v == v {
             Some((f, b))

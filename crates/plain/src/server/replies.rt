@@ -8,7 +8,7 @@ ghost use Rattle.meaning.specs.Serial.{accepted_reply, no_label, step};
 ghost use Rattle.plain.specs.Server.{server_state, IsConsistent};
 
 use super::Server;
-use super::places::Place;
+use super::keys::BlockKey;
 use affinity::Geometry;
 use protocol::{Block, LABEL_SIZE, Reply};
 
@@ -32,6 +32,6 @@ impl Server {
         ensures hole { IfNone result (accepted_reply g.now (server_state self.now) (message_without_data kinds.Read numbers) ≡ Hole) }
     {
         let [a, v, f, b] = numbers;
-        self.blocks.get(&Place { b, f, v, a })
+        self.blocks.get(&BlockKey { b, f, v, a })
     }
 }

@@ -93,4 +93,4 @@ returns-clause-counted c =
     (ap (λ n. n + 1) c.or_insert-count.ensures.value ∙ ap (λ o. unwrap_or o 0 + 1) c.in_ok-self.ensures.value)) k
     ∙ subst (AreCounts c.args.g.now more) (sym (returns-clause-state c))
     (added_counts x c.args.a c.args.v c.args.f c.args.b c.args.content.now c.args.g.now (noted c.args.self.now) c.requires.counted c.group_of.result
-    c.group_of.ensures.value c.requires.file c.requires.place absent) k
+    c.group_of.ensures.value c.requires.file c.requires.block absent) k

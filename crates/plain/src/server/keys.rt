@@ -1,35 +1,35 @@
-//! The place of a block, by which the server's map of blocks is ordered. It is compared as one number: a search of the map compares some
+//! The key of a block, by which the server's map of blocks is ordered. It is compared as one number: a search of the map compares some
 //! twenty of them.
 
 ghost use Rattle.std.specs.Prelude.{◌≡◌, ◌+◌, ◌*◌, refl};
 ghost use Rattle.std.specs.Cmp.{eq_by_cmp_equiv, partial_equiv_from_equiv, partial_order_from_total};
 ghost use Rattle.std.specs.Ordering.{as_partial_cmp, eq_by_cmp};
 ghost use Rattle.meaning.specs.KeyOrders.{block_order};
-ghost use Rattle.plain.specs.Places.{block_order_total, IsPlace};
+ghost use Rattle.plain.specs.Keys.{block_order_total, IsBlockKey};
 
 use std::cmp::Ordering;
 use std::marker::Model;
 
-/// The place of a block: its aggregate, volume, file and number. The number lies first, so that the compiler reads the four as one.
+/// The key of a block: its aggregate, volume, file and number. The number lies first, so that the compiler reads the four as one.
 #[derive(Drop, Clone, Copy)]
-pub(super) struct Place {
+pub(super) struct BlockKey {
     pub(super) b: u16,
     pub(super) f: u16,
     pub(super) v: u16,
     pub(super) a: u16,
 }
 
-impl Model for Place {
-    ghost use Rattle.meaning.specs.State.{BlockKey};
+impl Model for BlockKey {
+    ghost use Rattle.meaning.specs.State.{BlockKey as FourNumbers};
 
-    ghost Value = { BlockKey };
+    ghost Value = { FourNumbers };
 
-    ghost view = { λ place. (place.a, place.v, place.f, place.b) };
+    ghost view = { λ key. (key.a, key.v, key.f, key.b) };
 
     ghost inverse = { λ k. record { a = k.0; v = k.1; f = k.2; b = k.3 } };
 }
 
-impl Place {
+impl BlockKey {
     /// The four numbers, from the aggregate on.
     pub(super) fn numbers(&self) -> (u16, u16, u16, u16)
         ensures { result ≡ self.now }
@@ -41,38 +41,38 @@ impl Place {
     #[inline(always)]
     fn number(&self) -> u64
         ensures value { result ≡ ((self.now.0 * 65536 + self.now.1) * 65536 + self.now.2) * 65536 + self.now.3 }
-        ensures place { IsPlace self.now }
+        ensures short { IsBlockKey self.now }
     {
         ((u64::from(self.a) * 65536 + u64::from(self.v)) * 65536 + u64::from(self.f)) * 65536
             + u64::from(self.b)
     }
 }
 
-impl PartialEq for Place {
+impl PartialEq for BlockKey {
     ghost eq = { eq_by_cmp block_order };
 
     ghost laws = { partial_equiv_from_equiv (eq_by_cmp_equiv block_order_total) };
 
-    fn eq(&self, other: &Place) -> bool {
+    fn eq(&self, other: &BlockKey) -> bool {
         self.number() == other.number()
     }
 }
 
-impl Eq for Place {
+impl Eq for BlockKey {
     ghost laws = { eq_by_cmp_equiv block_order_total };
 }
 
-impl PartialOrd for Place {
+impl PartialOrd for BlockKey {
     ghost partial_cmp = { as_partial_cmp block_order };
 
     ghost laws = { partial_order_from_total block_order_total };
 
-    fn partial_cmp(&self, other: &Place) -> Option<Ordering> {
+    fn partial_cmp(&self, other: &BlockKey) -> Option<Ordering> {
         Some(self.cmp(other))
     }
 }
 
-impl Ord for Place {
+impl Ord for BlockKey {
     ghost cmp = { block_order };
 
     ghost total = { block_order_total };
@@ -82,7 +82,7 @@ impl Ord for Place {
     ghost matches_eq = { λ x y. refl };
 
     #[inline(always)]
-    fn cmp(&self, other: &Place) -> Ordering {
+    fn cmp(&self, other: &BlockKey) -> Ordering {
         let number = self.number();
         let others = other.number();
         if number > others {

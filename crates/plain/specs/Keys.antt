@@ -1,4 +1,4 @@
--- Inner: The order of the places of blocks.
+-- Inner: The order of the keys of blocks.
 use Rattle.std.specs.Prelude.{◌<◌}
 use Rattle.std.specs.Cmp.{IsTotalOrder, nat_cmp_total, on_total, then_total}
 use Rattle.meaning.specs.State.{VolumeKey, FileKey, BlockKey}
@@ -15,7 +15,7 @@ block_order_total =
     then_total (on_total (λ (k : BlockKey). (k.0, k.1, k.2)) file_order_total) (on_total (λ (k : BlockKey). k.3) nat_cmp_total)
 
 -- Each of the four numbers is below 65536.
-pub record IsPlace (k : BlockKey) : Type 0 where
+pub record IsBlockKey (k : BlockKey) : Type 0 where
   pub aggregate : k.0 < 65536
   pub volume : k.1 < 65536
   pub file : k.2 < 65536
