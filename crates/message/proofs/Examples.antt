@@ -1,8 +1,12 @@
--- The records of single messages.
+-- How many bytes of replies may wait, and the records of single messages.
 use Rattle.std.proofs.Common.{◌≡◌, ◌∷◌, refl}
 use Rattle.std.specs.Prelude.{replicate}
 use Rattle.protocol.specs.declared.messages.Msg.TheVariants.{MakeVol, DropVol, Create, Delete, Seal, Unseal, Write, Punch, Read, List as ListFiles, Usage as AskUsage, Summary as AskSummary, SetLabel, Label as AskLabel}
 use Rattle.message.specs.Records.{record_of, data_of}
+use Rattle.message.specs.declared.reply_buffer.TheConstants.{REPLY_BUFFER_SIZE}
+
+reply_buffer : REPLY_BUFFER_SIZE ≡ 65536
+reply_buffer = refl
 
 record_of_makevol : record_of (MakeVol 0 0) ≡ 1 ∷ replicate 519 0
 unfolding data_of

@@ -33,9 +33,9 @@ fn digit_value(digit: u8) -> u8
 /// Puts the values of the `2 * LANES` digits from `at` on into `values`, in order, and gives the greatest of them.
 #[inline(always)]
 fn values_at(digits: &[u8], at: usize, values: &mut [u8; 2 * LANES]) -> u8
-    requires { at + 32 ≤ length digits.now }
-    ensures each { (k : ℕ) → k < 32 → slice_index values.new k ≡ value_of (slice_index digits.now (at + k)) }
-    ensures bound { (k : ℕ) → k < 32 → slice_index values.new k ≤ result }
+    requires { at + 2 * LANES ≤ length digits.now }
+    ensures each { (k : ℕ) → k < 2 * LANES → slice_index values.new k ≡ value_of (slice_index digits.now (at + k)) }
+    ensures bound { (k : ℕ) → k < 2 * LANES → slice_index values.new k ≤ result }
     ensures met { 16 ≤ result → HasNonDigit digits.now }
 {
     let mut greatest = 0u8;
@@ -50,10 +50,10 @@ fn values_at(digits: &[u8], at: usize, values: &mut [u8; 2 * LANES]) -> u8
 /// Puts the byte of each pair of values into `out`, from `at` on. Where a value is no digit's, its byte is unspecified.
 #[inline(always)]
 fn put_pairs(values: &[u8; 2 * LANES], out: &mut [u8], at: usize)
-    requires { at + 16 ≤ length out.old }
+    requires { at + LANES ≤ length out.old }
     ensures size { length out.new ≡ length out.old }
     ensures before { (i : ℕ) → i < at → slice_index out.new i ≡ slice_index out.old i }
-    ensures pairs { (k : ℕ) → k < 16 → slice_index out.new (at + k)
+    ensures pairs { (k : ℕ) → k < LANES → slice_index out.new (at + k)
         ≡ (slice_index values.now (2 * k) * 16 % 256 + slice_index values.now (2 * k + 1)) % 256 }
 {
     for k in 0..LANES {

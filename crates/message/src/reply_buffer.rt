@@ -77,16 +77,17 @@ pub struct ReplyBuffer {
 
 impl Model for ReplyBuffer {
     ghost use Rattle.std.specs.Prelude.{◌≡◌, ℕ, ◌≤◌, List, take, vec_len};
+    ghost use Rattle.message.specs.declared.reply_buffer.TheConstants.{REPLY_BUFFER_SIZE};
 
     ghost Value = { List ℕ };
 
     ghost view = { λ b. take b.len b.bytes.items };
 
-    ghost invariant = { λ b. (vec_len b.bytes ≡ 65536) × (b.len ≤ 65536) };
+    ghost invariant = { λ b. (vec_len b.bytes ≡ REPLY_BUFFER_SIZE) × (b.len ≤ REPLY_BUFFER_SIZE) };
 }
 
 impl ReplyBuffer {
-    /// An empty one, of 64 KiB.
+    /// An empty one, of `REPLY_BUFFER_SIZE` bytes.
     pub fn new(alloc: Global) -> Result<ReplyBuffer, AllocError>
         ensures { IfOk result (λ out. out ≡ []) }
     {
