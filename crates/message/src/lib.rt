@@ -12,11 +12,8 @@ mod reply_buffer;
 mod writing;
 
 pub use heads::{Head, decode_block, decode_label, head_of_line, parse_line};
+pub use protocol::{Block, LONGEST_LINE, LONGEST_REPLY, Msg, Refusal, Reply};
 // A reader that is lent to a `LineReader`; its type parameter, a `Loan`, says which one it is.
-pub use protocol::{
-    BLOCK_SIZE, Block, LABEL_SIZE, LONGEST_LINE, LONGEST_REPLY, LONGEST_TEXT, Msg, RECORD_SIZE,
-    Refusal, Reply,
-};
 pub use lent_reader::{LentReader, Loan};
 pub use line_reader::{Found, LineReader, ReadFault};
 pub use printing::{no_message_line, write_reply};
