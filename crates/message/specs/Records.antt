@@ -4,7 +4,7 @@ use Rattle.std.specs.List.{AllByRecursion}
 use Rattle.affinity.specs.declared.kinds.Kind.{Kind}
 use Rattle.affinity.specs.declared.kinds.Kind.TheVariants as kinds
 use Rattle.byteorder.specs.Endian.{little_bytes, little_number}
-use Rattle.protocol.specs.declared.sizes.TheConstants.{BLOCK_SIZE, LABEL_SIZE}
+use Rattle.protocol.specs.declared.sizes.TheConstants.{BLOCK_SIZE, LABEL_SIZE, RECORD_HEAD_SIZE}
 use Rattle.protocol.specs.declared.messages.Msg.{Msg}
 use Rattle.protocol.specs.declared.messages.Msg.TheVariants.{MakeVol, DropVol, Create, Delete, Seal, Unseal, Write, Punch, Read, List as ListFiles, Usage, Summary, SetLabel, Label}
 use Rattle.protocol.specs.Messages.{kind, four_numbers}
@@ -39,7 +39,7 @@ data_of (Write a v f b content) = content.0
 data_of (SetLabel a v bytes) = bytes ++ replicate (BLOCK_SIZE - LABEL_SIZE) 0
 data_of _ = replicate BLOCK_SIZE 0
 
--- the record of a message: 8 bytes of head, then data of the size of a block
+-- the record of a message: its head, then data of the size of a block
 abbrev pub record_of : Msg → List ℕ
 record_of m = record_head m ++ data_of m
 
@@ -74,5 +74,5 @@ assembled kinds.Label a v f b bytes = Label a v
 unfoldable pub message_in_fields : List ℕ → Option Msg
 message_in_fields bytes =
     option_map (λ k. assembled k (slice_index bytes 1) (slice_index bytes 2) (slice_index bytes 3) (little_number 2 (take 2 (drop 4 bytes)))
-    (drop 8 bytes))
+    (drop RECORD_HEAD_SIZE bytes))
     (kind_numbered (slice_index bytes 0))

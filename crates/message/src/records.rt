@@ -6,10 +6,11 @@ ghost use Rattle.protocol.specs.Messages.{IsMessage, is_in_range};
 ghost use Rattle.message.specs.Heads.{has_data};
 ghost use Rattle.message.specs.Records.{FitsRecord, assembled, data_of, message_in_fields, record_head, kind_number, kind_numbered, record_of};
 ghost use Rattle.protocol.specs.declared.messages.Msg.{Msg};
+ghost use Rattle.protocol.specs.declared.sizes.TheConstants.{RECORD_HEAD_SIZE};
 
 use affinity::{Geometry, Kind, is_in_range};
 use byteorder::{ByteOrder, LittleEndian};
-use protocol::{BLOCK_SIZE, Block, LABEL_SIZE, Msg, RECORD_SIZE};
+use protocol::{BLOCK_SIZE, Block, LABEL_SIZE, Msg, RECORD_HEAD_SIZE, RECORD_SIZE};
 
 /// Writes the record of a message into `out`, all of it. The message's aggregate, volume and file
 /// are at most 255 each.
@@ -17,14 +18,14 @@ pub fn encode(m: &Msg, out: &mut [u8; RECORD_SIZE])
     requires { FitsRecord m.now }
     ensures { out.new ≡ record_of m.now }
 {
-    out[..8].copy_from_slice(&head_of(m));
+    out[..RECORD_HEAD_SIZE].copy_from_slice(&head_of(m));
     match m {
-        Msg::Write(_, _, _, _, content) => out[8..].copy_from_slice(&content.0),
+        Msg::Write(_, _, _, _, content) => out[RECORD_HEAD_SIZE..].copy_from_slice(&content.0),
         Msg::SetLabel(_, _, label) => {
-            out[8..8 + LABEL_SIZE].copy_from_slice(label);
-            out[8 + LABEL_SIZE..].fill(0);
+            out[RECORD_HEAD_SIZE..RECORD_HEAD_SIZE + LABEL_SIZE].copy_from_slice(label);
+            out[RECORD_HEAD_SIZE + LABEL_SIZE..].fill(0);
         }
-        _ => out[8..].fill(0),
+        _ => out[RECORD_HEAD_SIZE..].fill(0),
     }
 }
 
@@ -44,28 +45,29 @@ pub fn decode(bytes: &[u8; RECORD_SIZE], g: &Geometry) -> Option<Msg>
     }
 }
 
-/// Whether the first 8 bytes are the head of this message's record, with two zeros at its end.
+/// Whether these bytes begin with the head of this message's record, with two zeros at its end.
 fn has_head_of(bytes: &[u8; RECORD_SIZE], m: &Msg) -> bool
     requires { FitsRecord m.now }
-    ensures { IsTrue result ↔ (take 8 bytes.now ≡ record_head m.now) }
+    ensures { IsTrue result ↔ (take RECORD_HEAD_SIZE bytes.now ≡ record_head m.now) }
 {
-    bytes[..8] == head_of(m)[..]
+    bytes[..RECORD_HEAD_SIZE] == head_of(m)[..]
 }
 
 /// Whether what comes after the head is the data of `m`, which was made of the fields of `bytes`.
 fn has_data_of(bytes: &[u8; RECORD_SIZE], m: &Msg) -> bool
     requires { Some m.now ≡ message_in_fields bytes.now }
-    ensures { IsTrue result ↔ (drop 8 bytes.now ≡ data_of m.now) }
+    ensures { IsTrue result ↔ (drop RECORD_HEAD_SIZE bytes.now ≡ data_of m.now) }
 {
     match m {
         Msg::Write(..) => true,
-        Msg::SetLabel(..) => bytes[8 + LABEL_SIZE..] == [0; BLOCK_SIZE - LABEL_SIZE][..],
-        _ => bytes[8..] == [0; BLOCK_SIZE][..],
+        Msg::SetLabel(..) => bytes[RECORD_HEAD_SIZE + LABEL_SIZE..]
+            == [0; BLOCK_SIZE - LABEL_SIZE][..],
+        _ => bytes[RECORD_HEAD_SIZE..] == [0; BLOCK_SIZE][..],
     }
 }
 
 /// What comes before the data of a record.
-fn head_of(m: &Msg) -> [u8; 8]
+fn head_of(m: &Msg) -> [u8; RECORD_HEAD_SIZE]
     requires { FitsRecord m.now }
     ensures { result ≡ record_head m.now }
 {
@@ -87,7 +89,7 @@ fn message_in_fields(bytes: &[u8; RECORD_SIZE]) -> Option<Msg>
         u16::from(bytes[3]),
         LittleEndian::read_u16(&bytes[4..6]),
     ];
-    Some(assembled(kind, numbers, &bytes[8..]))
+    Some(assembled(kind, numbers, &bytes[RECORD_HEAD_SIZE..]))
 }
 
 /// The message of a kind with these numbers, and with the data that its record has behind the head; a kind without data needs none. It is

@@ -10,7 +10,7 @@ use Rattle.protocol.specs.Lines.{lines, number_in_word, block_in_word, label_in_
 use Rattle.protocol.specs.Grammar.{message_of, kind_named}
 use Rattle.protocol.specs.Replies.{reply_line, no_message, shown, files_text}
 use Rattle.protocol.specs.FirstLine.{first_line, behind_first_line}
-use Rattle.protocol.specs.declared.sizes.TheConstants.{BLOCK_SIZE, LABEL_SIZE, RECORD_SIZE, LONGEST_LINE, LONGEST_REPLY}
+use Rattle.protocol.specs.declared.sizes.TheConstants.{BLOCK_SIZE, LABEL_SIZE, RECORD_HEAD_SIZE, RECORD_SIZE, LONGEST_LINE, LONGEST_REPLY}
 
 -- ---- the sizes that definitions cite
 
@@ -19,6 +19,9 @@ block_size = refl
 
 label_size : LABEL_SIZE ≡ 32
 label_size = refl
+
+record_head_size : RECORD_HEAD_SIZE ≡ 8
+record_head_size = refl
 
 record_size : RECORD_SIZE ≡ 520
 record_size = refl

@@ -6,8 +6,11 @@ pub const BLOCK_SIZE: usize = 512;
 /// The size of a label, in bytes.
 pub const LABEL_SIZE: usize = 32;
 
-/// The size of a message's record in a log: 8 bytes of head, and room for a block.
-pub const RECORD_SIZE: usize = 8 + BLOCK_SIZE;
+/// The size of what a message's record begins with: its kind, its numbers and zeros.
+pub const RECORD_HEAD_SIZE: usize = 8;
+
+/// The size of a message's record in a log: its head, and room for a block.
+pub const RECORD_SIZE: usize = RECORD_HEAD_SIZE + BLOCK_SIZE;
 
 /// How many bytes a line of the input may have, its newline not counted. A longer one is no message.
 pub const LONGEST_LINE: usize = 1100;
