@@ -2,6 +2,7 @@
 use Rattle.std.proofs.Common.{◌≡◌, ℕ, ◌+◌, ◌-◌, ◌*◌, ◌≤◌, List, [], ◌++◌, length, take, drop, replicate, sym, ◌∙◌, ap, subst, arith}
 use Rattle.std.specs.List.{concat}
 use Rattle.std.proofs.lemmas.List.{append-nil, drop-drop, take-append-drop, take_all}
+use Rattle.affinity.specs.declared.geometry.Geometry.{Geometry}
 use Rattle.disk.specs.Device.{SameOutside}
 use Rattle.disk.proofs.Outside.{same_take, same_drop, same_before}
 use Rattle.device_map.specs.Layout.{slice}
@@ -10,6 +11,10 @@ use Rattle.oplog.specs.Front.{count_open, rows, gates_in, front_in}
 use Rattle.oplog.proofs.Slices.{within, slice_slice}
 use Rattle.oplog.proofs.Gates.{torn_gates, full_gates, still_shut}
 use Rattle.oplog.proofs.RecordRows.{AreRows, rows_same, rows-add, rows_of}
+
+-- what holds of a half, by its geometry and its number, holds by equal ones
+pub of_half : (P : Geometry → ℕ → Type 0) {g h : Geometry} {n k : ℕ} → h ≡ g → k ≡ n → P h k → P g n
+of_half P same is = subst (λ (t : Type 0). t) (λ i. P (same i) (is i))
 
 -- The front has grown by these records, and what lies before the gates is as it was.
 pub record HasMoreIn (capacity : ℕ) (more : List (List ℕ)) (old new : List ℕ) : Type 0 where

@@ -6,7 +6,7 @@ ghost use Rattle.message.specs.Records.{record_of};
 ghost use Rattle.oplog.specs.Changing.{AreChangesInRange, IsChangeInRange, IsNoChangeRecord};
 
 use crate::LogFault;
-use crate::half::{Half, RECORDS_PER_WRITE};
+use crate::half::{Half, RECORDS_PER_WRITE, other};
 use affinity::{Geometry, changing};
 use affinity::limits::MOST_RECORDS;
 use device_map::{RECORD_SIZE, ROOT_ZONE_AT};
@@ -134,6 +134,18 @@ impl Halves {
         LogFault::Device
     }
 
+    /// The half of this number.
+    fn half(&self, number: usize) -> Half
+        requires { number < 2 }
+        ensures geometry { result.geometry ≡ self.now.geometry }
+        ensures number { result.number ≡ number }
+    {
+        Half {
+            geometry: self.geometry,
+            number,
+        }
+    }
+
     /// Appends these messages to the current half, in order: their records, a sync, their gates, a sync, for up to
     /// `RECORDS_PER_WRITE` of them at a time. With no message the device isn't touched.
     pub fn append<D: Disk>(&mut self, disk: &mut D, messages: &[Msg]) -> Result<(), LogFault>
@@ -154,8 +166,7 @@ impl Halves {
             (record self.old { used = self.old.used + length messages.now }) }
         ensures call { ReadsNoRecord result (D.medium disk.old) (D.medium disk.new) }
     {
-        let (geometry, number) = (self.geometry, self.current);
-        let half = Half { geometry, number };
+        let half = self.half(self.current);
         if half
             .append(disk, self.used, messages, &mut self.buffer)
             .is_err()
@@ -179,8 +190,7 @@ impl Halves {
         ensures log { self.new ≡ log_after result self.old (record self.old { cleared = true }) }
         ensures call { ReadsNoRecord result (D.medium disk.old) (D.medium disk.new) }
     {
-        let (geometry, number) = (self.geometry, 1 - self.named);
-        let half = Half { geometry, number };
+        let half = self.half(other(self.named));
         if half.clear(disk).is_err() {
             return Err(self.fail());
         }
@@ -202,12 +212,11 @@ impl Halves {
         ensures log { self.new ≡ log_after result self.old (chained self.old) }
         ensures call { ReadsNoRecord result (D.medium disk.old) (D.medium disk.new) }
     {
-        let (geometry, number) = (self.geometry, self.named);
-        let half = Half { geometry, number };
+        let half = self.half(self.named);
         if store(disk, half.start(), &[1]).is_err() {
             return Err(self.fail());
         }
-        self.current = 1 - self.named;
+        self.current = other(self.named);
         self.used = 0;
         self.cleared = false;
         Ok(())
@@ -225,19 +234,19 @@ impl Halves {
         ensures log { self.new ≡ log_after result self.old (flipped self.old) }
         ensures call { ReadsNoRecord result (D.medium disk.old) (D.medium disk.new) }
     {
-        let other = 1 - self.named;
-        if store(disk, ROOT_ZONE_AT, &[other as u8]).is_err() {
+        let other_half = other(self.named);
+        if store(disk, ROOT_ZONE_AT, &[other_half as u8]).is_err() {
             return Err(self.fail());
         }
         if self.current == self.named {
-            self.current = other;
+            self.current = other_half;
             self.used = if self.cleared {
                 0
             } else {
                 usize::from(self.geometry.half)
             };
         }
-        self.named = other;
+        self.named = other_half;
         self.cleared = false;
         Ok(())
     }
@@ -252,10 +261,9 @@ impl Halves {
         ensures log { self.new ≡ log_after result self.old self.old }
         ensures call { ReadsNoRecord result (D.medium disk.old) (D.medium disk.new) }
     {
-        let (geometry, number) = (self.geometry, half);
-        let half = Half { geometry, number };
+        let log_half = self.half(half);
         let mut gates = [0; MOST_RECORDS as usize];
-        match half.front(disk, &mut gates[..half.capacity()]) {
+        match log_half.front(disk, &mut gates[..log_half.capacity()]) {
             Ok(count) => Ok(count),
             Err(_) => Err(self.fail()),
         }
@@ -274,10 +282,9 @@ impl Halves {
         ensures log { self.new ≡ log_after result self.old self.old }
         ensures call { IsLogCall result (D.medium disk.old) (D.medium disk.new) }
     {
-        let (geometry, number) = (self.geometry, half);
-        let log_half = Half { geometry, number };
+        let at = self.half(half).record_at(i);
         let mut bytes = [0; RECORD_SIZE];
-        if disk.read_at(log_half.record_at(i), &mut bytes).is_err() {
+        if disk.read_at(at, &mut bytes).is_err() {
             return Err(self.fail());
         }
         match change_in_record(&self.geometry, &bytes) {

@@ -14,4 +14,5 @@ pub mod laws;
 mod staging;
 
 pub use fault::LogFault;
+pub use half::other;
 pub use halves::Halves;

@@ -1,6 +1,7 @@
 -- One byte is stored, the root byte, and no other changes at any moment.
-use Rattle.std.proofs.Common.{sym, ◌∙◌, subst, arith}
+use Rattle.std.proofs.Common.{ℕ, [], ◌∷◌, sym, ◌∙◌, subst, arith}
 use Rattle.oplog.specs.Calls.{IsLongEnough}
+use Rattle.disk.specs.Store.{Stored}
 use Rattle.device_map.specs.Layout.{layout_of, other}
 use Rattle.oplog.specs.Log.{Log}
 use Rattle.oplog.proofs.Answered.{on_ok}
@@ -19,4 +20,5 @@ pub returns-clause-flipped : goal.returns-clause-flipped
 returns-clause-flipped g c = λ k.
     let whole = subst (λ (log : Log). IsLongEnough log (g.D.Disk.medium c.args.disk.now)) (sym c.self.view_is) c.requires.usable.long_enough in
     rw (← c.self.view_is) (named (layout_of c.self.inside.geometry) (other c.self.inside.named) _ _ (omega arith) whole
-    (on_ok c.store.result _ (sym c.is_err.ensures.value ∙ c.if-is_err.false) c.store.ensures.stored k))
+    (subst (λ (n : ℕ). Stored 64 (n ∷ []) (g.D.Disk.medium c.args.disk.now) (g.D.Disk.medium c.store.new.disk)) c.other-other_half.ensures
+    (on_ok c.store.result _ (sym c.is_err.ensures.value ∙ c.if-is_err.false) c.store.ensures.stored k)))
