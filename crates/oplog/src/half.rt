@@ -26,9 +26,9 @@ const MOST_BYTES_BEFORE_RECORDS: usize = CHAIN_ZONE_SIZE + MOST_RECORDS as usize
 
 const ZEROS: [u8; MOST_BYTES_BEFORE_RECORDS] = [0; MOST_BYTES_BEFORE_RECORDS];
 
-/// A row of zeros, at most 1,088.
+/// A row of zeros, at most `MOST_BYTES_BEFORE_RECORDS`.
 fn zeros(count: usize) -> &'static [u8]
-    requires { count ≤ 1088 }
+    requires { count ≤ MOST_BYTES_BEFORE_RECORDS }
     ensures { result.now ≡ replicate count 0 }
 {
     &ZEROS[..count]
