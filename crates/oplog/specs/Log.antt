@@ -4,8 +4,8 @@ use Rattle.affinity.specs.declared.geometry.Geometry.{Geometry}
 use Rattle.disk.specs.Device.{Medium}
 use Rattle.protocol.specs.declared.messages.Msg.{Msg}
 use Rattle.message.specs.Records.{record_of}
-use Rattle.oplog.specs.declared.fault.LogFault.{LogFault}
-use Rattle.oplog.specs.declared.fault.LogFault.TheVariants.{Device, BadRecord}
+use Rattle.oplog.specs.declared.halves.LogFault.{LogFault}
+use Rattle.oplog.specs.declared.halves.LogFault.TheVariants.{Device, BadRecord}
 use Rattle.device_map.specs.Layout.{Layout, layout_of, other}
 use Rattle.oplog.specs.declared.half.TheConstants.{RECORDS_PER_WRITE}
 use Rattle.oplog.specs.Changing.{IsNoChangeRecord}

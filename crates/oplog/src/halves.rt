@@ -1,11 +1,10 @@
-//! The two halves of a log as one value.
+//! The two halves of a log as one value, and what goes wrong with it.
 ghost use Rattle.std.specs.Prelude.{◌≡◌, ◌+◌, ◌*◌, ◌<◌, ◌≤◌, true, false, length, IfOk, IfSome, IsNone, OnOk};
 ghost use Rattle.disk.specs.Device.{moments};
 ghost use Rattle.protocol.specs.Messages.{IsMessage};
 ghost use Rattle.message.specs.Records.{record_of};
 ghost use Rattle.oplog.specs.Changing.{AreChangesInRange, IsChangeInRange, IsNoChangeRecord};
 
-use crate::LogFault;
 use crate::half::{Half, RECORDS_PER_WRITE, other};
 use affinity::{Geometry, changing};
 use affinity::limits::MOST_RECORDS;
@@ -16,6 +15,16 @@ use protocol::Msg;
 use message::decode;
 use std::alloc::{AllocError, Global};
 use std::marker::Model;
+
+/// Why a call of a log failed.
+#[derive(Clone, Copy, Debug, PartialEq, Eq)]
+pub enum LogFault {
+    /// The device failed during the call.
+    Device,
+    /// The bytes of this record, given by its half and its number there, are not the record of a change (a message of a changing kind)
+    /// whose numbers are in range.
+    BadRecord(usize, usize),
+}
 
 /// The log of a device: which of its halves is named, which is current (records are appended to it), and how many records the current one
 /// holds.

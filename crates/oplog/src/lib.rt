@@ -7,12 +7,10 @@
 //! `laws` state what a crash leaves.
 #![tactic(auto)]
 
-mod fault;
 mod half;
 mod halves;
 pub mod laws;
 mod staging;
 
-pub use fault::LogFault;
 pub use half::other;
-pub use halves::Halves;
+pub use halves::{Halves, LogFault};

@@ -18,8 +18,8 @@ use Rattle.protocol.specs.declared.replies.Reply.TheVariants.{Done}
 use Rattle.protocol.specs.Messages.{IsMessage, is_in_range, kind}
 use Rattle.message.specs.Records.{message_in_fields, record_of}
 use Rattle.message.proofs.RecordLemmas.{record_says}
-use Rattle.oplog.specs.declared.fault.LogFault.{LogFault}
-use Rattle.oplog.specs.declared.fault.LogFault.TheVariants.{Device, BadRecord}
+use Rattle.oplog.specs.declared.halves.LogFault.{LogFault}
+use Rattle.oplog.specs.declared.halves.LogFault.TheVariants.{Device, BadRecord}
 use Rattle.oplog.specs.Log.{NamesRecord, IsOfRecord}
 use Rattle.oplog.specs.Changing.{IsChangeInRange, IsNoChangeRecord}
 use Rattle.oplog.proofs.BadRecords.{no_record_says_none}

@@ -8,8 +8,8 @@ use Rattle.recovery.specs.Recovery.{after_record, decoding}
 use Rattle.recovery.specs.Refusals.{fault_if, fault_or_later, first_bad_piece, first_bad_record}
 use Rattle.disk.specs.Device.{Medium, moments}
 use Rattle.image.specs.Image.{has_head, image_state}
-use Rattle.oplog.specs.declared.fault.LogFault.{LogFault}
-use Rattle.oplog.specs.declared.fault.LogFault.TheVariants as log
+use Rattle.oplog.specs.declared.halves.LogFault.{LogFault}
+use Rattle.oplog.specs.declared.halves.LogFault.TheVariants as log
 use Rattle.oplog.specs.Front.{chain, front}
 use Rattle.device_map.specs.Layout.{Layout, device_size, image_part, layout_of, part_bytes}
 use Rattle.oplog.specs.Recovery.{named_area, run}

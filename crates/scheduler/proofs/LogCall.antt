@@ -21,7 +21,7 @@ use Rattle.protocol.specs.declared.messages.Msg.{Msg}
 use Rattle.protocol.specs.declared.replies.Reply.TheVariants.{Done}
 use Rattle.disk.specs.Store.{Costs}
 use Rattle.oplog.specs.Changing.{AreChangesInRange}
-use Rattle.oplog.specs.declared.fault.LogFault.{LogFault}
+use Rattle.oplog.specs.declared.halves.LogFault.{LogFault}
 use Rattle.parcel.specs.Tree.{state_in}
 use Rattle.meaning.specs.Serial.{state_after_all}
 use Rattle.meaning.specs.State.{State}

@@ -12,7 +12,7 @@ use Rattle.checkpoint.proofs.Rows.{same_dirty, whole_put}
 use Rattle.disk.proofs.Moments.{weaker}
 use Rattle.oplog.specs.Beyond.{KeepsBeyond}
 use Rattle.device_map.specs.Layout.{device_size, image_size, layout_of}
-use Rattle.oplog.specs.declared.fault.LogFault.{LogFault}
+use Rattle.oplog.specs.declared.halves.LogFault.{LogFault}
 use Rattle.oplog.specs.Log.{CountsLogFault, Log, layout_of_log, log_after}
 use Rattle.oplog.specs.Recovery.{records_in}
 use Rattle.meaning.specs.State.{State}
