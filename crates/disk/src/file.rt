@@ -37,8 +37,8 @@ fn sync_folder<R: Files<File = File>>(rt: &R, path: &str) -> io::Result<()> {
     }
 }
 
-/// Opens a file that is there, and nothing else: the system also opens a folder to be read, may wait where it opens a pipe, and tells no
-/// length of a block device.
+/// Opens a regular file that is there, and nothing else: the system also opens a folder to be read, may wait where it opens a pipe, and
+/// gives 0 as the length of a block device.
 fn open_existing<R: Files<File = File>>(
     rt: &R,
     path: &str,
