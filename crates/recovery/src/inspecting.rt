@@ -10,6 +10,7 @@ use crate::{OpenError, OpenFault};
 use affinity::Geometry;
 use disk::Disk;
 use protocol::{Msg, Reply};
+use oplog::other;
 use parcel::step;
 use std::alloc::Global;
 
@@ -40,7 +41,7 @@ fn inspect_on<D: Disk>(alloc: Global, disk: &mut D) -> Result<Shown, OpenFault>
     let (mut tree, mut log, mut buffer) = take_loading_memory(alloc, &geometry)?;
     let named = load_named(disk, &mut tree, &mut log, &mut buffer)?;
     let more = if named.chained {
-        replay(&mut log, disk, 1 - named.area, &mut tree)?
+        replay(&mut log, disk, other(named.area), &mut tree)?
     } else {
         0
     };

@@ -22,7 +22,7 @@ pub use crate::replaying::replay;
 use affinity::Geometry;
 use disk::Disk;
 use image::layout::largest_piece;
-use oplog::Halves;
+use oplog::{Halves, other};
 use parcel::Tree;
 use std::alloc::Global;
 
@@ -90,7 +90,7 @@ fn chain_of<D: Disk>(disk: &mut D, g: &Geometry, area: usize) -> Result<bool, Op
     if !named_chained {
         return Ok(false);
     }
-    let other_chained = is_chained(disk, g, 1 - area)?;
+    let other_chained = is_chained(disk, g, other(area))?;
     if other_chained {
         return Err(OpenFault::BadChain);
     }

@@ -38,7 +38,7 @@ returns-in_err-more-clause-refused g c =
     let logs = ap (λ (l : Log). l.geometry) c.in_ok-named.ensures.log ∙ c.in_ok-tree.ensures.geometry in
     let bytes = same_bytes w0 (g.D.Disk.medium c.load_named.new.disk) (c.load_named.ensures.call.untouched k ∙ c.read_header.ensures.call.untouched k) in
     behind_refused _ _ _ _ (rw c.if-named.true at holds) _
-    (subst (λ o. IsConsistentFault o c.in_err-more.field-0.0) (λ i. records_fault (trees i) x (other area) (front (layout_of (logs i)) (other area) (bytes i)))
+    (subst (λ o. IsConsistentFault o c.in_err-more.field-0.0) (λ i. records_fault (trees i) x (c.other.ensures i) (front (layout_of (logs i)) (c.other.ensures i) (bytes i)))
     (c.in_err-more.ensures.refused k)))
 
 pub overflow_add-result : goal.overflow_add-result
@@ -65,8 +65,8 @@ returns-clause-shown g c = λ k.
     c.in_ok-named.ensures.records k ∙ (λ i. length (front (layout_of (c.in_ok-tree.ensures.geometry i)) area (same i))) in
     let all : HoldsInForce geometry w0.now area (c.in_ok-named.named.records + c.if-named.more) (state_in c.if-named.tree) = elim c.if-named.branch [
       | then-named+in_ok-more w ↦ (
-          let more = w.in_ok-more.ensures.count k ∙ (λ i. length (front (layout_of (logs i)) (other area) (bytes i))) in
-          let done = sym (λ i. run (decoding (trees i)) (Some x) (front (layout_of (logs i)) (other area) (bytes i))) ∙ w.in_ok-more.ensures.done k in
+          let more = w.in_ok-more.ensures.count k ∙ (λ i. length (front (layout_of (logs i)) (w.other.ensures i) (bytes i))) in
+          let done = sym (λ i. run (decoding (trees i)) (Some x) (front (layout_of (logs i)) (w.other.ensures i) (bytes i))) ∙ w.in_ok-more.ensures.done k in
           rw (w.tree-is, records, w.more-is, more) (both_in_force geometry w0.now area x (rw w.if-named.true at holds) (state_in w.replay.new.tree) done))
       | else-named w ↦ (
           rw w.tree-is (subst (λ (n : ℕ). HoldsInForce geometry w0.now area n x) (omega (arith, records, w.more-is))

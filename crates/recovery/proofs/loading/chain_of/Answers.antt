@@ -17,10 +17,10 @@ returns-then-other_chained-clause-refused g c = λ k.
     let same = unwritten c.is_chained.ensures.call k in
     ap (λ (t : Bool). fault_if t BadChain None)
     (both_are (layout_of c.args.g.now) (g.D.Disk.medium c.args.disk.now).now c.args.area c.requires.area (sym (c.in_ok-named_chained.ensures.chained k) ∙ c.if-not-named_chained.false)
-    (sym (ap (λ (bytes : List ℕ). chain (layout_of c.args.g.now) (other c.args.area) bytes == 1) same) ∙ sym (c.in_ok-other_chained.ensures.chained k) ∙ c.if-other_chained.true))
+    (sym (λ i. chain (layout_of c.args.g.now) (c.other.ensures i) (same i) == 1) ∙ sym (c.in_ok-other_chained.ensures.chained k) ∙ c.if-other_chained.true))
 
 pub returns-clause-sound : goal.returns-clause-sound
 returns-clause-sound g c = λ k.
     let same = unwritten c.is_chained.ensures.call k in
     one_not (layout_of c.args.g.now) (g.D.Disk.medium c.args.disk.now).now (other c.args.area) (omega (arith, c.requires.area))
-    (sym (ap (λ (bytes : List ℕ). chain (layout_of c.args.g.now) (other c.args.area) bytes == 1) same) ∙ sym (c.in_ok-other_chained.ensures.chained k) ∙ c.if-other_chained.false)
+    (sym (λ i. chain (layout_of c.args.g.now) (c.other.ensures i) (same i) == 1) ∙ sym (c.in_ok-other_chained.ensures.chained k) ∙ c.if-other_chained.false)
