@@ -13,8 +13,8 @@ use device_map::{IMAGE_HEAD_SIZE, half_at, image_at};
 use disk::Disk;
 use image::layout::{FIRST_VERSION, VERSION, head_of};
 
-/// Fills `out` with bytes of the device, from `at` on. (The definition `read` is something else: the state that an image holds.)
-pub(crate) fn read<D: Disk>(disk: &mut D, at: u64, out: &mut [u8]) -> Result<(), OpenFault>
+/// Fills `out` with bytes of the device, from `at` on.
+pub(crate) fn read_bytes<D: Disk>(disk: &mut D, at: u64, out: &mut [u8]) -> Result<(), OpenFault>
     requires { at + length out.old ≤ length (D.medium disk.old).now }
     ensures bytes { OnOk result (D.keeps → out.new ≡ slice (D.medium disk.old).now at (length out.old)) }
     ensures device { IfErr result (λ e. e ≡ Device) }
@@ -36,7 +36,7 @@ pub(crate) fn is_chained<D: Disk>(
     ensures call { IsReadingCall D.keeps result (D.medium disk.old) (D.medium disk.new) }
 {
     let mut byte = [0u8];
-    read(disk, half_at(g, half), &mut byte)?;
+    read_bytes(disk, half_at(g, half), &mut byte)?;
     Ok(byte[0] == 1)
 }
 
@@ -75,7 +75,7 @@ pub(crate) fn version_of<D: Disk>(
     ensures call { IsReadingCall D.keeps result (D.medium disk.old) (D.medium disk.new) }
 {
     let mut head = [0u8; IMAGE_HEAD_SIZE];
-    read(disk, image_at(g, number), &mut head)?;
+    read_bytes(disk, image_at(g, number), &mut head)?;
     if !has_head(&head) {
         return Err(OpenFault::BadVersion);
     }

@@ -9,7 +9,7 @@ ghost use Rattle.recovery.specs.Refusals.{IsRefused};
 ghost use Rattle.recovery.specs.declared.fault.OpenFault.TheVariants.{Device};
 
 use crate::OpenFault;
-use crate::device_reads::read;
+use crate::device_reads::read_bytes;
 use affinity::Geometry;
 use byteorder::{ByteOrder, LittleEndian};
 use device_map::{HEADER_SIZE, ROOT_ZONE_AT, ROOT_ZONE_SIZE, device_len};
@@ -64,7 +64,7 @@ pub fn read_header<D: Disk>(disk: &mut D) -> Result<Geometry, OpenFault>
         return Err(OpenFault::TooShort);
     }
     let mut header = [0u8; HEADER_SIZE];
-    read(disk, 0, &mut header)?;
+    read_bytes(disk, 0, &mut header)?;
     if header[..8] != MAGIC[..] {
         return Err(OpenFault::NotFormatted);
     }
@@ -86,6 +86,6 @@ pub(crate) fn named_area<D: Disk>(disk: &mut D, g: &Geometry) -> Result<usize, O
     ensures call { IsReadingCall D.keeps result (D.medium disk.old) (D.medium disk.new) }
 {
     let mut byte = [0u8];
-    read(disk, ROOT_ZONE_AT, &mut byte)?;
+    read_bytes(disk, ROOT_ZONE_AT, &mut byte)?;
     if byte[0] == 1 { Ok(1) } else { Ok(0) }
 }

@@ -11,7 +11,7 @@ ghost use Rattle.parcel.specs.Tree.{IsWholeTree, state_in};
 ghost use Rattle.meaning.specs.State.{empty};
 
 use crate::OpenFault;
-use crate::device_reads::read;
+use crate::device_reads::read_bytes;
 use device_map::{IMAGE_HEAD_SIZE, image_at};
 use disk::Disk;
 use image::layout::{piece_count, piece_size};
@@ -81,7 +81,7 @@ pub(crate) fn read_pieces<D: Disk>(
     let mut at = image_at(&g, number) + IMAGE_HEAD_SIZE as u64;
     for n in 0..piece_count(&g) {
         let piece = &mut buffer[..piece_size(&g, n)];
-        read(disk, at, piece)?;
+        read_bytes(disk, at, piece)?;
         take_piece(tree, version, n, piece)?;
         at += piece.len() as u64;
     }

@@ -22,8 +22,8 @@ loop-n-init g c = record {
   good = λ k i few. absurd (omega (arith, few));
 }
 
-pub read-requires : goal.read-requires
-read-requires g c =
+pub read_bytes-requires : goal.read_bytes-requires
+read_bytes-requires g c =
     let below : c.loop-n.n < piece_count c.args.tree.now.geometry = omega (arith, c.loop-n-test.true, c.piece_count-n-end.ensures.count ∙ ap piece_count c.geometry-g.ensures) in
     room_left c.geometry-g.ensures c.args.number c.loop-n.n c.loop-n.buffer c.requires.number below c.loop-n.invariant.at c.piece_size.ensures.size
     (length (g.D.Disk.medium c.loop-n.disk).now) (omega (arith, c.requires.long_enough, c.loop-n.invariant.len))
@@ -33,7 +33,7 @@ overflow_add-at-in-loop-n g c =
     let below : c.loop-n.n < piece_count c.args.tree.now.geometry = omega (arith, c.loop-n-test.true, c.piece_count-n-end.ensures.count ∙ ap piece_count c.geometry-g.ensures) in
     let room = room_left c.geometry-g.ensures c.args.number c.loop-n.n c.loop-n.buffer c.requires.number below c.loop-n.invariant.at c.piece_size.ensures.size
     (length (g.D.Disk.medium c.args.disk.now).now) c.requires.long_enough in
-    omega (arith, c.read.auto.out, g.met.D.Disk.fits c.args.disk.now, room)
+    omega (arith, c.read_bytes.auto.out, g.met.D.Disk.fits c.args.disk.now, room)
 
 pub returns-in_err-take_piece-clause-refused : goal.returns-in_err-take_piece-clause-refused
 returns-in_err-take_piece-clause-refused g c =
@@ -44,7 +44,7 @@ returns-in_err-take_piece-clause-refused g c =
     omega (arith, c.piece_size.ensures.most, ap (λ (h : Geometry). h.quota) c.geometry-g.ensures, c.requires.room, c.loop-n.auto.buffer) in
     let there =
     read_there c.geometry-g.ensures c.args.number c.loop-n.n c.loop-n.buffer c.requires.number below c.loop-n.invariant.at c.piece_size.ensures.size few
-    (same_bytes (g.D.Disk.medium c.args.disk.now) (g.D.Disk.medium c.loop-n.disk) (c.loop-n.invariant.untouched k)) (c.in_ok-read.ensures.bytes k) in
+    (same_bytes (g.D.Disk.medium c.args.disk.now) (g.D.Disk.medium c.loop-n.disk) (c.loop-n.invariant.untouched k)) (c.in_ok-read_bytes.ensures.bytes k) in
     bad_queued c.loop-n.invariant.geometry (part_bytes (layout_of c.args.tree.now.geometry) (image_part c.args.number) now) c.loop-n.n (c.requires.version k) below
     (c.loop-n.invariant.decoded k) there c.in_err-take_piece.ensures.good.1 (c.loop-n.invariant.good k) _ c.in_err-take_piece.ensures.bad)
 
@@ -56,16 +56,16 @@ loop-n-preserved g c =
     omega (arith, c.piece_size.ensures.most, ap (λ (h : Geometry). h.quota) c.geometry-g.ensures, c.requires.room, c.loop-n.auto.buffer) in
     let there = λ (k : g.D.Disk.keeps).
     read_there c.geometry-g.ensures c.args.number c.loop-n.n c.loop-n.buffer c.requires.number below c.loop-n.invariant.at c.piece_size.ensures.size few
-    (same_bytes (g.D.Disk.medium c.args.disk.now) (g.D.Disk.medium c.loop-n.disk) (c.loop-n.invariant.untouched k)) (c.in_ok-read.ensures.bytes k) in
+    (same_bytes (g.D.Disk.medium c.args.disk.now) (g.D.Disk.medium c.loop-n.disk) (c.loop-n.invariant.untouched k)) (c.in_ok-read_bytes.ensures.bytes k) in
     record {
       whole = c.in_ok-take_piece.ensures.whole;
       geometry = c.take_piece.ensures.geometry ∙ c.loop-n.invariant.geometry;
       at = next_place c.geometry-g.ensures c.args.number c.loop-n.n c.loop-n.buffer c.requires.number below c.loop-n.invariant.at c.piece_size.ensures.size
-          (length c.read.new.out) few c.read.auto.out;
-      free = free_queued c.args.version c.loop-n.invariant.geometry c.read.new.out c.in_ok-take_piece.ensures.taken c.loop-n.invariant.free;
-      len = c.read.ensures.call.len ∙ c.loop-n.invariant.len;
-      faults = c.in_ok-read.ensures.call.counts ∙ c.loop-n.invariant.faults;
-      untouched = λ k. c.read.ensures.call.untouched k ∙ c.loop-n.invariant.untouched k;
+          (length c.read_bytes.new.out) few c.read_bytes.auto.out;
+      free = free_queued c.args.version c.loop-n.invariant.geometry c.read_bytes.new.out c.in_ok-take_piece.ensures.taken c.loop-n.invariant.free;
+      len = c.read_bytes.ensures.call.len ∙ c.loop-n.invariant.len;
+      faults = c.in_ok-read_bytes.ensures.call.counts ∙ c.loop-n.invariant.faults;
+      untouched = λ k. c.read_bytes.ensures.call.untouched k ∙ c.loop-n.invariant.untouched k;
       decoded = λ k.
           decoded_turn c.loop-n.invariant.geometry bytes c.loop-n.n (c.requires.version k) below (c.loop-n.invariant.decoded k) (there k) c.in_ok-take_piece.ensures.taken;
       good = λ k.
