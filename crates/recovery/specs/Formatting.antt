@@ -6,6 +6,7 @@ use Rattle.recovery.specs.Refusals.{IsUnformatted}
 use Rattle.disk.specs.Device.{Medium, IsCrashImage}
 use Rattle.device_map.specs.Layout.{slice, layout_of, part_at, half_part, image_part, image_size}
 use Rattle.device_map.specs.declared.layout.TheConstants.{HEADER_SIZE, ROOT_ZONE_SIZE, CHAIN_ZONE_SIZE}
+use Rattle.image.specs.declared.layout.TheConstants.{VERSION}
 use Rattle.meaning.specs.State.{empty}
 
 -- What a crash of the device `before` might leave, or a device that isn't formatted, or one that recovers to the empty state.
@@ -30,4 +31,4 @@ HasBytesAt c at bytes = slice c at (length bytes) ≡ bytes
 pub record IsAllButHeader (g : Geometry) (c : List ℕ) : Type 0 where
   pub root : HasBytesAt c HEADER_SIZE (replicate (ROOT_ZONE_SIZE + (CHAIN_ZONE_SIZE + g.half)) 0)
   pub one : HasBytesAt c (part_at (layout_of g) (half_part 1)) (replicate (CHAIN_ZONE_SIZE + g.half) 0)
-  pub image : HasBytesAt c (part_at (layout_of g) (image_part 0)) (2 ∷ replicate (image_size g - 1) 0)
+  pub image : HasBytesAt c (part_at (layout_of g) (image_part 0)) (VERSION ∷ replicate (image_size g - 1) 0)

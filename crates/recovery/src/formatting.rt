@@ -13,6 +13,7 @@ ghost use Rattle.oplog.specs.Beyond.{KeepsBeyond};
 ghost use Rattle.disk.specs.Store.{CrashesChangeOnly};
 ghost use Rattle.device_map.specs.Layout.{Layout, device_size, layout_of};
 ghost use Rattle.device_map.specs.declared.layout.TheConstants.{HEADER_SIZE};
+ghost use Rattle.image.specs.declared.layout.TheConstants.{VERSION};
 ghost use Rattle.meaning.specs.State.{empty};
 
 use crate::header_and_root::{FORMATTED, header_of};
@@ -109,7 +110,7 @@ fn write_header<D: Disk>(disk: &mut D, g: &Geometry) -> Result<(), DiskFault>
     ensures any_moment { D.keeps → CrashImagesAre (D.medium disk.old) (D.medium disk.new)
         (λ c. HasNoFormatByte (length (D.medium disk.old).now) c ⊎ (recovered_state g.now c ≡ Some empty)) }
     ensures recovers { OnOk result (D.keeps → recovered_state g.now (D.medium disk.new).now ≡ Some empty) }
-    ensures version { OnOk result (D.keeps → named_version g.now (D.medium disk.new).now ≡ 2) }
+    ensures version { OnOk result (D.keeps → named_version g.now (D.medium disk.new).now ≡ VERSION) }
     ensures beyond { D.keeps → KeepsBeyond (layout_of g.now) (D.medium disk.old) (D.medium disk.new) }
     ensures synced { OnOk result (D.keeps → IsSynced (D.medium disk.new)) }
     ensures call { IsCallInside result (D.medium disk.old) (D.medium disk.new) }
@@ -127,7 +128,7 @@ fn format_on<D: Disk>(disk: &mut D, zeros: &[u8], g: &Geometry) -> Result<(), Di
     ensures any_moment { D.keeps → CrashImagesAre (D.medium disk.old) (D.medium disk.new)
         (FormatCrashImages g.now (D.medium disk.old)) }
     ensures recovers { OnOk result (D.keeps → recovered_state g.now (D.medium disk.new).now ≡ Some empty) }
-    ensures version { OnOk result (D.keeps → named_version g.now (D.medium disk.new).now ≡ 2) }
+    ensures version { OnOk result (D.keeps → named_version g.now (D.medium disk.new).now ≡ VERSION) }
     ensures beyond { D.keeps → KeepsBeyond (layout_of g.now) (D.medium disk.old) (D.medium disk.new) }
     ensures synced { OnOk result (D.keeps → IsSynced (D.medium disk.new)) }
     ensures call { IsCallInside result (D.medium disk.old) (D.medium disk.new) }
@@ -145,7 +146,7 @@ fn format_on<D: Disk>(disk: &mut D, zeros: &[u8], g: &Geometry) -> Result<(), Di
 /// no memory: then no call of the device was made. `Device` exactly where the device failed.
 pub fn format<D: Disk>(alloc: Global, d: D, g: Geometry) -> Result<D, FormatError<D>>
     ensures recovers { IfOk result (λ r. D.keeps → recovered_state g (D.medium r).now ≡ Some empty) }
-    ensures version { IfOk result (λ r. D.keeps → named_version g (D.medium r).now ≡ 2) }
+    ensures version { IfOk result (λ r. D.keeps → named_version g (D.medium r).now ≡ VERSION) }
 
     // The bytes of the device after its last part stay, even after a crash.
     ensures beyond { D.keeps → MatchResult result

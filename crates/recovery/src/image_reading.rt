@@ -14,7 +14,7 @@ use crate::OpenFault;
 use crate::device_reads::read_bytes;
 use device_map::{IMAGE_HEAD_SIZE, image_at};
 use disk::Disk;
-use image::layout::{piece_count, piece_size};
+use image::layout::{FIRST_VERSION, piece_count, piece_size};
 use parcel::{Tree, read_piece, read_piece_1};
 
 /// Decodes these bytes into the tree, as piece `n` of an image of this version. `BadPiece` exactly where encoding piece `n` of the
@@ -35,7 +35,7 @@ fn take_piece(tree: &mut Tree, version: u8, n: usize, piece: &[u8]) -> Result<()
     ensures whole { OnOk result (IsWholeTree tree.new) }
     ensures geometry { tree.new.geometry ≡ tree.old.geometry }
 {
-    let taken = if version == 1 {
+    let taken = if version == FIRST_VERSION {
         read_piece_1(tree, n, piece)
     } else {
         read_piece(tree, n, piece)
