@@ -61,7 +61,7 @@ pub record IsPieced (g : Geometry) (area n : ℕ) (bytes : List ℕ) (old new : 
   pub ready : (h k : ℕ) → h < 2 → IsReady (layout_of g) h k old → IsReady (layout_of g) h k new
 
 pub pieced_along : {g g' : Geometry} {a a' n : ℕ} {bytes bytes' : List ℕ} {w0 w1 : Medium} → g ≡ g' → a ≡ a' → bytes ≡ bytes'
-    → IsPieced g (other a) n bytes w0 w1 → IsPieced g' (other a') n bytes' w0 w1
+    → IsPieced g a n bytes w0 w1 → IsPieced g' a' n bytes' w0 w1
 pieced_along {g'} {a} {a'} {n} {bytes} {w0} {w1} same same' are held = rw (← are, ← same', ← same) held
 
 module _ {log : Log} {snapshot : List ℕ} {named others pending : List Bool} {pieces_left : Option ℕ} {w0 : Medium} (w1 : Medium) (are : AreBytes w0.now)

@@ -127,9 +127,10 @@ pub still_clean : (g : Geometry) (n : ℕ) (dirty : List Bool) (bytes : List ℕ
 still_clean g n dirty bytes is_half cleared agree = rw (cleared.same.same.others (image_part n) (λ is. omega (arith, is, is_half))) agree
 
 -- what was written of the image that isn't named, in the words of the log
-pub other_written : {g g' : Geometry} {n n' : ℕ} → (w0 w1 : Medium) → g' ≡ g → n' ≡ n → CrashesChangeOnly w0 w1 (IsSameBut (layout_of g') (image_part (other n')))
+pub other_written : {g g' : Geometry} {n n' area : ℕ} → (w0 w1 : Medium) → g' ≡ g → area ≡ other n' → n' ≡ n → CrashesChangeOnly w0 w1 (IsSameBut (layout_of g') (image_part area))
     → CrashesChangeOnly w0 w1 (IsSameBut (layout_of g) (image_part (other n)))
-other_written w0 w1 same named = subst (λ (t : Type 0). t) (λ i. CrashesChangeOnly w0 w1 (IsSameBut (layout_of (same i)) (image_part (other (named i)))))
+other_written w0 w1 same is named = subst (λ (t : Type 0). t) (λ i. CrashesChangeOnly w0 w1 (IsSameBut (layout_of (same i)) (image_part ((is ∙ ap other named) i))))
 
-pub other_imaged : {g g' : Geometry} {n n' : ℕ} → (bytes : List ℕ) (w0 w1 : Medium) → g' ≡ g → n' ≡ n → Imaged g' (other n') bytes w0 w1 → Imaged g (other n) bytes w0 w1
-other_imaged bytes w0 w1 same named = subst (λ (t : Type 0). t) (λ i. Imaged (same i) (other (named i)) bytes w0 w1)
+pub other_imaged : {g g' : Geometry} {n n' area : ℕ} → (bytes : List ℕ) (w0 w1 : Medium) → g' ≡ g → area ≡ other n' → n' ≡ n
+    → Imaged g' area bytes w0 w1 → Imaged g (other n) bytes w0 w1
+other_imaged bytes w0 w1 same is named = subst (λ (t : Type 0). t) (λ i. Imaged (same i) ((is ∙ ap other named) i) bytes w0 w1)

@@ -19,7 +19,7 @@ ghost use Rattle.meaning.specs.State.{State};
 
 use crate::extents::{sync_image, write_image};
 use disk::Disk;
-use oplog::{Halves, LogFault};
+use oplog::{Halves, LogFault, other};
 
 /// Makes a checkpoint into the area that isn't named, with this image of what the device recovers to. Of the image only the
 /// dirty extents (a piece each; the first with the image's head) are written: all others are on the device already.
@@ -48,7 +48,7 @@ pub(crate) fn point_on<D: Disk>(
     ensures call { ReadsNoRecord result (D.medium disk.old) (D.medium disk.new) }
 {
     let g = halves.geometry();
-    let area = 1 - halves.named();
+    let area = other(halves.named());
     halves.clear_other(disk)?;
     if write_image(disk, &g, area, bytes, dirty).is_err() {
         return Err(halves.fail());
@@ -126,8 +126,8 @@ pub(crate) fn finish_on<D: Disk>(
     ensures call { ReadsNoRecord result (D.medium disk.old) (D.medium disk.new) }
 {
     let g = halves.geometry();
-    let second = 1 - halves.named();
-    if write_image(disk, &g, second, bytes, dirty).is_err() {
+    let area = other(halves.named());
+    if write_image(disk, &g, area, bytes, dirty).is_err() {
         return Err(halves.fail());
     }
     halves.flip_root(disk)

@@ -22,7 +22,7 @@ use crate::extents::write_extent;
 use crate::snapshot::update_snapshot;
 use disk::Disk;
 use protocol::Msg;
-use oplog::{Halves, LogFault};
+use oplog::{Halves, LogFault, other};
 use parcel::Tree;
 use std::marker::Model;
 use std::mem;
@@ -228,7 +228,7 @@ impl<D: Disk> Journal<D> {
             return Ok(0);
         };
         let g = self.halves.geometry();
-        let area = 1 - self.halves.named();
+        let area = other(self.halves.named());
         // Extent n is piece n, the first one with the head before it.
         if write_extent(&mut self.disk, &g, area, &self.buffers.snapshot, n).is_err() {
             return Err(self.halves.fail());

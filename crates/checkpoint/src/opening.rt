@@ -30,7 +30,7 @@ use affinity::Geometry;
 use device_map::image_size;
 use disk::Disk;
 use image::layout::piece_count;
-use oplog::{Halves, LogFault};
+use oplog::{Halves, LogFault, other};
 use parcel::Tree;
 use recovery::loading::{load_named, read_header, replay, take_loading_memory};
 use recovery::{OpenError, OpenFault};
@@ -144,9 +144,9 @@ fn finish_cut_and_replay<D: Disk>(parts: &mut Parts, disk: &mut D) -> Result<(),
     ensures room { OnOk result (KeepsBuffers parts.old.buffers parts.new.buffers) }
     ensures call { IsOpeningCall result (D.medium disk.old) (D.medium disk.new) }
 {
-    let behind = 1 - parts.halves.named();
+    let half = other(parts.halves.named());
     finish_cut(parts, disk)?;
-    replay(&mut parts.halves, disk, behind, &mut parts.tree)?;
+    replay(&mut parts.halves, disk, half, &mut parts.tree)?;
     Ok(())
 }
 

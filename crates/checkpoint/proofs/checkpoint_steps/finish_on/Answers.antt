@@ -1,6 +1,6 @@
 -- A cut is finished: the other area gets the image of what the named one holds without the other half's records, which are in force
 -- before and after.
-use Rattle.std.proofs.Common.{◌<◌, sym, ◌∙◌, subst, arith, true≢false}
+use Rattle.std.proofs.Common.{◌<◌, ap, sym, ◌∙◌, subst, arith, true≢false}
 use Rattle.std.proofs.lemmas.Result.{on_ok_weaker}
 use Rattle.affinity.specs.declared.geometry.Geometry.{Geometry}
 use Rattle.image.specs.Pieces.{piece_count}
@@ -19,15 +19,17 @@ use Rattle.checkpoint.proofs.checkpoint_steps.finish_on.Goals.{After-flip_root}
 use Rattle.checkpoint.proofs.checkpoint_steps.finish_on.Goals as goal
 
 is_area : (g : Over) (c : After-flip_root g) → c.args.halves.now.named < 2
-is_area g c = omega (arith, c.named-second.ensures.named, c.named-second.ensures.half)
+is_area g c = omega (arith, c.named.ensures.named, c.named.ensures.half)
 
 writes : (g : Over) (c : After-flip_root g) → g.D.Disk.keeps
     → CrashesChangeOnly (g.D.Disk.medium c.args.disk.now) (g.D.Disk.medium c.write_image.new.disk) (IsSameBut (layout_of c.args.halves.now.geometry) (image_part (other c.args.halves.now.named)))
-writes g c k = other_written _ _ c.geometry-g.ensures c.named-second.ensures.named (c.write_image.ensures.any_moment k)
+writes g c k = other_written _ _ c.geometry-g.ensures c.other-area.ensures c.named.ensures.named (c.write_image.ensures.any_moment k)
 
 imaged : (g : Over) (c : After-flip_root g) → g.D.Disk.keeps
     → Imaged c.args.halves.now.geometry (other c.args.halves.now.named) c.args.bytes.now (g.D.Disk.medium c.args.disk.now) (g.D.Disk.medium c.write_image.new.disk)
-imaged g c k = other_imaged _ _ _ c.geometry-g.ensures c.named-second.ensures.named (on_ok c.write_image.result _ (sym c.is_err.ensures.value ∙ c.if-is_err.false) c.write_image.ensures.written k)
+imaged g c k =
+    other_imaged _ _ _ c.geometry-g.ensures c.other-area.ensures c.named.ensures.named
+    (on_ok c.write_image.result _ (sym c.is_err.ensures.value ∙ c.if-is_err.false) c.write_image.ensures.written k)
 
 pub write_image-requires-clause-clean : goal.write_image-requires-clause-clean
 write_image-requires-clause-clean g c = λ k n few clean.
@@ -35,17 +37,18 @@ write_image-requires-clause-clean g c = λ k n few clean.
 
 pub returns-then-is_err-clause-any_moment : goal.returns-then-is_err-clause-any_moment
 returns-then-is_err-clause-any_moment g c = λ k.
-    finish_image_moments c.args.halves.now c.args.bytes.now _ (omega (arith, c.named-second.ensures.named, c.named-second.ensures.half)) (c.requires.unfinished k) _
-    (other_written _ _ c.geometry-g.ensures c.named-second.ensures.named (c.write_image.ensures.any_moment k))
+    finish_image_moments c.args.halves.now c.args.bytes.now _ (omega (arith, c.named.ensures.named, c.named.ensures.half)) (c.requires.unfinished k) _
+    (other_written _ _ c.geometry-g.ensures c.other-area.ensures c.named.ensures.named (c.write_image.ensures.any_moment k))
 
 pub returns-then-is_err-clause-alike : goal.returns-then-is_err-clause-alike
 returns-then-is_err-clause-alike g c = λ k x reads held.
-    image_alike c.args.halves.now.geometry c.args.halves.now.named (omega (arith, c.named-second.ensures.named, c.named-second.ensures.half)) x _ _ (c.requires.unfinished k).synced held
-    (other_written _ _ c.geometry-g.ensures c.named-second.ensures.named (c.write_image.ensures.any_moment k))
+    image_alike c.args.halves.now.geometry c.args.halves.now.named (omega (arith, c.named.ensures.named, c.named.ensures.half)) x _ _ (c.requires.unfinished k).synced held
+    (other_written _ _ c.geometry-g.ensures c.other-area.ensures c.named.ensures.named (c.write_image.ensures.any_moment k))
 
 pub returns-then-is_err-clause-beyond : goal.returns-then-is_err-clause-beyond
 returns-then-is_err-clause-beyond g c = λ k.
-    beyond (layout_of c.args.halves.now.geometry) _ _ _ (λ o d h. h.rest) (other_written _ _ c.geometry-g.ensures c.named-second.ensures.named (c.write_image.ensures.any_moment k))
+    beyond (layout_of c.args.halves.now.geometry) _ _ _ (λ o d h. h.rest)
+    (other_written _ _ c.geometry-g.ensures c.other-area.ensures c.named.ensures.named (c.write_image.ensures.any_moment k))
 
 pub returns-clause-any_moment : goal.returns-clause-any_moment
 returns-clause-any_moment g c = λ k.

@@ -27,12 +27,12 @@ use Rattle.checkpoint.proofs.opening.finish_cut_and_replay.Goals as goal
 
 -- the records that are run: those of the half behind the named one, from the state of the cut on
 begins : {A : Type 0} (f : Geometry → State → ℕ → List (List ℕ) → A) (g : Over) (c : After-replay g) → g.D.Disk.keeps
-    → f c.finish_cut.new.parts.tree.geometry (state_in c.finish_cut.new.parts.tree) (other c.named-behind.result)
-    (front (layout_of c.finish_cut.new.parts.halves.geometry) (other c.named-behind.result) (g.D.Disk.medium c.finish_cut.new.disk).now)
+    → f c.finish_cut.new.parts.tree.geometry (state_in c.finish_cut.new.parts.tree) c.other-half.result
+    (front (layout_of c.finish_cut.new.parts.halves.geometry) c.other-half.result (g.D.Disk.medium c.finish_cut.new.disk).now)
     ≡ f c.args.parts.now.halves.geometry (state_in c.args.parts.now.tree) (other c.args.parts.now.halves.named)
     (front (layout_of c.args.parts.now.halves.geometry) (other c.args.parts.now.halves.named) (g.D.Disk.medium c.args.disk.now).now)
 begins f g c k =
-    let half = ap other c.named-behind.ensures.named in
+    let half = c.other-half.ensures ∙ ap other c.named.ensures.named in
     let geometry : c.finish_cut.new.parts.tree.geometry ≡ c.args.parts.now.halves.geometry = (λ i. (c.finish_cut.ensures.tree i).geometry) ∙ c.requires.loaded.geometry in
     (λ i. f (geometry i) (state_in (c.finish_cut.ensures.tree i)) (half i) (front (layout_of (c.in_ok-finish_cut.ensures.log i).geometry) (half i) (g.D.Disk.medium c.finish_cut.new.disk).now))
     ∙ ap (f c.args.parts.now.halves.geometry (state_in c.args.parts.now.tree) (other c.args.parts.now.halves.named)) (c.in_ok-finish_cut.ensures.finished k).front

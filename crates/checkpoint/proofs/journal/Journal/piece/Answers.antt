@@ -51,7 +51,7 @@ pieced : (g : Over) (c : In-Some-pieces_left g) → g.D.Disk.keeps → IsPieced 
     (g.D.Disk.medium c.self.inside.disk) (g.D.Disk.medium c.write_extent.new.disk)
 pieced g c k =
     let is = on_ok c.write_extent.result _ (sym c.is_err.ensures.value ∙ c.if-is_err.false) c.write_extent.ensures.written k in
-    pieced_along c.geometry-g.ensures c.named-area.ensures.named c.deref-2.ensures.value
+    pieced_along c.geometry-g.ensures (c.other-area.ensures ∙ ap other c.named.ensures.named) c.deref-2.ensures.value
     (assumption (c.write_extent.ensures.any_moment k, c.write_extent.ensures.same k, is, c.write_extent.ensures.ready k))
 
 kept : (g : Over) (c : In-Some-pieces_left g) → g.D.Disk.keeps → (left : ℕ)
@@ -115,7 +115,7 @@ pub returns-then-is_err-clause-any_moment : goal.returns-then-is_err-clause-any_
 returns-then-is_err-clause-any_moment g c = λ k.
     still_of c.self.view_is
     (piece_moments _ (g.met.D.Disk.bytes c.self.inside.disk) (sound_of c.self.invariant c.self.view_is c.requires.not_failed k)
-    (other_written _ _ c.geometry-g.ensures c.named-area.ensures.named (c.write_extent.ensures.any_moment k)))
+    (other_written _ _ c.geometry-g.ensures c.other-area.ensures c.named.ensures.named (c.write_extent.ensures.any_moment k)))
 
 pub returns-then-is_err-clause-none : goal.returns-then-is_err-clause-none
 returns-then-is_err-clause-none g c = λ none. absurd (some_due g (goal.at.returns-then-is_err-clause-none g c).After-deref-2 none)
@@ -127,12 +127,12 @@ pub returns-clause-any_moment : goal.returns-clause-any_moment
 returns-clause-any_moment g c = λ k.
     still_of c.self.view_is
     (piece_moments _ (g.met.D.Disk.bytes c.self.inside.disk) (sound_of c.self.invariant c.self.view_is c.requires.not_failed k)
-    (other_written _ _ c.geometry-g.ensures c.named-area.ensures.named (c.write_extent.ensures.any_moment k)))
+    (other_written _ _ c.geometry-g.ensures c.other-area.ensures c.named.ensures.named (c.write_extent.ensures.any_moment k)))
 
 pub returns-clause-committed : goal.returns-clause-committed
 returns-clause-committed g c = λ k.
     piece_same _ (g.met.D.Disk.bytes c.self.inside.disk) (sound_of c.self.invariant c.self.view_is c.requires.not_failed k) (g.met.D.Disk.bytes c.write_extent.new.disk)
-    (other_written _ _ c.geometry-g.ensures c.named-area.ensures.named (c.write_extent.ensures.any_moment k)) ∙ ap committed c.self.view_is
+    (other_written _ _ c.geometry-g.ensures c.other-area.ensures c.named.ensures.named (c.write_extent.ensures.any_moment k)) ∙ ap committed c.self.view_is
 
 pub overflow_sub-left : goal.overflow_sub-left
 overflow_sub-left g c =
@@ -164,7 +164,7 @@ returns-clause-after g c =
 pub returns-clause-records : goal.returns-clause-records
 returns-clause-records g c = λ k.
     piece_records _ (g.met.D.Disk.bytes c.self.inside.disk) (sound_of c.self.invariant c.self.view_is c.requires.not_failed k) (g.met.D.Disk.bytes c.write_extent.new.disk)
-    (other_written _ _ c.geometry-g.ensures c.named-area.ensures.named (c.write_extent.ensures.any_moment k)) ∙ ap records c.self.view_is
+    (other_written _ _ c.geometry-g.ensures c.other-area.ensures c.named.ensures.named (c.write_extent.ensures.any_moment k)) ∙ ap records c.self.view_is
 
 pub returns-in_default-clause-one : goal.returns-in_default-clause-one
 returns-in_default-clause-one g c = λ some. absurd (some (none_left g c))
@@ -206,9 +206,9 @@ returns-in_default-clause-beyond g c = λ k. beyond_none (layout_of c.args.self.
 pub returns-then-is_err-clause-beyond : goal.returns-then-is_err-clause-beyond
 returns-then-is_err-clause-beyond g c = λ k.
     beyond_of c.self.view_is (beyond (layout_of c.self.inside.halves.geometry) _ _ _ (λ o d h. h.rest)
-    (other_written _ _ c.geometry-g.ensures c.named-area.ensures.named (c.write_extent.ensures.any_moment k)))
+    (other_written _ _ c.geometry-g.ensures c.other-area.ensures c.named.ensures.named (c.write_extent.ensures.any_moment k)))
 
 pub returns-clause-beyond : goal.returns-clause-beyond
 returns-clause-beyond g c = λ k.
     beyond_of c.self.view_is (beyond (layout_of c.self.inside.halves.geometry) _ _ _ (λ o d h. h.rest)
-    (other_written _ _ c.geometry-g.ensures c.named-area.ensures.named (c.write_extent.ensures.any_moment k)))
+    (other_written _ _ c.geometry-g.ensures c.other-area.ensures c.named.ensures.named (c.write_extent.ensures.any_moment k)))
