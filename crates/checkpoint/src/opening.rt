@@ -89,8 +89,7 @@ fn first_sync<D: Disk>(disk: &mut D) -> Result<(), OpenFault>
 
 /// Finishes a cut that was in progress: an image of its state, which the tree holds, is written into the other area, which is then
 /// named. The state of the cut is that of the named image with the records of the named half run on it, without those of the other half.
-/// In clause `recovers`, `true` says that the named half is chained. Clause `room` speaks of the buffers in memory, and not of the log: all
-/// flags stay, and so does the size of the snapshot.
+/// `true`: the named half is chained.
 fn finish_cut<D: Disk>(parts: &mut Parts, disk: &mut D) -> Result<(), LogFault>
     requires loaded { AreLoaded parts.old (D.medium disk.old) }
     requires synced { D.keeps → IsSynced (D.medium disk.old) }
@@ -104,7 +103,7 @@ fn finish_cut<D: Disk>(parts: &mut Parts, disk: &mut D) -> Result<(), LogFault>
     ensures costs { D.keeps → Costs result 4 (D.medium disk.old) (D.medium disk.new) }
     ensures log { OnOk result (parts.new.halves ≡ finished_log parts.old.halves) }
     ensures tree { parts.new.tree ≡ parts.old.tree }
-    ensures room { KeepsBuffers parts.old.buffers parts.new.buffers }
+    ensures buffers { KeepsBuffers parts.old.buffers parts.new.buffers }
     ensures call { ReadsNoRecord result (D.medium disk.old) (D.medium disk.new) }
 {
     update_snapshot(
@@ -141,7 +140,7 @@ fn finish_cut_and_replay<D: Disk>(parts: &mut Parts, disk: &mut D) -> Result<(),
         IsFaultAfterCut parts.old.halves.geometry (other parts.old.halves.named) (D.medium disk.old) (D.medium disk.new) e) }
     ensures loaded { OnOk result (AreLoaded parts.new (D.medium disk.new)) }
     ensures geometry { OnOk result (parts.new.halves.geometry ≡ parts.old.halves.geometry) }
-    ensures room { OnOk result (KeepsBuffers parts.old.buffers parts.new.buffers) }
+    ensures buffers { OnOk result (KeepsBuffers parts.old.buffers parts.new.buffers) }
     ensures call { IsOpeningCall result (D.medium disk.old) (D.medium disk.new) }
 {
     let half = other(parts.halves.named());
@@ -176,7 +175,7 @@ fn load_in_order<D: Disk>(
     ensures synced { IfErr result (λ e. e ≢ Device → D.keeps → IsSynced (D.medium disk.new)) }
     ensures loaded { OnOk result (AreLoaded parts.new (D.medium disk.new)) }
     ensures geometry { OnOk result (parts.new.halves.geometry ≡ parts.old.tree.geometry) }
-    ensures room { OnOk result (KeepsBuffers parts.old.buffers parts.new.buffers) }
+    ensures buffers { OnOk result (KeepsBuffers parts.old.buffers parts.new.buffers) }
     ensures call { IsOpeningCall result (D.medium disk.old) (D.medium disk.new) }
 {
     let named = load_named(disk, &mut parts.tree, &mut parts.halves, buffer)?;
@@ -199,7 +198,7 @@ fn checkpoint_recovered<D: Disk>(parts: &mut Parts, disk: &mut D) -> Result<(), 
     ensures snapshot { parts.new.buffers.snapshot.items ≡ image_of 2 parts.old.tree.geometry (state_in parts.old.tree) }
     ensures log { OnOk result (parts.new.halves ≡ pointed_log parts.old.halves) }
     ensures tree { parts.new.tree ≡ parts.old.tree }
-    ensures room { KeepsBuffers parts.old.buffers parts.new.buffers }
+    ensures buffers { KeepsBuffers parts.old.buffers parts.new.buffers }
     ensures device { IfErr result (λ e. e ≡ Device) }
     ensures call { IsOpeningCall result (D.medium disk.old) (D.medium disk.new) }
 {
@@ -208,8 +207,8 @@ fn checkpoint_recovered<D: Disk>(parts: &mut Parts, disk: &mut D) -> Result<(), 
         &parts.buffers.other_dirty,
         &mut parts.buffers.snapshot,
     );
-    let whole = &parts.buffers;
-    point_on(&mut parts.halves, disk, &whole.snapshot, &whole.other_dirty)?;
+    let buffers = &parts.buffers;
+    point_on(&mut parts.halves, disk, &buffers.snapshot, &buffers.other_dirty)?;
     Ok(())
 }
 

@@ -24,13 +24,13 @@ returns-clause-snapshot g c =
     c.update_snapshot.ensures.image (whole_put _ c.update_snapshot.ensures.size c.deref_mut.ensures.value c.deref_mut.ensures.len)
     ∙ sym (ap (λ (g : Geometry). image_of 2 g (state_in c.args.parts.now.tree)) c.requires.loaded.geometry)
 
-pub returns-in_err-point_on-clause-room : goal.returns-in_err-point_on-clause-room
-returns-in_err-point_on-clause-room g c =
+pub returns-in_err-point_on-clause-buffers : goal.returns-in_err-point_on-clause-buffers
+returns-in_err-point_on-clause-buffers g c =
     let put = whole_put _ c.update_snapshot.ensures.size c.deref_mut.ensures.value c.deref_mut.ensures.len in
     record { size = ap length put ∙ c.update_snapshot.ensures.size ∙ ap length c.deref_mut.ensures.value; flags = refl }
 
-pub returns-clause-room : goal.returns-clause-room
-returns-clause-room g c =
+pub returns-clause-buffers : goal.returns-clause-buffers
+returns-clause-buffers g c =
     let put = whole_put _ c.update_snapshot.ensures.size c.deref_mut.ensures.value c.deref_mut.ensures.len in
     record { size = ap length put ∙ c.update_snapshot.ensures.size ∙ ap length c.deref_mut.ensures.value; flags = refl }
 

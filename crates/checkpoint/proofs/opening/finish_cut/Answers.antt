@@ -26,7 +26,7 @@ returns-clause-alike g c = λ k.
     c.finish_on.ensures.alike k _ (ap (image_state c.args.parts.now.halves.geometry) spelled
     ∙ read_again c.args.parts.now.halves.geometry _ (rw (← c.requires.loaded.geometry) c.requires.loaded.tree.state)) (c.requires.recovers k)
 
-pub returns-clause-room : goal.returns-clause-room
-returns-clause-room g c =
+pub returns-clause-buffers : goal.returns-clause-buffers
+returns-clause-buffers g c =
     let snapshot = whole_put c.update_snapshot.new.bytes c.update_snapshot.ensures.size c.deref_mut.ensures.value c.deref_mut.ensures.len in
     record { size = ap length snapshot ∙ c.update_snapshot.ensures.size ∙ ap length c.deref_mut.ensures.value; flags = refl }

@@ -98,11 +98,11 @@ pub returns-clause-loaded : goal.returns-clause-loaded
 returns-clause-loaded g c =
     are_loaded {b = c.args.parts.now.buffers} (c.in_ok-replay.ensures.log ∙ c.in_ok-finish_cut.ensures.log) c.requires.loaded.usable.not_failed refl
     c.in_ok-replay.ensures.whole (c.in_ok-replay.ensures.geometry ∙ (λ i. (c.finish_cut.ensures.tree i).geometry) ∙ c.requires.loaded.geometry)
-    (assumption c.finish_cut.ensures.room) (record { fit = c.requires.loaded.fit; all = c.requires.loaded.all })
+    (assumption c.finish_cut.ensures.buffers) (record { fit = c.requires.loaded.fit; all = c.requires.loaded.all })
     (omega (arith, c.requires.loaded.usable.long_enough, c.finish_cut.ensures.call.len, c.replay.ensures.call.len))
 
-pub returns-clause-room : goal.returns-clause-room
-returns-clause-room g c = assumption c.finish_cut.ensures.room
+pub returns-clause-buffers : goal.returns-clause-buffers
+returns-clause-buffers g c = assumption c.finish_cut.ensures.buffers
 
 pub returns-clause-geometry : goal.returns-clause-geometry
 returns-clause-geometry g c = ap (λ (l : Log). l.geometry) (c.in_ok-replay.ensures.log ∙ c.in_ok-finish_cut.ensures.log)

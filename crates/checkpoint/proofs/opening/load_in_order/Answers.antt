@@ -121,11 +121,11 @@ returns-then-not-named-clause-loaded g c =
     are_loaded {b = c.args.parts.now.buffers} c.in_ok-named.ensures.log refl refl c.in_ok-named.ensures.whole c.in_ok-named.ensures.geometry (assumption)
     (record { fit = c.requires.taken.fit; all = c.requires.taken.all }) (omega (arith, c.requires.long_enough, c.load_named.ensures.call.len))
 
-pub returns-then-not-named-clause-room : goal.returns-then-not-named-clause-room
-returns-then-not-named-clause-room g c = record { size = refl; flags = refl }
+pub returns-then-not-named-clause-buffers : goal.returns-then-not-named-clause-buffers
+returns-then-not-named-clause-buffers g c = record { size = refl; flags = refl }
 
-pub returns-clause-room : goal.returns-clause-room
-returns-clause-room g c = assumption c.finish_cut_and_replay.ensures.room
+pub returns-clause-buffers : goal.returns-clause-buffers
+returns-clause-buffers g c = assumption c.finish_cut_and_replay.ensures.buffers
 
 pub returns-in_err-named-clause-synced : goal.returns-in_err-named-clause-synced
 returns-in_err-named-clause-synced g c =

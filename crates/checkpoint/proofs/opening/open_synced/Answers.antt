@@ -103,7 +103,7 @@ returns-clause-any_moment g c = moments g (goal.at.returns-clause-any_moment g c
 
 pub returns-clause-made : goal.returns-clause-made
 returns-clause-made g c =
-    made c.in_ok-parts.ensures.taken c.in_ok-load_in_order.ensures.geometry c.in_ok-load_in_order.ensures.room c.in_ok-load_in_order.ensures.loaded c.checkpoint_recovered.ensures.room
+    made c.in_ok-parts.ensures.taken c.in_ok-load_in_order.ensures.geometry c.in_ok-load_in_order.ensures.buffers c.in_ok-load_in_order.ensures.loaded c.checkpoint_recovered.ensures.buffers
     c.checkpoint_recovered.ensures.tree c.in_ok-checkpoint_recovered.ensures.log c.checkpoint_recovered.ensures.call.1
 
 pub returns-clause-made_of : goal.returns-clause-made_of
@@ -123,7 +123,7 @@ returns-clause-made_of g c = λ k.
     let held = ap (λ (h : Geometry). recovered_state h w2.now) log
     ∙ still_now t w1 w2 (g.met.D.Disk.bytes c.load_in_order.new.disk) (c.load_in_order.ensures.any_moment k) ∙ c.in_ok-load_in_order.ensures.was k in
     let is_state = subst (λ (h : Geometry). IsState h (state_in loaded.tree)) c.in_ok-load_in_order.ensures.loaded.geometry c.in_ok-load_in_order.ensures.loaded.tree.state in
-    let all = subst (λ (b : Buffers). AreAllDirty loaded.halves.geometry b.other_dirty.items) (sym c.checkpoint_recovered.ensures.room.flags) c.in_ok-load_in_order.ensures.loaded.all in
+    let all = subst (λ (b : Buffers). AreAllDirty loaded.halves.geometry b.other_dirty.items) (sym c.checkpoint_recovered.ensures.buffers.flags) c.in_ok-load_in_order.ensures.loaded.all in
     subst (λ (tree : TreeView). IsMadeOf w0.now (record c.checkpoint_recovered.new.parts { tree = tree }) w3) (sym c.checkpoint_recovered.ensures.tree)
     (made_of (g.met.D.Disk.bytes c.checkpoint_recovered.new.disk) (record { header = head; accepted = fine; was = was }) c.in_ok-checkpoint_recovered.ensures.log
     c.in_ok-load_in_order.ensures.loaded.geometry c.checkpoint_recovered.ensures.snapshot all
