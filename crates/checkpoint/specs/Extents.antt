@@ -4,6 +4,7 @@ use Rattle.affinity.specs.declared.geometry.Geometry.{Geometry}
 use Rattle.disk.specs.Device.{Medium, IsSynced}
 use Rattle.image.specs.Image.{image_head}
 use Rattle.image.specs.Pieces.{piece_at, piece_count, piece_of, piece_size}
+use Rattle.image.specs.declared.layout.TheConstants.{VERSION}
 use Rattle.oplog.specs.Changes.{IsSameBut}
 use Rattle.device_map.specs.Layout.{slice, layout_of, part_bytes, image_part}
 use Rattle.device_map.specs.declared.layout.TheConstants.{IMAGE_HEAD_SIZE}
@@ -22,10 +23,10 @@ extent_size g (suc n) = piece_size g (suc n)
 abbrev pub extent_in : Geometry → List ℕ → ℕ → List ℕ
 extent_in g bytes n = slice bytes (extent_at g n) (extent_size g n)
 
--- extent n of the image of a state, in version 2
+-- extent n of the image of a state, in the version that is written
 abbrev pub extent_of : Geometry → State → ℕ → List ℕ
-extent_of g x zero = image_head 2 ++ piece_of 2 g x 0
-extent_of g x (suc n) = piece_of 2 g x (suc n)
+extent_of g x zero = image_head VERSION ++ piece_of VERSION g x 0
+extent_of g x (suc n) = piece_of VERSION g x (suc n)
 
 -- Two lists of bytes are the same in each clean extent.
 abbrev pub AgreeOnClean : Geometry → List Bool → List ℕ → List ℕ → Type 0

@@ -4,6 +4,7 @@ use Rattle.affinity.specs.declared.geometry.Geometry.{Geometry}
 use Rattle.recovery.specs.Recovery.{recovered_state}
 use Rattle.disk.specs.Device.{IsCrashImage, Medium}
 use Rattle.image.specs.Image.{image_state, version_in}
+use Rattle.image.specs.declared.layout.TheConstants.{VERSION}
 use Rattle.checkpoint.specs.Journal.{JournalView}
 use Rattle.checkpoint.specs.DirtyPieces.{count_dirty}
 use Rattle.checkpoint.specs.Steps.{RecoversByArea, run_on}
@@ -28,12 +29,12 @@ abbrev pub AreCleanBefore : ℕ → List Bool → Type 0
 AreCleanBefore n dirty = (i : ℕ) → i < n → get_or dirty i false ≡ false
 
 -- A cut is in progress: its image, with the records of the other half run on it, leads to what the device recovers to, and
--- each of its extents that isn't pending is on the device. Its image has version 2, the version that is written.
+-- each of its extents that isn't pending is on the device. Its image has the version that is written.
 pub record IsCut (log : Log) (snapshot : List ℕ) (pending : List Bool) (m : Medium) : Type 0 where
   pub behind : run_on log.geometry (image_state log.geometry snapshot) (front (layout_of log.geometry) (other log.named) m.now)
       ≡ recovered_state log.geometry m.now
   pub written : AgreeOnClean log.geometry pending (image_in log.geometry (other log.named) m) snapshot
-  pub version : version_in snapshot ≡ 2
+  pub version : version_in snapshot ≡ VERSION
 
 -- While a cut is in progress, its snapshot and records lead to what the device recovers to (`IsCut`).
 abbrev pub IsCutIfRunning : Log → List ℕ → List Bool → Option ℕ → Medium → Type 0

@@ -12,19 +12,21 @@ use Rattle.disk.specs.Moments.{CrashImagesAre}
 use Rattle.checkpoint.specs.Journal.{JournalView, IsRecoverable, records, committed}
 use Rattle.checkpoint.specs.DirtyPieces.{opened_dirty}
 use Rattle.image.specs.Image.{image_state}
+use Rattle.image.specs.declared.layout.TheConstants.{VERSION}
 use Rattle.oplog.specs.Front.{front}
 use Rattle.device_map.specs.Layout.{image_part, layout_of, part_bytes}
 use Rattle.oplog.specs.Recovery.{named_area, run}
 use Rattle.meaning.specs.State.{State, IsState}
 
 -- A device was opened: it isn't refused, and the journal holds the state to which it recovered, with no record in force, now
--- and in whatever a crash leaves now. The named image is that of this state, in version 2; of the other one nothing is known.
+-- and in whatever a crash leaves now. The named image is that of this state, in the version that is written; of the other one nothing is
+-- known.
 pub record IsOpened (old : Medium) (j : JournalView) (x : State) : Type 0 where
   pub header : HasHeader j.geometry old.now
   pub accepted : refused j.geometry old.now ≡ None
   pub was : recovered_state j.geometry old.now ≡ Some x
   pub is : committed j ≡ Some x
-  pub version : named_version j.geometry j.medium.now ≡ 2
+  pub version : named_version j.geometry j.medium.now ≡ VERSION
   pub recoverable : IsRecoverable j
   pub emptied : records j ≡ []
   pub dirty : j.dirty ≡ opened_dirty j.geometry

@@ -8,6 +8,7 @@ use Rattle.recovery.specs.Recovery.{recovered_state}
 use Rattle.recovery.specs.Refusals.{refused}
 use Rattle.recovery.specs.Version.{named_version}
 use Rattle.disk.specs.Device.{Medium}
+use Rattle.image.specs.declared.layout.TheConstants.{VERSION}
 use Rattle.checkpoint.specs.declared.opening.Parts.{Parts}
 use Rattle.checkpoint.specs.Buffers.{FitBuffers, dirty_pieces_of}
 use Rattle.checkpoint.specs.Keeping.{IsSoundJournal}
@@ -64,7 +65,7 @@ pub record IsMadeOf (c : List ℕ) (p : Parts) (m : Medium) : Type 0 where
   pub accepted : refused p.tree.geometry c ≡ None
   pub was : recovered_state p.tree.geometry c ≡ Some (state_in p.tree)
   pub is : recovered_state p.halves.geometry m.now ≡ Some (state_in p.tree)
-  pub version : named_version p.halves.geometry m.now ≡ 2
+  pub version : named_version p.halves.geometry m.now ≡ VERSION
   pub emptied : records_in p.halves.geometry m.now ≡ []
   pub sound : IsSoundJournal p.halves p.buffers.snapshot.items p.buffers.named_dirty.items p.buffers.other_dirty.items
       p.buffers.pending.items None m

@@ -3,6 +3,7 @@ ghost use Rattle.std.specs.Prelude.{◌≡◌, ◌≢◌, ◌-◌, ◌*◌, ◌�
 ghost use Rattle.recovery.specs.Version.{named_version};
 ghost use Rattle.disk.specs.Moments.{CrashImagesAre};
 ghost use Rattle.image.specs.Pieces.{piece_count};
+ghost use Rattle.image.specs.declared.layout.TheConstants.{VERSION};
 ghost use Rattle.checkpoint.specs.Costs.{longest_point, point_cost};
 ghost use Rattle.checkpoint.specs.Images.{KeepsImages, PatchesUnnamed};
 ghost use Rattle.checkpoint.specs.Journal.{JournalView, AreCarriedOut, RecoversWithPrefix, IsRecoverable, after_call, records, committed, RecoversStill};
@@ -144,8 +145,8 @@ impl<D: Disk> Journal<D> {
         ensures recoverable { OnOk result (D.keeps → IsRecoverable self.new) }
         ensures emptied { OnOk result (D.keeps → records self.new ≡ []) }
 
-        // The named image is of format version 2, the newest.
-        ensures version { OnOk result (D.keeps → named_version self.new.geometry self.new.medium.now ≡ 2) }
+        // The named image is of the newest version.
+        ensures version { OnOk result (D.keeps → named_version self.new.geometry self.new.medium.now ≡ VERSION) }
 
         // Dirty pieces that lie side by side take one write.
         ensures costs { D.keeps → Costs result (point_cost self.old.dirty.other) self.old.medium self.new.medium }
@@ -254,8 +255,8 @@ impl<D: Disk> Journal<D> {
         ensures recoverable { OnOk result (D.keeps → IsRecoverable self.new) }
         ensures records { OnOk result (D.keeps → (first : List (List ℕ)) × (records self.old ≡ first ++ records self.new)) }
 
-        // The named image is of format version 2, the newest.
-        ensures version { OnOk result (D.keeps → named_version self.new.geometry self.new.medium.now ≡ 2) }
+        // The named image is of the newest version.
+        ensures version { OnOk result (D.keeps → named_version self.new.geometry self.new.medium.now ≡ VERSION) }
 
         // It writes no piece: all were written before.
         ensures images { OnOk result (D.keeps → KeepsImages self.old.geometry self.old.medium.now self.new.medium.now) }

@@ -9,6 +9,7 @@ ghost use Rattle.recovery.specs.Refusals.{HasHeaderAndParts, IsRefused, refused}
 ghost use Rattle.disk.specs.Device.{IsSynced, IsCrashImage};
 ghost use Rattle.disk.specs.Moments.{CrashImagesAre, moment_number};
 ghost use Rattle.image.specs.Image.{image_of};
+ghost use Rattle.image.specs.declared.layout.TheConstants.{VERSION};
 ghost use Rattle.checkpoint.specs.Buffers.{KeepsBuffers};
 ghost use Rattle.checkpoint.specs.Costs.{finish_cost, opening_cost};
 ghost use Rattle.checkpoint.specs.Opening.{IsOpened, IsLeftByRefusal, OpeningCrashImages, RecoversAsBefore};
@@ -195,7 +196,7 @@ fn checkpoint_recovered<D: Disk>(parts: &mut Parts, disk: &mut D) -> Result<(), 
     ensures costs { D.keeps → Costs result 6 (D.medium disk.old) (D.medium disk.new) }
     ensures pointed { OnOk result (D.keeps →
         IsPointed parts.old.halves parts.new.buffers.snapshot.items (D.medium disk.old) (D.medium disk.new)) }
-    ensures snapshot { parts.new.buffers.snapshot.items ≡ image_of 2 parts.old.tree.geometry (state_in parts.old.tree) }
+    ensures snapshot { parts.new.buffers.snapshot.items ≡ image_of VERSION parts.old.tree.geometry (state_in parts.old.tree) }
     ensures log { OnOk result (parts.new.halves ≡ pointed_log parts.old.halves) }
     ensures tree { parts.new.tree ≡ parts.old.tree }
     ensures buffers { KeepsBuffers parts.old.buffers parts.new.buffers }

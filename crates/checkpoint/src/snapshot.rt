@@ -2,6 +2,7 @@
 ghost use Rattle.std.specs.Prelude.{◌≡◌, ◌≤◌, drop, length, take};
 ghost use Rattle.image.specs.Image.{image_head, image_of};
 ghost use Rattle.image.specs.Pieces.{piece_count};
+ghost use Rattle.image.specs.declared.layout.TheConstants.{VERSION};
 ghost use Rattle.checkpoint.specs.Extents.{AreCleanExtentsOf};
 ghost use Rattle.device_map.specs.Layout.{image_size};
 ghost use Rattle.parcel.specs.Tree.{IsWholeTree, state_in};
@@ -13,7 +14,7 @@ use parcel::{Tree, write_piece};
 /// Writes the head of an image.
 fn write_head(bytes: &mut [u8])
     requires { IMAGE_HEAD_SIZE ≤ length bytes.old }
-    ensures head { take IMAGE_HEAD_SIZE bytes.new ≡ image_head 2 }
+    ensures head { take IMAGE_HEAD_SIZE bytes.new ≡ image_head VERSION }
     ensures rest { drop IMAGE_HEAD_SIZE bytes.new ≡ drop IMAGE_HEAD_SIZE bytes.old }
     ensures size { length bytes.new ≡ length bytes.old }
 {
@@ -27,7 +28,7 @@ pub(crate) fn update_snapshot(tree: &Tree, dirty: &[bool], bytes: &mut [u8])
     requires dirty { length dirty.now ≡ piece_count tree.now.geometry }
     requires size { length bytes.old ≡ image_size tree.now.geometry }
     ensures image { AreCleanExtentsOf tree.now.geometry (state_in tree.now) dirty.now bytes.old
-        → bytes.new ≡ image_of 2 tree.now.geometry (state_in tree.now) }
+        → bytes.new ≡ image_of VERSION tree.now.geometry (state_in tree.now) }
     ensures size { length bytes.new ≡ length bytes.old }
 {
     let g = tree.geometry();
