@@ -1,10 +1,6 @@
 -- Worked examples of the definitions.
 use Rattle.std.proofs.Common.{◌≡◌, true, false, [], ◌∷◌, refl}
-use Rattle.image.specs.declared.layout.TheConstants.{VERSION}
 use Rattle.checkpoint.specs.Costs.{count_runs}
-
-newest : VERSION ≡ 2
-newest = refl
 
 some_runs : count_runs (true ∷ true ∷ false ∷ true ∷ []) ≡ 2
 some_runs = refl

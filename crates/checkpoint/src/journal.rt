@@ -21,14 +21,13 @@ use crate::checkpoint_steps::{cut_on, flip_on, point_on};
 use crate::dirty::{clear_dirty, count_dirty, dirty_touched, first_dirty, swap_and_clear_dirty};
 use crate::extents::write_extent;
 use crate::snapshot::update_snapshot;
+use affinity::Geometry;
 use disk::Disk;
 use protocol::Msg;
 use oplog::{Halves, LogFault, other};
 use parcel::Tree;
 use std::marker::Model;
 use std::mem;
-
-mod accessors;
 
 /// The memory that a journal has besides its log: an image, and three flags for each of its pieces.
 #[derive(Drop)]
@@ -269,5 +268,48 @@ impl<D: Disk> Journal<D> {
         mem::swap(&mut self.buffers.named_dirty, &mut self.buffers.other_dirty);
         self.pieces_left = None;
         Ok(())
+    }
+
+    /// How many more records the current half takes.
+    pub fn room(&self) -> usize
+        ensures room { result ≡ self.now.room }
+        ensures recoverable { self.now.failed ≡ false → D.keeps → IsRecoverable self.now }
+    {
+        self.halves.room()
+    }
+
+    /// How many pieces of a cut are still to be written, while one is in progress.
+    pub fn pieces_left(&self) -> Option<usize>
+        ensures { result ≡ self.now.pieces_left }
+    {
+        self.pieces_left
+    }
+
+    /// The geometry of the device.
+    pub fn geometry(&self) -> Geometry
+        ensures { result ≡ self.now.geometry }
+    {
+        self.halves.geometry()
+    }
+
+    /// Whether the device has failed in a call.
+    pub fn failed(&self) -> bool
+        ensures { result ≡ self.now.failed }
+    {
+        self.halves.failed()
+    }
+
+    /// The device.
+    pub fn disk(&self) -> &D
+        ensures { D.medium result.now ≡ self.now.medium }
+    {
+        &self.disk
+    }
+
+    /// The device.
+    pub fn into_disk(self) -> D
+        ensures { D.medium result ≡ self.medium }
+    {
+        self.disk
     }
 }
