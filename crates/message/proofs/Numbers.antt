@@ -1,6 +1,6 @@
 -- What a word encodes as a number.
 use Rattle.std.proofs.lemmas.Grind.{common_steps}
-use Rattle.std.proofs.Common.{◌≡◌, ℕ, zero, suc, ◌+◌, ◌-◌, ◌*◌, ◌<◌, ◌^◌, true, false, List, [], ◌∷◌, length, get_or, take, Some, None, refl, ap, sym, ◌∙◌, inl, inr, arith}
+use Rattle.std.proofs.Common.{◌≡◌, ℕ, zero, suc, ◌+◌, ◌-◌, ◌*◌, ◌<◌, ◌≤◌, ◌^◌, true, false, List, [], ◌∷◌, length, get_or, take, Some, None, refl, ap, sym, ◌∙◌, inl, inr, arith}
 use Rattle.std.specs.Prelude.{◌&&◌, ◌||◌, not, ◌==◌, nat_lt, nat_le}
 use Rattle.std.specs.Char.{is_ascii_digit, digit_value}
 use Rattle.std.specs.Int.{IsInRange}
@@ -132,8 +132,8 @@ pub value_more : (w : List ℕ) (i v : ℕ) → i < length w → is_ascii_digit 
     → 10 * v + (get_or w i 0 - 48) ≡ digits_value 10 (take (i + 1) w)
 value_more w i v lt d e = grind (arith, common_steps, digits_value_more, value_of_digit)
 
--- a word whose first digits have a value past 65535 encodes no number
-pub too_large : (w : List ℕ) (i v : ℕ) → v ≡ digits_value 10 (take (i + 1) w) → 65535 < v → number_in_word w ≡ None
+-- a word whose first digits have a value of more than 16 bits encodes no number
+pub too_large : (w : List ℕ) (i v : ℕ) → v ≡ digits_value 10 (take (i + 1) w) → 2 ^ 16 ≤ v → number_in_word w ≡ None
 too_large w i v e h = no_number w (λ n. let less = digits_value-take-le 10 w (i + 1) (omega arith) in let fits = n.fits in absurd (omega arith))
 
 -- ---- a word of one byte

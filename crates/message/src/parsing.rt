@@ -14,6 +14,9 @@ use crate::LONGEST_LINE;
 use affinity::Kind;
 use protocol::{Block, Msg};
 
+/// The greatest number that a line may have.
+const GREATEST_NUMBER: u32 = u16::MAX as u32;
+
 /// How many bytes the longest keyword has.
 const LONGEST_KEYWORD: usize = 8;
 
@@ -189,7 +192,7 @@ fn number(word: &[u8]) -> Option<u16>
     plain_number(value, word)
 }
 
-/// The value of the decimal digits at the front of a line, and how many they are. `None` where the value is past 65535.
+/// The value of the decimal digits at the front of a line, and how many they are. `None` where the value is past 65,535.
 fn digits_in_front(line: &[u8]) -> Option<(u16, usize)>
     ensures { MatchOption result (HasTooMuchInFront line.now) (λ p. AreInFront line.now p.0 p.1) }
 {
@@ -200,7 +203,7 @@ fn digits_in_front(line: &[u8]) -> Option<(u16, usize)>
             return Some((value as u16, size));
         }
         value = 10 * value + u32::from(byte - b'0');
-        if value > 65535 {
+        if value > GREATEST_NUMBER {
             return None;
         }
     }

@@ -9,6 +9,9 @@ use affinity::limits::MOST_FILES;
 use itoa::Buffer;
 use protocol::{Block, LONGEST_REPLY, LONGEST_TEXT, Refusal, Reply};
 
+/// How many bytes a space and a number of 32 bits have at most: the number has up to ten digits.
+const LONGEST_NUMBER: usize = 11;
+
 /// Writes the line of a reply, its newline included, into the front of `out`, and gives the
 /// line's length in bytes. What lies after the line stays as it was. It has at most `LONGEST_REPLY` bytes.
 #[inline(always)]
@@ -158,12 +161,12 @@ fn append(text: &[u8], out: &mut [u8; LONGEST_REPLY], at: usize) -> usize
     end
 }
 
-/// Writes a space and a number (of ten digits at most: 11 bytes) after the first `at` bytes, and gives where they end. One or two digits,
+/// Writes a space and a number after the first `at` bytes, and gives where they end. One or two digits,
 /// as the numbers of all files have, are made here.
 fn append_number(n: u32, out: &mut [u8; LONGEST_REPLY], at: usize) -> usize
-    requires { at + 11 ≤ LONGEST_REPLY }
+    requires { at + LONGEST_NUMBER ≤ LONGEST_REPLY }
     ensures text { AppendsText out.old out.new at result (spaced n) }
-    ensures bound { result ≤ at + 11 }
+    ensures bound { result ≤ at + LONGEST_NUMBER }
 {
     if n < 10 {
         return append(&[b' ', b'0' + n as u8], out, at);
@@ -177,9 +180,9 @@ fn append_number(n: u32, out: &mut [u8; LONGEST_REPLY], at: usize) -> usize
 
 /// The same as `append_number`, for any number.
 fn append_digits(n: u32, out: &mut [u8; LONGEST_REPLY], at: usize) -> usize
-    requires { at + 11 ≤ LONGEST_REPLY }
+    requires { at + LONGEST_NUMBER ≤ LONGEST_REPLY }
     ensures text { AppendsText out.old out.new at result (spaced n) }
-    ensures bound { result ≤ at + 11 }
+    ensures bound { result ≤ at + LONGEST_NUMBER }
 {
     let mut digits = Buffer::new();
     let end = append(b" ", out, at);
