@@ -4,7 +4,17 @@ use Rattle.std.proofs.lemmas.Option.{same_Some}
 use Rattle.affinity.specs.Geometry.{default_geometry}
 use Rattle.clap.proofs.OnLiterals.{clap_on_literals}
 use Rattle.arguments.specs.Arguments.{AsksFormat, AsksHelp, RunsNoCommand, AsksOutOfRange, AsksPlain, AsksServeWith, AsksShow, AsksVersion, IsWrong}
+use Rattle.arguments.specs.declared.command_line.TheConstants.{DEFAULT_WORKERS, DEFAULT_SLOTS, DEFAULT_EVERY}
 use Rattle.arguments.proofs.Asking.{plain_is_not_serve}
+
+default_workers : DEFAULT_WORKERS ≡ 2
+default_workers = refl
+
+default_slots : DEFAULT_SLOTS ≡ 16
+default_slots = refl
+
+default_every : DEFAULT_EVERY ≡ 0
+default_every = refl
 
 pub asks_plain : (program : List ℕ) → AsksPlain (program ∷ codes "plain" ∷ []) default_geometry
 unfolding clap_on_literals

@@ -17,6 +17,7 @@ use Rattle.clap.specs.declared.error.Error.{Error}
 use Rattle.clap.specs.declared.error.kind.ErrorKind.{ErrorKind}
 use Rattle.clap.specs.declared.error.kind.ErrorKind.TheVariants.{DisplayHelp, DisplayVersion}
 use Rattle.clap.specs.declared.error.kind.ErrorKind.TheVariants as kind
+use Rattle.arguments.specs.declared.command_line.TheConstants.{DEFAULT_WORKERS, DEFAULT_SLOTS, DEFAULT_EVERY}
 use Rattle.arguments.specs.declared.command_line.Request.{Request}
 use Rattle.arguments.specs.declared.command_line.Request.TheVariants.{Help, Plain, Format, Show, Serve}
 use Rattle.arguments.specs.declared.command_line.ServiceNumbers.{ServiceNumbers}
@@ -54,7 +55,7 @@ format = with_numbers (with_rule (new_app (codes "format")) device_rule)
 abbrev pub show : App
 show = with_rule (new_app (codes "show")) device_rule
 
--- the command `serve`: how many workers it has, how many lines it may read before their replies are sent, and after how many records it
+-- the command `serve`: how many workers it has, how many lines it may read before their answers are sent, and after how many records it
 -- makes a checkpoint
 abbrev pub serve : App
 serve = fold with_rule (new_app (codes "serve")) (device_rule ∷ rule_within (codes "workers") (pos 0) (pos 64)
@@ -101,9 +102,9 @@ service_numbers s = s.workers ∷ s.slots ∷ s.every ∷ []
 -- workers, slots and records to a checkpoint of `serve`, by the options that were given
 abbrev pub service_in : List Row → List ℕ
 service_in rows =
-    number_in rows (codes "workers") 2
-    ∷ number_in rows (codes "slots") 16
-    ∷ number_in rows (codes "every") 0
+    number_in rows (codes "workers") DEFAULT_WORKERS
+    ∷ number_in rows (codes "slots") DEFAULT_SLOTS
+    ∷ number_in rows (codes "every") DEFAULT_EVERY
     ∷ []
 
 -- the file of the device; arguments without it are refused before

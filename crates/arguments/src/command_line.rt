@@ -26,10 +26,20 @@ const SERVE: &str =
 
 const SHOW: &str = "Tells what the device in a file holds, and leaves it as it is";
 
+/// How many workers `serve` has where the arguments don't say.
+pub const DEFAULT_WORKERS: u16 = 2;
+
+/// How many slots `serve` has where the arguments don't say.
+pub const DEFAULT_SLOTS: u16 = 16;
+
+/// After how many records `serve` makes a checkpoint where the arguments don't say: at 0, where the log is full.
+pub const DEFAULT_EVERY: u16 = 0;
+
 /// What help prints of the file of a device.
 const DEVICE: &str = "The file of the device";
 
-/// An option that takes a number: its name, what help prints of it, the least number that it takes and the greatest one.
+/// An option that takes a number: its name, what help prints of it, the least number that it takes and the greatest one. The numbers in the
+/// texts of help, LEAST to MOST and the default, are compared with those of the code by `tests/run house`.
 type NumberOption<'a> = (&'a str, &'a str, u16, u16);
 
 /// The options of a geometry, in the order in which `Geometry::new` takes its numbers. Each takes any number of 16 bits: `Geometry::new`
@@ -118,7 +128,7 @@ const COMMANDS: [CommandRow<'static>; 4] = [
 pub struct ServiceNumbers {
     /// Threads that run messages.
     pub workers: u16,
-    /// Lines that may be read whose reply is not sent yet.
+    /// Lines that may be read whose answer is not sent yet.
     pub slots: u16,
     /// Records after which a checkpoint is made; with 0 one is made where the log is full.
     pub every: u16,
@@ -308,9 +318,9 @@ fn service_given(options: &ArgMatches<'_>) -> ServiceNumbers
     ensures { service_numbers result ≡ service_in (rows_of (found_of options.now)) }
 {
     ServiceNumbers {
-        workers: number_given(options, "workers", 2),
-        slots: number_given(options, "slots", 16),
-        every: number_given(options, "every", 0),
+        workers: number_given(options, "workers", DEFAULT_WORKERS),
+        slots: number_given(options, "slots", DEFAULT_SLOTS),
+        every: number_given(options, "every", DEFAULT_EVERY),
     }
 }
 
