@@ -1,6 +1,7 @@
 """What stands in the repository without being run: the scripts of tests/lint, the pictures, the figures, the model of
 the bench, ./waffd, ./build and ./try."""
 import os
+import re
 import shutil
 import signal
 import subprocess
@@ -51,6 +52,64 @@ class Scripts(Case):
             end = run_script(f"{name} --help")
             self.assertEqual((end.returncode, end.stderr), (0, ""), name)
             self.assertIn(f"    {name}", end.stdout)
+
+
+# The constants that limit the number of each option, or the numbers themselves.
+LIMITS = {
+    "aggregates": (1, "MOST_AGGREGATES"),
+    "volumes": (1, "MOST_VOLUMES"),
+    "stripes": (1, "MOST_STRIPES"),
+    "width": (1, "MOST_WIDTH"),
+    "files": (1, "MOST_FILES"),
+    "blocks": (1, "MOST_BLOCKS"),
+    "quota": (1, "MOST_QUOTA"),
+    "half": ("LEAST_RECORDS", "MOST_RECORDS"),
+    "workers": (0, "MOST_WORKERS"),
+    "slots": (1, "MOST_SLOTS"),
+    "every": (0, "MOST_RECORDS"),
+}
+COMMAND_LINE = "crates/arguments/src/command_line.rt"
+CONSTANT = re.compile(r"^pub const (\w+): u16 = (\d+);$", re.M)
+DEFAULT_NUMBER = re.compile(r"^ +(\w+): (\d+),$", re.M)
+# Of an option its name, the three numbers in its text, and the least and the greatest number that the parser takes.
+OPTION = re.compile(
+    r'\(\s*"(\w+)",\s*"[^"]*?(\d+) to (\d+)\b[^"]*\[default: (\d+)\]",\s*(\w+),\s*([\w:]+),?\s*\)')
+ANY = ("0", "u16::MAX")  # what the parser takes where `Geometry::new` refuses what is out of range
+
+
+def read_source(path):
+    with open(os.path.join(TOP, path), encoding="utf-8") as source:
+        return source.read()
+
+
+class Options(Case):
+    """The numbers that help prints of each option."""
+
+    def setUp(self):
+        super().setUp()
+        limits = read_source("crates/affinity/src/limits.rt")
+        self.constants = dict(CONSTANT.findall(limits + read_source(COMMAND_LINE)))
+
+    def number(self, limit):
+        """The number of a constant, or a number itself."""
+        return int(self.constants.get(limit, limit))
+
+    def default(self, name):
+        """What the code takes where the option isn't given."""
+        given = self.constants.get(f"DEFAULT_{name.upper()}")
+        of_geometry = read_source("crates/affinity/src/geometry.rt").partition("impl Default for Geometry")[2]
+        return int(given or dict(DEFAULT_NUMBER.findall(of_geometry))[name])
+
+    def test_numbers(self):
+        """help prints the limits and the default of each option as the code has them"""
+        options = OPTION.findall(read_source(COMMAND_LINE))
+        self.assertEqual(sorted(name for name, *_ in options), sorted(LIMITS))
+        for name, least, most, default, *taken in options:
+            with self.subTest(name):
+                limits = [self.number(limit) for limit in LIMITS[name]]
+                self.assertEqual([int(least), int(most), int(default)], [*limits, self.default(name)])
+                if tuple(taken) != ANY:
+                    self.assertEqual([self.number(limit) for limit in taken], limits)
 
 
 class Model(Case):
