@@ -11,7 +11,8 @@ use Rattle.affinity.proofs.Numbers.{geometry_same, are_in_range}
 use Rattle.clap.specs.Words.{IsAmong, Text, kind_of}
 use Rattle.meaning.specs.Output.{WritesOutput, IsBeginning}
 use Rattle.meaning.specs.State.{empty}
-use Rattle.serving.specs.Ends.{Exchange}
+use Rattle.plain.specs.declared.fault.PlainFault.TheVariants as plain
+use Rattle.serving.specs.Ends.{Exchange, exchange}
 use Rattle.commands.specs.Ends.{EndsFormatting, EndsInMemory, EndsShowing}
 use Rattle.commands.specs.InFile.{EndsInFile}
 use Rattle.commands.specs.declared.serve_options.ServeOptions.{ServeOptions}
@@ -54,9 +55,13 @@ is_refused why none = cc
 
 -- ---- arguments that ask for a command give no request only for want of memory
 
-pub nothing_written : (g : Geometry) (input old : Option (List ℕ)) → WritesOutput input old old (IsBeginning g empty)
-nothing_written g None old = tt
-nothing_written g (Some bytes) old = ([], Appends-nil old, (0, refl))
+none_begun : (g : Geometry) (input old : Option (List ℕ)) → WritesOutput input old old (IsBeginning g empty)
+none_begun g None old = tt
+none_begun g (Some bytes) old = ([], Appends-nil old, (0, refl))
+
+pub nothing_written : (g : Geometry) (input old : Option (List ℕ)) → EndsInMemory g (Err OutOfMemory) (exchange input input old old)
+nothing_written g input old =
+    (Err plain.OutOfMemory, refl, record { ok = tt; end = tt; read = λ is. cc; out_of_memory = λ is. none_begun g input old; begun = λ is. cc })
 
 pub exits_for_memory : {P : Result (Unit {0}) Fault → Type 0} (arguments : List Text) (why : ArgumentRefusal) → findings arguments ≡ [] → IsReason arguments why
     → (AsksOutOfRange arguments → ⊥) → P (Err OutOfMemory) → Exits (status_of_refusal why) P

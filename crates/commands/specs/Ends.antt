@@ -1,29 +1,26 @@
 -- Statement for engineers: How a command ends: what was written, and what was read.
-use Rattle.std.specs.Prelude.{◌≡◌, ℕ, List, Option, IfSome, Result, Ok, Err}
-use Rattle.std.specs.Io.KnownBytes.{Appends, IsAtEnd}
+use Rattle.std.specs.Prelude.{◌≡◌, ℕ, List, Option, Result, Ok, Err}
+use Rattle.std.specs.Io.KnownBytes.{Appends}
 use Rattle.affinity.specs.declared.geometry.Geometry.{Geometry}
 use Rattle.message.specs.Writing.{AppendsBeginning}
 use Rattle.meaning.specs.State.{empty}
-use Rattle.meaning.specs.Output.{serial_output, AnswersWholeLines, IsBeginning, WritesOutput}
+use Rattle.plain.specs.Ends.{EndsSerially}
+use Rattle.plain.specs.declared.fault.PlainFault.{PlainFault}
 use Rattle.recovery.specs.declared.inspecting.Shown.{Shown}
 use Rattle.recovery.specs.Refusals.{IsRefused}
 use Rattle.recovery.specs.Shown.{IsShown}
 use Rattle.recovery.specs.declared.fault.FormatFault.TheVariants as formatting
 use Rattle.serving.specs.Ends.{Exchange}
+use Rattle.commands.specs.Faults.{plain_result}
 use Rattle.commands.specs.Lines.{formatted_line, shown_lines}
 use Rattle.commands.specs.declared.faults.Fault.{Fault}
-use Rattle.commands.specs.declared.faults.Fault.TheVariants.{Read, Write, OutOfMemory, Device, Format, Open}
+use Rattle.commands.specs.declared.faults.Fault.TheVariants.{Write, OutOfMemory, Device, Format, Open}
 
--- What the serial server has written at this end, and what remains of the input. No fault: its whole output for the input, of which nothing
--- remains. A failed read: the answers to all whole lines that were taken. A failed write: a beginning of that output. No memory: its first
--- lines.
+-- The serial server, from the empty state on, has come to this end, with its fault as one of the program's: what it has written then, and
+-- what remains of the input, `EndsSerially` says. No answer waits any more.
 abbrev pub EndsInMemory : Geometry → Result (Unit {0}) Fault → Exchange → Type 0
-EndsInMemory g (Ok _) x =
-    WritesOutput x.input x.before x.written (λ read written. written ≡ serial_output g empty read) × IsAtEnd x.remaining
-EndsInMemory g (Err Read) x = WritesOutput x.input x.before x.written (AnswersWholeLines g empty x.remaining)
-EndsInMemory g (Err Write) x = IfSome x.input (λ bytes. AppendsBeginning x.before x.written (serial_output g empty bytes))
-EndsInMemory g (Err OutOfMemory) x = WritesOutput x.input x.before x.written (IsBeginning g empty)
-EndsInMemory g (Err _) x = ⊥
+EndsInMemory g end x = (ended : Result (Unit {0}) PlainFault) × (end ≡ plain_result ended)
+    × EndsSerially g empty ended x.input x.remaining x.before x.written x.written
 
 -- The length of a device of this geometry was printed, after a failed write a beginning of that, or nothing. What the file holds is
 -- unknown.

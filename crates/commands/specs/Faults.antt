@@ -34,6 +34,11 @@ fault_of_plain plain.Read = Read
 fault_of_plain plain.Write = Write
 fault_of_plain plain.OutOfMemory = OutOfMemory
 
+-- how the serial server ends, with the fault as one of the program's
+abbrev pub plain_result : Result (Unit {0}) PlainFault → Result (Unit {0}) Fault
+plain_result (Ok _) = Ok tt
+plain_result (Err fault) = Err (fault_of_plain fault)
+
 -- the program's fault for a fault of the server on a device
 abbrev pub fault_of_serve : ServeFault → Fault
 fault_of_serve serving.NoWorkers = NoWorkers

@@ -2,3 +2,4 @@
 pub mod Keys
 pub mod Server
 pub mod Answering
+pub mod Ends

@@ -2,7 +2,7 @@
 //! followed by the replies that wait; `unread` is what a reader of lines hasn't given yet: the bytes that it holds, followed by what its
 //! source has left (nothing once a read has reported the end).
 
-ghost use Rattle.std.specs.Prelude.{◌≡◌, ◌<◌, ◌++◌, ℕ, List, [], Option, Some, true, false, is_ok, option_map, IfOk, IfSome, OnOk, IsErrOf, IsFalse, MatchBool, unwrap_or, vec_len};
+ghost use Rattle.std.specs.Prelude.{◌≡◌, ◌<◌, ◌++◌, ℕ, List, [], Option, Some, true, false, is_ok, option_map, IfOk, OnOk, IsErrOf, IsFalse, MatchBool, unwrap_or, vec_len};
 ghost use Rattle.std.specs.Io.KnownBytes.{Appends, IsAtEnd};
 ghost use Rattle.protocol.specs.declared.sizes.TheConstants.{LONGEST_LINE};
 ghost use Rattle.protocol.specs.Grammar.{message_of};
@@ -16,6 +16,7 @@ ghost use Rattle.affinity.specs.declared.kinds.Kind.TheVariants as kinds;
 ghost use Rattle.meaning.specs.Serial.{done_or_refused};
 ghost use Rattle.meaning.specs.State.{State, empty};
 ghost use Rattle.plain.specs.Answering.{AnswersLine};
+ghost use Rattle.plain.specs.Ends.{EndsSerially};
 ghost use Rattle.plain.specs.Server.{server_state, IsConsistent};
 ghost use Rattle.protocol.specs.Replies.{reply_line};
 ghost use Rattle.protocol.specs.declared.messages.Msg.{Msg};
@@ -294,21 +295,10 @@ fn answer_all<R: Read + Drop, W: Write>(
     requires not_drained { is_drained lines.old ≡ false }
     requires knows { KnowsEnd R.remaining lines.old }
     requires none_waits { out.old ≡ [] }
-    ensures ok { OnOk result (WritesOutput (unread R.remaining lines.old)
-        (all_output (W.contents w.old) out.old) (all_output (W.contents w.new) out.new)
-        (λ input written. written ≡ serial_output g.now (server_state server.old) input)) }
-    ensures end { OnOk result (IsAtEnd (R.remaining (source lines.new))) }
-    ensures read { IsErrOf result PlainFault.Read → WritesOutput (unread R.remaining lines.old)
-        (all_output (W.contents w.old) out.old) (all_output (W.contents w.new) out.new)
-        (AnswersWholeLines g.now (server_state server.old) (R.remaining (source lines.new))) }
-    ensures out_of_memory { IsErrOf result PlainFault.OutOfMemory →
-        WritesOutput (unread R.remaining lines.old)
-        (all_output (W.contents w.old) out.old) (all_output (W.contents w.new) out.new)
-        (IsBeginning g.now (server_state server.old)) }
+    ensures ends { EndsSerially g.now (server_state server.old) result (unread R.remaining lines.old) (R.remaining (source lines.new))
+        (all_output (W.contents w.old) out.old) (all_output (W.contents w.new) out.new) (W.contents w.new) }
     // What was written is not taken back.
     ensures written { (written : List ℕ) × Appends (W.contents w.old) (W.contents w.new) written }
-    ensures begun { IsErrOf result PlainFault.Write → IfSome (unread R.remaining lines.old)
-        (λ input. AppendsBeginning (W.contents w.old) (W.contents w.new) (serial_output g.now (server_state server.old) input)) }
 {
     // The one block into which each line's digits are decoded: to make one for each line takes a twentieth of a short line's instructions.
     let mut content = Block([0; BLOCK_SIZE]);
@@ -339,20 +329,9 @@ pub(crate) fn answer_lent<'a, R: Read, W: Write, L: Loan>(
     requires room { LONGEST_LINE < vec_len buffer }
     requires none_waits { out.old ≡ [] }
     ensures same { result.1.ghost_name ≡ reader.entry.ghost_name }
-    ensures ok { OnOk result.0 (WritesOutput (R.remaining reader.old)
-        (all_output (W.contents w.old) out.old) (all_output (W.contents w.new) out.new)
-        (λ input written. written ≡ serial_output g.now empty input)) }
-    ensures end { OnOk result.0 (IsAtEnd (R.remaining result.1.now)) }
-    ensures read { IsErrOf result.0 PlainFault.Read → WritesOutput (R.remaining reader.old)
-        (all_output (W.contents w.old) out.old) (all_output (W.contents w.new) out.new)
-        (AnswersWholeLines g.now empty (R.remaining result.1.now)) }
-    ensures out_of_memory { IsErrOf result.0 PlainFault.OutOfMemory →
-        WritesOutput (R.remaining reader.old)
-        (all_output (W.contents w.old) out.old) (all_output (W.contents w.new) out.new)
-        (IsBeginning g.now empty) }
+    ensures ends { EndsSerially g.now empty result.0 (R.remaining reader.old) (R.remaining result.1.now)
+        (all_output (W.contents w.old) out.old) (all_output (W.contents w.new) out.new) (W.contents w.new) }
     ensures written { (written : List ℕ) × Appends (W.contents w.old) (W.contents w.new) written }
-    ensures begun { IsErrOf result.0 PlainFault.Write → IfSome (R.remaining reader.old)
-        (λ input. AppendsBeginning (W.contents w.old) (W.contents w.new) (serial_output g.now empty input)) }
 {
     let mut lines = LineReader::new(LentReader { reader, of }, buffer);
     let mut server = Server::new(alloc);

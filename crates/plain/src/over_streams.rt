@@ -1,10 +1,8 @@
 //! The serial server over a reader and a writer.
 
-ghost use Rattle.std.specs.Prelude.{◌≡◌, ℕ, List, Option, IfOk, IfSome, OnOk, IsErrOf, vec_len};
-ghost use Rattle.std.specs.Io.KnownBytes.{IsAtEnd};
-ghost use Rattle.message.specs.Writing.{AppendsBeginning};
+ghost use Rattle.std.specs.Prelude.{◌≡◌, ℕ, List, Option, IfOk, vec_len};
 ghost use Rattle.meaning.specs.State.{empty};
-ghost use Rattle.meaning.specs.Output.{serial_output, AnswersWholeLines, IsBeginning, WritesOutput};
+ghost use Rattle.plain.specs.Ends.{EndsSerially};
 
 use crate::PlainFault;
 use crate::answering::answer_lent;
@@ -39,15 +37,8 @@ pub fn serve_from<R: Read, W: Write>(
     r: &mut R,
     w: &mut W,
 ) -> Result<(), PlainFault>
-    ensures ok { OnOk result (WritesOutput (R.remaining r.old) (W.contents w.old) (W.contents w.new)
-        (λ input written. written ≡ serial_output g.now empty input)) }
-    ensures end { OnOk result (IsAtEnd (R.remaining r.new)) }
-    ensures read { IsErrOf result PlainFault.Read → WritesOutput (R.remaining r.old) (W.contents w.old)
-        (W.contents w.new) (AnswersWholeLines g.now empty (R.remaining r.new)) }
-    ensures out_of_memory { IsErrOf result PlainFault.OutOfMemory → WritesOutput (R.remaining r.old)
-        (W.contents w.old) (W.contents w.new) (IsBeginning g.now empty) }
-    ensures begun { IsErrOf result PlainFault.Write → IfSome (R.remaining r.old)
-        (λ input. AppendsBeginning (W.contents w.old) (W.contents w.new) (serial_output g.now empty input)) }
+    ensures { EndsSerially g.now empty result (R.remaining r.old) (R.remaining r.new) (W.contents w.old) (W.contents w.new)
+        (W.contents w.new) }
 {
     let Ok(buffer) = read_buffer(alloc) else {
         return Err(PlainFault::OutOfMemory);
@@ -83,15 +74,8 @@ pub fn serve_plain<R: Read + Drop, W: Write>(
     r: R,
     w: &mut W,
 ) -> Result<(), PlainFault>
-    ensures ok { OnOk result (WritesOutput (R.remaining r) (W.contents w.old) (W.contents w.new)
-        (λ input written. written ≡ serial_output g.now empty input)) }
-    ensures read { IsErrOf result PlainFault.Read → WritesOutput (R.remaining r) (W.contents w.old)
-        (W.contents w.new)
-        (λ input written. (left : Option (List ℕ)) × AnswersWholeLines g.now empty left input written) }
-    ensures out_of_memory { IsErrOf result PlainFault.OutOfMemory → WritesOutput (R.remaining r)
-        (W.contents w.old) (W.contents w.new) (IsBeginning g.now empty) }
-    ensures begun { IsErrOf result PlainFault.Write → IfSome (R.remaining r)
-        (λ input. AppendsBeginning (W.contents w.old) (W.contents w.new) (serial_output g.now empty input)) }
+    ensures { (remaining : Option (List ℕ)) × EndsSerially g.now empty result (R.remaining r) remaining (W.contents w.old)
+        (W.contents w.new) (W.contents w.new) }
 {
     let mut reader = r;
     serve_from(alloc, g, &mut reader, w)
