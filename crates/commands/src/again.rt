@@ -1,4 +1,5 @@
-//! The promise of a service over a crash, in bytes alone: what went into two incarnations of a device, and what came out.
+//! The promise of a service over a crash, in bytes alone: what went into two incarnations of a device, and what came out. No command calls
+//! these public functions: `serve_again` is there for the theorem and its tests, and the others are laws of the theorem.
 ghost use Rattle.std.specs.Prelude.{◌≡◌, ◌≢◌, ◌<◌, ℕ, IfOk, IfErr, List, Ok, Option};
 ghost use Rattle.affinity.specs.declared.geometry.Geometry.{Geometry};
 ghost use Rattle.recovery.specs.Recovery.{recovered_state};

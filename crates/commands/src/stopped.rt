@@ -1,4 +1,5 @@
-//! The promise of a service, with the crash point as a variable: a device in memory that stops at any call, and then crashes.
+//! The promise of a service, with the crash point as a variable: a device in memory that stops at any call, and then crashes. No command
+//! calls `serve_stopped`: it is there for the theorem and its tests, and `serve_again` calls it.
 ghost use Rattle.std.specs.Prelude.{◌<◌};
 ghost use Rattle.disk.specs.Memory.{medium_of, memory_of};
 ghost use Rattle.disk.specs.Torn.{HasPattern};

@@ -41,7 +41,8 @@ enum LineKind {
 /// ticket gives the index of its line there.
 pub struct ReorderBuffer {
     kinds: VecDeque<LineKind>,
-    /// The lines with tickets, oldest first.
+    /// The lines with tickets, oldest first: none of them is `NoMessage` or `OutOfRange`. They are `Line`s all the same, as contracts see
+    /// `Line`s, and `front` gives a reference to one. A type of their own would have to be converted in both.
     ticketed: VecDeque<Line>,
     slots: usize,
 }

@@ -62,8 +62,8 @@ pub record HasRunLines (keeps : Type 0) (start : MachineView) (new : CoreView)
   -- what a crash meanwhile leaves
   pub crash : keeps → RecoversFromRun start (record { core = new; hands = hands }) segment.device_events
 
--- A legal run (`HasRunLines`) led to the output: each reply there is to a line that is no message or is out of range, or to a message that
--- the run answered. `unsent` are the lines that were read and have no reply in the output, never more than the core has slots. `known`:
+-- A legal run (`HasRunLines`) led to the output: each answer there is to a line that is no message or is out of range, or to a message that
+-- the run answered. `unsent` are the lines that were read and have no answer in the output, never more than the core has slots. `known`:
 -- each consumed line is as its `Line` says, with its ticket, and with the reply that the run gave it, if the run gave one.
 pub record HasServed (keeps : Type 0) (start : MachineView) (new : CoreView) (unsent : List Line)
     (input before written : Option (List ℕ)) : Type 0 where

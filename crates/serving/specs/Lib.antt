@@ -1,4 +1,4 @@
--- Definitions of a server: its lines, its session, when a reply may be sent, how it ends, and a restart.
+-- Definitions of a server: its lines, its session, when an answer may be sent, how it ends, and a restart.
 pub mod Lines
 pub mod Logged
 pub use Rattle.reorder_buffer.specs.ReorderBuffer

@@ -23,7 +23,7 @@ pub record IsServing (keeps : Type 0) (start now : MachineView) (consumed : List
   pub answered : HaveAnswers sent_lines
 
 -- Since its start the server has reached this machine state. It has consumed lines of the input, of which `unread` is left (`drained`: its
--- end was read), and has written the replies to all of them but `unsent`, a session's outstanding lines.
+-- end was read), and has written the answers to all of them but `unsent`, a session's outstanding lines.
 pub record ServingProgress (keeps : Type 0) (start now : MachineView) (unsent : List Line)
     (input unread : Option (List ℕ)) (drained : Bool) (before written : Option (List ℕ)) : Type 0 where
   pub consumed : List (List ℕ)

@@ -1,6 +1,6 @@
 //! Collecting: the places of the bench are polled for the results of jobs, which go back to the core. A session waits here for a worker.
 
-ghost use Rattle.std.specs.Prelude.{◌≡◌, ◌+◌, ◌<◌, ◌≤◌, ◌↔◌, IfNone, IfSome, IsFalse, IsTrue, length};
+ghost use Rattle.std.specs.Prelude.{◌≡◌, ◌+◌, ◌<◌, ◌≤◌, ◌↔◌, ◌⊎◌, ◌||◌, false, IfNone, IfSome, IsFalse, IsTrue, length};
 ghost use Rattle.serving.specs.Kill.{IsKillSafe};
 ghost use Rattle.serving.specs.Checkpoints.{IsDue};
 ghost use Rattle.serving.specs.Lending.{NoneInFlight};
@@ -21,13 +21,14 @@ use workers::MOST_PLACES;
 /// their gates.
 const BATCH: usize = MOST_PLACES;
 
-// If a batch could not hold a result from every place, a poll might end early, miss a result whose signal the loop has already seen, and
-// the loop would then sleep in spite of it.
+// A batch has room for a result from each place. With less room a poll could end early, at a full batch, before it has looked at the last
+// places. A result at one of these, whose signal the loop has seen already, would stay there, and the loop could sleep in spite of it.
 const _: () = prove!(MOST_PLACES <= BATCH);
 
-/// After this many polls in succession without a result, each of all places, the batch is logged as it is. They take about ten times as
-/// long as a thread takes to wake up. The count restarts with every result, so in the worst case a reply waits for so many polls once for
-/// each later result of its batch.
+/// After how many polls in succession that found no result the batch is logged as it is. One poll looks at every place once. So many polls
+/// take about ten times as long as a thread takes to wake up, so that a worker which was just woken is still waited for. Each result starts
+/// the count anew. In the worst case, therefore, the reply to a collected message waits for this number of polls before each further result
+/// of its batch.
 const MAX_POLLS: usize = 16384;
 
 /// The thread yields the processor once in this many polls.
@@ -45,7 +46,7 @@ struct Batch {
 impl Batch {
     /// A batch in which nothing was collected yet.
     fn new() -> Batch
-        ensures { result.collected ≡ 0 }
+        ensures { (result.collected ≡ 0) × (result.changed ≡ false) }
     {
         Batch {
             collected: 0,
@@ -56,14 +57,17 @@ impl Batch {
     /// Counts a message that was collected: `changed` is whether it changed something.
     fn add(&mut self, changed: bool)
         requires { self.old.collected < BATCH }
-        ensures { self.new.collected ≡ self.old.collected + 1 }
+        ensures collected { self.new.collected ≡ self.old.collected + 1 }
+        ensures changed { self.new.changed ≡ (self.old.changed || changed) }
     {
         self.collected += 1;
         self.changed = self.changed || changed;
     }
 
     /// Whether something was collected.
-    fn has_results(&self) -> bool {
+    fn has_results(&self) -> bool
+        ensures { IsTrue result ↔ (0 < self.now.collected) }
+    {
         self.collected > 0
     }
 
@@ -76,7 +80,9 @@ impl Batch {
 
     /// Whether the batch is to be logged now: it is full, or it has results of which none needs a write to the log. In both cases waiting
     /// gains nothing.
-    fn is_ready_to_log(&self) -> bool {
+    fn is_ready_to_log(&self) -> bool
+        ensures { IsTrue result ↔ ((BATCH ≤ self.now.collected) ⊎ ((0 < self.now.collected) × (self.now.changed ≡ false))) }
+    {
         self.is_full() || self.has_results() && !self.changed
     }
 }

@@ -32,8 +32,8 @@ pub(crate) enum Blocked {
     Failed,
 }
 
-/// If a job was granted (dispatched by the core), offers it to the workers at place k of the bench, the first free place. Inlined, so that
-/// the job isn't moved once more.
+/// Offers a job to the workers at place k of the bench, the first free place, if the core has granted one. It is inlined, so that the job
+/// isn't moved once more.
 #[inline(always)]
 fn offer_granted(
     bench: &Bench,
@@ -60,7 +60,9 @@ fn offer_granted(
 }
 
 impl<'c, R: Read, D: Disk, L: ReplySink<D>> Session<'c, R, D, L> {
-    /// Dispatches the eligible message with the least ticket, if there is one, to place k, the first free one.
+    /// Dispatches the eligible message with the least ticket, if there is one, to place k, the first free one. To dispatch a message is one
+    /// act at four levels, each of which has its own word for it: the core grants the message (`grant`), the run queue and the session
+    /// dispatch it, the bench offers its job to the workers (`offer`), and the tree lends the job its parcels (`lend`).
     fn dispatch_to(&mut self, k: usize) -> Result<(), Blocked>
         requires first { position is_none self.old.dispatch_seat.lent ≡ Some k }
         ensures moves { HasMoved self.old self.new }

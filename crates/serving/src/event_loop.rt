@@ -82,7 +82,7 @@ impl<'c, R: Read, D: Disk, L: ReplySink<D>> Session<'c, R, D, L> {
         }
     }
 
-    /// Reads lines and answers them, until no more is read and the reply to each line that was read is sent: gives why no more is read.
+    /// Reads lines and answers them, until no more is read and the answer to each line that was read is sent: gives why no more is read.
     /// It waits for input only while no line is unanswered (`read_more`).
     fn run_loop<W: GatedRuntime>(&mut self, rt: &W) -> Result<ReadEnd, Halted>
         ensures served { MatchResult result (HasFinished D.keeps self.new) (λ _. HasHalted self.new) }

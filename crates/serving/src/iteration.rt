@@ -38,7 +38,7 @@ impl<'c, R: Read, D: Disk, L: ReplySink<D>> Session<'c, R, D, L> {
         ensures failed { OnErr result (self.new.core.failed ≡ true) }
         ensures trigger { self.new.trigger ≡ self.old.trigger }
     {
-        let count = self.core.slots(); // more messages than slots can't have run
+        let count = self.core.slots(); // there are never more messages that ran than slots
         or_halt(self.core.log(count))
     }
 
@@ -97,7 +97,7 @@ impl<'c, R: Read, D: Disk, L: ReplySink<D>> Session<'c, R, D, L> {
     fn know_rest(&self)
         ensures { (why : Option Blocked) → IsAtRest self.now why → self.now.reorder_buffer.lines ≡ [] }
     {
-        let _outstanding = self.outstanding; // what a session keeps true is known where a field is read
+        let _outstanding = self.outstanding; // for the proof: the session's invariant is known where one of its fields is read
     }
 
     /// Whether reading goes on, each line that was read is retired, and no further line is buffered: the client may be waiting for the

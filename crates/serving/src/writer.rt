@@ -20,7 +20,7 @@ use std::sync::Wait;
 use std::thread::Threads;
 use workers::{Gate, know_returned};
 
-/// What a call that writes its replies to a writer began with (a `Start`: core, places, input, output), and the name by which proofs know
+/// What a call that writes its answers to a writer began with (a `Start`: core, places, input, output), and the name by which proofs know
 /// its borrow of the writer.
 trait Beginning {
     ghost use Rattle.std.specs.Prelude.{Option};
