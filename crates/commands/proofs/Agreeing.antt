@@ -22,8 +22,8 @@ module _ (g : Geometry) (recover : List ℕ → Option State) (start : State) (d
       let r = h.recovers.2 in
       let all = has_all h.all run.before h.recovers.0 h.recovers.1 ∙ ap (λ (o : List ℕ). Some (run.before ++ o)) r.answers in
       let done : Result (Unit {0}) Fault = Ok tt in
-      let so = subst (λ (a : Option (List ℕ)). IsWritten done run.slots h.left (Some run.before) (Some run.after) a) all h.written in
-      let none_left = leaves_none g start run.slots h.left run.input run.before run.after r.acknowledged r.unacknowledged done r.first so whole in
+      let so = subst (λ (a : Option (List ℕ)). IsWritten done run.slots h.unanswered (Some run.before) (Some run.after) a) all h.written in
+      let none_left = leaves_none g start run.slots h.unanswered run.input run.before run.after r.acknowledged r.unacknowledged done r.first so whole in
       let none_else = subst (λ (n : ℕ). IsClosedPart g r.part (take n r.unacknowledged)) h.written.1 r.closed in
       let parts = ap (λ (ls : List (List ℕ)). r.acknowledged ++ ls) none_else ∙ sym (r.first ∙ ap (λ (ls : List (List ℕ)). r.acknowledged ++ ls) none_left) in (
         whole.1 ∙ ap (λ (o : List ℕ). run.before ++ o) whole.2,

@@ -95,7 +95,7 @@ module _ (g : Geometry) (start now : State) (run : CrashedRun) where
       let so = subst (λ (a : Option (List ℕ)). IsWritten (promised_end run.end) run.slots left (Some run.before) (Some run.after) a) is written in
       record {
         opened = opened;
-        left = left;
+        unanswered = left;
         written = subst (λ (ws : List (List ℕ)). IsWritten (promised_end run.end) run.slots left (Some run.before) (Some run.after) (Some (run.before ++ joined ws)))
             (sym (answers_in-served g start ack)) so;
         unacknowledged = r.unacknowledged;
@@ -122,7 +122,7 @@ are_linearizable g recover start device (run ∷ runs) is follow =
     let first = served g start r.acknowledged in
     let part = served g (state_after_lines g start r.acknowledged) r.part in (
       first ++ part ++ next.0,
-      (first, part, next.0, refl, did g start h.now run h.left h.all h.recovers.0 opened.0 h.written h.all_answered h.recovers.1 r, next.1),
+      (first, part, next.0, refl, did g start h.now run h.unanswered h.all h.recovers.0 opened.0 h.written h.all_answered h.recovers.1 r, next.1),
       subst (λ (os : List Operation). answers_in (os ++ next.0) ≡ output_lines g start (lines_in (os ++ next.0))) (sym (served-append g start r.acknowledged r.part))
           (goes_on_with g start (r.acknowledged ++ r.part) next.0 (subst (λ (x : State). answers_in next.0 ≡ output_lines g x (lines_in next.0)) r.state next.2)),
     )

@@ -38,13 +38,14 @@ unfolding digits
 small_is_shown = refl
 
 -- the program's own name is any text
-asks_serve : (program : List ℕ) → AsksServe (program ∷ codes "serve" ∷ codes "d" ∷ []) (codes "d") (record { workers = 2; slots = 16; every = 0; few = lit≤ tt; some = lit≤ tt; most = lit≤ tt })
+asks_serve : (program : List ℕ) → AsksServe (program ∷ codes "serve" ∷ codes "d" ∷ []) (codes "d")
+    (record { workers = 2; slots = 16; every = 0; few_workers = lit≤ tt; some_slot = lit≤ tt; few_slots = lit≤ tt })
 asks_serve program =
     let asks = given.asks_serve program in
     (asks.0, asks.1, asks.2, ap within_limits asks.3)
 
 asks_serve_with_numbers : (program : List ℕ) → AsksServe (program ∷ codes "serve" ∷ codes "--workers=4" ∷ codes "d" ∷ codes "--every" ∷ codes "9" ∷ []) (codes "d")
-    (record { workers = 4; slots = 16; every = 9; few = lit≤ tt; some = lit≤ tt; most = lit≤ tt })
+    (record { workers = 4; slots = 16; every = 9; few_workers = lit≤ tt; some_slot = lit≤ tt; few_slots = lit≤ tt })
 asks_serve_with_numbers program =
     let asks = given.asks_serve_with_numbers program in
     (asks.0, asks.1, asks.2, ap within_limits asks.3)
@@ -69,7 +70,7 @@ the_volume_is_there : HangsUp (λ now. now.made (0, 0) ≡ true)
 unfolding message_of kind_named number_in_word digits
 the_volume_is_there = record {
   now = state_after_lines small empty (makes ∷ []);
-  left = 0;
+  unanswered = 0;
   all = Some (codes "done\nsummary 1 0 0\n");
   written = (codes "done\nsummary 1 0 0\n", refl, (codes "done\nsum", codes "mary 1 0 0\n", refl, refl), refl);
   recovers = (
@@ -136,7 +137,7 @@ it_is_not_lost h =
     let w = h.written in
     let begins = begins_so h.all w.2.0 w.2.1 h.recovers.0 w.2.3 (subst (λ (b : List ℕ). Appends (Some []) h.all b) w.2.2 w.1) h.recovers.1 in
     let few = w.3 in
-    let closed = within_one h.left r.part r.unacknowledged (omega (arith, few)) r.closed in
+    let closed = within_one h.unanswered r.part r.unacknowledged (omega (arith, few)) r.closed in
     true≢false (sym (is_so makes_it true makes_one makes_both r.acknowledged r.unacknowledged r.part w.2.1 r.first closed (begins ∙ r.answers))
     ∙ ap (λ (x : State). x.made (0, 0)) (sym r.state ∙ h.goes_on))
 
@@ -156,7 +157,7 @@ asked_for_a_summary m summary = record {
   input = codes "summary\n";
   before = [];
   after = summary;
-  left = m;
+  at_return = m;
   crashed = m;
 }
 
@@ -168,7 +169,7 @@ two_servers m summary = record {
   input = codes "makevol 0 0\ncreate 0 0 0\n";
   before = [];
   after = codes "done\n";
-  left = m;
+  at_return = m;
   crashed = m;
 } ∷ asked_for_a_summary m summary ∷ []
 
@@ -190,7 +191,7 @@ the_file_is_found m =
         refl,
         record {
           opened = λ fault e. cc e;
-          left = 2;
+          unanswered = 2;
           written = (refl, refl);
           unacknowledged = creates ∷ [];
           first = refl;
@@ -204,7 +205,7 @@ the_file_is_found m =
           refl,
           record {
             opened = λ fault e. cc e;
-            left = 0;
+            unanswered = 0;
             written = (refl, refl);
             unacknowledged = [];
             first = refl;
@@ -298,7 +299,7 @@ killed_at m after = record {
   input = codes "makevol 0 0\nsummary\n";
   before = [];
   after = after;
-  left = m;
+  at_return = m;
   crashed = m;
 }
 
@@ -317,7 +318,7 @@ the_second_answer_is_torn m =
         refl,
         record {
           opened = λ fault e. cc e;
-          left = 0;
+          unanswered = 0;
           written = (codes "done\nsummary 1 0 0\n", refl, (codes "done\nsum", codes "mary 1 0 0\n", refl, refl), refl);
           unacknowledged = [];
           first = refl;
@@ -331,7 +332,7 @@ the_second_answer_is_torn m =
           refl,
           record {
             opened = λ fault e. cc e;
-            left = 0;
+            unanswered = 0;
             written = (refl, refl);
             unacknowledged = [];
             first = refl;
@@ -360,7 +361,7 @@ it_is_not_lost_by_a_kill m h =
     let told = each_part small empty first.0 first.1 parts.0 in
     let begins = ap (λ (o : List ℕ). o ++ w.2.1) w.2.3 ∙ sym (w.1 ∙ w.2.2) ∙ ap joined told.0 in
     let few = w.3 in
-    let closed = within_one ran.left (lines_in first.1) ran.unacknowledged (omega (arith, few)) ran.closed in
+    let closed = within_one ran.unanswered (lines_in first.1) ran.unacknowledged (omega (arith, few)) ran.closed in
     let found = state_after_lines small empty (lines_in (first.0 ++ first.1)) in
     let sums = summary_given m (codes "summary 0 0 0\n") found first.2 first.5 parts.1 in
     let were = map-append (λ (o : Operation). o.line) first.0 first.1 in
@@ -380,7 +381,7 @@ nothing_is_answered m =
         refl,
         record {
           opened = λ fault e. cc e;
-          left = 1;
+          unanswered = 1;
           written = ([], refl, ([], [], refl, refl), refl);
           unacknowledged = makes ∷ asks ∷ [];
           first = refl;
@@ -394,7 +395,7 @@ nothing_is_answered m =
           refl,
           record {
             opened = λ fault e. cc e;
-            left = 1;
+            unanswered = 1;
             written = ([], refl, ([], [], refl, refl), refl);
             unacknowledged = makes ∷ asks ∷ [];
             first = refl;

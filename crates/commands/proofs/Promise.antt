@@ -120,7 +120,7 @@ module _ {keeps : Type 0} (keep : keeps) (g : Geometry) (old new : Medium) {x : 
     run_so e safe recovers = ⊎_elim
         (λ (why : (fault : OpenFault) × (end ≡ Err (ends.Open fault))).
         let unwritten = (rw why.1 at e).2 in
-        so 0 streams.written (rw why.1 (refl, refl, unwritten))
+        so 0 streams.written (rw why.1 ((refl, refl), unwritten))
         (left_unopened streams.input streams.before streams.written ((rw why.1 at safe) keep) unwritten))
         (λ h. so h.0 h.1 h.2 (left_so streams.input streams.before h.1 (h.3 keep c leaves)))
         (opened_or _ end s.slots streams.before streams.written recovers)
@@ -154,7 +154,7 @@ module _ {keeps : Type 0} (s : ServeOptions) (old new : Medium) (end : Result (U
 -- What follows a run may be put in other words.
 pub then_so : {g : Geometry} {slots : ℕ} {start : State} {end : Result (Unit {0}) Fault} {input before after : Option (List ℕ)} {P Q : State → Type 0}
     → ((now : State) → P now → Q now) → HasRunFrom g slots start end input before after P → HasRunFrom g slots start end input before after Q
-then_so f h = record { now = h.now; left = h.left; all = h.all; written = h.written; recovers = h.recovers; all_answered = h.all_answered; goes_on = f h.now h.goes_on }
+then_so f h = record { now = h.now; unanswered = h.unanswered; all = h.all; written = h.written; recovers = h.recovers; all_answered = h.all_answered; goes_on = f h.now h.goes_on }
 
 -- ---- a service that was killed
 
@@ -163,7 +163,7 @@ left_written : (g : Geometry) (slots : ℕ) (x : State) (input before after : Op
     → HasRunFrom g slots x (Err ends.Write) input before after (λ now. recovered_state g c ≡ Some now)
 left_written g slots x input before after c w = record {
   now = w.3.now;
-  left = w.0;
+  unanswered = w.0;
   all = w.1;
   written = w.2;
   recovers = w.3.recovers;

@@ -11,7 +11,7 @@ abbrev Bounds : Numbers → Type 0
 Bounds n = (n.0 ≤ 64) × (1 ≤ n.1) × (n.1 ≤ 1024)
 
 abbrev made_of : (n : Numbers) → Bounds n → ServeOptions
-made_of n b = record { workers = n.0; slots = n.1; every = n.2; few = b.0; some = b.1; most = b.2 }
+made_of n b = record { workers = n.0; slots = n.1; every = n.2; few_workers = b.0; some_slot = b.1; few_slots = b.2 }
 
 same_bounds : (n : Numbers) (a b : Bounds n) → a ≡ b
 same_bounds n = hlevel (le_prop)
@@ -26,4 +26,4 @@ numbers_in _ = (0, 0, 0)
 
 pub service_same : (s t : ServeOptions) → options_in_order s ≡ options_in_order t → s ≡ t
 unfolding numbers_in
-service_same s t e = made_of-same (s.workers, s.slots, s.every) (t.workers, t.slots, t.every) (ap numbers_in e) (s.few, s.some, s.most) (t.few, t.some, t.most)
+service_same s t e = made_of-same (s.workers, s.slots, s.every) (t.workers, t.slots, t.every) (ap numbers_in e) (s.few_workers, s.some_slot, s.few_slots) (t.few_workers, t.some_slot, t.few_slots)

@@ -17,7 +17,7 @@ pub record HasOpened (keeps : Type 0) (slots : ℕ) (old : Medium) (core : CoreV
 -- A service on this device was killed when its output held `after`, and a crash left these bytes.
 pub data IsKilled (keeps : Type 0) (slots : ℕ) (old : Medium) (input before after : Option (List ℕ)) (bytes : List ℕ) : Type 0 where
   -- while it opened the device (`Core::open`, clause `any_moment`), before it wrote anything
-  WhileOpening : (new : Medium) → (opening : keeps → OpeningCrashImages old new) → (left : left_since new (moment_number old) bytes)
+  WhileOpening : (new : Medium) → (opening : keeps → OpeningCrashImages old new) → (crashed : left_since new (moment_number old) bytes)
       → (unwritten : after ≡ before) → IsKilled keeps slots old input before after bytes
   -- while it served, from the core that it had opened
   WhileServing : (s : Start) → (opened : HasOpened keeps slots old s.core) → (input_is : s.input ≡ input) → (before_is : s.before ≡ before)

@@ -8,29 +8,28 @@ use Rattle.disk.specs.Device.{IsCrashImage, IsSynced, Medium}
 use Rattle.meaning.specs.Output.{WritesOutput, serial_output}
 use Rattle.meaning.specs.State.{State}
 use Rattle.serving.specs.Ends.{Exchange}
-use Rattle.serving.specs.Restart.{RecoversTo, BytesRecover, WritesBeginning}
+use Rattle.serving.specs.Restart.{BytesRecover, DeviceFailed, IsMeant, NeitherFailed, OutputFailed, RecoversTo}
 use Rattle.commands.specs.Acknowledged.{HoldsAcknowledged}
 use Rattle.commands.specs.Serving.{CrashesSafely, EndsOnDevice, RecoveredTo}
 use Rattle.commands.specs.declared.faults.Fault.{Fault}
 use Rattle.commands.specs.declared.faults.Fault.TheVariants.{Write, Device, NoWorkers, OutOfMemory, Open}
 use Rattle.commands.specs.declared.serve_options.ServeOptions.{ServeOptions}
 
--- `all` is the output as the server meant it: what is there or, if a write failed, what would be there if that write had succeeded
--- (`WritesBeginning`). At most `left` lines that were read are not answered in `all`: if the device failed, as many as there are slots; if
--- neither failed, none. If no line was read, nothing was written.
+-- Where a service ended so, `all` is the output as the server meant it, and at most `unanswered` of the lines that were read are not
+-- answered in `all` (`IsMeant`). If no line was read, nothing was written.
 abbrev pub IsWritten : Result (Unit {0}) Fault → ℕ → ℕ → Option (List ℕ) → Option (List ℕ) → Option (List ℕ) → Type 0
-IsWritten (Err Write) slots left before after all = WritesBeginning slots left before after all
-IsWritten (Err Device) slots left before after all = (after ≡ all) × (left ≡ slots)
-IsWritten (Err NoWorkers) slots left before after all = (after ≡ all) × (left ≡ 0) × (after ≡ before)
-IsWritten (Err OutOfMemory) slots left before after all = (after ≡ all) × (left ≡ 0) × (after ≡ before)
-IsWritten (Err (Open fault)) slots left before after all = (after ≡ all) × (left ≡ 0) × (after ≡ before)
-IsWritten _ slots left before after all = (after ≡ all) × (left ≡ 0)
+IsWritten (Err Write) slots unanswered before after all = IsMeant OutputFailed slots unanswered before after all
+IsWritten (Err Device) slots unanswered before after all = IsMeant DeviceFailed slots unanswered before after all
+IsWritten (Err NoWorkers) slots unanswered before after all = IsMeant NeitherFailed slots unanswered before after all × (after ≡ before)
+IsWritten (Err OutOfMemory) slots unanswered before after all = IsMeant NeitherFailed slots unanswered before after all × (after ≡ before)
+IsWritten (Err (Open fault)) slots unanswered before after all = IsMeant NeitherFailed slots unanswered before after all × (after ≡ before)
+IsWritten _ slots unanswered before after all = IsMeant NeitherFailed slots unanswered before after all
 
--- P holds of all that was to be written and of how many lines may be unanswered in it, as `IsWritten` says. If the device could not be
--- opened, nothing was written.
+-- P holds of all that was to be written and of the number n of lines that may be unanswered in it, as `IsWritten` says. If the device
+-- could not be opened, nothing was written.
 abbrev pub HoldsOfAll : Result (Unit {0}) Fault → ℕ → Option (List ℕ) → Option (List ℕ) → (ℕ → Option (List ℕ) → Type 0) → Type 0
 HoldsOfAll (Err (Open fault)) slots before after P = after ≡ before
-HoldsOfAll end slots before after P = (left : ℕ) × (all : Option (List ℕ)) × IsWritten end slots left before after all × P left all
+HoldsOfAll end slots before after P = (n : ℕ) × (all : Option (List ℕ)) × IsWritten end slots n before after all × P n all
 
 -- A server ran from the state `start` on one input and came to this end, and a crash left another state, of which `next` is true. However
 -- it ended, what it wrote is the serial server's output for the first lines of its input. `next` says what happened afterwards. To speak of
@@ -39,10 +38,11 @@ pub record HasRunFrom (g : Geometry) (slots : ℕ) (start : State) (end : Result
     (input before after : Option (List ℕ)) (next : State → Type 0) : Type 0 where
   -- the state that the crash left
   pub now : State
-  pub left : ℕ
+  -- how many lines that were read may be unanswered in `all`, which is all that was to be written
+  pub unanswered : ℕ
   pub all : Option (List ℕ)
-  pub written : IsWritten end slots left before after all
-  pub recovers : WritesOutput input before all (RecoversTo g left start now)
+  pub written : IsWritten end slots unanswered before after all
+  pub recovers : WritesOutput input before all (RecoversTo g unanswered start now)
   -- if the server ended without a fault, all of its input was answered
   pub all_answered : OnOk end (WritesOutput input before after (λ bytes out. out ≡ serial_output g start bytes))
   pub goes_on : next now
@@ -90,8 +90,8 @@ pub record ServicePromise (keeps : Type 0) (s : ServeOptions) (old new : Medium)
     : Type 0 where
   pub ends : EndsOnDevice keeps s old new end x
   pub crash_safe : CrashesSafely keeps s old new end x
-  pub kept : HoldsOfAll end s.slots x.before x.written (λ left all. keeps → (c : List ℕ) → IsCrashImage new c
-      → HoldsAcknowledged left old x.input x.before all c)
-  pub recovers : HoldsOfAll end s.slots x.before x.written (λ left all. keeps → (c : List ℕ) → IsCrashImage new c
-      → HoldsRecovered left old x.input x.before all c)
+  pub kept : HoldsOfAll end s.slots x.before x.written (λ unanswered all. keeps → (c : List ℕ) → IsCrashImage new c
+      → HoldsAcknowledged unanswered old x.input x.before all c)
+  pub recovers : HoldsOfAll end s.slots x.before x.written (λ unanswered all. keeps → (c : List ℕ) → IsCrashImage new c
+      → HoldsRecovered unanswered old x.input x.before all c)
   pub goes_on : keeps → (g : Geometry) → LeavesRun g (recovered_state g) s.slots old new end x.input x.before x.written

@@ -21,22 +21,22 @@ abbrev pub promised_end : RunEnd → Result (Unit {0}) Fault
 promised_end (Returned end) = end
 promised_end Killed = Err Write
 
--- How a server ended, its input, and what its output held before and after; and its device, as it left it if it returned, and as a crash
--- left it then.
+-- How a server ended, its input, and what its output held before and after; and its device, as it was when the server returned (if it
+-- did), and as a crash then left it.
 pub record CrashedRun : Type 0 where
   pub slots : ℕ
   pub end : RunEnd
   pub input : List ℕ
   pub before : List ℕ
   pub after : List ℕ
-  pub left : Medium
+  pub at_return : Medium
   pub crashed : Medium
 
 -- What is promised of a run on this device. If it returned, the crash came then; if it was killed, at that moment.
 abbrev pub IsRunOn : Geometry → (List ℕ → Option State) → Medium → CrashedRun → RunEnd → Type 0
 IsRunOn g recover device run (Returned end) =
-    LeavesRun g recover run.slots device run.left end (Some run.input) (Some run.before) (Some run.after)
-    × IsCrashImage run.left run.crashed.now
+    LeavesRun g recover run.slots device run.at_return end (Some run.input) (Some run.before) (Some run.after)
+    × IsCrashImage run.at_return run.crashed.now
 IsRunOn g recover device run Killed =
     LeavesKilled g recover run.slots device (Some run.input) (Some run.before) (Some run.after) run.crashed.now
 
@@ -60,17 +60,17 @@ abbrev pub answers_in : List Operation → List (List ℕ)
 answers_in operations = map (λ o. o.answer) operations
 
 -- The operations of one run. It acknowledged the first lines of its input, if it returned without a fault all of them: their answers are
--- what it wrote or, where it was killed or a write failed, was to write. Of the `left` lines after them the crash left a part, whose
--- answers did not come out.
+-- what it wrote or, where it was killed or a write failed, was to write. Of the `unanswered` lines after them the crash left a part,
+-- whose answers did not come out.
 pub record AreOperationsOf (g : Geometry) (run : CrashedRun) (acknowledged part : List Operation) : Type 0 where
   pub opened : OpensUnlessFailed (promised_end run.end)
-  pub left : ℕ
-  pub written : IsWritten (promised_end run.end) run.slots left (Some run.before) (Some run.after)
+  pub unanswered : ℕ
+  pub written : IsWritten (promised_end run.end) run.slots unanswered (Some run.before) (Some run.after)
       (Some (run.before ++ joined (answers_in acknowledged)))
   pub unacknowledged : List (List ℕ)
   pub first : lines run.input ≡ lines_in acknowledged ++ unacknowledged
   pub all_answered : OnOk (promised_end run.end) (unacknowledged ≡ [])
-  pub closed : IsClosedPart g (lines_in part) (take left unacknowledged)
+  pub closed : IsClosedPart g (lines_in part) (take unanswered unacknowledged)
 
 -- The operations of all runs, in the order in which their lines were read. So if an answer came out before another line was read, its
 -- operation comes first; and one whose answer did not come out took effect before the crash or never.

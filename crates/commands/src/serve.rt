@@ -80,11 +80,11 @@ pub fn serve_on<T: Threads + Wait + Sync, R: Read, W: Write, D: Disk + Drop>(
     // Whatever a crash leaves at the end holds what was sent, and recovers to a state with it; where a write failed, all that was to be
     // sent by that, too.
     ensures kept { HoldsOfAll result.1 service.slots (W.contents w.old) (W.contents w.new)
-        (λ left all. D.keeps → (c : List ℕ) → IsCrashImage (D.medium result.0) c
-        → HoldsAcknowledged left (D.medium disk) (R.remaining r.old) (W.contents w.old) all c) }
+        (λ unanswered all. D.keeps → (c : List ℕ) → IsCrashImage (D.medium result.0) c
+        → HoldsAcknowledged unanswered (D.medium disk) (R.remaining r.old) (W.contents w.old) all c) }
     ensures recovers { HoldsOfAll result.1 service.slots (W.contents w.old) (W.contents w.new)
-        (λ left all. D.keeps → (c : List ℕ) → IsCrashImage (D.medium result.0) c
-        → HoldsRecovered left (D.medium disk) (R.remaining r.old) (W.contents w.old) all c) }
+        (λ unanswered all. D.keeps → (c : List ℕ) → IsCrashImage (D.medium result.0) c
+        → HoldsRecovered unanswered (D.medium disk) (R.remaining r.old) (W.contents w.old) all c) }
     ensures goes_on { D.keeps → (g : Geometry) → LeavesRun g (recovered_state g) service.slots (D.medium disk) (D.medium result.0) result.1
         (R.remaining r.old) (W.contents w.old) (W.contents w.new) }
 {

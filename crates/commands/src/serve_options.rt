@@ -10,15 +10,15 @@ pub struct ServeOptions {
     /// Threads that run messages, 0 to 64. With none of them nothing is served.
     pub workers: u16,
 
-    /// How many lines may be outstanding: read, and the reply not sent. 1 to 1024.
+    /// How many lines may be outstanding: read, and the answer not sent. 1 to 1024.
     pub slots: u16,
 
     /// How many records are logged before a checkpoint is made. With 0 a checkpoint is made only where the log has no room, and at the end
     /// of the input.
     pub every: u16,
-    pub ghost few: { workers ≤ MOST_WORKERS },
-    pub ghost some: { 1 ≤ slots },
-    pub ghost most: { slots ≤ MOST_SLOTS },
+    pub ghost few_workers: { workers ≤ MOST_WORKERS },
+    pub ghost some_slot: { 1 ≤ slots },
+    pub ghost few_slots: { slots ≤ MOST_SLOTS },
 }
 
 impl ServeOptions {

@@ -43,7 +43,7 @@ module _ {s : Start} {sent_at : Medium} {sent : Option (List ℕ)} {consumed : L
     at_send = ap (device_after s.core.medium) (same_first more) ∙ k.at_send;
     answers = k.answers;
     logged = rw (same_events more) (still_in_history s.core.geometry _ s.core.next consumed lines k.answers k.logged);
-    left = k.left;
+    unanswered = k.unanswered;
     all = k.all;
     all_is = k.all_is;
     begun = k.begun;
@@ -64,7 +64,7 @@ keeps_first s = record {
   at_send = refl;
   answers = [];
   logged = tt;
-  left = s.core.slots;
+  unanswered = s.core.slots;
   all = s.before;
   all_is = Appends-nil s.before;
   begun = ([], Appends-nil s.before, ([], [], refl, Appends-nil s.before), omega arith);
@@ -86,7 +86,7 @@ module _ {keeps : Type 0} {s : Start} {now : MachineView} {consumed : List (List
         at_send = ap (device_after s.core.medium) (take_all n events (omega arith)) ∙ h.segment.leads.device;
         answers = map answer_text answered;
         logged = rw (take_all n (events_of events) (omega (arith, length-map events (λ (e : DeviceEvent). e.event)))) (serving_kept idle h);
-        left = left;
+        unanswered = left;
         all = all;
         all_is = is;
         begun = begun;
@@ -107,7 +107,7 @@ module _ {keeps : Type 0} {s : Start} {now : MachineView} {unsent : List Line} {
       let run = (has_served keeps (start_machine s) now idle no_doubt recovers few h.progress).run in
       let held = holds_logged idle none run kept k.number c k.within (rw k.at_send since) in
       let all = as_many s.core.geometry h.progress.serving.reply_pairs s.core.next h.progress.consumed (h.progress.sent_lines ++ unsent) h.progress.serving.known in (
-        k.left,
+        k.unanswered,
         k.all,
         k.begun,
         bytes_recover s.core.next h.progress.consumed k.answers run.first k.all_is

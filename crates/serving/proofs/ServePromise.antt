@@ -13,8 +13,8 @@ use Rattle.serving.specs.Progress.{ServingProgress}
 use Rattle.serving.specs.Lines.{Line}
 use Rattle.reorder_buffer.specs.ReorderBuffer.{can_retire}
 use Rattle.serving.specs.Runs.{machine_with_jobs}
-use Rattle.serving.specs.Restart.{WritesBeginning}
-use Rattle.serving.specs.Serve.{AreUnsent, HasRunWith, IsWrittenAtEnd}
+use Rattle.serving.specs.Restart.{IsMeant, WritesBeginning}
+use Rattle.serving.specs.Serve.{AreUnsent, HasRunWith, failed_at}
 use Rattle.serving.specs.declared.server.ServeFault.{ServeFault}
 use Rattle.serving.specs.declared.server.ServeFault.TheVariants as faults
 use Rattle.serving.proofs.AreServed.{has_served}
@@ -32,10 +32,10 @@ all_taken (Some input) (Some bs) ended consumed t at_end =
 
 -- where each line that was consumed is answered, and all was written that was to be
 all_answered : {keeps : Type 0} {start : MachineView} {new : CoreView} {input before written : Option (List ℕ)} {end : Result (Unit {0}) ServeFault}
-    → (served : HasServed keeps start new [] input before written) → IsWrittenAtEnd end start.core.slots 0 before written written
+    → (served : HasServed keeps start new [] input before written) → IsMeant (failed_at end) start.core.slots 0 before written written
     → AreUnsent end input served.consumed [] → HasRunWith keeps start new input before written end
 all_answered {written} served is none =
-    record { unsent = []; left = 0; all = written; written_is = is; served = served; few = omega arith; are_unsent = none }
+    record { unsent = []; unanswered = 0; all = written; meant = is; served = served; few = omega arith; are_unsent = none }
 
 -- given what `know_recovery` ensures of the core at the end
 module _ {keeps : Type 0} {start now : MachineView} (idle : IsIdle (core_state_of start.core)) {input unread : Option (List ℕ)} {ended : Bool}
@@ -58,9 +58,9 @@ module _ {keeps : Type 0} {start now : MachineView} (idle : IsIdle (core_state_o
       → length unsent ≤ start.core.slots → HasRunWith keeps start now.core input before written (Err faults.Device)
   runs_to_device {unsent} h last few = record {
     unsent = unsent;
-    left = start.core.slots;
+    unanswered = start.core.slots;
     all = _;
-    written_is = (refl, refl);
+    meant = (refl, refl);
     served = has_served keeps start now idle no_doubt recovers few h;
     few = few;
     are_unsent = last;
@@ -71,9 +71,9 @@ module _ {keeps : Type 0} {start now : MachineView} (idle : IsIdle (core_state_o
       → WritesBeginning start.core.slots left before torn written → length unsent ≤ left → HasRunWith keeps start now.core input before torn (Err faults.Write)
   runs_to_write {unsent} {left} h is few = record {
     unsent = unsent;
-    left = left;
+    unanswered = left;
     all = written;
-    written_is = is;
+    meant = is;
     served = has_served keeps start now idle no_doubt recovers (let within = is.3 in omega (arith, few, within)) h;
     few = few;
     are_unsent = tt;

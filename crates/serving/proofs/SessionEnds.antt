@@ -182,7 +182,7 @@ empties_for read_end P emptied = tt
 pub ends_finished : (keeps : Type 0) (p : SessionView) (read_end : ReadEnd) → HasFinished keeps p read_end
     → EndsBy p (end_of read_end) × OnOk (end_of read_end) (keeps → records_in p.core.geometry p.core.medium.now ≡ [])
 ends_finished keeps p read_end f =
-    (ended_for p f.served read_end f.possible f.is, empties_for read_end (keeps → records_in p.core.geometry p.core.medium.now ≡ []) f.emptied)
+    (ended_for p f.served read_end f.possible f.read_end_is, empties_for read_end (keeps → records_in p.core.geometry p.core.medium.now ≡ []) f.emptied)
 
 -- Where reading ended by a failure of the device, the device has failed.
 pub ended_by_device : (keeps : Type 0) (o : Option Start) (p : SessionView) → SessionInvariantFrom keeps o p → p.read_end ≡ Some ends_of_reading.DeviceFailed → p.core.failed ≡ true
@@ -247,7 +247,7 @@ pub first_at : (keeps : Type 0) {o : Option Start} {p : SessionView} {places : �
     → IsUnused places input p → SessionInvariantFrom keeps o p
 first_at keeps {o} {p} {places} {input} r unused =
     let s : Start = record { core = p.core; places = places; input = input; before = p.sent } in
-    begins_at keeps o s p r.is (record {
+    begins_at keeps o s p r.start_is (record {
       start = record { idle = r.idle; none_in_doubt = r.none_in_doubt };
       fits = r.fits;
       holds = holds_first p.core p.dispatch_seat.lent places unused.none_lent r.idle;

@@ -23,7 +23,7 @@ IsKillSafe keeps start sent sent_at now = IsSomeAnd start (λ s. IsKillSafeFrom 
 pub data WasKilled (keeps : Type 0) (s : Start) (written : Option (List ℕ)) (bytes : List ℕ) : Type 0 where
   -- in a `send`, which may have sent a beginning of its lines: it has its condition `may`
   Sending : (sent : Option (List ℕ)) → (now : CoreView) → (lines : List ℕ) → (may : MaySendFrom keeps s sent now lines)
-      → (begun : AppendsBeginning sent written lines) → (left : IsCrashImage now.medium bytes) → WasKilled keeps s written bytes
+      → (begun : AppendsBeginning sent written lines) → (crashed : IsCrashImage now.medium bytes) → WasKilled keeps s written bytes
   -- at any other moment, since the last `send` began or since the start: the next call that may wait, or the return, has its clause `safe`
   Between : (sent_at : Medium) → (now : CoreView) → (safe : IsKillSafeFrom keeps s written sent_at now)
-      → (left : left_since now.medium (moment_number sent_at) bytes) → WasKilled keeps s written bytes
+      → (crashed : left_since now.medium (moment_number sent_at) bytes) → WasKilled keeps s written bytes

@@ -24,11 +24,25 @@ IsClosedPart g part [] = part ≡ []
 IsClosedPart g part (line ∷ ls) = ((rest : List (List ℕ)) × (part ≡ line ∷ rest) × IsClosedPart g rest ls)
     ⊎ (AllByRecursion (λ other. are_related_lines g (message_of line) (message_of other) ≡ false) part × IsClosedPart g part ls)
 
--- A write failed: the output holds a beginning of what was to be written. `all` is what it would hold with all of that. Each line that ends
--- behind the beginning has one of the slots, and so many others are left.
+-- A write failed: the output holds a beginning of what was to be written. `all` is what it would hold with all of that. Each line of it
+-- that ends behind the beginning has one of the slots; so many other lines may be unanswered as there are other slots.
 abbrev pub WritesBeginning : ℕ → ℕ → Option (List ℕ) → Option (List ℕ) → Option (List ℕ) → Type 0
-WritesBeginning slots left before after all = (bytes : List ℕ) × Appends before all bytes × (b : AppendsBeginning before after bytes)
-    × (count_by (λ c. c == 10) b.1 + left ≡ slots)
+WritesBeginning slots unanswered before after all = (bytes : List ℕ) × Appends before all bytes × (b : AppendsBeginning before after bytes)
+    × (count_by (λ c. c == 10) b.1 + unanswered ≡ slots)
+
+-- what has failed where a server has ended: its output; its device alone; or neither of them
+pub data Failed : Type 0 where
+  OutputFailed : Failed
+  DeviceFailed : Failed
+  NeitherFailed : Failed
+
+-- `all` is the output as the server meant it: what is there or, if a write failed, what would be there if that write had succeeded
+-- (`WritesBeginning`). At most `unanswered` lines that were read are not answered in `all`: if the device failed, as many as there are
+-- slots; if neither failed, none.
+abbrev pub IsMeant : Failed → ℕ → ℕ → Option (List ℕ) → Option (List ℕ) → Option (List ℕ) → Type 0
+IsMeant OutputFailed slots unanswered before after all = WritesBeginning slots unanswered before after all
+IsMeant DeviceFailed slots unanswered before after all = (after ≡ all) × (unanswered ≡ slots)
+IsMeant NeitherFailed slots unanswered before after all = (after ≡ all) × (unanswered ≡ 0)
 
 -- The first lines of the input were acknowledged, each by the serial server's answer. The state is the one after these lines and then a
 -- part (`IsClosedPart`) of the lines after them: of no more than there are slots, as no later line was read.
@@ -49,8 +63,8 @@ pub record BytesRecover (g : Geometry) (slots : ℕ) (start : State) (input befo
   pub recovers : WritesOutput input before after (RecoversTo g slots start now)
 
 -- The output holds a beginning of what was to be written, which may be all of it (`WritesBeginning`): with all of that it would be `all`.
--- The bytes recover to the state after the lines answered in `all` and a part of the next `left` ones: so at most as many lines as there
--- are slots are in that state without their whole answer in the output.
+-- The bytes recover to the state after the lines answered in `all` and a part of the next `unanswered` ones: so at most as many lines as
+-- there are slots are in that state without their whole answer in the output.
 abbrev pub RecoversWritten : Geometry → ℕ → State → Option (List ℕ) → Option (List ℕ) → Option (List ℕ) → List ℕ → Type 0
-RecoversWritten g slots start input before after bytes = (left : ℕ) × (all : Option (List ℕ)) × WritesBeginning slots left before after all
-    × BytesRecover g left start input before all bytes
+RecoversWritten g slots start input before after bytes = (unanswered : ℕ) × (all : Option (List ℕ))
+    × WritesBeginning slots unanswered before after all × BytesRecover g unanswered start input before all bytes

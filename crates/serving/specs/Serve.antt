@@ -6,38 +6,36 @@ use Rattle.oplog.specs.Recovery.{records_in}
 use Rattle.scheduler.specs.CoreView.{CoreView}
 use Rattle.serving.specs.Ends.{EndsWith, Exchange, HasServed}
 use Rattle.serving.specs.Lines.{Line}
-use Rattle.serving.specs.Restart.{WritesBeginning}
+use Rattle.serving.specs.Restart.{DeviceFailed, Failed, IsMeant, NeitherFailed, OutputFailed}
 use Rattle.serving.specs.Runs.{machine_with_jobs}
 use Rattle.reorder_buffer.specs.ReorderBuffer.{can_retire}
 use Rattle.serving.specs.declared.server.ServeError.{ServeError}
 use Rattle.serving.specs.declared.server.ServeFault.{ServeFault}
 use Rattle.serving.specs.declared.server.ServeFault.TheVariants as faults
 
--- `all` is the output as the server meant it: what is there or, if the output failed, what would be there if that write had succeeded
--- (`WritesBeginning`). At most `left` lines that were read have no reply in `all`: if the device failed, as many as there are slots; if
--- nothing failed, none.
-abbrev pub IsWrittenAtEnd : Result (Unit {0}) ServeFault → ℕ → ℕ → Option (List ℕ) → Option (List ℕ) → Option (List ℕ) → Type 0
-IsWrittenAtEnd (Err faults.Write) slots left before written all = WritesBeginning slots left before written all
-IsWrittenAtEnd (Err faults.Device) slots left before written all = (written ≡ all) × (left ≡ slots)
-IsWrittenAtEnd _ slots left before written all = (written ≡ all) × (left ≡ 0)
+-- what has failed at this end
+abbrev pub failed_at : Result (Unit {0}) ServeFault → Failed
+failed_at (Err faults.Write) = OutputFailed
+failed_at (Err faults.Device) = DeviceFailed
+failed_at _ = NeitherFailed
 
--- Which of the lines that were consumed have no reply in the output. At `Ok` none, and they are all of the input. Where the device failed,
--- those from the first line without a reply on. Where the output failed, it is left open which. At any other end none.
+-- Which of the lines that were consumed have no answer in the output. At `Ok` none, and they are all of the input. Where the device failed,
+-- those from the first line without an answer on. Where the output failed, this doesn't say which. At any other end none.
 abbrev pub AreUnsent : Result (Unit {0}) ServeFault → Option (List ℕ) → List (List ℕ) → List Line → Type 0
 AreUnsent (Ok _) input consumed unsent = (unsent ≡ []) × IfSome input (λ bytes. lines bytes ≡ consumed)
 AreUnsent (Err faults.Device) input consumed unsent = can_retire unsent ≡ false
 AreUnsent (Err faults.Write) input consumed unsent = Unit {0}
 AreUnsent (Err _) input consumed unsent = unsent ≡ []
 
--- A run led to what was written (`IsWrittenAtEnd`), and to no more unanswered lines than that allows.
+-- A run led to what was to be written (`IsMeant`), and to no more unanswered lines than that allows.
 pub record HasRunWith (keeps : Type 0) (start : MachineView) (new : CoreView) (input before written : Option (List ℕ))
     (end : Result (Unit {0}) ServeFault) : Type 0 where
   pub unsent : List Line
-  pub left : ℕ
+  pub unanswered : ℕ
   pub all : Option (List ℕ)
-  pub written_is : IsWrittenAtEnd end start.core.slots left before written all
+  pub meant : IsMeant (failed_at end) start.core.slots unanswered before written all
   pub served : HasServed keeps start new unsent input before all
-  pub few : length unsent ≤ left
+  pub few : length unsent ≤ unanswered
   pub are_unsent : AreUnsent end input served.consumed unsent
 
 -- The call ends with `NoWorkers` exactly where there are no workers.

@@ -101,8 +101,8 @@ pub record Waits (reply_buffer : List ℕ) (outstanding : ℕ) (reorder_buffer :
   pub bounded : outstanding ≤ reorder_buffer.slots
 
 -- What was sent was on the device when the last send began, at `sent_at`: after this number of events of the run. Each line whose answer
--- was sent by then, or begun to be sent, needs no record or was logged (`answers`). `left` is how many of the slots are free of those whose
--- answer wasn't sent whole.
+-- was sent by then, or begun to be sent, needs no record or was logged (`answers`). `unanswered` is how many lines may be unanswered in
+-- `all`: as many as there are slots without the lines whose answer is there and wasn't sent whole (`WritesBeginning`).
 pub record KeepsSent (s : Start) (sent_at : Medium) (sent : Option (List ℕ)) (consumed : List (List ℕ)) (sent_lines : List Line)
     (device_events : List DeviceEvent) : Type 0 where
   pub number : ℕ
@@ -111,11 +111,11 @@ pub record KeepsSent (s : Start) (sent_at : Medium) (sent : Option (List ℕ)) (
   pub answers : List (List ℕ)
   pub logged : AreInHistory s.core.geometry (logged_messages (machine_of (start_machine s)) (take number (events_of device_events)))
       s.core.next consumed answers
-  pub left : ℕ
+  pub unanswered : ℕ
   pub all : Option (List ℕ)
   pub all_is : Appends s.before all (joined answers)
-  pub begun : WritesBeginning s.core.slots left s.before sent all
-  pub few : length sent_lines + s.core.slots ≤ length answers + left
+  pub begun : WritesBeginning s.core.slots unanswered s.before sent all
+  pub few : length sent_lines + s.core.slots ≤ length answers + unanswered
 
 -- How far the server has come (`ServingProgress`), in a run in which what was sent is kept.
 pub record ServingSince (keeps : Type 0) (s : Start) (now : MachineView) (unsent : List Line) (unread : Option (List ℕ)) (drained : Bool)
@@ -169,7 +169,7 @@ SessionInvariantFrom keeps start p = IsSomeAnd start (λ s. SessionInvariant kee
 -- empty and has room for no more lines than the core has slots. `sent_at`: the device is as the sink has it.
 pub record CanBegin (start : Option Start) (core : CoreView) (places : ℕ) (input sent : Option (List ℕ)) (sent_at : Medium)
     (reorder_buffer : ReorderBufferView) : Type 0 where
-  pub is : start ≡ Some (record { core = core; places = places; input = input; before = sent })
+  pub start_is : start ≡ Some (record { core = core; places = places; input = input; before = sent })
   pub at_start : sent_at ≡ core.medium
   pub idle : IsIdle (core_state_of core)
   pub works : core.failed ≡ false
@@ -236,7 +236,8 @@ pub data HasGoneOn (old new : SessionView) : Type 0 where
   TookStep : (less : steps_ahead new < steps_ahead old) → HasGoneOn old new
   -- the checkpoint in progress took a step, or one has begun
   MovedCheckpoint : (step : CheckpointStep old new) → HasGoneOn old new
-  -- a job is in flight, and it has waited for a worker: all answers are sent that waited, and no line could be read
+  -- a job is in flight. The answers that waited are sent, and no line can be read. (It waited for a worker to deliver a result, which no
+  -- clause says.)
   Waited : (in_flight : NoneInFlight new.dispatch_seat.lent → ⊥) → (flushed : new.reply_buffer ≡ []) → (none : CanReadLine new → ⊥)
       → HasGoneOn old new
   -- a line is buffered, and can be read
@@ -296,7 +297,7 @@ pub record IsServed (p : SessionView) : Type 0 where
 -- Each line that was read is answered in the output, and no more was read, for this reason. At the end of the input no record of the log
 -- is in force.
 pub record HasFinished (keeps : Type 0) (p : SessionView) (read_end : ReadEnd) : Type 0 where
-  pub is : p.read_end ≡ Some read_end
+  pub read_end_is : p.read_end ≡ Some read_end
   pub served : IsServed p
   pub possible : read_end ≢ ends_of_reading.DeviceFailed
   pub emptied : read_end ≡ ends_of_reading.EndOfInput → keeps → records_in p.core.geometry p.core.medium.now ≡ []

@@ -48,7 +48,7 @@ returns g c =
     let ends = ends_or_declines now (g.D.Disk.keeps → records_in now.core.geometry now.core.medium.now ≡ []) safe _ c.with_workers-ended.result gives.gives _ gives.not_begun end refl in
     let all = subst (λ (b : Option (List ℕ)). PromisesAll g.D.Disk.keeps (start_machine s) last.core (exchange s.input b s.before (g.L.ReplySink.sent last.sink)) end)
     (sym (ap (λ (l : _). g.R.Read.remaining l.reader.now) c.into_inner-reader.ensures))
-    (promises_from (begun c.requires.can_begin.is c.session.invariant.run) c.session.view_is
+    (promises_from (begun c.requires.can_begin.start_is c.session.invariant.run) c.session.view_is
     (record { core = refl; input = ap (λ (l : _). g.R.Read.remaining l.reader.now) c.new.ensures.source; before = refl }) end ends) in
     record {
       same = c.into_inner-reader.result.same ∙ sym c.requires.reader;
