@@ -24,7 +24,7 @@ use Rattle.checkpoint.specs.Extents.{AgreeOnClean, image_in, extent_of}
 use Rattle.checkpoint.proofs.Cutting.{named_below}
 use Rattle.checkpoint.proofs.Forced.{forced_more, used_most}
 use Rattle.checkpoint.proofs.Recovering.{holds_by, holds_now}
-use Rattle.checkpoint.specs.Fields.{IsJournal, journal_view}
+use Rattle.checkpoint.specs.View.{IsJournal, journal_view}
 use Rattle.checkpoint.specs.Buffers.{FitBuffers, KeepsBuffers}
 use Rattle.checkpoint.specs.declared.journal.Buffers.{Buffers}
 use Rattle.checkpoint.specs.declared.journal.Journal.TheInside.{Inside}

@@ -12,7 +12,7 @@ use Rattle.image.specs.Pieces.{joined_below, piece_count, piece_of, piece_size}
 use Rattle.image.proofs.Cuts.{piece_again}
 use Rattle.image.proofs.Measures.{state_is_measured}
 use Rattle.image.proofs.Reading.{read_again}
-use Rattle.checkpoint.specs.Fields.{IsJournal, journal_view}
+use Rattle.checkpoint.specs.View.{IsJournal, journal_view}
 use Rattle.checkpoint.specs.Journal.{JournalView, committed}
 use Rattle.checkpoint.specs.Keeping.{IsUpToDate, FitsCutState, IsSoundJournal}
 use Rattle.checkpoint.specs.declared.journal.Journal.TheInside.{Inside}

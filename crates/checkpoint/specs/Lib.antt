@@ -5,7 +5,7 @@ pub mod Extents
 pub mod Steps
 pub mod Keeping
 pub mod Buffers
-pub mod Fields
+pub mod View
 pub mod Opening
 pub mod Parts
 pub mod Images

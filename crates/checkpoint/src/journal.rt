@@ -67,7 +67,7 @@ impl<D: Disk> Model for Journal<D> {
 
     ghost Value = { JournalView };
 
-    ghost use Rattle.checkpoint.specs.Fields.{IsJournal, journal_view};
+    ghost use Rattle.checkpoint.specs.View.{IsJournal, journal_view};
 
     ghost view = { journal_view D.medium };
 

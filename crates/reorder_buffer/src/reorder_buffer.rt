@@ -63,7 +63,7 @@ impl Model for ReorderBuffer {
 
     ghost Value = { ReorderBufferView };
 
-    ghost use Rattle.reorder_buffer.specs.Fields.{buffer_view, IsReorderBuffer};
+    ghost use Rattle.reorder_buffer.specs.View.{buffer_view, IsReorderBuffer};
 
     ghost view = { buffer_view };
 

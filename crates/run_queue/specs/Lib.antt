@@ -5,5 +5,5 @@ pub mod Order
 pub mod Queues
 pub mod RelatedNumbers
 pub mod ReadyTable
-pub mod Fields
+pub mod View
 pub mod Invariant

@@ -35,7 +35,7 @@ impl Model for ReadyTable {
 
     ghost Value = { List (Option QueuedMessage) };
 
-    ghost use Rattle.run_queue.specs.Fields.{IsReadyTable};
+    ghost use Rattle.run_queue.specs.View.{IsReadyTable};
 
     ghost view = { λ t. t.ready.items };
 

@@ -18,7 +18,7 @@ use Rattle.scheduler.proofs.Choosing.{any_map}
 use Rattle.scheduler.proofs.Counting.{messages_counted}
 use Rattle.scheduler.proofs.Chains.{JoinedSlot, slot_joined}
 use Rattle.scheduler.specs.declared.server_core.Core.TheInside.{Inside}
-use Rattle.scheduler.specs.Fields.{IsSoundCore, parts}
+use Rattle.scheduler.specs.View.{IsSoundCore, parts}
 use Rattle.scheduler.specs.Parts.{IsCore, IsPlaced, Parts, entry_of, queued_of, core_state_in}
 use Rattle.scheduler.specs.Slots.{SlotView, slots_on}
 use Rattle.scheduler.specs.declared.slot.Slot.{Slot}

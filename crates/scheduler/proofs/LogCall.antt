@@ -31,7 +31,7 @@ use Rattle.scheduler.proofs.Logging.{batch_at, batch_carried, batch_fits, batch_
 use Rattle.scheduler.specs.CoreView.{core_state_of, CoreView, RecoversThroughout}
 use Rattle.scheduler.specs.Moving.{HasLogged, changing_in, recorded_in}
 use Rattle.scheduler.specs.declared.server_core.Core.TheInside.{Inside}
-use Rattle.scheduler.specs.Fields.{IsSoundCore, parts}
+use Rattle.scheduler.specs.View.{IsSoundCore, parts}
 use Rattle.scheduler.specs.Parts.{IsCore, Parts, core_view_of, replied_of, core_state_in}
 use Rattle.scheduler.specs.Slots.{SlotView, slots_on, no_slot, slot_view_at}
 use Rattle.scheduler.specs.declared.slot.Slot.{Slot}

@@ -12,7 +12,7 @@ use Rattle.parcel.specs.Holding.{TreeHolds, nowhere}
 use Rattle.parcel.specs.Nodes.{tree_state}
 use Rattle.parcel.specs.Tree.{IsIn, IsWholeTree, tree_nodes, state_in}
 use Rattle.meaning.specs.State.{IsState}
-use Rattle.scheduler.specs.Fields.{IsSoundCore}
+use Rattle.scheduler.specs.View.{IsSoundCore}
 use Rattle.scheduler.specs.Parts.{IsCore, Parts, is_below, core_state_in}
 use Rattle.scheduler.specs.declared.server_core.Core.TheInside.{Inside}
 use Rattle.scheduler.specs.Slots.{phases_of, slots_on}

@@ -26,7 +26,7 @@ use Rattle.scheduler.proofs.Called.{cut_called, point_called}
 use Rattle.scheduler.proofs.Counting.{held_count}
 use Rattle.scheduler.proofs.Journaling.{called_sound, step_core, step_throughout, with_journal}
 use Rattle.scheduler.specs.CoreView.{CoreView, RecoversThroughout, core_state_of}
-use Rattle.scheduler.specs.Fields.{IsSoundCore, parts}
+use Rattle.scheduler.specs.View.{IsSoundCore, parts}
 use Rattle.scheduler.specs.declared.server_core.Core.TheInside.{Inside}
 use Rattle.scheduler.specs.Parts.{IsCore, Parts, entry_of, is_below, core_view_of, reached, core_state_in}
 

@@ -37,7 +37,7 @@ use Rattle.affinity.proofs.Elements.{all_weaker, any_moved}
 use Rattle.std.proofs.lemmas.List.{map-append}
 use Rattle.scheduler.specs.Jobs.{IsResultOf}
 use Rattle.scheduler.specs.declared.server_core.Core.TheInside.{Inside}
-use Rattle.scheduler.specs.Fields.{IsSoundCore, parts}
+use Rattle.scheduler.specs.View.{IsSoundCore, parts}
 use Rattle.scheduler.specs.Parts.{IsCore, IsPlaced, Parts, entry_of, queued_of, core_state_in}
 use Rattle.scheduler.specs.Slots.{SlotView, slots_on, slot_view_at}
 use Rattle.scheduler.specs.declared.slot.Slot.{Slot}

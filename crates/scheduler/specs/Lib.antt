@@ -6,7 +6,7 @@ pub mod Calls
 pub mod Opening
 pub mod Slots
 pub mod Parts
-pub mod Fields
+pub mod View
 pub mod Moving
 pub mod History
 pub mod Machine

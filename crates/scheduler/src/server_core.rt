@@ -79,7 +79,7 @@ impl<D: Disk> Model for Core<D> {
 
     ghost Value = { CoreView };
 
-    ghost use Rattle.scheduler.specs.Fields.{IsSoundCore, core_view};
+    ghost use Rattle.scheduler.specs.View.{IsSoundCore, core_view};
 
     ghost view = { core_view };
 

@@ -11,6 +11,6 @@ pub mod Ends
 pub mod Serve
 pub mod Output
 pub mod Session
-pub mod Fields
+pub mod View
 pub mod Restart
 pub mod Kill

@@ -96,7 +96,7 @@ impl<'c, R: Read, D: Disk, L: ReplySink<D>> Model for Session<'c, R, D, L> {
 
     ghost Value = { SessionView };
 
-    ghost use Rattle.serving.specs.Fields.{IsSession, session_view};
+    ghost use Rattle.serving.specs.View.{IsSession, session_view};
 
     ghost view = { session_view R.remaining L.sent L.sent_at };
 

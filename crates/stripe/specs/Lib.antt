@@ -1,5 +1,5 @@
 -- Definitions of a stripe: its blocks, how they are kept, and their entries as bytes.
 pub mod Stripe
 pub mod Index
-pub mod Fields
+pub mod View
 pub mod Entries

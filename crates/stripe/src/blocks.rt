@@ -30,7 +30,7 @@ impl Model for StripeParcel {
 
     ghost Value = { StripePart };
 
-    ghost use Rattle.stripe.specs.Fields.{stripe_part, IsStripe};
+    ghost use Rattle.stripe.specs.View.{stripe_part, IsStripe};
 
     ghost view = { stripe_part };
 

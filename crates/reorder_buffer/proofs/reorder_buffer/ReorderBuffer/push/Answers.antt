@@ -4,7 +4,7 @@ use Rattle.std.proofs.Common.{◌≡◌, ◌<◌, ◌≤◌, ◌++◌, ◌∷◌
 use Rattle.std.specs.VecDeque.{deque_capacity}
 use Rattle.std.proofs.lemmas.List.{length_push}
 use Rattle.reorder_buffer.specs.ReorderBuffer.{Line, AreConsecutive, Ticketed, LineKind, OutOfRangeKind, ReorderBufferView, NoMessageKind, ticketed_among, with_tickets}
-use Rattle.reorder_buffer.specs.Fields.{IsReorderBuffer, buffer_view}
+use Rattle.reorder_buffer.specs.View.{IsReorderBuffer, buffer_view}
 use Rattle.reorder_buffer.specs.declared.reorder_buffer.ReorderBuffer.TheInside.{Inside}
 use Rattle.reorder_buffer.proofs.Order.{ticket_in}
 use Rattle.reorder_buffer.proofs.Lines.{ticketed_among-append, fewer_are_ticketed, length-lines, lines_of-append, lines_of-plain, tickets_of_lines}

@@ -8,7 +8,7 @@ use Rattle.scheduler.proofs.Journaling.{stands}
 use Rattle.scheduler.proofs.LogCall.{none_taken}
 use Rattle.scheduler.proofs.Pointing.{called_core, flip_core, step_moment}
 use Rattle.scheduler.specs.CoreView.{CoreView}
-use Rattle.scheduler.specs.Fields.{parts}
+use Rattle.scheduler.specs.View.{parts}
 use Rattle.scheduler.proofs.server_core.Core.flip.Goals as goal
 
 pub returns-then-failed-clause-any_moment : goal.returns-then-failed-clause-any_moment

@@ -6,7 +6,7 @@ use Rattle.device_map.specs.Layout.{layout_of}
 use Rattle.scheduler.proofs.Journaling.{stands}
 use Rattle.scheduler.proofs.Pointing.{called_core, piece_core, step_moment}
 use Rattle.scheduler.specs.CoreView.{CoreView}
-use Rattle.scheduler.specs.Fields.{parts}
+use Rattle.scheduler.specs.View.{parts}
 use Rattle.scheduler.proofs.server_core.Core.piece.Goals as goal
 
 pub returns-then-failed-clause-any_moment : goal.returns-then-failed-clause-any_moment

@@ -8,7 +8,7 @@ use Rattle.scheduler.proofs.Journaling.{stands}
 use Rattle.scheduler.proofs.LogCall.{none_taken}
 use Rattle.scheduler.proofs.Pointing.{called_core, not_refused, point_core, point_state, point_whole, point_works, step_moment}
 use Rattle.scheduler.specs.CoreView.{CoreView}
-use Rattle.scheduler.specs.Fields.{parts}
+use Rattle.scheduler.specs.View.{parts}
 use Rattle.scheduler.proofs.server_core.Core.point.Goals as goal
 
 pub returns-in-Some-clause-any_moment : goal.returns-in-Some-clause-any_moment

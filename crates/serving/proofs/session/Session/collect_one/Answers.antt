@@ -2,7 +2,7 @@
 use Rattle.std.proofs.Common.{◌<◌, List, Option, None, ap, inl, length, sym, subst, ◌∙◌, refl}
 use Rattle.std.proofs.lemmas.List.{length-set}
 use Rattle.parcel.specs.Run.{JobView}
-use Rattle.serving.specs.Fields.{session_view}
+use Rattle.serving.specs.View.{session_view}
 use Rattle.serving.specs.Session.{HasMoved, SessionView}
 use Rattle.serving.proofs.Collected.{came_back, gives_back}
 use Rattle.serving.proofs.StepsAhead.{returned}

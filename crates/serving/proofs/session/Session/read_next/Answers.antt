@@ -9,7 +9,7 @@ use Rattle.message.specs.Reader.{has_ended, is_drained, source, unread}
 use Rattle.serving.specs.Lines.{NoMessage}
 use Rattle.serving.specs.Reads.{read_end_of}
 use Rattle.serving.specs.Runs.{lent_hand}
-use Rattle.serving.specs.Fields.{IsSession}
+use Rattle.serving.specs.View.{IsSession}
 use Rattle.serving.specs.Session.{IsReadEnd, SessionView}
 use Rattle.serving.specs.declared.session.ReadEnd.{ReadEnd}
 use Rattle.serving.specs.declared.session.ReadEnd.TheVariants as ends_of_reading
