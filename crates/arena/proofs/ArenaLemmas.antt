@@ -9,7 +9,7 @@ use Rattle.std.specs.List.{concat, list_any}
 use Rattle.arena.specs.Lists.{count_of, without, first_of}
 use Rattle.arena.specs.ArenaView.{ArenaView, capacity_of, holds_value, chain_at, listed, aside, IsPartitioned, moved, front_of}
 use Rattle.arena.proofs.Counts.{count_of-append, count_of-cons_is, count_of-at, without-absent, length-once}
-use Rattle.arena.proofs.Keeping.{each-from_times}
+use Rattle.arena.proofs.KeepsView.{each-from_times}
 
 -- a chain after a slot left
 pub chain-without : (chains : List (List ℕ)) (i d : ℕ) → slice_index_or (map (without i) chains) d [] ≡ without i (slice_index_or chains d [])

@@ -5,14 +5,14 @@ pub mod Parts
 pub mod ArenaLemmas
 -- ---- this crate's own: that the links are those of lists, and that the arena keeps its view by them
 mod Ways
-mod Unlinking
+mod Unlinked
 mod Alone
-mod Inserting
+mod Inserted
 mod Behind
-mod Start
+mod ListsAtStart
 mod Stored
 mod StoredUnlinking
 mod StoredInserting
 mod StoredAppending
 mod StoredPrepending
-mod Keeping
+mod KeepsView

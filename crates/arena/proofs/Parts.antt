@@ -7,7 +7,7 @@ use Rattle.std.specs.List.{concat}
 use Rattle.arena.specs.Lists.{count_of, without}
 use Rattle.arena.specs.ArenaView.{ArenaView, capacity_of, value_at, holds_value, listed, aside, IsPartitioned, moved}
 use Rattle.arena.proofs.Counts.{count_of-append, count_of-last, count_of-cons_is, count_of-cons_other, count_of-set, count_of-without_all_same, count_of-without_all_other}
-use Rattle.arena.proofs.Start.{count_of-numbers, count_of-numbers_in, count_of-high}
+use Rattle.arena.proofs.ListsAtStart.{count_of-numbers, count_of-numbers_in, count_of-high}
 
 count_of-filter_yes : (p : ℕ → Bool) (i : ℕ) (xs : List ℕ) → p i ≡ true → count_of i (filter p xs) ≡ count_of i xs
 count_of-filter_yes p i [] passes = refl

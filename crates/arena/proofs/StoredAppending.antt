@@ -2,7 +2,7 @@
 use Rattle.std.proofs.Common.{◌≡◌, ◌≢◌, ℕ, ◌+◌, ◌<◌, List, [], ◌∷◌, ◌++◌, length, sym, ap, subst, ◌∙◌, arith, slice_index, slice_set}
 use Rattle.arena.specs.Linked.{list_at, KeepLists, stored}
 use Rattle.arena.proofs.Alone.{alone-from_times}
-use Rattle.arena.proofs.Inserting.{IsInserted, rings-appended, IsLinked-appended}
+use Rattle.arena.proofs.Inserted.{IsInserted, rings-appended, IsLinked-appended}
 use Rattle.arena.proofs.Stored.{MayAdd, stored-same, end-below, list-below}
 use Rattle.arena.proofs.StoredInserting.{long_next, inserted, KeepLists-by}
 

@@ -5,7 +5,7 @@ use Rattle.std.specs.List.{concat}
 use Rattle.arena.specs.Lists.{count_of}
 use Rattle.arena.specs.Linked.{IsLinked, KeepLists, stored}
 use Rattle.arena.proofs.Alone.{alone-from_times, alone_back}
-use Rattle.arena.proofs.Inserting.{IsInserted}
+use Rattle.arena.proofs.Inserted.{IsInserted}
 
 module _ (slots slot before after : ℕ) (next previous : List ℕ) (ok : KeepLists slots next previous) (within : slot < slots)
     (nowhere : count_of slot (concat (stored slots next).lists) ≡ 0) (before_below : before < length next) (before_apart : before ≢ slot)

@@ -2,7 +2,7 @@
 use Rattle.std.proofs.Common.{◌≡◌, ◌≢◌, ℕ, ◌+◌, ◌<◌, List, ◌∷◌, length, arith, slice_index, slice_set}
 use Rattle.arena.specs.Linked.{list_at, KeepLists, stored}
 use Rattle.arena.proofs.Alone.{alone-from_times}
-use Rattle.arena.proofs.Inserting.{IsInserted, rings-prepended, IsLinked-prepended}
+use Rattle.arena.proofs.Inserted.{IsInserted, rings-prepended, IsLinked-prepended}
 use Rattle.arena.proofs.Stored.{MayAdd, stored-same, end-below, list-below}
 use Rattle.arena.proofs.StoredInserting.{long_next, inserted, KeepLists-by}
 

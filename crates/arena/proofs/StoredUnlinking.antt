@@ -4,7 +4,7 @@ use Rattle.std.proofs.Common.{◌≡◌, ℕ, ◌<◌, List, map, length, sym, s
 use Rattle.std.proofs.lemmas.List.{length-set}
 use Rattle.arena.specs.Lists.{without}
 use Rattle.arena.specs.Linked.{IsLinked, KeepLists, stored}
-use Rattle.arena.proofs.Unlinking.{IsUnlinked, rings-unlinked, IsLinked-unlinked}
+use Rattle.arena.proofs.Unlinked.{IsUnlinked, rings-unlinked, IsLinked-unlinked}
 use Rattle.arena.proofs.Stored.{stored-same}
 
 module _ (slots slot before after : ℕ) (next previous : List ℕ) (ok : KeepLists slots next previous) (within : slot < slots)

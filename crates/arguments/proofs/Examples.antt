@@ -5,7 +5,7 @@ use Rattle.affinity.specs.Geometry.{default_geometry}
 use Rattle.clap.proofs.OnLiterals.{clap_on_literals}
 use Rattle.arguments.specs.Arguments.{AsksFormat, AsksHelp, RunsNoCommand, AsksOutOfRange, AsksPlain, AsksServeWith, AsksShow, AsksVersion, IsWrong}
 use Rattle.arguments.specs.declared.command_line.TheConstants.{DEFAULT_WORKERS, DEFAULT_SLOTS, DEFAULT_EVERY}
-use Rattle.arguments.proofs.Asking.{plain_is_not_serve}
+use Rattle.arguments.proofs.Asks.{plain_is_not_serve}
 
 default_workers : DEFAULT_WORKERS ≡ 2
 default_workers = refl

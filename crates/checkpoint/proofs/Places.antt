@@ -3,7 +3,7 @@ use Rattle.std.proofs.Common.{◌≡◌, ℕ, zero, suc, ◌+◌, ◌*◌, ◌<�
 use Rattle.std.proofs.lemmas.Bool.{cases_lt}
 use Rattle.affinity.specs.declared.geometry.Geometry.{Geometry}
 use Rattle.image.specs.Pieces.{part_of, pieces_of_volume, piece_at, piece_count, piece_part_size}
-use Rattle.image.proofs.Joining.{whole_image}
+use Rattle.image.proofs.JoinedPieces.{whole_image}
 use Rattle.checkpoint.specs.Extents.{extent_at, extent_size}
 use Rattle.device_map.specs.Layout.{image_size}
 

@@ -5,7 +5,7 @@ use Rattle.std.proofs.Math.Seq.{take-add}
 use Rattle.affinity.specs.declared.geometry.Geometry.{Geometry}
 use Rattle.image.specs.Image.{image_head, image_of}
 use Rattle.image.specs.Pieces.{joined_below, piece_at, piece_count, piece_of, piece_size}
-use Rattle.image.proofs.Joining.{piece_inside, whole_image}
+use Rattle.image.proofs.JoinedPieces.{piece_inside, whole_image}
 use Rattle.checkpoint.specs.Extents.{AreCleanExtentsOf, extent_in, extent_of}
 use Rattle.device_map.specs.Layout.{image_size, slice}
 use Rattle.meaning.specs.State.{State, sum_below}

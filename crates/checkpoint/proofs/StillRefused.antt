@@ -6,7 +6,7 @@ use Rattle.affinity.specs.declared.geometry.Geometry.{Geometry}
 use Rattle.recovery.specs.Loading.{NamedHolds, are_both_chained, image_fault, records_fault}
 use Rattle.recovery.specs.Recovery.{decoding}
 use Rattle.recovery.specs.Refusals.{refused}
-use Rattle.recovery.proofs.Behind.{image_fine, refused_alone, refused_behind}
+use Rattle.recovery.proofs.BadRecordBehind.{image_fine, refused_alone, refused_behind}
 use Rattle.disk.specs.Device.{AreBytes, IsSynced, Medium}
 use Rattle.disk.specs.Moments.{CrashImagesAre}
 use Rattle.disk.proofs.Leaves.{synced_left}

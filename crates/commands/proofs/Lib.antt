@@ -1,10 +1,10 @@
 -- The lemmas of this crate: what is printed of a device, what a service on it did, and what a restart goes on from.
-pub mod Telling
+pub mod ShownText
 pub mod OnDevice
-pub mod Kept
+pub mod SentIsKept
 pub mod Promise
 pub mod Durable
-pub mod Agreeing
+pub mod SameOutput
 pub mod Services
-pub mod Ending
+pub mod CallEnds
 mod Examples

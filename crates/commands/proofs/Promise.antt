@@ -23,7 +23,7 @@ use Rattle.serving.proofs.RecoversWritten.{none_written, bytes_recover}
 use Rattle.serving.proofs.MaySend.{recovers_killed}
 use Rattle.serving.specs.Restart.{RecoversTo, BytesRecover, RecoversWritten}
 use Rattle.serving.specs.declared.server.ServeFault.{ServeFault}
-use Rattle.commands.proofs.Kept.{all_then, keeps_acknowledged}
+use Rattle.commands.proofs.SentIsKept.{all_then, keeps_acknowledged}
 use Rattle.serving.specs.Ends.{Exchange}
 use Rattle.commands.specs.Faults.{command_result}
 use Rattle.commands.specs.Acknowledged.{HoldsAcknowledged}

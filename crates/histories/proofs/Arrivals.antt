@@ -18,13 +18,13 @@ use Rattle.histories.specs.Events.{Hand, MachineState, Event, find_in_flight, gr
 use Rattle.histories.specs.Runs.{IsLegal, end_state, logged_at, arrives, logged_messages, arrived, answered}
 use Rattle.histories.specs.Laws.{AreUnrelated, AreAscending, EachBefore, IsSoundCoreState, IsIdle, ticket_replies}
 use Rattle.histories.proofs.Lists.{picked, all_front, all_permuted, before_back, before_front, before_moved, before_one, before_past, before_push}
-use Rattle.histories.proofs.Apart.{apart_turned, entries-append, entries_split}
+use Rattle.histories.proofs.AreUnrelated.{apart_turned, entries-append, entries_split}
 use Rattle.histories.proofs.Ways.{Passed, Way, Arrives, Grants, Backs, Logs, ways}
 use Rattle.histories.proofs.SerialReplies.{serial_replies-append, IsIn, in_left, IsAsGood, good_itself, good_on, good_push, good_moved}
-use Rattle.histories.proofs.Clearing.{earlier_free}
+use Rattle.histories.proofs.IsConflictFree.{earlier_free}
 use Rattle.histories.proofs.Sound.{event_sound}
 use Rattle.histories.proofs.Idle.{idle_sound, none_in_flight, none_ran, none_logged}
-use Rattle.histories.proofs.Answering.{run_answers}
+use Rattle.histories.proofs.AnsweredFirst.{run_answers}
 use Rattle.histories.proofs.Runs.{run_follows}
 
 -- ---- a run leaves its messages in a list (the row) that is in step with the list of arrivals

@@ -10,7 +10,7 @@ use Rattle.histories.specs.Events.{Hand, MachineState, Empty, Job, Result, Event
 use Rattle.histories.specs.Laws.{full_hands}
 use Rattle.histories.specs.Progress.{HandsHold, has_ticket}
 use Rattle.histories.specs.Runs.{IsLegal, end_state}
-use Rattle.histories.proofs.Full.{few_hands, hands-set}
+use Rattle.histories.proofs.FullHands.{few_hands, hands-set}
 use Rattle.histories.proofs.Lists.{picked, sum_by-picked}
 use Rattle.histories.proofs.Ways.{Passed, Way, Grants, Runs, Backs, ways}
 

@@ -10,7 +10,7 @@ use Rattle.histories.specs.Runs.{IsLegal}
 use Rattle.histories.specs.Crash.{IsLeftSince}
 use Rattle.histories.specs.Laws.{IsIdle}
 use Rattle.histories.specs.Incarnations.{Incarnation, Unopened, Ran, IsLogOf, IsLogOfRun, AreLogsOf, in_order, IsLeftByIncarnations, HoldsAnswered, AllHoldAnswered}
-use Rattle.histories.proofs.Answering.{answered_left}
+use Rattle.histories.proofs.AnsweredFirst.{answered_left}
 use Rattle.histories.proofs.Idle.{none_logged}
 use Rattle.histories.proofs.SerialReplies.{state_after_all-joined}
 

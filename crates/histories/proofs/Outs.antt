@@ -16,8 +16,8 @@ use Rattle.histories.specs.CoreState.{Entry, CoreState, entries, are_related_ent
 use Rattle.histories.specs.Events.{MachineState, Event, IsAllowed}
 use Rattle.histories.specs.Laws.{EachBefore, IsSoundCoreState, dispatches_or_returns}
 use Rattle.affinity.proofs.Elements.{all_weaker}
-use Rattle.histories.proofs.Apart.{apart_turned, entries-append}
-use Rattle.histories.proofs.Clearing.{all_at}
+use Rattle.histories.proofs.AreUnrelated.{apart_turned, entries-append}
+use Rattle.histories.proofs.IsConflictFree.{all_at}
 use Rattle.histories.proofs.Lists.{all_back, all_front, before_back}
 use Rattle.histories.proofs.Ways.{Passed, Way, Grants, Backs, Logs, ways}
 use Rattle.histories.proofs.SerialReplies.{IsIn}

@@ -12,7 +12,7 @@ use Rattle.histories.specs.CoreState.{Replied, CoreState, entries}
 use Rattle.histories.specs.Events.{MachineState, Event, IsAllowed, batch, recorded}
 use Rattle.histories.specs.Runs.{IsLegal, end_state, logged_at, appended_at, logged_messages, appended_messages}
 use Rattle.histories.specs.Laws.{IsSoundCoreState, ticket_replies}
-use Rattle.histories.proofs.Apart.{entries-append}
+use Rattle.histories.proofs.AreUnrelated.{entries-append}
 use Rattle.histories.proofs.Ways.{Passed, Way, Logs, ways}
 use Rattle.histories.proofs.SerialReplies.{state_after_all-append, state_after_all-joined, serial_replies-append, ticket_replies-append}
 use Rattle.histories.proofs.Sound.{row_of, event_sound}

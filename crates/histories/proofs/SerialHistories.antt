@@ -18,9 +18,9 @@ use Rattle.histories.specs.Events.{MachineState, Event, recorded}
 use Rattle.histories.specs.Runs.{IsLegal, answered_messages, arrived, appended_messages, end_state, logged_messages}
 use Rattle.histories.specs.Crash.{IsLogAfter, in_doubt}
 use Rattle.histories.specs.Laws.{AreAscending, HaveDistinctTickets, EachBefore, IsIdle, IsSerialHistory, ticket_replies}
-use Rattle.histories.proofs.Answering.{run_in_order}
+use Rattle.histories.proofs.AnsweredFirst.{run_in_order}
 use Rattle.histories.proofs.Runs.{recorded-append}
-use Rattle.histories.proofs.Apart.{all_entries, entries-append, entries_split}
+use Rattle.histories.proofs.AreUnrelated.{all_entries, entries-append, entries_split}
 use Rattle.histories.proofs.Arrivals.{arrivals_reordered, row, run_ascending}
 use Rattle.histories.proofs.Crashes.{legal_first, went_first}
 use Rattle.histories.proofs.Doubts.{crash_doubts_ran, first_doubts, no_doubts, run_doubts_ran}

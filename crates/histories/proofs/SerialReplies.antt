@@ -13,7 +13,7 @@ use Rattle.meaning.proofs.Unchanged.{unrecorded_changes_nothing}
 use Rattle.histories.specs.CoreState.{Entry, Replied, entry, entries, are_related_entries}
 use Rattle.histories.specs.Events.{recorded}
 use Rattle.histories.specs.Laws.{AreUnrelated, HaveRepliesAt, ticket_replies}
-use Rattle.histories.proofs.Apart.{apart_turned}
+use Rattle.histories.proofs.AreUnrelated.{apart_turned}
 
 -- ---- lists after one another
 

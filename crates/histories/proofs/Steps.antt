@@ -11,7 +11,7 @@ use Rattle.histories.specs.Laws.{IsIdle, full_hands}
 use Rattle.histories.specs.Progress.{has_job, steps_at, steps_in, steps_to_come, useful_events}
 use Rattle.histories.specs.Runs.{IsLegal, arrived, arrives, end_state}
 use Rattle.histories.proofs.Idle.{none_in_flight, none_logged, none_ran}
-use Rattle.histories.proofs.Full.{few_hands, hands-set, length-picked}
+use Rattle.histories.proofs.FullHands.{few_hands, hands-set, length-picked}
 use Rattle.histories.proofs.Lists.{sum_by-each}
 use Rattle.histories.proofs.Ways.{Passed, Way, Nothing, Arrives, Grants, Runs, Backs, Logs, Answers, Points, Fails, ways}
 

@@ -26,7 +26,7 @@ use Rattle.histories.specs.Events.{Hand, MachineState, Empty, Job, Result, Event
 use Rattle.histories.specs.Runs.{answered_at, logged_at, arrives, answers}
 use Rattle.histories.specs.Laws.{DoubtIsPrefixOfRan, reports_failure}
 use Rattle.histories.specs.Progress.{steps_at}
-use Rattle.histories.proofs.Apart.{length_held}
+use Rattle.histories.proofs.AreUnrelated.{length_held}
 use Rattle.histories.proofs.Lists.{first_few}
 
 -- what passes at an event: the messages that it logs (`gone`), those that arrive (`come`), and the replies that it gives

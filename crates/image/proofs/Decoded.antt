@@ -29,7 +29,7 @@ use Rattle.image.proofs.Numbers.{size_there}
 use Rattle.meaning.proofs.FileNumber.{number_of, number_small}
 use Rattle.image.proofs.Measures.{IsMeasured, all_joined, entries_good, entries_most}
 use Rattle.image.proofs.Order.{one_of}
-use Rattle.image.proofs.Reading.{number_decoded, eight_bytes}
+use Rattle.image.proofs.ReadImage.{number_decoded, eight_bytes}
 
 pub is_volume_there : (g : Geometry) (k : VolumeKey) → has_volume g k ≡ true → (k.0 < g.aggregates) × (k.1 < g.volumes)
 is_volume_there g k there = grind arith

@@ -2,13 +2,13 @@
 pub mod Measures
 pub mod Numbers
 pub mod Cuts
-pub mod Joining
-pub mod Reading
+pub mod JoinedPieces
+pub mod ReadImage
 pub mod Order
 pub mod Counted
 pub mod Decoded
-pub mod Taken
-pub mod Agreeing
+pub mod PiecesTakenIn
+pub mod SamePieces
 pub mod Walk
 pub mod Untouched
 mod Examples

@@ -15,7 +15,7 @@ use Rattle.meaning.specs.Subtrees.{Fact, OfMade, OfSealed, OfLabel, OfFile, OfBl
 use Rattle.stripe.specs.Entries.{stripe_bytes}
 use Rattle.image.specs.Pieces.{aggregate_of, volume_of, part_of, piece_of, part_piece, label_bytes, stripe_piece, entry_if}
 use Rattle.image.specs.Touched.{may_change, may_change_part}
-use Rattle.image.proofs.Agreeing.{entries_same, no_entry_of_none}
+use Rattle.image.proofs.SamePieces.{entries_same, no_entry_of_none}
 
 -- ---- another volume
 

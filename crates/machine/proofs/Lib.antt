@@ -1,2 +1,2 @@
 -- The lemmas of this crate: the hands of a machine at its start.
-mod Starting
+mod EmptyHands

@@ -10,7 +10,7 @@ pub mod Unchanged
 -- Lines and their output, and lines taken.
 pub mod LineLemmas
 pub mod OutputLemmas
-pub mod Taking
+pub mod LinesTaken
 -- For the serial server: the keys of ordered maps, and the tests by kind.
 pub mod Keys
 pub mod ByKind

@@ -5,13 +5,13 @@ pub mod Numbers
 pub mod Blocks
 pub mod Digits
 pub mod DigitLoop
-pub mod Forms
+pub mod GrammarByKind
 pub mod Keywords
 pub mod Zeros
 pub mod Assembly
 pub mod WrittenParts
-pub mod Adding
+pub mod NextLine
 pub mod Beginnings
-pub mod Spelling
+pub mod Spells
 pub mod RecordLemmas
 pub mod ReaderLemmas

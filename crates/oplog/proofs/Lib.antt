@@ -6,7 +6,7 @@ pub mod Kept
 pub mod Ready
 pub mod Batches
 pub mod Slices
-pub mod Reading
+pub mod PartsRead
 pub mod RecordRows
 pub mod BadRecords
 pub mod Answered

@@ -5,7 +5,7 @@ use Rattle.std.specs.List.{flat_map}
 use Rattle.affinity.specs.declared.geometry.Geometry.{Geometry}
 use Rattle.image.specs.Image.{image_of}
 use Rattle.image.specs.Pieces.{joined_below, part_of, part_piece, piece_part_size, piece_count, piece_of, piece_size, aggregate_of, volume_of, stripe_entries}
-use Rattle.image.proofs.Joining.{length-pieces}
+use Rattle.image.proofs.JoinedPieces.{length-pieces}
 use Rattle.device_map.specs.Layout.{image_size}
 use Rattle.device_map.specs.declared.layout.TheConstants.{BLOCK_ENTRY_SIZE}
 use Rattle.meaning.specs.State.{empty, sum_below}

@@ -9,7 +9,7 @@ use Rattle.affinity.specs.Geometry.{numbers_of}
 use Rattle.byteorder.specs.Endian.{IsRead, little_bytes, little_number}
 use Rattle.recovery.specs.Header.{header_of, magic}
 use Rattle.image.specs.Image.{has_head, image_head, is_version, version_in}
-use Rattle.recovery.proofs.Laid.{image_some}
+use Rattle.recovery.proofs.LaidOut.{image_some}
 use Rattle.device_map.specs.Layout.{image_part, layout_of, part_bytes, part_at, part_size, slice}
 use Rattle.oplog.proofs.Slices.{image_sized}
 

@@ -7,9 +7,9 @@ use Rattle.recovery.specs.Header.{HasHeader, header_of, is_header}
 use Rattle.recovery.specs.Loading.{are_both_chained, image_fault}
 use Rattle.recovery.specs.Recovery.{recovered_state, decoding}
 use Rattle.recovery.specs.Refusals.{refused}
-use Rattle.recovery.proofs.Behind.{image_fine}
+use Rattle.recovery.proofs.BadRecordBehind.{image_fine}
 use Rattle.recovery.proofs.OneGeometry.{laid_where}
-use Rattle.recovery.proofs.Refusing.{in_force_fault, alone_sound, both_sound, not_refused}
+use Rattle.recovery.proofs.Refused.{in_force_fault, alone_sound, both_sound, not_refused}
 use Rattle.disk.specs.Device.{AreBytes}
 use Rattle.image.specs.Image.{image_state}
 use Rattle.oplog.specs.Front.{chain, front}

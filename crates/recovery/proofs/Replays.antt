@@ -13,7 +13,7 @@ use Rattle.oplog.specs.Front.{front, record_at}
 use Rattle.device_map.specs.Layout.{Layout}
 use Rattle.oplog.specs.Log.{Log, layout_of_log}
 use Rattle.oplog.specs.Recovery.{run}
-use Rattle.oplog.proofs.Reading.{front_record}
+use Rattle.oplog.proofs.PartsRead.{front_record}
 use Rattle.meaning.specs.State.{State}
 
 -- ---- what a read leaves

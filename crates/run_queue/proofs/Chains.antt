@@ -17,7 +17,7 @@ use Rattle.run_queue.specs.Order.{Ascend}
 use Rattle.run_queue.specs.Queues.{Waiting, present, by_ticket, waiting_in, queued_in, IsQueued}
 use Rattle.run_queue.specs.declared.queued_message.QueuedMessage.{QueuedMessage}
 use Rattle.run_queue.proofs.SlotCounts.{count_in_slot-filter}
-use Rattle.run_queue.proofs.Sorting.{ascend-filter, ascend-last, order-come, order-leave, length-all, without-absent}
+use Rattle.run_queue.proofs.TicketOrder.{ascend-filter, ascend-last, order-come, order-leave, length-all, without-absent}
 
 -- ---- at the start
 

@@ -14,8 +14,8 @@ use Rattle.run_queue.specs.Order.{Ascend, waits_for, is_conflict_free, earlier}
 use Rattle.run_queue.specs.declared.queued_message.QueuedMessage.{QueuedMessage}
 use Rattle.run_queue.specs.declared.ready_table.TheConstants.{LAST_RANK}
 use Rattle.run_queue.proofs.ByTicket.{next_is_first}
-use Rattle.run_queue.proofs.Nearby.{contains-own, number-below}
-use Rattle.run_queue.proofs.Clearing.{find-cons, find-skip, find-all, find-passes, has_own}
+use Rattle.run_queue.proofs.AffinitiesAbove.{contains-own, number-below}
+use Rattle.run_queue.proofs.ConflictsByNumber.{find-cons, find-skip, find-all, find-passes, has_own}
 
 -- the first waiting message at this affinity number that may be dispatched, by whether the log has room
 abbrev pub dispatchable_at : Bool → List QueuedMessage → List QueuedMessage → ℕ → Option QueuedMessage

@@ -1,14 +1,14 @@
 -- ---- for the crates above: which message goes next, by tickets, and that it waits
 pub mod ByTicket
-pub mod Passing
+pub mod IsNext
 -- ---- this crate's own
 mod SlotCounts
 mod Examples
-mod Sorting
+mod TicketOrder
 mod Chains
 mod HeldMessages
-mod Nearby
-mod Clearing
+mod AffinitiesAbove
+mod ConflictsByNumber
 mod Earliest
 mod Ready
 mod Chunks

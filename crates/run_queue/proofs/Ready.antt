@@ -16,8 +16,8 @@ use Rattle.run_queue.specs.Order.{Ascend, waits_for, is_conflict_free}
 use Rattle.run_queue.specs.Queues.{HasInserted}
 use Rattle.run_queue.specs.ReadyTable.{if_passes, ready_at, IsEntryRight, StayRight, AreRelatedRight}
 use Rattle.run_queue.specs.declared.queued_message.QueuedMessage.{QueuedMessage}
-use Rattle.run_queue.proofs.Nearby.{number-below, same_path}
-use Rattle.run_queue.proofs.Clearing.{find-cons, find-skip, find-all, find-passes, any-found}
+use Rattle.run_queue.proofs.AffinitiesAbove.{number-below, same_path}
+use Rattle.run_queue.proofs.ConflictsByNumber.{find-cons, find-skip, find-all, find-passes, any-found}
 use Rattle.run_queue.proofs.Earliest.{dispatchable_at, none_at, some_at, empty_at}
 
 -- ---- what the ready entries show

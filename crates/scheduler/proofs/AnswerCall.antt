@@ -9,7 +9,7 @@ use Rattle.arena.specs.ArenaView.{IsPartitioned, ArenaView, after_take, capacity
 use Rattle.histories.specs.Events.{answer}
 use Rattle.histories.specs.declared.outcomes.Outcome.TheVariants as outcomes
 use Rattle.protocol.specs.declared.replies.Reply.TheVariants.{Done}
-use Rattle.scheduler.proofs.Answering.{answer_core, answer_front, with_answer}
+use Rattle.scheduler.proofs.AnswerKeepsCore.{answer_core, answer_front, with_answer}
 use Rattle.scheduler.proofs.Chains.{TakenSlot, slot_taken}
 use Rattle.scheduler.specs.declared.server_core.Core.TheInside.{Inside}
 use Rattle.scheduler.specs.View.{IsSoundCore, parts}

@@ -39,11 +39,11 @@ use Rattle.parcel.specs.Run.{JobView, IsJobRun}
 use Rattle.parcel.specs.declared.job.Done.{Done}
 use Rattle.meaning.specs.Serial.{state_after_all}
 use Rattle.meaning.specs.State.{State}
-use Rattle.scheduler.proofs.Called.{answer_called, arrive_called}
+use Rattle.scheduler.proofs.IsCallEvent.{answer_called, arrive_called}
 use Rattle.scheduler.specs.Calls.{IsCallEvent, IsGrantOf, IsNoGrant, answer_outcome, arrive_outcome}
 use Rattle.scheduler.specs.Jobs.{IsResultOf}
 use Rattle.scheduler.specs.CoreView.{CoreView, RecoversNow, RecoversThroughout, core_state_of}
-use Rattle.scheduler.proofs.Staying.{ran_gives}
+use Rattle.scheduler.proofs.IsJobOf.{ran_gives}
 
 -- ---- what a crash leaves of a device that is left alone
 

@@ -26,9 +26,9 @@ use Rattle.parcel.specs.Run.{JobView, Shows}
 use Rattle.parcel.specs.Tree.{HasGap, LendsAt, TreeView, tree_nodes}
 use Rattle.parcel.specs.declared.parts.Parcels.{Parcels}
 use Rattle.parcel.specs.declared.parts.Standing.{Standing}
-use Rattle.scheduler.proofs.Choosing.{Chosen, goes_first}
-use Rattle.scheduler.proofs.Counting.{one_for}
-use Rattle.scheduler.proofs.Granting.{grant_core, grant_state, waits_without, with_grant}
+use Rattle.scheduler.proofs.NextEligible.{Chosen, goes_first}
+use Rattle.scheduler.proofs.UnloggedChanges.{one_for}
+use Rattle.scheduler.proofs.GrantKeepsCore.{grant_core, grant_state, waits_without, with_grant}
 use Rattle.scheduler.proofs.Chains.{MovedSlot, slot_moved}
 use Rattle.scheduler.proofs.Splits.{MapSplit, map_split, count_of-split}
 use Rattle.scheduler.proofs.Trees.{grant_lends, grant_shows}

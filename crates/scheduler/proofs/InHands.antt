@@ -5,7 +5,7 @@ use Rattle.std.specs.List.{Contains}
 use Rattle.std.proofs.lemmas.Bool.{eqb-true, eqb-false}
 use Rattle.std.proofs.lemmas.List.{get_or-set_other, get_or-set_same}
 use Rattle.affinity.specs.declared.geometry.Geometry.{Geometry}
-use Rattle.histories.proofs.Clearing.{all_at}
+use Rattle.histories.proofs.IsConflictFree.{all_at}
 use Rattle.histories.proofs.Elements.{contains_in, in_contained}
 use Rattle.histories.proofs.Lists.{picked}
 use Rattle.histories.proofs.Outs.{before_in}

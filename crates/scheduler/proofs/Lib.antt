@@ -1,10 +1,10 @@
 -- ---- for the crates above: the calls of a core as events, that jobs stay what they are, and which devices are refused
-pub mod Called
+pub mod IsCallEvent
 pub mod Refusals
-pub mod Staying
+pub mod IsJobOf
 -- ---- for a server of lines: each step is an event, and what a crash leaves of a run
 pub mod Events
-pub mod Running
+pub mod HasRun
 pub mod FailStop
 -- ---- for the machine
 pub mod InHands
@@ -14,25 +14,25 @@ mod Examples
 mod Splits
 mod Chains
 mod Trees
-mod Choosing
+mod NextEligible
 mod Tests
-mod Counting
-mod Arriving
-mod Granting
-mod Returning
-mod Answering
-mod Journaling
-mod Logging
-mod Pointing
+mod UnloggedChanges
+mod ArrivalKeepsCore
+mod GrantKeepsCore
+mod ReturnKeepsCore
+mod AnswerKeepsCore
+mod JournalKeepsCore
+mod LogKeepsCore
+mod CheckpointKeepsCore
 mod AnswerCall
 mod ArriveCall
-mod Placing
+mod IsPlaced
 mod GrantCall
 mod ReturnCall
-mod Shifting
-mod Gathering
+mod HasLogged
+mod RecordedIn
 mod LogCall
-mod Opened
+mod IsJustOpened
 -- what the incarnations of a device leave
 mod Incarnations
-mod Ending
+mod IsEndOfRun

@@ -25,9 +25,9 @@ use Rattle.oplog.specs.declared.halves.LogFault.{LogFault}
 use Rattle.parcel.specs.Tree.{state_in}
 use Rattle.meaning.specs.Serial.{state_after_all}
 use Rattle.meaning.specs.State.{State}
-use Rattle.scheduler.proofs.Counting.{count-map, changing, changing-append, unlogged_of}
+use Rattle.scheduler.proofs.UnloggedChanges.{count-map, changing, changing-append, unlogged_of}
 use Rattle.scheduler.proofs.Chains.{same_slots}
-use Rattle.scheduler.proofs.Logging.{batch_at, batch_carried, batch_fits, batch_changes, doubt_core, log_core, log_throughout, log_state, same_batch, with_doubt, with_log}
+use Rattle.scheduler.proofs.LogKeepsCore.{batch_at, batch_carried, batch_fits, batch_changes, doubt_core, log_core, log_throughout, log_state, same_batch, with_doubt, with_log}
 use Rattle.scheduler.specs.CoreView.{core_state_of, CoreView, RecoversThroughout}
 use Rattle.scheduler.specs.Moving.{HasLogged, changing_in, recorded_in}
 use Rattle.scheduler.specs.declared.server_core.Core.TheInside.{Inside}

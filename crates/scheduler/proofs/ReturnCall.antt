@@ -22,15 +22,15 @@ use Rattle.protocol.specs.declared.messages.Msg.{Msg}
 use Rattle.protocol.specs.declared.replies.Reply.{Reply}
 use Rattle.protocol.specs.declared.replies.Reply.TheVariants.{Done}
 use Rattle.parcel.proofs.Lending.{kind_of}
-use Rattle.parcel.proofs.Serving.{fits_where_lent}
+use Rattle.parcel.proofs.RunFits.{fits_where_lent}
 use Rattle.parcel.specs.Fits.{Fits, IsKindOf}
 use Rattle.parcel.specs.Run.{Shows}
 use Rattle.parcel.specs.Tree.{IsOut, RestoresAt, TreeView, tree_nodes}
 use Rattle.parcel.specs.declared.job.Done.{Done as Result}
 use Rattle.meaning.specs.Serial.{next_state, reply_to}
-use Rattle.scheduler.proofs.Answering.{other_numbers, other_replied}
+use Rattle.scheduler.proofs.AnswerKeepsCore.{other_numbers, other_replied}
 use Rattle.scheduler.proofs.Chains.{MovedSlot, slot_moved}
-use Rattle.scheduler.proofs.Returning.{out_is, return_core, return_state, returned_is_found, returned_is_placed, with_return}
+use Rattle.scheduler.proofs.ReturnKeepsCore.{out_is, return_core, return_state, returned_is_found, returned_is_placed, with_return}
 use Rattle.scheduler.proofs.Splits.{MapSplit, map_split, count_of-split}
 use Rattle.scheduler.proofs.Trees.{apart_earlier, apart_others, back_is_out}
 use Rattle.affinity.proofs.Elements.{all_weaker, any_moved}

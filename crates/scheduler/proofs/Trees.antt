@@ -14,7 +14,7 @@ use Rattle.histories.specs.Eligible.{next_eligible}
 use Rattle.histories.specs.Events.{log}
 use Rattle.histories.specs.Laws.{IsSoundCoreState, AreUnrelated}
 use Rattle.histories.specs.CoreState.{Entry, Replied, CoreState, entries, held, are_related_entries}
-use Rattle.histories.proofs.Apart.{apart_turned, entries-append, granted_is_free}
+use Rattle.histories.proofs.AreUnrelated.{apart_turned, entries-append, granted_is_free}
 use Rattle.histories.proofs.Lists.{all_back, all_front, before_back, before_first, before_one}
 use Rattle.histories.proofs.Outs.{entries_leave}
 use Rattle.histories.proofs.Sound.{row_of}

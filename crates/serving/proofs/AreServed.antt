@@ -6,7 +6,7 @@ use Rattle.std.proofs.lemmas.Bool.{true≢false}
 use Rattle.std.proofs.lemmas.List.Elements.{recursion_from_All}
 use Rattle.std.proofs.lemmas.Option.{none-some, same_Some}
 use Rattle.affinity.specs.declared.geometry.Geometry.{Geometry}
-use Rattle.scheduler.proofs.Running.{left_since_event}
+use Rattle.scheduler.proofs.HasRun.{left_since_event}
 use Rattle.histories.proofs.Arrivals.{answered_by_ticket, arrived_by_ticket, committed_by_ticket}
 use Rattle.histories.proofs.Idle.{idle_sound}
 use Rattle.histories.proofs.SerialReplies.{IsIn}

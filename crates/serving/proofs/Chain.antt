@@ -4,7 +4,7 @@ use Rattle.std.proofs.lemmas.List.{map-append}
 use Rattle.histories.specs.Runs.{answered, arrived}
 use Rattle.histories.specs.CoreState.{Entry}
 use Rattle.protocol.specs.declared.replies.Reply.{Reply}
-use Rattle.scheduler.proofs.Running.{events_join, lead_on}
+use Rattle.scheduler.proofs.HasRun.{events_join, lead_on}
 use Rattle.scheduler.specs.Machine.{MachineView}
 use Rattle.scheduler.specs.DeviceEvents.{DeviceEvent, events_of}
 use Rattle.serving.specs.Runs.{RunsBetween}

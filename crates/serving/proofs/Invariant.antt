@@ -8,7 +8,7 @@ use Rattle.atomic_table.specs.Seated.{TableId}
 use Rattle.std.proofs.lemmas.Bool.{true≢false}
 use Rattle.affinity.proofs.Elements.{all_join}
 use Rattle.histories.specs.Events.{MachineState, arrive}
-use Rattle.histories.proofs.Full.{last_none_out}
+use Rattle.histories.proofs.FullHands.{last_none_out}
 use Rattle.histories.proofs.Idle.{none_in_flight}
 use Rattle.histories.specs.CoreState.{Entry}
 use Rattle.histories.specs.Laws.{IsIdle, full_hands}

@@ -9,7 +9,7 @@ use Rattle.recovery.proofs.NotRefused.{is_not_refused, has_header}
 use Rattle.disk.proofs.Moments.{counts_now}
 use Rattle.disk.specs.Device.{IsCrashImage}
 use Rattle.disk.specs.Moments.{left_since, moment_number}
-use Rattle.histories.proofs.Answering.{run_replies}
+use Rattle.histories.proofs.AnsweredFirst.{run_replies}
 use Rattle.histories.proofs.Arrivals.{run_ascending}
 use Rattle.histories.proofs.Crashes.{went_first}
 use Rattle.histories.proofs.Elements.{contains_in, holds_of, in_contained}

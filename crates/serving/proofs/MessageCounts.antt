@@ -3,14 +3,14 @@ use Rattle.std.proofs.Common.{◌≡◌, ◌+◌, List, [], ◌∷◌, ap, lengt
 use Rattle.std.specs.Prelude.{◌==◌}
 use Rattle.std.proofs.lemmas.List.{length-append}
 use Rattle.protocol.specs.declared.replies.Reply.{Reply}
-use Rattle.histories.proofs.Full.{length-picked}
+use Rattle.histories.proofs.FullHands.{length-picked}
 use Rattle.affinity.specs.declared.geometry.Geometry.{Geometry}
 use Rattle.histories.specs.CoreState.{Replied, CoreState, Entry}
 use Rattle.histories.specs.Eligible.{is_eligible}
 use Rattle.histories.specs.Events.{MachineState, Event, give_back}
 use Rattle.histories.specs.Runs.{IsLegal, answered, arrived, end_state}
 use Rattle.serving.specs.Runs.{unanswered}
-use Rattle.histories.proofs.Apart.{held_grant, length_held, log_held}
+use Rattle.histories.proofs.AreUnrelated.{held_grant, length_held, log_held}
 use Rattle.histories.proofs.Ways.{Passed, Way, ways}
 use Rattle.histories.proofs.Ways as way
 

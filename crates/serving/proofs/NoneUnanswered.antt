@@ -6,7 +6,7 @@ use Rattle.std.specs.List.{Contains}
 use Rattle.std.proofs.lemmas.Bool.{true≢false}
 use Rattle.std.proofs.lemmas.List.Sorted.{Contains-permutation}
 use Rattle.affinity.specs.declared.geometry.Geometry.{Geometry}
-use Rattle.histories.proofs.Answering.{run_in_order, run_replies}
+use Rattle.histories.proofs.AnsweredFirst.{run_in_order, run_replies}
 use Rattle.histories.proofs.Elements.{contains_in, in_contained}
 use Rattle.histories.proofs.Idle.{none_in_flight, none_logged, none_ran}
 use Rattle.histories.proofs.SerialHistories.{none_lost}

@@ -13,7 +13,7 @@ use Rattle.histories.specs.declared.outcomes.Step.{Step}
 use Rattle.histories.specs.declared.outcomes.Step.TheVariants as steps
 use Rattle.scheduler.proofs.Events.{core_holds, core_step}
 use Rattle.scheduler.proofs.FailStop.{run_fails}
-use Rattle.scheduler.proofs.Running.{one_leads}
+use Rattle.scheduler.proofs.HasRun.{one_leads}
 use Rattle.scheduler.specs.Machine.{MachineView, machine_of}
 use Rattle.scheduler.specs.Steps.{IsCoreStep, IsMachineStep}
 use Rattle.scheduler.specs.declared.hands.HandContent.{HandContent}
@@ -24,7 +24,7 @@ use Rattle.serving.specs.Lines.{Line, admitted, ticketed}
 use Rattle.serving.specs.Progress.{ServingProgress}
 use Rattle.serving.specs.Runs.{HandsHaveJobs, IsInternal, RunsBetween}
 use Rattle.serving.proofs.Chain.{passes_on, told_as}
-use Rattle.scheduler.proofs.Called.{log_outcome, step_outcome}
+use Rattle.scheduler.proofs.IsCallEvent.{log_outcome, step_outcome}
 
 module _ {keeps : Type 0} {old new : MachineView} {step : Step} {outcome : Outcome} (k : IsMachineStep keeps old new step outcome) where
   -- A step is a segment of a run.

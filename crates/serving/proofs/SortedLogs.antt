@@ -19,7 +19,7 @@ use Rattle.meaning.proofs.Unchanged.{unrecorded_changes_nothing}
 use Rattle.histories.specs.Events.{recorded}
 use Rattle.histories.specs.Laws.{AreAscending, IsSerialHistory, ticket_replies}
 use Rattle.histories.specs.CoreState.{Entry, Replied, are_related_entries, entries}
-use Rattle.histories.proofs.Apart.{apart_turned}
+use Rattle.histories.proofs.AreUnrelated.{apart_turned}
 use Rattle.histories.proofs.Elements.{holds_of, in_contained}
 use Rattle.histories.proofs.Lists.{all_back, all_front, all_permuted}
 use Rattle.histories.proofs.SerialReplies.{IsIn}

@@ -3,10 +3,10 @@ use Rattle.std.proofs.Common.{◌≡◌, ℕ, zero, suc, false, List, [], Option
 use Rattle.std.proofs.lemmas.Option.{none-some}
 use Rattle.std.proofs.KnownBytes.{Appends-nil}
 use Rattle.histories.specs.Laws.{IsSoundCoreState}
-use Rattle.scheduler.proofs.Running.{none_lead}
+use Rattle.scheduler.proofs.HasRun.{none_lead}
 use Rattle.scheduler.specs.Machine.{MachineView, IsHandOf, hand_at, ticket_in}
 use Rattle.scheduler.specs.declared.hands.HandContent.TheVariants as has
-use Rattle.meaning.proofs.Taking.{takes_nothing}
+use Rattle.meaning.proofs.LinesTaken.{takes_nothing}
 use Rattle.scheduler.specs.CoreView.{CoreView, core_state_of}
 use Rattle.serving.specs.Progress.{ServingProgress}
 use Rattle.serving.specs.Runs.{HandsHaveJobs, RunsBetween, lent_hand, machine_with_jobs}

@@ -15,7 +15,7 @@ use Rattle.scheduler.specs.declared.hands.HandContent.{HandContent}
 use Rattle.protocol.specs.Grammar.{message_of}
 use Rattle.protocol.specs.FirstLine.{GivesLine, IsAtEndOf, HasWholeFirstLine, PassesLine}
 use Rattle.protocol.specs.declared.messages.Msg.{Msg}
-use Rattle.meaning.proofs.Taking.{takes_line, takes_long_line}
+use Rattle.meaning.proofs.LinesTaken.{takes_line, takes_long_line}
 use Rattle.scheduler.specs.Calls.{ArrivesByLine, arrive_outcome}
 use Rattle.scheduler.specs.CoreView.{CoreView, RecoversNow, core_state_of}
 use Rattle.serving.specs.Progress.{ServingProgress}

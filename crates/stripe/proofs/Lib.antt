@@ -4,4 +4,4 @@ mod IndexLemmas
 -- ---- for the crates above
 pub mod EntryBytes
 pub mod EntryOrder
-mod EntryReading
+mod EntriesRead

@@ -3,7 +3,7 @@ use Rattle.std.proofs.Common.{◌≡◌, ℕ, zero, suc, ◌+◌, Bool, false, L
 use Rattle.std.specs.List.{list_any, prefix_len}
 use Rattle.parcel.specs.Run.{JobView}
 use Rattle.workers.specs.Rule.{LentJobs}
-use Rattle.workers.proofs.Lending.{counted}
+use Rattle.workers.proofs.OfferAndCollect.{counted}
 
 lent_before_free : (ls : LentJobs) → prefix_len (λ b. not (not b)) (map is_some ls) ≡ prefix_len (λ o. not (is_none o)) ls
 lent_before_free [] = refl

@@ -3,8 +3,8 @@ use Rattle.std.proofs.Common.{◌≡◌, map, string_bytes, subst, sym, true, re
 use Rattle.clap.specs.Words.{App, HasKind, HasMatchesOf, Text, fault_of, is_simple_and_free, subcommand_rows_of}
 use Rattle.clap.specs.declared.parser.matches.ArgMatches.{ArgMatches}
 use Rattle.arguments.specs.Arguments.{IsRequested, NamesCommand, command_of, findings, waffd}
-use Rattle.arguments.proofs.Named.{names_command}
-use Rattle.arguments.proofs.Reading.{Holds, holds, holds_requested, if_err, if_ok}
+use Rattle.arguments.proofs.NamesCommand.{names_command}
+use Rattle.arguments.proofs.AnswerOf.{Holds, holds, holds_requested, if_err, if_ok}
 use Rattle.arguments.proofs.command_line.read_arguments.Goals as goal
 
 -- clap takes the words: it finds nothing in them, and its matches are theirs

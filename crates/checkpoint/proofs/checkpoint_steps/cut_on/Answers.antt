@@ -5,8 +5,8 @@ use Rattle.oplog.proofs.Answered.{err_is}
 use Rattle.disk.specs.Store.{CrashesChangeOnly}
 use Rattle.oplog.specs.Changes.{Chained, IsSameButChain}
 use Rattle.oplog.specs.Log.{Log, layout_of_log}
-use Rattle.checkpoint.proofs.Cutting.{begun, chain_beyond, chain_moments, named_below}
-use Rattle.checkpoint.proofs.Pointing.{clear_beyond, clear_moments}
+use Rattle.checkpoint.proofs.IsCutBegun.{begun, chain_beyond, chain_moments, named_below}
+use Rattle.checkpoint.proofs.IsPointed.{clear_beyond, clear_moments}
 use Rattle.checkpoint.proofs.checkpoint_steps.cut_on.Given.{Over}
 use Rattle.checkpoint.proofs.checkpoint_steps.cut_on.Goals.{After-open_chain}
 use Rattle.checkpoint.proofs.checkpoint_steps.cut_on.Goals as goal

@@ -6,14 +6,14 @@ use Rattle.affinity.specs.declared.geometry.Geometry.{Geometry}
 use Rattle.image.specs.Pieces.{piece_count}
 use Rattle.checkpoint.specs.Extents.{Imaged}
 use Rattle.checkpoint.proofs.Costs.{one_run, takes_all, takes_most, takes_with}
-use Rattle.checkpoint.proofs.Finishing.{finish_image_moments, finish_moments, finished}
+use Rattle.checkpoint.proofs.IsCutFinished.{finish_image_moments, finish_moments, finished}
 use Rattle.checkpoint.proofs.StillRefused.{finish_alike, image_alike}
 use Rattle.oplog.proofs.Answered.{on_ok}
 use Rattle.oplog.proofs.Beyond.{beyond, beyond_then}
 use Rattle.disk.specs.Store.{CrashesChangeOnly}
 use Rattle.oplog.specs.Changes.{IsSameBut, IsSameButRoot}
 use Rattle.device_map.specs.Layout.{layout_of, image_part, other}
-use Rattle.checkpoint.proofs.Pointing.{other_imaged, other_written}
+use Rattle.checkpoint.proofs.IsPointed.{other_imaged, other_written}
 use Rattle.checkpoint.proofs.checkpoint_steps.finish_on.Given.{Over}
 use Rattle.checkpoint.proofs.checkpoint_steps.finish_on.Goals.{After-flip_root}
 use Rattle.checkpoint.proofs.checkpoint_steps.finish_on.Goals as goal

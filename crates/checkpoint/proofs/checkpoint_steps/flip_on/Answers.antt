@@ -8,7 +8,7 @@ use Rattle.oplog.proofs.Beyond.{beyond, beyond_sync, beyond_then}
 use Rattle.oplog.specs.Changes.{IsSameButRoot, Flipped}
 use Rattle.device_map.specs.Layout.{layout_of, other}
 use Rattle.checkpoint.proofs.Costs.{faults_stay, takes_all, takes_most, takes_with}
-use Rattle.checkpoint.proofs.Cutting.{name_moments, named, named_below, sync_moments}
+use Rattle.checkpoint.proofs.IsCutBegun.{name_moments, named, named_below, sync_moments}
 use Rattle.disk.specs.Device.{synced}
 use Rattle.checkpoint.proofs.checkpoint_steps.flip_on.Given.{Over}
 use Rattle.checkpoint.proofs.checkpoint_steps.flip_on.Goals.{After-flip_root}

@@ -2,11 +2,11 @@
 -- it, and none of the other half's.
 use Rattle.std.proofs.Common.{Bool, List, length, refl, sym, ◌∙◌, ap, subst}
 use Rattle.image.specs.Image.{image_state}
-use Rattle.image.proofs.Reading.{read_again}
+use Rattle.image.proofs.ReadImage.{read_again}
 use Rattle.checkpoint.specs.Extents.{AreAllDirty}
-use Rattle.checkpoint.proofs.Loaded.{unfinished_cut}
+use Rattle.checkpoint.proofs.AreLoaded.{unfinished_cut}
 use Rattle.checkpoint.proofs.Rows.{whole_put}
-use Rattle.checkpoint.proofs.Saving.{whole_again}
+use Rattle.checkpoint.proofs.PointOrCut.{whole_again}
 use Rattle.parcel.specs.Tree.{state_in}
 use Rattle.checkpoint.proofs.opening.finish_cut.Goals as goal
 

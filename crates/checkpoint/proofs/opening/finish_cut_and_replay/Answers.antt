@@ -11,9 +11,9 @@ use Rattle.disk.proofs.Leaves.{itself}
 use Rattle.disk.proofs.Moments.{leaves_now, same}
 use Rattle.image.specs.Image.{image_state}
 use Rattle.checkpoint.specs.Opening.{area_state}
-use Rattle.recovery.proofs.Behind.{behind_fine, behind_holds, behind_refused}
-use Rattle.checkpoint.proofs.Loaded.{are_loaded}
-use Rattle.checkpoint.proofs.Opened.{alone_finished, bad_half, still_synced}
+use Rattle.recovery.proofs.BadRecordBehind.{behind_fine, behind_holds, behind_refused}
+use Rattle.checkpoint.proofs.AreLoaded.{are_loaded}
+use Rattle.checkpoint.proofs.OpeningCrashImages.{alone_finished, bad_half, still_synced}
 use Rattle.oplog.specs.Front.{front}
 use Rattle.device_map.specs.Layout.{image_part, layout_of, other, part_bytes}
 use Rattle.oplog.specs.Log.{Log}

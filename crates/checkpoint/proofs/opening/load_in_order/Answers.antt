@@ -10,9 +10,9 @@ use Rattle.recovery.proofs.Replays.{same_bytes}
 use Rattle.checkpoint.specs.Costs.{finish_cost}
 use Rattle.checkpoint.specs.Parts.{IsFaultAfterCut}
 use Rattle.checkpoint.proofs.Costs.{finish_is, takes_with}
-use Rattle.recovery.proofs.Behind.{alone_fine, alone_holds}
-use Rattle.checkpoint.proofs.Loaded.{are_loaded, alone_recovers, held_after}
-use Rattle.checkpoint.proofs.Opened.{alike_after, alike_read, all_unwritten, bad_behind, bad_from, bad_synced, still_after, still_read, still_synced, unread}
+use Rattle.recovery.proofs.BadRecordBehind.{alone_fine, alone_holds}
+use Rattle.checkpoint.proofs.AreLoaded.{are_loaded, alone_recovers, held_after}
+use Rattle.checkpoint.proofs.OpeningCrashImages.{alike_after, alike_read, all_unwritten, bad_behind, bad_from, bad_synced, still_after, still_read, still_synced, unread}
 use Rattle.device_map.specs.Layout.{layout_of, other}
 use Rattle.oplog.proofs.Beyond.{beyond_read, beyond_then}
 use Rattle.oplog.specs.Log.{Log}

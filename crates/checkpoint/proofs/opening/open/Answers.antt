@@ -3,7 +3,7 @@ use Rattle.std.proofs.Common.{◌+◌, sym, ◌∙◌, ap}
 use Rattle.disk.specs.Moments.{moment_number}
 use Rattle.checkpoint.specs.Costs.{opening_cost}
 use Rattle.checkpoint.specs.Journal.{JournalView}
-use Rattle.checkpoint.proofs.Loaded.{opened}
+use Rattle.checkpoint.proofs.AreLoaded.{opened}
 use Rattle.checkpoint.proofs.opening.open.Goals as goal
 
 pub new-journal-requires-clause-sound : goal.new-journal-requires-clause-sound

@@ -6,7 +6,7 @@ use Rattle.recovery.specs.Header.{HasHeader}
 use Rattle.recovery.specs.Refusals.{HasHeaderAndParts}
 use Rattle.checkpoint.specs.Parts.{IsMadeOf}
 use Rattle.checkpoint.proofs.Costs.{opening_after}
-use Rattle.checkpoint.proofs.Opened.{never_synced, synced_then, unwritten_from, unwritten_then}
+use Rattle.checkpoint.proofs.OpeningCrashImages.{never_synced, synced_then, unwritten_from, unwritten_then}
 use Rattle.device_map.specs.Layout.{layout_of}
 use Rattle.oplog.proofs.Beyond.{beyond_then}
 use Rattle.checkpoint.proofs.opening.open_on.Goals as goal

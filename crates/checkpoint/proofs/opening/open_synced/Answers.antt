@@ -7,15 +7,15 @@ use Rattle.recovery.specs.Header.{HasHeader}
 use Rattle.recovery.specs.Recovery.{recovered_state}
 use Rattle.recovery.specs.Refusals.{refused}
 use Rattle.recovery.proofs.OneGeometry.{same_geometry}
-use Rattle.recovery.proofs.Refusing.{behind_header, header_half}
+use Rattle.recovery.proofs.Refused.{behind_header, header_half}
 use Rattle.recovery.proofs.Replays.{same_bytes}
 use Rattle.checkpoint.specs.Costs.{finish_cost}
 use Rattle.checkpoint.specs.declared.journal.Buffers.{Buffers}
 use Rattle.checkpoint.specs.Parts.{IsMadeOf}
 use Rattle.checkpoint.specs.Extents.{AreAllDirty}
 use Rattle.checkpoint.proofs.Costs.{finish_few}
-use Rattle.checkpoint.proofs.Loaded.{made, made_of}
-use Rattle.checkpoint.proofs.Opened.{all_unwritten, alike_after, as_alike, as_before, as_still, still_after, still_now, still_synced, still_then, unread, unwritten_from, unwritten_then}
+use Rattle.checkpoint.proofs.AreLoaded.{made, made_of}
+use Rattle.checkpoint.proofs.OpeningCrashImages.{all_unwritten, alike_after, as_alike, as_before, as_still, still_after, still_now, still_synced, still_then, unread, unwritten_from, unwritten_then}
 use Rattle.oplog.specs.Beyond.{KeepsBeyond}
 use Rattle.device_map.specs.Layout.{device_size, layout_of}
 use Rattle.oplog.specs.Log.{Log}

@@ -1,5 +1,5 @@
 -- Two services without a fault agree.
-use Rattle.commands.proofs.Agreeing.{agree}
+use Rattle.commands.proofs.SameOutput.{agree}
 use Rattle.commands.proofs.again.services_without_a_fault_agree.Goals as goal
 
 pub returns : goal.returns

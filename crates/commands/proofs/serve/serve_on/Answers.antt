@@ -2,7 +2,7 @@
 use Rattle.std.proofs.Common.{refl}
 use Rattle.serving.specs.Ends.{exchange}
 use Rattle.commands.specs.Faults.{command_result}
-use Rattle.commands.proofs.Kept.{keeps_acknowledged}
+use Rattle.commands.proofs.SentIsKept.{keeps_acknowledged}
 use Rattle.commands.proofs.Promise.{leaves_recovered, leaves_run}
 use Rattle.commands.proofs.OnDevice.{ends_on_device, crashes_safely, has_served_by}
 use Rattle.commands.proofs.serve.serve_on.Goals as goal

@@ -1,6 +1,6 @@
 -- The lines that are written are those of the device as it was inspected.
 use Rattle.std.proofs.Common.{◌∙◌}
-use Rattle.commands.proofs.Telling.{shows, shows_bytes}
+use Rattle.commands.proofs.ShownText.{shows, shows_bytes}
 use Rattle.commands.proofs.show.show.Goals as goal
 
 pub returns-clause-ends : goal.returns-clause-ends

@@ -5,7 +5,7 @@ use Rattle.disk.specs.Device.{IsSynced}
 use Rattle.disk.specs.Memory.{Memory, medium_of, memory_of}
 use Rattle.serving.specs.Ends.{exchange}
 use Rattle.commands.specs.UntilCrash.{ServesUntilCrash}
-use Rattle.commands.proofs.Kept.{all_then}
+use Rattle.commands.proofs.SentIsKept.{all_then}
 use Rattle.commands.proofs.Promise.{then_so}
 use Rattle.commands.proofs.stopped.serve_stopped.Goals as goal
 

@@ -1,5 +1,5 @@
 -- The lemmas on the crashes of runs that join.
-use Rattle.histories.proofs.Joining.{left_of_first, left_of_second, log_of_first, log_of_second}
+use Rattle.histories.proofs.IsJoined.{left_of_first, left_of_second, log_of_first, log_of_second}
 use Rattle.histories.proofs.laws.a_crash_may_come_in_either_run.Goals as goal
 
 pub returns-clause-log_first : goal.returns-clause-log_first

@@ -1,5 +1,5 @@
 -- The lemmas on draining.
-use Rattle.histories.proofs.Draining.{any_drains, can_answer_all, can_drain, can_step}
+use Rattle.histories.proofs.AllAnswered.{any_drains, can_answer_all, can_drain, can_step}
 use Rattle.histories.proofs.laws.all_can_be_answered.Goals as goal
 
 pub returns-clause-step : goal.returns-clause-step

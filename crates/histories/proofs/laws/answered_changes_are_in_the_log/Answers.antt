@@ -1,5 +1,5 @@
 -- The lemmas on what a run answers.
-use Rattle.histories.proofs.Answering.{run_replies, run_in_order, answered_left}
+use Rattle.histories.proofs.AnsweredFirst.{run_replies, run_in_order, answered_left}
 use Rattle.histories.proofs.laws.answered_changes_are_in_the_log.Goals as goal
 
 pub returns-clause-reply_pairs : goal.returns-clause-reply_pairs

@@ -1,7 +1,7 @@
 -- The lemmas on what keeps a message back.
 use Rattle.affinity.proofs.Elements.{all_weaker}
 use Rattle.histories.proofs.Elements.{in_contained}
-use Rattle.histories.proofs.Keepers.{free_if_none, run_fewer}
+use Rattle.histories.proofs.KeptBack.{free_if_none, run_fewer}
 use Rattle.histories.proofs.laws.later_messages_keep_none_back.Goals as goal
 
 pub returns-clause-none : goal.returns-clause-none

@@ -1,5 +1,5 @@
 -- A run and one that goes on from its end are one run: by a lemma of `Joining`.
-use Rattle.histories.proofs.Joining.{runs_join}
+use Rattle.histories.proofs.IsJoined.{runs_join}
 use Rattle.histories.proofs.laws.legal_runs_join.Goals as goal
 
 pub returns : goal.returns

@@ -1,5 +1,5 @@
 -- The lemmas on full hands.
-use Rattle.histories.proofs.Full.{last_tallies, last_none_out}
+use Rattle.histories.proofs.FullHands.{last_tallies, last_none_out}
 use Rattle.histories.proofs.laws.messages_in_flight_are_in_hands.Goals as goal
 
 pub returns-clause-number : goal.returns-clause-number

@@ -1,5 +1,5 @@
 -- The lemma on events.
-use Rattle.histories.proofs.Keepers.{event_clears}
+use Rattle.histories.proofs.KeptBack.{event_clears}
 use Rattle.histories.proofs.Elements.{in_contained}
 use Rattle.histories.proofs.laws.only_answers_clear.Goals as goal
 

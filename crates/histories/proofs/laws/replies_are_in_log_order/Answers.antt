@@ -1,6 +1,6 @@
 -- The lemmas on what a run logs and answers.
 use Rattle.std.proofs.Common.{sym}
-use Rattle.histories.proofs.Answering.{run_answers}
+use Rattle.histories.proofs.AnsweredFirst.{run_answers}
 use Rattle.histories.proofs.Runs.{run_follows}
 use Rattle.histories.proofs.laws.replies_are_in_log_order.Goals as goal
 

@@ -1,5 +1,5 @@
 -- The lemma `read_again` of `Reading`.
-use Rattle.image.proofs.Reading.{read_again}
+use Rattle.image.proofs.ReadImage.{read_again}
 use Rattle.image.proofs.laws.a_state_is_read_again.Goals as goal
 
 pub returns : goal.returns

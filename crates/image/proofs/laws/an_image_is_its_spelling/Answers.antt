@@ -1,5 +1,5 @@
 -- The lemma `spelling` of `Reading`.
-use Rattle.image.proofs.Reading.{spelling}
+use Rattle.image.proofs.ReadImage.{spelling}
 use Rattle.image.proofs.laws.an_image_is_its_spelling.Goals as goal
 
 pub returns : goal.returns

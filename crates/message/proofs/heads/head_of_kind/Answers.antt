@@ -1,5 +1,5 @@
 -- A `summary` with a word behind its keyword is no message.
-use Rattle.message.proofs.Forms.{nothing_behind}
+use Rattle.message.proofs.GrammarByKind.{nothing_behind}
 use Rattle.message.proofs.heads.head_of_kind.Goals as goal
 
 pub returns-in-Summary : goal.returns-in-Summary

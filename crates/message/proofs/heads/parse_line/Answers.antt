@@ -1,6 +1,6 @@
 -- The head is that of the message which the line spells.
 use Rattle.protocol.specs.Grammar.{message_of}
-use Rattle.message.proofs.Spelling.{read_iff_spelled}
+use Rattle.message.proofs.Spells.{read_iff_spelled}
 use Rattle.message.proofs.heads.parse_line.Goals as goal
 
 pub message-requires : goal.message-requires

@@ -5,7 +5,7 @@ use Rattle.std.proofs.lemmas.List.{take_all}
 use Rattle.protocol.specs.Lines.{words, number_in_word}
 use Rattle.protocol.specs.Grammar.{first_number}
 use Rattle.message.proofs.Words.{words_space}
-use Rattle.message.proofs.Forms.{first_number_some}
+use Rattle.message.proofs.GrammarByKind.{first_number_some}
 use Rattle.message.proofs.Numbers.{number_no_space, one_digit}
 use Rattle.message.proofs.parsing.digit_before_space.Goals as goal
 

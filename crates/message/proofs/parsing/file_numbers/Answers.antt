@@ -1,7 +1,7 @@
 -- The aggregate's number comes before the first space, and the numbers of volume and file behind it.
 use Rattle.std.proofs.Common.{arith}
 use Rattle.std.proofs.lemmas.Grind.{common_steps}
-use Rattle.message.proofs.Forms.{onward_some, of_file-onward}
+use Rattle.message.proofs.GrammarByKind.{onward_some, of_file-onward}
 use Rattle.message.proofs.parsing.file_numbers.Goals as goal
 
 pub returns-in_err-volume-clause-value : goal.returns-in_err-volume-clause-value

@@ -6,7 +6,7 @@ use Rattle.std.specs.Str.Parse.{digits_value}
 use Rattle.std.proofs.lemmas.Bool.{true≢false, ne_eqb}
 use Rattle.protocol.specs.Lines.{words}
 use Rattle.message.proofs.Words.{goes_on, words_split, words_whole}
-use Rattle.message.proofs.Forms.{first_number_none, first_number_some}
+use Rattle.message.proofs.GrammarByKind.{first_number_none, first_number_some}
 use Rattle.message.proofs.Numbers.{no_number, digit_at, digits_no_space, not_a_space, too_large}
 use Rattle.message.proofs.parsing.number_before_space.Goals as goal
 

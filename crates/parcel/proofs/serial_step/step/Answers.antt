@@ -5,7 +5,7 @@ use Rattle.affinity.specs.declared.geometry.Geometry.{Geometry}
 use Rattle.parcel.specs.Nodes.{tree_state}
 use Rattle.parcel.specs.Tree.{IsIn, tree_nodes}
 use Rattle.meaning.specs.State.{IsState}
-use Rattle.parcel.proofs.Served.{placed, fits_there, goes, stepped, all_in_again, state_again}
+use Rattle.parcel.proofs.LendRunRestore.{placed, fits_there, goes, stepped, all_in_again, state_again}
 use Rattle.parcel.proofs.serial_step.step.Goals as goal
 
 pub restore-requires-clause-fits : goal.restore-requires-clause-fits

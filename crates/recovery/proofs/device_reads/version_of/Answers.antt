@@ -6,7 +6,7 @@ use Rattle.oplog.proofs.Slices.{image_sized, part_inside}
 use Rattle.recovery.specs.declared.fault.OpenFault.TheVariants.{BadVersion}
 use Rattle.recovery.specs.Refusals.{fault_if}
 use Rattle.recovery.proofs.Heads.{has_head_first, head_there, version_first}
-use Rattle.recovery.proofs.Laid.{image_some}
+use Rattle.recovery.proofs.LaidOut.{image_some}
 use Rattle.recovery.proofs.device_reads.version_of.Goals as goal
 
 pub read_bytes-requires : goal.read_bytes-requires

@@ -1,7 +1,7 @@
 -- Once synced, a crash leaves the format byte as it is; a 0 over a 1 leaves the old bytes, or a device that isn't formatted.
 use Rattle.std.proofs.Common.{sym, ◌∙◌, arith}
 use Rattle.std.proofs.lemmas.Result.{on_ok_weaker}
-use Rattle.recovery.proofs.Shut.{begun, synced_shut, now_synced, now_kept, now_read, shutting, stored_shut}
+use Rattle.recovery.proofs.Unformatted.{begun, synced_shut, now_synced, now_kept, now_read, shutting, stored_shut}
 use Rattle.disk.proofs.Calls.{after_read, after_sync}
 use Rattle.oplog.proofs.Beyond.{beyond_sync, beyond_then, beyond_write}
 use Rattle.recovery.proofs.formatting.clear_format_byte.Goals as goal

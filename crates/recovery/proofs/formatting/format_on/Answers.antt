@@ -1,6 +1,6 @@
 -- Clear the format byte, lay out the rest, write the header: a crash leaves the old device, one that isn't formatted, or the new one.
 use Rattle.std.proofs.Common.{◌∙◌, arith}
-use Rattle.recovery.proofs.Opened.{shut_moments, laid_moments, opened_moments}
+use Rattle.recovery.proofs.FormatByte.{shut_moments, laid_moments, opened_moments}
 use Rattle.device_map.specs.Layout.{layout_of}
 use Rattle.oplog.proofs.Beyond.{beyond_then, beyond_write}
 use Rattle.recovery.proofs.formatting.format_on.Goals as goal

@@ -2,7 +2,7 @@
 use Rattle.std.proofs.Common.{◌+◌, ℕ, List, [], ◌∷◌, replicate, sym, ◌∙◌, ap, subst, arith}
 use Rattle.recovery.specs.Formatting.{IsAllButHeader}
 use Rattle.recovery.proofs.Changed.{changed_then, changed_within}
-use Rattle.recovery.proofs.Laid.{image_some, laid_out}
+use Rattle.recovery.proofs.LaidOut.{image_some, laid_out}
 use Rattle.disk.specs.Device.{overlaid}
 use Rattle.std.proofs.lemmas.Result.{on_ok_weaker}
 use Rattle.recovery.proofs.formatting.lay_out.Goals as goal

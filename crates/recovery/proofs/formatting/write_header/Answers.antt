@@ -1,6 +1,6 @@
 -- While the header is written the format byte isn't 1; once it is, the device recovers to the empty state.
 use Rattle.std.proofs.Common.{length, take, drop, ap, arith, List, ℕ}
-use Rattle.recovery.proofs.Opened.{numbers_moments, gate_moments, recovers, version}
+use Rattle.recovery.proofs.FormatByte.{numbers_moments, gate_moments, recovers, version}
 use Rattle.device_map.specs.Layout.{layout_of}
 use Rattle.oplog.proofs.Beyond.{beyond_then, beyond_write}
 use Rattle.std.proofs.lemmas.Result.{on_ok_weaker}

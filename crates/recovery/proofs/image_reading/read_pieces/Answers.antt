@@ -6,7 +6,7 @@ use Rattle.image.specs.Pieces.{piece_count}
 use Rattle.device_map.specs.Layout.{image_part, layout_of, part_bytes, part_at}
 use Rattle.parcel.specs.Tree.{state_in}
 use Rattle.recovery.proofs.Replays.{same_bytes}
-use Rattle.recovery.proofs.Walked.{all_read, bad_queued, free_at_first, free_queued, good_queued, next_place, no_bad_piece, read_there, room_left, decoded_turn}
+use Rattle.recovery.proofs.PiecesWalked.{all_read, bad_queued, free_at_first, free_queued, good_queued, next_place, no_bad_piece, read_there, room_left, decoded_turn}
 use Rattle.recovery.proofs.image_reading.read_pieces.Goals as goal
 
 pub loop-n-init : goal.loop-n-init

@@ -14,9 +14,9 @@ use Rattle.oplog.specs.Front.{front}
 use Rattle.oplog.specs.Log.{Log}
 use Rattle.oplog.specs.Recovery.{run}
 use Rattle.parcel.specs.Tree.{TreeView, state_in}
-use Rattle.recovery.proofs.Behind.{HoldsInForce, alone_in_force, behind_refused, both_in_force, held_before}
+use Rattle.recovery.proofs.BadRecordBehind.{HoldsInForce, alone_in_force, behind_refused, both_in_force, held_before}
 use Rattle.recovery.proofs.ReadingCalls.{after, opening_failed}
-use Rattle.recovery.proofs.Refusing.{behind_header}
+use Rattle.recovery.proofs.Refused.{behind_header}
 use Rattle.recovery.proofs.Replays.{same_bytes}
 use Rattle.recovery.proofs.inspecting.inspect_on.Goals as goal
 use Rattle.recovery.proofs.inspecting.inspect_on.Goals.{then-named+in_ok-more, else-named}

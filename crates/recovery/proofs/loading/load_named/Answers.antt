@@ -14,7 +14,7 @@ use Rattle.oplog.specs.Log.{Log}
 use Rattle.oplog.specs.Recovery.{named_area, run}
 use Rattle.parcel.specs.Tree.{state_in}
 use Rattle.recovery.proofs.ReadingCalls.{after, passed_on, returned}
-use Rattle.recovery.proofs.Refusing.{chain_half, chain_refused, image_half, image_refused, named_refused, records_half, records_refused}
+use Rattle.recovery.proofs.Refused.{chain_half, chain_refused, image_half, image_refused, named_refused, records_half, records_refused}
 use Rattle.recovery.proofs.Replays.{same_bytes}
 use Rattle.recovery.proofs.loading.load_named.Given.{Over}
 use Rattle.recovery.proofs.loading.load_named.Goals.{After-name, In_ok-area, In_ok-chained, In_ok-version}

@@ -7,7 +7,7 @@ use Rattle.recovery.specs.Refusals.{fault_if, fault_or_later, first_bad_piece}
 use Rattle.image.specs.Image.{has_head, image_state, version_in}
 use Rattle.device_map.specs.Layout.{device_size, image_part, layout_of, part_bytes}
 use Rattle.recovery.proofs.ReadingCalls.{after, passed_on, returned, unwritten}
-use Rattle.recovery.proofs.Refusing.{head_refused, pieces_refused}
+use Rattle.recovery.proofs.Refused.{head_refused, pieces_refused}
 use Rattle.recovery.proofs.loading.read_image.Goals as goal
 
 pub returns-in_err-version-clause-refused : goal.returns-in_err-version-clause-refused

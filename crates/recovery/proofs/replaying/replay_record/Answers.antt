@@ -6,7 +6,7 @@ use Rattle.oplog.specs.Log.{layout_of_log}
 use Rattle.oplog.specs.Changing.{IsChangeInRange}
 use Rattle.oplog.proofs.BadRecords.{records_are_bytes}
 use Rattle.parcel.specs.Tree.{state_in}
-use Rattle.recovery.proofs.Recorded.{carried, not_run, read_fault}
+use Rattle.recovery.proofs.AfterRecord.{carried, not_run, read_fault}
 use Rattle.recovery.proofs.replaying.replay_record.Goals as goal
 
 pub returns-in_err-m-clause-refused : goal.returns-in_err-m-clause-refused

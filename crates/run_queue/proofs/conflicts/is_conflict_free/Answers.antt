@@ -1,7 +1,7 @@
 -- A related affinity is one of those below or one of those above.
 use Rattle.std.proofs.Common.{◌∙◌, ℕ, sym, ap, subst, not, List}
-use Rattle.run_queue.proofs.Nearby.{AreAbove, are_above}
-use Rattle.run_queue.proofs.Clearing.{clear-by_above, clear-by_below}
+use Rattle.run_queue.proofs.AffinitiesAbove.{AreAbove, are_above}
+use Rattle.run_queue.proofs.ConflictsByNumber.{clear-by_above, clear-by_below}
 use Rattle.run_queue.specs.RelatedNumbers.{numbers_above}
 use Rattle.run_queue.proofs.conflicts.is_conflict_free.Goals as goal
 

@@ -1,6 +1,6 @@
 -- The lemmas on the end of a run.
 use Rattle.histories.proofs.Idle.{idle_sound}
-use Rattle.scheduler.proofs.Ending.{ended_so, holds_answered}
+use Rattle.scheduler.proofs.IsEndOfRun.{ended_so, holds_answered}
 use Rattle.scheduler.specs.CoreView.{core_state_of}
 use Rattle.scheduler.proofs.laws.a_crash_behind_a_run_leaves_what_was_answered.Goals as goal
 

@@ -3,7 +3,7 @@ use Rattle.std.proofs.Common.{sym, ap, ◌∙◌, refl, length, arith}
 use Rattle.std.specs.Prelude.{cond, option_copied}
 use Rattle.affinity.specs.Kind.{is_changing}
 use Rattle.histories.proofs.Room.{at_most_one}
-use Rattle.scheduler.proofs.Gathering.{chain_short, changing_more, gathered_more, ran_goes_on, ran_is_there, ran_next}
+use Rattle.scheduler.proofs.RecordedIn.{chain_short, changing_more, gathered_more, ran_goes_on, ran_is_there, ran_next}
 use Rattle.scheduler.proofs.log_batch.collect_recorded.Goals as goal
 use Rattle.scheduler.specs.declared.slot.TheConstants.{RAN}
 

@@ -5,7 +5,7 @@ use Rattle.std.proofs.lemmas.Bool.{eqb-false}
 use Rattle.workers.specs.Steps.{SeatState}
 use Rattle.workers.specs.declared.job_cell.CellContent.TheVariants.{Offered}
 use Rattle.workers.specs.declared.seats.SeatRole.TheVariants.{Claimed}
-use Rattle.workers.proofs.Keeps.{claims}
+use Rattle.workers.proofs.KeepsRule.{claims}
 use Rattle.workers.proofs.atomic_steps.claim.Goals as goal
 
 pub compare_exchange-requires : goal.compare_exchange-requires

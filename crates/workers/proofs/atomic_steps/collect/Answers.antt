@@ -1,7 +1,7 @@
 -- One exchange of delivered for empty: it wins the slot with the result of the lent job, or else changes nothing.
 use Rattle.std.proofs.Common.{rules, arith, refl, eqb-true}
 use Rattle.std.proofs.lemmas.Bool.{eqb-false}
-use Rattle.workers.proofs.Keeps.{collects}
+use Rattle.workers.proofs.KeepsRule.{collects}
 use Rattle.workers.proofs.atomic_steps.collect.Goals as goal
 
 pub compare_exchange-requires : goal.compare_exchange-requires

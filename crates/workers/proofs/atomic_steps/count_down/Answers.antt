@@ -1,6 +1,6 @@
 -- A word that counts belongs to no place, so taking one from it keeps the rule of the bench.
 use Rattle.std.proofs.Common.{rules, arith, ◌+◌, ◌-◌, ◌%◌, ◌^◌}
-use Rattle.workers.proofs.Keeps.{bookkeeping_keeps}
+use Rattle.workers.proofs.KeepsRule.{bookkeeping_keeps}
 use Rattle.workers.proofs.atomic_steps.count_down.Goals as goal
 
 pub fetch_sub-requires : goal.fetch_sub-requires

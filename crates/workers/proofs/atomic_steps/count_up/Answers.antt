@@ -1,6 +1,6 @@
 -- A word that counts belongs to no place, so adding one to it keeps the rule of the bench.
 use Rattle.std.proofs.Common.{rules, arith, ◌+◌, ◌%◌, ◌^◌}
-use Rattle.workers.proofs.Keeps.{bookkeeping_keeps}
+use Rattle.workers.proofs.KeepsRule.{bookkeeping_keeps}
 use Rattle.workers.proofs.atomic_steps.count_up.Goals as goal
 
 pub fetch_add-requires : goal.fetch_add-requires

@@ -3,7 +3,7 @@ use Rattle.std.proofs.Common.{rules, arith, refl, ap, ◌∙◌}
 use Rattle.atomic_table.specs.Table.{rest}
 use Rattle.workers.specs.Steps.{SeatState}
 use Rattle.workers.specs.declared.seats.SeatRole.TheVariants.{Idle}
-use Rattle.workers.proofs.Keeps.{delivers}
+use Rattle.workers.proofs.KeepsRule.{delivers}
 use Rattle.workers.proofs.atomic_steps.deliver.Goals as goal
 
 pub store-requires : goal.store-requires

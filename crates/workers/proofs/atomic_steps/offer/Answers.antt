@@ -1,6 +1,6 @@
 -- The store keeps the rule of the bench: nothing is lent at the place, and the slot that was taken last has the job.
 use Rattle.std.proofs.Common.{rules, arith}
-use Rattle.workers.proofs.Keeps.{offers}
+use Rattle.workers.proofs.KeepsRule.{offers}
 use Rattle.workers.proofs.atomic_steps.offer.Goals as goal
 
 pub store-requires : goal.store-requires

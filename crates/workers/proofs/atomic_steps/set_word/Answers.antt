@@ -1,6 +1,6 @@
 -- The word in which a number is recorded belongs to no place, so a store into it keeps the rule of the bench.
 use Rattle.std.proofs.Common.{rules, arith}
-use Rattle.workers.proofs.Keeps.{bookkeeping_keeps}
+use Rattle.workers.proofs.KeepsRule.{bookkeeping_keeps}
 use Rattle.workers.proofs.atomic_steps.set_word.Goals as goal
 
 pub store-requires : goal.store-requires

@@ -1,6 +1,6 @@
 -- A seat that is split off is idle and has no slot, which keeps the rule of the bench.
 use Rattle.std.proofs.Common.{rules, arith}
-use Rattle.workers.proofs.Keeps.{splits}
+use Rattle.workers.proofs.KeepsRule.{splits}
 use Rattle.workers.proofs.atomic_steps.split.Goals as goal
 
 pub split_seat-requires : goal.split_seat-requires

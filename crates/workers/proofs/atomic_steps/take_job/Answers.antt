@@ -1,5 +1,5 @@
 -- The first slot of the seat is the one that was taken last, with the job in it.
-use Rattle.workers.proofs.Lending.{same_head}
+use Rattle.workers.proofs.OfferAndCollect.{same_head}
 use Rattle.workers.proofs.atomic_steps.take_job.Goals as goal
 
 pub take_job-requires : goal.take_job-requires

@@ -1,6 +1,6 @@
 -- The store keeps the rule of the bench: nothing is lent at the last place whose slot isn't taken yet.
 use Rattle.std.proofs.Common.{rules, arith}
-use Rattle.workers.proofs.Keeps.{takes_slot}
+use Rattle.workers.proofs.KeepsRule.{takes_slot}
 use Rattle.workers.proofs.atomic_steps.take_slot.Goals as goal
 
 pub store-requires : goal.store-requires

@@ -3,7 +3,7 @@ use Rattle.std.proofs.Common.{sym, subst, replicate, None}
 use Rattle.atomic_table.specs.Table.{opening}
 use Rattle.workers.specs.Rule.{BenchRule}
 use Rattle.workers.specs.declared.seats.SeatRole.TheVariants.{Dispatcher}
-use Rattle.workers.proofs.Keeps.{opens_empty}
+use Rattle.workers.proofs.KeepsRule.{opens_empty}
 use Rattle.workers.proofs.bench.lay.Goals as goal
 
 pub new-requires : goal.new-requires

@@ -3,8 +3,8 @@ use Rattle.std.proofs.lemmas.Grind.{common_steps}
 use Rattle.std.proofs.Common.{Some, arith}
 use Rattle.std.proofs.lemmas.List.{length-set}
 use Rattle.workers.specs.Seats.{lent_of}
-use Rattle.workers.proofs.Turning.{others}
-use Rattle.workers.proofs.Lending.{within, turned_to, filled, lends, flags_of, flag_set, held_at, counted, dispatch_seat_of}
+use Rattle.workers.proofs.SeatOrder.{others}
+use Rattle.workers.proofs.OfferAndCollect.{within, turned_to, filled, lends, flags_of, flag_set, held_at, counted, dispatch_seat_of}
 use Rattle.workers.proofs.bench.put_offer.Goals as goal
 
 pub offer-requires-clause-job : goal.offer-requires-clause-job

@@ -2,7 +2,7 @@
 use Rattle.std.proofs.lemmas.Grind.{common_steps}
 use Rattle.std.proofs.Common.{arith}
 use Rattle.std.proofs.lemmas.List.{length-set}
-use Rattle.workers.proofs.Lending.{comes_back, flags_of, flag_set, rotated_to_end, counted, dispatch_seat_of}
+use Rattle.workers.proofs.OfferAndCollect.{comes_back, flags_of, flag_set, rotated_to_end, counted, dispatch_seat_of}
 use Rattle.workers.proofs.bench.take_delivered.Goals as goal
 
 pub take_result-done-requires : goal.take_result-done-requires

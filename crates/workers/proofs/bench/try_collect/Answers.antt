@@ -7,7 +7,7 @@ use Rattle.workers.specs.Rule.{lent_at}
 use Rattle.workers.specs.Seats.{lent_of}
 use Rattle.workers.specs.declared.job_cell.CellContent.TheVariants.{Delivered}
 use Rattle.workers.specs.declared.seats.SeatRole.TheVariants.{Dispatcher}
-use Rattle.workers.proofs.Lending.{turned_to}
+use Rattle.workers.proofs.OfferAndCollect.{turned_to}
 use Rattle.workers.proofs.bench.try_collect.Goals as goal
 
 pub returns-then-collect-clause-won : goal.returns-then-collect-clause-won

@@ -4,7 +4,7 @@ use Rattle.std.proofs.lemmas.Grind.{common_steps}
 use Rattle.std.proofs.Common.{ap, subst}
 use Rattle.parcel.specs.Run.{IsJobRun}
 use Rattle.workers.specs.Steps.{SeatState}
-use Rattle.workers.proofs.Lending.{headed, same_head, one_job, answered}
+use Rattle.workers.proofs.OfferAndCollect.{headed, same_head, one_job, answered}
 use Rattle.workers.proofs.work.run_claimed.Goals as goal
 
 pub take_job-job-requires : goal.take_job-job-requires

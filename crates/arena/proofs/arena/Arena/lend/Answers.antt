@@ -1,6 +1,6 @@
 -- The slot leaves its list, and its value goes.
 use Rattle.std.proofs.Common.{◌≡◌, true, is_some, None, sym, ◌∙◌, slice_index_or}
-use Rattle.arena.proofs.Keeping.{lend-kept, lend-arena}
+use Rattle.arena.proofs.KeepsView.{lend-kept, lend-arena}
 use Rattle.arena.proofs.arena.Arena.lend.Goals as goal
 
 pub invariant_of-self : goal.invariant_of-self

@@ -1,6 +1,6 @@
 -- The first free slot takes the value.
 use Rattle.std.proofs.Common.{sym, ◌∙◌, arith}
-use Rattle.arena.proofs.Keeping.{put-within, put-kept, put-made}
+use Rattle.arena.proofs.KeepsView.{put-within, put-kept, put-made}
 use Rattle.arena.proofs.arena.Arena.put.Goals as goal
 
 pub unlink-requires : goal.unlink-requires

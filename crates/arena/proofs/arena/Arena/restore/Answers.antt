@@ -4,7 +4,7 @@ use Rattle.std.proofs.lemmas.Bool.{true≢false}
 use Rattle.std.specs.List.{concat}
 use Rattle.arena.specs.Lists.{count_of}
 use Rattle.arena.specs.ArenaView.{ArenaView, is_lent}
-use Rattle.arena.proofs.Keeping.{restore-kept, lent-alone, not_lent-outside, not_lent-listed, not_lent, refused-answer, refused-arena, restored-answer, restored-arena}
+use Rattle.arena.proofs.KeepsView.{restore-kept, lent-alone, not_lent-outside, not_lent-listed, not_lent, refused-answer, refused-arena, restored-answer, restored-arena}
 use Rattle.arena.proofs.arena.Arena.restore.Given.{Over}
 use Rattle.arena.proofs.arena.Arena.restore.Goals as goal
 use Rattle.arena.proofs.arena.Arena.restore.Goals.{then-i-capacity-via-then-i-capacity, then-i-capacity-via-else-i-capacity+then-holds, then-i-capacity-via-else-i-capacity+else-holds+then-not-is_alone}

@@ -1,7 +1,7 @@
 -- The slot leaves its list, becomes the first free one, and its value goes.
 use Rattle.std.proofs.Common.{◌≡◌, true, is_some, None, sym, ◌∙◌, slice_index_or, arith}
 use Rattle.std.proofs.lemmas.List.{length-set}
-use Rattle.arena.proofs.Keeping.{take-kept, take-arena, kept-fits}
+use Rattle.arena.proofs.KeepsView.{take-kept, take-arena, kept-fits}
 use Rattle.arena.proofs.arena.Arena.take.Goals as goal
 
 pub overflow_add-self : goal.overflow_add-self

@@ -1,7 +1,7 @@
 -- All slots are free, and in order.
 use Rattle.std.proofs.Common.{◌≡◌, ◌∙◌, ◌++◌, ◌∷◌, [], arith, ap, length, None, Option}
 use Rattle.std.proofs.lemmas.List.{length-replicate, replicate_more}
-use Rattle.arena.proofs.Keeping.{start-kept}
+use Rattle.arena.proofs.KeepsView.{start-kept}
 use Rattle.arena.proofs.arena.Arena.with_capacity.Goals as goal
 
 pub push_reserved-requires : goal.push_reserved-requires

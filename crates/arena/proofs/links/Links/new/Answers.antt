@@ -2,7 +2,7 @@
 use Rattle.std.proofs.Common.{ℕ, ◌≡◌, ◌<◌, ◌+◌, List, [], ◌∷◌, ◌∙◌, sym, subst, ap, slice_index, arith, length}
 use Rattle.std.proofs.lemmas.List.{length-append}
 use Rattle.arena.specs.Linked.{Linked, next_at_start, previous_at_start}
-use Rattle.arena.proofs.Start.{given-more, IsLinked-start, rings-start}
+use Rattle.arena.proofs.ListsAtStart.{given-more, IsLinked-start, rings-start}
 use Rattle.arena.proofs.Stored.{IsWellLinked-linked}
 use Rattle.arena.proofs.links.Links.new.Goals as goal
 

@@ -9,9 +9,9 @@ use Rattle.image.specs.Pieces.{piece_count}
 use Rattle.checkpoint.specs.Journal.{JournalView, records, committed}
 use Rattle.checkpoint.specs.Keeping.{FitsCutState, journal_view_of}
 use Rattle.checkpoint.specs.DirtyPieces.{count_dirty, cut_dirty}
-use Rattle.checkpoint.proofs.Logging.{beyond_of, failed_kept, failed_view, fit_as, fits_of, recoverable_of, sound_along, still_of}
+use Rattle.checkpoint.proofs.RecoversWithPrefix.{beyond_of, failed_kept, failed_view, fit_as, fits_of, recoverable_of, sound_along, still_of}
 use Rattle.checkpoint.proofs.Rows.{count_most, whole_items, whole_put}
-use Rattle.checkpoint.proofs.Saving.{cut_committed, cut_sound, is_alone, Saves, saves}
+use Rattle.checkpoint.proofs.PointOrCut.{cut_committed, cut_sound, is_alone, Saves, saves}
 use Rattle.device_map.specs.Layout.{device_size, image_size, other}
 use Rattle.oplog.specs.Log.{Log, chained, layout_of_log}
 use Rattle.oplog.specs.Recovery.{records_in}

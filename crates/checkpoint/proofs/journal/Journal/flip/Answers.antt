@@ -8,9 +8,9 @@ use Rattle.checkpoint.specs.Journal.{JournalView}
 use Rattle.checkpoint.specs.Keeping.{FitsCutState}
 use Rattle.checkpoint.specs.Steps.{IsCutWritten}
 use Rattle.recovery.specs.Version.{named_version}
-use Rattle.checkpoint.proofs.Flipping.{flip_asks, flip_sound, flip_version}
-use Rattle.checkpoint.proofs.Logging.{beyond_of, fits_of, recoverable_of, sound_along, sound_of, still_of}
-use Rattle.checkpoint.proofs.Recovering.{holds_now}
+use Rattle.checkpoint.proofs.IsFlipped.{flip_asks, flip_sound, flip_version}
+use Rattle.checkpoint.proofs.RecoversWithPrefix.{beyond_of, fits_of, recoverable_of, sound_along, sound_of, still_of}
+use Rattle.checkpoint.proofs.RecoversByArea.{holds_now}
 use Rattle.image.specs.Pieces.{piece_count}
 use Rattle.oplog.specs.Front.{front}
 use Rattle.device_map.specs.Layout.{device_size, image_size, layout_of}

@@ -7,7 +7,7 @@ use Rattle.disk.specs.Moments.{CrashImagesAre, moment_number}
 use Rattle.image.specs.Pieces.{piece_count}
 use Rattle.checkpoint.specs.Journal.{AreCarriedOut, JournalView, RecoversWithPrefix, committed}
 use Rattle.checkpoint.specs.Keeping.{FitsCutState, journal_view_of}
-use Rattle.checkpoint.proofs.Logging.{beyond_of, failed_kept, failed_view, fits_of, sound_of, log_kept, log_moments, log_records, log_told, placed_used, recoverable_of, sound_along, touched_along}
+use Rattle.checkpoint.proofs.RecoversWithPrefix.{beyond_of, failed_kept, failed_view, fits_of, sound_of, log_kept, log_moments, log_records, log_told, placed_used, recoverable_of, sound_along, touched_along}
 use Rattle.checkpoint.proofs.Rows.{same_dirty, whole_put}
 use Rattle.disk.proofs.Moments.{weaker}
 use Rattle.oplog.specs.Beyond.{KeepsBeyond}

@@ -10,10 +10,10 @@ use Rattle.checkpoint.specs.Journal.{JournalView, IsRecoverable, records, commit
 use Rattle.checkpoint.specs.Keeping.{AreCleanBefore, FitsCutState, IsSoundJournal}
 use Rattle.checkpoint.specs.DirtyPieces.{count_dirty}
 use Rattle.checkpoint.proofs.Costs.{takes_all, takes_most}
-use Rattle.checkpoint.proofs.Logging.{beyond_of, failed_kept, failed_view, fits_of, recoverable_of, sound_of, still_of}
-use Rattle.checkpoint.proofs.Pointing.{other_written}
+use Rattle.checkpoint.proofs.RecoversWithPrefix.{beyond_of, failed_kept, failed_view, fits_of, recoverable_of, sound_of, still_of}
+use Rattle.checkpoint.proofs.IsPointed.{other_written}
 use Rattle.checkpoint.proofs.Rows.{clear_set, count_cleared}
-use Rattle.checkpoint.proofs.Piecing.{IsPieced, piece_counted, piece_left, piece_moments, piece_records, none_due, patches_one, piece_same, piece_some, piece_sound, pieced_along, some_left}
+use Rattle.checkpoint.proofs.PatchesUnnamed.{IsPieced, piece_counted, piece_left, piece_moments, piece_records, none_due, patches_one, piece_same, piece_some, piece_sound, pieced_along, some_left}
 use Rattle.oplog.proofs.Beyond.{beyond, beyond_none}
 use Rattle.device_map.specs.Layout.{device_size, image_size, layout_of, other}
 use Rattle.oplog.specs.Log.{Log}

@@ -12,10 +12,10 @@ use Rattle.checkpoint.specs.Journal.{JournalView, committed}
 use Rattle.checkpoint.specs.Keeping.{FitsCutState}
 use Rattle.checkpoint.specs.Steps.{IsPointed}
 use Rattle.checkpoint.proofs.Costs.{few_writes}
-use Rattle.checkpoint.proofs.Logging.{beyond_of, failed_kept, failed_view, fit_as, fits_of, recoverable_of, sound_along, still_of}
+use Rattle.checkpoint.proofs.RecoversWithPrefix.{beyond_of, failed_kept, failed_view, fit_as, fits_of, recoverable_of, sound_along, still_of}
 use Rattle.checkpoint.proofs.Rows.{whole_put}
 use Rattle.recovery.specs.Version.{named_version}
-use Rattle.checkpoint.proofs.Saving.{agrees, is_alone, point_committed, point_sound, pointed_version, reads, Saves, saves}
+use Rattle.checkpoint.proofs.PointOrCut.{agrees, is_alone, point_committed, point_sound, pointed_version, reads, Saves, saves}
 use Rattle.device_map.specs.Layout.{device_size, image_size}
 use Rattle.oplog.specs.Log.{Log, layout_of_log}
 use Rattle.oplog.specs.Recovery.{records_in}

@@ -1,6 +1,6 @@
 -- Empty hands hold no job, so with a sound core state they keep what a machine keeps.
 use Rattle.std.proofs.Common.{List, map, ap, sym, subst, ◌∙◌}
-use Rattle.machine.proofs.Starting.{all_empty, empty_hold}
+use Rattle.machine.proofs.EmptyHands.{all_empty, empty_hold}
 use Rattle.scheduler.specs.Machine.{HoldsJobs, hand_of}
 use Rattle.scheduler.specs.declared.hands.HandContent.{HandContent}
 use Rattle.scheduler.specs.CoreView.{core_state_of}

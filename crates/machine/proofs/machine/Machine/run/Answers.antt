@@ -6,7 +6,7 @@ use Rattle.std.proofs.lemmas.List.{take_all, with_items_is}
 use Rattle.histories.specs.Laws.{IsSoundCoreState}
 use Rattle.histories.specs.declared.outcomes.Outcome.{Outcome}
 use Rattle.histories.specs.declared.outcomes.Step.{Step}
-use Rattle.scheduler.proofs.Running.{has_run, next_device_events, no_device_events}
+use Rattle.scheduler.proofs.HasRun.{has_run, next_device_events, no_device_events}
 use Rattle.scheduler.specs.Machine.{MachineView, HasDeviceEvents, HoldsJobs}
 use Rattle.scheduler.specs.declared.hands.HandContent.{HandContent}
 use Rattle.scheduler.specs.CoreView.{core_state_of}

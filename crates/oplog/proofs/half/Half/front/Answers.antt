@@ -2,7 +2,7 @@
 use Rattle.std.proofs.Common.{◌∙◌, arith}
 use Rattle.device_map.specs.Layout.{layout_of}
 use Rattle.oplog.proofs.Gates.{open_at_most}
-use Rattle.oplog.proofs.Reading.{front_read}
+use Rattle.oplog.proofs.PartsRead.{front_read}
 use Rattle.oplog.proofs.half.Half.front.Goals as goal
 
 pub returns-clause-front : goal.returns-clause-front

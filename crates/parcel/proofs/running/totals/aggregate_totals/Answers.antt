@@ -6,7 +6,7 @@ use Rattle.parcel.specs.Fits.{FitsVolume}
 use Rattle.parcel.specs.Shown.{aggregate_facts, child_facts, volume_facts}
 use Rattle.parcel.specs.Totals.{totals_of}
 use Rattle.parcel.proofs.ChildRows.{fits_in_place}
-use Rattle.parcel.proofs.Summing.{IsFew, few_of_one, few_of_sum}
+use Rattle.parcel.proofs.Totals.{IsFew, few_of_one, few_of_sum}
 use Rattle.parcel.proofs.running.totals.aggregate_totals.Goals as goal
 
 pub volume_in-requires : goal.volume_in-requires

@@ -8,7 +8,7 @@ use Rattle.parcel.specs.Fits.{FitsStripe}
 use Rattle.parcel.specs.Shown.{blocks_of}
 use Rattle.parcel.proofs.StripeTotals.{holding, count_at, few_entries, quota_of}
 use Rattle.parcel.proofs.ChildRows.{fits_in_place}
-use Rattle.parcel.proofs.Summing.{sum_step}
+use Rattle.parcel.proofs.Totals.{sum_step}
 use Rattle.parcel.proofs.running.totals.block_count.Goals as goal
 use Rattle.parcel.proofs.running.totals.block_count.Goals.{After-index}
 

@@ -5,7 +5,7 @@ use Rattle.std.proofs.lemmas.List.{get_or_read}
 use Rattle.parcel.specs.Shown.{aggregate_facts, child_facts, root_facts}
 use Rattle.parcel.specs.Totals.{sum_totals, totals_of}
 use Rattle.parcel.specs.declared.running.totals.Totals.{Totals}
-use Rattle.parcel.proofs.Summing.{IsFew, few_of_one, few_of_sum, few_of_aggregates, sum_totals_step}
+use Rattle.parcel.proofs.Totals.{IsFew, few_of_one, few_of_sum, few_of_aggregates, sum_totals_step}
 use Rattle.parcel.proofs.running.totals.root_totals.Goals as goal
 
 pub plus-totals-requires : goal.plus-totals-requires

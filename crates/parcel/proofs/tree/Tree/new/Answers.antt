@@ -1,5 +1,5 @@
 -- A new tree holds the empty state, and all of it is in.
-use Rattle.parcel.proofs.Starting.{root_new, new_all_in, new_state}
+use Rattle.parcel.proofs.NewTree.{root_new, new_all_in, new_state}
 use Rattle.parcel.proofs.tree.Tree.new.Goals as goal
 
 pub invariant_of-result : goal.invariant_of-result

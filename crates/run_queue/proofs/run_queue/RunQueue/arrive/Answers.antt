@@ -8,7 +8,7 @@ use Rattle.run_queue.specs.Queues.{Waiting}
 use Rattle.run_queue.specs.ReadyTable.{IsEntryRight}
 use Rattle.run_queue.specs.Invariant.{AreQueued}
 use Rattle.run_queue.specs.declared.queued_message.QueuedMessage.{QueuedMessage}
-use Rattle.run_queue.proofs.Nearby.{number-below}
+use Rattle.run_queue.proofs.AffinitiesAbove.{number-below}
 use Rattle.run_queue.proofs.QueueCalls.{messages-arrived, room-for-arrived, kept-arrived}
 use Rattle.run_queue.proofs.run_queue.RunQueue.arrive.Goals.{After-push}
 use Rattle.run_queue.proofs.run_queue.RunQueue.arrive.Goals as goal

@@ -1,7 +1,7 @@
 -- The message that is dispatched is the first in its queue, and none is held at its affinity.
 use Rattle.std.proofs.Common.{◌≡◌, arith, sym, subst, find, Some, refl}
 use Rattle.run_queue.specs.RunQueue.{RunQueueView, IsNext, has_number}
-use Rattle.run_queue.proofs.Nearby.{number-below}
+use Rattle.run_queue.proofs.AffinitiesAbove.{number-below}
 use Rattle.run_queue.proofs.QueueCalls.{next-placed, next-first, next-free, queued-gone, kept-gone}
 use Rattle.run_queue.proofs.run_queue.RunQueue.dispatch.Goals as goal
 

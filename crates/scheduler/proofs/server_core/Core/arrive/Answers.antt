@@ -8,7 +8,7 @@ use Rattle.histories.specs.Events.{arrive}
 use Rattle.histories.specs.declared.outcomes.ArriveRefusal.TheVariants as arrivals
 use Rattle.histories.specs.declared.outcomes.Outcome.TheVariants as outcomes
 use Rattle.scheduler.proofs.ArriveCall.{arrive_call, arrive_later, arrive_new, arrive_slot, arrive_state, full_arena, full_state}
-use Rattle.scheduler.proofs.Placing.{placed_of, range_of}
+use Rattle.scheduler.proofs.IsPlaced.{placed_of, range_of}
 use Rattle.scheduler.specs.CoreView.{CoreView, core_state_of}
 use Rattle.scheduler.specs.View.{IsSoundCore, parts}
 use Rattle.scheduler.specs.Parts.{core_state_in}

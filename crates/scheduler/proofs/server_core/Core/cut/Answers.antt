@@ -8,9 +8,9 @@ use Rattle.histories.specs.Events.{point_refusal}
 use Rattle.oplog.proofs.Beyond.{beyond_none}
 use Rattle.oplog.specs.Beyond.{KeepsBeyond}
 use Rattle.device_map.specs.Layout.{layout_of}
-use Rattle.scheduler.proofs.Journaling.{stands}
+use Rattle.scheduler.proofs.JournalKeepsCore.{stands}
 use Rattle.scheduler.proofs.LogCall.{none_taken}
-use Rattle.scheduler.proofs.Pointing.{called_core, cut_core, not_refused, point_state, point_whole, point_works, step_moment}
+use Rattle.scheduler.proofs.CheckpointKeepsCore.{called_core, cut_core, not_refused, point_state, point_whole, point_works, step_moment}
 use Rattle.scheduler.specs.CoreView.{CoreView, core_state_of}
 use Rattle.scheduler.specs.View.{parts}
 use Rattle.scheduler.specs.Parts.{core_state_in}

@@ -4,9 +4,9 @@ use Rattle.std.proofs.Common.{[], sym, subst, ◌∙◌}
 use Rattle.oplog.proofs.Beyond.{beyond_none}
 use Rattle.oplog.specs.Beyond.{KeepsBeyond}
 use Rattle.device_map.specs.Layout.{layout_of}
-use Rattle.scheduler.proofs.Journaling.{stands}
+use Rattle.scheduler.proofs.JournalKeepsCore.{stands}
 use Rattle.scheduler.proofs.LogCall.{none_taken}
-use Rattle.scheduler.proofs.Pointing.{called_core, flip_core, step_moment}
+use Rattle.scheduler.proofs.CheckpointKeepsCore.{called_core, flip_core, step_moment}
 use Rattle.scheduler.specs.CoreView.{CoreView}
 use Rattle.scheduler.specs.View.{parts}
 use Rattle.scheduler.proofs.server_core.Core.flip.Goals as goal

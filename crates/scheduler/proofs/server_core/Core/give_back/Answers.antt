@@ -11,7 +11,7 @@ use Rattle.protocol.specs.Messages.{four_numbers, kind}
 use Rattle.parcel.specs.Fits.{Fits, IsKindOf}
 use Rattle.parcel.specs.Tree.{IsOut, RestoresAt, tree_nodes}
 use Rattle.parcel.specs.declared.parts.Parcels.{Parcels}
-use Rattle.scheduler.proofs.Placing.{placed_of}
+use Rattle.scheduler.proofs.IsPlaced.{placed_of}
 use Rattle.scheduler.proofs.ReturnCall.{back_call, back_fits, back_goes_in, back_is_held, back_low, back_state}
 use Rattle.scheduler.specs.Jobs.{IsResultOf}
 use Rattle.scheduler.specs.CoreView.{CoreView, core_state_of}

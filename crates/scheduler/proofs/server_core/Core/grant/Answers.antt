@@ -4,7 +4,7 @@ use Rattle.std.specs.Prelude.{nat_lt, option_copied}
 use Rattle.affinity.specs.declared.geometry.Geometry.{Geometry}
 use Rattle.arena.specs.ArenaView.{IsPartitioned}
 use Rattle.parcel.specs.Fits.{IsRunnable}
-use Rattle.scheduler.proofs.Choosing.{none_is_granted}
+use Rattle.scheduler.proofs.NextEligible.{none_is_granted}
 use Rattle.scheduler.proofs.GrantCall.{grant_affinity, grant_call, grant_call_is, grant_has_room, grant_has_slot, grant_suits}
 use Rattle.scheduler.specs.Calls.{IsGrantOf, IsGranted}
 use Rattle.scheduler.specs.CoreView.{CoreView, core_state_of}

@@ -8,7 +8,7 @@ use Rattle.oplog.proofs.Beyond.{beyond_none}
 use Rattle.oplog.specs.Beyond.{KeepsBeyond}
 use Rattle.oplog.specs.Log.{batch_count}
 use Rattle.device_map.specs.Layout.{layout_of}
-use Rattle.scheduler.proofs.Journaling.{stands}
+use Rattle.scheduler.proofs.JournalKeepsCore.{stands}
 use Rattle.scheduler.proofs.LogCall.{Gathers, broken_from, broken_takes, doubt_call, doubt_call_state, log_call, log_call_throughout, log_call_state, log_carried, log_count, log_fits, log_unlogged, log_length, log_changes, log_low, log_untouched, made_from, made_takes, none_taken, some_were_passed}
 use Rattle.scheduler.specs.CoreView.{CoreView, core_state_of}
 use Rattle.scheduler.specs.View.{parts}

@@ -10,7 +10,7 @@ use Rattle.checkpoint.specs.Journal.{IsRecoverable, committed}
 use Rattle.oplog.proofs.Beyond.{beyond_none}
 use Rattle.device_map.specs.Layout.{layout_of}
 use Rattle.parcel.specs.Tree.{state_in}
-use Rattle.scheduler.proofs.Opened.{opened_sound}
+use Rattle.scheduler.proofs.IsJustOpened.{opened_sound}
 use Rattle.scheduler.proofs.Refusals.{one_fault, opened_or_refused, recovers_or_refused}
 use Rattle.run_queue.specs.RunQueue.{RunQueueView, queue_at_start}
 use Rattle.scheduler.specs.Parts.{entry_of, replied_of}

@@ -1,6 +1,6 @@
 -- The session's invariant holds after the core's `flip`, and (`-2`) after its `piece`.
 use Rattle.std.proofs.Common.{refl}
-use Rattle.scheduler.proofs.Called.{flip_called, piece_called}
+use Rattle.scheduler.proofs.IsCallEvent.{flip_called, piece_called}
 use Rattle.scheduler.specs.CoreView.{core_state_of}
 use Rattle.serving.proofs.Segments.{flip_is_quiet, piece_is_quiet}
 use Rattle.serving.proofs.Invariant.{holds_of, on_machine}

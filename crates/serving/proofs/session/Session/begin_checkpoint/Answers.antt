@@ -1,6 +1,6 @@
 -- The session keeps its invariant, and halts only where the device has failed.
 use Rattle.std.proofs.Common.{◌≡◌, ap, false, refl, ◌∙◌}
-use Rattle.scheduler.proofs.Called.{cut_called}
+use Rattle.scheduler.proofs.IsCallEvent.{cut_called}
 use Rattle.scheduler.specs.CoreView.{core_state_of}
 use Rattle.serving.specs.Session.{SessionView}
 use Rattle.serving.proofs.CheckpointSteps.{halts, stays, waits}

@@ -3,7 +3,7 @@
 use Rattle.std.proofs.Common.{◌≡◌, Some, ap, refl, sym, ◌∙◌}
 use Rattle.std.proofs.lemmas.Bool.{true≢false}
 use Rattle.reorder_buffer.specs.ReorderBuffer.{ReorderBufferView}
-use Rattle.scheduler.proofs.Called.{point_called}
+use Rattle.scheduler.proofs.IsCallEvent.{point_called}
 use Rattle.scheduler.specs.CoreView.{CoreView, core_state_of}
 use Rattle.serving.proofs.SessionEnds.{ended_by_device}
 use Rattle.serving.proofs.Segments.{point_is_quiet}

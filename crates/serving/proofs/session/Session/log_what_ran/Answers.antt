@@ -1,6 +1,6 @@
 -- The session keeps its invariant; and the lemmas on logs.
 use Rattle.std.proofs.Common.{◌≡◌, ◌+◌, ap, refl, ◌∙◌}
-use Rattle.scheduler.proofs.Called.{log_called}
+use Rattle.scheduler.proofs.IsCallEvent.{log_called}
 use Rattle.scheduler.specs.CoreView.{core_state_of}
 use Rattle.serving.specs.Session.{SessionView, steps_ahead}
 use Rattle.serving.proofs.StepsAhead.{logged_some, steps}

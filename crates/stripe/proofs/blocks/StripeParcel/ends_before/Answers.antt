@@ -5,7 +5,7 @@ use Rattle.std.proofs.lemmas.Bool.{eqb-true, eq-eqb}
 use Rattle.std.proofs.lemmas.List.{take_all}
 use Rattle.stripe.specs.Stripe.{PrecedesBlock}
 use Rattle.stripe.specs.Index.{IsSplit}
-use Rattle.stripe.proofs.EntryReading.{all_split}
+use Rattle.stripe.proofs.EntriesRead.{all_split}
 use Rattle.stripe.proofs.blocks.StripeParcel.ends_before.Goals as goal
 
 pub returns : goal.returns

@@ -6,7 +6,7 @@ use Rattle.std.proofs.lemmas.List.{drop_all, get_or-drop, length-drop, take_all}
 use Rattle.std.proofs.lemmas.List.Edits.{insert_end}
 use Rattle.stripe.specs.Entries.{entry_in, fits_stripe}
 use Rattle.stripe.specs.Stripe.{BlockEntry, PrecedesBlock}
-use Rattle.stripe.proofs.EntryReading.{row_spelled}
+use Rattle.stripe.proofs.EntriesRead.{row_spelled}
 use Rattle.stripe.proofs.blocks.StripeParcel.push.Goals as goal
 
 block_in : (row : List ℕ) {b : ℕ} → b ≡ get_or row 2 0 + get_or row 3 0 * 256 → b ≡ (entry_in row).block

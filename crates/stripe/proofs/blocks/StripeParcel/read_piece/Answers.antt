@@ -7,7 +7,7 @@ use Rattle.device_map.specs.declared.layout.TheConstants.{BLOCK_ENTRY_SIZE}
 use Rattle.stripe.specs.Entries.{entry_in}
 use Rattle.stripe.specs.Index.{IsNextEntry}
 use Rattle.stripe.specs.Stripe.{BlockEntry, StripePart}
-use Rattle.stripe.proofs.EntryReading.{HasRead, zeros_behind, are_zeros, next_read, is_next, zeros_by_test, test_of_zeros}
+use Rattle.stripe.proofs.EntriesRead.{HasRead, zeros_behind, are_zeros, next_read, is_next, zeros_by_test, test_of_zeros}
 use Rattle.stripe.proofs.blocks.StripeParcel.read_piece.Goals as goal
 
 -- the first byte of what is left

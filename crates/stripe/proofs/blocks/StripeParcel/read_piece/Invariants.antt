@@ -1,6 +1,6 @@
 -- The entries so far were read.
 use Rattle.std.proofs.Common.{◌≡◌, length}
-use Rattle.stripe.proofs.EntryReading.{HasRead}
+use Rattle.stripe.proofs.EntriesRead.{HasRead}
 use Rattle.stripe.proofs.blocks.StripeParcel.read_piece.Given as goal
 
 abbrev pub invariant-loop-n : goal.invariant-loop-n

@@ -6,7 +6,7 @@ use Rattle.parcel.specs.Run.{JobView, IsJobRun}
 use Rattle.workers.specs.Rule.{LentJobs, lent_at}
 use Rattle.workers.specs.Steps.{SeatState}
 use Rattle.workers.specs.Seats.{DispatchSeatView, lent_of}
-use Rattle.workers.proofs.Lending.{same_head, one_result}
+use Rattle.workers.proofs.OfferAndCollect.{same_head, one_result}
 use Rattle.workers.proofs.bench.Bench.collect.Goals as goal
 
 pub take_delivered-requires-clause-won : goal.take_delivered-requires-clause-won

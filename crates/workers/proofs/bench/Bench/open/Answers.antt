@@ -2,7 +2,7 @@
 use Rattle.std.proofs.Common.{arith}
 use Rattle.std.proofs.lemmas.Grind.{common_steps}
 use Rattle.std.proofs.lemmas.List.{length-replicate}
-use Rattle.workers.proofs.Lending.{no_flags, dispatch_seat_of}
+use Rattle.workers.proofs.OfferAndCollect.{no_flags, dispatch_seat_of}
 use Rattle.workers.proofs.bench.Bench.open.Goals as goal
 
 pub invariant_of-dispatch_seat : goal.invariant_of-dispatch_seat
