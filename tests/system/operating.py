@@ -30,7 +30,8 @@ MANY = [f"setlabel 0 0 {number:04x}01\n".encode() + b"read 0 0 0 0\n" * 200 for 
 REPLIES_OF_ONE = 201  # to the lines of one of these
 LAST_LABEL = "ff"
 MANY_CHANGES = ["makevol 0 0", *["setlabel 0 0 61"] * 5000, f"setlabel 0 0 {LAST_LABEL}"]
-# In the place of the server: its first reply comes once there is a file, each other one a while after its line, longer than the idle limit of a test.
+# In the place of the server: its first reply comes once there is a file, and each other one a while after its line,
+# which is longer than the idle limit of a test.
 SLOW_SERVER = """#!/bin/sh
 read line
 : >started

@@ -1,10 +1,10 @@
 -- The lemmas of this crate: what is printed of a device, what a service on it did, and what a restart goes on from.
-pub mod ShownText
-pub mod OnDevice
-pub mod SentIsKept
-pub mod Promise
-pub mod Durable
-pub mod SameOutput
-pub mod Services
-pub mod CallEnds
+mod ShownText
+mod OnDevice
+mod SentIsKept
+mod Promise
+mod Durable
+mod SameOutput
+mod Services
+mod CallEnds
 mod Examples

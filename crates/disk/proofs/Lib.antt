@@ -4,7 +4,7 @@ pub mod Calls
 mod Crashes
 pub mod Leaves
 pub mod Moments
-pub mod OneWrite
+mod OneWrite
 pub mod Outside
 pub mod Overlays
 mod Examples

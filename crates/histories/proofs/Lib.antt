@@ -17,12 +17,12 @@ pub mod AnsweredFirst
 pub mod Outs
 pub mod FullHands
 pub mod Incarnations
-pub mod Doubts
 pub mod SerialHistories
 pub mod Progress
-pub mod KeptBack
-pub mod Steps
-pub mod Hands
-pub mod AllAnswered
 -- ---- this crate's own
+mod Doubts
+mod KeptBack
+mod Steps
+mod Hands
+mod AllAnswered
 mod Examples

@@ -7,8 +7,8 @@ pub mod ReadImage
 pub mod Order
 pub mod Counted
 pub mod Decoded
-pub mod PiecesTakenIn
-pub mod SamePieces
+mod PiecesTakenIn
+mod SamePieces
 pub mod Walk
 pub mod Untouched
 mod Examples

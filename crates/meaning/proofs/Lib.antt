@@ -8,7 +8,7 @@ pub mod Frame
 pub mod ByTicket
 pub mod Unchanged
 -- Lines and their output, and lines taken.
-pub mod LineLemmas
+mod LineLemmas
 pub mod OutputLemmas
 pub mod LinesTaken
 -- For the serial server: the keys of ordered maps, and the tests by kind.

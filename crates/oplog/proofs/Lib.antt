@@ -4,7 +4,6 @@
 pub mod AfterCrash
 pub mod Kept
 pub mod Ready
-pub mod Batches
 pub mod Slices
 pub mod PartsRead
 pub mod RecordRows
@@ -13,6 +12,7 @@ pub mod Answered
 pub mod Beyond
 pub mod Gates
 -- ---- For this crate alone.
+mod Batches
 mod Batch
 mod BatchMoments
 mod Costs

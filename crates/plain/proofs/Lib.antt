@@ -1,14 +1,14 @@
 -- The steps of a session.
-pub mod SessionSteps
-pub mod Beginnings
+mod SessionSteps
+mod Beginnings
 -- Messages without data.
-pub mod Asked
+mod Asked
 -- The maps of a server.
-pub mod ServerCounts
-pub mod Writes
-pub mod Volumes
-pub mod Lengths
-pub mod Removals
-pub mod RemovalOrders
-pub mod Totals
-pub mod Walks
+mod ServerCounts
+mod Writes
+mod Volumes
+mod Lengths
+mod Removals
+mod RemovalOrders
+mod Totals
+mod Walks

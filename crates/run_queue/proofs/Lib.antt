@@ -1,7 +1,7 @@
--- ---- for the crates above: which message goes next, by tickets, and that it waits
+-- ---- for the crates above: which message goes next, by tickets
 pub mod ByTicket
-pub mod IsNext
 -- ---- this crate's own
+mod IsNext
 mod SlotCounts
 mod Examples
 mod TicketOrder

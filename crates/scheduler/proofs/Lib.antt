@@ -1,15 +1,14 @@
--- ---- for the crates above: the calls of a core as events, that jobs stay what they are, and which devices are refused
+-- ---- for the crates above: the calls of a core as events, which devices are refused, each step of a machine as an event, and what a
+-- crash leaves of a run
 pub mod IsCallEvent
 pub mod Refusals
-pub mod IsJobOf
--- ---- for a server of lines: each step is an event, and what a crash leaves of a run
 pub mod Events
 pub mod HasRun
 pub mod FailStop
--- ---- for the machine
-pub mod InHands
-pub mod Jobs
 -- ---- this crate's own
+mod IsJobOf
+mod InHands
+mod Jobs
 mod Examples
 mod Splits
 mod Chains
@@ -33,6 +32,5 @@ mod HasLogged
 mod RecordedIn
 mod LogCall
 mod IsJustOpened
--- what the incarnations of a device leave
 mod Incarnations
 mod IsEndOfRun
