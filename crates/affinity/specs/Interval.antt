@@ -1,6 +1,6 @@
 -- Statement for engineers: Affinities as intervals of numbers. The tree of a server is numbered in preorder: an affinity and all that lie
 -- below it have the numbers from its own number, which is the least of them, up to its end, the end excluded.
-use Rattle.std.specs.Prelude.{◌≡◌, ℕ, zero, suc, ◌+◌, ◌*◌, ◌<◌, [], ◌∷◌, Bool, ◌&&◌, nat_le, nat_lt}
+use Rattle.std.specs.Prelude.{◌≡◌, ℕ, zero, suc, ◌+◌, ◌*◌, [], ◌∷◌, Bool, ◌&&◌, nat_le, nat_lt}
 use Rattle.affinity.specs.Path.{Path, IsPath}
 use Rattle.affinity.specs.declared.geometry.Geometry.{Geometry}
 

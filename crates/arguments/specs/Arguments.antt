@@ -1,7 +1,7 @@
 -- Statement for engineers: What the arguments ask for. `clap` reads them, by its rules for the commands and options below. Of its types an
 -- `App` is a command with its subcommands (its `top` is the command without them), a `Rule` one argument or option that it takes, and a
 -- `Row` one that was given, with its values.
-use Rattle.std.specs.Prelude.{◌≡◌, ◌≢◌, ◌&&◌, ◌⊎◌, ℕ, Bool, true, false, List, [], ◌∷◌, fold, length, Option, Some, None, option_and_then, option_map, unwrap_or, Result, Ok, Err, codes, if◌then◌else◌, nat_lt, ℤ, pos}
+use Rattle.std.specs.Prelude.{◌≡◌, ◌-◌, ◌^◌, ◌≢◌, ◌&&◌, ◌⊎◌, ℕ, Bool, true, false, List, [], ◌∷◌, fold, length, Option, Some, None, option_and_then, option_map, unwrap_or, Result, Ok, Err, codes, if◌then◌else◌, nat_lt, ℤ, pos}
 use Rattle.std.specs.Option.{option_map_or}
 use Rattle.std.specs.Char.{digit_value}
 use Rattle.std.specs.List.{list_all}
@@ -23,6 +23,7 @@ use Rattle.arguments.specs.declared.command_line.Request.TheVariants.{Help, Plai
 use Rattle.arguments.specs.declared.command_line.ServiceNumbers.{ServiceNumbers}
 use Rattle.arguments.specs.declared.command_line.ArgumentRefusal.{ArgumentRefusal}
 use Rattle.arguments.specs.declared.command_line.ArgumentRefusal.TheVariants.{Words, OutOfMemory, GeometryOutOfRange}
+use Rattle.affinity.specs.declared.limits.TheConstants.{MOST_RECORDS, MOST_SLOTS, MOST_WORKERS}
 
 -- ---- the commands
 
@@ -37,7 +38,7 @@ rule_within name least most = record (new_rule name) { long = Some name; value_n
 
 -- a command with the options of a geometry added
 abbrev pub with_numbers : App → App
-with_numbers a = fold (λ b name. with_rule b (rule_within name (pos 0) (pos 65535))) a names
+with_numbers a = fold (λ b name. with_rule b (rule_within name (pos 0) (pos (2 ^ 16 - 1)))) a names
 
 -- the file of a device, which has to be given
 abbrev pub device_rule : Rule
@@ -58,8 +59,8 @@ show = with_rule (new_app (codes "show")) device_rule
 -- the command `serve`: how many workers it has, how many lines it may read before their answers are sent, and after how many records it
 -- makes a checkpoint
 abbrev pub serve : App
-serve = fold with_rule (new_app (codes "serve")) (device_rule ∷ rule_within (codes "workers") (pos 0) (pos 64)
-    ∷ rule_within (codes "slots") (pos 1) (pos 1024) ∷ rule_within (codes "every") (pos 0) (pos 1024) ∷ [])
+serve = fold with_rule (new_app (codes "serve")) (device_rule ∷ rule_within (codes "workers") (pos 0) (pos MOST_WORKERS)
+    ∷ rule_within (codes "slots") (pos 1) (pos MOST_SLOTS) ∷ rule_within (codes "every") (pos 0) (pos MOST_RECORDS) ∷ [])
 
 -- the program without its commands, of which one has to be given; it has a version
 abbrev pub bare : App
@@ -76,7 +77,7 @@ abbrev pub number_of : Text → Option ℕ
 number_of text =
     let digits = without_leading_plus text in
     if nat_lt 0 (length digits) && list_all (λ d. nat_lt (digit_value d) 10) digits
-    && nat_lt (digits_value 10 digits) 65536 then Some (digits_value 10 digits) else None
+    && nat_lt (digits_value 10 digits) (2 ^ 16) then Some (digits_value 10 digits) else None
 
 -- the number of an option among those that were given, or the default; `one_of name rows` is the value that was given to it, as a text
 abbrev pub number_in : List Row → Text → ℕ → ℕ

@@ -6,6 +6,7 @@ ghost use Rattle.arguments.specs.Tables.{command_app, with_commands, with_option
 ghost use Rattle.arguments.specs.declared.command_line.ArgumentRefusal.TheVariants.{OutOfMemory};
 
 use affinity::Geometry;
+use affinity::limits::{MOST_RECORDS, MOST_SLOTS, MOST_WORKERS};
 use clap::builder::ValueParser;
 use clap::error::ErrorKind;
 use clap::{Arg, ArgMatches, Command};
@@ -96,19 +97,19 @@ const SERVICE: [NumberOption<'static>; 3] = [
         "workers",
         "Threads that run messages, 0 to 64 [default: 2]",
         0,
-        64,
+        MOST_WORKERS,
     ),
     (
         "slots",
         "Lines that are read and whose reply is not sent, 1 to 1024 [default: 16]",
         1,
-        1024,
+        MOST_SLOTS,
     ),
     (
         "every",
         "Changes between checkpoints, 0 to 1024; 0 makes them where the log is full [default: 0]",
         0,
-        1024,
+        MOST_RECORDS,
     ),
 ];
 

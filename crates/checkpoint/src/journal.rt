@@ -23,9 +23,9 @@ use crate::extents::write_extent;
 use crate::snapshot::update_snapshot;
 use affinity::Geometry;
 use disk::Disk;
-use protocol::Msg;
 use oplog::{Halves, LogFault, other};
 use parcel::Tree;
+use protocol::Msg;
 use std::marker::Model;
 use std::mem;
 

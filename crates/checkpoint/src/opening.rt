@@ -209,7 +209,12 @@ fn checkpoint_recovered<D: Disk>(parts: &mut Parts, disk: &mut D) -> Result<(), 
         &mut parts.buffers.snapshot,
     );
     let buffers = &parts.buffers;
-    point_on(&mut parts.halves, disk, &buffers.snapshot, &buffers.other_dirty)?;
+    point_on(
+        &mut parts.halves,
+        disk,
+        &buffers.snapshot,
+        &buffers.other_dirty,
+    )?;
     Ok(())
 }
 

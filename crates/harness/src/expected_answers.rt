@@ -4,10 +4,10 @@ ghost use Rattle.parcel.specs.Tree.{IsWholeTree};
 
 use crate::Wrong;
 use affinity::{Geometry, is_in_range};
-use protocol::{Msg, Refusal, Reply};
 use message::{LONGEST_REPLY, parse_line, write_reply};
 use parcel::{Tree, step};
 use plain::serve_plain;
+use protocol::{Msg, Refusal, Reply};
 use std::alloc::{AllocError, Global};
 
 /// What a server is asked, so that its answers show all that it holds: `summary` first, then of each volume `usage`, `list` and

@@ -8,9 +8,9 @@ use crate::{Counting, Counts, Questions, Wrong, reply_lines};
 use affinity::{Geometry, changing, is_in_range};
 use checkpoint::{Journal, OpenFault, device_len, format, open};
 use disk::{Disk, MemDisk};
-use protocol::{Msg, Reply};
 use oplog::LogFault;
 use parcel::{Tree, step};
+use protocol::{Msg, Reply};
 use std::alloc::{AllocError, Global};
 
 /// What is done to a server.

@@ -30,6 +30,7 @@ use Rattle.meaning.proofs.FileNumber.{number_of, number_small}
 use Rattle.image.proofs.Measures.{IsMeasured, all_joined, entries_good, entries_most}
 use Rattle.image.proofs.Order.{one_of}
 use Rattle.image.proofs.ReadImage.{number_decoded, eight_bytes}
+use Rattle.image.specs.declared.layout.TheConstants.{VERSION}
 
 pub is_volume_there : (g : Geometry) (k : VolumeKey) → has_volume g k ≡ true → (k.0 < g.aggregates) × (k.1 < g.volumes)
 is_volume_there g k there = grind arith
@@ -39,7 +40,7 @@ if_is P true o is = is refl
 if_is P false o is = tt
 
 pub label_is : (version : ℕ) (bytes : List ℕ) → AreSizedBytes 64 bytes → IfSome (label_in version bytes) (AreSizedBytes LABEL_SIZE)
-label_is version bytes are = by (is_made_in bytes) (version == 2)
+label_is version bytes are = by (is_made_in bytes) (version == VERSION)
   where
     by : (made told : Bool) → IfSome (if made then Some (if told then slice bytes 16 LABEL_SIZE else no_label) else None) (AreSizedBytes LABEL_SIZE)
     by true true = (

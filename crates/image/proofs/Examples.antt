@@ -11,6 +11,7 @@ use Rattle.meaning.specs.Serial.{state_after_all, reply_to}
 use Rattle.meaning.specs.State.{State, empty}
 use Rattle.image.specs.Pieces.{piece_of}
 use Rattle.image.specs.Touched.{may_change}
+use Rattle.image.specs.declared.layout.TheConstants.{FIRST_VERSION, VERSION}
 use Rattle.image.specs.Image.{image_of, image_state, decoded_before, is_good}
 
 -- a block that begins with this byte
@@ -22,6 +23,14 @@ label_of b = b ∷ replicate 31 0
 
 abbrev one_file : State
 one_file = state_after_all small empty (MakeVol 0 0 ∷ Create 0 0 0 ∷ Create 0 0 1 ∷ Seal 0 0 ∷ [])
+
+-- ---- the versions that are read
+
+first_version : FIRST_VERSION ≡ 1
+first_version = refl
+
+newest_version : VERSION ≡ 2
+newest_version = refl
 
 -- ---- pieces
 

@@ -1,18 +1,19 @@
 -- Format for operators: An image: a head with the version, then the pieces of a state. In each version a state has one
 -- encoding, and bytes are an image exactly where they are the image of what they decode to.
-use Rattle.std.specs.Prelude.{◌≡◌, ℕ, zero, suc, ◌<◌, Bool, true, ◌&&◌, ◌||◌, ◌==◌, if◌then◌else◌, List, ◌∷◌, ◌++◌, get_or, replicate, Option, Some, None}
+use Rattle.std.specs.Prelude.{◌≡◌, ℕ, zero, suc, ◌-◌, ◌<◌, Bool, true, ◌&&◌, ◌||◌, ◌==◌, if◌then◌else◌, List, ◌∷◌, ◌++◌, get_or, replicate, Option, Some, None}
 use Rattle.std.specs.Str.{bytes_eq}
 use Rattle.affinity.specs.declared.geometry.Geometry.{Geometry}
 use Rattle.device_map.specs.Layout.{slice}
 use Rattle.device_map.specs.declared.layout.TheConstants.{IMAGE_HEAD_SIZE}
 use Rattle.meaning.specs.State.{State, empty}
+use Rattle.image.specs.declared.layout.TheConstants.{FIRST_VERSION, VERSION}
 use Rattle.image.specs.Pieces.{piece_count, piece_at, piece_size, piece_of, joined_below, decoded_by, with_piece}
 
 -- ---- writing
 
--- the head of an image: its version and 63 zeros
+-- the head of an image: its version, and zeros
 abbrev pub image_head : ℕ → List ℕ
-image_head version = version ∷ replicate 63 0
+image_head version = version ∷ replicate (IMAGE_HEAD_SIZE - 1) 0
 
 -- a state as an image of this version
 abbrev pub image_of : ℕ → Geometry → State → List ℕ
@@ -34,7 +35,7 @@ decoded_state version g bytes = decoded_by version g (piece_in g bytes)
 
 -- whether images of this version are read
 abbrev pub is_version : ℕ → Bool
-is_version version = (version == 1) || (version == 2)
+is_version version = (version == FIRST_VERSION) || (version == VERSION)
 
 -- The bytes are of a version that is read, and the image of what they decode to.
 abbrev pub is_image : Geometry → List ℕ → Bool

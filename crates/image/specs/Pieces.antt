@@ -12,6 +12,7 @@ use Rattle.stripe.specs.Stripe.{BlockEntry, content_at}
 use Rattle.meaning.specs.Serial.{file_bits, no_label}
 use Rattle.meaning.specs.State.{State, VolumeKey, is_volume, is_file_of, is_block_of, sum_below, one_if}
 use Rattle.stripe.specs.Entries.{stripe_bytes, entries_in}
+use Rattle.image.specs.declared.layout.TheConstants.{VERSION}
 
 -- ---- which pieces there are
 
@@ -74,7 +75,7 @@ stripe_piece g x a v s = stripe_bytes g.quota (stripe_entries g x a v s)
 
 -- Images of version 2 have the label. Those of version 1 have zeros there.
 abbrev pub label_bytes : ℕ → Option (List ℕ) → List ℕ
-label_bytes version label = if version == 2 then unwrap_or label no_label else no_label
+label_bytes version label = if version == VERSION then unwrap_or label no_label else no_label
 
 -- A volume that is made: 1, whether it is sealed, six zeros, its files as the bits of a number, its label, 16 zeros. One that isn't: zeros.
 abbrev pub volume_bytes : Bool → Bool → ℕ → List ℕ → List ℕ
@@ -112,7 +113,7 @@ abbrev pub has_file_in : List ℕ → ℕ → Bool
 has_file_in bytes f = has_file (little_number 8 (slice bytes 8 8)) f
 
 abbrev pub label_in : ℕ → List ℕ → Option (List ℕ)
-label_in version bytes = if is_made_in bytes then Some (if version == 2 then slice bytes 16 LABEL_SIZE else no_label) else None
+label_in version bytes = if is_made_in bytes then Some (if version == VERSION then slice bytes 16 LABEL_SIZE else no_label) else None
 
 -- the block that the bytes of a stripe's piece decode to
 abbrev pub block_in : Geometry → List ℕ → ℕ → ℕ → Option Block

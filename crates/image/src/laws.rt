@@ -7,6 +7,7 @@ ghost use Rattle.affinity.specs.declared.geometry.Geometry.{Geometry};
 ghost use Rattle.image.specs.Image.{AreGood, has_head, image_of, is_good, image_state, decoded_before, version_in, piece_in};
 ghost use Rattle.image.specs.Pieces.{aggregate_of, part_of, piece_at, piece_count, piece_of, piece_size, stripe_entries, volume_of};
 ghost use Rattle.image.specs.Touched.{may_change};
+ghost use Rattle.image.specs.declared.layout.TheConstants.{VERSION};
 ghost use Rattle.protocol.specs.Messages.{AreSizedBytes};
 ghost use Rattle.protocol.specs.declared.messages.Msg.{Msg};
 ghost use Rattle.device_map.specs.Layout.{image_size};
@@ -14,9 +15,9 @@ ghost use Rattle.meaning.specs.Serial.{next_state};
 ghost use Rattle.meaning.specs.State.{State, IsState};
 ghost use Rattle.stripe.specs.Stripe.{BlockEntry, IsAscending, content_at};
 
-/// The image of a state in version 2 (the one that is written) is read as that state.
+/// The image of a state in the version that is written is read as that state.
 pub fn a_state_is_read_again()
-    ensures { (g : Geometry) (x : State) → IsState g x → image_state g (image_of 2 g x) ≡ Some x }
+    ensures { (g : Geometry) (x : State) → IsState g x → image_state g (image_of VERSION g x) ≡ Some x }
 {}
 
 /// Bytes that are read as a state are its image, in the version that their first byte gives.

@@ -4,8 +4,8 @@ ghost use Rattle.histories.specs.Events.{is_empty};
 ghost use Rattle.scheduler.specs.Hands.{IsTakenFrom, IsRunIn};
 ghost use Rattle.scheduler.specs.Machine.{hand_of};
 
-use scheduler::HandContent;
 use parcel::{Done, run};
+use scheduler::HandContent;
 use std::mem;
 
 /// The number of the first empty hand.

@@ -9,5 +9,5 @@ mod hands;
 mod machine;
 mod stepping;
 
-pub use scheduler::laws;
 pub use machine::{Machine, MachineError};
+pub use scheduler::laws;

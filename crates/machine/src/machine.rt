@@ -8,8 +8,7 @@ ghost use Rattle.scheduler.specs.CoreView.{core_state_of};
 use crate::stepping::make_step;
 use disk::Disk;
 use histories::{Outcome, Step};
-use scheduler::HandContent;
-use scheduler::Core;
+use scheduler::{Core, HandContent};
 use std::alloc::{AllocError, Global};
 use std::marker::Model;
 

@@ -7,9 +7,8 @@ ghost use Rattle.scheduler.specs.CoreView.{core_state_of};
 use crate::hands::{first_empty, run_in, take_result};
 use disk::Disk;
 use histories::{Outcome, Step};
-use scheduler::HandContent;
 use protocol::Msg;
-use scheduler::{Core, Granted};
+use scheduler::{Core, Granted, HandContent};
 
 /// Makes one step, and returns its outcome.
 pub(crate) fn make_step<D: Disk>(

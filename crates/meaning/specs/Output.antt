@@ -25,9 +25,9 @@ abbrev pub output_lines : Geometry → State → List (List ℕ) → List (List 
 output_lines g x [] = []
 output_lines g x (line ∷ ls) = answer_line g x (message_of line) ∷ output_lines g (state_after_line g x (message_of line)) ls
 
--- some lists of bytes (`pieces`, here not those of a checkpoint) as one list, one after the other
+-- some lists of bytes as one list, one after the other
 abbrev pub joined : List (List ℕ) → List ℕ
-joined pieces = flat_map (λ piece. piece) pieces
+joined lists = flat_map (λ bytes. bytes) lists
 
 -- all bytes that the serial server writes for an input, from a state on
 abbrev pub serial_output : Geometry → State → List ℕ → List ℕ

@@ -6,13 +6,13 @@ ghost use Rattle.message.specs.Records.{record_of};
 ghost use Rattle.oplog.specs.Changing.{AreChangesInRange, IsChangeInRange, IsNoChangeRecord};
 
 use crate::half::{Half, RECORDS_PER_WRITE, other};
-use affinity::{Geometry, changing};
 use affinity::limits::MOST_RECORDS;
+use affinity::{Geometry, changing};
 use device_map::{RECORD_SIZE, ROOT_ZONE_AT};
 use disk::Disk;
 use disk::writes::store;
-use protocol::Msg;
 use message::decode;
+use protocol::Msg;
 use std::alloc::{AllocError, Global};
 use std::marker::Model;
 

@@ -5,8 +5,8 @@ ghost use Rattle.message.specs.Records.{record_of, FitsRecord};
 ghost use Rattle.oplog.specs.Changing.{records_of};
 
 use device_map::RECORD_SIZE;
-use protocol::Msg;
 use message::encode;
+use protocol::Msg;
 
 /// Writes the record of a message into a place of its size. `FitsRecord`: its aggregate, volume and file are below 256, as each has one
 /// byte there.

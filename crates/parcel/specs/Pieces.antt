@@ -13,6 +13,7 @@ use Rattle.meaning.specs.Serial.{no_label}
 use Rattle.meaning.specs.Subtrees.{Fact, value}
 use Rattle.image.specs.Pieces.{aggregate_of, volume_of, part_of, piece_count, piece_of, piece_size, with_piece}
 use Rattle.image.specs.Pieces.{is_made_in, is_sealed_in, has_file_in, label_in as decoded_label_in, block_in, part_piece, volume_bytes, with_part}
+use Rattle.image.specs.declared.layout.TheConstants.{VERSION}
 use Rattle.parcel.specs.Fits.{FitsStripe, FitsVolume, IsWholeChild, IsWholeVolume}
 use Rattle.parcel.specs.Nodes.{volume_nodes, node_files}
 use Rattle.parcel.specs.Shown.{blocks_in, volume_facts, shown_label}
@@ -28,7 +29,7 @@ spelled p = volume_bytes p.made p.sealed p.files p.label
 
 -- the label that bytes decode to: before version 2 there is none, and zeros are given for it
 abbrev pub decoded_label : ℕ → List ℕ → List ℕ
-decoded_label version bytes = if version == 2 then slice bytes 16 LABEL_SIZE else no_label
+decoded_label version bytes = if version == VERSION then slice bytes 16 LABEL_SIZE else no_label
 
 -- what bytes decode to as a volume's piece; bits of files that the geometry doesn't have are dropped
 abbrev pub decoded_piece : ℕ → Geometry → List ℕ → VolumePiece

@@ -7,8 +7,8 @@ mod taking;
 mod whole;
 
 use crate::StripeParcel;
-use protocol::LABEL_SIZE;
 pub(crate) use new_parts::new_root;
+use protocol::LABEL_SIZE;
 pub(crate) use putting::put_at;
 pub(crate) use standings::{files_of, standing_at, volume_at, volume_mut};
 pub(crate) use taking::take_at;

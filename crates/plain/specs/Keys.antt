@@ -1,5 +1,5 @@
 -- Inner: The order of the keys of blocks.
-use Rattle.std.specs.Prelude.{◌<◌}
+use Rattle.std.specs.Prelude.{◌^◌, ◌<◌}
 use Rattle.std.specs.Cmp.{IsTotalOrder, nat_cmp_total, on_total, then_total}
 use Rattle.meaning.specs.State.{VolumeKey, FileKey, BlockKey}
 use Rattle.meaning.specs.KeyOrders.{volume_order, file_order, block_order}
@@ -14,9 +14,9 @@ pub block_order_total : IsTotalOrder block_order
 block_order_total =
     then_total (on_total (λ (k : BlockKey). (k.0, k.1, k.2)) file_order_total) (on_total (λ (k : BlockKey). k.3) nat_cmp_total)
 
--- Each of the four numbers is below 65536.
+-- Each of the four numbers has 16 bits.
 pub record IsBlockKey (k : BlockKey) : Type 0 where
-  pub aggregate : k.0 < 65536
-  pub volume : k.1 < 65536
-  pub file : k.2 < 65536
-  pub block : k.3 < 65536
+  pub aggregate : k.0 < 2 ^ 16
+  pub volume : k.1 < 2 ^ 16
+  pub file : k.2 < 2 ^ 16
+  pub block : k.3 < 2 ^ 16

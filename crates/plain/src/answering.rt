@@ -28,11 +28,11 @@ ghost use Rattle.meaning.specs.Output.{serial_output, AnswersWholeLines, IsBegin
 use crate::PlainFault;
 use crate::server::Server;
 use affinity::{Geometry, Kind, changing};
-use protocol::{BLOCK_SIZE, Block, Refusal, Reply};
 use message::{
     Found, Head, LentReader, LineReader, Loan, ReplyBuffer, WriteFault, decode_block, decode_label,
     head_of_line,
 };
+use protocol::{BLOCK_SIZE, Block, Refusal, Reply};
 use std::alloc::{AllocError, Global};
 use std::io::{Read, Write};
 use std::marker::PhantomData;

@@ -12,4 +12,7 @@ mod sizes;
 pub use known_sizes::{know_block, know_label, know_message};
 pub use messages::{Block, Msg};
 pub use replies::{Refusal, Reply, has_file};
-pub use sizes::{BLOCK_SIZE, LABEL_SIZE, LONGEST_LINE, LONGEST_REPLY, LONGEST_TEXT, RECORD_HEAD_SIZE, RECORD_SIZE};
+pub use sizes::{
+    BLOCK_SIZE, LABEL_SIZE, LONGEST_LINE, LONGEST_REPLY, LONGEST_TEXT, RECORD_HEAD_SIZE,
+    RECORD_SIZE,
+};

@@ -9,7 +9,6 @@ use Rattle.recovery.specs.declared.fault.OpenFault.TheVariants.{TooShort, BadVer
 use Rattle.recovery.specs.Header.{header_of}
 use Rattle.recovery.specs.Recovery.{recovered_state}
 use Rattle.recovery.specs.Refusals.{HasNoGeometry, IsUnformatted, refused}
-use Rattle.image.specs.declared.layout.TheConstants.{VERSION}
 use Rattle.protocol.specs.declared.replies.Reply.{Reply}
 use Rattle.protocol.specs.declared.replies.Reply.TheVariants.{Summary}
 use Rattle.protocol.specs.declared.messages.Msg.TheVariants.{Summary as AskSummary}
@@ -17,9 +16,6 @@ use Rattle.message.specs.Records.{data_of, message_in_fields, kind_numbered}
 use Rattle.device_map.specs.Layout.{layout_of, device_size, image_size}
 use Rattle.meaning.specs.Serial.{reply_to}
 use Rattle.meaning.specs.State.{State}
-
-newest_version : VERSION ≡ 2
-newest_version = refl
 
 header_of_small : header_of small ≡ 1 ∷ 87 ∷ 65 ∷ 70 ∷ 70 ∷ 83 ∷ 82 ∷ 86 ∷ 1 ∷ 0 ∷ 1 ∷ 0 ∷ 2 ∷ 0 ∷ 1 ∷ 0 ∷ 2 ∷ 0 ∷ 4 ∷ 0 ∷ 2 ∷ 0 ∷ 4 ∷ 0 ∷ replicate 40 0
 header_of_small = refl

@@ -9,9 +9,9 @@ use crate::loading::{load_named, read_header, replay, take_loading_memory};
 use crate::{OpenError, OpenFault};
 use affinity::Geometry;
 use disk::Disk;
-use protocol::{Msg, Reply};
 use oplog::other;
 use parcel::step;
+use protocol::{Msg, Reply};
 use std::alloc::Global;
 
 /// What a device holds.

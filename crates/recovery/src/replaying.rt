@@ -10,9 +10,9 @@ ghost use Rattle.parcel.specs.Tree.{IsWholeTree, state_in};
 
 use crate::OpenFault;
 use disk::Disk;
-use protocol::Reply;
 use oplog::Halves;
 use parcel::{Tree, step};
+use protocol::Reply;
 
 /// Runs record `i` of this half on the tree. `BadRecord` exactly where it can't be run there; then the tree isn't
 /// of use any more. Any other error is `Device`, which is consistent with any bytes (`IsConsistentFault`).

@@ -4,8 +4,8 @@ ghost use Rattle.std.specs.Prelude.{◌≡◌, ◌<◌, ◌≤◌, ◌+◌, ◌+
 ghost use Rattle.message.specs.Waiting.{FitsReply};
 ghost use Rattle.reorder_buffer.specs.ReorderBuffer.{Line, complete_one, HaveTicketsFrom, AreConsecutive, HasTicket, IsAnsweredAt, can_retire, retired_text, with_tickets};
 
-use protocol::{Refusal, Reply};
 use message::ReplyBuffer;
+use protocol::{Refusal, Reply};
 use std::alloc::{AllocError, Global};
 use std::collections::VecDeque;
 use std::marker::Model;

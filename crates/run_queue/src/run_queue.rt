@@ -10,8 +10,8 @@ use crate::holders::Holders;
 use crate::ready_table::{CHUNK, ReadyTable};
 use crate::update_ready::{update_ready, update_ready_related};
 use crate::waiting::Queues;
-use affinity::{Affinity, Geometry, Place};
 use affinity::limits::MOST_AFFINITIES;
+use affinity::{Affinity, Geometry, Place};
 use std::alloc::{AllocError, Global};
 use std::marker::Model;
 

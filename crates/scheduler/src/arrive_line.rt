@@ -7,8 +7,8 @@ ghost use Rattle.scheduler.specs.Calls.{ArrivesByLine};
 use crate::Core;
 use disk::Disk;
 use histories::ArriveRefusal;
-use protocol::{BLOCK_SIZE, Block, Msg};
 use message::{Head, decode_block, head_of_line};
+use protocol::{BLOCK_SIZE, Block, Msg};
 
 impl<D: Disk> Core<D> {
     /// Takes in the message that a line (without its newline) encodes, and gives it the next ticket, as `arrive` does. `None` if the line

@@ -2,8 +2,8 @@
 //! which exist in proofs alone, so they take no memory.
 ghost use Rattle.std.specs.Prelude.{◌≡◌, ◌++◌, []};
 
-use protocol::Msg;
 use parcel::Tree;
+use protocol::Msg;
 use std::marker::Model;
 use std::mem;
 use std::snapshot::Snapshot;

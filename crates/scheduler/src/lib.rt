@@ -19,6 +19,6 @@ pub use checkpoint::{OpenError, OpenFault};
 pub use granted::Granted;
 pub use hands::HandContent;
 pub use histories::{ArriveRefusal, CoreFault, Outcome, PointRefusal, Step};
-pub use protocol::Reply;
 pub use parcel::Job;
+pub use protocol::Reply;
 pub use server_core::Core;

@@ -1,10 +1,10 @@
 -- What the outcome of an arrival shows, and why no more lines are read.
-use Rattle.std.proofs.Common.{◌≡◌, ◌≢◌, ◌≤◌, ℕ, ◌-◌, ◌^◌, Bool, true, false, List, Option, Some, None, refl, subst, ◌∙◌}
+use Rattle.std.proofs.Common.{◌≡◌, ◌≢◌, ◌≤◌, ℕ, Bool, true, false, List, Option, Some, None, refl, subst, ◌∙◌}
 use Rattle.std.specs.Prelude.{IfSome, not, nat_le, ◌==◌}
 use Rattle.std.proofs.lemmas.Bool.{cond_both, eqb-true, leb-true, not-false, not-true}
 use Rattle.affinity.specs.declared.geometry.Geometry.{Geometry}
 use Rattle.histories.specs.Events.{arrive}
-use Rattle.histories.specs.CoreState.{CoreState}
+use Rattle.histories.specs.CoreState.{CoreState, most_tickets}
 use Rattle.histories.specs.declared.outcomes.ArriveRefusal.{ArriveRefusal}
 use Rattle.histories.specs.declared.outcomes.ArriveRefusal.TheVariants as arrivals
 use Rattle.histories.specs.declared.outcomes.Outcome.{Outcome}
@@ -28,7 +28,7 @@ module _ (g : Geometry) (w : CoreState) (m : Msg) where
   Shows (outcomes.Ticket t) = (is_in_range g m ≡ true) × (t ≡ w.next)
   Shows (outcomes.ArriveRefused arrivals.Failed) = w.failed ≡ true
   Shows (outcomes.ArriveRefused arrivals.Range) = is_in_range g m ≡ false
-  Shows (outcomes.ArriveRefused arrivals.Exhausted) = (is_in_range g m ≡ true) × (w.next ≡ 2 ^ 64 - 1)
+  Shows (outcomes.ArriveRefused arrivals.Exhausted) = (is_in_range g m ≡ true) × (w.next ≡ most_tickets)
   Shows (outcomes.ArriveRefused arrivals.Full) = w.slots ≤ unanswered w
   Shows _ = ⊥
 
@@ -39,7 +39,7 @@ module _ (g : Geometry) (w : CoreState) (m : Msg) where
   arrival_shows =
       cond_both w.failed _ _ Given (λ failed. failed) (λ _.
       cond_both (not (is_in_range g m)) _ _ Given (λ out. not-true (is_in_range g m) out) (λ fits.
-      cond_both (w.next == 2 ^ 64 - 1) _ _ Given (λ none. (not-false (is_in_range g m) fits, eqb-true w.next (2 ^ 64 - 1) none)) (λ _.
+      cond_both (w.next == most_tickets) _ _ Given (λ none. (not-false (is_in_range g m) fits, eqb-true w.next most_tickets none)) (λ _.
       cond_both (nat_le w.slots (unanswered w)) _ _ Given (λ full. leb-true w.slots (unanswered w) full) (λ _.
       (not-false (is_in_range g m) fits, refl)))))
 

@@ -1,7 +1,8 @@
 -- Statement for operators: What a server has done when it ends.
-use Rattle.std.specs.Prelude.{◌≡◌, ◌≤◌, ◌-◌, ◌^◌, ℕ, true, false, List, [], ◌∷◌, ◌++◌, map, length, Option, Some, IfSome, Result, Ok, Err}
+use Rattle.std.specs.Prelude.{◌≡◌, ◌≤◌, ℕ, true, false, List, [], ◌∷◌, ◌++◌, map, length, Option, Some, IfSome, Result, Ok, Err}
 use Rattle.std.specs.Io.KnownBytes.{Appends, IsAtEnd}
 use Rattle.affinity.specs.declared.geometry.Geometry.{Geometry}
+use Rattle.histories.specs.CoreState.{most_tickets}
 use Rattle.histories.specs.Laws.{IsIdle}
 use Rattle.scheduler.specs.Machine.{MachineView, RecoversFromRun}
 use Rattle.scheduler.specs.declared.hands.HandContent.{HandContent}
@@ -105,7 +106,7 @@ EndsWith old new x (Ok _) = IsIdle (core_state_of new) × (new.failed ≡ false)
     × WritesOutput x.input x.before x.written (λ bytes w. AreServed old.geometry (committed_in old) (committed_in new) (lines bytes) w)
 EndsWith old new x (Err faults.Read) = IsIdle (core_state_of new) × (new.failed ≡ false)
     × WritesOutput x.input x.before x.written (ServesWholeLines old.geometry (committed_in old) (committed_in new) x.remaining)
-EndsWith old new x (Err faults.Exhausted) = IsIdle (core_state_of new) × (new.failed ≡ false) × (new.next ≡ 2 ^ 64 - 1)
+EndsWith old new x (Err faults.Exhausted) = IsIdle (core_state_of new) × (new.failed ≡ false) × (new.next ≡ most_tickets)
     × WritesOutput x.input x.before x.written (ServesLinesBefore old.geometry (committed_in old) (committed_in new))
 EndsWith old new x (Err faults.Device) = (new.failed ≡ true) × IsQuiesced new
     × WritesOutput x.input x.before x.written (IsBeginning old.geometry (committed_in old))

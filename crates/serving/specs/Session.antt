@@ -1,9 +1,9 @@
 -- Inner: The state of a session, its invariant since its start, and how a call moves it.
-use Rattle.std.specs.Prelude.{◌≡◌, ◌≢◌, ◌⊎◌, ◌+◌, ◌<◌, ◌≤◌, ◌-◌, ◌^◌, ℕ, Bool, true, false, List, [], ◌++◌, length, map, take, Option, Some, None, IfSome, IsSomeAnd, IsTrue, OnErr, MatchResult, Result, Ok, Err, MatchOption}
+use Rattle.std.specs.Prelude.{◌≡◌, ◌≢◌, ◌⊎◌, ◌+◌, ◌<◌, ◌≤◌, ℕ, Bool, true, false, List, [], ◌++◌, length, map, take, Option, Some, None, IfSome, IsSomeAnd, IsTrue, OnErr, MatchResult, Result, Ok, Err, MatchOption}
 use Rattle.std.specs.Io.KnownBytes.{Appends, IsAtEnd}
 use Rattle.affinity.specs.declared.geometry.Geometry.{Geometry}
 use Rattle.disk.specs.Device.{Medium}
-use Rattle.histories.specs.CoreState.{held}
+use Rattle.histories.specs.CoreState.{held, most_tickets}
 use Rattle.histories.specs.Laws.{IsIdle}
 use Rattle.histories.specs.Progress.{points_left, steps_to_come}
 use Rattle.histories.specs.Runs.{logged_messages}
@@ -79,7 +79,7 @@ machine p = machine_with_jobs p.core p.dispatch_seat.lent
 abbrev pub IsReadEnd : Geometry → CoreView → Option (List ℕ) → Bool → Option (List ℕ) → ReadEnd → Type 0
 IsReadEnd g core unread drained remaining ends_of_reading.EndOfInput = IsAtEnd unread × IsAtEnd remaining
 IsReadEnd g core unread drained remaining ends_of_reading.ReadFailed = (drained ≡ false) × IfSome unread (λ bs. LosesLineStart bs remaining)
-IsReadEnd g core unread drained remaining ends_of_reading.TicketsExhausted = (core.next ≡ 2 ^ 64 - 1)
+IsReadEnd g core unread drained remaining ends_of_reading.TicketsExhausted = (core.next ≡ most_tickets)
     × ((line : List ℕ) × (m : Msg) × IfSome unread (λ bs. (rest : Option (List ℕ)) × GivesLine line bs rest)
     × (message_of line ≡ Some m) × (is_in_range g m ≡ true))
 IsReadEnd g core unread drained remaining ends_of_reading.DeviceFailed = core.failed ≡ true

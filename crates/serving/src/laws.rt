@@ -1,7 +1,7 @@
 //! What holds of a server that runs many messages at once: laws of the definitions alone. No function here does anything; its
 //! contract is the law.
 
-ghost use Rattle.std.specs.Prelude.{◌≡◌, ◌≢◌, ◌+◌, ◌<◌, ◌≤◌, ◌++◌, ◌-◌, ◌^◌, ℕ, Bool, true, false, List, [], length, map, take, Option, Some, Ok, Err, IfSome};
+ghost use Rattle.std.specs.Prelude.{◌≡◌, ◌≢◌, ◌+◌, ◌<◌, ◌≤◌, ◌++◌, ℕ, Bool, true, false, List, [], length, map, take, Option, Some, Ok, Err, IfSome};
 ghost use Rattle.std.specs.Io.KnownBytes.{Appends, IsAtEnd};
 ghost use Rattle.std.specs.List.{AllByRecursion, Contains};
 ghost use Rattle.affinity.specs.declared.geometry.Geometry.{Geometry};
@@ -10,7 +10,7 @@ ghost use Rattle.disk.specs.Moments.{left_since, moment_number};
 ghost use Rattle.histories.specs.Events.{arrive};
 ghost use Rattle.histories.specs.Laws.{IsIdle};
 ghost use Rattle.histories.specs.Runs.{logged_messages};
-ghost use Rattle.histories.specs.CoreState.{Entry};
+ghost use Rattle.histories.specs.CoreState.{Entry, most_tickets};
 ghost use Rattle.histories.specs.declared.outcomes.ArriveRefusal.TheVariants as arrivals;
 ghost use Rattle.histories.specs.declared.outcomes.Outcome.TheVariants as outcomes;
 ghost use Rattle.protocol.specs.Grammar.{message_of};
@@ -96,7 +96,7 @@ pub fn serving_ends_as_the_serial_server<D: Disk>()
         → EndsWith start.core now.core (exchange input remaining before written) (Err faults.Read) }
     ensures exhausted { (start now : MachineView) (input unread remaining : Option (List ℕ)) (drained : Bool)
         (before written : Option (List ℕ)) (line : List ℕ) (m : Msg) → IsIdle (core_state_of start.core)
-        → ServingProgress D.keeps start now [] input unread drained before written → now.core.failed ≡ false → now.core.next ≡ 2 ^ 64 - 1
+        → ServingProgress D.keeps start now [] input unread drained before written → now.core.failed ≡ false → now.core.next ≡ most_tickets
         → IfSome unread (λ bs. GivesLine line bs remaining) → message_of line ≡ Some m → is_in_range start.core.geometry m ≡ true
         → EndsWith start.core now.core (exchange input remaining before written) (Err faults.Exhausted) }
     ensures device { (start now : MachineView) (unsent : List Line) (input unread : Option (List ℕ)) (drained : Bool)

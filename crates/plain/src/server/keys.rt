@@ -1,7 +1,7 @@
 //! The key of a block, by which the server's map of blocks is ordered. It is compared as one number: a search of the map compares some
 //! twenty of them.
 
-ghost use Rattle.std.specs.Prelude.{◌≡◌, ◌+◌, ◌*◌, refl};
+ghost use Rattle.std.specs.Prelude.{◌≡◌, ◌+◌, ◌*◌, ◌^◌, refl};
 ghost use Rattle.std.specs.Cmp.{eq_by_cmp_equiv, partial_equiv_from_equiv, partial_order_from_total};
 ghost use Rattle.std.specs.Ordering.{as_partial_cmp, eq_by_cmp};
 ghost use Rattle.meaning.specs.KeyOrders.{block_order};
@@ -9,6 +9,9 @@ ghost use Rattle.plain.specs.Keys.{block_order_total, IsBlockKey};
 
 use std::cmp::Ordering;
 use std::marker::Model;
+
+/// How many numbers there are of 16 bits, of which a key has four.
+const BASE: u64 = 1 << 16;
 
 /// The key of a block: its aggregate, volume, file and number. The number lies first, so that the compiler reads the four as one.
 #[derive(Drop, Clone, Copy)]
@@ -40,10 +43,10 @@ impl BlockKey {
     /// The four as one number, ordered as they are.
     #[inline(always)]
     fn number(&self) -> u64
-        ensures value { result ≡ ((self.now.0 * 65536 + self.now.1) * 65536 + self.now.2) * 65536 + self.now.3 }
+        ensures value { result ≡ ((self.now.0 * 2 ^ 16 + self.now.1) * 2 ^ 16 + self.now.2) * 2 ^ 16 + self.now.3 }
         ensures short { IsBlockKey self.now }
     {
-        ((u64::from(self.a) * 65536 + u64::from(self.v)) * 65536 + u64::from(self.f)) * 65536
+        ((u64::from(self.a) * BASE + u64::from(self.v)) * BASE + u64::from(self.f)) * BASE
             + u64::from(self.b)
     }
 }

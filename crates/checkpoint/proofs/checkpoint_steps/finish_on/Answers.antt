@@ -1,6 +1,6 @@
 -- A cut is finished: the other area gets the image of what the named one holds without the other half's records, which are in force
 -- before and after.
-use Rattle.std.proofs.Common.{◌<◌, ap, sym, ◌∙◌, subst, arith, true≢false}
+use Rattle.std.proofs.Common.{◌<◌, sym, ◌∙◌, subst, arith, true≢false}
 use Rattle.std.proofs.lemmas.Result.{on_ok_weaker}
 use Rattle.affinity.specs.declared.geometry.Geometry.{Geometry}
 use Rattle.image.specs.Pieces.{piece_count}

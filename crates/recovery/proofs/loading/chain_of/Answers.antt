@@ -1,5 +1,5 @@
 -- The chain is sound where one of the two chain bytes isn't 1, and is refused where both are.
-use Rattle.std.proofs.Common.{ℕ, ◌==◌, Bool, List, None, sym, ◌∙◌, ap, arith}
+use Rattle.std.proofs.Common.{◌==◌, Bool, None, sym, ◌∙◌, ap, arith}
 use Rattle.recovery.specs.declared.fault.OpenFault.TheVariants.{BadChain}
 use Rattle.recovery.specs.Refusals.{fault_if}
 use Rattle.oplog.specs.Front.{chain}
