@@ -15,6 +15,9 @@ use affinity::{Affinity, Geometry, Place};
 use std::alloc::{AllocError, Global};
 use std::marker::Model;
 
+/// How many queues serve any geometry: one for each affinity.
+const QUEUES: usize = MOST_AFFINITIES as usize;
+
 /// The waiting and the held messages, each with a slot of its own.
 ///
 /// All memory is taken by `new`.
@@ -61,9 +64,9 @@ impl RunQueue {
         requires { slots < usize.MAX }
         ensures { IfOk result (λ queue. queue ≡ queue_at_start geometry.now slots) }
     {
-        let ready_table = ReadyTable::new(alloc, usize::from(MOST_AFFINITIES))?;
-        let held = Holders::new(alloc, usize::from(MOST_AFFINITIES))?;
-        let waiting = Queues::new(alloc, usize::from(MOST_AFFINITIES), slots)?;
+        let ready_table = ReadyTable::new(alloc, QUEUES)?;
+        let held = Holders::new(alloc, QUEUES)?;
+        let waiting = Queues::new(alloc, QUEUES, slots)?;
         Ok(RunQueue {
             geometry: *geometry,
             waiting,
