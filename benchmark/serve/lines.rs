@@ -1,6 +1,7 @@
 //! Writes lines of input for the benchmark of `waffd serve`: `lines MIX COUNT GEOMETRY`. The same lines each time.
 //! MIX is `fill`, which makes all that the others use and ignores COUNT; `write`: full blocks, uniformly over all
-//! stripes; `read`: full blocks; or `mixed`. GEOMETRY is `default` or `greatest`.
+//! stripes; `ordered`: full blocks, one file from its first block to its last, again and again; `stripe`: full blocks of
+//! one stripe; `read`: full blocks; or `mixed`. GEOMETRY is `default` or `greatest`.
 
 #[path = "../random.rs"]
 mod random;
@@ -14,11 +15,13 @@ struct Places {
     volumes: u16,
     files: &'static [u16],
     blocks: u16,
+    /// Adjacent blocks of a file that lie in one stripe.
+    width: u16,
 }
 
-static DEFAULT: Places = Places { aggregates: 1, volumes: 4, files: &[0, 1, 2, 3], blocks: 64 };
+static DEFAULT: Places = Places { aggregates: 1, volumes: 4, files: &[0, 1, 2, 3], blocks: 64, width: 4 };
 
-static GREATEST: Places = Places { aggregates: 4, volumes: 8, files: &[0, 4], blocks: 256 };
+static GREATEST: Places = Places { aggregates: 4, volumes: 8, files: &[0, 4], blocks: 256, width: 64 };
 
 type Place = [u16; 4];
 
@@ -27,6 +30,15 @@ impl Places {
         let f = self.files[random.below(self.files.len() as u64) as usize];
         let mut below = |n: u16| random.below(u64::from(n)) as u16;
         [below(self.aggregates), below(self.volumes), f, below(self.blocks)]
+    }
+
+    /// The place of line `n` of a mix.
+    fn of(&self, mix: &str, n: u64, random: &mut Random) -> Place {
+        match mix {
+            "ordered" => [0, 0, self.files[0], (n % u64::from(self.blocks)) as u16],
+            "stripe" => [0, 0, self.files[0], random.below(u64::from(self.width)) as u16],
+            _ => self.any(random),
+        }
     }
 }
 
@@ -63,7 +75,7 @@ fn line(mix: &str, place: Place, random: &mut Random, out: &mut impl Write) -> i
     let [a, v, f, b] = place;
     let share = random.below(100);
     match mix {
-        "write" => write_line(random, place, out),
+        "write" | "ordered" | "stripe" => write_line(random, place, out),
         "mixed" if share < 45 => write_line(random, place, out),
         "mixed" if share < 50 => writeln!(out, "usage {a} {v}"),
         _ => writeln!(out, "read {a} {v} {f} {b}"),
@@ -82,8 +94,8 @@ fn main() -> io::Result<()> {
         fill(places, &mut random, &mut out)?;
         return out.flush();
     }
-    for _ in 0..count.parse().unwrap_or(20_000u64) {
-        let place = places.any(&mut random);
+    for n in 0..count.parse().unwrap_or(20_000u64) {
+        let place = places.of(mix, n, &mut random);
         line(mix, place, &mut random, &mut out)?;
     }
     out.flush()
