@@ -10,13 +10,20 @@ PATH = pathlib.Path(__file__).resolve().with_name("figures.json")
 GEOMETRIES = ("default", "greatest")
 OF_WAFFD = tuple(f"waffd {workers}" for workers in (1, 2, 4))
 ORDINARY = ("batch", "stripe", "twice")
-SLOTS = {"write": (1, 16, 64, 256), "read": (1, 16, 64, 256, 1024), "mixed": (16, 64)}
+SLOTS = {
+    "write": (1, 16, 64, 256),
+    "ordered": (16, 64),
+    "stripe": (16, 64),
+    "read": (1, 16, 64, 256, 1024),
+    "mixed": (16, 64),
+}
+IN_ONE_FILE = ("ordered", "stripe")
 SERVED = [(mix, slots) for mix, all_slots in SLOTS.items() for slots in all_slots]
 PIPED = [(mix, slots) for mix in ("write", "read") for slots in (1, 16, 64)]
 PLAIN = ("write", "read", "metadata", "churn", "mixed")
 EVERY = (0, 16, 64)
 MORE_READS = 10  # times more lines of reads than of others
-FEWER_ALONE = 10  # times fewer lines with 1 slot
+FEWER_ALONE = 10  # times fewer lines with 1 slot, and of those that write one file or one stripe
 
 # Behind the point, of what is kept.
 DIGITS = {"lines/s": None, "cpu us": 3, "syncs": 1, "bytes": None, "peak MB": 2, "ms": 2, "us": 2, "records": None}

@@ -8,7 +8,7 @@ import subprocess
 import time
 from statistics import median
 
-from figures_file import DIGITS, FEWER_ALONE, MORE_READS, OF_WAFFD, ORDINARY, programs_of
+from figures_file import DIGITS, FEWER_ALONE, IN_ONE_FILE, MORE_READS, OF_WAFFD, ORDINARY, programs_of
 from programs import GREATEST, LONGEST_RUN, PROGRAM, Failed, Programs, done
 
 SYNCS = 500  # of a round, for the time of one
@@ -124,7 +124,7 @@ class Measuring(Programs):
         lines = self.lines
         if mix == "read":
             lines *= MORE_READS
-        if slots == "1":
+        if slots == "1" or mix in IN_ONE_FILE:
             lines //= FEWER_ALONE
         self.write_input([self.at("lines"), mix, str(lines), geometry])
         changes = self.count_lines("input", b"write")

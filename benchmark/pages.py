@@ -58,10 +58,10 @@ def of_run(figures):
     text = (
         f"{day.day} {day:%B %Y}, commit `{told['commit'][:10]}`, `{told['version']}`; {machine['processors']} "
         f"processors ({machine['model']}), {machine['kernel']}. Each number is the median of {told['repeat']} rounds. "
-        f"A row of writes or mixed lines has {lines:,} lines, one of reads {lines * MORE_READS:,}, and one with 1 slot "
-        f"a tenth of that. The disk takes {number(median(disk))} microseconds ({span(disk)}) to write and sync a "
-        f"record. From round to round speeds differ by ±{median(spreads):.0f} percent as a rule, and by "
-        f"±{spreads[-1]:.0f} percent at most.")
+        f"A row of writes or mixed lines has {lines:,} lines, one of reads {lines * MORE_READS:,}, and one with 1 "
+        f"slot, of one file or of one stripe a tenth of that. The disk takes {number(median(disk))} microseconds "
+        f"({span(disk)}) to write and sync a record. From round to round speeds differ by ±{median(spreads):.0f} "
+        f"percent as a rule, and by ±{spreads[-1]:.0f} percent at most.")
     if told["load"] > BUSY:
         text += f" **The machine did other work** (load {told['load']})."
     yield text
@@ -147,18 +147,6 @@ def of_others(figures):
     yield from of_plain(figures)
 
 
-def of_one_stripe(figures):
-    """What the rows with 1 slot show of a single stripe."""
-    alone = [served(geometry, "write", 1) for geometry in GEOMETRIES]
-    speeds = at_each_geometry([f"{figures.median(row, MAIN, 'lines/s'):,.0f} lines a second" for row in alone])
-    syncs = listed([f"{figures.median(row, MAIN, 'syncs'):,.0f}" for row in alone])
-    yield (
-        "No row writes to **one stripe** alone. A batch has at most one change of a stripe, so such a line takes at "
-        "least two syncs, however many slots there are. The rows `write 1` have batches of one change, too, because "
-        f"only one line is outstanding. With 2 workers they show {speeds}, and {syncs} syncs for 1,000 changes. For "
-        "one stripe more slots can only spare what a line costs beside its syncs.")
-
-
 def of_speed(figures):
     """The few figures of the front page: writes with 64 and 256 slots."""
     rows = [served(geometry, "write", slots) for geometry in GEOMETRIES for slots in (64, 256)]
@@ -179,7 +167,7 @@ def of_speed(figures):
 
 
 PAGES = {
-    "docs/speed.md": {"run": of_run, "table": of_table, "others": of_others, "stripe": of_one_stripe},
+    "docs/speed.md": {"run": of_run, "table": of_table, "others": of_others},
     "README.md": {"speed": of_speed},
 }
 
