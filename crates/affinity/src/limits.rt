@@ -1,18 +1,18 @@
 //! The limits of a server, and what follows from them.
 //!
-//! The limits of a geometry are part of the format: a device with another number is refused. Those of `serve` are not stored, and may
-//! differ from one start to the next. The sizes of the format, in bytes, are in `protocol` and `device_map`.
+//! The limits of a geometry are part of the format: a device whose header has a number beyond them is refused. The numbers of workers and
+//! slots are not stored, and may differ from one start to the next. The sizes of the format, in bytes, are in `protocol` and `device_map`.
 
-/// Aggregates of a server. Few, as everything in an aggregate waits while a volume of it is made or removed.
+/// Aggregates of a server. No message in one is related to a message in another; `summary` is related to all.
 pub const MOST_AGGREGATES: u16 = 4;
 
 /// Volumes of an aggregate.
 pub const MOST_VOLUMES: u16 = 8;
 
-/// Stripes of a volume, each of which may be written at the same time as the others.
+/// Stripes of a volume. Blocks of different ones may be read and written at the same time.
 pub const MOST_STRIPES: u16 = 8;
 
-/// Consecutive blocks of a file in one stripe. No more than a stripe can hold.
+/// Consecutive blocks of a file in one stripe: as many as the largest stripe holds.
 pub const MOST_WIDTH: u16 = 64;
 
 /// Files of a volume: the reply to `list` and the piece of a volume have them as the bits of one 64-bit number.
@@ -27,13 +27,13 @@ pub const MOST_QUOTA: u16 = 64;
 /// Records in a half of the log, at least.
 pub const LEAST_RECORDS: u16 = 4;
 
-/// Records in a half of the log, at most. An opening replays no more than that.
+/// Records in a half of the log, at most. An opening replays the records of one half, or of both if a crash interrupted a checkpoint.
 pub const MOST_RECORDS: u16 = 1024;
 
 /// Threads that run messages. Each of them looks at the places of all for a job, and the dispatcher for a result.
 pub const MOST_WORKERS: u16 = 64;
 
-/// Lines that have been read and whose reply has not been sent. Memory for all of them is taken at the start.
+/// Lines that have been read and whose answer has not been sent. Memory for all of them is taken at the start.
 pub const MOST_SLOTS: u16 = 1024;
 
 /// Affinities of a volume: itself, its logical one, the stripes below that, and its label.
