@@ -171,15 +171,21 @@ class Chain:
         self.judge(f"{what}, replies after {wait:.0f} s at most", client, name)
         self.counts_as(what, wait)
 
-    def lose_replication(self):
-        """DRBD's part of the link. The primary goes on, as the handler forbids the other to be promoted; then its power
-        is cut. The other must not take over: the first one comes back, and does."""
-        name, _ = self.roles()
+    def lose_primary_alone(self):
+        """DRBD's part of the link is cut. The primary goes on alone, and then its power is cut. Gives its name and the
+        other one's, its client, and when the power was cut."""
+        name, other = self.roles()
         client = self.steady(name)
         time.sleep(SOME_SECONDS)
         self.lose_drbd(client, name)
         began = time.monotonic()
         self.cut(name)
+        return name, other, client, began
+
+    def lose_replication(self):
+        """The primary may go on alone, as the handler forbids the other to be promoted. When it is lost the other must
+        not take over: the first one comes back, and does."""
+        name, _, client, began = self.lose_primary_alone()
         self.cluster.mend_link()
         self.goes_on("lost after going on alone", client, began, name)
 

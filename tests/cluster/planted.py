@@ -37,13 +37,8 @@ def two_primaries(chain):
 
 
 def old_disk(chain):
-    """DRBD's part of the link is cut, the primary goes on alone and is lost, and the other takes over."""
-    name, other = chain.roles()
-    client = chain.steady(name)
-    time.sleep(SOME_SECONDS)
-    chain.lose_drbd(client, name)
-    began = time.monotonic()
-    chain.cut(name)
+    """The primary goes on alone and is lost, and the other takes over."""
+    name, other, client, began = chain.lose_primary_alone()
     chain.cluster.broken = {name}
     chain.goes_on("an old disk", client, began, other)
 
