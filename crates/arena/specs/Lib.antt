@@ -4,4 +4,4 @@ pub mod ArenaView
 pub mod Lends
 pub mod Linked
 pub mod Links
-pub mod Invariant
+pub mod ArenaRule

@@ -32,7 +32,7 @@ impl<T> Model for Arena<T> {
     // For the prover alone: the type of the view, as a value.
     ghost coded = { arena_view_code T.code };
 
-    ghost use Rattle.arena.specs.Invariant.{arena_view_of, ArenaRule};
+    ghost use Rattle.arena.specs.ArenaRule.{arena_view_of, ArenaRule};
 
     ghost view = { λ a. arena_view_of a.values.items a.links };
 

@@ -8,24 +8,25 @@ use Rattle.recovery.specs.Refusals.{refused}
 use Rattle.recovery.specs.Version.{named_version}
 use Rattle.recovery.proofs.BadRecordBehind.{alone_holds, follows, laid_out}
 use Rattle.recovery.proofs.Replays.{same_bytes}
-use Rattle.disk.specs.Device.{AreBytes, IsSynced, Medium, moments}
+use Rattle.disk.specs.CrashImages.{AreBytes}
+use Rattle.disk.specs.Device.{IsSynced, Medium, moments}
 use Rattle.disk.proofs.Leaves.{synced_left}
 use Rattle.image.specs.Image.{image_of, image_state}
 use Rattle.image.proofs.ReadImage.{read_again}
 use Rattle.checkpoint.specs.declared.journal.Buffers.{Buffers}
 use Rattle.checkpoint.specs.declared.opening.Parts.{Parts}
-use Rattle.checkpoint.specs.Buffers.{FitBuffers, KeepsBuffers, dirty_pieces_of}
-use Rattle.checkpoint.specs.Journal.{JournalView}
-use Rattle.checkpoint.specs.DirtyPieces.{opened_dirty}
-use Rattle.checkpoint.specs.Keeping.{journal_view_of}
+use Rattle.checkpoint.specs.Buffers.{FitBuffers, KeepsBuffers}
+use Rattle.checkpoint.specs.Journal.{JournalView, journal_view_of}
+use Rattle.checkpoint.specs.DirtyPieces.{opened_dirty, dirty_pieces_of}
 use Rattle.checkpoint.specs.Opening.{IsOpened}
-use Rattle.checkpoint.specs.Parts.{AreLoaded, AreUnloaded, IsMade, IsMadeOf}
-use Rattle.checkpoint.specs.Steps.{RecoversByNamedAlone, IsPointed, IsCutUnfinished, pointed_log, run_on}
+use Rattle.checkpoint.specs.OpeningSteps.{AreLoaded, AreUnloaded, IsMade, IsMadeOf}
+use Rattle.checkpoint.specs.RecoversByArea.{RecoversByNamedAlone, run_on}
+use Rattle.checkpoint.specs.PointAndCut.{IsPointed, IsCutUnfinished, pointed_log}
 use Rattle.checkpoint.specs.Extents.{AreAllDirty}
 use Rattle.checkpoint.proofs.RecoversWithPrefix.{recoverable_of, sound_along}
 use Rattle.checkpoint.proofs.PointOrCut.{HoldsAlone, pointed_sound, pointed_version}
 use Rattle.checkpoint.proofs.RecoversByArea.{holds_now, shut_current}
-use Rattle.oplog.specs.Front.{chain, front}
+use Rattle.oplog.specs.HalfContent.{chain, front}
 use Rattle.device_map.specs.Layout.{layout_of, device_size, other}
 use Rattle.oplog.specs.Log.{Log, new_log, with_half_named}
 use Rattle.oplog.specs.Recovery.{named_area, records_in, recovers_by_area}

@@ -8,15 +8,13 @@ use Rattle.affinity.specs.declared.geometry.Geometry.{Geometry}
 use Rattle.recovery.specs.declared.fault.OpenFault.{OpenFault}
 use Rattle.recovery.specs.Loading.{NamedHolds}
 use Rattle.disk.specs.declared.fault.DiskFault.{DiskFault}
-use Rattle.disk.specs.Device.{CountsFault, Medium}
-use Rattle.disk.specs.Moments.{moment_number}
+use Rattle.disk.specs.Device.{CountsFault, Medium, moment_number, Costs}
 use Rattle.image.specs.Pieces.{piece_count}
 use Rattle.checkpoint.specs.declared.opening.Parts.{Parts}
 use Rattle.checkpoint.specs.Costs.{count_runs, finish_cost, longest_point, opening_cost, point_cost, runs_after}
 use Rattle.checkpoint.specs.Extents.{AreAllDirty}
 use Rattle.checkpoint.proofs.Places.{some_piece}
-use Rattle.disk.specs.Store.{Costs}
-use Rattle.oplog.specs.Front.{chain}
+use Rattle.oplog.specs.HalfContent.{chain}
 use Rattle.device_map.specs.Layout.{layout_of}
 use Rattle.oplog.specs.Recovery.{named_area}
 use Rattle.meaning.specs.State.{State}

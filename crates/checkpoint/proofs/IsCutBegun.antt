@@ -4,20 +4,20 @@ use Rattle.std.proofs.lemmas.List.{append-nil}
 use Rattle.affinity.specs.declared.geometry.Geometry.{Geometry}
 use Rattle.recovery.specs.Recovery.{recovered_state, decoding}
 use Rattle.disk.specs.declared.fault.DiskFault.{DiskFault}
-use Rattle.disk.specs.Device.{AreBytes, IsCrashImage, Medium, Syncs, synced}
-use Rattle.disk.specs.Moments.{CrashImagesAre}
+use Rattle.disk.specs.CrashImages.{AreBytes, IsCrashImage, CrashImagesAre, CrashesChangeOnly}
+use Rattle.disk.specs.Device.{Medium, Syncs, synced}
 use Rattle.disk.proofs.Calls.{after_sync}
 use Rattle.disk.proofs.Leaves.{synced_left, itself}
 use Rattle.disk.proofs.Moments.{started, then, weaker}
-use Rattle.checkpoint.specs.Steps.{IsCutBegun, IsCutWritten, IsFlipped, RecoversByArea, RecoversByNamedAlone}
+use Rattle.checkpoint.specs.PointAndCut.{IsCutBegun, IsCutWritten, IsFlipped}
+use Rattle.checkpoint.specs.RecoversByArea.{RecoversByArea, RecoversByNamedAlone}
 use Rattle.checkpoint.proofs.RecordsInForce.{forced_alone, forced_both}
 use Rattle.checkpoint.proofs.IsPointed.{clear_beyond, clear_moments, clear_recovers}
 use Rattle.checkpoint.proofs.RecoversByArea.{as_other, both_of, chain_other, half_same, holds_by, laid_by, ready_none, shut_current, shut_force}
-use Rattle.disk.specs.Store.{CrashesChangeOnly}
 use Rattle.oplog.specs.Beyond.{KeepsBeyond}
 use Rattle.oplog.specs.Changes.{Chained, Cleared, Flipped, IsSameButChain, IsSameButChainAndGates, IsSameButRoot}
 use Rattle.oplog.specs.Crash.{RecoversBy, RecoversEitherWay}
-use Rattle.oplog.specs.Front.{chain, front}
+use Rattle.oplog.specs.HalfContent.{chain, front}
 use Rattle.oplog.specs.Log.{Log, layout_of_log}
 use Rattle.device_map.specs.Layout.{layout_of, device_size, part_bytes, half_part, image_part, root_part, other}
 use Rattle.oplog.specs.Recovery.{in_force, recovers_by_area, records_in}

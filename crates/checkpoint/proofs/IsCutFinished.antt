@@ -2,18 +2,18 @@
 use Rattle.std.proofs.Common.{◌≡◌, ◌<◌, ℕ, true, false, eqb, cond, not, ◌&&◌, nat_le, List, ◌++◌, Option, None, sym, ◌∙◌, ap, arith}
 use Rattle.recovery.specs.Header.{is_header}
 use Rattle.recovery.specs.Recovery.{recovered_state, decoding}
-use Rattle.disk.specs.Device.{AreBytes, Medium}
-use Rattle.disk.specs.Moments.{CrashImagesAre}
+use Rattle.disk.specs.CrashImages.{AreBytes, CrashImagesAre, CrashesChangeOnly}
+use Rattle.disk.specs.Device.{Medium}
 use Rattle.disk.proofs.Leaves.{synced_left, itself}
 use Rattle.disk.proofs.Moments.{leaves_now, then, weaker}
 use Rattle.image.specs.Image.{image_state}
-use Rattle.checkpoint.specs.Steps.{IsCutFinished, IsCutUnfinished, RecoversByArea, run_on}
-use Rattle.checkpoint.specs.Extents.{Imaged, image_in}
+use Rattle.checkpoint.specs.PointAndCut.{IsCutFinished, IsCutUnfinished}
+use Rattle.checkpoint.specs.RecoversByArea.{RecoversByArea, run_on}
+use Rattle.checkpoint.specs.Images.{Imaged, image_in}
 use Rattle.checkpoint.proofs.RecoversByArea.{as_other, both_of, chain_other, half_same, holds_by, holds_moments, shut_current, shut_force}
-use Rattle.disk.specs.Store.{CrashesChangeOnly}
 use Rattle.oplog.specs.Changes.{Flipped, IsSameBut, IsSameButRoot}
 use Rattle.oplog.specs.Crash.{RecoversBy, RecoversEitherWay}
-use Rattle.oplog.specs.Front.{chain, front}
+use Rattle.oplog.specs.HalfContent.{chain, front}
 use Rattle.device_map.specs.Layout.{layout_of, device_size, half_part, header_part, image_part, other}
 use Rattle.oplog.specs.Log.{Log}
 use Rattle.oplog.specs.Recovery.{is_laid_out, named_area, recovers_by_area}

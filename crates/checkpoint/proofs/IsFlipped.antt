@@ -2,13 +2,15 @@
 use Rattle.std.proofs.Common.{◌≡◌, ℕ, Bool, List, length, Option, Some, None, is_some, sym, ◌∙◌, ap, subst, arith}
 use Rattle.recovery.specs.Recovery.{recovered_state}
 use Rattle.recovery.specs.Version.{named_version}
-use Rattle.disk.specs.Device.{AreBytes, Medium}
+use Rattle.disk.specs.CrashImages.{AreBytes}
+use Rattle.disk.specs.Device.{Medium}
 use Rattle.disk.proofs.Leaves.{itself}
 use Rattle.image.specs.Image.{version_in}
 use Rattle.image.specs.Pieces.{piece_count}
-use Rattle.checkpoint.specs.Keeping.{FitsCutState, IsSoundJournal}
-use Rattle.checkpoint.specs.Steps.{IsFlipped, IsCutWritten, RecoversByArea, flipped_log}
-use Rattle.checkpoint.specs.Extents.{image_in}
+use Rattle.checkpoint.specs.PointAndCut.{FitsCutState, IsFlipped, IsCutWritten, flipped_log}
+use Rattle.checkpoint.specs.IsSoundJournal.{IsSoundJournal}
+use Rattle.checkpoint.specs.RecoversByArea.{RecoversByArea}
+use Rattle.checkpoint.specs.Images.{image_in}
 use Rattle.checkpoint.proofs.IsCutBegun.{named_below}
 use Rattle.checkpoint.proofs.RecordsInForce.{forced_synced, front_count}
 use Rattle.checkpoint.proofs.Patches.{image_long}

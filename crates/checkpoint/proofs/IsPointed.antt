@@ -2,19 +2,20 @@
 use Rattle.std.proofs.Common.{◌≡◌, ◌<◌, ◌≤◌, ℕ, Bool, false, eqb, List, [], length, Option, refl, ◌∙◌, ap, subst, arith}
 use Rattle.affinity.specs.declared.geometry.Geometry.{Geometry}
 use Rattle.recovery.specs.Recovery.{recovered_state, decoding}
-use Rattle.disk.specs.Device.{AreBytes, Medium}
-use Rattle.disk.specs.Moments.{CrashImagesAre}
+use Rattle.disk.specs.CrashImages.{AreBytes, CrashImagesAre, CrashesChangeOnly}
+use Rattle.disk.specs.Device.{Medium}
 use Rattle.disk.proofs.Leaves.{synced_left, itself}
 use Rattle.disk.proofs.Moments.{leaves_now, then, weaker}
 use Rattle.image.specs.Image.{image_state}
-use Rattle.checkpoint.specs.Steps.{IsPointed, RecoversByArea, RecoversByNamedAlone}
-use Rattle.checkpoint.specs.Extents.{AgreeOnClean, Imaged, image_in}
+use Rattle.checkpoint.specs.PointAndCut.{IsPointed}
+use Rattle.checkpoint.specs.RecoversByArea.{RecoversByArea, RecoversByNamedAlone}
+use Rattle.checkpoint.specs.Extents.{AgreeOnClean}
+use Rattle.checkpoint.specs.Images.{Imaged, image_in}
 use Rattle.checkpoint.proofs.RecoversByArea.{as_other, both_of, half_same, holds_by, holds_moments, laid_by, not_one, ready_none, run_none, shut_current, shut_force}
-use Rattle.disk.specs.Store.{CrashesChangeOnly}
 use Rattle.oplog.specs.Beyond.{KeepsBeyond}
 use Rattle.oplog.specs.Changes.{Cleared, Flipped, IsSameBut, IsSameButChainAndGates, IsSameButRoot}
 use Rattle.oplog.specs.Crash.{RecoversBy, RecoversEitherWay}
-use Rattle.oplog.specs.Front.{chain, front}
+use Rattle.oplog.specs.HalfContent.{chain, front}
 use Rattle.oplog.specs.Log.{Log, layout_of_log}
 use Rattle.device_map.specs.Layout.{layout_of, device_size, part_bytes, half_part, image_part, other}
 use Rattle.oplog.specs.Recovery.{in_force, recovers_by_area}

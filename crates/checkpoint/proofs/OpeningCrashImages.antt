@@ -5,21 +5,22 @@ use Rattle.recovery.specs.declared.fault.OpenFault.{OpenFault}
 use Rattle.recovery.specs.declared.fault.OpenFault.TheVariants.{Device, OutOfMemory, BadRecord}
 use Rattle.recovery.specs.Header.{HasHeader}
 use Rattle.recovery.specs.Recovery.{recovered_state}
-use Rattle.recovery.specs.Loading.{IsConsistentFault, IsOfHalf}
+use Rattle.recovery.specs.OpenFaults.{IsConsistentFault, IsOfHalf}
 use Rattle.recovery.specs.Refusals.{IsRefused, fault_or_later, refused}
 use Rattle.recovery.proofs.OneGeometry.{one_geometry, same_geometry}
 use Rattle.recovery.proofs.Refused.{records_half}
 use Rattle.recovery.proofs.Replays.{same_bytes}
-use Rattle.disk.specs.Device.{AreBytes, IsSynced, IsCrashImage, IsTornFrom, Medium, Moment, moments}
-use Rattle.disk.specs.Moments.{CrashImagesAre, left_since}
+use Rattle.disk.specs.CrashImages.{AreBytes, IsCrashImage, IsTornFrom, CrashImagesAre, left_since}
+use Rattle.disk.specs.Device.{IsSynced, Medium, Moment, moments}
 use Rattle.disk.proofs.Leaves.{synced_left, itself}
 use Rattle.disk.proofs.Moments.{leaves_now, same, started, then, weaker}
 use Rattle.image.specs.Image.{image_state}
-use Rattle.checkpoint.specs.Opening.{area_state, IsBadAfterCut, IsLeftByRefusal, IsUnwritten, OpeningCrashImages, RecoversAsBefore}
-use Rattle.checkpoint.specs.Parts.{IsFaultAfterCut, IsRefusedAlike}
-use Rattle.checkpoint.specs.Steps.{RecoversByNamedAlone, IsCutFinished, RecoversByArea, finished_log}
+use Rattle.checkpoint.specs.RecoversByArea.{area_state, RecoversByNamedAlone, RecoversByArea}
+use Rattle.checkpoint.specs.Opening.{IsBadAfterCut, IsLeftByRefusal, IsUnwritten, OpeningCrashImages, RecoversAsBefore}
+use Rattle.checkpoint.specs.OpeningSteps.{IsFaultAfterCut, IsRefusedAlike}
+use Rattle.checkpoint.specs.PointAndCut.{IsCutFinished, finished_log}
 use Rattle.checkpoint.specs.Journal.{RecoversStill}
-use Rattle.checkpoint.specs.Extents.{image_in}
+use Rattle.checkpoint.specs.Images.{image_in}
 use Rattle.device_map.specs.Layout.{device_size, layout_of, other}
 use Rattle.oplog.specs.Log.{Log}
 use Rattle.oplog.specs.Recovery.{named_area}

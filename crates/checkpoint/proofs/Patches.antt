@@ -8,10 +8,11 @@ use Rattle.disk.specs.Device.{Medium, SameOutside, overlaid, synced}
 use Rattle.disk.proofs.Overlays.{take-overlaid, drop-overlaid, overlaid_outside, range-overlaid}
 use Rattle.disk.proofs.Outside.{same_before, same_behind}
 use Rattle.image.specs.Pieces.{piece_count}
-use Rattle.checkpoint.specs.Extents.{AgreeOnClean, Imaged, IsPatchedAt, image_in, extent_at, extent_size}
+use Rattle.checkpoint.specs.Extents.{AgreeOnClean, extent_at, extent_size}
+use Rattle.checkpoint.specs.Images.{Imaged, IsPatchedAt, image_in}
 use Rattle.checkpoint.proofs.Places.{extent_inside, extent_next, extent_rises}
 use Rattle.checkpoint.proofs.Runs.{part_begun, part_then}
-use Rattle.disk.specs.Store.{CrashesChangeOnly}
+use Rattle.disk.specs.CrashImages.{CrashesChangeOnly}
 use Rattle.oplog.specs.Changes.{IsSameBut}
 use Rattle.device_map.specs.Layout.{slice, layout_of, image_part, image_size, part_at, part_size, device_size}
 use Rattle.oplog.proofs.Slices.{same_but_both, same_but_none, image_sized, part_inside}

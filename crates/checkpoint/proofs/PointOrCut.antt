@@ -4,7 +4,8 @@ use Rattle.std.proofs.lemmas.List.{take_at}
 use Rattle.std.proofs.Math.Seq.{take-add}
 use Rattle.affinity.specs.declared.geometry.Geometry.{Geometry}
 use Rattle.recovery.specs.Recovery.{recovered_state}
-use Rattle.disk.specs.Device.{AreBytes, Medium}
+use Rattle.disk.specs.CrashImages.{AreBytes}
+use Rattle.disk.specs.Device.{Medium}
 use Rattle.recovery.specs.Version.{named_version}
 use Rattle.disk.proofs.Leaves.{itself}
 use Rattle.image.specs.Image.{image_head, image_of, image_state, version_in}
@@ -14,10 +15,12 @@ use Rattle.image.proofs.Measures.{state_is_measured}
 use Rattle.image.proofs.ReadImage.{read_again}
 use Rattle.checkpoint.specs.View.{IsJournal, journal_view}
 use Rattle.checkpoint.specs.Journal.{JournalView, committed}
-use Rattle.checkpoint.specs.Keeping.{IsUpToDate, FitsCutState, IsSoundJournal}
+use Rattle.checkpoint.specs.Extents.{IsUpToDate, AgreeOnClean, AreAllDirty, AreCleanExtentsOf, extent_in, extent_of}
+use Rattle.checkpoint.specs.PointAndCut.{FitsCutState, IsCutBegun, IsPointed, pointed_log}
+use Rattle.checkpoint.specs.IsSoundJournal.{IsSoundJournal}
 use Rattle.checkpoint.specs.declared.journal.Journal.TheInside.{Inside}
-use Rattle.checkpoint.specs.Steps.{RecoversByNamedAlone, IsCutBegun, IsPointed, RecoversByArea, pointed_log, run_on}
-use Rattle.checkpoint.specs.Extents.{AgreeOnClean, AreAllDirty, AreCleanExtentsOf, image_in, extent_in, extent_of}
+use Rattle.checkpoint.specs.RecoversByArea.{RecoversByNamedAlone, RecoversByArea, run_on}
+use Rattle.checkpoint.specs.Images.{image_in}
 use Rattle.checkpoint.proofs.IsCutBegun.{named_below}
 use Rattle.checkpoint.proofs.RecordsInForce.{forced_synced}
 use Rattle.checkpoint.proofs.RecoversByArea.{holds_now, run_none}

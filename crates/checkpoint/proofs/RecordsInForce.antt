@@ -3,12 +3,13 @@ use Rattle.std.proofs.Common.{◌≡◌, ◌≢◌, ◌<◌, ◌≤◌, ◌==◌
 use Rattle.std.proofs.lemmas.List.Sums.{prefix_len-le-length}
 use Rattle.affinity.specs.declared.geometry.Geometry.{Geometry}
 use Rattle.recovery.specs.Recovery.{decoding}
-use Rattle.disk.specs.Device.{IsSynced, IsCrashImage, Medium}
+use Rattle.disk.specs.Device.{IsSynced, Medium}
+use Rattle.disk.specs.CrashImages.{IsCrashImage}
 use Rattle.disk.proofs.Leaves.{synced_left}
 use Rattle.checkpoint.proofs.RecoversByArea.{open_by, shut_force}
 use Rattle.oplog.specs.Changes.{HasAppended, IsReady, IsSameBut}
 use Rattle.oplog.specs.Crash.{RecoversBy}
-use Rattle.oplog.specs.Front.{chain, front, gates, count_open}
+use Rattle.oplog.specs.HalfContent.{chain, front, gates, count_open}
 use Rattle.device_map.specs.Layout.{Layout, half_part, layout_of, other, part_bytes, root_part}
 use Rattle.oplog.specs.Recovery.{in_force, named_area, records_in}
 use Rattle.oplog.proofs.AfterCrash.{named_kept, no_chain_by}

@@ -3,15 +3,15 @@ use Rattle.std.proofs.Common.{◌≡◌, ◌<◌, ℕ, zero, suc, Bool, true, fa
 use Rattle.affinity.specs.declared.geometry.Geometry.{Geometry}
 use Rattle.recovery.specs.Header.{is_header}
 use Rattle.recovery.specs.Recovery.{recovered_state, decoding}
-use Rattle.disk.specs.Device.{AreBytes, Medium}
-use Rattle.disk.specs.Moments.{CrashImagesAre}
+use Rattle.disk.specs.CrashImages.{AreBytes, CrashImagesAre}
+use Rattle.disk.specs.Device.{Medium}
 use Rattle.disk.proofs.Leaves.{itself}
 use Rattle.disk.proofs.Moments.{weaker}
 use Rattle.image.specs.Image.{image_state}
-use Rattle.checkpoint.specs.Steps.{RecoversByArea, run_on}
+use Rattle.checkpoint.specs.RecoversByArea.{RecoversByArea, run_on}
 use Rattle.oplog.specs.Changes.{IsReady}
 use Rattle.oplog.specs.Crash.{RecoversBy}
-use Rattle.oplog.specs.Front.{chain, front, front_in, rows}
+use Rattle.oplog.specs.HalfContent.{chain, front, front_in, rows}
 use Rattle.device_map.specs.Layout.{Layout, layout_of, part_bytes, device_size, header_part, half_part, image_part, other}
 use Rattle.protocol.specs.declared.sizes.TheConstants.{RECORD_SIZE}
 use Rattle.oplog.specs.Recovery.{current_of, in_force, is_laid_out, run, recovers_by_area}

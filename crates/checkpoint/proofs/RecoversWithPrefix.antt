@@ -5,8 +5,8 @@ use Rattle.std.proofs.lemmas.Slice.Eq.{bytes_eq-Decides}
 use Rattle.std.specs.Str.{bytes_eq}
 use Rattle.affinity.specs.declared.geometry.Geometry.{Geometry}
 use Rattle.recovery.specs.Recovery.{after_record, apply_decoded, recovered_state, decoding}
-use Rattle.disk.specs.Device.{AreBytes, IsCrashImage, Medium}
-use Rattle.disk.specs.Moments.{CrashImagesAre}
+use Rattle.disk.specs.CrashImages.{AreBytes, IsCrashImage, CrashImagesAre}
+use Rattle.disk.specs.Device.{Medium}
 use Rattle.disk.proofs.Leaves.{itself}
 use Rattle.disk.proofs.Moments.{weaker}
 use Rattle.image.specs.Image.{image_head, image_state}
@@ -15,12 +15,13 @@ use Rattle.image.specs.Touched.{may_change}
 use Rattle.image.proofs.Untouched.{piece_stays}
 use Rattle.meaning.proofs.Kept.{step_kept}
 use Rattle.std.specs.List.{AllByRecursion}
-use Rattle.checkpoint.specs.Journal.{JournalView, AreCarriedOut, RecoversWithPrefix, IsRecoverable}
-use Rattle.checkpoint.specs.Keeping.{AreCleanBefore, IsCutIfRunning, IsUpToDate, FitsCutState, IsSoundJournal, image_after_cut, journal_view_of}
-use Rattle.checkpoint.specs.DirtyPieces.{AreBothTouched, DirtiesTouched}
-use Rattle.checkpoint.specs.Steps.{RecoversByArea, run_on}
-use Rattle.checkpoint.specs.Journal.{RecoversStill}
-use Rattle.checkpoint.specs.Extents.{AgreeOnClean, image_in, extent_of}
+use Rattle.checkpoint.specs.Journal.{JournalView, AreCarriedOut, RecoversWithPrefix, IsRecoverable, journal_view_of, RecoversStill}
+use Rattle.checkpoint.specs.PointAndCut.{IsCutIfRunning, FitsCutState, image_after_cut}
+use Rattle.checkpoint.specs.Extents.{IsUpToDate, AgreeOnClean, extent_of}
+use Rattle.checkpoint.specs.IsSoundJournal.{IsSoundJournal}
+use Rattle.checkpoint.specs.DirtyPieces.{AreBothTouched, DirtiesTouched, AreCleanBefore}
+use Rattle.checkpoint.specs.RecoversByArea.{RecoversByArea, run_on}
+use Rattle.checkpoint.specs.Images.{image_in}
 use Rattle.checkpoint.proofs.IsCutBegun.{named_below}
 use Rattle.checkpoint.proofs.RecordsInForce.{forced_more, used_most}
 use Rattle.checkpoint.proofs.RecoversByArea.{holds_by, holds_now}
@@ -34,14 +35,14 @@ use Rattle.protocol.specs.Messages.{is_in_range}
 use Rattle.message.specs.Records.{message_in_fields, record_of}
 use Rattle.message.proofs.RecordLemmas.{record_says}
 use Rattle.oplog.specs.Calls.{Grows, HasAdded}
-use Rattle.oplog.specs.Front.{chain, front}
+use Rattle.oplog.specs.HalfContent.{chain, front}
 use Rattle.device_map.specs.Layout.{layout_of, device_size, image_part, image_size, other}
 use Rattle.oplog.specs.Log.{Log}
-use Rattle.oplog.specs.Changing.{records_of}
+use Rattle.oplog.specs.ChangeRecords.{records_of}
 use Rattle.oplog.specs.Recovery.{run, records_in}
 use Rattle.oplog.proofs.AfterCrash.{append_recovers, all_by_area}
 use Rattle.oplog.proofs.Kept.{run-append}
-use Rattle.meaning.specs.Serial.{state_after_all, is_recorded, next_state, reply_to}
+use Rattle.meaning.specs.Step.{state_after_all, is_recorded, next_state, reply_to}
 use Rattle.meaning.specs.State.{State, IsState}
 
 -- ---- messages and their records

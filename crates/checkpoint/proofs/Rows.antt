@@ -11,10 +11,8 @@ use Rattle.std.proofs.Math.Seq.{take-add}
 use Rattle.affinity.specs.declared.geometry.Geometry.{Geometry}
 use Rattle.affinity.proofs.Elements.{all_join}
 use Rattle.image.specs.Pieces.{aggregate_of, part_of, piece_count, pieces_of_volume, volume_of, volume_piece_number}
-use Rattle.meaning.specs.Serial.{key}
-use Rattle.meaning.specs.State.{one_if}
-use Rattle.checkpoint.specs.Keeping.{AreCleanBefore}
-use Rattle.checkpoint.specs.DirtyPieces.{DirtiesTouched, count_dirty}
+use Rattle.meaning.specs.State.{one_if, key}
+use Rattle.checkpoint.specs.DirtyPieces.{DirtiesTouched, count_dirty, AreCleanBefore}
 use Rattle.checkpoint.specs.Extents.{extent_at, extent_in, extent_size}
 use Rattle.checkpoint.proofs.Places.{extent_end, extent_next}
 use Rattle.device_map.specs.Layout.{image_size}

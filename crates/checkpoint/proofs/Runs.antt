@@ -4,8 +4,9 @@ use Rattle.std.proofs.lemmas.List.{length-take-le}
 use Rattle.affinity.specs.declared.geometry.Geometry.{Geometry}
 use Rattle.disk.specs.Device.{Medium, SameOutside, overlaid}
 use Rattle.disk.proofs.Moments.{leaves_now, started, then, weaker}
-use Rattle.checkpoint.specs.Extents.{image_in}
-use Rattle.disk.specs.Store.{CrashesChangeOnly, TouchesOnly}
+use Rattle.checkpoint.specs.Images.{image_in}
+use Rattle.disk.specs.CrashImages.{CrashesChangeOnly}
+use Rattle.disk.specs.Store.{TouchesOnly}
 use Rattle.oplog.specs.Changes.{IsReady, IsSameBut}
 use Rattle.device_map.specs.Layout.{Layout, slice, layout_of, part_bytes, part_at, image_part, device_size, image_size}
 use Rattle.oplog.proofs.Ready.{ready_beside}

@@ -3,20 +3,20 @@ use Rattle.std.proofs.Common.{◌≡◌, ◌≢◌, ◌⊎◌, ◌<◌, ◌≤�
 use Rattle.std.specs.Prelude.{if◌then◌else◌}
 use Rattle.std.proofs.lemmas.Bool.{cases_eq}
 use Rattle.affinity.specs.declared.geometry.Geometry.{Geometry}
-use Rattle.recovery.specs.Loading.{NamedHolds, are_both_chained, image_fault, records_fault}
+use Rattle.recovery.specs.Loading.{NamedHolds, are_both_chained}
+use Rattle.recovery.specs.OpenFaults.{image_fault, records_fault}
 use Rattle.recovery.specs.Recovery.{decoding}
 use Rattle.recovery.specs.Refusals.{refused}
 use Rattle.recovery.proofs.BadRecordBehind.{image_fine, refused_alone, refused_behind}
-use Rattle.disk.specs.Device.{AreBytes, IsSynced, Medium}
-use Rattle.disk.specs.Moments.{CrashImagesAre}
+use Rattle.disk.specs.CrashImages.{AreBytes, CrashImagesAre, CrashesChangeOnly}
+use Rattle.disk.specs.Device.{IsSynced, Medium}
 use Rattle.disk.proofs.Leaves.{synced_left}
 use Rattle.disk.proofs.Moments.{then, weaker}
 use Rattle.image.specs.Image.{image_state}
-use Rattle.checkpoint.specs.Parts.{IsRefusedAlike}
-use Rattle.checkpoint.specs.Extents.{Imaged}
-use Rattle.disk.specs.Store.{CrashesChangeOnly}
+use Rattle.checkpoint.specs.OpeningSteps.{IsRefusedAlike}
+use Rattle.checkpoint.specs.Images.{Imaged}
 use Rattle.oplog.specs.Changes.{IsSameBut, IsSameButRoot}
-use Rattle.oplog.specs.Front.{chain, chain_in, front, front_in}
+use Rattle.oplog.specs.HalfContent.{chain, chain_in, front, front_in}
 use Rattle.device_map.specs.Layout.{device_size, half_part, header_part, image_part, layout_of, other, part_bytes, root_part}
 use Rattle.oplog.specs.Recovery.{named_area, run}
 use Rattle.oplog.proofs.Kept.{named_area-below}

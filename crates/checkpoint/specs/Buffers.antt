@@ -4,7 +4,6 @@ use Rattle.affinity.specs.declared.geometry.Geometry.{Geometry}
 use Rattle.device_map.specs.Layout.{image_size}
 use Rattle.image.specs.Pieces.{piece_count}
 use Rattle.checkpoint.specs.declared.journal.Buffers.{Buffers}
-use Rattle.checkpoint.specs.DirtyPieces.{DirtyPieces}
 
 -- They have the sizes that this geometry asks for.
 pub record FitBuffers (g : Geometry) (b : Buffers) : Type 0 where
@@ -17,7 +16,3 @@ pub record FitBuffers (g : Geometry) (b : Buffers) : Type 0 where
 pub record KeepsBuffers (old new : Buffers) : Type 0 where
   pub size : length new.snapshot.items ≡ length old.snapshot.items
   pub flags : new ≡ record old { snapshot = new.snapshot }
-
--- the dirty flags of both images
-abbrev pub dirty_pieces_of : Buffers → DirtyPieces
-dirty_pieces_of b = record { named = b.named_dirty.items; other = b.other_dirty.items }

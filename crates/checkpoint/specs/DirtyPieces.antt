@@ -6,6 +6,7 @@ use Rattle.affinity.specs.declared.geometry.Geometry.{Geometry}
 use Rattle.image.specs.Pieces.{piece_count}
 use Rattle.image.specs.Touched.{may_change}
 use Rattle.protocol.specs.declared.messages.Msg.{Msg}
+use Rattle.checkpoint.specs.declared.journal.Buffers.{Buffers}
 
 pub record DirtyPieces : Type 0 where
   -- of the image that is named
@@ -13,11 +14,19 @@ pub record DirtyPieces : Type 0 where
   -- of the other one, as it is; during a cut, as it will be at the cut's end
   pub other : List Bool
 
+-- the dirty flags of both images
+abbrev pub dirty_pieces_of : Buffers → DirtyPieces
+dirty_pieces_of b = record { named = b.named_dirty.items; other = b.other_dirty.items }
+
 -- how many are dirty
 abbrev pub count_dirty : List Bool → ℕ
 count_dirty [] = 0
 count_dirty (true ∷ dirty) = suc (count_dirty dirty)
 count_dirty (false ∷ dirty) = count_dirty dirty
+
+-- No flag before this number is set.
+abbrev pub AreCleanBefore : ℕ → List Bool → Type 0
+AreCleanBefore n dirty = (i : ℕ) → i < n → get_or dirty i false ≡ false
 
 -- The flags after these messages: a piece is clean exactly where it was before and none of the messages touches (may change) it.
 abbrev pub DirtiesTouched : Geometry → List Msg → List Bool → List Bool → Type 0

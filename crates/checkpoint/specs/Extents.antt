@@ -1,12 +1,10 @@
 -- Statement for engineers: An image as the extents in which it is written: its head with the first piece, then each other piece.
-use Rattle.std.specs.Prelude.{◌≡◌, ◌≢◌, ◌<◌, ◌+◌, ℕ, zero, suc, Bool, true, false, List, ◌++◌, get_or}
+use Rattle.std.specs.Prelude.{◌≡◌, ◌<◌, ◌+◌, ℕ, zero, suc, Bool, true, false, List, ◌++◌, get_or, Option, Some}
 use Rattle.affinity.specs.declared.geometry.Geometry.{Geometry}
-use Rattle.disk.specs.Device.{Medium, IsSynced}
 use Rattle.image.specs.Image.{image_head}
 use Rattle.image.specs.Pieces.{piece_at, piece_count, piece_of, piece_size}
 use Rattle.image.specs.declared.layout.TheConstants.{VERSION}
-use Rattle.oplog.specs.Changes.{IsSameBut}
-use Rattle.device_map.specs.Layout.{slice, layout_of, part_bytes, image_part}
+use Rattle.device_map.specs.Layout.{slice}
 use Rattle.device_map.specs.declared.layout.TheConstants.{IMAGE_HEAD_SIZE}
 use Rattle.meaning.specs.State.{State}
 
@@ -40,17 +38,6 @@ AreCleanExtentsOf g x dirty bytes = (n : ℕ) → n < piece_count g → get_or d
 abbrev pub AreAllDirty : Geometry → List Bool → Type 0
 AreAllDirty g dirty = (n : ℕ) → n < piece_count g → get_or dirty n true ≡ true
 
--- the bytes of the image of an area
-abbrev pub image_in : Geometry → ℕ → Medium → List ℕ
-image_in g area m = part_bytes (layout_of g) (image_part area) m.now
-
--- The image of an area has these bytes, nothing else has changed, and nothing is unsynced.
-pub record Imaged (g : Geometry) (area : ℕ) (bytes : List ℕ) (old new : Medium) : Type 0 where
-  pub same : IsSameBut (layout_of g) (image_part area) old.now new.now
-  pub is : image_in g area new ≡ bytes
-  pub synced : IsSynced new
-
--- Extent n is now that of these bytes, and each other one is as it was.
-pub record IsPatchedAt (g : Geometry) (n : ℕ) (bytes old new : List ℕ) : Type 0 where
-  pub is : extent_in g new n ≡ extent_in g bytes n
-  pub others : (i : ℕ) → i < piece_count g → i ≢ n → extent_in g new i ≡ extent_in g old i
+-- If there is a state x: each clean extent of these bytes (a piece, the first with the image's head) is that of x.
+abbrev pub IsUpToDate : Geometry → Option State → List Bool → List ℕ → Type 0
+IsUpToDate g x dirty bytes = (y : State) → x ≡ Some y → AreCleanExtentsOf g y dirty bytes

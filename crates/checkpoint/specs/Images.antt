@@ -1,4 +1,4 @@
--- Statement for engineers: What the steps of a cut change of the images on a device.
+-- Statement for engineers: The images on a device: their bytes, and what the steps of a point and of a cut change of them.
 use Rattle.std.specs.Prelude.{◌≡◌, ◌≢◌, ◌<◌, ℕ, List}
 use Rattle.affinity.specs.declared.geometry.Geometry.{Geometry}
 use Rattle.image.specs.Pieces.{piece_count}
@@ -6,6 +6,22 @@ use Rattle.checkpoint.specs.Extents.{extent_in}
 use Rattle.oplog.specs.Changes.{IsSameBut}
 use Rattle.device_map.specs.Layout.{image_part, layout_of, other, part_bytes}
 use Rattle.oplog.specs.Recovery.{named_area}
+use Rattle.disk.specs.Device.{Medium, IsSynced}
+
+-- the bytes of the image of an area
+abbrev pub image_in : Geometry → ℕ → Medium → List ℕ
+image_in g area m = part_bytes (layout_of g) (image_part area) m.now
+
+-- The image of an area has these bytes, nothing else has changed, and nothing is unsynced.
+pub record Imaged (g : Geometry) (area : ℕ) (bytes : List ℕ) (old new : Medium) : Type 0 where
+  pub same : IsSameBut (layout_of g) (image_part area) old.now new.now
+  pub is : image_in g area new ≡ bytes
+  pub synced : IsSynced new
+
+-- Extent n is now that of these bytes, and each other one is as it was.
+pub record IsPatchedAt (g : Geometry) (n : ℕ) (bytes old new : List ℕ) : Type 0 where
+  pub is : extent_in g new n ≡ extent_in g bytes n
+  pub others : (i : ℕ) → i < piece_count g → i ≢ n → extent_in g new i ≡ extent_in g old i
 
 -- Both images are as they were.
 abbrev pub KeepsImages : Geometry → List ℕ → List ℕ → Type 0

@@ -1,16 +1,18 @@
 -- Statement for operators: A journal as contracts see it, and what its calls leave.
-use Rattle.std.specs.Prelude.{◌≡◌, ◌≤◌, ℕ, ◌+◌, Bool, true, List, [], ◌∷◌, length, take, Option, Some, None, is_some, Result, Ok, Err}
+use Rattle.std.specs.Prelude.{◌≡◌, ◌≤◌, ℕ, ◌+◌, Bool, true, List, [], ◌∷◌, length, take, Option, Some, None, is_some, Result, Ok, Err, ◌-◌}
 use Rattle.affinity.specs.declared.geometry.Geometry.{Geometry}
 use Rattle.recovery.specs.Recovery.{recovered_state}
-use Rattle.disk.specs.Device.{Medium, IsCrashImage}
-use Rattle.disk.specs.Moments.{CrashImagesAre}
+use Rattle.disk.specs.Device.{Medium}
+use Rattle.disk.specs.CrashImages.{IsCrashImage, CrashImagesAre}
 use Rattle.checkpoint.specs.DirtyPieces.{DirtyPieces}
 use Rattle.protocol.specs.declared.messages.Msg.{Msg}
 use Rattle.protocol.specs.Messages.{IsMessage}
-use Rattle.oplog.specs.Changing.{IsChangeInRange}
+use Rattle.oplog.specs.ChangeRecords.{IsChangeInRange}
 use Rattle.oplog.specs.Recovery.{records_in}
-use Rattle.meaning.specs.Serial.{state_after_all, is_recorded, next_state, reply_to}
+use Rattle.oplog.specs.Log.{Log}
+use Rattle.meaning.specs.Step.{state_after_all, is_recorded, next_state, reply_to}
 use Rattle.meaning.specs.State.{State}
+use Rattle.device_map.specs.Layout.{other}
 
 pub record JournalView : Type 0 where
   pub geometry : Geometry
@@ -60,3 +62,14 @@ pub record RecoversWithPrefix (g : Geometry) (x : State) (ms : List Msg) (c : Li
 abbrev pub after_call : {T E : Type 0} → Result T E → JournalView → JournalView → JournalView
 after_call (Ok _) done old = done
 after_call (Err _) done old = record old { failed = true; medium = done.medium }
+
+-- the journal with this log, these dirty flags (of the named image, and of the other one) and this device
+abbrev pub journal_view_of : Log → List Bool → List Bool → Option ℕ → Medium → JournalView
+journal_view_of log named others pieces_left m = record {
+  geometry = log.geometry;
+  room = log.geometry.half - log.used;
+  pieces_left = pieces_left;
+  dirty = record { named = named; other = others };
+  failed = log.failed;
+  medium = m;
+}

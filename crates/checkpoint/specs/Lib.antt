@@ -2,11 +2,12 @@
 pub mod DirtyPieces
 pub mod Journal
 pub mod Extents
-pub mod Steps
-pub mod Keeping
+pub mod PointAndCut
+pub mod RecoversByArea
+pub mod IsSoundJournal
 pub mod Buffers
 pub mod View
 pub mod Opening
-pub mod Parts
+pub mod OpeningSteps
 pub mod Images
 pub mod Costs

@@ -1,21 +1,21 @@
 -- Statement for operators: What it is to open a device: which state is opened, what a crash leaves meanwhile, and what a refusal leaves.
-use Rattle.std.specs.Prelude.{◌≡◌, ◌≢◌, ◌⊎◌, ℕ, List, [], Option, Some, None}
+use Rattle.std.specs.Prelude.{◌≡◌, ◌≢◌, ◌⊎◌, ℕ, List, [], Some, None}
 use Rattle.affinity.specs.declared.geometry.Geometry.{Geometry}
 use Rattle.recovery.specs.declared.fault.OpenFault.{OpenFault}
 use Rattle.recovery.specs.declared.fault.OpenFault.TheVariants.{Device, BadRecord}
 use Rattle.recovery.specs.Header.{HasHeader}
-use Rattle.recovery.specs.Recovery.{recovered_state, decoding}
+use Rattle.recovery.specs.Recovery.{recovered_state}
 use Rattle.recovery.specs.Refusals.{HasHeaderAndParts, refused}
 use Rattle.recovery.specs.Version.{named_version}
-use Rattle.disk.specs.Device.{Medium, IsCrashImage, IsSynced}
-use Rattle.disk.specs.Moments.{CrashImagesAre}
+use Rattle.disk.specs.Device.{Medium, IsSynced}
+use Rattle.disk.specs.CrashImages.{IsCrashImage, CrashImagesAre}
 use Rattle.checkpoint.specs.Journal.{JournalView, IsRecoverable, records, committed}
 use Rattle.checkpoint.specs.DirtyPieces.{opened_dirty}
+use Rattle.checkpoint.specs.RecoversByArea.{area_state}
 use Rattle.image.specs.Image.{image_state}
 use Rattle.image.specs.declared.layout.TheConstants.{VERSION}
-use Rattle.oplog.specs.Front.{front}
 use Rattle.device_map.specs.Layout.{image_part, layout_of, part_bytes}
-use Rattle.oplog.specs.Recovery.{named_area, run}
+use Rattle.oplog.specs.Recovery.{named_area}
 use Rattle.meaning.specs.State.{State, IsState}
 
 -- A device was opened: it isn't refused, and the journal holds the state to which it recovered, with no record in force, now
@@ -62,10 +62,6 @@ pub record OpeningCrashImages (old new : Medium) : Type 0 where
 pub record IsUnwritten (old new : Medium) : Type 0 where
   pub now : new.now ≡ old.now
   pub later : CrashImagesAre old new (IsCrashImage old)
-
--- the state of area n of a device with these bytes by itself: its image, with the records of its half run on it
-abbrev pub area_state : Geometry → ℕ → List ℕ → Option State
-area_state g n c = run (decoding g) (image_state g (part_bytes (layout_of g) (image_part n) c)) (front (layout_of g) n c)
 
 -- A cut in progress was finished, and record i of the half that was after the named one is bad. The area of that half is
 -- named now, its image is that of the state which the area named before had by itself, nothing is unsynced, and the device is

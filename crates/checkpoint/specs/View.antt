@@ -2,8 +2,10 @@
 use Rattle.std.specs.Prelude.{◌≡◌, ◌≤◌, false, length}
 use Rattle.disk.specs.Device.{Medium}
 use Rattle.checkpoint.specs.Buffers.{FitBuffers}
-use Rattle.checkpoint.specs.Journal.{JournalView}
-use Rattle.checkpoint.specs.Keeping.{AreCleanBefore, FitsCutState, IsSoundJournal, journal_view_of}
+use Rattle.checkpoint.specs.Journal.{JournalView, journal_view_of}
+use Rattle.checkpoint.specs.DirtyPieces.{AreCleanBefore}
+use Rattle.checkpoint.specs.PointAndCut.{FitsCutState}
+use Rattle.checkpoint.specs.IsSoundJournal.{IsSoundJournal}
 use Rattle.checkpoint.specs.declared.journal.Journal.TheInside.{Inside}
 use Rattle.oplog.specs.Calls.{IsLongEnough}
 

@@ -1,9 +1,8 @@
 //! Dirty flags, one for each piece of an image.
 ghost use Rattle.std.specs.Prelude.{◌≡◌, ◌<◌, ◌≤◌, ◌^◌, ◌∷◌, [], true, false, get_or, length, replicate, IfSome, IsNone};
 ghost use Rattle.image.specs.Pieces.{piece_count, volume_piece_number};
-ghost use Rattle.checkpoint.specs.Keeping.{AreCleanBefore};
-ghost use Rattle.checkpoint.specs.DirtyPieces.{DirtiesTouched, count_dirty};
-ghost use Rattle.meaning.specs.Serial.{key};
+ghost use Rattle.checkpoint.specs.DirtyPieces.{DirtiesTouched, count_dirty, AreCleanBefore};
+ghost use Rattle.meaning.specs.State.{key};
 
 use affinity::Geometry;
 use image::touched;

@@ -3,8 +3,10 @@ ghost use Rattle.std.specs.Prelude.{◌≡◌, ◌+◌, ◌-◌, ◌<◌, ◌≤
 ghost use Rattle.disk.specs.Device.{IsCallInside, Syncs, overlaid};
 ghost use Rattle.image.specs.Pieces.{piece_count, piece_size};
 ghost use Rattle.checkpoint.specs.Costs.{count_runs};
-ghost use Rattle.checkpoint.specs.Extents.{AgreeOnClean, Imaged, IsPatchedAt, image_in, extent_size};
-ghost use Rattle.disk.specs.Store.{CrashesChangeOnly, Costs};
+ghost use Rattle.checkpoint.specs.Extents.{AgreeOnClean, extent_size};
+ghost use Rattle.checkpoint.specs.Images.{Imaged, IsPatchedAt, image_in};
+ghost use Rattle.disk.specs.CrashImages.{CrashesChangeOnly};
+ghost use Rattle.disk.specs.Device.{Costs};
 ghost use Rattle.oplog.specs.Changes.{IsReady, IsSameBut};
 ghost use Rattle.device_map.specs.Layout.{slice, layout_of, device_size, image_part, image_size};
 ghost use Rattle.device_map.specs.declared.layout.TheConstants.{BLOCK_ENTRY_SIZE, IMAGE_HEAD_SIZE};

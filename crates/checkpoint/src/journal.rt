@@ -1,7 +1,7 @@
 //! The journal of a server: what was carried out, on a device that a crash may tear at any moment.
 ghost use Rattle.std.specs.Prelude.{◌≡◌, ◌≢◌, ◌-◌, ◌*◌, ◌≤◌, ◌++◌, ℕ, List, true, false, Some, None, [], length, is_some, option_map, OnOk, OnErr, IfOk};
 ghost use Rattle.recovery.specs.Version.{named_version};
-ghost use Rattle.disk.specs.Moments.{CrashImagesAre};
+ghost use Rattle.disk.specs.CrashImages.{CrashImagesAre};
 ghost use Rattle.image.specs.Pieces.{piece_count};
 ghost use Rattle.image.specs.declared.layout.TheConstants.{VERSION};
 ghost use Rattle.checkpoint.specs.Costs.{longest_point, point_cost};
@@ -9,12 +9,12 @@ ghost use Rattle.checkpoint.specs.Images.{KeepsImages, PatchesUnnamed};
 ghost use Rattle.checkpoint.specs.Journal.{JournalView, AreCarriedOut, RecoversWithPrefix, IsRecoverable, after_call, records, committed, RecoversStill};
 ghost use Rattle.checkpoint.specs.DirtyPieces.{AreBothTouched, count_dirty, cut_dirty, flipped_dirty, pointed_dirty};
 ghost use Rattle.oplog.specs.Beyond.{KeepsBeyond};
-ghost use Rattle.disk.specs.Store.{Costs};
+ghost use Rattle.disk.specs.Device.{Costs};
 ghost use Rattle.oplog.specs.Log.{batch_count, ReadsNoRecord};
 ghost use Rattle.device_map.specs.Layout.{layout_of};
-ghost use Rattle.oplog.specs.Changing.{AreChangesInRange, records_of};
+ghost use Rattle.oplog.specs.ChangeRecords.{AreChangesInRange, records_of};
 ghost use Rattle.parcel.specs.Tree.{IsWholeTree, state_in};
-ghost use Rattle.meaning.specs.Serial.{state_after_all};
+ghost use Rattle.meaning.specs.Step.{state_after_all};
 ghost use Rattle.meaning.specs.State.{State};
 
 use crate::checkpoint_steps::{cut_on, flip_on, point_on};
@@ -75,7 +75,8 @@ impl<D: Disk> Model for Journal<D> {
 }
 
 impl<D: Disk> Journal<D> {
-    ghost use Rattle.checkpoint.specs.Keeping.{IsSoundJournal, journal_view_of};
+    ghost use Rattle.checkpoint.specs.IsSoundJournal.{IsSoundJournal};
+    ghost use Rattle.checkpoint.specs.Journal.{journal_view_of};
     ghost use Rattle.oplog.specs.Calls.{IsUsable};
     ghost use Rattle.checkpoint.specs.Buffers.{FitBuffers};
 

@@ -12,14 +12,14 @@ use Rattle.clap.specs.Words.{IsAmong, Text, kind_of}
 use Rattle.meaning.specs.Output.{WritesOutput, IsBeginning}
 use Rattle.meaning.specs.State.{empty}
 use Rattle.plain.specs.declared.fault.PlainFault.TheVariants as plain
-use Rattle.serving.specs.Ends.{Exchange, exchange}
-use Rattle.commands.specs.Ends.{EndsFormatting, EndsInMemory, EndsShowing}
+use Rattle.serving.specs.Exchange.{Exchange, exchange}
+use Rattle.commands.specs.Ends.{EndsFormatting, EndsInMemory, EndsShowing, Ends}
 use Rattle.commands.specs.InFile.{EndsInFile}
 use Rattle.commands.specs.declared.serve_options.ServeOptions.{ServeOptions}
 use Rattle.commands.proofs.Services.{service_same}
-use Rattle.commands.specs.Calls.{Ends, Exits, ExitsHelp, ExitsRefused, status_at, status_of_refusal}
+use Rattle.commands.specs.Exits.{Exits, ExitsHelp, ExitsRefused}
 use Rattle.commands.specs.Services.{AsksServe, within_limits}
-use Rattle.commands.specs.Faults.{status_of}
+use Rattle.commands.specs.Faults.{status_of, status_at, status_of_refusal}
 use Rattle.arguments.proofs.Asks.{no_mistake, plain_is_not_serve, two_names}
 use Rattle.arguments.specs.Arguments.{Asks, AsksFormat, AsksOutOfRange, RunsNoCommand, AsksPlain, AsksShow, IsReason, command_of, findings, given_to, numbers_in}
 use Rattle.commands.specs.declared.faults.Fault.{Fault}

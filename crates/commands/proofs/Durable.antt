@@ -12,11 +12,12 @@ use Rattle.protocol.specs.Replies.{output_line, reply_text}
 use Rattle.protocol.specs.declared.messages.Msg.{Msg}
 use Rattle.meaning.proofs.OutputLemmas.{joined-append, output_lines-append}
 use Rattle.meaning.specs.Output.{WritesOutput, answer_line, joined, output_lines, serial_output, state_after_line, state_after_lines}
-use Rattle.meaning.specs.Serial.{reply_to}
+use Rattle.meaning.specs.Step.{reply_to}
 use Rattle.meaning.specs.State.{State}
 use Rattle.serving.specs.Restart.{IsClosedPart, RecoversTo}
 use Rattle.commands.specs.Promise.{HasRunFrom, HoldsState, IsWritten, OpensUnlessFailed}
-use Rattle.commands.specs.Restarts.{AreDurablyLinearizable, AreOperationsOf, CrashedRun, FollowCrashes, IsRunOn, Killed, Operation, Returned, RunEnd, answers_in, lines_in, promised_end}
+use Rattle.commands.specs.DurableLinearizability.{AreDurablyLinearizable, AreOperationsOf, Operation, answers_in, lines_in}
+use Rattle.commands.specs.Restarts.{CrashedRun, FollowCrashes, IsRunOn, Killed, Returned, RunEnd, promised_end}
 use Rattle.commands.specs.declared.faults.Fault.{Fault}
 
 -- ---- what a serial server does

@@ -12,14 +12,15 @@ use Rattle.affinity.specs.declared.geometry.Geometry.{Geometry}
 use Rattle.recovery.specs.declared.inspecting.Shown.{Shown}
 use Rattle.disk.specs.Device.{Medium}
 use Rattle.protocol.specs.Grammar.{kind_named, message_of}
-use Rattle.protocol.specs.Lines.{number_in_word}
+use Rattle.protocol.specs.Words.{number_in_word}
 use Rattle.protocol.specs.declared.replies.Reply.TheVariants.{Summary}
 use Rattle.meaning.specs.Output.{answer_line, joined, output_lines, serial_output, state_after_line, state_after_lines}
 use Rattle.meaning.specs.State.{State, empty}
 use Rattle.device_map.specs.Layout.{image_size}
 use Rattle.commands.specs.Lines.{formatted_line, shown_lines}
 use Rattle.commands.specs.Promise.{HasRunFrom}
-use Rattle.commands.specs.Restarts.{AreDurablyLinearizable, CrashedRun, IsHistoryOf, Killed, Operation, Returned, answers_in, lines_in}
+use Rattle.commands.specs.DurableLinearizability.{AreDurablyLinearizable, IsHistoryOf, Operation, answers_in, lines_in}
+use Rattle.commands.specs.Restarts.{CrashedRun, Killed, Returned}
 use Rattle.commands.specs.Services.{AsksServe, within_limits}
 use Rattle.commands.specs.declared.faults.Fault.TheVariants.{Device, Write}
 use Rattle.serving.specs.Restart.{IsClosedPart}

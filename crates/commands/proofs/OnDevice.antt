@@ -4,23 +4,25 @@ use Rattle.std.specs.Prelude.{Result, Ok, Err, cond}
 use Rattle.std.proofs.lemmas.List.{take_all}
 use Rattle.recovery.specs.Recovery.{recovered_state}
 use Rattle.disk.proofs.Leaves.{itself}
-use Rattle.disk.specs.Device.{AreBytes, IsCrashImage, Medium}
+use Rattle.disk.specs.CrashImages.{AreBytes, IsCrashImage}
+use Rattle.disk.specs.Device.{Medium}
 use Rattle.checkpoint.specs.Opening.{OpeningCrashImages}
 use Rattle.histories.proofs.Room.{at_most_one}
-use Rattle.histories.specs.Events.{MachineState}
-use Rattle.histories.specs.Laws.{IsIdle}
+use Rattle.histories.specs.MachineState.{MachineState}
+use Rattle.histories.specs.CoreState.{IsIdle}
 use Rattle.scheduler.proofs.FailStop.{fail_stop, fails_once}
 use Rattle.scheduler.specs.Machine.{machine_of}
-use Rattle.meaning.specs.Serial.{state_after_all}
+use Rattle.meaning.specs.Step.{state_after_all}
 use Rattle.protocol.specs.declared.messages.Msg.{Msg}
 use Rattle.scheduler.specs.CoreView.{IsJustOpened, CoreView, RecoversNow, core_state_of}
-use Rattle.serving.specs.Ends.{Exchange, HasRunLines, committed_in}
-use Rattle.serving.specs.Runs.{machine_with_jobs}
+use Rattle.serving.specs.Exchange.{Exchange}
+use Rattle.serving.specs.Ends.{committed_in}
+use Rattle.serving.specs.Runs.{machine_with_jobs, HasRunLines}
 use Rattle.serving.specs.Serve.{ServePromise}
 use Rattle.serving.specs.declared.server.ServeFault.{ServeFault}
 use Rattle.serving.specs.declared.server.ServeFault.TheVariants as faults
 use Rattle.commands.specs.Faults.{command_result}
-use Rattle.commands.specs.Serving.{CountsFaults, EndsOnDevice, CrashesSafely, HasServedBy, HasServedNothing, IsIncarnation, RecoversDurably, RecoveredTo, ServedDevice}
+use Rattle.commands.specs.ServedDevice.{CountsFaults, EndsOnDevice, CrashesSafely, HasServedBy, HasServedNothing, IsIncarnation, RecoversDurably, RecoveredTo, ServedDevice}
 use Rattle.commands.specs.declared.serve_options.ServeOptions.{ServeOptions}
 
 -- no message is in a core that was just opened

@@ -12,8 +12,8 @@ use Rattle.recovery.specs.declared.fault.OpenFault.{OpenFault}
 use Rattle.recovery.specs.declared.fault.OpenFault.TheVariants as opening
 use Rattle.disk.proofs.Leaves.{synced_left}
 use Rattle.disk.proofs.Moments.{counts_now}
-use Rattle.disk.specs.Device.{AreBytes, IsSynced, IsCrashImage, Medium}
-use Rattle.disk.specs.Moments.{left_since, moment_number}
+use Rattle.disk.specs.CrashImages.{AreBytes, IsCrashImage, left_since}
+use Rattle.disk.specs.Device.{IsSynced, Medium, moment_number}
 use Rattle.checkpoint.specs.Opening.{IsPastSync, OpeningCrashImages, RecoversAsBefore}
 use Rattle.meaning.specs.Output.{WritesOutput, serial_output}
 use Rattle.meaning.specs.State.{State}
@@ -24,12 +24,12 @@ use Rattle.serving.proofs.MaySend.{recovers_killed}
 use Rattle.serving.specs.Restart.{RecoversTo, BytesRecover, RecoversWritten}
 use Rattle.serving.specs.declared.server.ServeFault.{ServeFault}
 use Rattle.commands.proofs.SentIsKept.{all_then, keeps_acknowledged}
-use Rattle.serving.specs.Ends.{Exchange}
+use Rattle.serving.specs.Exchange.{Exchange}
 use Rattle.commands.specs.Faults.{command_result}
 use Rattle.commands.specs.Acknowledged.{HoldsAcknowledged}
 use Rattle.commands.specs.Kill.{IsKilled, WhileOpening, WhileServing}
 use Rattle.commands.specs.Promise.{HasRunFrom, HoldsOfAll, HoldsRecovered, LeavesKilled, LeavesRun, IsWritten, OpensUnlessFailed}
-use Rattle.commands.specs.Serving.{EndsOnDevice, CrashesSafely, HasServedBy, RecoveredTo}
+use Rattle.commands.specs.ServedDevice.{EndsOnDevice, CrashesSafely, HasServedBy, RecoveredTo}
 use Rattle.commands.specs.declared.faults.Fault.{Fault}
 use Rattle.commands.specs.declared.faults.Fault.TheVariants as ends
 use Rattle.commands.specs.declared.serve_options.ServeOptions.{ServeOptions}

@@ -1,10 +1,12 @@
 -- What was sent is kept: from the run behind it, and what the core promises of its device at the end.
 use Rattle.std.proofs.Common.{ℕ, List, Option, subst}
 use Rattle.std.specs.Prelude.{Result, Err}
-use Rattle.disk.specs.Device.{IsCrashImage, Medium}
+use Rattle.disk.specs.CrashImages.{IsCrashImage}
+use Rattle.disk.specs.Device.{Medium}
 use Rattle.serving.proofs.Logged.{holds_sent}
 use Rattle.scheduler.specs.CoreView.{CoreView}
-use Rattle.serving.specs.Ends.{EndsWith, Exchange, committed_in}
+use Rattle.serving.specs.Ends.{EndsWith, committed_in}
+use Rattle.serving.specs.Exchange.{Exchange}
 use Rattle.serving.specs.Restart.{IsMeant}
 use Rattle.serving.specs.Serve.{failed_at}
 use Rattle.serving.specs.declared.server.ServeFault.{ServeFault}
@@ -13,7 +15,7 @@ use Rattle.commands.proofs.OnDevice.{is_idle}
 use Rattle.commands.specs.Faults.{command_result}
 use Rattle.commands.specs.Acknowledged.{HoldsAcknowledged}
 use Rattle.commands.specs.Promise.{HoldsOfAll}
-use Rattle.commands.specs.Serving.{HasServedBy, RecoveredTo}
+use Rattle.commands.specs.ServedDevice.{HasServedBy, RecoveredTo}
 use Rattle.commands.specs.declared.faults.Fault.{Fault}
 use Rattle.commands.specs.declared.faults.Fault.TheVariants as ends
 use Rattle.commands.specs.declared.serve_options.ServeOptions.{ServeOptions}

@@ -1,7 +1,7 @@
 -- Options of a server with the same three numbers are equal.
 use Rattle.std.proofs.Common.{◌≡◌, ◌≤◌, ℕ, List, [], ◌∷◌, ap, subst}
 use Rattle.std.specs.Coded.{le_prop}
-use Rattle.commands.specs.Serving.{options_in_order}
+use Rattle.commands.specs.Services.{options_in_order}
 use Rattle.commands.specs.declared.serve_options.ServeOptions.{ServeOptions}
 
 abbrev Numbers : Type 0

@@ -4,7 +4,7 @@ use Rattle.std.specs.Prelude.{Result, Ok, Err, IfErr, OnErr, OnOk}
 use Rattle.std.specs.Io.KnownBytes.{Appends}
 use Rattle.recovery.specs.Shown.{IsShown}
 use Rattle.recovery.specs.declared.inspecting.Shown.{Shown}
-use Rattle.message.specs.Writing.{AppendsBeginning}
+use Rattle.message.specs.AppendsBeginning.{AppendsBeginning}
 use Rattle.commands.specs.Ends.{EndsShowing, ShowsBytes}
 use Rattle.commands.specs.Lines.{shown_lines}
 use Rattle.commands.specs.declared.faults.Fault.{Fault}

@@ -3,8 +3,8 @@ use Rattle.std.specs.Prelude.{ℕ, List, Option}
 use Rattle.affinity.specs.declared.geometry.Geometry.{Geometry}
 use Rattle.disk.specs.Device.{Medium}
 use Rattle.meaning.specs.State.{State}
-use Rattle.serving.specs.Logged.{HoldsSent}
-use Rattle.commands.specs.Serving.{RecoveredTo}
+use Rattle.serving.specs.History.{HoldsSent}
+use Rattle.commands.specs.ServedDevice.{RecoveredTo}
 
 -- The device recovered to the state `start`, and the bytes hold what was written since. 0 is the first ticket after an opening.
 pub record HoldsAcknowledged (slots : ℕ) (old : Medium) (input before written : Option (List ℕ)) (bytes : List ℕ) : Type 0 where

@@ -2,7 +2,7 @@
 use Rattle.std.specs.Prelude.{◌≡◌, ℕ, List, Option, Result, Ok, Err}
 use Rattle.std.specs.Io.KnownBytes.{Appends}
 use Rattle.affinity.specs.declared.geometry.Geometry.{Geometry}
-use Rattle.message.specs.Writing.{AppendsBeginning}
+use Rattle.message.specs.AppendsBeginning.{AppendsBeginning}
 use Rattle.meaning.specs.State.{empty}
 use Rattle.plain.specs.Ends.{EndsSerially}
 use Rattle.plain.specs.declared.fault.PlainFault.{PlainFault}
@@ -10,11 +10,17 @@ use Rattle.recovery.specs.declared.inspecting.Shown.{Shown}
 use Rattle.recovery.specs.Refusals.{IsRefused}
 use Rattle.recovery.specs.Shown.{IsShown}
 use Rattle.recovery.specs.declared.fault.FormatFault.TheVariants as formatting
-use Rattle.serving.specs.Ends.{Exchange}
+use Rattle.serving.specs.Exchange.{Exchange}
 use Rattle.commands.specs.Faults.{plain_result}
 use Rattle.commands.specs.Lines.{formatted_line, shown_lines}
 use Rattle.commands.specs.declared.faults.Fault.{Fault}
 use Rattle.commands.specs.declared.faults.Fault.TheVariants.{Write, OutOfMemory, Device, Format, Open}
+use Rattle.commands.specs.InFile.{EndsInFile}
+use Rattle.commands.specs.declared.serve_options.ServeOptions.{ServeOptions}
+use Rattle.commands.specs.Services.{within_limits, options_in_order}
+use Rattle.arguments.specs.Arguments.{service_numbers}
+use Rattle.arguments.specs.declared.command_line.Request.{Request}
+use Rattle.arguments.specs.declared.command_line.Request.TheVariants as request
 
 -- The serial server, from the empty state on, has come to this end, with its fault as one of the program's: what it has written then, and
 -- what remains of the input, `EndsSerially` says. No answer waits any more.
@@ -49,3 +55,15 @@ ShowsBytes bytes (Ok _) old new = (shown : Shown) × IsShown bytes shown × Appe
 ShowsBytes bytes (Err Write) old new = (shown : Shown) × IsShown bytes shown × AppendsBeginning old new (shown_lines shown)
 ShowsBytes bytes (Err (Open fault)) old new = IsRefused bytes fault
 ShowsBytes bytes (Err _) old new = Unit {0}
+
+-- How the command of a request ends. Help and the version read nothing; their text, and whether it was written, is unknown. The server
+-- has the options given.
+abbrev pub Ends : Request → Result (Unit {0}) Fault → Exchange → Type 0
+Ends (request.Help text) (Ok _) x = x.remaining ≡ x.input
+Ends (request.Help text) (Err Write) x = x.remaining ≡ x.input
+Ends (request.Help text) (Err _) x = ⊥
+Ends (request.Plain g) end x = EndsInMemory g end x
+Ends (request.Format path g) end x = (x.remaining ≡ x.input) × EndsFormatting g end x.before x.written
+Ends (request.Show path) end x = (x.remaining ≡ x.input) × EndsShowing end x.before x.written
+Ends (request.Serve path given) end x =
+    (s : ServeOptions) × (options_in_order s ≡ within_limits (service_numbers given)) × EndsInFile s end x

@@ -1,4 +1,4 @@
--- Statement for operators: The exit status of each fault.
+-- Statement for operators: The exit status of each fault, of each end and of each refusal of the arguments.
 use Rattle.std.specs.Prelude.{ℕ, Result, Ok, Err}
 use Rattle.std.specs.declared.io.ErrorKind.{ErrorKind}
 use Rattle.std.specs.declared.io.ErrorKind.TheVariants as kind
@@ -12,6 +12,8 @@ use Rattle.serving.specs.declared.server.ServeFault.{ServeFault}
 use Rattle.serving.specs.declared.server.ServeFault.TheVariants as serving
 use Rattle.commands.specs.declared.faults.Fault.{Fault}
 use Rattle.commands.specs.declared.faults.Fault.TheVariants.{Read, Write, GeometryOutOfRange, OutOfMemory, Device, NoWorkers, NoTicketLeft, Format, Open}
+use Rattle.arguments.specs.declared.command_line.ArgumentRefusal.{ArgumentRefusal}
+use Rattle.arguments.specs.declared.command_line.ArgumentRefusal.TheVariants as refusal
 
 -- the exit status: 3 for want of memory, 2 for arguments with which nothing can be served, 1 for any other fault
 abbrev pub status_of : Fault → ℕ
@@ -21,6 +23,17 @@ status_of (Open opening.OutOfMemory) = 3
 status_of GeometryOutOfRange = 2
 status_of NoWorkers = 2
 status_of _ = 1
+
+-- the exit status at this end
+abbrev pub status_at : Result (Unit {0}) Fault → ℕ
+status_at (Ok _) = 0
+status_at (Err fault) = status_of fault
+
+-- the exit status where the arguments give no request
+abbrev pub status_of_refusal : ArgumentRefusal → ℕ
+status_of_refusal (refusal.Words _) = 2
+status_of_refusal refusal.OutOfMemory = status_of OutOfMemory
+status_of_refusal refusal.GeometryOutOfRange = status_of GeometryOutOfRange
 
 -- The exit status where the arguments could not be read: 3 for want of memory, and else that of wrong arguments, since one of them is not
 -- UTF-8.

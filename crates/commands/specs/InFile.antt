@@ -3,7 +3,7 @@ use Rattle.std.specs.Prelude.{◌≡◌, ◌⊎◌, Result, Err}
 use Rattle.disk.specs.Device.{Medium}
 use Rattle.disk.specs.RealFile.{FileKeeps}
 use Rattle.disk.specs.declared.fault.FileFault.{FileFault}
-use Rattle.serving.specs.Ends.{Exchange}
+use Rattle.serving.specs.Exchange.{Exchange}
 use Rattle.commands.specs.Faults.{fault_of_file}
 use Rattle.commands.specs.Promise.{ServicePromise}
 use Rattle.commands.specs.declared.faults.Fault.{Fault}

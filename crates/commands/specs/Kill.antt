@@ -1,13 +1,13 @@
 -- Statement for engineers: What a service leaves that is killed, at any moment: while it opens its device, or while it serves.
 use Rattle.std.specs.Prelude.{◌≡◌, ℕ, List, Option}
 use Rattle.checkpoint.specs.Opening.{OpeningCrashImages}
-use Rattle.disk.specs.Device.{Medium}
-use Rattle.disk.specs.Moments.{left_since, moment_number}
+use Rattle.disk.specs.Device.{Medium, moment_number}
+use Rattle.disk.specs.CrashImages.{left_since}
 use Rattle.scheduler.specs.CoreView.{CoreView, IsJustOpened}
 use Rattle.serving.specs.Ends.{committed_in}
 use Rattle.serving.specs.Kill.{WasKilled}
-use Rattle.serving.specs.Output.{Start}
-use Rattle.commands.specs.Serving.{RecoveredTo}
+use Rattle.serving.specs.Start.{Start}
+use Rattle.commands.specs.ServedDevice.{RecoveredTo}
 
 -- A core was opened on this device: it has the state to which the device recovered.
 pub record HasOpened (keeps : Type 0) (slots : ℕ) (old : Medium) (core : CoreView) : Type 0 where

@@ -2,12 +2,13 @@
 pub mod Faults
 pub mod Lines
 pub mod Ends
-pub mod Serving
+pub mod ServedDevice
 pub mod Acknowledged
 pub mod Promise
 pub mod UntilCrash
 pub mod InFile
 pub mod Kill
 pub mod Restarts
+pub mod DurableLinearizability
 pub mod Services
-pub mod Calls
+pub mod Exits

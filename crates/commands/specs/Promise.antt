@@ -4,13 +4,14 @@ use Rattle.affinity.specs.declared.geometry.Geometry.{Geometry}
 use Rattle.recovery.specs.Recovery.{recovered_state}
 use Rattle.recovery.specs.declared.fault.OpenFault.{OpenFault}
 use Rattle.recovery.specs.declared.fault.OpenFault.TheVariants as opening
-use Rattle.disk.specs.Device.{IsCrashImage, IsSynced, Medium}
+use Rattle.disk.specs.CrashImages.{IsCrashImage}
+use Rattle.disk.specs.Device.{IsSynced, Medium}
 use Rattle.meaning.specs.Output.{WritesOutput, serial_output}
 use Rattle.meaning.specs.State.{State}
-use Rattle.serving.specs.Ends.{Exchange}
+use Rattle.serving.specs.Exchange.{Exchange}
 use Rattle.serving.specs.Restart.{BytesRecover, DeviceFailed, IsMeant, NeitherFailed, OutputFailed, RecoversTo}
 use Rattle.commands.specs.Acknowledged.{HoldsAcknowledged}
-use Rattle.commands.specs.Serving.{CrashesSafely, EndsOnDevice, RecoveredTo}
+use Rattle.commands.specs.ServedDevice.{CrashesSafely, EndsOnDevice, RecoveredTo}
 use Rattle.commands.specs.declared.faults.Fault.{Fault}
 use Rattle.commands.specs.declared.faults.Fault.TheVariants.{Write, Device, NoWorkers, OutOfMemory, Open}
 use Rattle.commands.specs.declared.serve_options.ServeOptions.{ServeOptions}

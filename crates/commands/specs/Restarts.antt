@@ -1,13 +1,10 @@
--- Statement for clients: Any number of servers on one device, which returned or were killed, each on what a crash of the one before left:
--- what they did is what one serial server does.
-use Rattle.std.specs.Prelude.{◌≡◌, ℕ, List, [], ◌∷◌, ◌++◌, map, take, Option, Some, Result, Err, OnOk}
+-- Statement for clients: Any number of servers on one device, which returned or were killed, each on what a crash of the one before left.
+use Rattle.std.specs.Prelude.{◌≡◌, ℕ, List, [], ◌∷◌, ◌++◌, Option, Some, Result, Err}
 use Rattle.affinity.specs.declared.geometry.Geometry.{Geometry}
-use Rattle.disk.specs.Device.{IsCrashImage, IsSynced, Medium}
-use Rattle.protocol.specs.Lines.{lines}
-use Rattle.meaning.specs.Output.{joined, output_lines}
+use Rattle.disk.specs.CrashImages.{IsCrashImage}
+use Rattle.disk.specs.Device.{IsSynced, Medium}
 use Rattle.meaning.specs.State.{State}
-use Rattle.serving.specs.Restart.{IsClosedPart}
-use Rattle.commands.specs.Promise.{IsWritten, LeavesKilled, LeavesRun, OpensUnlessFailed}
+use Rattle.commands.specs.Promise.{LeavesKilled, LeavesRun}
 use Rattle.commands.specs.declared.faults.Fault.{Fault}
 use Rattle.commands.specs.declared.faults.Fault.TheVariants.{Write}
 
@@ -45,44 +42,6 @@ abbrev pub FollowCrashes : Geometry → (List ℕ → Option State) → Medium �
 FollowCrashes g recover device [] = Unit {0}
 FollowCrashes g recover device (run ∷ runs) =
     IsRunOn g recover device run run.end × IsSynced run.crashed × FollowCrashes g recover run.crashed runs
-
--- ---- what they did
-
--- a line, and the answer to it, with its newline
-pub record Operation : Type 0 where
-  pub line : List ℕ
-  pub answer : List ℕ
-
-abbrev pub lines_in : List Operation → List (List ℕ)
-lines_in operations = map (λ o. o.line) operations
-
-abbrev pub answers_in : List Operation → List (List ℕ)
-answers_in operations = map (λ o. o.answer) operations
-
--- The operations of one run. It acknowledged the first lines of its input, if it returned without a fault all of them: their answers are
--- what it wrote or, where it was killed or a write failed, was to write. Of the `unanswered` lines after them the crash left a part,
--- whose answers did not come out.
-pub record AreOperationsOf (g : Geometry) (run : CrashedRun) (acknowledged part : List Operation) : Type 0 where
-  pub opened : OpensUnlessFailed (promised_end run.end)
-  pub unanswered : ℕ
-  pub written : IsWritten (promised_end run.end) run.slots unanswered (Some run.before) (Some run.after)
-      (Some (run.before ++ joined (answers_in acknowledged)))
-  pub unacknowledged : List (List ℕ)
-  pub first : lines run.input ≡ lines_in acknowledged ++ unacknowledged
-  pub all_answered : OnOk (promised_end run.end) (unacknowledged ≡ [])
-  pub closed : IsClosedPart g (lines_in part) (take unanswered unacknowledged)
-
--- The operations of all runs, in the order in which their lines were read. So if an answer came out before another line was read, its
--- operation comes first; and one whose answer did not come out took effect before the crash or never.
-abbrev pub IsHistoryOf : Geometry → List CrashedRun → List Operation → Type 0
-IsHistoryOf g [] history = history ≡ []
-IsHistoryOf g (run ∷ runs) history = (acknowledged : List Operation) × (part : List Operation) × (later : List Operation)
-    × (history ≡ acknowledged ++ part ++ later) × AreOperationsOf g run acknowledged part × IsHistoryOf g runs later
-
--- Durable linearizability: the crashes left out, the history is that of one serial server, which begins in this state.
-abbrev pub AreDurablyLinearizable : Geometry → State → List CrashedRun → Type 0
-AreDurablyLinearizable g start runs =
-    (history : List Operation) × IsHistoryOf g runs history × (answers_in history ≡ output_lines g start (lines_in history))
 
 -- ---- what two of them do
 

@@ -1,10 +1,13 @@
--- Statement for engineers: The service that arguments ask for.
+-- Statement for engineers: The service that arguments ask for, by the options of its server.
 use Rattle.std.specs.Prelude.{◌≡◌, ℕ, List, [], ◌∷◌, codes, max, min}
 use Rattle.clap.specs.Words.{Text}
-use Rattle.commands.specs.Serving.{options_in_order}
 use Rattle.commands.specs.declared.serve_options.ServeOptions.{ServeOptions}
 use Rattle.arguments.specs.Arguments.{IsNamed, command_of, device_in, findings, given_to, service_in}
 use Rattle.affinity.specs.declared.limits.TheConstants.{MOST_SLOTS, MOST_WORKERS}
+
+-- the options in their order: workers, slots, and after how many records a checkpoint is made
+abbrev pub options_in_order : ServeOptions → List ℕ
+options_in_order s = s.workers ∷ s.slots ∷ s.every ∷ []
 
 -- the numbers of a server's options, from those that the arguments give: at most 64 workers and 1 to 1024 slots, whatever they say
 abbrev pub within_limits : List ℕ → List ℕ

@@ -2,11 +2,12 @@
 use Rattle.std.specs.Prelude.{◌≡◌, Result}
 use Rattle.affinity.specs.declared.geometry.Geometry.{Geometry}
 use Rattle.recovery.specs.Recovery.{recovered_state}
-use Rattle.disk.specs.Device.{IsCrashImage, Medium}
+use Rattle.disk.specs.CrashImages.{IsCrashImage}
+use Rattle.disk.specs.Device.{Medium}
 use Rattle.disk.specs.Memory.{Memory, after_crash}
 use Rattle.disk.specs.declared.torn.Torn.{Torn}
 use Rattle.meaning.specs.State.{State}
-use Rattle.serving.specs.Ends.{Exchange}
+use Rattle.serving.specs.Exchange.{Exchange}
 use Rattle.commands.specs.Acknowledged.{HoldsAcknowledged}
 use Rattle.commands.specs.Promise.{HasRunFrom, HoldsOfAll, HoldsRecovered, HoldsState, ServicePromise}
 use Rattle.commands.specs.declared.faults.Fault.{Fault}

@@ -5,11 +5,12 @@ ghost use Rattle.affinity.specs.declared.geometry.Geometry.{Geometry};
 ghost use Rattle.recovery.specs.Recovery.{recovered_state};
 ghost use Rattle.commands.specs.Kill.{IsKilled};
 ghost use Rattle.commands.specs.Promise.{HasRunFrom, HoldsState, LeavesKilled, OpensUnlessFailed};
-ghost use Rattle.commands.specs.Restarts.{AreDurablyLinearizable, CrashedRun, FollowCrashes, HaveAgreed, IsRunOn, Returned};
+ghost use Rattle.commands.specs.DurableLinearizability.{AreDurablyLinearizable};
+ghost use Rattle.commands.specs.Restarts.{CrashedRun, FollowCrashes, HaveAgreed, IsRunOn, Returned};
 ghost use Rattle.commands.specs.declared.faults.Fault.TheVariants as faults;
 ghost use Rattle.disk.specs.Device.{IsSynced, Medium};
 ghost use Rattle.disk.specs.Memory.{medium_of};
-ghost use Rattle.disk.specs.Torn.{HasPattern};
+ghost use Rattle.disk.specs.CrashImages.{HasPattern};
 ghost use Rattle.meaning.specs.State.{State, empty};
 
 use crate::faults::Fault;

@@ -3,7 +3,7 @@ ghost use Rattle.std.specs.Prelude.{◌≡◌, ◌++◌, IfErr, OnErr, OnOk};
 ghost use Rattle.std.specs.Io.KnownBytes.{Appends};
 ghost use Rattle.std.specs.List.{flat_map};
 ghost use Rattle.protocol.specs.Replies.{spaced};
-ghost use Rattle.message.specs.Writing.{AppendsBeginning};
+ghost use Rattle.message.specs.AppendsBeginning.{AppendsBeginning};
 ghost use Rattle.commands.specs.Lines.{number_line};
 
 use crate::faults::Fault;

@@ -1,14 +1,14 @@
 //! The program, with its input, output and error output as a reader and two writers.
 ghost use Rattle.std.specs.Prelude.{◌≡◌, ◌⊎◌, ℕ, List, [], ◌∷◌, codes, map, string_bytes};
 ghost use Rattle.affinity.specs.Geometry.{default_geometry};
-ghost use Rattle.serving.specs.Ends.{exchange};
-ghost use Rattle.commands.specs.Calls.{Ends, Exits, ExitsHelp, ExitsRefused, status_of_refusal};
-ghost use Rattle.commands.specs.Ends.{EndsFormatting, EndsInMemory, EndsShowing};
-ghost use Rattle.commands.specs.Services.{AsksServe, within_limits};
+ghost use Rattle.serving.specs.Exchange.{exchange};
+ghost use Rattle.commands.specs.Exits.{Exits, ExitsHelp, ExitsRefused};
+ghost use Rattle.commands.specs.Faults.{status_of_refusal};
+ghost use Rattle.commands.specs.Ends.{EndsFormatting, EndsInMemory, EndsShowing, Ends};
+ghost use Rattle.commands.specs.Services.{AsksServe, within_limits, options_in_order};
 ghost use Rattle.arguments.specs.Arguments.{AsksFormat, AsksHelp, RunsNoCommand, AsksPlain, AsksShow, AsksVersion, AreRefused, service_numbers};
 ghost use Rattle.affinity.specs.declared.geometry.Geometry.{Geometry};
 ghost use Rattle.commands.specs.InFile.{EndsInFile};
-ghost use Rattle.commands.specs.Serving.{options_in_order};
 ghost use Rattle.commands.specs.declared.serve_options.ServeOptions.{ServeOptions};
 
 use crate::faults::Fault;

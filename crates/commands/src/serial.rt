@@ -1,5 +1,5 @@
 //! `waffd plain`: the serial server, without a device.
-ghost use Rattle.serving.specs.Ends.{exchange};
+ghost use Rattle.serving.specs.Exchange.{exchange};
 ghost use Rattle.commands.specs.Ends.{EndsInMemory};
 
 use crate::faults::Fault;

@@ -3,15 +3,15 @@ ghost use Rattle.std.specs.Prelude.{◌≡◌, ℕ, List};
 ghost use Rattle.affinity.specs.declared.geometry.Geometry.{Geometry};
 ghost use Rattle.checkpoint.specs.Opening.{OpeningCrashImages};
 ghost use Rattle.recovery.specs.Recovery.{recovered_state};
-ghost use Rattle.disk.specs.Device.{IsCrashImage};
-ghost use Rattle.serving.specs.Ends.{exchange};
+ghost use Rattle.disk.specs.CrashImages.{IsCrashImage};
+ghost use Rattle.serving.specs.Exchange.{exchange};
 ghost use Rattle.serving.specs.Serve.{ServePromise};
 ghost use Rattle.commands.specs.Faults.{command_result};
 ghost use Rattle.commands.specs.Acknowledged.{HoldsAcknowledged};
 ghost use Rattle.commands.specs.Promise.{HoldsOfAll, HoldsRecovered, LeavesRun};
 ghost use Rattle.commands.specs.InFile.{EndsInFile};
 ghost use Rattle.commands.specs.Kill.{HasOpened};
-ghost use Rattle.commands.specs.Serving.{EndsOnDevice, CrashesSafely};
+ghost use Rattle.commands.specs.ServedDevice.{EndsOnDevice, CrashesSafely};
 
 use crate::faults::Fault;
 use crate::serve_options::ServeOptions;

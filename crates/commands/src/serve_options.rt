@@ -23,7 +23,7 @@ pub struct ServeOptions {
 
 impl ServeOptions {
     ghost use Rattle.std.specs.Prelude.{◌≡◌, ◌∷◌, []};
-    ghost use Rattle.commands.specs.Serving.{options_in_order};
+    ghost use Rattle.commands.specs.Services.{options_in_order};
     ghost use Rattle.commands.specs.Services.{within_limits};
 
     /// These options, with at most 64 workers and 1 to 1024 slots.

@@ -2,8 +2,8 @@
 //! calls `serve_stopped`: it is there for the theorem and its tests, and `serve_again` calls it.
 ghost use Rattle.std.specs.Prelude.{◌<◌};
 ghost use Rattle.disk.specs.Memory.{medium_of, memory_of};
-ghost use Rattle.disk.specs.Torn.{HasPattern};
-ghost use Rattle.serving.specs.Ends.{exchange};
+ghost use Rattle.disk.specs.CrashImages.{HasPattern};
+ghost use Rattle.serving.specs.Exchange.{exchange};
 ghost use Rattle.commands.specs.UntilCrash.{ServesUntilCrash};
 
 use crate::faults::Fault;

@@ -2,7 +2,8 @@
 use Rattle.std.proofs.Common.{ℕ, zero, suc, ◌<◌, List, [], ◌∷◌, length, take, drop, get_or}
 use Rattle.std.specs.List.{AllByRecursion}
 use Rattle.std.proofs.lemmas.List.Elements.{All-cons, All-head, All-tail, All-take, All-drop, All-get_or, All-from_get_or, recursion_from_All}
-use Rattle.disk.specs.Device.{AreBytes, overlaid}
+use Rattle.disk.specs.CrashImages.{AreBytes}
+use Rattle.disk.specs.Device.{overlaid}
 
 -- a range of them
 pub bytes-range : (at n : ℕ) (xs : List ℕ) → AreBytes xs → AreBytes (take n (drop at xs))

@@ -2,8 +2,8 @@
 use Rattle.std.proofs.Common.{◌≡◌, ◌+◌, ◌≤◌, ℕ, Bool, List, length, Result, Ok, Err, refl, sym, ap, subst}
 use Rattle.disk.specs.declared.fault.DiskFault.{DiskFault}
 use Rattle.disk.specs.declared.fault.DiskFault.TheVariants.{OutOfRange, Device}
-use Rattle.disk.specs.Device.{AreBytes, Medium, IsTornFrom, IsCrashImage, SameOutside, moments, overlaid, synced, Reads, Writes, Syncs}
-use Rattle.disk.specs.Moments.{CrashImagesAre}
+use Rattle.disk.specs.CrashImages.{AreBytes, IsTornFrom, IsCrashImage, CrashImagesAre}
+use Rattle.disk.specs.Device.{Medium, SameOutside, moments, overlaid, synced, Reads, Writes, Syncs}
 use Rattle.disk.proofs.Overlays.{overlaid_outside}
 use Rattle.disk.proofs.Leaves.{itself, synced_left, put_back, undone, same_but_range}
 use Rattle.disk.proofs.Moments.{next, same, leaves_now}

@@ -1,8 +1,7 @@
 -- The loop that tears a device, and that what it leaves is what a crash may leave.
 use Rattle.std.proofs.Common.{◌≡◌, ℕ, ◌+◌, ◌<◌, Bool, true, false, List, [], ◌∷◌, ◌++◌, length, take, drop, set, get_or, refl, sym, ◌∙◌, ap, arith, append_assoc}
 use Rattle.std.proofs.lemmas.List.{drop_more, drop-set-lt, take_more, take_more_set}
-use Rattle.disk.specs.Device.{SameButUnsynced}
-use Rattle.disk.specs.Torn.{torn_from}
+use Rattle.disk.specs.CrashImages.{SameButUnsynced, torn_from}
 
 -- What the loop has made after i bytes: the first i bytes, as they are now, and what tearing makes of the rest. k counts the unsynced
 -- offsets among the first i.

@@ -2,9 +2,8 @@
 use Rattle.std.proofs.Common.{◌≡◌, ◌<◌, ℕ, true, false, List, [], ◌∷◌, inl, inr, refl, slice_index, lit<, lit≤, arith}
 use Rattle.std.specs.List.{AllByRecursion}
 use Rattle.std.proofs.lemmas.List.Elements.{All-from_recursion}
-use Rattle.disk.specs.Device.{AreBytes, Medium, IsTornFrom, overlaid, marked, fresh_synced, written, synced}
-use Rattle.disk.specs.Moments.{moment_number, left_since}
-use Rattle.disk.specs.Torn.{torn_from}
+use Rattle.disk.specs.CrashImages.{AreBytes, IsTornFrom, left_since, torn_from}
+use Rattle.disk.specs.Device.{Medium, overlaid, marked, fresh_synced, written, synced, moment_number}
 use Rattle.disk.proofs.Moments.{bytes_since}
 
 -- what is written past the end is left out

@@ -2,7 +2,8 @@
 use Rattle.std.proofs.lemmas.Grind.{common_steps}
 use Rattle.std.proofs.Common.{◌≡◌, ℕ, zero, suc, ◌+◌, ◌≤◌, Bool, true, false, List, [], ◌∷◌, length, take, drop, replicate, refl, sym, ◌∙◌, ap, subst, arith, length-take, length-drop}
 use Rattle.std.proofs.lemmas.List.{drop-drop, drop-replicate, drop_all, take-replicate, take_all}
-use Rattle.disk.specs.Device.{AreBytes, SameButUnsynced, IsTornFrom, IsCrashImage, IsSynced, Medium, overlaid, marked, SameOutside}
+use Rattle.disk.specs.CrashImages.{AreBytes, SameButUnsynced, IsTornFrom, IsCrashImage}
+use Rattle.disk.specs.Device.{IsSynced, Medium, overlaid, marked, SameOutside}
 use Rattle.disk.proofs.Bytes.{bytes-overlaid, bytes-range}
 use Rattle.disk.proofs.Overlays.{length-overlaid, take-overlaid, drop-overlaid, range-overlaid, take-marked, drop-marked}
 

@@ -1,8 +1,8 @@
 -- What a crash leaves at any moment of a sequence of calls, as the sequence grows call by call.
 use Rattle.std.proofs.lemmas.Grind.{common_steps}
 use Rattle.std.proofs.Common.{◌≡◌, ◌≤◌, ℕ, List, [], ◌∷◌, length, inl, ⊎_elim, arith}
-use Rattle.disk.specs.Device.{AreBytes, Moment, Medium, IsCrashImage, moments}
-use Rattle.disk.specs.Moments.{moment_number, LeftByMoments, left_since, CrashImagesAre}
+use Rattle.disk.specs.CrashImages.{AreBytes, IsCrashImage, LeftByMoments, left_since, CrashImagesAre}
+use Rattle.disk.specs.Device.{Moment, Medium, moments, moment_number}
 
 -- no moment comes after the newest
 none_later : (ms : List Moment) (t : ℕ) (c : List ℕ) → length ms ≤ t → LeftByMoments ms t c → ⊥

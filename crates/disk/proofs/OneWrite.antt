@@ -1,16 +1,15 @@
 -- What a write of a range leaves, done or failed.
-use Rattle.std.proofs.Common.{arith}
+use Rattle.std.proofs.Common.{arith, ℕ, ◌+◌, ◌≤◌, List, length, Result, Ok, Err, refl, sym, subst}
 use Rattle.std.proofs.lemmas.Grind.{common_steps}
-use Rattle.std.proofs.Common.{ℕ, ◌+◌, ◌≤◌, List, length, Result, Ok, Err, refl, sym, subst}
 use Rattle.disk.specs.declared.fault.DiskFault.{DiskFault}
 use Rattle.disk.specs.declared.fault.DiskFault.TheVariants.{OutOfRange, Device}
-use Rattle.disk.specs.Device.{AreBytes, Medium, SameOutside, Writes}
-use Rattle.disk.specs.Moments.{CrashImagesAre}
+use Rattle.disk.specs.CrashImages.{AreBytes, CrashImagesAre, After}
+use Rattle.disk.specs.Device.{Medium, SameOutside, Writes}
 use Rattle.disk.proofs.Calls.{after_write}
 use Rattle.disk.proofs.Moments.{started}
 use Rattle.disk.proofs.Outside.{same_all}
 use Rattle.disk.proofs.Overlays.{overlaid_outside, marked_outside}
-use Rattle.disk.specs.Store.{After, TouchesOnly}
+use Rattle.disk.specs.Store.{TouchesOnly}
 
 module _ (w0 w1 : Medium) (at : ℕ) (bytes : List ℕ) where
   pub written : (r : Result (Unit {0}) DiskFault) → at + length bytes ≤ length w0.now → AreBytes w0.now → Writes at bytes r w0 w1

@@ -1,5 +1,5 @@
--- Statement for clients: A device of bytes: what its calls do to it, and what a crash may leave of it.
-use Rattle.std.specs.Prelude.{◌≡◌, ℕ, zero, suc, ◌+◌, ◌<◌, All, Bool, true, false, List, [], ◌∷◌, length, take, drop, replicate, slice_range, Result, Ok, Err, OnOk, IsErrOf}
+-- Statement for clients: A device of bytes: what its calls do to it, and how many of them are writes and syncs.
+use Rattle.std.specs.Prelude.{◌≡◌, ℕ, zero, suc, ◌+◌, Bool, true, false, List, [], ◌∷◌, length, take, drop, replicate, slice_range, Result, Ok, Err, OnOk, IsErrOf, ◌≤◌}
 use Rattle.disk.specs.declared.fault.DiskFault.{DiskFault}
 use Rattle.disk.specs.declared.fault.DiskFault.TheVariants.{OutOfRange, Device}
 
@@ -16,29 +16,6 @@ pub record Medium : Type 0 where
   pub unsynced : List Bool
   pub past : List Moment
   pub faults : ℕ
-
--- each number of the list is a byte
-abbrev pub AreBytes : List ℕ → Type 0
-AreBytes numbers = All (λ b. b < 256) numbers
-
--- A list of the same length that has the same items at all offsets that are not unsynced. An offset past the end of the
--- flags counts as unsynced.
-abbrev pub SameButUnsynced : List ℕ → List Bool → List ℕ → Type 0
-SameButUnsynced [] unsynced [] = Unit {0}
-SameButUnsynced [] unsynced (x ∷ c) = ⊥
-SameButUnsynced (b ∷ now) unsynced [] = ⊥
-SameButUnsynced (b ∷ now) [] (x ∷ c) = SameButUnsynced now [] c
-SameButUnsynced (b ∷ now) (true ∷ unsynced) (x ∷ c) = SameButUnsynced now unsynced c
-SameButUnsynced (b ∷ now) (false ∷ unsynced) (x ∷ c) = (x ≡ b) × SameButUnsynced now unsynced c
-
--- A crash leaves any bytes at the unsynced offsets and keeps all others. It changes no length.
-pub record IsTornFrom (now : List ℕ) (unsynced : List Bool) (c : List ℕ) : Type 0 where
-  pub same : SameButUnsynced now unsynced c
-  pub bytes : AreBytes c
-
--- what a crash may leave of the device as it is now
-abbrev pub IsCrashImage : Medium → List ℕ → Type 0
-IsCrashImage m c = IsTornFrom m.now m.unsynced c
 
 -- nothing is unsynced
 abbrev pub IsSynced : Medium → Type 0
@@ -64,6 +41,10 @@ pub record SameOutside {X : Type 0} (at n : ℕ) (old new : List X) : Type 0 whe
 -- every moment so far, this one first
 abbrev pub moments : Medium → List Moment
 moments m = record { now = m.now; unsynced = m.unsynced } ∷ m.past
+
+-- the number of the device's present moment: how many writes and syncs came before (a sync that failed adds none)
+abbrev pub moment_number : Medium → ℕ
+moment_number m = length m.past
 
 -- a device with these bytes, all of them synced, without an earlier moment or a failure
 abbrev pub fresh_synced : List ℕ → Medium
@@ -127,3 +108,9 @@ pub record IsCallInside {T : Type 0} (result : Result T DiskFault) (old new : Me
   pub counts : CountsFault result old.faults new.faults
   pub len : length new.now ≡ length old.now
   pub inside : IsErrOf result OutOfRange → ⊥
+
+-- A call with this result made n writes and syncs or, if it failed, at most n. Each adds one moment to the device's past; a sync that fails
+-- adds none.
+abbrev pub Costs : {T E : Type 0} → Result T E → ℕ → Medium → Medium → Type 0
+Costs (Ok _) n old new = moment_number new ≡ moment_number old + n
+Costs (Err _) n old new = moment_number new ≤ moment_number old + n

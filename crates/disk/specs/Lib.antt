@@ -3,9 +3,8 @@ pub mod BackingFile
 pub mod Device
 pub mod InjectedFault
 pub mod Memory
-pub mod Moments
+pub mod CrashImages
 pub mod RealFile
 pub mod GhostDevice
 pub mod Span
 pub mod Store
-pub mod Torn

@@ -9,7 +9,7 @@ use Rattle.disk.specs.declared.memory.MemDisk.{MemDisk}
 use Rattle.disk.specs.Device.{Medium, fresh_synced, overlaid, written, synced, failed}
 use Rattle.disk.specs.GhostDevice.{failed_write}
 use Rattle.disk.specs.InjectedFault.{fails_next, counted_down}
-use Rattle.disk.specs.Torn.{torn_byte, torn_from}
+use Rattle.disk.specs.CrashImages.{torn_byte, torn_from}
 
 -- a device in memory: what contracts see of any device, and what decides how it fails and what a crash leaves
 pub record Memory : Type 0 where

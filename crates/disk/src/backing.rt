@@ -1,6 +1,7 @@
 //! What a device over a file asks of the file.
 ghost use Rattle.std.specs.Prelude.{◌≡◌, ◌+◌, ◌<◌, ◌≤◌, ◌^◌, length};
-ghost use Rattle.disk.specs.Device.{Medium, AreBytes, Reads, Writes, Syncs, IsDeviceCall};
+ghost use Rattle.disk.specs.Device.{Medium, Reads, Writes, Syncs, IsDeviceCall};
+ghost use Rattle.disk.specs.CrashImages.{AreBytes};
 ghost use Rattle.disk.specs.BackingFile.{device_result};
 
 use std::io;

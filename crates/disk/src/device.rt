@@ -1,7 +1,8 @@
 //! The contract of a device of bytes, on which durable code rests.
 ghost use Rattle.std.specs.Prelude.{◌≡◌, ◌+◌, ◌<◌, ◌^◌, ◌↔◌, length, IsErrOf};
 ghost use Rattle.disk.specs.declared.fault.DiskFault.TheVariants.{OutOfRange};
-ghost use Rattle.disk.specs.Device.{Medium, AreBytes, Reads, Writes, Syncs, IsDeviceCall, IsCallInside};
+ghost use Rattle.disk.specs.Device.{Medium, Reads, Writes, Syncs, IsDeviceCall, IsCallInside};
+ghost use Rattle.disk.specs.CrashImages.{AreBytes};
 
 use crate::DiskFault;
 

@@ -1,6 +1,7 @@
 //! Trusted: a file of the system.
 ghost use Rattle.std.specs.Prelude.{◌≡◌, ◌<◌, ◌^◌, length, replicate};
-ghost use Rattle.disk.specs.Device.{AreBytes, fresh_synced, fresh_unsynced};
+ghost use Rattle.disk.specs.CrashImages.{AreBytes};
+ghost use Rattle.disk.specs.Device.{fresh_synced, fresh_unsynced};
 
 use crate::backing::BackingFile;
 use crate::ghost_device::{Call, GhostDevice};

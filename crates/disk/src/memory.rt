@@ -2,9 +2,9 @@
 ghost use Rattle.std.specs.Prelude.{◌≡◌, ◌+◌, ◌<◌, ◌^◌, ◌↔◌, length, IfOk, IsErrOf, replicate};
 ghost use Rattle.disk.specs.declared.fault.DiskFault.TheVariants.{OutOfRange};
 ghost use Rattle.disk.specs.declared.injected_fault.InjectedFault.TheVariants.{FailAt, StopAt};
-ghost use Rattle.disk.specs.Device.{AreBytes, IsCrashImage, Reads, Writes, Syncs, IsDeviceCall, IsCallInside};
+ghost use Rattle.disk.specs.CrashImages.{AreBytes, IsCrashImage, HasPattern};
+ghost use Rattle.disk.specs.Device.{Reads, Writes, Syncs, IsDeviceCall, IsCallInside};
 ghost use Rattle.disk.specs.Span.{HoldsUnsynced};
-ghost use Rattle.disk.specs.Torn.{HasPattern};
 
 use crate::ghost_device::{Call, GhostDevice};
 use crate::injected_fault::{CallCounter, InjectedFault};

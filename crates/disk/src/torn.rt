@@ -1,6 +1,6 @@
 //! Kinds of crash, and what each leaves of what was not synced.
 ghost use Rattle.std.specs.Prelude.{◌≡◌, ◌<◌, length};
-ghost use Rattle.disk.specs.Torn.{HasPattern, torn_byte, torn_from};
+ghost use Rattle.disk.specs.CrashImages.{HasPattern, torn_byte, torn_from};
 
 /// What a crash leaves at the offsets that were written, also by a write that failed, and not synced since.
 #[derive(Debug, Drop)]

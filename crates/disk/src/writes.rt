@@ -2,7 +2,9 @@
 //! `TouchesOnly` which bytes and unsynced flags differ after it.
 ghost use Rattle.std.specs.Prelude.{◌≡◌, ◌+◌, ◌≤◌, length, OnOk};
 ghost use Rattle.disk.specs.Device.{SameOutside, IsCallInside, overlaid};
-ghost use Rattle.disk.specs.Store.{Costs, CrashesChangeOnly, Stored, TouchesOnly};
+ghost use Rattle.disk.specs.Device.{Costs};
+ghost use Rattle.disk.specs.CrashImages.{CrashesChangeOnly};
+ghost use Rattle.disk.specs.Store.{Stored, TouchesOnly};
 
 use crate::{Disk, DiskFault};
 

@@ -1,6 +1,6 @@
 //! The kinds of crash that tests try.
 ghost use Rattle.std.specs.Prelude.{IfOk};
-ghost use Rattle.disk.specs.Torn.{HasPattern};
+ghost use Rattle.disk.specs.CrashImages.{HasPattern};
 
 use disk::Torn;
 use std::alloc::{AllocError, Global};

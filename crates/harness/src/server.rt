@@ -1,7 +1,7 @@
 //! A server for tests: a tree and a journal, without the core.
 ghost use Rattle.std.specs.Prelude.{◌≡◌, IsTrue};
 ghost use Rattle.std.proofs.Props.{props};
-ghost use Rattle.oplog.specs.Changing.{AreChangesInRange, IsChangeInRange};
+ghost use Rattle.oplog.specs.ChangeRecords.{AreChangesInRange, IsChangeInRange};
 ghost use Rattle.parcel.specs.Tree.{IsWholeTree};
 
 use crate::{Counting, Counts, Questions, Wrong, reply_lines};

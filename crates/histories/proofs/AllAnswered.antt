@@ -12,10 +12,11 @@ use Rattle.histories.specs.declared.outcomes.Outcome.{Outcome}
 use Rattle.histories.specs.declared.outcomes.Outcome.TheVariants as outcomes
 use Rattle.histories.specs.declared.outcomes.Step.{Step}
 use Rattle.histories.specs.declared.outcomes.Step.TheVariants as steps
-use Rattle.histories.specs.CoreState.{Entry, Replied, CoreState, entries}
+use Rattle.histories.specs.CoreState.{Entry, Replied, CoreState, entries, IsIdle}
 use Rattle.histories.specs.Eligible.{next_eligible, pick}
-use Rattle.histories.specs.Events.{Hand, MachineState, Empty, Job, Result, Event, answer, apply_step, back_from, find_in_flight, give_back, grant, grant_to, in_core, log, pieces_after, result_in, run_hand, unless_refused}
-use Rattle.histories.specs.Laws.{IsIdle, IsSoundCoreState, full_hands}
+use Rattle.histories.specs.MachineState.{Hand, MachineState, Empty, Job, Result, in_core, full_hands}
+use Rattle.histories.specs.Events.{Event, answer, apply_step, back_from, find_in_flight, give_back, grant, grant_to, log, pieces_after, result_in, run_hand, unless_refused}
+use Rattle.histories.specs.IsSoundCoreState.{IsSoundCoreState}
 use Rattle.histories.specs.Progress.{CanAnswer, CanAnswerAll, CanDispatch, CanDrain, CanEndCheckpoint, CanGoOn, CanLog, CanMakeRoom, CanReturn, CanStep, EachLeavesLess, HandsHold, IsBusy, IsOnline, MayGoOn, NeedsCheckpoint, has_ticket, points_left, steps_at, steps_to_come, work_left}
 use Rattle.histories.specs.Runs.{IsLegal, answered_messages, arrived, arrives, end_state, logged_messages}
 use Rattle.histories.specs.declared.outcomes.PointRefusal.{PointRefusal}

@@ -5,10 +5,11 @@ use Rattle.affinity.specs.declared.geometry.Geometry.{Geometry}
 use Rattle.protocol.specs.declared.messages.Msg.{Msg}
 use Rattle.histories.specs.declared.outcomes.Outcome.{Outcome}
 use Rattle.histories.specs.CoreState.{Replied, CoreState}
-use Rattle.histories.specs.Events.{MachineState, Event, recorded}
+use Rattle.histories.specs.MachineState.{MachineState}
+use Rattle.histories.specs.Events.{Event, recorded}
 use Rattle.histories.specs.Runs.{IsLegal, end_state, logged_at, logged_messages, appended_messages, answered, answered_at, answered_messages, answered_changes}
 use Rattle.histories.specs.Crash.{IsLogAfter, in_doubt}
-use Rattle.histories.specs.Laws.{ticket_replies}
+use Rattle.histories.specs.IsSerialHistory.{ticket_replies}
 use Rattle.histories.proofs.Ways.{Passed, Way, nothing, Nothing, Logs, Answers, Points, Fails, ways}
 use Rattle.histories.proofs.SerialReplies.{ticket_replies-append}
 use Rattle.histories.proofs.Runs.{appended_is_recorded, recorded-append}

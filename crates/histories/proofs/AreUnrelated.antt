@@ -9,11 +9,10 @@ use Rattle.affinity.proofs.Paths.{unrelated_turned}
 use Rattle.affinity.proofs.Elements.{all_weaker}
 use Rattle.protocol.specs.Messages.{path_of}
 use Rattle.protocol.specs.declared.messages.Msg.{Msg}
-use Rattle.meaning.specs.Serial.{is_recorded, reply_to}
-use Rattle.histories.specs.CoreState.{Entry, Replied, CoreState, entry, entries, held, are_related_entries}
+use Rattle.meaning.specs.Step.{is_recorded, reply_to}
+use Rattle.histories.specs.CoreState.{Entry, Replied, CoreState, entry, entries, held, are_related_entries, AreUnrelated}
 use Rattle.histories.specs.Eligible.{is_conflict_free, has_room, is_eligible, next_eligible}
 use Rattle.histories.specs.Events.{recorded, grant, give_back, find_in_flight, log}
-use Rattle.histories.specs.Laws.{AreUnrelated}
 use Rattle.histories.proofs.Lists.{all_none, before_push, before_moved, picked}
 
 pub apart_turned : (g : Geometry) (e d : Entry) → are_related_entries g e d ≡ false → are_related_entries g d e ≡ false

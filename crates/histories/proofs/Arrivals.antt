@@ -9,14 +9,16 @@ use Rattle.affinity.specs.declared.geometry.Geometry.{Geometry}
 use Rattle.affinity.proofs.Elements.{all_weaker}
 use Rattle.protocol.specs.declared.replies.Reply.{Reply}
 use Rattle.meaning.specs.State.{State}
-use Rattle.meaning.specs.Serial.{reply_to, state_after_all}
+use Rattle.meaning.specs.Step.{reply_to, state_after_all}
 use Rattle.meaning.specs.Order.{serial_replies, messages_of, by_ticket, InOrderIfRelated}
 use Rattle.meaning.proofs.ByTicket.{by_ticket-ascending, AreAscending as AreEachLess}
-use Rattle.histories.specs.CoreState.{Entry, Replied, CoreState, entries, held, are_related_entries}
+use Rattle.histories.specs.CoreState.{Entry, Replied, CoreState, entries, held, are_related_entries, AreUnrelated, AreAscending, EachBefore, IsIdle}
 use Rattle.histories.specs.Eligible.{is_eligible, next_eligible}
-use Rattle.histories.specs.Events.{Hand, MachineState, Event, find_in_flight, grant, give_back, log}
+use Rattle.histories.specs.MachineState.{Hand, MachineState}
+use Rattle.histories.specs.Events.{Event, find_in_flight, grant, give_back, log}
 use Rattle.histories.specs.Runs.{IsLegal, end_state, logged_at, arrives, logged_messages, arrived, answered}
-use Rattle.histories.specs.Laws.{AreUnrelated, AreAscending, EachBefore, IsSoundCoreState, IsIdle, ticket_replies}
+use Rattle.histories.specs.IsSoundCoreState.{IsSoundCoreState}
+use Rattle.histories.specs.IsSerialHistory.{ticket_replies}
 use Rattle.histories.proofs.Lists.{picked, all_front, all_permuted, before_back, before_front, before_moved, before_one, before_past, before_push}
 use Rattle.histories.proofs.AreUnrelated.{apart_turned, entries-append, entries_split}
 use Rattle.histories.proofs.Ways.{Passed, Way, Arrives, Grants, Backs, Logs, ways}

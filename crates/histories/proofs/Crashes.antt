@@ -3,12 +3,13 @@ use Rattle.std.proofs.Common.{◌≡◌, ℕ, zero, suc, ◌≤◌, List, [], �
 use Rattle.affinity.specs.declared.geometry.Geometry.{Geometry}
 use Rattle.protocol.specs.declared.messages.Msg.{Msg}
 use Rattle.meaning.specs.State.{State}
-use Rattle.meaning.specs.Serial.{state_after_all}
+use Rattle.meaning.specs.Step.{state_after_all}
 use Rattle.histories.specs.CoreState.{Replied}
-use Rattle.histories.specs.Events.{MachineState, Event, recorded}
+use Rattle.histories.specs.MachineState.{MachineState}
+use Rattle.histories.specs.Events.{Event, recorded}
 use Rattle.histories.specs.Runs.{IsLegal, end_state, logged_at, appended_messages, logged_messages}
 use Rattle.histories.specs.Crash.{in_doubt, IsLogAfter, IsLeftSince}
-use Rattle.histories.specs.Laws.{IsSoundCoreState}
+use Rattle.histories.specs.IsSoundCoreState.{IsSoundCoreState}
 use Rattle.histories.proofs.SerialReplies.{state_after_all-joined}
 use Rattle.histories.proofs.Runs.{appended_is_recorded, recorded-append, run_appended}
 

@@ -4,14 +4,15 @@ use Rattle.std.specs.Prelude.{cond, filter, if◌then◌else◌}
 use Rattle.std.proofs.lemmas.List.{length-append, length-take-le, take-append-le, take-take}
 use Rattle.affinity.specs.declared.geometry.Geometry.{Geometry}
 use Rattle.protocol.specs.declared.messages.Msg.{Msg}
-use Rattle.meaning.specs.Serial.{is_recorded}
+use Rattle.meaning.specs.Step.{is_recorded}
 use Rattle.histories.specs.declared.outcomes.Step.{Step}
 use Rattle.histories.specs.declared.outcomes.Step.TheVariants as steps
 use Rattle.histories.specs.CoreState.{Replied, CoreState}
-use Rattle.histories.specs.Events.{MachineState, Event, IsAllowed, recorded}
+use Rattle.histories.specs.MachineState.{MachineState}
+use Rattle.histories.specs.Events.{Event, IsAllowed, recorded}
 use Rattle.histories.specs.Runs.{IsLegal, end_state}
 use Rattle.histories.specs.Crash.{in_doubt, next_batch, to_append}
-use Rattle.histories.specs.Laws.{DoubtOnlyAfterFailure, DoubtIsPrefixOfRan}
+use Rattle.histories.specs.Failures.{DoubtOnlyAfterFailure, DoubtIsPrefixOfRan}
 use Rattle.histories.proofs.Failures.{failure_lasts}
 use Rattle.histories.proofs.Lists.{first_few}
 use Rattle.histories.proofs.Ways.{Passed, Way, Fails, ways}

@@ -12,7 +12,7 @@ use Rattle.protocol.specs.declared.replies.Reply.{Reply}
 use Rattle.protocol.specs.declared.replies.Reply.TheVariants.{Done, Summary, Refused}
 use Rattle.meaning.specs.State.{State, empty}
 use Rattle.meaning.specs.Order.{InOrderIfRelated}
-use Rattle.meaning.specs.Serial.{state_after_all, next_state}
+use Rattle.meaning.specs.Step.{state_after_all, next_state}
 use Rattle.histories.specs.declared.outcomes.Step.{Step}
 use Rattle.histories.specs.declared.outcomes.Step.TheVariants as steps
 use Rattle.histories.specs.declared.outcomes.Outcome.{Outcome}
@@ -21,10 +21,12 @@ use Rattle.histories.specs.declared.outcomes.ArriveRefusal.TheVariants as arriva
 use Rattle.histories.specs.declared.outcomes.CoreFault.TheVariants as faults
 use Rattle.histories.specs.declared.outcomes.PointRefusal.TheVariants as points
 use Rattle.histories.specs.CoreState.{Entry, CoreState}
-use Rattle.histories.specs.Events.{MachineState, Empty, Job, Result, Event, IsAllowed, apply_step, fail_step, recorded, touches_device}
+use Rattle.histories.specs.MachineState.{MachineState, Empty, Job, Result, full_hands}
+use Rattle.histories.specs.Events.{Event, IsAllowed, apply_step, fail_step, recorded, touches_device}
 use Rattle.histories.specs.Runs.{IsLegal, appended_messages, end_state, answered_changes}
 use Rattle.histories.specs.Crash.{IsLeftSince, IsLogAfter, in_doubt}
-use Rattle.histories.specs.Laws.{full_hands, DoubtIsPrefixOfRan, IsSerialHistory}
+use Rattle.histories.specs.Failures.{DoubtIsPrefixOfRan}
+use Rattle.histories.specs.IsSerialHistory.{IsSerialHistory}
 use Rattle.histories.specs.Progress.{CanGoOn, CanReturn, CanLog, CanAnswer, CanDispatch, CanMakeRoom, CanEndCheckpoint, EachLeavesLess, HandsHold, kept_back_by, steps_in, steps_to_come, useful_events, work_left}
 use Rattle.histories.specs.Incarnations.{Unopened, Ran, IsLeftByIncarnations}
 use Rattle.histories.proofs.Elements.{contains_in, holds_of, in_contained}

@@ -2,10 +2,11 @@
 use Rattle.std.proofs.Common.{◌≡◌, true, false, List, ◌∷◌, [], ◌++◌, refl, sym, ◌∙◌, true≢false}
 use Rattle.std.proofs.lemmas.List.{append-nil}
 use Rattle.affinity.specs.declared.geometry.Geometry.{Geometry}
-use Rattle.meaning.specs.Serial.{reply_to}
+use Rattle.meaning.specs.Step.{reply_to}
 use Rattle.histories.specs.CoreState.{Entry, Replied}
-use Rattle.histories.specs.Events.{MachineState, Event, IsAllowed}
-use Rattle.histories.specs.Laws.{StaysFailed, reports_failure}
+use Rattle.histories.specs.MachineState.{MachineState}
+use Rattle.histories.specs.Events.{Event, IsAllowed}
+use Rattle.histories.specs.Failures.{StaysFailed, reports_failure}
 use Rattle.histories.proofs.Ways.{Passed, Way, Nothing, Arrives, Grants, Backs, Logs, Answers, Points, Fails, ways}
 
 -- An event reports that the device failed exactly where it did.

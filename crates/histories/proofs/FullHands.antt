@@ -6,8 +6,8 @@ use Rattle.std.proofs.lemmas.List.Sums.{sum_by-set}
 use Rattle.std.proofs.lemmas.Option.{get_or_from_slice_get, slice_get_within}
 use Rattle.affinity.specs.declared.geometry.Geometry.{Geometry}
 use Rattle.histories.specs.Eligible.{pick}
-use Rattle.histories.specs.Events.{Hand, MachineState, Empty, Job, Result, Event, IsAllowed, is_empty}
-use Rattle.histories.specs.Laws.{full_hands}
+use Rattle.histories.specs.MachineState.{Hand, MachineState, Empty, Job, Result, is_empty, full_hands}
+use Rattle.histories.specs.Events.{Event, IsAllowed}
 use Rattle.histories.specs.Runs.{IsLegal, end_state}
 use Rattle.histories.proofs.Lists.{picked, sum_by-each}
 use Rattle.histories.proofs.Room.{at_most_one}

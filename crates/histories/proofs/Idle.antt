@@ -2,9 +2,9 @@
 use Rattle.std.proofs.Common.{◌≡◌, ◌<◌, List, [], ◌∷◌, ◌++◌, refl, ap, sym, subst, length, arith}
 use Rattle.std.specs.List.{AllByRecursion}
 use Rattle.affinity.specs.declared.geometry.Geometry.{Geometry}
-use Rattle.histories.specs.CoreState.{Replied, CoreState, entries}
+use Rattle.histories.specs.CoreState.{Replied, CoreState, entries, AreUnrelated, AreAscending, HaveDistinctTickets, IsIdle}
 use Rattle.histories.specs.Eligible.{unlogged_changes}
-use Rattle.histories.specs.Laws.{AreUnrelated, HaveRepliesAt, AreAscending, HaveDistinctTickets, IsSoundCoreState, IsIdle}
+use Rattle.histories.specs.IsSoundCoreState.{HaveRepliesAt, IsSoundCoreState}
 
 -- if a list is empty, so is its second part
 pub none_behind : {A : Type 0} (xs ys : List A) → xs ++ ys ≡ [] → ys ≡ []

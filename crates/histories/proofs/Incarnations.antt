@@ -4,11 +4,12 @@ use Rattle.std.proofs.lemmas.List.{append-nil}
 use Rattle.affinity.specs.declared.geometry.Geometry.{Geometry}
 use Rattle.protocol.specs.declared.messages.Msg.{Msg}
 use Rattle.meaning.specs.State.{State, empty}
-use Rattle.meaning.specs.Serial.{state_after_all}
-use Rattle.histories.specs.Events.{MachineState, Event, recorded}
+use Rattle.meaning.specs.Step.{state_after_all}
+use Rattle.histories.specs.MachineState.{MachineState}
+use Rattle.histories.specs.Events.{Event, recorded}
 use Rattle.histories.specs.Runs.{IsLegal}
 use Rattle.histories.specs.Crash.{IsLeftSince}
-use Rattle.histories.specs.Laws.{IsIdle}
+use Rattle.histories.specs.CoreState.{IsIdle}
 use Rattle.histories.specs.Incarnations.{Incarnation, Unopened, Ran, IsLogOf, IsLogOfRun, AreLogsOf, in_order, IsLeftByIncarnations, HoldsAnswered, AllHoldAnswered}
 use Rattle.histories.proofs.AnsweredFirst.{answered_left}
 use Rattle.histories.proofs.Idle.{none_logged}

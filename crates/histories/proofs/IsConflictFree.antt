@@ -4,9 +4,9 @@ use Rattle.std.specs.Prelude.{◌&&◌, nat_lt}
 use Rattle.std.specs.List.{AllByRecursion}
 use Rattle.std.proofs.lemmas.Bool.{lt-ltb}
 use Rattle.affinity.specs.declared.geometry.Geometry.{Geometry}
-use Rattle.histories.specs.CoreState.{Entry, CoreState, are_related_entries}
+use Rattle.histories.specs.CoreState.{Entry, CoreState, are_related_entries, AreAscending}
 use Rattle.histories.specs.Eligible.{is_eligible, next_eligible}
-use Rattle.histories.specs.Laws.{AreAscending, IsSoundCoreState}
+use Rattle.histories.specs.IsSoundCoreState.{IsSoundCoreState}
 use Rattle.histories.proofs.AreUnrelated.{apart_turned, granted_is_first}
 use Rattle.histories.proofs.Elements.{holds_of}
 use Rattle.histories.proofs.Lists.{all_front, before_back, before_one, picked}

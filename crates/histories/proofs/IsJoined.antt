@@ -5,12 +5,13 @@ use Rattle.std.proofs.lemmas.List.{drop-append-le, length-append, take-append-le
 use Rattle.affinity.specs.declared.geometry.Geometry.{Geometry}
 use Rattle.protocol.specs.declared.messages.Msg.{Msg}
 use Rattle.meaning.specs.State.{State}
-use Rattle.meaning.specs.Serial.{state_after_all}
+use Rattle.meaning.specs.Step.{state_after_all}
 use Rattle.histories.specs.CoreState.{CoreState}
-use Rattle.histories.specs.Events.{MachineState, Event}
-use Rattle.histories.specs.Runs.{IsLegal, end_state, logged_at, appended_at, arrives, answers, appended_messages}
+use Rattle.histories.specs.MachineState.{MachineState}
+use Rattle.histories.specs.Events.{Event}
+use Rattle.histories.specs.Runs.{IsLegal, end_state, logged_at, appended_at, arrives, answers, appended_messages, IsJoined}
 use Rattle.histories.specs.Crash.{in_doubt, next_batch, IsLogAfter, IsLeftSince}
-use Rattle.histories.specs.Laws.{IsJoined, IsSoundCoreState}
+use Rattle.histories.specs.IsSoundCoreState.{IsSoundCoreState}
 use Rattle.histories.proofs.Runs.{run_appended}
 use Rattle.histories.proofs.SerialReplies.{state_after_all-joined}
 

@@ -6,12 +6,13 @@ use Rattle.std.proofs.lemmas.Bool.{eq-eqb, ne_eqb}
 use Rattle.std.proofs.lemmas.List.Sums.{sum_by-append, sum_by-cons, sum_by_push}
 use Rattle.std.proofs.Math.Bool.{and-false}
 use Rattle.affinity.specs.declared.geometry.Geometry.{Geometry}
-use Rattle.meaning.specs.Serial.{reply_to}
+use Rattle.meaning.specs.Step.{reply_to}
 use Rattle.histories.specs.declared.outcomes.Outcome.{Outcome}
 use Rattle.histories.specs.CoreState.{Entry, Replied, CoreState, entry, entries, held, are_related_entries}
 use Rattle.histories.specs.Eligible.{is_conflict_free, next_eligible}
-use Rattle.histories.specs.Events.{MachineState, Event, IsAllowed, find_in_flight, give_back, grant}
-use Rattle.histories.specs.Laws.{IsAnswered, IsSoundCoreState}
+use Rattle.histories.specs.MachineState.{MachineState}
+use Rattle.histories.specs.Events.{Event, IsAllowed, find_in_flight, give_back, grant, IsAnswered}
+use Rattle.histories.specs.IsSoundCoreState.{IsSoundCoreState}
 use Rattle.histories.specs.Runs.{IsLegal, answered_at, answered_messages, end_state}
 use Rattle.histories.specs.Progress.{kept_back_by}
 use Rattle.histories.proofs.AreUnrelated.{entries-append, held_grant, log_held}

@@ -8,7 +8,7 @@ use Rattle.std.proofs.lemmas.List.Sorted.{All-permutation}
 use Rattle.std.proofs.lemmas.List.Sums.{sum_by-append, sum_by-cons}
 use Rattle.affinity.proofs.Elements.{all_join, all_weaker}
 use Rattle.histories.specs.Eligible.{pick}
-use Rattle.histories.specs.Laws.{EachBefore}
+use Rattle.histories.specs.CoreState.{EachBefore}
 
 -- ---- what holds of all
 

@@ -6,15 +6,16 @@ use Rattle.std.proofs.lemmas.List.{take-append-drop}
 use Rattle.affinity.specs.declared.geometry.Geometry.{Geometry}
 use Rattle.affinity.specs.Path.{are_related}
 use Rattle.protocol.specs.Messages.{path_of}
-use Rattle.meaning.specs.Serial.{state_after_all, next_state}
+use Rattle.meaning.specs.Step.{state_after_all, next_state}
 use Rattle.meaning.specs.Order.{messages_of}
 use Rattle.meaning.specs.Subtrees.{AgreeOn}
 use Rattle.meaning.specs.State.{State}
 use Rattle.meaning.proofs.Agree.{agree-refl, agree-trans}
 use Rattle.meaning.proofs.Frame.{left_alone}
-use Rattle.histories.specs.CoreState.{Entry, CoreState, entries, are_related_entries}
-use Rattle.histories.specs.Events.{MachineState, Event, IsAllowed}
-use Rattle.histories.specs.Laws.{EachBefore, IsSoundCoreState, dispatches_or_returns}
+use Rattle.histories.specs.CoreState.{Entry, CoreState, entries, are_related_entries, EachBefore}
+use Rattle.histories.specs.MachineState.{MachineState}
+use Rattle.histories.specs.Events.{Event, IsAllowed, dispatches_or_returns}
+use Rattle.histories.specs.IsSoundCoreState.{IsSoundCoreState}
 use Rattle.affinity.proofs.Elements.{all_weaker}
 use Rattle.histories.proofs.AreUnrelated.{apart_turned, entries-append}
 use Rattle.histories.proofs.IsConflictFree.{all_at}

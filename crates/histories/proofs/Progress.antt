@@ -7,10 +7,10 @@ use Rattle.std.proofs.Math.Bool.{or-true}
 use Rattle.affinity.specs.declared.geometry.Geometry.{Geometry}
 use Rattle.histories.specs.declared.outcomes.Outcome.TheVariants as outcomes
 use Rattle.histories.specs.declared.outcomes.PointRefusal.TheVariants as points
-use Rattle.histories.specs.CoreState.{Entry, Replied, CoreState, entries, held, are_related_entries}
+use Rattle.histories.specs.CoreState.{Entry, Replied, CoreState, entries, held, are_related_entries, AreAscending, IsIdle}
 use Rattle.histories.specs.Eligible.{changes, has_room, is_conflict_free, is_eligible, lacks_only_room, next_eligible, pick, unlogged_changes}
 use Rattle.histories.specs.Events.{grant_refusal, point_refusal, unfinished_refusal, unless_refused}
-use Rattle.histories.specs.Laws.{AreAscending, IsIdle, IsSoundCoreState}
+use Rattle.histories.specs.IsSoundCoreState.{IsSoundCoreState}
 use Rattle.histories.specs.Progress.{CanGoOn, CanReturn, CanLog, CanAnswer, CanDispatch, CanMakeRoom, CanEndCheckpoint, IsBusy, MayGoOn, NeedsCheckpoint}
 use Rattle.affinity.proofs.Elements.{all_weaker}
 use Rattle.histories.proofs.Lists.{any_none}

@@ -6,7 +6,7 @@ use Rattle.std.proofs.lemmas.List.{length-map, take-append-drop}
 use Rattle.std.proofs.lemmas.List.Sums.{sum_by-append, sum_by_push, length-filter}
 use Rattle.affinity.specs.declared.geometry.Geometry.{Geometry}
 use Rattle.protocol.specs.declared.messages.Msg.{Msg}
-use Rattle.meaning.specs.Serial.{reply_to, is_recorded, is_done}
+use Rattle.meaning.specs.Step.{reply_to, is_recorded, is_done}
 use Rattle.histories.specs.CoreState.{Entry, Replied, CoreState}
 use Rattle.histories.specs.Eligible.{changes, unlogged_changes, is_conflict_free, has_room, is_eligible, next_eligible}
 use Rattle.histories.specs.Events.{batch, find_in_flight, give_back, grant, log}

@@ -4,14 +4,16 @@ use Rattle.std.specs.Prelude.{◌||◌, if◌then◌else◌, map, filter}
 use Rattle.std.proofs.lemmas.List.{map-append}
 use Rattle.std.proofs.lemmas.List.Elements.{filter-append}
 use Rattle.affinity.specs.declared.geometry.Geometry.{Geometry}
-use Rattle.meaning.specs.Serial.{state_after_all, is_recorded}
+use Rattle.meaning.specs.Step.{state_after_all, is_recorded}
 use Rattle.meaning.specs.Order.{serial_replies, messages_of}
 use Rattle.histories.specs.declared.outcomes.Step.{Step}
 use Rattle.histories.specs.declared.outcomes.Step.TheVariants as steps
 use Rattle.histories.specs.CoreState.{Replied, CoreState, entries}
-use Rattle.histories.specs.Events.{MachineState, Event, IsAllowed, batch, recorded}
+use Rattle.histories.specs.MachineState.{MachineState}
+use Rattle.histories.specs.Events.{Event, IsAllowed, batch, recorded}
 use Rattle.histories.specs.Runs.{IsLegal, end_state, logged_at, appended_at, logged_messages, appended_messages}
-use Rattle.histories.specs.Laws.{IsSoundCoreState, ticket_replies}
+use Rattle.histories.specs.IsSoundCoreState.{IsSoundCoreState}
+use Rattle.histories.specs.IsSerialHistory.{ticket_replies}
 use Rattle.histories.proofs.AreUnrelated.{entries-append}
 use Rattle.histories.proofs.Ways.{Passed, Way, Logs, ways}
 use Rattle.histories.proofs.SerialReplies.{state_after_all-append, state_after_all-joined, serial_replies-append, ticket_replies-append}

@@ -13,13 +13,14 @@ use Rattle.affinity.proofs.Elements.{all_weaker}
 use Rattle.protocol.specs.declared.messages.Msg.{Msg}
 use Rattle.meaning.specs.State.{State}
 use Rattle.meaning.specs.Order.{InOrderIfRelated, KeepsOrder, serial_replies}
-use Rattle.histories.specs.CoreState.{Entry, Replied, CoreState, entries, entry}
-use Rattle.histories.specs.Events.{MachineState, Event, recorded}
+use Rattle.histories.specs.CoreState.{Entry, Replied, CoreState, entries, entry, AreAscending, HaveDistinctTickets, EachBefore, IsIdle}
+use Rattle.histories.specs.MachineState.{MachineState}
+use Rattle.histories.specs.Events.{Event, recorded}
 use Rattle.histories.specs.Runs.{IsLegal, answered_messages, arrived, appended_messages, end_state, logged_messages}
 use Rattle.histories.specs.Crash.{IsLogAfter, in_doubt}
-use Rattle.histories.specs.Laws.{AreAscending, HaveDistinctTickets, EachBefore, IsIdle, IsSerialHistory, ticket_replies}
+use Rattle.histories.specs.IsSerialHistory.{IsSerialHistory, ticket_replies}
 use Rattle.histories.proofs.AnsweredFirst.{run_in_order}
-use Rattle.histories.proofs.Runs.{recorded-append}
+use Rattle.histories.proofs.Runs.{recorded-append, appended_is_recorded, run_follows}
 use Rattle.histories.proofs.AreUnrelated.{all_entries, entries-append, entries_split}
 use Rattle.histories.proofs.Arrivals.{arrivals_reordered, row, run_ascending}
 use Rattle.histories.proofs.Crashes.{legal_first, went_first}
@@ -27,7 +28,6 @@ use Rattle.histories.proofs.Doubts.{crash_doubts_ran, first_doubts, no_doubts, r
 use Rattle.histories.proofs.Elements.{holds_of}
 use Rattle.histories.proofs.Idle.{idle_sound, none_logged}
 use Rattle.histories.proofs.Lists.{all_front, all_permuted, before_across, before_back, before_front, before_join}
-use Rattle.histories.proofs.Runs.{appended_is_recorded, run_follows}
 use Rattle.histories.proofs.Sound.{last_sound, row_of}
 use Rattle.histories.proofs.SerialReplies.{IsIn, ticket_replies-append, serial_replies-append}
 

@@ -6,13 +6,14 @@ use Rattle.affinity.specs.declared.geometry.Geometry.{Geometry}
 use Rattle.protocol.specs.declared.messages.Msg.{Msg}
 use Rattle.protocol.specs.declared.replies.Reply.{Reply}
 use Rattle.meaning.specs.State.{State}
-use Rattle.meaning.specs.Serial.{reply_to, next_state, state_after_all, is_recorded}
+use Rattle.meaning.specs.Step.{reply_to, next_state, state_after_all, is_recorded}
 use Rattle.meaning.specs.Order.{serial_replies, messages_of}
 use Rattle.meaning.proofs.Frame.{commute, same_reply}
 use Rattle.meaning.proofs.Unchanged.{unrecorded_changes_nothing}
-use Rattle.histories.specs.CoreState.{Entry, Replied, entry, entries, are_related_entries}
+use Rattle.histories.specs.CoreState.{Entry, Replied, entry, entries, are_related_entries, AreUnrelated}
 use Rattle.histories.specs.Events.{recorded}
-use Rattle.histories.specs.Laws.{AreUnrelated, HaveRepliesAt, ticket_replies}
+use Rattle.histories.specs.IsSoundCoreState.{HaveRepliesAt}
+use Rattle.histories.specs.IsSerialHistory.{ticket_replies}
 use Rattle.histories.proofs.AreUnrelated.{apart_turned}
 
 -- ---- lists after one another

@@ -6,12 +6,14 @@ use Rattle.std.proofs.lemmas.List.{take-append-drop, length-append}
 use Rattle.affinity.specs.declared.geometry.Geometry.{Geometry}
 use Rattle.protocol.specs.declared.messages.Msg.{Msg}
 use Rattle.affinity.proofs.Elements.{all_join, all_weaker}
-use Rattle.meaning.specs.Serial.{reply_to}
-use Rattle.histories.specs.CoreState.{Entry, Replied, CoreState, entries, held}
+use Rattle.meaning.specs.Step.{reply_to}
+use Rattle.histories.specs.CoreState.{Entry, Replied, CoreState, entries, held, AreUnrelated, AreAscending, HaveDistinctTickets}
 use Rattle.histories.specs.Eligible.{is_eligible, next_eligible}
-use Rattle.histories.specs.Events.{Hand, MachineState, Event, IsAllowed, find_in_flight, grant, give_back, log}
+use Rattle.histories.specs.MachineState.{Hand, MachineState}
+use Rattle.histories.specs.Events.{Event, IsAllowed, find_in_flight, grant, give_back, log}
 use Rattle.histories.specs.Runs.{IsLegal, end_state}
-use Rattle.histories.specs.Laws.{AreUnrelated, HaveRepliesAt, AreAscending, HaveDistinctTickets, DoubtOnlyAfterFailure, HasRoom, IsSoundCoreState}
+use Rattle.histories.specs.IsSoundCoreState.{HaveRepliesAt, HasRoom, IsSoundCoreState}
+use Rattle.histories.specs.Failures.{DoubtOnlyAfterFailure}
 use Rattle.histories.proofs.Lists.{all_front, all_back, all_moved, all_without, before_push, before_back, before_front, before_without, before_moved, picked}
 use Rattle.histories.proofs.AreUnrelated.{grant_apart, back_apart, log_held, held_grant, length_held}
 use Rattle.histories.proofs.FullHands.{length-picked}

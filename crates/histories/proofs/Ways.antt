@@ -22,9 +22,10 @@ use Rattle.histories.specs.declared.outcomes.PointRefusal.{PointRefusal}
 use Rattle.histories.specs.declared.outcomes.PointRefusal.TheVariants as points
 use Rattle.histories.specs.CoreState.{Entry, Replied, CoreState, held, most_tickets}
 use Rattle.histories.specs.Eligible.{changes, lacks_only_room, unlogged_changes, next_eligible}
-use Rattle.histories.specs.Events.{Hand, MachineState, Empty, Job, Result, Event, IsAllowed, IsFault, IsWithoutFault, arrive, grant, give_back, find_in_flight, batch, in_core, recorded, log, answer, point_refusal, piece_refusal, flip_refusal, unfinished_refusal, unless_refused, pieces_after, grant_to, run_hand, result_in, back_from, is_empty, apply_step, fail_step, touches_device}
+use Rattle.histories.specs.MachineState.{Hand, MachineState, Empty, Job, Result, in_core, is_empty}
+use Rattle.histories.specs.Events.{Event, IsAllowed, IsFault, IsWithoutFault, arrive, grant, give_back, find_in_flight, batch, recorded, log, answer, point_refusal, piece_refusal, flip_refusal, unfinished_refusal, unless_refused, pieces_after, grant_to, run_hand, result_in, back_from, apply_step, fail_step, touches_device}
 use Rattle.histories.specs.Runs.{answered_at, logged_at, arrives, answers}
-use Rattle.histories.specs.Laws.{DoubtIsPrefixOfRan, reports_failure}
+use Rattle.histories.specs.Failures.{DoubtIsPrefixOfRan, reports_failure}
 use Rattle.histories.specs.Progress.{steps_at}
 use Rattle.histories.proofs.AreUnrelated.{length_held}
 use Rattle.histories.proofs.Lists.{first_few}

@@ -1,5 +1,6 @@
 -- Statement for operators: The core state: the messages that a server has taken in, how far each has come, and what has been committed.
-use Rattle.std.specs.Prelude.{ℕ, ◌-◌, ◌^◌, Bool, List, ◌++◌, map, Option}
+use Rattle.std.specs.Prelude.{[], ℕ, ◌-◌, ◌^◌, Bool, List, ◌++◌, map, Option, ◌≡◌, ◌<◌, false, ◌∷◌}
+use Rattle.std.specs.List.{AllByRecursion}
 use Rattle.affinity.specs.declared.geometry.Geometry.{Geometry}
 use Rattle.affinity.specs.Path.{are_related}
 use Rattle.protocol.specs.declared.messages.Msg.{Msg}
@@ -57,3 +58,25 @@ held w = entries w.logged ++ (entries w.ran ++ w.in_flight)
 -- whether the places of two messages are related
 abbrev pub are_related_entries : Geometry → Entry → Entry → Bool
 are_related_entries g e d = are_related (path_of g e.1) (path_of g d.1)
+
+-- `R` holds between each element of the list and all that come after it
+abbrev pub EachBefore : {A : Type 0} → (A → A → Type 0) → List A → Type 0
+EachBefore R [] = Unit {0}
+EachBefore R (x ∷ xs) = AllByRecursion (R x) xs × EachBefore R xs
+
+-- no two of the messages are at related places
+abbrev pub AreUnrelated : Geometry → List Entry → Type 0
+AreUnrelated g es = EachBefore (λ e d. are_related_entries g e d ≡ false) es
+
+-- the tickets ascend
+abbrev pub AreAscending : List Entry → Type 0
+AreAscending es = EachBefore (λ e d. e.0 < d.0) es
+
+-- no two of the messages have the same ticket
+abbrev pub HaveDistinctTickets : List Entry → Type 0
+HaveDistinctTickets es = EachBefore (λ e d. e.0 ≡ d.0 → ⊥) es
+
+-- Nothing waits, and nothing is held.
+pub record IsIdle (w : CoreState) : Type 0 where
+  pub none_waits : w.waiting ≡ []
+  pub none_held : held w ≡ []

@@ -3,11 +3,12 @@ use Rattle.std.specs.Prelude.{◌≡◌, ℕ, ◌≤◌, List, [], ◌∷◌, �
 use Rattle.affinity.specs.declared.geometry.Geometry.{Geometry}
 use Rattle.protocol.specs.declared.messages.Msg.{Msg}
 use Rattle.meaning.specs.State.{State}
-use Rattle.meaning.specs.Serial.{state_after_all}
+use Rattle.meaning.specs.Step.{state_after_all}
 use Rattle.histories.specs.declared.outcomes.Step.{Step}
 use Rattle.histories.specs.declared.outcomes.Step.TheVariants as steps
 use Rattle.histories.specs.CoreState.{CoreState}
-use Rattle.histories.specs.Events.{MachineState, Event, batch}
+use Rattle.histories.specs.MachineState.{MachineState}
+use Rattle.histories.specs.Events.{Event, batch}
 use Rattle.histories.specs.Runs.{end_state, appended_messages}
 
 -- the messages that a step is to append to the log

@@ -6,7 +6,7 @@ use Rattle.affinity.specs.declared.geometry.Geometry.{Geometry}
 use Rattle.protocol.specs.declared.messages.Msg.{Msg}
 use Rattle.protocol.specs.Messages.{is_in_range}
 use Rattle.image.specs.Pieces.{piece_count}
-use Rattle.meaning.specs.Serial.{reply_to, state_after_all, is_recorded}
+use Rattle.meaning.specs.Step.{reply_to, state_after_all, is_recorded}
 use Rattle.histories.specs.declared.outcomes.Step.{Step}
 use Rattle.histories.specs.declared.outcomes.Step.TheVariants as steps
 use Rattle.histories.specs.declared.outcomes.Outcome.{Outcome}
@@ -17,6 +17,7 @@ use Rattle.histories.specs.declared.outcomes.PointRefusal.{PointRefusal}
 use Rattle.histories.specs.declared.outcomes.PointRefusal.TheVariants as points
 use Rattle.histories.specs.CoreState.{Entry, Replied, CoreState, held, most_tickets}
 use Rattle.histories.specs.Eligible.{pick, next_eligible, lacks_only_room}
+use Rattle.histories.specs.MachineState.{Hand, Empty, Job, Result, MachineState, is_empty, in_core}
 
 -- ---- what each step does to the core, where the device doesn't fail
 
@@ -66,6 +67,10 @@ log g w n = record w {
 abbrev pub answer : CoreState → List Replied → Outcome × CoreState
 answer w [] = (outcomes.Idle, w)
 answer w (a ∷ as') = (outcomes.Answered a.0 a.2, record w { logged = as' })
+
+-- Message a, the oldest logged one, is answered: it is held no more.
+abbrev pub IsAnswered : CoreState → CoreState → Replied → Type 0
+IsAnswered old new a = old.logged ≡ a ∷ new.logged
 
 -- ---- checkpoints: why each of their steps is refused, and what it does
 
@@ -120,25 +125,7 @@ piece w = unless_refused w (piece_refusal w)
 abbrev pub flip : CoreState → Outcome × CoreState
 flip w = unless_refused w (flip_refusal w) (outcomes.Flipped, record w { pieces_left = None })
 
--- ---- a machine: a core with a row of hands, each of them empty, with a job or with its result
-
--- what a hand of the machine has: nothing, or the job or the result of the message with this ticket
-pub data Hand : Type 0 where
-  Empty : Hand
-  Job : (ticket : ℕ) → Hand
-  Result : (ticket : ℕ) → Hand
-
-pub record MachineState : Type 0 where
-  pub core : CoreState
-  pub hands : List Hand
-
-abbrev pub is_empty : Hand → Bool
-is_empty Empty = true
-is_empty _ = false
-
--- the outcome of a step that changes the core alone, and the machine after it
-abbrev pub in_core : MachineState → Outcome × CoreState → Outcome × MachineState
-in_core w x = (x.0, record w { core = x.1 })
+-- ---- what each step does to the hands of a machine
 
 -- A message that is eligible (`found.0`) goes to an empty hand; where there is no such message or hand, nothing changes.
 abbrev pub grant_to : Geometry → MachineState → Option ℕ → Option (Entry × List Entry) → Outcome × MachineState
@@ -198,6 +185,12 @@ touches_device w steps.Cut = is_none (point_refusal w)
 touches_device w steps.Piece = is_none (piece_refusal w) && not (all_pieces_written w.pieces_left)
 touches_device w steps.Flip = is_none (flip_refusal w)
 touches_device w _ = false
+
+-- the steps that may dispatch a message or give one back
+abbrev pub dispatches_or_returns : Step → Bool
+dispatches_or_returns steps.Grant = true
+dispatches_or_returns (steps.Back i) = true
+dispatches_or_returns _ = false
 
 -- the core once its device has failed
 abbrev pub fails : CoreState → CoreState

@@ -3,11 +3,12 @@ use Rattle.std.specs.Prelude.{◌≡◌, ℕ, ◌≤◌, List, [], ◌∷◌, �
 use Rattle.affinity.specs.declared.geometry.Geometry.{Geometry}
 use Rattle.protocol.specs.declared.messages.Msg.{Msg}
 use Rattle.meaning.specs.State.{State, empty}
-use Rattle.meaning.specs.Serial.{state_after_all}
-use Rattle.histories.specs.Events.{MachineState, Event}
+use Rattle.meaning.specs.Step.{state_after_all}
+use Rattle.histories.specs.MachineState.{MachineState}
+use Rattle.histories.specs.Events.{Event}
 use Rattle.histories.specs.Runs.{IsLegal, answered_changes}
 use Rattle.histories.specs.Crash.{IsLogAfter}
-use Rattle.histories.specs.Laws.{IsIdle}
+use Rattle.histories.specs.CoreState.{IsIdle}
 
 -- Either the crash came before the server was open; or the server ran from `start`, and the crash came when at least `ended` of the events
 -- were over.

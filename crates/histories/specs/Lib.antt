@@ -2,8 +2,11 @@
 pub mod CoreState
 pub mod Eligible
 pub mod Events
+pub mod MachineState
 pub mod Runs
 pub mod Crash
-pub mod Laws
+pub mod Failures
+pub mod IsSoundCoreState
+pub mod IsSerialHistory
 pub mod Incarnations
 pub mod Progress

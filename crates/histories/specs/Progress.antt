@@ -6,10 +6,10 @@ use Rattle.affinity.specs.declared.geometry.Geometry.{Geometry}
 use Rattle.histories.specs.declared.outcomes.Outcome.{Outcome}
 use Rattle.histories.specs.declared.outcomes.Outcome.TheVariants as outcomes
 use Rattle.histories.specs.declared.outcomes.Step.TheVariants as steps
-use Rattle.histories.specs.CoreState.{CoreState, Entry, are_related_entries, entries, held}
+use Rattle.histories.specs.CoreState.{CoreState, Entry, are_related_entries, entries, held, IsIdle}
 use Rattle.histories.specs.Eligible.{next_eligible}
-use Rattle.histories.specs.Events.{Event, Hand, IsAllowed, Job, Result, MachineState, cut, flip_refusal, grant_refusal, piece_refusal, point, point_refusal}
-use Rattle.histories.specs.Laws.{IsIdle}
+use Rattle.histories.specs.Events.{Event, IsAllowed, cut, flip_refusal, grant_refusal, piece_refusal, point, point_refusal}
+use Rattle.histories.specs.MachineState.{Hand, Job, Result, MachineState}
 use Rattle.histories.specs.Runs.{IsLegal, answered_messages, arrived, arrives, end_state}
 
 -- ---- what can be done next

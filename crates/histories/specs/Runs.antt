@@ -1,5 +1,5 @@
 -- Statement for operators: Legal runs: lists of events, each of them allowed in the machine state that the ones before it left.
-use Rattle.std.specs.Prelude.{ℕ, Bool, ◌||◌, List, [], ◌∷◌, ◌++◌, take, if◌then◌else◌}
+use Rattle.std.specs.Prelude.{ℕ, Bool, ◌||◌, List, [], ◌∷◌, ◌++◌, take, if◌then◌else◌, ◌≡◌}
 use Rattle.affinity.specs.declared.geometry.Geometry.{Geometry}
 use Rattle.protocol.specs.declared.messages.Msg.{Msg}
 use Rattle.protocol.specs.declared.replies.Reply.{Reply}
@@ -8,7 +8,8 @@ use Rattle.histories.specs.declared.outcomes.Step.TheVariants as steps
 use Rattle.histories.specs.declared.outcomes.Outcome.{Outcome}
 use Rattle.histories.specs.declared.outcomes.Outcome.TheVariants as outcomes
 use Rattle.histories.specs.CoreState.{Entry, Replied, CoreState}
-use Rattle.histories.specs.Events.{MachineState, Event, IsAllowed, batch, recorded}
+use Rattle.histories.specs.MachineState.{MachineState}
+use Rattle.histories.specs.Events.{Event, IsAllowed, batch, recorded}
 
 -- Each of these events is allowed where it comes, in a run from this machine state.
 abbrev pub IsLegal : Geometry → MachineState → List Event → Type 0
@@ -73,3 +74,12 @@ answered_messages w (event ∷ events) = answered_at w.core event.outcome ++ ans
 -- the changes that were carried out among the messages that a run answers
 abbrev pub answered_changes : MachineState → List Event → List Msg
 answered_changes w events = recorded (answered_messages w events)
+
+-- Two runs, the second from where the first ended, are one run, which does what the two do.
+pub record IsJoined (g : Geometry) (old : MachineState) (events more : List Event) : Type 0 where
+  pub legal : IsLegal g old (events ++ more)
+  pub end_state_is : end_state old (events ++ more) ≡ end_state (end_state old events) more
+  pub logged_is : logged_messages old (events ++ more) ≡ logged_messages old events ++ logged_messages (end_state old events) more
+  pub appended_is : appended_messages old (events ++ more) ≡ appended_messages old events ++ appended_messages (end_state old events) more
+  pub arrived_is : arrived (events ++ more) ≡ arrived events ++ arrived more
+  pub answered_is : answered (events ++ more) ≡ answered events ++ answered more

@@ -10,18 +10,22 @@ ghost use Rattle.protocol.specs.declared.messages.Msg.{Msg};
 ghost use Rattle.protocol.specs.declared.replies.Reply.{Reply};
 ghost use Rattle.protocol.specs.Messages.{path_of};
 ghost use Rattle.meaning.specs.State.{State, empty};
-ghost use Rattle.meaning.specs.Serial.{state_after_all};
+ghost use Rattle.meaning.specs.Step.{state_after_all};
 ghost use Rattle.meaning.specs.Order.{by_ticket, messages_of, serial_replies};
 ghost use Rattle.meaning.specs.Subtrees.{AgreeOn};
-ghost use Rattle.histories.specs.CoreState.{Entry, Replied, CoreState, entries, entry, held, are_related_entries};
+ghost use Rattle.histories.specs.CoreState.{Entry, Replied, CoreState, entries, entry, held, are_related_entries, AreUnrelated, AreAscending, HaveDistinctTickets, IsIdle};
 ghost use Rattle.histories.specs.Eligible.{is_conflict_free};
-ghost use Rattle.histories.specs.Events.{Event, MachineState, IsAllowed, batch, recorded};
-ghost use Rattle.histories.specs.Runs.{IsLegal, answered, answered_changes, answered_messages, arrived, appended_messages, end_state, logged_messages};
+ghost use Rattle.histories.specs.Events.{Event, IsAllowed, batch, recorded};
+ghost use Rattle.histories.specs.MachineState.{MachineState, full_hands};
+ghost use Rattle.histories.specs.Runs.{IsLegal, answered, answered_changes, answered_messages, arrived, appended_messages, end_state, logged_messages, IsJoined};
 ghost use Rattle.histories.specs.Crash.{IsLeftSince, IsLogAfter, in_doubt};
 ghost use Rattle.histories.specs.Incarnations.{AreLogsOf, AllHoldAnswered, IsLeftByIncarnations, IsLogOf, Incarnation, Ran};
-ghost use Rattle.histories.specs.Laws.{AreUnrelated, AreAscending, HaveDistinctTickets, DoubtOnlyAfterFailure, DoubtIsPrefixOfRan, HasRoom, IsAnswered, IsIdle};
+ghost use Rattle.histories.specs.Failures.{DoubtOnlyAfterFailure, DoubtIsPrefixOfRan, StaysFailed, reports_failure};
+ghost use Rattle.histories.specs.IsSoundCoreState.{HasRoom, IsSoundCoreState};
+ghost use Rattle.histories.specs.Events.{IsAnswered};
 ghost use Rattle.histories.specs.Progress.{CanAnswerAll, CanDrain, CanGoOn, CanStep, EachLeavesLess, HandsHold, IsBusy, kept_back_by, steps_in, steps_to_come, useful_events, work_left};
-ghost use Rattle.histories.specs.Laws.{IsJoined, IsSerialHistory, IsSoundCoreState, StaysFailed, full_hands, dispatches_or_returns, ticket_replies, reports_failure};
+ghost use Rattle.histories.specs.IsSerialHistory.{IsSerialHistory, ticket_replies};
+ghost use Rattle.histories.specs.Events.{dispatches_or_returns};
 
 /// A core state in which nothing waits and nothing is held is sound, and each event leads from a sound
 /// core state to a sound one.

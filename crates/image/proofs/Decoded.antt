@@ -17,7 +17,7 @@ use Rattle.protocol.specs.declared.sizes.TheConstants.{LABEL_SIZE}
 use Rattle.protocol.specs.Messages.{IsBlock, AreSizedBytes}
 use Rattle.protocol.specs.Replies.{has_file}
 use Rattle.protocol.specs.declared.messages.Block.{Block}
-use Rattle.meaning.specs.Serial.{file_bits, no_label}
+use Rattle.meaning.specs.Step.{file_bits, no_label}
 use Rattle.meaning.specs.State.{State, VolumeKey, FileKey, BlockKey, IsState, blocks_in_stripe}
 use Rattle.stripe.specs.Entries.{entry_bytes, entries_in}
 use Rattle.stripe.specs.Stripe.{BlockEntry, content_at}

@@ -7,7 +7,7 @@ use Rattle.protocol.specs.declared.messages.Msg.{Msg}
 use Rattle.protocol.specs.declared.messages.Msg.TheVariants.{MakeVol, DropVol, Create, Delete, Seal, Unseal, Write, Punch, Read, List as ListFiles, Usage as AskUsage, Summary as AskSummary, SetLabel, Label as AskLabel}
 use Rattle.protocol.specs.declared.replies.Reply.TheVariants.{Summary}
 use Rattle.protocol.specs.declared.replies.Reply.{Reply}
-use Rattle.meaning.specs.Serial.{state_after_all, reply_to}
+use Rattle.meaning.specs.Step.{state_after_all, reply_to}
 use Rattle.meaning.specs.State.{State, empty}
 use Rattle.image.specs.Pieces.{piece_of}
 use Rattle.image.specs.Touched.{may_change}

@@ -15,7 +15,7 @@ use Rattle.protocol.specs.declared.sizes.TheConstants.{LABEL_SIZE}
 use Rattle.protocol.specs.Messages.{AreSizedBytes}
 use Rattle.protocol.specs.Replies.{has_file}
 use Rattle.protocol.specs.declared.messages.Block.{Block}
-use Rattle.meaning.specs.Serial.{file_bits}
+use Rattle.meaning.specs.Step.{file_bits}
 use Rattle.meaning.specs.State.{State, VolumeKey, FileKey, BlockKey, IsState, one_if}
 use Rattle.stripe.specs.Entries.{entry_bytes, entries_in}
 use Rattle.stripe.specs.Stripe.{BlockEntry, content_at}

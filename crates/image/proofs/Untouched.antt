@@ -9,9 +9,10 @@ use Rattle.protocol.specs.declared.messages.Block.{Block}
 use Rattle.protocol.specs.declared.messages.Msg.{Msg}
 use Rattle.protocol.specs.declared.messages.Msg.TheVariants.{MakeVol, DropVol, Create, Delete, Seal, Unseal, Write, Punch, SetLabel}
 use Rattle.protocol.specs.declared.replies.Refusal.{Refusal}
-use Rattle.meaning.specs.Serial.{key, effect, reply_and_state, accepted_reply, refusal, next_state, no_label}
-use Rattle.meaning.specs.State.{State, BlockKey, IsState, sum_below, one_if, is_volume, is_file, is_block}
-use Rattle.meaning.specs.Subtrees.{Fact, OfMade, OfSealed, OfLabel, OfFile, OfBlock, value}
+use Rattle.meaning.specs.Step.{effect, reply_and_state, accepted_reply, next_state, no_label}
+use Rattle.meaning.specs.Refusals.{refusal}
+use Rattle.meaning.specs.State.{State, BlockKey, IsState, sum_below, one_if, is_volume, is_file, is_block, key}
+use Rattle.meaning.specs.Facts.{Fact, OfMade, OfSealed, OfLabel, OfFile, OfBlock, value}
 use Rattle.stripe.specs.Entries.{stripe_bytes}
 use Rattle.image.specs.Pieces.{aggregate_of, volume_of, part_of, piece_of, part_piece, label_bytes, stripe_piece, entry_if}
 use Rattle.image.specs.Touched.{may_change, may_change_part}

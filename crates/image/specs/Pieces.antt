@@ -9,7 +9,7 @@ use Rattle.protocol.specs.declared.messages.Block.{Block}
 use Rattle.device_map.specs.Layout.{slice}
 use Rattle.device_map.specs.declared.layout.TheConstants.{BLOCK_ENTRY_SIZE, IMAGE_HEAD_SIZE, VOLUME_PIECE_SIZE}
 use Rattle.stripe.specs.Stripe.{BlockEntry, content_at}
-use Rattle.meaning.specs.Serial.{file_bits, no_label}
+use Rattle.meaning.specs.Step.{file_bits, no_label}
 use Rattle.meaning.specs.State.{State, VolumeKey, is_volume, is_file_of, is_block_of, sum_below, one_if}
 use Rattle.stripe.specs.Entries.{stripe_bytes, entries_in}
 use Rattle.image.specs.declared.layout.TheConstants.{VERSION}

@@ -6,8 +6,7 @@ use Rattle.affinity.specs.declared.geometry.Geometry.{Geometry}
 use Rattle.protocol.specs.declared.messages.Msg.{Msg}
 use Rattle.protocol.specs.declared.messages.Msg.TheVariants.{DropVol, Delete, Write, Punch}
 use Rattle.protocol.specs.Messages.{kind}
-use Rattle.meaning.specs.Serial.{key}
-use Rattle.meaning.specs.State.{is_volume}
+use Rattle.meaning.specs.State.{is_volume, key}
 use Rattle.image.specs.Pieces.{aggregate_of, volume_of, part_of}
 
 -- Whether the message may change part p of its own volume: 0 is the volume's piece, and `suc s` that of stripe s. One that removes a volume

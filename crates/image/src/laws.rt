@@ -11,7 +11,7 @@ ghost use Rattle.image.specs.declared.layout.TheConstants.{VERSION};
 ghost use Rattle.protocol.specs.Messages.{AreSizedBytes};
 ghost use Rattle.protocol.specs.declared.messages.Msg.{Msg};
 ghost use Rattle.device_map.specs.Layout.{image_size};
-ghost use Rattle.meaning.specs.Serial.{next_state};
+ghost use Rattle.meaning.specs.Step.{next_state};
 ghost use Rattle.meaning.specs.State.{State, IsState};
 ghost use Rattle.stripe.specs.Stripe.{BlockEntry, IsAscending, content_at};
 

@@ -2,10 +2,10 @@
 use Rattle.std.proofs.Common.{◌≡◌, ℕ, zero, suc, List, ◌∷◌, map, replicate, refl, ap, sym, subst, ◌∙◌}
 use Rattle.std.proofs.lemmas.Option.{none-some}
 use Rattle.affinity.specs.declared.geometry.Geometry.{Geometry}
-use Rattle.histories.specs.Events.{Empty, Hand}
-use Rattle.histories.specs.Laws.{IsSoundCoreState}
+use Rattle.histories.specs.MachineState.{Empty, Hand}
+use Rattle.histories.specs.IsSoundCoreState.{IsSoundCoreState}
 use Rattle.histories.specs.CoreState.{CoreState}
-use Rattle.scheduler.specs.Machine.{HoldsJobs, IsHandOf, hand_at, hand_of, ticket_in}
+use Rattle.scheduler.specs.Hands.{HoldsJobs, IsHandOf, hand_at, hand_of, ticket_in}
 use Rattle.scheduler.specs.declared.hands.HandContent.{HandContent}
 use Rattle.scheduler.specs.declared.hands.HandContent.TheVariants as has
 

@@ -1,8 +1,7 @@
 //! What is done with hands.
 ghost use Rattle.std.specs.Prelude.{position, ◌≡◌};
-ghost use Rattle.histories.specs.Events.{is_empty};
-ghost use Rattle.scheduler.specs.Hands.{IsTakenFrom, IsRunIn};
-ghost use Rattle.scheduler.specs.Machine.{hand_of};
+ghost use Rattle.histories.specs.MachineState.{is_empty};
+ghost use Rattle.scheduler.specs.Hands.{IsTakenFrom, IsRunIn, hand_of};
 
 use parcel::{Done, run};
 use scheduler::HandContent;

@@ -1,7 +1,8 @@
 //! The machine itself.
 ghost use Rattle.std.specs.Prelude.{◌≡◌, IfErr, IfOk, length, replicate};
-ghost use Rattle.histories.specs.Events.{Empty};
-ghost use Rattle.scheduler.specs.Machine.{HasRun, machine_of};
+ghost use Rattle.histories.specs.MachineState.{Empty};
+ghost use Rattle.scheduler.specs.Runs.{HasRun};
+ghost use Rattle.scheduler.specs.Machine.{machine_of};
 ghost use Rattle.scheduler.specs.declared.hands.HandContent.TheVariants as has;
 ghost use Rattle.scheduler.specs.CoreView.{core_state_of};
 
@@ -26,7 +27,8 @@ pub struct MachineError<D: Disk> {
 }
 
 impl<D: Disk> Model for Machine<D> {
-    ghost use Rattle.scheduler.specs.Machine.{MachineView, HoldsJobs};
+    ghost use Rattle.scheduler.specs.Machine.{MachineView};
+    ghost use Rattle.scheduler.specs.Hands.{HoldsJobs};
     ghost use Rattle.scheduler.specs.CoreView.{core_state_of};
 
     ghost Value = { MachineView };

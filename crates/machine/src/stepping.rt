@@ -1,6 +1,6 @@
 //! One step of a machine.
 ghost use Rattle.histories.specs.declared.outcomes.Step.TheVariants as steps;
-ghost use Rattle.scheduler.specs.Machine.{HoldsJobs};
+ghost use Rattle.scheduler.specs.Hands.{HoldsJobs};
 ghost use Rattle.scheduler.specs.Steps.{IsCoreStep, IsMachineStep};
 ghost use Rattle.scheduler.specs.CoreView.{core_state_of};
 

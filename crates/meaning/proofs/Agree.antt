@@ -5,7 +5,8 @@ use Rattle.std.proofs.lemmas.Bool.{or_cases}
 use Rattle.affinity.specs.declared.geometry.Geometry.{Geometry}
 use Rattle.affinity.specs.Path.{Path}
 use Rattle.meaning.specs.State.{State}
-use Rattle.meaning.specs.Subtrees.{OfMade, OfSealed, OfLabel, OfFile, OfBlock, AgreeOn, path_in_volume}
+use Rattle.meaning.specs.Facts.{OfMade, OfSealed, OfLabel, OfFile, OfBlock, path_in_volume}
+use Rattle.meaning.specs.Subtrees.{AgreeOn}
 
 module _ {g : Geometry} {R : Path → Bool} where
   pub agree-refl : (x : State) → AgreeOn g R x x

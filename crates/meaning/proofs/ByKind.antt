@@ -5,7 +5,7 @@ use Rattle.protocol.specs.declared.messages.Msg.TheVariants.{Read}
 use Rattle.protocol.specs.declared.messages.Block.{Block}
 use Rattle.protocol.specs.declared.replies.Reply.TheVariants.{Block as shows}
 use Rattle.meaning.specs.State.{State, IsState}
-use Rattle.meaning.specs.Serial.{step}
+use Rattle.meaning.specs.Step.{step}
 
 -- a block that is there answers a read
 pub read_told : {g : Geometry} {x : State} → IsState g x → (a v f b : ℕ) {content : Block} → x.blocks (a, v, f, b) ≡ Some content → step g x (Read a v f b) ≡ (shows content, x)

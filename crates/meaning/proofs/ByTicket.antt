@@ -10,9 +10,8 @@ use Rattle.affinity.proofs.Elements.{all_weaker}
 use Rattle.protocol.specs.declared.messages.Msg.{Msg}
 use Rattle.protocol.specs.Messages.{path_of}
 use Rattle.meaning.specs.State.{State}
-use Rattle.meaning.specs.Serial.{reply_to, next_state, state_after_all}
-use Rattle.meaning.specs.Order.{serial_replies, messages_of, inserted_by_ticket, by_ticket, InOrderIfRelated, KeepsOrder}
-use Rattle.meaning.specs.Laws.{SameByTicket, AreInOrder}
+use Rattle.meaning.specs.Step.{reply_to, next_state, state_after_all}
+use Rattle.meaning.specs.Order.{serial_replies, messages_of, inserted_by_ticket, by_ticket, InOrderIfRelated, KeepsOrder, SameByTicket, AreInOrder}
 use Rattle.meaning.proofs.Frame.{commute}
 
 module _ {A : Type 0} (P : ℕ × A → Type 0) where

@@ -9,9 +9,10 @@ use Rattle.protocol.specs.declared.messages.Msg.{Msg}
 use Rattle.protocol.specs.declared.messages.Msg.TheVariants.{MakeVol, DropVol, Create, Delete, Seal, Unseal, Write, Punch, SetLabel}
 use Rattle.protocol.specs.Messages.{path_of}
 use Rattle.meaning.specs.State.{State, BlockKey, FileKey, is_volume, is_file, is_block}
-use Rattle.meaning.specs.Serial.{effect, no_label}
-use Rattle.meaning.specs.Subtrees.{Fact, OfMade, OfSealed, OfLabel, OfFile, OfBlock, AgreeOn, path_in_volume, value}
-use Rattle.meaning.specs.Laws.{outside}
+use Rattle.meaning.specs.Step.{effect, no_label}
+use Rattle.meaning.specs.Facts.{Fact, OfMade, OfSealed, OfLabel, OfFile, OfBlock, path_in_volume, value}
+use Rattle.meaning.specs.Subtrees.{AgreeOn}
+use Rattle.meaning.specs.Commute.{outside}
 
 -- ---- fact by fact
 

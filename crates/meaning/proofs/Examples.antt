@@ -11,8 +11,7 @@ use Rattle.protocol.specs.declared.replies.Refusal.TheVariants.{Range, Volume, E
 use Rattle.protocol.specs.declared.replies.Reply.{Reply}
 use Rattle.protocol.specs.declared.replies.Reply.TheVariants.{Done, Hole, Block as Found, Files, Usage, Summary, Refused, Label}
 use Rattle.meaning.specs.State.{State, empty}
-use Rattle.meaning.specs.Serial.{reply_to, next_state, state_after_all}
-use Rattle.meaning.specs.Laws.{recorded_of}
+use Rattle.meaning.specs.Step.{reply_to, next_state, state_after_all, recorded_of}
 
 -- the reply to each of these messages, from x on
 abbrev replies : Geometry → State → List Msg → List Reply

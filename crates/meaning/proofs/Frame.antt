@@ -13,10 +13,12 @@ use Rattle.protocol.specs.declared.replies.Refusal.{Refusal}
 use Rattle.protocol.specs.declared.replies.Refusal.TheVariants.{Volume, Sealed, File, Space}
 use Rattle.protocol.specs.declared.replies.Reply.TheVariants.{Files, Usage, Summary, Label}
 use Rattle.protocol.specs.Messages.{kind, four_numbers, path_of}
-use Rattle.meaning.specs.State.{State, sum_below, one_if, blocks_in_stripe, sum_over_volumes}
-use Rattle.meaning.specs.Serial.{key, checks, passes, refusal, effect, accepted_reply, reply_and_state, reply_to, next_state, block_reply, no_label}
-use Rattle.meaning.specs.Subtrees.{OfMade, OfSealed, OfLabel, OfFile, OfBlock, AgreeOn}
-use Rattle.meaning.specs.Laws.{outside, Commute}
+use Rattle.meaning.specs.State.{State, sum_below, one_if, blocks_in_stripe, sum_over_volumes, key}
+use Rattle.meaning.specs.Refusals.{checks, passes, refusal}
+use Rattle.meaning.specs.Step.{effect, accepted_reply, reply_and_state, reply_to, next_state, block_reply, no_label}
+use Rattle.meaning.specs.Facts.{OfMade, OfSealed, OfLabel, OfFile, OfBlock}
+use Rattle.meaning.specs.Subtrees.{AgreeOn}
+use Rattle.meaning.specs.Commute.{outside, Commute}
 use Rattle.meaning.proofs.Agree.{agree-refl, agree-sym, agree-trans, agree_within, agree_everywhere, agree_either}
 use Rattle.meaning.proofs.Effects.{effect_agrees, effect_only}
 

@@ -16,8 +16,9 @@ use Rattle.protocol.specs.declared.replies.Refusal.{Refusal}
 use Rattle.protocol.specs.declared.replies.Refusal.TheVariants.{Space}
 use Rattle.protocol.specs.Messages.{AreSizedBytes, IsBlock, IsMessage, kind, four_numbers}
 use Rattle.meaning.specs.State.{State, IsState, empty, VolumeKey, FileKey, BlockKey, is_volume, is_file, is_block, is_file_of, is_block_of, is_block_of_file, one_if, blocks_in_stripe}
-use Rattle.meaning.specs.Serial.{checks, passes, refusal, effect, accepted_reply, reply_and_state, next_state, state_after_all, no_label}
-use Rattle.meaning.specs.Laws.{outside}
+use Rattle.meaning.specs.Refusals.{checks, passes, refusal}
+use Rattle.meaning.specs.Step.{effect, accepted_reply, reply_and_state, next_state, state_after_all, no_label}
+use Rattle.meaning.specs.Commute.{outside}
 use Rattle.meaning.specs.Removals.{without_blocks}
 use Rattle.meaning.proofs.Effects.{effect_only}
 use Rattle.meaning.proofs.Frame.{same_group_count}

@@ -9,8 +9,9 @@ use Rattle.affinity.specs.Path.{Path, is_prefix, are_related, volume, logical, s
 use Rattle.protocol.specs.declared.messages.Msg.{Msg}
 use Rattle.protocol.specs.Messages.{path_of}
 use Rattle.meaning.specs.State.{State}
-use Rattle.meaning.specs.Subtrees.{Fact, OfMade, OfSealed, OfLabel, OfFile, OfBlock, AgreeOn, restricted, subtree, standing, path_in_volume, value}
-use Rattle.meaning.specs.Laws.{outside, RunAlike}
+use Rattle.meaning.specs.Facts.{Fact, OfMade, OfSealed, OfLabel, OfFile, OfBlock, path_in_volume, value}
+use Rattle.meaning.specs.Subtrees.{AgreeOn, restricted, subtree, standing}
+use Rattle.meaning.specs.Commute.{outside, RunAlike}
 use Rattle.meaning.proofs.Agree.{agree_within, agree_everywhere, agree_either}
 use Rattle.meaning.proofs.Frame.{reads_only}
 

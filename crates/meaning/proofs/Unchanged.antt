@@ -4,8 +4,7 @@ use Rattle.std.specs.Prelude.{if◌then◌else◌}
 use Rattle.affinity.specs.declared.geometry.Geometry.{Geometry}
 use Rattle.protocol.specs.declared.messages.Msg.{Msg}
 use Rattle.meaning.specs.State.{State}
-use Rattle.meaning.specs.Serial.{reply_to, next_state, state_after_all, is_recorded}
-use Rattle.meaning.specs.Laws.{recorded_of}
+use Rattle.meaning.specs.Step.{reply_to, next_state, state_after_all, is_recorded, recorded_of}
 
 -- A message of which the log keeps no record has changed nothing.
 pub unrecorded_changes_nothing : (g : Geometry) (x : State) (m : Msg) → is_recorded m (reply_to g x m) ≡ false → next_state g x m ≡ x

@@ -1,9 +1,11 @@
 -- Definitions of the serial server: its states, what each message means there, and the laws of steps.
 pub mod State
-pub mod Serial
+pub mod Step
+pub mod Refusals
 pub mod Subtrees
+pub mod Facts
 pub mod Order
-pub mod Laws
+pub mod Commute
 pub mod Output
 pub mod Removals
 pub mod Progress

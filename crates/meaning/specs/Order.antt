@@ -1,5 +1,5 @@
 -- Statement for operators: Messages with tickets: the reply to each, and their order by ticket.
-use Rattle.std.specs.Prelude.{◌≡◌, ℕ, ◌<◌, true, nat_lt, List, [], ◌∷◌, map, if◌then◌else◌}
+use Rattle.std.specs.Prelude.{◌≡◌, ℕ, ◌<◌, true, nat_lt, List, [], ◌∷◌, map, if◌then◌else◌, ◌≤◌}
 use Rattle.std.specs.List.{AllByRecursion}
 use Rattle.affinity.specs.declared.geometry.Geometry.{Geometry}
 use Rattle.affinity.specs.Path.{are_related}
@@ -7,7 +7,7 @@ use Rattle.protocol.specs.declared.messages.Msg.{Msg}
 use Rattle.protocol.specs.declared.replies.Reply.{Reply}
 use Rattle.protocol.specs.Messages.{path_of}
 use Rattle.meaning.specs.State.{State}
-use Rattle.meaning.specs.Serial.{reply_to, next_state}
+use Rattle.meaning.specs.Step.{reply_to, next_state, state_after_all}
 
 -- each ticket with the reply to its message, where the messages run in this order
 abbrev pub serial_replies : Geometry → State → List (ℕ × Msg) → List (ℕ × Reply)
@@ -36,3 +36,13 @@ InOrderIfRelated g e d = are_related (path_of g e.1) (path_of g d.1) ≡ true �
 abbrev pub KeepsOrder : Geometry → List (ℕ × Msg) → Type 0
 KeepsOrder g [] = Unit {0}
 KeepsOrder g (e ∷ es) = AllByRecursion (InOrderIfRelated g e) es × KeepsOrder g es
+
+-- Run in order of their tickets, the messages get the replies that they get in the order of the list, and lead to the same state.
+pub record SameByTicket (g : Geometry) (x : State) (es : List (ℕ × Msg)) : Type 0 where
+  pub replies : serial_replies g x (by_ticket es) ≡ by_ticket (serial_replies g x es)
+  pub state : state_after_all g x (messages_of (by_ticket es)) ≡ state_after_all g x (messages_of es)
+
+-- The entries are sorted by ticket: each ticket is at most those after it.
+abbrev pub AreInOrder : {A : Type 0} → List (ℕ × A) → Type 0
+AreInOrder [] = Unit {0}
+AreInOrder (e ∷ es) = AllByRecursion (λ d. e.0 ≤ d.0) es × AreInOrder es

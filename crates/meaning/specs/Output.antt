@@ -9,7 +9,7 @@ use Rattle.protocol.specs.Lines.{lines}
 use Rattle.protocol.specs.Grammar.{message_of}
 use Rattle.protocol.specs.Replies.{reply_line, no_message}
 use Rattle.meaning.specs.State.{State}
-use Rattle.meaning.specs.Serial.{reply_to, next_state}
+use Rattle.meaning.specs.Step.{reply_to, next_state}
 
 -- the answer to a line, and the state after it, by the message that it spells
 abbrev pub answer_line : Geometry → State → Option Msg → List ℕ

@@ -1,10 +1,11 @@
 -- Statement for clients: What a server keeps. A set is the function that tests whether a key is in it, a map the one that looks a key up.
-use Rattle.std.specs.Prelude.{◌≡◌, ℕ, zero, suc, ◌+◌, ◌<◌, ◌≤◌, Bool, true, false, not, ◌&&◌, ◌||◌, ◌==◌, List, if◌then◌else◌, Option, Some, None, is_some, IfSome}
+use Rattle.std.specs.Prelude.{◌≡◌, ℕ, zero, suc, ◌+◌, ◌<◌, ◌≤◌, Bool, true, false, not, ◌&&◌, ◌||◌, ◌==◌, List, if◌then◌else◌, Option, Some, None, is_some, IfSome, slice_index}
 use Rattle.affinity.specs.declared.geometry.Geometry.{Geometry}
 use Rattle.affinity.specs.Geometry.{stripe_of}
 use Rattle.protocol.specs.declared.sizes.TheConstants.{LABEL_SIZE}
 use Rattle.protocol.specs.declared.messages.Block.{Block}
-use Rattle.protocol.specs.Messages.{IsBlock, AreSizedBytes}
+use Rattle.protocol.specs.Messages.{IsBlock, AreSizedBytes, four_numbers}
+use Rattle.protocol.specs.declared.messages.Msg.{Msg}
 
 -- ---- sets and maps
 
@@ -38,6 +39,14 @@ FileKey = ℕ × ℕ × ℕ
 
 abbrev pub BlockKey : Type 0
 BlockKey = ℕ × ℕ × ℕ × ℕ
+
+-- the key of a block by a list of four numbers: its aggregate, volume, file and number
+abbrev pub key_of : List ℕ → BlockKey
+key_of ns = (slice_index ns 0, slice_index ns 1, slice_index ns 2, slice_index ns 3)
+
+-- the key (aggregate, volume, file, block) that a message names; a number that it doesn't have is 0
+abbrev pub key : Msg → BlockKey
+key m = key_of (four_numbers m)
 
 abbrev pub is_volume : ℕ → ℕ → VolumeKey → Bool
 is_volume a v k = (a == k.0) && (v == k.1)

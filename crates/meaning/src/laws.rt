@@ -10,10 +10,11 @@ ghost use Rattle.protocol.specs.declared.replies.Refusal.{Refusal};
 ghost use Rattle.protocol.specs.declared.replies.Reply.TheVariants.{Refused};
 ghost use Rattle.protocol.specs.Messages.{path_of, IsMessage};
 ghost use Rattle.meaning.specs.State.{State, IsState, empty};
-ghost use Rattle.meaning.specs.Serial.{refusal, reply_to, next_state, state_after_all, is_recorded};
+ghost use Rattle.meaning.specs.Refusals.{refusal, is_refused};
+ghost use Rattle.meaning.specs.Step.{reply_to, next_state, state_after_all, is_recorded, recorded_of};
 ghost use Rattle.meaning.specs.Subtrees.{AgreeOn, subtree, standing};
-ghost use Rattle.meaning.specs.Order.{by_ticket, KeepsOrder};
-ghost use Rattle.meaning.specs.Laws.{outside, RunAlike, Commute, SameByTicket, is_refused, recorded_of, AreInOrder};
+ghost use Rattle.meaning.specs.Order.{by_ticket, KeepsOrder, SameByTicket, AreInOrder};
+ghost use Rattle.meaning.specs.Commute.{outside, RunAlike, Commute};
 
 /// The empty state is a possible one (`IsState`), and each message leads from a possible state to a possible one: all
 /// numbers stay in range, blocks and labels keep their lengths, and no stripe gets more blocks than its quota.

@@ -3,8 +3,8 @@ use Rattle.std.proofs.Common.{arith, ◌≡◌, ℕ, List, [], ◌++◌, Option,
 use Rattle.std.proofs.lemmas.Grind.{common_steps}
 use Rattle.std.proofs.lemmas.List.{append_cancel_left}
 use Rattle.std.specs.Io.KnownBytes.{Appends}
-use Rattle.message.specs.Waiting.{all_output}
-use Rattle.message.specs.Writing.{AppendsBeginning}
+use Rattle.message.specs.BufferedOutput.{all_output}
+use Rattle.message.specs.AppendsBeginning.{AppendsBeginning}
 
 pub none_waits : (contents : Option (List ℕ)) → all_output contents [] ≡ contents
 none_waits None = refl

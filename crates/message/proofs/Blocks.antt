@@ -13,7 +13,7 @@ use Rattle.hex.specs.declared.error.FromHexError.{FromHexError}
 use Rattle.hex.proofs.HexLemmas.{decode_of-ok}
 use Rattle.protocol.specs.declared.sizes.TheConstants.{BLOCK_SIZE, LABEL_SIZE}
 use Rattle.protocol.specs.declared.messages.Block.{Block}
-use Rattle.protocol.specs.Lines.{bytes_in_word, block_in_word, label_in_word, padded}
+use Rattle.protocol.specs.Words.{bytes_in_word, block_in_word, label_in_word, padded}
 use Rattle.message.proofs.Words.{HasNoSpace}
 
 -- w is the hexadecimal digits of `bytes`, of which there are 1 to `size`

@@ -4,7 +4,7 @@ use Rattle.std.proofs.Common.{◌≡◌, ℕ, List, Some, ap, sym, ◌∙◌, ar
 use Rattle.hex.proofs.HexLemmas.{decode_of-ok}
 use Rattle.protocol.specs.declared.sizes.TheConstants.{BLOCK_SIZE, LABEL_SIZE}
 use Rattle.protocol.specs.declared.messages.Block.{Block}
-use Rattle.protocol.specs.Lines.{bytes_in_word, block_in_word, label_in_word}
+use Rattle.protocol.specs.Words.{bytes_in_word, block_in_word, label_in_word}
 use Rattle.protocol.specs.Grammar.{SpellsBytes}
 use Rattle.message.proofs.Blocks.{bytes_parts, bytes_from, block_bytes, bytes_block, label_bytes}
 

@@ -5,7 +5,7 @@ use Rattle.std.specs.Option.{option_map}
 use Rattle.affinity.specs.declared.kinds.Kind.TheVariants.{Summary}
 use Rattle.protocol.specs.declared.messages.Block.{Block}
 use Rattle.protocol.specs.declared.messages.Msg.{Msg}
-use Rattle.protocol.specs.Lines.{words, number_in_word, block_in_word, label_in_word}
+use Rattle.protocol.specs.Words.{words, number_in_word, block_in_word, label_in_word}
 use Rattle.message.proofs.Words.{only, only-words, words_some}
 use Rattle.message.proofs.Numbers.{number_no_space}
 use Rattle.message.proofs.Blocks.{block_no_space, label_no_space}

@@ -9,7 +9,7 @@ use Rattle.std.proofs.lemmas.Slice.Eq.{bytes_eq-Decides}
 use Rattle.affinity.specs.declared.kinds.Kind.{Kind}
 use Rattle.affinity.specs.declared.kinds.Kind.TheVariants.{MakeVol, Summary}
 use Rattle.protocol.specs.declared.sizes.TheConstants.{LONGEST_LINE}
-use Rattle.protocol.specs.Lines.{words}
+use Rattle.protocol.specs.Words.{words}
 use Rattle.protocol.specs.Grammar.{message_of, of_words, of_kind, keyword, kind_named, all_kinds, ◌>>=◌}
 use Rattle.message.proofs.Words.{none_before, words_whole, goes_on}
 

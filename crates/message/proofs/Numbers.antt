@@ -12,7 +12,7 @@ use Rattle.std.proofs.lemmas.Option.{cond_some}
 use Rattle.std.proofs.lemmas.Str.Parse.{IsNumeralModel, numerals_by_value, tells_all_ascii_digits, digits_value-take-le}
 use Rattle.std.proofs.lemmas.Int.Digits.{digits_value_more}
 use Rattle.std.proofs.lemmas.Fmt.{decimal-digits_value, digits_decimal, digits_value-decimal, decimal_nonempty, first_decimal, decimal_digit}
-use Rattle.protocol.specs.Lines.{number_in_word, is_numeral}
+use Rattle.protocol.specs.Words.{number_in_word, is_numeral}
 use Rattle.message.proofs.Words.{HasNoSpace}
 
 -- the kit's model of a numeral, for words that pass `all_ascii_digits`

@@ -12,7 +12,7 @@ use Rattle.protocol.specs.declared.sizes.TheConstants.{BLOCK_SIZE, LABEL_SIZE, L
 use Rattle.protocol.specs.declared.messages.Block.{Block}
 use Rattle.protocol.specs.declared.messages.Msg.{Msg}
 use Rattle.protocol.specs.declared.messages.Msg.TheVariants.{Create, Delete, Write, Punch, Read, Summary, SetLabel}
-use Rattle.protocol.specs.Lines.{words, number_in_word, block_in_word, label_in_word}
+use Rattle.protocol.specs.Words.{words, number_in_word, block_in_word, label_in_word}
 use Rattle.protocol.specs.Messages.{kind, numbers}
 use Rattle.protocol.specs.Grammar.{message_of, of_words, of_kind, of_volume, of_file, of_block, of_data, of_label, kind_named, keyword, IsData, SpellsBytes, Spells, ◌>>=◌}
 use Rattle.message.proofs.Words.{HasNoSpace, join-words, words-join}

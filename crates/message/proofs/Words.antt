@@ -6,7 +6,8 @@ use Rattle.std.proofs.lemmas.List.{take_all, drop_more, take-append-drop}
 use Rattle.std.specs.Prelude.{if◌then◌else◌, ◌==◌}
 use Rattle.std.specs.List.{AllByRecursion, join_with_byte, slice_split}
 use Rattle.std.proofs.lemmas.List.Splits.{join_with_byte-slice_split}
-use Rattle.protocol.specs.Lines.{words, in_first}
+use Rattle.protocol.specs.Words.{words}
+use Rattle.protocol.specs.Lines.{in_first}
 
 -- no byte of the word is a space
 abbrev pub HasNoSpace : List ℕ → Type 0

@@ -5,7 +5,7 @@ use Rattle.affinity.specs.declared.kinds.Kind.TheVariants as kinds
 use Rattle.protocol.specs.declared.messages.Block.{Block}
 use Rattle.protocol.specs.declared.messages.Msg.{Msg}
 use Rattle.protocol.specs.declared.messages.Msg.TheVariants.{Write, SetLabel}
-use Rattle.protocol.specs.Lines.{block_in_word, label_in_word}
+use Rattle.protocol.specs.Words.{block_in_word, label_in_word}
 use Rattle.message.specs.declared.heads.Head.{Head}
 use Rattle.message.specs.declared.heads.Head.TheVariants.{NoMessage, WithoutData, Writes, SetsLabel}
 use Rattle.protocol.specs.Messages.{kind, four_numbers}

@@ -4,5 +4,5 @@ pub mod Numbers
 pub mod Records
 pub mod Heads
 pub mod Reader
-pub mod Waiting
-pub mod Writing
+pub mod BufferedOutput
+pub mod AppendsBeginning

@@ -4,7 +4,7 @@
 ghost use Rattle.std.specs.Prelude.{◌≡◌, ◌↔◌, [], Option, MatchOption, Some, None, unwrap_or};
 ghost use Rattle.protocol.specs.declared.messages.Msg.{Msg};
 ghost use Rattle.protocol.specs.declared.messages.Msg.TheVariants.{Write as write, SetLabel as set_label};
-ghost use Rattle.protocol.specs.Lines.{words, block_in_word, bytes_in_word, label_in_word};
+ghost use Rattle.protocol.specs.Words.{words, block_in_word, bytes_in_word, label_in_word};
 ghost use Rattle.protocol.specs.Grammar.{message_of, Spells, of_kind, of_data, of_label};
 ghost use Rattle.message.specs.Heads.{IsHead};
 ghost use Rattle.message.specs.declared.heads.Head.TheVariants.{NoMessage};

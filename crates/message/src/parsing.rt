@@ -5,7 +5,7 @@ ghost use Rattle.std.specs.Prelude.{◌≡◌, ◌≢◌, ℕ, ◌<◌, ◌≤�
 ghost use Rattle.std.specs.Str.{all_ascii_digits};
 ghost use Rattle.std.specs.Str.Parse.{digits_value};
 ghost use Rattle.protocol.specs.declared.messages.Msg.{Msg};
-ghost use Rattle.protocol.specs.Lines.{words, number_in_word, bytes_in_word};
+ghost use Rattle.protocol.specs.Words.{words, number_in_word, bytes_in_word};
 ghost use Rattle.protocol.specs.Grammar.{first_number, of_volume, of_file, of_block, kind_named};
 ghost use Rattle.protocol.specs.Messages.{filled};
 ghost use Rattle.message.specs.Numbers.{AreInFront, HasTooMuchInFront};

@@ -5,8 +5,8 @@ ghost use Rattle.std.specs.Prelude.{◌≡◌, ◌+◌, ◌≤◌, ◌⊎◌, �
 ghost use Rattle.std.specs.Io.KnownBytes.{Appends};
 ghost use Rattle.message.specs.Reader.{HoldsLine};
 ghost use Rattle.protocol.specs.Replies.{no_message, reply_line};
-ghost use Rattle.message.specs.Waiting.{FitsReply, all_output};
-ghost use Rattle.message.specs.Writing.{AppendsBeginning};
+ghost use Rattle.message.specs.BufferedOutput.{FitsReply, all_output};
+ghost use Rattle.message.specs.AppendsBeginning.{AppendsBeginning};
 ghost use Rattle.protocol.specs.declared.replies.Reply.TheVariants.{Done, Refused, Block as block_reply};
 
 use crate::line_reader::LineReader;

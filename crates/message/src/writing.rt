@@ -2,7 +2,7 @@
 
 ghost use Rattle.std.specs.Prelude.{OnErr, OnOk};
 ghost use Rattle.std.specs.Io.KnownBytes.{Appends};
-ghost use Rattle.message.specs.Writing.{AppendsBeginning};
+ghost use Rattle.message.specs.AppendsBeginning.{AppendsBeginning};
 
 use std::io::{ErrorKind, Write};
 

@@ -5,7 +5,7 @@ use Rattle.disk.specs.Device.{Medium, IsSynced}
 use Rattle.disk.proofs.Leaves.{synced_left}
 use Rattle.disk.proofs.Moments.{weaker}
 use Rattle.device_map.specs.Layout.{Layout, part_bytes, root_part, half_part, image_part, other}
-use Rattle.oplog.specs.Front.{chain, front}
+use Rattle.oplog.specs.HalfContent.{chain, front}
 use Rattle.oplog.specs.Recovery.{Decoding, named_area, current_of, run, recovers_by_area}
 use Rattle.oplog.specs.Changes.{IsSameBut, IsSameButChain, HasAppended}
 use Rattle.oplog.specs.Crash.{RecoversBy, CrashRecovers, AppendRecovers, AllRecover, ImageRecovers, ClearRecovers, ChainRecovers, ChainedRecovers, TornRootRecovers, FlipRecovers}

@@ -2,12 +2,12 @@
 use Rattle.std.proofs.Common.{ℕ, ◌+◌, ◌*◌, ◌<◌, ◌≤◌, List, length, drop, get_or, ⊎_elim, sym, ◌∙◌, ap, subst, arith}
 use Rattle.std.proofs.lemmas.Bool.{cases_lt}
 use Rattle.std.proofs.lemmas.List.{length-take-le, length-drop, get_or_past}
-use Rattle.disk.specs.Device.{AreBytes}
+use Rattle.disk.specs.CrashImages.{AreBytes}
 use Rattle.disk.proofs.Bytes.{bytes-range, byte-get_or}
 use Rattle.message.proofs.RecordLemmas.{whole_if_decoded}
 use Rattle.device_map.specs.Layout.{part_at, part_size, half_part}
 use Rattle.protocol.specs.declared.sizes.TheConstants.{RECORD_SIZE}
-use Rattle.oplog.specs.Changing.{RecordsAreBytes, BadRecordIsOfNoChange}
+use Rattle.oplog.specs.ChangeRecords.{RecordsAreBytes, BadRecordIsOfNoChange}
 use Rattle.oplog.proofs.Slices.{slice_slice, half_sized, half_inside}
 
 -- a record as a range of the device

@@ -3,14 +3,15 @@
 use Rattle.std.proofs.Common.{◌≡◌, ℕ, ◌+◌, ◌-◌, ◌*◌, ◌<◌, ◌≤◌, List, [], length, take, drop, replicate, sym, ◌∙◌, ap, subst, arith}
 use Rattle.std.proofs.lemmas.List.{length-replicate}
 use Rattle.std.specs.List.{concat}
-use Rattle.disk.specs.Device.{AreBytes, Medium, SameOutside, overlaid}
+use Rattle.disk.specs.CrashImages.{AreBytes, After}
+use Rattle.disk.specs.Device.{Medium, SameOutside, overlaid}
 use Rattle.disk.proofs.Leaves.{itself, synced_left, synced_range, range_kept}
 use Rattle.disk.proofs.Overlays.{range-overlaid, length-overlaid}
 use Rattle.device_map.specs.Layout.{Layout, slice, part_bytes, part_at, part_size, half_part, half_size, device_size}
 use Rattle.protocol.specs.declared.sizes.TheConstants.{RECORD_SIZE}
-use Rattle.oplog.specs.Front.{gates_in, count_open}
+use Rattle.oplog.specs.HalfContent.{gates_in, count_open}
 use Rattle.oplog.specs.Changes.{IsSameBut, HasAppended, HasAppendedPrefix, IsReady, HasAppendedAll}
-use Rattle.disk.specs.Store.{After, Stored}
+use Rattle.disk.specs.Store.{Stored}
 use Rattle.oplog.proofs.Slices.{within, slice_slice, same_but, same_but_both, half_sized, half_inside}
 use Rattle.oplog.proofs.RecordRows.{AreRows, length-concat}
 use Rattle.oplog.proofs.OneStore.{changed}

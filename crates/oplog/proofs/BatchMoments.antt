@@ -1,11 +1,11 @@
 -- A batch of records, call by call.
 use Rattle.std.proofs.Common.{◌≡◌, ℕ, ◌+◌, ◌<◌, ◌≤◌, List, length, replicate, subst}
 use Rattle.std.specs.List.{concat}
-use Rattle.disk.specs.Device.{AreBytes, Medium, SameOutside}
-use Rattle.disk.specs.Moments.{CrashImagesAre}
+use Rattle.disk.specs.CrashImages.{AreBytes, CrashImagesAre, After}
+use Rattle.disk.specs.Device.{Medium, SameOutside}
 use Rattle.disk.proofs.Moments.{weaker, then}
 use Rattle.device_map.specs.Layout.{Layout, part_at, half_part, device_size}
-use Rattle.disk.specs.Store.{After, Stored}
+use Rattle.disk.specs.Store.{Stored}
 use Rattle.oplog.specs.Changes.{HasAppendedPrefix, IsReady, HasAppendedAll}
 use Rattle.oplog.proofs.RecordRows.{AreRows}
 use Rattle.oplog.proofs.InHalf.{body_at}

@@ -6,7 +6,7 @@ use Rattle.disk.specs.Device.{Medium, SameOutside, Syncs, moments}
 use Rattle.disk.proofs.Calls.{after_sync}
 use Rattle.disk.proofs.Moments.{leaves_now, same, started, then, weaker}
 use Rattle.oplog.specs.Beyond.{IsSameBeyond, KeepsBeyond}
-use Rattle.disk.specs.Store.{CrashesChangeOnly}
+use Rattle.disk.specs.CrashImages.{CrashesChangeOnly}
 use Rattle.device_map.specs.Layout.{Layout, device_size}
 
 module _ (g : Layout) where

@@ -4,7 +4,7 @@ use Rattle.std.proofs.Common.{◌≡◌, ℕ, zero, suc, ◌+◌, true, List, []
 use Rattle.disk.specs.Device.{Medium, fresh_synced}
 use Rattle.disk.proofs.Leaves.{synced_left}
 use Rattle.device_map.specs.Layout.{Layout}
-use Rattle.oplog.specs.Front.{count_open, front}
+use Rattle.oplog.specs.HalfContent.{count_open, front}
 use Rattle.oplog.specs.Changes.{HasAppendedPrefix}
 use Rattle.oplog.specs.Log.{batch_count}
 use Rattle.oplog.specs.Recovery.{Decoding, named_area, current_of, in_force, recovers}

@@ -3,7 +3,7 @@ use Rattle.std.proofs.Common.{◌≡◌, ℕ, zero, suc, ◌+◌, ◌-◌, ◌�
 use Rattle.std.proofs.lemmas.Bool.{eqb-true}
 use Rattle.std.proofs.lemmas.List.{take-append-drop, drop-drop, drop-replicate, length-take}
 use Rattle.disk.specs.Device.{SameOutside}
-use Rattle.oplog.specs.Front.{count_open}
+use Rattle.oplog.specs.HalfContent.{count_open}
 
 opened_first : (gate : ℕ) (gates : List ℕ) (t : Bool) → eqb gate 1 ≡ t → take (count_open gates) gates ≡ replicate (count_open gates) 1
     → take (cond t (1 + count_open gates) 0) (gate ∷ gates) ≡ replicate (cond t (1 + count_open gates) 0) 1

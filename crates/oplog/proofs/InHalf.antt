@@ -7,7 +7,7 @@ use Rattle.disk.specs.Device.{SameOutside}
 use Rattle.disk.proofs.Outside.{same_take, same_drop, same_before}
 use Rattle.device_map.specs.Layout.{slice}
 use Rattle.protocol.specs.declared.sizes.TheConstants.{RECORD_SIZE}
-use Rattle.oplog.specs.Front.{count_open, rows, gates_in, front_in}
+use Rattle.oplog.specs.HalfContent.{count_open, rows, gates_in, front_in}
 use Rattle.oplog.proofs.Slices.{within, slice_slice}
 use Rattle.oplog.proofs.Gates.{torn_gates, full_gates, still_shut}
 use Rattle.oplog.proofs.RecordRows.{AreRows, rows_same, rows-add, rows_of}

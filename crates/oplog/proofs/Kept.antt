@@ -4,7 +4,7 @@ use Rattle.std.proofs.lemmas.Bool.{cases_eq}
 use Rattle.std.proofs.lemmas.List.{append_assoc, append-nil, drop-drop, get_or-take}
 use Rattle.device_map.specs.Layout.{Layout, part_bytes, device_size, header_part, root_part, half_part, image_part, other}
 use Rattle.protocol.specs.declared.sizes.TheConstants.{RECORD_SIZE}
-use Rattle.oplog.specs.Front.{chain, front, front_in, count_open, rows}
+use Rattle.oplog.specs.HalfContent.{chain, front, front_in, count_open, rows}
 use Rattle.oplog.specs.Recovery.{Decoding, named_area, current_of, in_force, run, is_laid_out, recovers_by_area}
 use Rattle.oplog.specs.Changes.{IsSameBut, IsSameButChain, HasAppended}
 

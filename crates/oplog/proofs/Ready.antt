@@ -5,7 +5,7 @@ use Rattle.std.proofs.lemmas.Bool.{eq-eqb}
 use Rattle.disk.specs.Device.{Medium, IsSynced}
 use Rattle.disk.proofs.Leaves.{synced_range}
 use Rattle.device_map.specs.Layout.{Layout, layout_of, part_at, part_size, half_part, other, device_size}
-use Rattle.oplog.specs.Front.{count_open, gates_in}
+use Rattle.oplog.specs.HalfContent.{count_open, gates_in}
 use Rattle.oplog.specs.Changes.{IsSameBut, IsReady, Cleared, Chained, Flipped}
 use Rattle.oplog.specs.Log.{Log, chained, flipped}
 use Rattle.disk.specs.Store.{TouchesOnly}

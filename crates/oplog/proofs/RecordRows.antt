@@ -3,7 +3,7 @@ use Rattle.std.proofs.Common.{◌≡◌, ℕ, zero, suc, ◌+◌, ◌*◌, ◌<�
 use Rattle.std.specs.List.{AllByRecursion, concat}
 use Rattle.std.proofs.lemmas.List.{take-take, drop-drop, drop-take, take_at, drop_at, append_assoc}
 use Rattle.protocol.specs.declared.sizes.TheConstants.{RECORD_SIZE}
-use Rattle.oplog.specs.Front.{rows}
+use Rattle.oplog.specs.HalfContent.{rows}
 
 -- each of them is a row
 abbrev pub AreRows : List (List ℕ) → Type 0

@@ -1,7 +1,7 @@
 -- Statement for engineers: What lies behind the last part of a device that is longer than its parts (header, root zone, halves, images).
 use Rattle.std.specs.Prelude.{◌≡◌, List, ℕ, drop}
 use Rattle.disk.specs.Device.{Medium}
-use Rattle.disk.specs.Store.{CrashesChangeOnly}
+use Rattle.disk.specs.CrashImages.{CrashesChangeOnly}
 use Rattle.device_map.specs.Layout.{Layout, device_size}
 
 -- What lies after the parts is the same.

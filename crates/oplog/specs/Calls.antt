@@ -1,12 +1,12 @@
 -- Statement for engineers: What the calls of a log ask of its device and do to it, in the words of contracts.
 use Rattle.std.specs.Prelude.{◌≡◌, ◌≤◌, ℕ, false, List, length}
 use Rattle.disk.specs.Device.{Medium}
-use Rattle.disk.specs.Moments.{CrashImagesAre}
+use Rattle.disk.specs.CrashImages.{CrashImagesAre}
 use Rattle.protocol.specs.declared.messages.Msg.{Msg}
 use Rattle.oplog.specs.declared.half.Half.{Half}
 use Rattle.device_map.specs.Layout.{layout_of, device_size}
 use Rattle.oplog.specs.Changes.{HasAppendedPrefix, HasAppendedAll, IsReady}
-use Rattle.oplog.specs.Changing.{records_of}
+use Rattle.oplog.specs.ChangeRecords.{records_of}
 use Rattle.oplog.specs.Log.{Log, layout_of_log}
 
 -- ---- what they ask

@@ -1,11 +1,11 @@
 -- Statement for engineers: How the calls of a log change the bytes of a device, and what a crash leaves while they do.
 use Rattle.std.specs.Prelude.{◌≡◌, ◌≢◌, ◌≤◌, ℕ, ◌+◌, ◌-◌, false, List, ◌++◌, length, take, drop, replicate}
-use Rattle.disk.specs.Device.{Medium, IsCrashImage, IsSynced}
-use Rattle.disk.specs.Store.{After}
+use Rattle.disk.specs.Device.{Medium, IsSynced}
+use Rattle.disk.specs.CrashImages.{IsCrashImage, After}
 use Rattle.device_map.specs.Layout.{Layout, slice, root_part, half_part, part_bytes, part_at, part_size, device_size}
 use Rattle.device_map.specs.declared.layout.TheConstants.{CHAIN_ZONE_SIZE}
 use Rattle.oplog.specs.Recovery.{named_area}
-use Rattle.oplog.specs.Front.{chain, gates, front, count_open}
+use Rattle.oplog.specs.HalfContent.{chain, gates, front, count_open}
 
 -- ---- from the bytes old to the bytes c
 

@@ -3,12 +3,11 @@
 -- on it, of whatever the crash leaves. A law about the device after the calls (`AllRecover`, `ChainedRecovers`, `FlipRecovers`) concludes
 -- `CrashRecovers`, which the next law takes: so laws can be chained.
 use Rattle.std.specs.Prelude.{◌≡◌, ◌≢◌, ◌<◌, ◌≤◌, ℕ, List, [], length, take, Option}
-use Rattle.disk.specs.Device.{Medium, IsCrashImage}
-use Rattle.disk.specs.Moments.{CrashImagesAre}
+use Rattle.disk.specs.Device.{Medium}
+use Rattle.disk.specs.CrashImages.{IsCrashImage, CrashImagesAre, After}
 use Rattle.device_map.specs.Layout.{Layout, image_part, other}
-use Rattle.oplog.specs.Front.{chain, front}
+use Rattle.oplog.specs.HalfContent.{chain, front}
 use Rattle.oplog.specs.Recovery.{Decoding, named_area, current_of, recovers_by_area, run}
-use Rattle.disk.specs.Store.{After}
 use Rattle.oplog.specs.Changes.{HasAppendedPrefix, HasAppendedAll, IsSameBut, IsSameButChainAndGates, IsSameButChain, IsSameButRoot, Chained, Flipped}
 
 module _ {S : Type 0} (decoding : Decoding S) where

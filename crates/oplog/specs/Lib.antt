@@ -1,10 +1,10 @@
 -- Definitions of a log: its front, its calls and their costs, and what a device recovers to after a crash.
-pub mod Front
+pub mod HalfContent
 pub mod Recovery
 pub mod Changes
 pub mod Log
 pub mod Halves
 pub mod Crash
-pub mod Changing
+pub mod ChangeRecords
 pub mod Calls
 pub mod Beyond

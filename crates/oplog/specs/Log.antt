@@ -8,7 +8,7 @@ use Rattle.oplog.specs.declared.halves.LogFault.{LogFault}
 use Rattle.oplog.specs.declared.halves.LogFault.TheVariants.{Device, BadRecord}
 use Rattle.device_map.specs.Layout.{Layout, layout_of, other}
 use Rattle.oplog.specs.declared.half.TheConstants.{RECORDS_PER_WRITE}
-use Rattle.oplog.specs.Changing.{IsNoChangeRecord}
+use Rattle.oplog.specs.ChangeRecords.{IsNoChangeRecord}
 
 -- how many batches of up to `RECORDS_PER_WRITE` records n records make
 abbrev pub batch_count : ℕ → ℕ

@@ -2,7 +2,7 @@
 use Rattle.std.specs.Prelude.{ℕ, Bool, not, ◌&&◌, ◌==◌, nat_le, if◌then◌else◌, List, [], ◌∷◌, ◌++◌, length, get_or, Option, Some, None}
 use Rattle.affinity.specs.declared.geometry.Geometry.{Geometry}
 use Rattle.device_map.specs.Layout.{Layout, layout_of, part_bytes, device_size, header_part, root_part, image_part, other}
-use Rattle.oplog.specs.Front.{chain, front}
+use Rattle.oplog.specs.HalfContent.{chain, front}
 
 -- the area that the root zone names: image and half of that number
 abbrev pub named_area : Layout → List ℕ → ℕ

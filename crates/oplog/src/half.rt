@@ -1,12 +1,14 @@
 //! One half of a log: where its parts lie, and how records are added to it.
 ghost use Rattle.std.specs.Prelude.{◌≡◌, ◌+◌, ◌*◌, ◌<◌, ◌≤◌, length, IfOk, OnOk, min, replicate};
 ghost use Rattle.disk.specs.Device.{IsCallInside, SameOutside, moments};
-ghost use Rattle.disk.specs.Store.{CrashesChangeOnly, Costs, Stored};
+ghost use Rattle.disk.specs.CrashImages.{CrashesChangeOnly};
+ghost use Rattle.disk.specs.Device.{Costs};
+ghost use Rattle.disk.specs.Store.{Stored};
 ghost use Rattle.oplog.specs.Log.{batch_count};
-ghost use Rattle.oplog.specs.Front.{front, count_open};
+ghost use Rattle.oplog.specs.HalfContent.{front, count_open};
 ghost use Rattle.device_map.specs.Layout.{layout_of, device_size, part_at, half_part, other};
 ghost use Rattle.oplog.specs.Changes.{IsReady};
-ghost use Rattle.oplog.specs.Changing.{AreChangesInRange};
+ghost use Rattle.oplog.specs.ChangeRecords.{AreChangesInRange};
 
 use crate::staging::stage;
 use affinity::Geometry;

@@ -3,7 +3,7 @@ ghost use Rattle.std.specs.Prelude.{◌≡◌, ◌+◌, ◌*◌, ◌<◌, ◌≤
 ghost use Rattle.disk.specs.Device.{moments};
 ghost use Rattle.protocol.specs.Messages.{IsMessage};
 ghost use Rattle.message.specs.Records.{record_of};
-ghost use Rattle.oplog.specs.Changing.{AreChangesInRange, IsChangeInRange, IsNoChangeRecord};
+ghost use Rattle.oplog.specs.ChangeRecords.{AreChangesInRange, IsChangeInRange, IsNoChangeRecord};
 
 use crate::half::{Half, RECORDS_PER_WRITE, other};
 use affinity::limits::MOST_RECORDS;
@@ -59,10 +59,11 @@ impl Model for Halves {
 
 impl Halves {
     ghost use Rattle.oplog.specs.Log.{layout_of_log, IsOfRecord, new_log, with_half_named, flipped, chained, log_after, IsLogCall, ReadsNoRecord, NamesRecord, batch_count};
-    ghost use Rattle.disk.specs.Store.{Costs, CrashesChangeOnly};
+    ghost use Rattle.disk.specs.Device.{Costs};
+    ghost use Rattle.disk.specs.CrashImages.{CrashesChangeOnly};
     ghost use Rattle.device_map.specs.Layout.{other};
     ghost use Rattle.oplog.specs.Changes.{Cleared, Chained, Flipped, IsSameButChain, IsSameButChainAndGates, IsSameButRoot};
-    ghost use Rattle.oplog.specs.Front.{front, record_at};
+    ghost use Rattle.oplog.specs.HalfContent.{front, record_at};
     ghost use Rattle.oplog.specs.Calls.{IsUsable, IsReadyFor, Grows, HasAdded};
 
     /// The log of a device that wasn't read yet: until `name`, half 0 counts as named and current, without room.

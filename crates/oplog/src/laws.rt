@@ -11,9 +11,9 @@
 ghost use Rattle.std.specs.Prelude.{◌≡◌, ◌==◌, ◌*◌, ◌<◌, ◌≤◌, ℕ, false, [], List, get_or, length};
 ghost use Rattle.affinity.specs.declared.geometry.Geometry.{Geometry};
 ghost use Rattle.oplog.specs.Crash.{AllRecover, AppendRecovers, ChainRecovers, ChainedRecovers, ClearRecovers, FlipRecovers, ImageRecovers, TornRootRecovers};
-ghost use Rattle.oplog.specs.Front.{chain, front, record_at};
+ghost use Rattle.oplog.specs.HalfContent.{chain, front, record_at};
 ghost use Rattle.device_map.specs.Layout.{Layout, layout_of};
-ghost use Rattle.oplog.specs.Changing.{BadRecordIsOfNoChange, RecordsAreBytes};
+ghost use Rattle.oplog.specs.ChangeRecords.{BadRecordIsOfNoChange, RecordsAreBytes};
 ghost use Rattle.oplog.specs.Recovery.{Decoding, named_area, records_in};
 
 /// While records are appended to the current half, a crash leaves a device that recovers to what it

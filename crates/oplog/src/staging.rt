@@ -2,7 +2,7 @@
 ghost use Rattle.std.specs.Prelude.{◌≡◌, ◌*◌, ◌≤◌, length, take};
 ghost use Rattle.std.specs.List.{concat, All, AllByRecursion};
 ghost use Rattle.message.specs.Records.{record_of, FitsRecord};
-ghost use Rattle.oplog.specs.Changing.{records_of};
+ghost use Rattle.oplog.specs.ChangeRecords.{records_of};
 
 use device_map::RECORD_SIZE;
 use message::encode;

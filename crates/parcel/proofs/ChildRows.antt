@@ -5,7 +5,8 @@ use Rattle.std.specs.List.{AllByRecursion}
 use Rattle.std.proofs.lemmas.Bool.{eqb-true, eq-eqb, true≢false}
 use Rattle.std.proofs.lemmas.List.{get_or-set_same, get_or-set_other}
 use Rattle.affinity.specs.Path.{Path}
-use Rattle.parcel.specs.Fits.{EachFits, IsWholeChild}
+use Rattle.parcel.specs.Fits.{EachFits}
+use Rattle.parcel.specs.Whole.{IsWholeChild}
 use Rattle.parcel.specs.Nodes.{Node, Nodes, child_nodes, children_nodes, PutsBack}
 
 -- ---- each of a row fits

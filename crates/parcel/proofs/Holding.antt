@@ -1,6 +1,5 @@
 -- What was lent and run can be put back, and a tree agrees with the serial server's state while parcels are out at several places.
-use Rattle.std.proofs.Common.{arith}
-use Rattle.std.proofs.Common.{◌≡◌, Bool, true, false, [], ◌∷◌, refl, sym, ap, subst, ◌∙◌, ⊎_elim}
+use Rattle.std.proofs.Common.{arith, ◌≡◌, Bool, true, false, [], ◌∷◌, refl, sym, ap, subst, ◌∙◌, ⊎_elim}
 use Rattle.std.specs.Prelude.{◌||◌, not, Option, None, Some, is_some}
 use Rattle.std.proofs.lemmas.Bool.{cond-false, cond-true, false_from_ne_true, not_from_false, not-true, or_cases, or_left, or_parts, or_right, true≢false}
 use Rattle.affinity.specs.declared.geometry.Geometry.{Geometry}
@@ -10,17 +9,18 @@ use Rattle.affinity.proofs.Placed.{IsPath-path_of_kind}
 use Rattle.protocol.specs.declared.messages.Msg.{Msg}
 use Rattle.protocol.specs.Messages.{path_of, is_in_range, kind, four_numbers, IsMessage}
 use Rattle.meaning.specs.State.{State, IsState}
-use Rattle.meaning.specs.Serial.{reply_to, next_state}
+use Rattle.meaning.specs.Step.{reply_to, next_state}
 use Rattle.meaning.specs.Subtrees.{AgreeOn}
-use Rattle.meaning.specs.Laws.{outside}
+use Rattle.meaning.specs.Commute.{outside}
 use Rattle.meaning.proofs.Agree.{agree-sym, agree-trans, agree_either, agree_everywhere, agree_within}
 use Rattle.meaning.proofs.Frame.{changes_only}
 use Rattle.meaning.proofs.Kept.{step_kept}
 use Rattle.parcel.specs.Fits.{Fits}
-use Rattle.parcel.specs.Holding.{TreeHolds, IsApart, IsJobOut, nowhere, with_place}
+use Rattle.parcel.specs.TreeHolds.{TreeHolds, IsApart, IsJobOut, nowhere, with_place}
 use Rattle.parcel.specs.Nodes.{Node, Nodes, parcels_nodes, tree_state}
-use Rattle.parcel.specs.Run.{JobView, IsJobRun, Shows}
-use Rattle.parcel.specs.RunLaws.{CanBeRestored, LendsJob, job_place}
+use Rattle.parcel.specs.JobRun.{JobView, IsJobRun}
+use Rattle.parcel.specs.Shown.{Shows}
+use Rattle.parcel.specs.LentJob.{CanBeRestored, LendsJob, job_place}
 use Rattle.parcel.specs.Tree.{IsIn, HasGap, IsOut, LendsAt, RestoresAt}
 use Rattle.parcel.specs.declared.job.Done.{Done}
 use Rattle.parcel.specs.declared.parts.Parcels.{Parcels}

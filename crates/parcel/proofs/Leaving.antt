@@ -4,8 +4,9 @@ use Rattle.std.specs.Prelude.{◌&&◌, ◌==◌, None, if◌then◌else◌}
 use Rattle.std.proofs.lemmas.Bool.{cond-false, not-true, true≢false}
 use Rattle.affinity.specs.declared.geometry.Geometry.{Geometry}
 use Rattle.affinity.specs.Path.{Path, is_prefix}
-use Rattle.meaning.specs.Subtrees.{Fact, OfMade, OfSealed, OfLabel, OfFile, OfBlock, Value, value, path_in_volume, AgreeOn}
-use Rattle.meaning.specs.Laws.{outside}
+use Rattle.meaning.specs.Facts.{Fact, OfMade, OfSealed, OfLabel, OfFile, OfBlock, Value, value, path_in_volume}
+use Rattle.meaning.specs.Subtrees.{AgreeOn}
+use Rattle.meaning.specs.Commute.{outside}
 use Rattle.parcel.specs.Nodes.{Node, Nodes, node_made, node_sealed, node_has_file, node_block, node_label, tree_state, put_at, TakesOut, PutsBack}
 
 -- what a node says of a fact; the state of the nodes says it of them all

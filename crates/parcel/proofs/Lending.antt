@@ -7,7 +7,7 @@ use Rattle.affinity.specs.declared.geometry.Geometry.{Geometry}
 use Rattle.affinity.specs.Path.{Path, is_prefix, IsPath}
 use Rattle.parcel.specs.Fits.{Fits, IsKindOf}
 use Rattle.parcel.specs.Nodes.{Node, Nodes, child_nodes, children_nodes, leaf, stripe_nodes, label_nodes, logical_nodes, volume_nodes, aggregate_nodes, root_nodes, parcels_nodes, put_at, PutsBack}
-use Rattle.parcel.specs.Parts.{TakesParcels, Puts}
+use Rattle.parcel.specs.TakesAndPuts.{TakesParcels, Puts}
 use Rattle.parcel.specs.Tree.{LendsAt, RestoresAt, standing_at}
 use Rattle.parcel.specs.declared.parts.Vol.{Vol}
 use Rattle.parcel.specs.declared.parts.Root.{Root}

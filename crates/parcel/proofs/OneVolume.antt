@@ -13,9 +13,10 @@ use Rattle.protocol.specs.declared.replies.Reply.{Reply}
 use Rattle.protocol.specs.declared.replies.Reply.TheVariants.{Refused}
 use Rattle.protocol.specs.Messages.{is_in_range}
 use Rattle.meaning.specs.State.{State, blocks_in_stripe}
-use Rattle.meaning.specs.Serial.{refusal, effect, accepted_reply, reply_and_state}
-use Rattle.parcel.specs.Run.{IsSerialStep}
-use Rattle.parcel.specs.Steps.{guard, guard_open}
+use Rattle.meaning.specs.Refusals.{refusal}
+use Rattle.meaning.specs.Step.{effect, accepted_reply, reply_and_state}
+use Rattle.parcel.specs.JobRun.{IsSerialStep}
+use Rattle.parcel.specs.VolumeStep.{guard, guard_open}
 use Rattle.parcel.specs.Volume.{VolumeFacts, facts_if, one_volume}
 
 -- ---- a step, by its refusal

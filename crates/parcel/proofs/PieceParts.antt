@@ -14,17 +14,19 @@ use Rattle.protocol.specs.Replies.{has_file}
 use Rattle.stripe.specs.Entries.{IsStripePiece}
 use Rattle.image.specs.Pieces.{block_in, piece_count, aggregate_of, volume_of as volume_number}
 use Rattle.image.proofs.Numbers.{in_aggregates, in_volumes}
-use Rattle.parcel.specs.Fits.{FitsLogical, FitsVolume, FitsAggregate, FitsRoot, IsWholeChild, IsWholeLogical, IsWholeVolume, IsWholeAggregate, IsWholeRoot}
+use Rattle.parcel.specs.Fits.{FitsLogical, FitsVolume, FitsAggregate, FitsRoot}
+use Rattle.parcel.specs.Whole.{IsWholeChild, IsWholeLogical, IsWholeVolume, IsWholeAggregate, IsWholeRoot}
 use Rattle.parcel.specs.Lends.{aggregate_of_tree, volume_of_tree}
 use Rattle.parcel.specs.Nodes.{Nodes, child_nodes, volume_nodes, root_nodes, tree_state}
-use Rattle.parcel.specs.Pieces.{HasFacts, IsPieceOfVolumeRead, spelled, decoded_piece, volume_with}
+use Rattle.parcel.specs.Volume.{HasFacts}
+use Rattle.parcel.specs.Pieces.{IsPieceOfVolumeRead, spelled, decoded_piece, volume_with}
 use Rattle.parcel.specs.Shown.{volume_facts, files_in, blocks_below, blocks_of, shown_label}
 use Rattle.parcel.specs.Tree.{TreeView, IsWellFormed, IsWholeTree, IsIn}
 use Rattle.parcel.specs.declared.parts.Logical.{Logical}
 use Rattle.parcel.specs.declared.parts.Vol.{Vol}
 use Rattle.parcel.specs.declared.parts.Aggr.{Aggr}
 use Rattle.parcel.specs.declared.parts.Root.{Root}
-use Rattle.meaning.specs.Subtrees.{OfFile}
+use Rattle.meaning.specs.Facts.{OfFile}
 use Rattle.parcel.proofs.Leaving.{tree_value}
 use Rattle.parcel.proofs.Shows.{holds_same, volume_holds}
 use Rattle.parcel.proofs.ChildRows.{child_whole_at}

@@ -1,6 +1,5 @@
 -- A piece was read into the tree: the tree's state is the one before, with that piece taken in.
-use Rattle.std.proofs.Common.{arith}
-use Rattle.std.proofs.Common.{◌≡◌, ℕ, zero, suc, Bool, true, false, ◌&&◌, List, [], ◌∷◌, Option, Some, None, is_some, refl, sym, ◌∙◌, ap, subst}
+use Rattle.std.proofs.Common.{arith, ◌≡◌, ℕ, zero, suc, Bool, true, false, ◌&&◌, List, [], ◌∷◌, Option, Some, None, is_some, refl, sym, ◌∙◌, ap, subst}
 use Rattle.std.specs.Prelude.{◌↔◌, ◌==◌, if◌then◌else◌, IfSome, IsTrue}
 use Rattle.meaning.proofs.Keys.{picks_volume}
 use Rattle.affinity.specs.Geometry.{stripe_of}
@@ -8,8 +7,9 @@ use Rattle.affinity.specs.Path.{is_prefix, volume, IsPath}
 use Rattle.affinity.specs.declared.geometry.Geometry.{Geometry}
 use Rattle.protocol.specs.Messages.{AreSizedBytes}
 use Rattle.protocol.specs.Replies.{has_file}
-use Rattle.meaning.specs.Laws.{outside}
-use Rattle.meaning.specs.Subtrees.{OfMade, OfSealed, OfLabel, OfFile, OfBlock, AgreeOn}
+use Rattle.meaning.specs.Commute.{outside}
+use Rattle.meaning.specs.Facts.{OfMade, OfSealed, OfLabel, OfFile, OfBlock}
+use Rattle.meaning.specs.Subtrees.{AgreeOn}
 use Rattle.meaning.specs.State.{State, IsState}
 use Rattle.meaning.proofs.Agree.{agree-sym, agree-trans}
 use Rattle.meaning.proofs.SubtreeLaws.{agree_in_and_out}
@@ -18,10 +18,10 @@ use Rattle.image.specs.Pieces.{part_piece, piece_part_size, with_part, is_made_i
 use Rattle.parcel.specs.Fits.{FitsRoot}
 use Rattle.parcel.specs.Lends.{volume_of_tree, with_volume}
 use Rattle.parcel.specs.Nodes.{Nodes, child_nodes, logical_nodes, volume_nodes, root_nodes, node_files, tree_state, PutsBack}
-use Rattle.parcel.specs.Pieces.{HasFacts, IsPieceOfVolumeRead, facts_with}
+use Rattle.parcel.specs.Pieces.{IsPieceOfVolumeRead, facts_with}
 use Rattle.parcel.specs.Shown.{volume_facts, files_in}
 use Rattle.parcel.specs.Tree.{IsIn}
-use Rattle.parcel.specs.Volume.{VolumeFacts}
+use Rattle.parcel.specs.Volume.{VolumeFacts, HasFacts}
 use Rattle.parcel.specs.declared.parts.Logical.{Logical}
 use Rattle.parcel.specs.declared.parts.Root.{Root}
 use Rattle.parcel.specs.declared.parts.Vol.{Vol}

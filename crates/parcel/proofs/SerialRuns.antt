@@ -6,17 +6,17 @@ use Rattle.affinity.specs.declared.geometry.Geometry.{Geometry}
 use Rattle.affinity.specs.Path.{Path, is_prefix, are_related, IsPath}
 use Rattle.protocol.specs.Messages.{path_of, IsMessage}
 use Rattle.meaning.specs.State.{State, IsState}
-use Rattle.meaning.specs.Serial.{next_state}
+use Rattle.meaning.specs.Step.{next_state}
 use Rattle.meaning.specs.Subtrees.{AgreeOn, subtree, standing}
-use Rattle.meaning.specs.Laws.{outside}
+use Rattle.meaning.specs.Commute.{outside}
 use Rattle.meaning.proofs.Agree.{agree-sym, agree-trans, agree_within}
 use Rattle.meaning.proofs.Frame.{reads_only, changes_only}
 use Rattle.meaning.proofs.Kept.{step_kept}
 use Rattle.meaning.proofs.SubtreeLaws.{agree_in_and_out, part_from_agree}
 use Rattle.parcel.specs.Nodes.{Nodes, parcels_nodes, tree_state}
-use Rattle.parcel.specs.Run.{JobView, IsJobRun, IsSerialStep, Shows}
-use Rattle.parcel.specs.RunLaws.{IsLentOf, IsSerialStepOf, LendsRunsRestores}
-use Rattle.parcel.specs.Shown.{shown_state}
+use Rattle.parcel.specs.JobRun.{JobView, IsJobRun, IsSerialStep}
+use Rattle.parcel.specs.LentJob.{IsLentOf, IsSerialStepOf, LendsRunsRestores}
+use Rattle.parcel.specs.Shown.{shown_state, Shows}
 use Rattle.parcel.specs.Tree.{IsIn}
 use Rattle.parcel.specs.declared.job.Done.{Done}
 use Rattle.parcel.specs.declared.parts.Parcels.{Parcels}

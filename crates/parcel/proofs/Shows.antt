@@ -1,19 +1,18 @@
 -- Parcels show what the nodes at their path and below it hold, and the standing what the nodes above hold.
-use Rattle.std.proofs.Common.{arith}
-use Rattle.std.proofs.Common.{◌≡◌, ℕ, zero, suc, Bool, true, [], ◌∷◌, ◌++◌, Option, refl, sym, ap, ◌∙◌}
+use Rattle.std.proofs.Common.{arith, ◌≡◌, ℕ, zero, suc, Bool, true, [], ◌∷◌, ◌++◌, Option, refl, sym, ap, ◌∙◌}
 use Rattle.std.specs.Prelude.{◌==◌, None, Some, slice_index_or}
 use Rattle.std.proofs.lemmas.Bool.{and_parts, eqb-true, eq-eqb, true≢false}
 use Rattle.affinity.specs.declared.geometry.Geometry.{Geometry}
 use Rattle.affinity.specs.Geometry.{stripe_of}
 use Rattle.affinity.specs.Path.{Path, is_prefix, are_related}
-use Rattle.meaning.specs.Subtrees.{Fact, OfMade, OfSealed, OfLabel, OfFile, OfBlock, path_in_volume, AgreeOn}
+use Rattle.meaning.specs.Facts.{Fact, OfMade, OfSealed, OfLabel, OfFile, OfBlock, path_in_volume}
+use Rattle.meaning.specs.Subtrees.{AgreeOn}
 use Rattle.stripe.specs.Stripe.{StripePart}
 use Rattle.parcel.specs.Volume.{VolumeFacts, fact_of, facts_if, state_with, one_volume}
-use Rattle.parcel.specs.Shown.{has_file, blocks_in, stripe_facts, logical_facts, label_facts, files_in, blocks_below, shown_label, volume_facts, child_facts, shown_state}
+use Rattle.parcel.specs.Shown.{has_file, blocks_in, stripe_facts, logical_facts, label_facts, files_in, blocks_below, shown_label, volume_facts, child_facts, shown_state, Shows}
 use Rattle.parcel.specs.Fits.{IsKindOf}
 use Rattle.parcel.specs.Nodes.{Node, Nodes, child_nodes, stripe_nodes, label_nodes, logical_nodes, volume_nodes, parcels_nodes, node_made, node_sealed, node_has_file, node_files, node_block, node_label, tree_state}
 use Rattle.parcel.specs.Nodes.Node.{Inner, VolumeFlags, Files, StripeBlocks, LabelBytes}
-use Rattle.parcel.specs.Run.{Shows}
 use Rattle.parcel.specs.Tree.{standing_at}
 use Rattle.parcel.specs.declared.parts.Label.{Label}
 use Rattle.parcel.specs.declared.parts.Logical.{Logical}

@@ -4,8 +4,9 @@ use Rattle.std.specs.Prelude.{if◌then◌else◌, Option, is_some, IfSome}
 use Rattle.std.specs.List.{AllByRecursion}
 use Rattle.affinity.specs.declared.geometry.Geometry.{Geometry}
 use Rattle.protocol.specs.declared.messages.Block.{Block}
-use Rattle.parcel.specs.Dropping.{Removes}
-use Rattle.parcel.specs.Fits.{FitsStripe, EachFits, IsWholeChild}
+use Rattle.parcel.specs.Removes.{Removes}
+use Rattle.parcel.specs.Fits.{FitsStripe, EachFits}
+use Rattle.parcel.specs.Whole.{IsWholeChild}
 use Rattle.parcel.specs.Shown.{blocks_in}
 use Rattle.stripe.specs.Stripe.{StripePart, content_at}
 

@@ -7,10 +7,11 @@ use Rattle.std.proofs.lemmas.List.{append-nil}
 use Rattle.affinity.specs.Path.{Path, is_prefix, aggregate, volume, logical, stripe, label, IsPath}
 use Rattle.affinity.specs.declared.geometry.Geometry.{Geometry}
 use Rattle.stripe.specs.Stripe.{StripePart}
-use Rattle.parcel.specs.Fits.{Fits, FitsStripe, FitsLogical, FitsVolume, FitsAggregate, FitsRoot, IsKindOf, IsWholeLogical, IsWholeVolume, IsWholeAggregate, IsWholeRoot}
+use Rattle.parcel.specs.Fits.{Fits, FitsStripe, FitsLogical, FitsVolume, FitsAggregate, FitsRoot, IsKindOf}
+use Rattle.parcel.specs.Whole.{IsWholeLogical, IsWholeVolume, IsWholeAggregate, IsWholeRoot}
 use Rattle.parcel.specs.Lends.{aggregate_of_tree, volume_of_tree, logical_of_tree, with_aggregate, with_volume, with_logical}
 use Rattle.parcel.specs.Nodes.{Nodes, child_nodes, parcels_nodes, stripe_nodes, label_nodes, root_nodes, put_at}
-use Rattle.parcel.specs.Parts.{TakesWhole, TakesAt, Fills, PutsAt}
+use Rattle.parcel.specs.TakesAndPuts.{TakesWhole, TakesAt, Fills, PutsAt}
 use Rattle.parcel.specs.Tree.{IsOut}
 use Rattle.parcel.specs.declared.parts.Logical.{Logical}
 use Rattle.parcel.specs.declared.parts.Vol.{Vol}

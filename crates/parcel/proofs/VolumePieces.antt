@@ -12,13 +12,15 @@ use Rattle.device_map.specs.Layout.{slice}
 use Rattle.protocol.specs.declared.sizes.TheConstants.{LABEL_SIZE}
 use Rattle.protocol.specs.Messages.{AreSizedBytes}
 use Rattle.protocol.specs.declared.messages.Block.{Block}
-use Rattle.meaning.specs.Serial.{file_bits, no_label}
+use Rattle.meaning.specs.Step.{file_bits, no_label}
 use Rattle.meaning.specs.State.{State, VolumeKey, FileKey, BlockKey, IsState, is_volume, sum_below, one_if}
-use Rattle.meaning.specs.Subtrees.{OfMade, OfSealed, OfLabel, OfFile}
+use Rattle.meaning.specs.Facts.{OfMade, OfSealed, OfLabel, OfFile}
 use Rattle.image.specs.Pieces.{volume_piece, label_bytes, is_made_in, is_sealed_in, has_file_in, with_volume_piece}
-use Rattle.parcel.specs.Fits.{FitsLogical, FitsVolume, IsWholeChild, IsWholeLogical, IsWholeVolume}
+use Rattle.parcel.specs.Fits.{FitsLogical, FitsVolume}
+use Rattle.parcel.specs.Whole.{IsWholeChild, IsWholeLogical, IsWholeVolume}
 use Rattle.parcel.specs.Nodes.{child_nodes, logical_nodes, node_files}
-use Rattle.parcel.specs.Pieces.{HasFacts, spelled, decoded_label, decoded_piece, volume_piece_of, volume_with, facts_with}
+use Rattle.parcel.specs.Volume.{HasFacts}
+use Rattle.parcel.specs.Pieces.{spelled, decoded_label, decoded_piece, volume_piece_of, volume_with, facts_with}
 use Rattle.parcel.specs.Shown.{volume_facts, files_in}
 use Rattle.parcel.specs.declared.parts.Logical.{Logical}
 use Rattle.parcel.specs.declared.parts.Vol.{Vol}

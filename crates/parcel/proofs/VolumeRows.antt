@@ -9,11 +9,12 @@ use Rattle.affinity.specs.declared.geometry.Geometry.{Geometry}
 use Rattle.protocol.specs.declared.messages.Msg.TheVariants.{MakeVol, DropVol}
 use Rattle.protocol.specs.declared.replies.Refusal.TheVariants.{Range, Exists}
 use Rattle.protocol.specs.Messages.{is_in_range}
-use Rattle.meaning.specs.Serial.{refusal, effect, no_label}
+use Rattle.meaning.specs.Refusals.{refusal}
+use Rattle.meaning.specs.Step.{effect, no_label}
 use Rattle.meaning.specs.State.{State}
 use Rattle.parcel.specs.Fits.{FitsAggregate, FitsVolume}
 use Rattle.parcel.specs.Shown.{aggregate_facts, child_facts, volume_facts}
-use Rattle.parcel.specs.Steps.{guard, guard_open}
+use Rattle.parcel.specs.VolumeStep.{guard, guard_open}
 use Rattle.parcel.specs.Totals.{with_made}
 use Rattle.parcel.specs.Volume.{VolumeFacts, no_facts, facts_if, state_with}
 use Rattle.parcel.specs.declared.parts.Aggr.{Aggr}

@@ -6,7 +6,8 @@ use Rattle.affinity.specs.Path.{Path, aggregate, volume, logical, stripe, label,
 use Rattle.affinity.specs.declared.geometry.Geometry.{Geometry}
 use Rattle.affinity.proofs.Preorder.{aggregate_there, volume_there}
 use Rattle.stripe.specs.Stripe.{StripePart}
-use Rattle.parcel.specs.Fits.{EachFits, Fits, FitsLogical, FitsVolume, FitsAggregate, FitsRoot, FitsStripe, IsWholeChild, IsWholeLogical, IsWholeVolume, IsWholeAggregate, IsWholeRoot}
+use Rattle.parcel.specs.Fits.{EachFits, Fits, FitsLogical, FitsVolume, FitsAggregate, FitsRoot, FitsStripe}
+use Rattle.parcel.specs.Whole.{IsWholeChild, IsWholeLogical, IsWholeVolume, IsWholeAggregate, IsWholeRoot}
 use Rattle.parcel.specs.Nodes.{Nodes, child_nodes, parcels_nodes, stripe_nodes, label_nodes, logical_nodes, volume_nodes, aggregate_nodes, root_nodes}
 use Rattle.parcel.specs.declared.parts.Label.{Label}
 use Rattle.parcel.specs.declared.parts.Logical.{Logical}

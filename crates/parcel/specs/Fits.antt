@@ -1,6 +1,5 @@
 -- Statement for engineers: Which parcels belong at a path of a geometry.
-use Rattle.std.specs.Prelude.{◌≡◌, ℕ, zero, suc, ◌<◌, ◌^◌, true, List, [], ◌∷◌, length, Option, Some, None, is_some, IfSome}
-use Rattle.std.specs.List.{AllByRecursion}
+use Rattle.std.specs.Prelude.{◌≡◌, ℕ, zero, suc, ◌<◌, ◌^◌, true, List, [], ◌∷◌, length, Option, is_some, IfSome}
 use Rattle.affinity.specs.declared.geometry.Geometry.{Geometry}
 use Rattle.affinity.specs.Geometry.{stripe_of}
 use Rattle.affinity.specs.Path.{Path}
@@ -13,6 +12,7 @@ use Rattle.parcel.specs.declared.parts.Aggr.{Aggr}
 use Rattle.parcel.specs.declared.parts.Root.{Root}
 use Rattle.parcel.specs.declared.parts.Parcels.{Parcels}
 use Rattle.parcel.specs.declared.parts.Parcels.TheVariants as parcels
+use Rattle.parcel.specs.Whole.{IsWholeLogical, IsWholeVolume, IsWholeAggregate, IsWholeRoot}
 
 -- The parcel fits as stripe s: it has the quota of the geometry, and each of its blocks is in range and lies in stripe s.
 pub record FitsStripe (g : Geometry) (s : ℕ) (p : StripePart) : Type 0 where
@@ -41,25 +41,6 @@ pub record FitsAggregate (g : Geometry) (r : Aggr) : Type 0 where
 pub record FitsRoot (g : Geometry) (r : Root) : Type 0 where
   pub count : length r.aggregates.items ≡ g.aggregates
   pub aggregates : EachFits (λ a. FitsAggregate g) 0 r.aggregates.items
-
--- ---- whole: nothing below is out
-
--- The child is in, and nothing below it is out.
-abbrev pub IsWholeChild : {X : Type 0} → (X → Type 0) → Option X → Type 0
-IsWholeChild IsWhole None = ⊥
-IsWholeChild IsWhole (Some x) = IsWhole x
-
-abbrev pub IsWholeLogical : Logical → Type 0
-IsWholeLogical l = AllByRecursion (IsWholeChild (λ p. Unit {0})) l.stripes.items
-
-abbrev pub IsWholeVolume : Vol → Type 0
-IsWholeVolume w = IsWholeChild IsWholeLogical w.logical × IsWholeChild (λ l. Unit {0}) w.label
-
-abbrev pub IsWholeAggregate : Aggr → Type 0
-IsWholeAggregate r = AllByRecursion (IsWholeChild IsWholeVolume) r.volumes.items
-
-abbrev pub IsWholeRoot : Root → Type 0
-IsWholeRoot r = AllByRecursion (IsWholeChild IsWholeAggregate) r.aggregates.items
 
 -- ---- parcels at a path
 

@@ -9,16 +9,15 @@ use Rattle.stripe.specs.Entries.{IsStripePiece}
 use Rattle.stripe.specs.Stripe.{StripePart}
 use Rattle.device_map.specs.Layout.{slice}
 use Rattle.meaning.specs.State.{State, IsState}
-use Rattle.meaning.specs.Serial.{no_label}
-use Rattle.meaning.specs.Subtrees.{Fact, value}
-use Rattle.image.specs.Pieces.{aggregate_of, volume_of, part_of, piece_count, piece_of, piece_size, with_piece}
-use Rattle.image.specs.Pieces.{is_made_in, is_sealed_in, has_file_in, label_in as decoded_label_in, block_in, part_piece, volume_bytes, with_part}
+use Rattle.meaning.specs.Step.{no_label}
+use Rattle.image.specs.Pieces.{aggregate_of, volume_of, part_of, piece_count, piece_of, piece_size, with_piece, is_made_in, is_sealed_in, has_file_in, label_in as decoded_label_in, block_in, part_piece, volume_bytes, with_part}
 use Rattle.image.specs.declared.layout.TheConstants.{VERSION}
-use Rattle.parcel.specs.Fits.{FitsStripe, FitsVolume, IsWholeChild, IsWholeVolume}
+use Rattle.parcel.specs.Fits.{FitsStripe, FitsVolume}
+use Rattle.parcel.specs.Whole.{IsWholeChild, IsWholeVolume}
 use Rattle.parcel.specs.Nodes.{volume_nodes, node_files}
 use Rattle.parcel.specs.Shown.{blocks_in, volume_facts, shown_label}
 use Rattle.parcel.specs.Tree.{TreeView, IsWholeTree, state_in}
-use Rattle.parcel.specs.Volume.{VolumeFacts, fact_of}
+use Rattle.parcel.specs.Volume.{VolumeFacts, HasFacts}
 use Rattle.parcel.specs.declared.parts.Logical.{Logical}
 use Rattle.parcel.specs.declared.parts.Vol.{Vol}
 use Rattle.parcel.specs.declared.pieces.volumes.VolumePiece.{VolumePiece}
@@ -57,10 +56,6 @@ volume_with p w = record {
   logical = option_map (λ (l : Logical). record l { files = p.files }) w.logical;
   label = Some (record { bytes = if p.made then Some p.label else None });
 }
-
--- Volume v of aggregate a has these facts in state x.
-abbrev pub HasFacts : State → ℕ → ℕ → VolumeFacts → Type 0
-HasFacts x a v h = (fact : Fact) → value x a v fact ≡ fact_of h fact
 
 -- what the volume has once these bytes were taken in as its piece, or as that of one of its stripes
 abbrev pub facts_with : ℕ → Geometry → VolumeFacts → ℕ → List ℕ → VolumeFacts

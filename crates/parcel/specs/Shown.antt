@@ -4,10 +4,11 @@ use Rattle.std.specs.Prelude.{ℕ, Bool, false, ◌==◌, List, [], ◌∷◌, s
 use Rattle.std.specs.Option.{option_and_then, option_map_or}
 use Rattle.affinity.specs.declared.geometry.Geometry.{Geometry}
 use Rattle.affinity.specs.Geometry.{stripe_of}
-use Rattle.affinity.specs.Path.{Path}
+use Rattle.affinity.specs.Path.{Path, are_related}
 use Rattle.protocol.specs.declared.messages.Block.{Block}
 pub use Rattle.protocol.specs.Replies.{has_file}
 use Rattle.meaning.specs.State.{State}
+use Rattle.meaning.specs.Subtrees.{AgreeOn}
 use Rattle.stripe.specs.Stripe.{StripePart, content_at}
 use Rattle.parcel.specs.Volume.{VolumeFacts, no_facts, facts_if, state_with, one_volume}
 use Rattle.parcel.specs.declared.parts.Label.{Label}
@@ -88,3 +89,8 @@ shown_state g p t (parcels.Logical l) = one_volume (path_aggregate p) (path_volu
 shown_state g p t (parcels.Vol w) = one_volume (path_aggregate p) (path_volume p) (volume_facts g w)
 shown_state g p t (parcels.Aggr r) = state_with (λ a v. facts_if (path_aggregate p == a) (aggregate_facts g r v))
 shown_state g p t (parcels.Root r) = state_with (root_facts g r)
+
+-- The parcels and the standing show what a state has at a path: the parcels what lies there and below, the standing what is seen of the
+-- nodes above.
+abbrev pub Shows : Geometry → Path → Standing → Parcels → State → Type 0
+Shows g p t parcels x = AgreeOn g (are_related p) (shown_state g p t parcels) x

@@ -4,7 +4,7 @@ use Rattle.std.specs.Option.{option_map_or}
 use Rattle.affinity.specs.declared.geometry.Geometry.{Geometry}
 use Rattle.protocol.specs.declared.messages.Block.{Block}
 use Rattle.meaning.specs.State.{sum_below, count_below, one_if}
-use Rattle.meaning.specs.Serial.{no_label}
+use Rattle.meaning.specs.Step.{no_label}
 use Rattle.stripe.specs.Stripe.{StripePart}
 use Rattle.parcel.specs.Volume.{VolumeFacts}
 use Rattle.parcel.specs.declared.running.totals.Totals.{Totals}

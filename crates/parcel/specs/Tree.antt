@@ -6,8 +6,7 @@ use Rattle.meaning.specs.State.{State, IsState}
 use Rattle.parcel.specs.Fits.{Fits, FitsRoot, IsKindOf}
 use Rattle.parcel.specs.Nodes.{Nodes, child_nodes, root_nodes, parcels_nodes, node_made, node_sealed, node_files, tree_state, TakesOut, PutsBack}
 use Rattle.meaning.specs.Subtrees.{AgreeOn}
-use Rattle.parcel.specs.Run.{Shows}
-use Rattle.parcel.specs.Shown.{shown_state}
+use Rattle.parcel.specs.Shown.{shown_state, Shows}
 use Rattle.parcel.specs.declared.parts.Root.{Root}
 use Rattle.parcel.specs.declared.parts.Parcels.{Parcels}
 use Rattle.parcel.specs.declared.parts.Standing.{Standing}

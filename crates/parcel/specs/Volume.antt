@@ -1,8 +1,8 @@
 -- Statement for engineers: The facts of a volume (what can be asked of it), and the state that has given facts for each volume.
-use Rattle.std.specs.Prelude.{ℕ, Bool, true, false, ◌&&◌, ◌==◌, List, Option, None}
+use Rattle.std.specs.Prelude.{ℕ, Bool, true, false, ◌&&◌, ◌==◌, List, Option, None, ◌≡◌}
 use Rattle.protocol.specs.declared.messages.Block.{Block}
 use Rattle.meaning.specs.State.{State}
-use Rattle.meaning.specs.Subtrees.{Fact, OfMade, OfSealed, OfLabel, OfFile, OfBlock, Value}
+use Rattle.meaning.specs.Facts.{Fact, OfMade, OfSealed, OfLabel, OfFile, OfBlock, Value, value}
 
 -- what one volume has
 pub record VolumeFacts : Type 0 where
@@ -42,3 +42,7 @@ state_with h = record {
 -- the state in which volume v of aggregate a has these facts, and no other volume has anything
 abbrev pub one_volume : ℕ → ℕ → VolumeFacts → State
 one_volume a v h = state_with (λ x y. facts_if ((a == x) && (v == y)) h)
+
+-- Volume v of aggregate a has these facts in state x.
+abbrev pub HasFacts : State → ℕ → ℕ → VolumeFacts → Type 0
+HasFacts x a v h = (fact : Fact) → value x a v fact ≡ fact_of h fact

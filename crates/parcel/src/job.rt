@@ -18,7 +18,7 @@ pub struct Job {
 }
 
 impl Model for Job {
-    ghost use Rattle.parcel.specs.Run.{JobView};
+    ghost use Rattle.parcel.specs.JobRun.{JobView};
     ghost use Rattle.parcel.specs.Fits.{IsRunnable};
 
     ghost Value = { JobView };
@@ -35,7 +35,7 @@ impl Model for Job {
 }
 
 impl Job {
-    ghost use Rattle.parcel.specs.Run.{JobView};
+    ghost use Rattle.parcel.specs.JobRun.{JobView};
 
     /// The job of a message that is in range, on the parcels of its place, with its standing: what it sees of the nodes above.
     pub fn new(g: Geometry, ticket: u64, msg: Msg, s: Standing, p: Parcels) -> Job

@@ -4,8 +4,10 @@ ghost use Rattle.std.specs.Prelude.{◌≡◌, ◌<◌, ◌≤◌, ℕ, length, 
 ghost use Rattle.image.specs.Pieces.{part_piece, piece_part_size};
 ghost use Rattle.image.specs.Pieces.{piece_count, piece_of, piece_size};
 ghost use Rattle.meaning.specs.State.{State, IsState};
-ghost use Rattle.parcel.specs.Fits.{FitsVolume, IsWholeVolume};
-ghost use Rattle.parcel.specs.Pieces.{HasFacts, IsPieceOfVolumeRead, CanReadPiece, ReadsPiece};
+ghost use Rattle.parcel.specs.Fits.{FitsVolume};
+ghost use Rattle.parcel.specs.Whole.{IsWholeVolume};
+ghost use Rattle.parcel.specs.Volume.{HasFacts};
+ghost use Rattle.parcel.specs.Pieces.{IsPieceOfVolumeRead, CanReadPiece, ReadsPiece};
 ghost use Rattle.parcel.specs.Shown.{volume_facts};
 ghost use Rattle.parcel.specs.Tree.{IsWholeTree, state_in};
 

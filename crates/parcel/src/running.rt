@@ -1,7 +1,7 @@
 //! Runs a message on its parcels: for each kind a small function at the level where it runs.
 
 ghost use Rattle.parcel.specs.Fits.{IsRunnable};
-ghost use Rattle.parcel.specs.Run.{IsJobRun, IsStepOn};
+ghost use Rattle.parcel.specs.JobRun.{IsJobRun, IsStepOn};
 
 mod at_aggregate;
 mod at_label;

@@ -2,7 +2,7 @@
 ghost use Rattle.std.specs.Prelude.{◌≡◌, true};
 ghost use Rattle.protocol.specs.Messages.{is_in_range};
 ghost use Rattle.parcel.specs.Tree.{IsWholeTree, state_in};
-ghost use Rattle.meaning.specs.Serial.{next_state, reply_to};
+ghost use Rattle.meaning.specs.Step.{next_state, reply_to};
 
 use crate::{Job, Tree, run};
 use affinity::place_of;

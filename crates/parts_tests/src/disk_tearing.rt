@@ -1,5 +1,5 @@
 //! What each kind of crash leaves.
-ghost use Rattle.disk.specs.Torn.{HasPattern};
+ghost use Rattle.disk.specs.CrashImages.{HasPattern};
 
 use crate::assertions::assert_equal;
 use crate::disk_calls::{Call, answers};

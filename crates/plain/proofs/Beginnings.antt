@@ -6,8 +6,8 @@ use Rattle.std.specs.Io.KnownBytes.{Appends}
 use Rattle.std.specs.List.{AllByRecursion}
 use Rattle.affinity.specs.declared.geometry.Geometry.{Geometry}
 use Rattle.protocol.specs.Lines.{lines}
-use Rattle.message.specs.Waiting.{all_output}
-use Rattle.message.specs.Writing.{AppendsBeginning}
+use Rattle.message.specs.BufferedOutput.{all_output}
+use Rattle.message.specs.AppendsBeginning.{AppendsBeginning}
 use Rattle.message.proofs.Beginnings.{begins_all, begins_longer}
 use Rattle.meaning.specs.State.{State}
 use Rattle.meaning.specs.Output.{AnswersWholeLines, HasNoNewline, IsBeginning, WritesOutput, joined, output_lines, serial_output, with_newlines}

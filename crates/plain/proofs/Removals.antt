@@ -7,7 +7,7 @@ use Rattle.affinity.specs.declared.geometry.Geometry.{Geometry}
 use Rattle.affinity.specs.Geometry.{stripe_of}
 use Rattle.protocol.specs.declared.messages.Msg.TheVariants.{Punch}
 use Rattle.meaning.specs.State.{State, BlockKey, is_block, is_block_of, is_block_of_file, one_if, blocks_in_stripe}
-use Rattle.meaning.specs.Serial.{effect}
+use Rattle.meaning.specs.Step.{effect}
 use Rattle.plain.specs.Server.{StripeKey, is_stripe}
 use Rattle.meaning.specs.Removals.{without_blocks}
 use Rattle.meaning.proofs.Keys.{the_block, picks_file, picks_block}

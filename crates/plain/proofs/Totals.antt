@@ -9,7 +9,7 @@ use Rattle.protocol.specs.Replies.{has_file}
 use Rattle.plain.specs.declared.server.Server.{Server}
 use Rattle.plain.specs.declared.server.Volume.{Volume}
 use Rattle.meaning.specs.State.{State, Map, VolumeKey, BlockKey, IsState, one_if, sum_below, count_below, file_count, block_count, sum_over_volumes}
-use Rattle.meaning.specs.Serial.{file_bits}
+use Rattle.meaning.specs.Step.{file_bits}
 use Rattle.meaning.specs.KeyOrders.{volume_order, block_order}
 use Rattle.plain.specs.Server.{server_state, state_of, volume_has_file}
 use Rattle.meaning.proofs.FileBits.{few_bits}

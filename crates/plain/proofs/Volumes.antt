@@ -1,14 +1,13 @@
 -- What the state is where the volume at one key changes.
-use Rattle.std.proofs.Common.{arith}
+use Rattle.std.proofs.Common.{arith, ◌≡◌, ℕ, ◌<◌, Bool, true, false, cond, List, ap, sym, ◌∙◌}
 use Rattle.std.proofs.lemmas.Grind.{common_steps}
-use Rattle.std.proofs.Common.{◌≡◌, ℕ, ◌<◌, Bool, true, false, cond, List, ap, sym, ◌∙◌}
 use Rattle.std.specs.Prelude.{◌&&◌, ◌||◌, ◌==◌, not, if◌then◌else◌, Option, None, Some}
 use Rattle.std.specs.BTreeMap.{is_at}
 use Rattle.protocol.specs.declared.messages.Block.{Block}
 use Rattle.protocol.specs.declared.messages.Msg.TheVariants.{MakeVol, Create, Seal, Unseal, SetLabel}
 use Rattle.protocol.specs.Replies.{has_file}
 use Rattle.meaning.specs.State.{Map, VolumeKey, FileKey, BlockKey, dropping, clearing, is_volume, is_file, is_file_of}
-use Rattle.meaning.specs.Serial.{effect, no_label}
+use Rattle.meaning.specs.Step.{effect, no_label}
 use Rattle.meaning.specs.KeyOrders.{volume_order}
 use Rattle.meaning.proofs.FileBits.{with_bit, with_bit_has}
 use Rattle.plain.specs.declared.server.Volume.{Volume}

@@ -1,14 +1,13 @@
 -- A block that is put into a file, and what the stripes have after it.
-use Rattle.std.proofs.Common.{arith}
+use Rattle.std.proofs.Common.{arith, ◌≡◌, ℕ, ◌+◌, ◌<◌, true, false, sym, ◌∙◌}
 use Rattle.std.proofs.lemmas.Grind.{common_steps}
-use Rattle.std.proofs.Common.{◌≡◌, ℕ, ◌+◌, ◌<◌, true, false, sym, ◌∙◌}
 use Rattle.std.specs.Prelude.{is_some}
 use Rattle.affinity.specs.declared.geometry.Geometry.{Geometry}
 use Rattle.affinity.specs.Geometry.{stripe_of}
 use Rattle.protocol.specs.declared.messages.Block.{Block}
 use Rattle.protocol.specs.declared.messages.Msg.TheVariants.{Write}
 use Rattle.meaning.specs.State.{State, BlockKey, one_if, blocks_in_stripe}
-use Rattle.meaning.specs.Serial.{effect}
+use Rattle.meaning.specs.Step.{effect}
 use Rattle.plain.specs.Server.{StripeKey, is_stripe}
 use Rattle.plain.proofs.ServerCounts.{same_counts, one_more}
 

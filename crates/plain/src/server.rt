@@ -5,7 +5,7 @@ ghost use Rattle.affinity.specs.Kind.{is_changing};
 ghost use Rattle.message.specs.Heads.{IsWithoutData, labeling, message_without_data, writing};
 ghost use Rattle.affinity.specs.declared.geometry.Geometry.{Geometry};
 ghost use Rattle.meaning.specs.State.{empty};
-ghost use Rattle.meaning.specs.Serial.{done_or_refused, reply_to, next_state};
+ghost use Rattle.meaning.specs.Step.{done_or_refused, reply_to, next_state};
 ghost use Rattle.plain.specs.Server.{server_state, IsConsistent};
 
 use affinity::{Geometry, Kind, is_in_range};

@@ -6,7 +6,8 @@ use Rattle.hex.proofs.OnLiterals.{hex_on_literals}
 use Rattle.protocol.specs.declared.replies.Refusal.TheVariants.{Range, Volume, Exists, Sealed, File, Space}
 use Rattle.protocol.specs.declared.messages.Msg.TheVariants.{MakeVol, DropVol, Create, Delete, Seal, Unseal, Write, Punch, Read, List as ListFiles, Usage as AskUsage, Summary as AskSummary, SetLabel, Label as AskLabel}
 use Rattle.protocol.specs.declared.replies.Reply.TheVariants.{Done, Hole, Block as Found, Files, Usage, Summary, Refused, Label}
-use Rattle.protocol.specs.Lines.{lines, number_in_word, block_in_word, label_in_word, bytes_in_word}
+use Rattle.protocol.specs.Lines.{lines}
+use Rattle.protocol.specs.Words.{number_in_word, block_in_word, label_in_word, bytes_in_word}
 use Rattle.protocol.specs.Grammar.{message_of, kind_named}
 use Rattle.protocol.specs.Replies.{reply_line, no_message, shown, files_text}
 use Rattle.protocol.specs.FirstLine.{first_line, behind_first_line}

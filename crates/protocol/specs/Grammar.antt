@@ -9,7 +9,7 @@ use Rattle.affinity.specs.declared.kinds.Kind.TheVariants as kinds
 use Rattle.protocol.specs.declared.messages.Block.{Block}
 use Rattle.protocol.specs.declared.messages.Msg.{Msg}
 use Rattle.protocol.specs.declared.messages.Msg.TheVariants.{MakeVol, DropVol, Create, Delete, Seal, Unseal, Write, Punch, Read, List as ListFiles, Usage, Summary, SetLabel, Label}
-use Rattle.protocol.specs.Lines.{words, number_in_word, block_in_word, label_in_word, padded}
+use Rattle.protocol.specs.Words.{words, number_in_word, block_in_word, label_in_word, padded}
 use Rattle.protocol.specs.Messages.{kind, numbers}
 use Rattle.protocol.specs.declared.sizes.TheConstants.{BLOCK_SIZE, LABEL_SIZE, LONGEST_LINE}
 

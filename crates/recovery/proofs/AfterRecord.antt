@@ -7,11 +7,11 @@ use Rattle.std.proofs.lemmas.Slice.Eq.{bytes_eq-Decides}
 use Rattle.affinity.specs.declared.geometry.Geometry.{Geometry}
 use Rattle.affinity.specs.Kind.{is_changing}
 use Rattle.recovery.specs.declared.fault.OpenFault.TheVariants as faults
-use Rattle.recovery.specs.Loading.{IsConsistentFault, fault_of_log, record_fault}
+use Rattle.recovery.specs.OpenFaults.{IsConsistentFault, fault_of_log, record_fault}
 use Rattle.recovery.specs.Recovery.{after_record, apply_decoded, is_record_there}
 use Rattle.recovery.specs.Refusals.{fault_if}
 use Rattle.protocol.specs.declared.sizes.TheConstants.{RECORD_SIZE}
-use Rattle.disk.specs.Device.{AreBytes}
+use Rattle.disk.specs.CrashImages.{AreBytes}
 use Rattle.protocol.specs.declared.messages.Msg.{Msg}
 use Rattle.protocol.specs.declared.replies.Reply.{Reply}
 use Rattle.protocol.specs.declared.replies.Reply.TheVariants.{Done}
@@ -21,9 +21,9 @@ use Rattle.message.proofs.RecordLemmas.{record_says}
 use Rattle.oplog.specs.declared.halves.LogFault.{LogFault}
 use Rattle.oplog.specs.declared.halves.LogFault.TheVariants.{Device, BadRecord}
 use Rattle.oplog.specs.Log.{NamesRecord, IsOfRecord}
-use Rattle.oplog.specs.Changing.{IsChangeInRange, IsNoChangeRecord}
+use Rattle.oplog.specs.ChangeRecords.{IsChangeInRange, IsNoChangeRecord}
 use Rattle.oplog.proofs.BadRecords.{no_record_says_none}
-use Rattle.meaning.specs.Serial.{is_done, is_recorded, next_state, reply_to}
+use Rattle.meaning.specs.Step.{is_done, is_recorded, next_state, reply_to}
 use Rattle.meaning.specs.State.{State}
 
 not_done : (r : Reply) → (r ≡ Done → ⊥) → is_done r ≡ false

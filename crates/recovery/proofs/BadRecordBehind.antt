@@ -7,16 +7,18 @@ use Rattle.affinity.specs.declared.geometry.Geometry.{Geometry}
 use Rattle.recovery.specs.declared.fault.OpenFault.{OpenFault}
 use Rattle.recovery.specs.declared.fault.OpenFault.TheVariants.{BadVersion, BadPiece, BadRecord}
 use Rattle.recovery.specs.Header.{HasHeader, header_of, is_header}
-use Rattle.recovery.specs.Loading.{IsConsistentFault, NamedHolds, image_fault, records_fault}
+use Rattle.recovery.specs.OpenFaults.{IsConsistentFault, image_fault, records_fault}
+use Rattle.recovery.specs.Loading.{NamedHolds}
 use Rattle.recovery.specs.Recovery.{decoding, recovered_state}
 use Rattle.recovery.specs.Refusals.{IsRefused, fault_if, fault_or_later, first_bad_piece, first_bad_record, refused}
 use Rattle.recovery.proofs.Refused.{alone_count, alone_ran, alone_sound, behind, both_count, both_ran, both_sound, named_sound, not_refused, one_not, other_refused, past_chain, records_refused, recovers_for}
 use Rattle.recovery.proofs.Replays.{same_bytes}
 use Rattle.recovery.proofs.PiecesWalked.{image_bytes, no_bad_piece}
-use Rattle.disk.specs.Device.{AreBytes, Medium, moments}
+use Rattle.disk.specs.CrashImages.{AreBytes}
+use Rattle.disk.specs.Device.{Medium, moments}
 use Rattle.image.specs.Image.{image_state}
 use Rattle.image.proofs.Walk.{read_is_good}
-use Rattle.oplog.specs.Front.{chain, front}
+use Rattle.oplog.specs.HalfContent.{chain, front}
 use Rattle.device_map.specs.Layout.{device_size, header_part, image_part, layout_of, other, part_bytes}
 use Rattle.oplog.specs.Recovery.{in_force, is_laid_out, named_area, run}
 use Rattle.oplog.proofs.Kept.{named_area-below}

@@ -4,7 +4,7 @@ use Rattle.std.proofs.lemmas.List.{length-replicate, replicate-append-replicate,
 use Rattle.disk.specs.Device.{Medium, SameOutside, overlaid}
 use Rattle.disk.proofs.Moments.{leaves_now, started, then, weaker}
 use Rattle.disk.proofs.Outside.{same_all, same_both, wider}
-use Rattle.disk.specs.Store.{CrashesChangeOnly}
+use Rattle.disk.specs.CrashImages.{CrashesChangeOnly}
 
 -- What changes in a range changes in a wider one.
 pub changed_within : {w0 w1 : Medium} {a k at n : ℕ} → a ≤ at → at + n ≤ a + k → CrashesChangeOnly w0 w1 (SameOutside at n) → CrashesChangeOnly w0 w1 (SameOutside a k)

@@ -14,7 +14,7 @@ use Rattle.protocol.specs.declared.replies.Reply.TheVariants.{Summary}
 use Rattle.protocol.specs.declared.messages.Msg.TheVariants.{Summary as AskSummary}
 use Rattle.message.specs.Records.{data_of, message_in_fields, kind_numbered}
 use Rattle.device_map.specs.Layout.{layout_of, device_size, image_size}
-use Rattle.meaning.specs.Serial.{reply_to}
+use Rattle.meaning.specs.Step.{reply_to}
 use Rattle.meaning.specs.State.{State}
 
 header_of_small : header_of small ≡ 1 ∷ 87 ∷ 65 ∷ 70 ∷ 70 ∷ 83 ∷ 82 ∷ 86 ∷ 1 ∷ 0 ∷ 1 ∷ 0 ∷ 2 ∷ 0 ∷ 1 ∷ 0 ∷ 2 ∷ 0 ∷ 4 ∷ 0 ∷ 2 ∷ 0 ∷ 4 ∷ 0 ∷ replicate 40 0

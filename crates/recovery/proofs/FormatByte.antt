@@ -7,12 +7,12 @@ use Rattle.recovery.specs.Recovery.{recovered_state}
 use Rattle.recovery.specs.Version.{named_version}
 use Rattle.recovery.proofs.LaidOut.{IsAllButFormatByte, headed, headed_kept, holds_empty, torn_open, version_empty}
 use Rattle.recovery.proofs.Unformatted.{shut_unformatted, still_shut}
-use Rattle.disk.specs.Device.{Medium, IsCrashImage, SameOutside}
-use Rattle.disk.specs.Moments.{CrashImagesAre}
+use Rattle.disk.specs.Device.{Medium, SameOutside}
+use Rattle.disk.specs.CrashImages.{IsCrashImage, CrashImagesAre, CrashesChangeOnly}
 use Rattle.disk.proofs.Leaves.{synced_left}
 use Rattle.disk.proofs.Moments.{then, weaker}
 use Rattle.disk.proofs.Overlays.{item-overlaid, length-overlaid, overlaid_outside}
-use Rattle.disk.specs.Store.{CrashesChangeOnly, Stored}
+use Rattle.disk.specs.Store.{Stored}
 use Rattle.device_map.specs.Layout.{device_size, layout_of}
 use Rattle.meaning.specs.State.{empty}
 

@@ -4,15 +4,16 @@ use Rattle.std.proofs.lemmas.Bool.{and_parts, cases_Bool, cond-true, cond-false,
 use Rattle.std.proofs.lemmas.Slice.Eq.{bytes_eq-Decides}
 use Rattle.affinity.specs.declared.geometry.Geometry.{Geometry}
 use Rattle.recovery.specs.Header.{HasHeader, header_of, is_header}
-use Rattle.recovery.specs.Loading.{are_both_chained, image_fault}
+use Rattle.recovery.specs.Loading.{are_both_chained}
+use Rattle.recovery.specs.OpenFaults.{image_fault}
 use Rattle.recovery.specs.Recovery.{recovered_state, decoding}
 use Rattle.recovery.specs.Refusals.{refused}
 use Rattle.recovery.proofs.BadRecordBehind.{image_fine}
 use Rattle.recovery.proofs.OneGeometry.{laid_where}
 use Rattle.recovery.proofs.Refused.{in_force_fault, alone_sound, both_sound, not_refused}
-use Rattle.disk.specs.Device.{AreBytes}
+use Rattle.disk.specs.CrashImages.{AreBytes}
 use Rattle.image.specs.Image.{image_state}
-use Rattle.oplog.specs.Front.{chain, front}
+use Rattle.oplog.specs.HalfContent.{chain, front}
 use Rattle.device_map.specs.Layout.{Layout, layout_of, device_size, header_part, image_part, other, part_bytes}
 use Rattle.oplog.specs.Recovery.{in_force, is_laid_out, named_area, run}
 use Rattle.oplog.proofs.Kept.{named_area-below, run-append}

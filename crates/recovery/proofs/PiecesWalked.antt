@@ -7,9 +7,9 @@ use Rattle.affinity.specs.declared.geometry.Geometry.{Geometry}
 use Rattle.affinity.specs.Geometry.{stripe_of}
 use Rattle.recovery.specs.declared.fault.OpenFault.{OpenFault}
 use Rattle.recovery.specs.declared.fault.OpenFault.TheVariants.{BadPiece}
-use Rattle.recovery.specs.Loading.{IsConsistentFault}
+use Rattle.recovery.specs.OpenFaults.{IsConsistentFault}
 use Rattle.recovery.specs.Refusals.{fault_or_later, first_bad, first_bad_piece}
-use Rattle.disk.specs.Device.{AreBytes}
+use Rattle.disk.specs.CrashImages.{AreBytes}
 use Rattle.disk.proofs.Bytes.{bytes-range, bytes_by_recursion}
 use Rattle.image.specs.Image.{AreGood, has_head, is_good, is_version, piece_in, image_state, decoded_before, version_in}
 use Rattle.image.specs.Pieces.{aggregate_of, block_in, part_of, piece_at, piece_count, piece_of, piece_size, volume_of, volume_piece_number, with_part, with_piece}

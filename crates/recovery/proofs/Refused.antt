@@ -7,12 +7,13 @@ use Rattle.affinity.specs.declared.geometry.Geometry.{Geometry}
 use Rattle.recovery.specs.declared.fault.OpenFault.{OpenFault}
 use Rattle.recovery.specs.declared.fault.OpenFault.TheVariants.{Device, TooShort, NotFormatted, BadGeometry, OutOfMemory, BadVersion, BadPiece, BadChain, BadRecord}
 use Rattle.recovery.specs.Header.{HasHeader, header_of, is_header}
-use Rattle.recovery.specs.Loading.{IsConsistentFault, IsOfHalf, IsOfHeader, are_both_chained, image_fault, records_fault}
+use Rattle.recovery.specs.OpenFaults.{IsConsistentFault, IsOfHalf, IsOfHeader, image_fault, records_fault}
+use Rattle.recovery.specs.Loading.{are_both_chained}
 use Rattle.recovery.specs.Recovery.{after_record, recovered_state, decoding}
 use Rattle.recovery.specs.Refusals.{HasHeaderAndParts, IsRefused, fault_if, fault_or_later, first_bad_piece, first_bad_record, refused}
 use Rattle.recovery.proofs.Replays.{fault_from}
 use Rattle.image.specs.Image.{has_head, image_state}
-use Rattle.oplog.specs.Front.{chain, front}
+use Rattle.oplog.specs.HalfContent.{chain, front}
 use Rattle.device_map.specs.Layout.{Layout, layout_of, device_size, header_part, image_part, other, part_bytes}
 use Rattle.oplog.specs.Recovery.{in_force, is_laid_out, named_area, run}
 use Rattle.oplog.proofs.Kept.{run-append}

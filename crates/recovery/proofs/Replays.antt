@@ -5,11 +5,11 @@ use Rattle.std.proofs.lemmas.List.{drop_more}
 use Rattle.affinity.specs.declared.geometry.Geometry.{Geometry}
 use Rattle.recovery.specs.declared.fault.OpenFault.{OpenFault}
 use Rattle.recovery.specs.declared.fault.OpenFault.TheVariants.{Device, NotFormatted, BadGeometry, OutOfMemory, BadRecord}
-use Rattle.recovery.specs.Loading.{IsConsistentFault, record_fault, records_fault}
+use Rattle.recovery.specs.OpenFaults.{IsConsistentFault, record_fault, records_fault}
 use Rattle.recovery.specs.Recovery.{after_record, decoding}
 use Rattle.recovery.specs.Refusals.{fault_if, fault_or_later, first_bad_record}
 use Rattle.disk.specs.Device.{Medium, Moment, moments}
-use Rattle.oplog.specs.Front.{front, record_at}
+use Rattle.oplog.specs.HalfContent.{front, record_at}
 use Rattle.device_map.specs.Layout.{Layout}
 use Rattle.oplog.specs.Log.{Log, layout_of_log}
 use Rattle.oplog.specs.Recovery.{run}

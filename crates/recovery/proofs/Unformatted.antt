@@ -4,13 +4,13 @@ use Rattle.std.proofs.lemmas.Bool.{cases_eq}
 use Rattle.std.proofs.lemmas.List.{get_or-take}
 use Rattle.recovery.specs.Formatting.{HasNoFormatByte, StaysUnformatted}
 use Rattle.recovery.specs.Refusals.{IsUnformatted}
-use Rattle.disk.specs.Device.{AreBytes, Medium, IsCrashImage, IsSynced, SameOutside, synced}
-use Rattle.disk.specs.Moments.{CrashImagesAre}
+use Rattle.disk.specs.CrashImages.{AreBytes, IsCrashImage, CrashImagesAre, CrashesChangeOnly}
+use Rattle.disk.specs.Device.{Medium, IsSynced, SameOutside, synced}
 use Rattle.disk.proofs.Leaves.{synced_left, itself}
 use Rattle.disk.proofs.Moments.{started, then, weaker}
 use Rattle.disk.proofs.Outside.{same_item}
 use Rattle.disk.proofs.Overlays.{item-overlaid, length-overlaid}
-use Rattle.disk.specs.Store.{CrashesChangeOnly, Stored}
+use Rattle.disk.specs.Store.{Stored}
 
 -- lists that differ at most in their first item, and have the same first item, are equal
 pub same_first : (xs ys : List ℕ) → SameOutside 0 1 xs ys → get_or ys 0 0 ≡ get_or xs 0 0 → ys ≡ xs

@@ -3,7 +3,8 @@ use Rattle.std.specs.Prelude.{◌≡◌, ◌≢◌, ◌⊎◌, ◌+◌, ◌-◌,
 use Rattle.affinity.specs.declared.geometry.Geometry.{Geometry}
 use Rattle.recovery.specs.Recovery.{recovered_state}
 use Rattle.recovery.specs.Refusals.{IsUnformatted}
-use Rattle.disk.specs.Device.{Medium, IsCrashImage}
+use Rattle.disk.specs.Device.{Medium}
+use Rattle.disk.specs.CrashImages.{IsCrashImage}
 use Rattle.device_map.specs.Layout.{slice, layout_of, part_at, half_part, image_part, image_size}
 use Rattle.device_map.specs.declared.layout.TheConstants.{HEADER_SIZE, ROOT_ZONE_SIZE, CHAIN_ZONE_SIZE}
 use Rattle.image.specs.declared.layout.TheConstants.{VERSION}

@@ -4,5 +4,6 @@ pub mod Recovery
 pub mod Refusals
 pub mod Formatting
 pub mod Loading
+pub mod OpenFaults
 pub mod Shown
 pub mod Version

@@ -9,7 +9,7 @@ use Rattle.protocol.specs.Messages.{is_in_range}
 use Rattle.message.specs.Records.{message_in_fields, record_of}
 use Rattle.device_map.specs.Layout.{layout_of}
 use Rattle.oplog.specs.Recovery.{Decoding, recovers}
-use Rattle.meaning.specs.Serial.{is_recorded, next_state, reply_to}
+use Rattle.meaning.specs.Step.{is_recorded, next_state, reply_to}
 use Rattle.meaning.specs.State.{State}
 
 -- The bytes are the record of the message, which is in range, changing, and carried out in this state.

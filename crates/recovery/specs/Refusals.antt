@@ -7,7 +7,7 @@ use Rattle.recovery.specs.Header.{HasHeader, magic}
 use Rattle.recovery.specs.Recovery.{after_record, decoding}
 use Rattle.image.specs.Image.{has_head, is_good, image_state}
 use Rattle.image.specs.Pieces.{piece_count}
-use Rattle.oplog.specs.Front.{chain, front}
+use Rattle.oplog.specs.HalfContent.{chain, front}
 use Rattle.device_map.specs.Layout.{layout_of, part_bytes, device_size, image_part, other}
 use Rattle.device_map.specs.declared.layout.TheConstants.{HEADER_SIZE, ROOT_ZONE_SIZE}
 use Rattle.oplog.specs.Recovery.{named_area, run}

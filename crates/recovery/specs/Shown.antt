@@ -8,7 +8,7 @@ use Rattle.image.specs.Image.{version_in}
 use Rattle.protocol.specs.declared.messages.Msg.TheVariants.{Summary}
 use Rattle.device_map.specs.Layout.{layout_of, image_part, part_bytes}
 use Rattle.oplog.specs.Recovery.{in_force, named_area}
-use Rattle.meaning.specs.Serial.{reply_to}
+use Rattle.meaning.specs.Step.{reply_to}
 use Rattle.meaning.specs.State.{State}
 
 -- This is what a device with these bytes holds: it isn't refused, and recovers to a state of which the summary is reported.

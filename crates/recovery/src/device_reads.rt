@@ -1,10 +1,11 @@
 //! Reads of a device: any range, a chain byte, and the head of an image.
 ghost use Rattle.std.specs.Prelude.{◌≡◌, ◌+◌, ◌<◌, ◌≤◌, ◌==◌, not, true, None, length, IfErr, IfOk, OnOk};
 ghost use Rattle.recovery.specs.declared.fault.OpenFault.TheVariants.{BadVersion, Device};
-ghost use Rattle.recovery.specs.Loading.{IsReadingCall, IsConsistentFault};
+ghost use Rattle.recovery.specs.Loading.{IsReadingCall};
+ghost use Rattle.recovery.specs.OpenFaults.{IsConsistentFault};
 ghost use Rattle.recovery.specs.Refusals.{fault_if};
 ghost use Rattle.image.specs.Image.{has_head, is_version, version_in};
-ghost use Rattle.oplog.specs.Front.{chain};
+ghost use Rattle.oplog.specs.HalfContent.{chain};
 ghost use Rattle.device_map.specs.Layout.{device_size, image_part, layout_of, part_bytes, slice};
 
 use crate::OpenFault;

@@ -1,7 +1,7 @@
 //! Why a device can't be formatted or opened.
 ghost use Rattle.std.specs.Prelude.{◌≡◌};
 ghost use Rattle.recovery.specs.declared.fault.OpenFault.TheVariants.{OutOfMemory};
-ghost use Rattle.recovery.specs.Loading.{fault_of_log};
+ghost use Rattle.recovery.specs.OpenFaults.{fault_of_log};
 
 use disk::Disk;
 use oplog::LogFault;

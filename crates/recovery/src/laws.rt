@@ -4,7 +4,7 @@ ghost use Rattle.affinity.specs.declared.geometry.Geometry.{Geometry};
 ghost use Rattle.recovery.specs.Header.{HasHeader};
 ghost use Rattle.recovery.specs.Recovery.{recovered_state};
 ghost use Rattle.recovery.specs.Refusals.{refused};
-ghost use Rattle.disk.specs.Device.{AreBytes};
+ghost use Rattle.disk.specs.CrashImages.{AreBytes};
 ghost use Rattle.meaning.specs.State.{State};
 
 /// A device that recovers to a state isn't refused.

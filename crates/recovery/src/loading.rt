@@ -2,10 +2,11 @@
 ghost use Rattle.std.specs.Prelude.{◌≡◌, ◌*◌, ◌<◌, ◌≤◌, ◌==◌, false, None, Some, length, IfErr, IfOk, OnOk};
 ghost use Rattle.recovery.specs.declared.fault.OpenFault.TheVariants.{BadChain, OutOfMemory};
 ghost use Rattle.recovery.specs.Header.{HasHeader};
-ghost use Rattle.recovery.specs.Loading.{IsReadingCall, IsConsistentFault, IsOfHalf, NamedHolds, are_both_chained, image_fault};
+ghost use Rattle.recovery.specs.Loading.{IsReadingCall, NamedHolds, are_both_chained};
+ghost use Rattle.recovery.specs.OpenFaults.{IsConsistentFault, IsOfHalf, image_fault};
 ghost use Rattle.recovery.specs.Refusals.{IsRefused, fault_if};
 ghost use Rattle.image.specs.Image.{image_state, version_in};
-ghost use Rattle.oplog.specs.Front.{chain, front};
+ghost use Rattle.oplog.specs.HalfContent.{chain, front};
 ghost use Rattle.device_map.specs.Layout.{device_size, image_part, layout_of, part_bytes};
 ghost use Rattle.device_map.specs.declared.layout.TheConstants.{BLOCK_ENTRY_SIZE};
 ghost use Rattle.oplog.specs.Log.{new_log, with_half_named};

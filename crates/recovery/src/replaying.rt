@@ -1,9 +1,10 @@
 //! The records of a half, run on a tree.
 ghost use Rattle.std.specs.Prelude.{◌≡◌, ◌<◌, ◌≤◌, Some, length, IfOk, IfErr, OnOk};
-ghost use Rattle.recovery.specs.Loading.{IsReadingCall, IsConsistentFault, record_fault, records_fault};
+ghost use Rattle.recovery.specs.Loading.{IsReadingCall};
+ghost use Rattle.recovery.specs.OpenFaults.{IsConsistentFault, record_fault, records_fault};
 ghost use Rattle.recovery.specs.Recovery.{after_record, decoding};
 ghost use Rattle.oplog.specs.Calls.{IsUsable};
-ghost use Rattle.oplog.specs.Front.{front, record_at};
+ghost use Rattle.oplog.specs.HalfContent.{front, record_at};
 ghost use Rattle.oplog.specs.Log.{layout_of_log};
 ghost use Rattle.oplog.specs.Recovery.{run};
 ghost use Rattle.parcel.specs.Tree.{IsWholeTree, state_in};

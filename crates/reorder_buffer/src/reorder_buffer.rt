@@ -1,7 +1,7 @@
 //! The reorder buffer of the lines that were read and not retired yet (taken out, with the answer put into the reply buffer), oldest first.
 
 ghost use Rattle.std.specs.Prelude.{◌≡◌, ◌<◌, ◌≤◌, ◌+◌, ◌++◌, ◌∷◌, [], IfOk, MatchBool, MatchOption, ℕ, drop, length, map};
-ghost use Rattle.message.specs.Waiting.{FitsReply};
+ghost use Rattle.message.specs.BufferedOutput.{FitsReply};
 ghost use Rattle.reorder_buffer.specs.ReorderBuffer.{Line, complete_one, HaveTicketsFrom, AreConsecutive, HasTicket, IsAnsweredAt, can_retire, retired_text, with_tickets};
 
 use message::ReplyBuffer;

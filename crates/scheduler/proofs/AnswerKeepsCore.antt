@@ -11,13 +11,12 @@ use Rattle.affinity.specs.Interval.{contains}
 use Rattle.affinity.specs.declared.geometry.Geometry.{Geometry}
 use Rattle.histories.proofs.Lists.{all_back, all_front}
 use Rattle.histories.proofs.Sound.{answer_sound}
-use Rattle.histories.specs.Laws.{AreUnrelated}
-use Rattle.histories.specs.CoreState.{entries, are_related_entries}
+use Rattle.histories.specs.CoreState.{entries, are_related_entries, AreUnrelated}
 use Rattle.protocol.specs.Messages.{path_of}
 use Rattle.scheduler.proofs.UnloggedChanges.{AreClaimed, HasHeld}
 use Rattle.scheduler.proofs.Tests.{any_answered, any_filter}
-use Rattle.scheduler.specs.Parts.{IsCore, IsPlaced, Parts, entry_of, replied_of, queued_of, core_state_in}
-use Rattle.scheduler.specs.Slots.{SlotView}
+use Rattle.scheduler.specs.Parts.{IsCore, Parts, core_state_in}
+use Rattle.scheduler.specs.Slots.{SlotView, IsPlaced, entry_of, replied_of, queued_of}
 use Rattle.run_queue.specs.RunQueue.{has_number, without_number}
 
 -- Two places at one affinity are related.

@@ -3,11 +3,11 @@ use Rattle.std.proofs.Common.{◌≡◌, ℕ, suc, ◌+◌, ◌<◌, [], ◌∷�
 use Rattle.std.proofs.lemmas.List.{length-append, map-append}
 use Rattle.affinity.proofs.Elements.{all_join}
 use Rattle.histories.proofs.Sound.{arrive_sound}
-use Rattle.histories.specs.Laws.{IsSoundCoreState}
+use Rattle.histories.specs.IsSoundCoreState.{IsSoundCoreState}
 use Rattle.histories.specs.CoreState.{held}
 use Rattle.scheduler.proofs.UnloggedChanges.{AreClaimed, messages_counted}
-use Rattle.scheduler.specs.Parts.{IsCore, IsPlaced, Parts, entry_of, queued_of, core_state_in}
-use Rattle.scheduler.specs.Slots.{SlotView}
+use Rattle.scheduler.specs.Parts.{IsCore, Parts, core_state_in}
+use Rattle.scheduler.specs.Slots.{SlotView, IsPlaced, entry_of, queued_of}
 
 abbrev pub with_arrival : Parts → SlotView → ℕ → Parts
 with_arrival p x free = record p {

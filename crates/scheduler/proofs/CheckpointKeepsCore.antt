@@ -5,12 +5,12 @@ use Rattle.std.proofs.lemmas.Bool.{ltb-false, true≢false}
 use Rattle.std.proofs.lemmas.List.{nil_from_length}
 use Rattle.affinity.specs.declared.geometry.Geometry.{Geometry}
 use Rattle.recovery.specs.Recovery.{recovered_state}
-use Rattle.disk.specs.Moments.{CrashImagesAre}
+use Rattle.disk.specs.CrashImages.{CrashImagesAre}
 use Rattle.image.specs.Pieces.{piece_count}
 use Rattle.checkpoint.specs.Journal.{JournalView, after_call, committed}
 use Rattle.checkpoint.specs.DirtyPieces.{DirtyPieces, count_dirty, cut_dirty, flipped_dirty, pointed_dirty}
 use Rattle.histories.specs.Events.{point_refusal}
-use Rattle.histories.specs.Laws.{IsSoundCoreState}
+use Rattle.histories.specs.IsSoundCoreState.{IsSoundCoreState}
 use Rattle.histories.specs.CoreState.{CoreState, held}
 use Rattle.histories.specs.declared.outcomes.Outcome.TheVariants as outcomes
 use Rattle.histories.specs.declared.outcomes.PointRefusal.{PointRefusal}
@@ -18,7 +18,7 @@ use Rattle.histories.specs.declared.outcomes.PointRefusal.TheVariants as points
 use Rattle.histories.specs.declared.outcomes.Step.TheVariants as steps
 use Rattle.oplog.specs.declared.halves.LogFault.{LogFault}
 use Rattle.parcel.proofs.Holding.{whole_holds}
-use Rattle.parcel.specs.Holding.{TreeHolds, nowhere}
+use Rattle.parcel.specs.TreeHolds.{TreeHolds, nowhere}
 use Rattle.parcel.specs.Tree.{IsIn, IsWholeTree, tree_nodes, state_in}
 use Rattle.parcel.specs.Nodes.{tree_state}
 use Rattle.meaning.specs.State.{IsState}
@@ -28,7 +28,8 @@ use Rattle.scheduler.proofs.JournalKeepsCore.{called_sound, step_core, step_thro
 use Rattle.scheduler.specs.CoreView.{CoreView, RecoversThroughout, core_state_of}
 use Rattle.scheduler.specs.View.{IsSoundCore, parts}
 use Rattle.scheduler.specs.declared.server_core.Core.TheInside.{Inside}
-use Rattle.scheduler.specs.Parts.{IsCore, Parts, entry_of, is_below, core_view_of, reached, core_state_in}
+use Rattle.scheduler.specs.Parts.{IsCore, Parts, is_below, core_view_of, reached, core_state_in}
+use Rattle.scheduler.specs.Slots.{entry_of}
 
 -- ---- where a checkpoint may begin: no message is held, no other one is in progress, the device works
 

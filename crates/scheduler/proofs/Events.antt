@@ -11,16 +11,15 @@ use Rattle.std.proofs.Math.Bool.{and-false}
 use Rattle.affinity.specs.declared.geometry.Geometry.{Geometry}
 use Rattle.disk.proofs.Moments.{started}
 use Rattle.disk.specs.Device.{Medium}
-use Rattle.disk.specs.Moments.{CrashImagesAre}
+use Rattle.disk.specs.CrashImages.{CrashImagesAre}
 use Rattle.checkpoint.specs.Journal.{RecoversWithPrefix}
 use Rattle.histories.proofs.Elements.{in_contained}
 use Rattle.histories.proofs.Outs.{event_keeps_out, event_sees}
 use Rattle.histories.proofs.Sound.{event_sound}
 use Rattle.histories.specs.Crash.{to_append}
 use Rattle.histories.specs.Eligible.{next_eligible}
-use Rattle.histories.specs.Events.{Event, Hand, MachineState, IsAllowed, answer, arrive, back_from, give_back, grant_to, apply_step, is_empty, find_in_flight, result_in, run_hand}
-use Rattle.histories.specs.Events.{Job as JobIn, Result as ResultIn}
-use Rattle.histories.specs.Laws.{dispatches_or_returns}
+use Rattle.histories.specs.Events.{Event, IsAllowed, answer, arrive, back_from, give_back, grant_to, apply_step, find_in_flight, result_in, run_hand, dispatches_or_returns}
+use Rattle.histories.specs.MachineState.{Hand, MachineState, is_empty, Job as JobIn, Result as ResultIn}
 use Rattle.histories.specs.CoreState.{Entry, CoreState}
 use Rattle.histories.specs.declared.outcomes.ArriveRefusal.{ArriveRefusal}
 use Rattle.histories.specs.declared.outcomes.Outcome.{Outcome}
@@ -28,16 +27,16 @@ use Rattle.histories.specs.declared.outcomes.Outcome.TheVariants as outcomes
 use Rattle.histories.specs.declared.outcomes.Step.{Step}
 use Rattle.histories.specs.declared.outcomes.Step.TheVariants as steps
 use Rattle.scheduler.proofs.InHands.{granted_is_fresh, granted_stays, hands_stay, holds_set, one_or_other, returned_stays}
-use Rattle.scheduler.specs.Hands.{IsRunIn, IsTakenFrom}
-use Rattle.scheduler.specs.Machine.{HoldsJobs, IsHandOf, hand_at, hand_of, machine_of, ticket_in}
+use Rattle.scheduler.specs.Hands.{IsRunIn, IsTakenFrom, HoldsJobs, IsHandOf, hand_at, hand_of, ticket_in}
+use Rattle.scheduler.specs.Machine.{machine_of}
 use Rattle.scheduler.specs.Steps.{IsCoreStep, IsMachineStep}
 use Rattle.scheduler.specs.declared.hands.HandContent.{HandContent}
 use Rattle.scheduler.specs.declared.hands.HandContent.TheVariants as has
 use Rattle.protocol.specs.declared.messages.Msg.{Msg}
 use Rattle.protocol.specs.declared.replies.Reply.{Reply}
-use Rattle.parcel.specs.Run.{JobView, IsJobRun}
+use Rattle.parcel.specs.JobRun.{JobView, IsJobRun}
 use Rattle.parcel.specs.declared.job.Done.{Done}
-use Rattle.meaning.specs.Serial.{state_after_all}
+use Rattle.meaning.specs.Step.{state_after_all}
 use Rattle.meaning.specs.State.{State}
 use Rattle.scheduler.proofs.IsCallEvent.{answer_called, arrive_called}
 use Rattle.scheduler.specs.Calls.{IsCallEvent, IsGrantOf, IsNoGrant, answer_outcome, arrive_outcome}

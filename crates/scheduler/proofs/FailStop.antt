@@ -4,7 +4,8 @@ use Rattle.std.specs.Prelude.{cond}
 use Rattle.affinity.specs.declared.geometry.Geometry.{Geometry}
 use Rattle.disk.specs.Device.{Medium}
 use Rattle.histories.proofs.Failures.{failure_fails, failure_lasts, works_on}
-use Rattle.histories.specs.Events.{Event, MachineState, touches_device}
+use Rattle.histories.specs.Events.{Event, touches_device}
+use Rattle.histories.specs.MachineState.{MachineState}
 use Rattle.histories.specs.CoreState.{CoreState}
 use Rattle.histories.specs.Runs.{IsLegal, end_state}
 use Rattle.histories.specs.declared.outcomes.Step.{Step}

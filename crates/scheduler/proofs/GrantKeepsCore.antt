@@ -10,18 +10,18 @@ use Rattle.histories.proofs.Lists.{all_back, all_front, all_without}
 use Rattle.histories.proofs.Sound.{grant_sound}
 use Rattle.histories.specs.Eligible.{next_eligible, unlogged_changes}
 use Rattle.histories.specs.Events.{grant}
-use Rattle.histories.specs.Laws.{IsSoundCoreState}
+use Rattle.histories.specs.IsSoundCoreState.{IsSoundCoreState}
 use Rattle.histories.specs.CoreState.{Entry, held}
 use Rattle.protocol.specs.Messages.{path_of}
-use Rattle.parcel.specs.Holding.{TreeHolds}
+use Rattle.parcel.specs.TreeHolds.{TreeHolds}
 use Rattle.parcel.specs.Tree.{LendsAt, TreeView, tree_nodes}
 use Rattle.parcel.specs.declared.parts.Parcels.{Parcels}
 use Rattle.parcel.specs.declared.parts.Standing.{Standing}
 use Rattle.scheduler.proofs.UnloggedChanges.{AreClaimed, HasHeld, changing, changing-append, changing-cons, unlogged_of, one_for}
 use Rattle.scheduler.proofs.Tests.{any_granted}
 use Rattle.scheduler.proofs.Trees.{grant_tree}
-use Rattle.scheduler.specs.Parts.{IsCore, IsPlaced, Parts, entry_of, is_below, reached, queued_of, core_state_in}
-use Rattle.scheduler.specs.Slots.{SlotView}
+use Rattle.scheduler.specs.Parts.{IsCore, Parts, is_below, reached, core_state_in}
+use Rattle.scheduler.specs.Slots.{SlotView, IsPlaced, entry_of, queued_of}
 use Rattle.run_queue.specs.RunQueue.{HasJoined, has_slot, without_slot}
 use Rattle.run_queue.specs.declared.queued_message.QueuedMessage.{QueuedMessage}
 

@@ -1,14 +1,13 @@
 -- The messages that ran: one after the other on their chain, and moved to the chain of those that are logged.
-use Rattle.std.proofs.Common.{◌≡◌, ◌≢◌, ℕ, zero, suc, ◌+◌, ◌<◌, List, [], ◌∷◌, ◌++◌, length, take, drop, Some, None, refl, sym, ap, subst, ◌∙◌, arith, append_assoc}
+use Rattle.std.proofs.Common.{◌≡◌, ◌≢◌, ℕ, zero, suc, ◌+◌, ◌<◌, List, [], ◌∷◌, ◌++◌, length, take, drop, Some, None, refl, sym, ap, subst, ◌∙◌, arith, append_assoc, rules}
 use Rattle.arena.specs.Lists.{first_of, without}
 use Rattle.arena.specs.ArenaView.{ArenaView, IsPartitioned, after_move, chain_at, front_of}
 use Rattle.arena.proofs.ArenaLemmas.{chain-front}
 use Rattle.scheduler.proofs.Chains.{chain_joined, chain_left, chain_stays, four_moved, arena_moved}
-use Rattle.scheduler.specs.Moving.{HasLogged}
+use Rattle.scheduler.specs.HasLogged.{HasLogged}
 use Rattle.scheduler.specs.Slots.{HasChains}
 use Rattle.scheduler.specs.declared.slot.Slot.{Slot}
 use Rattle.scheduler.specs.declared.slot.TheConstants.{WAITING, IN_FLIGHT, RAN, LOGGED}
-use Rattle.std.proofs.Common.{rules}
 use Rattle.std.proofs.lemmas.List.{append-nil, length-drop}
 
 -- ---- one more of the first ones

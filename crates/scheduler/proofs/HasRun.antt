@@ -5,8 +5,8 @@ use Rattle.std.specs.List.{AllByRecursion}
 use Rattle.std.proofs.lemmas.List.{map-append, take_more, take_more_set}
 use Rattle.affinity.specs.declared.geometry.Geometry.{Geometry}
 use Rattle.disk.proofs.Moments.{only_now}
-use Rattle.disk.specs.Device.{IsCrashImage, Medium}
-use Rattle.disk.specs.Moments.{left_since, moment_number}
+use Rattle.disk.specs.CrashImages.{IsCrashImage, left_since}
+use Rattle.disk.specs.Device.{Medium, moment_number}
 use Rattle.checkpoint.specs.Journal.{RecoversWithPrefix}
 use Rattle.histories.proofs.Arrivals.{answered_by_ticket}
 use Rattle.histories.proofs.Crashes.{left_is_committed}
@@ -15,18 +15,20 @@ use Rattle.histories.proofs.IsJoined.{runs_join}
 use Rattle.histories.proofs.Runs.{run_follows}
 use Rattle.histories.proofs.Sound.{run_sound}
 use Rattle.histories.specs.Crash.{IsLogAfter, in_doubt}
-use Rattle.histories.specs.Events.{Event, MachineState}
-use Rattle.histories.specs.Laws.{AreUnrelated, IsJoined, IsSoundCoreState}
-use Rattle.histories.specs.Runs.{IsLegal, appended_messages, end_state}
-use Rattle.histories.specs.CoreState.{held}
+use Rattle.histories.specs.Events.{Event}
+use Rattle.histories.specs.MachineState.{MachineState}
+use Rattle.histories.specs.IsSoundCoreState.{IsSoundCoreState}
+use Rattle.histories.specs.Runs.{IsLegal, appended_messages, end_state, IsJoined}
+use Rattle.histories.specs.CoreState.{held, AreUnrelated}
 use Rattle.histories.specs.declared.outcomes.Outcome.{Outcome}
 use Rattle.histories.specs.declared.outcomes.Step.{Step}
 use Rattle.scheduler.proofs.Events.{some_of}
-use Rattle.scheduler.specs.Machine.{LeadTo, MachineView, HasRun, HasDeviceEvents, RecoversFromRun, machine_of}
+use Rattle.scheduler.specs.Runs.{LeadTo, HasRun, HasDeviceEvents, RecoversFromRun}
+use Rattle.scheduler.specs.Machine.{MachineView, machine_of}
 use Rattle.scheduler.specs.DeviceEvents.{AreSafe, DeviceEvent, RecoversForRun, AgreeWithDevice, device_after, events_of}
 use Rattle.scheduler.specs.Steps.{IsMachineStep}
 use Rattle.protocol.specs.declared.messages.Msg.{Msg}
-use Rattle.meaning.specs.Serial.{state_after_all}
+use Rattle.meaning.specs.Step.{state_after_all}
 use Rattle.scheduler.specs.declared.hands.HandContent.{HandContent}
 use Rattle.scheduler.specs.Calls.{CountsFailure}
 use Rattle.scheduler.specs.CoreView.{CoreView, RecoversNow, core_state_of}

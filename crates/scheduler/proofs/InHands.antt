@@ -12,10 +12,10 @@ use Rattle.histories.proofs.Outs.{before_in}
 use Rattle.histories.proofs.SerialReplies.{IsIn, in_either, in_left, in_right}
 use Rattle.histories.specs.Eligible.{is_eligible, next_eligible}
 use Rattle.histories.specs.Events.{give_back, grant, find_in_flight}
-use Rattle.histories.specs.Laws.{IsSoundCoreState}
+use Rattle.histories.specs.IsSoundCoreState.{IsSoundCoreState}
 use Rattle.histories.specs.CoreState.{Entry, CoreState}
 use Rattle.scheduler.proofs.Jobs.{SeesSame, job_stays, result_stays}
-use Rattle.scheduler.specs.Machine.{HoldsJobs, IsHandOf, hand_at, ticket_in}
+use Rattle.scheduler.specs.Hands.{HoldsJobs, IsHandOf, hand_at, ticket_in}
 use Rattle.scheduler.specs.declared.hands.HandContent.{HandContent}
 use Rattle.scheduler.specs.declared.hands.HandContent.TheVariants as has
 use Rattle.protocol.specs.declared.messages.Msg.{Msg}

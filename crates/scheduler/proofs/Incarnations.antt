@@ -10,11 +10,12 @@ use Rattle.recovery.specs.Recovery.{recovered_state}
 use Rattle.recovery.specs.Refusals.{refused}
 use Rattle.disk.proofs.Leaves.{synced_left, itself}
 use Rattle.disk.proofs.Moments.{bytes_since, counts_now, only_now}
-use Rattle.disk.specs.Device.{AreBytes, IsSynced, IsCrashImage, Medium}
-use Rattle.disk.specs.Moments.{left_since, moment_number}
+use Rattle.disk.specs.CrashImages.{AreBytes, IsCrashImage, left_since}
+use Rattle.disk.specs.Device.{IsSynced, Medium, moment_number}
 use Rattle.checkpoint.specs.Opening.{IsPastSync, OpeningCrashImages, RecoversAsBefore}
 use Rattle.histories.proofs.Incarnations.{all_answered, incarnation_of_run, next_incarnation, no_incarnation}
-use Rattle.histories.specs.Events.{Event, MachineState}
+use Rattle.histories.specs.Events.{Event}
+use Rattle.histories.specs.MachineState.{MachineState}
 use Rattle.histories.specs.Incarnations.{IsLeftByIncarnations, Incarnation, Ran, Unopened}
 use Rattle.scheduler.specs.Incarnations.{DeviceIncarnation, HasIncarnations, HaveGeometry, IsIncarnationOf, IsOfGeometry, IsPassedOn, IsRunIncarnation, LeftByLast, RecoversForIncarnations, incarnations_of}
 use Rattle.meaning.specs.State.{State, empty}

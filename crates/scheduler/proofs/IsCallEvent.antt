@@ -5,7 +5,8 @@ use Rattle.std.proofs.lemmas.Bool.{and_from, lt-ltb, not_from_false}
 use Rattle.affinity.specs.declared.geometry.Geometry.{Geometry}
 use Rattle.image.specs.Pieces.{piece_count}
 use Rattle.histories.specs.declared.outcomes.Step.{Step}
-use Rattle.histories.specs.Events.{IsWithoutFault, apply_step, Hand, MachineState, answer, arrive, batch, pieces_after, flip_refusal, all_pieces_written, log, piece_refusal, point_refusal, unless_refused}
+use Rattle.histories.specs.Events.{IsWithoutFault, apply_step, answer, arrive, batch, pieces_after, flip_refusal, all_pieces_written, log, piece_refusal, point_refusal, unless_refused}
+use Rattle.histories.specs.MachineState.{Hand, MachineState}
 use Rattle.histories.specs.CoreState.{CoreState}
 use Rattle.histories.specs.declared.outcomes.ArriveRefusal.{ArriveRefusal}
 use Rattle.histories.specs.declared.outcomes.CoreFault.{CoreFault}

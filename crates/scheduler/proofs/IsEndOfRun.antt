@@ -2,13 +2,15 @@
 use Rattle.std.proofs.Common.{◌≡◌, ℕ, false, List, [], ◌++◌, ap, sym, ◌∙◌, length, arith}
 use Rattle.std.proofs.lemmas.List.{drop_all, take_all}
 use Rattle.affinity.specs.declared.geometry.Geometry.{Geometry}
-use Rattle.disk.specs.Device.{IsCrashImage}
+use Rattle.disk.specs.CrashImages.{IsCrashImage}
 use Rattle.checkpoint.specs.Journal.{RecoversWithPrefix}
 use Rattle.histories.proofs.AnsweredFirst.{answered_left}
 use Rattle.histories.proofs.Idle.{none_logged}
 use Rattle.histories.specs.Crash.{in_doubt}
-use Rattle.histories.specs.Events.{Event, MachineState, recorded}
-use Rattle.histories.specs.Laws.{IsIdle, IsSoundCoreState}
+use Rattle.histories.specs.Events.{Event, recorded}
+use Rattle.histories.specs.MachineState.{MachineState}
+use Rattle.histories.specs.CoreState.{IsIdle}
+use Rattle.histories.specs.IsSoundCoreState.{IsSoundCoreState}
 use Rattle.histories.specs.Incarnations.{HoldsAnswered, Ran}
 use Rattle.histories.specs.Runs.{IsLegal, end_state}
 use Rattle.scheduler.proofs.Events.{some_of}

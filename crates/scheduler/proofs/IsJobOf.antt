@@ -5,18 +5,20 @@ use Rattle.affinity.specs.Path.{are_related}
 use Rattle.affinity.specs.declared.geometry.Geometry.{Geometry}
 use Rattle.histories.proofs.Elements.{in_contained}
 use Rattle.histories.proofs.Outs.{event_sees}
-use Rattle.histories.specs.Events.{Event, MachineState, IsAllowed}
-use Rattle.histories.specs.Laws.{IsSoundCoreState}
+use Rattle.histories.specs.Events.{Event, IsAllowed}
+use Rattle.histories.specs.MachineState.{MachineState}
+use Rattle.histories.specs.IsSoundCoreState.{IsSoundCoreState}
 use Rattle.histories.specs.CoreState.{Entry, CoreState}
 use Rattle.protocol.specs.Messages.{path_of}
 use Rattle.parcel.proofs.SerialRuns.{serial_run}
 use Rattle.parcel.specs.Fits.{IsRunnable}
-use Rattle.parcel.specs.Run.{JobView, IsJobRun, Shows}
-use Rattle.parcel.specs.RunLaws.{IsSerialStepOf}
+use Rattle.parcel.specs.JobRun.{JobView, IsJobRun}
+use Rattle.parcel.specs.Shown.{Shows}
+use Rattle.parcel.specs.LentJob.{IsSerialStepOf}
 use Rattle.parcel.specs.declared.job.Done.{Done}
 use Rattle.meaning.proofs.Agree.{agree-sym, agree-trans}
 use Rattle.meaning.proofs.Frame.{reads_only}
-use Rattle.meaning.specs.Serial.{next_state, reply_to}
+use Rattle.meaning.specs.Step.{next_state, reply_to}
 use Rattle.meaning.specs.Subtrees.{AgreeOn}
 use Rattle.scheduler.specs.Jobs.{IsJobOf, IsResultOf}
 

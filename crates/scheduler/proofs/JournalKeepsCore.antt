@@ -6,16 +6,16 @@ use Rattle.affinity.specs.declared.geometry.Geometry.{Geometry}
 use Rattle.recovery.specs.Recovery.{recovered_state}
 use Rattle.disk.proofs.Moments.{leaves_now, started, weaker}
 use Rattle.disk.specs.Device.{Medium}
-use Rattle.disk.specs.Moments.{CrashImagesAre}
+use Rattle.disk.specs.CrashImages.{CrashImagesAre}
 use Rattle.checkpoint.specs.Journal.{RecoversWithPrefix, committed}
 use Rattle.checkpoint.specs.DirtyPieces.{DirtyPieces}
 use Rattle.histories.proofs.Sound.{event_sound}
-use Rattle.histories.specs.Laws.{IsSoundCoreState}
+use Rattle.histories.specs.IsSoundCoreState.{IsSoundCoreState}
 use Rattle.histories.specs.CoreState.{CoreState}
 use Rattle.histories.specs.declared.outcomes.Outcome.{Outcome}
 use Rattle.histories.specs.declared.outcomes.Step.{Step}
 use Rattle.protocol.specs.declared.messages.Msg.{Msg}
-use Rattle.meaning.specs.Serial.{state_after_all}
+use Rattle.meaning.specs.Step.{state_after_all}
 use Rattle.meaning.specs.State.{State}
 use Rattle.scheduler.specs.Calls.{IsCallEvent}
 use Rattle.scheduler.specs.CoreView.{CoreView, RecoversNow, RecoversThroughout}

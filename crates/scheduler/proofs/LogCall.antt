@@ -10,8 +10,8 @@ use Rattle.std.proofs.lemmas.List.{drop-map, drop_min, length-drop, length-map, 
 use Rattle.std.proofs.lemmas.Option.{same_Some}
 use Rattle.arena.specs.ArenaView.{ArenaView, IsPartitioned, capacity_of, chain_at}
 use Rattle.recovery.specs.Recovery.{recovered_state}
-use Rattle.disk.specs.Device.{IsCrashImage, Medium}
-use Rattle.disk.specs.Moments.{CrashImagesAre, moment_number}
+use Rattle.disk.specs.CrashImages.{IsCrashImage, CrashImagesAre}
+use Rattle.disk.specs.Device.{Medium, moment_number, Costs}
 use Rattle.checkpoint.specs.Journal.{after_call, AreCarriedOut, JournalView, RecoversWithPrefix, IsRecoverable, committed}
 use Rattle.histories.proofs.SerialReplies.{state_after_all-joined}
 use Rattle.histories.specs.Eligible.{changes}
@@ -19,21 +19,20 @@ use Rattle.histories.specs.Events.{batch as batch_of, log, recorded, touches_dev
 use Rattle.histories.specs.declared.outcomes.Step.TheVariants as steps
 use Rattle.protocol.specs.declared.messages.Msg.{Msg}
 use Rattle.protocol.specs.declared.replies.Reply.TheVariants.{Done}
-use Rattle.disk.specs.Store.{Costs}
-use Rattle.oplog.specs.Changing.{AreChangesInRange}
+use Rattle.oplog.specs.ChangeRecords.{AreChangesInRange}
 use Rattle.oplog.specs.declared.halves.LogFault.{LogFault}
 use Rattle.parcel.specs.Tree.{state_in}
-use Rattle.meaning.specs.Serial.{state_after_all}
+use Rattle.meaning.specs.Step.{state_after_all}
 use Rattle.meaning.specs.State.{State}
 use Rattle.scheduler.proofs.UnloggedChanges.{count-map, changing, changing-append, unlogged_of}
 use Rattle.scheduler.proofs.Chains.{same_slots}
 use Rattle.scheduler.proofs.LogKeepsCore.{batch_at, batch_carried, batch_fits, batch_changes, doubt_core, log_core, log_throughout, log_state, same_batch, with_doubt, with_log}
 use Rattle.scheduler.specs.CoreView.{core_state_of, CoreView, RecoversThroughout}
-use Rattle.scheduler.specs.Moving.{HasLogged, changing_in, recorded_in}
+use Rattle.scheduler.specs.HasLogged.{HasLogged, changing_in, recorded_in}
 use Rattle.scheduler.specs.declared.server_core.Core.TheInside.{Inside}
 use Rattle.scheduler.specs.View.{IsSoundCore, parts}
-use Rattle.scheduler.specs.Parts.{IsCore, Parts, core_view_of, replied_of, core_state_in}
-use Rattle.scheduler.specs.Slots.{SlotView, slots_on, no_slot, slot_view_at}
+use Rattle.scheduler.specs.Parts.{IsCore, Parts, core_view_of, core_state_in}
+use Rattle.scheduler.specs.Slots.{SlotView, slots_on, no_slot, slot_view_at, replied_of}
 use Rattle.scheduler.specs.declared.slot.Slot.{Slot}
 use Rattle.scheduler.specs.declared.slot.TheConstants.{WAITING, IN_FLIGHT, RAN, LOGGED, CHAINS}
 

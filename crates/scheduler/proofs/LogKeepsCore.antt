@@ -11,8 +11,8 @@ use Rattle.affinity.proofs.Elements.{all_join, all_weaker}
 use Rattle.histories.proofs.AreUnrelated.{all_recorded}
 use Rattle.recovery.specs.Recovery.{recovered_state}
 use Rattle.disk.proofs.Moments.{leaves_now}
-use Rattle.disk.specs.Device.{IsCrashImage, Medium}
-use Rattle.disk.specs.Moments.{CrashImagesAre}
+use Rattle.disk.specs.CrashImages.{IsCrashImage, CrashImagesAre}
+use Rattle.disk.specs.Device.{Medium}
 use Rattle.checkpoint.specs.Journal.{AreCarriedOut, RecoversWithPrefix, committed}
 use Rattle.checkpoint.specs.DirtyPieces.{DirtyPieces}
 use Rattle.histories.proofs.Lists.{all_back, all_front, before_back, before_front}
@@ -21,23 +21,23 @@ use Rattle.histories.proofs.Sound.{log_sound}
 use Rattle.histories.proofs.SerialReplies.{state_after_all-joined, still_replied}
 use Rattle.histories.specs.Eligible.{unlogged_changes}
 use Rattle.histories.specs.Events.{batch, log, recorded}
-use Rattle.histories.specs.Laws.{AreUnrelated, HaveRepliesAt, IsSoundCoreState}
-use Rattle.histories.specs.CoreState.{Replied, CoreState, entries}
+use Rattle.histories.specs.IsSoundCoreState.{HaveRepliesAt, IsSoundCoreState}
+use Rattle.histories.specs.CoreState.{Replied, CoreState, entries, AreUnrelated}
 use Rattle.protocol.specs.Messages.{IsMessage, is_in_range, kind}
 use Rattle.protocol.specs.declared.messages.Msg.{Msg}
-use Rattle.oplog.specs.Changing.{AreChangesInRange, IsChangeInRange}
-use Rattle.parcel.specs.Holding.{TreeHolds}
+use Rattle.oplog.specs.ChangeRecords.{AreChangesInRange, IsChangeInRange}
+use Rattle.parcel.specs.TreeHolds.{TreeHolds}
 use Rattle.parcel.specs.Tree.{tree_nodes}
 use Rattle.meaning.proofs.Unchanged.{unrecorded_changes_nothing}
-use Rattle.meaning.specs.Serial.{state_after_all, is_recorded, next_state}
+use Rattle.meaning.specs.Step.{state_after_all, is_recorded, next_state}
 use Rattle.meaning.specs.State.{State}
 use Rattle.scheduler.proofs.UnloggedChanges.{AreClaimed, HasHeld, changing, changing-append, unlogged_of}
 use Rattle.scheduler.proofs.JournalKeepsCore.{with_none}
 use Rattle.scheduler.proofs.Tests.{any_logged}
 use Rattle.scheduler.proofs.Trees.{log_reaches}
 use Rattle.scheduler.specs.CoreView.{CoreView, RecoversNow, RecoversThroughout}
-use Rattle.scheduler.specs.Parts.{IsCore, IsPlaced, Parts, is_below, core_view_of, entry_of, reached, replied_of, core_state_in}
-use Rattle.scheduler.specs.Slots.{SlotView}
+use Rattle.scheduler.specs.Parts.{IsCore, Parts, is_below, core_view_of, reached, core_state_in}
+use Rattle.scheduler.specs.Slots.{SlotView, IsPlaced, entry_of, replied_of}
 
 -- ---- from what ran to what the journal asks for
 

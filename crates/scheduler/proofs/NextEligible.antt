@@ -11,13 +11,12 @@ use Rattle.affinity.specs.declared.geometry.Geometry.{Geometry}
 use Rattle.affinity.proofs.Elements.{all_weaker}
 use Rattle.histories.specs.Eligible.{has_room as has_room_for, is_conflict_free as is_clear_in, is_eligible, lacks_only_room, next_eligible, pick}
 use Rattle.histories.specs.Events.{grant_refusal}
-use Rattle.histories.specs.Laws.{AreAscending}
-use Rattle.histories.specs.CoreState.{Entry, CoreState, entries, entry, are_related_entries}
+use Rattle.histories.specs.CoreState.{Entry, CoreState, entries, entry, are_related_entries, AreAscending}
 use Rattle.histories.specs.declared.outcomes.Outcome.TheVariants as outcomes
 use Rattle.protocol.specs.Messages.{path_of}
 use Rattle.scheduler.specs.Calls.{IsGranted}
-use Rattle.scheduler.specs.Parts.{ArePlaced, IsCore, IsPlaced, Parts, entry_of, held_any, replied_of, queued_of, core_state_in}
-use Rattle.scheduler.specs.Slots.{Phases, SlotView}
+use Rattle.scheduler.specs.Parts.{IsCore, Parts, core_state_in}
+use Rattle.scheduler.specs.Slots.{Phases, SlotView, ArePlaced, IsPlaced, entry_of, held_any, replied_of, queued_of}
 use Rattle.scheduler.specs.declared.granted.Granted.{Granted}
 use Rattle.scheduler.specs.declared.granted.Granted.TheVariants as granted
 use Rattle.run_queue.proofs.ByTicket.{Ascend, waits_for, is_conflict_free, next_is_first}

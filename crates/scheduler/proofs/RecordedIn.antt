@@ -17,13 +17,12 @@ use Rattle.histories.specs.CoreState.{Replied}
 use Rattle.protocol.specs.declared.messages.Msg.{Msg}
 use Rattle.protocol.specs.declared.replies.Reply.{Reply}
 use Rattle.protocol.specs.declared.replies.Reply.TheVariants.{Done}
-use Rattle.meaning.specs.Serial.{is_recorded}
+use Rattle.meaning.specs.Step.{is_recorded}
 use Rattle.scheduler.proofs.GrantCall.{some_value}
 use Rattle.scheduler.proofs.HasLogged.{left_over, some_first}
 use Rattle.scheduler.proofs.Splits.{count_of-split}
-use Rattle.scheduler.specs.Moving.{changing_in, recorded_in}
-use Rattle.scheduler.specs.Parts.{replied_of}
-use Rattle.scheduler.specs.Slots.{HasChains, SlotView, no_slot, slot_view_at}
+use Rattle.scheduler.specs.HasLogged.{changing_in, recorded_in}
+use Rattle.scheduler.specs.Slots.{HasChains, SlotView, no_slot, slot_view_at, replied_of}
 use Rattle.scheduler.specs.declared.slot.Slot.{Slot}
 use Rattle.scheduler.specs.declared.slot.TheConstants.{RAN}
 use Rattle.histories.proofs.Runs.{recorded-append}

@@ -12,7 +12,7 @@ use Rattle.recovery.specs.Recovery.{recovered_state}
 use Rattle.recovery.specs.Refusals.{HasNoGeometry, IsRefused, IsRefusedWith, IsUnformatted, fault_if, refused}
 use Rattle.recovery.specs.declared.fault.OpenFault.{OpenFault}
 use Rattle.recovery.specs.declared.fault.OpenFault.TheVariants.{Device, TooShort, NotFormatted, BadGeometry, OutOfMemory, BadVersion, BadPiece, BadChain, BadRecord}
-use Rattle.disk.specs.Device.{AreBytes}
+use Rattle.disk.specs.CrashImages.{AreBytes}
 use Rattle.device_map.specs.Layout.{device_size, layout_of}
 use Rattle.meaning.specs.State.{State}
 use Rattle.scheduler.specs.Opening.{IsShownByBytes}

@@ -5,7 +5,7 @@ use Rattle.std.specs.Prelude.{◌==◌, ◌||◌, not, vec_capacity}
 use Rattle.std.specs.List.{AllByRecursion, Contains, concat, list_any}
 use Rattle.std.proofs.lemmas.Bool.{and_parts, eq-eqb, true≢false, not-true, and_right}
 use Rattle.std.proofs.lemmas.Bool.Decides.{eqb_tells}
-use Rattle.std.proofs.lemmas.List.{get_or-set_other, get_or-set_same, length-append, length-set}
+use Rattle.std.proofs.lemmas.List.{get_or-set_other, get_or-set_same, length-append, length-set, map-append}
 use Rattle.std.proofs.Math.Bool.{or-false, or-true}
 use Rattle.affinity.specs.Interval.{Interval, IsAffinityOf, interval}
 use Rattle.affinity.specs.Path.{Path}
@@ -24,22 +24,21 @@ use Rattle.protocol.specs.declared.replies.Reply.TheVariants.{Done}
 use Rattle.parcel.proofs.Lending.{kind_of}
 use Rattle.parcel.proofs.RunFits.{fits_where_lent}
 use Rattle.parcel.specs.Fits.{Fits, IsKindOf}
-use Rattle.parcel.specs.Run.{Shows}
+use Rattle.parcel.specs.Shown.{Shows}
 use Rattle.parcel.specs.Tree.{IsOut, RestoresAt, TreeView, tree_nodes}
 use Rattle.parcel.specs.declared.job.Done.{Done as Result}
-use Rattle.meaning.specs.Serial.{next_state, reply_to}
+use Rattle.meaning.specs.Step.{next_state, reply_to}
 use Rattle.scheduler.proofs.AnswerKeepsCore.{other_numbers, other_replied}
 use Rattle.scheduler.proofs.Chains.{MovedSlot, slot_moved}
 use Rattle.scheduler.proofs.ReturnKeepsCore.{out_is, return_core, return_state, returned_is_found, returned_is_placed, with_return}
 use Rattle.scheduler.proofs.Splits.{MapSplit, map_split, count_of-split}
 use Rattle.scheduler.proofs.Trees.{apart_earlier, apart_others, back_is_out}
 use Rattle.affinity.proofs.Elements.{all_weaker, any_moved}
-use Rattle.std.proofs.lemmas.List.{map-append}
 use Rattle.scheduler.specs.Jobs.{IsResultOf}
 use Rattle.scheduler.specs.declared.server_core.Core.TheInside.{Inside}
 use Rattle.scheduler.specs.View.{IsSoundCore, parts}
-use Rattle.scheduler.specs.Parts.{IsCore, IsPlaced, Parts, entry_of, queued_of, core_state_in}
-use Rattle.scheduler.specs.Slots.{SlotView, slots_on, slot_view_at}
+use Rattle.scheduler.specs.Parts.{IsCore, Parts, core_state_in}
+use Rattle.scheduler.specs.Slots.{SlotView, slots_on, slot_view_at, IsPlaced, entry_of, queued_of}
 use Rattle.scheduler.specs.declared.slot.Slot.{Slot}
 use Rattle.scheduler.specs.declared.slot.TheConstants.{WAITING, IN_FLIGHT, RAN, LOGGED}
 use Rattle.run_queue.specs.RunQueue.{has_number, has_slot, holds_at}

@@ -9,23 +9,23 @@ use Rattle.histories.proofs.Lists.{all_back, all_without, before_front, before_o
 use Rattle.histories.proofs.Sound.{back_sound}
 use Rattle.histories.specs.Eligible.{pick, unlogged_changes}
 use Rattle.histories.specs.Events.{give_back, find_in_flight}
-use Rattle.histories.specs.Laws.{HaveDistinctTickets, IsSoundCoreState}
-use Rattle.histories.specs.CoreState.{Entry}
+use Rattle.histories.specs.IsSoundCoreState.{IsSoundCoreState}
+use Rattle.histories.specs.CoreState.{Entry, HaveDistinctTickets}
 use Rattle.protocol.specs.Messages.{path_of}
 use Rattle.protocol.specs.declared.replies.Reply.{Reply}
 use Rattle.parcel.specs.Fits.{Fits}
-use Rattle.parcel.specs.Holding.{TreeHolds}
-use Rattle.parcel.specs.Run.{Shows}
+use Rattle.parcel.specs.TreeHolds.{TreeHolds}
+use Rattle.parcel.specs.Shown.{Shows}
 use Rattle.parcel.specs.Tree.{RestoresAt, TreeView, tree_nodes}
 use Rattle.parcel.specs.declared.parts.Parcels.{Parcels}
 use Rattle.parcel.specs.declared.parts.Standing.{Standing}
-use Rattle.meaning.specs.Serial.{next_state, reply_to}
+use Rattle.meaning.specs.Step.{next_state, reply_to}
 use Rattle.scheduler.proofs.NextEligible.{pick_if}
 use Rattle.scheduler.proofs.UnloggedChanges.{AreClaimed, HasHeld, changing, changing-append, changing-cons, unlogged_of}
 use Rattle.scheduler.proofs.Tests.{any_back}
 use Rattle.scheduler.proofs.Trees.{back_reaches, back_tree}
-use Rattle.scheduler.specs.Parts.{IsCore, IsPlaced, Parts, entry_of, is_below, reached, replied_of, core_state_in}
-use Rattle.scheduler.specs.Slots.{SlotView}
+use Rattle.scheduler.specs.Parts.{IsCore, Parts, is_below, reached, core_state_in}
+use Rattle.scheduler.specs.Slots.{SlotView, IsPlaced, entry_of, replied_of}
 
 -- `find_in_flight` finds the entry with a ticket, if no other entry has that ticket
 pub picked_at : (before : List Entry) (e : Entry) (behind : List Entry) → AllByRecursion (λ d. d.0 ≡ e.0 → ⊥) before

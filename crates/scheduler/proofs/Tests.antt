@@ -3,8 +3,7 @@ use Rattle.std.proofs.Common.{◌≡◌, Bool, true, false, List, [], ◌∷◌,
 use Rattle.std.specs.Prelude.{◌&&◌, ◌||◌, cond, filter}
 use Rattle.std.specs.List.{AllByRecursion, list_any}
 use Rattle.std.proofs.lemmas.List.Folds.{list_any-append}
-use Rattle.scheduler.specs.Parts.{held_any, queued_of}
-use Rattle.scheduler.specs.Slots.{Phases, SlotView}
+use Rattle.scheduler.specs.Slots.{Phases, SlotView, held_any, queued_of}
 use Rattle.run_queue.specs.declared.queued_message.QueuedMessage.{QueuedMessage}
 use Rattle.std.proofs.Math.Bool.{or-false, or-true, or_assoc}
 

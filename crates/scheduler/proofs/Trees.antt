@@ -12,8 +12,8 @@ use Rattle.affinity.specs.declared.geometry.Geometry.{Geometry}
 use Rattle.affinity.proofs.Elements.{all_weaker, any_moved}
 use Rattle.histories.specs.Eligible.{next_eligible}
 use Rattle.histories.specs.Events.{log}
-use Rattle.histories.specs.Laws.{IsSoundCoreState, AreUnrelated}
-use Rattle.histories.specs.CoreState.{Entry, Replied, CoreState, entries, held, are_related_entries}
+use Rattle.histories.specs.IsSoundCoreState.{IsSoundCoreState}
+use Rattle.histories.specs.CoreState.{Entry, Replied, CoreState, entries, held, are_related_entries, AreUnrelated}
 use Rattle.histories.proofs.AreUnrelated.{apart_turned, entries-append, granted_is_free}
 use Rattle.histories.proofs.Lists.{all_back, all_front, before_back, before_first, before_one}
 use Rattle.histories.proofs.Outs.{entries_leave}
@@ -22,16 +22,16 @@ use Rattle.histories.proofs.SerialReplies.{state_after_all-append}
 use Rattle.protocol.specs.Messages.{IsMessage, path_of}
 use Rattle.parcel.proofs.Holding.{can_be_lent, holds_alike, lent_holds, lent_shows, place_is_out, restored_holds}
 use Rattle.parcel.specs.Fits.{Fits}
-use Rattle.parcel.specs.Holding.{IsApart, TreeHolds, with_place}
+use Rattle.parcel.specs.TreeHolds.{IsApart, TreeHolds, with_place}
 use Rattle.parcel.specs.Nodes.{Nodes}
-use Rattle.parcel.specs.Run.{Shows}
+use Rattle.parcel.specs.Shown.{Shows}
 use Rattle.parcel.specs.Tree.{HasGap, IsOut, LendsAt, RestoresAt}
 use Rattle.parcel.specs.declared.parts.Parcels.{Parcels}
 use Rattle.parcel.specs.declared.parts.Standing.{Standing}
 use Rattle.meaning.proofs.Agree.{agree-sym, agree-trans}
 use Rattle.meaning.proofs.Frame.{reads_only}
 use Rattle.meaning.specs.Order.{messages_of}
-use Rattle.meaning.specs.Serial.{state_after_all, next_state}
+use Rattle.meaning.specs.Step.{state_after_all, next_state}
 use Rattle.meaning.specs.Subtrees.{AgreeOn}
 use Rattle.meaning.specs.State.{State}
 use Rattle.scheduler.specs.Parts.{is_below, reached}

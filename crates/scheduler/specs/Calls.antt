@@ -3,7 +3,8 @@ use Rattle.std.specs.Prelude.{◌≡◌, ℕ, ◌+◌, Bool, true, false, List, 
 use Rattle.std.specs.Option.{option_map_or}
 use Rattle.affinity.specs.declared.geometry.Geometry.{Geometry}
 use Rattle.histories.specs.Eligible.{next_eligible}
-use Rattle.histories.specs.Events.{Hand, IsAllowed, arrive, batch, fails, pieces_after, grant, all_pieces_written, log, grant_refusal, piece_refusal}
+use Rattle.histories.specs.MachineState.{Hand}
+use Rattle.histories.specs.Events.{IsAllowed, arrive, batch, fails, pieces_after, grant, all_pieces_written, log, grant_refusal, piece_refusal}
 use Rattle.histories.specs.CoreState.{Entry, CoreState}
 use Rattle.histories.specs.declared.outcomes.ArriveRefusal.{ArriveRefusal}
 use Rattle.histories.specs.declared.outcomes.CoreFault.{CoreFault}
@@ -19,7 +20,7 @@ use Rattle.scheduler.specs.Jobs.{IsJobOf}
 use Rattle.scheduler.specs.CoreView.{CoreView, core_state_of}
 use Rattle.scheduler.specs.declared.granted.Granted.{Granted}
 use Rattle.scheduler.specs.declared.granted.Granted.TheVariants as granted
-use Rattle.parcel.specs.Run.{JobView}
+use Rattle.parcel.specs.JobRun.{JobView}
 
 -- ---- messages that are dispatched
 

@@ -1,13 +1,13 @@
 -- Statement for operators: A core as contracts see it: its core state, and what a crash leaves of its device.
 use Rattle.std.specs.Prelude.{◌≡◌, ℕ, Bool, false, List, [], Option, None, if◌then◌else◌}
 use Rattle.affinity.specs.declared.geometry.Geometry.{Geometry}
-use Rattle.disk.specs.Device.{Medium, IsCrashImage}
-use Rattle.disk.specs.Moments.{CrashImagesAre}
+use Rattle.disk.specs.Device.{Medium}
+use Rattle.disk.specs.CrashImages.{IsCrashImage, CrashImagesAre}
 use Rattle.checkpoint.specs.Journal.{RecoversWithPrefix}
 use Rattle.histories.specs.CoreState.{Entry, Replied, CoreState}
 use Rattle.protocol.specs.declared.messages.Msg.{Msg}
 use Rattle.parcel.specs.Tree.{TreeView, state_in}
-use Rattle.meaning.specs.Serial.{state_after_all}
+use Rattle.meaning.specs.Step.{state_after_all}
 
 -- what contracts see of a core
 pub record CoreView : Type 0 where

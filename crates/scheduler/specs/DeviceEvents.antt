@@ -3,10 +3,11 @@ use Rattle.std.specs.Prelude.{◌≡◌, ◌+◌, ℕ, cond, true, false, List, 
 use Rattle.affinity.specs.declared.geometry.Geometry.{Geometry}
 use Rattle.recovery.specs.Recovery.{recovered_state}
 use Rattle.disk.specs.Device.{Medium}
-use Rattle.disk.specs.Moments.{CrashImagesAre}
+use Rattle.disk.specs.CrashImages.{CrashImagesAre}
 use Rattle.checkpoint.specs.Journal.{RecoversWithPrefix}
 use Rattle.histories.specs.Crash.{IsLeftSince, in_doubt}
-use Rattle.histories.specs.Events.{Event, MachineState, touches_device}
+use Rattle.histories.specs.Events.{Event, touches_device}
+use Rattle.histories.specs.MachineState.{MachineState}
 use Rattle.histories.specs.Runs.{end_state}
 use Rattle.meaning.specs.State.{State}
 

@@ -5,16 +5,17 @@ use Rattle.std.specs.List.{AllByRecursion}
 use Rattle.affinity.specs.declared.geometry.Geometry.{Geometry}
 use Rattle.recovery.specs.Header.{HasHeader}
 use Rattle.recovery.specs.Recovery.{recovered_state}
-use Rattle.disk.specs.Device.{Medium, AreBytes, IsSynced}
-use Rattle.disk.specs.Moments.{moment_number, left_since}
+use Rattle.disk.specs.Device.{Medium, IsSynced, moment_number}
+use Rattle.disk.specs.CrashImages.{AreBytes, left_since}
 use Rattle.checkpoint.specs.Opening.{OpeningCrashImages}
-use Rattle.histories.specs.Events.{Event, MachineState}
-use Rattle.histories.specs.Laws.{IsIdle}
+use Rattle.histories.specs.Events.{Event}
+use Rattle.histories.specs.MachineState.{MachineState}
+use Rattle.histories.specs.CoreState.{IsIdle}
 use Rattle.histories.specs.Incarnations.{AreLogsOf, AllHoldAnswered, Incarnation, Ran, Unopened, in_order}
 use Rattle.histories.specs.Runs.{IsLegal}
 use Rattle.scheduler.specs.DeviceEvents.{RecoversForRun}
 use Rattle.protocol.specs.declared.messages.Msg.{Msg}
-use Rattle.meaning.specs.Serial.{state_after_all}
+use Rattle.meaning.specs.Step.{state_after_all}
 use Rattle.meaning.specs.State.{empty}
 
 -- An incarnation of a device: the device when it was opened (`at_open`) and after its last call (`at_end`); the first moment at which the

@@ -5,11 +5,12 @@ use Rattle.affinity.specs.declared.geometry.Geometry.{Geometry}
 use Rattle.histories.specs.CoreState.{CoreState}
 use Rattle.protocol.specs.Messages.{path_of}
 use Rattle.parcel.specs.Fits.{IsRunnable}
-use Rattle.parcel.specs.Run.{JobView, Shows}
-use Rattle.parcel.specs.RunLaws.{IsLentOf}
+use Rattle.parcel.specs.JobRun.{JobView}
+use Rattle.parcel.specs.Shown.{Shows}
+use Rattle.parcel.specs.LentJob.{IsLentOf}
 use Rattle.parcel.specs.declared.job.Done.{Done}
 use Rattle.parcel.specs.declared.parts.Standing.{Standing}
-use Rattle.meaning.specs.Serial.{next_state, reply_to}
+use Rattle.meaning.specs.Step.{next_state, reply_to}
 
 -- The job is of a message in flight. Its parcels are what the committed state has at the message's place and below, its standing what that
 -- has above.

@@ -7,9 +7,10 @@ pub mod Opening
 pub mod Slots
 pub mod Parts
 pub mod View
-pub mod Moving
+pub mod HasLogged
 pub mod History
 pub mod Machine
+pub mod Runs
 pub mod Steps
 pub mod Hands
 pub mod DeviceEvents

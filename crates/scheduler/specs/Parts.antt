@@ -1,40 +1,23 @@
 -- Statement for engineers: What a core keeps true of its parts between calls.
-use Rattle.std.specs.Prelude.{◌≡◌, ◌+◌, ℕ, Bool, true, false, List, [], ◌||◌, map, length, Some}
-use Rattle.std.specs.List.{AllByRecursion, list_any}
-use Rattle.affinity.specs.Interval.{IsAffinityOf}
+use Rattle.std.specs.Prelude.{◌≡◌, ◌+◌, ℕ, Bool, false, List, [], map, length, Some}
+use Rattle.std.specs.List.{list_any}
 use Rattle.affinity.specs.Path.{Path, is_prefix}
 use Rattle.affinity.specs.declared.geometry.Geometry.{Geometry}
 use Rattle.checkpoint.specs.Journal.{JournalView, committed}
-use Rattle.histories.specs.Eligible.{changes, unlogged_changes}
-use Rattle.histories.specs.Laws.{IsSoundCoreState}
-use Rattle.histories.specs.CoreState.{Entry, Replied, CoreState, entries}
-use Rattle.protocol.specs.Messages.{IsMessage, is_in_range, path_of}
+use Rattle.histories.specs.Eligible.{unlogged_changes}
+use Rattle.histories.specs.IsSoundCoreState.{IsSoundCoreState}
+use Rattle.histories.specs.CoreState.{Entry, CoreState, entries}
+use Rattle.protocol.specs.Messages.{path_of}
 use Rattle.protocol.specs.declared.messages.Msg.{Msg}
-use Rattle.parcel.specs.Holding.{TreeHolds}
+use Rattle.parcel.specs.TreeHolds.{TreeHolds}
 use Rattle.parcel.specs.Tree.{TreeView, tree_nodes}
 use Rattle.meaning.specs.Order.{messages_of}
-use Rattle.meaning.specs.Serial.{state_after_all}
+use Rattle.meaning.specs.Step.{state_after_all}
 use Rattle.meaning.specs.State.{State}
 use Rattle.scheduler.specs.CoreView.{CoreView, RecoversNow, core_state_of}
-use Rattle.scheduler.specs.Slots.{Phases, SlotView}
+use Rattle.scheduler.specs.Slots.{Phases, entry_of, replied_of, queued_of, held_any, ArePlaced}
 use Rattle.run_queue.specs.RunQueue.{RunQueueView}
 use Rattle.run_queue.specs.declared.queued_message.QueuedMessage.{QueuedMessage}
-
--- the message in a slot: with its ticket (`entry_of`), with its ticket and reply (`replied_of`), and as the run queue has it (`queued_of`)
-abbrev pub entry_of : SlotView → Entry
-entry_of x = (x.1.ticket, x.1.message)
-
-abbrev pub replied_of : SlotView → Replied
-replied_of x = (x.1.ticket, x.1.message, x.2)
-
-abbrev pub queued_of : SlotView → QueuedMessage
-queued_of x = record { slot = x.0; affinity = x.1.affinity; changing = changes x.1.message; ticket = x.1.ticket }
-
--- whether one of the held messages passes a test
-abbrev pub held_any : (QueuedMessage → Bool) → Phases → Bool
-held_any test l =
-    list_any (λ x. test (queued_of x)) l.logged
-    || (list_any (λ x. test (queued_of x)) l.ran || list_any (λ x. test (queued_of x)) l.in_flight)
 
 -- the parts of which a core is made, as contracts see them
 pub record Parts : Type 0 where
@@ -76,18 +59,6 @@ core_view_of p = record {
 
 abbrev pub core_state_in : Parts → CoreState
 core_state_in p = core_state_of (core_view_of p)
-
--- The message in the slot is well formed and in range, and the slot's affinity is that of its place.
-pub record IsPlaced (g : Geometry) (x : SlotView) : Type 0 where
-  pub affinity : IsAffinityOf g (path_of g x.1.message) x.1.affinity
-  pub range : is_in_range g x.1.message ≡ true
-  pub message : IsMessage x.1.message
-
-pub record ArePlaced (g : Geometry) (l : Phases) : Type 0 where
-  pub waiting : AllByRecursion (IsPlaced g) l.waiting
-  pub in_flight : AllByRecursion (IsPlaced g) l.in_flight
-  pub ran : AllByRecursion (IsPlaced g) l.ran
-  pub logged : AllByRecursion (IsPlaced g) l.logged
 
 -- whether a path is the place of one of these messages, or lies below it
 abbrev pub is_below : Geometry → List Entry → Path → Bool

@@ -1,11 +1,18 @@
 -- Statement for engineers: The messages of a core in its slots, by how far each has come.
-use Rattle.std.specs.Prelude.{◌≡◌, ℕ, List, length, map, get_or, unwrap_or}
+use Rattle.std.specs.Prelude.{◌≡◌, ℕ, List, length, map, get_or, unwrap_or, Bool, true, ◌||◌}
+use Rattle.std.specs.List.{AllByRecursion, list_any}
 use Rattle.arena.specs.ArenaView.{IsPartitioned, ArenaView, chain_at, value_at}
 use Rattle.protocol.specs.declared.messages.Msg.TheVariants.{Summary}
 use Rattle.protocol.specs.declared.replies.Reply.{Reply}
 use Rattle.protocol.specs.declared.replies.Reply.TheVariants.{Done}
+use Rattle.protocol.specs.Messages.{IsMessage, is_in_range, path_of}
 use Rattle.scheduler.specs.declared.slot.Slot.{Slot}
 use Rattle.scheduler.specs.declared.slot.TheConstants.{WAITING, IN_FLIGHT, RAN, LOGGED, CHAINS}
+use Rattle.affinity.specs.Interval.{IsAffinityOf}
+use Rattle.affinity.specs.declared.geometry.Geometry.{Geometry}
+use Rattle.histories.specs.Eligible.{changes}
+use Rattle.histories.specs.CoreState.{Entry, Replied}
+use Rattle.run_queue.specs.declared.queued_message.QueuedMessage.{QueuedMessage}
 
 -- a slot with its number, and the reply that lies at this number
 abbrev pub SlotView : Type 0
@@ -43,3 +50,31 @@ phases_of arena replies = record {
 pub record HasChains (arena : ArenaView Slot) : Type 0 where
   pub partitioned : IsPartitioned arena
   pub chain_count : length arena.chains ≡ CHAINS
+
+-- the message in a slot: with its ticket (`entry_of`), with its ticket and reply (`replied_of`), and as the run queue has it (`queued_of`)
+abbrev pub entry_of : SlotView → Entry
+entry_of x = (x.1.ticket, x.1.message)
+
+abbrev pub replied_of : SlotView → Replied
+replied_of x = (x.1.ticket, x.1.message, x.2)
+
+abbrev pub queued_of : SlotView → QueuedMessage
+queued_of x = record { slot = x.0; affinity = x.1.affinity; changing = changes x.1.message; ticket = x.1.ticket }
+
+-- whether one of the held messages passes a test
+abbrev pub held_any : (QueuedMessage → Bool) → Phases → Bool
+held_any test l =
+    list_any (λ x. test (queued_of x)) l.logged
+    || (list_any (λ x. test (queued_of x)) l.ran || list_any (λ x. test (queued_of x)) l.in_flight)
+
+-- The message in the slot is well formed and in range, and the slot's affinity is that of its place.
+pub record IsPlaced (g : Geometry) (x : SlotView) : Type 0 where
+  pub affinity : IsAffinityOf g (path_of g x.1.message) x.1.affinity
+  pub range : is_in_range g x.1.message ≡ true
+  pub message : IsMessage x.1.message
+
+pub record ArePlaced (g : Geometry) (l : Phases) : Type 0 where
+  pub waiting : AllByRecursion (IsPlaced g) l.waiting
+  pub in_flight : AllByRecursion (IsPlaced g) l.in_flight
+  pub ran : AllByRecursion (IsPlaced g) l.ran
+  pub logged : AllByRecursion (IsPlaced g) l.logged

@@ -1,6 +1,6 @@
 -- Inner: One step of a machine, and of its core alone.
 use Rattle.std.specs.Prelude.{◌≡◌, Bool, false, [], ◌∷◌}
-use Rattle.disk.specs.Moments.{CrashImagesAre}
+use Rattle.disk.specs.CrashImages.{CrashImagesAre}
 use Rattle.checkpoint.specs.Journal.{RecoversWithPrefix}
 use Rattle.histories.specs.Crash.{in_doubt, to_append}
 use Rattle.histories.specs.Events.{IsAllowed, touches_device}

@@ -1,18 +1,21 @@
 //! What holds of the jobs that a core has dispatched, of a run of a core on a device, and of a device over many incarnations (the law
 //! of incarnations). No function here does anything; its contract is the law.
 ghost use Rattle.affinity.specs.declared.geometry.Geometry.{Geometry};
-ghost use Rattle.disk.specs.Device.{IsCrashImage, IsSynced, Medium};
-ghost use Rattle.disk.specs.Moments.{moment_number};
-ghost use Rattle.histories.specs.CoreState.{CoreState};
-ghost use Rattle.histories.specs.Events.{Event, MachineState, IsAllowed};
+ghost use Rattle.disk.specs.CrashImages.{IsCrashImage};
+ghost use Rattle.disk.specs.Device.{IsSynced, Medium};
+ghost use Rattle.disk.specs.Device.{moment_number};
+ghost use Rattle.histories.specs.CoreState.{CoreState, IsIdle};
+ghost use Rattle.histories.specs.Events.{Event, IsAllowed};
+ghost use Rattle.histories.specs.MachineState.{MachineState};
 ghost use Rattle.histories.specs.Incarnations.{HoldsAnswered, Ran};
-ghost use Rattle.histories.specs.Laws.{IsSoundCoreState, IsIdle};
+ghost use Rattle.histories.specs.IsSoundCoreState.{IsSoundCoreState};
 ghost use Rattle.histories.specs.Runs.{IsLegal, end_state};
 ghost use Rattle.scheduler.specs.DeviceEvents.{AgreeWithDevice, DeviceEvent, IsFailStop, RecoversForRun, device_after, events_of};
 ghost use Rattle.scheduler.specs.Incarnations.{DeviceIncarnation, HasIncarnations, HaveGeometry, LeftByLast, RecoversForIncarnations, incarnations_of};
-ghost use Rattle.scheduler.specs.Machine.{MachineView, IsEndOfRun, machine_of};
+ghost use Rattle.scheduler.specs.Machine.{MachineView, machine_of};
+ghost use Rattle.scheduler.specs.Runs.{IsEndOfRun};
 ghost use Rattle.meaning.specs.State.{empty};
-ghost use Rattle.parcel.specs.Run.{JobView, IsJobRun};
+ghost use Rattle.parcel.specs.JobRun.{JobView, IsJobRun};
 ghost use Rattle.parcel.specs.declared.job.Done.{Done};
 ghost use Rattle.recovery.specs.Header.{HasHeader};
 ghost use Rattle.recovery.specs.Recovery.{recovered_state};

@@ -2,8 +2,8 @@
 ghost use Rattle.std.specs.Prelude.{◌≡◌, ◌≤◌, ◌<◌, ◌+◌, [], ◌∷◌, ◌++◌, length, take, vec_capacity};
 ghost use Rattle.arena.specs.ArenaView.{capacity_of, chain_at};
 ghost use Rattle.histories.specs.Events.{recorded};
-ghost use Rattle.meaning.specs.Serial.{is_recorded};
-ghost use Rattle.scheduler.specs.Moving.{HasLogged, changing_in, recorded_in};
+ghost use Rattle.meaning.specs.Step.{is_recorded};
+ghost use Rattle.scheduler.specs.HasLogged.{HasLogged, changing_in, recorded_in};
 ghost use Rattle.scheduler.specs.Slots.{HasChains};
 
 use crate::server_core::one_if;

@@ -3,7 +3,7 @@
 //! records a checkpoint is due (0: only where the log is full), and a hook that does nothing (`OpenGate`). `assert_left` takes the area
 //! that the device names, and its numbers of volumes, files and blocks.
 ghost use Rattle.std.specs.Prelude.{◌≡◌, false, IfOk, IsTrue};
-ghost use Rattle.histories.specs.Laws.{IsIdle};
+ghost use Rattle.histories.specs.CoreState.{IsIdle};
 ghost use Rattle.scheduler.specs.CoreView.{core_state_of};
 
 use crate::assertions::assert_text;

@@ -10,9 +10,9 @@ use Rattle.scheduler.proofs.HasRun.{left_since_event}
 use Rattle.histories.proofs.Arrivals.{answered_by_ticket, arrived_by_ticket, committed_by_ticket}
 use Rattle.histories.proofs.Idle.{idle_sound}
 use Rattle.histories.proofs.SerialReplies.{IsIn}
-use Rattle.histories.specs.Events.{MachineState}
-use Rattle.histories.specs.Laws.{IsIdle, IsSoundCoreState}
-use Rattle.histories.specs.CoreState.{Entry}
+use Rattle.histories.specs.MachineState.{MachineState}
+use Rattle.histories.specs.IsSoundCoreState.{IsSoundCoreState}
+use Rattle.histories.specs.CoreState.{Entry, IsIdle}
 use Rattle.histories.specs.Runs.{arrived}
 use Rattle.protocol.proofs.FirstLines.{lines-first}
 use Rattle.protocol.specs.Lines.{lines}
@@ -21,10 +21,12 @@ use Rattle.protocol.specs.declared.replies.Reply.{Reply}
 use Rattle.meaning.specs.Order.{by_ticket, messages_of, serial_replies}
 use Rattle.meaning.specs.Output.{AnswersWholeLines, IsBeginning, WritesOutput, joined, output_lines, state_after_lines, with_newlines}
 use Rattle.meaning.specs.Progress.{AreTaken, TakesLines}
-use Rattle.meaning.specs.Serial.{state_after_all}
+use Rattle.meaning.specs.Step.{state_after_all}
 use Rattle.meaning.specs.State.{State}
 use Rattle.scheduler.specs.CoreView.{RecoversNow, core_state_of}
-use Rattle.serving.specs.Ends.{AreFirst, AreServed, EndsWith, HasServed, IsQuiesced, committed_in, exchange}
+use Rattle.serving.specs.Runs.{AreFirst, HasServed}
+use Rattle.serving.specs.Ends.{AreServed, EndsWith, IsQuiesced, committed_in}
+use Rattle.serving.specs.Exchange.{exchange}
 use Rattle.serving.specs.Progress.{ServingProgress, IsServing}
 use Rattle.serving.specs.Session.{IsReadEnd}
 use Rattle.serving.specs.Lines.{Line, admitted, next_ticket, answer_text, ticketed}

@@ -8,7 +8,8 @@ use Rattle.histories.specs.CoreState.{Entry, CoreState, held}
 use Rattle.histories.specs.declared.outcomes.PointRefusal.{PointRefusal}
 use Rattle.histories.specs.declared.outcomes.PointRefusal.TheVariants as points
 use Rattle.scheduler.specs.Calls.{IsCheckpointStep}
-use Rattle.serving.specs.Session.{Began, CallsForCheckpoint, CheckpointStep, SessionView}
+use Rattle.serving.specs.SessionSteps.{Began, CallsForCheckpoint, CheckpointStep}
+use Rattle.serving.specs.Session.{SessionView}
 use Rattle.serving.specs.declared.session.Halted.{Halted}
 
 -- ---- why a step is refused

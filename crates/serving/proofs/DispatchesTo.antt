@@ -5,21 +5,21 @@ use Rattle.std.proofs.lemmas.List.{map-set, length-set}
 use Rattle.std.proofs.lemmas.List.Quantifiers.{position-Some}
 use Rattle.std.proofs.lemmas.Bool.{true≢false}
 use Rattle.affinity.specs.declared.geometry.Geometry.{Geometry}
-use Rattle.histories.specs.Events.{is_empty}
+use Rattle.histories.specs.MachineState.{is_empty}
 use Rattle.histories.specs.CoreState.{CoreState}
 use Rattle.histories.specs.declared.outcomes.Outcome.{Outcome}
 use Rattle.histories.specs.declared.outcomes.Outcome.TheVariants as outcomes
 use Rattle.histories.specs.declared.outcomes.Step.TheVariants as steps
 use Rattle.histories.specs.Runs.{answers}
 use Rattle.scheduler.proofs.Events.{failed_step, grant_holds, grant_step, no_grant_step, position_map, position_within, still_holds}
-use Rattle.scheduler.specs.Machine.{hand_of as to_hand}
+use Rattle.scheduler.specs.Hands.{hand_of as to_hand}
 use Rattle.scheduler.specs.Steps.{IsMachineStep}
 use Rattle.scheduler.specs.declared.hands.HandContent.{HandContent}
 use Rattle.scheduler.specs.declared.hands.HandContent.TheVariants as has
-use Rattle.parcel.specs.Run.{JobView}
+use Rattle.parcel.specs.JobRun.{JobView}
 use Rattle.scheduler.specs.Calls.{IsGrantOf, IsNoGrant}
 use Rattle.scheduler.specs.CoreView.{CoreView, RecoversNow, core_state_of}
-use Rattle.serving.specs.Lending.{DispatchesTo, IsBlocked}
+use Rattle.serving.specs.DispatchesTo.{DispatchesTo, IsBlocked}
 use Rattle.serving.specs.Runs.{HandsHaveJobs, IsInternal, lent_hand, machine_with_jobs}
 use Rattle.serving.specs.declared.dispatch.Blocked.{Blocked}
 use Rattle.serving.specs.declared.dispatch.Blocked.TheVariants as blocked

@@ -4,7 +4,7 @@ use Rattle.std.specs.Prelude.{codes}
 use Rattle.affinity.proofs.Numbers.{small}
 use Rattle.histories.proofs.Elements.{in_contained}
 use Rattle.protocol.specs.Grammar.{kind_named, message_of}
-use Rattle.protocol.specs.Lines.{number_in_word}
+use Rattle.protocol.specs.Words.{number_in_word}
 use Rattle.protocol.specs.declared.messages.Msg.TheVariants.{MakeVol, Create, Summary as AskSummary}
 use Rattle.protocol.specs.declared.replies.Reply.{Reply}
 use Rattle.protocol.specs.declared.replies.Reply.TheVariants.{Done, Summary}

@@ -7,36 +7,39 @@ use Rattle.affinity.specs.declared.geometry.Geometry.{Geometry}
 use Rattle.atomic_table.specs.Seated.{TableId}
 use Rattle.std.proofs.lemmas.Bool.{true≢false}
 use Rattle.affinity.proofs.Elements.{all_join}
-use Rattle.histories.specs.Events.{MachineState, arrive}
+use Rattle.histories.specs.MachineState.{MachineState, full_hands}
+use Rattle.histories.specs.Events.{arrive}
 use Rattle.histories.proofs.FullHands.{last_none_out}
 use Rattle.histories.proofs.Idle.{none_in_flight}
-use Rattle.histories.specs.CoreState.{Entry}
-use Rattle.histories.specs.Laws.{IsIdle, full_hands}
+use Rattle.histories.specs.CoreState.{Entry, IsIdle}
 use Rattle.scheduler.specs.DeviceEvents.{events_of}
-use Rattle.scheduler.specs.Machine.{MachineView, hand_of as hand_in, machine_of}
-use Rattle.parcel.specs.Run.{JobView}
+use Rattle.scheduler.specs.Machine.{MachineView, machine_of}
+use Rattle.scheduler.specs.Hands.{hand_of as hand_in}
+use Rattle.parcel.specs.JobRun.{JobView}
 use Rattle.histories.specs.declared.outcomes.ArriveRefusal.TheVariants as arrivals
 use Rattle.histories.specs.declared.outcomes.Outcome.TheVariants.{ArriveRefused}
 use Rattle.protocol.specs.Grammar.{message_of}
 use Rattle.protocol.specs.FirstLine.{GivesLine, HasWholeFirstLine, PassesLine}
-use Rattle.message.specs.Waiting.{all_output}
+use Rattle.message.specs.BufferedOutput.{all_output}
 use Rattle.protocol.specs.declared.messages.Msg.{Msg}
 use Rattle.protocol.specs.declared.replies.Reply.{Reply}
 use Rattle.scheduler.specs.CoreView.{CoreView, RecoversNow, core_state_of}
 use Rattle.serving.specs.Progress.{ServingProgress}
 use Rattle.meaning.specs.Output.{joined}
 use Rattle.serving.specs.Lines.{HaveAnswers, Line, Pending, complete_one, has_answer, answer_text}
-use Rattle.serving.specs.Lending.{NoneInFlight}
-use Rattle.serving.specs.Reads.{IsTaken}
+use Rattle.serving.specs.DispatchesTo.{NoneInFlight}
+use Rattle.serving.specs.TakesLine.{IsTaken}
 use Rattle.reorder_buffer.specs.ReorderBuffer.{AreConsecutive, ReorderBufferView, can_retire, retired_text, with_tickets}
 use Rattle.serving.specs.Runs.{HandsHaveJobs, IsInternal, RunsBetween, lent_hand, machine_with_jobs}
 use Rattle.serving.specs.declared.checkpoints.CheckpointTrigger.{CheckpointTrigger}
-use Rattle.serving.specs.Session.{Waits, SessionProgress, HasEndedReading, IsReadEnd, SessionInvariant, SessionInvariantFrom, SessionView, ServingSince, ReadsOrHasEnded, machine, IsSent}
-use Rattle.message.specs.Writing.{AppendsBeginning}
+use Rattle.serving.specs.SessionInvariant.{Waits, SessionProgress, HasEndedReading, SessionInvariant, SessionInvariantFrom, ServingSince, ReadsOrHasEnded, IsSent}
+use Rattle.serving.specs.Session.{IsReadEnd, SessionView, machine}
+use Rattle.message.specs.AppendsBeginning.{AppendsBeginning}
 use Rattle.disk.specs.Device.{Medium}
 use Rattle.protocol.proofs.Newlines.{newlines}
 use Rattle.serving.specs.Kill.{IsKillSafe}
-use Rattle.serving.specs.Output.{MaySend, Start, start_machine}
+use Rattle.serving.specs.MaySend.{MaySend}
+use Rattle.serving.specs.Start.{Start, start_machine}
 use Rattle.serving.specs.declared.session.ReadEnd.{ReadEnd}
 use Rattle.serving.specs.declared.session.ReadEnd.TheVariants as ends_of_reading
 use Rattle.workers.specs.Seats.{DispatchSeatView}

@@ -6,16 +6,19 @@ use Rattle.std.proofs.lemmas.Bool.{true≢false, lt-ltb}
 use Rattle.std.proofs.lemmas.Option.{none-some}
 use Rattle.affinity.specs.declared.geometry.Geometry.{Geometry}
 use Rattle.histories.proofs.Progress.{needs}
-use Rattle.histories.specs.CoreState.{CoreState, Entry, entries, held}
-use Rattle.histories.specs.Laws.{IsIdle, IsSoundCoreState}
+use Rattle.histories.specs.CoreState.{CoreState, Entry, entries, held, IsIdle}
+use Rattle.histories.specs.IsSoundCoreState.{IsSoundCoreState}
 use Rattle.histories.specs.declared.outcomes.Outcome.TheVariants as outcomes
 use Rattle.reorder_buffer.specs.ReorderBuffer.{ReorderBufferView, can_retire}
-use Rattle.parcel.specs.Run.{JobView}
+use Rattle.parcel.specs.JobRun.{JobView}
 use Rattle.scheduler.specs.Calls.{IsNoGrant}
 use Rattle.scheduler.specs.CoreView.{core_state_of}
-use Rattle.serving.specs.Lending.{IsBlocked, asks_for_checkpoint}
-use Rattle.serving.specs.Session.{IsAtRest, KeepsCoreState, HasLoggedNothing, HasOnlySent, SessionInvariantFrom, SessionView}
-use Rattle.serving.specs.Output.{Start}
+use Rattle.serving.specs.DispatchesTo.{IsBlocked, asks_for_checkpoint}
+use Rattle.serving.specs.SessionEnds.{IsAtRest}
+use Rattle.serving.specs.SessionSteps.{KeepsCoreState, HasLoggedNothing, HasOnlySent}
+use Rattle.serving.specs.SessionInvariant.{SessionInvariantFrom}
+use Rattle.serving.specs.Session.{SessionView}
+use Rattle.serving.specs.Start.{Start}
 use Rattle.serving.specs.declared.dispatch.Blocked.{Blocked}
 use Rattle.serving.specs.declared.dispatch.Blocked.TheVariants as blocked
 use Rattle.serving.proofs.Invariant.{ask, none_out, progress_at_end, to_reorder_buffer}

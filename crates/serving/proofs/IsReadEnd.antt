@@ -15,7 +15,7 @@ use Rattle.protocol.specs.Messages.{is_in_range}
 use Rattle.protocol.specs.FirstLine.{GivesLine}
 use Rattle.protocol.specs.declared.messages.Msg.{Msg}
 use Rattle.scheduler.specs.CoreView.{core_state_of}
-use Rattle.serving.specs.Reads.{IsRefusedLine, read_end_of}
+use Rattle.serving.specs.TakesLine.{IsRefusedLine, read_end_of}
 use Rattle.serving.specs.Runs.{unanswered}
 use Rattle.serving.specs.Session.{IsReadEnd}
 use Rattle.serving.proofs.Tickets.{passes_next}

@@ -5,17 +5,17 @@ use Rattle.std.specs.Io.KnownBytes.{Appends}
 use Rattle.std.proofs.KnownBytes.{Appends-nil}
 use Rattle.std.proofs.lemmas.List.{length-append, length-map, take-append-le, take-map, take_all}
 use Rattle.disk.specs.Device.{Medium}
-use Rattle.histories.specs.Laws.{IsIdle}
+use Rattle.histories.specs.CoreState.{IsIdle}
 use Rattle.scheduler.specs.DeviceEvents.{DeviceEvent, device_after, events_of}
 use Rattle.scheduler.specs.Machine.{MachineView}
 use Rattle.meaning.specs.Output.{joined}
 use Rattle.scheduler.specs.CoreView.{RecoversNow, core_state_of}
 use Rattle.serving.specs.Kill.{IsKillSafeFrom}
 use Rattle.serving.specs.Lines.{Line, answer_text}
-use Rattle.serving.specs.Output.{Start, start_machine}
+use Rattle.serving.specs.Start.{Start, start_machine}
 use Rattle.serving.specs.Progress.{IsServing}
 use Rattle.serving.specs.Restart.{WritesBeginning}
-use Rattle.serving.specs.Session.{KeepsSent, ServingSince}
+use Rattle.serving.specs.SessionInvariant.{KeepsSent, ServingSince}
 use Rattle.serving.proofs.MaySend.{still_in_history}
 use Rattle.serving.proofs.Logged.{holds_logged, serving_kept}
 use Rattle.serving.proofs.RecoversWritten.{bytes_recover}

@@ -7,29 +7,31 @@ use Rattle.std.proofs.lemmas.List.{length-append, length-map, take_all}
 use Rattle.affinity.specs.declared.geometry.Geometry.{Geometry}
 use Rattle.recovery.proofs.NotRefused.{is_not_refused, has_header}
 use Rattle.disk.proofs.Moments.{counts_now}
-use Rattle.disk.specs.Device.{IsCrashImage}
-use Rattle.disk.specs.Moments.{left_since, moment_number}
+use Rattle.disk.specs.CrashImages.{IsCrashImage, left_since}
+use Rattle.disk.specs.Device.{moment_number}
 use Rattle.histories.proofs.AnsweredFirst.{run_replies}
 use Rattle.histories.proofs.Arrivals.{run_ascending}
 use Rattle.histories.proofs.Crashes.{went_first}
 use Rattle.histories.proofs.Elements.{contains_in, holds_of, in_contained}
 use Rattle.histories.proofs.SerialHistories.{answered_came, left_in_order, logged_begins, one_message, still_serial}
 use Rattle.histories.proofs.SerialReplies.{IsIn, in_left, in_right}
-use Rattle.histories.specs.Events.{Event, MachineState, recorded}
-use Rattle.histories.specs.Laws.{IsIdle, ticket_replies}
+use Rattle.histories.specs.Events.{Event, recorded}
+use Rattle.histories.specs.MachineState.{MachineState}
+use Rattle.histories.specs.IsSerialHistory.{ticket_replies}
 use Rattle.histories.specs.Runs.{answered_messages, arrived, arrives, end_state, logged_messages}
-use Rattle.histories.specs.CoreState.{Entry, Replied, entry}
+use Rattle.histories.specs.CoreState.{Entry, Replied, entry, IsIdle}
 use Rattle.scheduler.specs.Machine.{MachineView, machine_of}
 use Rattle.scheduler.specs.DeviceEvents.{DeviceEvent, RecoversForRun, device_after, events_of}
 use Rattle.protocol.specs.Grammar.{message_of}
 use Rattle.protocol.specs.declared.messages.Msg.{Msg}
 use Rattle.protocol.specs.declared.replies.Reply.{Reply}
-use Rattle.meaning.specs.Serial.{state_after_all}
+use Rattle.meaning.specs.Step.{state_after_all}
 use Rattle.meaning.specs.State.{State}
 use Rattle.scheduler.specs.CoreView.{CoreView, core_state_of}
-use Rattle.serving.specs.Ends.{HasRunLines, HasServed, committed_in}
+use Rattle.serving.specs.Runs.{HasRunLines, HasServed}
+use Rattle.serving.specs.Ends.{committed_in}
 use Rattle.serving.specs.Lines.{Completed, AreKnown, IsKnown, Line, NoMessage, OutOfRange, Pending, admitted, admitted_in, has_answer, next_ticket, answer_text, ticketed}
-use Rattle.serving.specs.Logged.{AreInHistory, HoldsSent, RecoversToHistory, IsInHistory}
+use Rattle.serving.specs.History.{AreInHistory, HoldsSent, RecoversToHistory, IsInHistory}
 use Rattle.serving.specs.Progress.{IsServing}
 use Rattle.serving.proofs.Serial.{as_many}
 use Rattle.serving.proofs.Tickets.{ticketed-append}

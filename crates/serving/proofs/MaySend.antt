@@ -5,19 +5,21 @@ use Rattle.std.proofs.KnownBytes.{Appends-trans}
 use Rattle.std.specs.Io.KnownBytes.{Appends}
 use Rattle.affinity.specs.declared.geometry.Geometry.{Geometry}
 use Rattle.affinity.proofs.Elements.{all_join}
-use Rattle.disk.specs.Device.{IsCrashImage}
+use Rattle.disk.specs.CrashImages.{IsCrashImage}
 use Rattle.histories.specs.CoreState.{Replied}
 use Rattle.protocol.specs.Grammar.{message_of}
 use Rattle.protocol.proofs.Newlines.{newlines}
 use Rattle.meaning.specs.Output.{joined}
-use Rattle.message.specs.Waiting.{all_output}
-use Rattle.message.specs.Writing.{AppendsBeginning}
+use Rattle.message.specs.BufferedOutput.{all_output}
+use Rattle.message.specs.AppendsBeginning.{AppendsBeginning}
 use Rattle.scheduler.specs.CoreView.{CoreView}
-use Rattle.serving.specs.Ends.{HasServed, committed_in}
+use Rattle.serving.specs.Runs.{HasServed}
+use Rattle.serving.specs.Ends.{committed_in}
 use Rattle.serving.specs.Kill.{Between, Sending, WasKilled}
 use Rattle.serving.specs.Lines.{admitted_in, has_answer, answer_text, next_ticket}
-use Rattle.serving.specs.Logged.{AreInHistory, HoldsSent}
-use Rattle.serving.specs.Output.{MaySendFrom, Start, start_machine}
+use Rattle.serving.specs.History.{AreInHistory, HoldsSent}
+use Rattle.serving.specs.MaySend.{MaySendFrom}
+use Rattle.serving.specs.Start.{Start, start_machine}
 use Rattle.serving.specs.Restart.{RecoversWritten}
 use Rattle.serving.proofs.SentLines.{texts_both}
 use Rattle.serving.proofs.Logged.{holds_sent}

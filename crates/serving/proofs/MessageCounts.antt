@@ -7,7 +7,8 @@ use Rattle.histories.proofs.FullHands.{length-picked}
 use Rattle.affinity.specs.declared.geometry.Geometry.{Geometry}
 use Rattle.histories.specs.CoreState.{Replied, CoreState, Entry}
 use Rattle.histories.specs.Eligible.{is_eligible}
-use Rattle.histories.specs.Events.{MachineState, Event, give_back}
+use Rattle.histories.specs.MachineState.{MachineState}
+use Rattle.histories.specs.Events.{Event, give_back}
 use Rattle.histories.specs.Runs.{IsLegal, answered, arrived, end_state}
 use Rattle.serving.specs.Runs.{unanswered}
 use Rattle.histories.proofs.AreUnrelated.{held_grant, length_held, log_held}

@@ -17,7 +17,8 @@ use Rattle.meaning.specs.Output.{joined}
 use Rattle.scheduler.specs.CoreView.{CoreView, core_state_of}
 use Rattle.serving.specs.Lines.{Completed, HaveAnswers, AreKnown, IsKnown, Line, NoMessage, OutOfRange, Pending, admitted, admitted_in, next_ticket, answer_text, ticketed}
 use Rattle.serving.specs.Runs.{unanswered}
-use Rattle.serving.specs.Output.{MaySendFrom, MaySend, Start, SendsNoReply}
+use Rattle.serving.specs.MaySend.{MaySendFrom, MaySend, SendsNoReply}
+use Rattle.serving.specs.Start.{Start}
 use Rattle.serving.proofs.Outstanding.{idle_inside, passes_count}
 use Rattle.serving.proofs.Tickets.{passes_next}
 

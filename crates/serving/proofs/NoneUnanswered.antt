@@ -11,9 +11,10 @@ use Rattle.histories.proofs.Elements.{contains_in, in_contained}
 use Rattle.histories.proofs.Idle.{none_in_flight, none_logged, none_ran}
 use Rattle.histories.proofs.SerialHistories.{none_lost}
 use Rattle.histories.proofs.SerialReplies.{IsIn, in_right}
-use Rattle.histories.specs.CoreState.{Entry, Replied, entries}
-use Rattle.histories.specs.Events.{Event, MachineState}
-use Rattle.histories.specs.Laws.{IsIdle, ticket_replies}
+use Rattle.histories.specs.CoreState.{Entry, Replied, entries, IsIdle}
+use Rattle.histories.specs.Events.{Event}
+use Rattle.histories.specs.MachineState.{MachineState}
+use Rattle.histories.specs.IsSerialHistory.{ticket_replies}
 use Rattle.histories.specs.Runs.{IsLegal, answered_messages, arrived, end_state, logged_messages}
 use Rattle.scheduler.specs.DeviceEvents.{events_of}
 use Rattle.scheduler.specs.Machine.{MachineView, machine_of}

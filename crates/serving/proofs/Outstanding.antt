@@ -8,10 +8,9 @@ use Rattle.std.proofs.lemmas.Bool.Decides.{nat_tests}
 use Rattle.affinity.specs.declared.geometry.Geometry.{Geometry}
 use Rattle.histories.proofs.Elements.{in_contained}
 use Rattle.histories.proofs.SerialReplies.{IsIn}
-use Rattle.histories.specs.Events.{MachineState}
-use Rattle.histories.specs.Laws.{IsIdle}
+use Rattle.histories.specs.MachineState.{MachineState}
 use Rattle.histories.specs.Runs.{end_state}
-use Rattle.histories.specs.CoreState.{CoreState, Entry, held}
+use Rattle.histories.specs.CoreState.{CoreState, Entry, held, IsIdle}
 use Rattle.scheduler.specs.Machine.{MachineView, machine_of}
 use Rattle.scheduler.specs.DeviceEvents.{events_of}
 use Rattle.protocol.specs.Grammar.{message_of}

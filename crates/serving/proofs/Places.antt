@@ -3,7 +3,7 @@ use Rattle.std.proofs.Common.{◌≡◌, ℕ, ◌+◌, Bool, List, Option, Some,
 use Rattle.std.specs.Prelude.{cond, count_by, is_none, position}
 use Rattle.std.proofs.lemmas.List.Quantifiers.{position-Some}
 use Rattle.std.proofs.lemmas.List.Sums.{sum_by-set}
-use Rattle.parcel.specs.Run.{JobView}
+use Rattle.parcel.specs.JobRun.{JobView}
 
 -- Once a job is lent at the first free place, one place less is free.
 pub fewer_free : (lent : List (Option JobView)) (k : ℕ) (job : JobView) → position is_none lent ≡ Some k

@@ -15,17 +15,17 @@ use Rattle.protocol.specs.declared.replies.Reply.{Reply}
 use Rattle.protocol.specs.declared.replies.Reply.TheVariants.{Refused}
 use Rattle.meaning.specs.Order.{by_ticket, messages_of}
 use Rattle.meaning.specs.Output.{WritesOutput, answer_line, joined, output_lines, state_after_line, state_after_lines}
-use Rattle.meaning.specs.Serial.{state_after_all, next_state, reply_to}
+use Rattle.meaning.specs.Step.{state_after_all, next_state, reply_to}
 use Rattle.meaning.specs.State.{State}
 use Rattle.histories.specs.Events.{recorded}
-use Rattle.histories.specs.Laws.{AreAscending, ticket_replies}
-use Rattle.histories.specs.CoreState.{Entry, Replied, are_related_entries, entries}
+use Rattle.histories.specs.IsSerialHistory.{ticket_replies}
+use Rattle.histories.specs.CoreState.{Entry, Replied, are_related_entries, entries, AreAscending}
 use Rattle.histories.proofs.Elements.{in_contained}
 use Rattle.histories.proofs.SerialReplies.{IsIn, in_left}
-use Rattle.serving.specs.Ends.{AreFirst}
+use Rattle.serving.specs.Runs.{AreFirst}
 use Rattle.serving.specs.Lines.{admitted, admitted_in, ticketed}
 use Rattle.serving.specs.Restart.{IsClosedPart, RecoversTo, BytesRecover, are_related_lines}
-use Rattle.serving.specs.Logged.{AreInHistory, RecoversToHistory, IsInHistory}
+use Rattle.serving.specs.History.{AreInHistory, RecoversToHistory, IsInHistory}
 use Rattle.serving.proofs.Serial.{HaveSerialReplies, all_after, its_reply, out_of_range as refused_for_range, serial_after, with_ticket}
 use Rattle.serving.proofs.SortedLogs.{HasNoGap, IsApart, all_kept, sorted_log}
 

@@ -4,7 +4,8 @@ use Rattle.std.specs.Prelude.{codes, get_or, length, take}
 use Rattle.std.proofs.lemmas.Bool.{true≢false}
 use Rattle.affinity.proofs.Numbers.{small}
 use Rattle.protocol.specs.Grammar.{kind_named, message_of}
-use Rattle.protocol.specs.Lines.{lines, number_in_word}
+use Rattle.protocol.specs.Lines.{lines}
+use Rattle.protocol.specs.Words.{number_in_word}
 use Rattle.meaning.specs.Output.{joined, output_lines, state_after_lines}
 use Rattle.meaning.specs.State.{State, empty}
 use Rattle.serving.specs.Restart.{IsClosedPart, RecoversTo, are_related_lines}

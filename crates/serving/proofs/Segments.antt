@@ -1,8 +1,8 @@
 -- One step of a run, after those before it.
 use Rattle.std.proofs.Common.{◌≡◌, ℕ, Bool, List, [], Result, Ok, Err, refl, ap, sym, ◌∙◌, append-nil, false, true, Option}
 use Rattle.histories.specs.Crash.{to_append}
-use Rattle.histories.specs.Events.{MachineState, batch, touches_device}
-use Rattle.histories.specs.Laws.{dispatches_or_returns}
+use Rattle.histories.specs.MachineState.{MachineState}
+use Rattle.histories.specs.Events.{batch, touches_device, dispatches_or_returns}
 use Rattle.histories.specs.Runs.{answers, arrives}
 use Rattle.histories.specs.CoreState.{Entry}
 use Rattle.histories.specs.declared.outcomes.CoreFault.{CoreFault}

@@ -6,7 +6,7 @@ use Rattle.affinity.specs.declared.geometry.Geometry.{Geometry}
 use Rattle.histories.specs.CoreState.{CoreState, Replied}
 use Rattle.histories.specs.Events.{recorded}
 use Rattle.histories.specs.declared.outcomes.CoreFault.{CoreFault}
-use Rattle.meaning.specs.Serial.{state_after_all}
+use Rattle.meaning.specs.Step.{state_after_all}
 use Rattle.scheduler.specs.Calls.{IsLogStep}
 use Rattle.serving.specs.declared.session.Halted.{Halted}
 use Rattle.std.proofs.KnownBytes.{Appends-trans}

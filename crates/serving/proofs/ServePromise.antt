@@ -3,16 +3,15 @@ use Rattle.std.proofs.Common.{◌≡◌, ◌≤◌, ℕ, Bool, false, List, [], 
 use Rattle.std.specs.Prelude.{IfSome, Ok, Err, Result}
 use Rattle.std.specs.Io.KnownBytes.{IsAtEnd}
 use Rattle.std.proofs.lemmas.Option.{none-some, same_Some}
-use Rattle.histories.specs.Laws.{IsIdle}
+use Rattle.histories.specs.CoreState.{IsIdle}
 use Rattle.scheduler.specs.Machine.{MachineView}
 use Rattle.protocol.specs.Lines.{lines}
 use Rattle.meaning.specs.Progress.{TakesLines}
 use Rattle.scheduler.specs.CoreView.{CoreView, RecoversNow, core_state_of}
-use Rattle.serving.specs.Ends.{HasServed}
 use Rattle.serving.specs.Progress.{ServingProgress}
 use Rattle.serving.specs.Lines.{Line}
 use Rattle.reorder_buffer.specs.ReorderBuffer.{can_retire}
-use Rattle.serving.specs.Runs.{machine_with_jobs}
+use Rattle.serving.specs.Runs.{machine_with_jobs, HasServed}
 use Rattle.serving.specs.Restart.{IsMeant, WritesBeginning}
 use Rattle.serving.specs.Serve.{AreUnsent, HasRunWith, failed_at}
 use Rattle.serving.specs.declared.server.ServeFault.{ServeFault}

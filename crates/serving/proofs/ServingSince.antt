@@ -3,7 +3,7 @@ use Rattle.std.proofs.Common.{◌≡◌, ◌≤◌, ◌+◌, ℕ, Bool, false, L
 use Rattle.std.specs.Prelude.{IfSome}
 use Rattle.std.proofs.lemmas.List.{length-append}
 use Rattle.disk.specs.Device.{Medium}
-use Rattle.histories.specs.Laws.{IsIdle}
+use Rattle.histories.specs.CoreState.{IsIdle}
 use Rattle.scheduler.specs.Machine.{MachineView}
 use Rattle.protocol.specs.Grammar.{message_of}
 use Rattle.protocol.specs.FirstLine.{GivesLine, HasWholeFirstLine, PassesLine}
@@ -11,11 +11,11 @@ use Rattle.protocol.specs.declared.replies.Reply.{Reply}
 use Rattle.meaning.specs.Output.{joined}
 use Rattle.scheduler.specs.CoreView.{core_state_of}
 use Rattle.serving.specs.Lines.{Line, answer_text, complete_one}
-use Rattle.serving.specs.Output.{Start, start_machine}
-use Rattle.serving.specs.Reads.{IsTaken}
+use Rattle.serving.specs.Start.{Start, start_machine}
+use Rattle.serving.specs.TakesLine.{IsTaken}
 use Rattle.serving.specs.Restart.{WritesBeginning}
 use Rattle.serving.specs.Runs.{RunsBetween}
-use Rattle.serving.specs.Session.{ServingSince}
+use Rattle.serving.specs.SessionInvariant.{ServingSince}
 use Rattle.serving.proofs.SentLines.{Sends, sends_on}
 use Rattle.serving.proofs.AnsweredLine.{answered_goes_on}
 use Rattle.serving.proofs.TakesLine.{serves_taken, takes_in}

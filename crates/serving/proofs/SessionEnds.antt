@@ -3,19 +3,20 @@ use Rattle.std.proofs.Common.{arith, ◌≡◌, ◌≢◌, ◌<◌, ℕ, Bool, t
 use Rattle.std.specs.Prelude.{Result, Ok, Err, IfOk, IfSome, OnErr, OnOk}
 use Rattle.std.specs.Io.KnownBytes.{Appends}
 use Rattle.message.proofs.Beginnings.{begins_all, begins_longer, none_waits}
-use Rattle.message.specs.Waiting.{all_output}
-use Rattle.message.specs.Writing.{AppendsBeginning}
+use Rattle.message.specs.BufferedOutput.{all_output}
+use Rattle.message.specs.AppendsBeginning.{AppendsBeginning}
 use Rattle.std.proofs.lemmas.Bool.{true≢false}
 use Rattle.std.proofs.lemmas.List.{length-replicate}
 use Rattle.disk.specs.Device.{Medium}
 use Rattle.histories.proofs.Idle.{idle_sound}
-use Rattle.histories.specs.Laws.{IsIdle}
+use Rattle.histories.specs.CoreState.{IsIdle}
 use Rattle.scheduler.specs.Machine.{MachineView}
-use Rattle.parcel.specs.Run.{JobView}
+use Rattle.parcel.specs.JobRun.{JobView}
 use Rattle.scheduler.specs.CoreView.{CoreView, RecoversNow, core_state_of}
-use Rattle.serving.specs.Ends.{EndsWith, Exchange, IsQuiesced, committed_in, exchange}
+use Rattle.serving.specs.Ends.{EndsWith, IsQuiesced, committed_in}
+use Rattle.serving.specs.Exchange.{Exchange, exchange}
 use Rattle.serving.specs.Progress.{ServingProgress}
-use Rattle.serving.specs.Lending.{NoneInFlight}
+use Rattle.serving.specs.DispatchesTo.{NoneInFlight}
 use Rattle.serving.specs.Lines.{Line, answer_text}
 use Rattle.affinity.specs.declared.geometry.Geometry.{Geometry}
 use Rattle.meaning.proofs.OutputLemmas.{begins_whole}
@@ -25,9 +26,11 @@ use Rattle.reorder_buffer.specs.ReorderBuffer.{can_retire}
 use Rattle.oplog.specs.Recovery.{records_in}
 use Rattle.serving.specs.Serve.{HasRunWith, FailsWithoutWorkers, ServePromise}
 use Rattle.serving.specs.Runs.{HandsHaveJobs, machine_with_jobs}
-use Rattle.serving.specs.Session.{EndsBy, EndsOrDeclines, HasFinished, SessionProgress, HasEndedReading, CanBegin, IsServed, SessionInvariant, SessionInvariantFrom, SessionView, ReadsOrHasEnded, machine, IsSent, end_of, reported}
+use Rattle.serving.specs.SessionEnds.{EndsBy, EndsOrDeclines, HasFinished, IsServed, end_of, reported}
+use Rattle.serving.specs.SessionInvariant.{SessionProgress, HasEndedReading, CanBegin, SessionInvariant, SessionInvariantFrom, ReadsOrHasEnded, IsSent}
+use Rattle.serving.specs.Session.{SessionView, machine}
 use Rattle.serving.specs.Kill.{IsKillSafe}
-use Rattle.serving.specs.Output.{Start, start_machine}
+use Rattle.serving.specs.Start.{Start, start_machine}
 use Rattle.serving.specs.declared.session.ReadEnd.{ReadEnd}
 use Rattle.serving.specs.declared.session.ReadEnd.TheVariants as ends_of_reading
 use Rattle.serving.specs.declared.server.ServeFault.{ServeFault}

@@ -2,10 +2,10 @@
 use Rattle.std.proofs.Common.{◌≡◌, ◌≢◌, ℕ, ◌<◌, Bool, List, [], ◌∷◌, Option, refl, ap, sym, ◌∙◌, length, arith}
 use Rattle.histories.proofs.Sound.{event_slots}
 use Rattle.affinity.specs.declared.geometry.Geometry.{Geometry}
-use Rattle.histories.specs.Events.{Event, MachineState, arrive}
-use Rattle.histories.specs.Laws.{IsIdle}
+use Rattle.histories.specs.Events.{Event, arrive}
+use Rattle.histories.specs.MachineState.{MachineState}
 use Rattle.histories.specs.Runs.{IsLegal, end_state}
-use Rattle.histories.specs.CoreState.{Entry}
+use Rattle.histories.specs.CoreState.{Entry, IsIdle}
 use Rattle.histories.specs.declared.outcomes.ArriveRefusal.TheVariants as arrivals
 use Rattle.histories.specs.declared.outcomes.Outcome.TheVariants as outcomes
 use Rattle.scheduler.specs.Machine.{MachineView, machine_of}

@@ -2,9 +2,10 @@
 use Rattle.std.proofs.Common.{◌≡◌, ℕ, zero, suc, false, List, [], Option, Some, None, refl, ap, sym, ◌∙◌, subst, map, replicate}
 use Rattle.std.proofs.lemmas.Option.{none-some}
 use Rattle.std.proofs.KnownBytes.{Appends-nil}
-use Rattle.histories.specs.Laws.{IsSoundCoreState}
+use Rattle.histories.specs.IsSoundCoreState.{IsSoundCoreState}
 use Rattle.scheduler.proofs.HasRun.{none_lead}
-use Rattle.scheduler.specs.Machine.{MachineView, IsHandOf, hand_at, ticket_in}
+use Rattle.scheduler.specs.Machine.{MachineView}
+use Rattle.scheduler.specs.Hands.{IsHandOf, hand_at, ticket_in}
 use Rattle.scheduler.specs.declared.hands.HandContent.TheVariants as has
 use Rattle.meaning.proofs.LinesTaken.{takes_nothing}
 use Rattle.scheduler.specs.CoreView.{CoreView, core_state_of}

@@ -9,16 +9,18 @@ use Rattle.affinity.specs.declared.geometry.Geometry.{Geometry}
 use Rattle.histories.proofs.FullHands.{length-picked}
 use Rattle.histories.specs.CoreState.{CoreState, Entry, Replied}
 use Rattle.histories.specs.Eligible.{is_eligible}
-use Rattle.histories.specs.Events.{Hand, find_in_flight, give_back}
+use Rattle.histories.specs.MachineState.{Hand}
+use Rattle.histories.specs.Events.{find_in_flight, give_back}
 use Rattle.histories.specs.Progress.{has_job, points_left}
 use Rattle.histories.specs.declared.outcomes.CoreFault.{CoreFault}
-use Rattle.scheduler.specs.Machine.{hand_of as hand_in}
-use Rattle.parcel.specs.Run.{JobView}
+use Rattle.scheduler.specs.Hands.{hand_of as hand_in}
+use Rattle.parcel.specs.JobRun.{JobView}
 use Rattle.scheduler.specs.Calls.{IsLogStep}
 use Rattle.serving.specs.Checkpoints.{IsDue}
-use Rattle.serving.specs.Lending.{DispatchesTo, IsBlocked, asks_for_checkpoint}
+use Rattle.serving.specs.DispatchesTo.{DispatchesTo, IsBlocked, asks_for_checkpoint}
 use Rattle.serving.specs.Runs.{lent_hand}
-use Rattle.serving.specs.Session.{Advanced, Began, CallsForCheckpoint, CanRead, CheckpointStep, HasGoneOn, HasLoggedNothing, HasMoved, IsBlockedIn, KeepsCoreState, MovedCheckpoint, NoneUnanswered, Rests, SessionView, TookStep, Waited, steps_ahead}
+use Rattle.serving.specs.SessionSteps.{Advanced, Began, CallsForCheckpoint, CanRead, CheckpointStep, HasGoneOn, HasLoggedNothing, HasMoved, IsBlockedIn, KeepsCoreState, MovedCheckpoint, Rests, TookStep, Waited}
+use Rattle.serving.specs.Session.{NoneUnanswered, SessionView, steps_ahead}
 use Rattle.serving.specs.declared.checkpoints.CheckpointTrigger.{CheckpointTrigger}
 use Rattle.serving.specs.declared.session.Activity.{Activity}
 use Rattle.serving.specs.declared.session.Activity.TheVariants as activities

@@ -4,8 +4,7 @@ use Rattle.std.specs.Prelude.{Result, Ok, Err}
 use Rattle.affinity.specs.declared.geometry.Geometry.{Geometry}
 use Rattle.histories.proofs.Elements.{in_contained}
 use Rattle.histories.specs.Events.{arrive}
-use Rattle.histories.specs.Laws.{IsIdle}
-use Rattle.histories.specs.CoreState.{CoreState}
+use Rattle.histories.specs.CoreState.{CoreState, IsIdle}
 use Rattle.histories.specs.declared.outcomes.ArriveRefusal.{ArriveRefusal}
 use Rattle.histories.specs.declared.outcomes.ArriveRefusal.TheVariants as arrivals
 use Rattle.histories.specs.declared.outcomes.Outcome.{Outcome}
@@ -23,7 +22,7 @@ use Rattle.protocol.specs.declared.messages.Msg.{Msg}
 use Rattle.protocol.specs.declared.replies.Reply.{Reply}
 use Rattle.serving.specs.Progress.{IsServing}
 use Rattle.serving.specs.Lines.{AreKnown, IsKnown, Line, NoneIsTo, OutOfRange, Pending, admitted, admitted_in, next_ticket, ticketed, Completed, NoMessage}
-use Rattle.serving.specs.Reads.{IsRefusedLine, IsTaken}
+use Rattle.serving.specs.TakesLine.{IsRefusedLine, IsTaken}
 use Rattle.serving.specs.Runs.{HandsHaveJobs, RunsBetween}
 use Rattle.serving.proofs.Chain.{passes_on, told_as}
 use Rattle.serving.proofs.Serial.{admitted-append, messages-ticketed}

@@ -2,9 +2,8 @@
 use Rattle.std.proofs.Common.{◌≡◌, ◌≢◌, ℕ, false, Bool, List, [], ◌∷◌, ◌++◌, Option, Some, None, ap, sym, refl, subst}
 use Rattle.std.specs.Prelude.{IfSome, Result, Ok, Err}
 use Rattle.std.specs.Io.KnownBytes.{IsAtEnd}
-use Rattle.histories.specs.CoreState.{CoreState}
+use Rattle.histories.specs.CoreState.{CoreState, IsIdle}
 use Rattle.histories.specs.Events.{arrive}
-use Rattle.histories.specs.Laws.{IsIdle}
 use Rattle.histories.specs.declared.outcomes.ArriveRefusal.{ArriveRefusal}
 use Rattle.histories.specs.declared.outcomes.ArriveRefusal.TheVariants as arrivals
 use Rattle.histories.specs.declared.outcomes.Outcome.{Outcome}
@@ -20,7 +19,7 @@ use Rattle.scheduler.specs.Calls.{ArrivesByLine, arrive_outcome}
 use Rattle.scheduler.specs.CoreView.{CoreView, RecoversNow, core_state_of}
 use Rattle.serving.specs.Progress.{ServingProgress}
 use Rattle.serving.specs.Lines.{Line, NoMessage, OutOfRange, Pending}
-use Rattle.serving.specs.Reads.{IsRefusedLine, IsTaken}
+use Rattle.serving.specs.TakesLine.{IsRefusedLine, IsTaken}
 use Rattle.serving.specs.Runs.{HandsHaveJobs, IsInternal}
 use Rattle.serving.proofs.TakesLine.{ArrivesSo, arrives_so, serves_taken, ticket_is_next}
 use Rattle.serving.proofs.Start.{stays}

@@ -4,7 +4,8 @@ use Rattle.std.proofs.lemmas.List.{map-append}
 use Rattle.affinity.specs.declared.geometry.Geometry.{Geometry}
 use Rattle.histories.proofs.Ways.{Passed, Way, ways}
 use Rattle.histories.proofs.Ways as way
-use Rattle.histories.specs.Events.{Event, MachineState}
+use Rattle.histories.specs.Events.{Event}
+use Rattle.histories.specs.MachineState.{MachineState}
 use Rattle.histories.specs.Runs.{IsLegal, arrived, arrives, end_state}
 use Rattle.histories.specs.CoreState.{Entry}
 use Rattle.scheduler.specs.Machine.{MachineView, machine_of}

@@ -3,10 +3,10 @@ use Rattle.std.proofs.Common.{arith, ◌≤◌, ◌+◌, ◌-◌, ℕ, Bool, tru
 use Rattle.std.specs.Io.KnownBytes.{Appends}
 use Rattle.std.proofs.KnownBytes.{Appends-nil, Appends-trans}
 use Rattle.protocol.proofs.Newlines.{both as newlines-append, newlines}
-use Rattle.message.specs.Waiting.{all_output}
-use Rattle.message.specs.Writing.{AppendsBeginning}
+use Rattle.message.specs.BufferedOutput.{all_output}
+use Rattle.message.specs.AppendsBeginning.{AppendsBeginning}
 use Rattle.serving.specs.Restart.{WritesBeginning}
-use Rattle.serving.specs.Session.{IsSent}
+use Rattle.serving.specs.SessionInvariant.{IsSent}
 
 pub all_appended : (whole : Option (List ℕ)) (bytes : List ℕ) → Appends whole (all_output whole bytes) bytes
 all_appended None bytes = tt

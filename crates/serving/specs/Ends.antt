@@ -1,24 +1,19 @@
 -- Statement for operators: What a server has done when it ends.
-use Rattle.std.specs.Prelude.{◌≡◌, ◌≤◌, ℕ, true, false, List, [], ◌∷◌, ◌++◌, map, length, Option, Some, IfSome, Result, Ok, Err}
-use Rattle.std.specs.Io.KnownBytes.{Appends, IsAtEnd}
+use Rattle.std.specs.Prelude.{◌≡◌, ℕ, true, false, List, [], ◌∷◌, ◌++◌, Option, Some, IfSome, Result, Ok, Err}
+use Rattle.std.specs.Io.KnownBytes.{IsAtEnd}
 use Rattle.affinity.specs.declared.geometry.Geometry.{Geometry}
-use Rattle.histories.specs.CoreState.{most_tickets}
-use Rattle.histories.specs.Laws.{IsIdle}
-use Rattle.scheduler.specs.Machine.{MachineView, RecoversFromRun}
-use Rattle.scheduler.specs.declared.hands.HandContent.{HandContent}
+use Rattle.histories.specs.CoreState.{most_tickets, IsIdle}
 use Rattle.protocol.specs.Grammar.{message_of}
 use Rattle.protocol.specs.Lines.{lines}
 use Rattle.protocol.specs.Messages.{is_in_range}
 use Rattle.protocol.specs.declared.messages.Msg.{Msg}
-use Rattle.protocol.specs.declared.replies.Reply.{Reply}
-use Rattle.message.specs.Writing.{AppendsBeginning}
+use Rattle.message.specs.AppendsBeginning.{AppendsBeginning}
 use Rattle.meaning.specs.Output.{AnswersWholeLines, IsBeginning, WritesOutput, joined, output_lines, serial_output, state_after_lines}
 use Rattle.meaning.specs.State.{State}
 use Rattle.scheduler.specs.CoreView.{CoreView, core_state_of}
-use Rattle.serving.specs.Lines.{AreKnown, HaveAnswers, Line, admitted, answer_text, ticketed}
-use Rattle.serving.specs.Runs.{RunsBetween}
 use Rattle.serving.specs.declared.server.ServeFault.{ServeFault}
 use Rattle.serving.specs.declared.server.ServeFault.TheVariants as faults
+use Rattle.serving.specs.Exchange.{Exchange}
 
 -- ---- the serial server's output and state, for a server that began in one state and committed another
 
@@ -44,49 +39,7 @@ pub record ServesLinesBefore (g : Geometry) (start now : State) (input written :
   pub in_range : is_in_range g message ≡ true
   pub served : AreServed g start now before written
 
--- ---- the run that led there
-
--- the lines are the first of the input, where it is known
-abbrev pub AreFirst : Option (List ℕ) → List (List ℕ) → Type 0
-AreFirst input consumed = IfSome input (λ bytes. (more : List (List ℕ)) × (lines bytes ≡ consumed ++ more))
-
--- A legal run (`segment`) leads from the machine at the start to the core at the end. The messages that arrive in it are those in range
--- among `consumed`, which are the first lines of the input; they take the tickets in order.
-pub record HasRunLines (keeps : Type 0) (start : MachineView) (new : CoreView)
-    (input : Option (List ℕ)) (consumed : List (List ℕ)) : Type 0 where
-  pub first : AreFirst input consumed
-  pub hands : List HandContent
-  -- each ticket that was answered, with its reply
-  pub reply_pairs : List (ℕ × Reply)
-  pub segment : RunsBetween keeps start (record { core = new; hands = hands })
-      (ticketed start.core.next (admitted start.core.geometry consumed)) reply_pairs
-  -- what a crash meanwhile leaves
-  pub crash : keeps → RecoversFromRun start (record { core = new; hands = hands }) segment.device_events
-
--- A legal run (`HasRunLines`) led to the output: each answer there is to a line that is no message or is out of range, or to a message that
--- the run answered. `unsent` are the lines that were read and have no answer in the output, never more than the core has slots. `known`:
--- each consumed line is as its `Line` says, with its ticket, and with the reply that the run gave it, if the run gave one.
-pub record HasServed (keeps : Type 0) (start : MachineView) (new : CoreView) (unsent : List Line)
-    (input before written : Option (List ℕ)) : Type 0 where
-  pub consumed : List (List ℕ)
-  pub run : HasRunLines keeps start new input consumed
-  pub sent_lines : List Line
-  pub known : AreKnown start.core.geometry run.reply_pairs start.core.next consumed (sent_lines ++ unsent)
-  pub have_answers : HaveAnswers sent_lines
-  pub output : Appends before written (joined (map answer_text sent_lines))
-  pub few : length unsent ≤ start.core.slots
-
 -- ---- what each result promises of the core before and after, of the input and what remains of it, and of what was written
-
--- what a call read and wrote: its input and what remains of it, and what the output held before and after
-pub record Exchange : Type 0 where
-  pub input : Option (List ℕ)
-  pub remaining : Option (List ℕ)
-  pub before : Option (List ℕ)
-  pub written : Option (List ℕ)
-
-abbrev pub exchange : Option (List ℕ) → Option (List ℕ) → Option (List ℕ) → Option (List ℕ) → Exchange
-exchange input remaining before written = record { input = input; remaining = remaining; before = before; written = written }
 
 -- the state that a core has committed
 abbrev pub committed_in : CoreView → State

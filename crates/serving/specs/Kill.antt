@@ -1,11 +1,12 @@
 -- Statement for engineers: What a kill leaves, at any moment since the last send began.
 use Rattle.std.specs.Prelude.{ℕ, List, Option, IsSomeAnd}
-use Rattle.disk.specs.Device.{IsCrashImage, Medium}
-use Rattle.disk.specs.Moments.{left_since, moment_number}
-use Rattle.message.specs.Writing.{AppendsBeginning}
+use Rattle.disk.specs.CrashImages.{IsCrashImage, left_since}
+use Rattle.disk.specs.Device.{Medium, moment_number}
+use Rattle.message.specs.AppendsBeginning.{AppendsBeginning}
 use Rattle.scheduler.specs.CoreView.{CoreView}
 use Rattle.serving.specs.Ends.{committed_in}
-use Rattle.serving.specs.Output.{MaySendFrom, Start}
+use Rattle.serving.specs.MaySend.{MaySendFrom}
+use Rattle.serving.specs.Start.{Start}
 use Rattle.serving.specs.Restart.{RecoversWritten}
 
 -- Whatever a crash left of the device at any moment from `sent_at` to `now` recovers to a state with each line whose answer was sent, and

@@ -1,16 +1,21 @@
 -- Definitions of a server: its lines, its session, when an answer may be sent, how it ends, and a restart.
 pub mod Lines
-pub mod Logged
+pub mod History
 pub use Rattle.reorder_buffer.specs.ReorderBuffer
 pub mod Runs
 pub mod Progress
-pub mod Lending
+pub mod DispatchesTo
 pub mod Checkpoints
-pub mod Reads
+pub mod TakesLine
 pub mod Ends
+pub mod Exchange
 pub mod Serve
-pub mod Output
+pub mod MaySend
+pub mod Start
 pub mod Session
+pub mod SessionEnds
+pub mod SessionSteps
+pub mod SessionInvariant
 pub mod View
 pub mod Restart
 pub mod Kill

@@ -9,7 +9,7 @@ use Rattle.protocol.specs.Grammar.{message_of}
 use Rattle.protocol.specs.Lines.{lines}
 use Rattle.protocol.specs.Messages.{is_in_range, path_of}
 use Rattle.protocol.specs.declared.messages.Msg.{Msg}
-use Rattle.message.specs.Writing.{AppendsBeginning}
+use Rattle.message.specs.AppendsBeginning.{AppendsBeginning}
 use Rattle.meaning.specs.Output.{WritesOutput, joined, output_lines, state_after_lines}
 use Rattle.meaning.specs.State.{State}
 

@@ -4,10 +4,11 @@ use Rattle.scheduler.specs.Machine.{MachineView}
 use Rattle.protocol.specs.Lines.{lines}
 use Rattle.oplog.specs.Recovery.{records_in}
 use Rattle.scheduler.specs.CoreView.{CoreView}
-use Rattle.serving.specs.Ends.{EndsWith, Exchange, HasServed}
+use Rattle.serving.specs.Ends.{EndsWith}
+use Rattle.serving.specs.Exchange.{Exchange}
 use Rattle.serving.specs.Lines.{Line}
 use Rattle.serving.specs.Restart.{DeviceFailed, Failed, IsMeant, NeitherFailed, OutputFailed}
-use Rattle.serving.specs.Runs.{machine_with_jobs}
+use Rattle.serving.specs.Runs.{machine_with_jobs, HasServed}
 use Rattle.reorder_buffer.specs.ReorderBuffer.{can_retire}
 use Rattle.serving.specs.declared.server.ServeError.{ServeError}
 use Rattle.serving.specs.declared.server.ServeFault.{ServeFault}

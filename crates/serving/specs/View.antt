@@ -4,8 +4,9 @@ use Rattle.std.specs.List.{list_any}
 use Rattle.disk.specs.Device.{Medium}
 use Rattle.message.specs.declared.line_reader.LineReader.{LineReader}
 use Rattle.message.specs.Reader.{buffered_bytes, has_ended, is_drained, source, unread}
-use Rattle.serving.specs.Output.{Start}
-use Rattle.serving.specs.Session.{SessionInvariantFrom, SessionView}
+use Rattle.serving.specs.Start.{Start}
+use Rattle.serving.specs.SessionInvariant.{SessionInvariantFrom}
+use Rattle.serving.specs.Session.{SessionView}
 use Rattle.serving.specs.declared.session.Session.TheInside.{Inside}
 
 -- whether the reader of lines holds a whole line, its newline included

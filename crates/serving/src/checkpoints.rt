@@ -6,7 +6,8 @@ ghost use Rattle.histories.specs.CoreState.{held};
 ghost use Rattle.scheduler.specs.CoreView.{core_state_of};
 ghost use Rattle.histories.specs.Progress.{points_left};
 ghost use Rattle.serving.specs.Checkpoints.{IsDue, trigger_after};
-ghost use Rattle.serving.specs.Session.{CheckpointStep, IsSessionStep, KeepsCoreState, CallsForCheckpoint, steps_ahead};
+ghost use Rattle.serving.specs.SessionSteps.{CheckpointStep, IsSessionStep, KeepsCoreState, CallsForCheckpoint};
+ghost use Rattle.serving.specs.Session.{steps_ahead};
 
 use crate::output::ReplySink;
 use crate::session::{Halted, Session};

@@ -3,8 +3,8 @@
 ghost use Rattle.std.specs.Prelude.{◌≡◌, ◌+◌, ◌<◌, ◌≤◌, ◌↔◌, ◌⊎◌, ◌||◌, false, IfNone, IfSome, IsFalse, IsTrue, length};
 ghost use Rattle.serving.specs.Kill.{IsKillSafe};
 ghost use Rattle.serving.specs.Checkpoints.{IsDue};
-ghost use Rattle.serving.specs.Lending.{NoneInFlight};
-ghost use Rattle.serving.specs.Session.{HasMoved, HasReadNothing, IsBlockedIn, KeepsReadEndAndOutputFailed};
+ghost use Rattle.serving.specs.DispatchesTo.{NoneInFlight};
+ghost use Rattle.serving.specs.SessionSteps.{HasMoved, HasReadNothing, IsBlockedIn, KeepsReadEndAndOutputFailed};
 ghost use Rattle.serving.specs.declared.dispatch.Blocked.{Blocked};
 
 use crate::dispatch::Blocked;

@@ -7,8 +7,8 @@ ghost use Rattle.histories.specs.CoreState.{CoreState};
 ghost use Rattle.scheduler.specs.Calls.{IsGranted};
 ghost use Rattle.scheduler.specs.CoreView.{core_state_of};
 ghost use Rattle.serving.specs.Checkpoints.{IsDue};
-ghost use Rattle.serving.specs.Lending.{DispatchesTo};
-ghost use Rattle.serving.specs.Session.{HasMoved, IsBlockedIn};
+ghost use Rattle.serving.specs.DispatchesTo.{DispatchesTo};
+ghost use Rattle.serving.specs.SessionSteps.{HasMoved, IsBlockedIn};
 ghost use Rattle.serving.specs.declared.dispatch.Blocked.{Blocked};
 ghost use Rattle.workers.specs.Seats.{places_of};
 

@@ -4,7 +4,8 @@
 
 ghost use Rattle.std.specs.Prelude.{◌≡◌, ◌≢◌, Err, IfSome, MatchResult, None, OnOk, Some, [], false};
 ghost use Rattle.oplog.specs.Recovery.{records_in};
-ghost use Rattle.serving.specs.Session.{EndsBy, HasFinished, HasHalted, HasReadNothing, IsSessionStep, end_of};
+ghost use Rattle.serving.specs.SessionEnds.{EndsBy, HasFinished, end_of};
+ghost use Rattle.serving.specs.SessionSteps.{HasHalted, HasReadNothing, IsSessionStep};
 ghost use Rattle.serving.specs.declared.session.ReadEnd.TheVariants as ends_of_reading;
 
 use crate::output::ReplySink;
@@ -107,7 +108,7 @@ impl<'c, R: Read, D: Disk, L: ReplySink<D>> DispatcherTask<Result<(), ServeFault
     ghost use Rattle.std.specs.Prelude.{◌≡◌, [], OnOk, false};
     ghost use Rattle.oplog.specs.Recovery.{records_in};
     ghost use Rattle.serving.specs.Kill.{IsKillSafe};
-    ghost use Rattle.serving.specs.Session.{EndsBy};
+    ghost use Rattle.serving.specs.SessionEnds.{EndsBy};
 
     ghost can_begin = { λ s. s.output_failed ≡ false };
 

@@ -10,7 +10,7 @@ ghost use Rattle.scheduler.specs.CoreView.{core_state_of};
 ghost use Rattle.scheduler.specs.declared.hands.HandContent.{HandContent};
 ghost use Rattle.serving.specs.Kill.{IsKillSafe};
 ghost use Rattle.serving.specs.Lines.{Pending};
-ghost use Rattle.serving.specs.Reads.{TakesLine};
+ghost use Rattle.serving.specs.TakesLine.{TakesLine};
 ghost use Rattle.reorder_buffer.specs.ReorderBuffer.{AreConsecutive, with_tickets};
 ghost use Rattle.serving.specs.Runs.{HandsHaveJobs};
 ghost use Rattle.serving.specs.Session.{CanReadLine, NoneUnanswered};

@@ -3,8 +3,10 @@
 
 ghost use Rattle.std.specs.Prelude.{◌≡◌, ◌+◌, ◌≤◌, ◌&&◌, not, cond, IfOk, IsFalse, Option, IsTrue, OnErr, OnOk, [], false, true};
 ghost use Rattle.reorder_buffer.specs.ReorderBuffer.{can_retire};
-ghost use Rattle.serving.specs.Lending.{asks_for_checkpoint};
-ghost use Rattle.serving.specs.Session.{HasGoneOn, HasLoggedNothing, HasOnlySent, HasReadNothing, IsAtRest, IsSessionStep, KeepsCoreState, CallsForCheckpoint, NoneUnanswered, steps_ahead};
+ghost use Rattle.serving.specs.DispatchesTo.{asks_for_checkpoint};
+ghost use Rattle.serving.specs.SessionSteps.{HasGoneOn, HasLoggedNothing, HasOnlySent, HasReadNothing, IsSessionStep, KeepsCoreState, CallsForCheckpoint};
+ghost use Rattle.serving.specs.SessionEnds.{IsAtRest};
+ghost use Rattle.serving.specs.Session.{NoneUnanswered, steps_ahead};
 ghost use Rattle.serving.specs.declared.dispatch.Blocked.{Blocked};
 ghost use Rattle.serving.specs.declared.session.Activity.TheVariants as activities;
 

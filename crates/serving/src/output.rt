@@ -2,11 +2,12 @@
 
 ghost use Rattle.std.specs.Prelude.{◌≡◌, ◌+◌, List, [], ◌∷◌, false, length, IfOk, IsFalse, IsTrue, OnOk};
 ghost use Rattle.histories.specs.CoreState.{Replied};
-ghost use Rattle.message.specs.Waiting.{FitsReply};
+ghost use Rattle.message.specs.BufferedOutput.{FitsReply};
 ghost use Rattle.scheduler.specs.CoreView.{core_state_of};
 ghost use Rattle.reorder_buffer.specs.ReorderBuffer.{can_retire};
 ghost use Rattle.serving.specs.Checkpoints.{trigger_after};
-ghost use Rattle.serving.specs.Session.{HasReadNothing, KeepsCoreState, KeepsReadEndAndOutputFailed, IsOutputStep, steps_ahead};
+ghost use Rattle.serving.specs.SessionSteps.{HasReadNothing, KeepsCoreState, KeepsReadEndAndOutputFailed, IsOutputStep};
+ghost use Rattle.serving.specs.Session.{steps_ahead};
 
 use crate::session::{GatedRuntime, Halted, Session};
 use disk::Disk;
@@ -21,9 +22,10 @@ pub trait ReplySink<D: Disk> {
     ghost use Rattle.std.specs.Io.KnownBytes.{Appends};
     ghost use Rattle.std.specs.Prelude.{◌≡◌};
     ghost use Rattle.disk.specs.Device.{Medium};
-    ghost use Rattle.message.specs.Writing.{AppendsBeginning};
+    ghost use Rattle.message.specs.AppendsBeginning.{AppendsBeginning};
     ghost use Rattle.serving.specs.Kill.{IsKillSafe};
-    ghost use Rattle.serving.specs.Output.{MaySend, Start};
+    ghost use Rattle.serving.specs.MaySend.{MaySend};
+    ghost use Rattle.serving.specs.Start.{Start};
 
     /// What the `serve` call whose lines are sent began with (its core, places, input and output); `None` before that call.
     ghost start: { Option Start };

@@ -8,13 +8,14 @@
 //! `impl .. for Brand` has to give some values all the same. They are stand-ins: with the start `None` nothing could be served.
 
 ghost use Rattle.std.specs.Prelude.{◌≡◌, ◌≢◌, ◌<◌, ◌≤◌, All, false, [], None, IfOk, Some, replicate, vec_len};
-ghost use Rattle.histories.specs.Laws.{IsIdle};
+ghost use Rattle.histories.specs.CoreState.{IsIdle};
 ghost use Rattle.scheduler.specs.CoreView.{RecoversNow, core_state_of};
 ghost use Rattle.protocol.specs.declared.sizes.TheConstants.{LONGEST_LINE};
-ghost use Rattle.serving.specs.Ends.{exchange};
+ghost use Rattle.serving.specs.Exchange.{exchange};
 ghost use Rattle.serving.specs.Kill.{IsKillSafe};
 ghost use Rattle.serving.specs.Serve.{ServePromise, handed_back};
-ghost use Rattle.serving.specs.Session.{CanBegin, reported};
+ghost use Rattle.serving.specs.SessionInvariant.{CanBegin};
+ghost use Rattle.serving.specs.SessionEnds.{reported};
 ghost use Rattle.affinity.specs.declared.limits.TheConstants.{MOST_WORKERS};
 ghost use Rattle.workers.specs.Seats.{places_of};
 

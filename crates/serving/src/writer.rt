@@ -1,9 +1,9 @@
 //! The whole call of a server that writes its lines to a borrowed writer. Why `Beginning` names the loan: `server`.
 
 ghost use Rattle.std.specs.Prelude.{◌≡◌, ◌≤◌, false, Some};
-ghost use Rattle.histories.specs.Laws.{IsIdle};
+ghost use Rattle.histories.specs.CoreState.{IsIdle};
 ghost use Rattle.scheduler.specs.CoreView.{core_state_of};
-ghost use Rattle.serving.specs.Ends.{exchange};
+ghost use Rattle.serving.specs.Exchange.{exchange};
 ghost use Rattle.serving.specs.Serve.{ServePromise, handed_back};
 ghost use Rattle.affinity.specs.declared.limits.TheConstants.{MOST_WORKERS};
 
@@ -25,7 +25,7 @@ use workers::{Gate, know_returned};
 trait Beginning {
     ghost use Rattle.std.specs.Prelude.{Option};
     ghost use Rattle.std.specs.Borrow.{GName};
-    ghost use Rattle.serving.specs.Output.{Start};
+    ghost use Rattle.serving.specs.Start.{Start};
 
     /// What it began with; `None` before the call.
     ghost start: { Option Start };

@@ -9,8 +9,7 @@ use Rattle.std.proofs.lemmas.List.{take_at, drop_at, drop-drop, take-append-drop
 use Rattle.std.proofs.Math.Seq.{take-add}
 use Rattle.affinity.specs.declared.geometry.Geometry.{Geometry}
 use Rattle.device_map.specs.declared.layout.TheConstants.{BLOCK_ENTRY_SIZE}
-use Rattle.stripe.specs.Entries.{entry_bytes, stripe_bytes, entry_in, entries_in, fits_stripe, IsStripePiece}
-use Rattle.stripe.specs.Index.{IsNextEntry}
+use Rattle.stripe.specs.Entries.{entry_bytes, stripe_bytes, entry_in, entries_in, fits_stripe, IsStripePiece, IsNextEntry}
 use Rattle.stripe.specs.Stripe.{BlockEntry, ComesBefore, IsAscending}
 use Rattle.stripe.proofs.EntryOrder.{ascending-append}
 

@@ -6,7 +6,7 @@ use Rattle.affinity.specs.declared.geometry.Geometry.{Geometry}
 use Rattle.byteorder.specs.Endian.{little_bytes, little_number}
 use Rattle.device_map.specs.declared.layout.TheConstants.{BLOCK_ENTRY_SIZE}
 use Rattle.protocol.specs.Replies.{has_file}
-use Rattle.stripe.specs.Stripe.{BlockEntry, IsAscending}
+use Rattle.stripe.specs.Stripe.{BlockEntry, IsAscending, ComesBefore}
 
 -- an entry: 1, the file, the block with the lower byte first, four zeros, the content
 abbrev pub entry_bytes : BlockEntry → List ℕ
@@ -38,3 +38,9 @@ pub record IsStripePiece (g : Geometry) (files s : ℕ) (bytes : List ℕ) : Typ
   pub spelled : bytes ≡ stripe_bytes g.quota (entries_in g.quota bytes)
   pub ascending : IsAscending (entries_in g.quota bytes)
   pub fit : AllByRecursion (λ e. fits_stripe g files s e.file e.block ≡ true) (entries_in g.quota bytes)
+
+-- The row is an entry that can be in stripe s after the entries es, in a volume whose files are the bits of `files`.
+pub record IsNextEntry (g : Geometry) (files s : ℕ) (es : List BlockEntry) (row : List ℕ) : Type 0 where
+  pub spelled : row ≡ entry_bytes (entry_in row)
+  pub fits : fits_stripe g files s (entry_in row).file (entry_in row).block ≡ true
+  pub behind : AllByRecursion (λ e. ComesBefore e (entry_in row)) es

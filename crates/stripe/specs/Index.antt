@@ -1,13 +1,11 @@
 -- Statement for engineers: How a `StripeParcel` keeps its blocks.
-use Rattle.std.specs.Prelude.{◌≡◌, true, ℕ, ◌+◌, ◌<◌, ◌≤◌, List, [], length, map, take, drop, slice_index_or, slice_set, unwrap_or, Option, None, IsTrue}
+use Rattle.std.specs.Prelude.{◌≡◌, ℕ, ◌+◌, ◌<◌, ◌≤◌, List, [], length, map, take, drop, slice_index_or, slice_set, unwrap_or, Option, None, IsTrue}
 use Rattle.std.specs.List.{AllByRecursion}
 use Rattle.protocol.specs.declared.messages.Block.{Block}
 use Rattle.arena.specs.Lists.{count_of}
 use Rattle.arena.specs.ArenaView.{ArenaView, capacity_of, holds_value, IsPartitioned}
 use Rattle.stripe.specs.declared.blocks.IndexEntry.{IndexEntry}
-use Rattle.affinity.specs.declared.geometry.Geometry.{Geometry}
-use Rattle.stripe.specs.Entries.{entry_bytes, entry_in, fits_stripe}
-use Rattle.stripe.specs.Stripe.{BlockEntry, PrecedesBlock, ComesBefore, IsAscending}
+use Rattle.stripe.specs.Stripe.{BlockEntry, PrecedesBlock, IsAscending}
 use Rattle.affinity.specs.declared.limits.TheConstants.{MOST_QUOTA}
 
 -- what is looked up where a slot is empty: no real block has no bytes
@@ -60,9 +58,3 @@ pub record IsGap (es : List BlockEntry) (f b n : ℕ) : Type 0 where
 -- the entries with other content at index n
 abbrev pub rewritten : List BlockEntry → ℕ → Block → List BlockEntry
 rewritten es n content = slice_set es n (record (slice_index_or es n no_entry) { content = content })
-
--- The row is an entry that can be in stripe s after the entries es, in a volume whose files are the bits of `files`.
-pub record IsNextEntry (g : Geometry) (files s : ℕ) (es : List BlockEntry) (row : List ℕ) : Type 0 where
-  pub spelled : row ≡ entry_bytes (entry_in row)
-  pub fits : fits_stripe g files s (entry_in row).file (entry_in row).block ≡ true
-  pub behind : AllByRecursion (λ e. ComesBefore e (entry_in row)) es

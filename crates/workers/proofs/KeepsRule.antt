@@ -7,7 +7,7 @@ use lib.ListN.{get_elem?}
 use prog.Atomic.{either}
 use Rattle.atomic_table.specs.Table.{Step, step, Act, keeps, takes, gives, Valid, carried_after, stepped, opening, Allows, Splits}
 use Rattle.atomic_table.proofs.Lists.{at_set, at_longer, at_snoc, set_else, set_again, exchanged}
-use Rattle.parcel.specs.Run.{JobView, IsJobRun}
+use Rattle.parcel.specs.JobRun.{JobView, IsJobRun}
 use Rattle.parcel.specs.declared.job.Done.{Done}
 use Rattle.workers.specs.Rule.{BenchTable, SlotState, LentJobs, lent_at, word_index, PlaceState, is_empty, is_offered, is_claimed, is_delivered, BenchRule}
 use Rattle.workers.specs.Steps.{SeatState, TakesSlot, Offers, Claims, Delivers, Collects, OfPlace}

@@ -1,7 +1,7 @@
 -- What the flags of a dispatcher's seat show of its places.
 use Rattle.std.proofs.Common.{◌≡◌, ℕ, zero, suc, ◌+◌, Bool, false, List, [], ◌∷◌, map, length, not, cond, nat_lt, replicate, position, Option, None, Some, is_some, is_none, refl, sym, ap, ◌∙◌}
 use Rattle.std.specs.List.{list_any, prefix_len}
-use Rattle.parcel.specs.Run.{JobView}
+use Rattle.parcel.specs.JobRun.{JobView}
 use Rattle.workers.specs.Rule.{LentJobs}
 use Rattle.workers.proofs.OfferAndCollect.{counted}
 

@@ -4,7 +4,7 @@ use Rattle.std.specs.Prelude.{◌≡◌, ℕ, ◌+◌, ◌<◌, ◌≤◌, List,
 use mathlib.Core.Option.{none, some}
 use lib.ListN.{get_elem?}
 use Rattle.atomic_table.specs.Table.{State}
-use Rattle.parcel.specs.Run.{JobView, IsJobRun}
+use Rattle.parcel.specs.JobRun.{JobView, IsJobRun}
 use Rattle.parcel.specs.declared.job.Done.{Done}
 use Rattle.workers.specs.declared.job_cell.CellContent.{CellContent}
 use Rattle.workers.specs.declared.job_cell.CellContent.TheVariants.{Offered, Delivered}

@@ -2,7 +2,7 @@
 use Rattle.std.specs.Prelude.{◌≡◌, ℕ, ◌+◌, ◌≤◌, suc, Bool, List, [], ◌∷◌, ◌++◌, length, map, take, drop, slice_set, is_some, Option, None, Some}
 use Rattle.atomic_table.specs.Table.{Me}
 use Rattle.atomic_table.specs.Seated.{TableId}
-use Rattle.parcel.specs.Run.{JobView, IsJobRun}
+use Rattle.parcel.specs.JobRun.{JobView, IsJobRun}
 use Rattle.parcel.specs.declared.job.Done.{Done}
 use Rattle.workers.specs.Rule.{lent_at}
 use Rattle.workers.specs.declared.job_cell.CellContent.{CellContent}

@@ -3,7 +3,7 @@
 -- step finds the number that the word had.
 use Rattle.std.specs.Prelude.{◌≡◌, ◌≢◌, ℕ, List, ◌∷◌, slice_set, Option, None, Some}
 use Rattle.atomic_table.specs.Table.{Me, Step, rest}
-use Rattle.parcel.specs.Run.{JobView, IsJobRun}
+use Rattle.parcel.specs.JobRun.{JobView, IsJobRun}
 use Rattle.parcel.specs.declared.job.Done.{Done}
 use Rattle.workers.specs.Rule.{lent_at, word_index}
 use Rattle.workers.specs.Seats.{lent_of}

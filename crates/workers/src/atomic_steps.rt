@@ -3,7 +3,7 @@
 //! Nothing else changes a word. Between its steps a seat fills or empties a slot that it has.
 ghost use Rattle.std.specs.Prelude.{◌≡◌, ◌+◌, ◌<◌, [], ◌∷◌, replicate, slice_set, None, Some, IsTrue, IsFalse};
 ghost use Rattle.atomic_table.specs.Table.{rest};
-ghost use Rattle.parcel.specs.Run.{JobView, IsJobRun};
+ghost use Rattle.parcel.specs.JobRun.{JobView, IsJobRun};
 ghost use Rattle.parcel.specs.declared.job.Done.{Done as TheDone};
 ghost use Rattle.workers.specs.Rule.{LentJobs, BenchRule, lent_at};
 ghost use Rattle.workers.specs.Seats.{IsAtBench, lent_of, idle, places_of};

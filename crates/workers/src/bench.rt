@@ -6,7 +6,7 @@
 //! from the table, and which jobs are lent. `me.1` are the slots that it has, the one taken last first.
 ghost use Rattle.std.specs.Prelude.{◌≡◌, ◌+◌, ◌<◌, ◌≤◌, [], ◌∷◌, map, replicate, is_some, slice_set, Option, None, Some, IfOk, IfSome, IfNone, All, MatchOption, IsTrue, IsFalse, length, vec_len, Ok, Err};
 ghost use Rattle.atomic_table.specs.Table.{rest};
-ghost use Rattle.parcel.specs.Run.{JobView, IsJobRun};
+ghost use Rattle.parcel.specs.JobRun.{JobView, IsJobRun};
 ghost use Rattle.workers.specs.Rule.{LentJobs, lent_at};
 ghost use Rattle.workers.specs.Seats.{IsAtBench, IsBench, IsDispatchSeat, HasCollected, lent_of, places_of, empty_slots};
 ghost use Rattle.workers.specs.declared.job_cell.CellContent.TheVariants.{Delivered};

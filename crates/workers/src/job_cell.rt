@@ -1,7 +1,7 @@
 //! What lies at a place: a job, or the result of one. Job and result have a `Vec` each, so that a move copies only
 //! the one that is there, and not the size of the larger.
 ghost use Rattle.std.specs.Prelude.{◌≡◌, Option, None, Some, IfOk};
-ghost use Rattle.parcel.specs.Run.{JobView};
+ghost use Rattle.parcel.specs.JobRun.{JobView};
 ghost use Rattle.parcel.specs.declared.job.Done.{Done as TheDone};
 ghost use Rattle.workers.specs.declared.job_cell.CellContent.TheVariants.{Offered, Delivered};
 

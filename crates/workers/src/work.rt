@@ -1,6 +1,6 @@
 //! What a worker does.
 ghost use Rattle.std.specs.Prelude.{◌≡◌, ◌<◌, [], ◌∷◌, Some, All};
-ghost use Rattle.parcel.specs.Run.{JobView};
+ghost use Rattle.parcel.specs.JobRun.{JobView};
 ghost use Rattle.workers.specs.Seats.{IsAtBench, IsBench, idle, places_of};
 ghost use Rattle.workers.specs.declared.job_cell.CellContent.TheVariants.{Offered};
 ghost use Rattle.workers.specs.declared.seats.SeatRole.TheVariants.{Claimed};

@@ -1,6 +1,6 @@
 //! New parcels: no volume is made, and nothing is out. All memory of a tree is allocated here.
 ghost use Rattle.std.specs.Prelude.{IfOk};
-ghost use Rattle.parcel.specs.Parts.{IsNewLogical, IsNewVolume, IsNewAggregate, IsNewRoot};
+ghost use Rattle.parcel.specs.NewTree.{IsNewLogical, IsNewVolume, IsNewAggregate, IsNewRoot};
 
 use super::{Aggr, Label, Logical, Root, Vol};
 use crate::StripeParcel;

@@ -3,7 +3,7 @@ ghost use Rattle.std.specs.Prelude.{IfSome};
 ghost use Rattle.affinity.specs.Path.{IsPath};
 ghost use Rattle.affinity.specs.Place.{path};
 ghost use Rattle.parcel.specs.Fits.{Fits, IsKindOf, FitsRoot};
-ghost use Rattle.parcel.specs.Parts.{Fills, PutsAt};
+ghost use Rattle.parcel.specs.TakesAndPuts.{Fills, PutsAt};
 
 use super::standings::{aggregate_mut, logical_mut, volume_mut};
 use super::{Parcels, Root};

@@ -3,7 +3,7 @@ ghost use Rattle.std.specs.Prelude.{IfSome};
 ghost use Rattle.affinity.specs.Path.{IsPath};
 ghost use Rattle.affinity.specs.Place.{path};
 ghost use Rattle.parcel.specs.Fits.{FitsRoot};
-ghost use Rattle.parcel.specs.Parts.{TakesWhole, TakesAt};
+ghost use Rattle.parcel.specs.TakesAndPuts.{TakesWhole, TakesAt};
 
 use super::standings::{aggregate_mut, logical_mut, volume_mut};
 use super::whole::Whole;

@@ -1,7 +1,7 @@
 //! Whether a part and all below it are in: nothing of it is lent.
 ghost use Rattle.std.specs.Prelude.{◌↔◌, IsTrue};
 ghost use Rattle.std.specs.List.{AllByRecursion};
-ghost use Rattle.parcel.specs.Fits.{IsWholeChild, IsWholeLogical, IsWholeVolume, IsWholeAggregate, IsWholeRoot};
+ghost use Rattle.parcel.specs.Whole.{IsWholeChild, IsWholeLogical, IsWholeVolume, IsWholeAggregate, IsWholeRoot};
 
 use super::{Aggr, Label, Logical, Root, Vol};
 use crate::StripeParcel;

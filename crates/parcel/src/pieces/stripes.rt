@@ -6,7 +6,8 @@ ghost use Rattle.image.specs.Pieces.{block_in, stripe_piece};
 ghost use Rattle.meaning.specs.State.{State, IsState};
 ghost use Rattle.stripe.specs.Entries.{IsStripePiece};
 ghost use Rattle.stripe.specs.Stripe.{StripePart, content_at};
-ghost use Rattle.parcel.specs.Fits.{FitsLogical, FitsStripe, IsWholeChild, IsWholeLogical};
+ghost use Rattle.parcel.specs.Fits.{FitsLogical, FitsStripe};
+ghost use Rattle.parcel.specs.Whole.{IsWholeChild, IsWholeLogical};
 ghost use Rattle.parcel.specs.Pieces.{IsStripeRead};
 ghost use Rattle.parcel.specs.Shown.{blocks_of};
 

@@ -1,6 +1,6 @@
 //! A volume's piece of an image: its flags, its files and its label.
 ghost use Rattle.std.specs.Prelude.{◌≡◌, ◌↔◌, ◌^◌, ◌-◌, length, unwrap_or, if◌then◌else◌, Some, None, IsTrue, IsFalse};
-ghost use Rattle.meaning.specs.Serial.{no_label};
+ghost use Rattle.meaning.specs.Step.{no_label};
 ghost use Rattle.parcel.specs.Pieces.{volume_piece_of, decoded_label, decoded_piece, spelled, volume_with};
 ghost use Rattle.parcel.specs.Shown.{shown_label};
 

@@ -4,10 +4,11 @@ ghost use Rattle.std.specs.Prelude.{◌≡◌, ℕ, ◌<◌, true, None, IfSome}
 ghost use Rattle.affinity.specs.declared.geometry.Geometry.{Geometry};
 ghost use Rattle.protocol.specs.declared.messages.Msg.{Msg};
 ghost use Rattle.protocol.specs.Messages.{is_in_range};
-ghost use Rattle.parcel.specs.Fits.{FitsAggregate, FitsLogical, FitsVolume, IsWholeAggregate, IsWholeChild, IsWholeLogical, IsWholeVolume, IsRunnable};
-ghost use Rattle.parcel.specs.Run.{IsStepOn};
+ghost use Rattle.parcel.specs.Fits.{FitsAggregate, FitsLogical, FitsVolume, IsRunnable};
+ghost use Rattle.parcel.specs.Whole.{IsWholeAggregate, IsWholeChild, IsWholeLogical, IsWholeVolume};
+ghost use Rattle.parcel.specs.JobRun.{IsStepOn};
 ghost use Rattle.parcel.specs.Shown.{blocks_of, child_facts, volume_facts};
-ghost use Rattle.parcel.specs.Steps.{reply_to_change};
+ghost use Rattle.parcel.specs.VolumeStep.{reply_to_change};
 ghost use Rattle.parcel.specs.Totals.{with_made};
 ghost use Rattle.parcel.specs.Volume.{no_facts};
 ghost use Rattle.parcel.specs.declared.parts.Parcels.{Parcels};

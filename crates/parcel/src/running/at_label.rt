@@ -2,9 +2,9 @@
 
 ghost use Rattle.protocol.specs.declared.messages.Msg.{Msg};
 ghost use Rattle.parcel.specs.Fits.{IsRunnable};
-ghost use Rattle.parcel.specs.Run.{IsStepOn};
+ghost use Rattle.parcel.specs.JobRun.{IsStepOn};
 ghost use Rattle.parcel.specs.Shown.{label_facts};
-ghost use Rattle.parcel.specs.Steps.{IsVolumeStep, reply_to_change};
+ghost use Rattle.parcel.specs.VolumeStep.{IsVolumeStep, reply_to_change};
 ghost use Rattle.parcel.specs.declared.parts.Parcels.{Parcels};
 
 use super::refusals::{guard_open, reply_to_change};

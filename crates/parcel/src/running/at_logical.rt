@@ -2,11 +2,12 @@
 
 ghost use Rattle.std.specs.Prelude.{◌≡◌, ℕ, ◌<◌, slice_index_or, None, vec_len};
 ghost use Rattle.protocol.specs.declared.messages.Msg.{Msg};
-ghost use Rattle.parcel.specs.Dropping.{Removes, is_removed};
-ghost use Rattle.parcel.specs.Fits.{FitsLogical, IsWholeLogical, IsRunnable};
-ghost use Rattle.parcel.specs.Run.{IsStepOn};
+ghost use Rattle.parcel.specs.Removes.{Removes, is_removed};
+ghost use Rattle.parcel.specs.Fits.{FitsLogical, IsRunnable};
+ghost use Rattle.parcel.specs.Whole.{IsWholeLogical};
+ghost use Rattle.parcel.specs.JobRun.{IsStepOn};
 ghost use Rattle.parcel.specs.Shown.{logical_facts};
-ghost use Rattle.parcel.specs.Steps.{IsVolumeStep, reply_to_change};
+ghost use Rattle.parcel.specs.VolumeStep.{IsVolumeStep, reply_to_change};
 ghost use Rattle.parcel.specs.declared.parts.Parcels.{Parcels};
 
 use super::refusals::{guard, guard_file, guard_open, reply_to_change};

@@ -2,7 +2,7 @@
 
 ghost use Rattle.protocol.specs.declared.messages.Msg.{Msg};
 ghost use Rattle.parcel.specs.Fits.{FitsRoot, IsRunnable};
-ghost use Rattle.parcel.specs.Run.{IsSerialStep, IsStepOn};
+ghost use Rattle.parcel.specs.JobRun.{IsSerialStep, IsStepOn};
 ghost use Rattle.parcel.specs.Shown.{root_facts};
 ghost use Rattle.parcel.specs.Volume.{state_with};
 ghost use Rattle.parcel.specs.declared.parts.Parcels.{Parcels};

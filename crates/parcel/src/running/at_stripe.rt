@@ -5,9 +5,9 @@ ghost use Rattle.affinity.specs.declared.geometry.Geometry.{Geometry};
 ghost use Rattle.affinity.specs.Geometry.{stripe_of};
 ghost use Rattle.protocol.specs.declared.messages.Msg.{Msg};
 ghost use Rattle.parcel.specs.Fits.{FitsStripe, IsRunnable};
-ghost use Rattle.parcel.specs.Run.{IsStepOn};
+ghost use Rattle.parcel.specs.JobRun.{IsStepOn};
 ghost use Rattle.parcel.specs.Shown.{stripe_facts};
-ghost use Rattle.parcel.specs.Steps.{IsVolumeStep, reply_to_change};
+ghost use Rattle.parcel.specs.VolumeStep.{IsVolumeStep, reply_to_change};
 ghost use Rattle.stripe.specs.Stripe.{StripeRule, content_at};
 ghost use Rattle.parcel.specs.declared.parts.Parcels.{Parcels};
 

@@ -4,9 +4,9 @@ ghost use Rattle.std.specs.Prelude.{◌≡◌, if◌then◌else◌};
 ghost use Rattle.affinity.specs.declared.geometry.Geometry.{Geometry};
 ghost use Rattle.protocol.specs.declared.messages.Msg.{Msg};
 ghost use Rattle.parcel.specs.Fits.{FitsVolume, IsRunnable};
-ghost use Rattle.parcel.specs.Run.{IsStepOn};
+ghost use Rattle.parcel.specs.JobRun.{IsStepOn};
 ghost use Rattle.parcel.specs.Shown.{volume_facts};
-ghost use Rattle.parcel.specs.Steps.{IsVolumeStep, reply_to_change};
+ghost use Rattle.parcel.specs.VolumeStep.{IsVolumeStep, reply_to_change};
 ghost use Rattle.parcel.specs.declared.parts.Parcels.{Parcels};
 ghost use Rattle.parcel.specs.declared.parts.Standing.{Standing};
 

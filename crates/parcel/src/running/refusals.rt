@@ -6,7 +6,7 @@ ghost use Rattle.std.specs.Prelude.{◌≡◌};
 ghost use Rattle.protocol.specs.declared.replies.Refusal.{Refusal};
 ghost use Rattle.protocol.specs.declared.replies.Refusal.TheVariants.{File};
 ghost use Rattle.parcel.specs.Shown.{has_file};
-ghost use Rattle.parcel.specs.Steps.{Decides, guard, guard_open, reply_to_change};
+ghost use Rattle.parcel.specs.VolumeStep.{Decides, guard, guard_open, reply_to_change};
 
 use protocol::{Refusal, Reply, has_file};
 

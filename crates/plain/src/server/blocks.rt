@@ -4,7 +4,8 @@ ghost use Rattle.std.specs.Prelude.{◌≡◌, ◌<◌, [], ◌∷◌, IfOk, OnE
 ghost use Rattle.affinity.specs.declared.kinds.Kind.TheVariants as kinds;
 ghost use Rattle.protocol.specs.declared.messages.Msg.{Msg};
 ghost use Rattle.protocol.specs.declared.replies.Refusal.{Refusal};
-ghost use Rattle.meaning.specs.Serial.{passes, effect};
+ghost use Rattle.meaning.specs.Refusals.{passes};
+ghost use Rattle.meaning.specs.Step.{effect};
 ghost use Rattle.plain.specs.Server.{server_state, HasRightCounts};
 
 use super::Server;

@@ -4,7 +4,8 @@ ghost use Rattle.std.specs.Prelude.{◌≡◌, ◌<◌, OnOk, OnErr, None, true,
 ghost use Rattle.affinity.specs.declared.geometry.Geometry.{Geometry};
 ghost use Rattle.protocol.specs.declared.messages.Msg.{Msg};
 ghost use Rattle.message.specs.Heads.{message_without_data, has_data};
-ghost use Rattle.meaning.specs.Serial.{refusal, effect};
+ghost use Rattle.meaning.specs.Refusals.{refusal};
+ghost use Rattle.meaning.specs.Step.{effect};
 ghost use Rattle.plain.specs.Server.{server_state, HasRightCounts, IsConsistent};
 ghost use Rattle.affinity.specs.declared.limits.TheConstants.{MOST_FILES};
 

@@ -3,7 +3,7 @@
 ghost use Rattle.std.specs.Prelude.{◌≡◌, if◌then◌else◌, None, Some, false};
 ghost use Rattle.message.specs.Heads.{has_data};
 ghost use Rattle.protocol.specs.declared.replies.Refusal.TheVariants.{Exists, File, Sealed, Volume};
-ghost use Rattle.meaning.specs.Serial.{refusal_by};
+ghost use Rattle.meaning.specs.Refusals.{refusal_by};
 ghost use Rattle.plain.specs.Server.{server_state};
 
 use super::Server;

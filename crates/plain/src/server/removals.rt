@@ -5,7 +5,7 @@ ghost use Rattle.std.specs.BTreeMap.{btree_map_len};
 ghost use Rattle.affinity.specs.declared.geometry.Geometry.{Geometry};
 ghost use Rattle.protocol.specs.declared.messages.Msg.{Msg};
 ghost use Rattle.meaning.specs.State.{BlockKey, one_if, is_block_of, is_block_of_file};
-ghost use Rattle.meaning.specs.Serial.{effect};
+ghost use Rattle.meaning.specs.Step.{effect};
 ghost use Rattle.plain.specs.Server.{StripeKey, is_stripe, server_state, noted, HasRightCounts, IsConsistent};
 ghost use Rattle.meaning.specs.Removals.{without_blocks};
 ghost use Rattle.affinity.specs.declared.limits.TheConstants.{MOST_FILES};

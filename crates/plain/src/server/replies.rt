@@ -4,7 +4,7 @@ ghost use Rattle.std.specs.Prelude.{◌≡◌, IfNone, IfSome, unwrap_or};
 ghost use Rattle.protocol.specs.declared.replies.Reply.TheVariants.{Block as shows, Hole, Label as shows_label};
 ghost use Rattle.affinity.specs.declared.kinds.Kind.TheVariants as kinds;
 ghost use Rattle.message.specs.Heads.{message_without_data};
-ghost use Rattle.meaning.specs.Serial.{accepted_reply, no_label, step};
+ghost use Rattle.meaning.specs.Step.{accepted_reply, no_label, step};
 ghost use Rattle.plain.specs.Server.{server_state, IsConsistent};
 
 use super::Server;

@@ -4,7 +4,7 @@ ghost use Rattle.std.specs.Prelude.{◌≡◌};
 ghost use Rattle.affinity.specs.declared.geometry.Geometry.{Geometry};
 ghost use Rattle.protocol.specs.declared.messages.Msg.{Msg};
 ghost use Rattle.meaning.specs.State.{file_count, block_count, sum_over_volumes};
-ghost use Rattle.meaning.specs.Serial.{accepted_reply};
+ghost use Rattle.meaning.specs.Step.{accepted_reply};
 ghost use Rattle.plain.specs.Server.{server_state, HasRightCounts, IsConsistent};
 
 use super::Server;

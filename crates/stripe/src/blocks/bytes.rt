@@ -2,8 +2,8 @@
 //! after them.
 ghost use Rattle.std.specs.Prelude.{◌≡◌, ◌↔◌, ◌*◌, ◌<◌, ◌==◌, ◌++◌, ◌∷◌, [], IsTrue, IsFalse, get_or, length, take, drop, replicate, slice_index_or};
 ghost use Rattle.std.specs.List.{list_all, AllByRecursion};
-ghost use Rattle.stripe.specs.Entries.{entry_bytes, entry_in, entries_in, stripe_bytes, fits_stripe, IsStripePiece};
-ghost use Rattle.stripe.specs.Index.{no_entry, IsNextEntry};
+ghost use Rattle.stripe.specs.Entries.{entry_bytes, entry_in, entries_in, stripe_bytes, fits_stripe, IsStripePiece, IsNextEntry};
+ghost use Rattle.stripe.specs.Index.{no_entry};
 ghost use Rattle.stripe.specs.Stripe.{PrecedesBlock};
 
 use super::StripeParcel;

@@ -2,7 +2,7 @@
 use Rattle.std.proofs.Common.{◌<◌, subst, arith}
 use Rattle.std.proofs.lemmas.Result.{on_ok_weaker}
 use Rattle.oplog.proofs.Answered.{err_is}
-use Rattle.disk.specs.Store.{CrashesChangeOnly}
+use Rattle.disk.specs.CrashImages.{CrashesChangeOnly}
 use Rattle.oplog.specs.Changes.{Chained, IsSameButChain}
 use Rattle.oplog.specs.Log.{Log, layout_of_log}
 use Rattle.checkpoint.proofs.IsCutBegun.{begun, chain_beyond, chain_moments, named_below}

@@ -4,13 +4,13 @@ use Rattle.std.proofs.Common.{◌<◌, sym, ◌∙◌, subst, arith, true≢fals
 use Rattle.std.proofs.lemmas.Result.{on_ok_weaker}
 use Rattle.affinity.specs.declared.geometry.Geometry.{Geometry}
 use Rattle.image.specs.Pieces.{piece_count}
-use Rattle.checkpoint.specs.Extents.{Imaged}
+use Rattle.checkpoint.specs.Images.{Imaged}
 use Rattle.checkpoint.proofs.Costs.{one_run, takes_all, takes_most, takes_with}
 use Rattle.checkpoint.proofs.IsCutFinished.{finish_image_moments, finish_moments, finished}
 use Rattle.checkpoint.proofs.StillRefused.{finish_alike, image_alike}
 use Rattle.oplog.proofs.Answered.{on_ok}
 use Rattle.oplog.proofs.Beyond.{beyond, beyond_then}
-use Rattle.disk.specs.Store.{CrashesChangeOnly}
+use Rattle.disk.specs.CrashImages.{CrashesChangeOnly}
 use Rattle.oplog.specs.Changes.{IsSameBut, IsSameButRoot}
 use Rattle.device_map.specs.Layout.{layout_of, image_part, other}
 use Rattle.checkpoint.proofs.IsPointed.{other_imaged, other_written}

@@ -3,14 +3,14 @@ use Rattle.std.proofs.Common.{◌<◌, ap, sym, ◌∙◌, subst, arith}
 use Rattle.std.proofs.lemmas.Result.{on_ok_weaker}
 use Rattle.oplog.proofs.Answered.{err_is, on_ok}
 use Rattle.checkpoint.specs.Costs.{point_cost}
-use Rattle.checkpoint.specs.Extents.{AgreeOnClean, Imaged, image_in}
+use Rattle.checkpoint.specs.Extents.{AgreeOnClean}
+use Rattle.checkpoint.specs.Images.{Imaged, image_in}
 use Rattle.checkpoint.proofs.Costs.{takes_all, takes_most, takes_with}
-use Rattle.checkpoint.proofs.IsPointed.{clear_moments, flip_moments, image_moments, still_clean}
-use Rattle.disk.specs.Store.{CrashesChangeOnly}
+use Rattle.checkpoint.proofs.IsPointed.{clear_moments, flip_moments, image_moments, still_clean, clear_beyond, image_beyond, flip_beyond, other_imaged, other_written, pointed}
+use Rattle.disk.specs.CrashImages.{CrashesChangeOnly}
 use Rattle.oplog.specs.Changes.{Flipped, IsSameButRoot}
 use Rattle.device_map.specs.Layout.{other}
 use Rattle.oplog.specs.Log.{Log, layout_of_log}
-use Rattle.checkpoint.proofs.IsPointed.{clear_beyond, image_beyond, flip_beyond, other_imaged, other_written, pointed}
 use Rattle.checkpoint.proofs.checkpoint_steps.point_on.Given.{Over}
 use Rattle.checkpoint.proofs.checkpoint_steps.point_on.Goals.{After-flip_root}
 use Rattle.checkpoint.proofs.checkpoint_steps.point_on.Goals as goal

@@ -2,7 +2,8 @@
 use Rattle.std.proofs.Common.{◌≡◌, ◌+◌, ◌-◌, ℕ, List, sym, ◌∙◌, ap, arith}
 use Rattle.std.proofs.lemmas.Result.{on_ok_weaker}
 use Rattle.disk.specs.Device.{overlaid}
-use Rattle.checkpoint.specs.Extents.{image_in, extent_at, extent_size}
+use Rattle.checkpoint.specs.Images.{image_in}
+use Rattle.checkpoint.specs.Extents.{extent_at, extent_size}
 use Rattle.checkpoint.proofs.Patches.{image_long, one_patched}
 use Rattle.checkpoint.proofs.Places.{extent_after, extent_inside, extent_rises, extent_some}
 use Rattle.device_map.specs.Layout.{slice}

@@ -3,7 +3,7 @@ use Rattle.std.proofs.Common.{◌≡◌, ◌+◌, ◌<◌, true, false, length, 
 use Rattle.std.proofs.lemmas.Grind.{common_steps}
 use Rattle.std.proofs.lemmas.Result.{on_ok_weaker}
 use Rattle.oplog.proofs.Answered.{err_is, on_ok_under}
-use Rattle.disk.specs.Moments.{moment_number}
+use Rattle.disk.specs.Device.{moment_number}
 use Rattle.disk.proofs.Calls.{after_sync}
 use Rattle.image.specs.Pieces.{piece_count}
 use Rattle.checkpoint.specs.Costs.{count_runs}

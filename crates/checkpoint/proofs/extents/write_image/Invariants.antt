@@ -1,6 +1,6 @@
 -- The image is patched up to the run in progress, with one write for each run of dirty extents before it.
 use Rattle.std.proofs.Common.{◌≡◌, ◌≤◌, length}
-use Rattle.disk.specs.Moments.{moment_number}
+use Rattle.disk.specs.Device.{moment_number}
 use Rattle.checkpoint.specs.Extents.{extent_at}
 use Rattle.checkpoint.proofs.Costs.{RunsLeft}
 use Rattle.checkpoint.proofs.Patches.{IsPatched}

@@ -3,18 +3,18 @@ use Rattle.std.proofs.Common.{length, ◌≡◌, ℕ, List, Option, Some, refl, 
 use Rattle.oplog.proofs.Answered.{err_is}
 use Rattle.affinity.specs.declared.geometry.Geometry.{Geometry}
 use Rattle.recovery.specs.declared.fault.OpenFault.{OpenFault}
-use Rattle.recovery.specs.Loading.{IsConsistentFault, records_fault}
+use Rattle.recovery.specs.OpenFaults.{IsConsistentFault, records_fault}
 use Rattle.recovery.specs.Recovery.{decoding}
 use Rattle.recovery.specs.Refusals.{first_bad_record}
 use Rattle.recovery.proofs.Replays.{same_bytes}
 use Rattle.disk.proofs.Leaves.{itself}
 use Rattle.disk.proofs.Moments.{leaves_now, same}
 use Rattle.image.specs.Image.{image_state}
-use Rattle.checkpoint.specs.Opening.{area_state}
+use Rattle.checkpoint.specs.RecoversByArea.{area_state}
 use Rattle.recovery.proofs.BadRecordBehind.{behind_fine, behind_holds, behind_refused}
 use Rattle.checkpoint.proofs.AreLoaded.{are_loaded}
 use Rattle.checkpoint.proofs.OpeningCrashImages.{alone_finished, bad_half, still_synced}
-use Rattle.oplog.specs.Front.{front}
+use Rattle.oplog.specs.HalfContent.{front}
 use Rattle.device_map.specs.Layout.{image_part, layout_of, other, part_bytes}
 use Rattle.oplog.specs.Log.{Log}
 use Rattle.oplog.proofs.Beyond.{beyond_read, beyond_then}

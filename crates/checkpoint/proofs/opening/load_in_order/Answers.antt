@@ -8,7 +8,7 @@ use Rattle.recovery.specs.Recovery.{recovered_state}
 use Rattle.recovery.specs.Refusals.{IsRefused, refused}
 use Rattle.recovery.proofs.Replays.{same_bytes}
 use Rattle.checkpoint.specs.Costs.{finish_cost}
-use Rattle.checkpoint.specs.Parts.{IsFaultAfterCut}
+use Rattle.checkpoint.specs.OpeningSteps.{IsFaultAfterCut}
 use Rattle.checkpoint.proofs.Costs.{finish_is, takes_with}
 use Rattle.recovery.proofs.BadRecordBehind.{alone_fine, alone_holds}
 use Rattle.checkpoint.proofs.AreLoaded.{are_loaded, alone_recovers, held_after}

@@ -1,6 +1,6 @@
 -- The parts that were opened make a sound journal, of the state to which the device recovers.
 use Rattle.std.proofs.Common.{◌+◌, sym, ◌∙◌, ap}
-use Rattle.disk.specs.Moments.{moment_number}
+use Rattle.disk.specs.Device.{moment_number}
 use Rattle.checkpoint.specs.Costs.{opening_cost}
 use Rattle.checkpoint.specs.Journal.{JournalView}
 use Rattle.checkpoint.proofs.AreLoaded.{opened}

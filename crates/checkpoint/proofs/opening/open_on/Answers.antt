@@ -4,7 +4,7 @@ use Rattle.std.proofs.lemmas.Result.{IfOk-weaker, IfErr-weaker}
 use Rattle.oplog.proofs.Answered.{err_is}
 use Rattle.recovery.specs.Header.{HasHeader}
 use Rattle.recovery.specs.Refusals.{HasHeaderAndParts}
-use Rattle.checkpoint.specs.Parts.{IsMadeOf}
+use Rattle.checkpoint.specs.OpeningSteps.{IsMadeOf}
 use Rattle.checkpoint.proofs.Costs.{opening_after}
 use Rattle.checkpoint.proofs.OpeningCrashImages.{never_synced, synced_then, unwritten_from, unwritten_then}
 use Rattle.device_map.specs.Layout.{layout_of}

@@ -11,7 +11,7 @@ use Rattle.recovery.proofs.Refused.{behind_header, header_half}
 use Rattle.recovery.proofs.Replays.{same_bytes}
 use Rattle.checkpoint.specs.Costs.{finish_cost}
 use Rattle.checkpoint.specs.declared.journal.Buffers.{Buffers}
-use Rattle.checkpoint.specs.Parts.{IsMadeOf}
+use Rattle.checkpoint.specs.OpeningSteps.{IsMadeOf}
 use Rattle.checkpoint.specs.Extents.{AreAllDirty}
 use Rattle.checkpoint.proofs.Costs.{finish_few}
 use Rattle.checkpoint.proofs.AreLoaded.{made, made_of}
@@ -22,7 +22,7 @@ use Rattle.oplog.specs.Log.{Log}
 use Rattle.oplog.proofs.Beyond.{beyond_read, beyond_then}
 use Rattle.parcel.specs.Tree.{TreeView, state_in}
 use Rattle.meaning.specs.State.{IsState}
-use Rattle.disk.specs.Moments.{CrashImagesAre}
+use Rattle.disk.specs.CrashImages.{CrashImagesAre}
 use Rattle.checkpoint.specs.Opening.{RecoversAsBefore}
 use Rattle.checkpoint.proofs.opening.open_synced.Given.{Over}
 use Rattle.checkpoint.proofs.opening.open_synced.Goals.{After-checkpoint_recovered}

@@ -1,6 +1,6 @@
 -- A refused opening leaves input and output; else the device is given back with all that its server promises.
 use Rattle.std.proofs.Common.{refl}
-use Rattle.serving.specs.Ends.{exchange}
+use Rattle.serving.specs.Exchange.{exchange}
 use Rattle.commands.specs.Faults.{command_result}
 use Rattle.commands.proofs.SentIsKept.{keeps_acknowledged}
 use Rattle.commands.proofs.Promise.{leaves_recovered, leaves_run}

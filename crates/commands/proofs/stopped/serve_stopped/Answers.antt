@@ -3,7 +3,7 @@
 use Rattle.std.proofs.Common.{◌≡◌, ap, refl, subst, sym}
 use Rattle.disk.specs.Device.{IsSynced}
 use Rattle.disk.specs.Memory.{Memory, medium_of, memory_of}
-use Rattle.serving.specs.Ends.{exchange}
+use Rattle.serving.specs.Exchange.{exchange}
 use Rattle.commands.specs.UntilCrash.{ServesUntilCrash}
 use Rattle.commands.proofs.SentIsKept.{all_then}
 use Rattle.commands.proofs.Promise.{then_so}

@@ -3,7 +3,7 @@ use Rattle.std.proofs.Common.{ℕ, get_or, subst}
 use Rattle.std.proofs.lemmas.List.{get_or_default}
 use borrow.Author.Count.{below_more}
 use Rattle.protocol.specs.declared.messages.Msg.{Msg}
-use Rattle.oplog.specs.Changing.{IsChangeInRange}
+use Rattle.oplog.specs.ChangeRecords.{IsChangeInRange}
 use Rattle.harness.proofs.server.are_changes_in_range.Goals as goal
 
 pub loop-m-preserved : goal.loop-m-preserved

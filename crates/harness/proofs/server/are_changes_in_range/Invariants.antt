@@ -1,7 +1,7 @@
 -- Each message so far is a change in range: one that the log takes.
 use Rattle.std.proofs.Common.{ℕ, ◌<◌, get_or}
 use Rattle.protocol.specs.declared.messages.Msg.{Msg}
-use Rattle.oplog.specs.Changing.{IsChangeInRange}
+use Rattle.oplog.specs.ChangeRecords.{IsChangeInRange}
 use Rattle.harness.proofs.server.are_changes_in_range.Given as goal
 
 abbrev pub invariant-loop-m : goal.invariant-loop-m

@@ -1,7 +1,7 @@
 -- Each core state of the run is sound.
 use Rattle.affinity.proofs.Elements.{all_weaker}
-use Rattle.histories.specs.CoreState.{held}
-use Rattle.histories.specs.Laws.{AreUnrelated, IsSoundCoreState}
+use Rattle.histories.specs.CoreState.{held, AreUnrelated}
+use Rattle.histories.specs.IsSoundCoreState.{IsSoundCoreState}
 use Rattle.histories.proofs.Sound.{run_sound}
 use Rattle.histories.proofs.laws.held_messages_are_unrelated.Goals as goal
 

@@ -2,7 +2,7 @@
 use Rattle.std.proofs.Common.{◌≡◌, ℕ, List, Option, Some, None}
 use Rattle.std.specs.Prelude.{MatchOption}
 use Rattle.protocol.specs.declared.sizes.TheConstants.{BLOCK_SIZE}
-use Rattle.protocol.specs.Lines.{block_in_word, bytes_in_word}
+use Rattle.protocol.specs.Words.{block_in_word, bytes_in_word}
 use Rattle.message.proofs.Blocks.{bytes_block, no_block}
 use Rattle.message.proofs.heads.decode_block.Goals as goal
 

@@ -1,6 +1,6 @@
 -- A line that is too long, or whose first word is no keyword, has no message; else its kind gives the head.
 use Rattle.std.proofs.Common.{[], sym, subst}
-use Rattle.protocol.specs.Lines.{words}
+use Rattle.protocol.specs.Words.{words}
 use Rattle.message.specs.Heads.{IsHead}
 use Rattle.protocol.proofs.FirstLines.{too_long}
 use Rattle.message.proofs.Keywords.{with_kind, without_kind, keyword_alone, no_keyword}

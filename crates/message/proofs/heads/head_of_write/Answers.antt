@@ -3,7 +3,7 @@ use Rattle.std.proofs.Common.{◌≡◌, ℕ, List, Option, None, refl, ◌∙�
 use Rattle.protocol.specs.declared.messages.Msg.{Msg}
 use Rattle.protocol.specs.declared.messages.Msg.TheVariants.{Write as write}
 use Rattle.protocol.specs.Grammar.{first_number}
-use Rattle.protocol.specs.Lines.{words}
+use Rattle.protocol.specs.Words.{words}
 use Rattle.message.proofs.GrammarByKind.{onward, onward_some, of_digits, of_digits-told, from_block, from_file, from_volume, from_block-onward, from_file-onward, from_volume-onward, of_data-onward}
 use Rattle.message.proofs.heads.head_of_write.Goals as goal
 

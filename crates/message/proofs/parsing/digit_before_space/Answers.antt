@@ -2,7 +2,7 @@
 use Rattle.std.proofs.lemmas.Grind.{common_steps}
 use Rattle.std.proofs.Common.{◌≡◌, ℕ, ◌-◌, ◌<◌, Some, List, [], ◌∷◌, get_or, length, take, drop, arith}
 use Rattle.std.proofs.lemmas.List.{take_all}
-use Rattle.protocol.specs.Lines.{words, number_in_word}
+use Rattle.protocol.specs.Words.{words, number_in_word}
 use Rattle.protocol.specs.Grammar.{first_number}
 use Rattle.message.proofs.Words.{words_space}
 use Rattle.message.proofs.GrammarByKind.{first_number_some}

@@ -4,7 +4,7 @@ use Rattle.std.proofs.Common.{◌≡◌, ◌+◌, ◌<◌, length, take, add-one
 use Rattle.std.specs.Char.{is_ascii_digit}
 use Rattle.std.specs.Str.Parse.{digits_value}
 use Rattle.std.proofs.lemmas.Bool.{true≢false, ne_eqb}
-use Rattle.protocol.specs.Lines.{words}
+use Rattle.protocol.specs.Words.{words}
 use Rattle.message.proofs.Words.{goes_on, words_split, words_whole}
 use Rattle.message.proofs.GrammarByKind.{first_number_none, first_number_some}
 use Rattle.message.proofs.Numbers.{no_number, digit_at, digits_no_space, not_a_space, too_large}

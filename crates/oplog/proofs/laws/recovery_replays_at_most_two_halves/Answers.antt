@@ -2,7 +2,7 @@
 use Rattle.std.proofs.Common.{ℕ, ◌+◌, ◌*◌, ◌==◌, ◌≤◌, Bool, true, false, if◌then◌else◌, List, ◌++◌, length, drop, arith, length-append}
 use Rattle.std.proofs.lemmas.List.{length-take}
 use Rattle.device_map.specs.Layout.{Layout, half_part, layout_of, other, part_bytes}
-use Rattle.oplog.specs.Front.{chain, count_open, front, gates}
+use Rattle.oplog.specs.HalfContent.{chain, count_open, front, gates}
 use Rattle.oplog.specs.Recovery.{in_force, named_area}
 use Rattle.oplog.proofs.Gates.{open_at_most}
 use Rattle.oplog.proofs.RecordRows.{length-rows}

@@ -2,7 +2,7 @@
 use Rattle.std.proofs.Common.{◌≡◌, ◌*◌, ◌≤◌, length, take}
 use Rattle.std.specs.List.{concat}
 use Rattle.protocol.specs.declared.sizes.TheConstants.{RECORD_SIZE}
-use Rattle.oplog.specs.Changing.{records_of}
+use Rattle.oplog.specs.ChangeRecords.{records_of}
 use Rattle.oplog.proofs.RecordRows.{AreRows}
 use Rattle.oplog.proofs.staging.stage.Given as goal
 

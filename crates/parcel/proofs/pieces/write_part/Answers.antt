@@ -2,7 +2,7 @@
 use Rattle.std.proofs.Common.{◌≡◌, ℕ, suc, ◌-◌, slice_index_or, ◌∙◌, ap, subst, arith}
 use Rattle.std.specs.Prelude.{None, IfSome}
 use Rattle.std.proofs.lemmas.List.{get_or_read}
-use Rattle.meaning.specs.Subtrees.{OfBlock}
+use Rattle.meaning.specs.Facts.{OfBlock}
 use Rattle.image.specs.Pieces.{part_piece}
 use Rattle.parcel.specs.Fits.{FitsLogical, FitsStripe}
 use Rattle.parcel.specs.Shown.{blocks_in, blocks_below}

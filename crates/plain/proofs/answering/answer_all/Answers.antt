@@ -4,8 +4,8 @@ use Rattle.std.specs.Prelude.{IfSome}
 use Rattle.std.proofs.KnownBytes.{Appends-nil, Appends-trans}
 use Rattle.std.proofs.lemmas.Result.{IfOk-from_err}
 use Rattle.message.specs.Reader.{unread}
-use Rattle.message.specs.Waiting.{all_output}
-use Rattle.message.specs.Writing.{AppendsBeginning}
+use Rattle.message.specs.BufferedOutput.{all_output}
+use Rattle.message.specs.AppendsBeginning.{AppendsBeginning}
 use Rattle.message.proofs.Beginnings.{none_waits}
 use Rattle.plain.specs.Server.{server_state}
 use Rattle.plain.proofs.Beginnings.{begins_output}

@@ -2,7 +2,7 @@
 use Rattle.std.proofs.Common.{ℕ, List}
 use Rattle.std.specs.Io.KnownBytes.{Appends}
 use Rattle.message.specs.Reader.{unread, is_drained, KnowsEnd}
-use Rattle.message.specs.Waiting.{all_output}
+use Rattle.message.specs.BufferedOutput.{all_output}
 use Rattle.plain.specs.Server.{server_state, IsConsistent}
 use Rattle.meaning.specs.Progress.{HasAnswered}
 use Rattle.plain.proofs.answering.answer_all.Given as goal

@@ -7,7 +7,7 @@ use Rattle.protocol.specs.FirstLine.{LosesLineStart}
 use Rattle.message.specs.Reader.{unread, line_of, source}
 use Rattle.protocol.specs.Grammar.{message_of}
 use Rattle.protocol.specs.Replies.{no_message}
-use Rattle.message.specs.Waiting.{all_output}
+use Rattle.message.specs.BufferedOutput.{all_output}
 use Rattle.message.proofs.NextLine.{adds_so_far}
 use Rattle.plain.specs.Server.{server_state}
 use Rattle.meaning.specs.Output.{answer_line as line_answer, state_after_line}

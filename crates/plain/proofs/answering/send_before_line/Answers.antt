@@ -1,6 +1,6 @@
 -- At most one of the two steps sends something: the other finds a whole line, or nothing that waits.
 use Rattle.std.proofs.Common.{arith, ℕ, List, Option, ap, sym, subst, ⊎_elim, length}
-use Rattle.message.specs.Writing.{AppendsBeginning}
+use Rattle.message.specs.AppendsBeginning.{AppendsBeginning}
 use Rattle.plain.proofs.answering.send_before_line.Goals as goal
 
 pub returns-clause-begun : goal.returns-clause-begun

@@ -3,8 +3,8 @@ use Rattle.std.proofs.Common.{◌≡◌, ℕ, List, Option, ap, arith, ◌∙◌
 use Rattle.std.specs.Prelude.{IfSome, IsErrOf, OnOk}
 use Rattle.std.specs.Io.KnownBytes.{IsAtEnd}
 use Rattle.std.proofs.lemmas.Result.{IfOk-from_err, on_ok_weaker}
-use Rattle.message.specs.Waiting.{all_output}
-use Rattle.message.specs.Writing.{AppendsBeginning}
+use Rattle.message.specs.BufferedOutput.{all_output}
+use Rattle.message.specs.AppendsBeginning.{AppendsBeginning}
 use Rattle.message.proofs.Beginnings.{none_waits}
 use Rattle.meaning.specs.State.{empty}
 use Rattle.meaning.specs.Output.{AnswersWholeLines, IsBeginning, WritesOutput, serial_output}

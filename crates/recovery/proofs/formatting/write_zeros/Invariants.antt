@@ -1,7 +1,7 @@
 -- So far `done` zeros are written, and nothing outside the range is changed; the number of zeros left decreases.
 use Rattle.std.proofs.Common.{◌≡◌, ◌≤◌, ◌-◌, length, replicate}
 use Rattle.disk.specs.Device.{SameOutside, overlaid}
-use Rattle.disk.specs.Store.{CrashesChangeOnly}
+use Rattle.disk.specs.CrashImages.{CrashesChangeOnly}
 use Rattle.recovery.proofs.formatting.write_zeros.Given as goal
 
 abbrev pub invariant-zeros : goal.invariant-zeros

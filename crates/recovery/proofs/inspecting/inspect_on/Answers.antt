@@ -3,14 +3,14 @@ use Rattle.std.proofs.Common.{◌≡◌, ◌+◌, ◌≤◌, ℕ, List, length, 
 use Rattle.oplog.proofs.Answered.{err_is}
 use Rattle.affinity.specs.declared.geometry.Geometry.{Geometry}
 use Rattle.recovery.specs.declared.inspecting.Shown.{Shown}
-use Rattle.recovery.specs.Loading.{IsConsistentFault, records_fault}
+use Rattle.recovery.specs.OpenFaults.{IsConsistentFault, records_fault}
 use Rattle.recovery.specs.Recovery.{decoding}
 use Rattle.recovery.specs.Refusals.{IsRefused}
 use Rattle.device_map.specs.Layout.{device_size, image_part, layout_of, other, part_bytes}
 use Rattle.image.specs.Image.{version_in}
 use Rattle.protocol.specs.declared.messages.Msg.TheVariants.{Summary}
-use Rattle.meaning.specs.Serial.{reply_to}
-use Rattle.oplog.specs.Front.{front}
+use Rattle.meaning.specs.Step.{reply_to}
+use Rattle.oplog.specs.HalfContent.{front}
 use Rattle.oplog.specs.Log.{Log}
 use Rattle.oplog.specs.Recovery.{run}
 use Rattle.parcel.specs.Tree.{TreeView, state_in}

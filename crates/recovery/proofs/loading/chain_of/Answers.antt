@@ -2,7 +2,7 @@
 use Rattle.std.proofs.Common.{◌==◌, Bool, None, sym, ◌∙◌, ap, arith}
 use Rattle.recovery.specs.declared.fault.OpenFault.TheVariants.{BadChain}
 use Rattle.recovery.specs.Refusals.{fault_if}
-use Rattle.oplog.specs.Front.{chain}
+use Rattle.oplog.specs.HalfContent.{chain}
 use Rattle.device_map.specs.Layout.{layout_of, other}
 use Rattle.recovery.proofs.ReadingCalls.{unwritten}
 use Rattle.recovery.proofs.Refused.{both_are, one_not}

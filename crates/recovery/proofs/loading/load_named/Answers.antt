@@ -4,11 +4,12 @@ use Rattle.oplog.proofs.Answered.{err_is}
 use Rattle.affinity.specs.declared.geometry.Geometry.{Geometry}
 use Rattle.recovery.specs.declared.fault.OpenFault.{OpenFault}
 use Rattle.recovery.specs.declared.fault.OpenFault.TheVariants.{BadChain}
-use Rattle.recovery.specs.Loading.{IsConsistentFault, IsOfHalf, are_both_chained, image_fault, records_fault}
+use Rattle.recovery.specs.OpenFaults.{IsConsistentFault, IsOfHalf, image_fault, records_fault}
+use Rattle.recovery.specs.Loading.{are_both_chained}
 use Rattle.recovery.specs.Recovery.{decoding}
 use Rattle.recovery.specs.Refusals.{fault_if}
 use Rattle.image.specs.Image.{image_state, version_in}
-use Rattle.oplog.specs.Front.{chain, front}
+use Rattle.oplog.specs.HalfContent.{chain, front}
 use Rattle.device_map.specs.Layout.{device_size, image_part, layout_of, part_bytes}
 use Rattle.oplog.specs.Log.{Log}
 use Rattle.oplog.specs.Recovery.{named_area, run}

@@ -3,7 +3,7 @@ use Rattle.std.proofs.Common.{ℕ, List, Ok, Some, refl, sym, ◌∙◌, ap, ari
 use Rattle.std.proofs.lemmas.List.{at_drop_all}
 use Rattle.oplog.proofs.Answered.{err_is}
 use Rattle.device_map.specs.Layout.{device_size, layout_of}
-use Rattle.oplog.specs.Front.{front}
+use Rattle.oplog.specs.HalfContent.{front}
 use Rattle.oplog.specs.Log.{Log, layout_of_log}
 use Rattle.oplog.specs.Recovery.{run}
 use Rattle.parcel.specs.Tree.{state_in}

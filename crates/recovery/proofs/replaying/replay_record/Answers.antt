@@ -3,7 +3,7 @@ use Rattle.std.proofs.Common.{Some, sym, ◌∙◌, ap, subst}
 use Rattle.oplog.proofs.Answered.{err_is}
 use Rattle.affinity.specs.declared.geometry.Geometry.{Geometry}
 use Rattle.oplog.specs.Log.{layout_of_log}
-use Rattle.oplog.specs.Changing.{IsChangeInRange}
+use Rattle.oplog.specs.ChangeRecords.{IsChangeInRange}
 use Rattle.oplog.proofs.BadRecords.{records_are_bytes}
 use Rattle.parcel.specs.Tree.{state_in}
 use Rattle.recovery.proofs.AfterRecord.{carried, not_run, read_fault}

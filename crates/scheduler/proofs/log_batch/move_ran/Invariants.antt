@@ -1,5 +1,5 @@
 -- As many messages are logged as there were iterations.
-use Rattle.scheduler.specs.Moving.{HasLogged}
+use Rattle.scheduler.specs.HasLogged.{HasLogged}
 use Rattle.scheduler.proofs.log_batch.move_ran.Given as goal
 
 abbrev pub invariant-loop : goal.invariant-loop

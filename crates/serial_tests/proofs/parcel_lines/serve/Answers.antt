@@ -6,7 +6,7 @@ use Rattle.affinity.specs.Path.{Path}
 use Rattle.affinity.specs.Place.{path_of_kind}
 use Rattle.protocol.specs.Messages.{kind, path_of}
 use Rattle.parcel.specs.Fits.{Fits, IsKindOf, IsRunnable}
-use Rattle.parcel.specs.Run.{JobView}
+use Rattle.parcel.specs.JobRun.{JobView}
 use Rattle.parcel.proofs.RunFits.{fits_where_lent}
 use Rattle.serial_tests.proofs.parcel_lines.serve.Goals as goal
 

@@ -3,11 +3,12 @@ use Rattle.std.proofs.Common.{◌≡◌, List, [], Option, ap, refl, sym, subst,
 use Rattle.std.specs.Prelude.{OnOk}
 use Rattle.std.proofs.lemmas.Bool.{and_left}
 use Rattle.scheduler.specs.CoreView.{CoreView}
-use Rattle.serving.specs.Ends.{exchange}
+use Rattle.serving.specs.Exchange.{exchange}
 use Rattle.serving.specs.Kill.{IsKillSafe}
 use Rattle.oplog.specs.Recovery.{records_in}
-use Rattle.serving.specs.Session.{SessionView, reported}
-use Rattle.serving.specs.Output.{Start, start_machine}
+use Rattle.serving.specs.Session.{SessionView}
+use Rattle.serving.specs.SessionEnds.{reported}
+use Rattle.serving.specs.Start.{Start, start_machine}
 use Rattle.serving.proofs.SessionEnds.{PromisesAll, emptied_at_end, ends_or_declines, first_at, promises_from, refuses_none}
 use Rattle.serving.proofs.Invariant.{begun, kill_safe}
 use Rattle.serving.proofs.server.run_session.Goals as goal

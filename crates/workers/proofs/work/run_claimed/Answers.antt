@@ -1,8 +1,7 @@
 -- The slot that was claimed has the job; its result is laid into that slot, and is what the job's run gives.
-use Rattle.std.proofs.Common.{arith}
+use Rattle.std.proofs.Common.{arith, ap, subst}
 use Rattle.std.proofs.lemmas.Grind.{common_steps}
-use Rattle.std.proofs.Common.{ap, subst}
-use Rattle.parcel.specs.Run.{IsJobRun}
+use Rattle.parcel.specs.JobRun.{IsJobRun}
 use Rattle.workers.specs.Steps.{SeatState}
 use Rattle.workers.proofs.OfferAndCollect.{headed, same_head, one_job, answered}
 use Rattle.workers.proofs.work.run_claimed.Goals as goal

@@ -4,7 +4,7 @@ use Rattle.std.proofs.Common.{slice_set, sym, ap, subst, ◌∙◌, List, Option
 use Rattle.std.proofs.lemmas.List.{get_or_default, set-get_or, length-set}
 use Rattle.std.specs.Option.{ghost_name_of}
 use Rattle.arena.specs.ArenaView.{ArenaView, IsPartitioned, value_at, with_value}
-use Rattle.arena.specs.Invariant.{ArenaRule, arena_view_of}
+use Rattle.arena.specs.ArenaRule.{ArenaRule, arena_view_of}
 use Rattle.arena.proofs.Parts.{held-not_free, held-within, partitioned-restore}
 use Rattle.arena.proofs.arena.Arena.get_mut.Goals as goal
 

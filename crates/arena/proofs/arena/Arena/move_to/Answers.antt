@@ -1,6 +1,6 @@
 -- The slot leaves its list, and becomes the last of the chain.
 use Rattle.std.proofs.Common.{◌≡◌, ◌<◌, true, is_some, None, sym, ◌∙◌, slice_index_or, arith, length}
-use Rattle.arena.specs.Invariant.{chains_in}
+use Rattle.arena.specs.ArenaRule.{chains_in}
 use Rattle.arena.proofs.KeepsView.{move-kept, move-arena}
 use Rattle.arena.proofs.arena.Arena.move_to.Goals as goal
 

@@ -4,10 +4,10 @@ use Rattle.std.proofs.lemmas.List.{length-replicate}
 use Rattle.oplog.proofs.Answered.{err_is}
 use Rattle.affinity.specs.declared.geometry.Geometry.{Geometry}
 use Rattle.recovery.specs.Recovery.{recovered_state}
-use Rattle.disk.specs.Moments.{moment_number}
+use Rattle.disk.specs.Device.{moment_number}
 use Rattle.image.specs.Pieces.{piece_count}
-use Rattle.checkpoint.specs.Journal.{JournalView, records, committed}
-use Rattle.checkpoint.specs.Keeping.{FitsCutState, journal_view_of}
+use Rattle.checkpoint.specs.Journal.{JournalView, records, committed, journal_view_of}
+use Rattle.checkpoint.specs.PointAndCut.{FitsCutState}
 use Rattle.checkpoint.specs.DirtyPieces.{count_dirty, cut_dirty}
 use Rattle.checkpoint.proofs.RecoversWithPrefix.{beyond_of, failed_kept, failed_view, fit_as, fits_of, recoverable_of, sound_along, still_of}
 use Rattle.checkpoint.proofs.Rows.{count_most, whole_items, whole_put}

@@ -3,20 +3,18 @@ use Rattle.std.proofs.Common.{Option, ℕ, List, ◌++◌, length, refl, sym, �
 use Rattle.oplog.proofs.Answered.{err_is}
 use Rattle.affinity.specs.declared.geometry.Geometry.{Geometry}
 use Rattle.recovery.specs.Recovery.{recovered_state}
-use Rattle.disk.specs.Moments.{moment_number}
+use Rattle.disk.specs.Device.{moment_number}
 use Rattle.checkpoint.specs.Journal.{JournalView}
-use Rattle.checkpoint.specs.Keeping.{FitsCutState}
-use Rattle.checkpoint.specs.Steps.{IsCutWritten}
+use Rattle.checkpoint.specs.PointAndCut.{FitsCutState, IsCutWritten}
 use Rattle.recovery.specs.Version.{named_version}
 use Rattle.checkpoint.proofs.IsFlipped.{flip_asks, flip_sound, flip_version}
 use Rattle.checkpoint.proofs.RecoversWithPrefix.{beyond_of, fits_of, recoverable_of, sound_along, sound_of, still_of}
 use Rattle.checkpoint.proofs.RecoversByArea.{holds_now}
 use Rattle.image.specs.Pieces.{piece_count}
-use Rattle.oplog.specs.Front.{front}
+use Rattle.oplog.specs.HalfContent.{front}
 use Rattle.device_map.specs.Layout.{device_size, image_size, layout_of}
 use Rattle.oplog.specs.Log.{Log, layout_of_log}
 use Rattle.oplog.specs.Recovery.{records_in}
-use Rattle.checkpoint.specs.Steps.{IsCutWritten}
 use Rattle.checkpoint.proofs.journal.Journal.flip.Given.{Over}
 use Rattle.checkpoint.proofs.journal.Journal.flip.Goals.{After-deref}
 use Rattle.checkpoint.proofs.journal.Journal.flip.Goals as goal

@@ -3,10 +3,11 @@ use Rattle.std.proofs.Common.{◌≡◌, ℕ, ◌+◌, true, Some, Err, length, 
 use Rattle.oplog.proofs.Answered.{err_is}
 use Rattle.affinity.specs.declared.geometry.Geometry.{Geometry}
 use Rattle.recovery.specs.Recovery.{recovered_state}
-use Rattle.disk.specs.Moments.{CrashImagesAre, moment_number}
+use Rattle.disk.specs.CrashImages.{CrashImagesAre}
+use Rattle.disk.specs.Device.{moment_number}
 use Rattle.image.specs.Pieces.{piece_count}
-use Rattle.checkpoint.specs.Journal.{AreCarriedOut, JournalView, RecoversWithPrefix, committed}
-use Rattle.checkpoint.specs.Keeping.{FitsCutState, journal_view_of}
+use Rattle.checkpoint.specs.Journal.{AreCarriedOut, JournalView, RecoversWithPrefix, committed, journal_view_of}
+use Rattle.checkpoint.specs.PointAndCut.{FitsCutState}
 use Rattle.checkpoint.proofs.RecoversWithPrefix.{beyond_of, failed_kept, failed_view, fits_of, sound_of, log_kept, log_moments, log_records, log_told, placed_used, recoverable_of, sound_along, touched_along}
 use Rattle.checkpoint.proofs.Rows.{same_dirty, whole_put}
 use Rattle.disk.proofs.Moments.{weaker}

@@ -2,13 +2,14 @@
 use Rattle.std.proofs.Common.{◌≡◌, ◌≢◌, ◌<◌, ◌-◌, ℕ, Bool, true, false, List, length, get_or, Option, Some, is_some, option_map, set, unwrap_or, refl, sym, ◌∙◌, ap, subst, arith}
 use Rattle.std.proofs.lemmas.List.{length-set}
 use Rattle.affinity.specs.declared.geometry.Geometry.{Geometry}
-use Rattle.disk.specs.Moments.{moment_number}
+use Rattle.disk.specs.Device.{moment_number}
 use Rattle.image.specs.Pieces.{piece_count}
 use Rattle.disk.proofs.Leaves.{itself}
 use Rattle.disk.proofs.Moments.{started}
 use Rattle.checkpoint.specs.Journal.{JournalView, IsRecoverable, records, committed}
-use Rattle.checkpoint.specs.Keeping.{AreCleanBefore, FitsCutState, IsSoundJournal}
-use Rattle.checkpoint.specs.DirtyPieces.{count_dirty}
+use Rattle.checkpoint.specs.PointAndCut.{FitsCutState}
+use Rattle.checkpoint.specs.IsSoundJournal.{IsSoundJournal}
+use Rattle.checkpoint.specs.DirtyPieces.{count_dirty, AreCleanBefore}
 use Rattle.checkpoint.proofs.Costs.{takes_all, takes_most}
 use Rattle.checkpoint.proofs.RecoversWithPrefix.{beyond_of, failed_kept, failed_view, fits_of, recoverable_of, sound_of, still_of}
 use Rattle.checkpoint.proofs.IsPointed.{other_written}

@@ -4,13 +4,12 @@ use Rattle.std.proofs.lemmas.List.{length-replicate}
 use Rattle.oplog.proofs.Answered.{err_is}
 use Rattle.affinity.specs.declared.geometry.Geometry.{Geometry}
 use Rattle.recovery.specs.Recovery.{recovered_state}
-use Rattle.disk.specs.Moments.{moment_number}
+use Rattle.disk.specs.Device.{moment_number}
 use Rattle.image.specs.Image.{image_state}
 use Rattle.image.specs.Pieces.{piece_count}
 use Rattle.checkpoint.specs.Costs.{point_cost}
 use Rattle.checkpoint.specs.Journal.{JournalView, committed}
-use Rattle.checkpoint.specs.Keeping.{FitsCutState}
-use Rattle.checkpoint.specs.Steps.{IsPointed}
+use Rattle.checkpoint.specs.PointAndCut.{FitsCutState, IsPointed}
 use Rattle.checkpoint.proofs.Costs.{few_writes}
 use Rattle.checkpoint.proofs.RecoversWithPrefix.{beyond_of, failed_kept, failed_view, fit_as, fits_of, recoverable_of, sound_along, still_of}
 use Rattle.checkpoint.proofs.Rows.{whole_put}

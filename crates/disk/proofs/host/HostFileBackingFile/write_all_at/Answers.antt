@@ -1,6 +1,7 @@
 -- What is written are bytes below 256, so all bytes of the ghost device still are.
 use Rattle.std.proofs.Common.{sym, subst}
-use Rattle.disk.specs.Device.{AreBytes, Medium}
+use Rattle.disk.specs.CrashImages.{AreBytes}
+use Rattle.disk.specs.Device.{Medium}
 use Rattle.disk.proofs.Bytes.{bytes_fit, bytes-overlaid}
 use Rattle.disk.proofs.host.HostFileBackingFile.write_all_at.Goals as goal
 

@@ -1,8 +1,7 @@
 -- Unsynced bytes are torn and all others stay, so what is left is a crash image of the device.
 use Rattle.std.proofs.Common.{rules, ◌≡◌, List, length, ℕ, ap, sym, subst, ◌∙◌, arith}
 use Rattle.std.proofs.lemmas.Grind.{common_steps}
-use Rattle.disk.specs.Device.{SameButUnsynced}
-use Rattle.disk.specs.Torn.{torn_byte, torn_from}
+use Rattle.disk.specs.CrashImages.{SameButUnsynced, torn_byte, torn_from}
 use Rattle.disk.proofs.Crashes.{torn_leaves}
 use Rattle.disk.proofs.memory.MemDisk.crash.Goals as goal
 

@@ -3,7 +3,8 @@ use Rattle.std.proofs.Common.{refl, ap, ◌∙◌, length, nat_lt, false, ◌≡
 use Rattle.std.proofs.lemmas.Bool.{le-ltb}
 use Rattle.disk.proofs.Overlays.{length-overlaid}
 use Rattle.std.proofs.lemmas.List.{with_items_is}
-use Rattle.disk.specs.Device.{overlaid, marked, AreBytes, Medium}
+use Rattle.disk.specs.Device.{overlaid, marked, Medium}
+use Rattle.disk.specs.CrashImages.{AreBytes}
 use Rattle.disk.specs.Span.{HoldsUnsynced}
 use Rattle.disk.proofs.Bytes.{bytes_fit, bytes-overlaid}
 use Rattle.disk.proofs.Spans.{holds_failed_write, holds_written}

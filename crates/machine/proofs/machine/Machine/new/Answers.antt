@@ -1,7 +1,7 @@
 -- Empty hands hold no job, so with a sound core state they keep what a machine keeps.
 use Rattle.std.proofs.Common.{List, map, ap, sym, subst, ◌∙◌}
 use Rattle.machine.proofs.EmptyHands.{all_empty, empty_hold}
-use Rattle.scheduler.specs.Machine.{HoldsJobs, hand_of}
+use Rattle.scheduler.specs.Hands.{HoldsJobs, hand_of}
 use Rattle.scheduler.specs.declared.hands.HandContent.{HandContent}
 use Rattle.scheduler.specs.CoreView.{core_state_of}
 use Rattle.machine.proofs.machine.Machine.new.Goals as goal

@@ -3,11 +3,13 @@ use Rattle.std.proofs.Common.{◌≡◌, ◌+◌, ◌<◌, ◌≤◌, List, [], 
 use Rattle.std.specs.Prelude.{slice_set}
 use Rattle.std.specs.Vec.{with_items}
 use Rattle.std.proofs.lemmas.List.{take_all, with_items_is}
-use Rattle.histories.specs.Laws.{IsSoundCoreState}
+use Rattle.histories.specs.IsSoundCoreState.{IsSoundCoreState}
 use Rattle.histories.specs.declared.outcomes.Outcome.{Outcome}
 use Rattle.histories.specs.declared.outcomes.Step.{Step}
 use Rattle.scheduler.proofs.HasRun.{has_run, next_device_events, no_device_events}
-use Rattle.scheduler.specs.Machine.{MachineView, HasDeviceEvents, HoldsJobs}
+use Rattle.scheduler.specs.Machine.{MachineView}
+use Rattle.scheduler.specs.Runs.{HasDeviceEvents}
+use Rattle.scheduler.specs.Hands.{HoldsJobs}
 use Rattle.scheduler.specs.declared.hands.HandContent.{HandContent}
 use Rattle.scheduler.specs.CoreView.{core_state_of}
 use Rattle.machine.proofs.machine.Machine.run.Goals as goal

@@ -1,6 +1,7 @@
 -- The steps so far had these outcomes, and the hands have what they are to have.
 use Rattle.std.proofs.Common.{take}
-use Rattle.scheduler.specs.Machine.{HasDeviceEvents, HoldsJobs}
+use Rattle.scheduler.specs.Runs.{HasDeviceEvents}
+use Rattle.scheduler.specs.Hands.{HoldsJobs}
 use Rattle.scheduler.specs.CoreView.{core_state_of}
 use Rattle.machine.proofs.machine.Machine.run.Given as goal
 

@@ -1,9 +1,9 @@
 -- The batches so far are in the front, at four writes and syncs each; and what decreases is the number of messages left.
 use Rattle.std.proofs.Common.{◌≡◌, ◌<◌, ◌≤◌, ◌+◌, ◌-◌, ◌*◌, ◌%◌, length, take}
-use Rattle.disk.specs.Moments.{moment_number}
+use Rattle.disk.specs.Device.{moment_number}
 use Rattle.oplog.specs.Log.{batch_count}
 use Rattle.device_map.specs.Layout.{layout_of}
-use Rattle.oplog.specs.Changing.{records_of}
+use Rattle.oplog.specs.ChangeRecords.{records_of}
 use Rattle.oplog.proofs.Batches.{SoFar}
 use Rattle.oplog.proofs.half.Half.append.Given as goal
 

@@ -5,7 +5,7 @@ use Rattle.std.proofs.lemmas.Result.{on_ok_weaker}
 use Rattle.message.specs.Records.{record_of}
 use Rattle.message.proofs.RecordLemmas.{in_range_has_room}
 use Rattle.device_map.specs.Layout.{layout_of}
-use Rattle.oplog.specs.Changing.{records_of}
+use Rattle.oplog.specs.ChangeRecords.{records_of}
 use Rattle.oplog.proofs.BatchMoments.{bodies_moments, gates_moments, batch_added}
 use Rattle.oplog.proofs.half.Half.append_batch.Goals as goal
 

@@ -3,7 +3,7 @@ use Rattle.std.proofs.Common.{◌≡◌, ℕ, List, subst, arith}
 use Rattle.std.proofs.lemmas.Grind.{common_steps}
 use Rattle.std.proofs.lemmas.List.{length-replicate}
 use Rattle.disk.specs.Device.{Medium, SameOutside}
-use Rattle.disk.specs.Store.{CrashesChangeOnly}
+use Rattle.disk.specs.CrashImages.{CrashesChangeOnly}
 use Rattle.oplog.proofs.half.Half.open_gates.Goals as goal
 
 there : {old new : Medium} {a b m n : ℕ} → a ≡ b → m ≡ n → CrashesChangeOnly old new (SameOutside a m) → CrashesChangeOnly old new (SameOutside b n)

@@ -1,9 +1,9 @@
 -- If a log is ready for records, its current half is.
 use Rattle.std.proofs.Common.{◌+◌, ◌∙◌, length, sym, ap, subst}
-use Rattle.disk.specs.Moments.{CrashImagesAre}
+use Rattle.disk.specs.CrashImages.{CrashImagesAre}
 use Rattle.device_map.specs.Layout.{layout_of}
 use Rattle.oplog.specs.Changes.{HasAppendedAll, HasAppendedPrefix, IsReady}
-use Rattle.oplog.specs.Changing.{records_of}
+use Rattle.oplog.specs.ChangeRecords.{records_of}
 use Rattle.oplog.specs.Calls.{IsReadyFor, Grows, HasAdded}
 use Rattle.oplog.specs.Log.{Log}
 use Rattle.oplog.proofs.Answered.{on_ok}

@@ -2,7 +2,8 @@
 use Rattle.std.proofs.Common.{◌+◌, replicate, ap, sym, ◌∙◌, subst, arith}
 use Rattle.oplog.specs.Calls.{IsLongEnough}
 use Rattle.disk.specs.Device.{SameOutside}
-use Rattle.disk.specs.Store.{CrashesChangeOnly, Stored}
+use Rattle.disk.specs.CrashImages.{CrashesChangeOnly}
+use Rattle.disk.specs.Store.{Stored}
 use Rattle.device_map.specs.Layout.{layout_of, part_at, half_part, other}
 use Rattle.device_map.specs.declared.layout.TheConstants.{CHAIN_ZONE_SIZE}
 use Rattle.oplog.specs.Log.{Log}

@@ -1,6 +1,6 @@
 -- The bytes that are read are the record's, and have a message exactly where they are that message's record.
 use Rattle.std.proofs.Common.{◌≡◌, ◌+◌, ◌*◌, ◌<◌, refl, ap, sym, ◌∙◌, subst, arith}
-use Rattle.oplog.specs.Front.{record_at}
+use Rattle.oplog.specs.HalfContent.{record_at}
 use Rattle.device_map.specs.Layout.{layout_of, part_at, half_part}
 use Rattle.device_map.specs.declared.layout.TheConstants.{CHAIN_ZONE_SIZE}
 use Rattle.protocol.specs.declared.sizes.TheConstants.{RECORD_SIZE}

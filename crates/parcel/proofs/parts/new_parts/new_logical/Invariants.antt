@@ -1,7 +1,7 @@
 -- The vector has as many new children as the counter says, and room for the rest.
 use Rattle.std.proofs.Common.{◌≡◌, ◌≤◌, [], length, vec_capacity}
 use Rattle.std.specs.List.{AllByRecursion}
-use Rattle.parcel.specs.Fits.{IsWholeChild}
+use Rattle.parcel.specs.Whole.{IsWholeChild}
 use Rattle.stripe.specs.Stripe.{StripePart}
 use Rattle.parcel.proofs.parts.new_parts.new_logical.Given as goal
 

@@ -1,8 +1,8 @@
 -- As many new children as the counter says are in the vector, and there is room for the rest.
 use Rattle.std.proofs.Common.{◌≡◌, ◌≤◌, length, vec_capacity}
 use Rattle.std.specs.List.{AllByRecursion}
-use Rattle.parcel.specs.Fits.{IsWholeChild}
-use Rattle.parcel.specs.Parts.{IsNewAggregate}
+use Rattle.parcel.specs.Whole.{IsWholeChild}
+use Rattle.parcel.specs.NewTree.{IsNewAggregate}
 use Rattle.parcel.proofs.parts.new_parts.new_root.Given as goal
 
 abbrev pub invariant-loop : goal.invariant-loop

@@ -1,7 +1,7 @@
 -- Stripes that are emptied fit, and are whole where they were, and no file is left.
 use Rattle.std.proofs.Common.{◌≡◌, None, ◌∙◌, length, arith}
 use Rattle.meaning.proofs.FileBits.{none_below}
-use Rattle.parcel.specs.Dropping.{is_removed}
+use Rattle.parcel.specs.Removes.{is_removed}
 use Rattle.parcel.proofs.StripeRows.{row_fits, row_whole}
 use Rattle.parcel.proofs.running.at_aggregate.clear_files.Goals as goal
 

@@ -3,7 +3,7 @@ use Rattle.std.proofs.Common.{refl, ◌∙◌}
 use Rattle.std.specs.Prelude.{None}
 use Rattle.std.proofs.lemmas.Result.{err_from_is_err_and}
 use Rattle.protocol.specs.declared.messages.Msg.TheVariants.{DropVol}
-use Rattle.parcel.specs.Steps.{guard_open}
+use Rattle.parcel.specs.VolumeStep.{guard_open}
 use Rattle.parcel.specs.Volume.{no_facts}
 use Rattle.parcel.proofs.OneVolume.{passed, refused}
 use Rattle.parcel.proofs.VolumeRows.{at_aggregate, drop_tests, effect_drop, it_changes, it_shows, still_fits}

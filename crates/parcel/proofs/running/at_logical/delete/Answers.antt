@@ -3,7 +3,7 @@ use Rattle.std.proofs.Common.{◌≡◌, ◌<◌, None, Some, refl, ◌∙◌, l
 use Rattle.affinity.specs.Geometry.{stripe_of}
 use Rattle.affinity.proofs.Placed.{group_below}
 use Rattle.protocol.specs.declared.messages.Msg.TheVariants.{Delete}
-use Rattle.parcel.specs.Dropping.{is_removed}
+use Rattle.parcel.specs.Removes.{is_removed}
 use Rattle.parcel.specs.Shown.{logical_facts, blocks_of, has_file}
 use Rattle.parcel.specs.Volume.{one_volume}
 use Rattle.meaning.proofs.FileBits.{few_bits, without_bit, without_bit_has, without_bit_below}

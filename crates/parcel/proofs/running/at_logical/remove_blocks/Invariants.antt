@@ -1,7 +1,7 @@
 -- From the stripes so far the blocks are removed, and the others are as they were.
 use Rattle.std.proofs.Common.{◌≡◌, ℕ, ◌<◌, ◌≤◌, vec_len, slice_index_or}
 use Rattle.std.specs.Prelude.{None}
-use Rattle.parcel.specs.Dropping.{Removes, is_removed}
+use Rattle.parcel.specs.Removes.{Removes, is_removed}
 use Rattle.parcel.proofs.running.at_logical.remove_blocks.Given as goal
 
 abbrev pub invariant-loop-s : goal.invariant-loop-s

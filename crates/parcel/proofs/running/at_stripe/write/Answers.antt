@@ -7,7 +7,7 @@ use Rattle.meaning.specs.State.{blocks_in_stripe}
 use Rattle.std.specs.Prelude.{◌||◌, None, is_some, nat_lt}
 use Rattle.protocol.specs.declared.replies.Refusal.TheVariants.{Space}
 use Rattle.parcel.specs.Shown.{stripe_facts}
-use Rattle.parcel.specs.Steps.{guard}
+use Rattle.parcel.specs.VolumeStep.{guard}
 use Rattle.stripe.specs.Stripe.{content_at}
 use Rattle.parcel.specs.Volume.{one_volume}
 use Rattle.parcel.proofs.GroupCounts.{count_is_length}

@@ -5,7 +5,7 @@ use Rattle.protocol.specs.declared.replies.Refusal.TheVariants.{Volume}
 use Rattle.protocol.specs.declared.replies.Reply.TheVariants.{Usage}
 use Rattle.meaning.specs.State.{count_below}
 use Rattle.parcel.specs.Shown.{volume_facts}
-use Rattle.parcel.specs.Steps.{guard}
+use Rattle.parcel.specs.VolumeStep.{guard}
 use Rattle.parcel.specs.Totals.{block_total}
 use Rattle.parcel.specs.Volume.{one_volume}
 use Rattle.parcel.proofs.OneVolume.{at_volume, passed, usage_tests}

@@ -1,7 +1,6 @@
 -- Where a block is there, its read passes all checks; where none is, an accepted read is answered as a hole.
-use Rattle.std.proofs.Common.{arith}
+use Rattle.std.proofs.Common.{arith, ◌≡◌, ℕ, None, Some, Option, Bor, sym, slice_index}
 use Rattle.std.proofs.lemmas.Grind.{common_steps}
-use Rattle.std.proofs.Common.{◌≡◌, ℕ, None, Some, Option, Bor, sym, slice_index}
 use Rattle.std.specs.Prelude.{IfSome}
 use Rattle.std.specs.Option.{option_copied}
 use Rattle.affinity.specs.declared.geometry.Geometry.{Geometry}
@@ -9,7 +8,7 @@ use Rattle.protocol.specs.declared.messages.Block.{Block}
 use Rattle.protocol.specs.declared.messages.Msg.TheVariants.{Read}
 use Rattle.protocol.specs.declared.replies.Reply.TheVariants.{Block as shows}
 use Rattle.meaning.specs.State.{State, IsState}
-use Rattle.meaning.specs.Serial.{step}
+use Rattle.meaning.specs.Step.{step}
 use Rattle.meaning.proofs.ByKind.{read_told}
 use Rattle.plain.proofs.server.Server.block_at.Goals as goal
 

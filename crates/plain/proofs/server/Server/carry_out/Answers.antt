@@ -2,7 +2,8 @@
 use Rattle.std.proofs.Common.{◌≡◌, None, ap, sym, ◌∙◌, subst}
 use Rattle.message.specs.Heads.{message_without_data}
 use Rattle.meaning.specs.State.{IsState}
-use Rattle.meaning.specs.Serial.{refusal, accepted_reply, effect, reply_and_state}
+use Rattle.meaning.specs.Refusals.{refusal}
+use Rattle.meaning.specs.Step.{accepted_reply, effect, reply_and_state}
 use Rattle.plain.specs.Server.{server_state}
 use Rattle.plain.proofs.Asked.{refusal_asked, asking_is_message}
 use Rattle.meaning.proofs.Kept.{step_kept}

@@ -2,7 +2,7 @@
 use Rattle.std.proofs.Common.{rules, ◌≡◌, sym, subst}
 use Rattle.message.specs.Heads.{labeling}
 use Rattle.meaning.specs.State.{IsState}
-use Rattle.meaning.specs.Serial.{next_state}
+use Rattle.meaning.specs.Step.{next_state}
 use Rattle.plain.specs.Server.{server_state}
 use Rattle.meaning.proofs.Kept.{step_kept}
 use Rattle.plain.proofs.server.Server.put_label.Goals as goal

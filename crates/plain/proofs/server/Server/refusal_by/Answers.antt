@@ -7,7 +7,7 @@ use Rattle.affinity.specs.Place.{is_in_range}
 use Rattle.protocol.specs.declared.replies.Refusal.{Refusal}
 use Rattle.protocol.specs.declared.replies.Refusal.TheVariants.{Range, Volume, Exists, Sealed, File}
 use Rattle.meaning.specs.State.{State}
-use Rattle.meaning.specs.Serial.{refusal_by, checks, passes}
+use Rattle.meaning.specs.Refusals.{refusal_by, checks, passes}
 use Rattle.plain.specs.Server.{server_state}
 use Rattle.plain.proofs.server.Server.refusal_by.Goals as goal
 

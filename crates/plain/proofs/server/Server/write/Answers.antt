@@ -13,7 +13,8 @@ use Rattle.protocol.specs.declared.replies.Refusal.TheVariants.{Range, Volume, S
 use Rattle.protocol.specs.declared.replies.Reply.TheVariants.{Done}
 use Rattle.protocol.specs.Messages.{IsMessage}
 use Rattle.meaning.specs.State.{State, IsState}
-use Rattle.meaning.specs.Serial.{refusal, passes, effect, reply_and_state, done_or_refused, reply_to, next_state}
+use Rattle.meaning.specs.Refusals.{refusal, passes}
+use Rattle.meaning.specs.Step.{effect, reply_and_state, done_or_refused, reply_to, next_state}
 use Rattle.plain.specs.Server.{server_state}
 use Rattle.meaning.proofs.Kept.{step_kept}
 use Rattle.plain.proofs.server.Server.write.Goals as goal

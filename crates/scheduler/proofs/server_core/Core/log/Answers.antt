@@ -1,6 +1,6 @@
 -- The changes that ran fit into the log, a crash recovers a prefix of them, and then they are logged.
 use Rattle.std.proofs.Common.{◌≡◌, ℕ, ◌+◌, ◌*◌, ◌-◌, ◌≤◌, length, take, true, false, sym, ap, List, subst, ◌∙◌}
-use Rattle.disk.specs.Moments.{moment_number}
+use Rattle.disk.specs.Device.{moment_number}
 use Rattle.histories.specs.Events.{batch, log, touches_device}
 use Rattle.histories.specs.declared.outcomes.Step.TheVariants as steps
 use Rattle.oplog.proofs.Answered.{on_ok}
@@ -15,7 +15,7 @@ use Rattle.scheduler.specs.View.{parts}
 use Rattle.scheduler.specs.Parts.{core_state_in}
 use Rattle.arena.specs.ArenaView.{chain_at}
 use Rattle.protocol.specs.declared.replies.Reply.{Reply}
-use Rattle.scheduler.specs.Moving.{recorded_in}
+use Rattle.scheduler.specs.HasLogged.{recorded_in}
 use Rattle.scheduler.specs.declared.slot.TheConstants.{RAN}
 use Rattle.scheduler.proofs.server_core.Core.log.Given.{Over}
 use Rattle.scheduler.proofs.server_core.Core.log.Goals.{After-deref-2}

@@ -4,7 +4,7 @@ use Rattle.std.proofs.lemmas.List.{length-replicate}
 use Rattle.oplog.proofs.Answered.{err_is}
 use Rattle.affinity.specs.declared.geometry.Geometry.{Geometry}
 use Rattle.disk.proofs.Moments.{started}
-use Rattle.disk.specs.Device.{IsCrashImage}
+use Rattle.disk.specs.CrashImages.{IsCrashImage}
 use Rattle.arena.specs.ArenaView.{ArenaView, capacity_of}
 use Rattle.checkpoint.specs.Journal.{IsRecoverable, committed}
 use Rattle.oplog.proofs.Beyond.{beyond_none}
@@ -13,8 +13,7 @@ use Rattle.parcel.specs.Tree.{state_in}
 use Rattle.scheduler.proofs.IsJustOpened.{opened_sound}
 use Rattle.scheduler.proofs.Refusals.{one_fault, opened_or_refused, recovers_or_refused}
 use Rattle.run_queue.specs.RunQueue.{RunQueueView, queue_at_start}
-use Rattle.scheduler.specs.Parts.{entry_of, replied_of}
-use Rattle.scheduler.specs.Slots.{slots_on}
+use Rattle.scheduler.specs.Slots.{slots_on, entry_of, replied_of}
 use Rattle.scheduler.specs.declared.slot.Slot.{Slot}
 use Rattle.scheduler.specs.declared.slot.TheConstants.{WAITING, IN_FLIGHT, RAN, LOGGED}
 use Rattle.scheduler.proofs.server_core.Core.open.Goals as goal

@@ -2,7 +2,7 @@
 use Rattle.std.proofs.Common.{◌≡◌, Bool, false, ap, sym, ◌∙◌}
 use Rattle.std.specs.Prelude.{◌&&◌, not}
 use Rattle.reorder_buffer.specs.ReorderBuffer.{ReorderBufferView}
-use Rattle.serving.specs.Lending.{asks_for_checkpoint}
+use Rattle.serving.specs.DispatchesTo.{asks_for_checkpoint}
 use Rattle.serving.proofs.StepsAhead.{has_gone_on, reason_is}
 use Rattle.serving.proofs.IsAtRest.{comes_to_rest}
 use Rattle.serving.proofs.session.Session.advance.Goals.{else-matches-via-then-matches+else-not-caught_up, else-matches-via-else-matches, then-moved, else-moved+in-Busy, else-moved+in_default}

@@ -2,7 +2,8 @@
 use Rattle.std.proofs.Common.{inl, subst, sym}
 use Rattle.std.specs.Prelude.{IfOk, IsTrue}
 use Rattle.serving.specs.Checkpoints.{IsDue}
-use Rattle.serving.specs.Session.{CallsForCheckpoint, CheckpointStep, KeepsCoreState, SessionView}
+use Rattle.serving.specs.SessionSteps.{CallsForCheckpoint, CheckpointStep, KeepsCoreState}
+use Rattle.serving.specs.Session.{SessionView}
 use Rattle.serving.proofs.CheckpointSteps.{begins, stands_still}
 use Rattle.serving.proofs.session.Session.advance_or_begin_checkpoint.Given.{Over}
 use Rattle.serving.proofs.session.Session.advance_or_begin_checkpoint.Goals.{Joined-then-is_asked_for, then-is_asked_for-via-then-is_asked_for, then-is_asked_for-via-else-is_asked_for+then-is_due}

@@ -1,7 +1,7 @@
 -- What stays so while one message after the other is answered; and how many are still logged.
 use Rattle.std.proofs.Common.{◌≡◌, length}
 use Rattle.scheduler.specs.CoreView.{core_state_of}
-use Rattle.serving.specs.Session.{HasReadNothing, KeepsReadEndAndOutputFailed}
+use Rattle.serving.specs.SessionSteps.{HasReadNothing, KeepsReadEndAndOutputFailed}
 use Rattle.serving.proofs.session.Session.answer_and_flush.Given as goal
 
 abbrev pub invariant-loop : goal.invariant-loop

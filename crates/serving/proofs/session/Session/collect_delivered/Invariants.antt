@@ -1,7 +1,7 @@
 -- What stays so of the session and the batch from place to place; and how many places are still to be polled.
 use Rattle.std.proofs.Common.{◌≡◌, ◌<◌, ◌≤◌, ◌-◌, length}
 use Rattle.std.specs.Prelude.{IsFalse, IsTrue}
-use Rattle.serving.specs.Session.{HasMoved}
+use Rattle.serving.specs.SessionSteps.{HasMoved}
 use Rattle.serving.specs.declared.collect.TheConstants.{BATCH}
 use Rattle.serving.proofs.session.Session.collect_delivered.Given as goal
 

@@ -1,9 +1,10 @@
 -- What was collected is given to the core, and the session keeps its invariant.
 use Rattle.std.proofs.Common.{◌<◌, List, Option, None, ap, inl, length, sym, subst, ◌∙◌, refl}
 use Rattle.std.proofs.lemmas.List.{length-set}
-use Rattle.parcel.specs.Run.{JobView}
+use Rattle.parcel.specs.JobRun.{JobView}
 use Rattle.serving.specs.View.{session_view}
-use Rattle.serving.specs.Session.{HasMoved, SessionView}
+use Rattle.serving.specs.SessionSteps.{HasMoved}
+use Rattle.serving.specs.Session.{SessionView}
 use Rattle.serving.proofs.Collected.{came_back, gives_back}
 use Rattle.serving.proofs.StepsAhead.{returned}
 use Rattle.serving.proofs.Invariant.{holds_of, on_machine}

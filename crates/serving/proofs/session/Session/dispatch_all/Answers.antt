@@ -1,7 +1,7 @@
 -- Each message that is dispatched takes a free place, so the loop ends.
 use Rattle.std.proofs.Common.{List, Option, Some, ap, set, sym, arith, ◌∙◌}
 use Rattle.std.specs.Prelude.{count_by, is_none, position}
-use Rattle.parcel.specs.Run.{JobView}
+use Rattle.parcel.specs.JobRun.{JobView}
 use Rattle.serving.specs.Session.{SessionView}
 use Rattle.serving.proofs.Places.{fewer_free}
 use Rattle.serving.proofs.session.Session.dispatch_all.Goals as goal

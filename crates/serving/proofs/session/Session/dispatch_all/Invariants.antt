@@ -1,6 +1,6 @@
 -- Meanwhile no line is read, and the output does not fail; and how many places are free.
 use Rattle.std.specs.Prelude.{count_by, is_none}
-use Rattle.serving.specs.Session.{HasMoved}
+use Rattle.serving.specs.SessionSteps.{HasMoved}
 use Rattle.serving.proofs.session.Session.dispatch_all.Given as goal
 
 abbrev pub invariant-loop-k : goal.invariant-loop-k

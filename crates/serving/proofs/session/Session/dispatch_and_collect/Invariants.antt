@@ -3,7 +3,7 @@
 use Rattle.std.proofs.Common.{◌≤◌, ◌+◌, ◌-◌, ◌*◌}
 use Rattle.std.specs.Prelude.{IfNone, IfSome}
 use Rattle.serving.specs.Checkpoints.{IsDue}
-use Rattle.serving.specs.Session.{HasMoved, IsBlockedIn}
+use Rattle.serving.specs.SessionSteps.{HasMoved, IsBlockedIn}
 use Rattle.serving.specs.declared.collect.TheConstants.{BATCH, MAX_POLLS}
 use Rattle.serving.proofs.session.Session.dispatch_and_collect.Given as goal
 

@@ -2,9 +2,10 @@
 use Rattle.std.proofs.Common.{◌≡◌, ap, inl, inr, subst, ◌∙◌, ⊎_elim, refl}
 use Rattle.std.specs.Prelude.{is_none, position}
 use Rattle.scheduler.specs.CoreView.{core_state_of}
-use Rattle.serving.specs.Lending.{DispatchesTo}
+use Rattle.serving.specs.DispatchesTo.{DispatchesTo}
 use Rattle.serving.specs.View.{session_view}
-use Rattle.serving.specs.Session.{HasMoved, SessionView}
+use Rattle.serving.specs.SessionSteps.{HasMoved}
+use Rattle.serving.specs.Session.{SessionView}
 use Rattle.serving.proofs.StepsAhead.{dispatched}
 use Rattle.serving.proofs.DispatchesTo.{as_many, sends}
 use Rattle.serving.proofs.Invariant.{holds_of, on_machine}

@@ -1,6 +1,6 @@
 -- Meanwhile no line is read, and neither the output nor the device fails.
 use Rattle.std.proofs.Common.{◌≡◌}
-use Rattle.serving.specs.Session.{HasReadNothing, KeepsReadEndAndOutputFailed}
+use Rattle.serving.specs.SessionSteps.{HasReadNothing, KeepsReadEndAndOutputFailed}
 use Rattle.serving.proofs.session.Session.drain_workers.Given as goal
 
 abbrev pub invariant-loop : goal.invariant-loop

@@ -3,8 +3,9 @@ use Rattle.std.proofs.Common.{◌≡◌, ap, arith, subst, sym, true≢false, �
 use Rattle.histories.specs.Progress.{points_left}
 use Rattle.oplog.proofs.Answered.{err_is}
 use Rattle.scheduler.specs.CoreView.{CoreView, core_state_of}
-use Rattle.serving.specs.Lending.{NoneInFlight}
-use Rattle.serving.specs.Session.{Advanced, Began, CallsForCheckpoint, CanRead, CanReadLine, CheckpointStep, MovedCheckpoint, SessionView, Waited, steps_ahead}
+use Rattle.serving.specs.DispatchesTo.{NoneInFlight}
+use Rattle.serving.specs.SessionSteps.{Advanced, Began, CallsForCheckpoint, CanRead, CheckpointStep, MovedCheckpoint, Waited}
+use Rattle.serving.specs.Session.{CanReadLine, SessionView, steps_ahead}
 use Rattle.workers.specs.Seats.{DispatchSeatView}
 use Rattle.serving.proofs.StepsAhead.{calls_still, steps}
 use Rattle.serving.proofs.session.Session.flush_then_wait.Given.{Over}

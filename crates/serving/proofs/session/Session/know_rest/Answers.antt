@@ -1,6 +1,7 @@
 -- The lemma on a session at rest.
 use Rattle.std.proofs.Common.{◌≡◌, [], subst}
-use Rattle.serving.specs.Session.{IsAtRest, SessionView}
+use Rattle.serving.specs.SessionEnds.{IsAtRest}
+use Rattle.serving.specs.Session.{SessionView}
 use Rattle.serving.proofs.IsAtRest.{retired_at_rest}
 use Rattle.serving.proofs.session.Session.know_rest.Goals as goal
 

@@ -6,7 +6,8 @@ use Rattle.histories.specs.CoreState.{CoreState}
 use Rattle.oplog.proofs.Answered.{err_is}
 use Rattle.reorder_buffer.specs.ReorderBuffer.{ReorderBufferView, can_retire}
 use Rattle.scheduler.specs.CoreView.{CoreView, core_state_of}
-use Rattle.serving.specs.Session.{HasLoggedNothing, KeepsReadEndAndOutputFailed, steps_ahead}
+use Rattle.serving.specs.SessionSteps.{HasLoggedNothing, KeepsReadEndAndOutputFailed}
+use Rattle.serving.specs.Session.{steps_ahead}
 use Rattle.serving.proofs.StepsAhead.{steps}
 use Rattle.serving.proofs.session.Session.log_and_reply.Given.{Over}
 use Rattle.serving.proofs.session.Session.log_and_reply.Goals.{In_ok-retire_ready}

@@ -1,7 +1,8 @@
 -- What stays so while one message after the other is answered; and how many logged messages are left to answer.
 use Rattle.std.proofs.Common.{◌≡◌, ◌≤◌, ◌+◌, [], false, length}
 use Rattle.std.specs.Prelude.{IsFalse, cond}
-use Rattle.serving.specs.Session.{KeepsCoreState, KeepsReadEndAndOutputFailed, steps_ahead}
+use Rattle.serving.specs.SessionSteps.{KeepsCoreState, KeepsReadEndAndOutputFailed}
+use Rattle.serving.specs.Session.{steps_ahead}
 use Rattle.serving.proofs.session.Session.log_and_reply.Given as goal
 
 abbrev pub invariant-loop-moved : goal.invariant-loop-moved

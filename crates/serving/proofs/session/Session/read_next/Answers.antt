@@ -7,7 +7,7 @@ use Rattle.std.proofs.lemmas.Bool.{and_parts}
 use Rattle.protocol.specs.FirstLine.{GivesLine}
 use Rattle.message.specs.Reader.{has_ended, is_drained, source, unread}
 use Rattle.serving.specs.Lines.{NoMessage}
-use Rattle.serving.specs.Reads.{read_end_of}
+use Rattle.serving.specs.TakesLine.{read_end_of}
 use Rattle.serving.specs.Runs.{lent_hand}
 use Rattle.serving.specs.View.{IsSession}
 use Rattle.serving.specs.Session.{IsReadEnd, SessionView}

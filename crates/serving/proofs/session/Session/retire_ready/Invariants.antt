@@ -1,6 +1,6 @@
 -- Core and seat stay as they are while lines are retired; and how many lines are still in the reorder buffer.
 use Rattle.std.proofs.Common.{◌≡◌, length}
-use Rattle.serving.specs.Session.{HasReadNothing, KeepsReadEndAndOutputFailed}
+use Rattle.serving.specs.SessionSteps.{HasReadNothing, KeepsReadEndAndOutputFailed}
 use Rattle.serving.proofs.session.Session.retire_ready.Given as goal
 
 abbrev pub invariant-loop : goal.invariant-loop

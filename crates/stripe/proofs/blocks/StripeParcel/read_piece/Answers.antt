@@ -4,8 +4,7 @@ use Rattle.std.specs.Prelude.{◌==◌}
 use Rattle.std.specs.List.{list_all}
 use Rattle.std.proofs.lemmas.List.{get_or-drop, length-append, take_rest}
 use Rattle.device_map.specs.declared.layout.TheConstants.{BLOCK_ENTRY_SIZE}
-use Rattle.stripe.specs.Entries.{entry_in}
-use Rattle.stripe.specs.Index.{IsNextEntry}
+use Rattle.stripe.specs.Entries.{entry_in, IsNextEntry}
 use Rattle.stripe.specs.Stripe.{BlockEntry, StripePart}
 use Rattle.stripe.proofs.EntriesRead.{HasRead, zeros_behind, are_zeros, next_read, is_next, zeros_by_test, test_of_zeros}
 use Rattle.stripe.proofs.blocks.StripeParcel.read_piece.Goals as goal

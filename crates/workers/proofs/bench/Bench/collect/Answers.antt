@@ -1,8 +1,7 @@
 -- The result that is collected is the one that was won, of the job that was lent at that place.
-use Rattle.std.proofs.Common.{arith}
+use Rattle.std.proofs.Common.{arith, ◌≡◌, ap, sym, ◌∙◌, subst, set, None, Some}
 use Rattle.std.proofs.lemmas.Grind.{common_steps}
-use Rattle.std.proofs.Common.{◌≡◌, ap, sym, ◌∙◌, subst, set, None, Some}
-use Rattle.parcel.specs.Run.{JobView, IsJobRun}
+use Rattle.parcel.specs.JobRun.{JobView, IsJobRun}
 use Rattle.workers.specs.Rule.{LentJobs, lent_at}
 use Rattle.workers.specs.Steps.{SeatState}
 use Rattle.workers.specs.Seats.{DispatchSeatView, lent_of}

@@ -1,27 +1,15 @@
 -- Statement for engineers: What a server may send, and when.
-use Rattle.std.specs.Prelude.{◌≡◌, ◌⊎◌, ℕ, List, [], ◌++◌, map, replicate, Option, None, IsSomeAnd}
+use Rattle.std.specs.Prelude.{◌≡◌, ◌⊎◌, ℕ, List, [], ◌++◌, map, Option, IsSomeAnd}
 use Rattle.std.specs.List.{AllByRecursion}
-use Rattle.histories.specs.Laws.{IsIdle}
-use Rattle.scheduler.specs.Machine.{MachineView}
+use Rattle.histories.specs.CoreState.{IsIdle}
 use Rattle.protocol.specs.Replies.{no_message, reply_line}
 use Rattle.protocol.specs.declared.replies.Refusal.TheVariants.{Range}
 use Rattle.protocol.specs.declared.replies.Reply.TheVariants.{Refused}
 use Rattle.meaning.specs.Output.{joined}
 use Rattle.scheduler.specs.CoreView.{CoreView, core_state_of}
-use Rattle.serving.specs.Ends.{HasServed}
+use Rattle.serving.specs.Runs.{HasServed}
 use Rattle.serving.specs.Lines.{HaveAnswers, Line, answer_text}
-use Rattle.serving.specs.Runs.{machine_with_jobs}
-
--- what the call of a server begins with: its core, how many jobs may be lent at once, its input, and what was sent before
-pub record Start : Type 0 where
-  pub core : CoreView
-  pub places : ℕ
-  pub input : Option (List ℕ)
-  pub before : Option (List ℕ)
-
--- the machine at the start: the core, with no job lent at any place
-abbrev pub start_machine : Start → MachineView
-start_machine s = machine_with_jobs s.core (replicate s.places None)
+use Rattle.serving.specs.Start.{Start, start_machine}
 
 -- These bytes may be sent where this was sent before. Since the start a legal run has led to the core as it is now, and a crash of its
 -- device leaves what holds all that was logged in that run. What was sent are the first answers of the run, to the lines in order, and the

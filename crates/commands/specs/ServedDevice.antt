@@ -1,25 +1,26 @@
 -- Statement for operators: What it is to serve a device: what was written at its end, what the device recovers to then, and what a crash
 -- meanwhile leaves.
-use Rattle.std.specs.Prelude.{◌≡◌, ◌≢◌, ◌+◌, ◌≤◌, ℕ, List, [], ◌∷◌, length, take, replicate, Some, None, IfSome, Result, Ok, Err}
+use Rattle.std.specs.Prelude.{◌≡◌, ◌≢◌, ◌+◌, ◌≤◌, ℕ, List, [], length, take, replicate, Some, None, IfSome, Result, Ok, Err}
 use Rattle.std.specs.Io.KnownBytes.{IsAtEnd}
 use Rattle.affinity.specs.declared.geometry.Geometry.{Geometry}
 use Rattle.recovery.specs.Header.{HasHeader}
 use Rattle.recovery.specs.Recovery.{recovered_state}
 use Rattle.recovery.specs.Refusals.{IsRefused}
 use Rattle.recovery.specs.declared.fault.OpenFault.TheVariants as open_faults
-use Rattle.disk.specs.Device.{IsCrashImage, Medium}
-use Rattle.disk.specs.Moments.{moment_number}
+use Rattle.disk.specs.CrashImages.{IsCrashImage}
+use Rattle.disk.specs.Device.{Medium, moment_number}
 use Rattle.checkpoint.specs.Opening.{IsLeftByRefusal, OpeningCrashImages}
 use Rattle.histories.specs.Incarnations.{Ran}
 use Rattle.scheduler.specs.Incarnations.{IsRunIncarnation}
 use Rattle.scheduler.specs.Machine.{machine_of}
 use Rattle.scheduler.specs.DeviceEvents.{DeviceEvent, IsFailStop, device_after, events_of}
 use Rattle.protocol.specs.Lines.{lines}
-use Rattle.message.specs.Writing.{AppendsBeginning}
+use Rattle.message.specs.AppendsBeginning.{AppendsBeginning}
 use Rattle.meaning.specs.Output.{IsBeginning, WritesOutput, serial_output}
 use Rattle.meaning.specs.State.{State}
 use Rattle.scheduler.specs.CoreView.{IsJustOpened, CoreView, RecoversNow}
-use Rattle.serving.specs.Ends.{AreServed, Exchange, ServesLinesBefore, ServesWholeLines, committed_in}
+use Rattle.serving.specs.Ends.{AreServed, ServesLinesBefore, ServesWholeLines, committed_in}
+use Rattle.serving.specs.Exchange.{Exchange}
 use Rattle.serving.specs.Runs.{machine_with_jobs}
 use Rattle.oplog.specs.Recovery.{records_in}
 use Rattle.serving.specs.Serve.{ServePromise}
@@ -29,10 +30,6 @@ use Rattle.commands.specs.Faults.{command_result}
 use Rattle.commands.specs.declared.faults.Fault.{Fault}
 use Rattle.commands.specs.declared.faults.Fault.TheVariants.{Read, Write, OutOfMemory, Device, NoWorkers, NoTicketLeft, Open}
 use Rattle.commands.specs.declared.serve_options.ServeOptions.{ServeOptions}
-
--- the options in their order: workers, slots, and after how many records a checkpoint is made
-abbrev pub options_in_order : ServeOptions → List ℕ
-options_in_order s = s.workers ∷ s.slots ∷ s.every ∷ []
 
 -- ---- the device before and after, as a reader of it sees it
 

@@ -3,13 +3,13 @@ use Rattle.std.specs.Prelude.{◌≡◌, ◌≢◌, ℕ, ◌<◌, ◌≤◌, tru
 use Rattle.std.specs.List.{All}
 use Rattle.affinity.specs.declared.geometry.Geometry.{Geometry}
 use Rattle.affinity.specs.Kind.{is_changing}
-use Rattle.disk.specs.Device.{AreBytes}
+use Rattle.disk.specs.CrashImages.{AreBytes}
 use Rattle.protocol.specs.declared.messages.Msg.{Msg}
 use Rattle.protocol.specs.Messages.{IsMessage, kind, is_in_range}
 use Rattle.message.specs.Records.{message_in_fields, record_of}
 use Rattle.device_map.specs.Layout.{Layout, device_size}
 use Rattle.protocol.specs.declared.sizes.TheConstants.{RECORD_SIZE}
-use Rattle.oplog.specs.Front.{record_at}
+use Rattle.oplog.specs.HalfContent.{record_at}
 
 -- The message is of a changing kind, and its numbers are in range.
 abbrev pub IsChangeInRange : Geometry → Msg → Type 0

@@ -1,36 +1,20 @@
 -- Inner: The steps of a point and of a cut on a device: what each asks of it, and what is on it afterwards.
-use Rattle.std.specs.Prelude.{◌≡◌, ◌<◌, ◌==◌, if◌then◌else◌, ℕ, true, false, List, [], ◌++◌, Option, is_some}
+use Rattle.std.specs.Prelude.{◌≡◌, ◌<◌, ◌==◌, if◌then◌else◌, ℕ, true, false, List, [], ◌++◌, Option, Bool, Some, None}
 use Rattle.affinity.specs.declared.geometry.Geometry.{Geometry}
 use Rattle.recovery.specs.Recovery.{recovered_state, decoding}
 use Rattle.disk.specs.Device.{Medium, IsSynced}
-use Rattle.image.specs.Image.{image_state}
-use Rattle.checkpoint.specs.Extents.{image_in}
-use Rattle.checkpoint.specs.Opening.{area_state}
+use Rattle.image.specs.Image.{image_state, version_in}
+use Rattle.image.specs.declared.layout.TheConstants.{VERSION}
+use Rattle.checkpoint.specs.Images.{image_in}
+use Rattle.checkpoint.specs.Extents.{AgreeOnClean}
+use Rattle.checkpoint.specs.RecoversByArea.{RecoversByArea, run_on, RecoversWith, area_state}
+use Rattle.checkpoint.specs.DirtyPieces.{count_dirty}
 use Rattle.oplog.specs.Changes.{IsReady}
-use Rattle.oplog.specs.Crash.{CrashRecovers}
-use Rattle.oplog.specs.Front.{chain, front}
+use Rattle.oplog.specs.HalfContent.{chain, front}
 use Rattle.device_map.specs.Layout.{layout_of, other}
 use Rattle.oplog.specs.Log.{Log}
-use Rattle.oplog.specs.Recovery.{is_laid_out, named_area, run, records_in}
+use Rattle.oplog.specs.Recovery.{is_laid_out, named_area, records_in}
 use Rattle.meaning.specs.State.{State}
-
--- Whatever a crash leaves now names area n, has half h as its current one, and recovers to x.
-abbrev pub RecoversByArea : Geometry → ℕ → ℕ → Option State → Medium → Type 0
-RecoversByArea g n h x m = CrashRecovers (decoding g) (layout_of g) n h x m
-
--- these records run on a state
-abbrev pub run_on : Geometry → Option State → List (List ℕ) → Option State
-run_on g x records = run (decoding g) x records
-
--- The device recovers to some state, and so does whatever a crash leaves now, by the named area with this half as the current one. How much
--- room the half has isn't known by it.
-pub record RecoversWith (log : Log) (half : ℕ) (m : Medium) : Type 0 where
-  pub some : is_some (recovered_state log.geometry m.now) ≡ true
-  pub recovers : RecoversByArea log.geometry log.named half (recovered_state log.geometry m.now) m
-
--- The device recovers to a state by the named area and its half alone.
-abbrev pub RecoversByNamedAlone : Log → Medium → Type 0
-RecoversByNamedAlone log m = RecoversWith log log.named m
 
 -- A step is over and durable: nothing is unsynced, and the device recovers to x by this area, with this half as the current one, which
 -- has this many records and is ready for more.
@@ -105,3 +89,26 @@ finished_log log = record log {
   used = if log.cleared then 0 else log.geometry.half;
   cleared = false;
 }
+
+-- A cut is in progress: its image, with the records of the other half run on it, leads to what the device recovers to, and
+-- each of its extents that isn't pending is on the device. Its image has the version that is written.
+pub record IsCut (log : Log) (snapshot : List ℕ) (pending : List Bool) (m : Medium) : Type 0 where
+  pub behind : run_on log.geometry (image_state log.geometry snapshot) (front (layout_of log.geometry) (other log.named) m.now)
+      ≡ recovered_state log.geometry m.now
+  pub written : AgreeOnClean log.geometry pending (image_in log.geometry (other log.named) m) snapshot
+  pub version : version_in snapshot ≡ VERSION
+
+-- While a cut is in progress, its snapshot and records lead to what the device recovers to (`IsCut`).
+abbrev pub IsCutIfRunning : Log → List ℕ → List Bool → Option ℕ → Medium → Type 0
+IsCutIfRunning log snapshot pending None m = Unit {0}
+IsCutIfRunning log snapshot pending (Some pieces_left) m = IsCut log snapshot pending m
+
+-- which half is current, and how many extents are pending
+abbrev pub FitsCutState : Log → List Bool → Option ℕ → Type 0
+FitsCutState log pending None = log.current ≡ log.named
+FitsCutState log pending (Some pieces_left) = (log.current ≡ other log.named) × (count_dirty pending ≡ pieces_left)
+
+-- the image of the area that isn't named: the one it has, or while a cut is in progress the one it will have
+abbrev pub image_after_cut : Log → List ℕ → Option ℕ → Medium → List ℕ
+image_after_cut log snapshot None m = image_in log.geometry (other log.named) m
+image_after_cut log snapshot (Some pieces_left) m = snapshot

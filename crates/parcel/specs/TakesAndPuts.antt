@@ -1,16 +1,11 @@
--- Inner: What it is to take parts out of the tree, to put them back, and to make new ones.
-use Rattle.std.specs.Prelude.{◌≡◌, false, [], ◌++◌, length, Option, Some, None, IfSome, MatchOption, Result, Ok, Err, MatchResult}
-use Rattle.std.specs.List.{AllByRecursion}
+-- Inner: What it is to take parts out of the tree, and to put them back.
+use Rattle.std.specs.Prelude.{◌≡◌, [], ◌++◌, Option, Some, None, IfSome, MatchOption, Result, Ok, Err, MatchResult}
 use Rattle.affinity.specs.declared.geometry.Geometry.{Geometry}
 use Rattle.affinity.specs.Path.{Path}
-use Rattle.stripe.specs.Stripe.{StripePart}
-use Rattle.parcel.specs.Fits.{Fits, FitsRoot, IsKindOf, IsWholeChild}
+use Rattle.parcel.specs.Fits.{Fits, FitsRoot, IsKindOf}
+use Rattle.parcel.specs.Whole.{IsWholeChild}
 use Rattle.parcel.specs.Nodes.{Nodes, child_nodes, root_nodes, parcels_nodes, TakesOut, PutsBack, SameNodes}
 use Rattle.parcel.specs.Tree.{HasGap, IsOut}
-use Rattle.parcel.specs.declared.parts.Label.{Label}
-use Rattle.parcel.specs.declared.parts.Logical.{Logical}
-use Rattle.parcel.specs.declared.parts.Vol.{Vol}
-use Rattle.parcel.specs.declared.parts.Aggr.{Aggr}
 use Rattle.parcel.specs.declared.parts.Root.{Root}
 use Rattle.parcel.specs.declared.parts.Parcels.{Parcels}
 
@@ -59,21 +54,3 @@ pub record PutsAt (g : Geometry) (p : Path) (parcels : Parcels) (put : Result (U
       (λ t. Puts p parcels (child_nodes root_nodes old) (child_nodes root_nodes new))
       (λ back. HandsBack p parcels back (child_nodes root_nodes old) (child_nodes root_nodes new))
   pub fits : IfSome new (FitsRoot g)
-
--- ---- the start: nothing is made and nothing is out
-
-abbrev pub IsNewLogical : Geometry → Logical → Type 0
-IsNewLogical g l = (l.files ≡ 0) × (length l.stripes.items ≡ g.stripes)
-    × AllByRecursion (IsWholeChild (λ (p : StripePart). p ≡ record { quota = g.quota; entries = [] })) l.stripes.items
-
-pub record IsNewVolume (g : Geometry) (w : Vol) : Type 0 where
-  pub made : w.made ≡ false
-  pub sealed : w.sealed ≡ false
-  pub logical : IsWholeChild (IsNewLogical g) w.logical
-  pub label : IsWholeChild (λ (l : Label). l.bytes ≡ None) w.label
-
-abbrev pub IsNewAggregate : Geometry → Aggr → Type 0
-IsNewAggregate g r = (length r.volumes.items ≡ g.volumes) × AllByRecursion (IsWholeChild (IsNewVolume g)) r.volumes.items
-
-abbrev pub IsNewRoot : Geometry → Root → Type 0
-IsNewRoot g r = (length r.aggregates.items ≡ g.aggregates) × AllByRecursion (IsWholeChild (IsNewAggregate g)) r.aggregates.items

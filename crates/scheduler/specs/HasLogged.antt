@@ -5,8 +5,7 @@ use Rattle.histories.specs.Eligible.{changes}
 use Rattle.histories.specs.Events.{recorded}
 use Rattle.protocol.specs.declared.messages.Msg.{Msg}
 use Rattle.protocol.specs.declared.replies.Reply.{Reply}
-use Rattle.scheduler.specs.Parts.{replied_of}
-use Rattle.scheduler.specs.Slots.{HasChains, no_slot, slot_view_at}
+use Rattle.scheduler.specs.Slots.{HasChains, no_slot, slot_view_at, replied_of}
 use Rattle.scheduler.specs.declared.slot.Slot.{Slot}
 use Rattle.scheduler.specs.declared.slot.TheConstants.{WAITING, IN_FLIGHT, RAN, LOGGED}
 

@@ -8,7 +8,7 @@ use Rattle.recovery.specs.Header.{HasHeader}
 use Rattle.recovery.specs.Recovery.{recovered_state}
 use Rattle.recovery.specs.Refusals.{refused}
 use Rattle.histories.specs.Events.{recorded}
-use Rattle.histories.specs.Laws.{IsSerialHistory}
+use Rattle.histories.specs.IsSerialHistory.{IsSerialHistory}
 use Rattle.histories.specs.CoreState.{Entry, Replied}
 use Rattle.protocol.specs.Grammar.{message_of}
 use Rattle.protocol.specs.Messages.{is_in_range}
@@ -18,9 +18,9 @@ use Rattle.protocol.specs.declared.replies.Reply.{Reply}
 use Rattle.protocol.specs.declared.replies.Reply.TheVariants.{Refused}
 use Rattle.protocol.specs.declared.replies.Refusal.TheVariants.{Range}
 use Rattle.meaning.specs.Output.{joined}
-use Rattle.meaning.specs.Serial.{state_after_all}
+use Rattle.meaning.specs.Step.{state_after_all}
 use Rattle.meaning.specs.State.{State}
-use Rattle.serving.specs.Ends.{AreFirst}
+use Rattle.serving.specs.Runs.{AreFirst}
 use Rattle.serving.specs.Lines.{admitted, admitted_in, next_ticket, ticketed}
 
 -- The last argument is the output line for an input line with this message, or with none: that it is no message, that it is out of range,

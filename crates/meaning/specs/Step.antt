@@ -1,70 +1,19 @@
--- Statement for clients: What each message means: its checks, its effect and its reply; and lists of messages, one after the other.
-use Rattle.std.specs.Prelude.{ℕ, ◌^◌, Bool, true, false, not, ◌||◌, ◌&&◌, nat_lt, List, [], ◌∷◌, find, replicate, slice_index, unwrap_or, if◌then◌else◌, Option, Some, None, is_some}
+-- Statement for clients: What each message does: its effect and its reply; and lists of messages, one after the other.
+use Rattle.std.specs.Prelude.{ℕ, ◌^◌, Bool, true, false, ◌&&◌, List, [], ◌∷◌, replicate, unwrap_or, if◌then◌else◌, Option, Some, None}
 use Rattle.affinity.specs.declared.geometry.Geometry.{Geometry}
-use Rattle.affinity.specs.Geometry.{stripe_of}
-use Rattle.affinity.specs.declared.kinds.Kind.{Kind}
-use Rattle.affinity.specs.declared.kinds.Kind.TheVariants as kinds
 use Rattle.affinity.specs.Kind.{is_changing}
 use Rattle.protocol.specs.declared.sizes.TheConstants.{LABEL_SIZE}
 use Rattle.protocol.specs.declared.messages.Block.{Block}
 use Rattle.protocol.specs.declared.messages.Msg.{Msg}
 use Rattle.protocol.specs.declared.messages.Msg.TheVariants.{MakeVol, DropVol, Create, Delete, Seal, Unseal, Write, Punch, Read, List as ListFiles, Usage as AskUsage, Summary as AskSummary, SetLabel, Label as AskLabel}
 use Rattle.protocol.specs.declared.replies.Refusal.{Refusal}
-use Rattle.protocol.specs.declared.replies.Refusal.TheVariants.{Range, Volume, Exists, Sealed, File, Space}
 use Rattle.protocol.specs.declared.replies.Reply.{Reply}
 use Rattle.protocol.specs.declared.replies.Reply.TheVariants.{Done, Hole, Block as Found, Files, Usage, Summary, Refused, Label}
-use Rattle.affinity.specs.Place.{is_in_range}
-use Rattle.protocol.specs.Messages.{kind, four_numbers}
-use Rattle.meaning.specs.State.{State, BlockKey, adding, dropping, setting, clearing, is_volume, is_file, is_block, is_file_of, is_block_of, is_block_of_file, sum_below, one_if, file_count, block_count, blocks_in_stripe, sum_over_volumes}
+use Rattle.protocol.specs.Messages.{kind}
+use Rattle.meaning.specs.State.{State, adding, dropping, setting, clearing, is_volume, is_file, is_block, is_file_of, is_block_of, is_block_of_file, sum_below, one_if, file_count, block_count, sum_over_volumes}
+use Rattle.meaning.specs.Refusals.{refusal}
 
--- ---- the checks
-
--- the key of a block by a list of four numbers: its aggregate, volume, file and number
-abbrev pub key_of : List ℕ → BlockKey
-key_of ns = (slice_index ns 0, slice_index ns 1, slice_index ns 2, slice_index ns 3)
-
--- the key (aggregate, volume, file, block) that a message names; a number that it doesn't have is 0
-abbrev pub key : Msg → BlockKey
-key m = key_of (four_numbers m)
-
--- the checks that a message of the kind has to pass, in order, each named by the refusal that it gives
-abbrev pub checks : Kind → List Refusal
-checks kinds.MakeVol = Range ∷ Exists ∷ []
-checks kinds.DropVol = Range ∷ Volume ∷ Sealed ∷ []
-checks kinds.Create = Range ∷ Volume ∷ Sealed ∷ Exists ∷ []
-checks kinds.Delete = Range ∷ Volume ∷ Sealed ∷ File ∷ []
-checks kinds.Write = Range ∷ Volume ∷ Sealed ∷ File ∷ Space ∷ []
-checks kinds.Punch = Range ∷ Volume ∷ Sealed ∷ File ∷ []
-checks kinds.Read = Range ∷ Volume ∷ File ∷ []
-checks kinds.Summary = []
-checks kinds.SetLabel = Range ∷ Volume ∷ Sealed ∷ []
-checks _ = Range ∷ Volume ∷ []
-
--- whether what a message of the kind makes is there already, by the key that it names
-abbrev pub exists : State → Kind → BlockKey → Bool
-exists x kinds.MakeVol n = x.made (n.0, n.1)
-exists x kinds.Create n = x.files (n.0, n.1, n.2)
-exists x _ n = false
-
--- whether a message of the kind with these four numbers passes a check
-abbrev pub passes : Geometry → State → Kind → List ℕ → Refusal → Bool
-passes g x k ns Range = is_in_range g k ns
-passes g x k ns Volume = let n = key_of ns in x.made (n.0, n.1)
-passes g x k ns Exists = not (exists x k (key_of ns))
-passes g x k ns Sealed = let n = key_of ns in not (x.sealed (n.0, n.1))
-passes g x k ns File = let n = key_of ns in x.files (n.0, n.1, n.2)
-passes g x k ns Space =
-    let n = key_of ns in is_some (x.blocks n) || nat_lt (blocks_in_stripe g x n.0 n.1 (stripe_of g n.2 n.3)) g.quota
-
--- why a message of the kind with these four numbers is refused: the first check that fails, if one does
-abbrev pub refusal_by : Geometry → State → Kind → List ℕ → Option Refusal
-refusal_by g x k ns = find (λ test. not (passes g x k ns test)) (checks k)
-
--- why the message is refused, if it is
-abbrev pub refusal : Geometry → State → Msg → Option Refusal
-refusal g x m = refusal_by g x (kind m) (four_numbers m)
-
--- ---- the step
+-- ---- one message
 
 -- the label of a volume to which none was given
 abbrev pub no_label : List ℕ
@@ -144,3 +93,8 @@ is_done _ = false
 -- whether the log keeps a record of a message with this reply: a changing message that was carried out
 abbrev pub is_recorded : Msg → Reply → Bool
 is_recorded m reply = is_changing (kind m) && is_done reply
+
+-- those messages of a list that get a record in the log, where all run one after the other from x on
+abbrev pub recorded_of : Geometry → State → List Msg → List Msg
+recorded_of g x [] = []
+recorded_of g x (m ∷ ms) = let rest = recorded_of g (next_state g x m) ms in if is_recorded m (reply_to g x m) then m ∷ rest else rest

@@ -1,13 +1,11 @@
 -- Statement for operators: What it is to run a message on the parcels of its place.
 use Rattle.std.specs.Prelude.{◌≡◌, ℕ}
 use Rattle.affinity.specs.declared.geometry.Geometry.{Geometry}
-use Rattle.affinity.specs.Path.{Path, are_related}
 use Rattle.protocol.specs.declared.messages.Msg.{Msg}
 use Rattle.protocol.specs.declared.replies.Reply.{Reply}
 use Rattle.protocol.specs.Messages.{path_of}
 use Rattle.meaning.specs.State.{State}
-use Rattle.meaning.specs.Serial.{reply_to, next_state}
-use Rattle.meaning.specs.Subtrees.{AgreeOn}
+use Rattle.meaning.specs.Step.{reply_to, next_state}
 use Rattle.parcel.specs.Fits.{IsRunnable}
 use Rattle.parcel.specs.Shown.{shown_state}
 use Rattle.parcel.specs.declared.parts.Parcels.{Parcels}
@@ -31,11 +29,6 @@ pub record IsSerialStep (g : Geometry) (x : State) (m : Msg) (given : Reply) (y 
 -- the state that they show after it.
 abbrev pub IsStepOn : Geometry → Msg → Standing → Parcels → Reply → Parcels → Type 0
 IsStepOn g m t old given new = IsSerialStep g (shown_state g (path_of g m) t old) m given (shown_state g (path_of g m) t new)
-
--- The parcels and the standing show what a state has at a path: the parcels what lies there and below, the standing what is seen of the
--- nodes above.
-abbrev pub Shows : Geometry → Path → Standing → Parcels → State → Type 0
-Shows g p t parcels x = AgreeOn g (are_related p) (shown_state g p t parcels) x
 
 -- The job was run: in the state that its parcels and standing show, the reply is that of the serial step, and the parcels show the state
 -- after it.

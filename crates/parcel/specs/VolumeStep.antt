@@ -7,7 +7,7 @@ use Rattle.protocol.specs.declared.replies.Refusal.TheVariants.{Volume, Sealed}
 use Rattle.protocol.specs.declared.replies.Reply.{Reply}
 use Rattle.protocol.specs.declared.replies.Reply.TheVariants.{Done, Refused}
 use Rattle.protocol.specs.Messages.{is_in_range}
-use Rattle.parcel.specs.Run.{IsSerialStep}
+use Rattle.parcel.specs.JobRun.{IsSerialStep}
 use Rattle.parcel.specs.Volume.{VolumeFacts, one_volume}
 
 -- refused for this reason where the check fails, else as the later checks decide

@@ -1,13 +1,14 @@
--- Statement for engineers: What a run means for any state of which its job had a part, and for the tree that lent it.
+-- Statement for engineers: What a job is to the state and the tree that lent it.
 use Rattle.std.specs.Prelude.{◌≡◌}
 use Rattle.protocol.specs.Messages.{path_of}
 use Rattle.meaning.specs.State.{State}
-use Rattle.meaning.specs.Serial.{reply_to, next_state}
+use Rattle.meaning.specs.Step.{reply_to, next_state}
 use Rattle.affinity.specs.declared.geometry.Geometry.{Geometry}
 use Rattle.affinity.specs.Path.{Path}
 use Rattle.parcel.specs.Fits.{Fits, IsKindOf}
 use Rattle.parcel.specs.Nodes.{Nodes}
-use Rattle.parcel.specs.Run.{JobView, IsJobRun, Shows}
+use Rattle.parcel.specs.JobRun.{JobView, IsJobRun}
+use Rattle.parcel.specs.Shown.{Shows}
 use Rattle.parcel.specs.Tree.{LendsAt, IsOut, RestoresAt}
 use Rattle.parcel.specs.declared.job.Done.{Done}
 use Rattle.parcel.specs.declared.parts.Parcels.{Parcels}

@@ -10,9 +10,9 @@ use Rattle.recovery.specs.Version.{named_version}
 use Rattle.disk.specs.Device.{Medium}
 use Rattle.image.specs.declared.layout.TheConstants.{VERSION}
 use Rattle.checkpoint.specs.declared.opening.Parts.{Parts}
-use Rattle.checkpoint.specs.Buffers.{FitBuffers, dirty_pieces_of}
-use Rattle.checkpoint.specs.Keeping.{IsSoundJournal}
-use Rattle.checkpoint.specs.DirtyPieces.{opened_dirty}
+use Rattle.checkpoint.specs.Buffers.{FitBuffers}
+use Rattle.checkpoint.specs.IsSoundJournal.{IsSoundJournal}
+use Rattle.checkpoint.specs.DirtyPieces.{opened_dirty, dirty_pieces_of}
 use Rattle.checkpoint.specs.Opening.{IsBadAfterCut}
 use Rattle.checkpoint.specs.Extents.{AreAllDirty}
 use Rattle.oplog.specs.Calls.{IsUsable}
