@@ -1,7 +1,7 @@
 -- Worked examples of the definitions.
 use Rattle.std.proofs.Common.{lit≤, ◌≡◌, true, false, [], ◌∷◌, map, refl}
 use Rattle.affinity.specs.Geometry.{default_geometry, stripe_of}
-use Rattle.affinity.proofs.Numbers.{small}
+use Rattle.affinity.proofs.GeometryLemmas.{small}
 use Rattle.affinity.specs.Interval.{interval}
 use Rattle.affinity.specs.Kind.{number_count}
 use Rattle.affinity.specs.declared.geometry.Geometry.{Geometry}

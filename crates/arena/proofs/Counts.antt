@@ -1,6 +1,6 @@
 -- How often a number is in lists that were joined, or that lost a number.
 use Rattle.std.proofs.lemmas.Grind.{common_steps}
-use Rattle.std.proofs.Common.{◌≡◌, ◌≢◌, ℕ, zero, suc, ◌+◌, ◌<◌, ◌≤◌, true, false, List, [], ◌∷◌, ◌++◌, map, length, eqb, refl, ◌∙◌, arith, slice_set, slice_index_or}
+use Rattle.std.proofs.Common.{◌≡◌, ◌≢◌, ℕ, zero, suc, ◌+◌, ◌<◌, ◌≤◌, true, false, List, [], ◌∷◌, ◌++◌, map, length, eqb, refl, ◌∙◌, arith, slice_set, slice_index_or, Bool, filter, replicate}
 use Rattle.std.proofs.lemmas.Bool.{eq-eqb, ne_eqb}
 use Rattle.std.proofs.lemmas.Map.Steps.{length-le_from_distinct_below}
 use Rattle.std.specs.List.{concat, AllByRecursion, IsDistinct, list_any}
@@ -97,3 +97,35 @@ below-from_member n q (x ∷ xs) each found = grind (arith, common_steps, below-
 -- numbers below n, each once, are at most n
 pub length-once : (n : ℕ) (xs : List ℕ) → ((i : ℕ) → count_of i xs ≤ 1) → AllByRecursion (λ x. x < n) xs → length xs ≤ n
 length-once n xs once each = length-le_from_distinct_below xs n (distinct-from_times xs once) (λ q. below-from_member n q xs each)
+
+pub count_of-filter_yes : (p : ℕ → Bool) (i : ℕ) (xs : List ℕ) → p i ≡ true → count_of i (filter p xs) ≡ count_of i xs
+count_of-filter_yes p i [] passes = refl
+count_of-filter_yes p i (x ∷ xs) passes = grind (arith, common_steps, count_of-filter_yes p i xs passes)
+
+pub count_of-filter_no : (p : ℕ → Bool) (i : ℕ) (xs : List ℕ) → p i ≡ false → count_of i (filter p xs) ≡ 0
+count_of-filter_no p i [] fails = refl
+count_of-filter_no p i (x ∷ xs) fails = grind (arith, common_steps, count_of-filter_no p i xs fails)
+
+pub count_of-tail : (i x : ℕ) (xs : List ℕ) → count_of i xs ≤ count_of i (x ∷ xs)
+count_of-tail i x xs = grind (arith, common_steps)
+
+-- how often a number is among consecutive numbers
+count_of-low : (i first count : ℕ) → i < first → count_of i (numbers_from first count) ≡ 0
+count_of-low i first zero low = refl
+count_of-low i first (suc count) low = grind (arith, common_steps, count_of-low i (suc first) count)
+
+pub count_of-high : (i first count : ℕ) → first + count ≤ i → count_of i (numbers_from first count) ≡ 0
+count_of-high i first zero high = refl
+count_of-high i first (suc count) high = grind (arith, common_steps, count_of-high i (suc first) count)
+
+pub count_of-numbers : (i first count : ℕ) → count_of i (numbers_from first count) ≤ 1
+count_of-numbers i first zero = omega arith
+count_of-numbers i first (suc count) = grind (arith, common_steps, count_of-numbers i (suc first) count, count_of-cons_is, count_of-low, count_of-cons_other)
+
+pub count_of-numbers_in : (i first count : ℕ) → first ≤ i → i < first + count → 0 < count_of i (numbers_from first count)
+count_of-numbers_in i first zero low high = absurd (omega arith)
+count_of-numbers_in i first (suc count) low high = grind (arith, common_steps, count_of-numbers_in i (suc first) count)
+
+pub count_of-empties : (i count : ℕ) → count_of i (concat (replicate count [])) ≡ 0
+count_of-empties i zero = refl
+count_of-empties i (suc count) = count_of-empties i count

@@ -8,10 +8,9 @@ use Rattle.arena.specs.Lists.{count_of, is_on, without, first_of, behind_in, num
 use Rattle.arena.specs.Linked.{Linked, list_at}
 use Rattle.arena.specs.ArenaView.{ArenaView, capacity_of, value_at, holds_value, is_lent, listed, moved, after_put, after_lend, after_take, after_move, after_restore, restore_answer, empty_arena}
 use Rattle.arena.specs.ArenaRule.{arena_view_of, ArenaRule, free_in, chains_in}
-use Rattle.arena.proofs.Counts.{count_of-append, count_of-cons_is, without-absent, without_all-absent, length-once, length-numbers}
+use Rattle.arena.proofs.Counts.{count_of-append, count_of-cons_is, without-absent, without_all-absent, length-once, length-numbers, count_of-tail, count_of-numbers, count_of-high, count_of-empties}
 use Rattle.arena.proofs.Behind.{behind_in-nowhere}
-use Rattle.arena.proofs.Parts.{partitioned-put, partitioned-lend, partitioned-take, partitioned-move, partitioned-restore, held-not_free, partitioned-from, count_of-tail}
-use Rattle.arena.proofs.ListsAtStart.{count_of-numbers, count_of-high, count_of-empties}
+use Rattle.arena.proofs.IsPartitioned.{partitioned-put, partitioned-lend, partitioned-take, partitioned-move, partitioned-restore, held-not_free, partitioned-from}
 
 abbrev pub linked_as : ℕ → List (List ℕ) → Linked
 linked_as slots lists = record { slots = slots; lists = lists }

@@ -4,35 +4,14 @@ use Rattle.std.proofs.Common.{◌≡◌, ℕ, zero, suc, ◌+◌, ◌-◌, ◌<�
 use Rattle.std.proofs.lemmas.Bool.{le-ltb, eq-eqb, ne_eqb, cases_eq}
 use Rattle.std.proofs.lemmas.Bool.Decides.{nat_tests}
 use Rattle.std.specs.List.{concat}
-use Rattle.arena.specs.Lists.{count_of, numbers_from}
+use Rattle.arena.specs.Lists.{numbers_from}
 use Rattle.arena.specs.Linked.{IsWay, ring, rings, IsLinked, next_at_start, previous_at_start}
-use Rattle.arena.proofs.Counts.{count_of-append, count_of-cons_is, count_of-cons_other, length-numbers}
+use Rattle.arena.proofs.Counts.{count_of-append, length-numbers, count_of-numbers, count_of-numbers_in, count_of-empties}
 use Rattle.arena.proofs.Ways.{AreSlots, walk-way, table}
-
--- how often a number is among consecutive numbers
-count_of-low : (i first count : ℕ) → i < first → count_of i (numbers_from first count) ≡ 0
-count_of-low i first zero low = refl
-count_of-low i first (suc count) low = grind (arith, common_steps, count_of-low i (suc first) count)
-
-pub count_of-high : (i first count : ℕ) → first + count ≤ i → count_of i (numbers_from first count) ≡ 0
-count_of-high i first zero high = refl
-count_of-high i first (suc count) high = grind (arith, common_steps, count_of-high i (suc first) count)
-
-pub count_of-numbers : (i first count : ℕ) → count_of i (numbers_from first count) ≤ 1
-count_of-numbers i first zero = omega arith
-count_of-numbers i first (suc count) = grind (arith, common_steps, count_of-numbers i (suc first) count, count_of-cons_is, count_of-low, count_of-cons_other)
-
-pub count_of-numbers_in : (i first count : ℕ) → first ≤ i → i < first + count → 0 < count_of i (numbers_from first count)
-count_of-numbers_in i first zero low high = absurd (omega arith)
-count_of-numbers_in i first (suc count) low high = grind (arith, common_steps, count_of-numbers_in i (suc first) count)
 
 numbers-inside : (first count slots : ℕ) → first + count ≤ slots → AreSlots slots (numbers_from first count)
 numbers-inside first zero slots fit = tt
 numbers-inside first (suc count) slots fit = (omega arith, numbers-inside (suc first) count slots (omega arith))
-
-pub count_of-empties : (i count : ℕ) → count_of i (concat (replicate count [])) ≡ 0
-count_of-empties i zero = refl
-count_of-empties i (suc count) = count_of-empties i count
 
 -- a row whose elements a function gives, and one more
 pub given-more : (f : ℕ → ℕ) (row : List ℕ) (x : ℕ) {at : ℕ} → length row ≡ at → x ≡ f at → ((a : ℕ) → a < at → slice_index row a ≡ f a)

@@ -1,7 +1,6 @@
 -- Words (the arguments) that are refused ask for nothing, and a command has one name.
-use Rattle.std.proofs.Common.{arith}
+use Rattle.std.proofs.Common.{arith, ◌≡◌, ◌∙◌, sym, subst, inl, inr, List, [], ◌∷◌, false, true, Option, codes}
 use Rattle.std.proofs.lemmas.Grind.{common_steps}
-use Rattle.std.proofs.Common.{◌≡◌, ◌∙◌, sym, subst, inl, inr, List, [], ◌∷◌, false, true, Option, codes}
 use Rattle.std.specs.List.{list_all}
 use Rattle.std.proofs.lemmas.Bool.{and_parts}
 use Rattle.std.proofs.lemmas.Option.{same_Some}
@@ -10,7 +9,7 @@ use Rattle.affinity.specs.Limits.{AreInRange}
 use Rattle.clap.specs.Words.{IsAmong, Kinds, Row, Text, kind_of}
 use Rattle.clap.specs.declared.error.Error.{Error}
 use Rattle.clap.specs.declared.error.kind.ErrorKind.{ErrorKind}
-use Rattle.affinity.proofs.Numbers.{are_in_range}
+use Rattle.affinity.proofs.GeometryLemmas.{are_in_range}
 use Rattle.arguments.specs.Arguments.{Asks, AreRefused, IsNamed, IsReason, findings, is_mistake}
 use Rattle.arguments.specs.declared.command_line.Request.{Request}
 use Rattle.arguments.specs.declared.command_line.Request.TheVariants.{Help, Plain, Format, Show, Serve}

@@ -6,11 +6,11 @@ use Rattle.recovery.specs.Loading.{NamedHolds}
 use Rattle.recovery.specs.Recovery.{recovered_state, decoding}
 use Rattle.recovery.specs.Refusals.{refused}
 use Rattle.recovery.specs.Version.{named_version}
-use Rattle.recovery.proofs.BadRecordBehind.{alone_holds, follows, laid_out}
+use Rattle.recovery.proofs.NamedHolds.{alone_holds, follows, laid_out}
 use Rattle.recovery.proofs.Replays.{same_bytes}
 use Rattle.disk.specs.CrashImages.{AreBytes}
 use Rattle.disk.specs.Device.{IsSynced, Medium, moments}
-use Rattle.disk.proofs.Leaves.{synced_left}
+use Rattle.disk.proofs.IsSynced.{synced_left}
 use Rattle.image.specs.Image.{image_of, image_state}
 use Rattle.image.proofs.ReadImage.{read_again}
 use Rattle.checkpoint.specs.declared.journal.Buffers.{Buffers}
@@ -23,7 +23,7 @@ use Rattle.checkpoint.specs.OpeningSteps.{AreLoaded, AreUnloaded, IsMade, IsMade
 use Rattle.checkpoint.specs.RecoversByArea.{RecoversByNamedAlone, run_on}
 use Rattle.checkpoint.specs.PointAndCut.{IsPointed, IsCutUnfinished, pointed_log}
 use Rattle.checkpoint.specs.Extents.{AreAllDirty}
-use Rattle.checkpoint.proofs.RecoversWithPrefix.{recoverable_of, sound_along}
+use Rattle.checkpoint.proofs.JournalLemmas.{recoverable_of, sound_along}
 use Rattle.checkpoint.proofs.PointOrCut.{HoldsAlone, pointed_sound, pointed_version}
 use Rattle.checkpoint.proofs.RecoversByArea.{holds_now, shut_current}
 use Rattle.oplog.specs.HalfContent.{chain, front}

@@ -13,7 +13,7 @@ use Rattle.image.specs.Pieces.{piece_count}
 use Rattle.checkpoint.specs.declared.opening.Parts.{Parts}
 use Rattle.checkpoint.specs.Costs.{count_runs, finish_cost, longest_point, opening_cost, point_cost, runs_after}
 use Rattle.checkpoint.specs.Extents.{AreAllDirty}
-use Rattle.checkpoint.proofs.Places.{some_piece}
+use Rattle.checkpoint.proofs.ExtentLemmas.{some_piece}
 use Rattle.oplog.specs.HalfContent.{chain}
 use Rattle.device_map.specs.Layout.{layout_of}
 use Rattle.oplog.specs.Recovery.{named_area}

@@ -7,10 +7,11 @@ use Rattle.disk.specs.declared.fault.DiskFault.{DiskFault}
 use Rattle.disk.specs.CrashImages.{AreBytes, IsCrashImage, CrashImagesAre, CrashesChangeOnly}
 use Rattle.disk.specs.Device.{Medium, Syncs, synced}
 use Rattle.disk.proofs.Calls.{after_sync}
-use Rattle.disk.proofs.Leaves.{synced_left, itself}
-use Rattle.disk.proofs.Moments.{started, then, weaker}
+use Rattle.disk.proofs.IsSynced.{synced_left}
+use Rattle.disk.proofs.IsTornFrom.{itself}
+use Rattle.disk.proofs.CrashImagesAre.{started, then, weaker}
 use Rattle.checkpoint.specs.PointAndCut.{IsCutBegun, IsCutWritten, IsFlipped}
-use Rattle.checkpoint.specs.RecoversByArea.{RecoversByArea, RecoversByNamedAlone}
+use Rattle.checkpoint.specs.RecoversByArea.{RecoversByNamedAlone}
 use Rattle.checkpoint.proofs.RecordsInForce.{forced_alone, forced_both}
 use Rattle.checkpoint.proofs.IsPointed.{clear_beyond, clear_moments, clear_recovers}
 use Rattle.checkpoint.proofs.RecoversByArea.{as_other, both_of, chain_other, half_same, holds_by, laid_by, ready_none, shut_current, shut_force}
@@ -22,15 +23,11 @@ use Rattle.oplog.specs.Log.{Log, layout_of_log}
 use Rattle.device_map.specs.Layout.{layout_of, device_size, part_bytes, half_part, image_part, root_part, other}
 use Rattle.oplog.specs.Recovery.{in_force, recovers_by_area, records_in}
 use Rattle.oplog.proofs.AfterCrash.{chain_by_area, chained_by_area, flip_by_area, torn_root_recovers}
-use Rattle.oplog.proofs.Kept.{front_beside, named_area-below}
+use Rattle.oplog.proofs.SameRecovery.{front_beside}
 use Rattle.oplog.proofs.Beyond.{beyond, beyond_then}
 use Rattle.oplog.proofs.Ready.{ready_kept}
-use Rattle.oplog.proofs.Slices.{same_but_none}
+use Rattle.oplog.proofs.PartLemmas.{same_but_none}
 use Rattle.meaning.specs.State.{State}
-
--- the area that a device names is 0 or 1
-pub named_below : (g : Geometry) (n h : ℕ) (x : Option State) (m : Medium) → AreBytes m.now → RecoversByArea g n h x m → n < 2
-named_below g n h x m are recovers = subst (λ (k : ℕ). k < 2) (recovers m.now (itself m.now m.unsynced are)).named (named_area-below (layout_of g) m.now)
 
 module _ (log : Log) (w0 : Medium) where
   abbrev g : Geometry

@@ -4,8 +4,9 @@ use Rattle.recovery.specs.Header.{is_header}
 use Rattle.recovery.specs.Recovery.{recovered_state, decoding}
 use Rattle.disk.specs.CrashImages.{AreBytes, CrashImagesAre, CrashesChangeOnly}
 use Rattle.disk.specs.Device.{Medium}
-use Rattle.disk.proofs.Leaves.{synced_left, itself}
-use Rattle.disk.proofs.Moments.{leaves_now, then, weaker}
+use Rattle.disk.proofs.IsSynced.{synced_left}
+use Rattle.disk.proofs.IsTornFrom.{itself}
+use Rattle.disk.proofs.CrashImagesAre.{leaves_now, then, weaker}
 use Rattle.image.specs.Image.{image_state}
 use Rattle.checkpoint.specs.PointAndCut.{IsCutFinished, IsCutUnfinished}
 use Rattle.checkpoint.specs.RecoversByArea.{RecoversByArea, run_on}
@@ -18,7 +19,7 @@ use Rattle.device_map.specs.Layout.{layout_of, device_size, half_part, header_pa
 use Rattle.oplog.specs.Log.{Log}
 use Rattle.oplog.specs.Recovery.{is_laid_out, named_area, recovers_by_area}
 use Rattle.oplog.proofs.AfterCrash.{flip_by_area, image_by_area, torn_root_recovers}
-use Rattle.oplog.proofs.Kept.{run-append}
+use Rattle.oplog.proofs.SameRecovery.{run-append}
 use Rattle.meaning.specs.State.{State}
 
 module _ (log : Log) (bytes : List ℕ) (w0 : Medium) (is_area : log.named < 2) (unfinished : IsCutUnfinished log bytes w0) where

@@ -4,18 +4,18 @@ use Rattle.recovery.specs.Recovery.{recovered_state}
 use Rattle.recovery.specs.Version.{named_version}
 use Rattle.disk.specs.CrashImages.{AreBytes}
 use Rattle.disk.specs.Device.{Medium}
-use Rattle.disk.proofs.Leaves.{itself}
+use Rattle.disk.proofs.IsTornFrom.{itself}
 use Rattle.image.specs.Image.{version_in}
 use Rattle.image.specs.Pieces.{piece_count}
 use Rattle.checkpoint.specs.PointAndCut.{FitsCutState, IsFlipped, IsCutWritten, flipped_log}
 use Rattle.checkpoint.specs.IsSoundJournal.{IsSoundJournal}
 use Rattle.checkpoint.specs.RecoversByArea.{RecoversByArea}
 use Rattle.checkpoint.specs.Images.{image_in}
-use Rattle.checkpoint.proofs.IsCutBegun.{named_below}
 use Rattle.checkpoint.proofs.RecordsInForce.{forced_synced, front_count}
 use Rattle.checkpoint.proofs.Patches.{image_long}
-use Rattle.checkpoint.proofs.Rows.{all_agree, no_dirty}
-use Rattle.checkpoint.proofs.RecoversByArea.{holds_now}
+use Rattle.checkpoint.proofs.ExtentLemmas.{all_agree}
+use Rattle.checkpoint.proofs.DirtyPieces.{no_dirty}
+use Rattle.checkpoint.proofs.RecoversByArea.{holds_now, named_below}
 use Rattle.oplog.specs.Calls.{IsLongEnough}
 use Rattle.oplog.specs.Changes.{IsReady}
 use Rattle.device_map.specs.Layout.{layout_of, image_size, other}

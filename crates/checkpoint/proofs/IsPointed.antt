@@ -4,8 +4,9 @@ use Rattle.affinity.specs.declared.geometry.Geometry.{Geometry}
 use Rattle.recovery.specs.Recovery.{recovered_state, decoding}
 use Rattle.disk.specs.CrashImages.{AreBytes, CrashImagesAre, CrashesChangeOnly}
 use Rattle.disk.specs.Device.{Medium}
-use Rattle.disk.proofs.Leaves.{synced_left, itself}
-use Rattle.disk.proofs.Moments.{leaves_now, then, weaker}
+use Rattle.disk.proofs.IsSynced.{synced_left}
+use Rattle.disk.proofs.IsTornFrom.{itself}
+use Rattle.disk.proofs.CrashImagesAre.{leaves_now, then, weaker}
 use Rattle.image.specs.Image.{image_state}
 use Rattle.checkpoint.specs.PointAndCut.{IsPointed}
 use Rattle.checkpoint.specs.RecoversByArea.{RecoversByArea, RecoversByNamedAlone}

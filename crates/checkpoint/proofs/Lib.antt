@@ -1,20 +1,21 @@
 -- The lemmas of this crate: what a crash leaves while the journal logs, makes a point or a cut, and is opened.
-mod Places
+mod ExtentLemmas
 mod Costs
-mod Runs
+mod PieceRuns
 mod Patches
 mod RecoversByArea
 mod RecordsInForce
 mod IsPointed
 mod IsCutBegun
-mod Rows
+mod DirtyPieces
 mod RecoversWithPrefix
+mod JournalLemmas
 mod IsFlipped
 mod PatchesUnnamed
-mod SnapshotBytes
+mod Snapshots
 mod PointOrCut
 mod IsCutFinished
 mod AreLoaded
 mod OpeningCrashImages
-mod StillRefused
+mod IsRefusedAlike
 mod Examples

@@ -8,12 +8,13 @@ use Rattle.recovery.specs.Recovery.{recovered_state}
 use Rattle.recovery.specs.OpenFaults.{IsConsistentFault, IsOfHalf}
 use Rattle.recovery.specs.Refusals.{IsRefused, fault_or_later, refused}
 use Rattle.recovery.proofs.OneGeometry.{one_geometry, same_geometry}
-use Rattle.recovery.proofs.Refused.{records_half}
+use Rattle.recovery.proofs.Refusals.{records_half}
 use Rattle.recovery.proofs.Replays.{same_bytes}
 use Rattle.disk.specs.CrashImages.{AreBytes, IsCrashImage, IsTornFrom, CrashImagesAre, left_since}
 use Rattle.disk.specs.Device.{IsSynced, Medium, Moment, moments}
-use Rattle.disk.proofs.Leaves.{synced_left, itself}
-use Rattle.disk.proofs.Moments.{leaves_now, same, started, then, weaker}
+use Rattle.disk.proofs.IsSynced.{synced_left}
+use Rattle.disk.proofs.IsTornFrom.{itself}
+use Rattle.disk.proofs.CrashImagesAre.{leaves_now, same, started, then, weaker}
 use Rattle.image.specs.Image.{image_state}
 use Rattle.checkpoint.specs.RecoversByArea.{area_state, RecoversByNamedAlone, RecoversByArea}
 use Rattle.checkpoint.specs.Opening.{IsBadAfterCut, IsLeftByRefusal, IsUnwritten, OpeningCrashImages, RecoversAsBefore}

@@ -6,16 +6,16 @@ use Rattle.std.proofs.Math.Seq.{take-add}
 use Rattle.affinity.specs.declared.geometry.Geometry.{Geometry}
 use Rattle.disk.specs.Device.{Medium, SameOutside, overlaid, synced}
 use Rattle.disk.proofs.Overlays.{take-overlaid, drop-overlaid, overlaid_outside, range-overlaid}
-use Rattle.disk.proofs.Outside.{same_before, same_behind}
+use Rattle.disk.proofs.SameOutside.{same_before, same_behind}
 use Rattle.image.specs.Pieces.{piece_count}
 use Rattle.checkpoint.specs.Extents.{AgreeOnClean, extent_at, extent_size}
 use Rattle.checkpoint.specs.Images.{Imaged, IsPatchedAt, image_in}
-use Rattle.checkpoint.proofs.Places.{extent_inside, extent_next, extent_rises}
-use Rattle.checkpoint.proofs.Runs.{part_begun, part_then}
+use Rattle.checkpoint.proofs.ExtentLemmas.{extent_inside, extent_next, extent_rises}
+use Rattle.checkpoint.proofs.PieceRuns.{part_begun, part_then}
 use Rattle.disk.specs.CrashImages.{CrashesChangeOnly}
 use Rattle.oplog.specs.Changes.{IsSameBut}
 use Rattle.device_map.specs.Layout.{slice, layout_of, image_part, image_size, part_at, part_size, device_size}
-use Rattle.oplog.proofs.Slices.{same_but_both, same_but_none, image_sized, part_inside}
+use Rattle.oplog.proofs.PartLemmas.{same_but_both, same_but_none, image_sized, part_inside}
 
 -- ---- lists of bytes
 

@@ -6,8 +6,8 @@ use Rattle.affinity.specs.declared.geometry.Geometry.{Geometry}
 use Rattle.recovery.specs.Recovery.{recovered_state, decoding}
 use Rattle.disk.specs.CrashImages.{AreBytes, IsCrashImage, CrashImagesAre, CrashesChangeOnly}
 use Rattle.disk.specs.Device.{Medium}
-use Rattle.disk.proofs.Leaves.{itself}
-use Rattle.disk.proofs.Moments.{leaves_now}
+use Rattle.disk.proofs.IsTornFrom.{itself}
+use Rattle.disk.proofs.CrashImagesAre.{leaves_now}
 use Rattle.image.specs.Image.{image_state}
 use Rattle.checkpoint.specs.Images.{PatchesUnnamed, IsPatchedAt, image_in}
 use Rattle.checkpoint.specs.PointAndCut.{FitsCutState}
@@ -15,11 +15,9 @@ use Rattle.checkpoint.specs.IsSoundJournal.{IsSoundJournal}
 use Rattle.checkpoint.specs.DirtyPieces.{count_dirty}
 use Rattle.checkpoint.specs.RecoversByArea.{RecoversByArea, run_on}
 use Rattle.checkpoint.specs.Extents.{extent_in}
-use Rattle.checkpoint.proofs.IsCutBegun.{named_below}
 use Rattle.checkpoint.proofs.RecordsInForce.{forced_kept}
-use Rattle.checkpoint.proofs.RecoversWithPrefix.{half_below}
-use Rattle.checkpoint.proofs.Rows.{count_cleared}
-use Rattle.checkpoint.proofs.RecoversByArea.{half_same, holds_moments, holds_now}
+use Rattle.checkpoint.proofs.DirtyPieces.{count_cleared}
+use Rattle.checkpoint.proofs.RecoversByArea.{half_same, holds_moments, holds_now, named_below, half_below}
 use Rattle.oplog.specs.Changes.{IsReady, IsSameBut}
 use Rattle.oplog.specs.Crash.{RecoversBy}
 use Rattle.oplog.specs.Recovery.{named_area, records_in}

@@ -1,59 +1,27 @@
 -- What a point and the beginning of a cut ask of a journal, and what the journal keeps after them.
-use Rattle.std.proofs.Common.{◌≡◌, ◌<◌, ℕ, zero, suc, Bool, false, List, ◌++◌, length, Option, Some, None, is_some, unwrap_or, refl, sym, ◌∙◌, ap, subst, arith, true≢false}
-use Rattle.std.proofs.lemmas.List.{take_at}
-use Rattle.std.proofs.Math.Seq.{take-add}
+use Rattle.std.proofs.Common.{◌≡◌, ◌<◌, ℕ, Bool, false, List, length, Option, Some, None, is_some, unwrap_or, sym, ◌∙◌, ap, subst, arith, true≢false}
 use Rattle.affinity.specs.declared.geometry.Geometry.{Geometry}
 use Rattle.recovery.specs.Recovery.{recovered_state}
 use Rattle.disk.specs.CrashImages.{AreBytes}
 use Rattle.disk.specs.Device.{Medium}
 use Rattle.recovery.specs.Version.{named_version}
-use Rattle.disk.proofs.Leaves.{itself}
-use Rattle.image.specs.Image.{image_head, image_of, image_state, version_in}
-use Rattle.image.specs.Pieces.{joined_below, piece_count, piece_of, piece_size}
-use Rattle.image.proofs.Cuts.{piece_again}
-use Rattle.image.proofs.Measures.{state_is_measured}
-use Rattle.image.proofs.ReadImage.{read_again}
+use Rattle.disk.proofs.IsTornFrom.{itself}
+use Rattle.image.specs.Image.{image_of, image_state, version_in}
 use Rattle.checkpoint.specs.View.{IsJournal, journal_view}
 use Rattle.checkpoint.specs.Journal.{JournalView, committed}
-use Rattle.checkpoint.specs.Extents.{IsUpToDate, AgreeOnClean, AreAllDirty, AreCleanExtentsOf, extent_in, extent_of}
+use Rattle.checkpoint.specs.Extents.{IsUpToDate, AgreeOnClean, AreCleanExtentsOf}
 use Rattle.checkpoint.specs.PointAndCut.{FitsCutState, IsCutBegun, IsPointed, pointed_log}
 use Rattle.checkpoint.specs.IsSoundJournal.{IsSoundJournal}
 use Rattle.checkpoint.specs.declared.journal.Journal.TheInside.{Inside}
 use Rattle.checkpoint.specs.RecoversByArea.{RecoversByNamedAlone, RecoversByArea, run_on}
 use Rattle.checkpoint.specs.Images.{image_in}
-use Rattle.checkpoint.proofs.IsCutBegun.{named_below}
 use Rattle.checkpoint.proofs.RecordsInForce.{forced_synced}
-use Rattle.checkpoint.proofs.RecoversByArea.{holds_now, run_none}
+use Rattle.checkpoint.proofs.RecoversByArea.{holds_now, run_none, named_below}
+use Rattle.checkpoint.proofs.Snapshots.{snapshot_reads, snapshot_up_to_date, snapshot_agrees}
 use Rattle.device_map.specs.Layout.{other}
 use Rattle.oplog.specs.Log.{Log, chained}
 use Rattle.parcel.specs.Tree.{TreeView, state_in}
 use Rattle.meaning.specs.State.{State, IsState}
-
--- ---- the image of a state
-
-pub snapshot_is : (g : Geometry) (y : State) → IsState g y → (n : ℕ) → n < piece_count g → extent_in g (image_of 2 g y) n ≡ extent_of g y n
-snapshot_is g y is zero few =
-    take-add 64 (piece_size g 0) (image_of 2 g y)
-    ∙ (λ i. take_at (image_head 2) (joined_below (piece_count g) (piece_of 2 g y)) 64 refl i ++ piece_again 2 g y (state_is_measured g y is) 0 few i)
-snapshot_is g y is (suc n) few = piece_again 2 g y (state_is_measured g y is) (suc n) few
-
-module _ (g : Geometry) (x : Option State) (y : State) (snapshot : List ℕ) (is : x ≡ Some y) (is_state : IsState g y) (spelled : snapshot ≡ image_of 2 g y) where
-  pub snapshot_reads : image_state g snapshot ≡ x
-  snapshot_reads = ap (image_state g) spelled ∙ read_again g y is_state ∙ sym is
-
-  pub snapshot_up_to_date : (dirty : List Bool) → IsUpToDate g x dirty snapshot
-  snapshot_up_to_date dirty z is' n few clean =
-      let same : y ≡ z = ap (λ (o : Option State). unwrap_or o y) (sym is ∙ is') in
-      ap (λ (l : List ℕ). extent_in g l n) spelled ∙ snapshot_is g y is_state n few ∙ ap (λ (s : State). extent_of g s n) same
-
-  pub snapshot_agrees : (dirty : List Bool) (bytes : List ℕ) → IsUpToDate g x dirty bytes → AgreeOnClean g dirty bytes snapshot
-  snapshot_agrees dirty bytes fresh n few clean = fresh y is n few clean ∙ sym (snapshot_is g y is_state n few) ∙ sym (ap (λ (l : List ℕ). extent_in g l n) spelled)
-
--- where all pieces are dirty, no piece has to be that of the state: the snapshot is made anew, and is the whole image
-pub whole_again : {g h : Geometry} {row dirty : List Bool} {new items : List ℕ} → (x : State) (old : List ℕ) → g ≡ h → AreAllDirty h row → dirty ≡ row
-    → (AreCleanExtentsOf g x dirty old → new ≡ image_of 2 g x) → items ≡ new → items ≡ image_of 2 h x
-whole_again x old same all is image put =
-    put ∙ image (rw (same, is) (λ n few clean. absurd (true≢false (sym (all n few) ∙ clean)))) ∙ ap (λ (z : Geometry). image_of 2 z x) same
 
 -- ---- a point
 

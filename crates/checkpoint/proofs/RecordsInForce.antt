@@ -5,7 +5,7 @@ use Rattle.affinity.specs.declared.geometry.Geometry.{Geometry}
 use Rattle.recovery.specs.Recovery.{decoding}
 use Rattle.disk.specs.Device.{IsSynced, Medium}
 use Rattle.disk.specs.CrashImages.{IsCrashImage}
-use Rattle.disk.proofs.Leaves.{synced_left}
+use Rattle.disk.proofs.IsSynced.{synced_left}
 use Rattle.checkpoint.proofs.RecoversByArea.{open_by, shut_force}
 use Rattle.oplog.specs.Changes.{HasAppended, IsReady, IsSameBut}
 use Rattle.oplog.specs.Crash.{RecoversBy}
@@ -13,7 +13,7 @@ use Rattle.oplog.specs.HalfContent.{chain, front, gates, count_open}
 use Rattle.device_map.specs.Layout.{Layout, half_part, layout_of, other, part_bytes, root_part}
 use Rattle.oplog.specs.Recovery.{in_force, named_area, records_in}
 use Rattle.oplog.proofs.AfterCrash.{named_kept, no_chain_by}
-use Rattle.oplog.proofs.Kept.{grown_force, named_area-below, same_forced, same_named}
+use Rattle.oplog.proofs.SameRecovery.{grown_force, named_area-below, same_forced, same_named}
 use Rattle.oplog.proofs.RecordRows.{length-rows}
 use Rattle.meaning.specs.State.{State}
 

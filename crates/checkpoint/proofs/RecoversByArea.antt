@@ -1,12 +1,12 @@
 -- What a device recovers to, by the area that it names, and what it would recover to by the other one.
-use Rattle.std.proofs.Common.{◌≡◌, ◌<◌, ℕ, zero, suc, Bool, true, false, not, ◌&&◌, cond, eqb, nat_le, ◌+◌, List, [], ◌++◌, length, drop, get_or, Option, Some, None, is_some, refl, sym, ◌∙◌, ap, arith, true≢false}
+use Rattle.std.proofs.Common.{◌≡◌, ◌<◌, ℕ, zero, suc, Bool, true, false, not, ◌&&◌, cond, eqb, nat_le, ◌+◌, List, [], ◌++◌, length, drop, get_or, Option, Some, None, is_some, refl, sym, ◌∙◌, ap, arith, true≢false, subst}
 use Rattle.affinity.specs.declared.geometry.Geometry.{Geometry}
 use Rattle.recovery.specs.Header.{is_header}
 use Rattle.recovery.specs.Recovery.{recovered_state, decoding}
 use Rattle.disk.specs.CrashImages.{AreBytes, CrashImagesAre}
 use Rattle.disk.specs.Device.{Medium}
-use Rattle.disk.proofs.Leaves.{itself}
-use Rattle.disk.proofs.Moments.{weaker}
+use Rattle.disk.proofs.IsTornFrom.{itself}
+use Rattle.disk.proofs.CrashImagesAre.{weaker}
 use Rattle.image.specs.Image.{image_state}
 use Rattle.checkpoint.specs.RecoversByArea.{RecoversByArea, run_on}
 use Rattle.oplog.specs.Changes.{IsReady}
@@ -16,6 +16,7 @@ use Rattle.device_map.specs.Layout.{Layout, layout_of, part_bytes, device_size, 
 use Rattle.protocol.specs.declared.sizes.TheConstants.{RECORD_SIZE}
 use Rattle.oplog.specs.Recovery.{current_of, in_force, is_laid_out, run, recovers_by_area}
 use Rattle.meaning.specs.State.{State}
+use Rattle.oplog.proofs.SameRecovery.{named_area-below}
 
 -- ---- by the area that it names
 
@@ -103,3 +104,16 @@ pub both_of : (P : ℕ → Type 0) (n : ℕ) → n < 2 → P n → P (other n) �
 both_of P zero is_area one another = (one, another)
 both_of P (suc zero) is_area one another = (another, one)
 both_of P (suc (suc n)) is_area one another = absurd (omega (arith, is_area))
+
+-- the area that a device names is 0 or 1
+pub named_below : (g : Geometry) (n h : ℕ) (x : Option State) (m : Medium) → AreBytes m.now → RecoversByArea g n h x m → n < 2
+named_below g n h x m are recovers = subst (λ (k : ℕ). k < 2) (recovers m.now (itself m.now m.unsynced are)).named (named_area-below (layout_of g) m.now)
+
+current_below : (n : ℕ) (t : Bool) → n < 2 → cond t (other n) n < 2
+current_below n true is_area = omega arith
+current_below n false is_area = is_area
+
+pub half_below : (g : Geometry) (n h : ℕ) (x : Option State) (m : Medium) → AreBytes m.now → RecoversByArea g n h x m → h < 2
+half_below g n h x m are recovers =
+    let is_area = named_below g n h x m are recovers in
+    subst (λ (k : ℕ). k < 2) (recovers m.now (itself m.now m.unsynced are)).current (current_below n (eqb (chain (layout_of g) n m.now) 1) is_area)

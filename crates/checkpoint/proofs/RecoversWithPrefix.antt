@@ -1,5 +1,5 @@
 -- What a crash leaves while messages are logged, and what the journal keeps once they are.
-use Rattle.std.proofs.Common.{◌≡◌, ℕ, zero, suc, ◌+◌, ◌-◌, ◌<◌, Bool, true, false, ◌&&◌, cond, eqb, List, [], ◌∷◌, ◌++◌, length, take, Option, Some, None, is_some, option_map, unwrap_or, refl, sym, ◌∙◌, ap, subst, arith, true≢false, length-append}
+use Rattle.std.proofs.Common.{◌≡◌, ℕ, zero, suc, ◌+◌, ◌<◌, Bool, true, false, ◌&&◌, cond, List, [], ◌∷◌, ◌++◌, length, take, Option, Some, None, is_some, option_map, unwrap_or, refl, sym, ◌∙◌, ap, subst, arith, true≢false, length-append}
 use Rattle.std.proofs.lemmas.List.{length-map, take-map}
 use Rattle.std.proofs.lemmas.Slice.Eq.{bytes_eq-Decides}
 use Rattle.std.specs.Str.{bytes_eq}
@@ -7,41 +7,34 @@ use Rattle.affinity.specs.declared.geometry.Geometry.{Geometry}
 use Rattle.recovery.specs.Recovery.{after_record, apply_decoded, recovered_state, decoding}
 use Rattle.disk.specs.CrashImages.{AreBytes, IsCrashImage, CrashImagesAre}
 use Rattle.disk.specs.Device.{Medium}
-use Rattle.disk.proofs.Leaves.{itself}
-use Rattle.disk.proofs.Moments.{weaker}
+use Rattle.disk.proofs.IsTornFrom.{itself}
+use Rattle.disk.proofs.CrashImagesAre.{weaker}
 use Rattle.image.specs.Image.{image_head, image_state}
-use Rattle.image.specs.Pieces.{piece_count}
 use Rattle.image.specs.Touched.{may_change}
 use Rattle.image.proofs.Untouched.{piece_stays}
-use Rattle.meaning.proofs.Kept.{step_kept}
+use Rattle.meaning.proofs.IsState.{step_kept}
 use Rattle.std.specs.List.{AllByRecursion}
-use Rattle.checkpoint.specs.Journal.{JournalView, AreCarriedOut, RecoversWithPrefix, IsRecoverable, journal_view_of, RecoversStill}
+use Rattle.checkpoint.specs.Journal.{AreCarriedOut, RecoversWithPrefix}
 use Rattle.checkpoint.specs.PointAndCut.{IsCutIfRunning, FitsCutState, image_after_cut}
 use Rattle.checkpoint.specs.Extents.{IsUpToDate, AgreeOnClean, extent_of}
 use Rattle.checkpoint.specs.IsSoundJournal.{IsSoundJournal}
-use Rattle.checkpoint.specs.DirtyPieces.{AreBothTouched, DirtiesTouched, AreCleanBefore}
+use Rattle.checkpoint.specs.DirtyPieces.{AreBothTouched, DirtiesTouched}
 use Rattle.checkpoint.specs.RecoversByArea.{RecoversByArea, run_on}
 use Rattle.checkpoint.specs.Images.{image_in}
-use Rattle.checkpoint.proofs.IsCutBegun.{named_below}
-use Rattle.checkpoint.proofs.RecordsInForce.{forced_more, used_most}
-use Rattle.checkpoint.proofs.RecoversByArea.{holds_by, holds_now}
-use Rattle.checkpoint.specs.View.{IsJournal, journal_view}
-use Rattle.checkpoint.specs.Buffers.{FitBuffers, KeepsBuffers}
-use Rattle.checkpoint.specs.declared.journal.Buffers.{Buffers}
-use Rattle.checkpoint.specs.declared.journal.Journal.TheInside.{Inside}
-use Rattle.oplog.specs.Beyond.{KeepsBeyond}
+use Rattle.checkpoint.proofs.RecordsInForce.{forced_more}
+use Rattle.checkpoint.proofs.RecoversByArea.{holds_by, holds_now, half_below, named_below}
 use Rattle.protocol.specs.declared.messages.Msg.{Msg}
 use Rattle.protocol.specs.Messages.{is_in_range}
 use Rattle.message.specs.Records.{message_in_fields, record_of}
 use Rattle.message.proofs.RecordLemmas.{record_says}
 use Rattle.oplog.specs.Calls.{Grows, HasAdded}
-use Rattle.oplog.specs.HalfContent.{chain, front}
-use Rattle.device_map.specs.Layout.{layout_of, device_size, image_part, image_size, other}
+use Rattle.oplog.specs.HalfContent.{front}
+use Rattle.device_map.specs.Layout.{layout_of, image_part, other}
 use Rattle.oplog.specs.Log.{Log}
 use Rattle.oplog.specs.ChangeRecords.{records_of}
 use Rattle.oplog.specs.Recovery.{run, records_in}
 use Rattle.oplog.proofs.AfterCrash.{append_recovers, all_by_area}
-use Rattle.oplog.proofs.Kept.{run-append}
+use Rattle.oplog.proofs.SameRecovery.{run-append}
 use Rattle.meaning.specs.Step.{state_after_all, is_recorded, next_state, reply_to}
 use Rattle.meaning.specs.State.{State, IsState}
 
@@ -71,15 +64,6 @@ pub some_value : (o : Option State) → is_some o ≡ true → (x : State) × (o
 some_value None some = absurd (true≢false (sym some))
 some_value (Some x) some = (x, refl)
 
-current_below : (n : ℕ) (t : Bool) → n < 2 → cond t (other n) n < 2
-current_below n true is_area = omega arith
-current_below n false is_area = is_area
-
-pub half_below : (g : Geometry) (n h : ℕ) (x : Option State) (m : Medium) → AreBytes m.now → RecoversByArea g n h x m → h < 2
-half_below g n h x m are recovers =
-    let is_area = named_below g n h x m are recovers in
-    subst (λ (k : ℕ). k < 2) (recovers m.now (itself m.now m.unsynced are)).current (current_below n (eqb (chain (layout_of g) n m.now) 1) is_area)
-
 -- an extent that none of these messages touches stays; and what they make of a state of this geometry is one, too (`IsState`)
 one_stays : (g : Geometry) (x : State) (m : Msg) (n : ℕ) → IsState g x → may_change g m n ≡ false → extent_of g (next_state g x m) n ≡ extent_of g x n
 one_stays g x m zero is off = ap (λ (l : List ℕ). image_head 2 ++ l) (piece_stays 2 g x is m 0 off)
@@ -99,69 +83,6 @@ pub fresh_more : {g : Geometry} {x : State} → (ms : List Msg) (old new : List 
 fresh_more {g} {x} ms old new bytes is_state out touched fresh y is n few clean =
     let kept = (touched n few).0 clean in
     fresh x refl n few kept.0 ∙ sym (all_stay g x ms n is_state out kept.1) ∙ ap (λ (o : Option State). extent_of g (unwrap_or o x) n) is
-
--- the journal's facts, in the words of contracts
-pub recoverable_of : {log : Log} {snapshot : List ℕ} {named others pending a b : List Bool} {pieces_left : Option ℕ} {m : Medium}
-    → IsSoundJournal log snapshot named others pending pieces_left m → IsRecoverable (journal_view_of log a b pieces_left m)
-recoverable_of {log} {m} sound = record {
-  some = sound.some;
-  each = λ c gone. holds_by log.geometry log.named log.current (recovered_state log.geometry m.now) c (sound.recovers c gone);
-  same_records = sound.same_records;
-  room = λ none.
-      omega (arith, sound.count none, used_most (layout_of log.geometry) log.current log.used m sound.ready);
-}
-
--- what holds of a journal that hasn't failed
-module _ {D : Type 0} {medium : D → Medium} {keeps : Type 0} {j : Inside D} {self : JournalView} (kept : IsJournal medium keeps j) (view : journal_view medium j ≡ self)
-    (fine : self.failed ≡ false) where
-  pub sound_of : keeps → IsSoundJournal j.halves j.buffers.snapshot.items j.buffers.named_dirty.items j.buffers.other_dirty.items j.buffers.pending.items j.pieces_left (medium j.disk)
-  sound_of = kept.sound (ap (λ (h : JournalView). h.failed) view ∙ fine)
-
-  pub fits_of : FitsCutState j.halves j.buffers.pending.items j.pieces_left
-  fits_of = kept.fits_cut_state (ap (λ (h : JournalView). h.failed) view ∙ fine)
-
--- the buffers are as long as a tree of the journal's geometry asks
-pub fit_as : {D : Type 0} {medium : D → Medium} {keeps : Type 0} {j : Inside D} {self : JournalView} {g : Geometry} → IsJournal medium keeps j → journal_view medium j ≡ self
-    → g ≡ self.geometry → FitBuffers g j.buffers
-fit_as {j = j} kept view same = subst (λ (h : Geometry). FitBuffers h j.buffers) (ap (λ (h : JournalView). h.geometry) view ∙ sym same) kept.fit
-
--- what holds of a journal after a call in which the device failed
-pub failed_kept : {D : Type 0} {medium : D → Medium} {keeps : Type 0} {j : Inside D} {disk : D} {halves : Log} {buffers : Buffers} → IsJournal medium keeps j
-    → halves.geometry ≡ j.halves.geometry → halves.used ≡ j.halves.used → halves.failed ≡ true → length (medium disk).now ≡ length (medium j.disk).now → KeepsBuffers j.buffers buffers
-    → IsJournal medium keeps (record j { disk = disk; halves = halves; buffers = buffers })
-failed_kept {j} kept geometry used failed long same = record {
-  long_enough = omega (arith, kept.long_enough, long, ap (λ (g : Geometry). device_size (layout_of g)) geometry);
-  used = omega (arith, kept.used, used, ap (λ (g : Geometry). g.half) geometry);
-  fit = record {
-    snapshot = same.size ∙ kept.fit.snapshot ∙ sym (ap image_size geometry);
-    named_dirty = ap (λ (b : Buffers). length b.named_dirty.items) same.flags ∙ kept.fit.named_dirty ∙ sym (ap piece_count geometry);
-    other_dirty = ap (λ (b : Buffers). length b.other_dirty.items) same.flags ∙ kept.fit.other_dirty ∙ sym (ap piece_count geometry);
-    pending = ap (λ (b : Buffers). length b.pending.items) same.flags ∙ kept.fit.pending ∙ sym (ap piece_count geometry);
-  };
-  fits_cut_state = λ fine. absurd (true≢false (sym failed ∙ fine));
-  sound = λ fine k. absurd (true≢false (sym failed ∙ fine));
-  next_pending = omega (arith, kept.next_pending, ap (λ (b : Buffers). length b.pending.items) same.flags);
-  clean_before = subst (λ (b : Buffers). AreCleanBefore j.next_pending b.pending.items) (sym same.flags) kept.clean_before;
-}
-
-pub failed_view : (log log' : Log) {named others : List Bool} {pieces_left : Option ℕ} {m m' : Medium} {self : JournalView} → log'.geometry ≡ log.geometry → log'.used ≡ log.used
-    → log'.failed ≡ true → journal_view_of log named others pieces_left m ≡ self → journal_view_of log' named others pieces_left m' ≡ record self { failed = true; medium = m' }
-failed_view log log' {named} {others} {pieces_left} {m} {m'} geometry used failed view =
-    (λ i. record (journal_view_of log named others pieces_left m) { geometry = geometry i; room = (geometry i).half - used i; failed = failed i; medium = m' })
-    ∙ ap (λ (h : JournalView). record h { failed = true; medium = m' }) view
-
--- what a step leaves of the device, in the words of contracts
-pub still_of : {h self : JournalView} {w1 : Medium} → h ≡ self → RecoversStill h.geometry h.medium w1 → RecoversStill self.geometry self.medium w1
-still_of {w1} view = subst (λ (h : JournalView). RecoversStill h.geometry h.medium w1) view
-
-pub beyond_of : {h self : JournalView} {w1 : Medium} → h ≡ self → KeepsBeyond (layout_of h.geometry) h.medium w1 → KeepsBeyond (layout_of self.geometry) self.medium w1
-beyond_of {w1} view = subst (λ (h : JournalView). KeepsBeyond (layout_of h.geometry) h.medium w1) view
-
--- a journal is sound if one with an equal log, snapshot, flags and count of pieces left is
-pub sound_along : {log log' : Log} {snapshot snapshot' : List ℕ} {named named' others others' pending : List Bool} {pieces_left pieces_left' : Option ℕ} {m : Medium} → log' ≡ log
-    → snapshot' ≡ snapshot → named' ≡ named → others' ≡ others → pieces_left' ≡ pieces_left → IsSoundJournal log snapshot named others pending pieces_left m
-    → IsSoundJournal log' snapshot' named' others' pending pieces_left' m
-sound_along {pending} {m} log bytes row row' pieces_left sound = subst (λ (t : Type 0). t) (sym (λ i. IsSoundJournal (log i) (bytes i) (row i) (row' i) pending (pieces_left i) m)) sound
 
 -- what holds of a cut doesn't depend on how many records the log counts in the current half
 cut_used : (log : Log) (used : ℕ) (snapshot : List ℕ) (pending : List Bool) (pieces_left : Option ℕ) (m : Medium) → IsCutIfRunning log snapshot pending pieces_left m

@@ -7,7 +7,7 @@ use Rattle.std.proofs.lemmas.Option.{same_Some}
 use Rattle.std.specs.Io.KnownBytes.{Appends}
 use Rattle.std.specs.Fmt.{digits}
 use Rattle.std.specs.Str.{bytes_eq}
-use Rattle.affinity.proofs.Numbers.{small}
+use Rattle.affinity.proofs.GeometryLemmas.{small}
 use Rattle.affinity.specs.declared.geometry.Geometry.{Geometry}
 use Rattle.recovery.specs.declared.inspecting.Shown.{Shown}
 use Rattle.disk.specs.Device.{Medium}

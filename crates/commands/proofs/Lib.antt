@@ -1,10 +1,10 @@
 -- The lemmas of this crate: what is printed of a device, what a service on it did, and what a restart goes on from.
 mod ShownText
-mod OnDevice
-mod SentIsKept
+mod ServedDevice
+mod Acknowledged
 mod Promise
-mod Durable
+mod DurableLinearizability
 mod SameOutput
 mod Services
-mod CallEnds
+mod Exits
 mod Examples

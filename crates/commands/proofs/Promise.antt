@@ -10,8 +10,8 @@ use Rattle.recovery.specs.Recovery.{recovered_state}
 use Rattle.recovery.specs.Refusals.{IsRefused}
 use Rattle.recovery.specs.declared.fault.OpenFault.{OpenFault}
 use Rattle.recovery.specs.declared.fault.OpenFault.TheVariants as opening
-use Rattle.disk.proofs.Leaves.{synced_left}
-use Rattle.disk.proofs.Moments.{counts_now}
+use Rattle.disk.proofs.IsSynced.{synced_left}
+use Rattle.disk.proofs.CrashImagesAre.{counts_now}
 use Rattle.disk.specs.CrashImages.{AreBytes, IsCrashImage, left_since}
 use Rattle.disk.specs.Device.{IsSynced, Medium, moment_number}
 use Rattle.checkpoint.specs.Opening.{IsPastSync, OpeningCrashImages, RecoversAsBefore}
@@ -23,7 +23,7 @@ use Rattle.serving.proofs.RecoversWritten.{none_written, bytes_recover}
 use Rattle.serving.proofs.MaySend.{recovers_killed}
 use Rattle.serving.specs.Restart.{RecoversTo, BytesRecover, RecoversWritten}
 use Rattle.serving.specs.declared.server.ServeFault.{ServeFault}
-use Rattle.commands.proofs.SentIsKept.{all_then, keeps_acknowledged}
+use Rattle.commands.proofs.Acknowledged.{all_then, keeps_acknowledged}
 use Rattle.serving.specs.Exchange.{Exchange}
 use Rattle.commands.specs.Faults.{command_result}
 use Rattle.commands.specs.Acknowledged.{HoldsAcknowledged}

@@ -10,7 +10,7 @@ use Rattle.serving.specs.Restart.{IsClosedPart}
 use Rattle.commands.specs.Promise.{HoldsState, IsWritten}
 use Rattle.commands.specs.Restarts.{CrashedRun, HaveAgreed, IsRunOn, Returned}
 use Rattle.commands.specs.declared.faults.Fault.{Fault}
-use Rattle.commands.proofs.Durable.{has_all, leaves_none, run_on}
+use Rattle.commands.proofs.DurableLinearizability.{has_all, leaves_none, run_on}
 
 -- A service from this state that ended without a fault has answered its whole input, and what a crash left recovers to the state after it.
 module _ (g : Geometry) (recover : List ℕ → Option State) (start : State) (device : Medium) (run : CrashedRun)

@@ -1,7 +1,7 @@
 -- The sizes that definitions cite, and the map of a device of a small server: one volume of two stripes that hold two blocks each, and
 -- four records in a half.
 use Rattle.std.proofs.Common.{◌≡◌, refl}
-use Rattle.affinity.proofs.Numbers.{small}
+use Rattle.affinity.proofs.GeometryLemmas.{small}
 use Rattle.device_map.specs.Layout.{image_size, layout_of, part_at, device_size, half_part, image_part}
 use Rattle.device_map.specs.declared.layout.TheConstants.{HEADER_SIZE, ROOT_ZONE_SIZE, CHAIN_ZONE_SIZE, IMAGE_HEAD_SIZE, VOLUME_PIECE_SIZE, BLOCK_ENTRY_SIZE}
 

@@ -5,8 +5,9 @@ use Rattle.disk.specs.declared.fault.DiskFault.TheVariants.{OutOfRange, Device}
 use Rattle.disk.specs.CrashImages.{AreBytes, IsTornFrom, IsCrashImage, CrashImagesAre}
 use Rattle.disk.specs.Device.{Medium, SameOutside, moments, overlaid, synced, Reads, Writes, Syncs}
 use Rattle.disk.proofs.Overlays.{overlaid_outside}
-use Rattle.disk.proofs.Leaves.{itself, synced_left, put_back, undone, same_but_range}
-use Rattle.disk.proofs.Moments.{next, same, leaves_now}
+use Rattle.disk.proofs.IsTornFrom.{itself, put_back, undone, same_but_range}
+use Rattle.disk.proofs.IsSynced.{synced_left}
+use Rattle.disk.proofs.CrashImagesAre.{next, same, leaves_now}
 
 module _ (old mid new : Medium) (P : List ℕ → Type 0) (so_far : CrashImagesAre old mid P) where
   -- A read changes nothing, whatever it answers.

@@ -4,7 +4,7 @@ use Rattle.std.specs.List.{AllByRecursion}
 use Rattle.std.proofs.lemmas.List.Elements.{All-from_recursion}
 use Rattle.disk.specs.CrashImages.{AreBytes, IsTornFrom, left_since, torn_from}
 use Rattle.disk.specs.Device.{Medium, overlaid, marked, fresh_synced, written, synced, moment_number}
-use Rattle.disk.proofs.Moments.{bytes_since}
+use Rattle.disk.proofs.CrashImagesAre.{bytes_since}
 
 -- what is written past the end is left out
 over_the_middle : overlaid {X = ℕ} (1 ∷ 2 ∷ 3 ∷ 4 ∷ []) 1 (8 ∷ 9 ∷ []) ≡ 1 ∷ 8 ∷ 9 ∷ 4 ∷ []

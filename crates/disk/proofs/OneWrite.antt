@@ -6,8 +6,8 @@ use Rattle.disk.specs.declared.fault.DiskFault.TheVariants.{OutOfRange, Device}
 use Rattle.disk.specs.CrashImages.{AreBytes, CrashImagesAre, After}
 use Rattle.disk.specs.Device.{Medium, SameOutside, Writes}
 use Rattle.disk.proofs.Calls.{after_write}
-use Rattle.disk.proofs.Moments.{started}
-use Rattle.disk.proofs.Outside.{same_all}
+use Rattle.disk.proofs.CrashImagesAre.{started}
+use Rattle.disk.proofs.SameOutside.{same_all}
 use Rattle.disk.proofs.Overlays.{overlaid_outside, marked_outside}
 use Rattle.disk.specs.Store.{TouchesOnly}
 

@@ -3,7 +3,7 @@ use Rattle.std.proofs.Common.{◌≡◌, ◌⊎◌, ℕ, ◌+◌, ◌-◌, ◌�
 use Rattle.disk.specs.Device.{Medium, SameOutside, overlaid, marked, written}
 use Rattle.disk.specs.GhostDevice.{failed_write}
 use Rattle.disk.specs.Span.{HoldsUnsynced}
-use Rattle.disk.proofs.Outside.{covered, same_back, same_both, wider}
+use Rattle.disk.proofs.SameOutside.{covered, same_back, same_both, wider}
 use Rattle.disk.proofs.Overlays.{length-overlaid, overlaid_outside, marked_outside}
 
 -- A write of n bytes from `at` on: the range from a to e, outside which nothing is unsynced, grows to the one from b to f, which holds

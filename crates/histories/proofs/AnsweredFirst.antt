@@ -12,7 +12,8 @@ use Rattle.histories.specs.Crash.{IsLogAfter, in_doubt}
 use Rattle.histories.specs.IsSerialHistory.{ticket_replies}
 use Rattle.histories.proofs.Ways.{Passed, Way, nothing, Nothing, Logs, Answers, Points, Fails, ways}
 use Rattle.histories.proofs.SerialReplies.{ticket_replies-append}
-use Rattle.histories.proofs.Runs.{appended_is_recorded, recorded-append}
+use Rattle.histories.proofs.Runs.{appended_is_recorded}
+use Rattle.histories.proofs.Entries.{recorded-append}
 use Rattle.histories.proofs.Crashes.{legal_first, appended_first}
 
 -- What was logged before an event, and then what it logs, is the message that it answers, if any, and then what is logged after it.

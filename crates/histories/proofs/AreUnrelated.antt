@@ -1,38 +1,22 @@
 -- No two held messages are at related places: what a dispatch, a return and a log step do to them.
-use Rattle.std.proofs.Common.{◌≡◌, ℕ, ◌+◌, true, false, List, [], ◌∷◌, ◌++◌, Some, refl, ap, sym, ◌∙◌, subst, append_assoc, length, take, drop}
-use Rattle.std.specs.Prelude.{cond, filter, map, ◌&&◌, ◌==◌, not, nat_lt}
+use Rattle.std.proofs.Common.{◌≡◌, ℕ, ◌+◌, true, false, List, [], ◌∷◌, ◌++◌, Some, ap, sym, ◌∙◌, subst, append_assoc, length}
+use Rattle.std.specs.Prelude.{◌&&◌, ◌==◌, not, nat_lt}
 use Rattle.std.specs.List.{AllByRecursion, list_any}
 use Rattle.std.proofs.lemmas.Bool.{and_parts, not-true}
-use Rattle.std.proofs.lemmas.List.{length-append, length-map, take-append-drop}
+use Rattle.std.proofs.lemmas.List.{length-append, length-map}
 use Rattle.affinity.specs.declared.geometry.Geometry.{Geometry}
 use Rattle.affinity.proofs.Paths.{unrelated_turned}
 use Rattle.affinity.proofs.Elements.{all_weaker}
 use Rattle.protocol.specs.Messages.{path_of}
-use Rattle.protocol.specs.declared.messages.Msg.{Msg}
-use Rattle.meaning.specs.Step.{is_recorded, reply_to}
-use Rattle.histories.specs.CoreState.{Entry, Replied, CoreState, entry, entries, held, are_related_entries, AreUnrelated}
+use Rattle.meaning.specs.Step.{reply_to}
+use Rattle.histories.specs.CoreState.{Entry, CoreState, entry, entries, held, are_related_entries, AreUnrelated}
 use Rattle.histories.specs.Eligible.{is_conflict_free, has_room, is_eligible, next_eligible}
-use Rattle.histories.specs.Events.{recorded, grant, give_back, find_in_flight, log}
+use Rattle.histories.specs.Events.{grant, give_back, find_in_flight, log}
 use Rattle.histories.proofs.Lists.{all_none, before_push, before_moved, picked}
+use Rattle.histories.proofs.Entries.{entries-append, entries_split}
 
 pub apart_turned : (g : Geometry) (e d : Entry) → are_related_entries g e d ≡ false → are_related_entries g d e ≡ false
 apart_turned g e d h = unrelated_turned (path_of g e.1) (path_of g d.1) h
-
-pub entries-append : (as' bs : List Replied) → entries (as' ++ bs) ≡ entries as' ++ entries bs
-entries-append [] bs = refl
-entries-append (a ∷ as') bs = ap (λ l. entry a ∷ l) (entries-append as' bs)
-
-pub all_entries : (P : Entry → Type 0) (as' : List Replied) → AllByRecursion P (entries as') → AllByRecursion (λ a. P (entry a)) as'
-all_entries P [] h = tt
-all_entries P (a ∷ as') h = (h.0, all_entries P as' h.1)
-
--- what holds of each message that has a record holds of all recorded ones
-pub all_recorded : (P : Msg → Type 0) (as' : List Replied) → AllByRecursion (λ a. is_recorded a.1 a.2 ≡ true → P a.1) as' → AllByRecursion P (recorded as')
-all_recorded P [] h = tt
-all_recorded P (a ∷ as') h =
-    let k = all_recorded P as' h.1 in
-    elim (is_recorded a.1 a.2) as (λ b. is_recorded a.1 a.2 ≡ b → AllByRecursion P (map (λ (a : Replied). a.1)
-    (cond b (a ∷ filter (λ a. is_recorded a.1 a.2) as') (filter (λ a. is_recorded a.1 a.2) as')))) [ true ↦ λ e. (h.0 e, k) | false ↦ λ e. k ] refl
 
 pub length_held : (w : CoreState) → length (held w) ≡ length w.logged + (length w.ran + length w.in_flight)
 length_held w = length-append (entries w.logged) (entries w.ran ++ w.in_flight)
@@ -78,15 +62,6 @@ back_apart g w ticket found h apart =
     (append_assoc L R _ ∙ ap (λ l. L ++ l) (sym (append_assoc R (e ∷ []) (k.before ++ k.behind)) ∙
     (λ i. sym (entries-append w.ran ((e.0, e.1, reply_to g w.committed e.1) ∷ [])) i ++ sym k.rest i)))
     moved
-
--- The first n of those that ran may stand behind those that come before, or first among those that ran.
-pub entries_split : (past ran : List Replied) (rest : List Entry) (n : ℕ)
-    → entries (past ++ take n ran) ++ (entries (drop n ran) ++ rest) ≡ entries past ++ (entries ran ++ rest)
-entries_split past ran rest n =
-    ap (λ l. l ++ (entries (drop n ran) ++ rest)) (entries-append past (take n ran))
-    ∙ append_assoc (entries past) (entries (take n ran)) _
-    ∙ ap (λ l. entries past ++ l) (sym (append_assoc (entries (take n ran)) (entries (drop n ran)) rest)
-    ∙ ap (λ l. l ++ rest) (sym (entries-append (take n ran) (drop n ran)) ∙ ap entries (take-append-drop n ran)))
 
 -- A log step leaves the list of held messages as it is.
 pub log_held : (g : Geometry) (w : CoreState) (n : ℕ) → held (log g w n) ≡ held w

@@ -20,11 +20,13 @@ use Rattle.histories.specs.Runs.{IsLegal, end_state, logged_at, arrives, logged_
 use Rattle.histories.specs.IsSoundCoreState.{IsSoundCoreState}
 use Rattle.histories.specs.IsSerialHistory.{ticket_replies}
 use Rattle.histories.proofs.Lists.{picked, all_front, all_permuted, before_back, before_front, before_moved, before_one, before_past, before_push}
-use Rattle.histories.proofs.AreUnrelated.{apart_turned, entries-append, entries_split}
+use Rattle.histories.proofs.AreUnrelated.{apart_turned}
+use Rattle.histories.proofs.Entries.{entries-append, entries_split}
 use Rattle.histories.proofs.Ways.{Passed, Way, Arrives, Grants, Backs, Logs, ways}
-use Rattle.histories.proofs.SerialReplies.{serial_replies-append, IsIn, in_left, IsAsGood, good_itself, good_on, good_push, good_moved}
-use Rattle.histories.proofs.IsConflictFree.{earlier_free}
-use Rattle.histories.proofs.Sound.{event_sound}
+use Rattle.histories.proofs.SerialReplies.{serial_replies-append, IsAsGood, good_itself, good_on, good_push, good_moved}
+use Rattle.histories.proofs.Elements.{IsIn, in_left}
+use Rattle.histories.proofs.NextEligible.{earlier_free}
+use Rattle.histories.proofs.IsSoundCoreState.{event_sound}
 use Rattle.histories.proofs.Idle.{idle_sound, none_in_flight, none_ran, none_logged}
 use Rattle.histories.proofs.AnsweredFirst.{run_answers}
 use Rattle.histories.proofs.Runs.{run_follows}

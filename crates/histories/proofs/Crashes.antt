@@ -11,7 +11,8 @@ use Rattle.histories.specs.Runs.{IsLegal, end_state, logged_at, appended_message
 use Rattle.histories.specs.Crash.{in_doubt, IsLogAfter, IsLeftSince}
 use Rattle.histories.specs.IsSoundCoreState.{IsSoundCoreState}
 use Rattle.histories.proofs.SerialReplies.{state_after_all-joined}
-use Rattle.histories.proofs.Runs.{appended_is_recorded, recorded-append, run_appended}
+use Rattle.histories.proofs.Runs.{appended_is_recorded, run_appended}
+use Rattle.histories.proofs.Entries.{recorded-append}
 
 pub legal_first : (g : Geometry) (old : MachineState) (events : List Event) (k : ℕ) → IsLegal g old events → IsLegal g old (take k events)
 legal_first g old events zero legal = tt

@@ -16,7 +16,7 @@ use Rattle.histories.specs.Failures.{DoubtOnlyAfterFailure, DoubtIsPrefixOfRan}
 use Rattle.histories.proofs.Failures.{failure_lasts}
 use Rattle.histories.proofs.Lists.{first_few}
 use Rattle.histories.proofs.Ways.{Passed, Way, Fails, ways}
-use Rattle.histories.proofs.Sound.{event_doubts}
+use Rattle.histories.proofs.IsSoundCoreState.{event_doubts}
 
 -- ---- the changes among the first of those that ran
 

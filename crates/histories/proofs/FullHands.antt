@@ -1,15 +1,14 @@
 -- The number of messages in flight grows and falls with that of full hands.
-use Rattle.std.proofs.Common.{◌≡◌, ℕ, ◌+◌, ◌≤◌, Bool, false, List, [], ◌∷◌, Some, refl, ap, ◌∙◌, length, arith}
+use Rattle.std.proofs.Common.{◌≡◌, ℕ, ◌+◌, ◌≤◌, Bool, false, List, [], ◌∷◌, Some, refl, ap, length, arith}
 use Rattle.std.specs.Prelude.{not, cond, count_by, set, slice_get}
 use Rattle.std.proofs.lemmas.List.{length-append, nil_from_length}
 use Rattle.std.proofs.lemmas.List.Sums.{sum_by-set}
 use Rattle.std.proofs.lemmas.Option.{get_or_from_slice_get, slice_get_within}
 use Rattle.affinity.specs.declared.geometry.Geometry.{Geometry}
-use Rattle.histories.specs.Eligible.{pick}
 use Rattle.histories.specs.MachineState.{Hand, MachineState, Empty, Job, Result, is_empty, full_hands}
 use Rattle.histories.specs.Events.{Event, IsAllowed}
 use Rattle.histories.specs.Runs.{IsLegal, end_state}
-use Rattle.histories.proofs.Lists.{picked, sum_by-each}
+use Rattle.histories.proofs.Lists.{sum_by-each, length-picked}
 use Rattle.histories.proofs.Room.{at_most_one}
 use Rattle.histories.proofs.Ways.{Passed, Way, Grants, Runs, Backs, ways}
 
@@ -29,15 +28,6 @@ few_hands p none hands = sum_by-each _ _ fewer hands
     fewer Empty = let no = ap {B = ℕ} (λ b. cond b 1 0) none in omega (arith, no)
     fewer (Job ticket) = at_most_one (p (Job ticket))
     fewer (Result ticket) = at_most_one (p (Result ticket))
-
--- The list that `pick` leaves is shorter by one.
-pub length-picked : {A : Type 0} (p : A → Bool) (xs : List A) (found : A × List A) → pick p xs ≡ Some found
-    → length xs ≡ length found.1 + 1
-length-picked p xs found e =
-    let k = picked p xs found e in
-    let whole = ap length k.whole ∙ length-append k.before (found.0 ∷ k.behind) in
-    let rest = ap length k.rest ∙ length-append k.before k.behind in
-    omega (arith, whole, rest)
 
 -- The number of messages in flight has changed by as much as that of full hands.
 abbrev pub Tallies : MachineState → MachineState → Type 0

@@ -15,13 +15,14 @@ use Rattle.histories.specs.Events.{Event, IsAllowed, find_in_flight, give_back, 
 use Rattle.histories.specs.IsSoundCoreState.{IsSoundCoreState}
 use Rattle.histories.specs.Runs.{IsLegal, answered_at, answered_messages, end_state}
 use Rattle.histories.specs.Progress.{kept_back_by}
-use Rattle.histories.proofs.AreUnrelated.{entries-append, held_grant, log_held}
-use Rattle.histories.proofs.IsConflictFree.{all_at, goes_first}
+use Rattle.histories.proofs.Entries.{entries-append}
+use Rattle.histories.proofs.AreUnrelated.{held_grant, log_held}
+use Rattle.histories.proofs.Elements.{all_at, IsIn}
+use Rattle.histories.proofs.NextEligible.{goes_first}
 use Rattle.histories.proofs.Lists.{all_back, sum_by-picked}
 use Rattle.histories.proofs.Ways.{Passed, Way, Nothing, Arrives, Grants, Runs, Backs, Logs, Answers, Points, Fails, ways}
-use Rattle.histories.proofs.Progress.{not_less}
-use Rattle.histories.proofs.SerialReplies.{IsIn}
-use Rattle.histories.proofs.Sound.{event_sound}
+use Rattle.histories.proofs.CanGoOn.{not_less}
+use Rattle.histories.proofs.IsSoundCoreState.{event_sound}
 
 both_none : (a b : ℕ) → ((a == 0) && (b == 0)) ≡ ((a + b) == 0)
 both_none zero b = let same : b ≡ 0 + b = omega arith in ap (λ c. c && (b == 0)) (eq-eqb 0 0 refl) ∙ ap (λ n. n == 0) same

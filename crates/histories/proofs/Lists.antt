@@ -2,10 +2,11 @@
 use Rattle.std.proofs.Common.{◌≡◌, ℕ, zero, suc, ◌+◌, ◌≤◌, Bool, true, false, List, [], ◌∷◌, ◌++◌, Option, Some, None, refl, ap, sym, ◌∙◌, subst, length, take, arith}
 use Rattle.std.specs.Prelude.{◌||◌, if◌then◌else◌, option_map, is_some, IsPermutation, sum_by}
 use Rattle.std.specs.List.{AllByRecursion, list_any}
-use Rattle.std.proofs.lemmas.Bool.{or_parts, true≢false}
+use Rattle.std.proofs.lemmas.Bool.{or_parts, true≢false, false_from_ne_true}
 use Rattle.std.proofs.lemmas.List.Elements.{All-from_recursion, recursion_from_All}
 use Rattle.std.proofs.lemmas.List.Sorted.{All-permutation}
 use Rattle.std.proofs.lemmas.List.Sums.{sum_by-append, sum_by-cons}
+use Rattle.std.proofs.lemmas.List.{length-append}
 use Rattle.affinity.proofs.Elements.{all_join, all_weaker}
 use Rattle.histories.specs.Eligible.{pick}
 use Rattle.histories.specs.CoreState.{EachBefore}
@@ -165,3 +166,19 @@ sum_by-each f k h (x ∷ xs) =
     let more = sum_by-cons k x xs in
     let here = h x in
     omega (arith, rest, less, more, here)
+
+-- The list that `pick` leaves is shorter by one.
+pub length-picked : {A : Type 0} (p : A → Bool) (xs : List A) (found : A × List A) → pick p xs ≡ Some found
+    → length xs ≡ length found.1 + 1
+length-picked p xs found e =
+    let k = picked p xs found e in
+    let whole = ap length k.whole ∙ length-append k.before (found.0 ∷ k.behind) in
+    let rest = ap length k.rest ∙ length-append k.before k.behind in
+    omega (arith, whole, rest)
+
+-- what `pick` finds if the first element passes, and if it finds nothing
+pub pick_first : {A : Type 0} (p : A → Bool) (x : A) (xs : List A) → p x ≡ true → pick p (x ∷ xs) ≡ Some (x, xs)
+pick_first p x xs h = rw h refl
+
+pub pick_none : {A : Type 0} (p : A → Bool) (x : A) (xs : List A) → pick p (x ∷ xs) ≡ None → p x ≡ false
+pick_none p x xs h = false_from_ne_true (p x) (λ e. true≢false (ap is_some (sym (pick_first p x xs e) ∙ h)))

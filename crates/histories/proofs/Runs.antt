@@ -1,10 +1,8 @@
 -- The replies in a legal run, in log order, and the state that it commits.
 use Rattle.std.proofs.Common.{◌≡◌, Bool, true, false, List, [], ◌∷◌, ◌++◌, refl, ap, sym, ◌∙◌, take}
-use Rattle.std.specs.Prelude.{◌||◌, if◌then◌else◌, map, filter}
-use Rattle.std.proofs.lemmas.List.{map-append}
-use Rattle.std.proofs.lemmas.List.Elements.{filter-append}
+use Rattle.std.specs.Prelude.{◌||◌, if◌then◌else◌}
 use Rattle.affinity.specs.declared.geometry.Geometry.{Geometry}
-use Rattle.meaning.specs.Step.{state_after_all, is_recorded}
+use Rattle.meaning.specs.Step.{state_after_all}
 use Rattle.meaning.specs.Order.{serial_replies, messages_of}
 use Rattle.histories.specs.declared.outcomes.Step.{Step}
 use Rattle.histories.specs.declared.outcomes.Step.TheVariants as steps
@@ -14,10 +12,10 @@ use Rattle.histories.specs.Events.{Event, IsAllowed, batch, recorded}
 use Rattle.histories.specs.Runs.{IsLegal, end_state, logged_at, appended_at, logged_messages, appended_messages}
 use Rattle.histories.specs.IsSoundCoreState.{IsSoundCoreState}
 use Rattle.histories.specs.IsSerialHistory.{ticket_replies}
-use Rattle.histories.proofs.AreUnrelated.{entries-append}
 use Rattle.histories.proofs.Ways.{Passed, Way, Logs, ways}
 use Rattle.histories.proofs.SerialReplies.{state_after_all-append, state_after_all-joined, serial_replies-append, ticket_replies-append}
-use Rattle.histories.proofs.Sound.{row_of, event_sound}
+use Rattle.histories.proofs.IsSoundCoreState.{row_of, event_sound}
+use Rattle.histories.proofs.Entries.{recorded-append, entries-append}
 
 -- ---- what an event or a run logs
 
@@ -77,11 +75,6 @@ appends_recorded : (w : CoreState) (s : Step) (device_failed : Bool) → appende
 appends_recorded w (steps.Log k) device_failed = elim (device_failed || w.failed) as
     (λ b. (if b then [] else batch w k) ≡ recorded (if b then [] else take k w.ran)) [ true ↦ refl | false ↦ refl ]
 appends_recorded w _ device_failed = refl
-
-pub recorded-append : (as' bs : List Replied) → recorded (as' ++ bs) ≡ recorded as' ++ recorded bs
-recorded-append as' bs = ap (map (λ (a : Replied). a.1)) (filter-append (λ (a : Replied). is_recorded a.1 a.2) as' bs)
-    ∙ map-append (λ (a : Replied). a.1) (filter (λ (a : Replied). is_recorded a.1 a.2) as') (filter
-    (λ (a : Replied). is_recorded a.1 a.2) bs)
 
 -- What a run appends to the log is the changes that were carried out among the messages that it logs.
 pub appended_is_recorded : (old : MachineState) (events : List Event) → appended_messages old events ≡ recorded (logged_messages old events)

@@ -20,16 +20,16 @@ use Rattle.histories.specs.Runs.{IsLegal, answered_messages, arrived, appended_m
 use Rattle.histories.specs.Crash.{IsLogAfter, in_doubt}
 use Rattle.histories.specs.IsSerialHistory.{IsSerialHistory, ticket_replies}
 use Rattle.histories.proofs.AnsweredFirst.{run_in_order}
-use Rattle.histories.proofs.Runs.{recorded-append, appended_is_recorded, run_follows}
-use Rattle.histories.proofs.AreUnrelated.{all_entries, entries-append, entries_split}
+use Rattle.histories.proofs.Entries.{recorded-append, all_entries, entries-append, entries_split}
+use Rattle.histories.proofs.Runs.{appended_is_recorded, run_follows}
 use Rattle.histories.proofs.Arrivals.{arrivals_reordered, row, run_ascending}
 use Rattle.histories.proofs.Crashes.{legal_first, went_first}
 use Rattle.histories.proofs.Doubts.{crash_doubts_ran, first_doubts, no_doubts, run_doubts_ran}
-use Rattle.histories.proofs.Elements.{holds_of}
+use Rattle.histories.proofs.Elements.{holds_of, IsIn}
 use Rattle.histories.proofs.Idle.{idle_sound, none_logged}
 use Rattle.histories.proofs.Lists.{all_front, all_permuted, before_across, before_back, before_front, before_join}
-use Rattle.histories.proofs.Sound.{last_sound, row_of}
-use Rattle.histories.proofs.SerialReplies.{IsIn, ticket_replies-append, serial_replies-append}
+use Rattle.histories.proofs.IsSoundCoreState.{last_sound, row_of}
+use Rattle.histories.proofs.SerialReplies.{ticket_replies-append, serial_replies-append}
 
 -- ---- tickets
 

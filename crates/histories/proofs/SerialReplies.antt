@@ -1,5 +1,5 @@
 -- Lists of messages: their replies, and what stays where a message moves past unrelated ones.
-use Rattle.std.proofs.Common.{◌≡◌, ℕ, true, false, List, [], ◌∷◌, ◌++◌, refl, ap, sym, ◌∙◌, subst, map, ◌⊎◌, inl, inr, ⊎_elim}
+use Rattle.std.proofs.Common.{◌≡◌, ℕ, true, false, List, [], ◌∷◌, ◌++◌, refl, ap, sym, ◌∙◌, subst, map, inl, inr, ⊎_elim}
 use Rattle.std.specs.Prelude.{filter, cond}
 use Rattle.std.specs.List.{AllByRecursion}
 use Rattle.affinity.specs.declared.geometry.Geometry.{Geometry}
@@ -8,13 +8,14 @@ use Rattle.protocol.specs.declared.replies.Reply.{Reply}
 use Rattle.meaning.specs.State.{State}
 use Rattle.meaning.specs.Step.{reply_to, next_state, state_after_all, is_recorded}
 use Rattle.meaning.specs.Order.{serial_replies, messages_of}
-use Rattle.meaning.proofs.Frame.{commute, same_reply}
-use Rattle.meaning.proofs.Unchanged.{unrecorded_changes_nothing}
+use Rattle.meaning.proofs.Commute.{commute, same_reply}
+use Rattle.meaning.proofs.IsRecorded.{unrecorded_changes_nothing}
 use Rattle.histories.specs.CoreState.{Entry, Replied, entry, entries, are_related_entries, AreUnrelated}
 use Rattle.histories.specs.Events.{recorded}
 use Rattle.histories.specs.IsSoundCoreState.{HaveRepliesAt}
 use Rattle.histories.specs.IsSerialHistory.{ticket_replies}
 use Rattle.histories.proofs.AreUnrelated.{apart_turned}
+use Rattle.histories.proofs.Elements.{IsIn, in_left, in_right, in_either}
 
 -- ---- lists after one another
 
@@ -70,23 +71,6 @@ module _ (g : Geometry) where
       }
 
 -- ---- one list as good as another
-
-abbrev pub IsIn : {A : Type 0} → A → List A → Type 0
-IsIn a [] = ⊥
-IsIn a (b ∷ bs) = (a ≡ b) ⊎ IsIn a bs
-
-module _ {A : Type 0} (a : A) where
-  pub in_left : (bs cs : List A) → IsIn a bs → IsIn a (bs ++ cs)
-  in_left [] cs h = absurd h
-  in_left (b ∷ bs) cs h = ⊎_elim (λ e. inl e) (λ k. inr (in_left bs cs k)) h
-
-  pub in_right : (bs cs : List A) → IsIn a cs → IsIn a (bs ++ cs)
-  in_right [] cs h = h
-  in_right (b ∷ bs) cs h = inr (in_right bs cs h)
-
-  pub in_either : (bs cs : List A) → IsIn a (bs ++ cs) → IsIn a bs ⊎ IsIn a cs
-  in_either [] cs h = inr h
-  in_either (b ∷ bs) cs h = ⊎_elim (λ e. inl (inl e)) (λ k. ⊎_elim (λ l. inl (inr l)) (λ r. inr r) (in_either bs cs k)) h
 
 -- The list es leads to the state to which fs leads, and has each reply that fs has.
 pub record IsAsGood (g : Geometry) (x : State) (es fs : List Entry) : Type 0 where

@@ -22,7 +22,7 @@ use Rattle.stripe.specs.Stripe.{BlockEntry, content_at}
 use Rattle.stripe.proofs.EntryBytes.{entries_again}
 use Rattle.image.specs.Pieces.{has_volume, volume_piece_number, volume_piece, stripe_entries, entry_if, joined_below, label_bytes, label_in}
 use Rattle.image.specs.Image.{image_of, decoded_state, image_state, version_in, piece_in}
-use Rattle.image.proofs.Cuts.{volume_again, stripe_again}
+use Rattle.image.proofs.PieceIn.{volume_again, stripe_again}
 use Rattle.meaning.proofs.FileNumber.{number_small, bits_there}
 use Rattle.image.proofs.Measures.{entries_good, state_is_measured}
 

@@ -11,8 +11,8 @@ use Rattle.meaning.specs.State.{State, empty}
 use Rattle.stripe.specs.Entries.{stripe_bytes}
 use Rattle.stripe.specs.Stripe.{BlockEntry}
 use Rattle.image.specs.Pieces.{piece_size, piece_part_size, piece_of, part_piece, aggregate_of, volume_of, part_of, volume_piece_number, stripe_piece_number, has_volume, volume_piece, stripe_piece, stripe_entries, entry_if, joined_below, has_file_in, is_made_in, block_in, decoded_by}
-use Rattle.image.proofs.Numbers.{number_there}
-use Rattle.image.proofs.PiecesTakenIn.{first_of, zeros_of_volume, no_block_in_zeros}
+use Rattle.image.proofs.PieceNumbers.{number_there}
+use Rattle.image.proofs.DecodedBefore.{first_of, zeros_of_volume, no_block_in_zeros}
 
 no_entry_if : (p : Bool) (f b : ℕ) (o : Option Block) → entry_if (p && false) f b o ≡ []
 no_entry_if true f b o = refl

@@ -12,7 +12,7 @@ use Rattle.protocol.specs.Messages.{path_of}
 use Rattle.meaning.specs.State.{State}
 use Rattle.meaning.specs.Step.{reply_to, next_state, state_after_all}
 use Rattle.meaning.specs.Order.{serial_replies, messages_of, inserted_by_ticket, by_ticket, InOrderIfRelated, KeepsOrder, SameByTicket, AreInOrder}
-use Rattle.meaning.proofs.Frame.{commute}
+use Rattle.meaning.proofs.Commute.{commute}
 
 module _ {A : Type 0} (P : ℕ × A → Type 0) where
   all-put : (e : ℕ × A) (ds : List (ℕ × A)) → P e → AllByRecursion P ds → AllByRecursion P (inserted_by_ticket e ds)

@@ -2,7 +2,7 @@
 use Rattle.std.proofs.Common.{◌≡◌, ℕ, true, false, List, [], ◌∷◌, refl}
 use Rattle.std.specs.Prelude.{replicate}
 use Rattle.affinity.specs.Geometry.{default_geometry}
-use Rattle.affinity.proofs.Numbers.{small}
+use Rattle.affinity.proofs.GeometryLemmas.{small}
 use Rattle.affinity.specs.declared.geometry.Geometry.{Geometry}
 use Rattle.protocol.specs.declared.messages.Block.{Block}
 use Rattle.protocol.specs.declared.messages.Msg.{Msg}

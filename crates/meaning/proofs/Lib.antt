@@ -1,19 +1,19 @@
 -- Sums and counts, states that agree, what a step keeps, reads and changes, orders by ticket.
 pub mod Sums
 pub mod Counts
-pub mod Agree
+pub mod AgreeOn
 pub mod SubtreeLaws
-pub mod Kept
-pub mod Frame
+pub mod IsState
+pub mod Commute
 pub mod ByTicket
-pub mod Unchanged
+pub mod IsRecorded
 -- Lines and their output, and lines taken.
-mod LineLemmas
+mod FirstLine
 pub mod OutputLemmas
-pub mod LinesTaken
+pub mod TakesLines
 -- For the serial server: the keys of ordered maps, and the tests by kind.
 pub mod Keys
-pub mod ByKind
+pub mod ReadStep
 -- The files of a volume as a number.
 pub mod FileNumber
 pub mod FileBits

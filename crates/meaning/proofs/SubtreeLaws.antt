@@ -12,8 +12,8 @@ use Rattle.meaning.specs.State.{State}
 use Rattle.meaning.specs.Facts.{Fact, OfMade, OfSealed, OfLabel, OfFile, OfBlock, path_in_volume, value}
 use Rattle.meaning.specs.Subtrees.{AgreeOn, restricted, subtree, standing}
 use Rattle.meaning.specs.Commute.{outside, RunAlike}
-use Rattle.meaning.proofs.Agree.{agree_within, agree_everywhere, agree_either}
-use Rattle.meaning.proofs.Frame.{reads_only}
+use Rattle.meaning.proofs.AgreeOn.{agree_within, agree_everywhere, agree_either}
+use Rattle.meaning.proofs.Commute.{reads_only}
 
 -- ---- a part as a value: two states have the same part exactly where they agree on it
 

@@ -3,15 +3,16 @@ mod Examples
 mod Words
 mod Numbers
 mod Blocks
-mod Digits
+mod SpellsBytes
 mod DigitLoop
 mod GrammarByKind
 mod Keywords
 mod Zeros
-mod Assembly
+mod AppendsText
+mod FilesText
 mod WrittenParts
-pub mod NextLine
-pub mod Beginnings
+pub mod BufferedOutput
+pub mod AppendsBeginning
 mod Spells
 pub mod RecordLemmas
 mod ReaderLemmas

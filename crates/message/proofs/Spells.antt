@@ -18,7 +18,7 @@ use Rattle.protocol.specs.Grammar.{message_of, of_words, of_kind, of_volume, of_
 use Rattle.message.proofs.Words.{HasNoSpace, join-words, words-join}
 use Rattle.message.proofs.Numbers.{decimal-number, number-decimal, number_no_space}
 use Rattle.message.proofs.Blocks.{block_no_space, label_no_space}
-use Rattle.message.proofs.Digits.{block_says, says_block, label_says, says_label}
+use Rattle.message.proofs.SpellsBytes.{block_says, says_block, label_says, says_label}
 use Rattle.message.proofs.Keywords.{with_kind, its_keyword, keyword_names}
 
 abbrev AreSmall : List ℕ → Type 0

@@ -2,14 +2,14 @@
 use Rattle.std.proofs.Common.{◌≡◌, ◌≢◌, ◌<◌, ℕ, Bool, true, false, cond, eqb, List, [], get_or, Option, refl, ◌∙◌, sym, ap, subst, arith}
 use Rattle.std.proofs.lemmas.Bool.{ne_eqb}
 use Rattle.disk.specs.Device.{Medium, IsSynced}
-use Rattle.disk.proofs.Leaves.{synced_left}
-use Rattle.disk.proofs.Moments.{weaker}
+use Rattle.disk.proofs.IsSynced.{synced_left}
+use Rattle.disk.proofs.CrashImagesAre.{weaker}
 use Rattle.device_map.specs.Layout.{Layout, part_bytes, root_part, half_part, image_part, other}
 use Rattle.oplog.specs.HalfContent.{chain, front}
 use Rattle.oplog.specs.Recovery.{Decoding, named_area, current_of, run, recovers_by_area}
 use Rattle.oplog.specs.Changes.{IsSameBut, IsSameButChain, HasAppended}
 use Rattle.oplog.specs.Crash.{RecoversBy, CrashRecovers, AppendRecovers, AllRecover, ImageRecovers, ClearRecovers, ChainRecovers, ChainedRecovers, TornRootRecovers, FlipRecovers}
-use Rattle.oplog.proofs.Kept.{same_named, same_chain, grown_as, root_kept, half_kept, image_kept, chain_kept}
+use Rattle.oplog.proofs.SameRecovery.{same_named, same_chain, grown_as, root_kept, half_kept, image_kept, chain_kept}
 
 -- where the named half is the current one, its chain byte isn't 1
 pub no_chain_by : (n : ℕ) (t : Bool) → n < 2 → cond t (other n) n ≡ n → t ≡ false

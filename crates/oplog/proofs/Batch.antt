@@ -5,17 +5,18 @@ use Rattle.std.proofs.lemmas.List.{length-replicate}
 use Rattle.std.specs.List.{concat}
 use Rattle.disk.specs.CrashImages.{AreBytes, After}
 use Rattle.disk.specs.Device.{Medium, SameOutside, overlaid}
-use Rattle.disk.proofs.Leaves.{itself, synced_left, synced_range, range_kept}
+use Rattle.disk.proofs.IsTornFrom.{itself, range_kept}
+use Rattle.disk.proofs.IsSynced.{synced_left, synced_range}
 use Rattle.disk.proofs.Overlays.{range-overlaid, length-overlaid}
 use Rattle.device_map.specs.Layout.{Layout, slice, part_bytes, part_at, part_size, half_part, half_size, device_size}
 use Rattle.protocol.specs.declared.sizes.TheConstants.{RECORD_SIZE}
 use Rattle.oplog.specs.HalfContent.{gates_in, count_open}
 use Rattle.oplog.specs.Changes.{IsSameBut, HasAppended, HasAppendedPrefix, IsReady, HasAppendedAll}
 use Rattle.disk.specs.Store.{Stored}
-use Rattle.oplog.proofs.Slices.{within, slice_slice, same_but, same_but_both, half_sized, half_inside}
+use Rattle.oplog.proofs.PartLemmas.{within, slice_slice, same_but, same_but_both, half_sized, half_inside}
 use Rattle.oplog.proofs.RecordRows.{AreRows, length-concat}
 use Rattle.oplog.proofs.OneStore.{changed}
-use Rattle.oplog.proofs.InHalf.{HasMoreIn, body_at, bodies_written, gates_torn, gates_written, now_used, now_shut}
+use Rattle.oplog.proofs.HasMoreIn.{HasMoreIn, body_at, bodies_written, gates_torn, gates_written, now_used, now_shut}
 
 -- These records are added to half h behind k others. Places in the half count from its first byte.
 module _ (g : Layout) (h k : ℕ) (more : List (List ℕ)) (is_half : h < 2) (sized : AreRows more) (room : k + length more ≤ g.capacity) (w0 w1 : Medium)

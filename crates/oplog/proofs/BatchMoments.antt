@@ -3,12 +3,12 @@ use Rattle.std.proofs.Common.{◌≡◌, ℕ, ◌+◌, ◌<◌, ◌≤◌, List,
 use Rattle.std.specs.List.{concat}
 use Rattle.disk.specs.CrashImages.{AreBytes, CrashImagesAre, After}
 use Rattle.disk.specs.Device.{Medium, SameOutside}
-use Rattle.disk.proofs.Moments.{weaker, then}
+use Rattle.disk.proofs.CrashImagesAre.{weaker, then}
 use Rattle.device_map.specs.Layout.{Layout, part_at, half_part, device_size}
 use Rattle.disk.specs.Store.{Stored}
 use Rattle.oplog.specs.Changes.{HasAppendedPrefix, IsReady, HasAppendedAll}
 use Rattle.oplog.proofs.RecordRows.{AreRows}
-use Rattle.oplog.proofs.InHalf.{body_at}
+use Rattle.oplog.proofs.HasMoreIn.{body_at}
 use Rattle.oplog.proofs.Batch.{first, second, third}
 
 module _ (g : Layout) (h k : ℕ) (more : List (List ℕ)) (is_half : h < 2) (sized : AreRows more) (room : k + length more ≤ g.capacity) (w0 w1 : Medium)

@@ -3,14 +3,14 @@ use Rattle.std.proofs.Common.{◌≡◌, ℕ, zero, suc, ◌+◌, ◌≤◌, Lis
 use Rattle.std.proofs.lemmas.List.{append-nil, append_assoc, map-append, length-map, length-take-le, take-append-le, take-take, take-append-drop, drop-take, drop-drop}
 use Rattle.disk.specs.Device.{Medium}
 use Rattle.disk.specs.CrashImages.{CrashImagesAre}
-use Rattle.disk.proofs.Moments.{started, weaker, then}
+use Rattle.disk.proofs.CrashImagesAre.{started, weaker, then}
 use Rattle.protocol.specs.declared.messages.Msg.{Msg}
 use Rattle.message.specs.Records.{record_of}
 use Rattle.device_map.specs.Layout.{Layout, half_part}
 use Rattle.oplog.specs.HalfContent.{front}
 use Rattle.oplog.specs.Changes.{HasAppended, HasAppendedPrefix, IsReady, HasAppendedAll}
 use Rattle.oplog.specs.ChangeRecords.{records_of}
-use Rattle.oplog.proofs.Slices.{same_but_both, same_but_none}
+use Rattle.oplog.proofs.PartLemmas.{same_but_both, same_but_none}
 
 -- ---- lists
 

@@ -4,7 +4,7 @@ use Rattle.std.proofs.lemmas.List.{drop-drop}
 use Rattle.disk.specs.declared.fault.DiskFault.{DiskFault}
 use Rattle.disk.specs.Device.{Medium, SameOutside, Syncs, moments}
 use Rattle.disk.proofs.Calls.{after_sync}
-use Rattle.disk.proofs.Moments.{leaves_now, same, started, then, weaker}
+use Rattle.disk.proofs.CrashImagesAre.{leaves_now, same, started, then, weaker}
 use Rattle.oplog.specs.Beyond.{IsSameBeyond, KeepsBeyond}
 use Rattle.disk.specs.CrashImages.{CrashesChangeOnly}
 use Rattle.device_map.specs.Layout.{Layout, device_size}

@@ -2,7 +2,7 @@
 -- records in a half.
 use Rattle.std.proofs.Common.{◌≡◌, ℕ, zero, suc, ◌+◌, true, List, [], ◌∷◌, ◌++◌, length, take, get_or, replicate, Option, Some, None, refl, ap, subst, arith, length-append}
 use Rattle.disk.specs.Device.{Medium, fresh_synced}
-use Rattle.disk.proofs.Leaves.{synced_left}
+use Rattle.disk.proofs.IsSynced.{synced_left}
 use Rattle.device_map.specs.Layout.{Layout}
 use Rattle.oplog.specs.HalfContent.{count_open, front}
 use Rattle.oplog.specs.Changes.{HasAppendedPrefix}

@@ -2,21 +2,21 @@
 -- ---- (Ready, Batches); parts of a device, written and read (Slices, Reading); records as rows (RecordRows),
 -- ---- and which are bad (BadRecords); gates (Gates); a call that is known not to have failed (Answered).
 pub mod AfterCrash
-pub mod Kept
+pub mod SameRecovery
 pub mod Ready
-pub mod Slices
+pub mod PartLemmas
 pub mod PartsRead
 pub mod RecordRows
-pub mod BadRecords
-pub mod Answered
+pub mod ChangeRecords
+pub mod Results
 pub mod Beyond
 pub mod Gates
 -- ---- For this crate alone.
 mod Batches
 mod Batch
 mod BatchMoments
-mod Costs
+mod BatchCounts
 mod Examples
-mod InHalf
+mod HasMoreIn
 mod OneStore
 mod Staged

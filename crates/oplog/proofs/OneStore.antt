@@ -3,15 +3,15 @@ use Rattle.std.proofs.Common.{◌≡◌, ℕ, zero, suc, ◌+◌, ◌-◌, ◌<�
 use Rattle.std.proofs.lemmas.List.{length-replicate, take-take, drop-take, drop-replicate, get_or-take, get_or-drop, get_or-replicate}
 use Rattle.disk.specs.Device.{Medium, SameOutside}
 use Rattle.disk.specs.CrashImages.{CrashImagesAre, After}
-use Rattle.disk.proofs.Leaves.{synced_range}
-use Rattle.disk.proofs.Moments.{weaker}
-use Rattle.disk.proofs.Outside.{same_drop}
+use Rattle.disk.proofs.IsSynced.{synced_range}
+use Rattle.disk.proofs.CrashImagesAre.{weaker}
+use Rattle.disk.proofs.SameOutside.{same_drop}
 use Rattle.disk.proofs.Overlays.{overlaid_outside, range-overlaid, length-overlaid, item-overlaid}
 use Rattle.device_map.specs.Layout.{Layout, slice, part_bytes, part_at, part_size, half_part, root_part, device_size}
 use Rattle.oplog.specs.HalfContent.{count_open, gates}
 use Rattle.oplog.specs.Changes.{IsSameButChainAndGates, IsSameButChain, IsSameButRoot, Cleared, Chained, Flipped}
 use Rattle.disk.specs.Store.{Stored}
-use Rattle.oplog.proofs.Slices.{LiesIn, within, same_but, half_sized, half_inside}
+use Rattle.oplog.proofs.PartLemmas.{LiesIn, within, same_but, half_sized, half_inside}
 use Rattle.oplog.proofs.Gates.{open_none}
 
 -- a store changes bytes of its range alone

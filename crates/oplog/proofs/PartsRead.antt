@@ -3,7 +3,7 @@ use Rattle.std.proofs.Common.{◌≡◌, ℕ, ◌+◌, ◌-◌, ◌*◌, ◌<◌
 use Rattle.device_map.specs.Layout.{Layout, slice, part_bytes, part_at, part_size, half_part}
 use Rattle.protocol.specs.declared.sizes.TheConstants.{RECORD_SIZE}
 use Rattle.oplog.specs.HalfContent.{gates, front, count_open, record_at}
-use Rattle.oplog.proofs.Slices.{LiesIn, slice_slice, half_sized}
+use Rattle.oplog.proofs.PartLemmas.{LiesIn, slice_slice, half_sized}
 use Rattle.std.proofs.lemmas.List.{drop-drop}
 use Rattle.oplog.proofs.RecordRows.{length-rows, get_or-rows}
 

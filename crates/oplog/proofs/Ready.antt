@@ -3,13 +3,13 @@
 use Rattle.std.proofs.Common.{◌≡◌, ◌≢◌, ◌<◌, ◌≤◌, ℕ, Bool, true, false, cond, List, length, drop, sym, ◌∙◌, ap, subst, arith}
 use Rattle.std.proofs.lemmas.Bool.{eq-eqb}
 use Rattle.disk.specs.Device.{Medium, IsSynced}
-use Rattle.disk.proofs.Leaves.{synced_range}
+use Rattle.disk.proofs.IsSynced.{synced_range}
 use Rattle.device_map.specs.Layout.{Layout, layout_of, part_at, part_size, half_part, other, device_size}
 use Rattle.oplog.specs.HalfContent.{count_open, gates_in}
 use Rattle.oplog.specs.Changes.{IsSameBut, IsReady, Cleared, Chained, Flipped}
 use Rattle.oplog.specs.Log.{Log, chained, flipped}
 use Rattle.disk.specs.Store.{TouchesOnly}
-use Rattle.oplog.proofs.Slices.{LiesIn, half_sized, half_inside, other_part}
+use Rattle.oplog.proofs.PartLemmas.{LiesIn, half_sized, half_inside, other_part}
 
 pub ready_kept : {g : Layout} {h k p : ℕ} {w w' : Medium} → h < 2 → half_part h ≢ p → device_size g ≤ length w'.now → IsReady g h k w
     → IsSameBut g p w.now w'.now → IsSynced w' → IsReady g h k w'

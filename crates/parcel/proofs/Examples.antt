@@ -2,7 +2,7 @@
 use Rattle.std.proofs.Common.{◌≡◌, zero, suc, true, false, List, [], ◌∷◌, ◌++◌, replicate, Option, refl, sym, ap, arith}
 use Rattle.std.specs.Prelude.{None, Some, is_some}
 use Rattle.std.proofs.lemmas.Bool.{true≢false}
-use Rattle.affinity.proofs.Numbers.{small}
+use Rattle.affinity.proofs.GeometryLemmas.{small}
 use Rattle.affinity.specs.Path.{Path, are_related, IsPath}
 use Rattle.parcel.specs.Nodes.{Node, Nodes, children_nodes, put_at}
 use Rattle.parcel.specs.Nodes.Node.{Inner, VolumeFlags, Files, StripeBlocks, LabelBytes}

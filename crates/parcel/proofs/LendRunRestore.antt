@@ -15,7 +15,7 @@ use Rattle.parcel.specs.Tree.{IsIn, IsOut, LendsAt, RestoresAt}
 use Rattle.parcel.specs.declared.job.Done.{Done}
 use Rattle.parcel.specs.declared.parts.Parcels.{Parcels}
 use Rattle.parcel.specs.declared.parts.Standing.{Standing}
-use Rattle.parcel.proofs.Holding.{ran_goes_back}
+use Rattle.parcel.proofs.TreeHolds.{ran_goes_back}
 use Rattle.parcel.proofs.SerialRuns.{served_step, served_is_in, served_state}
 use Rattle.meaning.specs.State.{IsState}
 use Rattle.affinity.proofs.Preorder.{path_unique}

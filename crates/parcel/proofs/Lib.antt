@@ -1,22 +1,22 @@
 -- ---- for the crates above: what comes back from a run fits where it was lent, and how a tree agrees with the serial server's state
 -- while parcels are out
 pub mod RunFits
-pub mod Holding
-pub mod Lending
+pub mod TreeHolds
+pub mod LendsAndRestores
 pub mod SerialRuns
 -- ---- this crate's own
 mod ChildRows
 mod Whole
 mod Slots
-mod TakenPut
+mod TakesAndPuts
 mod VolumeWritten
 mod Shows
-mod Leaving
+mod TreeState
 mod LendRunRestore
 mod NewTree
 mod Examples
 mod OneVolume
-mod GroupCounts
+mod StripeCounts
 mod StripeRows
 mod StripeTotals
 mod Totals
@@ -24,5 +24,5 @@ mod VolumeRows
 mod PieceBytes
 mod VolumePieces
 mod StripePieces
-mod PieceParts
+mod ReadPieces
 mod PiecesTaken

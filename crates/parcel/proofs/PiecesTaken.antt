@@ -11,7 +11,7 @@ use Rattle.meaning.specs.Commute.{outside}
 use Rattle.meaning.specs.Facts.{OfMade, OfSealed, OfLabel, OfFile, OfBlock}
 use Rattle.meaning.specs.Subtrees.{AgreeOn}
 use Rattle.meaning.specs.State.{State, IsState}
-use Rattle.meaning.proofs.Agree.{agree-sym, agree-trans}
+use Rattle.meaning.proofs.AgreeOn.{agree-sym, agree-trans}
 use Rattle.meaning.proofs.SubtreeLaws.{agree_in_and_out}
 use Rattle.meaning.proofs.FileBits.{has_none}
 use Rattle.image.specs.Pieces.{part_piece, piece_part_size, with_part, is_made_in, is_sealed_in, has_file_in, label_in as decoded_label_in, block_in}
@@ -26,9 +26,9 @@ use Rattle.parcel.specs.declared.parts.Logical.{Logical}
 use Rattle.parcel.specs.declared.parts.Root.{Root}
 use Rattle.parcel.specs.declared.parts.Vol.{Vol}
 use Rattle.parcel.specs.declared.parts.Parcels.TheVariants as parcels
-use Rattle.parcel.proofs.Leaving.{put_leaves, put_outside}
-use Rattle.parcel.proofs.Lending.{begins_split, put_there, restored_is_in}
-use Rattle.parcel.proofs.PieceParts.{has_volume, state_there}
+use Rattle.parcel.proofs.TreeState.{put_leaves, put_outside}
+use Rattle.parcel.proofs.LendsAndRestores.{begins_split, put_there, restored_is_in}
+use Rattle.parcel.proofs.ReadPieces.{has_volume, state_there}
 use Rattle.parcel.proofs.StripePieces.{stripe_is_piece, stripe_state}
 use Rattle.parcel.proofs.Slots.{volume_slot}
 use Rattle.parcel.proofs.VolumePieces.{volume_decoded, volume_state}

@@ -20,7 +20,7 @@ use Rattle.parcel.specs.declared.parts.Vol.{Vol}
 use Rattle.parcel.specs.declared.parts.Parcels.{Parcels}
 use Rattle.parcel.specs.declared.parts.Parcels.TheVariants as parcels
 use Rattle.parcel.specs.declared.parts.Standing.{Standing}
-use Rattle.parcel.proofs.Leaving.{node_value, tree_value}
+use Rattle.parcel.proofs.TreeState.{node_value, tree_value}
 use Rattle.affinity.proofs.Paths.{related_first, related_rest}
 use Rattle.meaning.proofs.FileBits.{has_none}
 

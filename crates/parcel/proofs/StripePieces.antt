@@ -16,11 +16,11 @@ use Rattle.stripe.specs.Entries.{entry_bytes, entries_in, stripe_bytes, fits_str
 use Rattle.stripe.specs.Stripe.{BlockEntry, StripePart, content_at, IsAscending}
 use Rattle.stripe.proofs.EntryBytes.{IsSpellable, length-entries, entries_again}
 use Rattle.image.specs.Pieces.{stripe_piece, stripe_entries, entry_if, with_stripe_piece}
-use Rattle.image.proofs.Counted.{entries_are_blocks, entries_few, content_is, content_of, few_of_stripe}
+use Rattle.image.proofs.EntryCounts.{entries_are_blocks, entries_few, content_is, content_of, few_of_stripe}
 use Rattle.image.proofs.Measures.{all_joined}
-use Rattle.image.proofs.Order.{entries_ascend, spelled as stripe_spelled}
+use Rattle.image.proofs.EntryOrder.{entries_ascend, spelled as stripe_spelled}
 use Rattle.parcel.specs.Fits.{FitsStripe}
-use Rattle.parcel.proofs.GroupCounts.{Lies, lies_first, lies_behind}
+use Rattle.parcel.proofs.StripeCounts.{Lies, lies_first, lies_behind}
 
 -- ---- from the tree
 

@@ -10,7 +10,7 @@ use Rattle.parcel.specs.Shown.{blocks_in, blocks_of}
 use Rattle.stripe.specs.Stripe.{StripePart, StripeRule}
 use Rattle.parcel.specs.Totals.{entry_count, block_total, totals_of, sum_totals}
 use Rattle.parcel.specs.Volume.{no_facts, state_with}
-use Rattle.parcel.proofs.GroupCounts.{count_is_length, count_is_none}
+use Rattle.parcel.proofs.StripeCounts.{count_is_length, count_is_none}
 
 -- a state in which each volume has these blocks
 abbrev pub holding : (ℕ → ℕ → Option Block) → State

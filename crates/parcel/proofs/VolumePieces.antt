@@ -26,7 +26,7 @@ use Rattle.parcel.specs.declared.parts.Logical.{Logical}
 use Rattle.parcel.specs.declared.parts.Vol.{Vol}
 use Rattle.parcel.specs.declared.pieces.volumes.VolumePiece.{VolumePiece}
 use Rattle.meaning.proofs.FileNumber.{sum_bits, bits_back}
-use Rattle.image.proofs.Decoded.{label_is}
+use Rattle.image.proofs.DecodedBy.{label_is}
 use Rattle.image.proofs.ReadImage.{eight_bytes}
 
 -- ---- what is spelled

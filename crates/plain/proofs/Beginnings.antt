@@ -8,7 +8,7 @@ use Rattle.affinity.specs.declared.geometry.Geometry.{Geometry}
 use Rattle.protocol.specs.Lines.{lines}
 use Rattle.message.specs.BufferedOutput.{all_output}
 use Rattle.message.specs.AppendsBeginning.{AppendsBeginning}
-use Rattle.message.proofs.Beginnings.{begins_all, begins_longer}
+use Rattle.message.proofs.AppendsBeginning.{begins_all, begins_longer}
 use Rattle.meaning.specs.State.{State}
 use Rattle.meaning.specs.Output.{AnswersWholeLines, HasNoNewline, IsBeginning, WritesOutput, joined, output_lines, serial_output, with_newlines}
 use Rattle.meaning.proofs.OutputLemmas.{begins_whole, take-output_lines}

@@ -14,7 +14,7 @@ use Rattle.meaning.specs.State.{State}
 use Rattle.meaning.specs.Output.{answer_line, state_after_line, state_after_lines, output_lines, joined, serial_output, with_newlines, AnswersWholeLines, IsBeginning, WritesOutput}
 use Rattle.meaning.specs.Progress.{HasAnswered}
 use Rattle.meaning.proofs.OutputLemmas.{state_after_lines-append, joined-one_more, take-output_lines}
-use Rattle.meaning.proofs.LinesTaken.{takes_nothing, takes_line, takes_long_line}
+use Rattle.meaning.proofs.TakesLines.{takes_nothing, takes_line, takes_long_line}
 
 appends_more : (a b c : Option (List ℕ)) (xs : List ℕ) → Appends a b xs → Appends b c [] → Appends a c xs
 appends_more a b c xs h j = subst (λ (z : List ℕ). Appends a c z) (append-nil xs) (Appends-trans a b c xs [] h j)

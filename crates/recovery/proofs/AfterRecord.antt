@@ -22,7 +22,7 @@ use Rattle.oplog.specs.declared.halves.LogFault.{LogFault}
 use Rattle.oplog.specs.declared.halves.LogFault.TheVariants.{Device, BadRecord}
 use Rattle.oplog.specs.Log.{NamesRecord, IsOfRecord}
 use Rattle.oplog.specs.ChangeRecords.{IsChangeInRange, IsNoChangeRecord}
-use Rattle.oplog.proofs.BadRecords.{no_record_says_none}
+use Rattle.oplog.proofs.ChangeRecords.{no_record_says_none}
 use Rattle.meaning.specs.Step.{is_done, is_recorded, next_state, reply_to}
 use Rattle.meaning.specs.State.{State}
 

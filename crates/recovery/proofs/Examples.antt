@@ -3,7 +3,7 @@
 use Rattle.std.proofs.Common.{◌≡◌, ℕ, ◌+◌, ◌%◌, List, ◌∷◌, ◌++◌, take, drop, get_or, replicate, Option, Some, None, [], refl, ap, arith, lit≤}
 use Rattle.affinity.specs.declared.geometry.Geometry.{Geometry}
 use Rattle.affinity.specs.Geometry.{default_geometry}
-use Rattle.affinity.proofs.Numbers.{geometry_of, small}
+use Rattle.affinity.proofs.GeometryLemmas.{geometry_of, small}
 use Rattle.recovery.specs.declared.fault.OpenFault.{OpenFault}
 use Rattle.recovery.specs.declared.fault.OpenFault.TheVariants.{TooShort, BadVersion, BadPiece, BadChain, BadRecord}
 use Rattle.recovery.specs.Header.{header_of}

@@ -9,8 +9,8 @@ use Rattle.recovery.proofs.LaidOut.{IsAllButFormatByte, headed, headed_kept, hol
 use Rattle.recovery.proofs.Unformatted.{shut_unformatted, still_shut}
 use Rattle.disk.specs.Device.{Medium, SameOutside}
 use Rattle.disk.specs.CrashImages.{IsCrashImage, CrashImagesAre, CrashesChangeOnly}
-use Rattle.disk.proofs.Leaves.{synced_left}
-use Rattle.disk.proofs.Moments.{then, weaker}
+use Rattle.disk.proofs.IsSynced.{synced_left}
+use Rattle.disk.proofs.CrashImagesAre.{then, weaker}
 use Rattle.disk.proofs.Overlays.{item-overlaid, length-overlaid, overlaid_outside}
 use Rattle.disk.specs.Store.{Stored}
 use Rattle.device_map.specs.Layout.{device_size, layout_of}

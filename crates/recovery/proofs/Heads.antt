@@ -11,7 +11,7 @@ use Rattle.recovery.specs.Header.{header_of, magic}
 use Rattle.image.specs.Image.{has_head, image_head, is_version, version_in}
 use Rattle.recovery.proofs.LaidOut.{image_some}
 use Rattle.device_map.specs.Layout.{image_part, layout_of, part_bytes, part_at, part_size, slice}
-use Rattle.oplog.proofs.Slices.{image_sized}
+use Rattle.oplog.proofs.PartLemmas.{image_sized}
 
 -- ---- a header
 

@@ -9,19 +9,19 @@ use Rattle.recovery.specs.Formatting.{HasBytesAt, IsAllButHeader, HasNoFormatByt
 use Rattle.recovery.specs.Header.{header_of, is_header}
 use Rattle.recovery.specs.Recovery.{recovered_state, decoding}
 use Rattle.recovery.specs.Version.{named_version}
-use Rattle.recovery.proofs.Blank.{empty_spelled}
+use Rattle.recovery.proofs.EmptyImage.{empty_spelled}
 use Rattle.disk.specs.Device.{SameOutside, overlaid}
-use Rattle.disk.proofs.Outside.{same_before, same_behind}
+use Rattle.disk.proofs.SameOutside.{same_before, same_behind}
 use Rattle.disk.proofs.Overlays.{overlaid_outside, length-overlaid, range-overlaid}
 use Rattle.image.specs.Image.{image_of, image_state, version_in}
 use Rattle.image.proofs.ReadImage.{read_again}
-use Rattle.oplog.proofs.Slices.{nothing_over, slice_slice}
+use Rattle.oplog.proofs.PartLemmas.{nothing_over, slice_slice}
 use Rattle.oplog.specs.HalfContent.{chain, front, gates, count_open, rows}
 use Rattle.device_map.specs.Layout.{Layout, slice, layout_of, part_bytes, part_at, device_size, half_part, half_size, header_part, image_part, image_size}
 use Rattle.protocol.specs.declared.sizes.TheConstants.{RECORD_SIZE}
 use Rattle.oplog.specs.Recovery.{named_area, in_force, is_laid_out, run, recovers_by_area}
 use Rattle.meaning.specs.State.{State, empty}
-use Rattle.meaning.proofs.Kept.{empty_is_state}
+use Rattle.meaning.proofs.IsState.{empty_is_state}
 use Rattle.oplog.proofs.Gates.{open_none}
 
 -- What an empty device needs besides its first byte, the format byte.

@@ -8,15 +8,15 @@ use Rattle.recovery.specs.Loading.{are_both_chained}
 use Rattle.recovery.specs.OpenFaults.{image_fault}
 use Rattle.recovery.specs.Recovery.{recovered_state, decoding}
 use Rattle.recovery.specs.Refusals.{refused}
-use Rattle.recovery.proofs.BadRecordBehind.{image_fine}
+use Rattle.recovery.proofs.NamedHolds.{image_fine}
 use Rattle.recovery.proofs.OneGeometry.{laid_where}
-use Rattle.recovery.proofs.Refused.{in_force_fault, alone_sound, both_sound, not_refused}
+use Rattle.recovery.proofs.Refusals.{in_force_fault, alone_sound, both_sound, not_refused}
 use Rattle.disk.specs.CrashImages.{AreBytes}
 use Rattle.image.specs.Image.{image_state}
 use Rattle.oplog.specs.HalfContent.{chain, front}
 use Rattle.device_map.specs.Layout.{Layout, layout_of, device_size, header_part, image_part, other, part_bytes}
 use Rattle.oplog.specs.Recovery.{in_force, is_laid_out, named_area, run}
-use Rattle.oplog.proofs.Kept.{named_area-below, run-append}
+use Rattle.oplog.proofs.SameRecovery.{named_area-below, run-append}
 use Rattle.meaning.specs.State.{State}
 
 -- Records lead to a state only from a state.

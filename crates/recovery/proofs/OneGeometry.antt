@@ -3,7 +3,7 @@ use Rattle.std.proofs.Common.{◌≡◌, ◌&&◌, nat_le, length, ℕ, zero, su
 use Rattle.std.proofs.lemmas.Slice.Eq.{bytes_eq-Decides}
 use Rattle.affinity.specs.declared.geometry.Geometry.{Geometry}
 use Rattle.affinity.specs.Geometry.{numbers_of}
-use Rattle.affinity.proofs.Numbers.{geometry_same}
+use Rattle.affinity.proofs.GeometryLemmas.{geometry_same}
 use Rattle.byteorder.specs.Endian.{IsRead, little_number}
 use Rattle.recovery.specs.Header.{HasHeader, header_of, is_header}
 use Rattle.recovery.specs.Recovery.{recovered_state, decoding}

@@ -6,9 +6,10 @@ use Rattle.recovery.specs.Formatting.{HasNoFormatByte, StaysUnformatted}
 use Rattle.recovery.specs.Refusals.{IsUnformatted}
 use Rattle.disk.specs.CrashImages.{AreBytes, IsCrashImage, CrashImagesAre, CrashesChangeOnly}
 use Rattle.disk.specs.Device.{Medium, IsSynced, SameOutside, synced}
-use Rattle.disk.proofs.Leaves.{synced_left, itself}
-use Rattle.disk.proofs.Moments.{started, then, weaker}
-use Rattle.disk.proofs.Outside.{same_item}
+use Rattle.disk.proofs.IsSynced.{synced_left}
+use Rattle.disk.proofs.IsTornFrom.{itself}
+use Rattle.disk.proofs.CrashImagesAre.{started, then, weaker}
+use Rattle.disk.proofs.SameOutside.{same_item}
 use Rattle.disk.proofs.Overlays.{item-overlaid, length-overlaid}
 use Rattle.disk.specs.Store.{Stored}
 

@@ -1,6 +1,6 @@
 -- Worked examples of the definitions, with the affinities of a small server: one volume of two stripes.
 use Rattle.std.proofs.Common.{◌≡◌, ℕ, Bool, true, false, [], ◌∷◌, Some, None, refl}
-use Rattle.affinity.proofs.Numbers.{small}
+use Rattle.affinity.proofs.GeometryLemmas.{small}
 use Rattle.affinity.specs.Interval.{interval}
 use Rattle.affinity.specs.Path.{Path, serial, volume, logical, stripe, label}
 use Rattle.run_queue.specs.RunQueue.{are_related_intervals, next_queued, without_slot, without_number, holds_at}

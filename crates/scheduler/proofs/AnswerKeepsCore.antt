@@ -10,11 +10,11 @@ use Rattle.affinity.proofs.Preorder.{are_related-contains}
 use Rattle.affinity.specs.Interval.{contains}
 use Rattle.affinity.specs.declared.geometry.Geometry.{Geometry}
 use Rattle.histories.proofs.Lists.{all_back, all_front}
-use Rattle.histories.proofs.Sound.{answer_sound}
+use Rattle.histories.proofs.IsSoundCoreState.{answer_sound}
 use Rattle.histories.specs.CoreState.{entries, are_related_entries, AreUnrelated}
 use Rattle.protocol.specs.Messages.{path_of}
 use Rattle.scheduler.proofs.UnloggedChanges.{AreClaimed, HasHeld}
-use Rattle.scheduler.proofs.Tests.{any_answered, any_filter}
+use Rattle.scheduler.proofs.HeldAny.{any_answered, any_filter}
 use Rattle.scheduler.specs.Parts.{IsCore, Parts, core_state_in}
 use Rattle.scheduler.specs.Slots.{SlotView, IsPlaced, entry_of, replied_of, queued_of}
 use Rattle.run_queue.specs.RunQueue.{has_number, without_number}

@@ -2,7 +2,7 @@
 use Rattle.std.proofs.Common.{◌≡◌, ℕ, suc, ◌+◌, ◌<◌, [], ◌∷◌, ◌++◌, map, length, ap, sym, subst, ◌∙◌, arith}
 use Rattle.std.proofs.lemmas.List.{length-append, map-append}
 use Rattle.affinity.proofs.Elements.{all_join}
-use Rattle.histories.proofs.Sound.{arrive_sound}
+use Rattle.histories.proofs.IsSoundCoreState.{arrive_sound}
 use Rattle.histories.specs.IsSoundCoreState.{IsSoundCoreState}
 use Rattle.histories.specs.CoreState.{held}
 use Rattle.scheduler.proofs.UnloggedChanges.{AreClaimed, messages_counted}

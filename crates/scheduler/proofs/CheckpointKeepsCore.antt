@@ -17,7 +17,7 @@ use Rattle.histories.specs.declared.outcomes.PointRefusal.{PointRefusal}
 use Rattle.histories.specs.declared.outcomes.PointRefusal.TheVariants as points
 use Rattle.histories.specs.declared.outcomes.Step.TheVariants as steps
 use Rattle.oplog.specs.declared.halves.LogFault.{LogFault}
-use Rattle.parcel.proofs.Holding.{whole_holds}
+use Rattle.parcel.proofs.TreeHolds.{whole_holds}
 use Rattle.parcel.specs.TreeHolds.{TreeHolds, nowhere}
 use Rattle.parcel.specs.Tree.{IsIn, IsWholeTree, tree_nodes, state_in}
 use Rattle.parcel.specs.Nodes.{tree_state}

@@ -7,7 +7,7 @@ use Rattle.std.proofs.lemmas.List.{length-append, map-append}
 use Rattle.std.proofs.lemmas.List.Elements.{filter-append}
 use Rattle.affinity.proofs.Elements.{all_join}
 use Rattle.histories.proofs.Lists.{all_back, all_front, all_without}
-use Rattle.histories.proofs.Sound.{grant_sound}
+use Rattle.histories.proofs.IsSoundCoreState.{grant_sound}
 use Rattle.histories.specs.Eligible.{next_eligible, unlogged_changes}
 use Rattle.histories.specs.Events.{grant}
 use Rattle.histories.specs.IsSoundCoreState.{IsSoundCoreState}
@@ -18,7 +18,7 @@ use Rattle.parcel.specs.Tree.{LendsAt, TreeView, tree_nodes}
 use Rattle.parcel.specs.declared.parts.Parcels.{Parcels}
 use Rattle.parcel.specs.declared.parts.Standing.{Standing}
 use Rattle.scheduler.proofs.UnloggedChanges.{AreClaimed, HasHeld, changing, changing-append, changing-cons, unlogged_of, one_for}
-use Rattle.scheduler.proofs.Tests.{any_granted}
+use Rattle.scheduler.proofs.HeldAny.{any_granted}
 use Rattle.scheduler.proofs.Trees.{grant_tree}
 use Rattle.scheduler.specs.Parts.{IsCore, Parts, is_below, reached, core_state_in}
 use Rattle.scheduler.specs.Slots.{SlotView, IsPlaced, entry_of, queued_of}

@@ -4,7 +4,7 @@ use Rattle.std.specs.Prelude.{cond, map}
 use Rattle.std.specs.List.{AllByRecursion}
 use Rattle.std.proofs.lemmas.List.{map-append, take_more, take_more_set}
 use Rattle.affinity.specs.declared.geometry.Geometry.{Geometry}
-use Rattle.disk.proofs.Moments.{only_now}
+use Rattle.disk.proofs.CrashImagesAre.{only_now}
 use Rattle.disk.specs.CrashImages.{IsCrashImage, left_since}
 use Rattle.disk.specs.Device.{Medium, moment_number}
 use Rattle.checkpoint.specs.Journal.{RecoversWithPrefix}
@@ -13,7 +13,7 @@ use Rattle.histories.proofs.Crashes.{left_is_committed}
 use Rattle.histories.proofs.Elements.{contains_in, in_contained}
 use Rattle.histories.proofs.IsJoined.{runs_join}
 use Rattle.histories.proofs.Runs.{run_follows}
-use Rattle.histories.proofs.Sound.{run_sound}
+use Rattle.histories.proofs.IsSoundCoreState.{run_sound}
 use Rattle.histories.specs.Crash.{IsLogAfter, in_doubt}
 use Rattle.histories.specs.Events.{Event}
 use Rattle.histories.specs.MachineState.{MachineState}
@@ -22,7 +22,7 @@ use Rattle.histories.specs.Runs.{IsLegal, appended_messages, end_state, IsJoined
 use Rattle.histories.specs.CoreState.{held, AreUnrelated}
 use Rattle.histories.specs.declared.outcomes.Outcome.{Outcome}
 use Rattle.histories.specs.declared.outcomes.Step.{Step}
-use Rattle.scheduler.proofs.Events.{some_of}
+use Rattle.scheduler.proofs.MachineSteps.{some_of}
 use Rattle.scheduler.specs.Runs.{LeadTo, HasRun, HasDeviceEvents, RecoversFromRun}
 use Rattle.scheduler.specs.Machine.{MachineView, machine_of}
 use Rattle.scheduler.specs.DeviceEvents.{AreSafe, DeviceEvent, RecoversForRun, AgreeWithDevice, device_after, events_of}

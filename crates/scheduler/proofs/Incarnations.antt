@@ -8,8 +8,9 @@ use Rattle.recovery.proofs.OneGeometry.{one_geometry}
 use Rattle.recovery.specs.Header.{HasHeader}
 use Rattle.recovery.specs.Recovery.{recovered_state}
 use Rattle.recovery.specs.Refusals.{refused}
-use Rattle.disk.proofs.Leaves.{synced_left, itself}
-use Rattle.disk.proofs.Moments.{bytes_since, counts_now, only_now}
+use Rattle.disk.proofs.IsSynced.{synced_left}
+use Rattle.disk.proofs.IsTornFrom.{itself}
+use Rattle.disk.proofs.CrashImagesAre.{bytes_since, counts_now, only_now}
 use Rattle.disk.specs.CrashImages.{AreBytes, IsCrashImage, left_since}
 use Rattle.disk.specs.Device.{IsSynced, Medium, moment_number}
 use Rattle.checkpoint.specs.Opening.{IsPastSync, OpeningCrashImages, RecoversAsBefore}

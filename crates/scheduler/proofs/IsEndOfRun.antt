@@ -13,7 +13,7 @@ use Rattle.histories.specs.CoreState.{IsIdle}
 use Rattle.histories.specs.IsSoundCoreState.{IsSoundCoreState}
 use Rattle.histories.specs.Incarnations.{HoldsAnswered, Ran}
 use Rattle.histories.specs.Runs.{IsLegal, end_state}
-use Rattle.scheduler.proofs.Events.{some_of}
+use Rattle.scheduler.proofs.MachineSteps.{some_of}
 use Rattle.scheduler.proofs.HasRun.{RecoversSince, recovers_for_run}
 use Rattle.scheduler.specs.Machine.{MachineView, machine_of}
 use Rattle.scheduler.specs.DeviceEvents.{RecoversForRun}

@@ -4,7 +4,7 @@ use Rattle.std.specs.List.{Contains}
 use Rattle.affinity.specs.Path.{are_related}
 use Rattle.affinity.specs.declared.geometry.Geometry.{Geometry}
 use Rattle.histories.proofs.Elements.{in_contained}
-use Rattle.histories.proofs.Outs.{event_sees}
+use Rattle.histories.proofs.InFlight.{event_sees}
 use Rattle.histories.specs.Events.{Event, IsAllowed}
 use Rattle.histories.specs.MachineState.{MachineState}
 use Rattle.histories.specs.IsSoundCoreState.{IsSoundCoreState}
@@ -16,8 +16,8 @@ use Rattle.parcel.specs.JobRun.{JobView, IsJobRun}
 use Rattle.parcel.specs.Shown.{Shows}
 use Rattle.parcel.specs.LentJob.{IsSerialStepOf}
 use Rattle.parcel.specs.declared.job.Done.{Done}
-use Rattle.meaning.proofs.Agree.{agree-sym, agree-trans}
-use Rattle.meaning.proofs.Frame.{reads_only}
+use Rattle.meaning.proofs.AgreeOn.{agree-sym, agree-trans}
+use Rattle.meaning.proofs.Commute.{reads_only}
 use Rattle.meaning.specs.Step.{next_state, reply_to}
 use Rattle.meaning.specs.Subtrees.{AgreeOn}
 use Rattle.scheduler.specs.Jobs.{IsJobOf, IsResultOf}

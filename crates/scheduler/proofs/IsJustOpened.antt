@@ -7,7 +7,7 @@ use Rattle.arena.proofs.Counts.{length-numbers}
 use Rattle.arena.specs.ArenaView.{IsPartitioned, ArenaView, capacity_of, empty_arena}
 use Rattle.checkpoint.specs.Journal.{IsRecoverable, committed}
 use Rattle.histories.proofs.Idle.{idle_sound}
-use Rattle.parcel.proofs.Holding.{holds_alike, holds_whole}
+use Rattle.parcel.proofs.TreeHolds.{holds_alike, holds_whole}
 use Rattle.parcel.specs.TreeHolds.{TreeHolds, nowhere}
 use Rattle.parcel.specs.Nodes.{tree_state}
 use Rattle.parcel.specs.Tree.{IsIn, IsWholeTree, tree_nodes, state_in}

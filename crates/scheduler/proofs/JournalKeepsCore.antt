@@ -4,12 +4,12 @@ use Rattle.std.specs.Prelude.{if◌then◌else◌}
 use Rattle.std.proofs.lemmas.Bool.{cond-false, cond-true}
 use Rattle.affinity.specs.declared.geometry.Geometry.{Geometry}
 use Rattle.recovery.specs.Recovery.{recovered_state}
-use Rattle.disk.proofs.Moments.{leaves_now, started, weaker}
+use Rattle.disk.proofs.CrashImagesAre.{leaves_now, started, weaker}
 use Rattle.disk.specs.Device.{Medium}
 use Rattle.disk.specs.CrashImages.{CrashImagesAre}
 use Rattle.checkpoint.specs.Journal.{RecoversWithPrefix, committed}
 use Rattle.checkpoint.specs.DirtyPieces.{DirtyPieces}
-use Rattle.histories.proofs.Sound.{event_sound}
+use Rattle.histories.proofs.IsSoundCoreState.{event_sound}
 use Rattle.histories.specs.IsSoundCoreState.{IsSoundCoreState}
 use Rattle.histories.specs.CoreState.{CoreState}
 use Rattle.histories.specs.declared.outcomes.Outcome.{Outcome}

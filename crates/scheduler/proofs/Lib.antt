@@ -2,19 +2,19 @@
 -- crash leaves of a run
 pub mod IsCallEvent
 pub mod Refusals
-pub mod Events
+pub mod MachineSteps
 pub mod HasRun
 pub mod FailStop
 -- ---- this crate's own
 mod IsJobOf
-mod InHands
-mod Jobs
+mod HoldsJobs
+mod SeesSame
 mod Examples
 mod Splits
 mod Chains
 mod Trees
 mod NextEligible
-mod Tests
+mod HeldAny
 mod UnloggedChanges
 mod ArrivalKeepsCore
 mod GrantKeepsCore

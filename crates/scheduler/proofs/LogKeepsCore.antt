@@ -8,16 +8,16 @@ use Rattle.std.proofs.lemmas.List.{drop-map, length-append, map-append, take-app
 use Rattle.affinity.specs.Kind.{is_changing}
 use Rattle.affinity.specs.declared.geometry.Geometry.{Geometry}
 use Rattle.affinity.proofs.Elements.{all_join, all_weaker}
-use Rattle.histories.proofs.AreUnrelated.{all_recorded}
+use Rattle.histories.proofs.Entries.{all_recorded}
 use Rattle.recovery.specs.Recovery.{recovered_state}
-use Rattle.disk.proofs.Moments.{leaves_now}
+use Rattle.disk.proofs.CrashImagesAre.{leaves_now}
 use Rattle.disk.specs.CrashImages.{IsCrashImage, CrashImagesAre}
 use Rattle.disk.specs.Device.{Medium}
 use Rattle.checkpoint.specs.Journal.{AreCarriedOut, RecoversWithPrefix, committed}
 use Rattle.checkpoint.specs.DirtyPieces.{DirtyPieces}
 use Rattle.histories.proofs.Lists.{all_back, all_front, before_back, before_front}
 use Rattle.histories.proofs.Room.{log_has_room}
-use Rattle.histories.proofs.Sound.{log_sound}
+use Rattle.histories.proofs.IsSoundCoreState.{log_sound}
 use Rattle.histories.proofs.SerialReplies.{state_after_all-joined, still_replied}
 use Rattle.histories.specs.Eligible.{unlogged_changes}
 use Rattle.histories.specs.Events.{batch, log, recorded}
@@ -28,12 +28,12 @@ use Rattle.protocol.specs.declared.messages.Msg.{Msg}
 use Rattle.oplog.specs.ChangeRecords.{AreChangesInRange, IsChangeInRange}
 use Rattle.parcel.specs.TreeHolds.{TreeHolds}
 use Rattle.parcel.specs.Tree.{tree_nodes}
-use Rattle.meaning.proofs.Unchanged.{unrecorded_changes_nothing}
+use Rattle.meaning.proofs.IsRecorded.{unrecorded_changes_nothing}
 use Rattle.meaning.specs.Step.{state_after_all, is_recorded, next_state}
 use Rattle.meaning.specs.State.{State}
 use Rattle.scheduler.proofs.UnloggedChanges.{AreClaimed, HasHeld, changing, changing-append, unlogged_of}
 use Rattle.scheduler.proofs.JournalKeepsCore.{with_none}
-use Rattle.scheduler.proofs.Tests.{any_logged}
+use Rattle.scheduler.proofs.HeldAny.{any_logged}
 use Rattle.scheduler.proofs.Trees.{log_reaches}
 use Rattle.scheduler.specs.CoreView.{CoreView, RecoversNow, RecoversThroughout}
 use Rattle.scheduler.specs.Parts.{IsCore, Parts, is_below, core_view_of, reached, core_state_in}

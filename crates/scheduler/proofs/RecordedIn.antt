@@ -25,7 +25,7 @@ use Rattle.scheduler.specs.HasLogged.{changing_in, recorded_in}
 use Rattle.scheduler.specs.Slots.{HasChains, SlotView, no_slot, slot_view_at, replied_of}
 use Rattle.scheduler.specs.declared.slot.Slot.{Slot}
 use Rattle.scheduler.specs.declared.slot.TheConstants.{RAN}
-use Rattle.histories.proofs.Runs.{recorded-append}
+use Rattle.histories.proofs.Entries.{recorded-append}
 
 -- ---- the slot behind one on its chain
 

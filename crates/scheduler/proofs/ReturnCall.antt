@@ -21,7 +21,7 @@ use Rattle.protocol.specs.Messages.{path_of}
 use Rattle.protocol.specs.declared.messages.Msg.{Msg}
 use Rattle.protocol.specs.declared.replies.Reply.{Reply}
 use Rattle.protocol.specs.declared.replies.Reply.TheVariants.{Done}
-use Rattle.parcel.proofs.Lending.{kind_of}
+use Rattle.parcel.proofs.LendsAndRestores.{kind_of}
 use Rattle.parcel.proofs.RunFits.{fits_where_lent}
 use Rattle.parcel.specs.Fits.{Fits, IsKindOf}
 use Rattle.parcel.specs.Shown.{Shows}

@@ -6,7 +6,7 @@ use Rattle.std.proofs.lemmas.Bool.{eq-eqb, ne_eqb}
 use Rattle.std.proofs.lemmas.List.{length-append, map-append}
 use Rattle.affinity.proofs.Elements.{all_join}
 use Rattle.histories.proofs.Lists.{all_back, all_without, before_front, before_one}
-use Rattle.histories.proofs.Sound.{back_sound}
+use Rattle.histories.proofs.IsSoundCoreState.{back_sound}
 use Rattle.histories.specs.Eligible.{pick, unlogged_changes}
 use Rattle.histories.specs.Events.{give_back, find_in_flight}
 use Rattle.histories.specs.IsSoundCoreState.{IsSoundCoreState}
@@ -22,7 +22,7 @@ use Rattle.parcel.specs.declared.parts.Standing.{Standing}
 use Rattle.meaning.specs.Step.{next_state, reply_to}
 use Rattle.scheduler.proofs.NextEligible.{pick_if}
 use Rattle.scheduler.proofs.UnloggedChanges.{AreClaimed, HasHeld, changing, changing-append, changing-cons, unlogged_of}
-use Rattle.scheduler.proofs.Tests.{any_back}
+use Rattle.scheduler.proofs.HeldAny.{any_back}
 use Rattle.scheduler.proofs.Trees.{back_reaches, back_tree}
 use Rattle.scheduler.specs.Parts.{IsCore, Parts, is_below, reached, core_state_in}
 use Rattle.scheduler.specs.Slots.{SlotView, IsPlaced, entry_of, replied_of}

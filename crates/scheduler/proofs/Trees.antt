@@ -14,13 +14,14 @@ use Rattle.histories.specs.Eligible.{next_eligible}
 use Rattle.histories.specs.Events.{log}
 use Rattle.histories.specs.IsSoundCoreState.{IsSoundCoreState}
 use Rattle.histories.specs.CoreState.{Entry, Replied, CoreState, entries, held, are_related_entries, AreUnrelated}
-use Rattle.histories.proofs.AreUnrelated.{apart_turned, entries-append, granted_is_free}
+use Rattle.histories.proofs.AreUnrelated.{apart_turned, granted_is_free}
+use Rattle.histories.proofs.Entries.{entries-append}
 use Rattle.histories.proofs.Lists.{all_back, all_front, before_back, before_first, before_one}
-use Rattle.histories.proofs.Outs.{entries_leave}
-use Rattle.histories.proofs.Sound.{row_of}
+use Rattle.histories.proofs.InFlight.{entries_leave}
+use Rattle.histories.proofs.IsSoundCoreState.{row_of}
 use Rattle.histories.proofs.SerialReplies.{state_after_all-append}
 use Rattle.protocol.specs.Messages.{IsMessage, path_of}
-use Rattle.parcel.proofs.Holding.{can_be_lent, holds_alike, lent_holds, lent_shows, place_is_out, restored_holds}
+use Rattle.parcel.proofs.TreeHolds.{can_be_lent, holds_alike, lent_holds, lent_shows, place_is_out, restored_holds}
 use Rattle.parcel.specs.Fits.{Fits}
 use Rattle.parcel.specs.TreeHolds.{IsApart, TreeHolds, with_place}
 use Rattle.parcel.specs.Nodes.{Nodes}
@@ -28,8 +29,8 @@ use Rattle.parcel.specs.Shown.{Shows}
 use Rattle.parcel.specs.Tree.{HasGap, IsOut, LendsAt, RestoresAt}
 use Rattle.parcel.specs.declared.parts.Parcels.{Parcels}
 use Rattle.parcel.specs.declared.parts.Standing.{Standing}
-use Rattle.meaning.proofs.Agree.{agree-sym, agree-trans}
-use Rattle.meaning.proofs.Frame.{reads_only}
+use Rattle.meaning.proofs.AgreeOn.{agree-sym, agree-trans}
+use Rattle.meaning.proofs.Commute.{reads_only}
 use Rattle.meaning.specs.Order.{messages_of}
 use Rattle.meaning.specs.Step.{state_after_all, next_state}
 use Rattle.meaning.specs.Subtrees.{AgreeOn}

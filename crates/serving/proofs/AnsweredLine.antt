@@ -4,11 +4,10 @@ use Rattle.std.specs.Prelude.{if◌then◌else◌, ◌==◌}
 use Rattle.std.specs.List.{AllByRecursion, Contains}
 use Rattle.std.proofs.lemmas.Bool.{eq-eqb, eqb-true, true≢false}
 use Rattle.affinity.specs.declared.geometry.Geometry.{Geometry}
-use Rattle.histories.proofs.Elements.{contains_in, in_contained}
-use Rattle.histories.proofs.SerialReplies.{IsIn, in_left, in_right}
+use Rattle.histories.proofs.Elements.{contains_in, in_contained, IsIn, in_left, in_right}
 use Rattle.histories.specs.declared.outcomes.Outcome.TheVariants as outcomes
 use Rattle.histories.specs.declared.outcomes.Step.TheVariants as steps
-use Rattle.scheduler.proofs.Events.{core_holds, core_step}
+use Rattle.scheduler.proofs.MachineSteps.{core_holds, core_step}
 use Rattle.scheduler.specs.Machine.{MachineView}
 use Rattle.scheduler.specs.Steps.{IsCoreStep}
 use Rattle.scheduler.specs.declared.hands.HandContent.{HandContent}
@@ -20,7 +19,7 @@ use Rattle.scheduler.specs.CoreView.{CoreView}
 use Rattle.serving.specs.Lines.{Completed, AreKnown, IsKnown, Line, NoMessage, NoneIsTo, OutOfRange, Pending, complete_one, admitted, admitted_in, has_answer, next_ticket, ticketed}
 use Rattle.serving.specs.Progress.{ServingProgress}
 use Rattle.serving.specs.Runs.{HandsHaveJobs, IsInternal, RunsBetween}
-use Rattle.serving.proofs.Chain.{passes_on, told_as}
+use Rattle.serving.proofs.RunsBetween.{passes_on, told_as}
 use Rattle.serving.proofs.Segments.{core_is_quiet, step_passes}
 
 module _ (g : Geometry) (reply_pairs : List (ℕ × Reply)) (ticket : ℕ) (reply : Reply) where

@@ -7,7 +7,7 @@ use Rattle.histories.specs.Events.{give_back, find_in_flight}
 use Rattle.histories.specs.CoreState.{Entry}
 use Rattle.histories.specs.declared.outcomes.Outcome.TheVariants as outcomes
 use Rattle.histories.specs.declared.outcomes.Step.TheVariants as steps
-use Rattle.scheduler.proofs.Events.{a_job, back_holds, back_step, was_result}
+use Rattle.scheduler.proofs.MachineSteps.{a_job, back_holds, back_step, was_result}
 use Rattle.scheduler.specs.Steps.{IsMachineStep}
 use Rattle.scheduler.specs.declared.hands.HandContent.{HandContent}
 use Rattle.scheduler.specs.declared.hands.HandContent.TheVariants as has
@@ -16,7 +16,7 @@ use Rattle.parcel.specs.declared.job.Done.{Done}
 use Rattle.scheduler.specs.Jobs.{IsResultOf}
 use Rattle.scheduler.specs.CoreView.{CoreView, RecoversNow, core_state_of}
 use Rattle.serving.specs.Runs.{HandsHaveJobs, IsInternal, lent_hand, machine_with_jobs}
-use Rattle.serving.proofs.Chain.{passes_on}
+use Rattle.serving.proofs.RunsBetween.{passes_on}
 use Rattle.serving.proofs.Segments.{step_passes}
 use Rattle.workers.specs.Rule.{lent_at}
 

@@ -1,7 +1,7 @@
 -- Worked examples, by computing: which lines take tickets, and what is known of lines.
 use Rattle.std.proofs.Common.{◌≡◌, ℕ, List, [], ◌∷◌, map, refl, lit≤, ap, arith, ⊎_elim}
 use Rattle.std.specs.Prelude.{codes}
-use Rattle.affinity.proofs.Numbers.{small}
+use Rattle.affinity.proofs.GeometryLemmas.{small}
 use Rattle.histories.proofs.Elements.{in_contained}
 use Rattle.protocol.specs.Grammar.{kind_named, message_of}
 use Rattle.protocol.specs.Words.{number_in_word}

@@ -5,7 +5,7 @@ use Rattle.std.specs.Prelude.{cond, IfSome, is_none, position}
 use Rattle.std.proofs.lemmas.Bool.{true≢false, lt-ltb}
 use Rattle.std.proofs.lemmas.Option.{none-some}
 use Rattle.affinity.specs.declared.geometry.Geometry.{Geometry}
-use Rattle.histories.proofs.Progress.{needs}
+use Rattle.histories.proofs.CanGoOn.{needs}
 use Rattle.histories.specs.CoreState.{CoreState, Entry, entries, held, IsIdle}
 use Rattle.histories.specs.IsSoundCoreState.{IsSoundCoreState}
 use Rattle.histories.specs.declared.outcomes.Outcome.TheVariants as outcomes
@@ -21,7 +21,7 @@ use Rattle.serving.specs.Session.{SessionView}
 use Rattle.serving.specs.Start.{Start}
 use Rattle.serving.specs.declared.dispatch.Blocked.{Blocked}
 use Rattle.serving.specs.declared.dispatch.Blocked.TheVariants as blocked
-use Rattle.serving.proofs.Invariant.{ask, none_out, progress_at_end, to_reorder_buffer}
+use Rattle.serving.proofs.SessionInvariant.{ask, none_out, progress_at_end, to_reorder_buffer}
 use Rattle.serving.proofs.NoneUnanswered.{no_line}
 
 -- ---- nothing waits

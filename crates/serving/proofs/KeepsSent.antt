@@ -17,10 +17,10 @@ use Rattle.serving.specs.Progress.{IsServing}
 use Rattle.serving.specs.Restart.{WritesBeginning}
 use Rattle.serving.specs.SessionInvariant.{KeepsSent, ServingSince}
 use Rattle.serving.proofs.MaySend.{still_in_history}
-use Rattle.serving.proofs.Logged.{holds_logged, serving_kept}
+use Rattle.serving.proofs.HoldsSent.{holds_logged, serving_kept}
 use Rattle.serving.proofs.RecoversWritten.{bytes_recover}
-use Rattle.serving.proofs.Serial.{as_many}
-use Rattle.serving.proofs.AreServed.{has_served}
+use Rattle.serving.proofs.HaveSerialReplies.{as_many}
+use Rattle.serving.proofs.EndsWith.{has_served}
 
 -- ---- what stays true
 

@@ -1,9 +1,9 @@
 -- ---- for the crates above: what was sent, what a device holds of it, and what a restart goes on from
-pub mod Logged
+pub mod HoldsSent
 pub mod MaySend
 pub mod RecoversWritten
 -- ---- this crate's own
-mod Chain
+mod RunsBetween
 mod Tickets
 mod Segments
 mod Collected
@@ -15,24 +15,24 @@ mod CheckpointSteps
 mod Places
 mod TakesLines
 mod TicketOrder
-mod Serial
+mod HaveSerialReplies
 mod MessageCounts
 mod Outstanding
 mod Slots
-mod AreServed
+mod EndsWith
 mod SentLines
 mod IsReadEnd
 mod NoneUnanswered
 mod TornSend
 mod KeepsSent
 mod ServingSince
-mod Invariant
+mod SessionInvariant
 mod StepsAhead
 mod IsAtRest
 mod ServePromise
 mod SessionEnds
 mod Newlines
-mod NoEarlyReply
+mod SendsNoReply
 mod SortedLogs
 mod Examples
 mod Restarts

@@ -22,7 +22,7 @@ use Rattle.serving.specs.MaySend.{MaySendFrom}
 use Rattle.serving.specs.Start.{Start, start_machine}
 use Rattle.serving.specs.Restart.{RecoversWritten}
 use Rattle.serving.proofs.SentLines.{texts_both}
-use Rattle.serving.proofs.Logged.{holds_sent}
+use Rattle.serving.proofs.HoldsSent.{holds_sent}
 use Rattle.serving.proofs.Newlines.{in_answers}
 use Rattle.serving.proofs.RecoversWritten.{bytes_recover}
 use Rattle.serving.proofs.TornSend.{all_appended, written_begins}

@@ -3,7 +3,7 @@ use Rattle.std.proofs.Common.{◌≡◌, ◌+◌, List, [], ◌∷◌, ap, lengt
 use Rattle.std.specs.Prelude.{◌==◌}
 use Rattle.std.proofs.lemmas.List.{length-append}
 use Rattle.protocol.specs.declared.replies.Reply.{Reply}
-use Rattle.histories.proofs.FullHands.{length-picked}
+use Rattle.histories.proofs.Lists.{length-picked}
 use Rattle.affinity.specs.declared.geometry.Geometry.{Geometry}
 use Rattle.histories.specs.CoreState.{Replied, CoreState, Entry}
 use Rattle.histories.specs.Eligible.{is_eligible}

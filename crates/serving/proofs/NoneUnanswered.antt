@@ -7,10 +7,9 @@ use Rattle.std.proofs.lemmas.Bool.{true≢false}
 use Rattle.std.proofs.lemmas.List.Sorted.{Contains-permutation}
 use Rattle.affinity.specs.declared.geometry.Geometry.{Geometry}
 use Rattle.histories.proofs.AnsweredFirst.{run_in_order, run_replies}
-use Rattle.histories.proofs.Elements.{contains_in, in_contained}
+use Rattle.histories.proofs.Elements.{contains_in, in_contained, IsIn, in_right}
 use Rattle.histories.proofs.Idle.{none_in_flight, none_logged, none_ran}
 use Rattle.histories.proofs.SerialHistories.{none_lost}
-use Rattle.histories.proofs.SerialReplies.{IsIn, in_right}
 use Rattle.histories.specs.CoreState.{Entry, Replied, entries, IsIdle}
 use Rattle.histories.specs.Events.{Event}
 use Rattle.histories.specs.MachineState.{MachineState}

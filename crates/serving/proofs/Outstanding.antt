@@ -6,8 +6,7 @@ use Rattle.std.proofs.lemmas.Bool.{le-leb, true≢false}
 use Rattle.std.proofs.lemmas.List.{length-append, nil_from_length}
 use Rattle.std.proofs.lemmas.Bool.Decides.{nat_tests}
 use Rattle.affinity.specs.declared.geometry.Geometry.{Geometry}
-use Rattle.histories.proofs.Elements.{in_contained}
-use Rattle.histories.proofs.SerialReplies.{IsIn}
+use Rattle.histories.proofs.Elements.{in_contained, IsIn}
 use Rattle.histories.specs.MachineState.{MachineState}
 use Rattle.histories.specs.Runs.{end_state}
 use Rattle.histories.specs.CoreState.{CoreState, Entry, held, IsIdle}

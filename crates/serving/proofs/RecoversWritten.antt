@@ -20,13 +20,12 @@ use Rattle.meaning.specs.State.{State}
 use Rattle.histories.specs.Events.{recorded}
 use Rattle.histories.specs.IsSerialHistory.{ticket_replies}
 use Rattle.histories.specs.CoreState.{Entry, Replied, are_related_entries, entries, AreAscending}
-use Rattle.histories.proofs.Elements.{in_contained}
-use Rattle.histories.proofs.SerialReplies.{IsIn, in_left}
+use Rattle.histories.proofs.Elements.{in_contained, IsIn, in_left}
 use Rattle.serving.specs.Runs.{AreFirst}
 use Rattle.serving.specs.Lines.{admitted, admitted_in, ticketed}
 use Rattle.serving.specs.Restart.{IsClosedPart, RecoversTo, BytesRecover, are_related_lines}
 use Rattle.serving.specs.History.{AreInHistory, RecoversToHistory, IsInHistory}
-use Rattle.serving.proofs.Serial.{HaveSerialReplies, all_after, its_reply, out_of_range as refused_for_range, serial_after, with_ticket}
+use Rattle.serving.proofs.HaveSerialReplies.{HaveSerialReplies, all_after, its_reply, out_of_range as refused_for_range, serial_after, with_ticket}
 use Rattle.serving.proofs.SortedLogs.{HasNoGap, IsApart, all_kept, sorted_log}
 
 -- ---- the tickets of lines

@@ -11,7 +11,7 @@ use Rattle.histories.specs.declared.outcomes.Outcome.TheVariants as outcomes
 use Rattle.histories.specs.declared.outcomes.PointRefusal.{PointRefusal}
 use Rattle.histories.specs.declared.outcomes.Step.{Step}
 use Rattle.histories.specs.declared.outcomes.Step.TheVariants as steps
-use Rattle.scheduler.proofs.Events.{core_holds, core_step}
+use Rattle.scheduler.proofs.MachineSteps.{core_holds, core_step}
 use Rattle.scheduler.proofs.FailStop.{run_fails}
 use Rattle.scheduler.proofs.HasRun.{one_leads}
 use Rattle.scheduler.specs.Machine.{MachineView, machine_of}
@@ -23,7 +23,7 @@ use Rattle.scheduler.specs.CoreView.{CoreView, RecoversThroughout, core_state_of
 use Rattle.serving.specs.Lines.{Line, admitted, ticketed}
 use Rattle.serving.specs.Progress.{ServingProgress}
 use Rattle.serving.specs.Runs.{HandsHaveJobs, IsInternal, RunsBetween}
-use Rattle.serving.proofs.Chain.{passes_on, told_as}
+use Rattle.serving.proofs.RunsBetween.{passes_on, told_as}
 use Rattle.scheduler.proofs.IsCallEvent.{log_outcome, step_outcome}
 
 module _ {keeps : Type 0} {old new : MachineView} {step : Step} {outcome : Outcome} (k : IsMachineStep keeps old new step outcome) where

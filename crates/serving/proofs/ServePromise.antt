@@ -16,7 +16,7 @@ use Rattle.serving.specs.Restart.{IsMeant, WritesBeginning}
 use Rattle.serving.specs.Serve.{AreUnsent, HasRunWith, failed_at}
 use Rattle.serving.specs.declared.server.ServeFault.{ServeFault}
 use Rattle.serving.specs.declared.server.ServeFault.TheVariants as faults
-use Rattle.serving.proofs.AreServed.{has_served}
+use Rattle.serving.proofs.EndsWith.{has_served}
 use Rattle.serving.proofs.Start.{starts}
 
 -- ---- the run

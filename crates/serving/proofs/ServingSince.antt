@@ -19,7 +19,7 @@ use Rattle.serving.specs.SessionInvariant.{ServingSince}
 use Rattle.serving.proofs.SentLines.{Sends, sends_on}
 use Rattle.serving.proofs.AnsweredLine.{answered_goes_on}
 use Rattle.serving.proofs.TakesLine.{serves_taken, takes_in}
-use Rattle.serving.proofs.Chain.{passes_on}
+use Rattle.serving.proofs.RunsBetween.{passes_on}
 use Rattle.serving.proofs.KeepsSent.{keeps_first, keeps_now, keeps_on, keeps_quiet}
 use Rattle.serving.proofs.Segments.{quiet_goes_on}
 use Rattle.serving.proofs.Start.{starts, stays}

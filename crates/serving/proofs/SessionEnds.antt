@@ -2,7 +2,8 @@
 use Rattle.std.proofs.Common.{arith, ◌≡◌, ◌≢◌, ◌<◌, ℕ, Bool, true, false, List, [], Option, Some, None, refl, ap, sym, ◌∙◌, subst, length, map, replicate}
 use Rattle.std.specs.Prelude.{Result, Ok, Err, IfOk, IfSome, OnErr, OnOk}
 use Rattle.std.specs.Io.KnownBytes.{Appends}
-use Rattle.message.proofs.Beginnings.{begins_all, begins_longer, none_waits}
+use Rattle.message.proofs.AppendsBeginning.{begins_all, begins_longer}
+use Rattle.message.proofs.BufferedOutput.{none_waits}
 use Rattle.message.specs.BufferedOutput.{all_output}
 use Rattle.message.specs.AppendsBeginning.{AppendsBeginning}
 use Rattle.std.proofs.lemmas.Bool.{true≢false}
@@ -42,8 +43,8 @@ use Rattle.serving.proofs.KeepsSent.{safe_since}
 use Rattle.serving.proofs.ServingSince.{starts_since}
 use Rattle.serving.proofs.Start.{holds_at_start}
 use Rattle.serving.proofs.TornSend.{sent_begins, written_begins}
-use Rattle.serving.proofs.AreServed.{ends_at_device, ends_at_read, ends_exhausted, ends_whole, first_answered}
-use Rattle.serving.proofs.Invariant.{all_sent, begins_at, sent_so, none_out, progress_at_end, to_reorder_buffer}
+use Rattle.serving.proofs.EndsWith.{ends_at_device, ends_at_read, ends_exhausted, ends_whole, first_answered}
+use Rattle.serving.proofs.SessionInvariant.{all_sent, begins_at, sent_so, none_out, progress_at_end, to_reorder_buffer}
 
 -- ---- what it promises
 

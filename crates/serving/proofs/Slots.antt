@@ -1,6 +1,6 @@
 -- How many messages the core has slots for, and that a message finds a slot.
 use Rattle.std.proofs.Common.{◌≡◌, ◌≢◌, ℕ, ◌<◌, Bool, List, [], ◌∷◌, Option, refl, ap, sym, ◌∙◌, length, arith}
-use Rattle.histories.proofs.Sound.{event_slots}
+use Rattle.histories.proofs.IsSoundCoreState.{event_slots}
 use Rattle.affinity.specs.declared.geometry.Geometry.{Geometry}
 use Rattle.histories.specs.Events.{Event, arrive}
 use Rattle.histories.specs.MachineState.{MachineState}

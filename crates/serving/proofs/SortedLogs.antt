@@ -14,14 +14,13 @@ use Rattle.meaning.specs.Order.{by_ticket, messages_of, inserted_by_ticket, seri
 use Rattle.meaning.specs.Step.{state_after_all, is_recorded, next_state, reply_to}
 use Rattle.meaning.specs.State.{State}
 use Rattle.meaning.proofs.ByTicket.{all-by_ticket, state_after_all-by_ticket, in_order-by_ticket, permutation-by_ticket, serial_replies-by_ticket}
-use Rattle.meaning.proofs.Unchanged.{unrecorded_changes_nothing}
+use Rattle.meaning.proofs.IsRecorded.{unrecorded_changes_nothing}
 use Rattle.histories.specs.Events.{recorded}
 use Rattle.histories.specs.IsSerialHistory.{IsSerialHistory, ticket_replies}
 use Rattle.histories.specs.CoreState.{Entry, Replied, are_related_entries, entries, AreAscending}
 use Rattle.histories.proofs.AreUnrelated.{apart_turned}
-use Rattle.histories.proofs.Elements.{holds_of, in_contained}
+use Rattle.histories.proofs.Elements.{holds_of, in_contained, IsIn}
 use Rattle.histories.proofs.Lists.{all_back, all_front, all_permuted}
-use Rattle.histories.proofs.SerialReplies.{IsIn}
 
 -- ---- some of a list, in their order
 

@@ -7,7 +7,7 @@ use Rattle.scheduler.proofs.HasRun.{none_lead}
 use Rattle.scheduler.specs.Machine.{MachineView}
 use Rattle.scheduler.specs.Hands.{IsHandOf, hand_at, ticket_in}
 use Rattle.scheduler.specs.declared.hands.HandContent.TheVariants as has
-use Rattle.meaning.proofs.LinesTaken.{takes_nothing}
+use Rattle.meaning.proofs.TakesLines.{takes_nothing}
 use Rattle.scheduler.specs.CoreView.{CoreView, core_state_of}
 use Rattle.serving.specs.Progress.{ServingProgress}
 use Rattle.serving.specs.Runs.{HandsHaveJobs, RunsBetween, lent_hand, machine_with_jobs}

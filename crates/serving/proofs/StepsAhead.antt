@@ -6,7 +6,7 @@ use Rattle.std.proofs.lemmas.List.{length-append, take-append-drop}
 use Rattle.std.proofs.lemmas.List.Quantifiers.{position-Some}
 use Rattle.std.proofs.lemmas.List.Sums.{sum_by-cons, sum_by-set}
 use Rattle.affinity.specs.declared.geometry.Geometry.{Geometry}
-use Rattle.histories.proofs.FullHands.{length-picked}
+use Rattle.histories.proofs.Lists.{length-picked}
 use Rattle.histories.specs.CoreState.{CoreState, Entry, Replied}
 use Rattle.histories.specs.Eligible.{is_eligible}
 use Rattle.histories.specs.MachineState.{Hand}

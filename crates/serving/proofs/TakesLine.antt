@@ -10,7 +10,7 @@ use Rattle.histories.specs.declared.outcomes.ArriveRefusal.TheVariants as arriva
 use Rattle.histories.specs.declared.outcomes.Outcome.{Outcome}
 use Rattle.histories.specs.declared.outcomes.Outcome.TheVariants as outcomes
 use Rattle.histories.specs.declared.outcomes.Step.TheVariants as steps
-use Rattle.scheduler.proofs.Events.{core_holds, core_step}
+use Rattle.scheduler.proofs.MachineSteps.{core_holds, core_step}
 use Rattle.scheduler.specs.Steps.{IsCoreStep}
 use Rattle.scheduler.specs.declared.hands.HandContent.{HandContent}
 use Rattle.protocol.specs.Messages.{is_in_range}
@@ -24,9 +24,9 @@ use Rattle.serving.specs.Progress.{IsServing}
 use Rattle.serving.specs.Lines.{AreKnown, IsKnown, Line, NoneIsTo, OutOfRange, Pending, admitted, admitted_in, next_ticket, ticketed, Completed, NoMessage}
 use Rattle.serving.specs.TakesLine.{IsRefusedLine, IsTaken}
 use Rattle.serving.specs.Runs.{HandsHaveJobs, RunsBetween}
-use Rattle.serving.proofs.Chain.{passes_on, told_as}
-use Rattle.serving.proofs.Serial.{admitted-append, messages-ticketed}
-use Rattle.serving.proofs.AreServed.{ticket_before}
+use Rattle.serving.proofs.RunsBetween.{passes_on, told_as}
+use Rattle.serving.proofs.HaveSerialReplies.{admitted-append, messages-ticketed}
+use Rattle.serving.proofs.EndsWith.{ticket_before}
 use Rattle.serving.proofs.Segments.{core_is_quiet, step_passes}
 use Rattle.serving.proofs.IsReadEnd.{Shows, shows}
 use Rattle.serving.proofs.Tickets.{next-append, passes_next, ticketed-append}

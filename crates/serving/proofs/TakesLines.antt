@@ -8,13 +8,13 @@ use Rattle.histories.specs.declared.outcomes.ArriveRefusal.{ArriveRefusal}
 use Rattle.histories.specs.declared.outcomes.ArriveRefusal.TheVariants as arrivals
 use Rattle.histories.specs.declared.outcomes.Outcome.{Outcome}
 use Rattle.histories.specs.declared.outcomes.Outcome.TheVariants as outcomes
-use Rattle.scheduler.proofs.Events.{arrive_step}
+use Rattle.scheduler.proofs.MachineSteps.{arrive_step}
 use Rattle.scheduler.specs.Machine.{MachineView}
 use Rattle.scheduler.specs.declared.hands.HandContent.{HandContent}
 use Rattle.protocol.specs.Grammar.{message_of}
 use Rattle.protocol.specs.FirstLine.{GivesLine, IsAtEndOf, HasWholeFirstLine, PassesLine}
 use Rattle.protocol.specs.declared.messages.Msg.{Msg}
-use Rattle.meaning.proofs.LinesTaken.{takes_line, takes_long_line}
+use Rattle.meaning.proofs.TakesLines.{takes_line, takes_long_line}
 use Rattle.scheduler.specs.Calls.{ArrivesByLine, arrive_outcome}
 use Rattle.scheduler.specs.CoreView.{CoreView, RecoversNow, core_state_of}
 use Rattle.serving.specs.Progress.{ServingProgress}

@@ -5,9 +5,9 @@ use Rattle.std.specs.List.{AllByRecursion, concat}
 use Rattle.std.specs.List.Sorted.{IsPartitionedBy, IsPartitionPoint}
 use Rattle.protocol.specs.declared.messages.Block.{Block}
 use Rattle.arena.specs.Lists.{count_of, without}
-use Rattle.arena.proofs.Parts.{count_of-tail, value-same, value-other, held-within, held-not_free, partitioned-restore}
+use Rattle.arena.proofs.IsPartitioned.{value-same, value-other, held-within, held-not_free, partitioned-restore}
 use Rattle.std.proofs.lemmas.List.{length-replicate, length-set, take-map, drop-map, map-append}
-use Rattle.arena.proofs.Counts.{length-numbers, count_of-append, count_of-cons_same, count_of-cons_is, count_of-cons_other}
+use Rattle.arena.proofs.Counts.{length-numbers, count_of-append, count_of-cons_same, count_of-cons_is, count_of-cons_other, count_of-tail}
 use Rattle.arena.specs.ArenaView.{ArenaView, value_at, holds_value, IsPartitioned, with_value, slot_from, put_answer, put_into, after_put, after_take, empty_arena}
 use Rattle.stripe.specs.declared.blocks.IndexEntry.{IndexEntry}
 use Rattle.stripe.specs.Stripe.{BlockEntry, StripePart, content_at, ComesBefore, IsAscending, PrecedesBlock}

@@ -1,6 +1,6 @@
 -- The path at which a message in range belongs is one of the geometry.
 use Rattle.std.proofs.Common.{◌∙◌, sym}
-use Rattle.affinity.proofs.Placed.{IsPath-path_of_kind}
+use Rattle.affinity.proofs.PlaceLemmas.{IsPath-path_of_kind}
 use Rattle.affinity.proofs.places.place_of.Goals as goal
 
 pub at-requires : goal.at-requires

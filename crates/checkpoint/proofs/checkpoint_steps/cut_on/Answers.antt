@@ -1,11 +1,12 @@
 -- The other half is cleared, and then put in force while it is empty: what a crash leaves recovers to the same. Records go there next.
 use Rattle.std.proofs.Common.{◌<◌, subst, arith}
 use Rattle.std.proofs.lemmas.Result.{on_ok_weaker}
-use Rattle.oplog.proofs.Answered.{err_is}
+use Rattle.oplog.proofs.Results.{err_is}
 use Rattle.disk.specs.CrashImages.{CrashesChangeOnly}
 use Rattle.oplog.specs.Changes.{Chained, IsSameButChain}
 use Rattle.oplog.specs.Log.{Log, layout_of_log}
-use Rattle.checkpoint.proofs.IsCutBegun.{begun, chain_beyond, chain_moments, named_below}
+use Rattle.checkpoint.proofs.IsCutBegun.{begun, chain_beyond, chain_moments}
+use Rattle.checkpoint.proofs.RecoversByArea.{named_below}
 use Rattle.checkpoint.proofs.IsPointed.{clear_beyond, clear_moments}
 use Rattle.checkpoint.proofs.checkpoint_steps.cut_on.Given.{Over}
 use Rattle.checkpoint.proofs.checkpoint_steps.cut_on.Goals.{After-open_chain}

@@ -7,8 +7,8 @@ use Rattle.image.specs.Pieces.{piece_count}
 use Rattle.checkpoint.specs.Images.{Imaged}
 use Rattle.checkpoint.proofs.Costs.{one_run, takes_all, takes_most, takes_with}
 use Rattle.checkpoint.proofs.IsCutFinished.{finish_image_moments, finish_moments, finished}
-use Rattle.checkpoint.proofs.StillRefused.{finish_alike, image_alike}
-use Rattle.oplog.proofs.Answered.{on_ok}
+use Rattle.checkpoint.proofs.IsRefusedAlike.{finish_alike, image_alike}
+use Rattle.oplog.proofs.Results.{on_ok}
 use Rattle.oplog.proofs.Beyond.{beyond, beyond_then}
 use Rattle.disk.specs.CrashImages.{CrashesChangeOnly}
 use Rattle.oplog.specs.Changes.{IsSameBut, IsSameButRoot}

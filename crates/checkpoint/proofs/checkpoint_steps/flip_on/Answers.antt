@@ -1,15 +1,15 @@
 -- The synced image and the records behind it recover to the same as the named area, so a torn root byte does no harm.
 use Rattle.std.proofs.Common.{◌≡◌, ◌<◌, ℕ, sym, ◌∙◌, subst, arith}
-use Rattle.disk.specs.Device.{Medium}
+use Rattle.disk.specs.Device.{Medium, synced}
 use Rattle.oplog.specs.Log.{CountsLogFault, layout_of_log}
 use Rattle.std.proofs.lemmas.Result.{on_ok_weaker}
-use Rattle.oplog.proofs.Answered.{on_ok}
+use Rattle.oplog.proofs.Results.{on_ok}
 use Rattle.oplog.proofs.Beyond.{beyond, beyond_sync, beyond_then}
 use Rattle.oplog.specs.Changes.{IsSameButRoot, Flipped}
 use Rattle.device_map.specs.Layout.{layout_of, other}
 use Rattle.checkpoint.proofs.Costs.{faults_stay, takes_all, takes_most, takes_with}
-use Rattle.checkpoint.proofs.IsCutBegun.{name_moments, named, named_below, sync_moments}
-use Rattle.disk.specs.Device.{synced}
+use Rattle.checkpoint.proofs.IsCutBegun.{name_moments, named, sync_moments}
+use Rattle.checkpoint.proofs.RecoversByArea.{named_below}
 use Rattle.checkpoint.proofs.checkpoint_steps.flip_on.Given.{Over}
 use Rattle.checkpoint.proofs.checkpoint_steps.flip_on.Goals.{After-flip_root}
 use Rattle.checkpoint.proofs.checkpoint_steps.flip_on.Goals as goal

@@ -1,7 +1,7 @@
 -- While the other area is cleared and written, recovery reads the named one alone; once it is written, both areas recover to the same.
 use Rattle.std.proofs.Common.{◌<◌, ap, sym, ◌∙◌, subst, arith}
 use Rattle.std.proofs.lemmas.Result.{on_ok_weaker}
-use Rattle.oplog.proofs.Answered.{err_is, on_ok}
+use Rattle.oplog.proofs.Results.{err_is, on_ok}
 use Rattle.checkpoint.specs.Costs.{point_cost}
 use Rattle.checkpoint.specs.Extents.{AgreeOnClean}
 use Rattle.checkpoint.specs.Images.{Imaged, image_in}

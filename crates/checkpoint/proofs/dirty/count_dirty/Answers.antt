@@ -1,7 +1,7 @@
 -- A flag that is set adds one to the count, a clear one adds nothing.
 use Rattle.std.proofs.Common.{◌≡◌, arith, true, false, get_or}
 use Rattle.std.proofs.lemmas.Grind.{common_steps}
-use Rattle.checkpoint.proofs.Rows.{count_after}
+use Rattle.checkpoint.proofs.DirtyPieces.{count_after}
 use Rattle.checkpoint.proofs.dirty.count_dirty.Goals as goal
 use Rattle.checkpoint.proofs.dirty.count_dirty.Goals.{then-is_dirty, else-is_dirty}
 

@@ -1,7 +1,7 @@
 -- All pieces of the message's volume are looked at, and it changes none of another volume.
 use Rattle.std.proofs.Common.{◌≡◌, ◌<◌, false, length, sym, ◌∙◌, arith}
 use Rattle.image.specs.Touched.{may_change}
-use Rattle.checkpoint.proofs.Rows.{all_looked, none_looked, one_passed, one_touched}
+use Rattle.checkpoint.proofs.DirtyPieces.{all_looked, none_looked, one_passed, one_touched}
 use Rattle.checkpoint.proofs.dirty.dirty_one.Goals as goal
 use Rattle.checkpoint.proofs.dirty.dirty_one.Goals.{then-touched, else-touched}
 

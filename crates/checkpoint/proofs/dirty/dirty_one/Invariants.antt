@@ -1,5 +1,5 @@
 -- Of the pieces so far those that the message may change are dirty, and all others are as they were.
-use Rattle.checkpoint.proofs.Rows.{AreMarked}
+use Rattle.checkpoint.proofs.DirtyPieces.{AreMarked}
 use Rattle.checkpoint.proofs.dirty.dirty_one.Given as goal
 
 abbrev pub invariant-loop-n : goal.invariant-loop-n

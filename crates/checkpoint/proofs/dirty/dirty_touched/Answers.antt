@@ -1,7 +1,7 @@
 -- Each message adds its flags to those of the messages before it.
 use Rattle.std.proofs.Common.{◌∙◌, refl, arith}
 use Rattle.std.proofs.lemmas.List.{take_all}
-use Rattle.checkpoint.proofs.Rows.{message_more, no_message}
+use Rattle.checkpoint.proofs.DirtyPieces.{message_more, no_message}
 use Rattle.checkpoint.proofs.dirty.dirty_touched.Goals as goal
 
 pub loop-m-init : goal.loop-m-init

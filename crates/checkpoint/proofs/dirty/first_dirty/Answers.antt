@@ -1,6 +1,6 @@
 -- Each piece was looked at; where none is dirty, their count is 0.
 use Rattle.std.proofs.Common.{arith}
-use Rattle.checkpoint.proofs.Rows.{clear_next, none_counted}
+use Rattle.checkpoint.proofs.DirtyPieces.{clear_next, none_counted}
 use Rattle.checkpoint.proofs.dirty.first_dirty.Goals as goal
 
 pub loop-n-preserved : goal.loop-n-preserved

@@ -5,7 +5,7 @@ use Rattle.disk.specs.Device.{overlaid}
 use Rattle.checkpoint.specs.Images.{image_in}
 use Rattle.checkpoint.specs.Extents.{extent_at, extent_size}
 use Rattle.checkpoint.proofs.Patches.{image_long, one_patched}
-use Rattle.checkpoint.proofs.Places.{extent_after, extent_inside, extent_rises, extent_some}
+use Rattle.checkpoint.proofs.ExtentLemmas.{extent_after, extent_inside, extent_rises, extent_some}
 use Rattle.device_map.specs.Layout.{slice}
 use Rattle.checkpoint.proofs.extents.write_extent.Goals as goal
 

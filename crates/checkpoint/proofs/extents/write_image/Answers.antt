@@ -2,7 +2,7 @@
 use Rattle.std.proofs.Common.{◌≡◌, ◌+◌, ◌<◌, true, false, length, get_or, refl, sym, ◌∙◌, ap, arith}
 use Rattle.std.proofs.lemmas.Grind.{common_steps}
 use Rattle.std.proofs.lemmas.Result.{on_ok_weaker}
-use Rattle.oplog.proofs.Answered.{err_is, on_ok_under}
+use Rattle.oplog.proofs.Results.{err_is, on_ok_under}
 use Rattle.disk.specs.Device.{moment_number}
 use Rattle.disk.proofs.Calls.{after_sync}
 use Rattle.image.specs.Pieces.{piece_count}
@@ -10,7 +10,7 @@ use Rattle.checkpoint.specs.Costs.{count_runs}
 use Rattle.checkpoint.specs.Extents.{extent_at}
 use Rattle.checkpoint.proofs.Costs.{run_closed, run_ended, run_failed, run_goes_on, runs_begun, takes_with}
 use Rattle.checkpoint.proofs.Patches.{along_patch, patch_begun, patch_moments, patch_passed, patch_synced, patched}
-use Rattle.checkpoint.proofs.Places.{extent_end, extent_after, extent_inside, extent_some}
+use Rattle.checkpoint.proofs.ExtentLemmas.{extent_end, extent_after, extent_inside, extent_some}
 use Rattle.device_map.specs.Layout.{image_size}
 use Rattle.checkpoint.proofs.extents.write_image.Goals as goal
 use Rattle.checkpoint.proofs.extents.write_image.Goals.{then-not-is_dirty+in_ok-write_run, else-not-is_dirty}

@@ -1,9 +1,9 @@
 -- A write within an image changes, at each moment, that image alone; an empty run writes nothing.
 use Rattle.std.proofs.Common.{arith}
 use Rattle.std.proofs.lemmas.Result.{on_ok_weaker}
-use Rattle.checkpoint.proofs.Runs.{nothing_written, part_begun, run_inside, run_moments, run_ready, run_same, run_written}
+use Rattle.checkpoint.proofs.PieceRuns.{nothing_written, part_begun, run_inside, run_moments, run_ready, run_same, run_written}
 use Rattle.device_map.specs.Layout.{layout_of, image_part}
-use Rattle.oplog.proofs.Slices.{same_but_none}
+use Rattle.oplog.proofs.PartLemmas.{same_but_none}
 use Rattle.checkpoint.proofs.extents.write_run.Goals as goal
 
 pub returns-clause-any_moment : goal.returns-clause-any_moment

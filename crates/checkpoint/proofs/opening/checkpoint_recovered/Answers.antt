@@ -1,14 +1,14 @@
 -- All pieces are dirty, so the snapshot is the image of the whole state, and is written in one run.
 use Rattle.std.proofs.Common.{Bool, List, length, refl, sym, ◌∙◌, ap, subst, arith, true≢false}
-use Rattle.oplog.proofs.Answered.{err_is}
+use Rattle.oplog.proofs.Results.{err_is}
 use Rattle.affinity.specs.declared.geometry.Geometry.{Geometry}
 use Rattle.image.specs.Image.{image_of, image_state}
 use Rattle.image.proofs.ReadImage.{read_again}
 use Rattle.checkpoint.specs.Costs.{count_runs}
 use Rattle.checkpoint.specs.Extents.{AreAllDirty}
 use Rattle.checkpoint.proofs.Costs.{one_run}
-use Rattle.checkpoint.proofs.Rows.{whole_put}
-use Rattle.checkpoint.proofs.PointOrCut.{whole_again}
+use Rattle.checkpoint.proofs.DirtyPieces.{whole_put}
+use Rattle.checkpoint.proofs.Snapshots.{whole_again}
 use Rattle.parcel.specs.Tree.{state_in}
 use Rattle.checkpoint.proofs.opening.checkpoint_recovered.Goals as goal
 

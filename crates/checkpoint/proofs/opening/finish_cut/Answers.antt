@@ -5,8 +5,8 @@ use Rattle.image.specs.Image.{image_state}
 use Rattle.image.proofs.ReadImage.{read_again}
 use Rattle.checkpoint.specs.Extents.{AreAllDirty}
 use Rattle.checkpoint.proofs.AreLoaded.{unfinished_cut}
-use Rattle.checkpoint.proofs.Rows.{whole_put}
-use Rattle.checkpoint.proofs.PointOrCut.{whole_again}
+use Rattle.checkpoint.proofs.DirtyPieces.{whole_put}
+use Rattle.checkpoint.proofs.Snapshots.{whole_again}
 use Rattle.parcel.specs.Tree.{state_in}
 use Rattle.checkpoint.proofs.opening.finish_cut.Goals as goal
 

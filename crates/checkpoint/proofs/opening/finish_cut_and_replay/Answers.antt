@@ -1,17 +1,17 @@
 -- The cut is finished, and then the records behind it are run; if one is bad, the device is refused for it, as it was before.
 use Rattle.std.proofs.Common.{length, ◌≡◌, ℕ, List, Option, Some, refl, sym, ◌∙◌, ap, subst, arith}
-use Rattle.oplog.proofs.Answered.{err_is}
+use Rattle.oplog.proofs.Results.{err_is}
 use Rattle.affinity.specs.declared.geometry.Geometry.{Geometry}
 use Rattle.recovery.specs.declared.fault.OpenFault.{OpenFault}
 use Rattle.recovery.specs.OpenFaults.{IsConsistentFault, records_fault}
 use Rattle.recovery.specs.Recovery.{decoding}
 use Rattle.recovery.specs.Refusals.{first_bad_record}
 use Rattle.recovery.proofs.Replays.{same_bytes}
-use Rattle.disk.proofs.Leaves.{itself}
-use Rattle.disk.proofs.Moments.{leaves_now, same}
+use Rattle.disk.proofs.IsTornFrom.{itself}
+use Rattle.disk.proofs.CrashImagesAre.{leaves_now, same}
 use Rattle.image.specs.Image.{image_state}
 use Rattle.checkpoint.specs.RecoversByArea.{area_state}
-use Rattle.recovery.proofs.BadRecordBehind.{behind_fine, behind_holds, behind_refused}
+use Rattle.recovery.proofs.NamedHolds.{behind_fine, behind_holds, behind_refused}
 use Rattle.checkpoint.proofs.AreLoaded.{are_loaded}
 use Rattle.checkpoint.proofs.OpeningCrashImages.{alone_finished, bad_half, still_synced}
 use Rattle.oplog.specs.HalfContent.{front}

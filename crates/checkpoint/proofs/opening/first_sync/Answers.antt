@@ -1,6 +1,6 @@
 -- A sync changes no byte, so until it is over a crash leaves what one before it could.
 use Rattle.disk.proofs.Calls.{after_sync}
-use Rattle.disk.proofs.Moments.{started}
+use Rattle.disk.proofs.CrashImagesAre.{started}
 use Rattle.oplog.proofs.Beyond.{beyond_sync}
 use Rattle.checkpoint.proofs.opening.first_sync.Goals as goal
 

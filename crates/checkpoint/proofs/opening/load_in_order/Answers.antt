@@ -1,6 +1,6 @@
 -- Without a cut in progress the named area holds the state; else the cut is finished, and the records behind it are run.
 use Rattle.std.proofs.Common.{ℕ, List, length, false, refl, sym, ◌∙◌, ap, subst, arith}
-use Rattle.oplog.proofs.Answered.{err_is}
+use Rattle.oplog.proofs.Results.{err_is}
 use Rattle.std.proofs.lemmas.Bool.{not-true, not-false}
 use Rattle.std.proofs.lemmas.Result.{IfErr-weaker, on_ok_weaker}
 use Rattle.recovery.specs.Loading.{NamedHolds}
@@ -10,7 +10,7 @@ use Rattle.recovery.proofs.Replays.{same_bytes}
 use Rattle.checkpoint.specs.Costs.{finish_cost}
 use Rattle.checkpoint.specs.OpeningSteps.{IsFaultAfterCut}
 use Rattle.checkpoint.proofs.Costs.{finish_is, takes_with}
-use Rattle.recovery.proofs.BadRecordBehind.{alone_fine, alone_holds}
+use Rattle.recovery.proofs.NamedHolds.{alone_fine, alone_holds}
 use Rattle.checkpoint.proofs.AreLoaded.{are_loaded, alone_recovers, held_after}
 use Rattle.checkpoint.proofs.OpeningCrashImages.{alike_after, alike_read, all_unwritten, bad_behind, bad_from, bad_synced, still_after, still_read, still_synced, unread}
 use Rattle.device_map.specs.Layout.{layout_of, other}

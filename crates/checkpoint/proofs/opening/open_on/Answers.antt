@@ -1,7 +1,7 @@
 -- Until the first sync is over, a crash leaves what one before it could; from then on, what it leaves while a synced device is opened.
 use Rattle.std.proofs.Common.{ℕ, List, sym, subst, arith}
 use Rattle.std.proofs.lemmas.Result.{IfOk-weaker, IfErr-weaker}
-use Rattle.oplog.proofs.Answered.{err_is}
+use Rattle.oplog.proofs.Results.{err_is}
 use Rattle.recovery.specs.Header.{HasHeader}
 use Rattle.recovery.specs.Refusals.{HasHeaderAndParts}
 use Rattle.checkpoint.specs.OpeningSteps.{IsMadeOf}

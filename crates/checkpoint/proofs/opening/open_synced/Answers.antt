@@ -1,13 +1,13 @@
 -- Header, memory, load and last point, one after the other: a refusal is one that the bytes show, and what a crash leaves
 -- recovers to the same, or is refused alike.
 use Rattle.std.proofs.Common.{◌≡◌, ◌≤◌, List, ℕ, length, sym, ◌∙◌, ap, subst, arith}
-use Rattle.oplog.proofs.Answered.{err_is}
+use Rattle.oplog.proofs.Results.{err_is}
 use Rattle.affinity.specs.declared.geometry.Geometry.{Geometry}
 use Rattle.recovery.specs.Header.{HasHeader}
 use Rattle.recovery.specs.Recovery.{recovered_state}
 use Rattle.recovery.specs.Refusals.{refused}
 use Rattle.recovery.proofs.OneGeometry.{same_geometry}
-use Rattle.recovery.proofs.Refused.{behind_header, header_half}
+use Rattle.recovery.proofs.Refusals.{behind_header, header_half}
 use Rattle.recovery.proofs.Replays.{same_bytes}
 use Rattle.checkpoint.specs.Costs.{finish_cost}
 use Rattle.checkpoint.specs.declared.journal.Buffers.{Buffers}

@@ -7,7 +7,7 @@ use Rattle.meaning.specs.State.{IsState}
 use Rattle.image.specs.Pieces.{piece_count, piece_of}
 use Rattle.checkpoint.specs.Extents.{AreCleanExtentsOf}
 use Rattle.image.proofs.JoinedPieces.{piece_inside, whole_image}
-use Rattle.checkpoint.proofs.SnapshotBytes.{all_put, headed, none_behind, pass_one, put_one}
+use Rattle.checkpoint.proofs.Snapshots.{all_put, headed, none_behind, pass_one, put_one}
 use Rattle.affinity.specs.declared.geometry.Geometry.{Geometry}
 use Rattle.device_map.specs.Layout.{image_size}
 use Rattle.parcel.specs.Tree.{state_in}

@@ -1,5 +1,5 @@
 -- Up to the next piece the bytes are those of the image, if the clean pieces were those of the state at first.
-use Rattle.checkpoint.proofs.SnapshotBytes.{IsSnapshotTo}
+use Rattle.checkpoint.proofs.Snapshots.{IsSnapshotTo}
 use Rattle.parcel.specs.Tree.{state_in}
 use Rattle.checkpoint.proofs.snapshot.update_snapshot.Given as goal
 

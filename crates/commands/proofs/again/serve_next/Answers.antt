@@ -1,5 +1,5 @@
 -- What is promised of the service, of which is not asked what follows.
-use Rattle.disk.proofs.Leaves.{itself}
+use Rattle.disk.proofs.IsTornFrom.{itself}
 use Rattle.commands.proofs.Promise.{then_so}
 use Rattle.commands.proofs.again.serve_next.Goals as goal
 

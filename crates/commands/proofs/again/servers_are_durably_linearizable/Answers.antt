@@ -1,5 +1,5 @@
 -- The lemma over the list of servers.
-use Rattle.commands.proofs.Durable.{are_linearizable}
+use Rattle.commands.proofs.DurableLinearizability.{are_linearizable}
 use Rattle.commands.proofs.again.servers_are_durably_linearizable.Goals as goal
 
 pub returns : goal.returns

@@ -1,6 +1,6 @@
 -- For each kind of request: refused arguments do nothing, and all others end as the run of their request.
 use Rattle.std.proofs.Common.{map, string_bytes, inr, inl, refl, Ok, Err}
-use Rattle.commands.proofs.CallEnds.{exits_for_memory, formatted, helped, is_refused, is_reported, nothing_written, numbers_fit, refused_by, served, served_on, shown}
+use Rattle.commands.proofs.Exits.{exits_for_memory, formatted, helped, is_refused, is_reported, nothing_written, numbers_fit, refused_by, served, served_on, shown}
 use Rattle.disk.specs.declared.fault.FileFault.TheVariants as file
 use Rattle.arguments.proofs.Asks.{ask_for_nothing}
 use Rattle.arguments.proofs.Examples.{asks_alone}

@@ -1,5 +1,5 @@
 -- In a core that was just opened nothing waits or is held.
-use Rattle.commands.proofs.OnDevice.{is_idle}
+use Rattle.commands.proofs.ServedDevice.{is_idle}
 use Rattle.commands.proofs.serve.run_opened.Goals as goal
 
 pub serve-requires-clause-idle : goal.serve-requires-clause-idle

@@ -2,9 +2,9 @@
 use Rattle.std.proofs.Common.{refl}
 use Rattle.serving.specs.Exchange.{exchange}
 use Rattle.commands.specs.Faults.{command_result}
-use Rattle.commands.proofs.SentIsKept.{keeps_acknowledged}
+use Rattle.commands.proofs.Acknowledged.{keeps_acknowledged}
 use Rattle.commands.proofs.Promise.{leaves_recovered, leaves_run}
-use Rattle.commands.proofs.OnDevice.{ends_on_device, crashes_safely, has_served_by}
+use Rattle.commands.proofs.ServedDevice.{ends_on_device, crashes_safely, has_served_by}
 use Rattle.commands.proofs.serve.serve_on.Goals as goal
 
 pub returns-in-Err-clause-ends : goal.returns-in-Err-clause-ends

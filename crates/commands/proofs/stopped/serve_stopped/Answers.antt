@@ -5,7 +5,7 @@ use Rattle.disk.specs.Device.{IsSynced}
 use Rattle.disk.specs.Memory.{Memory, medium_of, memory_of}
 use Rattle.serving.specs.Exchange.{exchange}
 use Rattle.commands.specs.UntilCrash.{ServesUntilCrash}
-use Rattle.commands.proofs.SentIsKept.{all_then}
+use Rattle.commands.proofs.Acknowledged.{all_then}
 use Rattle.commands.proofs.Promise.{then_so}
 use Rattle.commands.proofs.stopped.serve_stopped.Goals as goal
 

@@ -2,7 +2,7 @@
 use Rattle.std.proofs.lemmas.Grind.{common_steps}
 use Rattle.std.proofs.Common.{arith}
 use Rattle.std.proofs.lemmas.List.{drop-replicate, take-replicate}
-use Rattle.disk.proofs.Outside.{refreshed}
+use Rattle.disk.proofs.SameOutside.{refreshed}
 use Rattle.disk.proofs.ranges.clear.Goals as goal
 
 pub returns : goal.returns

@@ -1,5 +1,5 @@
 -- Outside the range the two rows agree already, and inside it one is copied from the other.
-use Rattle.disk.proofs.Outside.{refreshed}
+use Rattle.disk.proofs.SameOutside.{refreshed}
 use Rattle.disk.proofs.ranges.refresh.Goals as goal
 
 pub returns : goal.returns

@@ -1,7 +1,7 @@
 -- An unsynced byte becomes what this kind of crash leaves there, and a synced one stays.
 use Rattle.std.proofs.Common.{arith}
 use Rattle.disk.specs.CrashImages.{torn_byte}
-use Rattle.disk.proofs.Crashes.{torn_more, kept_more}
+use Rattle.disk.proofs.TornSoFar.{torn_more, kept_more}
 use Rattle.disk.proofs.torn.tear.Goals as goal
 use Rattle.disk.proofs.torn.tear.Goals.{then-is_unsynced, else-is_unsynced}
 

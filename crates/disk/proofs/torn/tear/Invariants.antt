@@ -1,7 +1,7 @@
 -- The bytes so far are torn: tearing the others as well gives what tearing all bytes at first would have given.
 use Rattle.std.proofs.Common.{◌≡◌, ◌≤◌}
 use Rattle.disk.specs.CrashImages.{torn_byte, torn_from}
-use Rattle.disk.proofs.Crashes.{torn_so_far}
+use Rattle.disk.proofs.TornSoFar.{torn_so_far}
 use Rattle.disk.proofs.torn.tear.Given as goal
 
 abbrev pub invariant-loop-i : goal.invariant-loop-i

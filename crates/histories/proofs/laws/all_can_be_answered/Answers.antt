@@ -1,5 +1,6 @@
 -- The lemmas on draining.
-use Rattle.histories.proofs.AllAnswered.{any_drains, can_answer_all, can_drain, can_step}
+use Rattle.histories.proofs.AllAnswered.{any_drains, can_answer_all, can_drain}
+use Rattle.histories.proofs.CanStep.{can_step}
 use Rattle.histories.proofs.laws.all_can_be_answered.Goals as goal
 
 pub returns-clause-step : goal.returns-clause-step

@@ -1,5 +1,5 @@
 -- The lemmas on steps.
-use Rattle.histories.proofs.Steps.{run_counts, run_ends, run_from_idle}
+use Rattle.histories.proofs.StepsToCome.{run_counts, run_ends, run_from_idle}
 use Rattle.histories.proofs.laws.each_message_takes_five_steps.Goals as goal
 
 pub returns-clause-steps : goal.returns-clause-steps

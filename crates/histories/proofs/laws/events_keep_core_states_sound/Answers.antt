@@ -1,6 +1,6 @@
 -- The lemmas on core states in which nothing waits or is held, and on events.
 use Rattle.histories.proofs.Idle.{idle_sound}
-use Rattle.histories.proofs.Sound.{event_sound}
+use Rattle.histories.proofs.IsSoundCoreState.{event_sound}
 use Rattle.histories.proofs.laws.events_keep_core_states_sound.Goals as goal
 
 pub returns-clause-idle : goal.returns-clause-idle

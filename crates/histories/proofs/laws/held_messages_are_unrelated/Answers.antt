@@ -2,7 +2,7 @@
 use Rattle.affinity.proofs.Elements.{all_weaker}
 use Rattle.histories.specs.CoreState.{held, AreUnrelated}
 use Rattle.histories.specs.IsSoundCoreState.{IsSoundCoreState}
-use Rattle.histories.proofs.Sound.{run_sound}
+use Rattle.histories.proofs.IsSoundCoreState.{run_sound}
 use Rattle.histories.proofs.laws.held_messages_are_unrelated.Goals as goal
 
 pub returns : goal.returns

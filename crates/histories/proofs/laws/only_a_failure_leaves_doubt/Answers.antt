@@ -1,5 +1,5 @@
 -- The lemma on events.
-use Rattle.histories.proofs.Sound.{event_doubts}
+use Rattle.histories.proofs.IsSoundCoreState.{event_doubts}
 use Rattle.histories.proofs.laws.only_a_failure_leaves_doubt.Goals as goal
 
 pub returns : goal.returns

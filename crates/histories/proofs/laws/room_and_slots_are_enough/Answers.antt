@@ -1,6 +1,6 @@
 -- The lemmas on room.
 use Rattle.histories.proofs.Room.{log_has_room}
-use Rattle.histories.proofs.Sound.{run_fits}
+use Rattle.histories.proofs.IsSoundCoreState.{run_fits}
 use Rattle.histories.proofs.laws.room_and_slots_are_enough.Goals as goal
 
 pub returns-clause-run : goal.returns-clause-run

@@ -1,5 +1,5 @@
 -- The lemmas on cutting and on lengths.
-use Rattle.image.proofs.Cuts.{piece_again}
+use Rattle.image.proofs.PieceIn.{piece_again}
 use Rattle.image.proofs.JoinedPieces.{whole_image}
 use Rattle.image.proofs.Measures.{length-piece, state_is_measured}
 use Rattle.image.proofs.laws.an_image_is_cut_into_its_pieces.Goals as goal

@@ -1,5 +1,5 @@
 -- The lemmas on the walk over the pieces.
-use Rattle.image.proofs.Walk.{first_are_a_state, no_blocks_yet, good_is_seen, good_is_read, read_is_good}
+use Rattle.image.proofs.GoodPieces.{first_are_a_state, no_blocks_yet, good_is_seen, good_is_read, read_is_good}
 use Rattle.image.proofs.laws.an_image_is_read_piece_by_piece.Goals as goal
 
 pub returns-clause-state : goal.returns-clause-state

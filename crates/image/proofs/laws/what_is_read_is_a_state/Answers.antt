@@ -1,5 +1,5 @@
 -- The lemma `read_is_a_state` of `Walk`.
-use Rattle.image.proofs.Walk.{read_is_a_state}
+use Rattle.image.proofs.GoodPieces.{read_is_a_state}
 use Rattle.image.proofs.laws.what_is_read_is_a_state.Goals as goal
 
 pub returns : goal.returns

@@ -1,6 +1,6 @@
 -- The lemma on calls that leave the device alone.
 use Rattle.std.proofs.Common.{Some, None}
-use Rattle.scheduler.proofs.Events.{answer_step}
+use Rattle.scheduler.proofs.MachineSteps.{answer_step}
 use Rattle.machine.proofs.stepping.answer.Goals as goal
 
 pub returns-in-Some : goal.returns-in-Some

@@ -2,7 +2,7 @@
 use Rattle.std.proofs.Common.{ℕ, Some, get_or, sym, ◌∙◌, ap, subst}
 use Rattle.std.specs.Prelude.{slice_set}
 use Rattle.std.proofs.lemmas.Option.{slice_get-get_or}
-use Rattle.scheduler.proofs.Events.{back_holds, back_nowhere, back_step, no_result, taken, was_result}
+use Rattle.scheduler.proofs.MachineSteps.{back_holds, back_nowhere, back_step, no_result, taken, was_result}
 use Rattle.scheduler.specs.Hands.{HoldsJobs}
 use Rattle.scheduler.specs.Steps.{IsMachineStep}
 use Rattle.scheduler.specs.declared.hands.HandContent.{HandContent}

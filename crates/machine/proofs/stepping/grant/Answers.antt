@@ -5,7 +5,7 @@ use Rattle.histories.specs.declared.outcomes.Outcome.TheVariants as outcomes
 use Rattle.histories.specs.declared.outcomes.Step.TheVariants as steps
 use Rattle.scheduler.specs.Steps.{IsMachineStep}
 use Rattle.scheduler.specs.declared.hands.HandContent.TheVariants as has
-use Rattle.scheduler.proofs.Events.{failed_step, grant_holds, grant_step, no_grant_step, no_hand, position_within, still_holds}
+use Rattle.scheduler.proofs.MachineSteps.{failed_step, grant_holds, grant_step, no_grant_step, no_hand, position_within, still_holds}
 use Rattle.machine.proofs.stepping.grant.Goals as goal
 
 pub returns-in_default-clause-step : goal.returns-in_default-clause-step

@@ -1,7 +1,7 @@
 -- A step of the core alone leaves the hands with the jobs of what is in flight: by `core_holds`.
 use Rattle.std.proofs.Common.{refl}
 use Rattle.histories.specs.declared.outcomes.Step.TheVariants as steps
-use Rattle.scheduler.proofs.Events.{core_holds}
+use Rattle.scheduler.proofs.MachineSteps.{core_holds}
 use Rattle.machine.proofs.stepping.make_step.Goals as goal
 
 pub returns-in-Arrive-clause-holds : goal.returns-in-Arrive-clause-holds

@@ -2,7 +2,7 @@
 -- where its job was run, and where it has none.
 use Rattle.std.proofs.Common.{get_or}
 use Rattle.std.proofs.lemmas.Option.{slice_get-get_or}
-use Rattle.scheduler.proofs.Events.{a_job, no_job, run_nowhere}
+use Rattle.scheduler.proofs.MachineSteps.{a_job, no_job, run_nowhere}
 use Rattle.machine.proofs.stepping.run_job.Goals as goal
 
 pub returns-then-hand-hands-clause-step : goal.returns-then-hand-hands-clause-step

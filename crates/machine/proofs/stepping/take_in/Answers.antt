@@ -1,6 +1,6 @@
 -- The lemma on calls that leave the device alone.
 use Rattle.std.proofs.Common.{Ok, Err}
-use Rattle.scheduler.proofs.Events.{arrive_step}
+use Rattle.scheduler.proofs.MachineSteps.{arrive_step}
 use Rattle.machine.proofs.stepping.take_in.Goals as goal
 
 pub returns-in-Ok : goal.returns-in-Ok

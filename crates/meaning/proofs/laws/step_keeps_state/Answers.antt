@@ -1,5 +1,5 @@
 -- Each effect keeps numbers in range, lengths and quotas, and so do steps, one after the other.
-use Rattle.meaning.proofs.Kept.{empty_is_state, step_kept, fold_kept}
+use Rattle.meaning.proofs.IsState.{empty_is_state, step_kept, fold_kept}
 use Rattle.meaning.proofs.laws.step_keeps_state.Goals as goal
 
 pub returns-clause-nothing : goal.returns-clause-nothing

@@ -1,6 +1,6 @@
 -- Writing a part of the buffer keeps what is before and behind it.
 use Rattle.std.proofs.Common.{refl, arith}
-use Rattle.message.proofs.Assembly.{appends_part}
+use Rattle.message.proofs.AppendsText.{appends_part}
 use Rattle.message.proofs.printing.append.Goals as goal
 
 pub returns : goal.returns

@@ -1,7 +1,7 @@
 -- The bytes up to the last that isn't 0 are written as two digits each.
 use Rattle.std.proofs.Common.{◌≡◌, ℕ, ◌*◌, List, length, take, arith, length-take-le}
 use Rattle.hex.specs.Hex.{encode_lower}
-use Rattle.message.proofs.Assembly.{appends_part, appends_same, length-lower, shown_by}
+use Rattle.message.proofs.AppendsText.{appends_part, appends_same, length-lower, shown_by}
 use Rattle.message.proofs.printing.append_shown.Goals as goal
 
 pub returns-clause-text : goal.returns-clause-text

@@ -1,7 +1,8 @@
 -- The lowest bit of those that are left is the next file; where none is left, all files are listed.
 use Rattle.std.proofs.lemmas.Grind.{common_steps}
 use Rattle.std.proofs.Common.{◌/◌, ◌^◌, ◌<◌, arith}
-use Rattle.message.proofs.Assembly.{appends_more, appends_same, all_files, files_end, next_file}
+use Rattle.message.proofs.AppendsText.{appends_more, appends_same}
+use Rattle.message.proofs.FilesText.{all_files, files_end, next_file}
 use Rattle.message.proofs.printing.write_files.Goals as goal
 
 pub loop-from-init : goal.loop-from-init

@@ -1,5 +1,5 @@
 -- The keyword and three numbers are appended one behind the other.
-use Rattle.message.proofs.Assembly.{appends_more}
+use Rattle.message.proofs.AppendsText.{appends_more}
 use Rattle.message.proofs.printing.write_summary.Goals as goal
 
 pub returns-clause-text : goal.returns-clause-text

@@ -1,7 +1,7 @@
 -- The keyword, two numbers and whether the volume is sealed are appended one behind the other.
 use Rattle.std.proofs.Common.{sym, ap, codes}
 use Rattle.std.specs.Prelude.{if◌then◌else◌}
-use Rattle.message.proofs.Assembly.{appends_more, appends_same}
+use Rattle.message.proofs.AppendsText.{appends_more, appends_same}
 use Rattle.message.proofs.printing.write_usage.Goals as goal
 
 pub returns-then-sealed-clause-text : goal.returns-then-sealed-clause-text

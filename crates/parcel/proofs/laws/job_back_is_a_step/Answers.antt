@@ -1,5 +1,5 @@
 -- The run is a serial step of the state that the job was lent from, and all else that is out is unrelated to it.
-use Rattle.parcel.proofs.Holding.{job_goes_back, job_reply, job_is_back}
+use Rattle.parcel.proofs.TreeHolds.{job_goes_back, job_reply, job_is_back}
 use Rattle.parcel.proofs.laws.job_back_is_a_step.Goals as goal
 
 pub returns-clause-ok : goal.returns-clause-ok

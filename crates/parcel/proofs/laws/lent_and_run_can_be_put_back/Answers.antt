@@ -1,6 +1,6 @@
 -- What was lent left its place out, and a run leaves parcels that the message can run on again: so they fit there.
-use Rattle.parcel.proofs.Holding.{lent_is_out, ran_goes_back}
-use Rattle.parcel.proofs.Lending.{kind_of}
+use Rattle.parcel.proofs.TreeHolds.{lent_is_out, ran_goes_back}
+use Rattle.parcel.proofs.LendsAndRestores.{kind_of}
 use Rattle.parcel.proofs.laws.lent_and_run_can_be_put_back.Goals as goal
 
 pub returns-clause-out : goal.returns-clause-out

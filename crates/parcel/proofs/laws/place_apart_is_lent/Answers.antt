@@ -1,5 +1,5 @@
 -- Nothing that is out is related to the place: so all at it, above it and below it is in, and what is lent shows the state.
-use Rattle.parcel.proofs.Holding.{can_be_lent, lent_shows, lent_holds, holds_alike}
+use Rattle.parcel.proofs.TreeHolds.{can_be_lent, lent_shows, lent_holds, holds_alike}
 use Rattle.parcel.proofs.laws.place_apart_is_lent.Goals as goal
 
 pub returns-clause-some : goal.returns-clause-some

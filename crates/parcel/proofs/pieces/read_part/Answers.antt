@@ -5,7 +5,7 @@ use Rattle.device_map.specs.declared.layout.TheConstants.{BLOCK_ENTRY_SIZE}
 use Rattle.protocol.specs.Messages.{AreSizedBytes}
 use Rattle.image.specs.Pieces.{piece_part_size}
 use Rattle.parcel.specs.Pieces.{IsPieceOfVolumeRead}
-use Rattle.parcel.proofs.PieceParts.{stripe_is_read, volume_is_read}
+use Rattle.parcel.proofs.ReadPieces.{stripe_is_read, volume_is_read}
 use Rattle.parcel.proofs.pieces.read_part.Goals as goal
 
 pub returns-then-part-eq0 : goal.returns-then-part-eq0

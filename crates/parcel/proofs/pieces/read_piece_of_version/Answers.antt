@@ -5,10 +5,10 @@ use Rattle.affinity.specs.Path.{volume, IsPath}
 use Rattle.affinity.proofs.Elements.{all_bytes}
 use Rattle.meaning.specs.State.{State, IsState}
 use Rattle.image.specs.Pieces.{aggregate_of, volume_of, part_of, piece_of, part_piece, piece_part_size, with_part, with_piece}
-use Rattle.image.proofs.Numbers.{in_aggregates, in_volumes}
+use Rattle.image.proofs.PieceNumbers.{in_aggregates, in_volumes}
 use Rattle.parcel.specs.Nodes.{child_nodes, root_nodes, tree_state}
 use Rattle.parcel.specs.Pieces.{CanReadPiece}
-use Rattle.parcel.proofs.PieceParts.{has_volume, piece_is_there}
+use Rattle.parcel.proofs.ReadPieces.{has_volume, piece_is_there}
 use Rattle.parcel.proofs.PiecesTaken.{part_state, read_good, read_taken, read_in}
 use Rattle.parcel.proofs.VolumeWritten.{fits_with}
 use Rattle.parcel.proofs.pieces.read_piece_of_version.Goals as goal

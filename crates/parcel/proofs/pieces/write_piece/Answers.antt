@@ -2,7 +2,7 @@
 use Rattle.std.proofs.Common.{sym, subst, ◌∙◌}
 use Rattle.image.specs.Pieces.{part_piece}
 use Rattle.parcel.specs.Tree.{IsWholeTree, state_in}
-use Rattle.parcel.proofs.PieceParts.{piece_is_there, has_volume}
+use Rattle.parcel.proofs.ReadPieces.{piece_is_there, has_volume}
 use Rattle.parcel.proofs.pieces.write_piece.Goals as goal
 
 pub write_part-requires-clause-fits : goal.write_part-requires-clause-fits

@@ -6,7 +6,7 @@ use Rattle.std.proofs.lemmas.Result.{IfOk-from_err}
 use Rattle.message.specs.Reader.{unread}
 use Rattle.message.specs.BufferedOutput.{all_output}
 use Rattle.message.specs.AppendsBeginning.{AppendsBeginning}
-use Rattle.message.proofs.Beginnings.{none_waits}
+use Rattle.message.proofs.BufferedOutput.{none_waits}
 use Rattle.plain.specs.Server.{server_state}
 use Rattle.plain.proofs.Beginnings.{begins_output}
 use Rattle.plain.proofs.SessionSteps.{begins, stops_short}

@@ -8,7 +8,7 @@ use Rattle.message.specs.Reader.{unread, line_of, source}
 use Rattle.protocol.specs.Grammar.{message_of}
 use Rattle.protocol.specs.Replies.{no_message}
 use Rattle.message.specs.BufferedOutput.{all_output}
-use Rattle.message.proofs.NextLine.{adds_so_far}
+use Rattle.message.proofs.BufferedOutput.{adds_so_far}
 use Rattle.plain.specs.Server.{server_state}
 use Rattle.meaning.specs.Output.{answer_line as line_answer, state_after_line}
 use Rattle.plain.proofs.SessionSteps.{goes_on, answers_line, answers_long_line, ends, fails, stops_short}

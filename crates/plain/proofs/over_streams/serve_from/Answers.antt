@@ -5,7 +5,7 @@ use Rattle.std.specs.Io.KnownBytes.{IsAtEnd}
 use Rattle.std.proofs.lemmas.Result.{IfOk-from_err, on_ok_weaker}
 use Rattle.message.specs.BufferedOutput.{all_output}
 use Rattle.message.specs.AppendsBeginning.{AppendsBeginning}
-use Rattle.message.proofs.Beginnings.{none_waits}
+use Rattle.message.proofs.BufferedOutput.{none_waits}
 use Rattle.meaning.specs.State.{empty}
 use Rattle.meaning.specs.Output.{AnswersWholeLines, IsBeginning, WritesOutput, serial_output}
 use Rattle.plain.specs.declared.fault.PlainFault.TheVariants.{Write}

@@ -2,7 +2,7 @@
 use Rattle.std.proofs.Common.{Bool, not, None, sym, ◌∙◌, ap, arith}
 use Rattle.image.specs.Image.{has_head, version_in}
 use Rattle.device_map.specs.Layout.{image_part, layout_of, part_bytes}
-use Rattle.oplog.proofs.Slices.{image_sized, part_inside}
+use Rattle.oplog.proofs.PartLemmas.{image_sized, part_inside}
 use Rattle.recovery.specs.declared.fault.OpenFault.TheVariants.{BadVersion}
 use Rattle.recovery.specs.Refusals.{fault_if}
 use Rattle.recovery.proofs.Heads.{has_head_first, head_there, version_first}

@@ -1,6 +1,6 @@
 -- A refusal before the first call of the device leaves what a crash could leave before.
 use Rattle.std.proofs.Common.{inl}
-use Rattle.disk.proofs.Moments.{started}
+use Rattle.disk.proofs.CrashImagesAre.{started}
 use Rattle.device_map.specs.Layout.{layout_of}
 use Rattle.oplog.proofs.Beyond.{beyond_none}
 use Rattle.recovery.proofs.formatting.format.Goals as goal

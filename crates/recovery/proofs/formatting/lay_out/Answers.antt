@@ -1,7 +1,7 @@
 -- All four writes lie between the header and the end of the parts; together they lay out the empty state.
 use Rattle.std.proofs.Common.{◌+◌, ℕ, List, [], ◌∷◌, replicate, sym, ◌∙◌, ap, subst, arith}
 use Rattle.recovery.specs.Formatting.{IsAllButHeader}
-use Rattle.recovery.proofs.Changed.{changed_then, changed_within}
+use Rattle.recovery.proofs.CrashesChangeOnly.{changed_then, changed_within}
 use Rattle.recovery.proofs.LaidOut.{image_some, laid_out}
 use Rattle.disk.specs.Device.{overlaid}
 use Rattle.std.proofs.lemmas.Result.{on_ok_weaker}

@@ -2,8 +2,8 @@
 use Rattle.std.proofs.Common.{◌+◌, refl, sym, ◌∙◌, arith}
 use Rattle.std.proofs.lemmas.List.{length-take}
 use Rattle.std.proofs.lemmas.Grind.{common_steps}
-use Rattle.oplog.proofs.Slices.{nothing_over}
-use Rattle.recovery.proofs.Changed.{changed_then, changed_within, nothing_changed, some_zeros, zeros_more}
+use Rattle.oplog.proofs.PartLemmas.{nothing_over}
+use Rattle.recovery.proofs.CrashesChangeOnly.{changed_then, changed_within, nothing_changed, some_zeros, zeros_more}
 use Rattle.disk.specs.Device.{overlaid}
 use Rattle.recovery.proofs.formatting.write_zeros.Goals as goal
 

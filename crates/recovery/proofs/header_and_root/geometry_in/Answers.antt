@@ -3,7 +3,7 @@ use Rattle.std.proofs.Common.{ℕ, List, sym, ◌∙◌, subst}
 use Rattle.affinity.specs.Limits.{AreInRange}
 use Rattle.std.proofs.lemmas.Bool.{false≢true}
 use Rattle.std.proofs.lemmas.Slice.Eq.{bytes_eq-Decides}
-use Rattle.affinity.proofs.Numbers.{are_in_range}
+use Rattle.affinity.proofs.GeometryLemmas.{are_in_range}
 use Rattle.recovery.proofs.Heads.{numbers_there, same_header}
 use Rattle.recovery.proofs.header_and_root.geometry_in.Goals as goal
 

@@ -1,12 +1,12 @@
 -- A piece is read from its place in the image; one that can't be taken in is the first bad one.
 use Rattle.std.proofs.Common.{◌≡◌, ℕ, ◌+◌, ◌<◌, ◌≤◌, length, refl, ◌∙◌, ap, arith}
-use Rattle.oplog.proofs.Answered.{err_is}
+use Rattle.oplog.proofs.Results.{err_is}
 use Rattle.affinity.specs.declared.geometry.Geometry.{Geometry}
 use Rattle.image.specs.Pieces.{piece_count}
 use Rattle.device_map.specs.Layout.{image_part, layout_of, part_bytes, part_at}
 use Rattle.parcel.specs.Tree.{state_in}
 use Rattle.recovery.proofs.Replays.{same_bytes}
-use Rattle.recovery.proofs.PiecesWalked.{all_read, bad_queued, free_at_first, free_queued, good_queued, next_place, no_bad_piece, read_there, room_left, decoded_turn}
+use Rattle.recovery.proofs.PieceWalk.{all_read, bad_queued, free_at_first, free_queued, good_queued, next_place, no_bad_piece, read_there, room_left, decoded_turn}
 use Rattle.recovery.proofs.image_reading.read_pieces.Goals as goal
 
 pub loop-n-init : goal.loop-n-init

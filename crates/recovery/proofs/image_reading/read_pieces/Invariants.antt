@@ -1,6 +1,6 @@
 -- The pieces so far were good and are in the tree, where a volume without any of them has no block; the device was only read.
 use Rattle.std.proofs.Common.{◌≡◌, ◌+◌, length}
-use Rattle.recovery.proofs.PiecesWalked.{AreFree}
+use Rattle.recovery.proofs.PieceWalk.{AreFree}
 use Rattle.disk.specs.Device.{moments}
 use Rattle.image.specs.Image.{AreGood, decoded_before, version_in}
 use Rattle.image.specs.Pieces.{piece_at}

@@ -2,7 +2,7 @@
 use Rattle.std.proofs.Common.{◌≡◌, ℕ, sym, ◌∙◌}
 use Rattle.image.specs.Pieces.{piece_of, with_piece}
 use Rattle.parcel.specs.Tree.{state_in}
-use Rattle.recovery.proofs.PiecesWalked.{not_taken, second_version, was_taken}
+use Rattle.recovery.proofs.PieceWalk.{not_taken, second_version, was_taken}
 use Rattle.recovery.proofs.image_reading.take_piece.Goals as goal
 use Rattle.recovery.proofs.image_reading.take_piece.Goals.{then-version-eq-FIRST_VERSION, else-version-eq-FIRST_VERSION}
 

@@ -1,6 +1,6 @@
 -- The records in force are those of the named half, and where it is chained those of the other half behind them.
 use Rattle.std.proofs.Common.{◌≡◌, ◌+◌, ◌≤◌, ℕ, List, length, Some, sym, ◌∙◌, ap, subst, arith}
-use Rattle.oplog.proofs.Answered.{err_is}
+use Rattle.oplog.proofs.Results.{err_is}
 use Rattle.affinity.specs.declared.geometry.Geometry.{Geometry}
 use Rattle.recovery.specs.declared.inspecting.Shown.{Shown}
 use Rattle.recovery.specs.OpenFaults.{IsConsistentFault, records_fault}
@@ -14,9 +14,9 @@ use Rattle.oplog.specs.HalfContent.{front}
 use Rattle.oplog.specs.Log.{Log}
 use Rattle.oplog.specs.Recovery.{run}
 use Rattle.parcel.specs.Tree.{TreeView, state_in}
-use Rattle.recovery.proofs.BadRecordBehind.{HoldsInForce, alone_in_force, behind_refused, both_in_force, held_before}
+use Rattle.recovery.proofs.NamedHolds.{HoldsInForce, alone_in_force, behind_refused, both_in_force, held_before}
 use Rattle.recovery.proofs.ReadingCalls.{after, opening_failed}
-use Rattle.recovery.proofs.Refused.{behind_header}
+use Rattle.recovery.proofs.Refusals.{behind_header}
 use Rattle.recovery.proofs.Replays.{same_bytes}
 use Rattle.recovery.proofs.inspecting.inspect_on.Goals as goal
 use Rattle.recovery.proofs.inspecting.inspect_on.Goals.{then-named+in_ok-more, else-named}

@@ -5,7 +5,7 @@ use Rattle.recovery.specs.Refusals.{fault_if}
 use Rattle.oplog.specs.HalfContent.{chain}
 use Rattle.device_map.specs.Layout.{layout_of, other}
 use Rattle.recovery.proofs.ReadingCalls.{unwritten}
-use Rattle.recovery.proofs.Refused.{both_are, one_not}
+use Rattle.recovery.proofs.Refusals.{both_are, one_not}
 use Rattle.recovery.proofs.loading.chain_of.Goals as goal
 
 pub returns-then-not-named_chained-clause-sound : goal.returns-then-not-named_chained-clause-sound

@@ -1,6 +1,6 @@
 -- The image is read and the records of its half are run; a fault is the first in the order of the checks.
 use Rattle.std.proofs.Common.{◌≡◌, ◌≤◌, ℕ, ◌==◌, false, List, length, None, Option, Some, sym, ◌∙◌, ap, subst, arith}
-use Rattle.oplog.proofs.Answered.{err_is}
+use Rattle.oplog.proofs.Results.{err_is}
 use Rattle.affinity.specs.declared.geometry.Geometry.{Geometry}
 use Rattle.recovery.specs.declared.fault.OpenFault.{OpenFault}
 use Rattle.recovery.specs.declared.fault.OpenFault.TheVariants.{BadChain}
@@ -15,7 +15,7 @@ use Rattle.oplog.specs.Log.{Log}
 use Rattle.oplog.specs.Recovery.{named_area, run}
 use Rattle.parcel.specs.Tree.{state_in}
 use Rattle.recovery.proofs.ReadingCalls.{after, passed_on, returned}
-use Rattle.recovery.proofs.Refused.{chain_half, chain_refused, image_half, image_refused, named_refused, records_half, records_refused}
+use Rattle.recovery.proofs.Refusals.{chain_half, chain_refused, image_half, image_refused, named_refused, records_half, records_refused}
 use Rattle.recovery.proofs.Replays.{same_bytes}
 use Rattle.recovery.proofs.loading.load_named.Given.{Over}
 use Rattle.recovery.proofs.loading.load_named.Goals.{After-name, In_ok-area, In_ok-chained, In_ok-version}

@@ -1,13 +1,13 @@
 -- A bad head is refused before the first bad piece, which is refused where the head is good.
 use Rattle.std.proofs.Common.{◌≤◌, ℕ, Bool, not, List, length, None, Option, sym, ◌∙◌, ap, subst}
-use Rattle.oplog.proofs.Answered.{err_is}
+use Rattle.oplog.proofs.Results.{err_is}
 use Rattle.affinity.specs.declared.geometry.Geometry.{Geometry}
 use Rattle.recovery.specs.declared.fault.OpenFault.TheVariants.{BadPiece, BadVersion}
 use Rattle.recovery.specs.Refusals.{fault_if, fault_or_later, first_bad_piece}
 use Rattle.image.specs.Image.{has_head, image_state, version_in}
 use Rattle.device_map.specs.Layout.{device_size, image_part, layout_of, part_bytes}
 use Rattle.recovery.proofs.ReadingCalls.{after, passed_on, returned, unwritten}
-use Rattle.recovery.proofs.Refused.{head_refused, pieces_refused}
+use Rattle.recovery.proofs.Refusals.{head_refused, pieces_refused}
 use Rattle.recovery.proofs.loading.read_image.Goals as goal
 
 pub returns-in_err-version-clause-refused : goal.returns-in_err-version-clause-refused

@@ -3,7 +3,7 @@ use Rattle.std.proofs.Common.{[], sym, subst}
 use Rattle.affinity.specs.declared.geometry.Geometry.{Geometry}
 use Rattle.parcel.specs.Tree.{IsIn, tree_nodes}
 use Rattle.meaning.specs.State.{IsState, State}
-use Rattle.meaning.proofs.Kept.{empty_is_state}
+use Rattle.meaning.proofs.IsState.{empty_is_state}
 use Rattle.recovery.proofs.loading.take_loading_memory.Goals as goal
 
 pub returns-clause-whole : goal.returns-clause-whole

@@ -1,7 +1,7 @@
 -- Counting only reads the device. All records before this one were run, so one that can't be is the first bad one; else the run goes on.
 use Rattle.std.proofs.Common.{ℕ, List, Ok, Some, refl, sym, ◌∙◌, ap, arith}
 use Rattle.std.proofs.lemmas.List.{at_drop_all}
-use Rattle.oplog.proofs.Answered.{err_is}
+use Rattle.oplog.proofs.Results.{err_is}
 use Rattle.device_map.specs.Layout.{device_size, layout_of}
 use Rattle.oplog.specs.HalfContent.{front}
 use Rattle.oplog.specs.Log.{Log, layout_of_log}

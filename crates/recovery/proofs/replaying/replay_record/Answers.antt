@@ -1,10 +1,10 @@
 -- A record's bytes encode one message or none. The record is run if there is a message whose reply is `Done`; otherwise it is bad.
 use Rattle.std.proofs.Common.{Some, sym, ◌∙◌, ap, subst}
-use Rattle.oplog.proofs.Answered.{err_is}
+use Rattle.oplog.proofs.Results.{err_is}
 use Rattle.affinity.specs.declared.geometry.Geometry.{Geometry}
 use Rattle.oplog.specs.Log.{layout_of_log}
 use Rattle.oplog.specs.ChangeRecords.{IsChangeInRange}
-use Rattle.oplog.proofs.BadRecords.{records_are_bytes}
+use Rattle.oplog.proofs.ChangeRecords.{records_are_bytes}
 use Rattle.parcel.specs.Tree.{state_in}
 use Rattle.recovery.proofs.AfterRecord.{carried, not_run, read_fault}
 use Rattle.recovery.proofs.replaying.replay_record.Goals as goal

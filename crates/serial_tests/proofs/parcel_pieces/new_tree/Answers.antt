@@ -3,7 +3,7 @@ use Rattle.std.proofs.Common.{[], sym, ◌∙◌, ap, subst}
 use Rattle.affinity.specs.Geometry.{numbers_of}
 use Rattle.affinity.specs.declared.geometry.Geometry.{Geometry}
 use Rattle.meaning.specs.State.{IsState}
-use Rattle.meaning.proofs.Kept.{empty_is_state}
+use Rattle.meaning.proofs.IsState.{empty_is_state}
 use Rattle.parcel.specs.Tree.{TreeView, IsIn, tree_nodes}
 use Rattle.serial_tests.proofs.parcel_pieces.new_tree.Goals as goal
 

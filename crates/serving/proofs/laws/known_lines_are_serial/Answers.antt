@@ -2,7 +2,7 @@
 use Rattle.std.proofs.Common.{[], ap, inr, ◌∙◌, append-nil, take, length}
 use Rattle.histories.proofs.Elements.{contains_in, in_contained}
 use Rattle.meaning.specs.Output.{output_lines}
-use Rattle.serving.proofs.Serial.{asked_leads_there, sent_lines_are_serial}
+use Rattle.serving.proofs.HaveSerialReplies.{asked_leads_there, sent_lines_are_serial}
 use Rattle.serving.proofs.laws.known_lines_are_serial.Goals as goal
 
 pub returns-clause-output : goal.returns-clause-output

@@ -1,5 +1,5 @@
 -- The lemma that two segments, one after the other, are one.
-use Rattle.serving.proofs.Chain.{passes_on}
+use Rattle.serving.proofs.RunsBetween.{passes_on}
 use Rattle.serving.proofs.laws.segments_join.Goals as goal
 
 pub returns : goal.returns

@@ -1,5 +1,5 @@
 -- A lemma for each end of a server, and one for the run that led there.
-use Rattle.serving.proofs.AreServed.{ends_at_device, ends_at_read, ends_exhausted, ends_whole, has_served}
+use Rattle.serving.proofs.EndsWith.{ends_at_device, ends_at_read, ends_exhausted, ends_whole, has_served}
 use Rattle.serving.proofs.IsReadEnd.{gives}
 use Rattle.serving.proofs.laws.serving_ends_as_the_serial_server.Goals as goal
 

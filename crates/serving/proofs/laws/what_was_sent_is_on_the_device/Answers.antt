@@ -1,5 +1,5 @@
 -- The lemmas on what was sent.
-use Rattle.serving.proofs.Logged.{holds_all, holds_logged, written_are_kept}
+use Rattle.serving.proofs.HoldsSent.{holds_all, holds_logged, written_are_kept}
 use Rattle.serving.proofs.laws.what_was_sent_is_on_the_device.Goals as goal
 
 pub returns-clause-logged : goal.returns-clause-logged

@@ -10,7 +10,7 @@ use Rattle.serving.specs.Session.{SessionView}
 use Rattle.serving.specs.SessionEnds.{reported}
 use Rattle.serving.specs.Start.{Start, start_machine}
 use Rattle.serving.proofs.SessionEnds.{PromisesAll, emptied_at_end, ends_or_declines, first_at, promises_from, refuses_none}
-use Rattle.serving.proofs.Invariant.{begun, kill_safe}
+use Rattle.serving.proofs.SessionInvariant.{begun, kill_safe}
 use Rattle.serving.proofs.server.run_session.Goals as goal
 
 pub invariant_of-session : goal.invariant_of-session

@@ -5,7 +5,7 @@ use Rattle.std.proofs.lemmas.List.{get_or_default, set-get_or, length-set}
 use Rattle.std.specs.Option.{ghost_name_of}
 use Rattle.arena.specs.ArenaView.{ArenaView, IsPartitioned, value_at, with_value}
 use Rattle.arena.specs.ArenaRule.{ArenaRule, arena_view_of}
-use Rattle.arena.proofs.Parts.{held-not_free, held-within, partitioned-restore}
+use Rattle.arena.proofs.IsPartitioned.{held-not_free, held-within, partitioned-restore}
 use Rattle.arena.proofs.arena.Arena.get_mut.Goals as goal
 
 pub invariant_of-self-lent : goal.invariant_of-self-lent

@@ -1,7 +1,7 @@
 -- A snapshot of the committed state is made, the log goes on in the other half, and the other image's dirty pieces are left to write.
 use Rattle.std.proofs.Common.{◌≡◌, ◌-◌, Bool, false, Option, Some, ℕ, List, length, replicate, refl, sym, ◌∙◌, ap, subst, arith}
 use Rattle.std.proofs.lemmas.List.{length-replicate}
-use Rattle.oplog.proofs.Answered.{err_is}
+use Rattle.oplog.proofs.Results.{err_is}
 use Rattle.affinity.specs.declared.geometry.Geometry.{Geometry}
 use Rattle.recovery.specs.Recovery.{recovered_state}
 use Rattle.disk.specs.Device.{moment_number}
@@ -9,8 +9,8 @@ use Rattle.image.specs.Pieces.{piece_count}
 use Rattle.checkpoint.specs.Journal.{JournalView, records, committed, journal_view_of}
 use Rattle.checkpoint.specs.PointAndCut.{FitsCutState}
 use Rattle.checkpoint.specs.DirtyPieces.{count_dirty, cut_dirty}
-use Rattle.checkpoint.proofs.RecoversWithPrefix.{beyond_of, failed_kept, failed_view, fit_as, fits_of, recoverable_of, sound_along, still_of}
-use Rattle.checkpoint.proofs.Rows.{count_most, whole_items, whole_put}
+use Rattle.checkpoint.proofs.JournalLemmas.{beyond_of, failed_kept, failed_view, fit_as, fits_of, recoverable_of, sound_along, still_of}
+use Rattle.checkpoint.proofs.DirtyPieces.{count_most, whole_items, whole_put}
 use Rattle.checkpoint.proofs.PointOrCut.{cut_committed, cut_sound, is_alone, Saves, saves}
 use Rattle.device_map.specs.Layout.{device_size, image_size, other}
 use Rattle.oplog.specs.Log.{Log, chained, layout_of_log}

@@ -1,6 +1,6 @@
 -- What a crash leaves names the old area or the new one, and the device recovers to the committed state by either.
 use Rattle.std.proofs.Common.{Option, ℕ, List, ◌++◌, length, refl, sym, ◌∙◌, ap, subst, arith}
-use Rattle.oplog.proofs.Answered.{err_is}
+use Rattle.oplog.proofs.Results.{err_is}
 use Rattle.affinity.specs.declared.geometry.Geometry.{Geometry}
 use Rattle.recovery.specs.Recovery.{recovered_state}
 use Rattle.disk.specs.Device.{moment_number}
@@ -8,7 +8,7 @@ use Rattle.checkpoint.specs.Journal.{JournalView}
 use Rattle.checkpoint.specs.PointAndCut.{FitsCutState, IsCutWritten}
 use Rattle.recovery.specs.Version.{named_version}
 use Rattle.checkpoint.proofs.IsFlipped.{flip_asks, flip_sound, flip_version}
-use Rattle.checkpoint.proofs.RecoversWithPrefix.{beyond_of, fits_of, recoverable_of, sound_along, sound_of, still_of}
+use Rattle.checkpoint.proofs.JournalLemmas.{beyond_of, fits_of, recoverable_of, sound_along, sound_of, still_of}
 use Rattle.checkpoint.proofs.RecoversByArea.{holds_now}
 use Rattle.image.specs.Pieces.{piece_count}
 use Rattle.oplog.specs.HalfContent.{front}

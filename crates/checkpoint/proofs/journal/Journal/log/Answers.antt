@@ -1,6 +1,6 @@
 -- What a crash leaves recovers to the committed state with the first m of the messages run on it; all that they touch is dirty.
 use Rattle.std.proofs.Common.{◌≡◌, ℕ, ◌+◌, true, Some, Err, length, refl, sym, ◌∙◌, ap, subst, arith}
-use Rattle.oplog.proofs.Answered.{err_is}
+use Rattle.oplog.proofs.Results.{err_is}
 use Rattle.affinity.specs.declared.geometry.Geometry.{Geometry}
 use Rattle.recovery.specs.Recovery.{recovered_state}
 use Rattle.disk.specs.CrashImages.{CrashImagesAre}
@@ -8,9 +8,10 @@ use Rattle.disk.specs.Device.{moment_number}
 use Rattle.image.specs.Pieces.{piece_count}
 use Rattle.checkpoint.specs.Journal.{AreCarriedOut, JournalView, RecoversWithPrefix, committed, journal_view_of}
 use Rattle.checkpoint.specs.PointAndCut.{FitsCutState}
-use Rattle.checkpoint.proofs.RecoversWithPrefix.{beyond_of, failed_kept, failed_view, fits_of, sound_of, log_kept, log_moments, log_records, log_told, placed_used, recoverable_of, sound_along, touched_along}
-use Rattle.checkpoint.proofs.Rows.{same_dirty, whole_put}
-use Rattle.disk.proofs.Moments.{weaker}
+use Rattle.checkpoint.proofs.JournalLemmas.{beyond_of, failed_kept, failed_view, fits_of, sound_of, recoverable_of, sound_along}
+use Rattle.checkpoint.proofs.RecoversWithPrefix.{log_kept, log_moments, log_records, log_told, placed_used, touched_along}
+use Rattle.checkpoint.proofs.DirtyPieces.{same_dirty, whole_put}
+use Rattle.disk.proofs.CrashImagesAre.{weaker}
 use Rattle.oplog.specs.Beyond.{KeepsBeyond}
 use Rattle.device_map.specs.Layout.{device_size, image_size, layout_of}
 use Rattle.oplog.specs.declared.halves.LogFault.{LogFault}

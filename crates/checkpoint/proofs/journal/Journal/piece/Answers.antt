@@ -4,21 +4,21 @@ use Rattle.std.proofs.lemmas.List.{length-set}
 use Rattle.affinity.specs.declared.geometry.Geometry.{Geometry}
 use Rattle.disk.specs.Device.{moment_number}
 use Rattle.image.specs.Pieces.{piece_count}
-use Rattle.disk.proofs.Leaves.{itself}
-use Rattle.disk.proofs.Moments.{started}
+use Rattle.disk.proofs.IsTornFrom.{itself}
+use Rattle.disk.proofs.CrashImagesAre.{started}
 use Rattle.checkpoint.specs.Journal.{JournalView, IsRecoverable, records, committed}
 use Rattle.checkpoint.specs.PointAndCut.{FitsCutState}
 use Rattle.checkpoint.specs.IsSoundJournal.{IsSoundJournal}
 use Rattle.checkpoint.specs.DirtyPieces.{count_dirty, AreCleanBefore}
 use Rattle.checkpoint.proofs.Costs.{takes_all, takes_most}
-use Rattle.checkpoint.proofs.RecoversWithPrefix.{beyond_of, failed_kept, failed_view, fits_of, recoverable_of, sound_of, still_of}
+use Rattle.checkpoint.proofs.JournalLemmas.{beyond_of, failed_kept, failed_view, fits_of, recoverable_of, sound_of, still_of}
 use Rattle.checkpoint.proofs.IsPointed.{other_written}
-use Rattle.checkpoint.proofs.Rows.{clear_set, count_cleared}
+use Rattle.checkpoint.proofs.DirtyPieces.{clear_set, count_cleared}
 use Rattle.checkpoint.proofs.PatchesUnnamed.{IsPieced, piece_counted, piece_left, piece_moments, piece_records, none_due, patches_one, piece_same, piece_some, piece_sound, pieced_along, some_left}
 use Rattle.oplog.proofs.Beyond.{beyond, beyond_none}
 use Rattle.device_map.specs.Layout.{device_size, image_size, layout_of, other}
 use Rattle.oplog.specs.Log.{Log}
-use Rattle.oplog.proofs.Answered.{on_ok}
+use Rattle.oplog.proofs.Results.{on_ok}
 use Rattle.checkpoint.proofs.journal.Journal.piece.Given.{Over}
 use Rattle.checkpoint.proofs.journal.Journal.piece.Goals.{After-deref-2, In-Some-pieces_left, In_default}
 use Rattle.checkpoint.proofs.journal.Journal.piece.Goals as goal

@@ -1,7 +1,7 @@
 -- The snapshot is the image of the committed state, and the clean pieces are on the device: what a crash leaves recovers to it.
 use Rattle.std.proofs.Common.{◌≡◌, false, Option, None, ℕ, List, length, refl, sym, ◌∙◌, ap, subst, arith}
 use Rattle.std.proofs.lemmas.List.{length-replicate}
-use Rattle.oplog.proofs.Answered.{err_is}
+use Rattle.oplog.proofs.Results.{err_is}
 use Rattle.affinity.specs.declared.geometry.Geometry.{Geometry}
 use Rattle.recovery.specs.Recovery.{recovered_state}
 use Rattle.disk.specs.Device.{moment_number}
@@ -11,8 +11,8 @@ use Rattle.checkpoint.specs.Costs.{point_cost}
 use Rattle.checkpoint.specs.Journal.{JournalView, committed}
 use Rattle.checkpoint.specs.PointAndCut.{FitsCutState, IsPointed}
 use Rattle.checkpoint.proofs.Costs.{few_writes}
-use Rattle.checkpoint.proofs.RecoversWithPrefix.{beyond_of, failed_kept, failed_view, fit_as, fits_of, recoverable_of, sound_along, still_of}
-use Rattle.checkpoint.proofs.Rows.{whole_put}
+use Rattle.checkpoint.proofs.JournalLemmas.{beyond_of, failed_kept, failed_view, fit_as, fits_of, recoverable_of, sound_along, still_of}
+use Rattle.checkpoint.proofs.DirtyPieces.{whole_put}
 use Rattle.recovery.specs.Version.{named_version}
 use Rattle.checkpoint.proofs.PointOrCut.{agrees, is_alone, point_committed, point_sound, pointed_version, reads, Saves, saves}
 use Rattle.device_map.specs.Layout.{device_size, image_size}

@@ -2,7 +2,7 @@
 use Rattle.std.proofs.Common.{rules, ◌≡◌, List, length, ℕ, ap, sym, subst, ◌∙◌, arith}
 use Rattle.std.proofs.lemmas.Grind.{common_steps}
 use Rattle.disk.specs.CrashImages.{SameButUnsynced, torn_byte, torn_from}
-use Rattle.disk.proofs.Crashes.{torn_leaves}
+use Rattle.disk.proofs.TornSoFar.{torn_leaves}
 use Rattle.disk.proofs.memory.MemDisk.crash.Goals as goal
 
 pub returns-clause-may : goal.returns-clause-may

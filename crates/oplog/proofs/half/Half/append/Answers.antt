@@ -4,7 +4,7 @@ use Rattle.std.proofs.lemmas.List.{length-map, length-take-le, take_all}
 use Rattle.std.proofs.lemmas.Result.{err_from_is_err_and}
 use Rattle.disk.specs.Device.{moment_number}
 use Rattle.oplog.specs.Log.{batch_count}
-use Rattle.oplog.proofs.Costs.{batch_left, one_batch, whole_batch}
+use Rattle.oplog.proofs.BatchCounts.{batch_left, one_batch, whole_batch}
 use Rattle.std.proofs.lemmas.Grind.{common_steps}
 use Rattle.device_map.specs.Layout.{layout_of}
 use Rattle.protocol.specs.declared.messages.Msg.{Msg}

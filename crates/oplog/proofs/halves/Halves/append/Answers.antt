@@ -6,8 +6,8 @@ use Rattle.oplog.specs.Changes.{HasAppendedAll, HasAppendedPrefix, IsReady}
 use Rattle.oplog.specs.ChangeRecords.{records_of}
 use Rattle.oplog.specs.Calls.{IsReadyFor, Grows, HasAdded}
 use Rattle.oplog.specs.Log.{Log}
-use Rattle.oplog.proofs.Answered.{on_ok}
-use Rattle.oplog.proofs.InHalf.{of_half}
+use Rattle.oplog.proofs.Results.{on_ok}
+use Rattle.oplog.proofs.HasMoreIn.{of_half}
 use Rattle.oplog.proofs.halves.Halves.append.Goals as goal
 
 pub append-requires-clause-ready : goal.append-requires-clause-ready

@@ -7,9 +7,9 @@ use Rattle.disk.specs.Store.{Stored}
 use Rattle.device_map.specs.Layout.{layout_of, part_at, half_part, other}
 use Rattle.device_map.specs.declared.layout.TheConstants.{CHAIN_ZONE_SIZE}
 use Rattle.oplog.specs.Log.{Log}
-use Rattle.oplog.proofs.Answered.{on_ok}
+use Rattle.oplog.proofs.Results.{on_ok}
 use Rattle.oplog.proofs.OneStore.{clear_moments, cleared}
-use Rattle.oplog.proofs.InHalf.{of_half}
+use Rattle.oplog.proofs.HasMoreIn.{of_half}
 use Rattle.oplog.proofs.halves.Halves.clear_other.Goals as goal
 
 pub returns-then-is_err-clause-any_moment : goal.returns-then-is_err-clause-any_moment

@@ -4,7 +4,7 @@ use Rattle.oplog.specs.Calls.{IsLongEnough}
 use Rattle.disk.specs.Store.{Stored}
 use Rattle.device_map.specs.Layout.{layout_of, other}
 use Rattle.oplog.specs.Log.{Log}
-use Rattle.oplog.proofs.Answered.{on_ok}
+use Rattle.oplog.proofs.Results.{on_ok}
 use Rattle.oplog.proofs.OneStore.{root_moments, named}
 use Rattle.oplog.proofs.halves.Halves.flip_root.Goals as goal
 

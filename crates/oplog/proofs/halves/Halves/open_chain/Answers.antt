@@ -5,7 +5,7 @@ use Rattle.oplog.specs.Changes.{Chained}
 use Rattle.oplog.specs.Calls.{IsLongEnough}
 use Rattle.device_map.specs.Layout.{layout_of, part_at, half_part}
 use Rattle.oplog.specs.Log.{Log, layout_of_log}
-use Rattle.oplog.proofs.Answered.{on_ok}
+use Rattle.oplog.proofs.Results.{on_ok}
 use Rattle.oplog.proofs.OneStore.{chain_moments, chained}
 use Rattle.oplog.proofs.halves.Halves.open_chain.Goals as goal
 

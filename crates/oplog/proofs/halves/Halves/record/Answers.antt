@@ -5,7 +5,7 @@ use Rattle.device_map.specs.Layout.{layout_of, part_at, half_part}
 use Rattle.device_map.specs.declared.layout.TheConstants.{CHAIN_ZONE_SIZE}
 use Rattle.protocol.specs.declared.sizes.TheConstants.{RECORD_SIZE}
 use Rattle.oplog.specs.Log.{Log, IsOfRecord, layout_of_log}
-use Rattle.oplog.proofs.Answered.{on_ok}
+use Rattle.oplog.proofs.Results.{on_ok}
 use Rattle.oplog.proofs.PartsRead.{record_read}
 use Rattle.oplog.proofs.halves.Halves.record.Goals as goal
 use Rattle.oplog.proofs.halves.Halves.record.Goals.{in-Some, in-None}

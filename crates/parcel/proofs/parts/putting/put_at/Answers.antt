@@ -2,7 +2,7 @@
 use Rattle.std.proofs.Common.{◌≡◌, sym, ap, ◌∙◌, arith}
 use Rattle.affinity.specs.Path.{aggregate, volume, logical, stripe, label}
 use Rattle.affinity.specs.Place.{path}
-use Rattle.parcel.proofs.TakenPut.{aggregate_place, volume_place, logical_place, label_place, stripe_within, stripe_place, put}
+use Rattle.parcel.proofs.TakesAndPuts.{aggregate_place, volume_place, logical_place, label_place, stripe_within, stripe_place, put}
 use Rattle.parcel.proofs.parts.putting.put_at.Goals as goal
 
 pub returns-in-Some : goal.returns-in-Some

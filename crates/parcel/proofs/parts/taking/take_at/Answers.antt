@@ -2,7 +2,7 @@
 use Rattle.std.proofs.Common.{◌≡◌, sym, ap, ◌∙◌, arith}
 use Rattle.affinity.specs.Path.{aggregate, volume, logical, stripe, label}
 use Rattle.affinity.specs.Place.{path}
-use Rattle.parcel.proofs.TakenPut.{serial_place, aggregate_place, volume_within, volume_place, logical_place, label_place, stripe_within, stripe_place, taken}
+use Rattle.parcel.proofs.TakesAndPuts.{serial_place, aggregate_place, volume_within, volume_place, logical_place, label_place, stripe_within, stripe_place, taken}
 use Rattle.parcel.proofs.parts.taking.take_at.Goals as goal
 
 pub returns-in-Serial : goal.returns-in-Serial

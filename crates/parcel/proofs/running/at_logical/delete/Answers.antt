@@ -1,7 +1,7 @@
 -- The bit of the file goes, and each stripe drops its blocks: the effect of a delete, and all still fits.
 use Rattle.std.proofs.Common.{◌≡◌, ◌<◌, None, Some, refl, ◌∙◌, length, arith}
 use Rattle.affinity.specs.Geometry.{stripe_of}
-use Rattle.affinity.proofs.Placed.{group_below}
+use Rattle.affinity.proofs.PlaceLemmas.{group_below}
 use Rattle.protocol.specs.declared.messages.Msg.TheVariants.{Delete}
 use Rattle.parcel.specs.Removes.{is_removed}
 use Rattle.parcel.specs.Shown.{logical_facts, blocks_of, has_file}

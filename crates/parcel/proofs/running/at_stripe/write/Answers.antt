@@ -10,7 +10,7 @@ use Rattle.parcel.specs.Shown.{stripe_facts}
 use Rattle.parcel.specs.VolumeStep.{guard}
 use Rattle.stripe.specs.Stripe.{content_at}
 use Rattle.parcel.specs.Volume.{one_volume}
-use Rattle.parcel.proofs.GroupCounts.{count_is_length}
+use Rattle.parcel.proofs.StripeCounts.{count_is_length}
 use Rattle.parcel.proofs.OneVolume.{at_volume, refused, passed, let_through, write_tests, effect_write}
 use Rattle.parcel.proofs.running.at_stripe.write.Goals as goal
 

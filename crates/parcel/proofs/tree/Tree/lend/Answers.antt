@@ -1,7 +1,7 @@
 -- The place is that of the affinity, and each affinity has one path.
 use Rattle.std.proofs.Common.{sym}
 use Rattle.affinity.proofs.Preorder.{path_unique}
-use Rattle.parcel.proofs.Lending.{lent_from_taken, none_either_way}
+use Rattle.parcel.proofs.LendsAndRestores.{lent_from_taken, none_either_way}
 use Rattle.parcel.proofs.tree.Tree.lend.Goals as goal
 
 pub returns-in_err-parcels-clause-none : goal.returns-in_err-parcels-clause-none

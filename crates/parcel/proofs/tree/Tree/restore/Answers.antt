@@ -1,8 +1,7 @@
 -- The place is that of the affinity, and each affinity has one path.
-use Rattle.std.proofs.Common.{arith}
-use Rattle.std.proofs.Common.{sym}
+use Rattle.std.proofs.Common.{arith, sym}
 use Rattle.affinity.proofs.Preorder.{path_unique}
-use Rattle.parcel.proofs.Lending.{map_result, restored_from_put}
+use Rattle.parcel.proofs.LendsAndRestores.{map_result, restored_from_put}
 use Rattle.parcel.proofs.tree.Tree.restore.Goals as goal
 
 pub put_at-requires-clause-parcels : goal.put_at-requires-clause-parcels

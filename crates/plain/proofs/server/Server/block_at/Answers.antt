@@ -9,7 +9,7 @@ use Rattle.protocol.specs.declared.messages.Msg.TheVariants.{Read}
 use Rattle.protocol.specs.declared.replies.Reply.TheVariants.{Block as shows}
 use Rattle.meaning.specs.State.{State, IsState}
 use Rattle.meaning.specs.Step.{step}
-use Rattle.meaning.proofs.ByKind.{read_told}
+use Rattle.meaning.proofs.ReadStep.{read_told}
 use Rattle.plain.proofs.server.Server.block_at.Goals as goal
 
 looked_up : {g : Geometry} {x : State} → IsState g x → (a v f b : ℕ) (r : Option (Bor Block)) → option_copied r ≡ x.blocks (a, v, f, b)

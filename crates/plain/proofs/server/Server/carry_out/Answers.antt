@@ -6,7 +6,7 @@ use Rattle.meaning.specs.Refusals.{refusal}
 use Rattle.meaning.specs.Step.{accepted_reply, effect, reply_and_state}
 use Rattle.plain.specs.Server.{server_state}
 use Rattle.plain.proofs.Asked.{refusal_asked, asking_is_message}
-use Rattle.meaning.proofs.Kept.{step_kept}
+use Rattle.meaning.proofs.IsState.{step_kept}
 use Rattle.plain.proofs.server.Server.carry_out.Goals as goal
 
 pub returns-in_ok-apply_by-in-None-clause-sound : goal.returns-in_ok-apply_by-in-None-clause-sound

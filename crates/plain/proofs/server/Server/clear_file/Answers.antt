@@ -4,7 +4,7 @@ use Rattle.std.proofs.Common.{arith, ap, sym, ◌∙◌, subst}
 use Rattle.meaning.specs.State.{IsState, is_block_of_file, is_block}
 use Rattle.plain.specs.Server.{server_state}
 use Rattle.meaning.specs.Removals.{without_blocks}
-use Rattle.meaning.proofs.Kept.{clearing_kept}
+use Rattle.meaning.proofs.IsState.{clearing_kept}
 use Rattle.plain.proofs.Removals.{block_before_others, nothing_cleared}
 use Rattle.plain.proofs.server.Server.clear_file.Goals as goal
 

@@ -1,7 +1,6 @@
 -- Empty maps are the empty state, in which each stripe has no blocks.
-use Rattle.std.proofs.Common.{arith}
+use Rattle.std.proofs.Common.{arith, ◌≡◌}
 use Rattle.std.proofs.lemmas.Grind.{common_steps}
-use Rattle.std.proofs.Common.{◌≡◌}
 use Rattle.std.specs.Map.{lookup}
 use Rattle.std.specs.BTreeMap.{is_at}
 use Rattle.meaning.specs.State.{empty}
@@ -9,7 +8,7 @@ use Rattle.meaning.specs.KeyOrders.{volume_order, block_order}
 use Rattle.plain.specs.Server.{server_state, state_of}
 use Rattle.plain.specs.declared.server.Server.{Server}
 use Rattle.plain.proofs.ServerCounts.{none_counted}
-use Rattle.meaning.proofs.Kept.{empty_is_state}
+use Rattle.meaning.proofs.IsState.{empty_is_state}
 use Rattle.plain.proofs.server.Server.new.Goals as goal
 
 -- the server that is made

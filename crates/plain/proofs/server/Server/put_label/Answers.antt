@@ -4,7 +4,7 @@ use Rattle.message.specs.Heads.{labeling}
 use Rattle.meaning.specs.State.{IsState}
 use Rattle.meaning.specs.Step.{next_state}
 use Rattle.plain.specs.Server.{server_state}
-use Rattle.meaning.proofs.Kept.{step_kept}
+use Rattle.meaning.proofs.IsState.{step_kept}
 use Rattle.plain.proofs.server.Server.put_label.Goals as goal
 
 pub returns-clause-sound : goal.returns-clause-sound

@@ -6,7 +6,7 @@ use Rattle.std.proofs.lemmas.Bool.{true≢false}
 use Rattle.meaning.specs.State.{State, IsState, dropping, is_block_of_file, is_file}
 use Rattle.meaning.specs.KeyOrders.{volume_order, block_order}
 use Rattle.meaning.proofs.FileBits.{without_bit, without_bit_has}
-use Rattle.meaning.proofs.Kept.{clearing_kept}
+use Rattle.meaning.proofs.IsState.{clearing_kept}
 use Rattle.plain.specs.Server.{server_state}
 use Rattle.plain.proofs.Totals.{files_fit}
 use Rattle.plain.proofs.Volumes.{no_file_state}

@@ -16,7 +16,7 @@ use Rattle.meaning.specs.State.{State, IsState}
 use Rattle.meaning.specs.Refusals.{refusal, passes}
 use Rattle.meaning.specs.Step.{effect, reply_and_state, done_or_refused, reply_to, next_state}
 use Rattle.plain.specs.Server.{server_state}
-use Rattle.meaning.proofs.Kept.{step_kept}
+use Rattle.meaning.proofs.IsState.{step_kept}
 use Rattle.plain.proofs.server.Server.write.Goals as goal
 
 module _ (g : Geometry) (x y : State) (m : Msg) where

@@ -3,7 +3,7 @@ use Rattle.std.proofs.Common.{◌≡◌, ℕ, ◌+◌, ◌*◌, ◌-◌, ◌≤�
 use Rattle.disk.specs.Device.{moment_number}
 use Rattle.histories.specs.Events.{batch, log, touches_device}
 use Rattle.histories.specs.declared.outcomes.Step.TheVariants as steps
-use Rattle.oplog.proofs.Answered.{on_ok}
+use Rattle.oplog.proofs.Results.{on_ok}
 use Rattle.oplog.proofs.Beyond.{beyond_none}
 use Rattle.oplog.specs.Beyond.{KeepsBeyond}
 use Rattle.oplog.specs.Log.{batch_count}

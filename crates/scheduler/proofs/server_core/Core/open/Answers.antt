@@ -1,9 +1,9 @@
 -- Where there is no memory for the core, the device wasn't called; and an opened core keeps what a core keeps.
 use Rattle.std.proofs.Common.{◌≡◌, ◌∙◌, Option, Some, None, map, refl, inl, ap, arith}
 use Rattle.std.proofs.lemmas.List.{length-replicate}
-use Rattle.oplog.proofs.Answered.{err_is}
+use Rattle.oplog.proofs.Results.{err_is}
 use Rattle.affinity.specs.declared.geometry.Geometry.{Geometry}
-use Rattle.disk.proofs.Moments.{started}
+use Rattle.disk.proofs.CrashImagesAre.{started}
 use Rattle.disk.specs.CrashImages.{IsCrashImage}
 use Rattle.arena.specs.ArenaView.{ArenaView, capacity_of}
 use Rattle.checkpoint.specs.Journal.{IsRecoverable, committed}

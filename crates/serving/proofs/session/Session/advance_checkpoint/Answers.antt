@@ -3,7 +3,7 @@ use Rattle.std.proofs.Common.{refl}
 use Rattle.scheduler.proofs.IsCallEvent.{flip_called, piece_called}
 use Rattle.scheduler.specs.CoreView.{core_state_of}
 use Rattle.serving.proofs.Segments.{flip_is_quiet, piece_is_quiet}
-use Rattle.serving.proofs.Invariant.{holds_of, on_machine}
+use Rattle.serving.proofs.SessionInvariant.{holds_of, on_machine}
 use Rattle.serving.proofs.session.Session.advance_checkpoint.Goals as goal
 
 pub invariant_of-self : goal.invariant_of-self

@@ -1,8 +1,8 @@
 -- The message is answered, and its line completed; and the session keeps its invariant.
 use Rattle.std.proofs.Common.{refl}
-use Rattle.scheduler.proofs.Events.{answer_step}
+use Rattle.scheduler.proofs.MachineSteps.{answer_step}
 use Rattle.serving.proofs.AnsweredLine.{is_answered_so, none_answered}
-use Rattle.serving.proofs.Invariant.{holds_of, on_answer, on_machine, on_trigger}
+use Rattle.serving.proofs.SessionInvariant.{holds_of, on_answer, on_machine, on_trigger}
 use Rattle.serving.proofs.session.Session.answer_first.Goals as goal
 
 pub invariant_of-self : goal.invariant_of-self

@@ -5,7 +5,7 @@ use Rattle.scheduler.specs.CoreView.{core_state_of}
 use Rattle.serving.specs.Session.{SessionView}
 use Rattle.serving.proofs.CheckpointSteps.{halts, stays, waits}
 use Rattle.serving.proofs.Segments.{cut_is_quiet}
-use Rattle.serving.proofs.Invariant.{holds_of, on_machine, on_trigger}
+use Rattle.serving.proofs.SessionInvariant.{holds_of, on_machine, on_trigger}
 use Rattle.serving.proofs.session.Session.begin_checkpoint.Goals as goal
 
 pub invariant_of-self : goal.invariant_of-self

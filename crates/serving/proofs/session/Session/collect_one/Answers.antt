@@ -7,7 +7,7 @@ use Rattle.serving.specs.SessionSteps.{HasMoved}
 use Rattle.serving.specs.Session.{SessionView}
 use Rattle.serving.proofs.Collected.{came_back, gives_back}
 use Rattle.serving.proofs.StepsAhead.{returned}
-use Rattle.serving.proofs.Invariant.{holds_of, on_machine}
+use Rattle.serving.proofs.SessionInvariant.{holds_of, on_machine}
 use Rattle.serving.proofs.session.Session.collect_one.Goals as goal
 
 pub give_back-requires : goal.give_back-requires

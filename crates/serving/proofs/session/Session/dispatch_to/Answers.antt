@@ -8,7 +8,7 @@ use Rattle.serving.specs.SessionSteps.{HasMoved}
 use Rattle.serving.specs.Session.{SessionView}
 use Rattle.serving.proofs.StepsAhead.{dispatched}
 use Rattle.serving.proofs.DispatchesTo.{as_many, sends}
-use Rattle.serving.proofs.Invariant.{holds_of, on_machine}
+use Rattle.serving.proofs.SessionInvariant.{holds_of, on_machine}
 use Rattle.serving.proofs.session.Session.dispatch_to.Goals as goal
 
 pub invariant_of-self : goal.invariant_of-self

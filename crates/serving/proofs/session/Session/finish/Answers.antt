@@ -8,7 +8,7 @@ use Rattle.scheduler.specs.CoreView.{CoreView, core_state_of}
 use Rattle.serving.proofs.SessionEnds.{ended_by_device}
 use Rattle.serving.proofs.Segments.{point_is_quiet}
 use Rattle.serving.proofs.CheckpointSteps.{halts_so, point_fails}
-use Rattle.serving.proofs.Invariant.{holds_of, idle_of, on_machine}
+use Rattle.serving.proofs.SessionInvariant.{holds_of, idle_of, on_machine}
 use Rattle.serving.specs.Session.{SessionView}
 use Rattle.serving.specs.declared.session.ReadEnd.{ReadEnd}
 use Rattle.serving.proofs.session.Session.finish.Goals as goal

@@ -1,5 +1,5 @@
 -- The answers that wait may be sent; and the session keeps its invariant.
-use Rattle.serving.proofs.Invariant.{kill_safe, may_send, on_break, on_send}
+use Rattle.serving.proofs.SessionInvariant.{kill_safe, may_send, on_break, on_send}
 use Rattle.serving.proofs.session.Session.flush_replies.Goals as goal
 
 pub send-requires : goal.send-requires

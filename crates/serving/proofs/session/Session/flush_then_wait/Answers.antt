@@ -1,7 +1,7 @@
 -- What was sent takes no step. Behind it a line can be read, a job is in flight, a checkpoint goes on, or nothing has changed.
 use Rattle.std.proofs.Common.{◌≡◌, ap, arith, subst, sym, true≢false, ◌∙◌}
 use Rattle.histories.specs.Progress.{points_left}
-use Rattle.oplog.proofs.Answered.{err_is}
+use Rattle.oplog.proofs.Results.{err_is}
 use Rattle.scheduler.specs.CoreView.{CoreView, core_state_of}
 use Rattle.serving.specs.DispatchesTo.{NoneInFlight}
 use Rattle.serving.specs.SessionSteps.{Advanced, Began, CallsForCheckpoint, CanRead, CheckpointStep, MovedCheckpoint, Waited}

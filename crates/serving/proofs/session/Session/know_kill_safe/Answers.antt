@@ -1,5 +1,5 @@
 -- What a session keeps true says so.
-use Rattle.serving.proofs.Invariant.{kill_safe}
+use Rattle.serving.proofs.SessionInvariant.{kill_safe}
 use Rattle.serving.proofs.session.Session.know_kill_safe.Goals as goal
 
 pub returns : goal.returns

@@ -3,7 +3,7 @@ use Rattle.std.proofs.Common.{◌≡◌, ◌≤◌, ℕ, zero, suc, ap, arith, c
 use Rattle.std.proofs.lemmas.Bool.{ltb-false, lt-ltb}
 use Rattle.std.specs.Prelude.{IsFalse}
 use Rattle.histories.specs.CoreState.{CoreState}
-use Rattle.oplog.proofs.Answered.{err_is}
+use Rattle.oplog.proofs.Results.{err_is}
 use Rattle.reorder_buffer.specs.ReorderBuffer.{ReorderBufferView, can_retire}
 use Rattle.scheduler.specs.CoreView.{CoreView, core_state_of}
 use Rattle.serving.specs.SessionSteps.{HasLoggedNothing, KeepsReadEndAndOutputFailed}

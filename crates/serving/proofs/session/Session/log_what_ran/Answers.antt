@@ -6,7 +6,7 @@ use Rattle.serving.specs.Session.{SessionView, steps_ahead}
 use Rattle.serving.proofs.StepsAhead.{logged_some, steps}
 use Rattle.serving.proofs.SentLines.{at_ok, log_of_none, or_halts}
 use Rattle.serving.proofs.Segments.{log_is_quiet}
-use Rattle.serving.proofs.Invariant.{holds_of, on_machine}
+use Rattle.serving.proofs.SessionInvariant.{holds_of, on_machine}
 use Rattle.serving.proofs.session.Session.log_what_ran.Goals as goal
 
 pub invariant_of-self : goal.invariant_of-self

@@ -15,7 +15,7 @@ use Rattle.serving.specs.declared.session.ReadEnd.{ReadEnd}
 use Rattle.serving.specs.declared.session.ReadEnd.TheVariants as ends_of_reading
 use Rattle.serving.proofs.IsReadEnd.{gives, stops_at_refusal}
 use Rattle.serving.proofs.TakesLines.{at_end, none_left, still, takes_none}
-use Rattle.serving.proofs.Invariant.{follows, has_place, has_slot, holds_of, knows_of, on_line, on_long_line, on_read_end}
+use Rattle.serving.proofs.SessionInvariant.{follows, has_place, has_slot, holds_of, knows_of, on_line, on_long_line, on_read_end}
 use Rattle.serving.proofs.session.Session.read_next.Given.{Over}
 use Rattle.serving.proofs.session.Session.read_next.Goals.{After-next_line, After-line}
 use Rattle.serving.proofs.session.Session.read_next.Goals as goal

@@ -1,5 +1,5 @@
 -- The answer to the oldest line waits to be sent, if it is known; and the session keeps its invariant.
-use Rattle.serving.proofs.Invariant.{on_retire_front}
+use Rattle.serving.proofs.SessionInvariant.{on_retire_front}
 use Rattle.serving.proofs.session.Session.retire_first.Goals as goal
 
 pub invariant_of-self : goal.invariant_of-self

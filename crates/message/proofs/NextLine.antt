@@ -1,8 +1,0 @@
--- A line that is added to the output that waits to be written is the next line of all output.
-use Rattle.std.proofs.Common.{◌≡◌, ℕ, List, ◌++◌, Option, Some, None, ap, ◌∙◌, sym, append_assoc}
-use Rattle.std.specs.Io.KnownBytes.{Appends}
-use Rattle.message.specs.BufferedOutput.{all_output}
-
-pub adds_so_far : (contents : Option (List ℕ)) (old new line : List ℕ) → new ≡ old ++ line → Appends (all_output contents old) (all_output contents new) line
-adds_so_far None old new line added = tt
-adds_so_far (Some xs) old new line added = ap (λ ys. xs ++ ys) added ∙ sym (append_assoc xs old line)
