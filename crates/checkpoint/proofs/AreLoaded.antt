@@ -2,7 +2,7 @@
 use Rattle.std.proofs.Common.{◌≡◌, ◌==◌, ◌≤◌, ℕ, Bool, true, false, List, [], Option, Some, None, is_some, length, refl, sym, ◌∙◌, ap, subst, arith, true≢false}
 use Rattle.affinity.specs.declared.geometry.Geometry.{Geometry}
 use Rattle.recovery.specs.Header.{HasHeader}
-use Rattle.recovery.specs.Loading.{NamedHolds}
+use Rattle.recovery.specs.NamedHolds.{NamedHolds}
 use Rattle.recovery.specs.Recovery.{recovered_state, decoding}
 use Rattle.recovery.specs.Refusals.{refused}
 use Rattle.recovery.specs.Version.{named_version}

@@ -1,6 +1,6 @@
 //! The steps of a checkpoint on a device. A crash at any moment of one leaves a device that recovers to the same as before.
 ghost use Rattle.std.specs.Prelude.{◌≡◌, true, Some, length, OnOk, OnErr};
-ghost use Rattle.recovery.specs.Loading.{NamedHolds};
+ghost use Rattle.recovery.specs.NamedHolds.{NamedHolds};
 ghost use Rattle.recovery.specs.Recovery.{recovered_state};
 ghost use Rattle.disk.specs.CrashImages.{CrashImagesAre};
 ghost use Rattle.image.specs.Image.{image_state};

@@ -3,7 +3,8 @@ ghost use Rattle.std.specs.Prelude.{◌≡◌, ◌≢◌, ◌+◌, ◌*◌, ◌<
 ghost use Rattle.affinity.specs.declared.geometry.Geometry.{Geometry};
 ghost use Rattle.recovery.specs.declared.fault.OpenFault.TheVariants.{Device, OutOfMemory};
 ghost use Rattle.recovery.specs.Header.{HasHeader};
-ghost use Rattle.recovery.specs.Loading.{IsOpeningCall, NamedHolds};
+ghost use Rattle.recovery.specs.OpeningCalls.{IsOpeningCall};
+ghost use Rattle.recovery.specs.NamedHolds.{NamedHolds};
 ghost use Rattle.recovery.specs.Recovery.{recovered_state};
 ghost use Rattle.recovery.specs.Refusals.{HasHeaderAndParts, IsRefused, refused};
 ghost use Rattle.disk.specs.Device.{IsSynced};

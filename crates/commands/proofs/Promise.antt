@@ -18,7 +18,7 @@ use Rattle.checkpoint.specs.Opening.{IsPastSync, OpeningCrashImages, RecoversAsB
 use Rattle.meaning.specs.Output.{WritesOutput, serial_output}
 use Rattle.meaning.specs.State.{State}
 use Rattle.scheduler.proofs.Refusals.{recovers_or_refused}
-use Rattle.scheduler.specs.Opening.{IsShownByBytes}
+use Rattle.scheduler.specs.OpenFaults.{IsShownByBytes}
 use Rattle.serving.proofs.RecoversWritten.{none_written, bytes_recover}
 use Rattle.serving.proofs.MaySend.{recovers_killed}
 use Rattle.serving.specs.Restart.{RecoversTo, BytesRecover, RecoversWritten}

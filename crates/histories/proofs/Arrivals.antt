@@ -10,7 +10,7 @@ use Rattle.affinity.proofs.Elements.{all_weaker}
 use Rattle.protocol.specs.declared.replies.Reply.{Reply}
 use Rattle.meaning.specs.State.{State}
 use Rattle.meaning.specs.Step.{reply_to, state_after_all}
-use Rattle.meaning.specs.Order.{serial_replies, messages_of, by_ticket, InOrderIfRelated}
+use Rattle.meaning.specs.TicketOrder.{serial_replies, messages_of, by_ticket, InOrderIfRelated}
 use Rattle.meaning.proofs.ByTicket.{by_ticket-ascending, AreAscending as AreEachLess}
 use Rattle.histories.specs.CoreState.{Entry, Replied, CoreState, entries, held, are_related_entries, AreUnrelated, AreAscending, EachBefore, IsIdle}
 use Rattle.histories.specs.Eligible.{is_eligible, next_eligible}

@@ -11,7 +11,7 @@ use Rattle.protocol.specs.declared.replies.Refusal.TheVariants.{Exists}
 use Rattle.protocol.specs.declared.replies.Reply.{Reply}
 use Rattle.protocol.specs.declared.replies.Reply.TheVariants.{Done, Summary, Refused}
 use Rattle.meaning.specs.State.{State, empty}
-use Rattle.meaning.specs.Order.{InOrderIfRelated}
+use Rattle.meaning.specs.TicketOrder.{InOrderIfRelated}
 use Rattle.meaning.specs.Step.{state_after_all, next_state}
 use Rattle.histories.specs.declared.outcomes.Step.{Step}
 use Rattle.histories.specs.declared.outcomes.Step.TheVariants as steps

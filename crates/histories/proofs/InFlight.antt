@@ -7,7 +7,7 @@ use Rattle.affinity.specs.declared.geometry.Geometry.{Geometry}
 use Rattle.affinity.specs.Path.{are_related}
 use Rattle.protocol.specs.Messages.{path_of}
 use Rattle.meaning.specs.Step.{state_after_all, next_state}
-use Rattle.meaning.specs.Order.{messages_of}
+use Rattle.meaning.specs.TicketOrder.{messages_of}
 use Rattle.meaning.specs.Subtrees.{AgreeOn}
 use Rattle.meaning.specs.State.{State}
 use Rattle.meaning.proofs.AgreeOn.{agree-refl, agree-trans}

@@ -12,7 +12,7 @@ use Rattle.affinity.specs.declared.geometry.Geometry.{Geometry}
 use Rattle.affinity.proofs.Elements.{all_weaker}
 use Rattle.protocol.specs.declared.messages.Msg.{Msg}
 use Rattle.meaning.specs.State.{State}
-use Rattle.meaning.specs.Order.{InOrderIfRelated, KeepsOrder, serial_replies}
+use Rattle.meaning.specs.TicketOrder.{InOrderIfRelated, KeepsOrder, serial_replies}
 use Rattle.histories.specs.CoreState.{Entry, Replied, CoreState, entries, entry, AreAscending, HaveDistinctTickets, EachBefore, IsIdle}
 use Rattle.histories.specs.MachineState.{MachineState}
 use Rattle.histories.specs.Events.{Event, recorded}

@@ -7,7 +7,7 @@ use Rattle.protocol.specs.declared.messages.Msg.{Msg}
 use Rattle.protocol.specs.declared.replies.Reply.{Reply}
 use Rattle.meaning.specs.State.{State}
 use Rattle.meaning.specs.Step.{reply_to, next_state, state_after_all, is_recorded}
-use Rattle.meaning.specs.Order.{serial_replies, messages_of}
+use Rattle.meaning.specs.TicketOrder.{serial_replies, messages_of}
 use Rattle.meaning.proofs.Commute.{commute, same_reply}
 use Rattle.meaning.proofs.IsRecorded.{unrecorded_changes_nothing}
 use Rattle.histories.specs.CoreState.{Entry, Replied, entry, entries, are_related_entries, AreUnrelated}

@@ -3,7 +3,7 @@ use Rattle.std.specs.Prelude.{◌≡◌, ℕ, List, ◌++◌, map, IsPermutation
 use Rattle.affinity.specs.declared.geometry.Geometry.{Geometry}
 use Rattle.protocol.specs.declared.replies.Reply.{Reply}
 use Rattle.meaning.specs.State.{State}
-use Rattle.meaning.specs.Order.{serial_replies, KeepsOrder}
+use Rattle.meaning.specs.TicketOrder.{serial_replies, KeepsOrder}
 use Rattle.histories.specs.CoreState.{Entry, Replied, entries}
 
 -- each ticket with its reply

@@ -11,7 +11,7 @@ ghost use Rattle.protocol.specs.declared.replies.Reply.{Reply};
 ghost use Rattle.protocol.specs.Messages.{path_of};
 ghost use Rattle.meaning.specs.State.{State, empty};
 ghost use Rattle.meaning.specs.Step.{state_after_all};
-ghost use Rattle.meaning.specs.Order.{by_ticket, messages_of, serial_replies};
+ghost use Rattle.meaning.specs.TicketOrder.{by_ticket, messages_of, serial_replies};
 ghost use Rattle.meaning.specs.Subtrees.{AgreeOn};
 ghost use Rattle.histories.specs.CoreState.{Entry, Replied, CoreState, entries, entry, held, are_related_entries, AreUnrelated, AreAscending, HaveDistinctTickets, IsIdle};
 ghost use Rattle.histories.specs.Eligible.{is_conflict_free};

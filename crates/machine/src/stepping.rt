@@ -1,7 +1,7 @@
 //! One step of a machine.
 ghost use Rattle.histories.specs.declared.outcomes.Step.TheVariants as steps;
 ghost use Rattle.scheduler.specs.Hands.{HoldsJobs};
-ghost use Rattle.scheduler.specs.Steps.{IsCoreStep, IsMachineStep};
+ghost use Rattle.scheduler.specs.IsMachineStep.{IsCoreStep, IsMachineStep};
 ghost use Rattle.scheduler.specs.CoreView.{core_state_of};
 
 use crate::hands::{first_empty, run_in, take_result};

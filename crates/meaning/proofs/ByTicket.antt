@@ -11,7 +11,7 @@ use Rattle.protocol.specs.declared.messages.Msg.{Msg}
 use Rattle.protocol.specs.Messages.{path_of}
 use Rattle.meaning.specs.State.{State}
 use Rattle.meaning.specs.Step.{reply_to, next_state, state_after_all}
-use Rattle.meaning.specs.Order.{serial_replies, messages_of, inserted_by_ticket, by_ticket, InOrderIfRelated, KeepsOrder, SameByTicket, AreInOrder}
+use Rattle.meaning.specs.TicketOrder.{serial_replies, messages_of, inserted_by_ticket, by_ticket, InOrderIfRelated, KeepsOrder, SameByTicket, AreInOrder}
 use Rattle.meaning.proofs.Commute.{commute}
 
 module _ {A : Type 0} (P : ℕ × A → Type 0) where

@@ -4,7 +4,7 @@ pub mod Step
 pub mod Refusals
 pub mod Subtrees
 pub mod Facts
-pub mod Order
+pub mod TicketOrder
 pub mod Commute
 pub mod Output
 pub mod Removals

@@ -13,7 +13,7 @@ ghost use Rattle.meaning.specs.State.{State, IsState, empty};
 ghost use Rattle.meaning.specs.Refusals.{refusal, is_refused};
 ghost use Rattle.meaning.specs.Step.{reply_to, next_state, state_after_all, is_recorded, recorded_of};
 ghost use Rattle.meaning.specs.Subtrees.{AgreeOn, subtree, standing};
-ghost use Rattle.meaning.specs.Order.{by_ticket, KeepsOrder, SameByTicket, AreInOrder};
+ghost use Rattle.meaning.specs.TicketOrder.{by_ticket, KeepsOrder, SameByTicket, AreInOrder};
 ghost use Rattle.meaning.specs.Commute.{outside, RunAlike, Commute};
 
 /// The empty state is a possible one (`IsState`), and each message leads from a possible state to a possible one: all

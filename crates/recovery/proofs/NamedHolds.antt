@@ -8,7 +8,7 @@ use Rattle.recovery.specs.declared.fault.OpenFault.{OpenFault}
 use Rattle.recovery.specs.declared.fault.OpenFault.TheVariants.{BadVersion, BadPiece, BadRecord}
 use Rattle.recovery.specs.Header.{HasHeader, header_of, is_header}
 use Rattle.recovery.specs.OpenFaults.{IsConsistentFault, image_fault, records_fault}
-use Rattle.recovery.specs.Loading.{NamedHolds}
+use Rattle.recovery.specs.NamedHolds.{NamedHolds}
 use Rattle.recovery.specs.Recovery.{decoding, recovered_state}
 use Rattle.recovery.specs.Refusals.{IsRefused, fault_if, fault_or_later, first_bad_piece, first_bad_record, refused}
 use Rattle.recovery.proofs.Refusals.{alone_count, alone_ran, alone_sound, behind, both_count, both_ran, both_sound, named_sound, not_refused, one_not, other_refused, past_chain, records_refused, recovers_for}

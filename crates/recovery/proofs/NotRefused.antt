@@ -4,7 +4,7 @@ use Rattle.std.proofs.lemmas.Bool.{and_parts, cases_Bool, cond-true, cond-false,
 use Rattle.std.proofs.lemmas.Slice.Eq.{bytes_eq-Decides}
 use Rattle.affinity.specs.declared.geometry.Geometry.{Geometry}
 use Rattle.recovery.specs.Header.{HasHeader, header_of, is_header}
-use Rattle.recovery.specs.Loading.{are_both_chained}
+use Rattle.recovery.specs.NamedHolds.{are_both_chained}
 use Rattle.recovery.specs.OpenFaults.{image_fault}
 use Rattle.recovery.specs.Recovery.{recovered_state, decoding}
 use Rattle.recovery.specs.Refusals.{refused}

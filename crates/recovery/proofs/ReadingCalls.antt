@@ -3,7 +3,7 @@ use Rattle.std.proofs.Common.{◌≡◌, ℕ, Result, Ok, Err, ◌∙◌, subst}
 use Rattle.recovery.specs.declared.fault.OpenFault.{OpenFault}
 use Rattle.recovery.specs.declared.fault.OpenFault.TheVariants.{Device}
 use Rattle.recovery.specs.OpenFaults.{CountsOpenFault}
-use Rattle.recovery.specs.Loading.{IsOpeningCall, IsReadingCall}
+use Rattle.recovery.specs.OpeningCalls.{IsOpeningCall, IsReadingCall}
 use Rattle.disk.specs.Device.{Medium}
 use Rattle.recovery.proofs.Replays.{same_bytes}
 

@@ -8,7 +8,7 @@ use Rattle.recovery.specs.declared.fault.OpenFault.{OpenFault}
 use Rattle.recovery.specs.declared.fault.OpenFault.TheVariants.{Device, TooShort, NotFormatted, BadGeometry, OutOfMemory, BadVersion, BadPiece, BadChain, BadRecord}
 use Rattle.recovery.specs.Header.{HasHeader, header_of, is_header}
 use Rattle.recovery.specs.OpenFaults.{IsConsistentFault, IsOfHalf, IsOfHeader, image_fault, records_fault}
-use Rattle.recovery.specs.Loading.{are_both_chained}
+use Rattle.recovery.specs.NamedHolds.{are_both_chained}
 use Rattle.recovery.specs.Recovery.{after_record, recovered_state, decoding}
 use Rattle.recovery.specs.Refusals.{HasHeaderAndParts, IsRefused, fault_if, fault_or_later, first_bad_piece, first_bad_record, refused}
 use Rattle.recovery.proofs.Replays.{fault_from}

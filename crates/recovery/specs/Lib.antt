@@ -3,7 +3,8 @@ pub mod Header
 pub mod Recovery
 pub mod Refusals
 pub mod Formatting
-pub mod Loading
+pub mod OpeningCalls
+pub mod NamedHolds
 pub mod OpenFaults
 pub mod Shown
 pub mod Version

@@ -1,7 +1,7 @@
 //! Reads of a device: any range, a chain byte, and the head of an image.
 ghost use Rattle.std.specs.Prelude.{◌≡◌, ◌+◌, ◌<◌, ◌≤◌, ◌==◌, not, true, None, length, IfErr, IfOk, OnOk};
 ghost use Rattle.recovery.specs.declared.fault.OpenFault.TheVariants.{BadVersion, Device};
-ghost use Rattle.recovery.specs.Loading.{IsReadingCall};
+ghost use Rattle.recovery.specs.OpeningCalls.{IsReadingCall};
 ghost use Rattle.recovery.specs.OpenFaults.{IsConsistentFault};
 ghost use Rattle.recovery.specs.Refusals.{fault_if};
 ghost use Rattle.image.specs.Image.{has_head, is_version, version_in};

@@ -4,7 +4,7 @@ ghost use Rattle.affinity.specs.declared.geometry.Geometry.{Geometry};
 ghost use Rattle.device_map.specs.Layout.{device_size, layout_of};
 ghost use Rattle.oplog.specs.Recovery.{named_area};
 ghost use Rattle.recovery.specs.Header.{header_of, HasHeader};
-ghost use Rattle.recovery.specs.Loading.{IsReadingCall};
+ghost use Rattle.recovery.specs.OpeningCalls.{IsReadingCall};
 ghost use Rattle.recovery.specs.OpenFaults.{IsOfHeader};
 ghost use Rattle.recovery.specs.Refusals.{IsRefused};
 ghost use Rattle.recovery.specs.declared.fault.OpenFault.TheVariants.{Device};

@@ -1,7 +1,7 @@
 //! An image, read into a tree piece by piece.
 ghost use Rattle.std.specs.Prelude.{◌≡◌, ◌↔◌, ◌+◌, ◌*◌, ◌<◌, ◌≤◌, ℕ, true, None, Some, length, IfErr, IsOk, OnOk};
 ghost use Rattle.recovery.specs.declared.fault.OpenFault.TheVariants.{BadPiece};
-ghost use Rattle.recovery.specs.Loading.{IsReadingCall};
+ghost use Rattle.recovery.specs.OpeningCalls.{IsReadingCall};
 ghost use Rattle.recovery.specs.OpenFaults.{IsConsistentFault};
 ghost use Rattle.recovery.specs.Refusals.{fault_or_later, first_bad_piece};
 ghost use Rattle.image.specs.Image.{has_head, is_version, image_state, version_in};

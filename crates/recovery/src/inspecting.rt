@@ -1,6 +1,6 @@
 //! What a device holds, or why it is refused.
 ghost use Rattle.std.specs.Prelude.{◌≡◌, ◌≢◌, ◌+◌, IfErr, IfOk, MatchResult, length};
-ghost use Rattle.recovery.specs.Loading.{IsOpeningCall};
+ghost use Rattle.recovery.specs.OpeningCalls.{IsOpeningCall};
 ghost use Rattle.recovery.specs.Refusals.{HasHeaderAndParts, IsRefused};
 ghost use Rattle.recovery.specs.Shown.{IsShown};
 ghost use Rattle.disk.specs.Device.{moments};

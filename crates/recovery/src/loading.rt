@@ -2,7 +2,8 @@
 ghost use Rattle.std.specs.Prelude.{◌≡◌, ◌*◌, ◌<◌, ◌≤◌, ◌==◌, false, None, Some, length, IfErr, IfOk, OnOk};
 ghost use Rattle.recovery.specs.declared.fault.OpenFault.TheVariants.{BadChain, OutOfMemory};
 ghost use Rattle.recovery.specs.Header.{HasHeader};
-ghost use Rattle.recovery.specs.Loading.{IsReadingCall, NamedHolds, are_both_chained};
+ghost use Rattle.recovery.specs.OpeningCalls.{IsReadingCall};
+ghost use Rattle.recovery.specs.NamedHolds.{NamedHolds, are_both_chained};
 ghost use Rattle.recovery.specs.OpenFaults.{IsConsistentFault, IsOfHalf, image_fault};
 ghost use Rattle.recovery.specs.Refusals.{IsRefused, fault_if};
 ghost use Rattle.image.specs.Image.{image_state, version_in};

@@ -1,6 +1,6 @@
 //! The records of a half, run on a tree.
 ghost use Rattle.std.specs.Prelude.{◌≡◌, ◌<◌, ◌≤◌, Some, length, IfOk, IfErr, OnOk};
-ghost use Rattle.recovery.specs.Loading.{IsReadingCall};
+ghost use Rattle.recovery.specs.OpeningCalls.{IsReadingCall};
 ghost use Rattle.recovery.specs.OpenFaults.{IsConsistentFault, record_fault, records_fault};
 ghost use Rattle.recovery.specs.Recovery.{after_record, decoding};
 ghost use Rattle.oplog.specs.Calls.{IsUsable};

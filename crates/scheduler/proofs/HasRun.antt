@@ -26,7 +26,7 @@ use Rattle.scheduler.proofs.MachineSteps.{some_of}
 use Rattle.scheduler.specs.Runs.{LeadTo, HasRun, HasDeviceEvents, RecoversFromRun}
 use Rattle.scheduler.specs.Machine.{MachineView, machine_of}
 use Rattle.scheduler.specs.DeviceEvents.{AreSafe, DeviceEvent, RecoversForRun, AgreeWithDevice, device_after, events_of}
-use Rattle.scheduler.specs.Steps.{IsMachineStep}
+use Rattle.scheduler.specs.IsMachineStep.{IsMachineStep}
 use Rattle.protocol.specs.declared.messages.Msg.{Msg}
 use Rattle.meaning.specs.Step.{state_after_all}
 use Rattle.scheduler.specs.declared.hands.HandContent.{HandContent}

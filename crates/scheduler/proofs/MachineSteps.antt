@@ -29,7 +29,7 @@ use Rattle.histories.specs.declared.outcomes.Step.TheVariants as steps
 use Rattle.scheduler.proofs.HoldsJobs.{granted_is_fresh, granted_stays, hands_stay, holds_set, one_or_other, returned_stays}
 use Rattle.scheduler.specs.Hands.{IsRunIn, IsTakenFrom, HoldsJobs, IsHandOf, hand_at, hand_of, ticket_in}
 use Rattle.scheduler.specs.Machine.{machine_of}
-use Rattle.scheduler.specs.Steps.{IsCoreStep, IsMachineStep}
+use Rattle.scheduler.specs.IsMachineStep.{IsCoreStep, IsMachineStep}
 use Rattle.scheduler.specs.declared.hands.HandContent.{HandContent}
 use Rattle.scheduler.specs.declared.hands.HandContent.TheVariants as has
 use Rattle.protocol.specs.declared.messages.Msg.{Msg}

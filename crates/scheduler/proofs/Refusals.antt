@@ -15,7 +15,7 @@ use Rattle.recovery.specs.declared.fault.OpenFault.TheVariants.{Device, TooShort
 use Rattle.disk.specs.CrashImages.{AreBytes}
 use Rattle.device_map.specs.Layout.{device_size, layout_of}
 use Rattle.meaning.specs.State.{State}
-use Rattle.scheduler.specs.Opening.{IsShownByBytes}
+use Rattle.scheduler.specs.OpenFaults.{IsShownByBytes}
 
 -- the first of these that holds of the bytes c, and the answer to it: a refusal, or `None` for an opening
 data Found (c : List ℕ) (answer : Option OpenFault) : Type 0 where

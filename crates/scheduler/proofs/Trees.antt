@@ -31,7 +31,7 @@ use Rattle.parcel.specs.declared.parts.Parcels.{Parcels}
 use Rattle.parcel.specs.declared.parts.Standing.{Standing}
 use Rattle.meaning.proofs.AgreeOn.{agree-sym, agree-trans}
 use Rattle.meaning.proofs.Commute.{reads_only}
-use Rattle.meaning.specs.Order.{messages_of}
+use Rattle.meaning.specs.TicketOrder.{messages_of}
 use Rattle.meaning.specs.Step.{state_after_all, next_state}
 use Rattle.meaning.specs.Subtrees.{AgreeOn}
 use Rattle.meaning.specs.State.{State}

@@ -3,7 +3,7 @@
 pub mod CoreView
 pub mod Jobs
 pub mod Calls
-pub mod Opening
+pub mod OpenFaults
 pub mod Slots
 pub mod Parts
 pub mod View
@@ -11,7 +11,7 @@ pub mod HasLogged
 pub mod History
 pub mod Machine
 pub mod Runs
-pub mod Steps
+pub mod IsMachineStep
 pub mod Hands
 pub mod DeviceEvents
 pub mod Incarnations

@@ -11,7 +11,7 @@ use Rattle.protocol.specs.Messages.{path_of}
 use Rattle.protocol.specs.declared.messages.Msg.{Msg}
 use Rattle.parcel.specs.TreeHolds.{TreeHolds}
 use Rattle.parcel.specs.Tree.{TreeView, tree_nodes}
-use Rattle.meaning.specs.Order.{messages_of}
+use Rattle.meaning.specs.TicketOrder.{messages_of}
 use Rattle.meaning.specs.Step.{state_after_all}
 use Rattle.meaning.specs.State.{State}
 use Rattle.scheduler.specs.CoreView.{CoreView, RecoversNow, core_state_of}

@@ -15,7 +15,7 @@ use Rattle.scheduler.specs.declared.hands.HandContent.{HandContent}
 use Rattle.scheduler.specs.CoreView.{CoreView, RecoversNow, core_state_of}
 use Rattle.scheduler.specs.Machine.{MachineView, machine_of}
 use Rattle.protocol.specs.declared.replies.Reply.{Reply}
-use Rattle.meaning.specs.Order.{by_ticket, serial_replies}
+use Rattle.meaning.specs.TicketOrder.{by_ticket, serial_replies}
 
 -- These events are a legal run from one machine to the other. Each reports whether the device failed in it, and left the device alone where
 -- its step touches none. A crash at any moment of an event leaves the state committed before it, with a prefix of what the event appends

@@ -25,7 +25,7 @@ ghost use Rattle.arena.specs.ArenaView.{chain_at};
 ghost use Rattle.scheduler.specs.Slots.{HasChains};
 ghost use Rattle.scheduler.specs.Jobs.{IsResultOf};
 ghost use Rattle.scheduler.specs.CoreView.{IsJustOpened, CoreView, RecoversNow, RecoversThroughout, core_state_of};
-ghost use Rattle.scheduler.specs.Opening.{IsShownByBytes};
+ghost use Rattle.scheduler.specs.OpenFaults.{IsShownByBytes};
 ghost use Rattle.affinity.specs.declared.limits.TheConstants.{MOST_SLOTS};
 
 use crate::Granted;

@@ -8,7 +8,7 @@ use Rattle.histories.specs.CoreState.{Entry}
 use Rattle.histories.specs.declared.outcomes.Outcome.TheVariants as outcomes
 use Rattle.histories.specs.declared.outcomes.Step.TheVariants as steps
 use Rattle.scheduler.proofs.MachineSteps.{a_job, back_holds, back_step, was_result}
-use Rattle.scheduler.specs.Steps.{IsMachineStep}
+use Rattle.scheduler.specs.IsMachineStep.{IsMachineStep}
 use Rattle.scheduler.specs.declared.hands.HandContent.{HandContent}
 use Rattle.scheduler.specs.declared.hands.HandContent.TheVariants as has
 use Rattle.parcel.specs.JobRun.{JobView, IsJobRun}

@@ -18,7 +18,7 @@ use Rattle.protocol.proofs.FirstLines.{lines-first}
 use Rattle.protocol.specs.Lines.{lines}
 use Rattle.protocol.specs.FirstLine.{LosesLineStart, behind_first_line}
 use Rattle.protocol.specs.declared.replies.Reply.{Reply}
-use Rattle.meaning.specs.Order.{by_ticket, messages_of, serial_replies}
+use Rattle.meaning.specs.TicketOrder.{by_ticket, messages_of, serial_replies}
 use Rattle.meaning.specs.Output.{AnswersWholeLines, IsBeginning, WritesOutput, joined, output_lines, state_after_lines, with_newlines}
 use Rattle.meaning.specs.Progress.{AreTaken, TakesLines}
 use Rattle.meaning.specs.Step.{state_after_all}

@@ -18,7 +18,7 @@ use Rattle.protocol.specs.declared.replies.Refusal.TheVariants.{Range}
 use Rattle.protocol.specs.declared.replies.Reply.{Reply}
 use Rattle.protocol.specs.declared.replies.Reply.TheVariants.{Refused}
 use Rattle.meaning.proofs.OutputLemmas.{take-output_lines}
-use Rattle.meaning.specs.Order.{messages_of, serial_replies}
+use Rattle.meaning.specs.TicketOrder.{messages_of, serial_replies}
 use Rattle.meaning.specs.Output.{answer_line, output_lines, state_after_line, state_after_lines}
 use Rattle.meaning.specs.Step.{accepted_reply, effect, state_after_all, next_state, reply_and_state, reply_to, step}
 use Rattle.meaning.specs.Refusals.{passes, refusal_by, checks}

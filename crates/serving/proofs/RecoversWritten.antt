@@ -13,7 +13,7 @@ use Rattle.protocol.specs.declared.messages.Msg.{Msg}
 use Rattle.protocol.specs.declared.replies.Refusal.TheVariants.{Range}
 use Rattle.protocol.specs.declared.replies.Reply.{Reply}
 use Rattle.protocol.specs.declared.replies.Reply.TheVariants.{Refused}
-use Rattle.meaning.specs.Order.{by_ticket, messages_of}
+use Rattle.meaning.specs.TicketOrder.{by_ticket, messages_of}
 use Rattle.meaning.specs.Output.{WritesOutput, answer_line, joined, output_lines, state_after_line, state_after_lines}
 use Rattle.meaning.specs.Step.{state_after_all, next_state, reply_to}
 use Rattle.meaning.specs.State.{State}

@@ -15,7 +15,7 @@ use Rattle.scheduler.proofs.MachineSteps.{core_holds, core_step}
 use Rattle.scheduler.proofs.FailStop.{run_fails}
 use Rattle.scheduler.proofs.HasRun.{one_leads}
 use Rattle.scheduler.specs.Machine.{MachineView, machine_of}
-use Rattle.scheduler.specs.Steps.{IsCoreStep, IsMachineStep}
+use Rattle.scheduler.specs.IsMachineStep.{IsCoreStep, IsMachineStep}
 use Rattle.scheduler.specs.declared.hands.HandContent.{HandContent}
 use Rattle.protocol.specs.declared.replies.Reply.{Reply}
 use Rattle.scheduler.specs.Calls.{CountsFailure, IsCallEvent, log_device_failed, checkpoint_device_failed}

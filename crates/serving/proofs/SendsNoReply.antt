@@ -12,7 +12,7 @@ use Rattle.protocol.specs.Replies.{no_message, reply_line}
 use Rattle.protocol.specs.declared.messages.Msg.{Msg}
 use Rattle.protocol.specs.declared.replies.Refusal.TheVariants.{Range}
 use Rattle.protocol.specs.declared.replies.Reply.TheVariants.{Done, Refused}
-use Rattle.meaning.specs.Order.{messages_of}
+use Rattle.meaning.specs.TicketOrder.{messages_of}
 use Rattle.meaning.specs.Output.{joined}
 use Rattle.scheduler.specs.CoreView.{CoreView, core_state_of}
 use Rattle.serving.specs.Lines.{Completed, HaveAnswers, AreKnown, IsKnown, Line, NoMessage, OutOfRange, Pending, admitted, admitted_in, next_ticket, answer_text, ticketed}

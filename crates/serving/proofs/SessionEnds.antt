@@ -28,10 +28,10 @@ use Rattle.oplog.specs.Recovery.{records_in}
 use Rattle.serving.specs.Serve.{HasRunWith, FailsWithoutWorkers, ServePromise}
 use Rattle.serving.specs.Runs.{HandsHaveJobs, machine_with_jobs}
 use Rattle.serving.specs.SessionEnds.{EndsBy, EndsOrDeclines, HasFinished, IsServed, end_of, reported}
-use Rattle.serving.specs.SessionInvariant.{SessionProgress, HasEndedReading, CanBegin, SessionInvariant, SessionInvariantFrom, ReadsOrHasEnded, IsSent}
+use Rattle.serving.specs.SessionInvariant.{SessionProgress, HasEndedReading, SessionInvariant, SessionInvariantFrom, ReadsOrHasEnded, IsSent}
 use Rattle.serving.specs.Session.{SessionView, machine}
 use Rattle.serving.specs.Kill.{IsKillSafe}
-use Rattle.serving.specs.Start.{Start, start_machine}
+use Rattle.serving.specs.Start.{Start, start_machine, CanBegin}
 use Rattle.serving.specs.declared.session.ReadEnd.{ReadEnd}
 use Rattle.serving.specs.declared.session.ReadEnd.TheVariants as ends_of_reading
 use Rattle.serving.specs.declared.server.ServeFault.{ServeFault}

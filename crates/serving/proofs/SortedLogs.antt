@@ -10,7 +10,7 @@ use Rattle.histories.proofs.SerialHistories.{same_turned, distinct_ascending, on
 use Rattle.affinity.specs.declared.geometry.Geometry.{Geometry}
 use Rattle.affinity.proofs.Elements.{all_weaker}
 use Rattle.protocol.specs.declared.replies.Reply.{Reply}
-use Rattle.meaning.specs.Order.{by_ticket, messages_of, inserted_by_ticket, serial_replies, InOrderIfRelated, KeepsOrder, AreInOrder}
+use Rattle.meaning.specs.TicketOrder.{by_ticket, messages_of, inserted_by_ticket, serial_replies, InOrderIfRelated, KeepsOrder, AreInOrder}
 use Rattle.meaning.specs.Step.{state_after_all, is_recorded, next_state, reply_to}
 use Rattle.meaning.specs.State.{State}
 use Rattle.meaning.proofs.ByTicket.{all-by_ticket, state_after_all-by_ticket, in_order-by_ticket, permutation-by_ticket, serial_replies-by_ticket}

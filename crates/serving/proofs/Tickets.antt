@@ -12,7 +12,7 @@ use Rattle.scheduler.specs.Machine.{MachineView, machine_of}
 use Rattle.scheduler.specs.DeviceEvents.{events_of}
 use Rattle.protocol.specs.declared.messages.Msg.{Msg}
 use Rattle.protocol.specs.declared.replies.Reply.{Reply}
-use Rattle.meaning.specs.Order.{messages_of}
+use Rattle.meaning.specs.TicketOrder.{messages_of}
 use Rattle.serving.specs.Lines.{next_ticket, ticketed}
 use Rattle.serving.specs.Runs.{RunsBetween}
 

@@ -1,12 +1,10 @@
 -- Inner: What is true of a session between its calls: how a legal run has led there since its start.
-use Rattle.std.specs.Prelude.{[], ◌≡◌, ◌+◌, ◌<◌, ◌≤◌, ℕ, Bool, true, false, List, ◌++◌, length, map, take, Option, Some, IsSomeAnd, IsTrue, MatchOption}
+use Rattle.std.specs.Prelude.{◌≡◌, ◌+◌, ◌<◌, ◌≤◌, ℕ, Bool, true, false, List, ◌++◌, length, map, take, Option, IsSomeAnd, IsTrue, MatchOption}
 use Rattle.std.specs.Io.KnownBytes.{Appends, IsAtEnd}
 use Rattle.disk.specs.Device.{Medium}
-use Rattle.histories.specs.CoreState.{IsIdle}
 use Rattle.histories.specs.Runs.{logged_messages}
 use Rattle.scheduler.specs.DeviceEvents.{DeviceEvent, device_after, events_of}
 use Rattle.scheduler.specs.Machine.{MachineView, machine_of}
-use Rattle.scheduler.specs.CoreView.{CoreView, core_state_of}
 use Rattle.meaning.specs.Output.{joined}
 use Rattle.message.specs.AppendsBeginning.{AppendsBeginning}
 use Rattle.serving.specs.Progress.{ServingProgress}
@@ -14,7 +12,7 @@ use Rattle.serving.specs.Lines.{HaveAnswers, Line, answer_text}
 use Rattle.serving.specs.History.{AreInHistory}
 use Rattle.serving.specs.Restart.{WritesBeginning}
 use Rattle.serving.specs.Runs.{HandsHaveJobs}
-use Rattle.serving.specs.Start.{Start, start_machine}
+use Rattle.serving.specs.Start.{Start, start_machine, IsIdleStart}
 use Rattle.serving.specs.declared.session.ReadEnd.{ReadEnd}
 use Rattle.serving.specs.Session.{SessionView, machine, IsReadEnd}
 use Rattle.reorder_buffer.specs.ReorderBuffer.{ReorderBufferView}
@@ -77,11 +75,6 @@ pub record HasEndedReading (keeps : Type 0) (s : Start) (p : SessionView) (read_
 abbrev pub ReadsOrHasEnded : Type 0 → Start → SessionView → Option ReadEnd → Type 0
 ReadsOrHasEnded keeps s p read_end = MatchOption read_end (SessionProgress keeps s p p.unread p.drained) (HasEndedReading keeps s p)
 
--- No message was in the core or its `doubt` at the start.
-pub record IsIdleStart (s : Start) : Type 0 where
-  pub idle : IsIdle (core_state_of s.core)
-  pub none_in_doubt : s.core.doubt ≡ []
-
 -- What is true of a session between any two calls of it.
 pub record SessionInvariant (keeps : Type 0) (s : Start) (p : SessionView) : Type 0 where
   pub start : IsIdleStart s
@@ -98,15 +91,3 @@ pub record SessionInvariant (keeps : Type 0) (s : Start) (p : SessionView) : Typ
 -- `SessionInvariant` from this start. Before a call of `serve` has begun there is no start, and no session satisfies this.
 abbrev pub SessionInvariantFrom : Type 0 → Option Start → SessionView → Type 0
 SessionInvariantFrom keeps start p = IsSomeAnd start (λ s. SessionInvariant keeps s p)
-
--- A call of `serve` may begin at this start: no message is in the core or its `doubt`, the device has not failed, and the reorder buffer is
--- empty and has room for no more lines than the core has slots. `sent_at`: the device is as the sink has it.
-pub record CanBegin (start : Option Start) (core : CoreView) (places : ℕ) (input sent : Option (List ℕ)) (sent_at : Medium)
-    (reorder_buffer : ReorderBufferView) : Type 0 where
-  pub start_is : start ≡ Some (record { core = core; places = places; input = input; before = sent })
-  pub at_start : sent_at ≡ core.medium
-  pub idle : IsIdle (core_state_of core)
-  pub works : core.failed ≡ false
-  pub none_in_doubt : core.doubt ≡ []
-  pub none : reorder_buffer.lines ≡ []
-  pub fits : reorder_buffer.slots ≤ core.slots

@@ -19,7 +19,7 @@ ghost use Rattle.protocol.specs.declared.messages.Msg.{Msg};
 ghost use Rattle.protocol.specs.Replies.{reply_line};
 ghost use Rattle.protocol.specs.declared.replies.Reply.{Reply};
 ghost use Rattle.protocol.specs.declared.replies.Reply.TheVariants.{Done};
-ghost use Rattle.meaning.specs.Order.{serial_replies};
+ghost use Rattle.meaning.specs.TicketOrder.{serial_replies};
 ghost use Rattle.meaning.specs.Output.{output_lines, state_after_lines};
 ghost use Rattle.meaning.specs.Step.{state_after_all};
 ghost use Rattle.meaning.specs.State.{State};

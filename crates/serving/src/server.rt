@@ -14,7 +14,7 @@ ghost use Rattle.protocol.specs.declared.sizes.TheConstants.{LONGEST_LINE};
 ghost use Rattle.serving.specs.Exchange.{exchange};
 ghost use Rattle.serving.specs.Kill.{IsKillSafe};
 ghost use Rattle.serving.specs.Serve.{ServePromise, handed_back};
-ghost use Rattle.serving.specs.SessionInvariant.{CanBegin};
+ghost use Rattle.serving.specs.Start.{CanBegin};
 ghost use Rattle.serving.specs.SessionEnds.{reported};
 ghost use Rattle.affinity.specs.declared.limits.TheConstants.{MOST_WORKERS};
 ghost use Rattle.workers.specs.Seats.{places_of};

@@ -3,7 +3,7 @@ use Rattle.std.proofs.Common.{ℕ, List, length, false, refl, sym, ◌∙◌, ap
 use Rattle.oplog.proofs.Results.{err_is}
 use Rattle.std.proofs.lemmas.Bool.{not-true, not-false}
 use Rattle.std.proofs.lemmas.Result.{IfErr-weaker, on_ok_weaker}
-use Rattle.recovery.specs.Loading.{NamedHolds}
+use Rattle.recovery.specs.NamedHolds.{NamedHolds}
 use Rattle.recovery.specs.Recovery.{recovered_state}
 use Rattle.recovery.specs.Refusals.{IsRefused, refused}
 use Rattle.recovery.proofs.Replays.{same_bytes}

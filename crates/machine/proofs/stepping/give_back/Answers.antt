@@ -4,7 +4,7 @@ use Rattle.std.specs.Prelude.{slice_set}
 use Rattle.std.proofs.lemmas.Option.{slice_get-get_or}
 use Rattle.scheduler.proofs.MachineSteps.{back_holds, back_nowhere, back_step, no_result, taken, was_result}
 use Rattle.scheduler.specs.Hands.{HoldsJobs}
-use Rattle.scheduler.specs.Steps.{IsMachineStep}
+use Rattle.scheduler.specs.IsMachineStep.{IsMachineStep}
 use Rattle.scheduler.specs.declared.hands.HandContent.{HandContent}
 use Rattle.histories.specs.declared.outcomes.Outcome.TheVariants as outcomes
 use Rattle.histories.specs.declared.outcomes.Step.TheVariants as steps

@@ -3,7 +3,7 @@ use Rattle.std.proofs.Common.{refl, sym, subst, ℕ}
 use Rattle.std.specs.Prelude.{slice_set}
 use Rattle.histories.specs.declared.outcomes.Outcome.TheVariants as outcomes
 use Rattle.histories.specs.declared.outcomes.Step.TheVariants as steps
-use Rattle.scheduler.specs.Steps.{IsMachineStep}
+use Rattle.scheduler.specs.IsMachineStep.{IsMachineStep}
 use Rattle.scheduler.specs.declared.hands.HandContent.TheVariants as has
 use Rattle.scheduler.proofs.MachineSteps.{failed_step, grant_holds, grant_step, no_grant_step, no_hand, position_within, still_holds}
 use Rattle.machine.proofs.stepping.grant.Goals as goal

@@ -5,7 +5,7 @@ use Rattle.affinity.specs.declared.geometry.Geometry.{Geometry}
 use Rattle.recovery.specs.declared.fault.OpenFault.{OpenFault}
 use Rattle.recovery.specs.declared.fault.OpenFault.TheVariants.{BadChain}
 use Rattle.recovery.specs.OpenFaults.{IsConsistentFault, IsOfHalf, image_fault, records_fault}
-use Rattle.recovery.specs.Loading.{are_both_chained}
+use Rattle.recovery.specs.NamedHolds.{are_both_chained}
 use Rattle.recovery.specs.Recovery.{decoding}
 use Rattle.recovery.specs.Refusals.{fault_if}
 use Rattle.image.specs.Image.{image_state, version_in}

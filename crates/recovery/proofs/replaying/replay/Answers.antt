@@ -7,7 +7,7 @@ use Rattle.oplog.specs.HalfContent.{front}
 use Rattle.oplog.specs.Log.{Log, layout_of_log}
 use Rattle.oplog.specs.Recovery.{run}
 use Rattle.parcel.specs.Tree.{state_in}
-use Rattle.recovery.specs.Loading.{IsReadingCall}
+use Rattle.recovery.specs.OpeningCalls.{IsReadingCall}
 use Rattle.recovery.specs.Recovery.{decoding}
 use Rattle.recovery.proofs.ReadingCalls.{after, passed_on}
 use Rattle.recovery.proofs.Replays.{apply_same, at_first, at_next, bad_at, record_fault_same, same_bytes}
