@@ -12,8 +12,8 @@ use Rattle.oplog.specs.Crash.{RecoversBy}
 use Rattle.oplog.specs.HalfContent.{chain, front, gates, count_open}
 use Rattle.device_map.specs.Layout.{Layout, half_part, layout_of, other, part_bytes, root_part}
 use Rattle.oplog.specs.Recovery.{in_force, named_area, records_in}
-use Rattle.oplog.proofs.AfterCrash.{named_kept, no_chain_by}
-use Rattle.oplog.proofs.SameRecovery.{grown_force, named_area-below, same_forced, same_named}
+use Rattle.oplog.proofs.AfterCrash.{no_chain_by}
+use Rattle.oplog.proofs.SameRecovery.{grown_force, named_area-below, same_forced, same_named, named_kept}
 use Rattle.oplog.proofs.RecordRows.{length-rows}
 use Rattle.meaning.specs.State.{State}
 

@@ -1,26 +1,22 @@
 -- No two held messages are at related places: what a dispatch, a return and a log step do to them.
-use Rattle.std.proofs.Common.{◌≡◌, ℕ, ◌+◌, true, false, List, [], ◌∷◌, ◌++◌, Some, ap, sym, ◌∙◌, subst, append_assoc, length}
+use Rattle.std.proofs.Common.{◌≡◌, ℕ, true, false, List, [], ◌∷◌, ◌++◌, Some, ap, sym, ◌∙◌, subst, append_assoc}
 use Rattle.std.specs.Prelude.{◌&&◌, ◌==◌, not, nat_lt}
 use Rattle.std.specs.List.{AllByRecursion, list_any}
 use Rattle.std.proofs.lemmas.Bool.{and_parts, not-true}
-use Rattle.std.proofs.lemmas.List.{length-append, length-map}
 use Rattle.affinity.specs.declared.geometry.Geometry.{Geometry}
 use Rattle.affinity.proofs.Paths.{unrelated_turned}
 use Rattle.affinity.proofs.Elements.{all_weaker}
 use Rattle.protocol.specs.Messages.{path_of}
 use Rattle.meaning.specs.Step.{reply_to}
-use Rattle.histories.specs.CoreState.{Entry, CoreState, entry, entries, held, are_related_entries, AreUnrelated}
+use Rattle.histories.specs.CoreState.{Entry, CoreState, entries, held, are_related_entries, AreUnrelated}
 use Rattle.histories.specs.Eligible.{is_conflict_free, has_room, is_eligible, next_eligible}
-use Rattle.histories.specs.Events.{grant, give_back, find_in_flight, log}
+use Rattle.histories.specs.Events.{grant, give_back, find_in_flight}
 use Rattle.histories.proofs.Lists.{all_none, before_push, before_moved, picked}
-use Rattle.histories.proofs.Entries.{entries-append, entries_split}
+use Rattle.histories.proofs.Entries.{entries-append}
+use Rattle.histories.proofs.Held.{held_grant}
 
 pub apart_turned : (g : Geometry) (e d : Entry) → are_related_entries g e d ≡ false → are_related_entries g d e ≡ false
 apart_turned g e d h = unrelated_turned (path_of g e.1) (path_of g d.1) h
-
-pub length_held : (w : CoreState) → length (held w) ≡ length w.logged + (length w.ran + length w.in_flight)
-length_held w = length-append (entries w.logged) (entries w.ran ++ w.in_flight)
-    ∙ (λ i. length-map w.logged entry i + (length-append (entries w.ran) w.in_flight ∙ ap (λ n. n + length w.in_flight) (length-map w.ran entry)) i)
 
 module _ (g : Geometry) (w : CoreState) (found : Entry × List Entry) (first : next_eligible g w ≡ Some found) where
   clear : (not (list_any (are_related_entries g found.0) (held w)) ≡ true)
@@ -35,10 +31,6 @@ module _ (g : Geometry) (w : CoreState) (found : Entry × List Entry) (first : n
   -- and to those of the waiting messages with smaller tickets
   pub granted_is_first : AllByRecursion (λ d. (nat_lt d.0 found.0.0 && are_related_entries g found.0 d) ≡ false) w.waiting
   granted_is_first = all_none (λ d. nat_lt d.0 found.0.0 && are_related_entries g found.0 d) w.waiting (not-true _ clear.1)
-
-pub held_grant : (w : CoreState) (found : Entry × List Entry) → held (grant w found) ≡ held w ++ found.0 ∷ []
-held_grant w found = ap (λ l. entries w.logged ++ l) (sym (append_assoc (entries w.ran) w.in_flight (found.0 ∷ [])))
-    ∙ sym (append_assoc (entries w.logged) (entries w.ran ++ w.in_flight) (found.0 ∷ []))
 
 pub grant_apart : (g : Geometry) (w : CoreState) (found : Entry × List Entry) → next_eligible g w ≡ Some found → AreUnrelated g (held w)
     → AreUnrelated g (held (grant w found))
@@ -62,7 +54,3 @@ back_apart g w ticket found h apart =
     (append_assoc L R _ ∙ ap (λ l. L ++ l) (sym (append_assoc R (e ∷ []) (k.before ++ k.behind)) ∙
     (λ i. sym (entries-append w.ran ((e.0, e.1, reply_to g w.committed e.1) ∷ [])) i ++ sym k.rest i)))
     moved
-
--- A log step leaves the list of held messages as it is.
-pub log_held : (g : Geometry) (w : CoreState) (n : ℕ) → held (log g w n) ≡ held w
-log_held g w n = entries_split w.logged w.ran w.in_flight n

@@ -15,7 +15,8 @@ use Rattle.histories.specs.Runs.{IsLegal, end_state}
 use Rattle.histories.specs.IsSoundCoreState.{HaveRepliesAt, HasRoom, IsSoundCoreState}
 use Rattle.histories.specs.Failures.{DoubtOnlyAfterFailure}
 use Rattle.histories.proofs.Lists.{all_front, all_back, all_moved, all_without, before_push, before_back, before_front, before_without, before_moved, picked, length-picked}
-use Rattle.histories.proofs.AreUnrelated.{grant_apart, back_apart, log_held, held_grant, length_held}
+use Rattle.histories.proofs.AreUnrelated.{grant_apart, back_apart}
+use Rattle.histories.proofs.Held.{log_held, held_grant, length_held}
 use Rattle.histories.proofs.Ways.{Passed, Way, ways}
 use Rattle.histories.proofs.Ways as way
 use Rattle.histories.proofs.SerialReplies.{InARow, in_a_row}

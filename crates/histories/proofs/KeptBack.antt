@@ -16,7 +16,7 @@ use Rattle.histories.specs.IsSoundCoreState.{IsSoundCoreState}
 use Rattle.histories.specs.Runs.{IsLegal, answered_at, answered_messages, end_state}
 use Rattle.histories.specs.Progress.{kept_back_by}
 use Rattle.histories.proofs.Entries.{entries-append}
-use Rattle.histories.proofs.AreUnrelated.{held_grant, log_held}
+use Rattle.histories.proofs.Held.{held_grant, log_held}
 use Rattle.histories.proofs.Elements.{all_at, IsIn}
 use Rattle.histories.proofs.NextEligible.{goes_first}
 use Rattle.histories.proofs.Lists.{all_back, sum_by-picked}

@@ -1,6 +1,7 @@
 -- ---- for the crates above: what each event does to the core, and what every core state keeps
 pub mod Lists
 pub mod AreUnrelated
+pub mod Held
 pub mod Entries
 pub mod Ways
 pub mod SerialReplies

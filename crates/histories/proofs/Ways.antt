@@ -27,7 +27,7 @@ use Rattle.histories.specs.Events.{Event, IsAllowed, IsFault, IsWithoutFault, ar
 use Rattle.histories.specs.Runs.{answered_at, logged_at, arrives, answers}
 use Rattle.histories.specs.Failures.{DoubtIsPrefixOfRan, reports_failure}
 use Rattle.histories.specs.Progress.{steps_at}
-use Rattle.histories.proofs.AreUnrelated.{length_held}
+use Rattle.histories.proofs.Held.{length_held}
 use Rattle.histories.proofs.Lists.{first_few}
 
 -- what passes at an event: the messages that it logs (`gone`), those that arrive (`come`), and the replies that it gives

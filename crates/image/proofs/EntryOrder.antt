@@ -11,7 +11,8 @@ use Rattle.stripe.specs.Stripe.{BlockEntry, content_at, ComesBefore, IsAscending
 use Rattle.stripe.proofs.EntryOrder.{ascending_same, ascending-append}
 use Rattle.image.specs.Pieces.{stripe_entries, entry_if, joined_below}
 use Rattle.image.proofs.Measures.{all_joined}
-use Rattle.image.proofs.ReadImage.{entries_hold, none_joined}
+use Rattle.image.proofs.ReadImage.{entries_hold}
+use Rattle.image.proofs.JoinedEntries.{none_joined}
 
 -- A list of entries for each number: if entries of a smaller number come before those of a larger, the joined lists ascend.
 module _ (Q : BlockEntry → Type 0) (number : BlockEntry → ℕ) (h : ℕ → List BlockEntry) (of : (n : ℕ) → AllByRecursion (λ e. Q e × (number e ≡ n)) (h n)) (ascend : (n : ℕ) → IsAscending (h n))

@@ -4,6 +4,7 @@ pub mod PieceNumbers
 pub mod PieceIn
 pub mod JoinedPieces
 pub mod ReadImage
+mod JoinedEntries
 pub mod EntryOrder
 pub mod EntryCounts
 pub mod DecodedBy

@@ -16,3 +16,4 @@ pub mod AppendsBeginning
 mod Spells
 pub mod RecordLemmas
 mod ReaderLemmas
+mod Slices

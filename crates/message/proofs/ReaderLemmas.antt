@@ -1,21 +1,20 @@
 -- Laws of the first line of some bytes, and of what is unread.
 use Rattle.std.proofs.lemmas.Grind.{common_steps}
-use Rattle.std.proofs.Common.{◌≡◌, ◌≢◌, ℕ, suc, min, ◌+◌, ◌-◌, ◌<◌, ◌≤◌, ◌⊎◌, inl, inr, Bool, true, false, List, [], ◌∷◌, ◌++◌, length, take, drop, get_or, Option, Some, None, IfSome, refl, sym, ap, ◌∙◌, subst, arith, append-nil, append_assoc, drop-drop}
+use Rattle.std.proofs.Common.{◌≡◌, ◌≢◌, ℕ, suc, min, ◌+◌, ◌-◌, ◌<◌, ◌≤◌, ◌⊎◌, inl, inr, Bool, true, false, List, [], ◌∷◌, ◌++◌, length, take, get_or, Option, Some, None, IfSome, refl, sym, ap, ◌∙◌, subst, arith, append-nil, append_assoc}
 use Rattle.std.specs.List.{Contains, slice_range}
 use Rattle.std.specs.Io.KnownBytes.{prepend_known, Keeps, Consumes, IsAtEnd}
 use Rattle.std.proofs.KnownBytes.{prepend_known-nil}
 use Rattle.std.proofs.lemmas.Bool.{false≢true, cases_eq, cases_lt}
 use Rattle.std.proofs.lemmas.List.{length-append, get_or_default, get_or_append_left}
-use Rattle.std.proofs.lemmas.List.Edits.{length-between, get_or-between, between_none, between_more}
+use Rattle.std.proofs.lemmas.List.Edits.{length-between, get_or-between}
 use Rattle.std.proofs.lemmas.List.Elements.{All-nil, All-head, All-tail, All-append, All-from_get_or, All-contains, All-from_recursion, recursion_from_All}
-use Rattle.std.proofs.lemmas.Slice.{between_is}
 use Rattle.std.proofs.lemmas.Option.{none-some, same_Some}
 use Rattle.std.specs.Prelude.{◌&&◌}
-use Rattle.std.proofs.Math.Seq.{take-add}
 use Rattle.protocol.specs.declared.sizes.TheConstants.{LONGEST_LINE}
 use Rattle.protocol.proofs.FirstLines.{first_line-newline, first_line-other, behind_first_line-newline, behind_first_line-other}
 use Rattle.protocol.specs.FirstLine.{first_line, behind_first_line, IsWithinLine, GivesLine, PassesLine, LosesLineStart, HasWholeFirstLine}
 use Rattle.message.specs.Reader.{still_to_come, are_none}
+use Rattle.message.proofs.Slices.{slice-none, slice-split, slice-first}
 
 -- ---- the first line of bytes that are read in parts
 
@@ -52,21 +51,6 @@ pub Contains-not_within : (xs : List ℕ) → IsWithinLine xs → Contains xs 10
 Contains-not_within xs within there = All-contains NoNewline xs 10 within there refl
 
 -- ---- parts of a buffer
-
-slice-none : (xs : List ℕ) (k j : ℕ) → j ≤ k → slice_range xs k j ≡ []
-slice-none xs k j over = let none : j - k ≡ 0 = omega arith in ap (λ n. take n (drop k xs)) none
-
-slice-split : (xs : List ℕ) (i k j : ℕ) → i ≤ k → k ≤ j → slice_range xs i j ≡ slice_range xs i k ++ slice_range xs k j
-slice-split xs i k j low high =
-    let whole : j - i ≡ (k - i) + (j - k) = omega arith in
-    let there : i + (k - i) ≡ k = omega arith in
-    ap (λ n. take n (drop i xs)) whole ∙ take-add (k - i) (j - k) (drop i xs) ∙ ap (λ l. slice_range xs i k ++ take (j - k) l) (drop-drop (k - i) i xs ∙ ap (λ n. drop n xs) there)
-
-slice-one : (xs : List ℕ) (k : ℕ) → k < length xs → slice_range xs k (k + 1) ≡ get_or xs k 0 ∷ []
-slice-one xs k low = between_more xs k k 0 (omega arith) low ∙ ap (λ l. l ++ get_or xs k 0 ∷ []) (between_none xs k)
-
-slice-first : (xs : List ℕ) (k j : ℕ) → k < j → j ≤ length xs → slice_range xs k j ≡ get_or xs k 0 ∷ slice_range xs (k + 1) j
-slice-first xs k j low high = slice-split xs k (k + 1) j (omega arith) (omega arith) ∙ ap (λ l. l ++ slice_range xs (k + 1) j) (slice-one xs k (omega arith))
 
 -- no byte of the buffer from i up to k is a newline
 abbrev pub NoneFrom : List ℕ → ℕ → ℕ → Type 0
@@ -170,20 +154,6 @@ module _ (xs : List ℕ) (n e r : ℕ) (within : e ≤ length xs) (bound : r ≤
 
   pub newline-slice : (r < length (slice_range xs n e) → get_or (slice_range xs n e) r 0 ≡ 10) → n + r < e → get_or xs (n + r) 0 ≡ 10
   newline-slice there low = sym (get_or-between xs n e r 0 low) ∙ there (omega (arith, length-between xs n e within))
-
--- a part with no bytes has none in another buffer of the same length
-pub slice-still_none : (xs ys : List ℕ) (i j : ℕ) → length ys ≡ length xs → j ≤ length xs → slice_range xs i j ≡ [] → slice_range ys i j ≡ []
-slice-still_none xs ys i j same within none = grind (arith, common_steps)
-
--- a part that lies before what was written is as it was
-pub slice-front : (xs ys : List ℕ) (i j : ℕ) → take j ys ≡ take j xs → slice_range ys i j ≡ slice_range xs i j
-slice-front xs ys i j same = between_is ys i j ∙ ap (drop i) same ∙ sym (between_is xs i j)
-
--- what is held and what came behind it
-pub slice-grown : (xs ys : List ℕ) (i j n : ℕ) → i ≤ j → take j ys ≡ take j xs → slice_range ys i (j + n) ≡ slice_range xs i j ++ take n (drop j ys)
-slice-grown xs ys i j n low same =
-    let whole : (j + n) - j ≡ n = omega arith in
-    slice-split ys i j (j + n) low (omega arith) ∙ ap (λ l. l ++ slice_range ys j (j + n)) (slice-front xs ys i j same) ∙ ap (λ m. slice_range xs i j ++ take m (drop j ys)) whole
 
 -- the bytes that came move from what is to come to what is held
 pub Keeps-read : (old new : Option (List ℕ)) (buffered came : List ℕ) → Consumes old new came → Keeps (prepend_known buffered old) (prepend_known (buffered ++ came) new)

@@ -7,22 +7,14 @@ use Rattle.disk.proofs.CrashImagesAre.{weaker}
 use Rattle.device_map.specs.Layout.{Layout, part_bytes, root_part, half_part, image_part, other}
 use Rattle.oplog.specs.HalfContent.{chain, front}
 use Rattle.oplog.specs.Recovery.{Decoding, named_area, current_of, run, recovers_by_area}
-use Rattle.oplog.specs.Changes.{IsSameBut, IsSameButChain, HasAppended}
+use Rattle.oplog.specs.Changes.{IsSameButChain, HasAppended}
 use Rattle.oplog.specs.Crash.{RecoversBy, CrashRecovers, AppendRecovers, AllRecover, ImageRecovers, ClearRecovers, ChainRecovers, ChainedRecovers, TornRootRecovers, FlipRecovers}
-use Rattle.oplog.proofs.SameRecovery.{same_named, same_chain, grown_as, root_kept, half_kept, image_kept, chain_kept}
+use Rattle.oplog.proofs.SameRecovery.{same_named, same_chain, grown_as, root_kept, half_kept, image_kept, chain_kept, named_kept, current_kept}
 
 -- where the named half is the current one, its chain byte isn't 1
 pub no_chain_by : (n : ℕ) (t : Bool) → n < 2 → cond t (other n) n ≡ n → t ≡ false
 no_chain_by n true is_area is = absurd (omega (arith, is, is_area))
 no_chain_by n false is_area is = refl
-
--- what the root zone names, while another part changes
-pub named_kept : (g : Layout) (p : ℕ) (a c : List ℕ) → root_part ≢ p → IsSameBut g p a c → named_area g c ≡ named_area g a
-named_kept g p a c apart same = ap (λ (l : List ℕ). cond (eqb (get_or l 0 0) 1) 1 0) (same.others root_part apart)
-
--- the current half of an area, while another part than its half changes
-pub current_kept : (g : Layout) (n p : ℕ) (a c : List ℕ) → half_part n ≢ p → IsSameBut g p a c → current_of g n c ≡ current_of g n a
-current_kept g n p a c apart same = ap (λ (l : List ℕ). cond (eqb (get_or l 0 0) 1) (other n) n) (same.others (half_part n) apart)
 
 module _ {S : Type 0} (decoding : Decoding S) where
   more_by : {g : Layout} {n h : ℕ} {x : Option S} {more : List (List ℕ)} {a c : List ℕ} → n < 2 → h < 2 → HasAppended g h more a c

@@ -139,3 +139,11 @@ module _ {S : Type 0} (decoding : Decoding S) where
 
     pub same_named : named_area g c ≡ named_area g a
     same_named = ap (λ (l : List ℕ). cond (eqb (get_or l 0 0) 1) 1 0) (has.same.others root_part (λ is. omega (arith, is)))
+
+-- what the root zone names, while another part changes
+pub named_kept : (g : Layout) (p : ℕ) (a c : List ℕ) → root_part ≢ p → IsSameBut g p a c → named_area g c ≡ named_area g a
+named_kept g p a c apart same = ap (λ (l : List ℕ). cond (eqb (get_or l 0 0) 1) 1 0) (same.others root_part apart)
+
+-- the current half of an area, while another part than its half changes
+pub current_kept : (g : Layout) (n p : ℕ) (a c : List ℕ) → half_part n ≢ p → IsSameBut g p a c → current_of g n c ≡ current_of g n a
+current_kept g n p a c apart same = ap (λ (l : List ℕ). cond (eqb (get_or l 0 0) 1) (other n) n) (same.others (half_part n) apart)

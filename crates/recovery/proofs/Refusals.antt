@@ -11,13 +11,20 @@ use Rattle.recovery.specs.OpenFaults.{IsConsistentFault, IsOfHalf, IsOfHeader, i
 use Rattle.recovery.specs.NamedHolds.{are_both_chained}
 use Rattle.recovery.specs.Recovery.{after_record, recovered_state, decoding}
 use Rattle.recovery.specs.Refusals.{HasHeaderAndParts, IsRefused, fault_if, fault_or_later, first_bad_piece, first_bad_record, refused}
-use Rattle.recovery.proofs.Replays.{fault_from}
 use Rattle.image.specs.Image.{has_head, image_state}
 use Rattle.oplog.specs.HalfContent.{chain, front}
 use Rattle.device_map.specs.Layout.{Layout, layout_of, device_size, header_part, image_part, other, part_bytes}
 use Rattle.oplog.specs.Recovery.{in_force, is_laid_out, named_area, run}
 use Rattle.oplog.proofs.SameRecovery.{run-append}
 use Rattle.meaning.specs.State.{State}
+
+-- If one test (o) gives only faults that several tests (p) give as well, an answer that is consistent with o is so with p.
+pub fault_from : (o p : Option OpenFault) → ((e : OpenFault) → o ≡ Some e → p ≡ Some e) → (e : OpenFault) → IsConsistentFault o e → IsConsistentFault p e
+fault_from o p gives Device is = tt
+fault_from o p gives OutOfMemory is = tt
+fault_from o p gives NotFormatted is = absurd is
+fault_from o p gives BadGeometry is = absurd is
+fault_from o p gives e is = gives e is
 
 -- with area n named, the records in force are run on state x, one after the other: the fault of the first that can't be run
 abbrev pub in_force_fault : Geometry → State → ℕ → List ℕ → Option OpenFault

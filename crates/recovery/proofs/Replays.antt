@@ -4,7 +4,7 @@ use Rattle.std.specs.Prelude.{if◌then◌else◌}
 use Rattle.std.proofs.lemmas.List.{drop_more}
 use Rattle.affinity.specs.declared.geometry.Geometry.{Geometry}
 use Rattle.recovery.specs.declared.fault.OpenFault.{OpenFault}
-use Rattle.recovery.specs.declared.fault.OpenFault.TheVariants.{Device, NotFormatted, BadGeometry, OutOfMemory, BadRecord}
+use Rattle.recovery.specs.declared.fault.OpenFault.TheVariants.{BadRecord}
 use Rattle.recovery.specs.OpenFaults.{IsConsistentFault, record_fault, records_fault}
 use Rattle.recovery.specs.Recovery.{after_record, decoding}
 use Rattle.recovery.specs.Refusals.{fault_if, fault_or_later, first_bad_record}
@@ -15,6 +15,7 @@ use Rattle.oplog.specs.Log.{Log, layout_of_log}
 use Rattle.oplog.specs.Recovery.{run}
 use Rattle.oplog.proofs.PartsRead.{front_record}
 use Rattle.meaning.specs.State.{State}
+use Rattle.recovery.proofs.Refusals.{fault_from}
 
 -- ---- what a read leaves
 
@@ -27,14 +28,6 @@ unfolding now_in
 same_bytes old new same = ap (λ (ms : List Moment). now_in ms) same
 
 -- ---- faults
-
--- If one test (o) gives only faults that several tests (p) give as well, an answer that is consistent with o is so with p.
-pub fault_from : (o p : Option OpenFault) → ((e : OpenFault) → o ≡ Some e → p ≡ Some e) → (e : OpenFault) → IsConsistentFault o e → IsConsistentFault p e
-fault_from o p gives Device is = tt
-fault_from o p gives OutOfMemory is = tt
-fault_from o p gives NotFormatted is = absurd is
-fault_from o p gives BadGeometry is = absurd is
-fault_from o p gives e is = gives e is
 
 -- ---- one record of several
 

@@ -1,5 +1,5 @@
 -- Which messages are kept back, by the affinity numbers of those that are held and that wait.
-use Rattle.std.proofs.Common.{◌≡◌, ◌∙◌, ℕ, ◌<◌, Bool, true, false, not, ◌||◌, List, [], ◌∷◌, find, Option, Some, None, is_some, refl, ap, sym, subst, inl, inr, arith}
+use Rattle.std.proofs.Common.{◌≡◌, ◌∙◌, ℕ, ◌<◌, Bool, true, false, not, ◌||◌, List, [], ◌∷◌, find, Option, Some, None, is_some, refl, ap, sym, inl, inr, arith}
 use Rattle.std.specs.Prelude.{nat_lt, ◌==◌}
 use Rattle.std.specs.List.{list_any, AllByRecursion}
 use Rattle.std.proofs.lemmas.Bool.{eq-eqb, eqb-true, ltb-true, lt-ltb, cases_Bool, and_parts, and_from, or_cases, or_left, or_right, or_parts, true≢false, false_from_ne_true, and_right}
@@ -10,36 +10,9 @@ use Rattle.run_queue.specs.Order.{Ascend, waits_for, is_conflict_free}
 use Rattle.run_queue.specs.RelatedNumbers.{is_before, conflicts_at}
 use Rattle.run_queue.specs.declared.queued_message.QueuedMessage.{QueuedMessage}
 use Rattle.run_queue.proofs.AffinitiesAbove.{AreAbove}
+use Rattle.run_queue.proofs.Finds.{find-cons, find-skip, find-all, find-passes, any-found}
 
 -- ---- what is found
-
-pub find-cons : (p : QueuedMessage → Bool) (t : QueuedMessage) (ts : List QueuedMessage) → p t ≡ true → find p (t ∷ ts) ≡ Some t
-find-cons p t ts k = rw k refl
-
-pub find-skip : (p : QueuedMessage → Bool) (t : QueuedMessage) (ts : List QueuedMessage) → p t ≡ false → find p (t ∷ ts) ≡ find p ts
-find-skip p t ts k = rw k refl
-
-pub find-all : (P : QueuedMessage → Type 0) (p : QueuedMessage → Bool) (ts : List QueuedMessage) (t : QueuedMessage) → AllByRecursion P ts → find p ts ≡ Some t → P t
-find-all P p [] t all found = absurd (cc)
-find-all P p (d ∷ ts) t all found = elim (cases_Bool (p d)) [
-  | inl k ↦ (let is = sym (find-cons p d ts k) ∙ found in let same : d ≡ t = cc in subst (λ (u : QueuedMessage). P u) same all.0)
-  | inr k ↦ find-all P p ts t all.1 (sym (find-skip p d ts k) ∙ found)
-]
-
-pub find-passes : (p : QueuedMessage → Bool) (ts : List QueuedMessage) (t : QueuedMessage) → find p ts ≡ Some t → p t ≡ true
-find-passes p [] t found = absurd (cc)
-find-passes p (d ∷ ts) t found = elim (cases_Bool (p d)) [
-  | inl k ↦ (let is = sym (find-cons p d ts k) ∙ found in let same : d ≡ t = cc in subst (λ (u : QueuedMessage). p u ≡ true) same k)
-  | inr k ↦ find-passes p ts t (sym (find-skip p d ts k) ∙ found)
-]
-
-pub any-found : (p q : QueuedMessage → Bool) (ts : List QueuedMessage) (t : QueuedMessage) → find p ts ≡ Some t → q t ≡ true → list_any q ts ≡ true
-any-found p q [] t found good = absurd (cc)
-any-found p q (d ∷ ts) t found good = elim (cases_Bool (p d)) [
-  | inl k ↦ (let is = sym (find-cons p d ts k) ∙ found in let same : d ≡ t = cc in
-      or_left _ _ (subst (λ (u : QueuedMessage). q u ≡ true) (sym same) good))
-  | inr k ↦ or_right _ _ (any-found p q ts t (sym (find-skip p d ts k) ∙ found) good)
-]
 
 pub has_own : (t : QueuedMessage) → has_number t.affinity.number t ≡ true
 has_own t = eq-eqb t.affinity.number t.affinity.number refl

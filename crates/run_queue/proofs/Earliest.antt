@@ -15,24 +15,14 @@ use Rattle.run_queue.specs.declared.queued_message.QueuedMessage.{QueuedMessage}
 use Rattle.run_queue.specs.declared.ready_table.TheConstants.{LAST_RANK}
 use Rattle.run_queue.proofs.ByTicket.{next_is_first}
 use Rattle.run_queue.proofs.AffinitiesAbove.{contains-own, number-below}
-use Rattle.run_queue.proofs.ConflictsByNumber.{find-cons, find-skip, find-all, find-passes, has_own}
+use Rattle.run_queue.proofs.ConflictsByNumber.{has_own}
+use Rattle.run_queue.proofs.Finds.{find-same, find-none, find-cons, find-skip, find-all, find-passes}
 
 -- the first waiting message at this affinity number that may be dispatched, by whether the log has room
 abbrev pub dispatchable_at : Bool → List QueuedMessage → List QueuedMessage → ℕ → Option QueuedMessage
 dispatchable_at room held waiting n = find (λ t. has_number n t && (has_room room t && is_conflict_free held waiting t)) waiting
 
 -- ---- the first message that passes a test
-
-find-same : (p q : QueuedMessage → Bool) → ((t : QueuedMessage) → p t ≡ q t) → (ts : List QueuedMessage) → find p ts ≡ find q ts
-find-same p q same [] = refl
-find-same p q same (t ∷ ts) = elim (cases_Bool (q t)) [
-  | inl k ↦ find-cons p t ts (same t ∙ k) ∙ sym (find-cons q t ts k)
-  | inr k ↦ find-skip p t ts (same t ∙ k) ∙ find-same p q same ts ∙ sym (find-skip q t ts k)
-]
-
-find-none : (p : QueuedMessage → Bool) → ((t : QueuedMessage) → p t ≡ false) → (ts : List QueuedMessage) → find p ts ≡ None
-find-none p never [] = refl
-find-none p never (t ∷ ts) = find-skip p t ts (never t) ∙ find-none p never ts
 
 keeps : (o : Option QueuedMessage) (t : QueuedMessage) → ((d : QueuedMessage) → o ≡ Some d → t.ticket < d.ticket) → earlier (Some t) o ≡ Some t
 keeps None t later = refl

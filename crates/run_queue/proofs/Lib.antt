@@ -9,6 +9,7 @@ mod Chains
 mod HeldMessages
 mod AffinitiesAbove
 mod ConflictsByNumber
+mod Finds
 mod Earliest
 mod Ready
 mod Chunks

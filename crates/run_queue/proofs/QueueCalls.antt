@@ -18,7 +18,7 @@ use Rattle.run_queue.specs.declared.queued_message.QueuedMessage.{QueuedMessage}
 use Rattle.run_queue.proofs.ByTicket.{next_is_first}
 use Rattle.run_queue.proofs.SlotCounts.{limit-most, count_in_slot-append, in_slots-arrived, room-arrived, in_slots-gone, in_slots-freed}
 use Rattle.run_queue.proofs.TicketOrder.{all-filter, all-last, ascend-filter, ascend-last}
-use Rattle.run_queue.proofs.ConflictsByNumber.{find-all, find-passes, any-found}
+use Rattle.run_queue.proofs.Finds.{find-all, find-passes, any-found}
 use Rattle.run_queue.proofs.Earliest.{own_overlap, clear-first}
 use Rattle.run_queue.proofs.IsNext.{next_waits}
 use Rattle.run_queue.proofs.Ready.{right-arrived, right-gone, right-freed}

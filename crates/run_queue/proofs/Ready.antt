@@ -17,8 +17,8 @@ use Rattle.run_queue.specs.Queues.{HasInserted}
 use Rattle.run_queue.specs.ReadyTable.{if_passes, ready_at, IsEntryRight, StayRight, AreRelatedRight}
 use Rattle.run_queue.specs.declared.queued_message.QueuedMessage.{QueuedMessage}
 use Rattle.run_queue.proofs.AffinitiesAbove.{number-below, same_path}
-use Rattle.run_queue.proofs.ConflictsByNumber.{find-cons, find-skip, find-all, find-passes, any-found}
 use Rattle.run_queue.proofs.Earliest.{dispatchable_at, none_at, some_at, empty_at}
+use Rattle.run_queue.proofs.Finds.{find-last_other, find-last_found, find-cons, find-skip, find-all, find-passes, any-found}
 
 -- ---- what the ready entries show
 
@@ -62,14 +62,6 @@ pub stay-trans : (held waiting : List QueuedMessage) (a b c : List (Option Queue
 stay-trans held waiting a b c first second = (second.0 ∙ first.0, λ n right. second.1 n (first.1 n right))
 
 -- ---- a message that arrives
-
-find-last_other : (p : QueuedMessage → Bool) (ts : List QueuedMessage) (t : QueuedMessage) → p t ≡ false → find p (ts ++ t ∷ []) ≡ find p ts
-find-last_other p [] t other = find-skip p t [] other
-find-last_other p (d ∷ ts) t other = grind (arith, common_steps, find-last_other p ts t other)
-
-find-last_found : (p : QueuedMessage → Bool) (ts : List QueuedMessage) (t f : QueuedMessage) → find p ts ≡ Some f → find p (ts ++ t ∷ []) ≡ find p ts
-find-last_found p [] t f found = absurd (none-some f found)
-find-last_found p (d ∷ ts) t f found = grind (arith, common_steps, find-last_found p ts t f)
 
 -- a message t that arrives later than f doesn't keep f back
 later-clear : (held waiting : List QueuedMessage) (t f : QueuedMessage) → f.ticket < t.ticket → is_conflict_free held (waiting ++ t ∷ []) f ≡ is_conflict_free held waiting f

@@ -1,57 +1,19 @@
 -- A core that answers.
-use Rattle.std.proofs.Common.{◌≡◌, ℕ, suc, true, false, List, [], ◌∷◌, ◌++◌, map, length, refl, ap, sym, subst, ◌∙◌, arith, inl, inr}
-use Rattle.std.specs.Prelude.{◌||◌, ◌&&◌, not}
+use Rattle.std.proofs.Common.{◌≡◌, ℕ, suc, false, List, ◌∷◌, ◌++◌, map, length, refl, ap, subst, ◌∙◌, arith}
+use Rattle.std.specs.Prelude.{◌&&◌, not}
 use Rattle.std.specs.List.{AllByRecursion}
-use Rattle.std.proofs.lemmas.Bool.{eq-eqb, or_left, true≢false}
-use Rattle.std.proofs.Math.Bool.{or_self}
-use Rattle.std.proofs.lemmas.Bool.Decides.{eqb_tells}
-use Rattle.affinity.proofs.Paths.{are_related-refl}
-use Rattle.affinity.proofs.Preorder.{are_related-contains}
-use Rattle.affinity.specs.Interval.{contains}
+use Rattle.std.proofs.lemmas.Bool.{eq-eqb}
 use Rattle.affinity.specs.declared.geometry.Geometry.{Geometry}
 use Rattle.histories.proofs.Lists.{all_back, all_front}
 use Rattle.histories.proofs.IsSoundCoreState.{answer_sound}
 use Rattle.histories.specs.CoreState.{entries, are_related_entries, AreUnrelated}
-use Rattle.protocol.specs.Messages.{path_of}
 use Rattle.scheduler.proofs.UnloggedChanges.{AreClaimed, HasHeld}
-use Rattle.scheduler.proofs.HeldAny.{any_answered, any_filter}
+use Rattle.scheduler.proofs.HeldAny.{any_answered}
+use Rattle.scheduler.proofs.Lists.{any_filter}
+use Rattle.scheduler.proofs.AffinityNumbers.{other_numbers, other_replied}
 use Rattle.scheduler.specs.Parts.{IsCore, Parts, core_state_in}
-use Rattle.scheduler.specs.Slots.{SlotView, IsPlaced, entry_of, replied_of, queued_of}
+use Rattle.scheduler.specs.Slots.{SlotView, IsPlaced, entry_of, replied_of}
 use Rattle.run_queue.specs.RunQueue.{has_number, without_number}
-
--- Two places at one affinity are related.
-pub same_number : (g : Geometry) (x y : SlotView) → IsPlaced g x → IsPlaced g y → y.1.affinity.number ≡ x.1.affinity.number → are_related_entries g (entry_of x) (entry_of y) ≡ true
-same_number g x y a b same =
-    sym (are_related-contains g (path_of g x.1.message) (path_of g y.1.message) x.1.affinity y.1.affinity a.affinity b.affinity)
-    ∙ (λ i. contains x.1.affinity (same i) || contains y.1.affinity (sym same i))
-    ∙ or_left (contains x.1.affinity x.1.affinity.number) (contains y.1.affinity y.1.affinity.number) itself
-  where
-    itself : contains x.1.affinity x.1.affinity.number ≡ true
-    itself = sym (or_self _) ∙ are_related-contains g (path_of g x.1.message) (path_of g x.1.message) x.1.affinity x.1.affinity a.affinity a.affinity
-        ∙ are_related-refl (path_of g x.1.message)
-
-other_number : (g : Geometry) (x y : SlotView) → IsPlaced g x → IsPlaced g y → are_related_entries g (entry_of x) (entry_of y) ≡ false → not (has_number x.1.affinity.number (queued_of y)) ≡ true
-other_number g x y a b apart = elim (eqb_tells y.1.affinity.number x.1.affinity.number) [
-  | inl e ↦ absurd (true≢false (sym (same_number g x y a b e.1) ∙ apart))
-  | inr n ↦ ap not n.0
-]
-
-pub other_numbers : (g : Geometry) (x : SlotView) → IsPlaced g x → (ys : List SlotView) → AllByRecursion (IsPlaced g) ys
-    → AllByRecursion (λ d. are_related_entries g (entry_of x) d ≡ false) (map entry_of ys)
-    → AllByRecursion (λ y. not (has_number x.1.affinity.number (queued_of y)) ≡ true) ys
-other_numbers g x a [] all apart = tt
-other_numbers g x a (y ∷ ys) all apart = (other_number g x y a all.0 apart.0, other_numbers g x a ys all.1 apart.1)
-
--- the entries of those that ran or are logged
-pub entries_of : (ys : List SlotView) → entries (map replied_of ys) ≡ map entry_of ys
-entries_of [] = refl
-entries_of (y ∷ ys) = ap (λ es. entry_of y ∷ es) (entries_of ys)
-
-pub other_replied : (g : Geometry) (x : SlotView) → IsPlaced g x → (ys : List SlotView) → AllByRecursion (IsPlaced g) ys
-    → AllByRecursion (λ d. are_related_entries g (entry_of x) d ≡ false) (entries (map replied_of ys))
-    → AllByRecursion (λ y. not (has_number x.1.affinity.number (queued_of y)) ≡ true) ys
-other_replied g x a ys all apart =
-    other_numbers g x a ys all (subst (AllByRecursion (λ d. are_related_entries g (entry_of x) d ≡ false)) (entries_of ys) apart)
 
 abbrev pub with_answer : Parts → List SlotView → ℕ → ℕ → Parts
 with_answer p logged free number = record p {

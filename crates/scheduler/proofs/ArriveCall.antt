@@ -14,7 +14,7 @@ use Rattle.protocol.specs.Messages.{is_in_range}
 use Rattle.protocol.specs.declared.messages.Msg.{Msg}
 use Rattle.protocol.specs.declared.replies.Reply.TheVariants.{Done}
 use Rattle.scheduler.proofs.ArrivalKeepsCore.{arrival_core, arrival_state, has_slot, with_arrival}
-use Rattle.scheduler.proofs.NextEligible.{any_map}
+use Rattle.scheduler.proofs.Lists.{any_map}
 use Rattle.scheduler.proofs.UnloggedChanges.{messages_counted}
 use Rattle.scheduler.proofs.Chains.{JoinedSlot, slot_joined}
 use Rattle.scheduler.specs.declared.server_core.Core.TheInside.{Inside}

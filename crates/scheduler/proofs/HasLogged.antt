@@ -1,29 +1,17 @@
 -- The messages that ran: one after the other on their chain, and moved to the chain of those that are logged.
-use Rattle.std.proofs.Common.{◌≡◌, ◌≢◌, ℕ, zero, suc, ◌+◌, ◌<◌, List, [], ◌∷◌, ◌++◌, length, take, drop, Some, None, refl, sym, ap, subst, ◌∙◌, arith, append_assoc, rules}
+use Rattle.std.proofs.Common.{◌≡◌, ◌≢◌, ℕ, suc, ◌+◌, ◌<◌, List, [], ◌∷◌, ◌++◌, length, take, drop, Some, None, sym, ap, subst, ◌∙◌, arith, append_assoc, rules}
 use Rattle.arena.specs.Lists.{first_of, without}
 use Rattle.arena.specs.ArenaView.{ArenaView, IsPartitioned, after_move, chain_at, front_of}
 use Rattle.arena.proofs.ArenaLemmas.{chain-front}
 use Rattle.scheduler.proofs.Chains.{chain_joined, chain_left, chain_stays, four_moved, arena_moved}
+use Rattle.scheduler.proofs.Lists.{take_more, drop_more}
 use Rattle.scheduler.specs.HasLogged.{HasLogged}
 use Rattle.scheduler.specs.Slots.{HasChains}
 use Rattle.scheduler.specs.declared.slot.Slot.{Slot}
 use Rattle.scheduler.specs.declared.slot.TheConstants.{WAITING, IN_FLIGHT, RAN, LOGGED}
-use Rattle.std.proofs.lemmas.List.{append-nil, length-drop}
+use Rattle.std.proofs.lemmas.List.{append-nil}
 
 -- ---- one more of the first ones
-
-pub take_more : {X : Type 0} (n : ℕ) (xs : List X) → take n xs ++ take 1 (drop n xs) ≡ take (suc n) xs
-take_more zero xs = refl
-take_more (suc n) [] = refl
-take_more (suc n) (x ∷ xs) = ap (λ l. x ∷ l) (take_more n xs)
-
-pub drop_more : {X : Type 0} (n : ℕ) (xs : List X) → drop 1 (drop n xs) ≡ drop (suc n) xs
-drop_more zero xs = refl
-drop_more (suc n) [] = refl
-drop_more (suc n) (x ∷ xs) = drop_more n xs
-
-pub left_over : {X : Type 0} (n : ℕ) (xs : List X) → n < length xs → 0 < length (drop n xs)
-left_over n xs low = simp length-drop (omega (arith, low))
 
 -- ---- what ran is logged
 

@@ -1,6 +1,6 @@
 -- Tests of the held messages, as messages arrive, are dispatched, given back and answered.
 use Rattle.std.proofs.Common.{◌≡◌, Bool, true, false, List, [], ◌∷◌, ◌++◌, refl, ap, sym, ◌∙◌}
-use Rattle.std.specs.Prelude.{◌&&◌, ◌||◌, cond, filter}
+use Rattle.std.specs.Prelude.{◌&&◌, ◌||◌}
 use Rattle.std.specs.List.{AllByRecursion, list_any}
 use Rattle.std.proofs.lemmas.List.Folds.{list_any-append}
 use Rattle.scheduler.specs.Slots.{Phases, SlotView, held_any, queued_of}
@@ -44,15 +44,6 @@ module _ (test : QueuedMessage → Bool) where
       ∙ ap (λ b. b || (list_any t rest || list_any t l.in_flight)) (sym (list_any-append t l.logged first))
 
 -- ---- those that are left of a list
-
-pub any_filter : (test q : QueuedMessage → Bool) (ts : List QueuedMessage) → list_any test (filter q ts) ≡ list_any (λ t. q t && test t) ts
-any_filter test q [] = refl
-any_filter test q (t ∷ ts) = by (q t) (any_filter test q ts)
-  where
-    by : (b : Bool) → list_any test (filter q ts) ≡ list_any (λ t. q t && test t) ts
-        → list_any test (cond b (t ∷ filter q ts) (filter q ts)) ≡ ((b && test t) || list_any (λ t. q t && test t) ts)
-    by true rest = ap (λ b. test t || b) rest
-    by false rest = rest
 
 -- where all messages pass the test q, any passes q and `test` exactly if any passes `test`
 pub any_passing : (test q : QueuedMessage → Bool) (xs : List SlotView) → AllByRecursion (λ x. q (queued_of x) ≡ true) xs

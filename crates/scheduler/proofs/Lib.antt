@@ -20,6 +20,8 @@ mod ArrivalKeepsCore
 mod GrantKeepsCore
 mod ReturnKeepsCore
 mod AnswerKeepsCore
+mod AffinityNumbers
+mod SlotEntries
 mod JournalKeepsCore
 mod LogKeepsCore
 mod CheckpointKeepsCore
@@ -29,6 +31,7 @@ mod IsPlaced
 mod GrantCall
 mod ReturnCall
 mod HasLogged
+pub mod Lists
 mod RecordedIn
 mod LogCall
 mod IsJustOpened

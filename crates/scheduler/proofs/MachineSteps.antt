@@ -1,7 +1,7 @@
 -- Each step of a machine is an event, and a crash meanwhile leaves what it may.
-use Rattle.std.proofs.Common.{◌≡◌, ◌≢◌, ◌+◌, ℕ, ◌<◌, ◌≤◌, Bool, true, false, List, [], ◌∷◌, Option, Some, None, Result, refl, ap, sym, ◌∙◌, subst, length, set, map, ⊎_elim, arith}
-use Rattle.std.specs.Prelude.{◌&&◌, not, if◌then◌else◌, option_map, position, slice_get, nat_lt}
-use Rattle.std.specs.List.{Contains, position_or_len}
+use Rattle.std.proofs.Common.{◌≡◌, ◌≢◌, ℕ, ◌<◌, ◌≤◌, Bool, true, false, List, [], Option, Some, None, Result, refl, ap, sym, ◌∙◌, subst, length, set, map, ⊎_elim, arith}
+use Rattle.std.specs.Prelude.{◌&&◌, if◌then◌else◌, option_map, position, slice_get}
+use Rattle.std.specs.List.{Contains}
 use Rattle.std.proofs.lemmas.Bool.{true≢false}
 use Rattle.std.proofs.lemmas.List.{get_or-set_other, get_or-set_same, length-map, map-set, set-get_or}
 use Rattle.std.proofs.Math.Seq.{take-nil}
@@ -43,6 +43,7 @@ use Rattle.scheduler.specs.Calls.{IsCallEvent, IsGrantOf, IsNoGrant, answer_outc
 use Rattle.scheduler.specs.Jobs.{IsResultOf}
 use Rattle.scheduler.specs.CoreView.{CoreView, RecoversNow, RecoversThroughout, core_state_of}
 use Rattle.scheduler.proofs.IsJobOf.{ran_gives}
+use Rattle.scheduler.proofs.Lists.{position_map}
 
 -- ---- what a crash leaves of a device that is left alone
 
@@ -129,17 +130,6 @@ module _ (keeps : Type 0) (old new : CoreView) (hands after : List HandContent) 
     untouched = λ none_touched. same;
     any_moment = λ keeps. quiet_moments old new (to_append (core_state_of old) step) none (recovers keeps) same;
   }
-
--- A test of the images of a list's elements passes first where a test of the elements does, if the two give the same answers.
-pub position_map : {A B : Type 0} (f : A → B) (p : B → Bool) (q : A → Bool) → ((x : A) → p (f x) ≡ q x) → (xs : List A) → position p (map f xs) ≡ position q xs
-position_map {A} f p q same xs = λ i. of (at xs i) (length-map xs f i)
-  where
-    of : ℕ → ℕ → Option ℕ
-    of n m = if nat_lt n m then Some n else None
-
-    at : (xs : List A) → position_or_len p (map f xs) ≡ position_or_len q xs
-    at [] = refl
-    at (x ∷ xs) = λ i. if not (same x i) then 1 + at xs i else 0
 
 pub position_within : (hands : List HandContent) (hand : ℕ) → position (λ h. is_empty (hand_of h)) hands ≡ Some hand → hand < length hands
 position_within hands hand at = (position-Some (λ h. is_empty (hand_of h)) hands hand has.Empty at).0

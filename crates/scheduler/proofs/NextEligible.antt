@@ -22,16 +22,9 @@ use Rattle.scheduler.specs.declared.granted.Granted.TheVariants as granted
 use Rattle.run_queue.proofs.ByTicket.{Ascend, waits_for, is_conflict_free, next_is_first}
 use Rattle.run_queue.specs.RunQueue.{has_room, next_queued, are_related_intervals}
 use Rattle.run_queue.specs.declared.queued_message.QueuedMessage.{QueuedMessage}
+use Rattle.scheduler.proofs.Lists.{any_map, any_same}
 
 -- ---- tests of lists
-
-pub any_map : {X Y : Type 0} (f : X → Y) (p : Y → Bool) (xs : List X) → list_any p (map f xs) ≡ list_any (λ x. p (f x)) xs
-any_map f p [] = refl
-any_map f p (x ∷ xs) = ap (λ b. p (f x) || b) (any_map f p xs)
-
-pub any_same : {X : Type 0} (P : X → Type 0) (f h : X → Bool) → ((x : X) → P x → f x ≡ h x) → (xs : List X) → AllByRecursion P xs → list_any f xs ≡ list_any h xs
-any_same P f h same [] all = refl
-any_same P f h same (x ∷ xs) all = λ i. same x all.0 i || any_same P f h same xs all.1 i
 
 -- ---- queued messages and places
 

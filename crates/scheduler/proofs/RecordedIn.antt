@@ -6,7 +6,6 @@ use Rattle.std.proofs.lemmas.Bool.{lt-ltb, le-ltb, eq-eqb}
 use Rattle.std.proofs.lemmas.Bool.Decides.{eqb_tells}
 use Rattle.std.proofs.lemmas.List.{length-append, map-append}
 use Rattle.std.proofs.lemmas.List.Sums.{sum_by_push}
-use Rattle.std.proofs.lemmas.Option.{none-some, same_Some}
 use Rattle.arena.specs.Lists.{behind, behind_in, first_of, count_of}
 use Rattle.arena.specs.ArenaView.{ArenaView, IsPartitioned, capacity_of, chain_at, next_of, value_at}
 use Rattle.arena.proofs.ArenaLemmas.{chained-holds, length-parts}
@@ -19,8 +18,9 @@ use Rattle.protocol.specs.declared.replies.Reply.{Reply}
 use Rattle.protocol.specs.declared.replies.Reply.TheVariants.{Done}
 use Rattle.meaning.specs.Step.{is_recorded}
 use Rattle.scheduler.proofs.GrantCall.{some_value}
-use Rattle.scheduler.proofs.HasLogged.{left_over, some_first}
+use Rattle.scheduler.proofs.HasLogged.{some_first}
 use Rattle.scheduler.proofs.Splits.{count_of-split}
+use Rattle.scheduler.proofs.Lists.{cut_at, take_one, left_over}
 use Rattle.scheduler.specs.HasLogged.{changing_in, recorded_in}
 use Rattle.scheduler.specs.Slots.{HasChains, SlotView, no_slot, slot_view_at, replied_of}
 use Rattle.scheduler.specs.declared.slot.Slot.{Slot}
@@ -75,21 +75,6 @@ pub chain_short : (arena : ArenaView Slot) (c : ℕ) → IsPartitioned arena →
 chain_short arena c partitioned = let all = length-parts arena partitioned in let at = length_at arena.chains c in omega (arith, all, at)
 
 -- ---- a chain, cut at one of its slots
-
-cut_at : (n i : ℕ) (xs : List ℕ) → first_of (drop n xs) ≡ Some i → xs ≡ take n xs ++ i ∷ drop (suc n) xs
-cut_at zero i [] e = absurd (none-some i e)
-cut_at zero i (x ∷ xs) e = ap (λ (z : ℕ). z ∷ xs) (same_Some x i e)
-cut_at (suc n) i [] e = absurd (none-some i e)
-cut_at (suc n) i (x ∷ xs) e = ap (λ (l : List ℕ). x ∷ l) (cut_at n i xs e)
-
-take_next : (n i : ℕ) (xs : List ℕ) → first_of (drop n xs) ≡ Some i → take (suc n) xs ≡ take n xs ++ i ∷ []
-take_next zero i [] e = absurd (none-some i e)
-take_next zero i (x ∷ xs) e = ap (λ (z : ℕ). z ∷ []) (same_Some x i e)
-take_next (suc n) i [] e = absurd (none-some i e)
-take_next (suc n) i (x ∷ xs) e = ap (λ (l : List ℕ). x ∷ l) (take_next n i xs e)
-
-take_one : (n i : ℕ) (xs : List ℕ) → first_of (drop n xs) ≡ Some i → take (n + 1) xs ≡ take n xs ++ i ∷ []
-take_one n i xs e = let count : n + 1 ≡ suc n = omega arith in ap (λ (m : ℕ). take m xs) count ∙ take_next n i xs e
 
 -- ---- what is gathered
 

@@ -28,7 +28,7 @@ use Rattle.parcel.specs.Shown.{Shows}
 use Rattle.parcel.specs.Tree.{IsOut, RestoresAt, TreeView, tree_nodes}
 use Rattle.parcel.specs.declared.job.Done.{Done as Result}
 use Rattle.meaning.specs.Step.{next_state, reply_to}
-use Rattle.scheduler.proofs.AnswerKeepsCore.{other_numbers, other_replied}
+use Rattle.scheduler.proofs.AffinityNumbers.{other_numbers, other_replied}
 use Rattle.scheduler.proofs.Chains.{MovedSlot, slot_moved}
 use Rattle.scheduler.proofs.ReturnKeepsCore.{out_is, return_core, return_state, returned_is_found, returned_is_placed, with_return}
 use Rattle.scheduler.proofs.Splits.{MapSplit, map_split, count_of-split}

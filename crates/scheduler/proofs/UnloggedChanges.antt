@@ -5,7 +5,7 @@ use Rattle.std.proofs.lemmas.List.{length-map}
 use Rattle.std.proofs.lemmas.List.Sums.{sum_by-append, sum_by-cons}
 use Rattle.histories.specs.Eligible.{changes, unlogged_changes}
 use Rattle.histories.specs.CoreState.{Entry, Replied, held}
-use Rattle.histories.proofs.AreUnrelated.{length_held}
+use Rattle.histories.proofs.Held.{length_held}
 use Rattle.run_queue.specs.declared.queued_message.QueuedMessage.{QueuedMessage}
 use Rattle.std.specs.List.{list_any}
 use Rattle.scheduler.specs.Parts.{Parts, core_state_in}

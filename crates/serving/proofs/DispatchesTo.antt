@@ -11,7 +11,8 @@ use Rattle.histories.specs.declared.outcomes.Outcome.{Outcome}
 use Rattle.histories.specs.declared.outcomes.Outcome.TheVariants as outcomes
 use Rattle.histories.specs.declared.outcomes.Step.TheVariants as steps
 use Rattle.histories.specs.Runs.{answers}
-use Rattle.scheduler.proofs.MachineSteps.{failed_step, grant_holds, grant_step, no_grant_step, position_map, position_within, still_holds}
+use Rattle.scheduler.proofs.MachineSteps.{failed_step, grant_holds, grant_step, no_grant_step, position_within, still_holds}
+use Rattle.scheduler.proofs.Lists.{position_map}
 use Rattle.scheduler.specs.Hands.{hand_of as to_hand}
 use Rattle.scheduler.specs.IsMachineStep.{IsMachineStep}
 use Rattle.scheduler.specs.declared.hands.HandContent.{HandContent}

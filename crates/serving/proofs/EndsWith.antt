@@ -35,7 +35,8 @@ use Rattle.scheduler.specs.DeviceEvents.{events_of}
 use Rattle.serving.specs.declared.server.ServeFault.TheVariants as faults
 use Rattle.serving.specs.declared.session.ReadEnd.TheVariants as ends_of_reading
 use Rattle.serving.proofs.Outstanding.{idle_again}
-use Rattle.serving.proofs.HaveSerialReplies.{HaveSerialReplies, all_lines_answered, asked_leads_there, messages-ticketed, next_from, sent_lines_are_serial, ticket_earlier}
+use Rattle.serving.proofs.HaveSerialReplies.{HaveSerialReplies, all_lines_answered, asked_leads_there, sent_lines_are_serial, ticket_earlier}
+use Rattle.serving.proofs.Tickets.{messages-ticketed, next_from}
 
 module _ (keeps : Type 0) (start now : MachineView) (idle : IsIdle (core_state_of start.core)) where
   abbrev g : Geometry

@@ -1,5 +1,5 @@
 -- Lines of which the answers are known, compared with the lines of the serial server.
-use Rattle.std.proofs.Common.{◌≡◌, ◌⊎◌, ℕ, suc, ◌+◌, ◌<◌, ◌≤◌, Bool, true, false, List, [], ◌∷◌, ◌++◌, Option, Some, None, refl, ap, sym, ◌∙◌, length, map, take, drop, inl, inr, ⊎_elim, arith, append_assoc, append-nil, subst}
+use Rattle.std.proofs.Common.{◌≡◌, ◌⊎◌, ℕ, suc, ◌+◌, ◌<◌, Bool, true, false, List, [], ◌∷◌, ◌++◌, Option, Some, None, refl, ap, sym, ◌∙◌, length, map, take, drop, inl, inr, ⊎_elim, arith, append-nil, subst}
 use Rattle.std.specs.Prelude.{if◌then◌else◌, find, not}
 use Rattle.std.specs.List.{AllByRecursion}
 use Rattle.std.proofs.lemmas.Bool.{true≢false}
@@ -18,12 +18,13 @@ use Rattle.protocol.specs.declared.replies.Refusal.TheVariants.{Range}
 use Rattle.protocol.specs.declared.replies.Reply.{Reply}
 use Rattle.protocol.specs.declared.replies.Reply.TheVariants.{Refused}
 use Rattle.meaning.proofs.OutputLemmas.{take-output_lines}
-use Rattle.meaning.specs.TicketOrder.{messages_of, serial_replies}
+use Rattle.meaning.specs.TicketOrder.{serial_replies}
 use Rattle.meaning.specs.Output.{answer_line, output_lines, state_after_line, state_after_lines}
 use Rattle.meaning.specs.Step.{accepted_reply, effect, state_after_all, next_state, reply_and_state, reply_to, step}
 use Rattle.meaning.specs.Refusals.{passes, refusal_by, checks}
 use Rattle.meaning.specs.State.{State}
 use Rattle.serving.specs.Lines.{Completed, AreKnown, IsKnown, Line, NoMessage, OutOfRange, Pending, admitted, admitted_in, has_answer, next_ticket, answer_text, ticketed}
+use Rattle.serving.proofs.Tickets.{all_after, next_from}
 
 -- ---- a message that is out of range
 
@@ -38,23 +39,11 @@ module _ (g : Geometry) (x : State) where
 
 -- ---- the tickets
 
-pub messages-ticketed : (n : ℕ) (ms : List Msg) → messages_of (ticketed n ms) ≡ ms
-messages-ticketed n [] = refl
-messages-ticketed n (m ∷ ms) = ap (λ l. m ∷ l) (messages-ticketed (n + 1) ms)
-
-pub all_after : (n k : ℕ) (ms : List Msg) → n < k → AllByRecursion (λ e. n < e.0) (ticketed k ms)
-all_after n k [] less = tt
-all_after n k (m ∷ ms) less = (less, all_after n (k + 1) ms (omega (arith, less)))
-
 pub serial_after : (g : Geometry) (x : State) (n : ℕ) (es : List Entry) (p : ℕ × Reply) → AllByRecursion (λ e. n < e.0) es → IsIn p (serial_replies g x es) → n < p.0
 serial_after g x n [] p h is = absurd is
 serial_after g x n (e ∷ es) p h is = ⊎_elim
     (λ (same : p ≡ (e.0, reply_to g x e.1)). let at : p.0 ≡ e.0 = ap (λ (q : ℕ × Reply). q.0) same in omega (arith, at, h.0))
     (λ later. serial_after g (next_state g x e.1) n es p h.1 later) is
-
-pub next_from : (n : ℕ) (ms : List Msg) → n ≤ next_ticket n ms
-next_from n [] = omega arith
-next_from n (m ∷ ms) = let from = next_from (n + 1) ms in omega (arith, from)
 
 pub ticket_earlier : (g : Geometry) (x : State) (n : ℕ) (ms : List Msg) (p : ℕ × Reply) → IsIn p (serial_replies g x (ticketed n ms)) → p.0 < next_ticket n ms
 ticket_earlier g x n [] p is = absurd is
@@ -62,11 +51,6 @@ ticket_earlier g x n (m ∷ ms) p is = ⊎_elim
     (λ (e : p ≡ (n, reply_to g x m)).
     let same : p.0 ≡ n = ap (λ (q : ℕ × Reply). q.0) e in let from = next_from (n + 1) ms in omega (arith, same, from))
     (λ later. ticket_earlier g (next_state g x m) (n + 1) ms p later) is
-
-pub admitted-append : (g : Geometry) (ls ms : List (List ℕ)) → admitted g (ls ++ ms) ≡ admitted g ls ++ admitted g ms
-admitted-append g [] ms = refl
-admitted-append g (l ∷ ls) ms =
-    ap (λ z. admitted_in g (message_of l) ++ z) (admitted-append g ls ms) ∙ sym (append_assoc (admitted_in g (message_of l)) (admitted g ls) (admitted g ms))
 
 -- ---- the lines
 

@@ -11,7 +11,7 @@ use Rattle.histories.specs.MachineState.{MachineState}
 use Rattle.histories.specs.Events.{Event, give_back}
 use Rattle.histories.specs.Runs.{IsLegal, answered, arrived, end_state}
 use Rattle.serving.specs.Runs.{unanswered}
-use Rattle.histories.proofs.AreUnrelated.{held_grant, length_held, log_held}
+use Rattle.histories.proofs.Held.{held_grant, length_held, log_held}
 use Rattle.histories.proofs.Ways.{Passed, Way, ways}
 use Rattle.histories.proofs.Ways as way
 

@@ -1,5 +1,5 @@
 -- There are no more messages in the core than lines that are not answered in the output, since each line that was written was answered.
-use Rattle.std.proofs.Common.{◌≡◌, ℕ, ◌+◌, ◌<◌, ◌≤◌, Bool, true, false, List, [], ◌∷◌, ◌++◌, Option, Some, None, refl, ap, sym, length, ⊎_elim, arith}
+use Rattle.std.proofs.Common.{◌≡◌, ℕ, ◌+◌, ◌<◌, ◌≤◌, Bool, true, false, List, [], ◌∷◌, ◌++◌, Option, Some, None, ap, sym, length, ⊎_elim, arith}
 use Rattle.std.specs.Prelude.{if◌then◌else◌, nat_le}
 use Rattle.std.specs.List.{AllByRecursion}
 use Rattle.std.proofs.lemmas.Bool.{le-leb, true≢false}
@@ -18,9 +18,10 @@ use Rattle.protocol.specs.declared.messages.Msg.{Msg}
 use Rattle.protocol.specs.declared.replies.Reply.{Reply}
 use Rattle.scheduler.specs.CoreView.{core_state_of}
 use Rattle.serving.specs.Progress.{ServingProgress, IsServing}
-use Rattle.serving.specs.Lines.{Completed, AreKnown, IsKnown, Line, NoMessage, OutOfRange, Pending, admitted, admitted_in, has_answer, next_ticket, ticketed}
+use Rattle.serving.specs.Lines.{Completed, AreKnown, IsKnown, Line, NoMessage, OutOfRange, Pending, admitted, admitted_in, has_answer, next_ticket}
 use Rattle.serving.specs.Runs.{RunsBetween, unanswered}
 use Rattle.serving.proofs.MessageCounts.{run_counts}
+use Rattle.serving.proofs.Tickets.{length-ticketed}
 
 -- ---- how many of the replies are to a ticket or to a later one
 
@@ -97,10 +98,6 @@ module _ (g : Geometry) (replies : List (ℕ × Reply)) where
       omega (arith, here, lines_take (next_ticket n (admitted_in g o)) ls sent_lines unsent k.1 done.1, length-append {A = Msg})
 
 -- ---- the core
-
-length-ticketed : (n : ℕ) (ms : List Msg) → length (ticketed n ms) ≡ length ms
-length-ticketed n [] = refl
-length-ticketed n (m ∷ ms) = let l = length-ticketed (n + 1) ms in omega (arith, l)
 
 pub idle_inside : (w : CoreState) → IsIdle w → unanswered w ≡ 0
 idle_inside w h = let waits = ap length h.none_waits in let holds = ap length h.none_held in omega (arith, waits, holds)

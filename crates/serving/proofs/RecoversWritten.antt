@@ -19,20 +19,17 @@ use Rattle.meaning.specs.Step.{state_after_all, next_state, reply_to}
 use Rattle.meaning.specs.State.{State}
 use Rattle.histories.specs.Events.{recorded}
 use Rattle.histories.specs.IsSerialHistory.{ticket_replies}
-use Rattle.histories.specs.CoreState.{Entry, Replied, are_related_entries, entries, AreAscending}
+use Rattle.histories.specs.CoreState.{Entry, Replied, are_related_entries, entries}
 use Rattle.histories.proofs.Elements.{in_contained, IsIn, in_left}
 use Rattle.serving.specs.Runs.{AreFirst}
 use Rattle.serving.specs.Lines.{admitted, admitted_in, ticketed}
 use Rattle.serving.specs.Restart.{IsClosedPart, RecoversTo, BytesRecover, are_related_lines}
 use Rattle.serving.specs.History.{AreInHistory, RecoversToHistory, IsInHistory}
-use Rattle.serving.proofs.HaveSerialReplies.{HaveSerialReplies, all_after, its_reply, out_of_range as refused_for_range, serial_after, with_ticket}
+use Rattle.serving.proofs.HaveSerialReplies.{HaveSerialReplies, its_reply, out_of_range as refused_for_range, serial_after, with_ticket}
 use Rattle.serving.proofs.SortedLogs.{HasNoGap, IsApart, all_kept, sorted_log}
+use Rattle.serving.proofs.Tickets.{ascending, all_after}
 
 -- ---- the tickets of lines
-
-pub ascending : (n : ℕ) (ms : List Msg) → AreAscending (ticketed n ms)
-ascending n [] = tt
-ascending n (m ∷ ms) = (all_after n (n + 1) ms (omega arith), ascending (n + 1) ms)
 
 -- the line takes no ticket: it is no message, or one out of range
 abbrev TakesNone : Geometry → Option Msg → Type 0

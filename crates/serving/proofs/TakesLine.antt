@@ -25,11 +25,10 @@ use Rattle.serving.specs.Lines.{AreKnown, IsKnown, Line, NoneIsTo, OutOfRange, P
 use Rattle.serving.specs.TakesLine.{IsRefusedLine, IsTaken}
 use Rattle.serving.specs.Runs.{HandsHaveJobs, RunsBetween}
 use Rattle.serving.proofs.RunsBetween.{passes_on, told_as}
-use Rattle.serving.proofs.HaveSerialReplies.{admitted-append, messages-ticketed}
 use Rattle.serving.proofs.EndsWith.{ticket_before}
 use Rattle.serving.proofs.Segments.{core_is_quiet, step_passes}
 use Rattle.serving.proofs.IsReadEnd.{Shows, shows}
-use Rattle.serving.proofs.Tickets.{next-append, passes_next, ticketed-append}
+use Rattle.serving.proofs.Tickets.{next-append, passes_next, ticketed-append, admitted-append, messages-ticketed}
 
 -- ---- one line more
 

@@ -1,5 +1,5 @@
--- The tickets that a run gives, one after the other.
-use Rattle.std.proofs.Common.{◌≡◌, ℕ, ◌+◌, List, [], ◌∷◌, ◌++◌, refl, ap, sym, ◌∙◌}
+-- The tickets that lines and a run give, one after the other.
+use Rattle.std.proofs.Common.{◌≡◌, ℕ, ◌+◌, List, [], ◌∷◌, ◌++◌, refl, ap, sym, ◌∙◌, ◌<◌, ◌≤◌, arith, append_assoc, length}
 use Rattle.std.proofs.lemmas.List.{map-append}
 use Rattle.affinity.specs.declared.geometry.Geometry.{Geometry}
 use Rattle.histories.proofs.Ways.{Passed, Way, ways}
@@ -7,14 +7,16 @@ use Rattle.histories.proofs.Ways as way
 use Rattle.histories.specs.Events.{Event}
 use Rattle.histories.specs.MachineState.{MachineState}
 use Rattle.histories.specs.Runs.{IsLegal, arrived, arrives, end_state}
-use Rattle.histories.specs.CoreState.{Entry}
+use Rattle.histories.specs.CoreState.{Entry, AreAscending}
 use Rattle.scheduler.specs.Machine.{MachineView, machine_of}
 use Rattle.scheduler.specs.DeviceEvents.{events_of}
 use Rattle.protocol.specs.declared.messages.Msg.{Msg}
 use Rattle.protocol.specs.declared.replies.Reply.{Reply}
+use Rattle.protocol.specs.Grammar.{message_of}
 use Rattle.meaning.specs.TicketOrder.{messages_of}
-use Rattle.serving.specs.Lines.{next_ticket, ticketed}
+use Rattle.serving.specs.Lines.{next_ticket, ticketed, admitted, admitted_in}
 use Rattle.serving.specs.Runs.{RunsBetween}
+use Rattle.std.specs.List.{AllByRecursion}
 
 pub next-append : (n : ℕ) (ms more : List Msg) → next_ticket n (ms ++ more) ≡ next_ticket (next_ticket n ms) more
 next-append n [] more = refl
@@ -46,3 +48,28 @@ pub passes_next : {keeps : Type 0} {old new : MachineView} {arriving : List Entr
 passes_next {old} p =
     ap (λ (w : MachineState). w.core.next) (sym p.leads.ends) ∙ run_next old.core.geometry (machine_of old) (events_of p.device_events) p.leads.legal
     ∙ ap (λ (es : List Entry). next_ticket old.core.next (messages_of es)) p.arrived_are
+
+pub messages-ticketed : (n : ℕ) (ms : List Msg) → messages_of (ticketed n ms) ≡ ms
+messages-ticketed n [] = refl
+messages-ticketed n (m ∷ ms) = ap (λ l. m ∷ l) (messages-ticketed (n + 1) ms)
+
+pub all_after : (n k : ℕ) (ms : List Msg) → n < k → AllByRecursion (λ e. n < e.0) (ticketed k ms)
+all_after n k [] less = tt
+all_after n k (m ∷ ms) less = (less, all_after n (k + 1) ms (omega (arith, less)))
+
+pub next_from : (n : ℕ) (ms : List Msg) → n ≤ next_ticket n ms
+next_from n [] = omega arith
+next_from n (m ∷ ms) = let from = next_from (n + 1) ms in omega (arith, from)
+
+pub admitted-append : (g : Geometry) (ls ms : List (List ℕ)) → admitted g (ls ++ ms) ≡ admitted g ls ++ admitted g ms
+admitted-append g [] ms = refl
+admitted-append g (l ∷ ls) ms =
+    ap (λ z. admitted_in g (message_of l) ++ z) (admitted-append g ls ms) ∙ sym (append_assoc (admitted_in g (message_of l)) (admitted g ls) (admitted g ms))
+
+pub length-ticketed : (n : ℕ) (ms : List Msg) → length (ticketed n ms) ≡ length ms
+length-ticketed n [] = refl
+length-ticketed n (m ∷ ms) = let l = length-ticketed (n + 1) ms in omega (arith, l)
+
+pub ascending : (n : ℕ) (ms : List Msg) → AreAscending (ticketed n ms)
+ascending n [] = tt
+ascending n (m ∷ ms) = (all_after n (n + 1) ms (omega arith), ascending (n + 1) ms)

@@ -1,7 +1,8 @@
 -- Each iteration moves one more message, and those that still ran and aren't logged are the ones behind it.
 use Rattle.std.proofs.Common.{◌<◌, sym, subst, length, arith, List, ℕ}
 use Rattle.arena.specs.ArenaView.{chain_at}
-use Rattle.scheduler.proofs.HasLogged.{left_over, none_logged, one_more_logged}
+use Rattle.scheduler.proofs.Lists.{left_over}
+use Rattle.scheduler.proofs.HasLogged.{none_logged, one_more_logged}
 use Rattle.scheduler.proofs.log_batch.move_ran.Goals as goal
 use Rattle.scheduler.specs.declared.slot.TheConstants.{RAN}
 

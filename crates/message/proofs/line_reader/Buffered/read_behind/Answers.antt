@@ -4,7 +4,8 @@ use Rattle.std.proofs.Common.{◌≡◌, ◌+◌, ◌<◌, ◌≤◌, ℕ, List,
 use Rattle.std.specs.List.{slice_range}
 use Rattle.std.proofs.lemmas.Result.{err_from_is_err_and, IfOk-from_err}
 use Rattle.std.proofs.lemmas.List.Edits.{length-between}
-use Rattle.message.proofs.ReaderLemmas.{NoneFrom, NoneFrom-read, NoneFrom-slice, newline-slice, slice-front, slice-grown, slice-still_none, Keeps-read}
+use Rattle.message.proofs.ReaderLemmas.{NoneFrom, NoneFrom-read, NoneFrom-slice, newline-slice, Keeps-read}
+use Rattle.message.proofs.Slices.{slice-front, slice-grown, slice-still_none}
 use Rattle.message.proofs.line_reader.Buffered.read_behind.Goals as goal
 
 pub returns-in_err-count-clause-kept : goal.returns-in_err-count-clause-kept

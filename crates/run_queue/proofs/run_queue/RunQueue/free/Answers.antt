@@ -4,7 +4,7 @@ use Rattle.std.proofs.Common.{◌∙◌, List, arith, ap, sym, subst}
 use Rattle.run_queue.specs.Queues.{HeldMessages}
 use Rattle.run_queue.specs.Invariant.{AreQueued, QueueInvariant}
 use Rattle.run_queue.specs.declared.queued_message.QueuedMessage.{QueuedMessage}
-use Rattle.run_queue.proofs.ConflictsByNumber.{find-all}
+use Rattle.run_queue.proofs.Finds.{find-all}
 use Rattle.run_queue.proofs.HeldMessages.{without-none}
 use Rattle.run_queue.proofs.QueueCalls.{messages-freed, kept-freed}
 use Rattle.run_queue.proofs.run_queue.RunQueue.free.Goals as goal
