@@ -5,6 +5,7 @@ ghost use Rattle.checkpoint.specs.DirtyPieces.{DirtiesTouched, count_dirty, AreC
 ghost use Rattle.meaning.specs.State.{key};
 
 use affinity::Geometry;
+use image::layout::pieces_of_volume;
 use image::touched;
 use protocol::Msg;
 use std::mem;
@@ -63,7 +64,7 @@ fn first_piece(g: &Geometry, m: &Msg) -> usize
 {
     let [aggregate, volume, _, _] = m.numbers();
     let volume_index = usize::from(aggregate) * usize::from(g.volumes) + usize::from(volume);
-    volume_index * (usize::from(g.stripes) + 1)
+    volume_index * pieces_of_volume(g)
 }
 
 /// Makes the pieces that a message touches (may change) dirty, and no others. These are of its own volume, so no others are looked at.
@@ -73,7 +74,7 @@ fn dirty_one(g: &Geometry, m: &Msg, dirty: &mut [bool])
     ensures touched { DirtiesTouched g.now (m.now ∷ []) dirty.old dirty.new }
 {
     let first = first_piece(g, m);
-    let end = dirty.len().min(first + usize::from(g.stripes) + 1);
+    let end = dirty.len().min(first + pieces_of_volume(g));
     for n in first..end {
         if touched(g, m, n) {
             dirty[n] = true;

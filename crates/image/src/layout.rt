@@ -3,7 +3,7 @@
 
 ghost use Rattle.std.specs.Prelude.{◌≡◌, ◌*◌, ◌<◌, ◌≤◌};
 ghost use Rattle.image.specs.Image.{image_head};
-ghost use Rattle.image.specs.Pieces.{aggregate_of, part_of, piece_count, piece_size, volume_of};
+ghost use Rattle.image.specs.Pieces.{aggregate_of, part_of, piece_count, piece_size, pieces_of_volume, volume_of};
 ghost use Rattle.device_map.specs.declared.layout.TheConstants.{BLOCK_ENTRY_SIZE};
 ghost use Rattle.affinity.specs.declared.limits.TheConstants.{MOST_PIECES, MOST_QUOTA};
 
@@ -16,13 +16,20 @@ pub const VERSION: u8 = 2;
 /// The version before it, which is read too: its volumes have no labels.
 pub const FIRST_VERSION: u8 = 1;
 
+/// How many pieces a volume has: its own, and one for each of its stripes.
+pub fn pieces_of_volume(g: &Geometry) -> usize
+    ensures { result ≡ pieces_of_volume g.now }
+{
+    1 + usize::from(g.stripes)
+}
+
 /// How many pieces an image has.
 pub fn piece_count(g: &Geometry) -> usize
     ensures count { result ≡ piece_count g.now }
     ensures some { 0 < result }
     ensures most { result ≤ MOST_PIECES }
 {
-    usize::from(g.aggregates) * usize::from(g.volumes) * (1 + usize::from(g.stripes))
+    usize::from(g.aggregates) * usize::from(g.volumes) * pieces_of_volume(g)
 }
 
 /// The size of the largest piece of an image, which is one of a stripe.
@@ -40,7 +47,7 @@ pub fn piece_size(g: &Geometry, n: usize) -> usize
     ensures within { result ≤ g.now.quota * BLOCK_ENTRY_SIZE }
     ensures most { result ≤ MOST_QUOTA * BLOCK_ENTRY_SIZE }
 {
-    if n % (1 + usize::from(g.stripes)) == 0 {
+    if n % pieces_of_volume(g) == 0 {
         VOLUME_PIECE_SIZE
     } else {
         largest_piece(g)
@@ -64,13 +71,13 @@ pub fn place_of_piece(g: &Geometry, n: usize) -> PiecePlace
     ensures volume { result.volume ≡ volume_of g.now n }
     ensures part { result.part ≡ part_of g.now n }
 {
-    let pieces_of_volume = 1 + usize::from(g.stripes);
+    let pieces = pieces_of_volume(g);
     let volumes = usize::from(g.volumes);
-    let volume = n / pieces_of_volume;
+    let volume = n / pieces;
     PiecePlace {
         aggregate: volume / volumes,
         volume: volume % volumes,
-        part: n % pieces_of_volume,
+        part: n % pieces,
     }
 }
 
