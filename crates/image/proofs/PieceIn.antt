@@ -1,5 +1,5 @@
 -- An image is cut again into the pieces that it was joined of.
-use Rattle.std.proofs.Common.{◌≡◌, ℕ, zero, suc, ◌+◌, ◌*◌, ◌<◌, ◌≤◌, List, [], ◌++◌, length, take, drop, refl, sym, ◌∙◌, ap, subst, arith, ⊎_elim}
+use Rattle.std.proofs.Common.{◌≡◌, ℕ, zero, suc, ◌+◌, ◌<◌, ◌≤◌, List, [], ◌++◌, length, take, drop, refl, sym, ◌∙◌, ap, subst, arith, ⊎_elim}
 use Rattle.std.proofs.lemmas.Bool.{cases_lt}
 use Rattle.std.proofs.lemmas.List.{take_at, drop_at, drop-drop, append_assoc, append-nil}
 use Rattle.affinity.specs.declared.geometry.Geometry.{Geometry}
@@ -39,15 +39,15 @@ piece_again version g x is n below =
 -- ---- the numbers of pieces
 
 module _ (g : Geometry) (a v : ℕ) (in_aggregates : a < g.aggregates) (in_volumes : v < g.volumes) where
-  pub is_piece : (p : ℕ) → p < pieces_of_volume g → (a * g.volumes + v) * pieces_of_volume g + p < piece_count g
+  pub is_piece : (p : ℕ) → p < pieces_of_volume g → volume_piece_number g a v + p < piece_count g
   is_piece p part = grind arith
 
-  pub piece_there : (version : ℕ) (x : State) (p : ℕ) → p < pieces_of_volume g → piece_of version g x ((a * g.volumes + v) * pieces_of_volume g + p) ≡ part_piece version g x a v p
+  pub piece_there : (version : ℕ) (x : State) (p : ℕ) → p < pieces_of_volume g → piece_of version g x (volume_piece_number g a v + p) ≡ part_piece version g x a v p
   piece_there version x p part = λ i. part_piece version g x (aggregate_there g a v p part in_volumes i) (volume_there g a v p part in_volumes i) (part_there g a v p part i)
 
   pub volume_again : (version : ℕ) (x : State) → IsMeasured g x → piece_in g (image_of version g x) (volume_piece_number g a v) ≡ volume_piece version g x a v
   volume_again version x is =
-      grind (arith, piece_again version g x is ((a * g.volumes + v) * pieces_of_volume g + 0) (is_piece 0 (omega arith)), piece_there version x 0 (omega arith))
+      grind (arith, piece_again version g x is (volume_piece_number g a v + 0) (is_piece 0 (omega arith)), piece_there version x 0 (omega arith))
 
   pub stripe_again : (version : ℕ) (x : State) → IsMeasured g x → (s : ℕ) → s < g.stripes → piece_in g (image_of version g x) (stripe_piece_number g a v s) ≡ stripe_piece g x a v s
   stripe_again version x is s below =
