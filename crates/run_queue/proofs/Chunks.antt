@@ -34,15 +34,15 @@ pub least-found : (ready_table : List (Option QueuedMessage)) (least : List ℕ)
 least-found ready_table least n found o are here new chunk i below = elim (cases_eq chunk (n / CHUNK)) [
   | inl at ↦ (let low = new i below in
       let value = ap (λ k. get_or (slice_set least (n / CHUNK) found) k 0) at ∙ get_or-set_same least (n / CHUNK) found 0 here in
-      let update_ready = ap (λ k. rank_of (ready_in (slice_set ready_table n o) (CHUNK * k + i))) at in
-      omega (arith, low, value, update_ready))
+      let rank = ap (λ k. rank_of (ready_in (slice_set ready_table n o) (CHUNK * k + i))) at in
+      omega (arith, low, value, rank))
   | inr other ↦ (let low = are chunk i below in
       let over : n < CHUNK * (n / CHUNK + 1) = lt-mul-div-succ n (omega arith) in
       let under = mul-div-le n CHUNK in
       let away : CHUNK * chunk + i ≢ n = λ same. other (omega (arith, over, under, same, below)) in
       let value = get_or-set_other least (n / CHUNK) chunk found 0 other in
-      let update_ready = ap (λ m. rank_of m) (ready_in-other ready_table n (CHUNK * chunk + i) o away) in
-      omega (arith, low, value, update_ready))
+      let rank = ap (λ m. rank_of m) (ready_in-other ready_table n (CHUNK * chunk + i) o away) in
+      omega (arith, low, value, rank))
 ]
 
 -- ---- at the start

@@ -1,10 +1,8 @@
 -- What each call does to those that wait and those that are held.
 use Rattle.std.proofs.lemmas.Grind.{common_steps}
-use Rattle.std.proofs.Common.{◌≡◌, ◌∙◌, ℕ, ◌<◌, ◌≤◌, Bool, true, false, not, ◌&&◌, List, [], ◌∷◌, ◌++◌, find, Option, Some, None, refl, ap, sym, subst, arith, length}
-use Rattle.std.specs.Prelude.{replicate}
+use Rattle.std.proofs.Common.{◌≡◌, ◌≢◌, ◌∙◌, ℕ, ◌<◌, ◌≤◌, Bool, true, false, not, ◌&&◌, List, [], ◌∷◌, ◌++◌, find, Option, Some, None, refl, ap, sym, subst, arith, length}
 use Rattle.std.specs.List.{list_any, AllByRecursion}
 use Rattle.std.proofs.lemmas.Bool.{eq-eqb, eqb-true, and_parts, and_from, true≢false, not-true}
-use Rattle.std.proofs.lemmas.List.{length-replicate}
 use Rattle.affinity.specs.Interval.{IsAffinity, affinity_count}
 use Rattle.affinity.specs.declared.geometry.Geometry.{Geometry}
 use Rattle.run_queue.specs.RunQueue.{IsNext, are_related_intervals, is_free_of, has_room, has_slot, has_number, holds_at, without_slot, without_number, next_queued, CameBefore}
@@ -12,8 +10,8 @@ use Rattle.arena.proofs.Counts.{count_of-cons_is, count_of-cons_other}
 use Rattle.run_queue.specs.Slots.{count_in_slot}
 use Rattle.run_queue.specs.Order.{is_conflict_free}
 use Rattle.run_queue.specs.Queues.{Waiting, HeldMessages, HasInserted, IsFirstGone}
-use Rattle.run_queue.specs.ReadyTable.{IsEntryRight, StayRight, AreRelatedRight}
-use Rattle.run_queue.specs.Invariant.{AreQueued, AreEntriesRight, QueueInvariant}
+use Rattle.run_queue.specs.ReadyTable.{ready_at}
+use Rattle.run_queue.specs.Invariant.{AreQueued}
 use Rattle.run_queue.specs.declared.queued_message.QueuedMessage.{QueuedMessage}
 use Rattle.run_queue.proofs.ByTicket.{next_is_first}
 use Rattle.run_queue.proofs.SlotCounts.{limit-most, count_in_slot-append, in_slots-arrived, room-arrived, in_slots-gone, in_slots-freed}
@@ -21,29 +19,22 @@ use Rattle.run_queue.proofs.TicketOrder.{all-filter, all-last, ascend-filter, as
 use Rattle.run_queue.proofs.Finds.{find-all, find-passes, any-found}
 use Rattle.run_queue.proofs.Earliest.{own_overlap, clear-first}
 use Rattle.run_queue.proofs.IsNext.{next_waits}
-use Rattle.run_queue.proofs.Ready.{right-arrived, right-gone, right-freed}
-use Rattle.run_queue.proofs.Chains.{default_at}
+use Rattle.run_queue.proofs.Ready.{ready-gone}
 
 -- ---- the start
 
 -- a geometry has at most `MOST_AFFINITIES`, so as many queues serve any geometry
-all_below : (g : Geometry) → affinity_count g ≤ 357
+pub all_below : (g : Geometry) → affinity_count g ≤ 357
 all_below g = grind (arith, common_steps)
 
-pub kept-start : (g : Geometry) (slots numbers : ℕ) → 357 ≤ numbers
-    → QueueInvariant g slots (record { numbers = numbers; capacity = slots; messages = [] }) (record { numbers = numbers; messages = [] }) (replicate numbers None)
-kept-start g slots numbers most = record {
-  queued = record {
-    queues = λ any. (let all = all_below any in omega (arith, all, most));
-    entries = λ any. (let all = all_below any in omega (arith, all, most));
-    capacity = refl;
-    in_slots = λ s. omega arith;
-    placed = record { held_placed = tt; waiting_placed = tt; ascends = tt };
-  };
-  right = record {
-    numbers = λ any. (let all = all_below any in omega (arith, all, most, length-replicate {A = Option QueuedMessage} numbers None));
-    right = λ n. default_at numbers n None;
-  };
+pub queued-start : (g : Geometry) (slots numbers : ℕ) → 357 ≤ numbers
+    → AreQueued g slots (record { numbers = numbers; capacity = slots; messages = [] }) (record { numbers = numbers; messages = [] })
+queued-start g slots numbers most = record {
+  queues = λ any. (let all = all_below any in omega (arith, all, most));
+  entries = λ any. (let all = all_below any in omega (arith, all, most));
+  capacity = refl;
+  in_slots = λ s. omega arith;
+  placed = record { held_placed = tt; waiting_placed = tt; ascends = tt };
 }
 
 -- ---- a message that arrives
@@ -70,24 +61,6 @@ room-for-arrived {g} {slots} {w} {h} t are there new =
     let all = are.capacity in
     omega (arith, room, all)
 
-pub kept-arrived : {g : Geometry} {slots : ℕ} {w v : Waiting} {h : HeldMessages} (t : QueuedMessage) {before after : List (Option QueuedMessage)}
-    → QueueInvariant g slots w h before → AreQueued g slots v h → v ≡ record w { messages = w.messages ++ t ∷ [] } → CameBefore t.ticket w.messages
-    → StayRight h.messages v.messages before after
-    → (find (has_number t.affinity.number) w.messages ≡ None → IsEntryRight h.messages v.messages after t.affinity.number) → QueueInvariant g slots v h after
-kept-arrived {w} {v} {h} t {before} {after} are queued came later stay here = record {
-  queued = queued;
-  right = record {
-    numbers = λ any. (let all = are.right.numbers any in let same = stay.0 in omega (arith, all, same));
-    right = λ n. subst (λ (ts : List QueuedMessage). IsEntryRight h.messages ts after n) (sym is)
-        (right-arrived h.messages w.messages t later before after are.right.right
-        (subst (λ (ts : List QueuedMessage). StayRight h.messages ts before after) is stay)
-        (λ none. subst (λ (ts : List QueuedMessage). IsEntryRight h.messages ts after t.affinity.number) is (here none)) n);
-  };
-}
-  where
-    is : v.messages ≡ w.messages ++ t ∷ []
-    is = ap (λ (x : Waiting). x.messages) came
-
 -- ---- an affinity that is freed
 
 pub messages-freed : {g : Geometry} {slots : ℕ} {w : Waiting} {h : HeldMessages} (n : ℕ) → AreQueued g slots w h
@@ -103,27 +76,6 @@ messages-freed {g} {slots} {w} {h} n are = record {
     ascends = are.placed.ascends;
   };
 }
-
-pub kept-freed : {g : Geometry} {slots : ℕ} {w : Waiting} {h k : HeldMessages} {t : QueuedMessage} (n : ℕ) {before after : List (Option QueuedMessage)}
-    → QueueInvariant g slots w h before → find (has_number n) h.messages ≡ Some t → k ≡ record h { messages = without_number n h.messages }
-    → AreRelatedRight g t.affinity k.messages w.messages after → StayRight k.messages w.messages before after → QueueInvariant g slots w k after
-kept-freed {g} {slots} {w} {h} {k} {t} n {before} {after} are found freed near stay = record {
-  queued = subst (λ (x : HeldMessages). AreQueued g slots w x) (sym freed) (messages-freed n are.queued);
-  right = record {
-    numbers = λ any. (let all = are.right.numbers any in let same = stay.0 in omega (arith, all, same));
-    right = λ m. subst (λ (ts : List QueuedMessage). IsEntryRight ts w.messages after m) (sym is)
-        (right-freed g t (find-all (λ d. IsAffinity g d.affinity) (has_number n) h.messages t are.queued.placed.held_placed found)
-        h.messages w.messages are.queued.placed.held_placed are.queued.placed.waiting_placed before after are.right.right
-        (subst (λ (ts : List QueuedMessage). AreRelatedRight g t.affinity ts w.messages after) is near)
-        (subst (λ (ts : List QueuedMessage). StayRight ts w.messages before after) is stay) m);
-  };
-}
-  where
-    number : n ≡ t.affinity.number
-    number = sym (eqb-true t.affinity.number n (find-passes (has_number n) h.messages t found))
-
-    is : k.messages ≡ without_number t.affinity.number h.messages
-    is = ap (λ (x : HeldMessages). x.messages) freed ∙ ap (λ m. without_number m h.messages) number
 
 -- ---- the message that is dispatched next
 
@@ -201,23 +153,11 @@ module _ (g : Geometry) (slots : ℕ) (w v : Waiting) (h k : HeldMessages) (t : 
       (messages-gone t are (next-placed g slots w h are t next.0 next.1)
       (next_waits (record { geometry = g; waiting = w.messages; held = h.messages; slots = slots }) t next) same joined)
 
-  pub kept-gone : (before after : List (Option QueuedMessage)) → AreEntriesRight h.messages w.messages before → StayRight k.messages v.messages before after
-      → IsEntryRight k.messages v.messages after n → QueueInvariant g slots v k after
-  kept-gone before after right stay here = record {
-    queued = queued-gone;
-    right = record {
-      numbers = λ any. (let all = right.numbers any in let count = stay.0 in omega (arith, all, count));
-      right = λ m. subst (λ (ts : List QueuedMessage). IsEntryRight k.messages ts after m) (sym is)
-          (right-gone h.messages k.messages w.messages t joined are.placed.ascends (next-once g slots w h are t next.0 next.1) first
-          (next-clear g slots w h are t next.0 next.1) before after right.right
-          (subst (λ (ts : List QueuedMessage). StayRight k.messages ts before after) is stay)
-          (subst (λ i. IsEntryRight k.messages (without_slot t.slot w.messages) after i) number
-          (subst (λ (ts : List QueuedMessage). IsEntryRight k.messages ts after n) is here)) m);
-    };
-  }
-    where
-      is : v.messages ≡ without_slot t.slot w.messages
-      is = ap (λ (x : Waiting). x.messages) gone
+  pub ready-others : (n : ℕ) → t.affinity.number ≢ n → ready_at k.messages v.messages n ≡ ready_at h.messages w.messages n
+  ready-others m other =
+      ap (λ (x : Waiting). ready_at k.messages x.messages m) gone
+      ∙ ready-gone h.messages k.messages w.messages t joined are.placed.ascends (next-once g slots w h are t next.0 next.1) first
+      (next-clear g slots w h are t next.0 next.1) m other
 
 -- ---- which message holds an affinity
 

@@ -1,10 +1,9 @@
 -- Which ready entries stay right, and what they show of the messages that may be dispatched.
 use Rattle.std.proofs.lemmas.Grind.{common_steps}
-use Rattle.std.proofs.Common.{◌≡◌, ◌≢◌, ◌∙◌, ℕ, ◌<◌, ◌≤◌, Bool, true, false, not, ◌&&◌, ◌||◌, List, [], ◌∷◌, ◌++◌, find, Option, Some, None, refl, ap, sym, subst, inl, inr, arith, length}
+use Rattle.std.proofs.Common.{◌≡◌, ◌≢◌, ◌∙◌, ℕ, ◌<◌, ◌≤◌, Bool, true, false, not, ◌&&◌, ◌||◌, List, [], ◌∷◌, ◌++◌, find, Option, Some, None, refl, ap, sym, subst, inl, inr, arith}
 use Rattle.std.specs.Prelude.{nat_lt, if◌then◌else◌}
 use Rattle.std.specs.List.{list_any, AllByRecursion}
 use Rattle.std.proofs.lemmas.Bool.{ne_eqb, eqb-true, lt-ltb, cases_Bool, cases_eq, and_from, or_left, and_right}
-use Rattle.std.proofs.lemmas.List.{get_or_past}
 use Rattle.std.proofs.lemmas.Option.{none-some}
 use Rattle.std.proofs.Math.Bool.{or_comm}
 use Rattle.affinity.specs.Interval.{Interval, IsAffinity, contains, affinity_count}
@@ -47,16 +46,13 @@ ready-same held waiting held' waiting' n same clear = grind (arith, common_steps
 
 -- ---- one ready entry
 
-none-at : (g : Geometry) (waiting : List QueuedMessage) (n : ℕ) → AllByRecursion (λ d. IsAffinity g d.affinity) waiting → affinity_count g ≤ n
+-- no message waits at a number that no affinity has
+pub none-at : (g : Geometry) (waiting : List QueuedMessage) (n : ℕ) → AllByRecursion (λ d. IsAffinity g d.affinity) waiting → affinity_count g ≤ n
     → find (has_number n) waiting ≡ None
 none-at g [] n placed past = refl
 none-at g (d ∷ waiting) n placed past =
     let below = number-below g d.affinity placed.0 in
     find-skip (has_number n) d waiting (ne_eqb d.affinity.number n (λ same. omega (arith, below, same, past))) ∙ none-at g waiting n placed.1 past
-
-pub update_ready-past : (g : Geometry) (held waiting : List QueuedMessage) (ready_table : List (Option QueuedMessage)) (n : ℕ) → AllByRecursion (λ d. IsAffinity g d.affinity) waiting
-    → affinity_count g ≤ length ready_table → length ready_table ≤ n → IsEntryRight held waiting ready_table n
-update_ready-past g held waiting ready_table n placed all past = grind (arith, common_steps, get_or_past ready_table n None past, none-at)
 
 pub stay-trans : (held waiting : List QueuedMessage) (a b c : List (Option QueuedMessage)) → StayRight held waiting a b → StayRight held waiting b c → StayRight held waiting a c
 stay-trans held waiting a b c first second = (second.0 ∙ first.0, λ n right. second.1 n (first.1 n right))
@@ -175,14 +171,6 @@ module _ (held held' waiting : List QueuedMessage) (t : QueuedMessage) (joined :
   ready-gone n other = ready-same held waiting held' (without_slot t.slot waiting) n
       (find-without (has_number n) waiting t it_alone (ne_eqb t.affinity.number n other))
       (λ f found. gone-clear n f found other)
-
-  pub right-gone : (before after : List (Option QueuedMessage)) → ((n : ℕ) → IsEntryRight held waiting before n)
-      → StayRight held' (without_slot t.slot waiting) before after → IsEntryRight held' (without_slot t.slot waiting) after t.affinity.number
-      → (n : ℕ) → IsEntryRight held' (without_slot t.slot waiting) after n
-  right-gone before after right stay here n = elim (cases_eq t.affinity.number n) [
-    | inl e ↦ subst (λ m. IsEntryRight held' (without_slot t.slot waiting) after m) e here
-    | inr other ↦ stay.1 n (right n ∙ sym (ready-gone n other))
-  ]
 
 -- ---- an affinity that is freed
 

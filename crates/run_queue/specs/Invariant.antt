@@ -1,5 +1,5 @@
 -- Inner: How a `RunQueue` keeps waiting and held messages.
-use Rattle.std.specs.Prelude.{◌≡◌, ◌≤◌, ℕ, List, length, Option}
+use Rattle.std.specs.Prelude.{◌≡◌, ◌≤◌, ℕ, List, Option}
 use Rattle.std.specs.List.{AllByRecursion}
 use Rattle.affinity.specs.Interval.{IsAffinity, affinity_count}
 use Rattle.affinity.specs.declared.geometry.Geometry.{Geometry}
@@ -15,7 +15,7 @@ pub record ArePlacedInOrder (g : Geometry) (held waiting : List QueuedMessage) :
   pub waiting_placed : AllByRecursion (λ t. IsAffinity g t.affinity) waiting
   pub ascends : Ascend waiting
 
--- There is a queue and an entry for each affinity of any geometry, and each message has a slot of its own.
+-- There is a queue and an entry for each affinity of any geometry, and each message has a slot of its own: what `Messages` keeps.
 pub record AreQueued (g : Geometry) (slots : ℕ) (waiting : Waiting) (held : HeldMessages) : Type 0 where
   pub queues : (any : Geometry) → affinity_count any ≤ waiting.numbers
   pub entries : (any : Geometry) → affinity_count any ≤ held.numbers
@@ -23,13 +23,6 @@ pub record AreQueued (g : Geometry) (slots : ℕ) (waiting : Waiting) (held : He
   pub in_slots : AreInSlots slots waiting.messages held.messages
   pub placed : ArePlacedInOrder g held.messages waiting.messages
 
--- The ready table has an entry for each affinity of any geometry, and each entry is right.
-pub record AreEntriesRight (held waiting : List QueuedMessage) (ready_table : List (Option QueuedMessage)) : Type 0 where
-  pub numbers : (any : Geometry) → affinity_count any ≤ length ready_table
-  pub right : (n : ℕ) → IsEntryRight held waiting ready_table n
-
--- What a `RunQueue` keeps.
-pub record QueueInvariant (g : Geometry) (slots : ℕ) (waiting : Waiting) (held : HeldMessages)
-    (ready_table : List (Option QueuedMessage)) : Type 0 where
-  pub queued : AreQueued g slots waiting held
-  pub right : AreEntriesRight held.messages waiting.messages ready_table
+-- Each entry of the ready table is right.
+abbrev pub AreEntriesRight : List QueuedMessage → List QueuedMessage → List (Option QueuedMessage) → Type 0
+AreEntriesRight held waiting ready_table = (n : ℕ) → IsEntryRight held waiting ready_table n

@@ -12,10 +12,10 @@
 mod candidates;
 mod conflicts;
 mod holders;
+mod messages;
 mod queued_message;
 mod ready_table;
 mod run_queue;
-mod update_ready;
 mod waiting;
 
 pub use queued_message::QueuedMessage;

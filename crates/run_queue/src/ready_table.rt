@@ -1,8 +1,14 @@
 //! The ready table: for each affinity number the first message that waits there, if it is conflict-free, whatever room the log has.
-ghost use Rattle.std.specs.Prelude.{◌≡◌, ◌+◌, ◌*◌, ◌^◌, ◌<◌, ◌≤◌, ℕ, get_or, length, min, replicate, slice_set, option_copied, IfOk, None};
-ghost use Rattle.run_queue.specs.ReadyTable.{ready_in, rank_of};
+ghost use Rattle.std.specs.Prelude.{◌≡◌, ◌+◌, ◌*◌, ◌^◌, ◌<◌, ◌≤◌, ◌==◌, ℕ, true, get_or, length, min, replicate, slice_set, option_copied, IfOk, None};
+ghost use Rattle.std.specs.List.{list_any};
+ghost use Rattle.affinity.specs.Interval.{IsAffinity, affinity_count, contains};
+ghost use Rattle.affinity.specs.declared.geometry.Geometry.{Geometry};
+ghost use Rattle.run_queue.specs.ReadyTable.{ready_in, rank_of, IsEntryRight, StayRight, AreRelatedRight};
 
 use crate::QueuedMessage;
+use crate::conflicts::numbers_above;
+use crate::messages::Messages;
+use affinity::Affinity;
 use std::alloc::{AllocError, Global};
 use std::marker::Model;
 
@@ -43,9 +49,10 @@ impl Model for ReadyTable {
 }
 
 impl ReadyTable {
-    /// `numbers` entries, none of them set. `AllocError` where there is no memory.
+    /// `numbers` entries, one for each affinity of any geometry, none of them set. `AllocError` where there is no memory.
     pub(crate) fn new(alloc: Global, numbers: usize) -> Result<ReadyTable, AllocError>
-        requires { numbers ≤ 2 ^ 16 }
+        requires few { numbers ≤ 2 ^ 16 }
+        requires all { (any : Geometry) → affinity_count any ≤ numbers }
         ensures { IfOk result (λ ready_table. ready_table ≡ replicate numbers None) }
     {
         let mut ready = Vec::with_capacity(alloc, numbers)?;
@@ -63,7 +70,8 @@ impl ReadyTable {
 
     /// How many numbers there are.
     pub(crate) fn len(&self) -> usize
-        ensures { result ≡ length self.now }
+        ensures count { result ≡ length self.now }
+        ensures all { (any : Geometry) → affinity_count any ≤ result }
     {
         self.ready.len()
     }
@@ -115,6 +123,49 @@ impl ReadyTable {
             let chunk = number / CHUNK;
             self.least[chunk] = least_from(&self.ranks, chunk * CHUNK);
         }
+    }
+
+    /// Updates the entry of an affinity number.
+    pub(crate) fn update(&mut self, messages: &Messages, number: usize)
+        ensures right { IsEntryRight messages.now.held messages.now.waiting self.new number }
+        ensures others { StayRight messages.now.held messages.now.waiting self.old self.new }
+    {
+        let ready = messages.ready_at(number);
+        // The table lacks only numbers that no affinity has, where no message waits.
+        if number < self.len() {
+            self.set(number, ready);
+        }
+    }
+
+    // Updates the entries of an affinity and of those below it.
+    fn update_below(&mut self, messages: &Messages, a: Affinity)
+        ensures right { (n : ℕ) → contains a n ≡ true → IsEntryRight messages.now.held messages.now.waiting self.new n }
+        ensures others { StayRight messages.now.held messages.now.waiting self.old self.new }
+    {
+        for n in a.number()..a.end() {
+            self.update(messages, usize::from(n));
+        }
+    }
+
+    // Updates the entries of these numbers.
+    fn update_each(&mut self, messages: &Messages, numbers: &[u16])
+        ensures right { (n : ℕ) → list_any (λ m. m == n) numbers.now ≡ true
+            → IsEntryRight messages.now.held messages.now.waiting self.new n }
+        ensures others { StayRight messages.now.held messages.now.waiting self.old self.new }
+    {
+        for n in numbers {
+            self.update(messages, usize::from(*n));
+        }
+    }
+
+    /// Updates the entries of all affinities that are related to this one.
+    pub(crate) fn update_related(&mut self, messages: &Messages, a: Affinity)
+        requires { IsAffinity messages.now.geometry a }
+        ensures near { AreRelatedRight messages.now.geometry a messages.now.held messages.now.waiting self.new }
+        ensures others { StayRight messages.now.held messages.now.waiting self.old self.new }
+    {
+        self.update_below(messages, a);
+        self.update_each(messages, &numbers_above(messages.geometry(), a));
     }
 }
 

@@ -6,45 +6,30 @@ ghost use Rattle.run_queue.specs.RunQueue.{next_queued, has_slot, has_number, wi
 
 use crate::QueuedMessage;
 use crate::candidates::best_in;
-use crate::holders::Holders;
+use crate::messages::{Messages, QUEUES};
 use crate::ready_table::{CHUNK, ReadyTable};
-use crate::update_ready::{update_ready, update_ready_related};
-use crate::waiting::Queues;
-use affinity::limits::MOST_AFFINITIES;
 use affinity::{Affinity, Geometry, Place};
 use std::alloc::{AllocError, Global};
 use std::marker::Model;
-
-/// How many queues serve any geometry: one for each affinity.
-const QUEUES: usize = MOST_AFFINITIES as usize;
 
 /// The waiting and the held messages, each with a slot of its own.
 ///
 /// All memory is taken by `new`.
 #[derive(Drop)]
 pub struct RunQueue {
-    geometry: Geometry,
-    waiting: Queues,
-    held: Holders,
+    messages: Messages,
     ready_table: ReadyTable, // the first message in each queue, if it is conflict-free
-    slots: usize,
 }
 
 impl Model for RunQueue {
-    ghost use Rattle.std.specs.Prelude.{◌≡◌};
     ghost use Rattle.run_queue.specs.RunQueue.{RunQueueView};
-    ghost use Rattle.run_queue.specs.Invariant.{QueueInvariant};
+    ghost use Rattle.run_queue.specs.Invariant.{AreEntriesRight};
 
     ghost Value = { RunQueueView };
 
-    ghost view = { λ t. record {
-      geometry = t.geometry;
-      waiting = t.waiting.messages;
-      held = t.held.messages;
-      slots = t.slots;
-    } };
+    ghost view = { λ q. q.messages };
 
-    ghost invariant = { λ t. QueueInvariant t.geometry t.slots t.waiting t.held t.ready_table };
+    ghost invariant = { λ q. AreEntriesRight q.messages.held q.messages.waiting q.ready_table };
 }
 
 /// How many chunks the ready table has for the affinities of a geometry, of which there are `affinity_count`.
@@ -65,14 +50,10 @@ impl RunQueue {
         ensures { IfOk result (λ queue. queue ≡ queue_at_start geometry.now slots) }
     {
         let ready_table = ReadyTable::new(alloc, QUEUES)?;
-        let held = Holders::new(alloc, QUEUES)?;
-        let waiting = Queues::new(alloc, QUEUES, slots)?;
+        let messages = Messages::new(alloc, geometry, slots)?;
         Ok(RunQueue {
-            geometry: *geometry,
-            waiting,
-            held,
+            messages,
             ready_table,
-            slots,
         })
     }
 
@@ -82,7 +63,7 @@ impl RunQueue {
         requires none_held { self.old.held ≡ [] }
         ensures { self.new ≡ queue_at_start geometry.now self.old.slots }
     {
-        self.geometry = *geometry;
+        self.messages.set_geometry(geometry);
     }
 
     /// The waiting message with the least ticket that may be dispatched: no message at a related affinity is held, or is older and waits;
@@ -91,7 +72,7 @@ impl RunQueue {
         ensures { result ≡ next_queued log_has_room self.now.held self.now.waiting }
     {
         let mut best = self.ready_table.len(); // none is ready there
-        for chunk in 0..chunks_of(&self.geometry) {
+        for chunk in 0..chunks_of(self.messages.geometry()) {
             // A rank is a ready message's ticket. A chunk whose least rank is above the best one so far is skipped.
             if self.ready_table.least(chunk) <= self.ready_table.bound(best) {
                 best = best_in(log_has_room, &self.ready_table, best, chunk);
@@ -105,7 +86,7 @@ impl RunQueue {
         ensures some { IfSome result (λ slot. list_any (holds_at a.number slot) self.now.held ≡ true) }
         ensures none { IfNone result (list_any (has_number a.number) self.now.held ≡ false) }
     {
-        let queued = self.held.at(usize::from(a.number()))?;
+        let queued = self.messages.held_at(usize::from(a.number()))?;
         Some(queued.slot)
     }
 
@@ -118,16 +99,10 @@ impl RunQueue {
         ensures { self.new ≡ record self.old { waiting = self.old.waiting ++ queued ∷ [] } }
     {
         let number = usize::from(queued.affinity.number());
-        let is_first = self.waiting.front(number).is_none();
-        self.waiting.push(queued);
+        let is_first = self.messages.first_at(number).is_none();
+        self.messages.arrive(queued);
         if is_first {
-            update_ready(
-                &mut self.ready_table,
-                &self.geometry,
-                &self.held,
-                &self.waiting,
-                number,
-            );
+            self.ready_table.update(&self.messages, number);
         }
     }
 
@@ -140,15 +115,8 @@ impl RunQueue {
         ensures count { length self.new.held ≡ length self.old.held + 1 }
     {
         let number = usize::from(queued.affinity.number());
-        self.waiting.pop(number);
-        self.held.hold(queued);
-        update_ready(
-            &mut self.ready_table,
-            &self.geometry,
-            &self.held,
-            &self.waiting,
-            number,
-        );
+        self.messages.dispatch(queued);
+        self.ready_table.update(&self.messages, number);
     }
 
     /// The message that is held at an affinity is held no longer. Nothing changes if none is held there.
@@ -156,14 +124,9 @@ impl RunQueue {
         ensures { self.new ≡ record self.old { held = without_number a.number self.old.held } }
     {
         let number = usize::from(a.number());
-        if let Some(queued) = self.held.free(number) {
-            update_ready_related(
-                &mut self.ready_table,
-                &self.geometry,
-                &self.held,
-                &self.waiting,
-                queued.affinity,
-            );
+        if let Some(queued) = self.messages.free(number) {
+            self.ready_table
+                .update_related(&self.messages, queued.affinity);
         }
     }
 }

@@ -27,6 +27,7 @@ invariant_of-result c =
           ∙ ap (λ (ready_table : List (Option QueuedMessage)). map rank_of ready_table) (sym none);
       bounds = subst (λ (ready_table : List (Option QueuedMessage)). AreLowerBounds ready_table c.in_ok-least.least.items) (sym none)
           (subst (λ (ls : List ℕ). AreLowerBounds (replicate c.args.numbers None) ls) (sym least) (none-least c.args.numbers (c.args.numbers / CHUNK + 1)));
-      few = omega (arith, many, c.requires);
+      all = λ any. (let all = c.requires.all any in omega (arith, many, all));
+      few = omega (arith, many, c.requires.few);
       chunks = ap (λ (ls : List ℕ). length ls) least ∙ length-replicate (c.args.numbers / CHUNK + 1) NO_RANK ∙ ap (λ n. n / CHUNK + 1) (sym many);
     }

@@ -28,20 +28,21 @@ invariant_of-self c =
     let many = length-set ready_table n o in
     let long = length-set least (n / CHUNK) c.least_from.result in
     let few = c.self.invariant.few in
-    let all = c.self.invariant.chunks in
+    let chunks = c.self.invariant.chunks in
     let within = subst (λ (now : List (Option QueuedMessage)). n < length now) (sym c.self.view_is) c.requires in
     let under = mul-div-le n CHUNK in
     let over : length ready_table < CHUNK * (length ready_table / CHUNK + 1) = lt-mul-div-succ (length ready_table) (omega arith) in record {
       ranked = are;
-      bounds = least-found ready_table least n c.least_from.result o c.self.invariant.bounds (omega (arith, within, under, over, all)) (λ i below.
+      bounds = least-found ready_table least n c.least_from.result o c.self.invariant.bounds (omega (arith, within, under, over, chunks)) (λ i below.
           let low = c.least_from.ensures i below in
           let turned : n / CHUNK * CHUNK + i ≡ CHUNK * (n / CHUNK) + i = omega arith in
           let rank = ap (λ (rs : List ℕ). get_or rs (n / CHUNK * CHUNK + i) NO_RANK) c.deref.ensures.value
           ∙ ap (λ k. get_or (slice_set c.self.inside.ranks.items n c.rank_of-rank.result) k NO_RANK) turned
           ∙ rank-at (slice_set ready_table n o) _ (CHUNK * (n / CHUNK) + i) are in
           omega (arith, low, rank));
+      all = λ any. (let all = c.self.invariant.all any in omega (arith, many, all));
       few = omega (arith, many, few);
-      chunks = long ∙ all ∙ ap (λ k. k / CHUNK + 1) (sym many);
+      chunks = long ∙ chunks ∙ ap (λ k. k / CHUNK + 1) (sym many);
     }
 
 pub invariant_of-self-else-rank-was : goal.invariant_of-self-else-rank-was

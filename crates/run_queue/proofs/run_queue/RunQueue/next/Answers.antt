@@ -17,14 +17,14 @@ loop-chunk-init c = grind (arith, common_steps, get_or_past, below-start)
 pub loop-chunk-preserved : goal.loop-chunk-preserved
 loop-chunk-preserved c =
     let room = c.args.log_has_room in
-    let held = c.self.inside.held.messages in
-    let waiting = c.self.inside.waiting.messages in
+    let held = c.self.inside.messages.held in
+    let waiting = c.self.inside.messages.waiting in
     let ready_table = c.self.inside.ready_table in
     let from = CHUNK * c.loop-chunk.chunk in
     let next : from + CHUNK ≡ CHUNK * (c.loop-chunk.chunk + 1) = omega arith in
     let step : earliest_from (has_room room) ready_table from CHUNK (ready_in ready_table c.loop-chunk.best) ≡ first_below room held waiting (CHUNK * (c.loop-chunk.chunk + 1)) =
     ap (λ (o : Option QueuedMessage). earliest_from (has_room room) ready_table from CHUNK o) c.loop-chunk.invariant
-    ∙ below-from c.self.inside.geometry room held waiting c.self.invariant.queued.placed.waiting_placed c.self.invariant.queued.placed.ascends ready_table c.self.invariant.right.right from CHUNK
+    ∙ below-from c.self.inside.messages.geometry room held waiting c.geometry.ensures.placed.waiting_placed c.geometry.ensures.placed.ascends ready_table c.self.invariant from CHUNK
     ∙ ap (λ n. first_below room held waiting n) next in
     elim c.if-least-bound.branch [
       | then-least-bound w ↦ ap (λ i. ready_in ready_table i) w.best-is ∙ w.best_in-best.ensures ∙ step

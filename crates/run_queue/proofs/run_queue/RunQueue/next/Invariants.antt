@@ -7,4 +7,4 @@ use Rattle.run_queue.proofs.run_queue.RunQueue.next.Given as goal
 
 abbrev pub invariant-loop-chunk : goal.invariant-loop-chunk
 invariant-loop-chunk l =
-    ready_in l.self-inside.ready_table l.best ≡ first_below l.log_has_room l.self-inside.held.messages l.self-inside.waiting.messages (CHUNK * l.chunk)
+    ready_in l.self-inside.ready_table l.best ≡ first_below l.log_has_room l.self-inside.messages.held l.self-inside.messages.waiting (CHUNK * l.chunk)

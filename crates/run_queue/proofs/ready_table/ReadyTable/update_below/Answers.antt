@@ -4,21 +4,18 @@ use Rattle.std.proofs.Common.{◌∙◌, sym, subst, refl, inl, inr, arith}
 use Rattle.std.proofs.lemmas.Bool.{cases_eq}
 use Rattle.run_queue.specs.ReadyTable.{IsEntryRight}
 use Rattle.run_queue.proofs.Ready.{stay-trans}
-use Rattle.run_queue.proofs.update_ready.update_ready_below.Goals as goal
+use Rattle.run_queue.proofs.ready_table.ReadyTable.update_below.Goals as goal
 
 pub loop-n-init : goal.loop-n-init
 loop-n-init c = record { stay = (refl, λ k right. right); done = λ k low high. absurd (omega arith) }
 
-pub update_ready-requires-clause-numbers : goal.update_ready-requires-clause-numbers
-update_ready-requires-clause-numbers c = let same = c.loop-n.invariant.stay.0 in omega (arith, same)
-
 pub loop-n-preserved : goal.loop-n-preserved
 loop-n-preserved c = record {
-  stay = stay-trans c.args.held.now.messages c.args.waiting.now.messages c.args.ready_table.now c.loop-n.ready_table c.update_ready.new.ready_table
-      c.loop-n.invariant.stay c.update_ready.ensures.others;
+  stay = stay-trans c.args.messages.now.held c.args.messages.now.waiting c.args.self.now c.loop-n.self c.update.new.self
+      c.loop-n.invariant.stay c.update.ensures.others;
   done = λ k low high. elim (cases_eq k c.loop-n.n) [
-    | inl e ↦ subst (λ m. IsEntryRight c.args.held.now.messages c.args.waiting.now.messages c.update_ready.new.ready_table m) (c.from.ensures ∙ sym e) c.update_ready.ensures.right
-    | inr other ↦ c.update_ready.ensures.others.1 k (c.loop-n.invariant.done k low (omega arith))
+    | inl e ↦ subst (λ m. IsEntryRight c.args.messages.now.held c.args.messages.now.waiting c.update.new.self m) (c.from.ensures ∙ sym e) c.update.ensures.right
+    | inr other ↦ c.update.ensures.others.1 k (c.loop-n.invariant.done k low (omega arith))
   ];
 }
 

@@ -2,13 +2,10 @@
 use Rattle.std.proofs.lemmas.Grind.{common_steps}
 use Rattle.std.proofs.Common.{sym, refl, arith}
 use Rattle.std.proofs.lemmas.Bool.{true≢false}
-use Rattle.run_queue.proofs.update_ready.update_ready_each.Goals as goal
+use Rattle.run_queue.proofs.ready_table.ReadyTable.update_each.Goals as goal
 
 pub loop-n-init : goal.loop-n-init
 loop-n-init c = record { stay = (refl, λ k right. right); done = λ k found. absurd (true≢false (sym found)) }
-
-pub update_ready-requires-clause-numbers : goal.update_ready-requires-clause-numbers
-update_ready-requires-clause-numbers c = let same = c.loop-n.invariant.stay.0 in omega (arith, same)
 
 pub loop-n-preserved : goal.loop-n-preserved
 loop-n-preserved c = grind (arith, common_steps)
