@@ -15,8 +15,8 @@ use Rattle.scheduler.specs.declared.server_core.Core.TheInside.{Inside}
 use Rattle.scheduler.specs.View.{IsSoundCore, parts}
 use Rattle.scheduler.specs.Parts.{IsCore, Parts, core_state_in}
 use Rattle.scheduler.specs.Slots.{SlotView, no_slot, slot_view_at}
-use Rattle.scheduler.specs.declared.slot.Slot.{Slot}
-use Rattle.scheduler.specs.declared.slot.TheConstants.{WAITING, IN_FLIGHT, RAN, LOGGED}
+use Rattle.scheduler.specs.declared.core_memory.Slot.{Slot}
+use Rattle.scheduler.specs.declared.core_memory.TheConstants.{WAITING, IN_FLIGHT, RAN, LOGGED}
 use Rattle.run_queue.specs.RunQueue.{RunQueueView, without_number}
 
 -- the number of the first slot of a chain is below the arena's capacity

@@ -21,8 +21,8 @@ use Rattle.scheduler.specs.declared.server_core.Core.TheInside.{Inside}
 use Rattle.scheduler.specs.View.{IsSoundCore, parts}
 use Rattle.scheduler.specs.Parts.{IsCore, Parts, core_state_in}
 use Rattle.scheduler.specs.Slots.{SlotView, slots_on, IsPlaced, entry_of, queued_of}
-use Rattle.scheduler.specs.declared.slot.Slot.{Slot}
-use Rattle.scheduler.specs.declared.slot.TheConstants.{WAITING, IN_FLIGHT, RAN, LOGGED}
+use Rattle.scheduler.specs.declared.core_memory.Slot.{Slot}
+use Rattle.scheduler.specs.declared.core_memory.TheConstants.{WAITING, IN_FLIGHT, RAN, LOGGED}
 use Rattle.run_queue.specs.RunQueue.{CameBefore, RunQueueView, has_slot as has_slot_of}
 use Rattle.std.proofs.lemmas.Bool.{le-leb, lt-leb}
 

@@ -11,8 +11,8 @@ use Rattle.arena.proofs.Counts.{count_of-append, count_of-at, count_of-cons_same
 use Rattle.protocol.specs.declared.replies.Reply.{Reply}
 use Rattle.protocol.specs.declared.replies.Reply.TheVariants.{Done}
 use Rattle.scheduler.specs.Slots.{HasChains, SlotView, slots_on, no_slot, slot_view_at}
-use Rattle.scheduler.specs.declared.slot.Slot.{Slot}
-use Rattle.scheduler.specs.declared.slot.TheConstants.{CHAINS}
+use Rattle.scheduler.specs.declared.core_memory.Slot.{Slot}
+use Rattle.scheduler.specs.declared.core_memory.TheConstants.{CHAINS}
 use Rattle.scheduler.proofs.Splits.{MapSplit, map_same, map_split, count_of-split, without-split}
 
 -- ---- a slot that moves from one chain to another

@@ -2,7 +2,7 @@
 use Rattle.std.proofs.Common.{◌≡◌, [], ◌++◌, refl}
 use Rattle.scheduler.specs.History.{messages_in}
 use Rattle.scheduler.specs.declared.history.Appended.{Nothing, After'}
-use Rattle.scheduler.specs.declared.slot.TheConstants.{WAITING, IN_FLIGHT, RAN, LOGGED, CHAINS}
+use Rattle.scheduler.specs.declared.core_memory.TheConstants.{WAITING, IN_FLIGHT, RAN, LOGGED, CHAINS}
 
 none_appended : messages_in Nothing ≡ []
 none_appended = refl

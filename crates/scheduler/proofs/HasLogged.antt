@@ -7,8 +7,8 @@ use Rattle.scheduler.proofs.Chains.{chain_joined, chain_left, chain_stays, four_
 use Rattle.scheduler.proofs.Lists.{take_more, drop_more}
 use Rattle.scheduler.specs.HasLogged.{HasLogged}
 use Rattle.scheduler.specs.Slots.{HasChains}
-use Rattle.scheduler.specs.declared.slot.Slot.{Slot}
-use Rattle.scheduler.specs.declared.slot.TheConstants.{WAITING, IN_FLIGHT, RAN, LOGGED}
+use Rattle.scheduler.specs.declared.core_memory.Slot.{Slot}
+use Rattle.scheduler.specs.declared.core_memory.TheConstants.{WAITING, IN_FLIGHT, RAN, LOGGED}
 use Rattle.std.proofs.lemmas.List.{append-nil}
 
 -- ---- one more of the first ones

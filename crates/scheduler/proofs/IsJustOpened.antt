@@ -16,8 +16,8 @@ use Rattle.scheduler.specs.View.{IsSoundCore}
 use Rattle.scheduler.specs.Parts.{IsCore, Parts, is_below, core_state_in}
 use Rattle.scheduler.specs.declared.server_core.Core.TheInside.{Inside}
 use Rattle.scheduler.specs.Slots.{phases_of, slots_on}
-use Rattle.scheduler.specs.declared.slot.Slot.{Slot}
-use Rattle.scheduler.specs.declared.slot.TheConstants.{RAN, CHAINS}
+use Rattle.scheduler.specs.declared.core_memory.Slot.{Slot}
+use Rattle.scheduler.specs.declared.core_memory.TheConstants.{RAN, CHAINS}
 use Rattle.run_queue.specs.RunQueue.{queue_at_start}
 
 module _ {D : Type 0} {keeps : Type 0} (core : Inside D) (n : ℕ) (same : core.tree.geometry ≡ core.journal.geometry) (whole : IsWholeTree core.tree)

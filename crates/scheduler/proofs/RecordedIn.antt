@@ -23,8 +23,8 @@ use Rattle.scheduler.proofs.Splits.{count_of-split}
 use Rattle.scheduler.proofs.Lists.{cut_at, take_one, left_over}
 use Rattle.scheduler.specs.HasLogged.{changing_in, recorded_in}
 use Rattle.scheduler.specs.Slots.{HasChains, SlotView, no_slot, slot_view_at, replied_of}
-use Rattle.scheduler.specs.declared.slot.Slot.{Slot}
-use Rattle.scheduler.specs.declared.slot.TheConstants.{RAN}
+use Rattle.scheduler.specs.declared.core_memory.Slot.{Slot}
+use Rattle.scheduler.specs.declared.core_memory.TheConstants.{RAN}
 use Rattle.histories.proofs.Entries.{recorded-append}
 
 -- ---- the slot behind one on its chain

@@ -6,8 +6,8 @@ use Rattle.histories.specs.Events.{recorded}
 use Rattle.protocol.specs.declared.messages.Msg.{Msg}
 use Rattle.protocol.specs.declared.replies.Reply.{Reply}
 use Rattle.scheduler.specs.Slots.{HasChains, no_slot, slot_view_at, replied_of}
-use Rattle.scheduler.specs.declared.slot.Slot.{Slot}
-use Rattle.scheduler.specs.declared.slot.TheConstants.{WAITING, IN_FLIGHT, RAN, LOGGED}
+use Rattle.scheduler.specs.declared.core_memory.Slot.{Slot}
+use Rattle.scheduler.specs.declared.core_memory.TheConstants.{WAITING, IN_FLIGHT, RAN, LOGGED}
 
 -- those of the messages in these slots that the log keeps
 abbrev pub recorded_in : ArenaView Slot → List Reply → List ℕ → List Msg

@@ -5,7 +5,7 @@ use Rattle.scheduler.specs.CoreView.{CoreView}
 use Rattle.scheduler.specs.Parts.{IsCore, Parts, core_view_of}
 use Rattle.scheduler.specs.Slots.{HasChains, phases_of, slots_on}
 use Rattle.scheduler.specs.declared.server_core.Core.TheInside.{Inside}
-use Rattle.scheduler.specs.declared.slot.TheConstants.{RAN}
+use Rattle.scheduler.specs.declared.core_memory.TheConstants.{RAN}
 
 module _ {D : Type 0} where
   abbrev pub parts : Inside D → Parts

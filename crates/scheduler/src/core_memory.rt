@@ -1,16 +1,38 @@
-//! The memory of a core, all of which is taken before a device is touched.
+//! The memory of a core, all of which is taken before a device is touched: slots with messages, and the chains in which they are.
 ghost use Rattle.std.specs.Prelude.{◌≡◌, ◌≤◌, [], IfOk, length, vec_capacity};
 ghost use Rattle.affinity.specs.Geometry.{default_geometry};
 ghost use Rattle.arena.specs.ArenaView.{IsPartitioned, empty_arena};
 ghost use Rattle.run_queue.specs.RunQueue.{queue_at_start};
 ghost use Rattle.affinity.specs.declared.limits.TheConstants.{MOST_SLOTS};
 
-use crate::slot::{CHAINS, Slot};
-use affinity::Geometry;
+use affinity::{Affinity, Geometry};
 use arena::Arena;
 use protocol::{Msg, Reply};
 use run_queue::RunQueue;
 use std::alloc::{AllocError, Global};
+
+/// How many chains there are: linked lists of the arena's slots.
+pub(crate) const CHAINS: usize = 4;
+
+/// The chain of waiting messages.
+pub(crate) const WAITING: usize = 0;
+
+/// The chain of messages in flight.
+pub(crate) const IN_FLIGHT: usize = 1;
+
+/// The chain of messages that ran.
+pub(crate) const RAN: usize = 2;
+
+/// The chain of logged messages.
+pub(crate) const LOGGED: usize = 3;
+
+/// A message that was taken in, with its ticket and the affinity where it belongs.
+#[derive(Clone, Copy)]
+pub(crate) struct Slot {
+    pub(crate) ticket: u64,
+    pub(crate) message: Msg,
+    pub(crate) affinity: Affinity,
+}
 
 /// Where the messages of a core lie, and their run queue.
 #[derive(Drop)]

@@ -13,7 +13,6 @@ mod history;
 pub mod laws;
 mod log_batch;
 mod server_core;
-mod slot;
 
 pub use checkpoint::{OpenError, OpenFault};
 pub use granted::Granted;

@@ -6,8 +6,8 @@ ghost use Rattle.meaning.specs.Step.{is_recorded};
 ghost use Rattle.scheduler.specs.HasLogged.{HasLogged, changing_in, recorded_in};
 ghost use Rattle.scheduler.specs.Slots.{HasChains};
 
+use crate::core_memory::{LOGGED, RAN, Slot};
 use crate::server_core::one_if;
-use crate::slot::{LOGGED, RAN, Slot};
 use affinity::changing;
 use arena::Arena;
 use protocol::{Msg, Reply};

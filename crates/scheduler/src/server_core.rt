@@ -29,11 +29,10 @@ ghost use Rattle.scheduler.specs.OpenFaults.{IsShownByBytes};
 ghost use Rattle.affinity.specs.declared.limits.TheConstants.{MOST_SLOTS};
 
 use crate::Granted;
-use crate::core_memory::{CoreMemory, take_memory};
+use crate::core_memory::{CoreMemory, IN_FLIGHT, LOGGED, RAN, Slot, WAITING, take_memory};
 use crate::granted::choose;
 use crate::history::History;
 use crate::log_batch::{collect_recorded, move_ran};
-use crate::slot::{IN_FLIGHT, LOGGED, RAN, Slot, WAITING};
 use affinity::{changing, place_of};
 use arena::Arena;
 use checkpoint::{Journal, OpenError, OpenFault};

@@ -5,7 +5,7 @@ use Rattle.affinity.specs.Kind.{is_changing}
 use Rattle.histories.proofs.Room.{at_most_one}
 use Rattle.scheduler.proofs.RecordedIn.{chain_short, changing_more, gathered_more, ran_goes_on, ran_is_there, ran_next}
 use Rattle.scheduler.proofs.log_batch.collect_recorded.Goals as goal
-use Rattle.scheduler.specs.declared.slot.TheConstants.{RAN}
+use Rattle.scheduler.specs.declared.core_memory.TheConstants.{RAN}
 
 pub loop-init : goal.loop-init
 loop-init c = record {

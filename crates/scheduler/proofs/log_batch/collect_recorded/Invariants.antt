@@ -4,7 +4,7 @@ use Rattle.std.specs.Prelude.{vec_capacity}
 use Rattle.arena.specs.Lists.{first_of}
 use Rattle.arena.specs.ArenaView.{chain_at}
 use Rattle.scheduler.specs.HasLogged.{changing_in, recorded_in}
-use Rattle.scheduler.specs.declared.slot.TheConstants.{RAN}
+use Rattle.scheduler.specs.declared.core_memory.TheConstants.{RAN}
 use Rattle.scheduler.proofs.log_batch.collect_recorded.Given as goal
 
 abbrev pub invariant-loop : goal.invariant-loop

@@ -3,7 +3,7 @@ use Rattle.std.proofs.Common.{sym, subst, ◌∙◌}
 use Rattle.arena.specs.ArenaView.{IsPartitioned, ArenaView}
 use Rattle.scheduler.proofs.HasLogged.{first_is_there, first_logged}
 use Rattle.scheduler.specs.HasLogged.{HasLogged}
-use Rattle.scheduler.specs.declared.slot.Slot.{Slot}
+use Rattle.scheduler.specs.declared.core_memory.Slot.{Slot}
 use Rattle.scheduler.proofs.log_batch.move_first.Goals as goal
 
 pub unreachable-requires : goal.unreachable-requires

@@ -4,7 +4,7 @@ use Rattle.arena.specs.ArenaView.{chain_at}
 use Rattle.scheduler.proofs.Lists.{left_over}
 use Rattle.scheduler.proofs.HasLogged.{none_logged, one_more_logged}
 use Rattle.scheduler.proofs.log_batch.move_ran.Goals as goal
-use Rattle.scheduler.specs.declared.slot.TheConstants.{RAN}
+use Rattle.scheduler.specs.declared.core_memory.TheConstants.{RAN}
 
 pub loop-init : goal.loop-init
 loop-init c = none_logged c.args.slots.now c.requires.chains

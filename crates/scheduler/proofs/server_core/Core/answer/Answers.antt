@@ -9,7 +9,7 @@ use Rattle.scheduler.proofs.AnswerCall.{answer_call, answer_call_state, front_lo
 use Rattle.scheduler.specs.CoreView.{CoreView, core_state_of}
 use Rattle.scheduler.specs.View.{IsSoundCore, parts}
 use Rattle.scheduler.specs.Parts.{core_state_in}
-use Rattle.scheduler.specs.declared.slot.TheConstants.{LOGGED}
+use Rattle.scheduler.specs.declared.core_memory.TheConstants.{LOGGED}
 use Rattle.scheduler.proofs.server_core.Core.answer.Goals as goal
 
 pub index-reply-requires : goal.index-reply-requires

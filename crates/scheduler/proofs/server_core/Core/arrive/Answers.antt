@@ -12,8 +12,8 @@ use Rattle.scheduler.proofs.IsPlaced.{placed_of, range_of}
 use Rattle.scheduler.specs.CoreView.{CoreView, core_state_of}
 use Rattle.scheduler.specs.View.{IsSoundCore, parts}
 use Rattle.scheduler.specs.Parts.{core_state_in}
-use Rattle.scheduler.specs.declared.slot.Slot.{Slot}
-use Rattle.scheduler.specs.declared.slot.TheConstants.{WAITING}
+use Rattle.scheduler.specs.declared.core_memory.Slot.{Slot}
+use Rattle.scheduler.specs.declared.core_memory.TheConstants.{WAITING}
 use Rattle.scheduler.proofs.server_core.Core.arrive.Goals as goal
 
 pub invariant_of-self : goal.invariant_of-self

@@ -16,7 +16,7 @@ use Rattle.scheduler.specs.Parts.{core_state_in}
 use Rattle.arena.specs.ArenaView.{chain_at}
 use Rattle.protocol.specs.declared.replies.Reply.{Reply}
 use Rattle.scheduler.specs.HasLogged.{recorded_in}
-use Rattle.scheduler.specs.declared.slot.TheConstants.{RAN}
+use Rattle.scheduler.specs.declared.core_memory.TheConstants.{RAN}
 use Rattle.scheduler.proofs.server_core.Core.log.Given.{Over}
 use Rattle.scheduler.proofs.server_core.Core.log.Goals.{After-deref-2}
 use Rattle.scheduler.proofs.server_core.Core.log.Goals as goal

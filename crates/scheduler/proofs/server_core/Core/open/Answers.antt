@@ -14,8 +14,8 @@ use Rattle.scheduler.proofs.IsJustOpened.{opened_sound}
 use Rattle.scheduler.proofs.Refusals.{one_fault, opened_or_refused, recovers_or_refused}
 use Rattle.run_queue.specs.RunQueue.{RunQueueView, queue_at_start}
 use Rattle.scheduler.specs.Slots.{slots_on, entry_of, replied_of}
-use Rattle.scheduler.specs.declared.slot.Slot.{Slot}
-use Rattle.scheduler.specs.declared.slot.TheConstants.{WAITING, IN_FLIGHT, RAN, LOGGED}
+use Rattle.scheduler.specs.declared.core_memory.Slot.{Slot}
+use Rattle.scheduler.specs.declared.core_memory.TheConstants.{WAITING, IN_FLIGHT, RAN, LOGGED}
 use Rattle.scheduler.proofs.server_core.Core.open.Goals as goal
 
 pub returns-in_default-clause-any_moment : goal.returns-in_default-clause-any_moment
