@@ -14,7 +14,7 @@ use Rattle.clap.proofs.WalkLemmas.{walk_stopped}
 use Rattle.arguments.specs.Arguments.{NamesCommand, command_of, findings, waffd}
 
 -- neither of two steps finds anything, if both together don't
-both_pass : (a b : Kinds) → or_else a b ≡ [] → (a ≡ []) × (b ≡ [])
+pub both_pass : (a b : Kinds) → or_else a b ≡ [] → (a ≡ []) × (b ≡ [])
 both_pass [] b none = (refl, none)
 both_pass (k ∷ ks) b none = cc
 

@@ -1,7 +1,7 @@
 -- Statement for engineers: What the arguments ask for. `clap` reads them, by its rules for the commands and options below. Of its types an
 -- `App` is a command with its subcommands (its `top` is the command without them), a `Rule` one argument or option that it takes, and a
 -- `Row` one that was given, with its values.
-use Rattle.std.specs.Prelude.{◌≡◌, ◌-◌, ◌^◌, ◌≢◌, ◌&&◌, ◌⊎◌, ℕ, Bool, true, false, List, [], ◌∷◌, fold, length, Option, Some, None, option_and_then, option_map, unwrap_or, Result, Ok, Err, codes, if◌then◌else◌, nat_lt, ℤ, pos}
+use Rattle.std.specs.Prelude.{◌≡◌, ◌-◌, ◌^◌, ◌≢◌, ◌&&◌, ◌⊎◌, ℕ, Bool, true, false, List, [], ◌∷◌, fold, length, Option, Some, None, option_and_then, option_map, unwrap_or, Result, Ok, Err, codes, if◌then◌else◌, is_some, nat_lt, ℤ, pos}
 use Rattle.std.specs.Option.{option_map_or}
 use Rattle.std.specs.Char.{digit_value}
 use Rattle.std.specs.List.{list_all}
@@ -138,6 +138,10 @@ NamesCommand command = IsNamed (codes "plain") command ⊎ IsNamed (codes "forma
 -- the options that are given to the command
 abbrev pub given_to : Option (Text × List Row) → List Row
 given_to command = option_map_or (λ c. c.1) command []
+
+-- A command other than `plain` is given a device.
+abbrev pub HasDevice : Option (Text × List Row) → Type 0
+HasDevice command = IsNamed (codes "plain") command ⊎ (is_some (first_of (codes "device") (given_to command)) ≡ true)
 
 -- The result is the geometry of these numbers, or they are refused because one is out of range.
 abbrev pub GivesGeometry : List ℕ → Result Geometry ArgumentRefusal → Type 0

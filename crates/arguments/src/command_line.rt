@@ -1,7 +1,7 @@
 //! The arguments that the program is called with, and what they ask for.
-ghost use Rattle.std.specs.Prelude.{◌≡◌, IfOk, IfErr, [], ◌∷◌, false, map, pos, string_bytes};
-ghost use Rattle.clap.specs.Words.{app_of, found_of, rows_of, rule_of, subcommand_rows_of};
-ghost use Rattle.arguments.specs.Arguments.{Asks, GivesGeometry, IsReason, IsRequested, NamesCommand, answer_of, device_in, device_rule, number_in, numbers_in, rule_within, service_in, service_numbers, waffd, bare};
+ghost use Rattle.std.specs.Prelude.{◌≡◌, IfOk, IfErr, [], ◌∷◌, false, true, codes, is_some, map, pos, string_bytes};
+ghost use Rattle.clap.specs.Words.{app_of, first_of, found_of, rows_of, rule_of, subcommand_rows_of};
+ghost use Rattle.arguments.specs.Arguments.{Asks, GivesGeometry, HasDevice, IsReason, IsRequested, NamesCommand, answer_of, device_in, device_rule, number_in, numbers_in, rule_within, service_in, service_numbers, waffd, bare};
 ghost use Rattle.arguments.specs.Tables.{command_app, with_commands, with_options};
 ghost use Rattle.arguments.specs.declared.command_line.ArgumentRefusal.TheVariants.{OutOfMemory};
 
@@ -327,14 +327,19 @@ fn service_given(options: &ArgMatches<'_>) -> ServiceNumbers
 
 /// The file of the device that was given.
 fn device_given<'a>(options: &ArgMatches<'a>) -> &'a str
+    requires { is_some (first_of (codes "device") (rows_of (found_of options.now))) ≡ true }
     ensures { result.now ≡ device_in (rows_of (found_of options.now)) }
 {
-    options.get_str("device").unwrap_or("")
+    let Some(path) = options.get_str("device") else {
+        unreachable!()
+    };
+    path
 }
 
 /// What the arguments ask for, where `clap` found nothing wrong with them.
 fn requested<'a>(matches: &ArgMatches<'a>) -> Result<Request<'a>, ArgumentRefusal>
-    requires { NamesCommand (subcommand_rows_of matches.now) }
+    requires named { NamesCommand (subcommand_rows_of matches.now) }
+    requires device { HasDevice (subcommand_rows_of matches.now) }
     ensures { IsRequested (subcommand_rows_of matches.now) result }
 {
     match matches.subcommand() {

@@ -2,7 +2,8 @@
 use Rattle.std.proofs.Common.{◌≡◌, map, string_bytes, subst, sym, true, refl, List, []}
 use Rattle.clap.specs.Words.{App, HasKind, HasMatchesOf, Text, fault_of, is_simple_and_free, subcommand_rows_of}
 use Rattle.clap.specs.declared.parser.matches.ArgMatches.{ArgMatches}
-use Rattle.arguments.specs.Arguments.{IsRequested, NamesCommand, command_of, findings, waffd}
+use Rattle.arguments.specs.Arguments.{HasDevice, IsRequested, NamesCommand, command_of, findings, waffd}
+use Rattle.arguments.proofs.HasDevice.{device_or_plain}
 use Rattle.arguments.proofs.NamesCommand.{names_command}
 use Rattle.arguments.proofs.AnswerOf.{Holds, holds, holds_requested, if_err, if_ok}
 use Rattle.arguments.proofs.command_line.read_arguments.Goals as goal
@@ -14,11 +15,17 @@ nothing a words is none = subst (λ b. is_simple_and_free b ≡ true → fault_o
 same : (a : App) (words : List Text) (matches : ArgMatches) → a ≡ waffd → HasMatchesOf a words matches → subcommand_rows_of matches ≡ command_of words
 same a words matches is given = (subst (λ b. HasMatchesOf b words matches) is given refl).1
 
-pub requested-requires : goal.requested-requires
-requested-requires c =
+pub requested-requires-clause-named : goal.requested-requires-clause-named
+requested-requires-clause-named c =
     let words = map string_bytes c.args.words.now in
     let named = names_command words (nothing _ words c.in_ok-commands.ensures c.in-Ok.ensures.kinds) in
     subst NamesCommand (sym (same _ words _ c.in_ok-commands.ensures c.in-Ok.ensures.matches)) named
+
+pub requested-requires-clause-device : goal.requested-requires-clause-device
+requested-requires-clause-device c =
+    let words = map string_bytes c.args.words.now in
+    let device = device_or_plain words (nothing _ words c.in_ok-commands.ensures c.in-Ok.ensures.kinds) in
+    subst HasDevice (sym (same _ words _ c.in_ok-commands.ensures c.in-Ok.ensures.matches)) device
 
 -- their options give the request
 taken : (c : goal.Joined-matches) → Holds (map string_bytes c.args.words.now) c.requested.result
