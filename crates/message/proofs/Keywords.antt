@@ -1,9 +1,9 @@
 -- The message of a line by its first word.
 use Rattle.std.proofs.lemmas.Grind.{common_steps}
-use Rattle.std.proofs.Common.{◌≡◌, ℕ, ◌<◌, ◌≤◌, Bool, true, false, List, [], ◌∷◌, length, get_or, Option, Some, None, refl, ap, sym, ◌∙◌, inl, inr, ◌⊎◌, arith}
-use Rattle.std.specs.Prelude.{◌==◌, find}
+use Rattle.std.proofs.Common.{◌≡◌, ℕ, ◌<◌, ◌≤◌, true, false, List, [], ◌∷◌, length, get_or, Option, Some, None, refl, ap, sym, ◌∙◌, inl, inr, arith}
+use Rattle.std.specs.Prelude.{find}
 use Rattle.std.specs.Str.{bytes_eq}
-use Rattle.std.proofs.lemmas.Bool.{both_ways, cases_lt, cond-false, eqb-false, false_from_ne_true, le-ltb, ne_eqb}
+use Rattle.std.proofs.lemmas.Bool.{both_ways, cases_lt, cond-false, le-ltb, ne_eqb}
 use Rattle.std.proofs.lemmas.Option.{same_Some}
 use Rattle.std.proofs.lemmas.Slice.Eq.{bytes_eq-Decides}
 use Rattle.affinity.specs.declared.kinds.Kind.{Kind}
@@ -63,43 +63,9 @@ names_it word k is = sym (ap kind_named is ∙ keyword_names k)
 pub passes : (word : List ℕ) (k : Kind) → bytes_eq word (keyword k) ≡ true → Some k ≡ kind_named word
 passes word k h = names_it word k ((bytes_eq-Decides word (keyword k)).0 h)
 
--- ---- the keywords of one length
-
--- the test failed, if it counts (the keyword has the word's length), and the rest holds
-abbrev pub FailsAlso : Bool → Bool → Type 0 → Type 0
-FailsAlso true test rest = (test ≡ false) × rest
-FailsAlso false test rest = rest
-
--- the word fails the tests for those of some kinds' keywords that have this length
-abbrev pub FailsEach : ℕ → List ℕ → List Kind → Type 0
-FailsEach n word [] = Unit {0}
-FailsEach n word (k ∷ ks) = FailsAlso (length (keyword k) == n) (bytes_eq word (keyword k)) (FailsEach n word ks)
-
-passed_over : (word : List ℕ) (k : Kind) (ks : List Kind) → bytes_eq word (keyword k) ≡ false → named_among ks word ≡ None → named_among (k ∷ ks) word ≡ None
-passed_over word k ks fails rest = cond-false _ _ _ fails ∙ rest
-
-other_length : (n : ℕ) (word : List ℕ) (k : Kind) → length word ≡ n → (length (keyword k) == n) ≡ false → bytes_eq word (keyword k) ≡ false
-other_length n word k len other = false_from_ne_true _ (λ h. eqb-false (length (keyword k)) n other (sym (ap length ((bytes_eq-Decides word (keyword k)).0 h)) ∙ len))
-
-none_among : (n : ℕ) (word : List ℕ) (ks : List Kind) → length word ≡ n → FailsEach n word ks → named_among ks word ≡ None
-none_among n word [] len fails = refl
-none_among n word (k ∷ ks) len fails = elim (length (keyword k) == n) as
-    (λ t. (length (keyword k) == n) ≡ t → FailsAlso t (bytes_eq word (keyword k)) (FailsEach n word ks) → named_among (k ∷ ks) word ≡ None) [
-      | true ↦ λ e fails. passed_over word k ks fails.0 (none_among n word ks len fails.1)
-      | false ↦ λ e rest. passed_over word k ks (other_length n word k len e) (none_among n word ks len rest)
-    ] refl fails
-
--- a word that fails the tests for all keywords of its length names no kind
-pub fails_all : (n : ℕ) (word : List ℕ) → length word ≡ n → FailsEach n word all_kinds → None ≡ kind_named word
-unfolding kind_named
-fails_all n word len fails = sym (none_among n word all_kinds len fails)
-
--- a word whose length is that of at most one keyword, and that fails the test for that keyword, names no kind
-pub no_length : (word : List ℕ) (k : Kind) → ((j : Kind) → (length word ≡ length (keyword j) → ⊥) ⊎ (j ≡ k)) → bytes_eq word (keyword k) ≡ false → None ≡ kind_named word
-no_length word k others fails = sym (names_none word (λ j is. elim (others j) [
-  | inl other ↦ other (ap length is)
-  | inr same ↦ both_ways (bytes_eq word (keyword k)) fails ((bytes_eq-Decides word (keyword k)).1 (is ∙ ap keyword same))
-]))
+-- a word that fails the test for each keyword names no kind
+pub fails_all : (word : List ℕ) → ((k : Kind) → bytes_eq word (keyword k) ≡ false) → None ≡ kind_named word
+fails_all word fails = sym (names_none word (λ k is. both_ways (bytes_eq word (keyword k)) (fails k) ((bytes_eq-Decides word (keyword k)).1 is)))
 
 -- ---- a line whose first nine bytes have no space
 

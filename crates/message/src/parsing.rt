@@ -2,7 +2,7 @@
 //! the rest of the line.
 
 ghost use Rattle.std.specs.Prelude.{◌≡◌, ◌≢◌, ℕ, ◌<◌, ◌≤◌, ◌∷◌, [], true, ◌↔◌, length, slice_index, IsTrue, IfSome, MatchOption, option_map};
-ghost use Rattle.std.specs.Str.{all_ascii_digits};
+ghost use Rattle.std.specs.Str.{all_ascii_digits, bytes_eq};
 ghost use Rattle.std.specs.Str.Parse.{digits_value};
 ghost use Rattle.protocol.specs.declared.messages.Msg.{Msg};
 ghost use Rattle.protocol.specs.Words.{words, number_in_word, bytes_in_word};
@@ -36,88 +36,57 @@ pub(crate) fn split_keyword(line: &[u8]) -> Option<(&[u8], &[u8])>
     None
 }
 
-/// The kind that a word names. A word is compared only with keywords of its own length, each by one comparison, as of integers.
+/// The kind that a word names. The keywords that lines have most often stand first.
 pub(crate) fn kind_named(word: &[u8]) -> Option<Kind>
     ensures { result ≡ kind_named word.now }
 {
-    if let Some(four) = word.as_array::<4>() {
-        return kind_of_four(four);
-    }
-    if let Some(five) = word.as_array::<5>() {
-        return kind_of_five(five);
-    }
-    if let Some(six) = word.as_array::<6>() {
-        return kind_of_six(six);
-    }
-    if let Some(seven) = word.as_array::<7>() {
-        return kind_of_seven(seven);
-    }
-    if word == b"setlabel".as_slice() {
-        return Some(Kind::SetLabel);
-    }
-    None
-}
-
-/// The kind that a word of four bytes names.
-fn kind_of_four(word: &[u8; 4]) -> Option<Kind>
-    ensures { result ≡ kind_named word.now }
-{
-    if word == b"seal" {
-        Some(Kind::Seal)
-    } else if word == b"read" {
-        Some(Kind::Read)
-    } else if word == b"list" {
-        Some(Kind::List)
-    } else {
-        None
-    }
-}
-
-/// The kind that a word of five bytes names.
-fn kind_of_five(word: &[u8; 5]) -> Option<Kind>
-    ensures { result ≡ kind_named word.now }
-{
-    if word == b"write" {
+    if is_keyword(word, b"write") {
         Some(Kind::Write)
-    } else if word == b"punch" {
+    } else if is_keyword(word, b"read") {
+        Some(Kind::Read)
+    } else if is_keyword(word, b"punch") {
         Some(Kind::Punch)
-    } else if word == b"usage" {
-        Some(Kind::Usage)
-    } else if word == b"label" {
-        Some(Kind::Label)
-    } else {
-        None
-    }
-}
-
-/// The kind that a word of six bytes names.
-fn kind_of_six(word: &[u8; 6]) -> Option<Kind>
-    ensures { result ≡ kind_named word.now }
-{
-    if word == b"create" {
+    } else if is_keyword(word, b"create") {
         Some(Kind::Create)
-    } else if word == b"delete" {
+    } else if is_keyword(word, b"delete") {
         Some(Kind::Delete)
-    } else if word == b"unseal" {
+    } else if is_keyword(word, b"list") {
+        Some(Kind::List)
+    } else if is_keyword(word, b"usage") {
+        Some(Kind::Usage)
+    } else if is_keyword(word, b"label") {
+        Some(Kind::Label)
+    } else if is_keyword(word, b"seal") {
+        Some(Kind::Seal)
+    } else if is_keyword(word, b"unseal") {
         Some(Kind::Unseal)
+    } else if is_keyword(word, b"makevol") {
+        Some(Kind::MakeVol)
+    } else if is_keyword(word, b"dropvol") {
+        Some(Kind::DropVol)
+    } else if is_keyword(word, b"summary") {
+        Some(Kind::Summary)
+    } else if is_keyword(word, b"setlabel") {
+        Some(Kind::SetLabel)
     } else {
         None
     }
 }
 
-/// The kind that a word of seven bytes names.
-fn kind_of_seven(word: &[u8; 7]) -> Option<Kind>
-    ensures { result ≡ kind_named word.now }
+/// Whether a word is a keyword. Bytes are compared one by one: the compiled code of `==` is longer at these lengths, or a call.
+#[inline(always)]
+fn is_keyword<const N: usize>(word: &[u8], keyword: &[u8; N]) -> bool
+    ensures { result ≡ bytes_eq word.now keyword.now }
 {
-    if word == b"makevol" {
-        Some(Kind::MakeVol)
-    } else if word == b"dropvol" {
-        Some(Kind::DropVol)
-    } else if word == b"summary" {
-        Some(Kind::Summary)
-    } else {
-        None
+    if word.len() != N {
+        return false;
     }
+    for place in 0..N {
+        if word[place] != keyword[place] {
+            return false;
+        }
+    }
+    true
 }
 
 /// The numbers of an aggregate and a volume, and zeros.
