@@ -1,14 +1,15 @@
-//! The lines that commands print: a word, and numbers after it.
+//! The lines that commands print: a word and numbers after it, or a reply.
 ghost use Rattle.std.specs.Prelude.{◌≡◌, ◌++◌, IfErr, OnErr, OnOk};
 ghost use Rattle.std.specs.Io.KnownBytes.{Appends};
 ghost use Rattle.std.specs.List.{flat_map};
-ghost use Rattle.protocol.specs.Replies.{spaced};
+ghost use Rattle.protocol.specs.Replies.{reply_line, spaced};
 ghost use Rattle.message.specs.AppendsBeginning.{AppendsBeginning};
 ghost use Rattle.commands.specs.Lines.{number_line};
 
 use crate::faults::Fault;
 use itoa::Buffer;
-use message::write_in_order;
+use message::{LONGEST_REPLY, write_in_order, write_reply};
+use protocol::Reply;
 use std::alloc::AllocError;
 use std::io::Write;
 
@@ -31,6 +32,15 @@ pub fn add_line(lines: &mut Vec<u8>, word: &str, numbers: &[u64]) -> Result<(), 
     add_numbers(lines, numbers)?;
     lines.push(b'\n')?;
     Ok(())
+}
+
+/// Adds the line of a reply. `AllocError` where there is no memory.
+pub fn add_reply(lines: &mut Vec<u8>, reply: &Reply) -> Result<(), AllocError>
+    ensures { OnOk result (lines.new.items ≡ lines.old.items ++ reply_line reply.now) }
+{
+    let mut line = [0; LONGEST_REPLY];
+    let length = write_reply(reply, &mut line);
+    lines.extend_from_slice(&line[..length])
 }
 
 /// Writes lines, and flushes the writer. At a fault a beginning of them was written.

@@ -1,30 +1,18 @@
 //! `waffd show`: what the device in a file holds.
-ghost use Rattle.std.specs.Prelude.{◌≡◌, ◌++◌, IfOk, OnOk};
+ghost use Rattle.std.specs.Prelude.{◌≡◌, IfOk};
 ghost use Rattle.affinity.specs.Geometry.{numbers_of};
-ghost use Rattle.protocol.specs.Replies.{reply_line};
 ghost use Rattle.commands.specs.Ends.{EndsShowing, ShowsBytes};
 ghost use Rattle.commands.specs.Lines.{shown_lines};
 
 use crate::faults::Fault;
-use crate::lines::{add_line, write_lines};
+use crate::lines::{add_line, add_reply, write_lines};
 use affinity::Geometry;
 use checkpoint::{Shown, inspect};
 use disk::{Disk, FileDisk};
-use message::{LONGEST_REPLY, write_reply};
-use protocol::Reply;
 use std::alloc::{AllocError, Global};
 use std::fs::File;
 use std::io::Write;
 use std::rt::Files;
-
-/// Adds the line of a reply. `AllocError` where there is no memory.
-fn add_reply(lines: &mut Vec<u8>, reply: &Reply) -> Result<(), AllocError>
-    ensures { OnOk result (lines.new.items ≡ lines.old.items ++ reply_line reply.now) }
-{
-    let mut line = [0; LONGEST_REPLY];
-    let length = write_reply(reply, &mut line);
-    lines.extend_from_slice(&line[..length])
-}
 
 /// The eight numbers of a geometry.
 fn numbers(geometry: &Geometry) -> [u64; 8]
