@@ -6,7 +6,7 @@ ghost use Rattle.disk.specs.Device.{Costs};
 ghost use Rattle.disk.specs.Store.{Stored};
 ghost use Rattle.oplog.specs.Log.{batch_count};
 ghost use Rattle.oplog.specs.HalfContent.{front, count_open};
-ghost use Rattle.device_map.specs.Layout.{layout_of, device_size, part_at, half_part, other};
+ghost use Rattle.device_map.specs.Layout.{layout_of, device_size, part_at, half_part};
 ghost use Rattle.oplog.specs.Changes.{IsReady};
 ghost use Rattle.oplog.specs.ChangeRecords.{AreChangesInRange};
 
@@ -42,14 +42,6 @@ fn ones(count: usize) -> &'static [u8]
     ensures { result.now ≡ replicate count 1 }
 {
     &OPEN_GATES[..count]
-}
-
-/// The other area (image and half) than that of this number.
-pub fn other(number: usize) -> usize
-    requires { number < 2 }
-    ensures { result ≡ other number }
-{
-    1 - number
 }
 
 /// A half of a log, by its number and the geometry of the device.

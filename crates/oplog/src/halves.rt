@@ -3,9 +3,10 @@ ghost use Rattle.std.specs.Prelude.{◌≡◌, ◌+◌, ◌*◌, ◌<◌, ◌≤
 ghost use Rattle.disk.specs.Device.{moments};
 ghost use Rattle.protocol.specs.Messages.{IsMessage};
 ghost use Rattle.message.specs.Records.{record_of};
+ghost use Rattle.device_map.specs.Layout.{other};
 ghost use Rattle.oplog.specs.ChangeRecords.{AreChangesInRange, IsChangeInRange, IsNoChangeRecord};
 
-use crate::half::{Half, RECORDS_PER_WRITE, other};
+use crate::half::{Half, RECORDS_PER_WRITE};
 use affinity::limits::MOST_RECORDS;
 use affinity::{Geometry, changing};
 use device_map::{RECORD_SIZE, ROOT_ZONE_AT};
@@ -24,6 +25,14 @@ pub enum LogFault {
     /// The bytes of this record, given by its half and its number there, are not the record of a change (a message of a changing kind)
     /// whose numbers are in range.
     BadRecord(usize, usize),
+}
+
+/// The other area (image and half) than that of this number.
+pub fn other(number: usize) -> usize
+    requires { number < 2 }
+    ensures { result ≡ other number }
+{
+    1 - number
 }
 
 /// The log of a device: which of its halves is named, which is current (records are appended to it), and how many records the current one
@@ -61,7 +70,6 @@ impl Halves {
     ghost use Rattle.oplog.specs.Log.{layout_of_log, IsOfRecord, new_log, with_half_named, flipped, chained, log_after, IsLogCall, ReadsNoRecord, NamesRecord, batch_count};
     ghost use Rattle.disk.specs.Device.{Costs};
     ghost use Rattle.disk.specs.CrashImages.{CrashesChangeOnly};
-    ghost use Rattle.device_map.specs.Layout.{other};
     ghost use Rattle.oplog.specs.Changes.{Cleared, Chained, Flipped, IsSameButChain, IsSameButChainAndGates, IsSameButRoot};
     ghost use Rattle.oplog.specs.HalfContent.{front, record_at};
     ghost use Rattle.oplog.specs.Calls.{IsUsable, IsReadyFor, Grows, HasAdded};

@@ -12,5 +12,4 @@ mod halves;
 pub mod laws;
 mod staging;
 
-pub use half::other;
-pub use halves::{Halves, LogFault};
+pub use halves::{Halves, LogFault, other};
