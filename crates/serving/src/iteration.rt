@@ -1,10 +1,9 @@
-//! One iteration of a session. Messages are dispatched; what was collected is logged by one call and answered, with a step of the
-//! checkpoint in progress after each answer. Where nothing else can be done, it waits for a result, or advances or begins a checkpoint.
+//! One iteration of a session. Messages are dispatched; what was collected is logged and answered. Where nothing else can be done, it
+//! waits for a result, or advances or begins a checkpoint.
 
-ghost use Rattle.std.specs.Prelude.{◌≡◌, ◌+◌, ◌≤◌, ◌&&◌, not, cond, IfOk, IsFalse, Option, IsTrue, OnErr, OnOk, [], false, true};
-ghost use Rattle.reorder_buffer.specs.ReorderBuffer.{can_retire};
+ghost use Rattle.std.specs.Prelude.{◌≡◌, ◌≤◌, ◌&&◌, not, IfOk, Option, IsTrue, OnOk, []};
 ghost use Rattle.serving.specs.DispatchesTo.{asks_for_checkpoint};
-ghost use Rattle.serving.specs.SessionSteps.{HasGoneOn, HasLoggedNothing, HasOnlySent, HasReadNothing, IsSessionStep, KeepsCoreState, CallsForCheckpoint};
+ghost use Rattle.serving.specs.SessionSteps.{HasGoneOn, HasOnlySent, IsSessionStep, CallsForCheckpoint};
 ghost use Rattle.serving.specs.SessionEnds.{IsAtRest};
 ghost use Rattle.serving.specs.Session.{NoneUnanswered, steps_ahead};
 ghost use Rattle.serving.specs.declared.dispatch.Blocked.{Blocked};
@@ -25,45 +24,6 @@ fn asks_for_checkpoint(moved: bool, why: Option<Blocked>) -> bool
 }
 
 impl<'c, R: Read, D: Disk, L: ReplySink<D>> Session<'c, R, D, L> {
-    /// Logs all that ran, by one call of `log`, and returns how many messages these were, reads included. Where nothing ran, it only
-    /// reports whether the device has failed.
-    pub(crate) fn log_what_ran(&mut self) -> Result<usize, Halted>
-        ensures session_step { IsSessionStep self.old self.new result }
-        ensures same { (self.new.reorder_buffer ≡ self.old.reorder_buffer) × (self.new.reply_buffer ≡ self.old.reply_buffer)
-            × (self.new.dispatch_seat ≡ self.old.dispatch_seat) }
-        ensures unread { HasReadNothing self.old self.new }
-        ensures pieces_left { self.new.core.pieces_left ≡ self.old.core.pieces_left }
-        ensures works { OnOk result ((self.old.core.failed ≡ false) × (self.new.core.failed ≡ false)) }
-        ensures logged { OnOk result (self.new.core.ran ≡ []) }
-        ensures none { IfOk result (λ count. count ≡ 0 → KeepsCoreState self.old self.new) }
-        ensures steps { IfOk result (λ count. steps_ahead self.new + count ≡ steps_ahead self.old) }
-        ensures failed { OnErr result (self.new.core.failed ≡ true) }
-        ensures trigger { self.new.trigger ≡ self.old.trigger }
-    {
-        let count = self.core.slots(); // there are never more messages that ran than slots
-        or_halt(self.core.log(count))
-    }
-
-    /// Logs what ran in one go, answers it, and retires the lines that are next in order. A checkpoint in progress goes on by one step
-    /// after each answer. Returns whether anything was logged or answered.
-    fn log_and_reply<W: GatedRuntime>(&mut self, rt: &W) -> Result<bool, Halted>
-        ensures session_step { IsSessionStep self.old self.new result }
-        ensures last { OnOk result (can_retire self.new.reorder_buffer.lines ≡ false) }
-        ensures none { IfOk result (λ moved. IsFalse moved → HasLoggedNothing self.old self.new) }
-        ensures steps { IfOk result (λ moved. steps_ahead self.new + cond moved 1 0 ≤ steps_ahead self.old) }
-    {
-        let mut moved = self.log_what_ran()? > 0;
-        while self.answer_first(rt) {
-            moved = true;
-            self.advance_checkpoint()?;
-        }
-        self.retire_ready()?;
-        if self.is_half_unsent() {
-            self.flush_replies()?;
-        }
-        Ok(moved)
-    }
-
     /// Called where nothing was read or collected, or the session has caught up. It sends the answers that wait. If a buffered line may
     /// then be read, it returns. Else, if a job is in flight, it waits for a delivery; if none is, it calls `advance_or_begin_checkpoint`.
     /// `is_asked_for`: a checkpoint is to begin, which takes a reason.

@@ -5,8 +5,8 @@
 //! (`writer`). The definitions are in `specs/`, and the laws that they obey are the contracts of the functions of `laws`, which do nothing.
 //! `session` has what a server holds while it serves, and what is always true of it. `event_loop` has the loop from line to line with its
 //! ends. Each time round, `input` reads lines, and `iteration` works them off: `dispatch` hands messages to the workers, `collect` takes
-//! their results back, `output` sends the lines of the reorder buffer that are next in order, under the condition of `ReplySink`, and
-//! `checkpoints` makes checkpoints.
+//! their results back, `logging` logs what ran, `output` sends the lines of the reorder buffer that are next in order, under the
+//! condition of `ReplySink`, and `checkpoints` makes checkpoints.
 #![tactic(auto)]
 
 mod checkpoints;
@@ -16,6 +16,7 @@ mod event_loop;
 mod input;
 mod iteration;
 pub mod laws;
+mod logging;
 mod output;
 mod server;
 mod session;
