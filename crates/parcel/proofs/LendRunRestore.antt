@@ -9,8 +9,8 @@ use Rattle.protocol.specs.declared.messages.Msg.{Msg}
 use Rattle.protocol.specs.Messages.{IsMessage, kind, four_numbers, path_of}
 use Rattle.parcel.specs.Fits.{Fits, IsKindOf}
 use Rattle.parcel.specs.Nodes.{Nodes, tree_state}
-use Rattle.parcel.specs.JobRun.{JobView, IsJobRun, IsSerialStep}
-use Rattle.parcel.specs.LentJob.{CanBeRestored, LendsJob, LendsRunsRestores, job_place}
+use Rattle.parcel.specs.JobRun.{JobView, IsJobRun, IsSerialStep, job_place}
+use Rattle.parcel.specs.LentJob.{CanBeRestored, LendsJob, LendsRunsRestores}
 use Rattle.parcel.specs.Tree.{IsIn, IsOut, LendsAt, RestoresAt}
 use Rattle.parcel.specs.declared.job.Done.{Done}
 use Rattle.parcel.specs.declared.parts.Parcels.{Parcels}

@@ -14,8 +14,8 @@ use Rattle.meaning.proofs.Commute.{reads_only, changes_only}
 use Rattle.meaning.proofs.IsState.{step_kept}
 use Rattle.meaning.proofs.SubtreeLaws.{agree_in_and_out, part_from_agree}
 use Rattle.parcel.specs.Nodes.{Nodes, parcels_nodes, tree_state}
-use Rattle.parcel.specs.JobRun.{JobView, IsJobRun, IsSerialStep}
-use Rattle.parcel.specs.LentJob.{IsLentOf, IsSerialStepOf, LendsRunsRestores}
+use Rattle.parcel.specs.JobRun.{JobView, IsJobRun, IsSerialStep, IsSerialStepOf}
+use Rattle.parcel.specs.LentJob.{IsLentOf, LendsRunsRestores}
 use Rattle.parcel.specs.Shown.{shown_state, Shows}
 use Rattle.parcel.specs.Tree.{IsIn}
 use Rattle.parcel.specs.declared.job.Done.{Done}

@@ -18,9 +18,9 @@ use Rattle.meaning.proofs.IsState.{step_kept}
 use Rattle.parcel.specs.Fits.{Fits}
 use Rattle.parcel.specs.TreeHolds.{TreeHolds, IsApart, IsJobOut, nowhere, with_place}
 use Rattle.parcel.specs.Nodes.{Node, Nodes, parcels_nodes, tree_state}
-use Rattle.parcel.specs.JobRun.{JobView, IsJobRun}
+use Rattle.parcel.specs.JobRun.{JobView, IsJobRun, job_place}
 use Rattle.parcel.specs.Shown.{Shows}
-use Rattle.parcel.specs.LentJob.{CanBeRestored, LendsJob, job_place}
+use Rattle.parcel.specs.LentJob.{CanBeRestored, LendsJob}
 use Rattle.parcel.specs.Tree.{IsIn, HasGap, IsOut, LendsAt, RestoresAt}
 use Rattle.parcel.specs.declared.job.Done.{Done}
 use Rattle.parcel.specs.declared.parts.Parcels.{Parcels}

@@ -5,8 +5,8 @@ use Rattle.affinity.specs.Path.{Path, is_prefix, are_related, IsPath}
 use Rattle.meaning.specs.Subtrees.{AgreeOn}
 use Rattle.meaning.specs.State.{State, IsState}
 use Rattle.parcel.specs.Nodes.{Nodes, tree_state}
-use Rattle.parcel.specs.JobRun.{JobView}
-use Rattle.parcel.specs.LentJob.{IsLentOf, job_place}
+use Rattle.parcel.specs.JobRun.{JobView, job_place}
+use Rattle.parcel.specs.LentJob.{IsLentOf}
 
 -- the empty set of paths
 abbrev pub nowhere : Path → Bool

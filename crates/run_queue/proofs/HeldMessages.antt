@@ -6,7 +6,8 @@ use Rattle.std.proofs.lemmas.Bool.{eq-eqb}
 use Rattle.std.proofs.lemmas.List.{get_or_past, length-set, length-replicate}
 use Rattle.run_queue.proofs.Chains.{none_present}
 use Rattle.run_queue.specs.RunQueue.{has_number, without_number}
-use Rattle.run_queue.specs.Queues.{HeldMessages, present, AreByNumberFrom, HasInserted}
+use Rattle.run_queue.specs.Queues.{present}
+use Rattle.run_queue.specs.HeldMessages.{HeldMessages, AreByNumberFrom, HasInserted}
 use Rattle.run_queue.specs.declared.queued_message.QueuedMessage.{QueuedMessage}
 
 held-same : (a b : ℕ) (ts us : List QueuedMessage) → a ≡ b → ts ≡ us

@@ -9,7 +9,8 @@ use Rattle.run_queue.specs.RunQueue.{IsNext, are_related_intervals, is_free_of, 
 use Rattle.arena.proofs.Counts.{count_of-cons_is, count_of-cons_other}
 use Rattle.run_queue.specs.Slots.{count_in_slot}
 use Rattle.run_queue.specs.Order.{is_conflict_free}
-use Rattle.run_queue.specs.Queues.{Waiting, HeldMessages, HasInserted, IsFirstGone}
+use Rattle.run_queue.specs.Queues.{Waiting, IsFirstGone}
+use Rattle.run_queue.specs.HeldMessages.{HeldMessages, HasInserted}
 use Rattle.run_queue.specs.ReadyTable.{ready_at}
 use Rattle.run_queue.specs.Invariant.{AreQueued}
 use Rattle.run_queue.specs.declared.queued_message.QueuedMessage.{QueuedMessage}

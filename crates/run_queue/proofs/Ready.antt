@@ -12,7 +12,7 @@ use Rattle.run_queue.specs.RunQueue.{are_related_intervals, is_free_of, has_room
 use Rattle.arena.proofs.Counts.{count_of-cons_is, count_of-cons_other}
 use Rattle.run_queue.specs.Slots.{count_in_slot}
 use Rattle.run_queue.specs.Order.{Ascend, waits_for, is_conflict_free}
-use Rattle.run_queue.specs.Queues.{HasInserted}
+use Rattle.run_queue.specs.HeldMessages.{HasInserted}
 use Rattle.run_queue.specs.ReadyTable.{if_passes, ready_at, IsEntryRight, StayRight, AreRelatedRight}
 use Rattle.run_queue.specs.declared.queued_message.QueuedMessage.{QueuedMessage}
 use Rattle.run_queue.proofs.AffinitiesAbove.{number-below, same_path}

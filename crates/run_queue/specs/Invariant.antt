@@ -4,7 +4,8 @@ use Rattle.std.specs.List.{AllByRecursion}
 use Rattle.affinity.specs.Interval.{IsAffinity, affinity_count}
 use Rattle.affinity.specs.declared.geometry.Geometry.{Geometry}
 use Rattle.run_queue.specs.Order.{Ascend}
-use Rattle.run_queue.specs.Queues.{Waiting, HeldMessages}
+use Rattle.run_queue.specs.Queues.{Waiting}
+use Rattle.run_queue.specs.HeldMessages.{HeldMessages}
 use Rattle.run_queue.specs.Slots.{AreInSlots}
 use Rattle.run_queue.specs.ReadyTable.{IsEntryRight}
 use Rattle.run_queue.specs.declared.queued_message.QueuedMessage.{QueuedMessage}

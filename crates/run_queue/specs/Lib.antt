@@ -3,6 +3,7 @@ pub mod RunQueue
 pub mod Slots
 pub mod Order
 pub mod Queues
+pub mod HeldMessages
 pub mod RelatedNumbers
 pub mod ReadyTable
 pub mod View

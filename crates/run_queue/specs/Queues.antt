@@ -1,5 +1,5 @@
 -- Inner: Waiting messages in queues, one for the number of each affinity.
-use Rattle.std.specs.Prelude.{◌≡◌, ℕ, suc, ◌<◌, List, [], ◌∷◌, ◌++◌, filter, map, if◌then◌else◌, nat_lt, Option, Some, None}
+use Rattle.std.specs.Prelude.{◌≡◌, ℕ, ◌<◌, List, [], ◌∷◌, filter, map, if◌then◌else◌, nat_lt, Option, Some, None}
 use Rattle.std.specs.List.{find}
 use Rattle.arena.specs.Lists.{count_of}
 use Rattle.arena.specs.ArenaView.{ArenaView, IsPartitioned, capacity_of, value_at, chain_at}
@@ -49,18 +49,3 @@ abbrev pub IsFirstGone : ℕ → Waiting → Waiting → Type 0
 IsFirstGone n before after =
     (t : QueuedMessage) → find (has_number n) before.messages ≡ Some t
     → after ≡ record before { messages = without_slot t.slot before.messages }
-
--- what contracts see of `Holders`: for how many affinity numbers it has entries, and which messages are held, in the order of their numbers
-pub record HeldMessages : Type 0 where
-  pub numbers : ℕ
-  pub messages : List QueuedMessage
-
--- Each message is at the number of its affinity, where the list begins with number k.
-abbrev pub AreByNumberFrom : ℕ → List (Option QueuedMessage) → Type 0
-AreByNumberFrom k [] = Unit {0}
-AreByNumberFrom k (None ∷ entries) = AreByNumberFrom (suc k) entries
-AreByNumberFrom k (Some t ∷ entries) = (t.affinity.number ≡ k) × AreByNumberFrom (suc k) entries
-
--- The list `after` is `before` with message t inserted somewhere; the others stay in order.
-abbrev pub HasInserted : QueuedMessage → List QueuedMessage → List QueuedMessage → Type 0
-HasInserted t before after = (low : List QueuedMessage) × (high : List QueuedMessage) × (before ≡ low ++ high) × (after ≡ low ++ t ∷ high)

@@ -17,7 +17,8 @@ pub(crate) struct Holders {
 
 impl Model for Holders {
     ghost use Rattle.std.specs.Prelude.{length};
-    ghost use Rattle.run_queue.specs.Queues.{HeldMessages, present, AreByNumberFrom};
+    ghost use Rattle.run_queue.specs.Queues.{present};
+    ghost use Rattle.run_queue.specs.HeldMessages.{HeldMessages, AreByNumberFrom};
 
     ghost Value = { HeldMessages };
 
@@ -27,7 +28,7 @@ impl Model for Holders {
 }
 
 impl Holders {
-    ghost use Rattle.run_queue.specs.Queues.{HasInserted};
+    ghost use Rattle.run_queue.specs.HeldMessages.{HasInserted};
 
     /// A table for `numbers` affinity numbers, at which no message is held. `AllocError` where there is no memory.
     pub(crate) fn new(alloc: Global, numbers: usize) -> Result<Holders, AllocError>

@@ -45,7 +45,7 @@ impl Model for Messages {
 
 impl Messages {
     ghost use Rattle.run_queue.specs.RunQueue.{queue_at_start, CameBefore, IsNext};
-    ghost use Rattle.run_queue.specs.Queues.{HasInserted};
+    ghost use Rattle.run_queue.specs.HeldMessages.{HasInserted};
     ghost use Rattle.run_queue.specs.Invariant.{ArePlacedInOrder};
     ghost use Rattle.run_queue.specs.ReadyTable.{ready_at};
 

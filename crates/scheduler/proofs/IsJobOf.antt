@@ -12,9 +12,8 @@ use Rattle.histories.specs.CoreState.{Entry, CoreState}
 use Rattle.protocol.specs.Messages.{path_of}
 use Rattle.parcel.proofs.SerialRuns.{serial_run}
 use Rattle.parcel.specs.Fits.{IsRunnable}
-use Rattle.parcel.specs.JobRun.{JobView, IsJobRun}
+use Rattle.parcel.specs.JobRun.{JobView, IsJobRun, IsSerialStepOf}
 use Rattle.parcel.specs.Shown.{Shows}
-use Rattle.parcel.specs.LentJob.{IsSerialStepOf}
 use Rattle.parcel.specs.declared.job.Done.{Done}
 use Rattle.meaning.proofs.AgreeOn.{agree-sym, agree-trans}
 use Rattle.meaning.proofs.Commute.{reads_only}

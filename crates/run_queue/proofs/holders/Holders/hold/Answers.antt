@@ -4,7 +4,8 @@ use Rattle.std.proofs.lemmas.Grind.{common_steps}
 use Rattle.std.proofs.Common.{◌≡◌, ◌∙◌, ◌<◌, sym, ap, subst, find, Some, None}
 use Rattle.std.specs.Prelude.{slice_set}
 use Rattle.run_queue.specs.RunQueue.{has_number}
-use Rattle.run_queue.specs.Queues.{HeldMessages, present}
+use Rattle.run_queue.specs.Queues.{present}
+use Rattle.run_queue.specs.HeldMessages.{HeldMessages}
 use Rattle.run_queue.proofs.HeldMessages.{stand-hold, between-hold, found-at}
 use Rattle.run_queue.proofs.holders.Holders.hold.Goals as goal
 

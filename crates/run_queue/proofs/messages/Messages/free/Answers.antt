@@ -1,6 +1,6 @@
 -- All others that are held stay as they were.
 use Rattle.std.proofs.Common.{sym, subst}
-use Rattle.run_queue.specs.Queues.{HeldMessages}
+use Rattle.run_queue.specs.HeldMessages.{HeldMessages}
 use Rattle.run_queue.specs.Invariant.{AreQueued}
 use Rattle.run_queue.proofs.QueueCalls.{messages-freed}
 use Rattle.run_queue.proofs.messages.Messages.free.Goals as goal
