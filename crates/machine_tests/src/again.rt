@@ -5,8 +5,8 @@
 //! `SMALL` is a geometry of one volume and four records in a half. `assert_outcomes` makes the steps of rows. The last number of
 //! `Core::open` is that of slots.
 use crate::assertions::assert_equal;
-use crate::making::Row::{Arrives, Does, Serves};
-use crate::making::{Row, SMALL, assert_outcomes};
+use crate::steps::Row::{Arrives, Does, Serves};
+use crate::steps::{Row, SMALL, assert_outcomes};
 use checkpoint::OpenFault;
 use disk::MemDisk;
 use harness::{Wrong, device_with};

@@ -6,8 +6,8 @@
 //! written. Crashes leave the synced bytes (`OLD`), those of the last writes (`NEW`), or 1, 77, 1 at the unsynced offsets in turn
 //! (`MIXED`).
 use crate::assertions::{assert_equal, assert_true};
-use crate::making::Row::{Arrives, Does, Serves};
-use crate::making::{FLAT, Row, SMALL, assert_outcomes, machine_on};
+use crate::steps::Row::{Arrives, Does, Serves};
+use crate::steps::{FLAT, Row, SMALL, assert_outcomes, machine_on};
 use disk::MemDisk;
 use harness::{MIXED, NEW, OLD, Wrong, assert_shown, device_with, torn};
 use histories::{ArriveRefusal, CoreFault, Outcome, PointRefusal, Step};

@@ -4,8 +4,8 @@
 //! step of a checkpoint. `assert_outcomes` makes the steps of rows. Each device is newly formatted, with the geometry `SMALL` of one volume
 //! in two stripes (three pieces), and each machine has two slots and two hands.
 use crate::assertions::assert_equal;
-use crate::making::Row::{Arrives, Does};
-use crate::making::{Row, SMALL, assert_outcomes, machine_on};
+use crate::steps::Row::{Arrives, Does};
+use crate::steps::{Row, SMALL, assert_outcomes, machine_on};
 use harness::{Wrong, device_with};
 use histories::{ArriveRefusal, CoreFault, Outcome, PointRefusal, Step};
 use std::alloc::Global;

@@ -6,10 +6,10 @@ mod again;
 #[cfg(test)]
 mod assertions;
 #[cfg(test)]
+mod examples;
+#[cfg(test)]
 mod failing;
 #[cfg(test)]
-mod making;
-#[cfg(test)]
-mod rows;
+mod steps;
 #[cfg(test)]
 mod trials;

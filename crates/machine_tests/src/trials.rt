@@ -1,7 +1,7 @@
 //! A machine on a device that fails, or stops and is torn, at any call of a run: at the opening, before a cut and while that is in
 //! progress.
 use crate::assertions::assert_equal;
-use crate::making::{SMALL, WHOLE, one, open_machine};
+use crate::steps::{SMALL, WHOLE, one, open_machine};
 use affinity::Geometry;
 use checkpoint::OpenFault;
 use disk::MemDisk;
