@@ -95,11 +95,11 @@ class Guest:
             self.qemu.wait()
             self.qemu = None
 
-    def goes_off(self, command):
-        """Whether this command has it switch itself off. It also does where it is to reboot."""
+    def goes_off(self, command, patience=PATIENCE):
+        """Whether this command has it switch itself off in this time. It also does where it is to reboot."""
         with contextlib.suppress(OSError, ValueError):  # the agent may end before it has answered
             self.run(command)
-        return self.is_off()
+        return self.is_off(patience)
 
     def is_off(self, patience=PATIENCE):
         """Whether it is off, or switches itself off in this time."""
