@@ -47,7 +47,8 @@ class Page:
 
     def command(self, begin):
         """The command in a sentence that begins so."""
-        found = re.search(f"`({re.escape(begin)}[^`]*)`", self.text)
+        words = r"\s+".join(map(re.escape, begin.split()))
+        found = re.search(f"`({words}[^`]*)`", self.text)
         if not found:
             raise ValueError(f"docs/failover.md has no command that begins with {begin!r}")
         return " ".join(found[1].split())
