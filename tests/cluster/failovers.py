@@ -2,6 +2,7 @@
 back in sync."""
 import collections
 import random
+import re
 import time
 
 from clients import Steady
@@ -10,13 +11,14 @@ from machine import Dead
 from machines import Cluster
 from page import Page
 from sessions import Clients
-from state import PATIENCE, SLOW, View
+from state import PATIENCE, PAUSE, SLOW, View
 
 SOME_SECONDS = 5 * SLOW  # that something goes on
 BLOCKED_SECONDS = 60 * SLOW  # that a machine is watched which must do nothing
 SILENT_SECONDS = 150 * SLOW  # that fence devices answer nothing: more than the handler's own default of 90
 END_SECONDS = 60 * SLOW  # until a client has noticed that its server is gone
 BLOCKED = "Activity blocked"
+QUORATE = re.compile(r"^Quorate:\s+Yes", re.M)
 # Where programs have the same addresses each time, QEMU translates less.
 NO_RANDOM_ADDRESSES = "sysctl --quiet --write kernel.randomize_va_space=0"
 FAULT = "/run/waffd.fault"
@@ -110,7 +112,7 @@ class Chain:
         self.wait_up(wanted)
         if not self.view.waits_for(f"{wanted} serves", lambda: self.view.serves(wanted)):
             raise Dead(f"{what}: {wanted} doesn't serve")
-        self.clients.session([self.machines[wanted]]).socket.close()
+        self.clients.session([self.machines[wanted]], PATIENCE).socket.close()
         seconds = time.monotonic() - began
         self.judge(f"{what}, {wanted} answers after {seconds:.0f} s", client, wanted)
         self.counts_as(what, seconds)
@@ -185,14 +187,20 @@ class Chain:
     def lose_replication(self):
         """The primary may go on alone, as the handler forbids the other to be promoted. When it is lost the other must
         not take over: the first one comes back, and does."""
-        name, _, client, began = self.lose_primary_alone()
+        name, other, client, began = self.lose_primary_alone()
         self.cluster.mend_link()
+        if self.view.waits_for("one is primary", lambda: self.is_any_primary(name, other)):
+            if self.view.is_primary(other):
+                raise Violation(f"{other} is promoted, though {name} went on alone")
         self.goes_on("lost after going on alone", client, began, name)
+
+    def is_any_primary(self, *names):
+        return any(map(self.view.is_primary, names))
 
     def lose_drbd(self, client, name):
         """DRBD's part of the link, until the client of the primary goes on."""
         self.cluster.cut_link(Cut.REPLICATION)
-        if not self.view.waits_for("DRBD notices", lambda: "cs:Connected" not in self.view.drbd(name)):
+        if not self.view.waits_for("DRBD notices", lambda: self.view.is_alone(name)):
             raise Dead(self.view.drbd(name))
         since = time.monotonic()
         if not self.view.waits_for("the client goes on", lambda: client.moments[-1] > since):
@@ -217,7 +225,7 @@ class Chain:
         self.machines[name].run(STRACE)
         self.goes_on("device fault", client, began, other)
         self.check("the fault file is there", self.machines[name].run(f"test -e {FAULT}")[0] == 0)
-        self.check(f"{name} reboots", self.machines[name].goes_off("systemctl reboot"))
+        self.check(f"{name} reboots", self.machines[name].goes_off("systemctl reboot", PATIENCE))
         self.switch_on(name)
 
     def switch_over(self):
@@ -236,12 +244,12 @@ class Chain:
         client = self.steady(name)
         time.sleep(SOME_SECONDS)
         began = time.monotonic()
-        self.machines[name].does("pcs resource disable waffd")
-        if not self.view.waits_for(f"{name} doesn't serve", lambda: self.view.is_stopped(name)):
-            raise Dead(self.view.crm(name))
+        self.machines[name].does(Page().command("pcs resource disable waffd"), PATIENCE)
+        shown = self.machines[name].run("systemctl is-active waffd")[1]
+        self.check("it has stopped", shown == "inactive\n", shown)
         shown = self.machines[name].does("/usr/local/bin/waffd show /srv/waffd/device")
         self.check("it has ended in order: no record is left", "records 0\n" in shown, shown)
-        self.machines[name].does("pcs resource enable waffd")
+        self.machines[name].does(Page().command("pcs resource enable waffd"))
         self.goes_on("stopped and started", client, began, name)
 
     def stop_all(self):
@@ -250,7 +258,7 @@ class Chain:
         client = self.steady(name)
         time.sleep(SOME_SECONDS)
         for one in (other, name):
-            self.check(f"{one} is off", self.machines[one].goes_off("systemctl poweroff"))
+            self.check(f"{one} is off", self.machines[one].goes_off("systemctl poweroff", PATIENCE))
         self.switch_on(other)
         self.come_back("both switched off and on", client, name)
 
@@ -277,21 +285,22 @@ class Chain:
 
     def watch_alone(self, name):
         """This machine boots, and must do nothing while it is alone."""
-        asked = dict(self.cluster.asked)
+        orders = self.cluster.orders
         self.cluster.broken = {OTHER[name]}
         self.switch_on(name)
         self.wait_up(name)
-        is_up = self.view.waits_for(
-            f"Pacemaker runs on {name}", lambda: f"Online: [ {name} ]" in self.view.crm(name))
-        self.check(f"Pacemaker runs on {name}", is_up)
-        time.sleep(BLOCKED_SECONDS)
-        quorum = self.view.looks(name, "corosync-quorumtool -s")
-        drbd = self.view.drbd(name)
+        if not self.view.waits_for(f"Pacemaker runs on {name}", lambda: f"Online: [ {name} ]" in self.view.crm(name)):
+            raise Dead(self.view.crm(name))
+        end = time.monotonic() + BLOCKED_SECONDS
+        while time.monotonic() < end:
+            quorum = self.machines[name].run("corosync-quorumtool -s")[1]
+            drbd = self.machines[name].run("cat /proc/drbd")[1]
+            if QUORATE.search(quorum) or " 0: cs:" in drbd or self.cluster.orders != orders:
+                self.tell(f"{name} alone: {quorum} {drbd}")
+                raise Violation(f"{name} acts, though it may be behind: {self.cluster.orders - orders} orders to IPMI")
+            time.sleep(PAUSE)
         self.cluster.broken = set()
-        self.tell(f"{name} alone: {quorum} {drbd}")
-        if BLOCKED not in quorum or " 0: cs:" in drbd or self.cluster.asked != asked:
-            raise Violation(f"{name} acts, though it may be behind: fenced {self.cluster.asked} times")
-        self.check(f"{name} alone waits for the other", True)
+        self.check(f"{name} alone waits for the other", BLOCKED in quorum, quorum)
 
     def go_on_by_hand(self):
         """Both lose power, and the former secondary won't come back. The former primary waits, until the operator says

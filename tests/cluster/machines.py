@@ -2,13 +2,14 @@
 
 Both can be frozen while they run: their memory and their disks are kept, and thawed they go on from there, within
 seconds, any number of times. Their clocks then go on from there, too, also across a power cut."""
+import contextlib
 import datetime
 import os
 import shutil
 import time
 
 import fencing
-from guest import PATIENCE, Guest
+from guest import BOOT, PATIENCE, Guest
 from link import Cut, Link
 from machine import Dead
 
@@ -41,6 +42,16 @@ class Machine(Guest):
     def is_on(self):
         qemu = self.qemu  # another thread may change it
         return qemu is not None and qemu.poll() is None
+
+    def wait_up(self):
+        """As a guest's, but its fence device may cut its power meanwhile, and give it power again."""
+        began = time.monotonic()
+        while time.monotonic() < began + BOOT:
+            with contextlib.suppress(OSError, ValueError):
+                self.run("true", patience=10)
+                return time.monotonic() - began
+            time.sleep(0.3)
+        raise Dead(f"{self.name} doesn't boot: {self.console()}")
 
     def wait_for_qemu(self, command, is_done, seconds=PATIENCE):
         """Waits until this holds of what QEMU answers."""
@@ -83,6 +94,7 @@ class Cluster:
         self.broken = set()  # machines that don't start, though they have power
         self.claimed = {}  # the power of such a machine, or of each where the fence devices lie
         self.asked = dict.fromkeys(NUMBERS, 0)  # how often a fence device was asked to give a machine power
+        self.orders = 0  # how often one was asked to cut the power of a machine or to give it
         self.began = (time.monotonic(), datetime.datetime.utcnow())  # and the clocks of the machines then
         self.link = Link(folder)
         self.power = fencing.Power(folder, self.is_on, self.switch)
@@ -112,6 +124,7 @@ class Cluster:
     def switch(self, name, is_to_be_on):
         one = self.machines[name]
         self.tell(f"IPMI switches {name} {'on' if is_to_be_on else 'off'}")
+        self.orders += 1
         self.asked[name] += is_to_be_on
         self.claimed[name] = is_to_be_on
         if self.lies:

@@ -85,7 +85,10 @@ def lost_address(chain):
     with contextlib.suppress(Dead):
         chain.machines[other].wait_up()
     if not chain.view.waits_for("in sync", chain.view.is_whole, STANDALONE_SECONDS):
-        raise Violation(f"they don't come in sync: {chain.view.drbd(name)}")
+        shown = chain.machines[name].does("cat /proc/drbd")
+        if "cs:StandAlone" in shown:
+            raise Violation(f"it doesn't look for the other one any more: {shown}")
+        raise Dead(shown)
 
 
 CASES = (

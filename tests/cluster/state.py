@@ -10,6 +10,7 @@ from sessions import SOCKET
 PATIENCE = 1200 * SLOW  # seconds until the machines have done what they have to
 LOOK = 20 * SLOW  # seconds for a look at a machine, which may be busy or not up yet
 PAUSE = 4  # seconds between two looks
+ATTEMPTS = 3  # to find out something that has to be so
 IN_SYNC = re.compile(r"cs:Connected .* ds:UpToDate/UpToDate")
 STARTED = ("fence-alpha", "fence-beta", "fs", "waffd")
 SHOWN = ("Online: [ alpha beta ]", "Promoted: [", "Unpromoted: [")
@@ -24,6 +25,7 @@ STEPS = {
     "it is mounted": "mounted filesystem",
     "waffd has started": "Result of start operation for waffd",
 }
+SHOW = "cat /proc/drbd; crm_mon -1 -r; cibadmin -Q -o constraints"
 JOURNAL = "journalctl --boot --lines 3000 --output short-monotonic --no-pager --quiet"
 
 
@@ -55,14 +57,16 @@ class View:
         """Whether the service's socket is there. This is asked rarely, as each question takes the time of a guest."""
         return self.looks(name, f"test -S {SOCKET} && echo yes") == "yes\n"
 
-    def is_stopped(self, name):
-        return self.looks(name, "systemctl is-active waffd") == "inactive\n"
+    def is_alone(self, name):
+        """Whether its DRBD has noticed that the other one's is gone."""
+        return re.search("cs:(?!Connected)", self.drbd(name)) is not None
 
     def primary(self):
-        """The name of the machine that is primary."""
-        for name in self.cluster.machines:
-            if self.is_primary(name):
-                return name
+        """The name of the machine that is primary. One that is busy may have to be asked again."""
+        for _ in range(ATTEMPTS):
+            for name in self.cluster.machines:
+                if self.is_primary(name):
+                    return name
         raise Dead("none is primary")
 
     def are_online(self):
@@ -97,6 +101,10 @@ class View:
                 return True
             time.sleep(PAUSE)
         self.tell(f"NOT {what}, in {seconds:.0f} s")
-        for name in self.cluster.machines:
-            self.tell(f"{name}: " + self.looks(name, "cat /proc/drbd; crm_mon -1 -r; journalctl -n 30 -p 5 --no-pager"))
+        self.tell_all()
         return False
+
+    def tell_all(self):
+        """What there is to find out the cause of something."""
+        for name in self.cluster.machines:
+            self.tell(f"{name}: " + self.looks(name, f"{SHOW}; {JOURNAL} | tail -n 300", 4 * LOOK))
