@@ -20,7 +20,7 @@ class Bmc:
         self.folder = f"{folder}/{name}.bmc"
         os.makedirs(self.folder)
         address = ADDRESSES[name]
-        subprocess.run(["ip", "address", "add", f"{address}/32", "dev", "lo"], check=True)
+        subprocess.run(["ip", "address", "replace", f"{address}/32", "dev", "lo"], check=True)
         power = f"{HERE}/power {folder}/power {name}"
         text = bytes_of(f"{HERE}/ipmi.conf").decode()
         for word, value in (("NAME", name), ("ADDRESS", address), ("POWER", power)):
