@@ -316,8 +316,11 @@ class Chain:
         self.machines[name].does(first)
         if not self.view.waits_for(f"{other} counts as off", lambda: f"OFFLINE: [ {other} ]" in self.view.crm(name)):
             raise Dead(self.view.crm(name))
-        self.view.waits_for("DRBD is up", lambda: "ds:Consistent" in self.view.drbd(name))
-        self.check(f"{name} isn't promoted yet", not self.view.is_primary(name))
+        if not self.view.waits_for("DRBD is up", lambda: "ds:Consistent" in self.view.drbd(name)):
+            raise Dead(self.view.drbd(name))
+        time.sleep(BLOCKED_SECONDS)
+        shown = self.machines[name].does("cat /proc/drbd")
+        self.check(f"{name} isn't promoted", "ro:Secondary/" in shown, shown)
         command = second.replace("\n", "; ")
         self.machines[name].does(f"script --quiet --return --command '{command}' /dev/null")
         self.goes_on("both lost, by hand", client, began, name)
