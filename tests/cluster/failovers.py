@@ -15,6 +15,7 @@ from state import PATIENCE, PAUSE, SLOW, View
 
 SOME_SECONDS = 5 * SLOW  # that something goes on
 BLOCKED_SECONDS = 60 * SLOW  # that a machine is watched which must do nothing
+ALONE_SECONDS = 150 * SLOW  # the same, alone: where it may act it has the other one fenced in that time
 SILENT_SECONDS = 150 * SLOW  # that fence devices answer nothing: more than the handler's own default of 90
 END_SECONDS = 60 * SLOW  # until a client has noticed that its server is gone
 BLOCKED = "Activity blocked"
@@ -291,7 +292,7 @@ class Chain:
         self.wait_up(name)
         if not self.view.waits_for(f"Pacemaker runs on {name}", lambda: f"Online: [ {name} ]" in self.view.crm(name)):
             raise Dead(self.view.crm(name))
-        end = time.monotonic() + BLOCKED_SECONDS
+        end = time.monotonic() + ALONE_SECONDS
         while time.monotonic() < end:
             quorum = self.machines[name].run("corosync-quorumtool -s")[1]
             drbd = self.machines[name].run("cat /proc/drbd")[1]
