@@ -298,7 +298,8 @@ class Chain:
             drbd = self.machines[name].run("cat /proc/drbd")[1]
             if QUORATE.search(quorum) or " 0: cs:" in drbd or self.cluster.orders != orders:
                 self.tell(f"{name} alone: {quorum} {drbd}")
-                raise Violation(f"{name} acts, though it may be behind: {self.cluster.orders - orders} orders to IPMI")
+                asked = self.cluster.orders - orders
+                raise Violation(f"{name} has quorum or acts, though it may be behind: {asked} orders to IPMI")
             time.sleep(PAUSE)
         self.cluster.broken = set()
         self.check(f"{name} alone waits for the other", BLOCKED in quorum, quorum)
