@@ -15,6 +15,7 @@ from state import PATIENCE, PAUSE, SLOW, View
 
 SOME_SECONDS = 5 * SLOW  # that something goes on
 BLOCKED_SECONDS = 60 * SLOW  # that a machine is watched which must do nothing
+MOMENT = 20 * SLOW  # seconds at most for which the cable is out, where that is to be short
 ALONE_SECONDS = 150 * SLOW  # the same, alone: where it may act it has the other one fenced in that time
 SILENT_SECONDS = 150 * SLOW  # that fence devices answer nothing: more than the handler's own default of 90
 END_SECONDS = 60 * SLOW  # until a client has noticed that its server is gone
@@ -156,6 +157,22 @@ class Chain:
         self.wait_for_fencing(other)
         self.watch_the_wait("link cut", client, name)
         self.cluster.mend_link()
+
+    def lose_link_for_a_moment(self):
+        """The cable is out until DRBD misses the other machine, which is too short for Corosync to miss it. The primary
+        goes on, nobody is fenced, and DRBD has to connect again by itself."""
+        name, _ = self.roles()
+        client = self.steady(name)
+        time.sleep(SOME_SECONDS)
+        orders = self.cluster.orders
+        began = time.monotonic()
+        self.cluster.cut_link(Cut.CARRIER)
+        while not self.view.is_alone(name) and time.monotonic() < began + MOMENT:
+            pass
+        self.cluster.mend_link()
+        self.tell(f"the cable was out for {time.monotonic() - began:.0f} s")
+        self.watch_the_wait("link cut for a moment", client, name)
+        self.tell(f"{self.cluster.orders - orders} orders to IPMI")
 
     def wait_for_fencing(self, name):
         """Until the fence device has cut its power, and given it power again."""
@@ -363,7 +380,7 @@ class Chain:
 
     FAILURES = (
         lose_primary, lose_secondary, lose_link, lose_replication, kill_server, fail_device, switch_over,
-        stop_and_start, stop_all, lose_both, go_on_by_hand, slow_fencing)
+        stop_and_start, stop_all, lose_both, go_on_by_hand, slow_fencing, lose_link_for_a_moment)
 
     def drawn(self, count):
         """So many failures, each kind before any comes twice."""

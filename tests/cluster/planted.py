@@ -1,7 +1,6 @@
 """What is configured wrong in the cluster, each with the failure by which it has to be found. The same failures with
 the right configuration are in every chain."""
 import collections
-import contextlib
 import time
 
 from failovers import SOME_SECONDS, Chain, Violation
@@ -12,7 +11,7 @@ from state import SLOW
 # What is made wrong by commands on both machines, or on the one that serves; by which failure it is found.
 Case = collections.namedtuple("Case", "name failure everywhere once lies", defaults=("", "", False))
 
-STANDALONE_SECONDS = 240 * SLOW  # that both machines have for finding each other again
+STANDALONE_SECONDS = 120 * SLOW  # that both machines have for finding each other again
 HANDLER = "sed -i 's/crm-fence-peer.sh [^\"]*/crm-fence-peer.sh {0}/' /etc/drbd.conf"
 
 
@@ -74,16 +73,10 @@ def former_secondary(chain):
 
 
 def lost_address(chain):
-    """The cable is out for a while. Behind it DRBD has to find the other machine again."""
-    name, other = chain.roles()
-    client = chain.steady(name)
-    time.sleep(SOME_SECONDS)
-    chain.cluster.cut_link(Cut.CARRIER)
-    chain.wait_for_fencing(other)
-    chain.watch_the_wait("link cut", client, name)
-    chain.cluster.mend_link()
-    with contextlib.suppress(Dead):
-        chain.machines[other].wait_up()
+    """The cable is out for a moment. Behind it DRBD has to find the other machine again. After a longer cut the agent
+    of DRBD has it connect, as the other machine was fenced and starts again."""
+    name, _ = chain.roles()
+    chain.lose_link_for_a_moment()
     if not chain.view.waits_for("in sync", chain.view.is_whole, STANDALONE_SECONDS):
         shown = chain.machines[name].does("cat /proc/drbd")
         if "cs:StandAlone" in shown:
