@@ -23,6 +23,7 @@ BLOCKED = "Activity blocked"
 QUORATE = re.compile(r"^Quorate:\s+Yes", re.M)
 # Where programs have the same addresses each time, QEMU translates less.
 NO_RANDOM_ADDRESSES = "sysctl --quiet --write kernel.randomize_va_space=0"
+HANDLER = "journalctl --boot --output short-monotonic --no-pager --quiet --identifier crm-fence-peer.sh"
 FAULT = "/run/waffd.fault"
 STRACE = "timeout 60 strace -f -o /root/calls -e trace=fdatasync -e inject=fdatasync:error=EIO -p $(pgrep -x waffd)"
 
@@ -369,7 +370,7 @@ class Chain:
             bmc.silence()
         self.cluster.cut_link(Cut.FRAMES)
         time.sleep(SILENT_SECONDS)
-        self.tell(f"{name}: {self.view.drbd(name)}")
+        self.tell(f"{name}: {self.view.drbd(name)}{self.view.looks(name, HANDLER)}")
 
     def fail(self, failure):
         """One of these, and then both have to come back in sync."""

@@ -3,7 +3,7 @@ the right configuration are in every chain."""
 import collections
 import time
 
-from failovers import SOME_SECONDS, Chain, Violation
+from failovers import SOME_SECONDS, Violation
 from link import OTHER, Cut
 from machine import Dead
 from state import SLOW
@@ -12,7 +12,6 @@ from state import SLOW
 Case = collections.namedtuple("Case", "name failure everywhere once lies", defaults=("", "", False))
 
 STANDALONE_SECONDS = 120 * SLOW  # that both machines have for finding each other again
-HANDLER = "sed -i 's/crm-fence-peer.sh [^\"]*/crm-fence-peer.sh {0}/' /etc/drbd.conf"
 
 
 def go_on_alone(chain, name):
@@ -56,14 +55,6 @@ def unconfirmed(chain):
     chain.goes_on("slow fencing", client, began, other)
 
 
-def unconfirmed_without_coordinator(chain):
-    """The same, where Pacemaker's coordinator is on the other machine, so that a new one has to be elected first."""
-    name, _ = chain.roles()
-    if f"Current DC: {name}" in chain.view.crm(name):
-        chain.fail(Chain.switch_over)
-    unconfirmed(chain)
-
-
 def former_secondary(chain):
     """Both lose power, and the former secondary alone comes back."""
     name, other = chain.roles()
@@ -89,8 +80,7 @@ CASES = (
     Case("a fence device that lies", two_primaries, lies=True),
     Case("DRBD without fencing", old_disk,
          everywhere="sed -i 's/resource-and-stonith/dont-care/' /etc/drbd.conf; drbdadm adjust r0"),
-    Case("the handler's own timeout", unconfirmed, everywhere=HANDLER.format("--dc-timeout 86400")),
-    Case("the handler's own dc-timeout", unconfirmed_without_coordinator, everywhere=HANDLER.format("--timeout 86400")),
+    Case("the handler's own timeout", unconfirmed, everywhere="sed -i 's/ --timeout 86400//' /etc/drbd.conf"),
     Case("no-quorum-policy=ignore", former_secondary, once="pcs property set no-quorum-policy=ignore"),
     Case("wait_for_all: 0", former_secondary,
          everywhere="sed -i 's/two_node: 1/&\\n    wait_for_all: 0/' /etc/corosync/corosync.conf"),
