@@ -1,6 +1,7 @@
-"""The files and the commands of docs/failover.md: what is run is what the page says."""
+"""The files and the commands of the pages on failover: what is run is what they say."""
 import os
 import re
+import textwrap
 
 from program import TOP, bytes_of
 
@@ -28,18 +29,20 @@ def emulated(text):
 
 
 class Page:
-    """`docs/failover.md`."""
+    """The pages that an operator works by, one behind the other."""
+
+    PAGES = ("failover.md", "failover-operating.md")
 
     def __init__(self):
-        self.text = bytes_of(os.path.join(TOP, "docs", "failover.md")).decode()
+        self.text = "".join(bytes_of(os.path.join(TOP, "docs", name)).decode() for name in self.PAGES)
 
     def blocks(self, after, count):
         """So many blocks behind these words, which may be on two lines."""
         words = re.search(r"\s+".join(map(re.escape, after.split())), self.text)
         found = BLOCK.findall(self.text[words.end():])[:count] if words else []
         if len(found) < count:
-            raise ValueError(f"docs/failover.md has no such block behind {after!r}")
-        return [emulated(re.sub("^    ", "", block, flags=re.M).strip("\n") + "\n") for block in found]
+            raise ValueError(f"no page has such a block behind {after!r}")
+        return [emulated(textwrap.dedent(block).strip("\n") + "\n") for block in found]
 
     def block(self, after):
         """The first one."""
@@ -50,7 +53,7 @@ class Page:
         words = r"\s+".join(map(re.escape, begin.split()))
         found = re.search(f"`({words}[^`]*)`", self.text)
         if not found:
-            raise ValueError(f"docs/failover.md has no command that begins with {begin!r}")
+            raise ValueError(f"no page has a command that begins with {begin!r}")
         return " ".join(found[1].split())
 
     def file(self, path):
