@@ -332,7 +332,7 @@ class Chain:
         self.watch_alone(name)
         self.cluster.broken = {other}
         began = time.monotonic()
-        first, second = (block.replace("beta", other) for block in Page().blocks("say so on this one", 2))
+        first, second = (block.replace("DEAD", other) for block in Page().blocks("say so on this one", 2))
         self.machines[name].does(first)
         if not self.view.waits_for(f"{other} counts as off", lambda: f"OFFLINE: [ {other} ]" in self.view.crm(name)):
             raise Dead(self.view.crm(name))
