@@ -12,7 +12,6 @@ use Rattle.oplog.specs.Recovery.{records_in}
 use Rattle.oplog.specs.Log.{Log}
 use Rattle.meaning.specs.Step.{state_after_all, is_recorded, next_state, reply_to}
 use Rattle.meaning.specs.State.{State}
-use Rattle.device_map.specs.Layout.{other}
 
 pub record JournalView : Type 0 where
   pub geometry : Geometry

@@ -1,5 +1,5 @@
 -- Statement for engineers: What it is for messages to commute, and to run alike in two states.
-use Rattle.std.specs.Prelude.{◌≡◌, Bool, not, []}
+use Rattle.std.specs.Prelude.{◌≡◌, Bool, not}
 use Rattle.affinity.specs.declared.geometry.Geometry.{Geometry}
 use Rattle.affinity.specs.Path.{Path, is_prefix}
 use Rattle.protocol.specs.declared.messages.Msg.{Msg}

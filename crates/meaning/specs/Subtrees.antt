@@ -1,5 +1,5 @@
 -- Statement for engineers: The subtree of a state at a path, and its standing: what a message there sees of the nodes above.
-use Rattle.std.specs.Prelude.{◌≡◌, ℕ, Bool, true, not, ◌&&◌, [], ◌∷◌, if◌then◌else◌, None}
+use Rattle.std.specs.Prelude.{◌≡◌, ℕ, Bool, true, not, ◌&&◌, ◌∷◌, if◌then◌else◌, None}
 use Rattle.affinity.specs.declared.geometry.Geometry.{Geometry}
 use Rattle.affinity.specs.Geometry.{stripe_of}
 use Rattle.affinity.specs.Path.{Path, is_prefix, volume, logical, stripe, label}

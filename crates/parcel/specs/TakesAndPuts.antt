@@ -1,5 +1,5 @@
 -- Inner: What it is to take parts out of the tree, and to put them back.
-use Rattle.std.specs.Prelude.{◌≡◌, [], ◌++◌, Option, Some, None, IfSome, MatchOption, Result, Ok, Err, MatchResult}
+use Rattle.std.specs.Prelude.{◌≡◌, ◌++◌, Option, Some, None, IfSome, MatchOption, Result, Ok, Err, MatchResult}
 use Rattle.affinity.specs.declared.geometry.Geometry.{Geometry}
 use Rattle.affinity.specs.Path.{Path}
 use Rattle.parcel.specs.Fits.{Fits, FitsRoot, IsKindOf}

@@ -1,5 +1,5 @@
 -- Statement for operators: A machine as contracts see it.
-use Rattle.std.specs.Prelude.{List, [], map}
+use Rattle.std.specs.Prelude.{List, map}
 use Rattle.histories.specs.MachineState.{MachineState}
 use Rattle.scheduler.specs.declared.hands.HandContent.{HandContent}
 use Rattle.scheduler.specs.CoreView.{CoreView, core_state_of}

@@ -1,6 +1,6 @@
 -- Lists read by `get_elem?`: a list after one element was set, and a list of equal elements.
 use Rattle.std.proofs.Common.{◌≡◌, ℕ, zero, suc, ◌<◌, List, [], ◌∷◌, length, set, replicate, refl, sym, arith}
-use mathlib.Core.Option.{some, none, some-ne-none}
+use mathlib.Core.Option.{some, some-ne-none}
 use lib.ListN.{get_elem?}
 
 module _ {A : Type 0} where

@@ -6,7 +6,7 @@ use Rattle.recovery.specs.declared.inspecting.Shown.{Shown}
 use Rattle.recovery.specs.OpenFaults.{IsConsistentFault, records_fault}
 use Rattle.recovery.specs.Recovery.{decoding}
 use Rattle.recovery.specs.Refusals.{IsRefused}
-use Rattle.device_map.specs.Layout.{device_size, image_part, layout_of, other, part_bytes}
+use Rattle.device_map.specs.Layout.{device_size, image_part, layout_of, part_bytes}
 use Rattle.image.specs.Image.{version_in}
 use Rattle.protocol.specs.declared.messages.Msg.TheVariants.{Summary}
 use Rattle.meaning.specs.Step.{reply_to}

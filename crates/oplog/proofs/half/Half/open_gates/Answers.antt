@@ -1,5 +1,5 @@
 -- The ones that are stored are as many as the gates that are opened.
-use Rattle.std.proofs.Common.{◌≡◌, ℕ, List, subst, arith}
+use Rattle.std.proofs.Common.{◌≡◌, ℕ, subst, arith}
 use Rattle.std.proofs.lemmas.Grind.{common_steps}
 use Rattle.std.proofs.lemmas.List.{length-replicate}
 use Rattle.disk.specs.Device.{Medium, SameOutside}
