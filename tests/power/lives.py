@@ -6,7 +6,6 @@ import math
 import os
 import pickle
 import random
-import struct
 import time
 
 from layout import image_at, recovered
@@ -14,6 +13,7 @@ from machine import MODES, Dead, Guest, Kept, Log, private_copy
 from meaning import Search, empty_state, lines_that_make, lines_that_read, options_of, state_of_replies
 from program import put_bytes, run
 from servers import COMMON, NARROW, SMALL, WIDE, Drawing, plain, replies_of, text_of
+from synced_file import EMPTIED, SyncedFile
 
 LIVES = 4  # of a chain
 IMAGES = 40  # of a life
@@ -26,8 +26,6 @@ KILLED = 128 + 9
 START_NOISE = "noise >/dev/null 2>&1 & echo $! >/tmp/noise"
 STOP_NOISE = "kill -9 $(cat /tmp/noise)"
 NEVER = math.inf  # a moment, and a number of lines or of events, that doesn't come
-HEAD_OF_EVENT = struct.Struct("<cQQ")  # as shim.c reports what is done to the file: a kind, a place and a length
-EMPTIED = HEAD_OF_EVENT.pack(b"T", 0, 0)  # as it would report that `format` opens the file
 
 # A bug that is planted: in shim.c, which is told of it by a word, or in the disk.
 Bug = collections.namedtuple("Bug", "name word disk_lies")
@@ -91,50 +89,6 @@ class Phase:
         if self.kind is Kind.FORMAT and (records != 0 or size != image_at(g, 2)):
             return False
         return state == self.state
-
-
-class Synced:
-    """The file as docs/device.md has it, from what shim.c has reported: its bytes at the last sync, and where it was
-    written since."""
-
-    def __init__(self, start, heard):
-        self.start = start
-        self.events = []  # the number of the disk's event then, the kind, the place and the bytes
-        rest = b""
-        for when, data in heard:
-            rest += data
-            while len(rest) >= HEAD_OF_EVENT.size:
-                kind, at, length = HEAD_OF_EVENT.unpack_from(rest)
-                end = HEAD_OF_EVENT.size + length
-                if len(rest) < end:
-                    break
-                self.events.append((when, kind, at, rest[HEAD_OF_EVENT.size:end]))
-                rest = rest[end:]
-
-    def problem(self, cut, data):
-        """What is wrong with bytes that were synced. Nothing is while the length isn't synced."""
-        now = bytearray(self.start or b"")
-        synced = self.start
-        written_since = []
-        for _, kind, at, new in [event for event in self.events if event[0] <= cut]:
-            if kind == b"S":
-                synced = bytes(now)
-                written_since = []
-            elif kind == b"T":
-                now = now[:at].ljust(at, b"\0")
-                synced = None
-            else:
-                now[at:at + len(new)] = new
-                written_since.append(slice(at, at + len(new)))
-        if synced is None:
-            return None
-        left = bytearray(data or b"")
-        if len(left) == len(synced):
-            for part in written_since:
-                left[part] = synced[part]
-        if left == synced:
-            return None
-        return f"synced bytes have changed, or of {len(synced)} there are {len(left)}"
 
 
 class Life:
@@ -237,7 +191,7 @@ class Chain:
         self.counts["lives"] += 1
         self.run_programs(self.environment(is_reported))
         if is_reported:
-            self.life.synced = Synced(before, log.heard["reports"])
+            self.life.synced = SyncedFile(before, log.heard["reports"])
         last = "did umount /mnt" if chance.random() < 0.5 else "did true"
         guest.ask(f"{STOP_NOISE}; {last}" if is_noisy else last)
         guest.wait(lambda: not guest.held)

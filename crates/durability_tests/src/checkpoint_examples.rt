@@ -9,7 +9,7 @@ use affinity::Geometry;
 use disk::MemDisk;
 use harness::{
     Act, MIXED, OLD, OpenedDevice, Questions, Server, Wrong, assert_shown, device_with, expected,
-    find, messages_of, torn,
+    messages_of, open_device, torn,
 };
 use std::alloc::Global;
 use std::process::Abort;
@@ -33,7 +33,7 @@ fn assert_found(
         return Err(Wrong::Unfit);
     };
     let questions = Questions::new(alloc, &g)?;
-    let (found, device) = find(alloc, device, &questions)?;
+    let (found, device) = open_device(alloc, device, &questions)?;
     let wanted = OpenedDevice::Answers(expected(alloc, &g, lines, &questions)?);
     assert_equal(rt, found, wanted);
     Ok(device)

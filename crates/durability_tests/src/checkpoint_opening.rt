@@ -15,7 +15,7 @@ use checkpoint::{OpenFault, inspect};
 use disk::MemDisk;
 use harness::{
     Act, Ended, KINDS, OpenedDevice, Progress, Questions, Server, Trial, Wrong, assert_shown,
-    device_with, expected, find, sweep, torn,
+    device_with, expected, open_device, sweep, torn,
 };
 use std::alloc::Global;
 use std::process::Abort;
@@ -239,7 +239,7 @@ impl Trial for RefusedOpening {
     }
 
     fn run(&self, alloc: Global, device: MemDisk) -> Result<Ended, Wrong> {
-        let (found, device) = find(alloc, device, &self.questions)?;
+        let (found, device) = open_device(alloc, device, &self.questions)?;
         let progress = Progress {
             logged: 0,
             attempted: 0,

@@ -6,16 +6,20 @@
 //! second time and opens it again. What a server should answer comes from the serial server, by `expected`.
 #![tactic(auto)]
 
+mod changes_in_range;
 mod counting;
 mod crashes;
 mod expected_answers;
+mod opened_device;
 mod server;
 mod shown;
 mod trials;
 
+pub use changes_in_range::are_changes_in_range;
 pub use counting::{Counting, Counts};
 pub use crashes::{KINDS, MIXED, NEW, OLD, torn};
 pub use expected_answers::{Questions, answers_and_replies, expected, messages_of, reply_lines};
-pub use server::{Act, Halt, Server, are_changes_in_range, device_with};
+pub use opened_device::{OpenedDevice, open_device};
+pub use server::{Act, Halt, Server, device_with};
 pub use shown::assert_shown;
-pub use trials::{Crash, Ended, OpenedDevice, Progress, Seen, Trial, Wrong, find, reopen, sweep};
+pub use trials::{Crash, Ended, Progress, Seen, Trial, Wrong, reopen, sweep};

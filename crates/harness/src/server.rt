@@ -1,11 +1,10 @@
 //! A server for tests: a tree and a journal, without the core.
-ghost use Rattle.std.specs.Prelude.{◌≡◌, IsTrue};
+ghost use Rattle.std.specs.Prelude.{◌≡◌};
 ghost use Rattle.std.proofs.Props.{props};
-ghost use Rattle.oplog.specs.ChangeRecords.{AreChangesInRange, IsChangeInRange};
 ghost use Rattle.parcel.specs.Tree.{IsWholeTree};
 
-use crate::{Counting, Counts, Questions, Wrong, reply_lines};
-use affinity::{Geometry, changing, is_in_range};
+use crate::{Counting, Counts, Questions, Wrong, are_changes_in_range, reply_lines};
+use affinity::{Geometry, is_in_range};
 use checkpoint::{Journal, OpenFault, device_len, format, open};
 use disk::{Disk, MemDisk};
 use oplog::LogFault;
@@ -36,24 +35,6 @@ impl Act {
             _ => &[],
         }
     }
-}
-
-fn is_change_in_range(g: &Geometry, m: &Msg) -> bool
-    ensures { IsTrue result → IsChangeInRange g.now m.now }
-{
-    changing(m.kind()) && is_in_range(g, m.kind(), m.numbers())
-}
-
-/// Whether each of these is a change in range: of a kind that may change the state (`changing`), with numbers that the geometry has.
-pub fn are_changes_in_range(g: &Geometry, messages: &[Msg]) -> bool
-    ensures { IsTrue result → AreChangesInRange g.now messages.now }
-{
-    for m in messages {
-        if !is_change_in_range(g, m) {
-            return false;
-        }
-    }
-    true
 }
 
 /// Why a server doesn't do what it was asked.

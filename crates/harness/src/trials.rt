@@ -2,8 +2,9 @@
 ghost use Rattle.std.specs.Prelude.{◌<◌};
 
 use crate::crashes::{KINDS, torn};
-use crate::expected_answers::{Questions, reply_lines};
-use checkpoint::{OpenFault, Shown, inspect, open};
+use crate::expected_answers::Questions;
+use crate::opened_device::{OpenedDevice, open_device};
+use checkpoint::{OpenFault, Shown, inspect};
 use disk::MemDisk;
 use message::{LONGEST_REPLY, write_reply};
 use std::alloc::{AllocError, AllocFailed, Global};
@@ -30,15 +31,6 @@ pub struct Ended {
     /// The device, in whatever state it is.
     pub device: MemDisk,
     pub progress: Progress,
-}
-
-/// What is found on a device that is opened.
-#[derive(Debug, Drop, PartialEq, Eq)]
-pub enum OpenedDevice {
-    /// It is opened, and a server on it answers the questions so.
-    Answers(Vec<u8>),
-    /// It is refused.
-    Refuses(OpenFault),
 }
 
 /// Something that is done on a device which may fail at any of its calls.
@@ -109,23 +101,6 @@ impl<T: Drop> From<AllocFailed<T>> for Wrong {
     }
 }
 
-/// Opens a device, and gives what is found on it, and the device.
-pub fn find(
-    alloc: Global,
-    device: MemDisk,
-    questions: &Questions,
-) -> Result<(OpenedDevice, MemDisk), Wrong> {
-    match open(alloc, device) {
-        Ok((journal, mut tree)) => {
-            let device = journal.into_disk();
-            let reply_lines = reply_lines(alloc, &mut tree, questions)?;
-            Ok((OpenedDevice::Answers(reply_lines), device))
-        }
-        Err(e) if e.fault == OpenFault::OutOfMemory => Err(Wrong::OutOfMemory),
-        Err(e) => Ok((OpenedDevice::Refuses(e.fault), e.disk)),
-    }
-}
-
 /// A device of these bytes.
 fn device_of(alloc: Global, bytes: &[u8]) -> Result<MemDisk, AllocError> {
     MemDisk::of_bytes(alloc, bytes.to_vec(alloc)?)
@@ -191,7 +166,7 @@ fn stopped(
 {
     let mut device = device_of(alloc, seen.bytes.as_slice())?;
     device.stop_at(second.call);
-    let (found, device) = find(alloc, device, questions)?;
+    let (found, device) = open_device(alloc, device, questions)?;
     if device.calls() < second.call {
         same_again(found == seen.found, first, second)?;
         return Ok(None);
@@ -217,7 +192,7 @@ fn reopen_behind(
     if device.bytes() == seen.bytes.as_slice() {
         return Ok(());
     }
-    let (again, _) = find(alloc, device, questions)?;
+    let (again, _) = open_device(alloc, device, questions)?;
     same_again(again == seen.found, first, second)
 }
 
@@ -275,7 +250,7 @@ fn opened(
     device: MemDisk,
 ) -> Result<Seen, Wrong> {
     let bytes = device.bytes().to_vec(alloc)?;
-    let (found, device) = find(alloc, device, questions)?;
+    let (found, device) = open_device(alloc, device, questions)?;
     if !is_shown(alloc, bytes.as_slice(), device.bytes(), &found)? {
         return Err(Wrong::Shown(first));
     }
@@ -368,7 +343,7 @@ impl<T: Trial> Stops<'_, T> {
     {
         let first = Crash { call, kind: KINDS };
         let Ended { device, progress } = self.make(first)?;
-        let (found, _) = find(self.alloc, device, self.trial.questions())?;
+        let (found, _) = open_device(self.alloc, device, self.trial.questions())?;
         self.judge(&progress, first, &found)
     }
 }

@@ -1,6 +1,6 @@
 //! Assertions. Each is a function, so that it is proved once and not anew where a test calls it, for each row of a table.
 
-use crate::serving_running::End;
+use crate::serving_common::End;
 use std::process::Abort;
 
 /// Asserts this.

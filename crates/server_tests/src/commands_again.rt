@@ -3,8 +3,8 @@
 //! `KINDS` kinds of crash; `torn` gives what each leaves at the unsynced offsets.
 ghost use Rattle.std.specs.Prelude.{◌<◌};
 
-use crate::commands_calls::System;
-use crate::serving_running::SMALL;
+use crate::commands_common::System;
+use crate::serving_common::SMALL;
 use affinity::Geometry;
 use commands::{ServeOptions, serve_again};
 use harness::{KINDS, torn};

@@ -1,6 +1,6 @@
 //! Calls of the command `plain` on messages. `expect` makes a call (`Call::of`: these arguments, this input), and fails the test unless it
 //! ends with this status, output and standard error (`NOTHING`: empty).
-use crate::commands_calls::{Call, Expected, NOTHING, Streams, expect};
+use crate::commands_common::{Call, Expected, NOTHING, Streams, expect};
 use std::test::Fail;
 
 const PLAIN: &str = "waffd plain";

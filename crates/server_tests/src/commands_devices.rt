@@ -1,6 +1,6 @@
 //! Calls of the commands for devices, on files of the system. `expect` makes a call, and fails the test unless it ends with this status,
 //! output and standard error (`NOTHING`: empty).
-use crate::commands_calls::{Call, Expected, NOTHING, Streams, System, expect};
+use crate::commands_common::{Call, Expected, NOTHING, Streams, System, expect};
 use std::alloc::{AllocError, Global};
 use std::fs::{self, OpenOptions, Permissions};
 use std::os::unix::fs::PermissionsExt;

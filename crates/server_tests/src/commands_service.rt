@@ -1,7 +1,7 @@
 //! Calls of the command `serve`, on files of the system. `SERVE` is `waffd serve @`, where the device's path takes the place of `@`, and
 //! the device is the small one, `LEN` bytes long, just made (`made_bytes`, `write_made`) with some bytes set. `expect` makes a call, and
 //! fails the test unless it ends with this status, output and standard error (`NOTHING`: empty).
-use crate::commands_calls::{Call, Expected, NOTHING, Streams, System, expect};
+use crate::commands_common::{Call, Expected, NOTHING, Streams, System, expect};
 use crate::commands_devices::{
     LEN, MADE as JUST_MADE, Patches, SERVE, expect_shown, made_bytes, new_path, write_made,
 };

@@ -7,9 +7,9 @@ ghost use Rattle.histories.specs.CoreState.{IsIdle};
 ghost use Rattle.scheduler.specs.CoreView.{core_state_of};
 
 use crate::assertions::assert_text;
+use crate::serving_common::SMALL;
 use crate::serving_images::assert_left;
 use crate::serving_noting::{ChunkReader, Notes};
-use crate::serving_running::SMALL;
 use disk::MemDisk;
 use harness::{Wrong, device_with};
 use scheduler::Core;

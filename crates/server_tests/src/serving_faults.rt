@@ -2,13 +2,14 @@
 //! two files of four blocks in two stripes, and four records in a half of the log). There are `KINDS` kinds of crash; `torn` gives what
 //! each leaves at the unsynced offsets, and `expected` what the serial server answers to questions after some changes.
 use crate::assertions::assert_true;
+use crate::serving_common::{ALL_AT_ONCE, End, Left, SMALL, Way, session};
 use crate::serving_noting::Notes;
-use crate::serving_running::{ALL_AT_ONCE, End, Left, SMALL, Way, session};
 use affinity::Geometry;
 use checkpoint::OpenFault;
 use disk::MemDisk;
 use harness::{
-    Crash, KINDS, OpenedDevice, Questions, Seen, Wrong, device_with, expected, find, reopen, torn,
+    Crash, KINDS, OpenedDevice, Questions, Seen, Wrong, device_with, expected, open_device, reopen,
+    torn,
 };
 use serving::ServeFault;
 use std::alloc::Global;
@@ -272,7 +273,7 @@ impl Openings {
             return Ok(index);
         }
         let bytes = left.bytes().to_vec(alloc)?;
-        let (found, _) = find(alloc, left, &play.questions)?;
+        let (found, _) = open_device(alloc, left, &play.questions)?;
         let seen = Seen { bytes, found };
         let index = self.seen.len();
         reopen(alloc, &play.questions, crash, &seen)?;

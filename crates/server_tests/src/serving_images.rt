@@ -1,7 +1,7 @@
 //! Long lines, and what the image has when serving has ended, with several numbers of workers and slots. The server is the small one
 //! (`SMALL`): one volume of two files of four blocks, and four records in a half of the log.
 use crate::assertions::{assert_count, assert_text, assert_true};
-use crate::serving_running::{SMALL, Way, serial, serve_lines};
+use crate::serving_common::{SMALL, Way, serial, serve_lines};
 use checkpoint::{OpenFault, inspect};
 use disk::MemDisk;
 use harness::{Wrong, device_with};

@@ -1,8 +1,8 @@
 //! How many lines are open, that is read and not answered in the output: no more than there are slots. The server is the small one
 //! (`SMALL`), with one volume of two files of four blocks.
 use crate::assertions::{assert_at_most, assert_count};
+use crate::serving_common::SMALL;
 use crate::serving_noting::{Notes, Taking};
-use crate::serving_running::SMALL;
 use disk::MemDisk;
 use harness::{Wrong, device_with};
 use message::Msg;

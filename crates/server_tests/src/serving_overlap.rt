@@ -1,8 +1,8 @@
 //! Which messages run at once. Here a `Gate` is a hook of the server: a worker calls `before` just before it runs a job, the dispatcher
 //! `answered` just after a message is answered.
 use crate::assertions::assert_text;
+use crate::serving_common::{ALL_AT_ONCE, End, FLAT, SMALL, Way, serve_lines, session};
 use crate::serving_noting::Notes;
-use crate::serving_running::{ALL_AT_ONCE, End, FLAT, SMALL, Way, serve_lines, session};
 use harness::{Wrong, device_with};
 use std::alloc::Global;
 use std::sync::Wait;

@@ -3,8 +3,8 @@
 //! `ALL_AT_ONCE` is streams of which each call takes all, and none fails; `session` serves lines, and what it leaves is the device, the end
 //! and the output.
 use crate::assertions::{assert_ended, assert_text, assert_true};
+use crate::serving_common::{ALL_AT_ONCE, End, Way, serve_lines, serve_on, session};
 use crate::serving_noting::{ChunkReader, Count, Flag, Notes, Noting};
-use crate::serving_running::{ALL_AT_ONCE, End, Way, serve_lines, serve_on, session};
 use disk::MemDisk;
 use harness::{Wrong, device_with};
 use std::alloc::{AllocError, Global};

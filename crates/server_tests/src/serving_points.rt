@@ -2,10 +2,10 @@
 //! servers `SMALL` has four records in a half of the log, and `FLAT` eight, and eight stripes of one block. `OpenGate` is hooks that do
 //! nothing.
 use crate::assertions::{assert_at_most, assert_count, assert_ended, assert_true};
-use crate::serving_noting::Notes;
-use crate::serving_running::{
+use crate::serving_common::{
     ALL_AT_ONCE, End, FLAT, Left, SMALL, Streams, Way, serve_lines, session,
 };
+use crate::serving_noting::Notes;
 use checkpoint::inspect;
 use harness::{Wrong, device_with};
 use std::alloc::{AllocError, Global};

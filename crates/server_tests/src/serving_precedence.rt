@@ -1,7 +1,7 @@
 //! Which fault is reported if several come in one session of the small server (`SMALL`: four records in a half of the log).
 use crate::assertions::{assert_ended, assert_true};
+use crate::serving_common::{ALL_AT_ONCE, End, Left, SMALL, Streams, Way, session};
 use crate::serving_noting::Notes;
-use crate::serving_running::{ALL_AT_ONCE, End, Left, SMALL, Streams, Way, session};
 use checkpoint::OpenFault;
 use disk::MemDisk;
 use harness::{Wrong, device_with};

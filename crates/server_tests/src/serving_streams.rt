@@ -1,11 +1,11 @@
 //! How input is read and output is written, and what happens if one of them fails. `serial` gives what the serial server writes. `SMALL`
 //! has one volume of two files of four blocks, and four records in a half of the log.
 use crate::assertions::{assert_at_most, assert_count, assert_ended, assert_text, assert_true};
-use crate::serving_drawing::draw_lines;
-use crate::serving_noting::Notes;
-use crate::serving_running::{
+use crate::serving_common::{
     ALL_AT_ONCE, End, Left, SMALL, Streams, Way, serial, serve_lines, session,
 };
+use crate::serving_drawing::draw_lines;
+use crate::serving_noting::Notes;
 use checkpoint::inspect;
 use harness::{Wrong, device_with};
 use serving::ServeFault;

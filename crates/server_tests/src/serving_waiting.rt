@@ -2,8 +2,8 @@
 //! still logged if the output fails. Hooks of the server (`Gate`): a worker calls `before` just before it runs a job, the dispatcher
 //! `answered` just after a message is answered.
 use crate::assertions::{assert_count, assert_ended, assert_true};
+use crate::serving_common::{ALL_AT_ONCE, End, Left, SMALL, Streams, Way, serve_lines, session};
 use crate::serving_noting::{Flag, Notes};
-use crate::serving_running::{ALL_AT_ONCE, End, Left, SMALL, Streams, Way, serve_lines, session};
 use checkpoint::inspect;
 use disk::MemDisk;
 use harness::{Wrong, device_with};

@@ -4,7 +4,7 @@ use Rattle.std.proofs.lemmas.List.{get_or_default}
 use borrow.Author.Count.{below_more}
 use Rattle.protocol.specs.declared.messages.Msg.{Msg}
 use Rattle.oplog.specs.ChangeRecords.{IsChangeInRange}
-use Rattle.harness.proofs.server.are_changes_in_range.Goals as goal
+use Rattle.harness.proofs.changes_in_range.are_changes_in_range.Goals as goal
 
 pub loop-m-preserved : goal.loop-m-preserved
 loop-m-preserved c =
