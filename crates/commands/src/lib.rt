@@ -6,6 +6,7 @@
 mod again;
 mod faults;
 mod format;
+mod laws;
 mod lines;
 mod program;
 mod reports;

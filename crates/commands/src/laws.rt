@@ -1,0 +1,41 @@
+//! The theorem's laws: of a service that is killed, of any number of servers, and of two services. Each does nothing; its contract is the
+//! law.
+ghost use Rattle.std.specs.Prelude.{◌≡◌, ℕ, List, Ok, Option};
+ghost use Rattle.affinity.specs.declared.geometry.Geometry.{Geometry};
+ghost use Rattle.recovery.specs.Recovery.{recovered_state};
+ghost use Rattle.commands.specs.Kill.{IsKilled};
+ghost use Rattle.commands.specs.Promise.{HoldsState, LeavesKilled};
+ghost use Rattle.commands.specs.DurableLinearizability.{AreDurablyLinearizable};
+ghost use Rattle.commands.specs.Restarts.{FollowCrashes, HaveAgreed};
+ghost use Rattle.commands.specs.CrashedRun.{CrashedRun, IsRunOn, Returned};
+ghost use Rattle.disk.specs.Device.{Medium};
+ghost use Rattle.meaning.specs.State.{State};
+
+use disk::Disk;
+
+/// A killed service loses nothing that it answered, whenever it was killed: while it opened its device, or while it served. It does
+/// nothing; its contract is the law.
+pub fn a_killed_service_loses_nothing<D: Disk>()
+    ensures { (slots : ℕ) (old : Medium) (input before after : Option (List ℕ)) (c : List ℕ)
+        → IsKilled D.keeps slots old input before after c
+        → D.keeps → (g : Geometry) → LeavesKilled g (recovered_state g) slots old input before after c }
+{}
+
+/// Any number of servers, of which some returned and others were killed, each on what a crash of the one before left of the device: all
+/// that they answered is what one serial server answers that never crashes. How bytes recover to a state is for the caller to choose: for
+/// `recovered_state g`, `serve_on` promises its part of those that returned, and `a_killed_service_loses_nothing` of those that were
+/// killed. It does nothing; its contract is the law.
+pub fn servers_are_durably_linearizable()
+    ensures { (g : Geometry) (recover : List ℕ → Option State) (start : State) (device : Medium) (runs : List CrashedRun)
+        → HoldsState recover device start → FollowCrashes g recover device runs → AreDurablyLinearizable g start runs }
+{}
+
+/// Two services that ended without a fault, on devices that held one state, and with the same input: they have written the same bytes, and
+/// leave one state, whatever a crash then does. Their numbers of workers and of slots may differ, and their workers may have been scheduled
+/// in any way. So who sends one input to two of them has a replica. It does nothing; its contract is the law.
+pub fn services_without_a_fault_agree()
+    ensures { (g : Geometry) (recover : List ℕ → Option State) (start : State) (device other_device : Medium) (one other : CrashedRun)
+        → HoldsState recover device start → HoldsState recover other_device start
+        → one.end ≡ Returned (Ok tt) → other.end ≡ Returned (Ok tt) → other.input ≡ one.input
+        → IsRunOn g recover device one one.end → IsRunOn g recover other_device other other.end → HaveAgreed recover one other }
+{}
