@@ -1,12 +1,26 @@
 -- Prefixes of paths, and related paths.
-use Rattle.std.proofs.Common.{arith, ◌≡◌, ℕ, true, false, [], ◌∷◌, refl, sym, ◌∙◌}
+use Rattle.std.proofs.Common.{arith, ◌≡◌, ℕ, true, false, [], ◌∷◌, ◌++◌, refl, sym, ap, ◌∙◌}
+use Rattle.std.specs.Prelude.{◌==◌}
 use Rattle.std.proofs.lemmas.Grind.{common_steps}
-use Rattle.std.proofs.lemmas.Bool.{and_from, or_cases, or_left, eq-eqb, true≢false, false_from_ne_true}
+use Rattle.std.proofs.lemmas.Bool.{and_from, and_parts, or_cases, or_left, eq-eqb, eqb-true, true≢false, false_from_ne_true}
 use Rattle.affinity.specs.Path.{Path, is_prefix, are_related}
 
 pub is_prefix-refl : (p : Path) → is_prefix p p ≡ true
 is_prefix-refl [] = refl
 is_prefix-refl (x ∷ p) = and_from _ _ (eq-eqb x x refl) (is_prefix-refl p)
+
+pub begins : (p q : Path) → is_prefix p (p ++ q) ≡ true
+begins [] q = refl
+begins (x ∷ p) q = and_from _ _ (eq-eqb x x refl) (begins p q)
+
+-- what begins with a path is that path and the rest
+pub begins_split : (p q : Path) → is_prefix p q ≡ true → (r : Path) × (q ≡ p ++ r)
+begins_split [] q h = (q, refl)
+begins_split (x ∷ p) [] h = absurd (true≢false (sym h))
+begins_split (x ∷ p) (y ∷ q) h =
+    let both = and_parts (x == y) (is_prefix p q) h in
+    let rest = begins_split p q both.1 in
+    (rest.0, sym (ap (λ z. z ∷ q) (eqb-true x y both.0)) ∙ ap (λ r. x ∷ r) rest.1)
 
 pub is_prefix-trans : (p q r : Path) → is_prefix p q ≡ true → is_prefix q r ≡ true → is_prefix p r ≡ true
 is_prefix-trans [] q r a b = refl

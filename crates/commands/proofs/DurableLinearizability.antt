@@ -17,7 +17,8 @@ use Rattle.meaning.specs.State.{State}
 use Rattle.serving.specs.Restart.{IsClosedPart, RecoversTo}
 use Rattle.commands.specs.Promise.{HasRunFrom, HoldsState, IsWritten, OpensUnlessFailed}
 use Rattle.commands.specs.DurableLinearizability.{AreDurablyLinearizable, AreOperationsOf, Operation, answers_in, lines_in}
-use Rattle.commands.specs.Restarts.{CrashedRun, FollowCrashes, IsRunOn, Killed, Returned, RunEnd, promised_end}
+use Rattle.commands.specs.Restarts.{FollowCrashes}
+use Rattle.commands.specs.CrashedRun.{CrashedRun, IsRunOn, Killed, Returned, RunEnd, promised_end}
 use Rattle.commands.specs.declared.faults.Fault.{Fault}
 
 -- ---- what a serial server does

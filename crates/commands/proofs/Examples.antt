@@ -20,7 +20,7 @@ use Rattle.device_map.specs.Layout.{image_size}
 use Rattle.commands.specs.Lines.{formatted_line, shown_lines}
 use Rattle.commands.specs.Promise.{HasRunFrom}
 use Rattle.commands.specs.DurableLinearizability.{AreDurablyLinearizable, IsHistoryOf, Operation, answers_in, lines_in}
-use Rattle.commands.specs.Restarts.{CrashedRun, Killed, Returned}
+use Rattle.commands.specs.CrashedRun.{CrashedRun, Killed, Returned}
 use Rattle.commands.specs.Services.{AsksServe, within_limits}
 use Rattle.commands.specs.declared.faults.Fault.TheVariants.{Device, Write}
 use Rattle.serving.specs.Restart.{IsClosedPart}

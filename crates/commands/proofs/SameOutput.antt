@@ -8,7 +8,8 @@ use Rattle.meaning.specs.Output.{serial_output, state_after_lines}
 use Rattle.meaning.specs.State.{State}
 use Rattle.serving.specs.Restart.{IsClosedPart}
 use Rattle.commands.specs.Promise.{HoldsState, IsWritten}
-use Rattle.commands.specs.Restarts.{CrashedRun, HaveAgreed, IsRunOn, Returned}
+use Rattle.commands.specs.Restarts.{HaveAgreed}
+use Rattle.commands.specs.CrashedRun.{CrashedRun, IsRunOn, Returned}
 use Rattle.commands.specs.declared.faults.Fault.{Fault}
 use Rattle.commands.proofs.DurableLinearizability.{has_all, leaves_none, run_on}
 

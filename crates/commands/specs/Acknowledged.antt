@@ -3,7 +3,7 @@ use Rattle.std.specs.Prelude.{ℕ, List, Option}
 use Rattle.affinity.specs.declared.geometry.Geometry.{Geometry}
 use Rattle.disk.specs.Device.{Medium}
 use Rattle.meaning.specs.State.{State}
-use Rattle.serving.specs.History.{HoldsSent}
+use Rattle.serving.specs.HoldsSent.{HoldsSent}
 use Rattle.commands.specs.ServedDevice.{RecoveredTo}
 
 -- The device recovered to the state `start`, and the bytes hold what was written since. 0 is the first ticket after an opening.

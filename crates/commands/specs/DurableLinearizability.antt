@@ -6,7 +6,7 @@ use Rattle.meaning.specs.Output.{joined, output_lines}
 use Rattle.meaning.specs.State.{State}
 use Rattle.serving.specs.Restart.{IsClosedPart}
 use Rattle.commands.specs.Promise.{IsWritten, OpensUnlessFailed}
-use Rattle.commands.specs.Restarts.{promised_end, CrashedRun}
+use Rattle.commands.specs.CrashedRun.{promised_end, CrashedRun}
 
 -- a line, and the answer to it, with its newline
 pub record Operation : Type 0 where

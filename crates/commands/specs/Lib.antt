@@ -8,6 +8,7 @@ pub mod Promise
 pub mod UntilCrash
 pub mod InFile
 pub mod Kill
+pub mod CrashedRun
 pub mod Restarts
 pub mod DurableLinearizability
 pub mod Services

@@ -11,7 +11,7 @@ use Rattle.disk.specs.CrashImages.{IsCrashImage}
 use Rattle.disk.specs.Device.{Medium, moment_number}
 use Rattle.checkpoint.specs.Opening.{IsLeftByRefusal, OpeningCrashImages}
 use Rattle.histories.specs.Incarnations.{Ran}
-use Rattle.scheduler.specs.Incarnations.{IsRunIncarnation}
+use Rattle.scheduler.specs.DeviceIncarnations.{IsRunIncarnation}
 use Rattle.scheduler.specs.Machine.{machine_of}
 use Rattle.scheduler.specs.DeviceEvents.{DeviceEvent, IsFailStop, device_after, events_of}
 use Rattle.protocol.specs.Lines.{lines}

@@ -5,10 +5,10 @@ use Rattle.std.proofs.lemmas.List.{append-nil}
 use Rattle.affinity.specs.declared.geometry.Geometry.{Geometry}
 use Rattle.image.specs.Pieces.{piece_count}
 use Rattle.histories.specs.CoreState.{entries, IsIdle}
-use Rattle.histories.specs.MachineState.{MachineState, full_hands}
+use Rattle.histories.specs.MachineState.{MachineState, full_hands, HandsHold}
 use Rattle.histories.specs.Events.{Event}
 use Rattle.histories.specs.IsSoundCoreState.{IsSoundCoreState}
-use Rattle.histories.specs.Progress.{CanAnswerAll, CanDrain, CanStep, EachLeavesLess, HandsHold, IsBusy, work_left}
+use Rattle.histories.specs.Progress.{CanAnswerAll, CanDrain, CanStep, EachLeavesLess, IsBusy, work_left}
 use Rattle.histories.specs.Runs.{IsLegal, answered_messages, arrived, end_state, logged_messages}
 use Rattle.histories.proofs.Failures.{works_on}
 use Rattle.histories.proofs.Hands.{event_holds, event_many, last_holds, last_many, start_holds}

@@ -14,10 +14,10 @@ use Rattle.histories.specs.declared.outcomes.Step.{Step}
 use Rattle.histories.specs.declared.outcomes.Step.TheVariants as steps
 use Rattle.histories.specs.CoreState.{Entry, Replied, CoreState}
 use Rattle.histories.specs.Eligible.{next_eligible, pick}
-use Rattle.histories.specs.MachineState.{Hand, MachineState, Empty, Job, Result, in_core}
+use Rattle.histories.specs.MachineState.{Hand, MachineState, Empty, Job, Result, in_core, HandsHold, has_ticket}
 use Rattle.histories.specs.Events.{answer, apply_step, back_from, find_in_flight, give_back, grant, grant_to, log, pieces_after, result_in, run_hand, unless_refused}
 use Rattle.histories.specs.IsSoundCoreState.{IsSoundCoreState}
-use Rattle.histories.specs.Progress.{CanAnswer, CanDispatch, CanEndCheckpoint, CanGoOn, CanLog, CanMakeRoom, CanReturn, CanStep, HandsHold, IsBusy, IsOnline, MayGoOn, NeedsCheckpoint, has_ticket, points_left, steps_at, steps_to_come, work_left}
+use Rattle.histories.specs.Progress.{CanAnswer, CanDispatch, CanEndCheckpoint, CanGoOn, CanLog, CanMakeRoom, CanReturn, CanStep, IsBusy, IsOnline, MayGoOn, NeedsCheckpoint, points_left, steps_at, steps_to_come, work_left}
 use Rattle.histories.specs.Runs.{arrives}
 use Rattle.histories.specs.declared.outcomes.PointRefusal.{PointRefusal}
 use Rattle.histories.proofs.Hands.{hand_free, hand_with}

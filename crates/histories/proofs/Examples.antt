@@ -21,13 +21,13 @@ use Rattle.histories.specs.declared.outcomes.ArriveRefusal.TheVariants as arriva
 use Rattle.histories.specs.declared.outcomes.CoreFault.TheVariants as faults
 use Rattle.histories.specs.declared.outcomes.PointRefusal.TheVariants as points
 use Rattle.histories.specs.CoreState.{Entry, CoreState}
-use Rattle.histories.specs.MachineState.{MachineState, Empty, Job, Result, full_hands}
+use Rattle.histories.specs.MachineState.{MachineState, Empty, Job, Result, full_hands, HandsHold}
 use Rattle.histories.specs.Events.{Event, IsAllowed, apply_step, fail_step, recorded, touches_device}
 use Rattle.histories.specs.Runs.{IsLegal, appended_messages, end_state, answered_changes}
 use Rattle.histories.specs.Crash.{IsLeftSince, IsLogAfter, in_doubt}
 use Rattle.histories.specs.Failures.{DoubtIsPrefixOfRan}
 use Rattle.histories.specs.IsSerialHistory.{IsSerialHistory}
-use Rattle.histories.specs.Progress.{CanGoOn, CanReturn, CanLog, CanAnswer, CanDispatch, CanMakeRoom, CanEndCheckpoint, EachLeavesLess, HandsHold, kept_back_by, steps_in, steps_to_come, useful_events, work_left}
+use Rattle.histories.specs.Progress.{CanGoOn, CanReturn, CanLog, CanAnswer, CanDispatch, CanMakeRoom, CanEndCheckpoint, EachLeavesLess, kept_back_by, steps_in, steps_to_come, useful_events, work_left}
 use Rattle.histories.specs.Incarnations.{Unopened, Ran, IsLeftByIncarnations}
 use Rattle.histories.proofs.Elements.{contains_in, holds_of, in_contained}
 

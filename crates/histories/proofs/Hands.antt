@@ -6,9 +6,8 @@ use Rattle.std.proofs.lemmas.List.{length-set}
 use Rattle.std.proofs.lemmas.List.Sums.{sum_by-cons, sum_by_push}
 use Rattle.affinity.specs.declared.geometry.Geometry.{Geometry}
 use Rattle.histories.specs.CoreState.{Entry}
-use Rattle.histories.specs.MachineState.{Hand, MachineState, Empty, Job, Result, is_empty, full_hands}
+use Rattle.histories.specs.MachineState.{Hand, MachineState, Empty, Job, Result, is_empty, full_hands, HandsHold, has_ticket}
 use Rattle.histories.specs.Events.{Event, IsAllowed}
-use Rattle.histories.specs.Progress.{HandsHold, has_ticket}
 use Rattle.histories.specs.Runs.{IsLegal, end_state}
 use Rattle.histories.proofs.FullHands.{few_hands, hands-set}
 use Rattle.histories.proofs.Lists.{picked, sum_by-picked}

@@ -6,10 +6,10 @@ use Rattle.std.proofs.lemmas.List.{length-append, take-append-drop}
 use Rattle.std.proofs.lemmas.List.Sums.{sum_by-cons}
 use Rattle.affinity.specs.declared.geometry.Geometry.{Geometry}
 use Rattle.meaning.specs.Step.{reply_to}
-use Rattle.histories.specs.MachineState.{MachineState, Empty, Job, Result, full_hands}
+use Rattle.histories.specs.MachineState.{MachineState, Empty, Job, Result, full_hands, has_job}
 use Rattle.histories.specs.Events.{Event, IsAllowed}
 use Rattle.histories.specs.CoreState.{IsIdle}
-use Rattle.histories.specs.Progress.{has_job, steps_at, steps_in, steps_to_come, useful_events}
+use Rattle.histories.specs.Progress.{steps_at, steps_in, steps_to_come, useful_events}
 use Rattle.histories.specs.Runs.{IsLegal, arrived, arrives, end_state}
 use Rattle.histories.proofs.Idle.{none_in_flight, none_logged, none_ran}
 use Rattle.histories.proofs.FullHands.{few_hands, hands-set}

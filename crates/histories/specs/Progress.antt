@@ -1,5 +1,5 @@
 -- Statement for engineers: What can be done next, and how much is left to do.
-use Rattle.std.specs.Prelude.{◌≡◌, ℕ, zero, suc, ◌+◌, ◌*◌, ◌<◌, ◌≤◌, Bool, true, false, ◌&&◌, ◌==◌, cond, nat_lt, List, [], ◌∷◌, ◌++◌, length, count_by, sum_by, Option, Some, None, is_some, IsPermutation}
+use Rattle.std.specs.Prelude.{◌≡◌, ℕ, zero, suc, ◌+◌, ◌*◌, ◌<◌, ◌≤◌, true, false, ◌&&◌, cond, nat_lt, List, [], ◌∷◌, ◌++◌, length, count_by, sum_by, Option, Some, None, is_some, IsPermutation}
 use Rattle.std.specs.Option.{option_map_or}
 use Rattle.std.specs.List.{AllByRecursion}
 use Rattle.affinity.specs.declared.geometry.Geometry.{Geometry}
@@ -9,7 +9,7 @@ use Rattle.histories.specs.declared.outcomes.Step.TheVariants as steps
 use Rattle.histories.specs.CoreState.{CoreState, Entry, are_related_entries, entries, held, IsIdle}
 use Rattle.histories.specs.Eligible.{next_eligible}
 use Rattle.histories.specs.Events.{Event, IsAllowed, cut, flip_refusal, grant_refusal, piece_refusal, point, point_refusal}
-use Rattle.histories.specs.MachineState.{Hand, Job, Result, MachineState}
+use Rattle.histories.specs.MachineState.{MachineState, has_job}
 use Rattle.histories.specs.Runs.{IsLegal, answered_messages, arrived, arrives, end_state}
 
 -- ---- what can be done next
@@ -54,10 +54,6 @@ kept_back_by g w e = count_by (are_related_entries g e) (held w) + count_by (λ 
 
 -- ---- how much is left to do
 
-abbrev pub has_job : Hand → Bool
-has_job (Job ticket) = true
-has_job _ = false
-
 -- How many steps are to come until all messages are answered. A message takes five: it is dispatched, runs, is given back, is logged and is
 -- answered.
 abbrev pub steps_to_come : MachineState → ℕ
@@ -82,15 +78,6 @@ abbrev pub useful_events : List Event → ℕ
 useful_events events = count_by (λ event. nat_lt 0 (steps_at event.outcome)) events
 
 -- ---- that all is answered in the end
-
-abbrev pub has_ticket : ℕ → Hand → Bool
-has_ticket ticket (Job t) = t == ticket
-has_ticket ticket (Result t) = t == ticket
-has_ticket ticket _ = false
-
--- The hands have the jobs and results of the messages in flight: each ticket is in as many hands as there are messages in flight with it.
-abbrev pub HandsHold : MachineState → Type 0
-HandsHold w = (ticket : ℕ) → count_by (has_ticket ticket) w.hands ≡ count_by (λ e. e.0 == ticket) w.core.in_flight
 
 -- how many steps are left of a checkpoint in progress with so many pieces left: these, and its end
 abbrev pub points_left : Option ℕ → ℕ

@@ -16,14 +16,14 @@ ghost use Rattle.meaning.specs.Subtrees.{AgreeOn};
 ghost use Rattle.histories.specs.CoreState.{Entry, Replied, CoreState, entries, entry, held, are_related_entries, AreUnrelated, AreAscending, HaveDistinctTickets, IsIdle};
 ghost use Rattle.histories.specs.Eligible.{is_conflict_free};
 ghost use Rattle.histories.specs.Events.{Event, IsAllowed, batch, recorded};
-ghost use Rattle.histories.specs.MachineState.{MachineState, full_hands};
+ghost use Rattle.histories.specs.MachineState.{MachineState, full_hands, HandsHold};
 ghost use Rattle.histories.specs.Runs.{IsLegal, answered, answered_changes, answered_messages, arrived, appended_messages, end_state, logged_messages, IsJoined};
 ghost use Rattle.histories.specs.Crash.{IsLeftSince, IsLogAfter, in_doubt};
 ghost use Rattle.histories.specs.Incarnations.{AreLogsOf, AllHoldAnswered, IsLeftByIncarnations, IsLogOf, Incarnation, Ran};
 ghost use Rattle.histories.specs.Failures.{DoubtOnlyAfterFailure, DoubtIsPrefixOfRan, StaysFailed, reports_failure};
 ghost use Rattle.histories.specs.IsSoundCoreState.{HasRoom, IsSoundCoreState};
 ghost use Rattle.histories.specs.Events.{IsAnswered};
-ghost use Rattle.histories.specs.Progress.{CanAnswerAll, CanDrain, CanGoOn, CanStep, EachLeavesLess, HandsHold, IsBusy, kept_back_by, steps_in, steps_to_come, useful_events, work_left};
+ghost use Rattle.histories.specs.Progress.{CanAnswerAll, CanDrain, CanGoOn, CanStep, EachLeavesLess, IsBusy, kept_back_by, steps_in, steps_to_come, useful_events, work_left};
 ghost use Rattle.histories.specs.IsSerialHistory.{IsSerialHistory, ticket_replies};
 ghost use Rattle.histories.specs.Events.{dispatches_or_returns};
 

@@ -1,19 +1,23 @@
--- Pieces that are taken in one after the other decode to the same state as all at once.
-use Rattle.std.proofs.Common.{◌≡◌, ◌≢◌, ℕ, zero, suc, ◌+◌, ◌<◌, ◌≤◌, Bool, true, false, ◌&&◌, List, replicate, Option, None, refl, sym, ◌∙◌, ap, arith, true≢false}
+-- Pieces that are taken in one after the other decode to the same state as all at once, and zeros in the place of a piece to nothing.
+use Rattle.std.proofs.Common.{◌≡◌, ◌≢◌, ℕ, zero, suc, ◌+◌, ◌*◌, ◌-◌, ◌<◌, ◌≤◌, Bool, true, false, ◌&&◌, List, [], ◌++◌, replicate, Option, None, refl, sym, ◌∙◌, ap, arith, true≢false}
 use Rattle.std.specs.Prelude.{◌==◌, nat_lt, if◌then◌else◌}
-use Rattle.std.proofs.lemmas.Bool.{and_from, lt-ltb, eqb-true, eq-eqb}
+use Rattle.std.proofs.lemmas.Bool.{and_from, and_right, lt-ltb, eqb-true, eq-eqb}
 use Rattle.stripe.proofs.EntryBytes.{none_there}
-use Rattle.meaning.proofs.SubtreeLaws.{same_if}
+use Rattle.meaning.proofs.AgreeOn.{same_if}
 use Rattle.affinity.specs.Geometry.{stripe_of}
 use Rattle.affinity.specs.declared.geometry.Geometry.{Geometry}
 use Rattle.affinity.proofs.PlaceLemmas.{group_below}
-use Rattle.meaning.specs.State.{VolumeKey, BlockKey, empty, is_volume, is_block_of}
-use Rattle.stripe.specs.Stripe.{content_at}
-use Rattle.image.specs.Pieces.{pieces_of_volume, piece_count, piece_size, aggregate_of, volume_of, part_of, volume_piece_number, stripe_piece_number, has_volume, is_made_in, is_sealed_in, has_file_in, label_in, block_in, decoded_by, with_piece, with_part}
+use Rattle.device_map.specs.declared.layout.TheConstants.{BLOCK_ENTRY_SIZE, VOLUME_PIECE_SIZE}
+use Rattle.protocol.specs.declared.messages.Block.{Block}
+use Rattle.meaning.specs.State.{State, VolumeKey, BlockKey, empty, is_volume, is_block_of}
+use Rattle.stripe.specs.Entries.{stripe_bytes}
+use Rattle.stripe.specs.Stripe.{BlockEntry, content_at}
+use Rattle.image.specs.Pieces.{pieces_of_volume, piece_count, piece_size, piece_part_size, piece_of, part_piece, aggregate_of, volume_of, part_of, volume_piece_number, stripe_piece_number, has_volume, volume_piece, stripe_entries, entry_if, joined_below, is_made_in, is_sealed_in, has_file_in, label_in, block_in, decoded_by, with_piece, with_part}
 use Rattle.image.specs.Image.{piece_in, decoded_before}
 use Rattle.image.proofs.PieceNumbers.{part_there, size_there, aggregate_there, volume_there, number_there, in_aggregates}
 use Rattle.meaning.proofs.FileNumber.{bits_there}
 use Rattle.image.proofs.DecodedBy.{is_volume_there}
+use Rattle.image.proofs.SamePieces.{entries_same, no_entry_of_none}
 
 -- the first n pieces, and zeros in the place of the others
 abbrev pub first_of : Geometry → (ℕ → List ℕ) → ℕ → ℕ → List ℕ
@@ -62,6 +66,50 @@ none_before version g pieces = λ i. record {
 
     no_file : (f : ℕ) → has_file_in (replicate 64 0) f ≡ false
     no_file f = bits_there 0 (λ f. false) (λ f e. absurd (true≢false (sym e))) f
+
+-- ---- the pieces of a state that zeros decode to
+
+pub if_none : (p : Bool) (o : Option Block) → o ≡ None → (if p then o else None) ≡ None
+if_none true o off = off
+if_none false o off = refl
+
+nothing_joined : (n : ℕ) (h : ℕ → List BlockEntry) → ((i : ℕ) → h i ≡ []) → joined_below n h ≡ []
+nothing_joined zero h none = refl
+nothing_joined (suc n) h none = λ i. nothing_joined n h none i ++ none n i
+
+-- the piece of a volume that isn't made
+unmade : (version : ℕ) (g : Geometry) (x : State) (a v : ℕ) → x.made (a, v) ≡ false → volume_piece version g x a v ≡ replicate VOLUME_PIECE_SIZE 0
+unmade version g x a v off = rw off refl
+
+module _ (version : ℕ) (g : Geometry) (pieces : ℕ → List ℕ) (n i : ℕ) (behind : n ≤ i) where
+  pub zero_piece : piece_of version g (decoded_by version g (first_of g pieces n)) i ≡ replicate (piece_size g i) 0
+  zero_piece = by (part_of g i) refl
+    where
+      by : (p : ℕ) → part_of g i ≡ p → part_piece version g (decoded_by version g (first_of g pieces n)) (aggregate_of g i)
+          (volume_of g i) p ≡ replicate (piece_part_size g p) 0
+      -- a volume whose piece is zeros isn't made
+      by zero part =
+          let a : ℕ = aggregate_of g i in
+          let v : ℕ = volume_of g i in
+          let number = number_there g i in
+          let zeros = zeros_of_volume g pieces n a v (omega (arith, number, part, behind)) in
+          unmade version g (decoded_by version g (first_of g pieces n)) a v
+          (and_right (has_volume g (a, v)) (is_made_in (first_of g pieces n (volume_piece_number g a v))) (ap is_made_in zeros))
+      -- a stripe whose piece is zeros has no block, so its entries are those of the empty state: none
+      by (suc s) part =
+          let a : ℕ = aggregate_of g i in
+          let v : ℕ = volume_of g i in
+          let number = number_there g i in
+          let x : State = decoded_by version g (first_of g pieces n) in
+          let none : (f b : ℕ) → stripe_of g f b ≡ s → x.blocks (a, v, f, b) ≡ None =
+          λ f b on. if_none (has_volume g (a, v)) _
+          (no_block_in_zeros g pieces n (stripe_piece_number g a v (stripe_of g f b)) f b (omega (arith, number, part, on, behind))) in
+          let as_empty : stripe_entries g x a v s ≡ stripe_entries g empty a v s =
+          entries_same g x empty a v s (λ f b on. ap (entry_if (x.files (a, v, f)) f b) (none f b on) ∙ no_entry_of_none (x.files (a, v, f)) f b) in
+          let nothing : stripe_entries g empty a v s ≡ [] =
+          nothing_joined g.files (λ f. joined_below g.blocks (λ b. [])) (λ f. nothing_joined g.blocks (λ b. []) (λ b. refl)) in
+          let size : g.quota * BLOCK_ENTRY_SIZE - 0 ≡ g.quota * BLOCK_ENTRY_SIZE = omega arith in
+          ap (stripe_bytes g.quota) (as_empty ∙ nothing) ∙ ap (λ (k : ℕ). replicate k 0) size
 
 -- ---- one more piece
 

@@ -7,7 +7,7 @@ use Rattle.std.proofs.lemmas.Bool.{cases_lt, and_parts, and_from}
 use Rattle.std.proofs.lemmas.List.{length-replicate}
 use Rattle.std.proofs.lemmas.Slice.Eq.{bytes_eq-Decides}
 use Rattle.meaning.proofs.IsState.{zeros_are_bytes}
-use Rattle.meaning.proofs.SubtreeLaws.{same_and, same_if}
+use Rattle.meaning.proofs.AgreeOn.{same_and, same_if}
 use Rattle.affinity.specs.Geometry.{stripe_of}
 use Rattle.affinity.specs.declared.geometry.Geometry.{Geometry}
 use Rattle.affinity.proofs.PlaceLemmas.{group_below}
@@ -17,12 +17,12 @@ use Rattle.protocol.specs.Messages.{AreSizedBytes}
 use Rattle.meaning.specs.State.{State, VolumeKey, IsState}
 use Rattle.image.specs.Pieces.{pieces_of_volume, piece_count, piece_at, piece_size, piece_of, aggregate_of, volume_of, part_of, volume_piece_number, has_volume, is_made_in, is_sealed_in, has_file_in, label_in, block_in, decoded_by, stripe_piece_number}
 use Rattle.image.specs.Image.{image_head, image_of, image_state, is_image, is_version, has_head, version_in, piece_in, decoded_state, decoded_before, is_good, AreGood}
-use Rattle.image.proofs.SamePieces.{piece_same, zero_piece, if_none}
+use Rattle.image.proofs.SamePieces.{piece_same}
+use Rattle.image.proofs.DecodedBefore.{zero_piece, if_none, first_of, first_there, first_behind, no_block_in_zeros, taken}
 use Rattle.image.proofs.PieceIn.{piece_again}
 use Rattle.image.proofs.JoinedPieces.{by_pieces, sum_grows}
 use Rattle.image.proofs.PieceNumbers.{number_there}
 use Rattle.image.proofs.DecodedBy.{is_volume_there, is_measured, is_state}
-use Rattle.image.proofs.DecodedBefore.{first_of, first_there, first_behind, no_block_in_zeros, taken}
 
 -- ---- the bytes of pieces
 

@@ -1,18 +1,15 @@
 -- What a piece of a state is made of: states that agree there have the same piece.
-use Rattle.std.proofs.Common.{◌≡◌, ℕ, zero, suc, ◌+◌, ◌*◌, ◌-◌, ◌≤◌, Bool, true, false, ◌&&◌, List, [], ◌++◌, replicate, Option, None, refl, sym, ◌∙◌, ap, arith}
+use Rattle.std.proofs.Common.{◌≡◌, ℕ, zero, suc, ◌+◌, Bool, true, false, ◌&&◌, List, [], Option, None, refl, sym, ◌∙◌, ap}
 use Rattle.std.specs.Prelude.{◌==◌, if◌then◌else◌}
-use Rattle.std.proofs.lemmas.Bool.{eqb-true, and_right}
+use Rattle.std.proofs.lemmas.Bool.{eqb-true}
 use Rattle.std.proofs.Math.Bool.{and-true}
 use Rattle.affinity.specs.Geometry.{stripe_of}
 use Rattle.affinity.specs.declared.geometry.Geometry.{Geometry}
-use Rattle.device_map.specs.declared.layout.TheConstants.{BLOCK_ENTRY_SIZE, VOLUME_PIECE_SIZE}
 use Rattle.protocol.specs.declared.messages.Block.{Block}
-use Rattle.meaning.specs.State.{State, empty}
+use Rattle.meaning.specs.State.{State}
 use Rattle.stripe.specs.Entries.{stripe_bytes}
-use Rattle.stripe.specs.Stripe.{BlockEntry}
-use Rattle.image.specs.Pieces.{piece_size, piece_part_size, piece_of, part_piece, aggregate_of, volume_of, part_of, volume_piece_number, stripe_piece_number, has_volume, volume_piece, stripe_piece, stripe_entries, entry_if, joined_below, has_file_in, is_made_in, block_in, decoded_by}
+use Rattle.image.specs.Pieces.{piece_of, part_piece, aggregate_of, volume_of, part_of, volume_piece_number, stripe_piece_number, has_volume, volume_piece, stripe_piece, stripe_entries, entry_if, joined_below, has_file_in, block_in, decoded_by}
 use Rattle.image.proofs.PieceNumbers.{number_there}
-use Rattle.image.proofs.DecodedBefore.{first_of, zeros_of_volume, no_block_in_zeros}
 
 no_entry_if : (p : Bool) (f b : ℕ) (o : Option Block) → entry_if (p && false) f b o ≡ []
 no_entry_if true f b o = refl
@@ -21,10 +18,6 @@ no_entry_if false f b o = refl
 pub no_entry_of_none : (p : Bool) (f b : ℕ) → entry_if p f b None ≡ []
 no_entry_of_none true f b = refl
 no_entry_of_none false f b = refl
-
-pub if_none : (p : Bool) (o : Option Block) → o ≡ None → (if p then o else None) ≡ None
-if_none true o off = off
-if_none false o off = refl
 
 -- the entries of a stripe, by what there is of each block that lies in it
 pub entries_same : (g : Geometry) (x y : State) (a v s : ℕ) → ((f b : ℕ) → stripe_of g f b ≡ s → entry_if (x.files (a, v, f)) f b (x.blocks (a, v, f, b))
@@ -69,43 +62,3 @@ module _ (version : ℕ) (g : Geometry) (ps qs : ℕ → List ℕ) where
           let number : stripe_piece_number g (aggregate_of g n) (volume_of g n) s ≡ n =
           sym (ap (λ (p : ℕ). volume_piece_number g (aggregate_of g n) (volume_of g n) + p) part) ∙ number_there g n in
           stripe_same (aggregate_of g n) (volume_of g n) s first (ap ps number ∙ here ∙ sym (ap qs number))
-
--- ---- pieces that decode to nothing
-
-nothing_joined : (n : ℕ) (h : ℕ → List BlockEntry) → ((i : ℕ) → h i ≡ []) → joined_below n h ≡ []
-nothing_joined zero h none = refl
-nothing_joined (suc n) h none = λ i. nothing_joined n h none i ++ none n i
-
--- the piece of a volume that isn't made
-unmade : (version : ℕ) (g : Geometry) (x : State) (a v : ℕ) → x.made (a, v) ≡ false → volume_piece version g x a v ≡ replicate VOLUME_PIECE_SIZE 0
-unmade version g x a v off = rw off refl
-
-module _ (version : ℕ) (g : Geometry) (pieces : ℕ → List ℕ) (n i : ℕ) (behind : n ≤ i) where
-  pub zero_piece : piece_of version g (decoded_by version g (first_of g pieces n)) i ≡ replicate (piece_size g i) 0
-  zero_piece = by (part_of g i) refl
-    where
-      by : (p : ℕ) → part_of g i ≡ p → part_piece version g (decoded_by version g (first_of g pieces n)) (aggregate_of g i)
-          (volume_of g i) p ≡ replicate (piece_part_size g p) 0
-      -- a volume whose piece is zeros isn't made
-      by zero part =
-          let a : ℕ = aggregate_of g i in
-          let v : ℕ = volume_of g i in
-          let number = number_there g i in
-          let zeros = zeros_of_volume g pieces n a v (omega (arith, number, part, behind)) in
-          unmade version g (decoded_by version g (first_of g pieces n)) a v
-          (and_right (has_volume g (a, v)) (is_made_in (first_of g pieces n (volume_piece_number g a v))) (ap is_made_in zeros))
-      -- a stripe whose piece is zeros has no block, so its entries are those of the empty state: none
-      by (suc s) part =
-          let a : ℕ = aggregate_of g i in
-          let v : ℕ = volume_of g i in
-          let number = number_there g i in
-          let x : State = decoded_by version g (first_of g pieces n) in
-          let none : (f b : ℕ) → stripe_of g f b ≡ s → x.blocks (a, v, f, b) ≡ None =
-          λ f b on. if_none (has_volume g (a, v)) _
-          (no_block_in_zeros g pieces n (stripe_piece_number g a v (stripe_of g f b)) f b (omega (arith, number, part, on, behind))) in
-          let as_empty : stripe_entries g x a v s ≡ stripe_entries g empty a v s =
-          entries_same g x empty a v s (λ f b on. ap (entry_if (x.files (a, v, f)) f b) (none f b on) ∙ no_entry_of_none (x.files (a, v, f)) f b) in
-          let nothing : stripe_entries g empty a v s ≡ [] =
-          nothing_joined g.files (λ f. joined_below g.blocks (λ b. [])) (λ f. nothing_joined g.blocks (λ b. []) (λ b. refl)) in
-          let size : g.quota * BLOCK_ENTRY_SIZE - 0 ≡ g.quota * BLOCK_ENTRY_SIZE = omega arith in
-          ap (stripe_bytes g.quota) (as_empty ∙ nothing) ∙ ap (λ (k : ℕ). replicate k 0) size

@@ -1,12 +1,13 @@
 -- States that agree at some paths.
-use Rattle.std.proofs.Common.{◌≡◌, Bool, true, ◌∷◌, refl, sym, ◌∙◌, ⊎_elim}
-use Rattle.std.specs.Prelude.{◌||◌}
-use Rattle.std.proofs.lemmas.Bool.{or_cases}
+use Rattle.std.proofs.Common.{◌≡◌, ℕ, Bool, true, false, ◌∷◌, Option, refl, ap, sym, ◌∙◌, ⊎_elim}
+use Rattle.std.specs.Prelude.{◌&&◌, ◌||◌, if◌then◌else◌, None}
+use Rattle.std.proofs.lemmas.Bool.{or_cases, true≢false}
 use Rattle.affinity.specs.declared.geometry.Geometry.{Geometry}
-use Rattle.affinity.specs.Path.{Path}
+use Rattle.affinity.specs.Geometry.{stripe_of}
+use Rattle.affinity.specs.Path.{Path, volume, logical, stripe, label}
 use Rattle.meaning.specs.State.{State}
-use Rattle.meaning.specs.Facts.{OfMade, OfSealed, OfLabel, OfFile, OfBlock, path_in_volume}
-use Rattle.meaning.specs.Subtrees.{AgreeOn}
+use Rattle.meaning.specs.Facts.{Fact, OfMade, OfSealed, OfLabel, OfFile, OfBlock, path_in_volume, value}
+use Rattle.meaning.specs.Subtrees.{AgreeOn, restricted}
 
 module _ {g : Geometry} {R : Path → Bool} where
   pub agree-refl : (x : State) → AgreeOn g R x x
@@ -35,3 +36,41 @@ module _ {g : Geometry} {R : Path → Bool} where
 -- at the paths of either test
 pub agree_either : {g : Geometry} {R S : Path → Bool} {x y : State} → AgreeOn g R x y → AgreeOn g S x y → AgreeOn g (λ q. R q || S q) x y
 agree_either {g} {R} {S} h j = record { same = λ a v fact r. ⊎_elim (h.same a v fact) (j.same a v fact) (or_cases (R (a ∷ v ∷ path_in_volume g fact)) (S (a ∷ v ∷ path_in_volume g fact)) r) }
+
+-- ---- a part as a value: two states have the same part exactly where they agree on it
+
+pub same_and : (t b c : Bool) → (t ≡ true → b ≡ c) → (t && b) ≡ (t && c)
+same_and true b c h = h refl
+same_and false b c h = refl
+
+and_same : (t b c : Bool) → t ≡ true → (t && b) ≡ (t && c) → b ≡ c
+and_same true b c r h = h
+and_same false b c r h = absurd (true≢false (sym r))
+
+pub same_if : {X : Type 0} (t : Bool) (o p : Option X) → (t ≡ true → o ≡ p) → (if t then o else None) ≡ (if t then p else None)
+same_if true o p h = h refl
+same_if false o p h = refl
+
+if_same : {X : Type 0} (t : Bool) (o p : Option X) → t ≡ true → (if t then o else None) ≡ (if t then p else None) → o ≡ p
+if_same true o p r h = h
+if_same false o p r h = absurd (true≢false (sym r))
+
+module _ (g : Geometry) (R : Path → Bool) where
+  pub part_from_agree : (x y : State) → AgreeOn g R x y → restricted g R x ≡ restricted g R y
+  part_from_agree x y h i = record {
+    made = λ k. same_and (R (volume k.0 k.1)) _ _ (h.same k.0 k.1 OfMade) i;
+    sealed = λ k. same_and (R (volume k.0 k.1)) _ _ (h.same k.0 k.1 OfSealed) i;
+    files = λ k. same_and (R (logical k.0 k.1)) _ _ (h.same k.0 k.1 (OfFile k.2)) i;
+    blocks = λ k. same_if (R (stripe k.0 k.1 (stripe_of g k.2 k.3))) _ _ (h.same k.0 k.1 (OfBlock k.2 k.3)) i;
+    labels = λ k. same_if (R (label k.0 k.1)) _ _ (h.same k.0 k.1 OfLabel) i;
+  }
+
+  pub agree_from_part : (x y : State) → restricted g R x ≡ restricted g R y → AgreeOn g R x y
+  agree_from_part x y e = record { same = by }
+    where
+      by : (a v : ℕ) (fact : Fact) → R (a ∷ v ∷ path_in_volume g fact) ≡ true → value x a v fact ≡ value y a v fact
+      by a v OfMade r = and_same (R (volume a v)) _ _ r (ap (λ z. z.made (a, v)) e)
+      by a v OfSealed r = and_same (R (volume a v)) _ _ r (ap (λ z. z.sealed (a, v)) e)
+      by a v OfLabel r = if_same (R (label a v)) _ _ r (ap (λ z. z.labels (a, v)) e)
+      by a v (OfFile f) r = and_same (R (logical a v)) _ _ r (ap (λ z. z.files (a, v, f)) e)
+      by a v (OfBlock f b) r = if_same (R (stripe a v (stripe_of g f b))) _ _ r (ap (λ z. z.blocks (a, v, f, b)) e)

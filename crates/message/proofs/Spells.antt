@@ -1,9 +1,9 @@
 -- The two definitions agree: the message that the words of a line make (`message_of`), and the lines that spell a message (`Spells`).
-use Rattle.std.proofs.Common.{◌≡◌, ℕ, ◌<◌, ◌≤◌, Bool, true, List, [], ◌∷◌, ◌++◌, map, length, Option, Some, None, refl, ap, sym, subst, ◌∙◌, inl, inr}
-use Rattle.std.specs.Prelude.{◌&&◌, not, ◌==◌, nat_lt, ◌↔◌}
+use Rattle.std.proofs.Common.{◌≡◌, ℕ, ◌<◌, ◌≤◌, List, [], ◌∷◌, ◌++◌, map, length, Option, Some, None, refl, ap, sym, subst, ◌∙◌, inl, inr}
+use Rattle.std.specs.Prelude.{nat_lt, ◌↔◌}
 use Rattle.std.specs.List.{AllByRecursion, join_with_byte}
 use Rattle.std.specs.Fmt.{decimal}
-use Rattle.std.proofs.lemmas.Bool.{and_parts, not-true, cases_lt, lt-ltb, le-ltb, cond-true, cond-false}
+use Rattle.std.proofs.lemmas.Bool.{cases_lt, lt-ltb, le-ltb, cond-true, cond-false}
 use Rattle.std.proofs.lemmas.List.{append-nil}
 use Rattle.std.proofs.lemmas.Option.{same_Some}
 use Rattle.affinity.specs.declared.kinds.Kind.{Kind}
@@ -15,7 +15,7 @@ use Rattle.protocol.specs.declared.messages.Msg.TheVariants.{Create, Delete, Wri
 use Rattle.protocol.specs.Words.{words, number_in_word, block_in_word, label_in_word}
 use Rattle.protocol.specs.Messages.{kind, numbers}
 use Rattle.protocol.specs.Grammar.{message_of, of_words, of_kind, of_volume, of_file, of_block, of_data, of_label, kind_named, keyword, IsData, SpellsBytes, Spells, ◌>>=◌}
-use Rattle.message.proofs.Words.{HasNoSpace, join-words, words-join}
+use Rattle.message.proofs.Words.{HasNoSpace, has_no_space, join-words, no_space_from_test, words-join}
 use Rattle.message.proofs.Numbers.{decimal-number, number-decimal, number_no_space}
 use Rattle.message.proofs.Blocks.{block_no_space, label_no_space}
 use Rattle.message.proofs.SpellsBytes.{block_says, says_block, label_says, says_label}
@@ -185,17 +185,6 @@ pub read_is_spelled : (line : List ℕ) (m : Msg) → message_of line ≡ Some m
 read_is_spelled line m h = let s = short_line line m h in words_spell line (words line) m s.0 refl s.1
 
 -- ---- from the message to its words
-
-has_no_space : List ℕ → Bool
-has_no_space [] = true
-has_no_space (b ∷ bs) = not (b == 32) && has_no_space bs
-
-no_space_from_test : (w : List ℕ) → has_no_space w ≡ true → HasNoSpace w
-unfolding has_no_space
-no_space_from_test [] h = tt
-no_space_from_test (b ∷ w) h =
-    let p = and_parts (not (b == 32)) (has_no_space w) h in
-    (not-true (b == 32) p.0, no_space_from_test w p.1)
 
 keyword_no_space : (k : Kind) → HasNoSpace (keyword k)
 unfolding has_no_space

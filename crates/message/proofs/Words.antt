@@ -1,9 +1,9 @@
 -- A line and its words.
 use Rattle.std.proofs.lemmas.Grind.{common_steps}
-use Rattle.std.proofs.Common.{◌≡◌, ℕ, zero, suc, ◌+◌, ◌-◌, ◌<◌, ◌≤◌, true, false, eqb, List, [], ◌∷◌, ◌++◌, length, Option, Some, None, length-drop, get_or, take, drop, refl, ap, sym, ◌∙◌, arith}
-use Rattle.std.proofs.lemmas.Bool.{ne_eqb}
+use Rattle.std.proofs.Common.{◌≡◌, ℕ, zero, suc, ◌+◌, ◌-◌, ◌<◌, ◌≤◌, Bool, true, false, eqb, List, [], ◌∷◌, ◌++◌, length, Option, Some, None, length-drop, get_or, take, drop, refl, ap, sym, ◌∙◌, arith}
+use Rattle.std.proofs.lemmas.Bool.{and_parts, ne_eqb, not-true}
 use Rattle.std.proofs.lemmas.List.{take_all, drop_more, take-append-drop}
-use Rattle.std.specs.Prelude.{if◌then◌else◌, ◌==◌}
+use Rattle.std.specs.Prelude.{◌&&◌, not, if◌then◌else◌, ◌==◌}
 use Rattle.std.specs.List.{AllByRecursion, join_with_byte, slice_split}
 use Rattle.std.proofs.lemmas.List.Splits.{join_with_byte-slice_split}
 use Rattle.protocol.specs.Words.{words}
@@ -12,6 +12,17 @@ use Rattle.protocol.specs.Lines.{in_first}
 -- no byte of the word is a space
 abbrev pub HasNoSpace : List ℕ → Type 0
 HasNoSpace word = AllByRecursion (λ b. (b == 32) ≡ false) word
+
+unfoldable pub has_no_space : List ℕ → Bool
+has_no_space [] = true
+has_no_space (b ∷ bs) = not (b == 32) && has_no_space bs
+
+pub no_space_from_test : (w : List ℕ) → has_no_space w ≡ true → HasNoSpace w
+unfolding has_no_space
+no_space_from_test [] h = tt
+no_space_from_test (b ∷ w) h =
+    let p = and_parts (not (b == 32)) (has_no_space w) h in
+    (not-true (b == 32) p.0, no_space_from_test w p.1)
 
 words-slice_split : (bs : List ℕ) → words bs ≡ slice_split (λ b. eqb b 32) bs
 words-slice_split [] = refl

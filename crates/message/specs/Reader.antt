@@ -1,9 +1,9 @@
 -- Statement for engineers: What a reader of lines holds, and what it finds in the bytes that are not yet read.
-use Rattle.std.specs.Prelude.{ℕ, ◌<◌, ◌⊎◌, ◌&&◌, Bool, true, false, List, [], ◌∷◌, length, slice_range, Option, Result, Ok, Err, IsTrue, IfSome, Contains}
+use Rattle.std.specs.Prelude.{◌≡◌, ℕ, ◌<◌, ◌⊎◌, ◌&&◌, Bool, true, false, List, [], ◌∷◌, length, slice_range, Option, Some, Result, Ok, Err, IsTrue, IfSome, Contains}
 use Rattle.std.specs.Option.{option_map}
 use Rattle.std.specs.Io.KnownBytes.{prepend_known, IsAtEnd}
 use Rattle.protocol.specs.declared.sizes.TheConstants.{LONGEST_LINE}
-use Rattle.protocol.specs.FirstLine.{first_line, GivesLine, PassesLine, IsAtEndOf, LosesLineStart, HasWholeFirstLine}
+use Rattle.protocol.specs.FirstLine.{first_line, GivesLine, PassesLine, LosesLineStart, HasWholeFirstLine}
 use Rattle.message.specs.declared.line_reader.Found.{Found}
 use Rattle.message.specs.declared.line_reader.Found.TheVariants.{Line, TooLong, End}
 use Rattle.message.specs.declared.line_reader.ReadFault.{ReadFault}
@@ -59,6 +59,11 @@ abbrev pub KnowsEnd : {R : Type 0} → (R → Option (List ℕ)) → LineReader 
 KnowsEnd remaining r = IsTrue (has_ended r) → IsAtEnd (remaining (source r))
 
 -- ---- what is found, where the bytes are known
+
+-- The end was found: there are no bytes, and none are left.
+pub record IsAtEndOf (bs : List ℕ) (left : Option (List ℕ)) : Type 0 where
+  pub none : bs ≡ []
+  pub left_is : left ≡ Some []
 
 -- What each answer means for the bytes that were unread before, for the line, and for the bytes that are unread now.
 abbrev pub Finds : Result Found ReadFault → Option (List ℕ) → List ℕ → Option (List ℕ) → Type 0

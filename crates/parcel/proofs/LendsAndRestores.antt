@@ -1,10 +1,11 @@
 -- What was taken out of the tree was lent, and what was put back was restored.
 use Rattle.std.proofs.Common.{◌≡◌, zero, suc, true, List, [], ◌∷◌, ◌++◌, refl, sym, ap, subst, ◌∙◌, ⊎_elim}
-use Rattle.std.specs.Prelude.{◌==◌, Option, None, Some, is_some, slice_index_or, Result, Ok, Err, MatchResult, IfNone}
-use Rattle.std.proofs.lemmas.Bool.{and_parts, cond-true, eq-eqb, eqb-true, or_cases, true≢false}
+use Rattle.std.specs.Prelude.{Option, None, Some, is_some, slice_index_or, Result, Ok, Err, MatchResult, IfNone}
+use Rattle.std.proofs.lemmas.Bool.{cond-true, eq-eqb, or_cases}
 use Rattle.std.proofs.lemmas.List.{append-nil}
 use Rattle.affinity.specs.declared.geometry.Geometry.{Geometry}
 use Rattle.affinity.specs.Path.{Path, is_prefix, IsPath}
+use Rattle.affinity.proofs.Paths.{begins_split}
 use Rattle.parcel.specs.Fits.{Fits, IsKindOf}
 use Rattle.parcel.specs.Nodes.{Node, Nodes, child_nodes, children_nodes, leaf, stripe_nodes, label_nodes, logical_nodes, volume_nodes, aggregate_nodes, root_nodes, parcels_nodes, put_at, PutsBack}
 use Rattle.parcel.specs.TakesAndPuts.{TakesParcels, Puts}
@@ -25,15 +26,6 @@ kind_of g (a ∷ v ∷ zero ∷ []) (parcels.Logical l) h = tt
 kind_of g (a ∷ v ∷ zero ∷ s ∷ []) (parcels.Stripe p) h = tt
 kind_of g (a ∷ v ∷ suc zero ∷ []) (parcels.Label l) h = tt
 kind_of g p l h = absurd h
-
--- what begins with a path is that path and the rest
-pub begins_split : (p q : Path) → is_prefix p q ≡ true → (r : Path) × (q ≡ p ++ r)
-begins_split [] q h = (q, refl)
-begins_split (x ∷ p) [] h = absurd (true≢false (sym h))
-begins_split (x ∷ p) (y ∷ q) h =
-    let both = and_parts (x == y) (is_prefix p q) h in
-    let rest = begins_split p q both.1 in
-    (rest.0, sym (ap (λ z. z ∷ q) (eqb-true x y both.0)) ∙ ap (λ r. x ∷ r) rest.1)
 
 -- ---- the nodes above one that is in are in
 

@@ -27,7 +27,8 @@ use Rattle.parcel.specs.declared.parts.Root.{Root}
 use Rattle.parcel.specs.declared.parts.Vol.{Vol}
 use Rattle.parcel.specs.declared.parts.Parcels.TheVariants as parcels
 use Rattle.parcel.proofs.TreeState.{put_leaves, put_outside}
-use Rattle.parcel.proofs.LendsAndRestores.{begins_split, put_there, restored_is_in}
+use Rattle.parcel.proofs.LendsAndRestores.{put_there, restored_is_in}
+use Rattle.affinity.proofs.Paths.{begins_split}
 use Rattle.parcel.proofs.ReadPieces.{has_volume, state_there}
 use Rattle.parcel.proofs.StripePieces.{stripe_is_piece, stripe_state}
 use Rattle.parcel.proofs.Slots.{volume_slot}

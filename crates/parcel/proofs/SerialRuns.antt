@@ -9,10 +9,10 @@ use Rattle.meaning.specs.State.{State, IsState}
 use Rattle.meaning.specs.Step.{next_state}
 use Rattle.meaning.specs.Subtrees.{AgreeOn, subtree, standing}
 use Rattle.meaning.specs.Commute.{outside}
-use Rattle.meaning.proofs.AgreeOn.{agree-sym, agree-trans, agree_within}
+use Rattle.meaning.proofs.AgreeOn.{agree-sym, agree-trans, agree_within, part_from_agree}
 use Rattle.meaning.proofs.Commute.{reads_only, changes_only}
 use Rattle.meaning.proofs.IsState.{step_kept}
-use Rattle.meaning.proofs.SubtreeLaws.{agree_in_and_out, part_from_agree}
+use Rattle.meaning.proofs.SubtreeLaws.{agree_in_and_out}
 use Rattle.parcel.specs.Nodes.{Nodes, parcels_nodes, tree_state}
 use Rattle.parcel.specs.JobRun.{JobView, IsJobRun, IsSerialStep, IsSerialStepOf}
 use Rattle.parcel.specs.LentJob.{IsLentOf, LendsRunsRestores}
@@ -22,7 +22,8 @@ use Rattle.parcel.specs.declared.job.Done.{Done}
 use Rattle.parcel.specs.declared.parts.Parcels.{Parcels}
 use Rattle.parcel.specs.declared.parts.Standing.{Standing}
 use Rattle.parcel.proofs.TreeState.{taken_leaves, put_leaves, put_outside}
-use Rattle.parcel.proofs.LendsAndRestores.{begins_split, restored_is_in}
+use Rattle.parcel.proofs.LendsAndRestores.{restored_is_in}
+use Rattle.affinity.proofs.Paths.{begins_split}
 
 pub serial_run : (job : JobView) (done : Done) (x : State) → IsJobRun job done → IsLentOf job x → IsSerialStepOf job done x
 serial_run job done x run lent =

@@ -1,10 +1,11 @@
 -- What is taken out of a slot of the tree is taken out of the tree, and what is put into a slot is put back.
-use Rattle.std.proofs.Common.{◌≡◌, ℕ, ◌<◌, true, [], ◌∷◌, ◌++◌, length, Option, refl, sym, ap, subst, ◌∙◌, ⊎_elim, arith}
+use Rattle.std.proofs.Common.{◌≡◌, ℕ, ◌<◌, [], ◌∷◌, ◌++◌, length, Option, refl, sym, ap, subst, ◌∙◌, ⊎_elim, arith}
 use Rattle.std.specs.Prelude.{None, Some, is_some, slice_index_or, IfSome, IsSomeAnd, MatchOption, Result, Ok, Err, IsErrAnd, MatchResult}
 use Rattle.std.specs.Vec.{with_item}
-use Rattle.std.proofs.lemmas.Bool.{and_from, eq-eqb, or_left, true≢false}
+use Rattle.std.proofs.lemmas.Bool.{or_left, true≢false}
 use Rattle.std.proofs.lemmas.List.{append-nil}
-use Rattle.affinity.specs.Path.{Path, is_prefix, aggregate, volume, logical, stripe, label, IsPath}
+use Rattle.affinity.specs.Path.{Path, aggregate, volume, logical, stripe, label, IsPath}
+use Rattle.affinity.proofs.Paths.{begins}
 use Rattle.affinity.specs.declared.geometry.Geometry.{Geometry}
 use Rattle.stripe.specs.Stripe.{StripePart}
 use Rattle.parcel.specs.Fits.{Fits, FitsStripe, FitsLogical, FitsVolume, FitsAggregate, FitsRoot, IsKindOf}
@@ -93,10 +94,6 @@ module _ (g : Geometry) (tree : Option Root) (fits : IfSome tree (FitsRoot g)) w
           )
 
 -- ---- what is done to a slot is done to the tree
-
-begins : (p q : Path) → is_prefix p (p ++ q) ≡ true
-begins [] q = refl
-begins (x ∷ p) q = and_from _ _ (eq-eqb x x refl) (begins p q)
 
 out_here : (p : Path) (n : Nodes) → IsOut p n → n p ≡ None
 out_here [] n out = out

@@ -4,7 +4,7 @@ use Rattle.std.specs.Prelude.{◌||◌, not, Option, None, Some, is_some}
 use Rattle.std.proofs.lemmas.Bool.{cond-false, cond-true, false_from_ne_true, not_from_false, not-true, or_cases, or_left, or_parts, or_right, true≢false}
 use Rattle.affinity.specs.declared.geometry.Geometry.{Geometry}
 use Rattle.affinity.specs.Path.{Path, is_prefix, are_related, IsPath}
-use Rattle.affinity.proofs.Paths.{unrelated_below, unrelated_turned}
+use Rattle.affinity.proofs.Paths.{unrelated_below, unrelated_turned, begins_split}
 use Rattle.affinity.proofs.PlaceLemmas.{IsPath-path_of_kind}
 use Rattle.protocol.specs.declared.messages.Msg.{Msg}
 use Rattle.protocol.specs.Messages.{path_of, is_in_range, kind, four_numbers, IsMessage}
@@ -26,7 +26,7 @@ use Rattle.parcel.specs.declared.job.Done.{Done}
 use Rattle.parcel.specs.declared.parts.Parcels.{Parcels}
 use Rattle.parcel.specs.declared.parts.Standing.{Standing}
 use Rattle.parcel.proofs.TreeState.{taken_leaves, put_leaves, put_outside}
-use Rattle.parcel.proofs.LendsAndRestores.{begins_split, kind_of, restored_is_in}
+use Rattle.parcel.proofs.LendsAndRestores.{kind_of, restored_is_in}
 use Rattle.parcel.proofs.SerialRuns.{serial_run}
 
 -- ---- the path above

@@ -15,8 +15,7 @@ use Rattle.meaning.specs.State.{State}
 use Rattle.parcel.specs.Fits.{FitsAggregate, FitsVolume}
 use Rattle.parcel.specs.Shown.{aggregate_facts, child_facts, volume_facts}
 use Rattle.parcel.specs.VolumeStep.{guard, guard_open}
-use Rattle.parcel.specs.Totals.{with_made}
-use Rattle.parcel.specs.Volume.{VolumeFacts, no_facts, facts_if, state_with}
+use Rattle.parcel.specs.Volume.{with_made, VolumeFacts, no_facts, facts_if, state_with}
 use Rattle.parcel.specs.declared.parts.Aggr.{Aggr}
 use Rattle.parcel.specs.declared.parts.Vol.{Vol}
 use Rattle.parcel.proofs.ChildRows.{fits_in_place}

@@ -1,10 +1,9 @@
--- Inner: How much volumes hold, and what a volume has that was just made.
-use Rattle.std.specs.Prelude.{ℕ, true, length, Option, Some, is_some}
+-- Inner: How much volumes hold.
+use Rattle.std.specs.Prelude.{ℕ, length, Option, is_some}
 use Rattle.std.specs.Option.{option_map_or}
 use Rattle.affinity.specs.declared.geometry.Geometry.{Geometry}
 use Rattle.protocol.specs.declared.messages.Block.{Block}
 use Rattle.meaning.specs.State.{sum_below, count_below, one_if}
-use Rattle.meaning.specs.Step.{no_label}
 use Rattle.stripe.specs.Stripe.{StripePart}
 use Rattle.parcel.specs.Volume.{VolumeFacts}
 use Rattle.parcel.specs.declared.running.totals.Totals.{Totals}
@@ -28,7 +27,3 @@ sum_totals n each = record {
   files = sum_below n (λ i. (each i).files);
   blocks = sum_below n (λ i. (each i).blocks);
 }
-
--- the facts of a volume once it is made: it gets a label of zeros
-abbrev pub with_made : VolumeFacts → VolumeFacts
-with_made h = record h { made = true; label = Some no_label }

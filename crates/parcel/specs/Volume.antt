@@ -1,7 +1,8 @@
 -- Statement for engineers: The facts of a volume (what can be asked of it), and the state that has given facts for each volume.
-use Rattle.std.specs.Prelude.{ℕ, Bool, true, false, ◌&&◌, ◌==◌, List, Option, None, ◌≡◌}
+use Rattle.std.specs.Prelude.{ℕ, Bool, true, false, ◌&&◌, ◌==◌, List, Option, Some, None, ◌≡◌}
 use Rattle.protocol.specs.declared.messages.Block.{Block}
 use Rattle.meaning.specs.State.{State}
+use Rattle.meaning.specs.Step.{no_label}
 use Rattle.meaning.specs.Facts.{Fact, OfMade, OfSealed, OfLabel, OfFile, OfBlock, Value, value}
 
 -- what one volume has
@@ -23,6 +24,10 @@ fact_of h (OfBlock f b) = h.blocks f b
 -- the facts of a volume that isn't made, or that is out
 abbrev pub no_facts : VolumeFacts
 no_facts = record { made = false; sealed = false; files = λ f. false; blocks = λ f b. None; label = None }
+
+-- the facts of a volume once it is made: it gets a label of zeros
+abbrev pub with_made : VolumeFacts → VolumeFacts
+with_made h = record h { made = true; label = Some no_label }
 
 -- these facts where the test holds, else nothing
 abbrev pub facts_if : Bool → VolumeFacts → VolumeFacts

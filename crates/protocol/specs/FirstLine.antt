@@ -29,11 +29,6 @@ pub record PassesLine (bs : List ℕ) (left : Option (List ℕ)) : Type 0 where
   pub long : LONGEST_LINE < length (first_line bs)
   pub left_is : left ≡ Some (behind_first_line bs)
 
--- The end was found: there are no bytes, and none are left.
-pub record IsAtEndOf (bs : List ℕ) (left : Option (List ℕ)) : Type 0 where
-  pub none : bs ≡ []
-  pub left_is : left ≡ Some []
-
 -- A read failed: some bytes at the front were lost, none of them a newline, and the others are left.
 pub record LosesLineStart (bs : List ℕ) (left : Option (List ℕ)) : Type 0 where
   pub got : List ℕ

@@ -11,7 +11,9 @@ use Rattle.scheduler.proofs.UnloggedChanges.{AreClaimed, HasHeld}
 use Rattle.scheduler.proofs.HeldAny.{any_answered}
 use Rattle.scheduler.proofs.Lists.{any_filter}
 use Rattle.scheduler.proofs.AffinityNumbers.{other_numbers, other_replied}
-use Rattle.scheduler.specs.Parts.{IsCore, Parts, core_state_in}
+use Rattle.scheduler.specs.Parts.{Parts}
+use Rattle.scheduler.specs.View.{core_state_in}
+use Rattle.scheduler.specs.IsCore.{IsCore}
 use Rattle.scheduler.specs.Slots.{SlotView, IsPlaced, entry_of, replied_of}
 use Rattle.run_queue.specs.RunQueue.{has_number, without_number}
 

@@ -6,7 +6,9 @@ use Rattle.histories.proofs.IsSoundCoreState.{arrive_sound}
 use Rattle.histories.specs.IsSoundCoreState.{IsSoundCoreState}
 use Rattle.histories.specs.CoreState.{held}
 use Rattle.scheduler.proofs.UnloggedChanges.{AreClaimed, messages_counted}
-use Rattle.scheduler.specs.Parts.{IsCore, Parts, core_state_in}
+use Rattle.scheduler.specs.Parts.{Parts}
+use Rattle.scheduler.specs.View.{core_state_in}
+use Rattle.scheduler.specs.IsCore.{IsCore}
 use Rattle.scheduler.specs.Slots.{SlotView, IsPlaced, entry_of, queued_of}
 
 abbrev pub with_arrival : Parts → SlotView → ℕ → Parts

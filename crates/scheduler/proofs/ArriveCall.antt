@@ -18,8 +18,9 @@ use Rattle.scheduler.proofs.Lists.{any_map}
 use Rattle.scheduler.proofs.UnloggedChanges.{messages_counted}
 use Rattle.scheduler.proofs.Chains.{JoinedSlot, slot_joined}
 use Rattle.scheduler.specs.declared.server_core.Core.TheInside.{Inside}
-use Rattle.scheduler.specs.View.{IsSoundCore, parts}
-use Rattle.scheduler.specs.Parts.{IsCore, Parts, core_state_in}
+use Rattle.scheduler.specs.View.{parts, core_state_in}
+use Rattle.scheduler.specs.IsCore.{IsSoundCore, IsCore}
+use Rattle.scheduler.specs.Parts.{Parts}
 use Rattle.scheduler.specs.Slots.{SlotView, slots_on, IsPlaced, entry_of, queued_of}
 use Rattle.scheduler.specs.declared.core_memory.Slot.{Slot}
 use Rattle.scheduler.specs.declared.core_memory.TheConstants.{WAITING, IN_FLIGHT, RAN, LOGGED}

@@ -26,9 +26,10 @@ use Rattle.scheduler.proofs.IsCallEvent.{cut_called, point_called}
 use Rattle.scheduler.proofs.UnloggedChanges.{held_count}
 use Rattle.scheduler.proofs.JournalKeepsCore.{called_sound, step_core, step_throughout, with_journal}
 use Rattle.scheduler.specs.CoreView.{CoreView, RecoversThroughout, core_state_of}
-use Rattle.scheduler.specs.View.{IsSoundCore, parts}
+use Rattle.scheduler.specs.View.{parts, core_view_of, core_state_in}
+use Rattle.scheduler.specs.IsCore.{IsSoundCore, IsCore, is_below, reached}
 use Rattle.scheduler.specs.declared.server_core.Core.TheInside.{Inside}
-use Rattle.scheduler.specs.Parts.{IsCore, Parts, is_below, core_view_of, reached, core_state_in}
+use Rattle.scheduler.specs.Parts.{Parts}
 use Rattle.scheduler.specs.Slots.{entry_of}
 
 -- ---- where a checkpoint may begin: no message is held, no other one is in progress, the device works

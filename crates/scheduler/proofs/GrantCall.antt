@@ -35,8 +35,9 @@ use Rattle.scheduler.proofs.Splits.{MapSplit, map_split, count_of-split}
 use Rattle.scheduler.proofs.Trees.{grant_lends, grant_shows}
 use Rattle.scheduler.specs.Calls.{IsGrantOf}
 use Rattle.scheduler.specs.declared.server_core.Core.TheInside.{Inside}
-use Rattle.scheduler.specs.View.{IsSoundCore, parts}
-use Rattle.scheduler.specs.Parts.{IsCore, Parts, core_state_in}
+use Rattle.scheduler.specs.View.{parts, core_state_in}
+use Rattle.scheduler.specs.IsCore.{IsSoundCore, IsCore}
+use Rattle.scheduler.specs.Parts.{Parts}
 use Rattle.scheduler.specs.Slots.{SlotView, no_slot, slot_view_at, IsPlaced, entry_of, queued_of}
 use Rattle.scheduler.specs.declared.core_memory.Slot.{Slot}
 use Rattle.scheduler.specs.declared.core_memory.TheConstants.{WAITING, IN_FLIGHT, RAN, LOGGED}

@@ -20,7 +20,9 @@ use Rattle.parcel.specs.declared.parts.Standing.{Standing}
 use Rattle.scheduler.proofs.UnloggedChanges.{AreClaimed, HasHeld, changing, changing-append, changing-cons, unlogged_of, one_for}
 use Rattle.scheduler.proofs.HeldAny.{any_granted}
 use Rattle.scheduler.proofs.Trees.{grant_tree}
-use Rattle.scheduler.specs.Parts.{IsCore, Parts, is_below, reached, core_state_in}
+use Rattle.scheduler.specs.Parts.{Parts}
+use Rattle.scheduler.specs.View.{core_state_in}
+use Rattle.scheduler.specs.IsCore.{IsCore, is_below, reached}
 use Rattle.scheduler.specs.Slots.{SlotView, IsPlaced, entry_of, queued_of}
 use Rattle.run_queue.specs.RunQueue.{HasJoined, has_slot, without_slot}
 use Rattle.run_queue.specs.declared.queued_message.QueuedMessage.{QueuedMessage}

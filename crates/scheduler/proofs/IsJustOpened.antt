@@ -12,8 +12,9 @@ use Rattle.parcel.specs.TreeHolds.{TreeHolds, nowhere}
 use Rattle.parcel.specs.Nodes.{tree_state}
 use Rattle.parcel.specs.Tree.{IsIn, IsWholeTree, tree_nodes, state_in}
 use Rattle.meaning.specs.State.{IsState}
-use Rattle.scheduler.specs.View.{IsSoundCore}
-use Rattle.scheduler.specs.Parts.{IsCore, Parts, is_below, core_state_in}
+use Rattle.scheduler.specs.View.{core_state_in}
+use Rattle.scheduler.specs.IsCore.{IsSoundCore, IsCore, is_below}
+use Rattle.scheduler.specs.Parts.{Parts}
 use Rattle.scheduler.specs.declared.server_core.Core.TheInside.{Inside}
 use Rattle.scheduler.specs.Slots.{phases_of, slots_on}
 use Rattle.scheduler.specs.declared.core_memory.Slot.{Slot}

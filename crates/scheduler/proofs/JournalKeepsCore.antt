@@ -19,7 +19,9 @@ use Rattle.meaning.specs.Step.{state_after_all}
 use Rattle.meaning.specs.State.{State}
 use Rattle.scheduler.specs.Calls.{IsCallEvent}
 use Rattle.scheduler.specs.CoreView.{CoreView, RecoversNow, RecoversThroughout}
-use Rattle.scheduler.specs.Parts.{IsCore, Parts, core_view_of, core_state_in}
+use Rattle.scheduler.specs.Parts.{Parts}
+use Rattle.scheduler.specs.View.{core_view_of, core_state_in}
+use Rattle.scheduler.specs.IsCore.{IsCore}
 
 -- bytes that recover to a state recover to it with none of these messages
 pub with_none : (g : Geometry) (x : State) (ms : List Msg) (c : List ℕ) → recovered_state g c ≡ Some x → RecoversWithPrefix g x ms c

@@ -35,5 +35,5 @@ pub mod Lists
 mod RecordedIn
 mod LogCall
 mod IsJustOpened
-mod Incarnations
+mod DeviceIncarnations
 mod IsEndOfRun

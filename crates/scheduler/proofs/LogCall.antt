@@ -30,8 +30,9 @@ use Rattle.scheduler.proofs.LogKeepsCore.{batch_at, batch_carried, batch_fits, b
 use Rattle.scheduler.specs.CoreView.{core_state_of, CoreView, RecoversThroughout}
 use Rattle.scheduler.specs.HasLogged.{HasLogged, changing_in, recorded_in}
 use Rattle.scheduler.specs.declared.server_core.Core.TheInside.{Inside}
-use Rattle.scheduler.specs.View.{IsSoundCore, parts}
-use Rattle.scheduler.specs.Parts.{IsCore, Parts, core_view_of, core_state_in}
+use Rattle.scheduler.specs.View.{parts, core_view_of, core_state_in}
+use Rattle.scheduler.specs.IsCore.{IsSoundCore, IsCore}
+use Rattle.scheduler.specs.Parts.{Parts}
 use Rattle.scheduler.specs.Slots.{SlotView, slots_on, no_slot, slot_view_at, replied_of}
 use Rattle.scheduler.specs.declared.core_memory.Slot.{Slot}
 use Rattle.scheduler.specs.declared.core_memory.TheConstants.{WAITING, IN_FLIGHT, RAN, LOGGED, CHAINS}

@@ -36,7 +36,9 @@ use Rattle.scheduler.proofs.JournalKeepsCore.{with_none}
 use Rattle.scheduler.proofs.HeldAny.{any_logged}
 use Rattle.scheduler.proofs.Trees.{log_reaches}
 use Rattle.scheduler.specs.CoreView.{CoreView, RecoversNow, RecoversThroughout}
-use Rattle.scheduler.specs.Parts.{IsCore, Parts, is_below, core_view_of, reached, core_state_in}
+use Rattle.scheduler.specs.Parts.{Parts}
+use Rattle.scheduler.specs.View.{core_view_of, core_state_in}
+use Rattle.scheduler.specs.IsCore.{IsCore, is_below, reached}
 use Rattle.scheduler.specs.Slots.{SlotView, IsPlaced, entry_of, replied_of}
 
 -- ---- from what ran to what the journal asks for

@@ -15,7 +15,9 @@ use Rattle.histories.specs.CoreState.{Entry, CoreState, entries, entry, are_rela
 use Rattle.histories.specs.declared.outcomes.Outcome.TheVariants as outcomes
 use Rattle.protocol.specs.Messages.{path_of}
 use Rattle.scheduler.specs.Calls.{IsGranted}
-use Rattle.scheduler.specs.Parts.{IsCore, Parts, core_state_in}
+use Rattle.scheduler.specs.Parts.{Parts}
+use Rattle.scheduler.specs.View.{core_state_in}
+use Rattle.scheduler.specs.IsCore.{IsCore}
 use Rattle.scheduler.specs.Slots.{Phases, SlotView, ArePlaced, IsPlaced, entry_of, held_any, replied_of, queued_of}
 use Rattle.scheduler.specs.declared.granted.Granted.{Granted}
 use Rattle.scheduler.specs.declared.granted.Granted.TheVariants as granted

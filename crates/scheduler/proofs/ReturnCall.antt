@@ -36,8 +36,9 @@ use Rattle.scheduler.proofs.Trees.{apart_earlier, apart_others, back_is_out}
 use Rattle.affinity.proofs.Elements.{all_weaker, any_moved}
 use Rattle.scheduler.specs.Jobs.{IsResultOf}
 use Rattle.scheduler.specs.declared.server_core.Core.TheInside.{Inside}
-use Rattle.scheduler.specs.View.{IsSoundCore, parts}
-use Rattle.scheduler.specs.Parts.{IsCore, Parts, core_state_in}
+use Rattle.scheduler.specs.View.{parts, core_state_in}
+use Rattle.scheduler.specs.IsCore.{IsSoundCore, IsCore}
+use Rattle.scheduler.specs.Parts.{Parts}
 use Rattle.scheduler.specs.Slots.{SlotView, slots_on, slot_view_at, IsPlaced, entry_of, queued_of}
 use Rattle.scheduler.specs.declared.core_memory.Slot.{Slot}
 use Rattle.scheduler.specs.declared.core_memory.TheConstants.{WAITING, IN_FLIGHT, RAN, LOGGED}

@@ -24,7 +24,9 @@ use Rattle.scheduler.proofs.NextEligible.{pick_if}
 use Rattle.scheduler.proofs.UnloggedChanges.{AreClaimed, HasHeld, changing, changing-append, changing-cons, unlogged_of}
 use Rattle.scheduler.proofs.HeldAny.{any_back}
 use Rattle.scheduler.proofs.Trees.{back_reaches, back_tree}
-use Rattle.scheduler.specs.Parts.{IsCore, Parts, is_below, reached, core_state_in}
+use Rattle.scheduler.specs.Parts.{Parts}
+use Rattle.scheduler.specs.View.{core_state_in}
+use Rattle.scheduler.specs.IsCore.{IsCore, is_below, reached}
 use Rattle.scheduler.specs.Slots.{SlotView, IsPlaced, entry_of, replied_of}
 
 -- `find_in_flight` finds the entry with a ticket, if no other entry has that ticket

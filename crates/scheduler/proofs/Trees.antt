@@ -35,7 +35,7 @@ use Rattle.meaning.specs.TicketOrder.{messages_of}
 use Rattle.meaning.specs.Step.{state_after_all, next_state}
 use Rattle.meaning.specs.Subtrees.{AgreeOn}
 use Rattle.meaning.specs.State.{State}
-use Rattle.scheduler.specs.Parts.{is_below, reached}
+use Rattle.scheduler.specs.IsCore.{is_below, reached}
 
 -- a message's place that is unrelated to the places of other messages is unrelated to all nodes at or below these
 pub apart_below : (g : Geometry) (e : Entry) (es : List Entry) → AllByRecursion (λ d. are_related_entries g e d ≡ false) es → IsApart (path_of g e.1) (is_below g es)

@@ -8,7 +8,8 @@ use Rattle.histories.specs.CoreState.{Entry, Replied, held}
 use Rattle.histories.proofs.Held.{length_held}
 use Rattle.run_queue.specs.declared.queued_message.QueuedMessage.{QueuedMessage}
 use Rattle.std.specs.List.{list_any}
-use Rattle.scheduler.specs.Parts.{Parts, core_state_in}
+use Rattle.scheduler.specs.Parts.{Parts}
+use Rattle.scheduler.specs.View.{core_state_in}
 use Rattle.scheduler.specs.Slots.{SlotView, held_any, entry_of, replied_of}
 
 -- how many of the messages in these slots are of a changing kind

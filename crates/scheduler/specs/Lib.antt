@@ -7,6 +7,7 @@ pub mod OpenFaults
 pub mod Slots
 pub mod Parts
 pub mod View
+pub mod IsCore
 pub mod HasLogged
 pub mod History
 pub mod Machine
@@ -14,4 +15,4 @@ pub mod Runs
 pub mod IsMachineStep
 pub mod Hands
 pub mod DeviceEvents
-pub mod Incarnations
+pub mod DeviceIncarnations

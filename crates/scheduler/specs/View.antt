@@ -1,11 +1,33 @@
--- Statement for engineers: The fields of a core as contracts see them, and what it keeps true of them between calls.
-use Rattle.std.specs.Prelude.{◌≡◌, ◌≤◌, length, vec_capacity}
+-- Statement for engineers: What contracts see of a core, made of its parts, and its parts, made of its fields.
+use Rattle.std.specs.Prelude.{length, map}
 use Rattle.arena.specs.ArenaView.{capacity_of}
-use Rattle.scheduler.specs.CoreView.{CoreView}
-use Rattle.scheduler.specs.Parts.{IsCore, Parts, core_view_of}
-use Rattle.scheduler.specs.Slots.{HasChains, phases_of, slots_on}
+use Rattle.histories.specs.CoreState.{CoreState}
+use Rattle.scheduler.specs.CoreView.{CoreView, core_state_of}
+use Rattle.scheduler.specs.Parts.{Parts}
+use Rattle.scheduler.specs.Slots.{entry_of, phases_of, replied_of}
 use Rattle.scheduler.specs.declared.server_core.Core.TheInside.{Inside}
-use Rattle.scheduler.specs.declared.core_memory.TheConstants.{RAN}
+
+-- the core that is made of these parts
+abbrev pub core_view_of : Parts → CoreView
+core_view_of p = record {
+  geometry = p.journal.geometry;
+  waiting = map entry_of p.phases.waiting;
+  in_flight = map entry_of p.phases.in_flight;
+  ran = map replied_of p.phases.ran;
+  logged = map replied_of p.phases.logged;
+  opened = p.opened;
+  since_open = p.since_open;
+  room = p.journal.room;
+  next = p.next;
+  slots = p.capacity;
+  failed = p.journal.failed;
+  doubt = p.batch;
+  pieces_left = p.journal.pieces_left;
+  medium = p.journal.medium;
+}
+
+abbrev pub core_state_in : Parts → CoreState
+core_state_in p = core_state_of (core_view_of p)
 
 module _ {D : Type 0} where
   abbrev pub parts : Inside D → Parts
@@ -25,12 +47,3 @@ module _ {D : Type 0} where
 
   abbrev pub core_view : Inside D → CoreView
   core_view c = core_view_of (parts c)
-
-  -- `keeps`: the device keeps its bytes.
-  pub record IsSoundCore (keeps : Type 0) (c : Inside D) : Type 0 where
-    pub chains : HasChains c.slots
-    pub core : IsCore keeps (parts c)
-    -- a batch may have a record of each slot, and each slot has a place for its reply
-    pub batch : capacity_of c.slots ≤ vec_capacity c.batch
-    pub replies : length c.replies.items ≡ capacity_of c.slots
-    pub ran : c.ran ≡ length (slots_on c.slots c.replies.items RAN)

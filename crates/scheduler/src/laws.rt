@@ -11,7 +11,7 @@ ghost use Rattle.histories.specs.Incarnations.{HoldsAnswered, Ran};
 ghost use Rattle.histories.specs.IsSoundCoreState.{IsSoundCoreState};
 ghost use Rattle.histories.specs.Runs.{IsLegal, end_state};
 ghost use Rattle.scheduler.specs.DeviceEvents.{AgreeWithDevice, DeviceEvent, IsFailStop, RecoversForRun, device_after, events_of};
-ghost use Rattle.scheduler.specs.Incarnations.{DeviceIncarnation, HasIncarnations, HaveGeometry, LeftByLast, RecoversForIncarnations, incarnations_of};
+ghost use Rattle.scheduler.specs.DeviceIncarnations.{DeviceIncarnation, HasIncarnations, HaveGeometry, LeftByLast, RecoversForIncarnations, incarnations_of};
 ghost use Rattle.scheduler.specs.Machine.{MachineView, machine_of};
 ghost use Rattle.scheduler.specs.Runs.{IsEndOfRun};
 ghost use Rattle.meaning.specs.State.{empty};

@@ -78,7 +78,8 @@ impl<D: Disk> Model for Core<D> {
 
     ghost Value = { CoreView };
 
-    ghost use Rattle.scheduler.specs.View.{IsSoundCore, core_view};
+    ghost use Rattle.scheduler.specs.View.{core_view};
+    ghost use Rattle.scheduler.specs.IsCore.{IsSoundCore};
 
     ghost view = { core_view };
 

@@ -24,7 +24,8 @@ use Rattle.meaning.specs.Progress.{AreTaken, TakesLines}
 use Rattle.meaning.specs.Step.{state_after_all}
 use Rattle.meaning.specs.State.{State}
 use Rattle.scheduler.specs.CoreView.{RecoversNow, core_state_of}
-use Rattle.serving.specs.Runs.{AreFirst, HasServed}
+use Rattle.serving.specs.Runs.{AreFirst}
+use Rattle.serving.specs.HasServed.{HasServed}
 use Rattle.serving.specs.Ends.{AreServed, EndsWith, IsQuiesced, committed_in}
 use Rattle.serving.specs.Exchange.{exchange}
 use Rattle.serving.specs.Progress.{ServingProgress, IsServing}

@@ -27,10 +27,12 @@ use Rattle.protocol.specs.declared.replies.Reply.{Reply}
 use Rattle.meaning.specs.Step.{state_after_all}
 use Rattle.meaning.specs.State.{State}
 use Rattle.scheduler.specs.CoreView.{CoreView, core_state_of}
-use Rattle.serving.specs.Runs.{HasRunLines, HasServed}
+use Rattle.serving.specs.Runs.{HasRunLines}
+use Rattle.serving.specs.HasServed.{HasServed}
 use Rattle.serving.specs.Ends.{committed_in}
 use Rattle.serving.specs.Lines.{Completed, AreKnown, IsKnown, Line, NoMessage, OutOfRange, Pending, admitted, admitted_in, has_answer, next_ticket, answer_text, ticketed}
-use Rattle.serving.specs.History.{AreInHistory, HoldsSent, RecoversToHistory, IsInHistory}
+use Rattle.serving.specs.History.{AreInHistory, RecoversToHistory, IsInHistory}
+use Rattle.serving.specs.HoldsSent.{HoldsSent}
 use Rattle.serving.specs.Progress.{IsServing}
 use Rattle.serving.proofs.HaveSerialReplies.{as_many}
 use Rattle.serving.proofs.Tickets.{ticketed-append}

@@ -13,11 +13,12 @@ use Rattle.meaning.specs.Output.{joined}
 use Rattle.message.specs.BufferedOutput.{all_output}
 use Rattle.message.specs.AppendsBeginning.{AppendsBeginning}
 use Rattle.scheduler.specs.CoreView.{CoreView}
-use Rattle.serving.specs.Runs.{HasServed}
+use Rattle.serving.specs.HasServed.{HasServed}
 use Rattle.serving.specs.Ends.{committed_in}
 use Rattle.serving.specs.Kill.{Between, Sending, WasKilled}
 use Rattle.serving.specs.Lines.{admitted_in, has_answer, answer_text, next_ticket}
-use Rattle.serving.specs.History.{AreInHistory, HoldsSent}
+use Rattle.serving.specs.History.{AreInHistory}
+use Rattle.serving.specs.HoldsSent.{HoldsSent}
 use Rattle.serving.specs.MaySend.{MaySendFrom}
 use Rattle.serving.specs.Start.{Start, start_machine}
 use Rattle.serving.specs.Restart.{RecoversWritten}

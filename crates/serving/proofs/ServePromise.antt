@@ -11,7 +11,8 @@ use Rattle.scheduler.specs.CoreView.{CoreView, RecoversNow, core_state_of}
 use Rattle.serving.specs.Progress.{ServingProgress}
 use Rattle.serving.specs.Lines.{Line}
 use Rattle.reorder_buffer.specs.ReorderBuffer.{can_retire}
-use Rattle.serving.specs.Runs.{machine_with_jobs, HasServed}
+use Rattle.serving.specs.Runs.{machine_with_jobs}
+use Rattle.serving.specs.HasServed.{HasServed}
 use Rattle.serving.specs.Restart.{IsMeant, WritesBeginning}
 use Rattle.serving.specs.Serve.{AreUnsent, HasRunWith, failed_at}
 use Rattle.serving.specs.declared.server.ServeFault.{ServeFault}

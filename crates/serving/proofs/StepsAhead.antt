@@ -9,9 +9,9 @@ use Rattle.affinity.specs.declared.geometry.Geometry.{Geometry}
 use Rattle.histories.proofs.Lists.{length-picked}
 use Rattle.histories.specs.CoreState.{CoreState, Entry, Replied}
 use Rattle.histories.specs.Eligible.{is_eligible}
-use Rattle.histories.specs.MachineState.{Hand}
+use Rattle.histories.specs.MachineState.{Hand, has_job}
 use Rattle.histories.specs.Events.{find_in_flight, give_back}
-use Rattle.histories.specs.Progress.{has_job, points_left}
+use Rattle.histories.specs.Progress.{points_left}
 use Rattle.histories.specs.declared.outcomes.CoreFault.{CoreFault}
 use Rattle.scheduler.specs.Hands.{hand_of as hand_in}
 use Rattle.parcel.specs.JobRun.{JobView}

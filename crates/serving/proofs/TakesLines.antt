@@ -12,7 +12,8 @@ use Rattle.scheduler.proofs.MachineSteps.{arrive_step}
 use Rattle.scheduler.specs.Machine.{MachineView}
 use Rattle.scheduler.specs.declared.hands.HandContent.{HandContent}
 use Rattle.protocol.specs.Grammar.{message_of}
-use Rattle.protocol.specs.FirstLine.{GivesLine, IsAtEndOf, HasWholeFirstLine, PassesLine}
+use Rattle.protocol.specs.FirstLine.{GivesLine, HasWholeFirstLine, PassesLine}
+use Rattle.message.specs.Reader.{IsAtEndOf}
 use Rattle.protocol.specs.declared.messages.Msg.{Msg}
 use Rattle.meaning.proofs.TakesLines.{takes_line, takes_long_line}
 use Rattle.scheduler.specs.Calls.{ArrivesByLine, arrive_outcome}

@@ -1,12 +1,9 @@
 -- Statement for operators: What was written for the lines that were consumed, compared with the history (messages with their replies, reads
 -- among them) to whose state a device recovers.
-use Rattle.std.specs.Prelude.{◌≡◌, ◌⊎◌, ◌+◌, ◌≤◌, ℕ, true, false, List, [], ◌∷◌, ◌++◌, length, Option, Some, None}
-use Rattle.std.specs.Io.KnownBytes.{Appends}
+use Rattle.std.specs.Prelude.{◌≡◌, ◌⊎◌, ℕ, true, false, List, [], ◌∷◌, ◌++◌, Option, Some, None}
 use Rattle.std.specs.List.{Contains}
 use Rattle.affinity.specs.declared.geometry.Geometry.{Geometry}
-use Rattle.recovery.specs.Header.{HasHeader}
 use Rattle.recovery.specs.Recovery.{recovered_state}
-use Rattle.recovery.specs.Refusals.{refused}
 use Rattle.histories.specs.Events.{recorded}
 use Rattle.histories.specs.IsSerialHistory.{IsSerialHistory}
 use Rattle.histories.specs.CoreState.{Entry, Replied}
@@ -17,11 +14,9 @@ use Rattle.protocol.specs.declared.messages.Msg.{Msg}
 use Rattle.protocol.specs.declared.replies.Reply.{Reply}
 use Rattle.protocol.specs.declared.replies.Reply.TheVariants.{Refused}
 use Rattle.protocol.specs.declared.replies.Refusal.TheVariants.{Range}
-use Rattle.meaning.specs.Output.{joined}
 use Rattle.meaning.specs.Step.{state_after_all}
 use Rattle.meaning.specs.State.{State}
-use Rattle.serving.specs.Runs.{AreFirst}
-use Rattle.serving.specs.Lines.{admitted, admitted_in, next_ticket, ticketed}
+use Rattle.serving.specs.Lines.{admitted_in, next_ticket}
 
 -- The last argument is the output line for an input line with this message, or with none: that it is no message, that it is out of range,
 -- or the reply that the history has for the message under this ticket.
@@ -44,19 +39,3 @@ pub record RecoversToHistory (g : Geometry) (x : State) (arrivals : List Entry) 
   pub more : List Replied
   pub serial : IsSerialHistory g x arrivals (history ++ more)
   pub recovers : recovered_state g bytes ≡ Some (state_after_all g x (recorded (history ++ more)))
-
--- A device of these bytes holds what was sent since the state `start`: a line for each of the first lines of the input, and no more of the
--- lines that were consumed lack one than there are slots. Each message with a ticket among the lines that were answered is in a history,
--- with the reply that was sent; `next` is the first ticket. The bytes recover to the state to which the changes of that history lead from
--- `start`, perhaps with more of the messages that arrived; and they are not refused.
-pub record HoldsSent (g : Geometry) (start : State) (slots next : ℕ) (input before sent : Option (List ℕ)) (bytes : List ℕ) : Type 0 where
-  pub consumed : List (List ℕ)
-  pub first : AreFirst input consumed
-  pub lines : List (List ℕ)
-  pub output : Appends before sent (joined lines)
-  pub few : length consumed ≤ length lines + slots
-  pub history : List Replied
-  pub kept : AreInHistory g history next consumed lines
-  pub holds : RecoversToHistory g start (ticketed next (admitted g consumed)) history bytes
-  pub header : HasHeader g bytes
-  pub not_refused : refused g bytes ≡ None

@@ -3,6 +3,8 @@ pub mod Lines
 pub mod History
 pub use Rattle.reorder_buffer.specs.ReorderBuffer
 pub mod Runs
+pub mod HasServed
+pub mod HoldsSent
 pub mod Progress
 pub mod DispatchesTo
 pub mod Checkpoints

@@ -7,7 +7,7 @@ use Rattle.protocol.specs.declared.replies.Refusal.TheVariants.{Range}
 use Rattle.protocol.specs.declared.replies.Reply.TheVariants.{Refused}
 use Rattle.meaning.specs.Output.{joined}
 use Rattle.scheduler.specs.CoreView.{CoreView, core_state_of}
-use Rattle.serving.specs.Runs.{HasServed}
+use Rattle.serving.specs.HasServed.{HasServed}
 use Rattle.serving.specs.Lines.{HaveAnswers, Line, answer_text}
 use Rattle.serving.specs.Start.{Start, start_machine}
 

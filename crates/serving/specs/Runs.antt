@@ -1,8 +1,7 @@
 -- Statement for operators: A segment of a server's run: its machine (the core; its hands are the bench's places, with the jobs lent there)
 -- before and after, and what a crash meanwhile may leave.
-use Rattle.std.specs.Prelude.{◌≡◌, ◌+◌, ℕ, List, [], map, length, Option, ◌≤◌, ◌++◌, IfSome}
+use Rattle.std.specs.Prelude.{◌≡◌, ◌+◌, ℕ, List, [], map, length, Option, ◌++◌, IfSome}
 use Rattle.std.specs.Option.{option_map_or}
-use Rattle.std.specs.Io.KnownBytes.{Appends}
 use Rattle.histories.specs.Runs.{answered, arrived}
 use Rattle.histories.specs.CoreState.{Entry, CoreState, held}
 use Rattle.scheduler.specs.Runs.{LeadTo, RecoversFromRun}
@@ -15,8 +14,7 @@ use Rattle.protocol.specs.declared.replies.Reply.{Reply}
 use Rattle.protocol.specs.Lines.{lines}
 use Rattle.parcel.specs.JobRun.{JobView}
 use Rattle.scheduler.specs.CoreView.{CoreView, core_state_of}
-use Rattle.meaning.specs.Output.{joined}
-use Rattle.serving.specs.Lines.{AreKnown, HaveAnswers, Line, admitted, answer_text, ticketed}
+use Rattle.serving.specs.Lines.{admitted, ticketed}
 
 -- ---- the core and the places
 
@@ -70,16 +68,3 @@ pub record HasRunLines (keeps : Type 0) (start : MachineView) (new : CoreView)
       (ticketed start.core.next (admitted start.core.geometry consumed)) reply_pairs
   -- what a crash meanwhile leaves
   pub crash : keeps → RecoversFromRun start (record { core = new; hands = hands }) segment.device_events
-
--- A legal run (`HasRunLines`) led to the output: each answer there is to a line that is no message or is out of range, or to a message that
--- the run answered. `unsent` are the lines that were read and have no answer in the output, never more than the core has slots. `known`:
--- each consumed line is as its `Line` says, with its ticket, and with the reply that the run gave it, if the run gave one.
-pub record HasServed (keeps : Type 0) (start : MachineView) (new : CoreView) (unsent : List Line)
-    (input before written : Option (List ℕ)) : Type 0 where
-  pub consumed : List (List ℕ)
-  pub run : HasRunLines keeps start new input consumed
-  pub sent_lines : List Line
-  pub known : AreKnown start.core.geometry run.reply_pairs start.core.next consumed (sent_lines ++ unsent)
-  pub have_answers : HaveAnswers sent_lines
-  pub output : Appends before written (joined (map answer_text sent_lines))
-  pub few : length unsent ≤ start.core.slots

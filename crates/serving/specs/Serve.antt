@@ -8,7 +8,8 @@ use Rattle.serving.specs.Ends.{EndsWith}
 use Rattle.serving.specs.Exchange.{Exchange}
 use Rattle.serving.specs.Lines.{Line}
 use Rattle.serving.specs.Restart.{DeviceFailed, Failed, IsMeant, NeitherFailed, OutputFailed}
-use Rattle.serving.specs.Runs.{machine_with_jobs, HasServed}
+use Rattle.serving.specs.Runs.{machine_with_jobs}
+use Rattle.serving.specs.HasServed.{HasServed}
 use Rattle.reorder_buffer.specs.ReorderBuffer.{can_retire}
 use Rattle.serving.specs.declared.server.ServeError.{ServeError}
 use Rattle.serving.specs.declared.server.ServeFault.{ServeFault}

@@ -29,13 +29,15 @@ ghost use Rattle.serving.specs.Exchange.{exchange};
 ghost use Rattle.serving.specs.Progress.{ServingProgress};
 ghost use Rattle.serving.specs.Kill.{WasKilled};
 ghost use Rattle.serving.specs.Restart.{BytesRecover, RecoversWritten};
-ghost use Rattle.serving.specs.History.{AreInHistory, HoldsSent, RecoversToHistory};
+ghost use Rattle.serving.specs.History.{AreInHistory, RecoversToHistory};
+ghost use Rattle.serving.specs.HoldsSent.{HoldsSent};
 ghost use Rattle.serving.specs.MaySend.{MaySend, SendsNoReply};
 ghost use Rattle.serving.specs.Start.{Start};
 ghost use Rattle.serving.specs.Lines.{AreKnown, Line, admitted, has_answer, answer_text, ticketed};
 ghost use Rattle.scheduler.specs.Machine.{MachineView, machine_of};
 ghost use Rattle.scheduler.specs.DeviceEvents.{device_after, events_of};
-ghost use Rattle.serving.specs.Runs.{RunsBetween, unanswered, HasRunLines, HasServed};
+ghost use Rattle.serving.specs.Runs.{RunsBetween, unanswered, HasRunLines};
+ghost use Rattle.serving.specs.HasServed.{HasServed};
 ghost use Rattle.serving.specs.declared.server.ServeFault.TheVariants as faults;
 
 use disk::Disk;

@@ -9,8 +9,7 @@ ghost use Rattle.parcel.specs.Whole.{IsWholeAggregate, IsWholeChild, IsWholeLogi
 ghost use Rattle.parcel.specs.JobRun.{IsStepOn};
 ghost use Rattle.parcel.specs.Shown.{blocks_of, child_facts, volume_facts};
 ghost use Rattle.parcel.specs.VolumeStep.{reply_to_change};
-ghost use Rattle.parcel.specs.Totals.{with_made};
-ghost use Rattle.parcel.specs.Volume.{no_facts};
+ghost use Rattle.parcel.specs.Volume.{with_made, no_facts};
 ghost use Rattle.parcel.specs.declared.parts.Parcels.{Parcels};
 ghost use Rattle.parcel.specs.declared.parts.Standing.{Standing};
 

@@ -1,5 +1,5 @@
 -- The lemmas on incarnations.
-use Rattle.scheduler.proofs.Incarnations.{incarnations_agree, incarnations_open, incarnations_recover}
+use Rattle.scheduler.proofs.DeviceIncarnations.{incarnations_agree, incarnations_open, incarnations_recover}
 use Rattle.scheduler.proofs.laws.incarnations_leave_what_was_answered.Goals as goal
 
 pub returns-clause-geometry : goal.returns-clause-geometry

@@ -5,7 +5,7 @@ use Rattle.std.proofs.lemmas.Result.{err_from_is_err_and}
 use Rattle.protocol.specs.declared.messages.Msg.TheVariants.{MakeVol}
 use Rattle.protocol.specs.declared.replies.Refusal.TheVariants.{Exists}
 use Rattle.parcel.specs.VolumeStep.{guard}
-use Rattle.parcel.specs.Totals.{with_made}
+use Rattle.parcel.specs.Volume.{with_made}
 use Rattle.parcel.proofs.OneVolume.{passed, refused}
 use Rattle.parcel.proofs.VolumeRows.{at_aggregate, make_tests, effect_make, it_changes, it_shows, still_fits}
 use Rattle.parcel.proofs.running.at_aggregate.make_volume.Goals as goal

@@ -7,8 +7,8 @@ use Rattle.histories.specs.declared.outcomes.Outcome.TheVariants as outcomes
 use Rattle.protocol.specs.declared.replies.Reply.TheVariants.{Done}
 use Rattle.scheduler.proofs.AnswerCall.{answer_call, answer_call_state, front_low}
 use Rattle.scheduler.specs.CoreView.{CoreView, core_state_of}
-use Rattle.scheduler.specs.View.{IsSoundCore, parts}
-use Rattle.scheduler.specs.Parts.{core_state_in}
+use Rattle.scheduler.specs.View.{parts, core_state_in}
+use Rattle.scheduler.specs.IsCore.{IsSoundCore}
 use Rattle.scheduler.specs.declared.core_memory.TheConstants.{LOGGED}
 use Rattle.scheduler.proofs.server_core.Core.answer.Goals as goal
 

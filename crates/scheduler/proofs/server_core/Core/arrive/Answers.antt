@@ -10,8 +10,8 @@ use Rattle.histories.specs.declared.outcomes.Outcome.TheVariants as outcomes
 use Rattle.scheduler.proofs.ArriveCall.{arrive_call, arrive_later, arrive_new, arrive_slot, arrive_state, full_arena, full_state}
 use Rattle.scheduler.proofs.IsPlaced.{placed_of, range_of}
 use Rattle.scheduler.specs.CoreView.{CoreView, core_state_of}
-use Rattle.scheduler.specs.View.{IsSoundCore, parts}
-use Rattle.scheduler.specs.Parts.{core_state_in}
+use Rattle.scheduler.specs.View.{parts, core_state_in}
+use Rattle.scheduler.specs.IsCore.{IsSoundCore}
 use Rattle.scheduler.specs.declared.core_memory.Slot.{Slot}
 use Rattle.scheduler.specs.declared.core_memory.TheConstants.{WAITING}
 use Rattle.scheduler.proofs.server_core.Core.arrive.Goals as goal

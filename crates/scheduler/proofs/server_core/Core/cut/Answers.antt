@@ -12,8 +12,7 @@ use Rattle.scheduler.proofs.JournalKeepsCore.{stands}
 use Rattle.scheduler.proofs.LogCall.{none_taken}
 use Rattle.scheduler.proofs.CheckpointKeepsCore.{called_core, cut_core, not_refused, point_state, point_whole, point_works, step_moment}
 use Rattle.scheduler.specs.CoreView.{CoreView, core_state_of}
-use Rattle.scheduler.specs.View.{parts}
-use Rattle.scheduler.specs.Parts.{core_state_in}
+use Rattle.scheduler.specs.View.{parts, core_state_in}
 use Rattle.scheduler.proofs.server_core.Core.cut.Goals.{in-Ok, in-Err}
 use Rattle.scheduler.proofs.server_core.Core.cut.Goals as goal
 

@@ -15,8 +15,8 @@ use Rattle.scheduler.proofs.IsPlaced.{placed_of}
 use Rattle.scheduler.proofs.ReturnCall.{back_call, back_fits, back_goes_in, back_is_held, back_low, back_state}
 use Rattle.scheduler.specs.Jobs.{IsResultOf}
 use Rattle.scheduler.specs.CoreView.{CoreView, core_state_of}
-use Rattle.scheduler.specs.View.{IsSoundCore, parts}
-use Rattle.scheduler.specs.Parts.{core_state_in}
+use Rattle.scheduler.specs.View.{parts, core_state_in}
+use Rattle.scheduler.specs.IsCore.{IsSoundCore}
 use Rattle.scheduler.proofs.server_core.Core.give_back.Goals as goal
 
 pub unreachable-requires-in_default-holder : goal.unreachable-requires-in_default-holder

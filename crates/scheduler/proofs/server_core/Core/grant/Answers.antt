@@ -8,8 +8,8 @@ use Rattle.scheduler.proofs.NextEligible.{none_is_granted}
 use Rattle.scheduler.proofs.GrantCall.{grant_affinity, grant_call, grant_call_is, grant_has_room, grant_has_slot, grant_suits}
 use Rattle.scheduler.specs.Calls.{IsGrantOf, IsGranted}
 use Rattle.scheduler.specs.CoreView.{CoreView, core_state_of}
-use Rattle.scheduler.specs.View.{IsSoundCore, parts}
-use Rattle.scheduler.specs.Parts.{core_state_in}
+use Rattle.scheduler.specs.View.{parts, core_state_in}
+use Rattle.scheduler.specs.IsCore.{IsSoundCore}
 use Rattle.scheduler.proofs.server_core.Core.grant.Goals as goal
 
 pub unreachable-requires : goal.unreachable-requires

@@ -11,8 +11,7 @@ use Rattle.device_map.specs.Layout.{layout_of}
 use Rattle.scheduler.proofs.JournalKeepsCore.{stands}
 use Rattle.scheduler.proofs.LogCall.{Gathers, broken_from, broken_takes, doubt_call, doubt_call_state, log_call, log_call_throughout, log_call_state, log_carried, log_count, log_fits, log_unlogged, log_length, log_changes, log_low, log_untouched, made_from, made_takes, none_taken, some_were_passed}
 use Rattle.scheduler.specs.CoreView.{CoreView, core_state_of}
-use Rattle.scheduler.specs.View.{parts}
-use Rattle.scheduler.specs.Parts.{core_state_in}
+use Rattle.scheduler.specs.View.{parts, core_state_in}
 use Rattle.arena.specs.ArenaView.{chain_at}
 use Rattle.protocol.specs.declared.replies.Reply.{Reply}
 use Rattle.scheduler.specs.HasLogged.{recorded_in}

@@ -18,7 +18,7 @@ use Rattle.histories.proofs.Incarnations.{all_answered, incarnation_of_run, next
 use Rattle.histories.specs.Events.{Event}
 use Rattle.histories.specs.MachineState.{MachineState}
 use Rattle.histories.specs.Incarnations.{IsLeftByIncarnations, Incarnation, Ran, Unopened}
-use Rattle.scheduler.specs.Incarnations.{DeviceIncarnation, HasIncarnations, HaveGeometry, IsIncarnationOf, IsOfGeometry, IsPassedOn, IsRunIncarnation, LeftByLast, RecoversForIncarnations, incarnations_of}
+use Rattle.scheduler.specs.DeviceIncarnations.{DeviceIncarnation, HasIncarnations, HaveGeometry, IsIncarnationOf, IsOfGeometry, IsPassedOn, IsRunIncarnation, LeftByLast, RecoversForIncarnations, incarnations_of}
 use Rattle.meaning.specs.State.{State, empty}
 
 -- What a crash leaves while a device is opened, it might have left before, or it recovers to the same.
